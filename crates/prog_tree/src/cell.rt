@@ -1,0 +1,39 @@
+ghost use Rattle.std.specs.Prelude.{◌≡◌};
+ghost use Rattle.prog_tree.specs.Table.{is_in, lies_between};
+
+/// A cell of a table. In a table of one key column the second is 0.
+#[derive(Clone, Copy, Debug, PartialEq, Eq, PartialOrd, Ord)]
+pub struct Cell {
+    pub table: usize,
+    pub first: i64,
+    pub second: i64,
+}
+
+/// The cells of a table between two ends of each key column. With a low end above the high end there are none.
+#[derive(Clone, Copy, Debug, PartialEq, Eq)]
+pub struct Region {
+    pub table: usize,
+    pub first_low: i64,
+    pub first_high: i64,
+    pub second_low: i64,
+    pub second_high: i64,
+}
+
+fn is_between(low: i64, x: i64, high: i64) -> bool
+    ensures { result ≡ lies_between low x high }
+{
+    low <= x && x <= high
+}
+
+impl Region {
+    pub fn contains(&self, cell: &Cell) -> bool
+        ensures { result ≡ is_in self.now cell.now }
+    {
+        let first = is_between(self.first_low, cell.first, self.first_high);
+        let second = is_between(self.second_low, cell.second, self.second_high);
+        if self.table != cell.table {
+            return false;
+        }
+        first && second
+    }
+}

@@ -1,0 +1,177 @@
+ghost use Rattle.std.specs.Prelude.{◌≡◌, IfOk, map};
+ghost use Rattle.prog_tree.specs.Tree.{expr_tree, relation_sign, comparison_tree, clause_tree, test_tree};
+ghost use Rattle.prog_tree.specs.Value.{value_of, relates, comparison_holds, all_hold, holds_of};
+
+use crate::env::Env;
+use crate::name::Name;
+use std::alloc::{AllocError, Global};
+
+/// An expression over i64 values.
+#[derive(Debug, Drop)]
+pub enum Expr {
+    Literal(i64),
+    Name(Name),
+    Plus(Box<Expr>, Box<Expr>),
+    Minus(Box<Expr>, Box<Expr>),
+    Times(Box<Expr>, Box<Expr>),
+}
+
+impl Expr {
+    /// The exact value, or `None` where a result lies outside i64 (or a name has no value).
+    pub fn value(&self, env: &Env) -> Option<i64>
+        ensures { result ≡ value_of (expr_tree self.now) env.now }
+    {
+        match self {
+            Expr::Literal(n) => Some(*n),
+            Expr::Name(name) => env.get(name),
+            Expr::Plus(left, right) => left.value(env)?.checked_add(right.value(env)?),
+            Expr::Minus(left, right) => left.value(env)?.checked_sub(right.value(env)?),
+            Expr::Times(left, right) => left.value(env)?.checked_mul(right.value(env)?),
+        }
+    }
+
+    pub(crate) fn copy(&self, alloc: Global) -> Result<Self, AllocError>
+        ensures { IfOk result (λ expr. expr_tree expr ≡ expr_tree self.now) }
+    {
+        Ok(match self {
+            Expr::Literal(n) => Expr::Literal(*n),
+            Expr::Name(name) => Expr::Name(name.copy()?),
+            Expr::Plus(left, right) => {
+                Expr::Plus(
+                    Box::new(alloc, left.copy(alloc)?)?,
+                    Box::new(alloc, right.copy(alloc)?)?,
+                )
+            }
+            Expr::Minus(left, right) => {
+                Expr::Minus(
+                    Box::new(alloc, left.copy(alloc)?)?,
+                    Box::new(alloc, right.copy(alloc)?)?,
+                )
+            }
+            Expr::Times(left, right) => {
+                Expr::Times(
+                    Box::new(alloc, left.copy(alloc)?)?,
+                    Box::new(alloc, right.copy(alloc)?)?,
+                )
+            }
+        })
+    }
+}
+
+/// The sign of a comparison.
+#[derive(Clone, Copy, Debug, PartialEq, Eq)]
+pub enum Relation {
+    Less,
+    LessEqual,
+    Greater,
+    GreaterEqual,
+    Equal,
+    NotEqual,
+}
+
+impl Relation {
+    /// Whether two values stand in the relation.
+    pub(crate) fn holds(self, left: i64, right: i64) -> bool
+        ensures { result ≡ relates (relation_sign self) left right }
+    {
+        match self {
+            Relation::Less => left < right,
+            Relation::LessEqual => left <= right,
+            Relation::Greater => left > right,
+            Relation::GreaterEqual => left >= right,
+            Relation::Equal => left == right,
+            Relation::NotEqual => left != right,
+        }
+    }
+}
+
+/// A comparison of two expressions, which a `not` negates.
+#[derive(Debug, Drop)]
+pub struct Comparison {
+    pub negated: bool,
+    pub left: Expr,
+    pub relation: Relation,
+    pub right: Expr,
+}
+
+impl Comparison {
+    /// Whether it holds, or `None` where a result lies outside i64.
+    pub(crate) fn holds(&self, env: &Env) -> Option<bool>
+        ensures { result ≡ comparison_holds (comparison_tree self.now) env.now }
+    {
+        let left = self.left.value(env)?;
+        let right = self.right.value(env)?;
+        let holds = self.relation.holds(left, right);
+        Some(if self.negated { !holds } else { holds })
+    }
+
+    pub(crate) fn copy(&self, alloc: Global) -> Result<Self, AllocError>
+        ensures { IfOk result (λ comparison. comparison_tree comparison ≡ comparison_tree self.now) }
+    {
+        Ok(Comparison {
+            negated: self.negated,
+            left: self.left.copy(alloc)?,
+            relation: self.relation,
+            right: self.right.copy(alloc)?,
+        })
+    }
+}
+
+/// Comparisons that are joined by `and`.
+#[derive(Debug, Drop)]
+pub struct Clause {
+    pub all: Vec<Comparison>,
+}
+
+impl Clause {
+    /// Whether all comparisons hold, or `None` where a result lies outside i64.
+    pub(crate) fn holds(&self, env: &Env) -> Option<bool>
+        ensures { result ≡ all_hold (clause_tree self.now) env.now }
+    {
+        let mut holds = true;
+        for comparison in &self.all {
+            holds &= comparison.holds(env)?;
+        }
+        Some(holds)
+    }
+
+    pub(crate) fn copy(&self) -> Result<Self, AllocError>
+        ensures { IfOk result (λ clause. clause_tree clause ≡ clause_tree self.now) }
+    {
+        let alloc = *self.all.allocator();
+        let mut copies = Vec::with_capacity(alloc, self.all.len())?;
+        for comparison in &self.all {
+            copies.push(comparison.copy(alloc)?)?;
+        }
+        Ok(Clause { all: copies })
+    }
+}
+
+/// A test: clauses that are joined by `or`.
+#[derive(Debug, Drop)]
+pub struct Test {
+    pub any: Vec<Clause>,
+}
+
+impl Test {
+    /// Whether some clause holds, or `None` where a result lies outside i64. All comparisons are made.
+    pub fn holds(&self, env: &Env) -> Option<bool>
+        ensures { result ≡ holds_of (test_tree self.now) env.now }
+    {
+        let mut holds = false;
+        for clause in &self.any {
+            holds |= clause.holds(env)?;
+        }
+        Some(holds)
+    }
+
+    pub(crate) fn copy(&self) -> Result<Self, AllocError>
+        ensures { IfOk result (λ test. test_tree test ≡ test_tree self.now) }
+    {
+        let mut copies = Vec::with_capacity(*self.any.allocator(), self.any.len())?;
+        for clause in &self.any {
+            copies.push(clause.copy()?)?;
+        }
+        Ok(Test { any: copies })
+    }
+}

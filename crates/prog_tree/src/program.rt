@@ -1,0 +1,75 @@
+ghost use Rattle.std.specs.Prelude.{◌≡◌, IfOk, map};
+ghost use Rattle.prog_tree.specs.Tree.{program_tree, draft_tree};
+
+use crate::name::Name;
+use crate::stmt::Block;
+use crate::table::TableDecl;
+use std::alloc::AllocError;
+
+/// A program: its parameters and its body.
+#[derive(Debug, Drop)]
+pub struct Program {
+    pub name: Name,
+    pub params: Vec<Name>,
+    pub body: Block,
+}
+
+fn copy_names(names: &Vec<Name>) -> Result<Vec<Name>, AllocError>
+    ensures { IfOk result (λ copies. copies.items ≡ names.now.items) }
+{
+    let mut copies = Vec::with_capacity(*names.allocator(), names.len())?;
+    for name in names {
+        copies.push(name.copy()?)?;
+    }
+    Ok(copies)
+}
+
+impl Program {
+    pub(crate) fn copy(&self) -> Result<Self, AllocError>
+        ensures { IfOk result (λ program. program_tree program ≡ program_tree self.now) }
+    {
+        Ok(Program {
+            name: self.name.copy()?,
+            params: copy_names(&self.params)?,
+            body: self.body.copy()?,
+        })
+    }
+}
+
+/// The tables and the programs of a text, in their order. Nothing of it is checked.
+#[derive(Debug, Drop)]
+pub struct Draft {
+    pub tables: Vec<TableDecl>,
+    pub programs: Vec<Program>,
+}
+
+fn copy_tables(tables: &Vec<TableDecl>) -> Result<Vec<TableDecl>, AllocError>
+    ensures { IfOk result (λ copies. copies.items ≡ tables.now.items) }
+{
+    let mut copies = Vec::with_capacity(*tables.allocator(), tables.len())?;
+    for table in tables {
+        copies.push(table.copy()?)?;
+    }
+    Ok(copies)
+}
+
+fn copy_programs(programs: &Vec<Program>) -> Result<Vec<Program>, AllocError>
+    ensures { IfOk result (λ copies. map program_tree copies.items ≡ map program_tree programs.now.items) }
+{
+    let mut copies = Vec::with_capacity(*programs.allocator(), programs.len())?;
+    for program in programs {
+        copies.push(program.copy()?)?;
+    }
+    Ok(copies)
+}
+
+impl Draft {
+    pub fn copy(&self) -> Result<Self, AllocError>
+        ensures { IfOk result (λ draft. draft_tree draft ≡ draft_tree self.now) }
+    {
+        Ok(Draft {
+            tables: copy_tables(&self.tables)?,
+            programs: copy_programs(&self.programs)?,
+        })
+    }
+}
