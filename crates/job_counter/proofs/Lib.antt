@@ -1,0 +1,4 @@
+mod Accounts
+mod Steps
+mod Totals
+mod Vectors

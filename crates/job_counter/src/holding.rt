@@ -1,0 +1,80 @@
+// What a pass holds in the proofs, the rule that all passes keep together, and the steps on the
+// counter's word.
+ghost use Rattle.std.specs.Prelude.{ℕ};
+
+use atomic_table::{Join, Play, Split, TableRule};
+use std::collections::LinkedList;
+use std::marker::{Brand, PhantomData};
+
+// What a seat of the table knows. No value of it is made.
+pub struct Holding {
+    pub left: u64,
+    pub numbers: LinkedList<u64>,
+}
+
+// The counter's word is how many numbers were drawn, and all passes together hold just these.
+pub struct Account;
+
+impl TableRule<u8, Holding, u64> for Account {
+    ghost use Rattle.std.specs.Prelude.{[]};
+    ghost use Rattle.job_counter.specs.Holdings.{IsKept, holding};
+
+    ghost holds = { λ budget s. IsKept budget s.words s.views };
+
+    ghost first = { λ budget. holding budget [] };
+}
+
+// A step that draws the number that it finds, which the pass didn't hold yet.
+pub struct Draws;
+
+impl Play<u8, Holding> for Draws {
+    ghost use Rattle.std.specs.Prelude.{◌≡◌};
+    ghost use Rattle.job_counter.specs.Holdings.{AreDistinct, after_draw};
+
+    ghost then = { λ s before found after.
+        (after ≡ (after_draw before.0 found, before.1)) × AreDistinct after.0.numbers };
+}
+
+// A step that changes nothing, and tells what the account says of one pass.
+pub struct Looks;
+
+impl Play<u8, Holding> for Looks {
+    ghost use Rattle.std.specs.Prelude.{◌≡◌, ◌<◌, ◌^◌};
+    ghost use Rattle.job_counter.specs.Holdings.{AreDistinct};
+
+    ghost then = { λ s before found after.
+        (after ≡ before) × (after.0.left < 2 ^ 64) × AreDistinct after.0.numbers };
+}
+
+// How many draws are given away. Each call of `split` picks it.
+pub trait Amount {
+    ghost give: { ℕ };
+}
+
+impl Amount for Brand {
+    ghost give = { 0 };
+}
+
+// Gives draws to a new pass. The numbers stay.
+pub struct Gives<G: Amount>(PhantomData<G>);
+
+impl<G: Amount> Split<Holding> for Gives<G> {
+    ghost use Rattle.std.specs.Prelude.{◌-◌, []};
+    ghost use Rattle.job_counter.specs.Holdings.{holding};
+
+    ghost left = { λ p. holding (p.left - G.give) p.numbers };
+
+    ghost right = { λ p. holding G.give [] };
+}
+
+// Makes two passes one. The second is left with nothing.
+pub struct Together;
+
+impl Join<Holding> for Together {
+    ghost use Rattle.std.specs.Prelude.{[]};
+    ghost use Rattle.job_counter.specs.Holdings.{holding, both_of};
+
+    ghost both = { both_of };
+
+    ghost spent = { holding 0 [] };
+}
