@@ -1,0 +1,5 @@
+use Rattle.order_facts.proofs.Sampling.{IsHighSoFar}
+use Rattle.order_facts.proofs.sample.high.Given as goal
+
+abbrev pub invariant-loop-to : goal.invariant-loop-to
+invariant-loop-to l = IsHighSoFar l.facts l.node l.to l.high

@@ -1,0 +1,5 @@
+pub mod Chain
+pub mod Reaches
+pub mod Matrix
+pub mod Sample
+pub mod Search

@@ -1,0 +1,106 @@
+//! Facts, and what they entail.
+
+ghost use Rattle.std.specs.Prelude.{◌≡◌, ◌↔◌, ◌≤◌, List, false, length, IfOk, IfSome, IfNone, IsSome, IsNone, IsTrue};
+ghost use Rattle.order_facts.specs.declared.steps.Node.{Node};
+ghost use Rattle.order_facts.specs.Chain.{Entails, IsConsistent, IsOfI64, Meets, HasContradiction, IsChain, RunsBetween};
+ghost use Rattle.order_facts.specs.Sample.{number_of, assignment_of, IsSampled};
+
+use crate::matrix::Matrix;
+use crate::sample::Sample;
+use crate::search::shortest_chain;
+use crate::steps::{Fact, Node};
+use crate::ways::{is_orderly, reaches};
+use std::alloc::{AllocError, Global};
+use std::marker::Model;
+
+/// Facts, and which node they put below which.
+#[derive(Drop)]
+pub struct Closed {
+    facts: Vec<Fact>,
+    matrix: Matrix,
+    consistent: bool,
+}
+
+impl Model for Closed {
+    ghost use Rattle.std.specs.Prelude.{◌≡◌, ◌↔◌, List, IsTrue, false};
+    ghost use Rattle.order_facts.specs.declared.steps.Fact.{Fact};
+    ghost use Rattle.order_facts.specs.Chain.{IsConsistent, HasContradiction};
+    ghost use Rattle.order_facts.specs.Matrix.{IsMatrixOf};
+
+    ghost Value = { List Fact };
+
+    ghost view = { λ c. c.facts.items };
+
+    ghost invariant = { λ c. record {
+      matrix : IsMatrixOf c.matrix c.facts.items c.facts.items;
+      consistent : IsTrue c.consistent ↔ IsConsistent c.facts.items;
+      contradiction : c.consistent ≡ false → HasContradiction c.facts.items;
+    } };
+}
+
+impl Closed {
+    /// The facts with what they entail.
+    pub(crate) fn of(alloc: Global, facts: &[Fact]) -> Result<Closed, AllocError>
+        ensures { IfOk result (λ closed. closed ≡ facts.now) }
+    {
+        let facts = Vec::from_slice(alloc, facts)?;
+        let matrix = Matrix::of(alloc, &facts)?;
+        let consistent = is_orderly(&facts, &matrix);
+        Ok(Closed {
+            facts,
+            matrix,
+            consistent,
+        })
+    }
+
+    /// Whether some assignment of i64 meets all facts.
+    pub fn consistent(&self) -> bool
+        ensures consistent { IsTrue result ↔ IsConsistent self.now }
+        ensures contradiction { result ≡ false → HasContradiction self.now }
+    {
+        self.consistent
+    }
+
+    /// Whether every assignment of i64 that meets all facts gives `x` at most what it gives `y`.
+    pub fn entails(&self, x: Node, y: Node) -> bool
+        ensures { IsTrue result ↔ Entails self.now x y }
+    {
+        !self.consistent || reaches(&self.facts, &self.matrix, x, y)
+    }
+
+    /// A chain from `x` to `y` with the fewest nodes, where there is one.
+    pub fn chain(&self, x: Node, y: Node) -> Result<Option<Vec<Node>>, AllocError>
+        ensures chain { IfOk result (λ found. IfSome found
+            (λ chain. IsChain self.now chain.items × RunsBetween x y chain.items)) }
+        ensures fewest { IfOk result (λ found. IfSome found
+            (λ chain. (other : List Node) → IsChain self.now other → RunsBetween x y other
+            → length chain.items ≤ length other)) }
+        ensures none { IfOk result (λ found. IfNone found
+            ((other : List Node) → IsChain self.now other → ¬ RunsBetween x y other)) }
+
+        // What consistent facts entail has a chain.
+        ensures complete { IfOk result
+            (λ found. IsConsistent self.now → Entails self.now x y → IsSome found) }
+    {
+        if !reaches(&self.facts, &self.matrix, x, y) {
+            return Ok(None);
+        }
+        let chain = shortest_chain(*self.facts.allocator(), &self.facts, x, y)?;
+        Ok(Some(chain))
+    }
+
+    /// For each node the number nearest to 0 between the bounds that the facts force, where some assignment meets them.
+    pub fn sample(&self) -> Result<Option<Sample>, AllocError>
+        ensures none { IfOk result (λ found. IsNone found ↔ ¬ IsConsistent self.now) }
+        ensures nearest { IfOk result (λ found. IfSome found
+            (λ s. (n : Node) → IsSampled self.now n (number_of s n))) }
+        ensures meets { IfOk result (λ found. IfSome found
+            (λ s. IsOfI64 (assignment_of s) × Meets (assignment_of s) self.now)) }
+    {
+        if !self.consistent {
+            return Ok(None);
+        }
+        let sample = Sample::of(*self.facts.allocator(), &self.facts, &self.matrix)?;
+        Ok(Some(sample))
+    }
+}

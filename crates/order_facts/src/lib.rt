@@ -1,0 +1,21 @@
+//! Exact reasoning about order among i64 values: what facts `lo <= hi` between parameters, unknowns and numbers force.
+//!
+//! `Facts` collects the facts, and `close` finds once what they entail. A `Closed` then answers whether some assignment
+//! of i64 meets the facts, whether they put one node at most another, by which chain, and with which sample.
+#![tactic(auto)]
+
+mod closed;
+mod given;
+mod matrix;
+mod sample;
+mod search;
+mod steps;
+mod ways;
+
+pub use closed::Closed;
+pub use given::{Facts, check_chain};
+pub use sample::Sample;
+pub use steps::Node;
+
+#[cfg(test)]
+mod tests;
