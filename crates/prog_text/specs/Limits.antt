@@ -1,0 +1,34 @@
+-- How many brackets are open, and how many operators stand in one statement.
+use Rattle.std.specs.Prelude.{ℕ, suc, ◌-◌, List, [], ◌∷◌, Option, Some, None, nat_lt, ◌||◌, if◌then◌else◌, option_map}
+use Rattle.prog_text.specs.declared.token.Token.{Token}
+use Rattle.prog_text.specs.declared.token.Token.TheVariants as t
+
+-- the brackets that are open behind a token, where n are open before it; never below zero
+abbrev pub brackets_after : Token → ℕ → ℕ
+brackets_after t.Open n = suc n
+brackets_after t.OpenKey n = suc n
+brackets_after t.OpenBlock n = suc n
+brackets_after t.Close n = n - 1
+brackets_after t.CloseKey n = n - 1
+brackets_after t.CloseBlock n = n - 1
+brackets_after u n = n
+
+-- the operators up to and with a token, since the last `;`, `{` or `}`
+abbrev pub operators_after : Token → ℕ → ℕ
+operators_after t.Plus n = suc n
+operators_after t.Minus n = suc n
+operators_after t.Times n = suc n
+operators_after t.Semicolon n = 0
+operators_after t.OpenBlock n = 0
+operators_after t.CloseBlock n = 0
+operators_after u n = n
+
+-- how many tokens stand before the first that is too deep: it opens the 17th bracket, or is the 33rd operator
+abbrev pub too_deep_from : (brackets operators : ℕ) → List Token → Option ℕ
+too_deep_from brackets operators [] = None
+too_deep_from brackets operators (u ∷ ts) =
+    if nat_lt 16 (brackets_after u brackets) || nat_lt 32 (operators_after u operators) then Some 0
+    else option_map suc (too_deep_from (brackets_after u brackets) (operators_after u operators) ts)
+
+abbrev pub too_deep : List Token → Option ℕ
+too_deep ts = too_deep_from 0 0 ts

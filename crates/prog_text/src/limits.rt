@@ -1,0 +1,46 @@
+ghost use Rattle.std.specs.Prelude.{◌≡◌, ℕ, ◌+◌, ◌<◌, ◌≤◌};
+ghost use Rattle.prog_text.specs.Limits.{brackets_after, operators_after, too_deep};
+
+use crate::token::Token;
+
+const MOST_BRACKETS: usize = 16;
+
+const MOST_OPERATORS: usize = 32;
+
+fn brackets_after(token: &Token<'_>, brackets: usize) -> usize
+    requires { brackets ≤ 16 }
+    ensures { result ≡ brackets_after token.now brackets }
+{
+    match token {
+        Token::Open | Token::OpenKey | Token::OpenBlock => brackets + 1,
+        Token::Close | Token::CloseKey | Token::CloseBlock => brackets.saturating_sub(1),
+        _ => brackets,
+    }
+}
+
+fn operators_after(token: &Token<'_>, operators: usize) -> usize
+    requires { operators ≤ 32 }
+    ensures { result ≡ operators_after token.now operators }
+{
+    match token {
+        Token::Plus | Token::Minus | Token::Times => operators + 1,
+        Token::Semicolon | Token::OpenBlock | Token::CloseBlock => 0,
+        _ => operators,
+    }
+}
+
+/// How many tokens stand before the first that is too deep.
+pub fn too_deep(tokens: &[Token<'_>]) -> Option<usize>
+    ensures { result ≡ too_deep tokens.now }
+{
+    let mut brackets = 0;
+    let mut operators = 0;
+    for (index, token) in tokens.iter().enumerate() {
+        brackets = brackets_after(token, brackets);
+        operators = operators_after(token, operators);
+        if brackets > MOST_BRACKETS || operators > MOST_OPERATORS {
+            return Some(index);
+        }
+    }
+    None
+}
