@@ -1,0 +1,4 @@
+pub mod NameLemmas
+pub mod RuleLemmas
+pub mod WalkLemmas
+pub mod Vectors

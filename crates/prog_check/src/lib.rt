@@ -1,0 +1,15 @@
+//! Checks a draft of tables and programs, and keeps a checked set with its names' numbers.
+#![tactic(auto)]
+
+mod body;
+mod fault;
+mod heads;
+mod names;
+mod set;
+mod tables;
+#[cfg(test)]
+mod tests;
+mod uses;
+
+pub use fault::{CheckFault, Place};
+pub use set::{ProgramSet, check};
