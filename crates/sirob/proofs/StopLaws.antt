@@ -1,0 +1,121 @@
+-- Laws on how a run stops, and on what is then written.
+use Rattle.std.proofs.Common.{◌≡◌, ◌<◌, ◌≤◌, Bool, true, false, List, [], ℕ, length, Option, Some, None, Result, Ok, Err, IfOk, IfErr, IsErr, IfSome, refl, sym, subst, ◌∙◌}
+use Rattle.prog_tree.specs.Syntax.{DraftTree}
+use Rattle.sirob.specs.declared.run_fault.RunFault.{RunFault}
+use Rattle.sirob.specs.declared.run_fault.RunFault.TheVariants as fault
+use Rattle.sirob.specs.declared.source.InputFault.{InputFault}
+use Rattle.sirob.specs.declared.source.InputFault.TheVariants as i
+use Rattle.sirob.specs.declared.status.Status.{Status}
+use Rattle.sirob.specs.declared.status.Status.TheVariants as status
+use Rattle.sirob.specs.FaultLines.{fault_line, is_memory}
+use Rattle.prog_text.specs.Answer.{Accepts}
+use Rattle.prog_check.specs.Faults.{first_fault}
+use Rattle.sirob.specs.declared.script.Script.{Script}
+use Rattle.sirob.specs.declared.script_fault.ScriptFault.{ScriptFault}
+use Rattle.sirob.specs.declared.script_fault.ScriptFault.TheVariants as s
+use Rattle.sirob.specs.Commands.{Fails}
+use Rattle.sirob.specs.Script.{script_of}
+use Rattle.sirob.specs.Faults.{IsOfReading, IsOfDividing}
+use Rattle.sirob.specs.Parts.{parts_of}
+use Rattle.sirob.specs.Output.{input_limit, run_lines, AddsFirst, IsRun, IsDivided, Runs, RunsFirst, IsRefused, IsRefusedText, IsStop, StopsBehind, at_once, behind_lines, memory_line, IsAnswer, done, refused, stopped, Ends, well, in_fault, in_fault_untold, in_memory, IsUnread, IsJust, Writes, IsReadFault}
+use Rattle.sirob.specs.Output as u
+
+-- a fault of the input stands before the first line
+pub stops_at_once : (input : List ℕ) (f : RunFault) → (is_memory f ≡ false → IsRefused input f) → IsStop input f []
+stops_at_once input f h = ((λ no_memory. (h no_memory, refl)), (λ memory. at_once))
+
+-- reading stopped
+pub stops_reading :
+    (f : InputFault) (left : Option (List ℕ)) (failed : Bool) → IsOfReading f
+    → (f ≡ i.TooLong → IfSome left (λ all. 16777216 < length all)) → (f ≡ i.ReadFault → failed ≡ true) → failed ≡ false
+    → IfSome left (λ input. IsStop input (fault.Input f) [])
+stops_reading f None failed kind long fails works = tt
+stops_reading i.MissingPart (Some input) failed kind long fails works = absurd kind
+stops_reading i.ExtraPart (Some input) failed kind long fails works = absurd kind
+stops_reading i.TooLong (Some input) failed kind long fails works = stops_at_once input (fault.Input i.TooLong) (λ e. long refl)
+stops_reading i.ReadFault (Some input) failed kind long fails works =
+    let never : true ≡ false = sym (fails refl) ∙ works in absurd (cc)
+stops_reading i.Memory (Some input) failed kind long fails works = stops_at_once input (fault.Input i.Memory) (λ e. absurd (cc))
+
+-- the answer to a run's end
+answered : (input lines : List ℕ) (ended : Result (Unit {0}) RunFault) (written : List ℕ) (status : Status)
+    → IfOk ended (λ x. Runs input lines) → IfErr ended (λ f. IsStop input f lines) → Ends lines ended written status → IsAnswer input written status
+answered input lines _ _ _ runs stops well = done lines runs
+answered input lines _ _ _ runs stops (in_fault f no_memory) = refused f no_memory (stops.0 no_memory).0
+answered input lines _ _ _ runs stops (in_fault_untold f no_memory) = stopped [] at_once
+answered input lines _ _ _ runs stops (in_memory f memory) = stopped lines (stops.1 memory)
+
+pub answers : (left : Option (List ℕ)) (lines : List ℕ) (ended : Result (Unit {0}) RunFault) (old new : Option (List ℕ)) (status : Status)
+    → IfOk ended (λ x. IfSome left (λ input. Runs input lines)) → IfErr ended (λ f. IfSome left (λ input. IsStop input f lines))
+    → Writes (Ends lines ended) old new status → IfSome left (λ input. Writes (IsAnswer input) old new status)
+answers None lines ended old new status runs stops written = tt
+answers (Some input) lines ended old new status runs stops (written, ends, appends) = (written, answered input lines ended written status runs stops ends, appends)
+
+unread : (lines : List ℕ) (ended : Result (Unit {0}) RunFault) (written : List ℕ) (status : Status)
+    → IsReadFault ended → Ends lines ended written status → IsUnread written status
+unread lines _ _ _ is well = absurd (cc)
+unread lines _ _ _ is (in_fault f no_memory) = let same : f ≡ fault.Input i.ReadFault = cc in subst (λ g. IsUnread (fault_line g) status.Faulty) (sym same) u.refused
+unread lines _ _ _ is (in_fault_untold f no_memory) = u.stopped
+unread lines _ _ _ is (in_memory f memory) =
+    let same : f ≡ fault.Input i.ReadFault = cc in let never : false ≡ true = subst (λ g. is_memory g ≡ true) same memory in absurd (cc)
+
+pub tells_unread : (lines : List ℕ) (ended : Result (Unit {0}) RunFault) (old new : Option (List ℕ)) (status : Status)
+    → IsReadFault ended → Writes (Ends lines ended) old new status → Writes IsUnread old new status
+tells_unread lines ended old new status is (written, ends, appends) = (written, unread lines ended written status is ends, appends)
+
+-- these bytes end a run so
+pub just_ends : (lines bytes : List ℕ) (ended : Result (Unit {0}) RunFault) (given : Status) (old new : Option (List ℕ)) (status : Status)
+    → Ends lines ended bytes given → Writes (IsJust bytes given) old new status → Writes (Ends lines ended) old new status
+just_ends lines bytes ended given old new status ends (written, just, appends) =
+    (written, subst (λ w. Ends lines ended w status) (sym just.0) (subst (λ s. Ends lines ended bytes s) (sym just.1) ends), appends)
+
+-- the line of a fault stands alone, whatever lines there are
+fault_ends : (lines : List ℕ) (ended : Result (Unit {0}) RunFault) (written : List ℕ) (status : Status)
+    → IfErr ended (λ f. is_memory f ≡ false) → Ends [] ended written status → IsErr ended → Ends lines ended written status
+fault_ends lines _ _ _ no_memory well err = absurd (cc)
+fault_ends lines _ _ _ no_memory (in_fault f e) err = in_fault f e
+fault_ends lines _ _ _ no_memory (in_fault_untold f e) err = in_fault_untold f e
+fault_ends lines _ _ _ no_memory (in_memory f memory) err = let never : true ≡ false = sym memory ∙ no_memory in absurd (cc)
+
+pub fault_written : (lines : List ℕ) (f : RunFault) (old new : Option (List ℕ)) (status : Status)
+    → is_memory f ≡ false → Writes (Ends [] (Err f)) old new status → Writes (Ends lines (Err f)) old new status
+fault_written lines f old new status no_memory (written, ends, appends) = (written, fault_ends lines (Err f) written status no_memory ends refl, appends)
+
+-- dividing stopped
+pub refuses_parts : (input : List ℕ) (f : InputFault) → length input ≤ input_limit
+    → (f ≡ i.MissingPart → length (parts_of input) ≡ 1) → (f ≡ i.ExtraPart → 2 < length (parts_of input))
+    → IsOfDividing f → IsRefused input (fault.Input f)
+refuses_parts input i.MissingPart short missing extra kind = (short, missing refl)
+refuses_parts input i.ExtraPart short missing extra kind = (short, extra refl)
+refuses_parts input i.TooLong short missing extra kind = absurd kind
+refuses_parts input i.ReadFault short missing extra kind = absurd kind
+refuses_parts input i.Memory short missing extra kind = absurd kind
+
+-- reading the text stopped
+pub refuses_text : (input text part : List ℕ) (f : RunFault) → IsDivided input text part → IsRefusedText text f → IsRefused input f
+refuses_text input text part (fault.Text f) divided r = (text, part, divided, r)
+refuses_text input text part (fault.Check f) divided r = (text, part, divided, r)
+refuses_text input text part (fault.Input f) divided r = absurd r
+refuses_text input text part (fault.Script f) divided r = absurd r
+
+-- reading the script stopped
+pub refuses_script : (input text part : List ℕ) (set : DraftTree) (f : ScriptFault) (read : Result Script ScriptFault)
+    → IsDivided input text part → Accepts text set → first_fault set ≡ None → read ≡ script_of set part → Fails f read
+    → is_memory (fault.Script f) ≡ false → IsRefused input (fault.Script f)
+refuses_script input text part set s.Memory read divided accepted sound is fails no_memory = absurd (cc)
+refuses_script input text part set (s.BadLine line) read divided accepted sound is fails no_memory = (text, part, set, divided, accepted, sound, sym is ∙ fails)
+refuses_script input text part set (s.UnknownName line) read divided accepted sound is fails no_memory = (text, part, set, divided, accepted, sound, sym is ∙ fails)
+refuses_script input text part set (s.WrongKeys line) read divided accepted sound is fails no_memory = (text, part, set, divided, accepted, sound, sym is ∙ fails)
+refuses_script input text part set (s.LateRow line) read divided accepted sound is fails no_memory = (text, part, set, divided, accepted, sound, sym is ∙ fails)
+refuses_script input text part set (s.RepeatedRow line) read divided accepted sound is fails no_memory = (text, part, set, divided, accepted, sound, sym is ∙ fails)
+refuses_script input text part set (s.TooManyEvents line) read divided accepted sound is fails no_memory = (text, part, set, divided, accepted, sound, sym is ∙ fails)
+
+-- the script's lines stopped
+pub stops_running : (input written : List ℕ) (set : DraftTree) (script : Script) → IsRun input set script → AddsFirst (run_lines set script) [] written
+    → IsStop input (fault.Input i.Memory) written
+stops_running input written set script run first = ((λ no_memory. absurd (cc)), (λ memory. behind_lines written (set, script, run, first)))
+
+-- a premise of a clause on a fault
+pub given_err : {T E P : Type 0} (Q : E → Type 0) (r : Result T E) → IfErr r (λ e. P → Q e) → P → IfErr r Q
+given_err Q (Ok x) h p = h
+given_err Q (Err e) h p = h p

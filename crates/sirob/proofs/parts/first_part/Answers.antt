@@ -1,0 +1,27 @@
+use Rattle.std.proofs.Common.{◌≡◌, ◌-◌, ℕ, List, ◌∷◌, length, take, drop, sym, subst, rules, arith}
+use Rattle.std.proofs.lemmas.Grind.{common_steps}
+use Rattle.sirob.specs.Parts.{parts_of, lines_of}
+use Rattle.sirob.proofs.PartLemmas.{before_parts-nil, parts_of-some, one_more_line}
+use Rattle.sirob.proofs.parts.first_part.Goals as goal
+
+-- a slice from m on is what stands behind the first m
+tail : (xs : List ℕ) (m : ℕ) → take (length xs - m) (drop m xs) ≡ drop m xs
+tail xs m = grind (arith, common_steps)
+
+pub loop-at-init : goal.loop-at-init
+loop-at-init c = record {
+  within = search rules;
+  same = sym (before_parts-nil (parts_of c.args.bytes.now) (parts_of-some c.args.bytes.now));
+}
+
+pub loop-at-preserved : goal.loop-at-preserved
+loop-at-preserved c =
+    let rest = tail c.args.bytes.now c.loop-at.at in
+    let line = c.first_line-line.result.now in
+    let front = c.first_line-line.ensures.front in
+    let first = c.first_line-line.ensures.first in record {
+      within = search rules;
+      same = one_more_line c.args.bytes.now line c.loop-at.at c.loop-at.invariant.same
+          (subst (λ (l : List ℕ). lines_of l ≡ line ∷ lines_of (drop (length line) l)) rest first) (sym c.if-is_separator.ensures)
+          (subst (λ (l : List ℕ). line ≡ take (length line) l) rest front);
+    }

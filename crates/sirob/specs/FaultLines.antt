@@ -1,0 +1,83 @@
+-- The lines that faults are.
+use Rattle.std.specs.Prelude.{ℕ, Bool, true, false, List, [], ◌∷◌, ◌++◌, codes}
+use Rattle.std.specs.Fmt.{decimal}
+use Rattle.prog_check.specs.declared.fault.Place.{Place}
+use Rattle.prog_check.specs.declared.fault.Place.TheVariants.{Table, Program, Statement}
+use Rattle.prog_check.specs.declared.fault.CheckFault.{CheckFault}
+use Rattle.prog_check.specs.declared.fault.CheckFault.TheVariants as c
+use Rattle.prog_text.specs.declared.fault.TextFault.{TextFault}
+use Rattle.prog_text.specs.declared.fault.TextFault.TheVariants as t
+use Rattle.sirob.specs.declared.run_fault.RunFault.{RunFault}
+use Rattle.sirob.specs.declared.run_fault.RunFault.TheVariants.{Input, Text, Check, Script}
+use Rattle.sirob.specs.declared.script_fault.ScriptFault.{ScriptFault}
+use Rattle.sirob.specs.declared.script_fault.ScriptFault.TheVariants as s
+use Rattle.sirob.specs.declared.source.InputFault.TheVariants as i
+use Rattle.sirob.specs.Faults.{code_of}
+
+-- a code and a byte's place
+abbrev pub at_byte : List ℕ → ℕ → List ℕ
+at_byte code place = code ++ (codes " at " ++ decimal place)
+
+abbrev pub text_fault : TextFault → List ℕ
+text_fault (t.NotAscii place) = at_byte (codes "P1") place
+text_fault (t.UnknownByte place) = at_byte (codes "P2") place
+text_fault (t.UnexpectedToken place) = at_byte (codes "P3") place
+text_fault (t.UnexpectedEnd place) = at_byte (codes "P4") place
+text_fault (t.NumberOutOfRange place) = at_byte (codes "P5") place
+text_fault (t.NameTooLong place) = at_byte (codes "P6") place
+text_fault (t.TooDeep place) = at_byte (codes "P7") place
+text_fault (t.TooLong place) = at_byte (codes "P8") place
+text_fault t.Memory = codes "memory"
+
+abbrev pub place_text : Place → List ℕ
+place_text (Table n) = codes "table " ++ decimal n
+place_text (Program n) = codes "program " ++ decimal n
+place_text (Statement n k) = codes "program " ++ (decimal n ++ (codes " statement " ++ decimal k))
+
+-- a code and a place in the set
+abbrev pub in_set : List ℕ → Place → List ℕ
+in_set code place = code ++ (codes " " ++ place_text place)
+
+abbrev pub check_fault : CheckFault → List ℕ
+check_fault (c.DuplicateTable place) = in_set (codes "C1") place
+check_fault (c.DuplicateProgram place) = in_set (codes "C2") place
+check_fault (c.DuplicateParameter place) = in_set (codes "C3") place
+check_fault (c.UnknownTable place) = in_set (codes "C4") place
+check_fault (c.UnknownName place) = in_set (codes "C5") place
+check_fault (c.NameTaken place) = in_set (codes "C6") place
+check_fault (c.WrongArity place) = in_set (codes "C7") place
+check_fault (c.GrowTableChanged place) = in_set (codes "C8") place
+check_fault (c.AfterAbort place) = in_set (codes "C9") place
+check_fault (c.TooMany place) = in_set (codes "C10") place
+check_fault c.Memory = codes "memory"
+
+-- a code and a line of the script, from 1
+abbrev pub in_line : List ℕ → ℕ → List ℕ
+in_line code line = code ++ (codes " line " ++ decimal line)
+
+abbrev pub script_fault : ScriptFault → List ℕ
+script_fault (s.BadLine line) = in_line (codes "S1") line
+script_fault (s.UnknownName line) = in_line (codes "S2") line
+script_fault (s.WrongKeys line) = in_line (codes "S3") line
+script_fault (s.LateRow line) = in_line (codes "S4") line
+script_fault (s.RepeatedRow line) = in_line (codes "S5") line
+script_fault (s.TooManyEvents line) = in_line (codes "S6") line
+script_fault s.Memory = codes "memory"
+
+abbrev pub fault_text : RunFault → List ℕ
+fault_text (Input fault) = code_of fault
+fault_text (Text fault) = text_fault fault
+fault_text (Check fault) = check_fault fault
+fault_text (Script fault) = script_fault fault
+
+-- the whole line, with its line feed
+abbrev pub fault_line : RunFault → List ℕ
+fault_line fault = codes "fault " ++ (fault_text fault ++ 10 ∷ [])
+
+-- want of memory, which is no fault of the input
+abbrev pub is_memory : RunFault → Bool
+is_memory (Input i.Memory) = true
+is_memory (Text t.Memory) = true
+is_memory (Check c.Memory) = true
+is_memory (Script s.Memory) = true
+is_memory fault = false

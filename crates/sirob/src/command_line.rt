@@ -1,0 +1,74 @@
+//! The command line.
+ghost use Rattle.std.specs.Prelude.{◌≡◌, false, IfOk, [], ◌∷◌, map, string_bytes};
+ghost use Rattle.clap.specs.Words.{app_of, shape_of, with_subcommand, subcommand_of, subcommand_rows_of, fault_of, FailsBy};
+ghost use Rattle.clap.specs.declared.builder.command.Command.TheViews.{out-Command as fields_of};
+ghost use Rattle.sirob.specs.CommandLine.{sirob_app, top_app, command_with, IsNamedBy, NamesMode};
+
+use clap::{ArgMatches, Command, Error};
+use std::alloc::{AllocError, Global};
+
+/// What the program is asked to do.
+#[derive(Clone, Copy, Debug, PartialEq, Eq)]
+pub enum Mode {
+    Run,
+}
+
+// A subcommand with no argument.
+fn plain<'a>(alloc: Global, name: &'a str, about: &'a str) -> Command<'a>
+    ensures shape { shape_of result ≡ command_with name.entry.now [] }
+    ensures local { (fields_of result).has_globals ≡ false }
+{
+    Command::new(alloc, name).about(about)
+}
+
+// The program's own command, with no subcommand yet.
+fn top<'a>(alloc: Global) -> Result<Command<'a>, AllocError>
+    ensures { IfOk result (λ c. app_of c ≡ top_app) }
+{
+    Command::new(alloc, "sirob")
+        .about(
+            "Runs transaction programs under snapshot isolation, from standard input to standard output",
+        )
+        .subcommand_required(true)
+        .bin_name("sirob")
+}
+
+fn add<'a>(above: Command<'a>, sub: Command<'a>) -> Result<Command<'a>, AllocError>
+    requires { (fields_of sub).has_globals ≡ false }
+    ensures { IfOk result (λ c. app_of c ≡ with_subcommand (app_of above.entry) (shape_of sub.entry)) }
+{
+    above.subcommand(sub)
+}
+
+fn command<'a>(alloc: Global) -> Result<Command<'a>, AllocError>
+    ensures { IfOk result (λ c. app_of c ≡ sirob_app) }
+{
+    let run = plain(
+        alloc,
+        "run",
+        "Reads a set of programs, a line %% and a script; writes a line for each event, then the rows",
+    );
+    let all = top(alloc)?;
+    let all = add(all, run)?;
+    Ok(all)
+}
+
+/// What the words ask for. The first is the program's name.
+pub fn read_words<'a>(alloc: Global, words: &'a [String]) -> Result<Mode, Error>
+    ensures meaning { IfOk result (λ m. IsNamedBy m (subcommand_of sirob_app (map string_bytes words.entry.now))) }
+    ensures fault { FailsBy (fault_of sirob_app (map string_bytes words.entry.now)) result }
+{
+    let command = command(alloc)?;
+    let matches = command.try_get_matches_from(words)?;
+    Ok(mode_in(&matches))
+}
+
+fn mode_in(matches: &ArgMatches<'_>) -> Mode
+    requires { NamesMode (subcommand_rows_of matches.now) }
+    ensures { IsNamedBy result (subcommand_rows_of matches.now) }
+{
+    if matches.subcommand_matches("run").is_some() {
+        return Mode::Run;
+    }
+    unreachable!()
+}

@@ -1,0 +1,114 @@
+//! Instances of programs, and commits.
+
+ghost use Rattle.std.specs.Prelude.{◌≡◌, ◌<◌, length, true, IfOk, OnErr};
+ghost use Rattle.prog_tree.specs.ChangeSet.{touches_cell};
+ghost use Rattle.prog_tree.specs.Evaluation.{eval};
+ghost use Rattle.prog_tree.specs.Tree.{block_tree, program_tree};
+ghost use Rattle.sirob.specs.Machine.{at_begin, stepped};
+ghost use Rattle.sirob.specs.Straight.{IsStraight};
+ghost use Rattle.sirob.specs.View.{begun_of, known_of};
+
+use crate::evaluate::{Evaluated, evaluate};
+use crate::event::Reply;
+use prog_tree::{Cell, Changes, End, Program, Rows, Sequence, TableDecl};
+use std::alloc::{AllocError, Global};
+
+/// A program by its number, its arguments, and the number of commits that it sees.
+#[derive(Debug, Drop)]
+pub struct Instance {
+    pub program: usize,
+    pub args: Sequence<i64>,
+    pub start: usize,
+}
+
+/// An instance that was begun.
+#[derive(Debug, Drop)]
+pub struct Held {
+    pub instance: Instance,
+    /// What it does on the state that it sees.
+    pub evaluated: Evaluated,
+    /// How many of its deeds it was stepped through.
+    pub steps: usize,
+    /// A step answered that it is ready.
+    pub ready: bool,
+    /// It has not ended.
+    pub active: bool,
+}
+
+/// A commit: the number of its instance, and the state that it left.
+#[derive(Debug, Drop)]
+pub struct Commit {
+    pub instance: usize,
+    pub state: Rows,
+}
+
+/// A copy of some numbers.
+pub fn copy_of(alloc: Global, numbers: &Sequence<i64>) -> Result<Sequence<i64>, AllocError>
+    ensures { IfOk result (λ copy. copy ≡ numbers.now) }
+{
+    Ok(Sequence::from_vec(Vec::from_slice(alloc, numbers.as_slice())?))
+}
+
+impl Held {
+    /// Begins an instance of a program on the state that it sees.
+    pub fn begin(
+        alloc: Global,
+        tables: &[TableDecl],
+        program: &Program,
+        instance: Instance,
+        rows: &Rows,
+    ) -> Result<Self, AllocError>
+        requires { IsStraight (block_tree program.now.body) }
+        ensures begun { IfOk result (λ held. begun_of held ≡ at_begin instance) }
+        ensures evaluated { IfOk result (λ held. held.evaluated ≡ eval tables.now (program_tree program.now) instance.args rows.now) }
+    {
+        let evaluated = evaluate(alloc, tables, program, instance.args.as_slice(), rows)?;
+        Ok(Held {
+            instance,
+            evaluated,
+            steps: 0,
+            ready: false,
+            active: true,
+        })
+    }
+
+    /// What it changes and keeps.
+    pub fn changes(&self) -> &Changes
+        ensures { result.now ≡ self.now.evaluated.changes }
+    {
+        &self.evaluated.changes
+    }
+
+    /// Whether it changes or keeps a cell.
+    pub fn touches(&self, cell: &Cell) -> bool
+        ensures { result ≡ touches_cell self.now.evaluated.changes cell.now }
+    {
+        self.changes().touches(cell)
+    }
+
+    /// Steps an active instance: through its next deed, or to its end.
+    pub fn step(&mut self, alloc: Global) -> Result<Reply, AllocError>
+        requires { self.old.active ≡ true }
+        ensures step { IfOk result (λ r. (r, begun_of self.new) ≡ stepped self.old.evaluated (begun_of self.old)) }
+        ensures known { known_of self.new ≡ known_of self.old }
+        ensures err { OnErr result (self.new ≡ self.old) }
+    {
+        let deeds = self.evaluated.deeds.as_slice();
+        if self.steps < deeds.len() {
+            let deed = deeds[self.steps];
+            self.steps += 1;
+            return Ok(Reply::Did(deed));
+        }
+        match self.evaluated.ending {
+            End::Ready => {
+                let replies = copy_of(alloc, &self.evaluated.replies)?;
+                self.ready = true;
+                Ok(Reply::Ready(replies))
+            }
+            End::Aborted(cause) => {
+                self.active = false;
+                Ok(Reply::Aborted(cause))
+            }
+        }
+    }
+}

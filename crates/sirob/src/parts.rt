@@ -1,0 +1,95 @@
+//! The parts of the input.
+ghost use Rattle.std.specs.Prelude.{◌≡◌, ◌<◌, ◌≤◌, ◌+◌, ◌++◌, ◌↔◌, [], ◌∷◌, IsTrue, IsOk, IfOk, IfErr, IsErrOf, IfSome, IfNone, MatchOption, ℕ, ◌≢◌, length, slice_index, take, drop};
+ghost use Rattle.sirob.specs.Faults.{IsOfDividing};
+ghost use Rattle.sirob.specs.Parts.{is_separator, lines_of, parts_of};
+
+use crate::source::InputFault;
+
+/// The two parts of the input.
+#[derive(Clone, Copy, Debug)]
+pub struct Parts<'a> {
+    pub text: &'a [u8],
+    pub rest: &'a [u8],
+}
+
+/// The input, divided at its one line `%%`. The line feed before that line belongs to the text.
+pub fn two_parts(input: &[u8]) -> Result<Parts<'_>, InputFault>
+    ensures ok { IsOk result ↔ (length (parts_of input.now) ≡ 2) }
+    ensures parts { IfOk result (λ p. parts_of input.now ≡ p.text.now ∷ p.rest.now ∷ []) }
+    ensures missing { IsErrOf result InputFault.MissingPart ↔ (length (parts_of input.now) ≡ 1) }
+    ensures extra { IsErrOf result InputFault.ExtraPart ↔ (2 < length (parts_of input.now)) }
+    ensures kinds { IfErr result IsOfDividing }
+{
+    let first = first_part(input);
+    let Some(rest) = first.behind else {
+        return Err(InputFault::MissingPart);
+    };
+    let second = first_part(rest);
+    if second.behind.is_some() {
+        return Err(InputFault::ExtraPart);
+    }
+    Ok(Parts {
+        text: first.part,
+        rest: second.part,
+    })
+}
+
+// The part up to the first separator, and what stands behind it, where there is one.
+#[derive(Clone, Copy)]
+struct FirstPart<'a> {
+    part: &'a [u8],
+    behind: Option<&'a [u8]>,
+}
+
+fn first_part(bytes: &[u8]) -> FirstPart<'_>
+    ensures { MatchOption result.behind (parts_of bytes.now ≡ result.part.now ∷ [])
+        (λ behind. parts_of bytes.now ≡ result.part.now ∷ parts_of behind.now) }
+{
+    let mut at = 0;
+    while at < bytes.len() {
+        let rest = &bytes[at..];
+        let line = first_line(rest);
+        let next = at + line.len();
+        if is_separator(line) {
+            return FirstPart {
+                part: &bytes[..at],
+                behind: Some(&bytes[next..]),
+            };
+        }
+        at = next;
+    }
+    FirstPart {
+        part: bytes,
+        behind: None,
+    }
+}
+
+// The first line, with its line feed.
+fn first_line(bytes: &[u8]) -> &[u8]
+    requires { 0 < length bytes.now }
+    ensures some { 0 < length result.now }
+    ensures within { length result.now ≤ length bytes.now }
+    ensures front { result.now ≡ take (length result.now) bytes.now }
+    ensures first { lines_of bytes.now ≡ result.now ∷ lines_of (drop (length result.now) bytes.now) }
+{
+    match first_feed(bytes) {
+        Some(at) => &bytes[..at + 1],
+        None => bytes,
+    }
+}
+
+// Where the first line feed stands.
+fn first_feed(bytes: &[u8]) -> Option<usize>
+    ensures within { IfSome result (λ at. at < length bytes.now) }
+    ensures found { IfSome result (λ at. slice_index bytes.now at ≡ 10) }
+    ensures before { IfSome result (λ at. (k : ℕ) → k < at → slice_index bytes.now k ≢ 10) }
+    ensures none { IfNone result ((k : ℕ) → k < length bytes.now → slice_index bytes.now k ≢ 10) }
+{
+    bytes.iter().position(|byte| *byte == b'\n')
+}
+
+fn is_separator(line: &[u8]) -> bool
+    ensures { result ≡ is_separator line.now }
+{
+    line == b"%%".as_slice() || line == b"%%\n".as_slice()
+}

@@ -1,0 +1,84 @@
+//! A reader as a source, and a writer as a sink.
+ghost use Rattle.std.specs.Prelude.{◌≡◌, false};
+
+use crate::sink::Sink;
+use crate::source::{DeviceFault, Source};
+use std::io::{Read, Write};
+
+/// A reader or a writer. After a fault it keeps failing.
+#[derive(Drop)]
+pub struct Port<T> {
+    inner: T,
+    broken: bool,
+}
+
+impl<T> Port<T> {
+    pub fn new(inner: T) -> Port<T>
+        ensures inner { result.inner ≡ inner }
+        ensures whole { result.broken ≡ false }
+    {
+        Port {
+            inner,
+            broken: false,
+        }
+    }
+
+    pub fn into_inner(self) -> T
+        ensures { result ≡ self.inner }
+    {
+        let Port { inner, broken: _ } = self;
+        inner
+    }
+}
+
+impl<T: Read> Source for Port<T> {
+    ghost left = { λ p. T.remaining p.inner };
+
+    ghost has_failed = { λ p. p.broken };
+
+    fn pull(&mut self, buffer: &mut [u8]) -> Result<usize, DeviceFault> {
+        if self.broken {
+            return Err(DeviceFault);
+        }
+        match self.inner.read(buffer) {
+            Ok(count) => Ok(count),
+            Err(_) => {
+                self.broken = true;
+                Err(DeviceFault)
+            }
+        }
+    }
+
+    fn failed(&self) -> bool {
+        self.broken
+    }
+}
+
+impl<T: Write> Sink for Port<T> {
+    ghost taken = { λ p. T.contents p.inner };
+
+    ghost has_failed = { λ p. p.broken };
+
+    fn push(&mut self, bytes: &[u8]) -> Result<usize, DeviceFault> {
+        if self.broken {
+            return Err(DeviceFault);
+        }
+        match self.inner.write(bytes) {
+            Ok(count) => {
+                if count == 0 && !bytes.is_empty() {
+                    self.broken = true;
+                    return Err(DeviceFault);
+                }
+                Ok(count)
+            }
+            Err(_) => {
+                self.broken = true;
+                Err(DeviceFault)
+            }
+        }
+    }
+
+    fn failed(&self) -> bool {
+        self.broken
+    }
+}

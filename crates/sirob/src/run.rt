@@ -1,0 +1,105 @@
+//! The command `run`: from the bytes of its input to the lines of its output.
+ghost use Rattle.std.specs.Prelude.{◌≡◌, ◌≤◌, false, None, [], length, string_bytes, IfOk, IfErr, OnOk, OnErr};
+ghost use Rattle.prog_tree.specs.Tree.{draft_tree};
+ghost use Rattle.prog_text.specs.Answer.{Accepts};
+ghost use Rattle.prog_check.specs.Faults.{first_fault};
+ghost use Rattle.sirob.specs.FaultLines.{is_memory};
+ghost use Rattle.sirob.specs.Machine.{machine_after};
+ghost use Rattle.sirob.specs.Output.{input_limit, event_lines, row_lines, run_lines, Adds, AddsFirst, Runs, IsStop, IsRun, IsRefused, IsRefusedText};
+ghost use Rattle.sirob.specs.Straight.{IsStraightSet};
+
+use crate::engine::Engine;
+use crate::event::Event;
+use crate::parts::two_parts;
+use crate::printed::{push_reply_line, push_row_line};
+use crate::run_fault::RunFault;
+use crate::script::{Script, read_script};
+use prog_check::{ProgramSet, check};
+use prog_text::parse;
+use prog_tree::{Draft, Rows};
+use std::alloc::{AllocError, Global};
+
+// Hands the events to the engine, and adds the line of each reply.
+fn run_events(
+    engine: &mut Engine<'_>,
+    set: &Draft,
+    events: &[Event],
+    out: &mut String,
+) -> Result<(), AllocError>
+    requires { engine.old.set ≡ set.now }
+    ensures set { engine.new.set ≡ engine.old.set }
+    ensures opening { engine.new.opening ≡ engine.old.opening }
+    ensures after { OnOk result (engine.new.machine ≡ machine_after (draft_tree set.now) engine.old.opening events.now engine.old.machine) }
+    ensures ok { OnOk result (Adds (event_lines (draft_tree set.now) engine.old.opening events.now engine.old.machine) (string_bytes out.old) (string_bytes out.new)) }
+    ensures err { OnErr result (AddsFirst (event_lines (draft_tree set.now) engine.old.opening events.now engine.old.machine) (string_bytes out.old) (string_bytes out.new)) }
+{
+    for event in events {
+        let reply = engine.apply(event)?;
+        push_reply_line(out, &set.tables, event, &reply)?;
+    }
+    Ok(())
+}
+
+// Adds the line of each row.
+fn list_rows(set: &Draft, rows: &Rows, out: &mut String) -> Result<(), AllocError>
+    ensures ok { OnOk result (Adds (row_lines (draft_tree set.now) rows.now) (string_bytes out.old) (string_bytes out.new)) }
+    ensures err { OnErr result (AddsFirst (row_lines (draft_tree set.now) rows.now) (string_bytes out.old) (string_bytes out.new)) }
+{
+    for (cell, value) in rows.iter() {
+        push_row_line(out, &set.tables, cell, *value)?;
+    }
+    Ok(())
+}
+
+// Runs a script. Where memory runs out, some first of its lines were added.
+fn run_script(
+    alloc: Global,
+    set: &Draft,
+    script: Script,
+    out: &mut String,
+) -> Result<(), AllocError>
+    requires { IsStraightSet (draft_tree set.now) }
+    ensures ok { OnOk result (Adds (run_lines (draft_tree set.now) script) (string_bytes out.old) (string_bytes out.new)) }
+    ensures err { OnErr result (AddsFirst (run_lines (draft_tree set.now) script) (string_bytes out.old) (string_bytes out.new)) }
+{
+    let Script { rows, events } = script;
+    let mut engine = Engine::open(alloc, set, rows);
+    run_events(&mut engine, set, events.as_slice(), out)?;
+    list_rows(set, engine.rows(), out)
+}
+
+// The set that a text spells, where it has no fault.
+fn read_set(alloc: Global, text: &[u8]) -> Result<ProgramSet, RunFault>
+    ensures accepted { IfOk result (λ set. Accepts text.now (draft_tree set)) }
+    ensures sound { IfOk result (λ set. first_fault (draft_tree set) ≡ None) }
+    ensures refused { IfErr result (λ fault. is_memory fault ≡ false → IsRefusedText text.now fault) }
+{
+    let draft = parse(alloc, text)?;
+    let set = check(alloc, draft)?;
+    Ok(set)
+}
+
+// The set and the script of an input, where it has no fault.
+fn read_input(alloc: Global, input: &[u8]) -> Result<(ProgramSet, Script), RunFault>
+    requires { length input.now ≤ input_limit }
+    ensures ok { IfOk result (λ r. IsRun input.now (draft_tree r.0) r.1) }
+    ensures err { IfErr result (λ fault. is_memory fault ≡ false → IsRefused input.now fault) }
+{
+    let parts = two_parts(input)?;
+    let set = read_set(alloc, parts.text)?;
+    let script = read_script(alloc, &set, parts.rest)?;
+    Ok((set, script))
+}
+
+/// Runs the script of an input whose two parts are the text of a set and a script. Each event adds a line, and then each
+/// row; where memory runs out, some first lines were added.
+pub fn run_input(alloc: Global, input: &[u8], out: &mut String) -> Result<(), RunFault>
+    requires short { length input.now ≤ input_limit }
+    requires empty { string_bytes out.old ≡ [] }
+    ensures ok { OnOk result (Runs input.now (string_bytes out.new)) }
+    ensures err { IfErr result (λ fault. IsStop input.now fault (string_bytes out.new)) }
+{
+    let (set, script) = read_input(alloc, input)?;
+    run_script(alloc, set.draft(), script, out)?;
+    Ok(())
+}

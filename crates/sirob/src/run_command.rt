@@ -1,0 +1,104 @@
+//! Carries out what the words ask for, from a source to a sink.
+ghost use Rattle.std.specs.Prelude.{◌≡◌, ◌++◌, true, false, [], Err, string_bytes, IfOk, IfErr, IfSome};
+ghost use Rattle.sirob.specs.FaultLines.{is_memory};
+ghost use Rattle.sirob.specs.Output.{Runs, IsStop, IsAnswer, IsUnread, memory_line, IsReadFault, Ends, IsJust, Writes};
+
+use crate::command_line::Mode;
+use crate::run::run_input;
+use crate::run_fault::{RunFault, fault_line};
+use crate::sink::{Sink, write_whole};
+use crate::source::{Source, read_whole};
+use crate::status::Status;
+use std::alloc::Global;
+
+const MEMORY_LINE: &[u8] = b"fault memory\n";
+
+// Reads all of a source, and runs it.
+fn run_source<S: Source>(alloc: Global, source: &mut S, out: &mut String) -> Result<(), RunFault>
+    requires { string_bytes out.old ≡ [] }
+    ensures ok { IfOk result (λ _. IfSome (S.left source.old) (λ input. Runs input (string_bytes out.new))) }
+    ensures err { IfErr result (λ fault. S.has_failed source.new ≡ false → IfSome (S.left source.old) (λ input. IsStop input fault (string_bytes out.new))) }
+    ensures unread { S.has_failed source.new ≡ true → IsReadFault result }
+{
+    let input = read_whole(alloc, source)?;
+    run_input(alloc, &input, out)
+}
+
+// Writes the last bytes; the status is the one given, or that of a failed write.
+fn write_last<K: Sink>(sink: &mut K, bytes: &[u8], status: Status) -> Status
+    ensures written { K.has_failed sink.new ≡ false → Writes (IsJust bytes.now status) (K.taken sink.old) (K.taken sink.new) result }
+    ensures failed { K.has_failed sink.new ≡ true → result ≡ Status.Faulty }
+{
+    match write_whole(sink, bytes) {
+        Ok(()) => status,
+        Err(_) => Status::Faulty,
+    }
+}
+
+// Writes lines, and then that memory ran out.
+fn write_stop<K: Sink>(sink: &mut K, lines: &[u8]) -> Status
+    ensures written { K.has_failed sink.new ≡ false → Writes (IsJust (lines.now ++ memory_line) Status.Memory) (K.taken sink.old) (K.taken sink.new) result }
+    ensures failed { K.has_failed sink.new ≡ true → result ≡ Status.Faulty }
+{
+    match write_whole(sink, lines) {
+        Ok(()) => write_last(sink, MEMORY_LINE, Status::Memory),
+        Err(_) => Status::Faulty,
+    }
+}
+
+// Writes the line of a fault, alone.
+fn write_fault<K: Sink>(alloc: Global, sink: &mut K, fault: RunFault) -> Status
+    requires { is_memory fault ≡ false }
+    ensures written { K.has_failed sink.new ≡ false → Writes (Ends [] (Err fault)) (K.taken sink.old) (K.taken sink.new) result }
+    ensures failed { K.has_failed sink.new ≡ true → result ≡ Status.Faulty }
+{
+    match fault_line(alloc, fault) {
+        Ok(line) => write_last(sink, line.as_bytes(), Status::Faulty),
+        Err(_) => write_last(sink, MEMORY_LINE, Status::Memory),
+    }
+}
+
+// Writes what a run has left: its lines, and the fault that stopped it.
+fn write_answer<K: Sink>(
+    alloc: Global,
+    sink: &mut K,
+    lines: &[u8],
+    ended: Result<(), RunFault>,
+) -> Status
+    ensures written { K.has_failed sink.new ≡ false → Writes (Ends lines.now ended) (K.taken sink.old) (K.taken sink.new) result }
+    ensures failed { K.has_failed sink.new ≡ true → result ≡ Status.Faulty }
+{
+    match ended {
+        Ok(()) => write_last(sink, lines, Status::Done),
+        Err(fault) => {
+            if fault.is_memory() {
+                write_stop(sink, lines)
+            } else {
+                write_fault(alloc, sink, fault)
+            }
+        }
+    }
+}
+
+/// Reads all of a source, does what the mode asks for, and writes the answer to a sink. A source that failed is a fault
+/// of the input; a sink that failed has some first bytes of the answer.
+pub fn run_command<S: Source, K: Sink>(
+    alloc: Global,
+    mode: Mode,
+    source: &mut S,
+    sink: &mut K,
+) -> Status
+    ensures answer { S.has_failed source.new ≡ false → K.has_failed sink.new ≡ false
+        → IfSome (S.left source.old) (λ input. Writes (IsAnswer input) (K.taken sink.old) (K.taken sink.new) result) }
+    ensures unread { S.has_failed source.new ≡ true → K.has_failed sink.new ≡ false
+        → Writes IsUnread (K.taken sink.old) (K.taken sink.new) result }
+    ensures unwritten { K.has_failed sink.new ≡ true → result ≡ Status.Faulty }
+{
+    match mode {
+        Mode::Run => {
+            let mut lines = String::new(alloc);
+            let ended = run_source(alloc, source, &mut lines);
+            write_answer(alloc, sink, lines.as_bytes(), ended)
+        }
+    }
+}

@@ -1,0 +1,173 @@
+//! What keeps a command from its work, and the line that says so.
+ghost use Rattle.std.specs.Prelude.{◌≡◌, IfOk, string_bytes};
+ghost use Rattle.sirob.specs.FaultLines.{text_fault, place_text, in_set, check_fault, script_fault, fault_line, is_memory};
+
+use crate::script_fault::ScriptFault;
+use crate::source::InputFault;
+use prog_check::{CheckFault, Place};
+use prog_text::TextFault;
+use std::alloc::{AllocError, Global};
+
+/// A fault, by the layer that finds it.
+#[derive(Clone, Copy, Debug, PartialEq, Eq)]
+pub enum RunFault {
+    Input(InputFault),
+    Text(TextFault),
+    Check(CheckFault),
+    Script(ScriptFault),
+}
+
+// A fault of the text, by its code and the byte where it stands.
+fn text_fault(alloc: Global, fault: TextFault) -> Result<String, AllocError>
+    ensures { IfOk result (λ text. string_bytes text ≡ text_fault fault) }
+{
+    match fault {
+        TextFault::NotAscii { place } => format!(in alloc; "P1 at {place}"),
+        TextFault::UnknownByte { place } => format!(in alloc; "P2 at {place}"),
+        TextFault::UnexpectedToken { place } => format!(in alloc; "P3 at {place}"),
+        TextFault::UnexpectedEnd { place } => format!(in alloc; "P4 at {place}"),
+        TextFault::NumberOutOfRange { place } => format!(in alloc; "P5 at {place}"),
+        TextFault::NameTooLong { place } => format!(in alloc; "P6 at {place}"),
+        TextFault::TooDeep { place } => format!(in alloc; "P7 at {place}"),
+        TextFault::TooLong { place } => format!(in alloc; "P8 at {place}"),
+        TextFault::Memory => format!(in alloc; "memory"),
+    }
+}
+
+// A table, a program or a statement.
+fn place_text(alloc: Global, place: Place) -> Result<String, AllocError>
+    ensures { IfOk result (λ text. string_bytes text ≡ place_text place) }
+{
+    match place {
+        Place::Table { table } => format!(in alloc; "table {table}"),
+        Place::Program { program } => format!(in alloc; "program {program}"),
+        Place::Statement { program, statement } => {
+            format!(in alloc; "program {program} statement {statement}")
+        }
+    }
+}
+
+fn in_set(alloc: Global, code: &str, place: Place) -> Result<String, AllocError>
+    ensures { IfOk result (λ text. string_bytes text ≡ in_set code.now place) }
+{
+    let place = place_text(alloc, place)?;
+    format!(in alloc; "{code} {place}")
+}
+
+// A fault of the checker, by its code and where it lies in the set.
+fn check_fault(alloc: Global, fault: CheckFault) -> Result<String, AllocError>
+    ensures { IfOk result (λ text. string_bytes text ≡ check_fault fault) }
+{
+    match fault {
+        CheckFault::DuplicateTable { place } => in_set(alloc, "C1", place),
+        CheckFault::DuplicateProgram { place } => in_set(alloc, "C2", place),
+        CheckFault::DuplicateParameter { place } => in_set(alloc, "C3", place),
+        CheckFault::UnknownTable { place } => in_set(alloc, "C4", place),
+        CheckFault::UnknownName { place } => in_set(alloc, "C5", place),
+        CheckFault::NameTaken { place } => in_set(alloc, "C6", place),
+        CheckFault::WrongArity { place } => in_set(alloc, "C7", place),
+        CheckFault::GrowTableChanged { place } => in_set(alloc, "C8", place),
+        CheckFault::AfterAbort { place } => in_set(alloc, "C9", place),
+        CheckFault::TooMany { place } => in_set(alloc, "C10", place),
+        CheckFault::Memory => format!(in alloc; "memory"),
+    }
+}
+
+// A fault of the script, by its code and its line.
+fn script_fault(alloc: Global, fault: ScriptFault) -> Result<String, AllocError>
+    ensures { IfOk result (λ text. string_bytes text ≡ script_fault fault) }
+{
+    match fault {
+        ScriptFault::BadLine { line } => format!(in alloc; "S1 line {line}"),
+        ScriptFault::UnknownName { line } => format!(in alloc; "S2 line {line}"),
+        ScriptFault::WrongKeys { line } => format!(in alloc; "S3 line {line}"),
+        ScriptFault::LateRow { line } => format!(in alloc; "S4 line {line}"),
+        ScriptFault::RepeatedRow { line } => format!(in alloc; "S5 line {line}"),
+        ScriptFault::TooManyEvents { line } => format!(in alloc; "S6 line {line}"),
+        ScriptFault::Memory => format!(in alloc; "memory"),
+    }
+}
+
+/// The line that a fault is, with its line feed.
+pub fn fault_line(alloc: Global, fault: RunFault) -> Result<String, AllocError>
+    ensures { IfOk result (λ line. string_bytes line ≡ fault_line fault) }
+{
+    let text = match fault {
+        RunFault::Input(fault) => format!(in alloc; "{fault}")?,
+        RunFault::Text(fault) => text_fault(alloc, fault)?,
+        RunFault::Check(fault) => check_fault(alloc, fault)?,
+        RunFault::Script(fault) => script_fault(alloc, fault)?,
+    };
+    format!(in alloc; "fault {text}\n")
+}
+
+impl From<InputFault> for RunFault {
+    ghost use Rattle.std.specs.Prelude.{◌≡◌};
+    ghost use Rattle.sirob.specs.declared.run_fault.RunFault.TheVariants.{Input};
+
+    ghost from_gives = { λ fault e. e ≡ Input fault };
+
+    fn from(fault: InputFault) -> Self {
+        RunFault::Input(fault)
+    }
+}
+
+impl From<TextFault> for RunFault {
+    ghost use Rattle.std.specs.Prelude.{◌≡◌};
+    ghost use Rattle.sirob.specs.declared.run_fault.RunFault.TheVariants.{Text};
+
+    ghost from_gives = { λ fault e. e ≡ Text fault };
+
+    fn from(fault: TextFault) -> Self {
+        RunFault::Text(fault)
+    }
+}
+
+impl From<CheckFault> for RunFault {
+    ghost use Rattle.std.specs.Prelude.{◌≡◌};
+    ghost use Rattle.sirob.specs.declared.run_fault.RunFault.TheVariants.{Check};
+
+    ghost from_gives = { λ fault e. e ≡ Check fault };
+
+    fn from(fault: CheckFault) -> Self {
+        RunFault::Check(fault)
+    }
+}
+
+impl From<ScriptFault> for RunFault {
+    ghost use Rattle.std.specs.Prelude.{◌≡◌};
+    ghost use Rattle.sirob.specs.declared.run_fault.RunFault.TheVariants.{Script};
+
+    ghost from_gives = { λ fault e. e ≡ Script fault };
+
+    fn from(fault: ScriptFault) -> Self {
+        RunFault::Script(fault)
+    }
+}
+
+impl From<AllocError> for RunFault {
+    ghost use Rattle.std.specs.Prelude.{◌≡◌};
+    ghost use Rattle.sirob.specs.declared.run_fault.RunFault.TheVariants.{Input};
+    ghost use Rattle.sirob.specs.declared.source.InputFault.TheVariants.{Memory};
+
+    ghost from_gives = { λ _ e. e ≡ Input Memory };
+
+    fn from(_: AllocError) -> Self {
+        RunFault::Input(InputFault::Memory)
+    }
+}
+
+impl RunFault {
+    /// Whether it is want of memory, and no fault of the input.
+    pub fn is_memory(self) -> bool
+        ensures { result ≡ is_memory self }
+    {
+        matches!(
+            self,
+            RunFault::Input(InputFault::Memory)
+                | RunFault::Text(TextFault::Memory)
+                | RunFault::Check(CheckFault::Memory)
+                | RunFault::Script(ScriptFault::Memory)
+        )
+    }
+}

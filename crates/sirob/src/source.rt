@@ -1,0 +1,118 @@
+//! Where the input comes from, and how it is read whole.
+ghost use Rattle.std.specs.Prelude.{◌≡◌, ◌<◌, ◌≤◌, ◌↔◌, ℕ, Bool, List, Option, None, true, length, vec_len, IsErr, IfOk, IfErr, IfSome, OnOk, IsErrOf};
+ghost use Rattle.std.specs.Io.KnownBytes.{ReadConsumes, IsAtEnd};
+ghost use Rattle.sirob.specs.Faults.{IsOfReading};
+
+use std::alloc::{AllocError, AllocFailed, Global};
+use std::fmt;
+
+/// A source or a sink has failed.
+#[derive(Clone, Copy, Debug, PartialEq, Eq)]
+pub struct DeviceFault;
+
+/// What bytes are read from.
+pub trait Source {
+    /// The bytes that pulls give from here on, where the source tells them.
+    ghost left: { Self → Option (List ℕ) } = { λ _. None };
+
+    ghost has_failed: { Self → Bool };
+
+    /// Some bytes, at the front of the buffer. None only at the end, or where the buffer is empty.
+    fn pull(&mut self, buffer: &mut [u8]) -> Result<usize, DeviceFault>
+        ensures bound { IfOk result (λ n. n ≤ length buffer.new) }
+        ensures bytes { ReadConsumes (left self.old) (left self.new) result buffer.new }
+        ensures fault { IsErr result ↔ (has_failed self.new ≡ true) };
+
+    fn failed(&self) -> bool
+        ensures { result ≡ has_failed self.now };
+}
+
+pub const MOST_BYTES: usize = 16_777_216;
+
+pub const MOST_READS: usize = 16_777_217;
+
+const PIECE: usize = 65_536;
+
+/// Why there is no input, or not in the parts that are asked for.
+#[derive(Clone, Copy, Debug, PartialEq, Eq)]
+pub enum InputFault {
+    MissingPart,
+    ExtraPart,
+    TooLong,
+    ReadFault,
+    Memory,
+}
+
+impl fmt::Display for InputFault {
+    ghost use Rattle.std.specs.Prelude.{Some};
+    ghost use Rattle.sirob.specs.Faults.{code_of};
+
+    ghost output = { λ fault. Some (code_of fault) };
+
+    fn fmt<W: fmt::Write>(&self, f: &mut fmt::Formatter<W>) -> fmt::Result {
+        f.write_str(match *self {
+            InputFault::MissingPart => "I1",
+            InputFault::ExtraPart => "I2",
+            InputFault::TooLong => "I3",
+            InputFault::ReadFault => "I4",
+            InputFault::Memory => "memory",
+        })
+    }
+}
+
+impl From<AllocError> for InputFault {
+    ghost use Rattle.sirob.specs.declared.source.InputFault.TheVariants.{Memory};
+
+    ghost from_gives = { λ _ e. e ≡ Memory };
+
+    fn from(_error: AllocError) -> InputFault {
+        InputFault::Memory
+    }
+}
+
+impl<T: Drop> From<AllocFailed<T>> for InputFault {
+    ghost use Rattle.sirob.specs.declared.source.InputFault.TheVariants.{Memory};
+
+    ghost from_gives = { λ _ e. e ≡ Memory };
+
+    fn from(_error: AllocFailed<T>) -> InputFault {
+        InputFault::Memory
+    }
+}
+
+// A buffer. Its length is an argument, so that no proof computes with so many zeros.
+fn zeros(alloc: Global, count: usize) -> Result<Vec<u8>, AllocError>
+    ensures { IfOk result (λ v. vec_len v ≡ count) }
+{
+    vec![in alloc; 0u8; count]
+}
+
+/// All bytes of a source. At `TooLong` and `Memory` some of them may have been read.
+pub fn read_whole<S: Source>(alloc: Global, source: &mut S) -> Result<Vec<u8>, InputFault>
+    ensures short { IfOk result (λ v. vec_len v ≤ MOST_BYTES) }
+    ensures whole { IfOk result (λ v. IfSome (S.left source.old) (λ all. v.items ≡ all)) }
+    ensures end { OnOk result (IsAtEnd (S.left source.new)) }
+
+    ensures long { IsErrOf result InputFault.TooLong → IfSome (S.left source.old) (λ all. MOST_BYTES < length all) }
+    ensures fault { IsErrOf result InputFault.ReadFault ↔ (S.has_failed source.new ≡ true) }
+    ensures kinds { IfErr result IsOfReading }
+{
+    if source.failed() {
+        return Err(InputFault::ReadFault);
+    }
+    let mut all = Vec::new(alloc);
+    let mut piece = zeros(alloc, PIECE)?;
+    for _turn in 0..MOST_READS {
+        let Ok(count) = source.pull(&mut piece) else {
+            return Err(InputFault::ReadFault);
+        };
+        if count == 0 {
+            return Ok(all);
+        }
+        if count > MOST_BYTES - all.len() {
+            return Err(InputFault::TooLong);
+        }
+        all.extend_from_slice(&piece[..count])?;
+    }
+    Err(InputFault::TooLong)
+}

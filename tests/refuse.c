@@ -1,0 +1,55 @@
+/* Preloaded into the program: refuses the request for memory whose number, from 1, stands in REFUSE.
+   At exit the file REFUSED is made if a request was refused. */
+#define _GNU_SOURCE
+#include <dlfcn.h>
+#include <errno.h>
+#include <fcntl.h>
+#include <stdlib.h>
+#include <unistd.h>
+
+static long wanted = -1;
+static long asked;
+static int refused;
+
+static int is_refused(void) {
+  if (wanted < 0) {
+    const char *text = getenv("REFUSE");
+    wanted = text ? atol(text) : 0;
+  }
+  if (wanted == 0 || ++asked != wanted) return 0;
+  refused = 1;
+  errno = ENOMEM;
+  return 1;
+}
+
+void *malloc(size_t size) {
+  static void *(*real)(size_t);
+  if (!real) real = dlsym(RTLD_NEXT, "malloc");
+  return is_refused() ? NULL : real(size);
+}
+
+void *realloc(void *old, size_t size) {
+  static void *(*real)(void *, size_t);
+  if (!real) real = dlsym(RTLD_NEXT, "realloc");
+  return is_refused() ? NULL : real(old, size);
+}
+
+int posix_memalign(void **out, size_t alignment, size_t size) {
+  static int (*real)(void **, size_t, size_t);
+  if (!real) real = dlsym(RTLD_NEXT, "posix_memalign");
+  return is_refused() ? ENOMEM : real(out, alignment, size);
+}
+
+void *aligned_alloc(size_t alignment, size_t size) {
+  static void *(*real)(size_t, size_t);
+  if (!real) real = dlsym(RTLD_NEXT, "aligned_alloc");
+  return is_refused() ? NULL : real(alignment, size);
+}
+
+__attribute__((destructor)) static void report(void) {
+  const char *path = getenv("REFUSED");
+  if (refused && path) {
+    int file = open(path, O_CREAT | O_WRONLY, 0600);
+    if (file >= 0) close(file);
+  }
+}
