@@ -1,4 +1,6 @@
+pub mod CountLemmas
 pub mod NameLemmas
+pub mod PathVectors
 pub mod RuleLemmas
 pub mod WalkLemmas
 pub mod Vectors

@@ -7,16 +7,16 @@ use Rattle.prog_tree.specs.declared.table.TableDecl.{TableDecl}
 use Rattle.prog_tree.specs.Syntax.{Name, ExprTree, Literal, Named, Plus, Less, TestTree, KeyTree, One, Two, OneRange, TwoRange, BlockTree, BlockEnd, Then, Branch, ProgramTree, DraftTree}
 use Rattle.prog_tree.specs.Syntax as s
 use Rattle.prog_check.specs.declared.fault.CheckFault.{CheckFault}
-use Rattle.prog_check.specs.declared.fault.CheckFault.TheVariants.{DuplicateTable, DuplicateProgram, DuplicateParameter, UnknownTable, UnknownName, NameTaken, WrongArity, GrowTableChanged, AfterAbort, TooMany}
+use Rattle.prog_check.specs.declared.fault.CheckFault.TheVariants.{DuplicateTable, DuplicateProgram, DuplicateParameter, UnknownTable, UnknownName, NameTaken, WrongArity, GrowTableChanged, AfterAbort, TooMany, TooManyPaths}
 use Rattle.prog_check.specs.declared.fault.Place.TheVariants.{Table, Program, Statement}
 use Rattle.prog_check.specs.Faults.{first_fault}
 
 -- ---- drafts in short
 
-abbrev table_of : List ℕ → Arity → Bool → TableDecl
+abbrev pub table_of : List ℕ → Arity → Bool → TableDecl
 table_of name columns grow = record { name = name; arity = columns; grow = grow }
 
-abbrev program_of : List ℕ → List Name → BlockTree → ProgramTree
+abbrev pub program_of : List ℕ → List Name → BlockTree → ProgramTree
 program_of name params body = record { name = name; params = params; body = body }
 
 -- `table t 1; table e 2; table g 1 grow;`
@@ -184,3 +184,71 @@ block_aborts = refl
 -- the numbers go on through blocks
 counted_through : fault_of (Branch below (replies 200 BlockEnd) (replies 54 BlockEnd) (replies 2 BlockEnd)) ≡ Some (TooMany (Statement 0 256))
 counted_through = refl
+
+-- ---- committing paths
+
+-- `if a < 1 { .. } else { .. }` so many times, with these two blocks
+abbrev branches : ℕ → BlockTree → BlockTree → BlockTree → BlockTree
+branches zero a b rest = rest
+branches (suc n) a b rest = Branch below a b (branches n a b rest)
+
+-- `keep t[1];` so many times
+abbrev keeps : ℕ → BlockTree → BlockTree
+keeps zero rest = rest
+keeps (suc n) rest = Then (s.Keep (codes "t") (One one)) (keeps n rest)
+
+abbrev inserts : Name → ℕ → BlockTree → BlockTree
+inserts table zero rest = rest
+inserts table (suc n) rest = Then (s.Insert table (One one) one) (inserts table n rest)
+
+abbrev aborts : BlockTree
+aborts = Then s.Abort BlockEnd
+
+paths_32 : fault_of (branches 5 BlockEnd BlockEnd BlockEnd) ≡ None
+paths_32 = refl
+
+paths_33 : fault_of (Branch below BlockEnd (branches 5 BlockEnd BlockEnd BlockEnd) BlockEnd) ≡ Some (TooManyPaths (Program 0))
+paths_33 = refl
+
+paths_64 : fault_of (branches 6 BlockEnd BlockEnd BlockEnd) ≡ Some (TooManyPaths (Program 0))
+paths_64 = refl
+
+-- a route that meets `abort;` is no path
+aborting_routes : fault_of (branches 5 BlockEnd BlockEnd (branches 3 aborts BlockEnd BlockEnd)) ≡ None
+aborting_routes = refl
+
+accesses_24 : fault_of (keeps 24 BlockEnd) ≡ None
+accesses_24 = refl
+
+accesses_25 : fault_of (keeps 25 BlockEnd) ≡ Some (TooMany (Program 0))
+accesses_25 = refl
+
+-- accesses are counted path by path
+accesses_per_path : fault_of (Branch below (keeps 23 BlockEnd) (keeps 22 BlockEnd) (keeps 1 BlockEnd)) ≡ None
+accesses_per_path = refl
+
+accesses_on_one_path : fault_of (Branch below (keeps 22 BlockEnd) (keeps 24 BlockEnd) (keeps 1 BlockEnd)) ≡ Some (TooMany (Program 0))
+accesses_on_one_path = refl
+
+accesses_before_abort : fault_of (Branch below (keeps 25 aborts) (keeps 23 BlockEnd) (keeps 1 BlockEnd)) ≡ None
+accesses_before_abort = refl
+
+-- without a committing path nothing is counted
+no_committing_path : fault_of (keeps 25 aborts) ≡ None
+no_committing_path = refl
+
+inserts_into_grow_table : fault_of (inserts (codes "g") 24 BlockEnd) ≡ None
+inserts_into_grow_table = refl
+
+inserts_into_plain_table : fault_of (inserts (codes "t") 13 BlockEnd) ≡ Some (TooMany (Program 0))
+inserts_into_plain_table = refl
+
+-- paths count before accesses, statements before both, and a program's paths before the next program
+paths_before_accesses : fault_of (keeps 25 (branches 6 BlockEnd BlockEnd BlockEnd)) ≡ Some (TooManyPaths (Program 0))
+paths_before_accesses = refl
+
+statements_before_paths : fault_of (branches 6 BlockEnd BlockEnd (reply_b BlockEnd)) ≡ Some (UnknownName (Statement 0 6))
+statements_before_paths = refl
+
+paths_before_next_program : fault_of_programs (program_of (codes "P") (codes "a" ∷ []) (keeps 25 BlockEnd) ∷ program_of (codes "P") [] BlockEnd ∷ []) ≡ Some (TooMany (Program 0))
+paths_before_next_program = refl

@@ -4,7 +4,8 @@ use Rattle.std.specs.Prelude.{Option, None}
 use Rattle.prog_tree.specs.declared.table.TableDecl.{TableDecl}
 use Rattle.prog_tree.specs.Syntax.{Name, TestTree, BlockTree, Branch}
 use Rattle.prog_check.specs.declared.fault.CheckFault.{CheckFault}
-use Rattle.prog_check.specs.Faults.{first_broken, branch_rules, block_fault, statement_count, ◌or_else◌}
+use Rattle.prog_check.specs.Faults.{first_broken, branch_rules, block_fault, ◌or_else◌}
+use Rattle.prog_check.specs.Paths.{statement_count}
 use Rattle.prog_check.specs.Sets.{IsFirst}
 use Rattle.prog_check.proofs.RuleLemmas.{IsFirst-or_else}
 

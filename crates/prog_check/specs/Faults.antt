@@ -1,16 +1,18 @@
 -- Which fault of a draft comes first.
 use Rattle.std.specs.Prelude.{ℕ, ◌+◌, nat_le, nat_lt, Bool, true, false, not, ◌&&◌, List, [], ◌∷◌, ◌++◌, map, length, Option, Some, None, is_some, if◌then◌else◌}
-use Rattle.std.specs.List.{list_all, find}
+use Rattle.std.specs.List.{list_all, list_any}
 use Rattle.prog_tree.specs.declared.table.Arity.{Arity}
 use Rattle.prog_tree.specs.declared.table.Arity.TheVariants as arity
 use Rattle.prog_tree.specs.declared.table.TableDecl.{TableDecl}
 use Rattle.prog_tree.specs.Syntax.{Name, TestTree, StatementTree, BlockTree, BlockEnd, Then, Branch, ProgramTree, DraftTree}
-use Rattle.prog_tree.specs.Value.{same_name}
 use Rattle.prog_check.specs.declared.fault.Place.{Place}
 use Rattle.prog_check.specs.declared.fault.Place.TheVariants.{Table, Program, Statement}
 use Rattle.prog_check.specs.declared.fault.CheckFault.{CheckFault}
-use Rattle.prog_check.specs.declared.fault.CheckFault.TheVariants.{DuplicateTable, DuplicateProgram, DuplicateParameter, UnknownTable, UnknownName, NameTaken, WrongArity, GrowTableChanged, AfterAbort, TooMany}
+use Rattle.prog_check.specs.declared.fault.CheckFault.TheVariants.{DuplicateTable, DuplicateProgram, DuplicateParameter, UnknownTable, UnknownName, NameTaken, WrongArity, GrowTableChanged, AfterAbort, TooMany, TooManyPaths}
+use Rattle.prog_check.specs.declared.path.Path.{Path}
 use Rattle.prog_check.specs.Names.{is_among, has_twice}
+use Rattle.prog_check.specs.Paths.{statement_count, program_paths}
+use Rattle.prog_check.specs.Tables.{declaration, grows}
 use Rattle.prog_check.specs.Uses.{test_names, used_names, new_name, with_new, used_table, overwrites, is_abort}
 
 -- ---- rules
@@ -30,10 +32,7 @@ abbrev pub ◌or_else◌ : Option CheckFault → Option CheckFault → Option Ch
 (Some fault) or_else later = Some fault
 None or_else later = later
 
--- ---- tables, as a statement finds them
-
-abbrev pub declaration : List TableDecl → Name → Option TableDecl
-declaration tables x = find (λ d. same_name x d.name) tables
+-- ---- statements
 
 abbrev pub same_arity : Arity → Arity → Bool
 same_arity arity.One arity.One = true
@@ -43,12 +42,6 @@ same_arity a b = false
 abbrev pub has_wrong_arity : Option TableDecl → Arity → Bool
 has_wrong_arity None a = false
 has_wrong_arity (Some d) a = not (same_arity d.arity a)
-
-abbrev pub grows : Option TableDecl → Bool
-grows None = false
-grows (Some d) = d.grow
-
--- ---- statements
 
 -- what is asked of each statement: whether `abort;` stood before it in the same block, and how many came before it
 abbrev pub place_rules : Place → (number : ℕ) (aborted : Bool) → List Rule
@@ -84,12 +77,6 @@ abbrev pub branch_rules : (program number : ℕ) (aborted : Bool) (visible : Lis
 branch_rules program number aborted visible test =
     place_rules (Statement program number) number aborted ++ value_use_rules (Statement program number) visible (test_names test)
 
--- how many statements a block has, those of its blocks too
-abbrev pub statement_count : BlockTree → ℕ
-statement_count BlockEnd = 0
-statement_count (Then s rest) = 1 + statement_count rest
-statement_count (Branch test a b rest) = 1 + statement_count a + statement_count b + statement_count rest
-
 -- The first fault of a block whose first statement has this number, counted in the order of the text, a branch before its
 -- blocks. A `let` is visible behind its statement, to the end of its block.
 abbrev pub block_fault : List TableDecl → (program number : ℕ) (aborted : Bool) (visible : List Name) → BlockTree → Option CheckFault
@@ -113,9 +100,18 @@ program_rules earlier p =
     (nat_lt 8 (length p.params), TooMany (Program (length earlier))) ∷
     (has_twice p.params, DuplicateParameter (Program (length earlier))) ∷ []
 
--- the first fault of a program behind programs of these names
+-- what is asked of a program's committing paths
+abbrev pub path_rules : Place → List Path → List Rule
+path_rules place paths =
+    (nat_lt 32 (length paths), TooManyPaths place) ∷
+    (list_any (λ path. nat_lt 24 (length path.accesses)) paths, TooMany place) ∷ []
+
+-- the first fault of a program behind programs of these names: of its head, of its statements, of its paths
 abbrev pub program_fault : List TableDecl → (earlier : List Name) → ProgramTree → Option CheckFault
-program_fault tables earlier p = first_broken (program_rules earlier p) or_else block_fault tables (length earlier) 0 false p.params p.body
+program_fault tables earlier p =
+    first_broken (program_rules earlier p)
+    or_else block_fault tables (length earlier) 0 false p.params p.body
+    or_else first_broken (path_rules (Program (length earlier)) (program_paths tables (length earlier) p))
 
 -- one program is gone through before the next
 abbrev pub programs_fault : List TableDecl → (earlier : List Name) → List ProgramTree → Option CheckFault
@@ -139,6 +135,6 @@ table_names draft = map (λ d. d.name) draft.tables
 abbrev pub program_names : DraftTree → List Name
 program_names draft = map (λ p. p.name) draft.programs
 
--- The first fault of a draft, or none. How many committing paths a program has, and how many accesses lie on one, is not asked.
+-- the first fault of a draft, or none
 abbrev pub first_fault : DraftTree → Option CheckFault
 first_fault draft = tables_fault [] (table_names draft) or_else programs_fault draft.tables [] draft.programs

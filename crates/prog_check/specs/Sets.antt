@@ -5,7 +5,8 @@ use Rattle.prog_tree.specs.Syntax.{Name, BlockTree, DraftTree}
 use Rattle.prog_check.specs.declared.fault.CheckFault.{CheckFault}
 use Rattle.prog_check.specs.declared.fault.CheckFault.TheVariants.{Memory}
 use Rattle.prog_check.specs.declared.body.Position.{Position}
-use Rattle.prog_check.specs.Faults.{block_fault, statement_count, table_names, program_names, first_fault}
+use Rattle.prog_check.specs.Faults.{block_fault, table_names, program_names, first_fault}
+use Rattle.prog_check.specs.Paths.{statement_count}
 
 -- what was found is the first fault; of memory nothing is said
 abbrev pub IsFirst : CheckFault → Option CheckFault → Type 0

@@ -2,8 +2,9 @@
 ghost use Rattle.std.specs.Prelude.{◌≡◌, ℕ, ◌+◌, ◌<◌, ◌++◌, false, OnOk, OnErr, length, option_copied, Option, Some, None};
 ghost use Rattle.std.specs.Option.{option_map};
 ghost use Rattle.prog_tree.specs.Tree.{test_tree, statement_tree, with_stmt, block_tree};
-ghost use Rattle.prog_check.specs.Faults.{first_broken, place_rules, table_use_rules, value_use_rules, new_name_rules, statement_rules, branch_rules, statement_count, block_fault};
+ghost use Rattle.prog_check.specs.Faults.{first_broken, place_rules, table_use_rules, value_use_rules, new_name_rules, statement_rules, branch_rules, block_fault};
 ghost use Rattle.prog_check.specs.Names.{Extends};
+ghost use Rattle.prog_check.specs.Paths.{statement_count};
 ghost use Rattle.prog_check.specs.Sets.{Finds, GoesOn};
 ghost use Rattle.prog_check.specs.Uses.{used_table, overwrites, used_names, test_names, new_name, with_new, is_abort};
 

@@ -40,9 +40,13 @@ pub enum CheckFault {
     /// A statement follows an `abort;` of its block.
     #[error("C9 {place}")]
     AfterAbort { place: Place },
-    /// The 65th table, the 17th program, the 9th parameter or the statement numbered 256.
+    /// The 65th table, the 17th program, the 9th parameter, the statement numbered 256, or more than 24 accesses on a
+    /// committing path.
     #[error("C10 {place}")]
     TooMany { place: Place },
+    /// More than 32 committing paths.
+    #[error("C11 {place}")]
+    TooManyPaths { place: Place },
     #[error("memory")]
     Memory,
 }

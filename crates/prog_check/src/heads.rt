@@ -7,6 +7,7 @@ ghost use Rattle.prog_check.specs.Names.{has_twice};
 ghost use Rattle.prog_check.specs.Sets.{Finds};
 
 use crate::body::{Position, check_block};
+use crate::counts::check_paths;
 use crate::fault::{CheckFault, Place};
 use crate::names::Names;
 use crate::tables::Tables;
@@ -84,6 +85,7 @@ fn check_program(
     let visible = check_head(alloc, earlier, program)?;
     let mut at = Position { number: 0, visible };
     check_block(tables, number, &mut at, &program.body)?;
+    check_paths(tables, number, program)?;
     Ok(())
 }
 

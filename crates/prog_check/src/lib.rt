@@ -2,9 +2,11 @@
 #![tactic(auto)]
 
 mod body;
+mod counts;
 mod fault;
 mod heads;
 mod names;
+mod path;
 mod set;
 mod tables;
 #[cfg(test)]
@@ -12,4 +14,5 @@ mod tests;
 mod uses;
 
 pub use fault::{CheckFault, Place};
+pub use path::{Access, Accesses, Choices, Column, Kind, Path, Term};
 pub use set::{ProgramSet, check};

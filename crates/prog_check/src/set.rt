@@ -38,8 +38,7 @@ impl Model for ProgramSet {
     ghost invariant = { λ s. IsChecked (draft_tree s.draft) s.tables s.programs };
 }
 
-/// The set of a draft, or the draft's first fault. How many committing paths a program has, and how many accesses lie on
-/// one, is not checked yet.
+/// The set of a draft, or the draft's first fault.
 pub fn check(alloc: Global, draft: Draft) -> Result<ProgramSet, CheckFault>
     ensures { Finds (λ set. set ≡ draft) result (first_fault (draft_tree draft)) }
 {

@@ -1,5 +1,5 @@
 ghost use Rattle.std.specs.Prelude.{◌≡◌, option_copied, IfOk, map};
-ghost use Rattle.prog_check.specs.Faults.{declaration};
+ghost use Rattle.prog_check.specs.Tables.{declaration};
 
 use crate::names::Names;
 use prog_tree::{Name, TableDecl};

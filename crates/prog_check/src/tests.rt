@@ -19,6 +19,8 @@ enum Line {
     LacksTwo(&'static str, &'static str),
     /// `put table[key] = 1;`
     Put(&'static str, &'static str),
+    /// `insert table[key] = 1;`
+    Insert(&'static str, &'static str),
     /// `delete table[key];`
     Delete(&'static str, &'static str),
     /// `reply value;`
@@ -59,6 +61,11 @@ fn stmt(alloc: Global, line: Line) -> Result<Stmt, AllocError> {
             key: key(alloc, at)?,
             value: Expr::Literal(1),
         },
+        Line::Insert(table, at) => Stmt::Insert {
+            table: Name::new(alloc, table)?,
+            key: key(alloc, at)?,
+            value: Expr::Literal(1),
+        },
         Line::Delete(table, at) => Stmt::Delete {
             table: Name::new(alloc, table)?,
             key: key(alloc, at)?,
@@ -79,7 +86,7 @@ fn block(alloc: Global, lines: &[Line]) -> Result<Block, AllocError> {
 }
 
 /// `if a < 1 { then } else { otherwise }`
-fn branch(alloc: Global, then: &[Line], otherwise: &[Line]) -> Result<Stmt, AllocError> {
+fn branch(alloc: Global, then: Block, otherwise: Block) -> Result<Stmt, AllocError> {
     let comparison = Comparison {
         negated: false,
         left: expr(alloc, "a")?,
@@ -93,9 +100,27 @@ fn branch(alloc: Global, then: &[Line], otherwise: &[Line]) -> Result<Stmt, Allo
         test: Test {
             any: vec![in alloc; clause]?,
         },
-        then: block(alloc, then)?,
-        otherwise: block(alloc, otherwise)?,
+        then,
+        otherwise,
     })
+}
+
+/// A statement so many times.
+fn repeated(alloc: Global, line: Line, count: usize) -> Result<Block, AllocError> {
+    let mut stmts = Vec::new(alloc);
+    for _ in 0..count {
+        stmts.push(stmt(alloc, line)?)?;
+    }
+    Ok(Block { stmts })
+}
+
+/// `if a < 1 { }` so many times.
+fn branches(alloc: Global, count: usize) -> Result<Block, AllocError> {
+    let mut stmts = Vec::new(alloc);
+    for _ in 0..count {
+        stmts.push(branch(alloc, block(alloc, &[])?, block(alloc, &[])?)?)?;
+    }
+    Ok(Block { stmts })
 }
 
 fn table(alloc: Global, name: &str, arity: Arity, grow: bool) -> Result<TableDecl, AllocError> {
@@ -143,15 +168,29 @@ fn fault_of_program(alloc: Global, params: &[&str], body: Block) -> Result<Strin
 }
 
 /// The fault line of `program P(a) { if a < 1 { then } else { otherwise } .. }`, with these statements behind the branch.
+fn fault_of_blocks(
+    alloc: Global,
+    then: Block,
+    otherwise: Block,
+    mut behind: Block,
+) -> Result<String, AllocError> {
+    behind.stmts.insert(0, branch(alloc, then, otherwise)?)?;
+    fault_of_program(alloc, &["a"], behind)
+}
+
+/// The same, of blocks without branches.
 fn fault_of_branch(
     alloc: Global,
     then: &[Line],
     otherwise: &[Line],
     behind: &[Line],
 ) -> Result<String, AllocError> {
-    let mut body = block(alloc, behind)?;
-    body.stmts.insert(0, branch(alloc, then, otherwise)?)?;
-    fault_of_program(alloc, &["a"], body)
+    fault_of_blocks(
+        alloc,
+        block(alloc, then)?,
+        block(alloc, otherwise)?,
+        block(alloc, behind)?,
+    )
 }
 
 /// The fault line of so many tables `t0`, `t1` and so on, and then tables of these names.
@@ -177,13 +216,9 @@ fn fault_of_programs(alloc: Global, names: &[&str]) -> Result<String, AllocError
     fault_of(alloc, draft_of(alloc, programs)?)
 }
 
-/// The fault line of a program with so many statements.
-fn fault_of_count(alloc: Global, count: usize) -> Result<String, AllocError> {
-    let mut body = block(alloc, &[])?;
-    for _ in 0..count {
-        body.stmts.push(stmt(alloc, Line::Reply("1"))?)?;
-    }
-    fault_of_program(alloc, &[], body)
+/// The fault line of a program with a statement so many times.
+fn fault_of_count(alloc: Global, line: Line, count: usize) -> Result<String, AllocError> {
+    fault_of_program(alloc, &[], repeated(alloc, line, count)?)
 }
 
 #[test]
@@ -270,11 +305,64 @@ fn statements_have_their_first_fault(rt: HostRuntime) -> Result<(), Fail> {
             want
         );
     }
-    assert_eq!(rt; fault_of_count(alloc, 256)?.as_str(), "");
-    assert_eq!(rt;
-        fault_of_count(alloc, 257)?.as_str(),
-        "C10 program 0 statement 256"
-    );
+    Ok(())
+}
+
+#[test]
+fn statements_and_accesses_are_counted(rt: HostRuntime) -> Result<(), Fail> {
+    let alloc = rt.alloc();
+    let reply = Line::Reply("1");
+    let put = Line::Put("t", "1");
+    let add = Line::Insert("g", "1");
+    let insert = Line::Insert("t", "1");
+    let cases = [
+        (reply, 256, ""),
+        (reply, 257, "C10 program 0 statement 256"),
+        (put, 24, ""),
+        (put, 25, "C10 program 0"),
+        (add, 24, ""),
+        (add, 25, "C10 program 0"),
+        (insert, 12, ""),
+        (insert, 13, "C10 program 0"),
+    ];
+    for (line, count, want) in cases {
+        assert_eq!(rt; fault_of_count(alloc, line, count)?.as_str(), want);
+    }
+    Ok(())
+}
+
+#[test]
+fn committing_paths_are_counted(rt: HostRuntime) -> Result<(), Fail> {
+    let alloc = rt.alloc();
+    for (count, want) in [(5, ""), (6, "C11 program 0"), (40, "C11 program 0")] {
+        assert_eq!(rt;
+            fault_of_program(alloc, &["a"], branches(alloc, count)?)?.as_str(),
+            want
+        );
+    }
+    let cases: [(&[Line], &str); 2] = [(&[], "C11 program 0"), (&[Line::Abort], "")];
+    for (then, want) in cases {
+        let then = block(alloc, then)?;
+        assert_eq!(rt;
+            fault_of_blocks(alloc, then, branches(alloc, 5)?, block(alloc, &[])?)?.as_str(),
+            want
+        );
+    }
+    Ok(())
+}
+
+#[test]
+fn accesses_are_counted_by_path(rt: HostRuntime) -> Result<(), Fail> {
+    let alloc = rt.alloc();
+    let put = Line::Put("t", "1");
+    for (count, want) in [(23, ""), (24, "C10 program 0")] {
+        let then = repeated(alloc, put, count)?;
+        let otherwise = repeated(alloc, put, 22)?;
+        assert_eq!(rt;
+            fault_of_blocks(alloc, then, otherwise, block(alloc, &[put])?)?.as_str(),
+            want
+        );
+    }
     Ok(())
 }
 

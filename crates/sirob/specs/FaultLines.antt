@@ -49,6 +49,7 @@ check_fault (c.WrongArity place) = in_set (codes "C7") place
 check_fault (c.GrowTableChanged place) = in_set (codes "C8") place
 check_fault (c.AfterAbort place) = in_set (codes "C9") place
 check_fault (c.TooMany place) = in_set (codes "C10") place
+check_fault (c.TooManyPaths place) = in_set (codes "C11") place
 check_fault c.Memory = codes "memory"
 
 -- a code and a line of the script, from 1

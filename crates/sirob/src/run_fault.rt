@@ -69,6 +69,7 @@ fn check_fault(alloc: Global, fault: CheckFault) -> Result<String, AllocError>
         CheckFault::GrowTableChanged { place } => in_set(alloc, "C8", place),
         CheckFault::AfterAbort { place } => in_set(alloc, "C9", place),
         CheckFault::TooMany { place } => in_set(alloc, "C10", place),
+        CheckFault::TooManyPaths { place } => in_set(alloc, "C11", place),
         CheckFault::Memory => format!(in alloc; "memory"),
     }
 }

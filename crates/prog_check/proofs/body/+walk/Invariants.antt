@@ -1,7 +1,8 @@
 use Rattle.std.proofs.Common.{◌≡◌, ◌+◌, drop, false}
 use Rattle.prog_tree.specs.Tree.{stmts_tree, block_tree}
-use Rattle.prog_check.specs.Faults.{block_fault, statement_count}
+use Rattle.prog_check.specs.Faults.{block_fault}
 use Rattle.prog_check.specs.Names.{Extends}
+use Rattle.prog_check.specs.Paths.{statement_count}
 use Rattle.prog_check.proofs.body.+walk.Given as goal
 
 -- the statements that are left have the first fault of the block, and its last numbers

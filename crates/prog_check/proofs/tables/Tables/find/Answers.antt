@@ -5,7 +5,7 @@ use Rattle.std.proofs.lemmas.Option.{slice_get_past, slice_get_read}
 use Rattle.prog_tree.specs.declared.table.TableDecl.{TableDecl}
 use Rattle.prog_tree.specs.Syntax.{Name}
 use Rattle.prog_tree.specs.Value.{same_name}
-use Rattle.prog_check.specs.Faults.{declaration}
+use Rattle.prog_check.specs.Tables.{declaration}
 use Rattle.prog_check.specs.Names.{place_among}
 use Rattle.prog_check.proofs.NameLemmas.{position-map, find-position}
 use Rattle.prog_check.proofs.tables.Tables.find.Goals as goal
