@@ -1,0 +1,138 @@
+-- A run only adds to its deeds.
+use Rattle.std.proofs.Common.{◌≡◌, List, [], ◌∷◌, ◌++◌, refl, ap, sym, subst, ◌∙◌, append_assoc, append-nil, take, length, true, false}
+use Rattle.std.specs.Prelude.{ℤ, pos, Option, Some, None, if◌then◌else◌, Bool, fold}
+use Rattle.std.proofs.Math.Seq.{take-append_seam, take-length}
+use Rattle.prog_tree.specs.declared.cell.Cell.{Cell}
+use Rattle.prog_tree.specs.declared.cell.Region.{Region}
+use Rattle.prog_tree.specs.declared.deed.Deed.{Deed}
+use Rattle.prog_tree.specs.declared.deed.End.{End}
+use Rattle.prog_tree.specs.declared.progress.Progress.{Progress}
+use Rattle.prog_tree.specs.declared.table.TableDecl.{TableDecl}
+use Rattle.prog_tree.specs.Syntax.{Name, KeyTree, RangeTree, StatementTree, BlockTree}
+use Rattle.prog_tree.specs.Syntax as s
+use Rattle.prog_tree.specs.Table.{TableState}
+use Rattle.prog_tree.specs.declared.deed.Deed.TheVariants.{Counted, Summed}
+use Rattle.prog_tree.specs.Steps.{closed, bound, did}
+use Rattle.prog_tree.specs.Evaluation.{Evaluation, Flow, GoesOn, Stops, with_value, if_present, and_then, at_key, in_range, seen_or, with_rows, run_statement, run_block, ended, cell_of, region_of, total_of}
+use Rattle.prog_tree.specs.Numbering.{number_of}
+use Rattle.prog_tree.specs.Value.{exact, value_of, or_else}
+use Rattle.prog_tree.specs.ChangeSet.{change_at}
+use Rattle.prog_tree.specs.Tree.{program_tree}
+use Rattle.prog_run.specs.Todo.{OpenTree, CursorTree, finish_block, todo}
+use Rattle.prog_run.specs.Looks.{AreFound}
+use Rattle.prog_run.specs.View.{RunView, IsTrueTo, IsTrueRun, comes_to}
+
+abbrev flow_deeds : Flow → List Deed
+flow_deeds (GoesOn p) = p.deeds
+flow_deeds (Stops cause p) = p.deeds
+
+-- the flow's deeds are those of p, and more
+record Extends (p : Progress) (f : Flow) : Type 0 where
+  more : List Deed
+  is : flow_deeds f ≡ p.deeds ++ more
+
+still : (p q : Progress) (f : Flow) → flow_deeds f ≡ q.deeds → q.deeds ≡ p.deeds → Extends p f
+still p q f e h = record { more = []; is = e ∙ h ∙ sym (append-nil p.deeds) }
+
+-- what extends q extends p, if q has the deeds of p and some more
+via : (p q : Progress) (ds : List Deed) (f : Flow) → q.deeds ≡ p.deeds ++ ds → Extends q f → Extends p f
+via p q ds f h e = record { more = ds ++ e.more; is = e.is ∙ ap (λ l. l ++ e.more) h ∙ append_assoc p.deeds ds e.more }
+
+same : (p q : Progress) (f : Flow) → q.deeds ≡ p.deeds → Extends q f → Extends p f
+same p q f h e = record { more = e.more; is = e.is ∙ ap (λ l. l ++ e.more) h }
+
+by_value : {A : Type 0} (o : Option A) (p : Progress) (go : A → Flow) → ((v : A) → Extends p (go v)) → Extends p (with_value o p go)
+by_value None p go h = still p p (with_value None p go) refl refl
+by_value (Some v) p go h = h v
+
+by_present : (o : Option ℤ) (p : Progress) (go : ℤ → Flow) (other : Flow) → ((v : ℤ) → Extends p (go v)) → Extends p other → Extends p (if_present o go other)
+by_present (Some v) p go other h e = h v
+by_present None p go other h e = e
+
+by_block : (p : Progress) (f : Flow) (go : Progress → Flow) → Extends p f → ((q : Progress) → Extends q (go q)) → Extends p (and_then f go)
+by_block p (GoesOn q) go e h = via p q e.more (go q) e.is (h q)
+by_block p (Stops cause q) go e h = e
+
+module _ (tables : List TableDecl) (m : TableState) where
+  by_seen : (own : Option (Option ℤ)) (c : Cell) (p : Progress) (go : Option ℤ → Progress → Flow) →
+      ((v : Option ℤ) (q : Progress) → Extends q (go v q)) → Extends p (seen_or tables m own c p go)
+  by_seen (Some own) c p go h = h own p
+  by_seen None c p go h = same p _ _ refl (h _ _)
+
+  by_rows : (g : Region) (p : Progress) (go : TableState → Progress → Flow) →
+      ((rows : TableState) (q : Progress) → Extends q (go rows q)) → Extends p (with_rows tables m g p go)
+  by_rows g p go h = same p _ _ refl (h _ _)
+
+  at_cell_grows : (t : Name) (k : KeyTree) (p : Progress) (go : Cell → Flow) → ((c : Cell) → Extends p (go c)) → Extends p (at_key tables m t k p go)
+  at_cell_grows t k p go h = by_value (cell_of (number_of tables t) k p.env) p go h
+
+  in_range_grows : (t : Name) (r : RangeTree) (p : Progress) (go : Region → Flow) → ((g : Region) → Extends p (go g)) → Extends p (in_range tables m t r p go)
+  in_range_grows t r p go h = by_value (region_of (number_of tables t) r p.env) p go h
+
+  -- at most one deed more
+  deed : (d : Deed) (p q : Progress) → q.deeds ≡ p.deeds ++ d ∷ [] → Extends p (GoesOn q)
+  deed d p q h = record { more = d ∷ []; is = h }
+
+  none : (p : Progress) (f : Flow) → flow_deeds f ≡ p.deeds → Extends p f
+  none p f h = still p p f h refl
+
+  statement_grows : (st : StatementTree) (p : Progress) → Extends p (run_statement tables m st p)
+  statement_grows (s.Bind x e) p = by_value (value_of e p.env) p _ (λ v. none p _ refl)
+  statement_grows (s.Get x t k e) p =
+      at_cell_grows t k p _ (λ c. by_seen (change_at p.changes c) c p _ (λ seen q. by_value (or_else seen (value_of e q.env)) q _ (λ v. deed _ q _ refl)))
+  statement_grows (s.Need x t k) p =
+      at_cell_grows t k p _ (λ c. by_seen (change_at p.changes c) c p _ (λ seen q. by_present seen q _ _ (λ v. deed _ q _ refl) (none q _ refl)))
+  statement_grows (s.Count x t r) p =
+      in_range_grows t r p _ (λ g. by_rows g p _ (λ rows q. by_value (exact (pos (length rows))) q _ (λ v. deed (Counted g v) q (bound x v (did (Counted g v) q)) refl)))
+  statement_grows (s.Sum x t r) p =
+      in_range_grows t r p _ (λ g. by_rows g p _ (λ rows q. by_value (exact (total_of rows)) q _ (λ v. deed (Summed g v) q (bound x v (did (Summed g v) q)) refl)))
+  statement_grows (s.Lacks t k) p =
+      at_cell_grows t k p _ (λ c. by_seen (change_at p.changes c) c p _ (λ seen q. by_present seen q _ _ (λ v. none q _ refl) (deed _ q _ refl)))
+  statement_grows (s.Put t k e) p = at_cell_grows t k p _ (λ c. by_value (value_of e p.env) p _ (λ v. deed _ p _ refl))
+  statement_grows (s.Insert t k e) p =
+      at_cell_grows t k p _ (λ c. by_value (value_of e p.env) p _ (λ v. by_seen (change_at p.changes c) c p _ (λ seen q. by_present seen q _ _ (λ w. none q _ refl) (deed _ q _ refl))))
+  statement_grows (s.Delete t k) p = at_cell_grows t k p _ (λ c. deed _ p _ refl)
+  statement_grows (s.Keep t k) p = at_cell_grows t k p _ (λ c. deed _ p _ refl)
+  statement_grows (s.Reply e) p = by_value (value_of e p.env) p _ (λ v. none p _ refl)
+  statement_grows s.Abort p = none p _ refl
+
+  run_grows : (b : BlockTree) (p : Progress) → Extends p (run_block tables m b p)
+  run_grows s.BlockEnd p = none p _ refl
+  run_grows (s.Then st rest) p = by_block p _ _ (statement_grows st p) (run_grows rest)
+  run_grows (s.Branch test a b rest) p =
+      by_value _ p _ (λ (holds : Bool). by_block p _ _
+      (elim holds as (λ w. Extends p ((if w then run_block tables m a else run_block tables m b) p)) [ true ↦ run_grows a p | false ↦ run_grows b p ])
+      (λ q. same q _ _ refl (run_grows rest (closed (length p.env) q))))
+
+  finish_grows : (outer : List OpenTree) (after : Progress → Flow) → ((q : Progress) → Extends q (after q)) →
+      (q : Progress) → Extends q (fold (finish_block tables m) after outer q)
+  finish_grows [] after h = h
+  finish_grows (b ∷ outer) after h =
+      finish_grows outer (finish_block tables m after b) (λ q. by_block q _ _ (run_grows b.rest q) (λ r. same r _ _ refl (h (closed b.scope r))))
+
+  todo_grows : (c : CursorTree) (p : Progress) → Extends p (todo tables m c p)
+  todo_grows c p =
+      by_block p _ _ (run_grows c.here.rest p) (λ q. same q _ _ refl (finish_grows c.outer GoesOn (λ r. still r r _ refl refl) (closed c.here.scope q)))
+
+ended_deeds : (f : Flow) → (ended f).deeds ≡ flow_deeds f
+ended_deeds (GoesOn p) = refl
+ended_deeds (Stops cause p) = refl
+
+comes_deeds : (tables : List TableDecl) (m : TableState) (over : Option End) (c : CursorTree) (p : Progress) →
+    take (length p.deeds) (comes_to tables m over c p).deeds ≡ p.deeds
+comes_deeds tables m (Some end) c p = take-length p.deeds
+comes_deeds tables m None c p =
+    let e = todo_grows tables m c p in
+    ap (take (length p.deeds)) (ended_deeds (todo tables m c p) ∙ e.is) ∙ take-append_seam p.deeds e.more
+
+-- a run that is true to its program says what the program means, in its view too
+pub true_at : (v : RunView) (c : CursorTree) (p : Progress) → p.deeds ≡ v.deeds → p.replies ≡ v.replies → p.changes ≡ v.changes → p.looks ≡ v.looks →
+    IsTrueTo v.tables (program_tree v.program) v.args v.end c p → IsTrueRun v
+true_at v c p deeds replies changes looks t m f =
+    let at = t m (subst (AreFound m) (sym looks) f) in
+    record {
+      deeds = ap (take (length v.deeds)) (ap (λ (e : Evaluation). e.deeds) (sym at)) ∙ ap (λ (ds : List Deed). take (length ds) (comes_to v.tables m v.end c p).deeds) (sym deeds) ∙ comes_deeds v.tables m v.end c p ∙ deeds;
+      ending = λ end is.
+          (λ i. record { ending = end; deeds = sym deeds i; replies = sym replies i; changes = sym changes i; looks = sym looks i })
+          ∙ ap (λ o. comes_to v.tables m o c p) (sym is) ∙ at;
+    }

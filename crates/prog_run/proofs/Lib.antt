@@ -1,0 +1,7 @@
+pub mod GrowLemmas
+pub mod LookLemmas
+pub mod SeenLemmas
+pub mod StatementLemmas
+pub mod StepLemmas
+pub mod TodoLemmas
+pub mod Vectors

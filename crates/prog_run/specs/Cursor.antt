@@ -1,0 +1,68 @@
+-- Where a run stands, and what a step without the store does.
+use Rattle.std.specs.Prelude.{◌≡◌, ◌<◌, Bool, true, false, Option, Some, None, List, map}
+use Rattle.prog_tree.specs.declared.deed.End.{End}
+use Rattle.prog_tree.specs.declared.progress.Progress.{Progress}
+use Rattle.prog_tree.specs.declared.table.TableDecl.{TableDecl}
+use Rattle.prog_tree.specs.Syntax.{StatementTree, BlockTree, Then}
+use Rattle.prog_tree.specs.Syntax as s
+use Rattle.prog_tree.specs.Tree.{stmts_tree}
+use Rattle.prog_tree.specs.Table.{TableState}
+use Rattle.prog_tree.specs.Evaluation.{as_evaluation, ended}
+use Rattle.prog_run.specs.Todo.{OpenTree, CursorTree, todo, weight_left}
+use Rattle.prog_run.specs.declared.cursor.OpenBlock.{OpenBlock}
+use Rattle.prog_run.specs.declared.cursor.Cursor.{Cursor}
+use Rattle.prog_run.specs.declared.cursor.Standing.{Standing}
+use Rattle.prog_run.specs.declared.cursor.Standing.TheVariants.{Moved, AtStore, Over}
+
+-- an open block of the code, as plain trees
+abbrev pub open_tree : OpenBlock → OpenTree
+open_tree b = record { rest = stmts_tree b.rest.now; scope = b.scope }
+
+-- a cursor of the code, as plain trees
+abbrev pub cursor_tree : Cursor → CursorTree
+cursor_tree c = record { here = record { rest = stmts_tree c.rest.now; scope = c.scope }; outer = map open_tree c.outer.items }
+
+-- the store part of what the run has done stays: deeds, changes and looks
+pub record KeepsStore (old new : Progress) : Type 0 where
+  pub deeds : new.deeds ≡ old.deeds
+  pub changes : new.changes ≡ old.changes
+  pub looks : new.looks ≡ old.looks
+
+-- whether a statement is one of the store
+abbrev pub needs_store : StatementTree → Bool
+needs_store (s.Bind name value) = false
+needs_store (s.Reply value) = false
+needs_store s.Abort = false
+needs_store _ = true
+
+-- whether a statement changes a cell without a look
+abbrev pub is_change : StatementTree → Bool
+is_change (s.Put table key value) = true
+is_change (s.Delete table key) = true
+is_change (s.Keep table key) = true
+is_change _ = false
+
+-- whether a block begins with such a statement
+abbrev pub is_store : BlockTree → Bool
+is_store (Then statement rest) = needs_store statement
+is_store _ = false
+
+-- what is left then is what was left before
+abbrev pub SameTodo : CursorTree → Progress → CursorTree → Progress → Type 0
+SameTodo c p d q = (tables : List TableDecl) (m : TableState) → todo tables m d q ≡ todo tables m c p
+
+-- the run is over, with this ending
+abbrev pub IsOver : End → CursorTree → Progress → Progress → Type 0
+IsOver end c p q = (tables : List TableDecl) (m : TableState) → ended (todo tables m c p) ≡ as_evaluation end q
+
+-- one step without the store: less is left and it means the same, or nothing was done, or the run is over
+abbrev pub IsLocalStep : Standing → CursorTree → Progress → CursorTree → Progress → Type 0
+IsLocalStep Moved c p d q = SameTodo c p d q × (weight_left d < weight_left c) × KeepsStore p q
+-- the next statement is one of the store
+IsLocalStep AtStore c p d q = (d ≡ c) × (q ≡ p) × (is_store c.here.rest ≡ true)
+IsLocalStep (Over end) c p d q = IsOver end c p q × KeepsStore p q
+
+-- all such steps were done: the next statement is one of the store, or the run is over
+abbrev pub IsSettled : Option End → CursorTree → Progress → CursorTree → Progress → Type 0
+IsSettled None c p d q = SameTodo c p d q × (is_store d.here.rest ≡ true)
+IsSettled (Some end) c p d q = IsOver end c p q

@@ -1,0 +1,234 @@
+//! Runs of programs.
+ghost use Rattle.std.specs.Prelude.{◌≡◌, ◌<◌, Some, None, IfOk, IfSome, OnErr, IsSome, length, zip, slice_get, option_copied};
+ghost use Rattle.prog_tree.specs.ChangeSet.{change_at};
+ghost use Rattle.prog_tree.specs.declared.cell.Cell.{Cell};
+ghost use Rattle.prog_run.specs.Looks.{look_made, region_look};
+ghost use Rattle.prog_run.specs.View.{IsTrueRun, IsAdvance, IsAnswered, SameBegin, IsRefusedBy, IsBeginRefusedBy, begin_fault, get_fault, scan_fault, asked_cell, asked_region, standing_next, begun};
+
+use crate::cursor::Cursor;
+use crate::fault::{AnswerFault, RunFault};
+use crate::next::{Answer, Next, Question};
+use crate::region::are_in;
+use prog_check::ProgramSet;
+use prog_tree::{Changes, End, Env, Look, Name, Program, Progress, Rows, Sequence, TableDecl};
+use std::alloc::{AllocError, Global};
+use std::marker::Model;
+
+/// One instance of a program, as far as it has run.
+#[derive(Debug, Drop)]
+pub struct Run<'a> {
+    alloc: Global,
+    tables: &'a [TableDecl],
+    program: &'a Program,
+    args: Sequence<i64>,
+    cursor: Cursor<'a>,
+    progress: Progress<'a>,
+    asked: Option<Question>,
+    end: Option<End>,
+}
+
+impl<'a> Model for Run<'a> {
+    ghost use Rattle.prog_run.specs.View.{RunView, IsTrueTo, IsWaiting};
+    ghost use Rattle.prog_run.specs.Cursor.{cursor_tree};
+    ghost use Rattle.prog_tree.specs.Tree.{program_tree};
+    ghost use Rattle.prog_tree.specs.contracts.stmt.Stmt as stmt;
+    ghost use Rattle.std.specs.Coded.{codes};
+
+    ghost Value = { RunView };
+
+    ghost coded = { Prim.hlevel (codes, stmt.the_row.coded) };
+
+    ghost view = { λ r. record { tables = r.tables.now; program = r.program.now; args = r.args; deeds = r.progress.deeds; replies = r.progress.replies; changes = r.progress.changes; looks = r.progress.looks; asked = r.asked; end = r.end } };
+
+    ghost invariant = { λ r. IsTrueTo r.tables.now (program_tree r.program.now) r.args r.end (cursor_tree r.cursor) r.progress × IsWaiting r.tables.now r.asked r.end (cursor_tree r.cursor) r.progress };
+}
+
+/// The parameters with their arguments.
+fn bind_all<'a>(alloc: Global, params: &'a [Name], args: &[i64]) -> Result<Env<'a>, AllocError>
+    requires { length params.now ≡ length args.now }
+    ensures { IfOk result (λ env. env ≡ zip params.now args.now) }
+{
+    let mut env = Env::new(alloc);
+    for (i, name) in params.iter().enumerate() {
+        env.bind(name, args[i])?;
+    }
+    Ok(env)
+}
+
+/// A copy of the arguments, which the run keeps.
+fn copy_args(alloc: Global, args: &[i64]) -> Result<Sequence<i64>, AllocError>
+    ensures { IfOk result (λ copy. copy ≡ args.now) }
+{
+    Ok(Sequence::from_vec(Vec::from_slice(alloc, args)?))
+}
+
+impl<'a> Run<'a> {
+    /// A run of the program of a number, before its first statement.
+    pub fn new(
+        alloc: Global,
+        set: &'a ProgramSet,
+        program: usize,
+        args: &[i64],
+    ) -> Result<Self, RunFault>
+        ensures refused { IsBeginRefusedBy (begin_fault (slice_get set.now.programs.items program) args.now) result }
+        ensures begun { IfOk result (λ run. run ≡ begun set.now.tables.items run.program args.now) }
+        ensures program { IfOk result (λ run. slice_get set.now.programs.items program ≡ Some run.program) }
+    {
+        let draft = set.draft();
+        let Some(program) = draft.programs.get(program) else {
+            return Err(RunFault::NoSuchProgram);
+        };
+        if program.params.len() != args.len() {
+            return Err(RunFault::WrongArguments);
+        }
+        let env = bind_all(alloc, &program.params, args)?;
+        Ok(Run {
+            alloc,
+            tables: draft.tables.as_slice(),
+            program,
+            args: copy_args(alloc, args)?,
+            cursor: Cursor {
+                rest: program.body.stmts.as_slice(),
+                scope: args.len(),
+                outer: Vec::new(alloc),
+            },
+            progress: Progress::new(alloc, env),
+            asked: None,
+            end: None,
+        })
+    }
+
+    /// Goes on up to the next store statement, and finishes it or asks for what it looks at. While an answer is awaited
+    /// it repeats the question, and after the end the end. After want of memory it can be called again.
+    pub fn advance(&mut self) -> Result<Next, AllocError>
+        ensures advance { IfOk result (λ next. IsAdvance next self.old self.new) }
+        ensures unchanged { IfOk result (λ next. (cell : Cell) → next ≡ Next.Get cell → change_at self.new.changes cell ≡ None) }
+        ensures repeats { IfSome (standing_next self.old) (λ next. (result ≡ Ok next) × (self.new ≡ self.old)) }
+        ensures true_run { IsTrueRun self.new }
+        ensures same { SameBegin self.old self.new }
+        ensures err { OnErr result (self.new ≡ record self.old { replies = self.new.replies }) }
+    {
+        match self.asked {
+            Some(Question::One(cell)) => return Ok(Next::Get(cell)),
+            Some(Question::Range(region)) => return Ok(Next::Scan(region)),
+            None => {}
+        }
+        match self.end {
+            Some(end) => return Ok(Next::Done(end)),
+            None => {}
+        }
+        let next = self
+            .cursor
+            .step(self.alloc, self.tables, &mut self.progress)?;
+        self.asked = next.question();
+        self.end = next.end();
+        Ok(next)
+    }
+
+    /// Answers the question for a cell with what it holds in the snapshot, and finishes the statement.
+    pub fn answer_get(&mut self, held: Option<i64>) -> Result<Next, AnswerFault>
+        ensures refused { IsRefusedBy (get_fault (asked_cell self.old.asked)) result }
+        ensures answered { IfOk result (λ next. IfSome (asked_cell self.old.asked) (λ cell. IsAnswered (Look.One cell held) next self.old self.new)) }
+        ensures true_run { IsTrueRun self.new }
+        ensures same { SameBegin self.old self.new }
+        ensures err { OnErr result (self.new ≡ self.old) }
+    {
+        let Some(Question::One(_)) = self.asked else {
+            return Err(AnswerFault::NotAsked);
+        };
+        let next = self.answer(Answer::One(held))?;
+        Ok(next)
+    }
+
+    /// Answers the question for a region with its rows in the snapshot, and finishes the statement.
+    pub fn answer_scan(&mut self, rows: &Rows) -> Result<Next, AnswerFault>
+        ensures refused { IsRefusedBy (scan_fault (asked_region self.old.asked) rows.now) result }
+        ensures answered { IfOk result (λ next. IfSome (asked_region self.old.asked) (λ region. IsAnswered (region_look self.old.changes region rows.now) next self.old self.new)) }
+        ensures true_run { IsTrueRun self.new }
+        ensures same { SameBegin self.old self.new }
+        ensures err { OnErr result (self.new ≡ self.old) }
+    {
+        let Some(Question::Range(region)) = self.asked else {
+            return Err(AnswerFault::NotAsked);
+        };
+        if !are_in(&region, rows) {
+            return Err(AnswerFault::BadRows);
+        }
+        let next = self.answer(Answer::Range(rows.copy()?))?;
+        Ok(next)
+    }
+
+    // Finishes the statement that has asked, with an answer to its question.
+    fn answer(&mut self, answer: Answer) -> Result<Next, AllocError>
+        requires { IsSome (look_made self.old.changes self.old.asked (Some answer)) }
+        ensures answered { IfOk result (λ next. IfSome (look_made self.old.changes self.old.asked (Some answer)) (λ look. IsAnswered look next self.old self.new)) }
+        ensures true_run { IsTrueRun self.new }
+        ensures same { SameBegin self.old self.new }
+        ensures err { OnErr result (self.new ≡ self.old) }
+    {
+        let next = self
+            .cursor
+            .store_step(self.alloc, self.tables, &mut self.progress, Some(answer))?;
+        self.asked = next.question();
+        self.end = next.end();
+        Ok(next)
+    }
+
+    /// The program that it runs.
+    pub fn program(&self) -> &'a Program
+        ensures { result.now ≡ self.now.program }
+    {
+        self.program
+    }
+
+    /// The tables of the set, which cells name by their numbers.
+    pub fn tables(&self) -> &'a [TableDecl]
+        ensures { result.now ≡ self.now.tables }
+    {
+        self.tables
+    }
+
+    /// The arguments that it was begun with.
+    pub fn args(&self) -> &[i64]
+        ensures { result.now ≡ self.now.args }
+    {
+        self.args.as_slice()
+    }
+
+    /// How many store statements are finished.
+    pub fn done(&self) -> usize
+        ensures count { result ≡ length self.now.deeds }
+        ensures true_run { IsTrueRun self.now }
+    {
+        self.progress.deeds.len()
+    }
+
+    /// What the run found in its snapshot, in order.
+    pub fn looks(&self) -> &[Look]
+        ensures { result.now ≡ self.now.looks }
+    {
+        self.progress.looks.as_slice()
+    }
+
+    /// The cells that it has set, removed or kept.
+    pub fn changes(&self) -> &Changes
+        ensures { result.now ≡ self.now.changes }
+    {
+        &self.progress.changes
+    }
+
+    /// Its replies so far, in order.
+    pub fn replies(&self) -> &[i64]
+        ensures { result.now ≡ self.now.replies }
+    {
+        self.progress.replies.as_slice()
+    }
+
+    /// How it ended, if it has.
+    pub fn end(&self) -> Option<&End>
+        ensures value { option_copied result ≡ self.now.end }
+        ensures true_run { IsTrueRun self.now }
+    {
+        self.end.as_ref()
+    }
+}
