@@ -19,7 +19,7 @@ use Rattle.prog_text.proofs.Longest.{word_spelled, cut_of_tokens}
 -- ---- runs
 
 -- the bytes go on with none that passes
-abbrev Stops : (ℕ → Bool) → List ℕ → Type 0
+abbrev pub Stops : (ℕ → Bool) → List ℕ → Type 0
 Stops p [] = Unit {0}
 Stops p (b ∷ rest) = p b ≡ false
 
@@ -32,10 +32,10 @@ prefix_run p (x ∷ line) rest all stop =
     rw (first, others) (omega arith)
 
 -- a letter or a digit begins no space and no comment
-letter_begins : (c : ℕ) → is_letter c ≡ true → (is_space c ≡ false) × ((c == 35) ≡ false)
+pub letter_begins : (c : ℕ) → is_letter c ≡ true → (is_space c ≡ false) × ((c == 35) ≡ false)
 letter_begins c h = (false_from_ne_true _ (λ e. grind (arith, h, e)), false_from_ne_true _ (λ e. grind (arith, h, e)))
 
-digit_begins : (c : ℕ) → is_digit c ≡ true → (is_space c ≡ false) × ((c == 35) ≡ false) × (is_letter c ≡ false)
+pub digit_begins : (c : ℕ) → is_digit c ≡ true → (is_space c ≡ false) × ((c == 35) ≡ false) × (is_letter c ≡ false)
 digit_begins c h = (false_from_ne_true _ (λ e. grind (arith, h, e)), false_from_ne_true _ (λ e. grind (arith, h, e)), false_from_ne_true _ (λ e. letter_is_no_digit c e h))
 
 passes_push : (p : ℕ → Bool) (word : List ℕ) (b : ℕ) → list_all p word ≡ true → p b ≡ true → list_all p (word ++ b ∷ []) ≡ true
@@ -48,7 +48,7 @@ letters_stop c front [] letter all longest = tt
 letters_stop c front (b ∷ rest) letter all longest =
     false_from_ne_true _ (λ e. longest _ b [] rest refl (word_spelled (c ∷ (front ++ b ∷ [])) letter (passes_push is_word_byte (c ∷ front) b all e)))
 
-letters_at : (c : ℕ) (front rest : List ℕ) → list_all is_word_byte (c ∷ front) ≡ true → length (c ∷ front) ≤ 32 → Stops is_word_byte rest → word_at (c ∷ (front ++ rest)) ≡ Ok (Some (word_token (c ∷ front)), rest)
+pub letters_at : (c : ℕ) (front rest : List ℕ) → list_all is_word_byte (c ∷ front) ≡ true → length (c ∷ front) ≤ 32 → Stops is_word_byte rest → word_at (c ∷ (front ++ rest)) ≡ Ok (Some (word_token (c ∷ front)), rest)
 unfolding word_at
 letters_at c front rest all short stop =
     let run : prefix_len is_word_byte (front ++ rest) ≡ length front = prefix_run is_word_byte front rest (and_parts _ _ all).1 stop in
@@ -76,7 +76,7 @@ digits_stop c front [] digit all longest = tt
 digits_stop c front (b ∷ rest) digit all longest =
     false_from_ne_true _ (λ e. longest (t.Number (digits_value (c ∷ (front ++ b ∷ [])))) b [] rest refl (record { begins = digit; goes_on = passes_push is_digit (c ∷ front) b all e; value = refl }))
 
-digits_at : (c : ℕ) (front rest : List ℕ) → list_all is_digit (c ∷ front) ≡ true → digits_value (c ∷ front) < 2 ^ 63 → Stops is_digit rest → number_at (c ∷ (front ++ rest)) ≡ Ok (Some (t.Number (digits_value (c ∷ front))), rest)
+pub digits_at : (c : ℕ) (front rest : List ℕ) → list_all is_digit (c ∷ front) ≡ true → digits_value (c ∷ front) < 2 ^ 63 → Stops is_digit rest → number_at (c ∷ (front ++ rest)) ≡ Ok (Some (t.Number (digits_value (c ∷ front))), rest)
 unfolding number_at
 digits_at c front rest all within stop =
     let run : prefix_len is_digit (front ++ rest) ≡ length front = prefix_run is_digit front rest (and_parts _ _ all).1 stop in

@@ -1,18 +1,21 @@
--- A text that is read, and two that are refused.
-use Rattle.std.proofs.Common.{ℕ, List, [], ◌∷◌, ◌++◌, refl, codes, arith}
-use Rattle.std.specs.Prelude.{false}
-use Rattle.prog_tree.specs.Syntax.{Named, Reply, BlockEnd, Then, DraftTree}
+-- Texts that are read, and texts that are refused.
+use Rattle.std.proofs.Common.{◌≡◌, ℕ, pos, ◌≤◌, List, [], ◌∷◌, ◌++◌, length, Ok, refl, codes, arith}
+use Rattle.std.specs.Prelude.{true, false}
+use Rattle.std.specs.Fmt.{digits}
+use Rattle.std.specs.Result.{result_unwrap_or}
+use Rattle.prog_tree.specs.Syntax.{ExprTree, Literal, Named, Plus, Minus, Times, Less, Equal, GreaterEqual, One, Get, Put, Reply, BlockEnd, Then, Branch, DraftTree}
 use Rattle.prog_tree.specs.declared.table.Arity.TheVariants as arity
 use Rattle.prog_text.specs.declared.fault.TextFault.TheVariants as f
 use Rattle.prog_text.specs.declared.token.Token.{Token}
 use Rattle.prog_text.specs.declared.token.Token.TheVariants as t
-use Rattle.prog_text.specs.Answer.{Accepts, Refuses}
-use Rattle.prog_text.specs.Grammar.{IsSet}
+use Rattle.prog_text.specs.Answer.{text_limit, HasTokens, Accepts, Refuses}
+use Rattle.prog_text.specs.Grammar.{IsFactor, IsProduct, IsExpr, IsSet}
 use Rattle.prog_text.specs.Grammar as g
-use Rattle.prog_text.specs.Lexing.{Placed, tokens_from, piece_at, word_at, number_at, sign_at}
-use Rattle.prog_text.specs.Reading.{many_from, table_at, arity_at, names_at, params_at, program_at, set_at}
+use Rattle.prog_text.specs.Lexing.{Placed, kinds, tokens_of, tokens_from, piece_at, word_at, number_at, sign_at}
+use Rattle.prog_text.specs.Reading.{many_from, separated_at, factor_at, product_from, product_at, sum_from, sum_at, expr_within, expr_at, compared_at, comparison_at, test_at, key_from, key_at, last_expr_at, assigned_at, get_at, bound_at, let_at, put_at, statement_at, block_at, second_at, behind_second, behind_first, branch_at, more_at, body_within, body_at, table_at, arity_at, params_at, program_at, set_at}
 use Rattle.prog_text.proofs.Converse.{tokens_exactly}
-use Rattle.prog_text.proofs.Refusals.{set_misfit, set_unfinished}
+use Rattle.prog_text.proofs.RoundTrip.{read_again}
+use Rattle.prog_text.proofs.Refusals.{set_found, set_misfit, set_unfinished}
 
 abbrev placed : Placed
 placed =
@@ -41,13 +44,17 @@ block_tokens = t.OpenBlock ∷ (reply_tokens ++ t.CloseBlock ∷ [])
 abbrev program_tokens : List Token
 program_tokens = t.Program ∷ t.Name (codes "P") ∷ t.Open ∷ t.Name a ∷ t.Close ∷ block_tokens
 
+-- an expression of one factor
+lone : (ts : List Token) (e : ExprTree) → IsFactor ts e → IsExpr ts e
+lone ts e d = g.product ts e (g.factor ts e d)
+
 spelled : IsSet (table_tokens ++ program_tokens) draft
 spelled =
-    let replies = g.reply (t.Name a ∷ []) (Named a) (g.IsExpr.name a) in
+    let replies = g.reply (t.Name a ∷ []) (Named a) (lone (t.Name a ∷ []) (Named a) (g.IsFactor.name a)) in
     let block = g.block reply_tokens _ (g.IsStatements.more reply_tokens [] _ _ replies g.nothing) in
     let params = g.some (t.Name a ∷ []) _ (g.separated (t.Name a ∷ []) [] _ [] (g.IsName.name a) g.Many.none) in
     g.set table_tokens program_tokens _ _
-    (g.Many.more table_tokens [] _ [] (g.plain (codes "t") 1 arity.One g.IsArity.one) g.Many.none)
+    (g.Many.more table_tokens [] _ [] (g.IsTable.plain (codes "t") 1 arity.One g.IsArity.one) g.Many.none)
     (g.Many.more program_tokens [] _ [] (g.program (codes "P") (t.Name a ∷ []) block_tokens _ _ params block) g.Many.none)
 
 read : Accepts (codes "table t 1;program P(a){reply a; }") draft
@@ -58,6 +65,11 @@ read = record {
   spelled = spelled;
 }
 
+-- the same draft as it is printed
+read_as_printed : Accepts (codes "table t 1;\nprogram P(a) {\n  reply a;\n}\n") draft
+unfolding digits
+read_as_printed = read_again (codes "table t 1;program P(a){reply a; }") draft read (omega arith)
+
 cut_short : Refuses (codes "table t") (f.UnexpectedEnd 7)
 unfolding tokens_from piece_at word_at number_at sign_at set_at many_from table_at arity_at
 cut_short =
@@ -65,7 +77,98 @@ cut_short =
     (tokens, record { tokens = record { short = omega arith; cut = (tokens_exactly _ tokens).0 refl }; shallow = refl }, set_unfinished _ refl, refl)
 
 misfit : Refuses (codes "program P( {") (f.UnexpectedToken 11)
-unfolding tokens_from piece_at word_at number_at sign_at set_at many_from program_at params_at names_at
+unfolding tokens_from piece_at word_at number_at sign_at set_at many_from program_at params_at separated_at
 misfit =
     let tokens : Placed = (t.Program, 12) ∷ (t.Name (codes "P"), 4) ∷ (t.Open, 3) ∷ (t.OpenBlock, 1) ∷ [] in
     (tokens, 3, record { tokens = record { short = omega arith; cut = (tokens_exactly _ tokens).0 refl }; shallow = refl }, set_misfit _ 1 (λ e. cc) refl, refl)
+
+-- ---- operators
+
+abbrev b : List ℕ
+b = codes "b"
+
+abbrev left : IsProduct (t.Name a ∷ []) (Named a)
+left = g.factor (t.Name a ∷ []) (Named a) (g.IsFactor.name a)
+
+abbrev right : IsProduct (t.Name b ∷ []) (Named b)
+right = g.factor (t.Name b ∷ []) (Named b) (g.IsFactor.name b)
+
+-- a - b - 2 * (a + b): operators of one level group to the left, and brackets leave no trace
+grouped : IsExpr (t.Name a ∷ t.Minus ∷ t.Name b ∷ t.Minus ∷ t.Number 2 ∷ t.Times ∷ t.Open ∷ t.Name a ∷ t.Plus ∷ t.Name b ∷ t.Close ∷ [])
+    (Minus (Minus (Named a) (Named b)) (Times (Literal (pos 2)) (Plus (Named a) (Named b))))
+grouped =
+    let added = g.plus (t.Name a ∷ []) (t.Name b ∷ []) (Named a) (Named b) (g.product _ _ left) right in
+    let two = g.factor (t.Number 2 ∷ []) (Literal (pos 2)) (g.number 2) in
+    let less = g.minus (t.Name a ∷ []) (t.Name b ∷ []) (Named a) (Named b) (g.product _ _ left) right in
+    g.minus (t.Name a ∷ t.Minus ∷ t.Name b ∷ []) _ _ _ less (g.times (t.Number 2 ∷ []) _ _ _ two (g.bracketed _ _ added))
+
+-- a < b or not a == b and b >= 0: `and` binds tighter than `or`
+tested : test_at (t.Name a ∷ t.Less ∷ t.Name b ∷ t.Or ∷ t.Not ∷ t.Name a ∷ t.EqualEqual ∷ t.Name b ∷ t.And ∷ t.Name b ∷ t.GreaterEqual ∷ t.Number 0 ∷ [])
+    ≡ Ok (
+      (record { negated = false; left = Named a; relation = Less; right = Named b } ∷ [])
+          ∷ (record { negated = true; left = Named a; relation = Equal; right = Named b } ∷ record { negated = false; left = Named b; relation = GreaterEqual; right = Literal (pos 0) } ∷ [])
+          ∷ [],
+      [],
+    )
+unfolding separated_at many_from comparison_at compared_at expr_at expr_within sum_at sum_from product_at product_from factor_at
+tested = refl
+
+-- ---- pieces of SmallBank
+
+-- the tokens of a text that has some
+abbrev cut_of : List ℕ → Placed
+cut_of bytes = result_unwrap_or (tokens_of bytes) []
+
+abbrev balance : List ℕ
+balance = codes "balance"
+
+abbrev checking : List ℕ
+checking = codes "checking"
+
+abbrev write_check : List ℕ
+write_check = codes "table checking 1;\nprogram WriteCheck(n, v) {\n  let b = get checking[n] else 0;\n  if b < v {\n    put checking[n] = b - v - 1;\n  } else {\n    put checking[n] = b - v;\n  }\n}\n"
+
+abbrev n : List ℕ
+n = codes "n"
+
+abbrev v : List ℕ
+v = codes "v"
+
+abbrev write_check_draft : DraftTree
+write_check_draft = record {
+  tables = record { name = checking; arity = arity.One; grow = false } ∷ [];
+  programs = record {
+    name = codes "WriteCheck";
+    params = n ∷ v ∷ [];
+    body = Then (Get b checking (One (Named n)) (Literal (pos 0)))
+        (Branch ((record { negated = false; left = Named b; relation = Less; right = Named v } ∷ []) ∷ [])
+        (Then (Put checking (One (Named n)) (Minus (Minus (Named b) (Named v)) (Literal (pos 1)))) BlockEnd)
+        (Then (Put checking (One (Named n)) (Minus (Named b) (Named v))) BlockEnd)
+        BlockEnd);
+  } ∷ [];
+}
+
+abbrev has_tokens : (bytes : List ℕ) (placed : Placed) → length bytes ≤ text_limit → tokens_of bytes ≡ Ok placed → HasTokens bytes placed
+has_tokens bytes placed short e = record { short = short; cut = (tokens_exactly bytes placed).0 e }
+
+check_is_read : Accepts write_check write_check_draft
+unfolding tokens_from piece_at word_at number_at sign_at set_at many_from separated_at table_at arity_at program_at params_at block_at body_at body_within branch_at behind_first behind_second second_at more_at statement_at let_at bound_at get_at put_at assigned_at last_expr_at key_at key_from comparison_at compared_at expr_at expr_within sum_at sum_from product_at product_from factor_at
+check_is_read = record {
+  placed = cut_of write_check;
+  shallow = record { tokens = has_tokens write_check (cut_of write_check) (omega arith) refl; shallow = refl };
+  spelled = set_found (kinds (cut_of write_check)) [] write_check_draft refl;
+}
+
+-- cut in the word `else`: what is left of it is a name, which can't stand there
+cut_in_else : Refuses (codes "program P(n) { let a = get t[n] el") (f.UnexpectedToken 32)
+unfolding tokens_from piece_at word_at number_at sign_at set_at many_from separated_at program_at params_at block_at body_at body_within more_at statement_at let_at bound_at get_at key_at key_from expr_at expr_within sum_at sum_from product_at product_from factor_at
+cut_in_else =
+    let text : List ℕ = codes "program P(n) { let a = get t[n] el" in
+    (cut_of text, 14, record { tokens = has_tokens text (cut_of text) (omega arith) refl; shallow = refl }, set_misfit _ 1 (λ e. cc) refl, refl)
+
+-- a second `else` can't stand where a statement can
+two_elses : Refuses (codes "program P(n) { if n < 0 { } else { } else { } }") (f.UnexpectedToken 37)
+unfolding tokens_from piece_at word_at number_at sign_at set_at many_from separated_at program_at params_at block_at body_at body_within branch_at behind_first behind_second second_at more_at statement_at comparison_at compared_at expr_at expr_within sum_at sum_from product_at product_from factor_at
+two_elses =
+    let text : List ℕ = codes "program P(n) { if n < 0 { } else { } else { } }" in
+    (cut_of text, 15, record { tokens = has_tokens text (cut_of text) (omega arith) refl; shallow = refl }, set_misfit _ 4 (λ e. cc) refl, refl)

@@ -1,15 +1,34 @@
 pub mod Alike
-pub mod Blocks
 pub mod Converse
 pub mod Cutting
-pub mod Derived
-pub mod Enough
-mod Examples
-pub mod Local
+pub mod DerivedExprs
 pub mod Longest
-pub mod Only
-pub mod Refusals
+pub mod OneToken
 pub mod Sound
 pub mod Spelled
-mod Vectors
+pub mod SpelledAgain
 pub mod WordBytes
+pub mod Derived
+pub mod DerivedStatements
+pub mod Enough
+mod CanonicalExamples
+pub mod CutMarks
+pub mod CutPhrases
+mod Examples
+pub mod BlockSteps
+pub mod Breaks
+pub mod Viewed
+pub mod Only
+pub mod OnlyExprs
+pub mod OnlySets
+pub mod OnlyStatements
+pub mod Local
+pub mod LocalExprs
+pub mod LocalStatements
+pub mod LocalTokens
+pub mod Lighter
+pub mod PhrasesAgain
+pub mod PrintedBlocks
+pub mod Refusals
+pub mod RoundTrip
+mod Vectors

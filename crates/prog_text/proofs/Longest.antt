@@ -56,7 +56,7 @@ number_longest c front rest digit ends u b more others is spells =
 -- ---- one piece
 
 -- what a piece adds to the cut of the bytes behind it
-abbrev Goes : List ℕ → Piece → Type 0
+abbrev pub Goes : List ℕ → Piece → Type 0
 Goes bytes (Ok piece) = (placed : Placed) → IsCut piece.1 placed → IsCut bytes (before piece.0 (length bytes) placed)
 Goes bytes (Err spot) = Unit {0}
 
@@ -237,7 +237,7 @@ goes_by c rest false false true digit s k l d = word_goes c rest l
 goes_by c rest false false false true s k l d = number_goes c rest d
 goes_by c rest false false false false s k l d = sign_goes c rest (rw (l, d) refl)
 
-goes : (c : ℕ) (rest : List ℕ) → Goes (c ∷ rest) (piece_at (c ∷ rest))
+pub goes : (c : ℕ) (rest : List ℕ) → Goes (c ∷ rest) (piece_at (c ∷ rest))
 unfolding piece_at
 goes c rest = goes_by c rest (is_space c) (c == 35) (is_letter c) (is_digit c) refl refl refl refl
 

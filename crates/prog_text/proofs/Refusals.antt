@@ -15,7 +15,8 @@ use Rattle.prog_text.specs.Reading.{Unexpected, Reading, ◌>>=◌, tables_at, p
 use Rattle.prog_text.proofs.Converse.{tokens_exactly}
 use Rattle.prog_text.proofs.Alike.{Alike, both_read, both_stop, past, IsPast, same}
 use Rattle.prog_text.proofs.Local.{set_alike}
-use Rattle.prog_text.proofs.Only.{Reads, set_only}
+use Rattle.prog_text.proofs.Only.{Reads}
+use Rattle.prog_text.proofs.OnlySets.{set_only}
 use Rattle.prog_text.proofs.Sound.{Sound, Found, Viable}
 use Rattle.prog_text.proofs.Derived.{set_sound}
 

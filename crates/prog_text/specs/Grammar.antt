@@ -1,8 +1,8 @@
 -- The grammar. Each family below is one line of it, and each constructor one way to read that line:
 -- a value of `IsExpr ts e` shows how the tokens ts spell the expression e.
-use Rattle.std.specs.Prelude.{ℕ, ℤ, pos, negsuc, ◌-◌, ◌^◌, List, [], ◌∷◌, ◌++◌, false}
+use Rattle.std.specs.Prelude.{ℕ, ℤ, pos, negsuc, ◌-◌, ◌^◌, List, [], ◌∷◌, ◌++◌, true, false}
 use Rattle.std.proofs.Common.{neg_ℤ}
-use Rattle.prog_tree.specs.Syntax.{Name, ExprTree, Literal, Named, KeyTree, One, Two, StatementTree, Get, Put, Reply, BlockTree, BlockEnd, Then, ProgramTree, DraftTree}
+use Rattle.prog_tree.specs.Syntax.{Name, ExprTree, Literal, Named, Plus, Minus, Times, RelationSign, Less, LessEqual, Greater, GreaterEqual, Equal, NotEqual, ComparisonTree, TestTree, KeyTree, One, Two, RangeTree, OneRange, TwoRange, StatementTree, Bind, Get, Need, Count, Sum, Lacks, Put, Insert, Delete, Keep, Reply, Abort, BlockTree, BlockEnd, Then, Branch, ProgramTree, DraftTree}
 use Rattle.prog_tree.specs.declared.table.TableDecl.{TableDecl}
 use Rattle.prog_tree.specs.declared.table.Arity.{Arity}
 use Rattle.prog_tree.specs.declared.table.Arity.TheVariants as arity
@@ -39,15 +39,68 @@ least_number = negsuc (2 ^ 63 - 1)
 abbrev pub greatest_number : ℤ
 greatest_number = pos (2 ^ 63 - 1)
 
--- expr = NUMBER | "-" NUMBER | "least" | "greatest" | NAME
-pub data IsExpr : List Token → ExprTree → Type 0 where
-  number : (n : ℕ) → IsExpr (t.Number n ∷ []) (Literal (pos n))
-  negative : (n : ℕ) → IsExpr (t.Minus ∷ t.Number n ∷ []) (Literal (neg_ℤ (pos n)))
-  least : IsExpr (t.Least ∷ []) (Literal least_number)
-  greatest : IsExpr (t.Greatest ∷ []) (Literal greatest_number)
-  name : (x : Name) → IsExpr (t.Name x ∷ []) (Named x)
+mutual
+  -- factor = NUMBER | "-" NUMBER | "least" | "greatest" | NAME | "(" expr ")"
+  pub data IsFactor : List Token → ExprTree → Type 0 where
+    number : (n : ℕ) → IsFactor (t.Number n ∷ []) (Literal (pos n))
+    negative : (n : ℕ) → IsFactor (t.Minus ∷ t.Number n ∷ []) (Literal (neg_ℤ (pos n)))
+    least : IsFactor (t.Least ∷ []) (Literal least_number)
+    greatest : IsFactor (t.Greatest ∷ []) (Literal greatest_number)
+    name : (x : Name) → IsFactor (t.Name x ∷ []) (Named x)
+    bracketed : (ts : List Token) (e : ExprTree)
+        → IsExpr ts e
+        → IsFactor (t.Open ∷ (ts ++ t.Close ∷ [])) e
 
--- ---- keys, behind the name of their table
+  -- prod = factor { "*" factor }, grouped to the left
+  pub data IsProduct : List Token → ExprTree → Type 0 where
+    factor : (ts : List Token) (e : ExprTree)
+        → IsFactor ts e
+        → IsProduct ts e
+    times : (ts us : List Token) (a b : ExprTree)
+        → IsProduct ts a → IsFactor us b
+        → IsProduct (ts ++ t.Times ∷ us) (Times a b)
+
+  -- expr = prod { ( "+" | "-" ) prod }, grouped to the left
+  pub data IsExpr : List Token → ExprTree → Type 0 where
+    product : (ts : List Token) (e : ExprTree)
+        → IsProduct ts e
+        → IsExpr ts e
+    plus : (ts us : List Token) (a b : ExprTree)
+        → IsExpr ts a → IsProduct us b
+        → IsExpr (ts ++ t.Plus ∷ us) (Plus a b)
+    minus : (ts us : List Token) (a b : ExprTree)
+        → IsExpr ts a → IsProduct us b
+        → IsExpr (ts ++ t.Minus ∷ us) (Minus a b)
+
+-- ---- tests
+
+-- "<" | "<=" | ">" | ">=" | "==" | "!="
+pub data IsRelation : Token → RelationSign → Type 0 where
+  less : IsRelation t.Less Less
+  less_equal : IsRelation t.LessEqual LessEqual
+  greater : IsRelation t.Greater Greater
+  greater_equal : IsRelation t.GreaterEqual GreaterEqual
+  equal : IsRelation t.EqualEqual Equal
+  not_equal : IsRelation t.NotEqual NotEqual
+
+-- comp = [ "not" ] expr ( "<" | "<=" | ">" | ">=" | "==" | "!=" ) expr
+pub data IsComparison : List Token → ComparisonTree → Type 0 where
+  plain : (ts us : List Token) (u : Token) (a b : ExprTree) (r : RelationSign)
+      → IsExpr ts a → IsRelation u r → IsExpr us b
+      → IsComparison (ts ++ u ∷ us) (record { negated = false; left = a; relation = r; right = b })
+  negated : (ts us : List Token) (u : Token) (a b : ExprTree) (r : RelationSign)
+      → IsExpr ts a → IsRelation u r → IsExpr us b
+      → IsComparison (t.Not ∷ (ts ++ u ∷ us)) (record { negated = true; left = a; relation = r; right = b })
+
+-- conj = comp { "and" comp }
+abbrev pub IsConjunction : List Token → List ComparisonTree → Type 0
+IsConjunction = Separated t.And IsComparison
+
+-- test = conj { "or" conj }
+abbrev pub IsTest : List Token → TestTree → Type 0
+IsTest = Separated t.Or IsConjunction
+
+-- ---- keys and ranges, behind the name of their table
 
 -- key = NAME "[" expr [ "," expr ] "]"
 pub data IsKey : List Token → Name → KeyTree → Type 0 where
@@ -58,35 +111,89 @@ pub data IsKey : List Token → Name → KeyTree → Type 0 where
       → IsExpr ts a → IsExpr us b
       → IsKey (t.Name table ∷ t.OpenKey ∷ (ts ++ t.Comma ∷ (us ++ t.CloseKey ∷ []))) table (Two a b)
 
+-- range = NAME "[" [ expr "," ] expr ".." expr "]"
+pub data IsRange : List Token → Name → RangeTree → Type 0 where
+  one : (table : Name) (ts us : List Token) (low high : ExprTree)
+      → IsExpr ts low → IsExpr us high
+      → IsRange (t.Name table ∷ t.OpenKey ∷ (ts ++ t.Dots ∷ (us ++ t.CloseKey ∷ []))) table (OneRange low high)
+  two : (table : Name) (ts us vs : List Token) (a low high : ExprTree)
+      → IsExpr ts a → IsExpr us low → IsExpr vs high
+      → IsRange (t.Name table ∷ t.OpenKey ∷ (ts ++ t.Comma ∷ (us ++ t.Dots ∷ (vs ++ t.CloseKey ∷ [])))) table (TwoRange a low high)
+
 -- ---- statements
 
 -- a statement without blocks; one constructor for each alternative of the line stmt
 pub data IsStatement : List Token → StatementTree → Type 0 where
+  -- "let" NAME "=" expr ";"
+  bind : (x : Name) (ts : List Token) (e : ExprTree)
+      → IsExpr ts e
+      → IsStatement (t.Let ∷ t.Name x ∷ t.Equals ∷ (ts ++ t.Semicolon ∷ [])) (Bind x e)
   -- "let" NAME "=" "get" key "else" expr ";"
   get : (x table : Name) (ks ts : List Token) (k : KeyTree) (e : ExprTree)
       → IsKey ks table k → IsExpr ts e
       → IsStatement (t.Let ∷ t.Name x ∷ t.Equals ∷ t.Get ∷ (ks ++ t.Else ∷ (ts ++ t.Semicolon ∷ []))) (Get x table k e)
+  -- "let" NAME "=" "need" key ";"
+  need : (x table : Name) (ks : List Token) (k : KeyTree)
+      → IsKey ks table k
+      → IsStatement (t.Let ∷ t.Name x ∷ t.Equals ∷ t.Need ∷ (ks ++ t.Semicolon ∷ [])) (Need x table k)
+  -- "let" NAME "=" "count" range ";"
+  count : (x table : Name) (rs : List Token) (r : RangeTree)
+      → IsRange rs table r
+      → IsStatement (t.Let ∷ t.Name x ∷ t.Equals ∷ t.Count ∷ (rs ++ t.Semicolon ∷ [])) (Count x table r)
+  -- "let" NAME "=" "sum" range ";"
+  sum : (x table : Name) (rs : List Token) (r : RangeTree)
+      → IsRange rs table r
+      → IsStatement (t.Let ∷ t.Name x ∷ t.Equals ∷ t.Sum ∷ (rs ++ t.Semicolon ∷ [])) (Sum x table r)
+  -- "lacks" key ";"
+  lacks : (table : Name) (ks : List Token) (k : KeyTree)
+      → IsKey ks table k
+      → IsStatement (t.Lacks ∷ (ks ++ t.Semicolon ∷ [])) (Lacks table k)
   -- "put" key "=" expr ";"
   put : (table : Name) (ks ts : List Token) (k : KeyTree) (e : ExprTree)
       → IsKey ks table k → IsExpr ts e
       → IsStatement (t.Put ∷ (ks ++ t.Equals ∷ (ts ++ t.Semicolon ∷ []))) (Put table k e)
+  -- "insert" key "=" expr ";"
+  insert : (table : Name) (ks ts : List Token) (k : KeyTree) (e : ExprTree)
+      → IsKey ks table k → IsExpr ts e
+      → IsStatement (t.Insert ∷ (ks ++ t.Equals ∷ (ts ++ t.Semicolon ∷ []))) (Insert table k e)
+  -- "delete" key ";"
+  delete : (table : Name) (ks : List Token) (k : KeyTree)
+      → IsKey ks table k
+      → IsStatement (t.Delete ∷ (ks ++ t.Semicolon ∷ [])) (Delete table k)
+  -- "keep" key ";"
+  keep : (table : Name) (ks : List Token) (k : KeyTree)
+      → IsKey ks table k
+      → IsStatement (t.Keep ∷ (ks ++ t.Semicolon ∷ [])) (Keep table k)
   -- "reply" expr ";"
   reply : (ts : List Token) (e : ExprTree)
       → IsExpr ts e
       → IsStatement (t.Reply ∷ (ts ++ t.Semicolon ∷ [])) (Reply e)
+  -- "abort" ";"
+  abort : IsStatement (t.Abort ∷ t.Semicolon ∷ []) Abort
 
--- { stmt }: nothing, or a statement and more
-pub data IsStatements : List Token → BlockTree → Type 0 where
-  nothing : IsStatements [] BlockEnd
-  more : (ts us : List Token) (s : StatementTree) (rest : BlockTree)
-      → IsStatement ts s → IsStatements us rest
-      → IsStatements (ts ++ us) (Then s rest)
+mutual
+  -- { stmt }: nothing; a statement and more; or "if" test block [ "else" block ] and more
+  pub data IsStatements : List Token → BlockTree → Type 0 where
+    nothing : IsStatements [] BlockEnd
+    more : (ts us : List Token) (s : StatementTree) (rest : BlockTree)
+        → IsStatement ts s → IsStatements us rest
+        → IsStatements (ts ++ us) (Then s rest)
+    branch : (xs ts es us : List Token) (test : TestTree) (first second rest : BlockTree)
+        → IsTest xs test → IsBlock ts first → IsElse es second → IsStatements us rest
+        → IsStatements (t.If ∷ (xs ++ (ts ++ (es ++ us)))) (Branch test first second rest)
 
--- block = "{" { stmt } "}"
-pub data IsBlock : List Token → BlockTree → Type 0 where
-  block : (ts : List Token) (b : BlockTree)
-      → IsStatements ts b
-      → IsBlock (t.OpenBlock ∷ (ts ++ t.CloseBlock ∷ [])) b
+  -- block = "{" { stmt } "}"
+  pub data IsBlock : List Token → BlockTree → Type 0 where
+    block : (ts : List Token) (b : BlockTree)
+        → IsStatements ts b
+        → IsBlock (t.OpenBlock ∷ (ts ++ t.CloseBlock ∷ [])) b
+
+  -- [ "else" block ]; a missing one is an empty block
+  pub data IsElse : List Token → BlockTree → Type 0 where
+    missing : IsElse [] BlockEnd
+    present : (ts : List Token) (b : BlockTree)
+        → IsBlock ts b
+        → IsElse (t.Else ∷ ts) b
 
 -- ---- tables and programs
 
@@ -95,11 +202,14 @@ pub data IsArity : ℕ → Arity → Type 0 where
   one : IsArity 1 arity.One
   two : IsArity 2 arity.Two
 
--- table = "table" NAME NUMBER ";"
+-- table = "table" NAME NUMBER [ "grow" ] ";"
 pub data IsTable : List Token → TableDecl → Type 0 where
   plain : (x : Name) (n : ℕ) (a : Arity)
       → IsArity n a
       → IsTable (t.Table ∷ t.Name x ∷ t.Number n ∷ t.Semicolon ∷ []) (record { name = x; arity = a; grow = false })
+  grows : (x : Name) (n : ℕ) (a : Arity)
+      → IsArity n a
+      → IsTable (t.Table ∷ t.Name x ∷ t.Number n ∷ t.Grow ∷ t.Semicolon ∷ []) (record { name = x; arity = a; grow = true })
 
 -- NAME
 pub data IsName : List Token → Name → Type 0 where

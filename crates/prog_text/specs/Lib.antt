@@ -1,7 +1,9 @@
 pub mod Answer
+pub mod Canonical
 pub mod Cut
 pub mod Grammar
 pub mod Lexing
 pub mod Limits
+pub mod OpenBlocks
 pub mod Reading
 pub mod Spelling

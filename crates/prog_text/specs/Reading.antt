@@ -1,8 +1,8 @@
 -- How the parser reads: a function on lists of tokens for each of its functions, in their order.
 -- What a text means is said in `Grammar`; that these functions read it is proved.
-use Rattle.std.specs.Prelude.{◌≡◌, ℕ, zero, suc, pos, List, [], ◌∷◌, ◌++◌, length, false, Option, Some, None, Result, Ok, Err, if◌then◌else◌, ◌==◌}
+use Rattle.std.specs.Prelude.{◌≡◌, ℕ, zero, suc, pos, List, [], ◌∷◌, ◌++◌, length, Bool, true, false, Option, Some, None, Result, Ok, Err, if◌then◌else◌, ◌==◌}
 use Rattle.std.proofs.Common.{neg_ℤ}
-use Rattle.prog_tree.specs.Syntax.{Name, ExprTree, Literal, Named, KeyTree, One, Two, StatementTree, Get, Put, Reply, BlockTree, BlockEnd, Then, ProgramTree, DraftTree}
+use Rattle.prog_tree.specs.Syntax.{Name, ExprTree, Literal, Named, Plus, Minus, Times, RelationSign, Less, LessEqual, Greater, GreaterEqual, Equal, NotEqual, ComparisonTree, TestTree, KeyTree, One, Two, RangeTree, OneRange, TwoRange, StatementTree, Bind, Get, Need, Count, Sum, Lacks, Put, Insert, Delete, Keep, Reply, Abort, BlockTree, BlockEnd, Then, Branch, ProgramTree, DraftTree}
 use Rattle.prog_tree.specs.declared.table.TableDecl.{TableDecl}
 use Rattle.prog_tree.specs.declared.table.Arity.{Arity}
 use Rattle.prog_tree.specs.declared.table.Arity.TheVariants as arity
@@ -36,6 +36,11 @@ abbrev pub Gives : {X Y : Type 0} → (X → Y) → Result X ReadError → Resul
 Gives view (Ok x) read = read ≡ Ok (view x)
 Gives view (Err e) read = Fails e read
 
+-- What is still to be read, seen by `next`, gives what the reading gives, unless memory runs out.
+abbrev pub Goes : {X Y : Type 0} → (X → Result Y Stop) → Result X ReadError → Result Y Stop → Type 0
+Goes next (Ok x) read = next x ≡ read
+Goes next (Err e) read = Fails e read
+
 -- the first of these tokens doesn't fit here
 abbrev pub unexpected : {A : Type 0} → List Token → Result A Stop
 unexpected ts = Err (Unexpected (length ts))
@@ -66,6 +71,46 @@ after_close_bracket ts = None
 abbrev pub after_close_block : List Token → Option (List Token)
 after_close_block (t.CloseBlock ∷ ts) = Some ts
 after_close_block ts = None
+
+-- behind `*`
+abbrev pub after_times : List Token → Option (List Token)
+after_times (t.Times ∷ ts) = Some ts
+after_times ts = None
+
+-- behind `+`
+abbrev pub after_plus : List Token → Option (List Token)
+after_plus (t.Plus ∷ ts) = Some ts
+after_plus ts = None
+
+-- behind `-`
+abbrev pub after_minus : List Token → Option (List Token)
+after_minus (t.Minus ∷ ts) = Some ts
+after_minus ts = None
+
+-- behind the word `not`
+abbrev pub after_not : List Token → Option (List Token)
+after_not (t.Not ∷ ts) = Some ts
+after_not ts = None
+
+-- behind the word `and`
+abbrev pub after_and : List Token → Option (List Token)
+after_and (t.And ∷ ts) = Some ts
+after_and ts = None
+
+-- behind the word `or`
+abbrev pub after_or : List Token → Option (List Token)
+after_or (t.Or ∷ ts) = Some ts
+after_or ts = None
+
+-- behind the word `if`
+abbrev pub after_if : List Token → Option (List Token)
+after_if (t.If ∷ ts) = Some ts
+after_if ts = None
+
+-- behind the word `else`
+abbrev pub after_else : List Token → Option (List Token)
+after_else (t.Else ∷ ts) = Some ts
+after_else ts = None
 
 -- where the sign comes next, what is read behind it, and else something else
 abbrev pub behind_sign : {A : Type 0} → Option (List Token) → (List Token → Reading A) → Reading A → Reading A
@@ -114,6 +159,11 @@ abbrev pub else_word_at : List Token → Reading (Unit {0})
 else_word_at (t.Else ∷ ts) = Ok (tt, ts)
 else_word_at ts = unexpected ts
 
+-- `..`
+abbrev pub dots_at : List Token → Reading (Unit {0})
+dots_at (t.Dots ∷ ts) = Ok (tt, ts)
+dots_at ts = unexpected ts
+
 -- no token may be left
 abbrev pub end_at : List Token → Reading (Unit {0})
 end_at [] = Ok (tt, [])
@@ -135,6 +185,12 @@ many_from after read (suc n) done ts =
       many_from after read n (done ++ x.0 ∷ []) x.1)
     (Ok (done, ts))
 
+-- such phrases with a sign between them
+unfoldable pub separated_at : {A : Type 0} → (after : List Token → Option (List Token)) → (read : List Token → Reading A) → List Token → Reading (List A)
+separated_at after read ts = do
+  first ← read ts
+  many_from after read (length first.1) (first.0 ∷ []) first.1
+
 -- ---- expressions
 
 -- the number after a minus sign
@@ -142,16 +198,94 @@ abbrev pub negative_at : List Token → Reading ExprTree
 negative_at (t.Number n ∷ ts) = Ok (Literal (neg_ℤ (pos n)), ts)
 negative_at ts = unexpected ts
 
+-- a factor, where `inner` reads what stands in brackets
+unfoldable pub factor_at : (inner : List Token → Reading ExprTree) → List Token → Reading ExprTree
+factor_at inner (t.Number n ∷ ts) = Ok (Literal (pos n), ts)
+factor_at inner (t.Minus ∷ ts) = negative_at ts
+factor_at inner (t.Least ∷ ts) = Ok (Literal least_number, ts)
+factor_at inner (t.Greatest ∷ ts) = Ok (Literal greatest_number, ts)
+factor_at inner (t.Name x ∷ ts) = Ok (Named x, ts)
+factor_at inner (t.Open ∷ ts) = do
+  e ← inner ts
+  closed ← close_bracket_at e.1
+  Ok (e.0, closed.1)
+factor_at inner ts = unexpected ts
+
+-- Goes on behind factors that make `left`; n is at least the number of tokens.
+unfoldable pub product_from : (inner : List Token → Reading ExprTree) → ℕ → ExprTree → List Token → Reading ExprTree
+product_from inner zero left ts = Ok (left, ts)
+product_from inner (suc n) left ts =
+    behind_sign (after_times ts) (λ ts. do
+      right ← factor_at inner ts
+      product_from inner n (Times left right.0) right.1)
+    (Ok (left, ts))
+
+-- factors with `*` between them
+unfoldable pub product_at : (inner : List Token → Reading ExprTree) → List Token → Reading ExprTree
+product_at inner ts = do
+  first ← factor_at inner ts
+  product_from inner (length first.1) first.0 first.1
+
+-- Goes on behind products that make `left`; n is at least the number of tokens.
+unfoldable pub sum_from : (inner : List Token → Reading ExprTree) → ℕ → ExprTree → List Token → Reading ExprTree
+sum_from inner zero left ts = Ok (left, ts)
+sum_from inner (suc n) left ts =
+    behind_sign (after_plus ts) (λ ts. do
+      right ← product_at inner ts
+      sum_from inner n (Plus left right.0) right.1)
+    (behind_sign (after_minus ts) (λ ts. do
+      right ← product_at inner ts
+      sum_from inner n (Minus left right.0) right.1)
+    (Ok (left, ts)))
+
+-- products with `+` and `-` between them
+unfoldable pub sum_at : (inner : List Token → Reading ExprTree) → List Token → Reading ExprTree
+sum_at inner ts = do
+  first ← product_at inner ts
+  sum_from inner (length first.1) first.0 first.1
+
+-- an expression, and those in its brackets; n is at least the number of tokens
+unfoldable pub expr_within : ℕ → List Token → Reading ExprTree
+expr_within zero ts = unexpected ts
+expr_within (suc n) ts = sum_at (expr_within n) ts
+
 -- an expression
 unfoldable pub expr_at : List Token → Reading ExprTree
-expr_at (t.Number n ∷ ts) = Ok (Literal (pos n), ts)
-expr_at (t.Minus ∷ ts) = negative_at ts
-expr_at (t.Least ∷ ts) = Ok (Literal least_number, ts)
-expr_at (t.Greatest ∷ ts) = Ok (Literal greatest_number, ts)
-expr_at (t.Name x ∷ ts) = Ok (Named x, ts)
-expr_at ts = unexpected ts
+expr_at ts = expr_within (length ts) ts
 
--- ---- keys
+-- ---- tests
+
+-- a sign that compares
+abbrev pub relation_at : List Token → Reading RelationSign
+relation_at (t.Less ∷ ts) = Ok (Less, ts)
+relation_at (t.LessEqual ∷ ts) = Ok (LessEqual, ts)
+relation_at (t.Greater ∷ ts) = Ok (Greater, ts)
+relation_at (t.GreaterEqual ∷ ts) = Ok (GreaterEqual, ts)
+relation_at (t.EqualEqual ∷ ts) = Ok (Equal, ts)
+relation_at (t.NotEqual ∷ ts) = Ok (NotEqual, ts)
+relation_at ts = unexpected ts
+
+-- two expressions with a sign between them that compares
+unfoldable pub compared_at : (negated : Bool) → List Token → Reading ComparisonTree
+compared_at negated ts = do
+  left ← expr_at ts
+  relation ← relation_at left.1
+  right ← expr_at relation.1
+  Ok (record { negated = negated; left = left.0; relation = relation.0; right = right.0 }, right.1)
+
+-- a comparison, which a `not` negates
+unfoldable pub comparison_at : List Token → Reading ComparisonTree
+comparison_at ts = behind_sign (after_not ts) (compared_at true) (compared_at false ts)
+
+-- comparisons with `and` between them
+abbrev pub conjunction_at : List Token → Reading (List ComparisonTree)
+conjunction_at ts = separated_at after_and comparison_at ts
+
+-- such lists with `or` between them
+abbrev pub test_at : List Token → Reading TestTree
+test_at ts = separated_at after_or conjunction_at ts
+
+-- ---- keys and ranges
 
 -- behind the first expression of a key
 unfoldable pub key_from : ExprTree → List Token → Reading KeyTree
@@ -173,21 +307,106 @@ key_at ts = do
   key ← key_from first.0 first.1
   Ok ((table.0, key.0), key.1)
 
+-- behind the low end of a range: the high one
+unfoldable pub high_at : List Token → Reading ExprTree
+high_at ts = do
+  dots ← dots_at ts
+  high ← expr_at dots.1
+  closed ← close_key_at high.1
+  Ok (high.0, closed.1)
+
+-- behind the first expression of a range
+unfoldable pub range_from : ExprTree → List Token → Reading RangeTree
+range_from first ts =
+    behind_sign (after_comma ts) (λ ts. do
+      low ← expr_at ts
+      high ← high_at low.1
+      Ok (TwoRange first low.0 high.0, high.1))
+    (do
+      high ← high_at ts
+      Ok (OneRange first high.0, high.1))
+
+-- a table's name and a range
+unfoldable pub range_at : List Token → Reading (Name × RangeTree)
+range_at ts = do
+  table ← name_at ts
+  opened ← open_key_at table.1
+  first ← expr_at opened.1
+  range ← range_from first.0 first.1
+  Ok ((table.0, range.0), range.1)
+
+-- ---- what stands before the end of a statement
+
+-- an expression and `;`
+unfoldable pub last_expr_at : List Token → Reading ExprTree
+last_expr_at ts = do
+  e ← expr_at ts
+  ended ← semicolon_at e.1
+  Ok (e.0, ended.1)
+
+-- a key and `;`
+unfoldable pub last_key_at : List Token → Reading (Name × KeyTree)
+last_key_at ts = do
+  key ← key_at ts
+  ended ← semicolon_at key.1
+  Ok (key.0, ended.1)
+
+-- a range and `;`
+unfoldable pub last_range_at : List Token → Reading (Name × RangeTree)
+last_range_at ts = do
+  range ← range_at ts
+  ended ← semicolon_at range.1
+  Ok (range.0, ended.1)
+
+-- a key, `=`, an expression and `;`
+unfoldable pub assigned_at : List Token → Reading ((Name × KeyTree) × ExprTree)
+assigned_at ts = do
+  key ← key_at ts
+  equals ← equals_at key.1
+  value ← last_expr_at equals.1
+  Ok ((key.0, value.0), value.1)
+
 -- ---- statements
+
+-- behind `let NAME =`
+unfoldable pub bind_at : Name → List Token → Reading StatementTree
+bind_at name ts = do
+  value ← last_expr_at ts
+  Ok (Bind name value.0, value.1)
 
 -- behind `let NAME = get`
 unfoldable pub get_at : Name → List Token → Reading StatementTree
 get_at name ts = do
   key ← key_at ts
   other ← else_word_at key.1
-  otherwise ← expr_at other.1
-  ended ← semicolon_at otherwise.1
-  Ok (Get name key.0.0 key.0.1 otherwise.0, ended.1)
+  otherwise ← last_expr_at other.1
+  Ok (Get name key.0.0 key.0.1 otherwise.0, otherwise.1)
 
--- behind `let NAME =`
+-- behind `let NAME = need`
+unfoldable pub need_at : Name → List Token → Reading StatementTree
+need_at name ts = do
+  key ← last_key_at ts
+  Ok (Need name key.0.0 key.0.1, key.1)
+
+-- behind `let NAME = count`
+unfoldable pub count_at : Name → List Token → Reading StatementTree
+count_at name ts = do
+  range ← last_range_at ts
+  Ok (Count name range.0.0 range.0.1, range.1)
+
+-- behind `let NAME = sum`
+unfoldable pub summed_at : Name → List Token → Reading StatementTree
+summed_at name ts = do
+  range ← last_range_at ts
+  Ok (Sum name range.0.0 range.0.1, range.1)
+
+-- behind `let NAME =`: one of these, by its first token
 unfoldable pub bound_at : Name → List Token → Reading StatementTree
 bound_at name (t.Get ∷ ts) = get_at name ts
-bound_at name ts = unexpected ts
+bound_at name (t.Need ∷ ts) = need_at name ts
+bound_at name (t.Count ∷ ts) = count_at name ts
+bound_at name (t.Sum ∷ ts) = summed_at name ts
+bound_at name ts = bind_at name ts
 
 -- behind the word `let`
 unfoldable pub let_at : List Token → Reading StatementTree
@@ -196,43 +415,108 @@ let_at ts = do
   equals ← equals_at name.1
   bound_at name.0 equals.1
 
+-- behind the word `lacks`
+unfoldable pub lacks_at : List Token → Reading StatementTree
+lacks_at ts = do
+  key ← last_key_at ts
+  Ok (Lacks key.0.0 key.0.1, key.1)
+
 -- behind the word `put`
 unfoldable pub put_at : List Token → Reading StatementTree
 put_at ts = do
-  key ← key_at ts
-  equals ← equals_at key.1
-  value ← expr_at equals.1
-  ended ← semicolon_at value.1
-  Ok (Put key.0.0 key.0.1 value.0, ended.1)
+  assigned ← assigned_at ts
+  Ok (Put assigned.0.0.0 assigned.0.0.1 assigned.0.1, assigned.1)
+
+-- behind the word `insert`
+unfoldable pub insert_at : List Token → Reading StatementTree
+insert_at ts = do
+  assigned ← assigned_at ts
+  Ok (Insert assigned.0.0.0 assigned.0.0.1 assigned.0.1, assigned.1)
+
+-- behind the word `delete`
+unfoldable pub delete_at : List Token → Reading StatementTree
+delete_at ts = do
+  key ← last_key_at ts
+  Ok (Delete key.0.0 key.0.1, key.1)
+
+-- behind the word `keep`
+unfoldable pub keep_at : List Token → Reading StatementTree
+keep_at ts = do
+  key ← last_key_at ts
+  Ok (Keep key.0.0 key.0.1, key.1)
 
 -- behind the word `reply`
 unfoldable pub reply_at : List Token → Reading StatementTree
 reply_at ts = do
-  value ← expr_at ts
-  ended ← semicolon_at value.1
-  Ok (Reply value.0, ended.1)
+  value ← last_expr_at ts
+  Ok (Reply value.0, value.1)
+
+-- behind the word `abort`
+unfoldable pub abort_at : List Token → Reading StatementTree
+abort_at ts = do
+  ended ← semicolon_at ts
+  Ok (Abort, ended.1)
 
 -- a statement without blocks
 unfoldable pub statement_at : List Token → Reading StatementTree
 statement_at (t.Let ∷ ts) = let_at ts
+statement_at (t.Lacks ∷ ts) = lacks_at ts
 statement_at (t.Put ∷ ts) = put_at ts
+statement_at (t.Insert ∷ ts) = insert_at ts
+statement_at (t.Delete ∷ ts) = delete_at ts
+statement_at (t.Keep ∷ ts) = keep_at ts
 statement_at (t.Reply ∷ ts) = reply_at ts
+statement_at (t.Abort ∷ ts) = abort_at ts
 statement_at ts = unexpected ts
 
--- The statements that are left of a block and its closing sign; n is at least the number of tokens.
-unfoldable pub body_from : ℕ → List Token → Reading BlockTree
-body_from zero ts = behind_sign (after_close_block ts) (λ ts. Ok (BlockEnd, ts)) (unexpected ts)
-body_from (suc n) ts =
-    behind_sign (after_close_block ts) (λ ts. Ok (BlockEnd, ts)) (do
-      s ← statement_at ts
-      rest ← body_from n s.1
-      Ok (Then s.0 rest.0, rest.1))
+-- ---- blocks; `body` reads what is left of a block, and its closing sign
 
 -- a block with its two signs
-unfoldable pub block_at : List Token → Reading BlockTree
-block_at ts = do
+unfoldable pub block_at : (body : List Token → Reading BlockTree) → List Token → Reading BlockTree
+block_at body ts = do
   begun ← open_block_at ts
-  body_from (length begun.1) begun.1
+  body begun.1
+
+-- the second block of a branch, or nothing where there is none
+unfoldable pub second_at : (body : List Token → Reading BlockTree) → List Token → Reading BlockTree
+second_at body ts = behind_sign (after_else ts) (block_at body) (Ok (BlockEnd, ts))
+
+-- behind the second block of a branch
+unfoldable pub behind_second : (body : List Token → Reading BlockTree) → TestTree → (first second : BlockTree) → List Token → Reading BlockTree
+behind_second body test first second ts = do
+  rest ← body ts
+  Ok (Branch test first second rest.0, rest.1)
+
+-- behind the first block of a branch
+unfoldable pub behind_first : (body : List Token → Reading BlockTree) → TestTree → (first : BlockTree) → List Token → Reading BlockTree
+behind_first body test first ts = do
+  second ← second_at body ts
+  behind_second body test first second.0 second.1
+
+-- behind the word `if`: a branch, and the rest of its block
+unfoldable pub branch_at : (body : List Token → Reading BlockTree) → List Token → Reading BlockTree
+branch_at body ts = do
+  test ← test_at ts
+  first ← block_at body test.1
+  behind_first body test.0 first.0 first.1
+
+-- a statement without blocks, and the rest of its block
+unfoldable pub more_at : (body : List Token → Reading BlockTree) → List Token → Reading BlockTree
+more_at body ts = do
+  s ← statement_at ts
+  rest ← body s.1
+  Ok (Then s.0 rest.0, rest.1)
+
+-- what is left of a block, and its closing sign; n is at least the number of tokens
+unfoldable pub body_within : ℕ → List Token → Reading BlockTree
+body_within zero ts = unexpected ts
+body_within (suc n) ts =
+    behind_sign (after_close_block ts) (λ ts. Ok (BlockEnd, ts))
+    (behind_sign (after_if ts) (branch_at (body_within n)) (more_at (body_within n) ts))
+
+-- what is left of a block, and its closing sign
+unfoldable pub body_at : List Token → Reading BlockTree
+body_at ts = body_within (length ts) ts
 
 -- ---- tables and programs
 
@@ -244,23 +528,27 @@ arity_at (t.Number n ∷ ts) =
     else unexpected (t.Number n ∷ ts)
 arity_at ts = unexpected ts
 
+-- the word `grow`, or nothing
+abbrev pub grow_at : List Token → Reading Bool
+grow_at (t.Grow ∷ ts) = Ok (true, ts)
+grow_at ts = Ok (false, ts)
+
 -- behind the word `table`
 unfoldable pub table_at : List Token → Reading TableDecl
 table_at ts = do
   name ← name_at ts
   columns ← arity_at name.1
-  ended ← semicolon_at columns.1
-  Ok (record { name = name.0; arity = columns.0; grow = false }, ended.1)
+  grow ← grow_at columns.1
+  ended ← semicolon_at grow.1
+  Ok (record { name = name.0; arity = columns.0; grow = grow.0 }, ended.1)
 
 -- the tables at the front of a set
 abbrev pub tables_at : List Token → Reading (List TableDecl)
 tables_at ts = many_from after_table table_at (length ts) [] ts
 
 -- names with a comma between them
-unfoldable pub names_at : List Token → Reading (List Name)
-names_at ts = do
-  first ← name_at ts
-  many_from after_comma name_at (length first.1) (first.0 ∷ []) first.1
+abbrev pub names_at : List Token → Reading (List Name)
+names_at ts = separated_at after_comma name_at ts
 
 -- the parameters of a program and the closing bracket
 unfoldable pub params_at : List Token → Reading (List Name)
@@ -276,7 +564,7 @@ program_at ts = do
   name ← name_at ts
   opened ← open_bracket_at name.1
   params ← params_at opened.1
-  body ← block_at params.1
+  body ← block_at body_at params.1
   Ok (record { name = name.0; params = params.0; body = body.0 }, body.1)
 
 -- the programs at the end of a set

@@ -1,8 +1,9 @@
 ghost use Rattle.std.specs.Prelude.{◌≡◌, ◌<◌, length, IfOk};
 ghost use Rattle.prog_tree.specs.Tree.{expr_tree};
-ghost use Rattle.prog_text.specs.Reading.{Gives, negative_at, expr_at};
+ghost use Rattle.prog_text.specs.Reading.{Gives, negative_at, factor_at, product_at, expr_at};
 
 use crate::read_error::{ReadError, unexpected};
+use crate::signs::{after_minus, after_plus, after_times, close_bracket};
 use crate::token::Token;
 use prog_tree::{Expr, Name};
 use std::alloc::Global;
@@ -21,12 +22,13 @@ fn negative<'s, 'a>(tokens: &'s [Token<'a>]) -> Result<(Expr, &'s [Token<'a>]), 
     }
 }
 
-#[tactic(auto, unfolding(crate::specs::Reading::expr_at))]
-pub fn expr<'s, 'a>(
+#[cycle(expr)]
+#[tactic(auto, unfolding(crate::specs::Reading::factor_at))]
+fn factor<'s, 'a>(
     alloc: Global,
     tokens: &'s [Token<'a>],
 ) -> Result<(Expr, &'s [Token<'a>]), ReadError>
-    ensures reads { Gives (λ x. (expr_tree x.0, x.1.now)) result (expr_at tokens.now) }
+    ensures reads { Gives (λ x. (expr_tree x.0, x.1.now)) result (factor_at expr_at tokens.now) }
     ensures shorter { IfOk result (λ x. length x.1.now < length tokens.now) }
 {
     let [first, rest @ ..] = tokens else {
@@ -41,6 +43,56 @@ pub fn expr<'s, 'a>(
             let name = Name::new(alloc, word.as_str())?;
             Ok((Expr::Name(name), rest))
         }
+        Token::Open => {
+            let (inner, rest) = expr(alloc, rest)?;
+            let rest = close_bracket(rest)?;
+            Ok((inner, rest))
+        }
         _ => Err(unexpected(tokens)),
+    }
+}
+
+// Factors with `*` between them.
+#[cycle(expr)]
+#[tactic(auto, unfolding(crate::specs::Reading::product_at, crate::specs::Reading::product_from))]
+fn product<'s, 'a>(
+    alloc: Global,
+    tokens: &'s [Token<'a>],
+) -> Result<(Expr, &'s [Token<'a>]), ReadError>
+    ensures reads { Gives (λ x. (expr_tree x.0, x.1.now)) result (product_at expr_at tokens.now) }
+    ensures shorter { IfOk result (λ x. length x.1.now < length tokens.now) }
+{
+    let (mut left, mut rest) = factor(alloc, tokens)?;
+    while let Some(after) = after_times(rest) {
+        let (right, after) = factor(alloc, after)?;
+        left = Expr::Times(Box::new(alloc, left)?, Box::new(alloc, right)?);
+        rest = after;
+    }
+    Ok((left, rest))
+}
+
+/// An expression. Each bracket in it is one call deeper; `too_deep` lets 16 through.
+#[cycle(expr)]
+#[tactic(auto, unfolding(crate::specs::Reading::sum_at, crate::specs::Reading::sum_from))]
+pub fn expr<'s, 'a>(
+    alloc: Global,
+    tokens: &'s [Token<'a>],
+) -> Result<(Expr, &'s [Token<'a>]), ReadError>
+    ensures reads { Gives (λ x. (expr_tree x.0, x.1.now)) result (expr_at tokens.now) }
+    ensures shorter { IfOk result (λ x. length x.1.now < length tokens.now) }
+{
+    let (mut left, mut rest) = product(alloc, tokens)?;
+    loop {
+        if let Some(after) = after_plus(rest) {
+            let (right, after) = product(alloc, after)?;
+            left = Expr::Plus(Box::new(alloc, left)?, Box::new(alloc, right)?);
+            rest = after;
+        } else if let Some(after) = after_minus(rest) {
+            let (right, after) = product(alloc, after)?;
+            left = Expr::Minus(Box::new(alloc, left)?, Box::new(alloc, right)?);
+            rest = after;
+        } else {
+            return Ok((left, rest));
+        }
     }
 }

@@ -1,13 +1,13 @@
-ghost use Rattle.std.specs.Prelude.{◌≡◌, ◌<◌, ◌≤◌, [], length, map, IfOk};
+ghost use Rattle.std.specs.Prelude.{◌≡◌, ◌<◌, ◌≤◌, [], length, map, Ok, IfOk};
 ghost use Rattle.prog_tree.specs.Tree.{program_tree, draft_tree};
-ghost use Rattle.prog_text.specs.Reading.{Gives, arity_at, table_at, tables_at, names_at, params_at, program_at, set_at};
+ghost use Rattle.prog_text.specs.Reading.{Gives, arity_at, grow_at, table_at, tables_at, names_at, params_at, program_at, set_at};
 
+use crate::blocks::block;
 use crate::read_error::{ReadError, unexpected};
 use crate::signs::{
     after_close_bracket, after_comma, after_program, after_table, close_bracket, end, name,
     open_bracket, semicolon,
 };
-use crate::statements::block;
 use crate::token::Token;
 use prog_tree::{Arity, Draft, Name, Program, TableDecl};
 use std::alloc::Global;
@@ -31,6 +31,17 @@ fn arity<'s, 'a>(tokens: &'s [Token<'a>]) -> Result<(Arity, &'s [Token<'a>]), Re
     }
 }
 
+// The word `grow`, or nothing.
+fn grow<'s, 'a>(tokens: &'s [Token<'a>]) -> (bool, &'s [Token<'a>])
+    ensures reads { grow_at tokens.now ≡ Ok (result.0, result.1.now) }
+    ensures shorter { length result.1.now ≤ length tokens.now }
+{
+    match tokens {
+        [Token::Grow, rest @ ..] => (true, rest),
+        _ => (false, tokens),
+    }
+}
+
 // Behind the word `table`.
 #[tactic(auto, unfolding(crate::specs::Reading::table_at))]
 fn table<'s, 'a>(
@@ -42,13 +53,9 @@ fn table<'s, 'a>(
 {
     let (name, rest) = name(alloc, tokens)?;
     let (arity, rest) = arity(rest)?;
+    let (grow, rest) = grow(rest);
     let rest = semicolon(rest)?;
-    let table = TableDecl {
-        name,
-        arity,
-        grow: false,
-    };
-    Ok((table, rest))
+    Ok((TableDecl { name, arity, grow }, rest))
 }
 
 // Tables that were read, and the tokens behind them.
@@ -75,7 +82,7 @@ fn read_tables<'s, 'a>(alloc: Global, tokens: &'s [Token<'a>]) -> Result<Tables<
 }
 
 // Names with a comma between them.
-#[tactic(auto, unfolding(crate::specs::Reading::names_at, crate::specs::Reading::many_from))]
+#[tactic(auto, unfolding(crate::specs::Reading::separated_at, crate::specs::Reading::many_from))]
 fn names<'s, 'a>(
     alloc: Global,
     tokens: &'s [Token<'a>],

@@ -1,7 +1,7 @@
 // Single tokens: those that may come next, and those that have to.
 ghost use Rattle.std.specs.Prelude.{◌≡◌, ◌<◌, [], length, IfOk, IfSome};
 ghost use Rattle.std.specs.Option.{option_copied};
-ghost use Rattle.prog_text.specs.Reading.{Gives, after_table, after_program, after_comma, after_close_bracket, after_close_block, open_bracket_at, close_bracket_at, open_key_at, close_key_at, open_block_at, semicolon_at, equals_at, else_word_at, end_at, name_at};
+ghost use Rattle.prog_text.specs.Reading.{Gives, after_table, after_program, after_comma, after_close_bracket, after_close_block, after_times, after_plus, after_minus, after_not, after_and, after_or, after_if, after_else, open_bracket_at, close_bracket_at, open_key_at, close_key_at, open_block_at, semicolon_at, equals_at, else_word_at, dots_at, end_at, name_at};
 
 use crate::read_error::{ReadError, unexpected};
 use crate::token::Token;
@@ -54,6 +54,86 @@ pub fn after_close_block<'s, 'a>(tokens: &'s [Token<'a>]) -> Option<&'s [Token<'
 {
     match tokens {
         [Token::CloseBlock, rest @ ..] => Some(rest),
+        _ => None,
+    }
+}
+
+pub fn after_times<'s, 'a>(tokens: &'s [Token<'a>]) -> Option<&'s [Token<'a>]>
+    ensures reads { option_copied result ≡ after_times tokens.now }
+    ensures shorter { IfSome result (λ rest. length rest.now < length tokens.now) }
+{
+    match tokens {
+        [Token::Times, rest @ ..] => Some(rest),
+        _ => None,
+    }
+}
+
+pub fn after_plus<'s, 'a>(tokens: &'s [Token<'a>]) -> Option<&'s [Token<'a>]>
+    ensures reads { option_copied result ≡ after_plus tokens.now }
+    ensures shorter { IfSome result (λ rest. length rest.now < length tokens.now) }
+{
+    match tokens {
+        [Token::Plus, rest @ ..] => Some(rest),
+        _ => None,
+    }
+}
+
+pub fn after_minus<'s, 'a>(tokens: &'s [Token<'a>]) -> Option<&'s [Token<'a>]>
+    ensures reads { option_copied result ≡ after_minus tokens.now }
+    ensures shorter { IfSome result (λ rest. length rest.now < length tokens.now) }
+{
+    match tokens {
+        [Token::Minus, rest @ ..] => Some(rest),
+        _ => None,
+    }
+}
+
+pub fn after_not<'s, 'a>(tokens: &'s [Token<'a>]) -> Option<&'s [Token<'a>]>
+    ensures reads { option_copied result ≡ after_not tokens.now }
+    ensures shorter { IfSome result (λ rest. length rest.now < length tokens.now) }
+{
+    match tokens {
+        [Token::Not, rest @ ..] => Some(rest),
+        _ => None,
+    }
+}
+
+pub fn after_and<'s, 'a>(tokens: &'s [Token<'a>]) -> Option<&'s [Token<'a>]>
+    ensures reads { option_copied result ≡ after_and tokens.now }
+    ensures shorter { IfSome result (λ rest. length rest.now < length tokens.now) }
+{
+    match tokens {
+        [Token::And, rest @ ..] => Some(rest),
+        _ => None,
+    }
+}
+
+pub fn after_or<'s, 'a>(tokens: &'s [Token<'a>]) -> Option<&'s [Token<'a>]>
+    ensures reads { option_copied result ≡ after_or tokens.now }
+    ensures shorter { IfSome result (λ rest. length rest.now < length tokens.now) }
+{
+    match tokens {
+        [Token::Or, rest @ ..] => Some(rest),
+        _ => None,
+    }
+}
+
+pub fn after_if<'s, 'a>(tokens: &'s [Token<'a>]) -> Option<&'s [Token<'a>]>
+    ensures reads { option_copied result ≡ after_if tokens.now }
+    ensures shorter { IfSome result (λ rest. length rest.now < length tokens.now) }
+{
+    match tokens {
+        [Token::If, rest @ ..] => Some(rest),
+        _ => None,
+    }
+}
+
+pub fn after_else<'s, 'a>(tokens: &'s [Token<'a>]) -> Option<&'s [Token<'a>]>
+    ensures reads { option_copied result ≡ after_else tokens.now }
+    ensures shorter { IfSome result (λ rest. length rest.now < length tokens.now) }
+{
+    match tokens {
+        [Token::Else, rest @ ..] => Some(rest),
         _ => None,
     }
 }
@@ -134,6 +214,16 @@ pub fn else_word<'s, 'a>(tokens: &'s [Token<'a>]) -> Result<&'s [Token<'a>], Rea
 {
     match tokens {
         [Token::Else, rest @ ..] => Ok(rest),
+        _ => Err(unexpected(tokens)),
+    }
+}
+
+pub fn dots<'s, 'a>(tokens: &'s [Token<'a>]) -> Result<&'s [Token<'a>], ReadError>
+    ensures reads { Gives (λ rest. (tt, rest.now)) result (dots_at tokens.now) }
+    ensures shorter { IfOk result (λ rest. length rest.now < length tokens.now) }
+{
+    match tokens {
+        [Token::Dots, rest @ ..] => Ok(rest),
         _ => Err(unexpected(tokens)),
     }
 }

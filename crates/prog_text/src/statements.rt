@@ -1,51 +1,87 @@
-ghost use Rattle.std.specs.Prelude.{◌≡◌, ◌<◌, ◌≤◌, length, IfOk};
+// Statements without blocks.
+ghost use Rattle.std.specs.Prelude.{◌≡◌, ◌<◌, length, IfOk};
 ghost use Rattle.prog_tree.specs.Syntax.{Then};
-ghost use Rattle.prog_tree.specs.Tree.{expr_tree, key_tree, statement_tree, with_stmt, block_tree};
-ghost use Rattle.prog_text.specs.Reading.{Gives, key_from, key_at, get_at, bound_at, let_at, put_at, reply_at, statement_at, block_at};
+ghost use Rattle.prog_tree.specs.Tree.{expr_tree, key_tree, range_tree, statement_tree, with_stmt};
+ghost use Rattle.prog_text.specs.Reading.{Gives, last_expr_at, last_key_at, last_range_at, assigned_at, bind_at, get_at, need_at, count_at, summed_at, bound_at, let_at, lacks_at, put_at, insert_at, delete_at, keep_at, reply_at, abort_at, statement_at};
 
 use crate::expressions::expr;
+use crate::keys::{key, range};
 use crate::read_error::{ReadError, unexpected};
-use crate::signs::{
-    after_close_block, after_comma, close_key, else_word, equals, name, open_block, open_key,
-    semicolon,
-};
+use crate::signs::{else_word, equals, name, semicolon};
 use crate::token::Token;
-use prog_tree::{Block, Expr, Key, Name, Stmt};
+use prog_tree::{Expr, Key, Name, Range, Stmt};
 use std::alloc::Global;
 
-// Behind the first expression of a key.
-#[tactic(auto, unfolding(crate::specs::Reading::key_from))]
-fn key_behind<'s, 'a>(
+// An expression and `;`.
+#[tactic(auto, unfolding(crate::specs::Reading::last_expr_at))]
+fn last_expr<'s, 'a>(
     alloc: Global,
-    first: Expr,
     tokens: &'s [Token<'a>],
-) -> Result<(Key, &'s [Token<'a>]), ReadError>
-    ensures reads { Gives (λ x. (key_tree x.0, x.1.now)) result (key_from (expr_tree first) tokens.now) }
+) -> Result<(Expr, &'s [Token<'a>]), ReadError>
+    ensures reads { Gives (λ x. (expr_tree x.0, x.1.now)) result (last_expr_at tokens.now) }
     ensures shorter { IfOk result (λ x. length x.1.now < length tokens.now) }
 {
-    if let Some(rest) = after_comma(tokens) {
-        let (second, rest) = expr(alloc, rest)?;
-        let rest = close_key(rest)?;
-        return Ok((Key::Two(first, second), rest));
-    }
-    let rest = close_key(tokens)?;
-    Ok((Key::One(first), rest))
+    let (value, rest) = expr(alloc, tokens)?;
+    let rest = semicolon(rest)?;
+    Ok((value, rest))
 }
 
-// A table's name and a key.
-#[tactic(auto, unfolding(crate::specs::Reading::key_at))]
-fn key<'s, 'a>(
+// A key and `;`.
+#[tactic(auto, unfolding(crate::specs::Reading::last_key_at))]
+fn last_key<'s, 'a>(
     alloc: Global,
     tokens: &'s [Token<'a>],
 ) -> Result<(Name, Key, &'s [Token<'a>]), ReadError>
-    ensures reads { Gives (λ x. ((x.0, key_tree x.1), x.2.now)) result (key_at tokens.now) }
+    ensures reads { Gives (λ x. ((x.0, key_tree x.1), x.2.now)) result (last_key_at tokens.now) }
     ensures shorter { IfOk result (λ x. length x.2.now < length tokens.now) }
 {
-    let (table, rest) = name(alloc, tokens)?;
-    let rest = open_key(rest)?;
-    let (first, rest) = expr(alloc, rest)?;
-    let (key, rest) = key_behind(alloc, first, rest)?;
+    let (table, key, rest) = key(alloc, tokens)?;
+    let rest = semicolon(rest)?;
     Ok((table, key, rest))
+}
+
+// A range and `;`.
+#[tactic(auto, unfolding(crate::specs::Reading::last_range_at))]
+fn last_range<'s, 'a>(
+    alloc: Global,
+    tokens: &'s [Token<'a>],
+) -> Result<(Name, Range, &'s [Token<'a>]), ReadError>
+    ensures reads { Gives (λ x. ((x.0, range_tree x.1), x.2.now)) result (last_range_at tokens.now) }
+    ensures shorter { IfOk result (λ x. length x.2.now < length tokens.now) }
+{
+    let (table, range, rest) = range(alloc, tokens)?;
+    let rest = semicolon(rest)?;
+    Ok((table, range, rest))
+}
+
+// A key, `=`, an expression and `;`.
+#[tactic(auto, unfolding(crate::specs::Reading::assigned_at))]
+fn assigned<'s, 'a>(
+    alloc: Global,
+    tokens: &'s [Token<'a>],
+) -> Result<(Name, Key, Expr, &'s [Token<'a>]), ReadError>
+    ensures reads { Gives (λ x. (((x.0, key_tree x.1), expr_tree x.2), x.3.now)) result (assigned_at tokens.now) }
+    ensures shorter { IfOk result (λ x. length x.3.now < length tokens.now) }
+{
+    let (table, key, rest) = key(alloc, tokens)?;
+    let rest = equals(rest)?;
+    let (value, rest) = last_expr(alloc, rest)?;
+    Ok((table, key, value, rest))
+}
+
+// Behind `let NAME =`.
+#[tactic(auto, unfolding(crate::specs::Reading::bind_at))]
+fn bind<'s, 'a>(
+    alloc: Global,
+    name: Name,
+    tokens: &'s [Token<'a>],
+) -> Result<(Stmt, &'s [Token<'a>]), ReadError>
+    ensures reads { Gives (λ x. (statement_tree x.0, x.1.now)) result (bind_at name tokens.now) }
+    ensures plain { IfOk result (λ x. with_stmt x.0 ≡ Then (statement_tree x.0)) }
+    ensures shorter { IfOk result (λ x. length x.1.now < length tokens.now) }
+{
+    let (value, rest) = last_expr(alloc, tokens)?;
+    Ok((Stmt::Bind { name, value }, rest))
 }
 
 // Behind `let NAME = get`.
@@ -61,8 +97,7 @@ fn get<'s, 'a>(
 {
     let (table, key, rest) = key(alloc, tokens)?;
     let rest = else_word(rest)?;
-    let (otherwise, rest) = expr(alloc, rest)?;
-    let rest = semicolon(rest)?;
+    let (otherwise, rest) = last_expr(alloc, rest)?;
     let stmt = Stmt::Get {
         name,
         table,
@@ -72,7 +107,52 @@ fn get<'s, 'a>(
     Ok((stmt, rest))
 }
 
-// Behind `let NAME =`.
+// Behind `let NAME = need`.
+#[tactic(auto, unfolding(crate::specs::Reading::need_at))]
+fn need<'s, 'a>(
+    alloc: Global,
+    name: Name,
+    tokens: &'s [Token<'a>],
+) -> Result<(Stmt, &'s [Token<'a>]), ReadError>
+    ensures reads { Gives (λ x. (statement_tree x.0, x.1.now)) result (need_at name tokens.now) }
+    ensures plain { IfOk result (λ x. with_stmt x.0 ≡ Then (statement_tree x.0)) }
+    ensures shorter { IfOk result (λ x. length x.1.now < length tokens.now) }
+{
+    let (table, key, rest) = last_key(alloc, tokens)?;
+    Ok((Stmt::Need { name, table, key }, rest))
+}
+
+// Behind `let NAME = count`.
+#[tactic(auto, unfolding(crate::specs::Reading::count_at))]
+fn count<'s, 'a>(
+    alloc: Global,
+    name: Name,
+    tokens: &'s [Token<'a>],
+) -> Result<(Stmt, &'s [Token<'a>]), ReadError>
+    ensures reads { Gives (λ x. (statement_tree x.0, x.1.now)) result (count_at name tokens.now) }
+    ensures plain { IfOk result (λ x. with_stmt x.0 ≡ Then (statement_tree x.0)) }
+    ensures shorter { IfOk result (λ x. length x.1.now < length tokens.now) }
+{
+    let (table, range, rest) = last_range(alloc, tokens)?;
+    Ok((Stmt::Count { name, table, range }, rest))
+}
+
+// Behind `let NAME = sum`.
+#[tactic(auto, unfolding(crate::specs::Reading::summed_at))]
+fn summed<'s, 'a>(
+    alloc: Global,
+    name: Name,
+    tokens: &'s [Token<'a>],
+) -> Result<(Stmt, &'s [Token<'a>]), ReadError>
+    ensures reads { Gives (λ x. (statement_tree x.0, x.1.now)) result (summed_at name tokens.now) }
+    ensures plain { IfOk result (λ x. with_stmt x.0 ≡ Then (statement_tree x.0)) }
+    ensures shorter { IfOk result (λ x. length x.1.now < length tokens.now) }
+{
+    let (table, range, rest) = last_range(alloc, tokens)?;
+    Ok((Stmt::Sum { name, table, range }, rest))
+}
+
+// Behind `let NAME =`: one of these, by its first token.
 #[tactic(auto, unfolding(crate::specs::Reading::bound_at))]
 fn bound<'s, 'a>(
     alloc: Global,
@@ -85,7 +165,10 @@ fn bound<'s, 'a>(
 {
     match tokens {
         [Token::Get, rest @ ..] => get(alloc, name, rest),
-        _ => Err(unexpected(tokens)),
+        [Token::Need, rest @ ..] => need(alloc, name, rest),
+        [Token::Count, rest @ ..] => count(alloc, name, rest),
+        [Token::Sum, rest @ ..] => summed(alloc, name, rest),
+        _ => bind(alloc, name, tokens),
     }
 }
 
@@ -104,6 +187,48 @@ fn let_binding<'s, 'a>(
     bound(alloc, name, rest)
 }
 
+// Behind the word `lacks`.
+#[tactic(auto, unfolding(crate::specs::Reading::lacks_at))]
+fn lacks<'s, 'a>(
+    alloc: Global,
+    tokens: &'s [Token<'a>],
+) -> Result<(Stmt, &'s [Token<'a>]), ReadError>
+    ensures reads { Gives (λ x. (statement_tree x.0, x.1.now)) result (lacks_at tokens.now) }
+    ensures plain { IfOk result (λ x. with_stmt x.0 ≡ Then (statement_tree x.0)) }
+    ensures shorter { IfOk result (λ x. length x.1.now < length tokens.now) }
+{
+    let (table, key, rest) = last_key(alloc, tokens)?;
+    Ok((Stmt::Lacks { table, key }, rest))
+}
+
+// Behind the word `delete`.
+#[tactic(auto, unfolding(crate::specs::Reading::delete_at))]
+fn delete<'s, 'a>(
+    alloc: Global,
+    tokens: &'s [Token<'a>],
+) -> Result<(Stmt, &'s [Token<'a>]), ReadError>
+    ensures reads { Gives (λ x. (statement_tree x.0, x.1.now)) result (delete_at tokens.now) }
+    ensures plain { IfOk result (λ x. with_stmt x.0 ≡ Then (statement_tree x.0)) }
+    ensures shorter { IfOk result (λ x. length x.1.now < length tokens.now) }
+{
+    let (table, key, rest) = last_key(alloc, tokens)?;
+    Ok((Stmt::Delete { table, key }, rest))
+}
+
+// Behind the word `keep`.
+#[tactic(auto, unfolding(crate::specs::Reading::keep_at))]
+fn keep<'s, 'a>(
+    alloc: Global,
+    tokens: &'s [Token<'a>],
+) -> Result<(Stmt, &'s [Token<'a>]), ReadError>
+    ensures reads { Gives (λ x. (statement_tree x.0, x.1.now)) result (keep_at tokens.now) }
+    ensures plain { IfOk result (λ x. with_stmt x.0 ≡ Then (statement_tree x.0)) }
+    ensures shorter { IfOk result (λ x. length x.1.now < length tokens.now) }
+{
+    let (table, key, rest) = last_key(alloc, tokens)?;
+    Ok((Stmt::Keep { table, key }, rest))
+}
+
 // Behind the word `put`.
 #[tactic(auto, unfolding(crate::specs::Reading::put_at))]
 fn put<'s, 'a>(alloc: Global, tokens: &'s [Token<'a>]) -> Result<(Stmt, &'s [Token<'a>]), ReadError>
@@ -111,11 +236,22 @@ fn put<'s, 'a>(alloc: Global, tokens: &'s [Token<'a>]) -> Result<(Stmt, &'s [Tok
     ensures plain { IfOk result (λ x. with_stmt x.0 ≡ Then (statement_tree x.0)) }
     ensures shorter { IfOk result (λ x. length x.1.now < length tokens.now) }
 {
-    let (table, key, rest) = key(alloc, tokens)?;
-    let rest = equals(rest)?;
-    let (value, rest) = expr(alloc, rest)?;
-    let rest = semicolon(rest)?;
+    let (table, key, value, rest) = assigned(alloc, tokens)?;
     Ok((Stmt::Put { table, key, value }, rest))
+}
+
+// Behind the word `insert`.
+#[tactic(auto, unfolding(crate::specs::Reading::insert_at))]
+fn insert<'s, 'a>(
+    alloc: Global,
+    tokens: &'s [Token<'a>],
+) -> Result<(Stmt, &'s [Token<'a>]), ReadError>
+    ensures reads { Gives (λ x. (statement_tree x.0, x.1.now)) result (insert_at tokens.now) }
+    ensures plain { IfOk result (λ x. with_stmt x.0 ≡ Then (statement_tree x.0)) }
+    ensures shorter { IfOk result (λ x. length x.1.now < length tokens.now) }
+{
+    let (table, key, value, rest) = assigned(alloc, tokens)?;
+    Ok((Stmt::Insert { table, key, value }, rest))
 }
 
 // Behind the word `reply`.
@@ -128,14 +264,24 @@ fn reply<'s, 'a>(
     ensures plain { IfOk result (λ x. with_stmt x.0 ≡ Then (statement_tree x.0)) }
     ensures shorter { IfOk result (λ x. length x.1.now < length tokens.now) }
 {
-    let (value, rest) = expr(alloc, tokens)?;
-    let rest = semicolon(rest)?;
+    let (value, rest) = last_expr(alloc, tokens)?;
     Ok((Stmt::Reply { value }, rest))
 }
 
-// A statement without blocks.
+// Behind the word `abort`.
+#[tactic(auto, unfolding(crate::specs::Reading::abort_at))]
+fn abort<'s, 'a>(tokens: &'s [Token<'a>]) -> Result<(Stmt, &'s [Token<'a>]), ReadError>
+    ensures reads { Gives (λ x. (statement_tree x.0, x.1.now)) result (abort_at tokens.now) }
+    ensures plain { IfOk result (λ x. with_stmt x.0 ≡ Then (statement_tree x.0)) }
+    ensures shorter { IfOk result (λ x. length x.1.now < length tokens.now) }
+{
+    let rest = semicolon(tokens)?;
+    Ok((Stmt::Abort, rest))
+}
+
+/// A statement without blocks.
 #[tactic(auto, unfolding(crate::specs::Reading::statement_at))]
-fn statement<'s, 'a>(
+pub fn statement<'s, 'a>(
     alloc: Global,
     tokens: &'s [Token<'a>],
 ) -> Result<(Stmt, &'s [Token<'a>]), ReadError>
@@ -145,28 +291,13 @@ fn statement<'s, 'a>(
 {
     match tokens {
         [Token::Let, rest @ ..] => let_binding(alloc, rest),
+        [Token::Lacks, rest @ ..] => lacks(alloc, rest),
         [Token::Put, rest @ ..] => put(alloc, rest),
+        [Token::Insert, rest @ ..] => insert(alloc, rest),
+        [Token::Delete, rest @ ..] => delete(alloc, rest),
+        [Token::Keep, rest @ ..] => keep(alloc, rest),
         [Token::Reply, rest @ ..] => reply(alloc, rest),
+        [Token::Abort, rest @ ..] => abort(rest),
         _ => Err(unexpected(tokens)),
-    }
-}
-
-#[tactic(auto, unfolding(crate::specs::Reading::block_at))]
-pub fn block<'s, 'a>(
-    alloc: Global,
-    tokens: &'s [Token<'a>],
-) -> Result<(Block, &'s [Token<'a>]), ReadError>
-    ensures reads { Gives (λ x. (block_tree x.0, x.1.now)) result (block_at tokens.now) }
-    ensures shorter { IfOk result (λ x. length x.1.now < length tokens.now) }
-{
-    let mut rest = open_block(tokens)?;
-    let mut stmts = Vec::new(alloc);
-    loop {
-        if let Some(after) = after_close_block(rest) {
-            return Ok((Block { stmts }, after));
-        }
-        let (stmt, after) = statement(alloc, rest)?;
-        stmts.push(stmt)?;
-        rest = after;
     }
 }

@@ -1,8 +1,9 @@
 -- Which subcommands a parse can end with: words with no fault name one of the program's own.
-use Rattle.std.proofs.Common.{◌≡◌, ℕ, Bool, true, false, cond, List, [], ◌∷◌, Option, Some, None, codes, fold, is_some, refl, sym}
+use Rattle.std.proofs.lemmas.List.Elements.{All-nil, All-cons}
+use Rattle.std.proofs.Common.{◌≡◌, ℕ, suc, arith, Bool, true, false, cond, List, [], ◌∷◌, ◌++◌, Option, Some, None, codes, fold, is_some, refl, sym}
 use Rattle.std.specs.Str.{bytes_eq}
 use Rattle.sirob.specs.CommandLine.{sirob_app, NamesMode}
-use Rattle.sirob.specs.declared.command_line.Mode.TheVariants.{Run}
+use Rattle.sirob.specs.declared.command_line.Mode.TheVariants.{Check, Run}
 use Rattle.clap.specs.Kinds.{Kinds, or_else}
 use Rattle.clap.specs.Walk.{Held, Names, Outcome, Rule, Step, Text, Waiting, Walk}
 use Rattle.clap.specs.Walk.{next, trailing, subcommand, value, done, waits, plain, refused, idle, option, positional}
@@ -12,7 +13,7 @@ use Rattle.clap.specs.Simple.{Shape, argument_words, built, entered, help_shape,
 use Rattle.clap.specs.Walk.{Row, answers_to, finished, nothing_held, walk_from}
 use Rattle.clap.specs.Walk.{settled}
 use Rattle.std.specs.Prelude.{find, option_map}
-use Rattle.std.specs.List.{slice_index_or}
+use Rattle.std.specs.List.{All, slice_index_or}
 use Rattle.std.proofs.lemmas.Slice.Eq.{bytes_eq-Decides}
 use Rattle.std.proofs.Common.{◌≢◌, ◌||◌, Decides}
 use Rattle.clap.specs.declared.error.kind.ErrorKind.TheVariants.{DisplayHelp, InvalidSubcommand, MissingSubcommand}
@@ -128,17 +129,26 @@ met_one s rows false required quiet none =
     let missing : check_fault s rows false ≡ MissingSubcommand ∷ [] = rw (quiet, required) refl in
     cc
 
--- of two subcommands the first was met, where the words don't name the second
-first_met : (P : Option (Text × List Row) → Type 0) (name : Text) (words : List Text) (a b : Shape) → P (Some (rows_at a words)) → answers_to name (label_of b) ≡ false
-    → is_some (option_map (λ s. rows_at s words) (find (λ s. answers_to name (label_of s)) (a ∷ b ∷ []))) ≡ true
-    → P (option_map (λ s. rows_at s words) (find (λ s. answers_to name (label_of s)) (a ∷ b ∷ [])))
-first_met P name words a b first other some = go (answers_to name (label_of a)) (answers_to name (label_of b)) other some
+-- one of the subcommands before the last was met, where the words don't name the last
+own_met : (P : Option (Text × List Row) → Type 0) (name : Text) (words : List Text) (own : List Shape) (last : Shape)
+    → All (λ s. P (Some (rows_at s words))) own → answers_to name (label_of last) ≡ false
+    → is_some (option_map (λ s. rows_at s words) (find (λ s. answers_to name (label_of s)) (own ++ last ∷ []))) ≡ true
+    → P (option_map (λ s. rows_at s words) (find (λ s. answers_to name (label_of s)) (own ++ last ∷ [])))
+own_met P name words [] last all other some = go (answers_to name (label_of last)) other some
   where
-    go : (x y : Bool) → y ≡ false → is_some (option_map (λ s. rows_at s words) (cond x (Some a) (cond y (Some b) None))) ≡ true
-        → P (option_map (λ s. rows_at s words) (cond x (Some a) (cond y (Some b) None)))
-    go true y none met = first
-    go false true none met = absurd (cc)
-    go false false none met = absurd (cc)
+    go : (x : Bool) → x ≡ false → is_some (option_map (λ s. rows_at s words) (cond x (Some last) None)) ≡ true → P (option_map (λ s. rows_at s words) (cond x (Some last) None))
+    go true none met = absurd (cc)
+    go false none met = absurd (cc)
+own_met P name words (s ∷ own) last all other some =
+    go (answers_to name (label_of s)) (own_met P name words own last (λ k d within. all (suc k) d (omega (arith, within))) other) some
+  where
+    later : Option Shape
+    later = find (λ s. answers_to name (label_of s)) (own ++ last ∷ [])
+
+    go : (x : Bool) → (is_some (option_map (λ s. rows_at s words) later) ≡ true → P (option_map (λ s. rows_at s words) later))
+        → is_some (option_map (λ s. rows_at s words) (cond x (Some s) later)) ≡ true → P (option_map (λ s. rows_at s words) (cond x (Some s) later))
+    go true in_later met = all 0 s (omega arith)
+    go false in_later met = in_later met
 
 -- the words name `help` by its name alone
 no_help : (name : Text) → name ≢ codes "help" → bytes_eq (codes "help") name || false ≡ false
@@ -152,7 +162,10 @@ entered_own : (stop : Option (Text × List Text)) → IsNotHelp stop → is_some
 entered_own None other some = absurd (cc)
 entered_own (Some p) other some =
     let subs = (built sirob_app).subs in
-    first_met NamesMode p.0 p.1 (slice_index_or subs 0 help_shape) (slice_index_or subs 1 help_shape) (Run, refl) (no_help p.0 other) some
+    let check = slice_index_or subs 0 help_shape in
+    let run = slice_index_or subs 1 help_shape in
+    let Named : Shape → Type 0 = λ s. NamesMode (Some (rows_at s p.1)) in
+    own_met NamesMode p.0 p.1 (check ∷ run ∷ []) (slice_index_or subs 2 help_shape) (All-cons Named check (run ∷ []) (Check, refl) (All-cons Named run [] (Run, refl) (All-nil Named))) (no_help p.0 other) some
 
 pub names_mode : (words : List Text) → fault_of sirob_app words ≡ [] → NamesMode (subcommand_of sirob_app words)
 names_mode words none =

@@ -15,12 +15,12 @@ use Rattle.prog_tree.specs.declared.deed.End.TheVariants.{Ready}
 use Rattle.prog_tree.specs.declared.deed.End.TheVariants as run
 use Rattle.prog_tree.specs.declared.program.Draft.{Draft}
 use Rattle.prog_tree.specs.declared.program.Program.{Program}
-use Rattle.prog_tree.specs.Tree.{draft_tree, program_tree, block_tree}
-use Rattle.sirob.specs.Straight.{IsStraight, IsStraightSet}
+use Rattle.prog_tree.specs.Tree.{draft_tree, program_tree}
 use Rattle.prog_tree.specs.ChangeSet.{changed}
 use Rattle.prog_tree.specs.Evaluation.{eval, Evaluation}
 use Rattle.prog_tree.specs.Syntax.{ProgramTree, DraftTree}
 use Rattle.prog_tree.specs.Table.{TableState}
+use Rattle.prog_run.specs.View.{begin_fault}
 use Rattle.sirob.specs.Clash.{clash_of}
 use Rattle.sirob.specs.History.{commits_of, evaluation, state_after, IsLawful}
 use Rattle.sirob.specs.Machine.{Begun, Machine, at_begin, stepped, with_begun, if_active, with_active, active_of, begin_by, commit_by, machine_step, at_end, next_of}
@@ -47,22 +47,19 @@ clash_here bs held cs commits x old o p found clash same_held same_commits same 
     ∙ ap (λ ks. clash_of (written_by (map known_of held) ks) x.instance.start x.evaluated.changes) same_commits
     ∙ ap (λ (h : Held). clash_of (written_by (map known_of held) commits) h.instance.start h.evaluated.changes) same
 
--- the program of a number, and that it is straight
-pub program_at :
-    (set_of : Draft) (n : ℕ) (p : Program) → n < length set_of.programs.items → p ≡ get_or set_of.programs.items n p →
-    slice_get (draft_tree set_of).programs n ≡ Some (program_tree p)
-program_at set_of n p within is =
-    slice_get-map program_tree set_of.programs.items n
-    ∙ ap (option_map program_tree) (slice_get-get_or set_of.programs.items n p within ∙ ap (λ (x : Program). Some x) (sym is))
+-- the item of a number
+pub item_at : (items : List Program) (n : ℕ) (p : Program) → n < length items → p ≡ get_or items n p → slice_get items n ≡ Some p
+item_at items n p within is = slice_get-get_or items n p within ∙ ap (λ (x : Program). Some x) (sym is)
 
-pub straight_at :
-    (set_of : Draft) (n : ℕ) (p : Program) → IsStraightSet (draft_tree set_of) → n < length set_of.programs.items → p ≡ get_or set_of.programs.items n p →
-    IsStraight (block_tree p.body)
-straight_at set_of n p straight within is =
-    let P : ProgramTree → Type 0 = λ x. IsStraight x.body in
-    let inside : n < length (map program_tree set_of.programs.items) = rw (length-map set_of.programs.items program_tree) within in
-    subst P (get_or-map program_tree set_of.programs.items n p (program_tree p) within ∙ ap program_tree (sym is))
-    (All-get_or P (map program_tree set_of.programs.items) n (program_tree p) inside straight)
+-- the program of a number
+pub program_at : (set_of : Draft) (n : ℕ) (p : Program) → slice_get set_of.programs.items n ≡ Some p → slice_get (draft_tree set_of).programs n ≡ Some (program_tree p)
+program_at set_of n p found = slice_get-map program_tree set_of.programs.items n ∙ ap (option_map program_tree) found
+
+-- a begin with as many arguments as the program has parameters is not refused
+pub no_begin_fault : (found : Option Program) (p : Program) (args : List ℤ) → found ≡ Some p → length p.params.items ≡ length args → begin_fault found args ≡ None
+no_begin_fault found p args is same =
+    let fits : (length p.params.items == length args) ≡ true = grind (arith, nat_tests) in
+    ap (λ (f : Option Program). begin_fault f args) is ∙ (rw fits refl)
 
 -- a begin of a program that is there, with as many arguments as it has parameters
 begin_found :
@@ -249,9 +246,8 @@ module _ (set_of : DraftTree) (opening : TableState) where
       ∙ commit_of held commits i old None kept within is active ready none
 
   -- the fields are as they should be where nothing has begun,
-  pub kept-open : IsStraightSet set_of → IsKept set_of opening [] []
-  kept-open straight = record {
-    straight = straight;
+  pub kept-open : IsKept set_of opening [] []
+  kept-open = record {
     sound = record {
       members = All-nil (λ (commit : Commit). commit.instance < 0);
       evaluated = All-nil (IsKnown set_of opening []);
@@ -269,7 +265,6 @@ module _ (set_of : DraftTree) (opening : TableState) where
   kept-set held commits i old h kept within is known ready =
       let same : map known_of (set held i h) ≡ map known_of held = map-set_same known_of held i h old (known ∙ ap known_of is) in
       record {
-        straight = kept.straight;
         sound = subst (λ ks. IsSound set_of opening ks commits) (sym same) kept.sound;
         ready = All-set EndsReady held i h (ready (ready_here held commits i old kept within is)) kept.ready;
         lawful = subst (λ ks. IsLawful set_of opening (history_of ks commits)) (sym same) kept.lawful;
@@ -293,7 +288,6 @@ module _ (set_of : DraftTree) (opening : TableState) where
       } in
       let history = ap (λ (m : Machine). m.history) (machine-begin held commits h (members_in held commits kept) active) in
       record {
-        straight = kept.straight;
         sound =
             subst (λ ks. IsSound set_of opening ks commits) (sym (map-append known_of held (h ∷ [])))
             (sound-begin set_of opening (map known_of held) commits (known_of h) kept.sound here);
@@ -322,7 +316,6 @@ module _ (set_of : DraftTree) (opening : TableState) where
       ∙ ap (λ (e : Evaluation). clash_of (written_by known commits) old.instance.start e.changes) (sym seen.evaluated)
       ∙ sym none in
       record {
-        straight = kept.straight;
         sound =
             sound-commit set_of opening known commits commit kept.sound inside
             (changes ∙ ap (λ (k : Known). changed (last_state opening commits) k.1.changes.cells) (sym here));

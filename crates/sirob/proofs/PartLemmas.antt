@@ -68,6 +68,12 @@ one_more_line bs line at same first plain front =
     same ∙ ap (before_parts (take at bs)) next ∙ before_parts-twice (take at bs) line _ ∙ (λ i. before_parts (grown i) (parts_of (behind i)))
 
 -- what stands behind a separator has a part of its own
+pub two_parts : (all p : List ℕ) (o : Option (Bor (List ℕ))) → MatchOption o (parts_of all ≡ p ∷ []) (λ b. parts_of all ≡ p ∷ parts_of b.now) → is_some o ≡ true
+    → 1 < length (parts_of all)
+two_parts all p None first some = cc
+two_parts all p (Some b) first some = omega (arith, ap length first, parts_of-some b.now)
+
+-- and a second separator makes a third part
 pub three_parts : (all p q : List ℕ) (r : Bor (List ℕ)) (o more : Option (Bor (List ℕ))) → o ≡ Some r
     → MatchOption o (parts_of all ≡ p ∷ []) (λ b. parts_of all ≡ p ∷ parts_of b.now)
     → MatchOption more (parts_of r.now ≡ q ∷ []) (λ b. parts_of r.now ≡ q ∷ parts_of b.now) → is_some more ≡ true → 2 < length (parts_of all)

@@ -1,6 +1,8 @@
 -- Laws on how a run stops, and on what is then written.
-use Rattle.std.proofs.Common.{◌≡◌, ◌<◌, ◌≤◌, Bool, true, false, List, [], ℕ, length, Option, Some, None, Result, Ok, Err, IfOk, IfErr, IsErr, IfSome, refl, sym, subst, ◌∙◌}
+use Rattle.std.proofs.Common.{◌≡◌, ◌<◌, ◌≤◌, Bool, true, false, List, [], ◌∷◌, ℕ, length, Option, Some, None, Result, Ok, Err, IfOk, IfErr, IsErr, IfSome, refl, sym, subst, ◌∙◌}
 use Rattle.prog_tree.specs.Syntax.{DraftTree}
+use Rattle.sirob.specs.declared.command_line.Mode.{Mode}
+use Rattle.sirob.specs.declared.command_line.Mode.TheVariants.{Check, Run}
 use Rattle.sirob.specs.declared.run_fault.RunFault.{RunFault}
 use Rattle.sirob.specs.declared.run_fault.RunFault.TheVariants as fault
 use Rattle.sirob.specs.declared.source.InputFault.{InputFault}
@@ -8,8 +10,6 @@ use Rattle.sirob.specs.declared.source.InputFault.TheVariants as i
 use Rattle.sirob.specs.declared.status.Status.{Status}
 use Rattle.sirob.specs.declared.status.Status.TheVariants as status
 use Rattle.sirob.specs.FaultLines.{fault_line, is_memory}
-use Rattle.prog_text.specs.Answer.{Accepts}
-use Rattle.prog_check.specs.Faults.{first_fault}
 use Rattle.sirob.specs.declared.script.Script.{Script}
 use Rattle.sirob.specs.declared.script_fault.ScriptFault.{ScriptFault}
 use Rattle.sirob.specs.declared.script_fault.ScriptFault.TheVariants as s
@@ -17,39 +17,39 @@ use Rattle.sirob.specs.Commands.{Fails}
 use Rattle.sirob.specs.Script.{script_of}
 use Rattle.sirob.specs.Faults.{IsOfReading, IsOfDividing}
 use Rattle.sirob.specs.Parts.{parts_of}
-use Rattle.sirob.specs.Output.{input_limit, run_lines, AddsFirst, IsRun, IsDivided, Runs, RunsFirst, IsRefused, IsRefusedText, IsStop, StopsBehind, at_once, behind_lines, memory_line, IsAnswer, done, refused, stopped, Ends, well, in_fault, in_fault_untold, in_memory, IsUnread, IsJust, Writes, IsReadFault}
+use Rattle.sirob.specs.Output.{input_limit, parts_wanted, run_lines, AddsFirst, IsRun, IsDivided, IsSoundText, HasText, Gives, IsRefused, IsRefusedText, IsRefusedScript, IsStop, StopsBehind, at_once, behind_lines, memory_line, IsAnswer, done, refused, stopped, Ends, well, in_fault, in_fault_untold, in_memory, IsUnread, IsJust, Writes, IsReadFault}
 use Rattle.sirob.specs.Output as u
 
 -- a fault of the input stands before the first line
-pub stops_at_once : (input : List ℕ) (f : RunFault) → (is_memory f ≡ false → IsRefused input f) → IsStop input f []
-stops_at_once input f h = ((λ no_memory. (h no_memory, refl)), (λ memory. at_once))
+pub stops_at_once : (mode : Mode) (input : List ℕ) (f : RunFault) → (is_memory f ≡ false → IsRefused mode input f) → IsStop mode input f []
+stops_at_once mode input f h = ((λ no_memory. (h no_memory, refl)), (λ memory. at_once))
 
 -- reading stopped
 pub stops_reading :
-    (f : InputFault) (left : Option (List ℕ)) (failed : Bool) → IsOfReading f
+    (mode : Mode) (f : InputFault) (left : Option (List ℕ)) (failed : Bool) → IsOfReading f
     → (f ≡ i.TooLong → IfSome left (λ all. 16777216 < length all)) → (f ≡ i.ReadFault → failed ≡ true) → failed ≡ false
-    → IfSome left (λ input. IsStop input (fault.Input f) [])
-stops_reading f None failed kind long fails works = tt
-stops_reading i.MissingPart (Some input) failed kind long fails works = absurd kind
-stops_reading i.ExtraPart (Some input) failed kind long fails works = absurd kind
-stops_reading i.TooLong (Some input) failed kind long fails works = stops_at_once input (fault.Input i.TooLong) (λ e. long refl)
-stops_reading i.ReadFault (Some input) failed kind long fails works =
+    → IfSome left (λ input. IsStop mode input (fault.Input f) [])
+stops_reading mode f None failed kind long fails works = tt
+stops_reading mode i.MissingPart (Some input) failed kind long fails works = absurd kind
+stops_reading mode i.ExtraPart (Some input) failed kind long fails works = absurd kind
+stops_reading mode i.TooLong (Some input) failed kind long fails works = stops_at_once mode input (fault.Input i.TooLong) (λ e. long refl)
+stops_reading mode i.ReadFault (Some input) failed kind long fails works =
     let never : true ≡ false = sym (fails refl) ∙ works in absurd (cc)
-stops_reading i.Memory (Some input) failed kind long fails works = stops_at_once input (fault.Input i.Memory) (λ e. absurd (cc))
+stops_reading mode i.Memory (Some input) failed kind long fails works = stops_at_once mode input (fault.Input i.Memory) (λ e. absurd (cc))
 
 -- the answer to a run's end
-answered : (input lines : List ℕ) (ended : Result (Unit {0}) RunFault) (written : List ℕ) (status : Status)
-    → IfOk ended (λ x. Runs input lines) → IfErr ended (λ f. IsStop input f lines) → Ends lines ended written status → IsAnswer input written status
-answered input lines _ _ _ runs stops well = done lines runs
-answered input lines _ _ _ runs stops (in_fault f no_memory) = refused f no_memory (stops.0 no_memory).0
-answered input lines _ _ _ runs stops (in_fault_untold f no_memory) = stopped [] at_once
-answered input lines _ _ _ runs stops (in_memory f memory) = stopped lines (stops.1 memory)
+answered : (mode : Mode) (input lines : List ℕ) (ended : Result (Unit {0}) RunFault) (written : List ℕ) (status : Status)
+    → IfOk ended (λ x. Gives mode input lines) → IfErr ended (λ f. IsStop mode input f lines) → Ends lines ended written status → IsAnswer mode input written status
+answered mode input lines _ _ _ runs stops well = done lines runs
+answered mode input lines _ _ _ runs stops (in_fault f no_memory) = refused f no_memory (stops.0 no_memory).0
+answered mode input lines _ _ _ runs stops (in_fault_untold f no_memory) = stopped [] at_once
+answered mode input lines _ _ _ runs stops (in_memory f memory) = stopped lines (stops.1 memory)
 
-pub answers : (left : Option (List ℕ)) (lines : List ℕ) (ended : Result (Unit {0}) RunFault) (old new : Option (List ℕ)) (status : Status)
-    → IfOk ended (λ x. IfSome left (λ input. Runs input lines)) → IfErr ended (λ f. IfSome left (λ input. IsStop input f lines))
-    → Writes (Ends lines ended) old new status → IfSome left (λ input. Writes (IsAnswer input) old new status)
-answers None lines ended old new status runs stops written = tt
-answers (Some input) lines ended old new status runs stops (written, ends, appends) = (written, answered input lines ended written status runs stops ends, appends)
+pub answers : (mode : Mode) (left : Option (List ℕ)) (lines : List ℕ) (ended : Result (Unit {0}) RunFault) (old new : Option (List ℕ)) (status : Status)
+    → IfOk ended (λ x. IfSome left (λ input. Gives mode input lines)) → IfErr ended (λ f. IfSome left (λ input. IsStop mode input f lines))
+    → Writes (Ends lines ended) old new status → IfSome left (λ input. Writes (IsAnswer mode input) old new status)
+answers mode None lines ended old new status runs stops written = tt
+answers mode (Some input) lines ended old new status runs stops (written, ends, appends) = (written, answered mode input lines ended written status runs stops ends, appends)
 
 unread : (lines : List ℕ) (ended : Result (Unit {0}) RunFault) (written : List ℕ) (status : Status)
     → IsReadFault ended → Ends lines ended written status → IsUnread written status
@@ -82,38 +82,42 @@ pub fault_written : (lines : List ℕ) (f : RunFault) (old new : Option (List �
 fault_written lines f old new status no_memory (written, ends, appends) = (written, fault_ends lines (Err f) written status no_memory ends refl, appends)
 
 -- dividing stopped
-pub refuses_parts : (input : List ℕ) (f : InputFault) → length input ≤ input_limit
-    → (f ≡ i.MissingPart → length (parts_of input) ≡ 1) → (f ≡ i.ExtraPart → 2 < length (parts_of input))
-    → IsOfDividing f → IsRefused input (fault.Input f)
-refuses_parts input i.MissingPart short missing extra kind = (short, missing refl)
-refuses_parts input i.ExtraPart short missing extra kind = (short, extra refl)
-refuses_parts input i.TooLong short missing extra kind = absurd kind
-refuses_parts input i.ReadFault short missing extra kind = absurd kind
-refuses_parts input i.Memory short missing extra kind = absurd kind
+pub refuses_parts : (mode : Mode) (input : List ℕ) (f : InputFault) → length input ≤ input_limit
+    → (f ≡ i.MissingPart → length (parts_of input) < parts_wanted mode) → (f ≡ i.ExtraPart → parts_wanted mode < length (parts_of input))
+    → IsOfDividing f → IsRefused mode input (fault.Input f)
+refuses_parts mode input i.MissingPart short missing extra kind = (short, missing refl)
+refuses_parts mode input i.ExtraPart short missing extra kind = (short, extra refl)
+refuses_parts mode input i.TooLong short missing extra kind = absurd kind
+refuses_parts mode input i.ReadFault short missing extra kind = absurd kind
+refuses_parts mode input i.Memory short missing extra kind = absurd kind
 
 -- reading the text stopped
-pub refuses_text : (input text part : List ℕ) (f : RunFault) → IsDivided input text part → IsRefusedText text f → IsRefused input f
-refuses_text input text part (fault.Text f) divided r = (text, part, divided, r)
-refuses_text input text part (fault.Check f) divided r = (text, part, divided, r)
-refuses_text input text part (fault.Input f) divided r = absurd r
-refuses_text input text part (fault.Script f) divided r = absurd r
+pub refuses_text : (mode : Mode) (input text : List ℕ) (f : RunFault) → HasText mode input text → IsRefusedText text f → IsRefused mode input f
+refuses_text mode input text (fault.Text f) has r = (text, has, r)
+refuses_text mode input text (fault.Check f) has r = (text, has, r)
+refuses_text mode input text (fault.Input f) has r = absurd r
+refuses_text mode input text (fault.Script f) has r = absurd r
 
 -- reading the script stopped
 pub refuses_script : (input text part : List ℕ) (set : DraftTree) (f : ScriptFault) (read : Result Script ScriptFault)
-    → IsDivided input text part → Accepts text set → first_fault set ≡ None → read ≡ script_of set part → Fails f read
-    → is_memory (fault.Script f) ≡ false → IsRefused input (fault.Script f)
-refuses_script input text part set s.Memory read divided accepted sound is fails no_memory = absurd (cc)
-refuses_script input text part set (s.BadLine line) read divided accepted sound is fails no_memory = (text, part, set, divided, accepted, sound, sym is ∙ fails)
-refuses_script input text part set (s.UnknownName line) read divided accepted sound is fails no_memory = (text, part, set, divided, accepted, sound, sym is ∙ fails)
-refuses_script input text part set (s.WrongKeys line) read divided accepted sound is fails no_memory = (text, part, set, divided, accepted, sound, sym is ∙ fails)
-refuses_script input text part set (s.LateRow line) read divided accepted sound is fails no_memory = (text, part, set, divided, accepted, sound, sym is ∙ fails)
-refuses_script input text part set (s.RepeatedRow line) read divided accepted sound is fails no_memory = (text, part, set, divided, accepted, sound, sym is ∙ fails)
-refuses_script input text part set (s.TooManyEvents line) read divided accepted sound is fails no_memory = (text, part, set, divided, accepted, sound, sym is ∙ fails)
+    → IsDivided input (text ∷ part ∷ []) → IsSoundText text set → read ≡ script_of set part → Fails f read
+    → is_memory (fault.Script f) ≡ false → IsRefusedScript Run input f
+refuses_script input text part set s.Memory read divided spelled is fails no_memory = absurd (cc)
+refuses_script input text part set (s.BadLine line) read divided spelled is fails no_memory = (text, part, set, divided, spelled, sym is ∙ fails)
+refuses_script input text part set (s.UnknownName line) read divided spelled is fails no_memory = (text, part, set, divided, spelled, sym is ∙ fails)
+refuses_script input text part set (s.WrongKeys line) read divided spelled is fails no_memory = (text, part, set, divided, spelled, sym is ∙ fails)
+refuses_script input text part set (s.LateRow line) read divided spelled is fails no_memory = (text, part, set, divided, spelled, sym is ∙ fails)
+refuses_script input text part set (s.RepeatedRow line) read divided spelled is fails no_memory = (text, part, set, divided, spelled, sym is ∙ fails)
+refuses_script input text part set (s.TooManyEvents line) read divided spelled is fails no_memory = (text, part, set, divided, spelled, sym is ∙ fails)
 
 -- the script's lines stopped
 pub stops_running : (input written : List ℕ) (set : DraftTree) (script : Script) → IsRun input set script → AddsFirst (run_lines set script) [] written
-    → IsStop input (fault.Input i.Memory) written
-stops_running input written set script run first = ((λ no_memory. absurd (cc)), (λ memory. behind_lines written (set, script, run, first)))
+    → IsStop Run input (fault.Input i.Memory) written
+stops_running input written set script run first = ((λ no_memory. absurd (cc)), (λ memory. behind_lines written (run_lines set script, (set, script, run, refl), first)))
+
+-- the canonical text could not be made
+pub stops_printing : (input : List ℕ) → IsStop Check input (fault.Input i.Memory) []
+stops_printing input = ((λ no_memory. absurd (cc)), (λ memory. at_once))
 
 -- a premise of a clause on a fault
 pub given_err : {T E P : Type 0} (Q : E → Type 0) (r : Result T E) → IfErr r (λ e. P → Q e) → P → IfErr r Q

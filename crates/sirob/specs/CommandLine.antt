@@ -3,7 +3,7 @@ use Rattle.std.specs.Prelude.{◌≡◌, List, [], Option, Some, true, codes, op
 use Rattle.clap.specs.Walk.{Rule, Row, Text}
 use Rattle.clap.specs.Simple.{App, Shape, new_shape, with_subcommand}
 use Rattle.sirob.specs.declared.command_line.Mode.{Mode}
-use Rattle.sirob.specs.declared.command_line.Mode.TheVariants.{Run}
+use Rattle.sirob.specs.declared.command_line.Mode.TheVariants.{Check, Run}
 
 -- a subcommand with these arguments
 abbrev pub command_with : Text → List Rule → Shape
@@ -13,8 +13,9 @@ command_with name rules = record (new_shape name) { rules = rules }
 abbrev pub top_app : App
 top_app = record { top = record (new_shape (codes "sirob")) { subcommand_required = true }; subs = [] }
 
+-- and with its subcommands
 abbrev pub sirob_app : App
-sirob_app = with_subcommand top_app (command_with (codes "run") [])
+sirob_app = with_subcommand (with_subcommand top_app (command_with (codes "check") [])) (command_with (codes "run") [])
 
 -- the name of the subcommand
 abbrev pub name_in : Option (Text × List Row) → Option Text
@@ -22,6 +23,7 @@ name_in = option_map (λ p. p.0)
 
 -- the mode that a subcommand with its arguments names
 abbrev pub IsNamedBy : Mode → Option (Text × List Row) → Type 0
+IsNamedBy Check command = name_in command ≡ Some (codes "check")
 IsNamedBy Run command = name_in command ≡ Some (codes "run")
 
 -- the subcommand is one of the program's own

@@ -10,9 +10,7 @@ pub mod Numbers
 pub mod Output
 pub mod Parts
 pub mod Printed
-pub mod Running
 pub mod Script
 pub mod Status
-pub mod Straight
 pub mod View
 pub mod Writing

@@ -1,15 +1,19 @@
--- What a run writes.
+-- What the commands write.
 use Rattle.std.specs.Prelude.{◌≡◌, ℕ, true, false, ◌<◌, ◌≤◌, List, [], ◌∷◌, ◌++◌, length, map, codes, Option, Some, None, Result, Ok, Err}
 use Rattle.std.specs.Io.KnownBytes.{Appends}
 use Rattle.std.specs.List.{concat}
 use Rattle.prog_tree.specs.Syntax.{DraftTree}
 use Rattle.prog_tree.specs.Table.{TableState}
 use Rattle.prog_text.specs.Answer.{Accepts, Refuses}
+use Rattle.prog_text.specs.Canonical.{canonical}
 use Rattle.prog_check.specs.Faults.{first_fault}
+use Rattle.sirob.specs.declared.command_line.Mode.{Mode}
+use Rattle.sirob.specs.declared.command_line.Mode.TheVariants.{Check, Run}
 use Rattle.sirob.specs.declared.event.Event.{Event}
 use Rattle.sirob.specs.declared.run_fault.RunFault.{RunFault}
 use Rattle.sirob.specs.declared.run_fault.RunFault.TheVariants as fault
 use Rattle.sirob.specs.declared.script.Script.{Script}
+use Rattle.sirob.specs.declared.script_fault.ScriptFault.{ScriptFault}
 use Rattle.sirob.specs.declared.source.InputFault.TheVariants as input_fault
 use Rattle.sirob.specs.declared.status.Status.{Status}
 use Rattle.sirob.specs.declared.status.Status.TheVariants.{Done, Faulty, Memory}
@@ -19,6 +23,8 @@ use Rattle.sirob.specs.Machine.{Machine, started, machine_step, machine_after}
 use Rattle.sirob.specs.Parts.{parts_of}
 use Rattle.sirob.specs.Printed.{reply_line, row_line}
 use Rattle.sirob.specs.Script.{script_of}
+
+-- ---- the lines of a script
 
 -- one line for each event that the machine is handed: what it answers
 abbrev pub event_lines : DraftTree → TableState → List Event → Machine → List (List ℕ)
@@ -40,23 +46,47 @@ abbrev pub run_lines : DraftTree → Script → List (List ℕ)
 run_lines set script =
     event_lines set script.rows script.events started ++ row_lines set (state_of set script.rows (machine_after set script.rows script.events started))
 
+-- ---- what an input means
+
 -- the greatest length of the input
 abbrev pub input_limit : ℕ
 input_limit = 16777216
 
--- the input has two parts, a text and a script
-pub record IsDivided (input text script : List ℕ) : Type 0 where
+-- how many parts a command wants
+abbrev pub parts_wanted : Mode → ℕ
+parts_wanted Check = 1
+parts_wanted Run = 2
+
+-- the input has just these parts
+pub record IsDivided (input : List ℕ) (parts : List (List ℕ)) : Type 0 where
   pub short : length input ≤ input_limit
-  pub parts : parts_of input ≡ text ∷ script ∷ []
+  pub same : parts_of input ≡ parts
+
+-- the text spells this set, which has no fault
+pub record IsSoundText (text : List ℕ) (set : DraftTree) : Type 0 where
+  pub accepted : Accepts text set
+  pub sound : first_fault set ≡ None
+
+-- the input is the text of a set without a fault
+pub record IsChecked (input : List ℕ) (set : DraftTree) : Type 0 where
+  pub text : List ℕ
+  pub divided : IsDivided input (text ∷ [])
+  pub spelled : IsSoundText text set
 
 -- the input is the text of a set without a fault, and a script for it without one
 pub record IsRun (input : List ℕ) (set : DraftTree) (script : Script) : Type 0 where
   pub text : List ℕ
   pub part : List ℕ
-  pub divided : IsDivided input text part
-  pub accepted : Accepts text set
-  pub sound : first_fault set ≡ None
+  pub divided : IsDivided input (text ∷ part ∷ [])
+  pub spelled : IsSoundText text set
   pub read : script_of set part ≡ Ok script
+
+-- what a command writes for an input without a fault, in pieces: the canonical text, or a script's lines
+abbrev pub Means : Mode → List ℕ → List (List ℕ) → Type 0
+Means Check input pieces = (set : DraftTree) × IsChecked input set × (pieces ≡ canonical set ∷ [])
+Means Run input pieces = (set : DraftTree) × (script : Script) × IsRun input set script × (pieces ≡ run_lines set script)
+
+-- ---- the faults of an input
 
 -- the text spells no set without a fault, and this is its first
 abbrev pub IsRefusedText : List ℕ → RunFault → Type 0
@@ -64,15 +94,27 @@ IsRefusedText text (fault.Text f) = Refuses text f
 IsRefusedText text (fault.Check f) = (set : DraftTree) × Accepts text set × (first_fault set ≡ Some f)
 IsRefusedText text f = ⊥
 
--- the first fault of the input
-abbrev pub IsRefused : List ℕ → RunFault → Type 0
-IsRefused input (fault.Input input_fault.TooLong) = input_limit < length input
-IsRefused input (fault.Input input_fault.MissingPart) = (length input ≤ input_limit) × (length (parts_of input) ≡ 1)
-IsRefused input (fault.Input input_fault.ExtraPart) = (length input ≤ input_limit) × (2 < length (parts_of input))
-IsRefused input (fault.Input f) = ⊥
-IsRefused input (fault.Script f) =
-    (text : List ℕ) × (part : List ℕ) × (set : DraftTree) × IsDivided input text part × Accepts text set × (first_fault set ≡ None) × (script_of set part ≡ Err f)
-IsRefused input f = (text : List ℕ) × (part : List ℕ) × IsDivided input text part × IsRefusedText text f
+-- the input has the parts that the command wants, and this text is the first
+abbrev pub HasText : Mode → List ℕ → List ℕ → Type 0
+HasText Check input text = IsDivided input (text ∷ [])
+HasText Run input text = (part : List ℕ) × IsDivided input (text ∷ part ∷ [])
+
+-- the text is that of a set without a fault, and this is the first of the script
+abbrev pub IsRefusedScript : Mode → List ℕ → ScriptFault → Type 0
+IsRefusedScript Check input f = ⊥
+IsRefusedScript Run input f =
+    (text : List ℕ) × (part : List ℕ) × (set : DraftTree) × IsDivided input (text ∷ part ∷ []) × IsSoundText text set × (script_of set part ≡ Err f)
+
+-- the first fault of an input
+abbrev pub IsRefused : Mode → List ℕ → RunFault → Type 0
+IsRefused mode input (fault.Input input_fault.TooLong) = input_limit < length input
+IsRefused mode input (fault.Input input_fault.MissingPart) = (length input ≤ input_limit) × (length (parts_of input) < parts_wanted mode)
+IsRefused mode input (fault.Input input_fault.ExtraPart) = (length input ≤ input_limit) × (parts_wanted mode < length (parts_of input))
+IsRefused mode input (fault.Input f) = ⊥
+IsRefused mode input (fault.Script f) = IsRefusedScript mode input f
+IsRefused mode input f = (text : List ℕ) × HasText mode input text × IsRefusedText text f
+
+-- ---- what is written
 
 -- lines were added to a text
 abbrev pub Adds : List (List ℕ) → List ℕ → List ℕ → Type 0
@@ -82,37 +124,37 @@ Adds lines before after = after ≡ before ++ concat lines
 abbrev pub AddsFirst : List (List ℕ) → List ℕ → List ℕ → Type 0
 AddsFirst lines before after = (done : List (List ℕ)) × (rest : List (List ℕ)) × (lines ≡ done ++ rest) × Adds done before after
 
--- the lines of the input's script
-abbrev pub Runs : List ℕ → List ℕ → Type 0
-Runs input written = (set : DraftTree) × (script : Script) × IsRun input set script × Adds (run_lines set script) [] written
+-- what the input means was written
+abbrev pub Gives : Mode → List ℕ → List ℕ → Type 0
+Gives mode input written = (pieces : List (List ℕ)) × Means mode input pieces × Adds pieces [] written
 
--- some first of the lines of the input's script
-abbrev pub RunsFirst : List ℕ → List ℕ → Type 0
-RunsFirst input written = (set : DraftTree) × (script : Script) × IsRun input set script × AddsFirst (run_lines set script) [] written
+-- some first pieces of it were written
+abbrev pub GivesFirst : Mode → List ℕ → List ℕ → Type 0
+GivesFirst mode input written = (pieces : List (List ℕ)) × Means mode input pieces × AddsFirst pieces [] written
 
--- memory ran out: before the first event, or behind some first of the script's lines
-pub data StopsBehind (input : List ℕ) : List ℕ → Type 0 where
-  at_once : StopsBehind input []
-  behind_lines : (written : List ℕ) → RunsFirst input written → StopsBehind input written
+-- memory ran out: before the first piece was known, or behind some first pieces
+pub data StopsBehind (mode : Mode) (input : List ℕ) : List ℕ → Type 0 where
+  at_once : StopsBehind mode input []
+  behind_lines : (written : List ℕ) → GivesFirst mode input written → StopsBehind mode input written
 
--- a run stopped with this fault behind these lines: a fault of the input comes before them all
-abbrev pub IsStop : List ℕ → RunFault → List ℕ → Type 0
-IsStop input f written =
-    (is_memory f ≡ false → IsRefused input f × (written ≡ []))
-    × (is_memory f ≡ true → StopsBehind input written)
+-- a command stopped with this fault behind these bytes: a fault of the input comes before them all
+abbrev pub IsStop : Mode → List ℕ → RunFault → List ℕ → Type 0
+IsStop mode input f written =
+    (is_memory f ≡ false → IsRefused mode input f × (written ≡ []))
+    × (is_memory f ≡ true → StopsBehind mode input written)
 
 -- the line of want of memory
 abbrev pub memory_line : List ℕ
 memory_line = codes "fault memory" ++ 10 ∷ []
 
 -- what may be written for an input, and the status behind it
-pub data IsAnswer (input : List ℕ) : List ℕ → Status → Type 0 where
-  -- the lines of the script
-  done : (written : List ℕ) → Runs input written → IsAnswer input written Done
+pub data IsAnswer (mode : Mode) (input : List ℕ) : List ℕ → Status → Type 0 where
+  -- all that the input means
+  done : (written : List ℕ) → Gives mode input written → IsAnswer mode input written Done
   -- the line of the first fault, alone
-  refused : (f : RunFault) → is_memory f ≡ false → IsRefused input f → IsAnswer input (fault_line f) Faulty
-  -- some first of the script's lines, or none, and the line of want of memory
-  stopped : (written : List ℕ) → StopsBehind input written → IsAnswer input (written ++ memory_line) Memory
+  refused : (f : RunFault) → is_memory f ≡ false → IsRefused mode input f → IsAnswer mode input (fault_line f) Faulty
+  -- some first pieces of it, or none, and the line of want of memory
+  stopped : (written : List ℕ) → StopsBehind mode input written → IsAnswer mode input (written ++ memory_line) Memory
 
 -- what is written of a source that failed, and the status behind it
 pub data IsUnread : List ℕ → Status → Type 0 where
@@ -120,10 +162,10 @@ pub data IsUnread : List ℕ → Status → Type 0 where
   stopped : IsUnread memory_line Memory
 
 -- the one fault of a source that failed
-abbrev pub IsReadFault : Result (Unit {0}) RunFault → Type 0
+abbrev pub IsReadFault : {X : Type 0} → Result X RunFault → Type 0
 IsReadFault ended = ended ≡ Err (fault.Input input_fault.ReadFault)
 
--- what is written of a run that has left these lines and ended so, and the status behind it; of a fault, memory may lack for its line
+-- what is written of a command that has left these bytes and ended so, and the status behind it; of a fault, memory may lack for its line
 pub data Ends (lines : List ℕ) : Result (Unit {0}) RunFault → List ℕ → Status → Type 0 where
   well : Ends lines (Ok tt) lines Done
   in_fault : (f : RunFault) → is_memory f ≡ false → Ends lines (Err f) (fault_line f) Faulty

@@ -9,7 +9,6 @@ use Rattle.prog_tree.specs.Syntax.{DraftTree}
 use Rattle.prog_tree.specs.Table.{TableState}
 use Rattle.sirob.specs.History.{IsLawful, nothing, commits_of, evaluation}
 use Rattle.sirob.specs.Machine.{Begun, Machine}
-use Rattle.sirob.specs.Straight.{IsStraightSet}
 use Rattle.sirob.specs.declared.instance.Instance.{Instance}
 use Rattle.sirob.specs.declared.instance.Held.{Held}
 use Rattle.sirob.specs.declared.instance.Commit.{Commit}
@@ -75,7 +74,6 @@ abbrev pub EndsReady : Held → Type 0
 EndsReady held = held.ready ≡ true → held.evaluated.ending ≡ Ready
 
 pub record IsKept (set : DraftTree) (opening : TableState) (held : List Held) (commits : List Commit) : Type 0 where
-  pub straight : IsStraightSet set
   pub sound : IsSound set opening (map known_of held) commits
   pub ready : All EndsReady held
   pub lawful : IsLawful set opening (history_of (map known_of held) commits)

@@ -25,7 +25,7 @@ fn touched_cells(alloc: Global, changes: &Changes) -> Result<BTreeSet<Cell>, All
 }
 
 // The number of the last commit above the start that changed or kept the cell, or 0.
-fn last_touch_above(begun: &[Held], commits: &[Commit], start: usize, cell: &Cell) -> usize
+fn last_touch_above(begun: &[Held<'_>], commits: &[Commit], start: usize, cell: &Cell) -> usize
     requires members { All (λ commit. commit.instance < length begun.now) commits.now }
     requires before { start ≤ length commits.now }
     ensures { result ≡ last_touch cell.now (start + 1) (drop start (written_by (map known_of begun.now) commits.now)) }
@@ -43,9 +43,9 @@ fn last_touch_above(begun: &[Held], commits: &[Commit], start: usize, cell: &Cel
 /// The first of the cells that the instance changes or keeps and that a commit above its start did, with the last such commit's number.
 pub fn first_clash(
     alloc: Global,
-    begun: &[Held],
+    begun: &[Held<'_>],
     commits: &[Commit],
-    held: &Held,
+    held: &Held<'_>,
 ) -> Result<Option<(Cell, usize)>, AllocError>
     requires members { All (λ commit. commit.instance < length begun.now) commits.now }
     requires before { held.now.instance.start ≤ length commits.now }

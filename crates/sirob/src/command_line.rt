@@ -10,6 +10,7 @@ use std::alloc::{AllocError, Global};
 /// What the program is asked to do.
 #[derive(Clone, Copy, Debug, PartialEq, Eq)]
 pub enum Mode {
+    Check,
     Run,
 }
 
@@ -27,7 +28,7 @@ fn top<'a>(alloc: Global) -> Result<Command<'a>, AllocError>
 {
     Command::new(alloc, "sirob")
         .about(
-            "Runs transaction programs under snapshot isolation, from standard input to standard output",
+            "Checks and runs transaction programs under snapshot isolation, from standard input to standard output",
         )
         .subcommand_required(true)
         .bin_name("sirob")
@@ -43,12 +44,18 @@ fn add<'a>(above: Command<'a>, sub: Command<'a>) -> Result<Command<'a>, AllocErr
 fn command<'a>(alloc: Global) -> Result<Command<'a>, AllocError>
     ensures { IfOk result (λ c. app_of c ≡ sirob_app) }
 {
+    let check = plain(
+        alloc,
+        "check",
+        "Reads a set of programs; writes its canonical text, or its first fault",
+    );
     let run = plain(
         alloc,
         "run",
         "Reads a set of programs, a line %% and a script; writes a line for each event, then the rows",
     );
     let all = top(alloc)?;
+    let all = add(all, check)?;
     let all = add(all, run)?;
     Ok(all)
 }
@@ -67,6 +74,9 @@ fn mode_in(matches: &ArgMatches<'_>) -> Mode
     requires { NamesMode (subcommand_rows_of matches.now) }
     ensures { IsNamedBy result (subcommand_rows_of matches.now) }
 {
+    if matches.subcommand_matches("check").is_some() {
+        return Mode::Check;
+    }
     if matches.subcommand_matches("run").is_some() {
         return Mode::Run;
     }

@@ -2,7 +2,7 @@
 
 use crate::command_line::{Mode, read_words};
 use crate::fakes::{SlowSink, SlowSource};
-use crate::parts::two_parts;
+use crate::parts::{one_part, two_parts};
 use crate::port::Port;
 use crate::sink::{Sink, write_whole};
 use crate::source::{DeviceFault, InputFault, MOST_BYTES, Source, read_whole};
@@ -110,6 +110,19 @@ fn one_part_is_too_few_and_three_are_too_many(rt: HostRuntime) {
 }
 
 #[test]
+fn one_part_is_the_whole_input(rt: HostRuntime) {
+    for input in ["", "table t 1;\n", "a\n%%\r\nb\n"] {
+        let text = one_part(input.as_bytes());
+        assert!(rt;
+            text.is_ok_and(|text| text == input.as_bytes()),
+            "{input:?}"
+        );
+    }
+    let two = one_part(b"a\n%%\n");
+    assert!(rt; matches!(two, Err(InputFault::ExtraPart)));
+}
+
+#[test]
 fn statuses_have_their_numbers(rt: HostRuntime) {
     assert_eq!(rt; Status::Done.number(), 0);
     assert_eq!(rt; Status::Faulty.number(), 2);
@@ -127,8 +140,10 @@ fn words(alloc: Global, line: &str) -> Result<Vec<String>, AllocError> {
 
 #[test]
 fn words_name_the_mode(rt: HostRuntime) -> Result<(), Fail> {
-    let words = words(rt.alloc(), "sirob run")?;
-    assert_eq!(rt; read_words(rt.alloc(), words.as_slice())?, Mode::Run);
+    for (line, mode) in [("sirob check", Mode::Check), ("sirob run", Mode::Run)] {
+        let words = words(rt.alloc(), line)?;
+        assert_eq!(rt; read_words(rt.alloc(), words.as_slice())?, mode);
+    }
     Ok(())
 }
 
@@ -164,13 +179,14 @@ fn help_says_what_goes_in_and_what_comes_out(rt: HostRuntime) -> Result<(), Fail
 }
 
 const HELP: &str = "\
-Runs transaction programs under snapshot isolation, from standard input to standard output
+Checks and runs transaction programs under snapshot isolation, from standard input to standard output
 
 Usage: sirob <COMMAND>
 
 Commands:
-  run   Reads a set of programs, a line %% and a script; writes a line for each event, then the rows
-  help  Print this message or the help of the given subcommand(s)
+  check  Reads a set of programs; writes its canonical text, or its first fault
+  run    Reads a set of programs, a line %% and a script; writes a line for each event, then the rows
+  help   Print this message or the help of the given subcommand(s)
 
 Options:
   -h, --help  Print help

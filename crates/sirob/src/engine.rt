@@ -4,26 +4,26 @@ ghost use Rattle.std.specs.Prelude.{◌≡◌, length, IfOk, OnErr, slice_get, [
 ghost use Rattle.prog_tree.specs.Tree.{draft_tree};
 ghost use Rattle.sirob.specs.History.{IsLawful, state_after};
 ghost use Rattle.sirob.specs.Machine.{started, begin_by, machine_step};
-ghost use Rattle.sirob.specs.Straight.{IsStraightSet};
 
 use crate::clash::first_clash;
 use crate::event::{Event, Reply};
 use crate::instance::{Commit, Held, Instance, copy_of};
 use crate::state::{newest, with_changes};
-use prog_tree::{Draft, Rows, Sequence};
+use prog_check::ProgramSet;
+use prog_tree::{Rows, Sequence};
 use std::alloc::{AllocError, Global};
 use std::marker::Model;
 
 /// No begin succeeds where there are so many endings and active instances.
 const MOST_ENDINGS: usize = 100_000;
 
-/// An engine over a set of straight programs. It keeps the state that each commit left.
+/// An engine over a set of programs. It keeps the state that each commit left.
 #[derive(Debug, Drop)]
 pub struct Engine<'a> {
     alloc: Global,
-    set: &'a Draft,
+    set: &'a ProgramSet,
     opening: Rows,
-    begun: Vec<Held>,
+    begun: Vec<Held<'a>>,
     commits: Vec<Commit>,
 }
 
@@ -45,8 +45,7 @@ impl<'a> Model for Engine<'a> {
 impl<'a> Engine<'a> {
     ghost use Rattle.sirob.specs.declared.event.Event.TheVariants as event;
 
-    pub fn open(alloc: Global, set: &'a Draft, rows: Rows) -> Self
-        requires { IsStraightSet (draft_tree set.now) }
+    pub fn open(alloc: Global, set: &'a ProgramSet, rows: Rows) -> Self
         ensures { result ≡ record { set = set.now; opening = rows; machine = started } }
     {
         Engine {
@@ -73,10 +72,9 @@ impl<'a> Engine<'a> {
         ensures err { OnErr result (self.new ≡ self.old) }
     {
         let set = self.set;
-        if program >= set.programs.len() {
+        let Some(found) = set.draft().programs.get(program) else {
             return Ok(Reply::NoSuchProgram);
-        }
-        let found = &set.programs[program];
+        };
         if found.params.len() != args.len() {
             return Ok(Reply::WrongArguments);
         }
@@ -87,11 +85,11 @@ impl<'a> Engine<'a> {
         let start = self.commits.len();
         let instance = Instance {
             program,
-            args: copy_of(self.alloc, args)?,
+            args: copy_of(self.alloc, args.as_slice())?,
             start,
         };
         let rows = newest(&self.opening, &self.commits);
-        let held = Held::begin(self.alloc, &set.tables, found, instance, rows)?;
+        let held = Held::begin(self.alloc, set, instance, rows)?;
         self.begun.push(held)?;
         Ok(Reply::Begun {
             instance: number,

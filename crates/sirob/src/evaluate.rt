@@ -1,231 +1,135 @@
-//! What a straight program does on a table state.
+//! What a program does on a table state: its run, answered from that state alone.
 
-ghost use Rattle.std.specs.Prelude.{◌≡◌, ℤ, Option, length, IfOk};
-ghost use Rattle.prog_tree.specs.declared.progress.Progress.{Progress as ProgressView};
-ghost use Rattle.prog_tree.specs.Evaluation.{Flow, run_statement as statement_flow, with_seen, at_start, as_evaluation, eval};
-ghost use Rattle.prog_tree.specs.Numbering.{number_of};
-ghost use Rattle.prog_tree.specs.Tree.{key_tree, expr_tree, statement_tree, block_tree, program_tree};
-ghost use Rattle.prog_tree.specs.Syntax as s;
-ghost use Rattle.prog_tree.specs.Value.{or_else, value_of};
-ghost use Rattle.sirob.specs.Straight.{IsStraightStatement, IsStraight};
-ghost use Rattle.sirob.specs.Running.{flow_of, get_flow};
+ghost use Rattle.std.specs.Prelude.{◌≡◌, Some, None, IfOk, IfErr, slice_get};
+ghost use Rattle.prog_tree.specs.declared.program.Program.{Program as ProgramView};
+ghost use Rattle.prog_tree.specs.Evaluation.{eval};
+ghost use Rattle.prog_tree.specs.Table.{rows_in};
+ghost use Rattle.prog_tree.specs.Tree.{program_tree};
+ghost use Rattle.prog_run.specs.Looks.{AreFound};
+ghost use Rattle.prog_run.specs.Step.{question_after, end_after, deeds_after};
+ghost use Rattle.prog_run.specs.View.{IsTrueRun, SameBegin, begin_fault, begun};
 
-use prog_tree::{
-    Cause, Cell, Changes, Deed, End, Env, Expr, Key, Look, Name, Program, Progress, Rows, Sequence,
-    Stmt, TableDecl,
-};
+use prog_check::ProgramSet;
+use prog_run::{AnswerFault, Next, Run, RunFault};
+use prog_tree::{Changes, Deed, End, Region, Rows, Sequence};
 use std::alloc::{AllocError, Global};
 use std::marker::Model;
 
-/// What an instance does: how it ends, and what it has done up to there.
+/// What an instance does: its run, which is over, how it ended, and each store statement that it finished.
 #[derive(Debug, Drop)]
-pub struct Evaluated {
+pub struct Evaluated<'a> {
+    run: Run<'a>,
     pub ending: End,
-    /// One for each finished store statement.
     pub deeds: Sequence<Deed>,
-    pub replies: Sequence<i64>,
-    pub changes: Changes,
-    pub looks: Sequence<Look>,
 }
 
-impl Model for Evaluated {
+impl<'a> Model for Evaluated<'a> {
     ghost use Rattle.prog_tree.specs.Evaluation.{Evaluation};
 
     ghost Value = { Evaluation };
 
-    ghost view = { λ e. record { ending = e.ending; deeds = e.deeds; replies = e.replies; changes = e.changes; looks = e.looks } };
+    ghost view = { λ e. record { ending = e.ending; deeds = e.deeds; replies = e.run.replies; changes = e.run.changes; looks = e.run.looks } };
 }
 
-impl Evaluated {
-    fn new(ending: End, progress: Progress<'_>) -> Self
-        ensures { result ≡ as_evaluation ending progress.entry }
+impl<'a> Evaluated<'a> {
+    pub fn replies(&self) -> &[i64]
+        ensures { result.now ≡ self.now.replies }
     {
-        let Progress {
-            env: _,
-            deeds,
-            replies,
-            changes,
-            looks,
-        } = progress;
-        Evaluated {
-            ending,
-            deeds,
-            replies,
-            changes,
-            looks,
-        }
+        self.run.replies()
+    }
+
+    pub fn changes(&self) -> &Changes
+        ensures { result.now ≡ self.now.changes }
+    {
+        self.run.changes()
     }
 }
 
-// The number of the first table of a name, or how many tables there are.
-fn table_number(tables: &[TableDecl], name: &Name) -> usize
-    ensures { result ≡ number_of tables.now name.now }
+// The rows of a region. The last comes first, so that each is put in front of those that are there.
+fn rows_of(alloc: Global, rows: &Rows, region: &Region) -> Result<Rows, AllocError>
+    ensures { IfOk result (λ found. found ≡ rows_in region.now rows.now) }
 {
-    let mut number = 0;
-    for table in tables {
-        if table.name.as_str() == name.as_str() {
-            return number;
+    let mut found = Rows::new(alloc);
+    for (cell, value) in rows.iter().rev() {
+        if region.contains(cell) {
+            found.insert(*cell, *value)?;
         }
-        number += 1;
     }
-    number
+    Ok(found)
 }
 
-// What a cell holds for the instance: its own change, or what the state has there, whose look is noted.
-fn seen_at(rows: &Rows, progress: &mut Progress<'_>, cell: Cell) -> Result<Option<i64>, AllocError>
-    ensures { IfOk result (λ o. (tables : _) (go : Option ℤ → ProgressView → Flow) → with_seen tables rows.now cell progress.old go ≡ go o progress.new) }
+// An answer that fits the question is refused for want of memory alone.
+fn taken(answer: Result<Next, AnswerFault>) -> Result<Next, AllocError>
+    requires { IfErr answer (λ fault. fault ≡ AnswerFault.Memory) }
+    ensures { IfOk result (λ next. answer ≡ Ok next) }
 {
-    if let Some(own) = progress.changes.get(&cell) {
-        return Ok(own);
-    }
-    let held = rows.get(&cell);
-    progress.looks.push(Look::One(cell, held))?;
-    Ok(held)
-}
-
-// The value of a `get`: what its cell holds, or the other value.
-fn value_or(seen: Option<i64>, otherwise: &Expr, env: &Env) -> Option<i64>
-    ensures { result ≡ or_else seen (value_of (expr_tree otherwise.now) env.now) }
-{
-    match seen {
-        Some(value) => Some(value),
-        None => otherwise.value(env),
+    match answer {
+        Ok(next) => Ok(next),
+        Err(AnswerFault::Memory) => Err(AllocError),
+        Err(_) => unreachable!(),
     }
 }
 
-// The rest of a `get`, once it is known what its cell holds.
-fn bind_seen<'a>(
-    progress: &mut Progress<'a>,
-    name: &'a Name,
-    otherwise: &Expr,
-    cell: Cell,
-    seen: Option<i64>,
-) -> Result<Option<Cause>, AllocError>
-    ensures { IfOk result (λ o. get_flow name.now (expr_tree otherwise.now) cell seen progress.old ≡ flow_of o progress.new) }
+// The next store statement of a run, or its end. What it asks for is answered from the rows.
+fn step(alloc: Global, run: &mut Run<'_>, rows: &Rows) -> Result<Next, AllocError>
+    requires idle { run.old.asked ≡ None }
+    requires found { AreFound rows.now run.old.looks }
+    ensures idle { IfOk result (λ next. (question_after next ≡ None) × (run.new.asked ≡ None)) }
+    ensures found { IfOk result (λ next. AreFound rows.now run.new.looks) }
+    ensures deeds { IfOk result (λ next. run.new.deeds ≡ deeds_after next run.old.deeds) }
+    ensures end { IfOk result (λ next. run.new.end ≡ end_after next) }
+    ensures true_run { IsTrueRun run.new }
+    ensures same { SameBegin run.old run.new }
 {
-    let Some(value) = value_or(seen, otherwise, &progress.env) else {
-        return Ok(Some(Cause::Overflow));
-    };
-    progress.deeds.push(Deed::Read(cell, seen))?;
-    progress.env.bind(name, value)?;
-    Ok(None)
-}
-
-// `let name = get table[key] else otherwise;`
-fn run_get<'a>(
-    tables: &[TableDecl],
-    rows: &Rows,
-    progress: &mut Progress<'a>,
-    name: &'a Name,
-    table: &Name,
-    key: &Key,
-    otherwise: &Expr,
-) -> Result<Option<Cause>, AllocError>
-    ensures { IfOk result (λ o. statement_flow tables.now rows.now (s.Get name.now table.now (key_tree key.now) (expr_tree otherwise.now)) progress.old ≡ flow_of o progress.new) }
-{
-    let Some(cell) = key.cell(table_number(tables, table), &progress.env) else {
-        return Ok(Some(Cause::Overflow));
-    };
-    let seen = seen_at(rows, progress, cell)?;
-    let cause = bind_seen(progress, name, otherwise, cell, seen)?;
-    Ok(cause)
-}
-
-// `put table[key] = value;`
-fn run_put(
-    tables: &[TableDecl],
-    progress: &mut Progress<'_>,
-    table: &Name,
-    key: &Key,
-    value: &Expr,
-) -> Result<Option<Cause>, AllocError>
-    ensures { IfOk result (λ o. (m : _) → statement_flow tables.now m (s.Put table.now (key_tree key.now) (expr_tree value.now)) progress.old ≡ flow_of o progress.new) }
-{
-    let Some(cell) = key.cell(table_number(tables, table), &progress.env) else {
-        return Ok(Some(Cause::Overflow));
-    };
-    let Some(value) = value.value(&progress.env) else {
-        return Ok(Some(Cause::Overflow));
-    };
-    progress.changes.put(cell, value)?;
-    progress.deeds.push(Deed::Put(cell, value))?;
-    Ok(None)
-}
-
-// `reply value;`
-fn run_reply(progress: &mut Progress<'_>, value: &Expr) -> Result<Option<Cause>, AllocError>
-    ensures { IfOk result (λ o. (tables : _) (m : _) → statement_flow tables m (s.Reply (expr_tree value.now)) progress.old ≡ flow_of o progress.new) }
-{
-    let Some(value) = value.value(&progress.env) else {
-        return Ok(Some(Cause::Overflow));
-    };
-    progress.replies.push(value)?;
-    Ok(None)
-}
-
-// One statement; where it aborts the instance, the cause.
-fn run_statement<'a>(
-    tables: &[TableDecl],
-    rows: &Rows,
-    stmt: &'a Stmt,
-    progress: &mut Progress<'a>,
-) -> Result<Option<Cause>, AllocError>
-    requires { IsStraightStatement (statement_tree stmt.now) }
-    ensures { IfOk result (λ o. statement_flow tables.now rows.now (statement_tree stmt.now) progress.old ≡ flow_of o progress.new) }
-{
-    match stmt {
-        Stmt::Get {
-            name,
-            table,
-            key,
-            otherwise,
-        } => {
-            let cause = run_get(tables, rows, progress, name, table, key, otherwise)?;
-            Ok(cause)
+    match run.advance()? {
+        Next::Get(cell) => taken(run.answer_get(rows.get(&cell))),
+        Next::Scan(region) => {
+            let found = rows_of(alloc, rows, &region)?;
+            taken(run.answer_scan(&found))
         }
-        Stmt::Put { table, key, value } => {
-            let cause = run_put(tables, progress, table, key, value)?;
-            Ok(cause)
-        }
-        Stmt::Reply { value } => {
-            let cause = run_reply(progress, value)?;
-            Ok(cause)
-        }
-        _ => unreachable!(),
+        next => Ok(next),
     }
 }
 
-// An instance before its first statement.
+// A run that is not refused.
 fn started<'a>(
     alloc: Global,
-    program: &'a Program,
+    set: &'a ProgramSet,
+    program: usize,
     args: &[i64],
-) -> Result<Progress<'a>, AllocError>
-    ensures { IfOk result (λ p. p ≡ at_start (program_tree program.now) args.now) }
+) -> Result<Run<'a>, AllocError>
+    requires { begin_fault (slice_get set.now.programs.items program) args.now ≡ None }
+    ensures begun { IfOk result (λ run. run ≡ begun set.now.tables.items run.program args.now) }
+    ensures program { IfOk result (λ run. slice_get set.now.programs.items program ≡ Some run.program) }
 {
-    let mut env = Env::new(alloc);
-    for (name, value) in program.params.iter().zip(args) {
-        env.bind(name, *value)?;
+    match Run::new(alloc, set, program, args) {
+        Ok(run) => Ok(run),
+        Err(RunFault::Memory) => Err(AllocError),
+        Err(_) => unreachable!(),
     }
-    Ok(Progress::new(alloc, env))
 }
 
 /// Runs a program with arguments on a table state, up to its end.
-pub fn evaluate(
+pub fn evaluate<'a>(
     alloc: Global,
-    tables: &[TableDecl],
-    program: &Program,
+    set: &'a ProgramSet,
+    program: usize,
     args: &[i64],
     rows: &Rows,
-) -> Result<Evaluated, AllocError>
-    requires { IsStraight (block_tree program.now.body) }
-    ensures { IfOk result (λ e. e ≡ eval tables.now (program_tree program.now) args.now rows.now) }
+) -> Result<Evaluated<'a>, AllocError>
+    requires { begin_fault (slice_get set.now.programs.items program) args.now ≡ None }
+    ensures { IfOk result (λ e. (p : ProgramView) → slice_get set.now.programs.items program ≡ Some p
+        → e ≡ eval set.now.tables.items (program_tree p) args.now rows.now) }
 {
-    let mut progress = started(alloc, program, args)?;
-    for stmt in &program.body.stmts {
-        if let Some(cause) = run_statement(tables, rows, stmt, &mut progress)? {
-            return Ok(Evaluated::new(End::Aborted(cause), progress));
+    let mut run = started(alloc, set, program, args)?;
+    let mut deeds = Sequence::new(alloc);
+    'steps: loop {
+        match step(alloc, &mut run, rows)? {
+            Next::Did(deed) => deeds.push(deed)?,
+            Next::Done(ending) => {
+                return Ok(Evaluated { run, ending, deeds });
+            }
+            _ => unreachable!(),
         }
     }
-    Ok(Evaluated::new(End::Ready, progress))
 }

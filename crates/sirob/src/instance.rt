@@ -1,16 +1,18 @@
 //! Instances of programs, and commits.
 
-ghost use Rattle.std.specs.Prelude.{◌≡◌, ◌<◌, length, true, IfOk, OnErr};
+ghost use Rattle.std.specs.Prelude.{◌≡◌, ◌<◌, length, true, None, Some, IfOk, OnErr, slice_get};
+ghost use Rattle.prog_tree.specs.declared.program.Program.{Program};
 ghost use Rattle.prog_tree.specs.ChangeSet.{touches_cell};
 ghost use Rattle.prog_tree.specs.Evaluation.{eval};
-ghost use Rattle.prog_tree.specs.Tree.{block_tree, program_tree};
+ghost use Rattle.prog_tree.specs.Tree.{program_tree};
+ghost use Rattle.prog_run.specs.View.{begin_fault};
 ghost use Rattle.sirob.specs.Machine.{at_begin, stepped};
-ghost use Rattle.sirob.specs.Straight.{IsStraight};
 ghost use Rattle.sirob.specs.View.{begun_of, known_of};
 
 use crate::evaluate::{Evaluated, evaluate};
 use crate::event::Reply;
-use prog_tree::{Cell, Changes, End, Program, Rows, Sequence, TableDecl};
+use prog_check::ProgramSet;
+use prog_tree::{Cell, Changes, End, Rows, Sequence};
 use std::alloc::{AllocError, Global};
 
 /// A program by its number, its arguments, and the number of commits that it sees.
@@ -23,10 +25,10 @@ pub struct Instance {
 
 /// An instance that was begun.
 #[derive(Debug, Drop)]
-pub struct Held {
+pub struct Held<'a> {
     pub instance: Instance,
     /// What it does on the state that it sees.
-    pub evaluated: Evaluated,
+    pub evaluated: Evaluated<'a>,
     /// How many of its deeds it was stepped through.
     pub steps: usize,
     /// A step answered that it is ready.
@@ -43,26 +45,27 @@ pub struct Commit {
 }
 
 /// A copy of some numbers.
-pub fn copy_of(alloc: Global, numbers: &Sequence<i64>) -> Result<Sequence<i64>, AllocError>
+pub fn copy_of(alloc: Global, numbers: &[i64]) -> Result<Sequence<i64>, AllocError>
     ensures { IfOk result (λ copy. copy ≡ numbers.now) }
 {
-    Ok(Sequence::from_vec(Vec::from_slice(alloc, numbers.as_slice())?))
+    Ok(Sequence::from_vec(Vec::from_slice(alloc, numbers)?))
 }
 
-impl Held {
-    /// Begins an instance of a program on the state that it sees.
+impl<'a> Held<'a> {
+    /// Begins an instance on the state that it sees. That state never changes for it, so all that it does is found at once.
     pub fn begin(
         alloc: Global,
-        tables: &[TableDecl],
-        program: &Program,
+        set: &'a ProgramSet,
         instance: Instance,
         rows: &Rows,
     ) -> Result<Self, AllocError>
-        requires { IsStraight (block_tree program.now.body) }
+        requires { begin_fault (slice_get set.now.programs.items instance.program) instance.args ≡ None }
         ensures begun { IfOk result (λ held. begun_of held ≡ at_begin instance) }
-        ensures evaluated { IfOk result (λ held. held.evaluated ≡ eval tables.now (program_tree program.now) instance.args rows.now) }
+        ensures evaluated { IfOk result (λ held. (p : Program) → slice_get set.now.programs.items instance.program ≡ Some p
+            → held.evaluated ≡ eval set.now.tables.items (program_tree p) instance.args rows.now) }
     {
-        let evaluated = evaluate(alloc, tables, program, instance.args.as_slice(), rows)?;
+        let args = instance.args.as_slice();
+        let evaluated = evaluate(alloc, set, instance.program, args, rows)?;
         Ok(Held {
             instance,
             evaluated,
@@ -76,7 +79,7 @@ impl Held {
     pub fn changes(&self) -> &Changes
         ensures { result.now ≡ self.now.evaluated.changes }
     {
-        &self.evaluated.changes
+        self.evaluated.changes()
     }
 
     /// Whether it changes or keeps a cell.
@@ -101,7 +104,7 @@ impl Held {
         }
         match self.evaluated.ending {
             End::Ready => {
-                let replies = copy_of(alloc, &self.evaluated.replies)?;
+                let replies = copy_of(alloc, self.evaluated.replies())?;
                 self.ready = true;
                 Ok(Reply::Ready(replies))
             }

@@ -1,9 +1,12 @@
-//! The program `sirob`: gathers words and ports, and tells the status. Today it runs scripts of straight programs.
+//! The program `sirob`: gathers words and ports, and tells the status. Today it checks sets of programs and runs scripts.
 #![tactic(auto)]
 
 ghost use Rattle.std.specs.Prelude.{◌≡◌, ◌≢◌};
 ghost use Rattle.clap.specs.Words.{kind_of};
 
+mod check;
+#[cfg(test)]
+mod check_tests;
 mod clash;
 mod command;
 mod command_line;
@@ -14,6 +17,7 @@ mod evaluate;
 mod event;
 #[cfg(test)]
 mod fakes;
+mod input;
 mod instance;
 mod line_words;
 mod lines;

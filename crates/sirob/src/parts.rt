@@ -5,6 +5,19 @@ ghost use Rattle.sirob.specs.Parts.{is_separator, lines_of, parts_of};
 
 use crate::source::InputFault;
 
+/// The input, where no line of it is `%%`.
+pub fn one_part(input: &[u8]) -> Result<&[u8], InputFault>
+    ensures part { IfOk result (λ text. parts_of input.now ≡ text.now ∷ []) }
+    ensures extra { IsErrOf result InputFault.ExtraPart ↔ (1 < length (parts_of input.now)) }
+    ensures kinds { IfErr result (λ fault. fault ≡ InputFault.ExtraPart) }
+{
+    let first = first_part(input);
+    if first.behind.is_some() {
+        return Err(InputFault::ExtraPart);
+    }
+    Ok(first.part)
+}
+
 /// The two parts of the input.
 #[derive(Clone, Copy, Debug)]
 pub struct Parts<'a> {

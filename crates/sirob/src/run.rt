@@ -1,21 +1,17 @@
 //! The command `run`: from the bytes of its input to the lines of its output.
-ghost use Rattle.std.specs.Prelude.{◌≡◌, ◌≤◌, false, None, [], length, string_bytes, IfOk, IfErr, OnOk, OnErr};
+ghost use Rattle.std.specs.Prelude.{◌≡◌, ◌≤◌, [], length, string_bytes, IfErr, OnOk, OnErr};
 ghost use Rattle.prog_tree.specs.Tree.{draft_tree};
-ghost use Rattle.prog_text.specs.Answer.{Accepts};
-ghost use Rattle.prog_check.specs.Faults.{first_fault};
-ghost use Rattle.sirob.specs.FaultLines.{is_memory};
 ghost use Rattle.sirob.specs.Machine.{machine_after};
-ghost use Rattle.sirob.specs.Output.{input_limit, event_lines, row_lines, run_lines, Adds, AddsFirst, Runs, IsStop, IsRun, IsRefused, IsRefusedText};
-ghost use Rattle.sirob.specs.Straight.{IsStraightSet};
+ghost use Rattle.sirob.specs.Output.{input_limit, event_lines, row_lines, run_lines, Adds, AddsFirst, Gives, IsStop};
+ghost use Rattle.sirob.specs.declared.command_line.Mode.TheVariants as mode;
 
 use crate::engine::Engine;
 use crate::event::Event;
-use crate::parts::two_parts;
+use crate::input::read_text_and_script;
 use crate::printed::{push_reply_line, push_row_line};
 use crate::run_fault::RunFault;
-use crate::script::{Script, read_script};
-use prog_check::{ProgramSet, check};
-use prog_text::parse;
+use crate::script::Script;
+use prog_check::ProgramSet;
 use prog_tree::{Draft, Rows};
 use std::alloc::{AllocError, Global};
 
@@ -54,41 +50,18 @@ fn list_rows(set: &Draft, rows: &Rows, out: &mut String) -> Result<(), AllocErro
 // Runs a script. Where memory runs out, some first of its lines were added.
 fn run_script(
     alloc: Global,
-    set: &Draft,
+    set: &ProgramSet,
     script: Script,
     out: &mut String,
 ) -> Result<(), AllocError>
-    requires { IsStraightSet (draft_tree set.now) }
     ensures ok { OnOk result (Adds (run_lines (draft_tree set.now) script) (string_bytes out.old) (string_bytes out.new)) }
     ensures err { OnErr result (AddsFirst (run_lines (draft_tree set.now) script) (string_bytes out.old) (string_bytes out.new)) }
 {
     let Script { rows, events } = script;
+    let draft = set.draft();
     let mut engine = Engine::open(alloc, set, rows);
-    run_events(&mut engine, set, events.as_slice(), out)?;
-    list_rows(set, engine.rows(), out)
-}
-
-// The set that a text spells, where it has no fault.
-fn read_set(alloc: Global, text: &[u8]) -> Result<ProgramSet, RunFault>
-    ensures accepted { IfOk result (λ set. Accepts text.now (draft_tree set)) }
-    ensures sound { IfOk result (λ set. first_fault (draft_tree set) ≡ None) }
-    ensures refused { IfErr result (λ fault. is_memory fault ≡ false → IsRefusedText text.now fault) }
-{
-    let draft = parse(alloc, text)?;
-    let set = check(alloc, draft)?;
-    Ok(set)
-}
-
-// The set and the script of an input, where it has no fault.
-fn read_input(alloc: Global, input: &[u8]) -> Result<(ProgramSet, Script), RunFault>
-    requires { length input.now ≤ input_limit }
-    ensures ok { IfOk result (λ r. IsRun input.now (draft_tree r.0) r.1) }
-    ensures err { IfErr result (λ fault. is_memory fault ≡ false → IsRefused input.now fault) }
-{
-    let parts = two_parts(input)?;
-    let set = read_set(alloc, parts.text)?;
-    let script = read_script(alloc, &set, parts.rest)?;
-    Ok((set, script))
+    run_events(&mut engine, draft, events.as_slice(), out)?;
+    list_rows(draft, engine.rows(), out)
 }
 
 /// Runs the script of an input whose two parts are the text of a set and a script. Each event adds a line, and then each
@@ -96,10 +69,10 @@ fn read_input(alloc: Global, input: &[u8]) -> Result<(ProgramSet, Script), RunFa
 pub fn run_input(alloc: Global, input: &[u8], out: &mut String) -> Result<(), RunFault>
     requires short { length input.now ≤ input_limit }
     requires empty { string_bytes out.old ≡ [] }
-    ensures ok { OnOk result (Runs input.now (string_bytes out.new)) }
-    ensures err { IfErr result (λ fault. IsStop input.now fault (string_bytes out.new)) }
+    ensures ok { OnOk result (Gives mode.Run input.now (string_bytes out.new)) }
+    ensures err { IfErr result (λ fault. IsStop mode.Run input.now fault (string_bytes out.new)) }
 {
-    let (set, script) = read_input(alloc, input)?;
-    run_script(alloc, set.draft(), script, out)?;
+    let (set, script) = read_text_and_script(alloc, input)?;
+    run_script(alloc, &set, script, out)?;
     Ok(())
 }

@@ -1,8 +1,10 @@
 //! Carries out what the words ask for, from a source to a sink.
 ghost use Rattle.std.specs.Prelude.{◌≡◌, ◌++◌, true, false, [], Err, string_bytes, IfOk, IfErr, IfSome};
 ghost use Rattle.sirob.specs.FaultLines.{is_memory};
-ghost use Rattle.sirob.specs.Output.{Runs, IsStop, IsAnswer, IsUnread, memory_line, IsReadFault, Ends, IsJust, Writes};
+ghost use Rattle.sirob.specs.Output.{Gives, IsStop, IsAnswer, IsUnread, memory_line, IsReadFault, Ends, IsJust, Writes};
+ghost use Rattle.sirob.specs.declared.command_line.Mode.TheVariants as m;
 
+use crate::check::check_input;
 use crate::command_line::Mode;
 use crate::run::run_input;
 use crate::run_fault::{RunFault, fault_line};
@@ -13,11 +15,23 @@ use std::alloc::Global;
 
 const MEMORY_LINE: &[u8] = b"fault memory\n";
 
-// Reads all of a source, and runs it.
+// Reads all of a source, and prints its set.
+fn check_source<S: Source>(alloc: Global, source: &mut S, out: &mut Vec<u8>) -> Result<(), RunFault>
+    requires { out.old.items ≡ [] }
+    ensures ok { IfOk result (λ _. IfSome (S.left source.old) (λ input. Gives m.Check input out.new.items)) }
+    ensures err { IfErr result (λ fault. S.has_failed source.new ≡ false → IfSome (S.left source.old) (λ input. IsStop m.Check input fault out.new.items)) }
+    ensures unread { S.has_failed source.new ≡ true → IsReadFault result }
+{
+    let input = read_whole(alloc, source)?;
+    *out = check_input(alloc, &input)?;
+    Ok(())
+}
+
+// Reads all of a source, and runs its script.
 fn run_source<S: Source>(alloc: Global, source: &mut S, out: &mut String) -> Result<(), RunFault>
     requires { string_bytes out.old ≡ [] }
-    ensures ok { IfOk result (λ _. IfSome (S.left source.old) (λ input. Runs input (string_bytes out.new))) }
-    ensures err { IfErr result (λ fault. S.has_failed source.new ≡ false → IfSome (S.left source.old) (λ input. IsStop input fault (string_bytes out.new))) }
+    ensures ok { IfOk result (λ _. IfSome (S.left source.old) (λ input. Gives m.Run input (string_bytes out.new))) }
+    ensures err { IfErr result (λ fault. S.has_failed source.new ≡ false → IfSome (S.left source.old) (λ input. IsStop m.Run input fault (string_bytes out.new))) }
     ensures unread { S.has_failed source.new ≡ true → IsReadFault result }
 {
     let input = read_whole(alloc, source)?;
@@ -58,7 +72,7 @@ fn write_fault<K: Sink>(alloc: Global, sink: &mut K, fault: RunFault) -> Status
     }
 }
 
-// Writes what a run has left: its lines, and the fault that stopped it.
+// Writes what a command has left: its bytes, and the fault that stopped it.
 fn write_answer<K: Sink>(
     alloc: Global,
     sink: &mut K,
@@ -89,12 +103,17 @@ pub fn run_command<S: Source, K: Sink>(
     sink: &mut K,
 ) -> Status
     ensures answer { S.has_failed source.new ≡ false → K.has_failed sink.new ≡ false
-        → IfSome (S.left source.old) (λ input. Writes (IsAnswer input) (K.taken sink.old) (K.taken sink.new) result) }
+        → IfSome (S.left source.old) (λ input. Writes (IsAnswer mode input) (K.taken sink.old) (K.taken sink.new) result) }
     ensures unread { S.has_failed source.new ≡ true → K.has_failed sink.new ≡ false
         → Writes IsUnread (K.taken sink.old) (K.taken sink.new) result }
     ensures unwritten { K.has_failed sink.new ≡ true → result ≡ Status.Faulty }
 {
     match mode {
+        Mode::Check => {
+            let mut text = Vec::new(alloc);
+            let ended = check_source(alloc, source, &mut text);
+            write_answer(alloc, sink, &text, ended)
+        }
         Mode::Run => {
             let mut lines = String::new(alloc);
             let ended = run_source(alloc, source, &mut lines);

@@ -1,12 +1,9 @@
 //! Worked examples: values that a reader works out from the rules of the engine.
 
-ghost use Rattle.std.specs.Prelude.{IfOk};
-ghost use Rattle.prog_tree.specs.Tree.{draft_tree};
-ghost use Rattle.sirob.specs.Straight.{IsStraightSet};
-
 use super::*;
-use prog_text::{TextFault, parse};
-use prog_tree::{Cell, Deed};
+use prog_check::check;
+use prog_text::parse;
+use prog_tree::{Cause, Cell, Deed};
 use std::process::Abort;
 use std::test::Fail;
 
@@ -16,16 +13,13 @@ const REGISTER_SET: &[u8] =
 const SKEW_PAIR: &[u8] =
     b"table t 1; program Left() { let a = get t[1] else 0; let b = get t[2] else 0; put t[1] = b; } program Right() { let a = get t[1] else 0; let b = get t[2] else 0; put t[2] = a; }";
 
+const RANGE_SET: &[u8] =
+    b"table t 1; program Range(k) { put t[k] = 5; let n = count t[1..3]; let s = sum t[1..3]; reply n + s; }";
+
+const GROW_SET: &[u8] = b"table g 1 grow; program Add(k, v) { insert g[k] = v; }";
+
 const OWN_SET: &[u8] =
     b"table t 1; program Own(k, v) { put t[k] = v; let x = get t[k] else 0; reply x; }";
-
-// What was read from a text is straight.
-fn straight_set(alloc: Global, text: &[u8]) -> Result<Draft, TextFault>
-    ensures { IfOk result (λ draft. IsStraightSet (draft_tree draft)) }
-{
-    let draft = parse(alloc, text)?;
-    Ok(draft)
-}
 
 fn cell(first: i64) -> Cell {
     Cell {
@@ -70,6 +64,9 @@ fn shown(alloc: Global, reply: &Reply) -> Result<String, AllocError> {
         Reply::Begun { instance, start } => format!(in alloc; "{instance} at {start}"),
         Reply::Did(Deed::Read(cell, held)) => format!(in alloc; "read {} {held:?}", cell.first),
         Reply::Did(Deed::Put(cell, value)) => format!(in alloc; "put {} {value}", cell.first),
+        Reply::Did(Deed::Counted(_, count)) => format!(in alloc; "count {count}"),
+        Reply::Did(Deed::Summed(_, sum)) => format!(in alloc; "sum {sum}"),
+        Reply::Aborted(Cause::Present(cell)) => format!(in alloc; "present {}", cell.first),
         Reply::Ready(replies) => format!(in alloc; "ready {:?}", replies.as_slice()),
         Reply::Clashed { cell, number } => format!(in alloc; "{} with {number}", cell.first),
         other => format!(in alloc; "{other:?}"),
@@ -84,7 +81,7 @@ fn play(
     opening: Rows,
     script: &str,
 ) -> Result<Rows, Fail> {
-    let set = straight_set(alloc, text)?;
+    let set = check(alloc, parse(alloc, text)?)?;
     let mut engine = Engine::open(alloc, &set, opening);
     for line in script.lines() {
         let (event, want) = line.split_once(':').ok_or("no answer")?;
@@ -212,5 +209,34 @@ fn own_changes_are_seen(rt: HostRuntime) -> Result<(), Fail> {
         commit 0:Committed(1)";
     let rows = play(&rt, rt.alloc(), OWN_SET, opening, script)?;
     assert_eq!(rt; rows.get(&cell(3)), Some(9));
+    Ok(())
+}
+
+// A row of the start and one of its own: two rows, and 4 + 5.
+#[test]
+fn ranges_have_own_changes(rt: HostRuntime) -> Result<(), Fail> {
+    let mut opening = Rows::new(rt.alloc());
+    opening.insert(cell(3), 4)?;
+    opening.insert(cell(4), 1)?;
+    let script = "begin 0 2:0 at 0\n\
+        step 0:put 2 5\n\
+        step 0:count 2\n\
+        step 0:sum 9\n\
+        step 0:ready [11]";
+    let rows = play(&rt, rt.alloc(), RANGE_SET, opening, script)?;
+    assert_eq!(rt; rows.len(), 2);
+    Ok(())
+}
+
+#[test]
+fn an_abort_ends_its_instance(rt: HostRuntime) -> Result<(), Fail> {
+    let mut opening = Rows::new(rt.alloc());
+    opening.insert(cell(1), 5)?;
+    let script = "begin 0 1,7:0 at 0\n\
+        step 0:present 1\n\
+        step 0:Ended\n\
+        commit 0:Ended";
+    let rows = play(&rt, rt.alloc(), GROW_SET, opening, script)?;
+    assert_eq!(rt; rows.get(&cell(1)), Some(5));
     Ok(())
 }

@@ -1,22 +1,14 @@
-use Rattle.std.proofs.Common.{◌≡◌, ℕ, zero, suc, ◌-◌, ◌<◌, List, [], ◌∷◌, ◌++◌, map, Some, None, Ok, refl, sym, ◌∙◌, arith}
-use Rattle.std.proofs.lemmas.List.{map_push}
+use Rattle.std.proofs.Common.{◌≡◌, ℕ, zero, suc, ◌-◌, List, None, Ok, refl, sym, ◌∙◌, arith}
 use Rattle.std.proofs.lemmas.Result.{err_from_is_err_and}
 use Rattle.prog_tree.specs.Syntax.{ProgramTree}
 use Rattle.prog_tree.specs.Tree.{program_tree}
 use Rattle.prog_tree.specs.declared.table.TableDecl.{TableDecl}
-use Rattle.prog_tree.specs.declared.program.Program.{Program}
 use Rattle.prog_text.specs.declared.read_error.ReadError.{ReadError}
 use Rattle.prog_text.specs.declared.read_error.ReadError.TheVariants as errors
 use Rattle.prog_text.specs.declared.token.Token.{Token}
 use Rattle.prog_text.specs.Reading.{Fails, after_program, end_at, program_at, many_from, tables_at, programs_at, set_at}
+use Rattle.prog_text.proofs.Viewed.{one_further}
 use Rattle.prog_text.proofs.sets.set.Goals as goal
-
--- one program further
-further : (n : ℕ) (done : List Program) (p : Program) (ts us rest : List Token) → 0 < n → after_program ts ≡ Some us → program_at us ≡ Ok (program_tree p, rest)
-    → many_from after_program program_at (n - 1) (map program_tree (done ++ p ∷ [])) rest ≡ many_from after_program program_at n (map program_tree done) ts
-unfolding many_from
-further zero done p ts us rest some begins read = absurd (omega arith)
-further (suc n) done p ts us rest some begins read = let e : suc n - 1 ≡ n = omega arith in rw (e, begins, read, map_push program_tree done p) refl
 
 -- no more programs
 ended : (n : ℕ) (done : List ProgramTree) (ts : List Token) → after_program ts ≡ None → many_from after_program program_at n done ts ≡ Ok (done, ts)
@@ -36,7 +28,7 @@ loop-after-preserved c =
     record {
       n = inv.n - 1;
       enough = omega (arith, c.in-Some.ensures.shorter, c.in_ok-program.ensures.shorter, inv.enough);
-      same = rw c.in_ok-push.ensures.items (further inv.n _ _ _ _ _ (omega (arith, c.in-Some.ensures.shorter, inv.enough)) (sym c.in-Some.ensures.reads) c.in_ok-program.ensures.reads ∙ inv.same);
+      same = rw c.in_ok-push.ensures.items (one_further program_tree after_program program_at inv.n _ _ _ _ _ (omega (arith, c.in-Some.ensures.shorter, inv.enough)) (sym c.in-Some.ensures.reads) c.in_ok-program.ensures.reads ∙ inv.same);
     }
 
 pub returns-in_err-end : goal.returns-in_err-end

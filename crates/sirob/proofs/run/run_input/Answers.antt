@@ -1,11 +1,9 @@
-use Rattle.std.proofs.Common.{[], sym, subst, string_bytes}
+use Rattle.std.proofs.Common.{sym, subst, string_bytes}
 use Rattle.std.proofs.lemmas.Result.{err_from_is_err_and}
 use Rattle.prog_tree.specs.Tree.{draft_tree}
-use Rattle.prog_text.specs.Lexing.{kinds}
+use Rattle.sirob.specs.declared.command_line.Mode.TheVariants.{Run}
 use Rattle.sirob.specs.Output.{run_lines, AddsFirst, IsStop}
-use Rattle.sirob.specs.Straight.{IsStraightSet}
 use Rattle.sirob.proofs.StopLaws.{stops_at_once, stops_running}
-use Rattle.sirob.proofs.StraightTexts.{straight_set}
 use Rattle.sirob.proofs.run.run_input.Goals as goal
 
 pub returns-in_err-set-clause-err : goal.returns-in_err-set-clause-err
@@ -13,19 +11,12 @@ returns-in_err-set-clause-err c =
     let exit = err_from_is_err_and c.from_residual.result c.from_residual.ensures.1 in
     let input = c.args.input.now in
     let f = c.in_err-set.field-0.0 in
-    rw (exit.1, exit.2) (subst (λ written. IsStop input f written) (sym c.requires.empty) (stops_at_once input f c.in_err-set.ensures.err))
-
-pub run_script-requires : goal.run_script-requires
-run_script-requires c =
-    let accepted = c.in_ok-set.ensures.ok.accepted in
-    subst (λ d. IsStraightSet (draft_tree d)) (sym c.draft.ensures.same) (straight_set (kinds accepted.placed) (draft_tree c.in_ok-set.set) accepted.spelled)
+    rw (exit.1, exit.2) (subst (λ written. IsStop Run input f written) (sym c.requires.empty) (stops_at_once Run input f c.in_err-set.ensures.err))
 
 pub returns-in_err-run_script-clause-err : goal.returns-in_err-run_script-clause-err
 returns-in_err-run_script-clause-err c =
     let exit = err_from_is_err_and c.from_residual-in_err-run_script.result c.from_residual-in_err-run_script.ensures.1 in
     let written = string_bytes c.run_script.new.out in
     let script = c.in_ok-set.script in
-    let first = subst (λ text. AddsFirst (run_lines (draft_tree c.draft.result.now) script) text written) c.requires.empty c.in_err-run_script.ensures.err in
-    rw (exit.1, exit.2)
-    (stops_running c.args.input.now written (draft_tree c.in_ok-set.set) script c.in_ok-set.ensures.ok
-    (subst (λ d. AddsFirst (run_lines (draft_tree d) script) [] written) c.draft.ensures.same first))
+    let first = subst (λ text. AddsFirst (run_lines (draft_tree c.in_ok-set.set) script) text written) c.requires.empty c.in_err-run_script.ensures.err in
+    rw (exit.1, exit.2) (stops_running c.args.input.now written (draft_tree c.in_ok-set.set) script c.in_ok-set.ensures.ok first)

@@ -1,7 +1,8 @@
-use Rattle.std.proofs.Common.{◌∙◌, ap, string_bytes}
+use Rattle.std.proofs.Common.{◌∙◌, ap, sym, subst, OnOk, OnErr, string_bytes}
 use Rattle.std.proofs.lemmas.Result.{err_from_is_err_and}
 use Rattle.prog_tree.specs.Tree.{draft_tree}
 use Rattle.sirob.specs.Machine.{machine_after, started}
+use Rattle.sirob.specs.Output.{run_lines, Adds, AddsFirst}
 use Rattle.sirob.proofs.RunLaws.{first_events, after_is, all_lines, first_rows, state_is, on_ok, on_err}
 use Rattle.sirob.proofs.run.run_script.Goals as goal
 
@@ -10,9 +11,10 @@ returns-in_err-run_events-clause-err c =
     let exit = err_from_is_err_and c.from_residual.result c.from_residual.ensures.1 in
     let engine = c.open-engine.result in
     rw (exit.1)
-    (first_events (draft_tree c.args.set.now) c.args.script engine.opening c.as_slice.result.now engine.machine
+    (subst (λ d. AddsFirst (run_lines (draft_tree d) c.args.script) (string_bytes c.args.out.now) (string_bytes c.run_events.new.out)) c.draft-draft.ensures.same
+    (first_events (draft_tree c.draft-draft.result.now) c.args.script engine.opening c.as_slice.result.now engine.machine
     (ap (λ e. e.opening) c.open-engine.ensures) c.as_slice.ensures (ap (λ e. e.machine) c.open-engine.ensures)
-    (string_bytes c.args.out.now) (string_bytes c.run_events.new.out) c.in_err-run_events.ensures.err)
+    (string_bytes c.args.out.now) (string_bytes c.run_events.new.out) c.in_err-run_events.ensures.err))
 
 pub returns-clause-ok : goal.returns-clause-ok
 returns-clause-ok c =
@@ -20,15 +22,16 @@ returns-clause-ok c =
     let ran = c.in_ok-run_events.ensures in
     let opening = ap (λ e. e.opening) c.open-engine.ensures in
     let machine = ap (λ e. e.machine) c.open-engine.ensures in
-    let set = draft_tree c.args.set.now in
+    let set = draft_tree c.draft-draft.result.now in
     let state =
-    state_is c.run_events.new.engine c.args.set.now c.args.script.rows c.rows.result.now (machine_after set c.args.script.rows c.args.script.events started)
-    c.rows.ensures.state (ran.set ∙ ap (λ e. e.set) c.open-engine.ensures) (ran.opening ∙ opening)
+    state_is c.run_events.new.engine c.draft-draft.result.now c.args.script.rows c.rows.result.now (machine_after set c.args.script.rows c.args.script.events started)
+    c.rows.ensures.state (ran.set ∙ ap (λ e. e.set) c.open-engine.ensures ∙ sym c.draft-draft.ensures.same) (ran.opening ∙ opening)
     (ran.after ∙ after_is set c.args.script engine.opening c.as_slice.result.now engine.machine opening c.as_slice.ensures machine) in
-    on_ok c.list_rows.result
+    subst (λ d. OnOk c.list_rows.result (Adds (run_lines (draft_tree d) c.args.script) (string_bytes c.args.out.now) (string_bytes c.list_rows.new.out))) c.draft-draft.ensures.same
+    (on_ok c.list_rows.result
     (all_lines set c.args.script engine.opening c.as_slice.result.now engine.machine opening c.as_slice.ensures machine
     (string_bytes c.args.out.now) (string_bytes c.run_events.new.out) (string_bytes c.list_rows.new.out) c.rows.result.now state ran.ok)
-    c.list_rows.ensures.ok
+    c.list_rows.ensures.ok)
 
 pub returns-clause-err : goal.returns-clause-err
 returns-clause-err c =
@@ -36,12 +39,13 @@ returns-clause-err c =
     let ran = c.in_ok-run_events.ensures in
     let opening = ap (λ e. e.opening) c.open-engine.ensures in
     let machine = ap (λ e. e.machine) c.open-engine.ensures in
-    let set = draft_tree c.args.set.now in
+    let set = draft_tree c.draft-draft.result.now in
     let state =
-    state_is c.run_events.new.engine c.args.set.now c.args.script.rows c.rows.result.now (machine_after set c.args.script.rows c.args.script.events started)
-    c.rows.ensures.state (ran.set ∙ ap (λ e. e.set) c.open-engine.ensures) (ran.opening ∙ opening)
+    state_is c.run_events.new.engine c.draft-draft.result.now c.args.script.rows c.rows.result.now (machine_after set c.args.script.rows c.args.script.events started)
+    c.rows.ensures.state (ran.set ∙ ap (λ e. e.set) c.open-engine.ensures ∙ sym c.draft-draft.ensures.same) (ran.opening ∙ opening)
     (ran.after ∙ after_is set c.args.script engine.opening c.as_slice.result.now engine.machine opening c.as_slice.ensures machine) in
-    on_err c.list_rows.result
+    subst (λ d. OnErr c.list_rows.result (AddsFirst (run_lines (draft_tree d) c.args.script) (string_bytes c.args.out.now) (string_bytes c.list_rows.new.out))) c.draft-draft.ensures.same
+    (on_err c.list_rows.result
     (first_rows set c.args.script engine.opening c.as_slice.result.now engine.machine opening c.as_slice.ensures machine
     (string_bytes c.args.out.now) (string_bytes c.run_events.new.out) (string_bytes c.list_rows.new.out) c.rows.result.now state ran.ok)
-    c.list_rows.ensures.err
+    c.list_rows.ensures.err)

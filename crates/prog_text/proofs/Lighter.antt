@@ -1,0 +1,147 @@
+-- Tokens that are nowhere deeper than others.
+use Rattle.std.proofs.Common.{◌≡◌, ◌∙◌, ℕ, suc, ◌≤◌, nat_lt, List, [], ◌∷◌, ◌++◌, Bool, true, false, ◌||◌, if◌then◌else◌, Option, Some, None, option_map, refl, ap, arith}
+use Rattle.std.proofs.lemmas.Bool.{ltb-false, le-ltb}
+use Rattle.prog_text.specs.declared.token.Token.{Token}
+use Rattle.prog_text.specs.declared.token.Token.TheVariants as t
+use Rattle.prog_text.specs.Limits.{brackets_after, operators_after, too_deep_from, too_deep}
+
+-- ---- brackets and operators
+
+-- the open brackets behind tokens, where n are open before them
+abbrev pub brackets_behind : ℕ → List Token → ℕ
+brackets_behind n [] = n
+brackets_behind n (u ∷ ts) = brackets_behind (brackets_after u n) ts
+
+-- the same of operators
+abbrev pub operators_behind : ℕ → List Token → ℕ
+operators_behind n [] = n
+operators_behind n (u ∷ ts) = operators_behind (operators_after u n) ts
+
+-- no token is too deep, where so many brackets and operators stand before it
+abbrev pub Fits : (brackets operators : ℕ) → List Token → Type 0
+Fits brackets operators [] = Unit {0}
+Fits brackets operators (u ∷ ts) = (brackets_after u brackets ≤ 16) × (operators_after u operators ≤ 32) × Fits (brackets_after u brackets) (operators_after u operators) ts
+
+-- a first test, and the others
+both_pass : (x y : Bool) (read : Option ℕ) → (if x || y then Some 0 else option_map suc read) ≡ None → (x ≡ false) × (y ≡ false) × (read ≡ None)
+both_pass false false None h = (refl, refl, refl)
+both_pass false false (Some n) h = cc
+both_pass false true read h = cc
+both_pass true y read h = cc
+
+fits_of : (b o : ℕ) (ts : List Token) → too_deep_from b o ts ≡ None → Fits b o ts
+fits_of b o [] h = tt
+fits_of b o (u ∷ ts) h =
+    let p : (nat_lt 16 (brackets_after u b) ≡ false) × (nat_lt 32 (operators_after u o) ≡ false) × (too_deep_from (brackets_after u b) (operators_after u o) ts ≡ None) = both_pass _ _ _ h in
+    (ltb-false _ _ p.0, ltb-false _ _ p.1, fits_of (brackets_after u b) (operators_after u o) ts p.2)
+
+none_deep : (b o : ℕ) (ts : List Token) → Fits b o ts → too_deep_from b o ts ≡ None
+none_deep b o [] h = refl
+none_deep b o (u ∷ ts) h = rw (le-ltb _ _ h.0, le-ltb _ _ h.1, none_deep (brackets_after u b) (operators_after u o) ts h.2) refl
+
+brackets_append : (n : ℕ) (ts us : List Token) → brackets_behind n (ts ++ us) ≡ brackets_behind (brackets_behind n ts) us
+brackets_append n [] us = refl
+brackets_append n (u ∷ ts) us = brackets_append (brackets_after u n) ts us
+
+operators_append : (n : ℕ) (ts us : List Token) → operators_behind n (ts ++ us) ≡ operators_behind (operators_behind n ts) us
+operators_append n [] us = refl
+operators_append n (u ∷ ts) us = operators_append (operators_after u n) ts us
+
+fits_parts : (b o : ℕ) (ts us : List Token) → Fits b o (ts ++ us) → Fits b o ts × Fits (brackets_behind b ts) (operators_behind o ts) us
+fits_parts b o [] us h = (tt, h)
+fits_parts b o (u ∷ ts) us h = let others : Fits _ _ ts × Fits _ _ us = fits_parts (brackets_after u b) (operators_after u o) ts us h.2 in ((h.0, h.1, others.0), others.1)
+
+fits_append : (b o : ℕ) (ts us : List Token) → Fits b o ts → Fits (brackets_behind b ts) (operators_behind o ts) us → Fits b o (ts ++ us)
+fits_append b o [] us first second = second
+fits_append b o (u ∷ ts) us first second = (first.0, first.1, fits_append (brackets_after u b) (operators_after u o) ts us first.2 second)
+
+-- ---- fewer brackets and operators before a token, fewer behind it
+
+brackets_rise : (u : Token) (m n : ℕ) → m ≤ n → brackets_after u m ≤ brackets_after u n
+brackets_rise t.Open m n h = omega arith
+brackets_rise t.OpenKey m n h = omega arith
+brackets_rise t.OpenBlock m n h = omega arith
+brackets_rise t.Close m n h = omega arith
+brackets_rise t.CloseKey m n h = omega arith
+brackets_rise t.CloseBlock m n h = omega arith
+brackets_rise u m n h = h
+
+operators_rise : (u : Token) (m n : ℕ) → m ≤ n → operators_after u m ≤ operators_after u n
+operators_rise t.Plus m n h = omega arith
+operators_rise t.Minus m n h = omega arith
+operators_rise t.Times m n h = omega arith
+operators_rise t.Semicolon m n h = omega arith
+operators_rise t.OpenBlock m n h = omega arith
+operators_rise t.CloseBlock m n h = omega arith
+operators_rise u m n h = h
+
+-- the tokens are nowhere deeper than the others, and leave no more open, also where fewer stand before them
+pub record Lighter (us ts : List Token) : Type 0 where
+  pub fits : (m n j k : ℕ) → m ≤ n → j ≤ k → Fits n k ts → Fits m j us
+  pub brackets : (m n : ℕ) → m ≤ n → brackets_behind m us ≤ brackets_behind n ts
+  pub operators : (j k : ℕ) → j ≤ k → operators_behind j us ≤ operators_behind k ts
+
+pub nothing_lighter : Lighter [] []
+nothing_lighter = record { fits = λ m n j k a b h. tt; brackets = λ m n a. a; operators = λ j k a. a }
+
+-- behind the same token
+pub behind_lighter : (u : Token) {us ts : List Token} → Lighter us ts → Lighter (u ∷ us) (u ∷ ts)
+behind_lighter u h = record {
+  fits = λ m n j k a b fits.
+      let fewer : brackets_after u m ≤ brackets_after u n = brackets_rise u m n a in
+      let less : operators_after u j ≤ operators_after u k = operators_rise u j k b in
+      (omega (arith, fits.0), omega (arith, fits.1), h.fits _ _ _ _ fewer less fits.2);
+  brackets = λ m n a. h.brackets _ _ (brackets_rise u m n a);
+  operators = λ j k a. h.operators _ _ (operators_rise u j k a);
+}
+
+pub same_lighter : (ts : List Token) → Lighter ts ts
+same_lighter [] = nothing_lighter
+same_lighter (u ∷ ts) = behind_lighter u (same_lighter ts)
+
+pub lighter_trans : {us vs ts : List Token} → Lighter us vs → Lighter vs ts → Lighter us ts
+lighter_trans first second = record {
+  fits = λ m n j k a b h. first.fits m n j k a b (second.fits n n k k (omega arith) (omega arith) h);
+  brackets = λ m n a. let x : _ ≤ _ = first.brackets m n a in let y : _ ≤ _ = second.brackets n n (omega arith) in omega (arith, x, y);
+  operators = λ j k a. let x : _ ≤ _ = first.operators j k a in let y : _ ≤ _ = second.operators k k (omega arith) in omega (arith, x, y);
+}
+
+pub lighter_append : {us vs ts ws : List Token} → Lighter us ts → Lighter vs ws → Lighter (us ++ vs) (ts ++ ws)
+lighter_append {us = us} {vs = vs} {ts = ts} {ws = ws} first second = record {
+  fits = λ m n j k a b h.
+      let both : Fits n k ts × Fits (brackets_behind n ts) (operators_behind k ts) ws = fits_parts n k ts ws h in
+      fits_append m j us vs (first.fits m n j k a b both.0) (second.fits _ _ _ _ (first.brackets m n a) (first.operators j k b) both.1);
+  brackets = λ m n a. rw (brackets_append m us vs, brackets_append n ts ws) (second.brackets _ _ (first.brackets m n a));
+  operators = λ j k a. rw (operators_append j us vs, operators_append k ts ws) (second.operators _ _ (first.operators j k a));
+}
+
+-- with the same token between two parts
+pub sides_lighter : (u : Token) {us vs ts ws : List Token} → Lighter us ts → Lighter vs ws → Lighter (us ++ u ∷ vs) (ts ++ u ∷ ws)
+sides_lighter u first second = lighter_append first (behind_lighter u second)
+
+-- before the same last token
+pub ended_lighter : (u : Token) {us ts : List Token} → Lighter us ts → Lighter (us ++ u ∷ []) (ts ++ u ∷ [])
+ended_lighter u h = sides_lighter u h nothing_lighter
+
+-- ---- brackets that are left out
+
+-- as many are open behind the tokens as before them
+pub record Balanced (ts : List Token) : Type 0 where
+  pub same : (n : ℕ) → brackets_behind n ts ≡ n
+
+pub balanced_append : {ts us : List Token} → Balanced ts → Balanced us → Balanced (ts ++ us)
+balanced_append {ts = ts} {us = us} first second = record { same = λ n. brackets_append n ts us ∙ ap (λ m. brackets_behind m us) (first.same n) ∙ second.same n }
+
+pub balanced_brackets : (ts : List Token) → Balanced ts → Balanced (t.Open ∷ (ts ++ t.Close ∷ []))
+balanced_brackets ts h = record { same = λ n. rw (brackets_append (suc n) ts (t.Close ∷ []), h.same (suc n)) (omega arith) }
+
+pub bare_lighter : (ts : List Token) → Balanced ts → Lighter ts (t.Open ∷ (ts ++ t.Close ∷ []))
+bare_lighter ts h = record {
+  fits = λ m n j k a b fits. (same_lighter ts).fits m (suc n) j k (omega arith) b (fits_parts (suc n) k ts (t.Close ∷ []) fits.2).0;
+  brackets = λ m n a. rw ((balanced_brackets ts h).same n, h.same m) a;
+  operators = λ j k a. rw (operators_append k ts (t.Close ∷ [])) ((same_lighter ts).operators j k a);
+}
+
+-- tokens of which none is too deep
+pub lighter_shallow : (us ts : List Token) → Lighter us ts → too_deep ts ≡ None → too_deep us ≡ None
+lighter_shallow us ts h shallow = none_deep 0 0 us (h.fits 0 0 0 0 (omega arith) (omega arith) (fits_of 0 0 ts shallow))

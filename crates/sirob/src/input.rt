@@ -1,0 +1,46 @@
+//! From the bytes of an input to a checked set, and to a script for it.
+ghost use Rattle.std.specs.Prelude.{◌≡◌, ◌≤◌, false, length, IfOk, IfErr};
+ghost use Rattle.prog_tree.specs.Tree.{draft_tree};
+ghost use Rattle.sirob.specs.FaultLines.{is_memory};
+ghost use Rattle.sirob.specs.Output.{input_limit, IsSoundText, IsChecked, IsRun, IsRefused, IsRefusedText};
+ghost use Rattle.sirob.specs.declared.command_line.Mode.TheVariants as mode;
+
+use crate::parts::{one_part, two_parts};
+use crate::run_fault::RunFault;
+use crate::script::{Script, read_script};
+use prog_check::{ProgramSet, check};
+use prog_text::parse;
+use std::alloc::Global;
+
+// The set that a text spells, where it has no fault.
+fn read_set(alloc: Global, text: &[u8]) -> Result<ProgramSet, RunFault>
+    ensures ok { IfOk result (λ set. IsSoundText text.now (draft_tree set)) }
+    ensures err { IfErr result (λ fault. is_memory fault ≡ false → IsRefusedText text.now fault) }
+{
+    let draft = parse(alloc, text)?;
+    let set = check(alloc, draft)?;
+    Ok(set)
+}
+
+/// The set of an input that is one text, where it has no fault.
+pub fn read_text(alloc: Global, input: &[u8]) -> Result<ProgramSet, RunFault>
+    requires { length input.now ≤ input_limit }
+    ensures ok { IfOk result (λ set. IsChecked input.now (draft_tree set)) }
+    ensures err { IfErr result (λ fault. is_memory fault ≡ false → IsRefused mode.Check input.now fault) }
+{
+    let text = one_part(input)?;
+    let set = read_set(alloc, text)?;
+    Ok(set)
+}
+
+/// The set and the script of an input, where it has no fault.
+pub fn read_text_and_script(alloc: Global, input: &[u8]) -> Result<(ProgramSet, Script), RunFault>
+    requires { length input.now ≤ input_limit }
+    ensures ok { IfOk result (λ r. IsRun input.now (draft_tree r.0) r.1) }
+    ensures err { IfErr result (λ fault. is_memory fault ≡ false → IsRefused mode.Run input.now fault) }
+{
+    let parts = two_parts(input)?;
+    let set = read_set(alloc, parts.text)?;
+    let script = read_script(alloc, &set, parts.rest)?;
+    Ok((set, script))
+}
