@@ -1,5 +1,5 @@
 -- Laws on how a run stops, and on what is then written.
-use Rattle.std.proofs.Common.{◌≡◌, ◌<◌, ◌≤◌, Bool, true, false, List, [], ◌∷◌, ℕ, length, Option, Some, None, Result, Ok, Err, IfOk, IfErr, IsErr, IfSome, refl, sym, subst, ◌∙◌}
+use Rattle.std.proofs.Common.{◌≡◌, ◌<◌, Bool, true, false, List, [], ℕ, length, Option, Some, None, Result, Ok, Err, IfOk, IfErr, IsErr, IfSome, refl, sym, subst, ◌∙◌}
 use Rattle.prog_tree.specs.Syntax.{DraftTree}
 use Rattle.sirob.specs.declared.command_line.Mode.{Mode}
 use Rattle.sirob.specs.declared.command_line.Mode.TheVariants.{Check, Run}
@@ -11,12 +11,7 @@ use Rattle.sirob.specs.declared.status.Status.{Status}
 use Rattle.sirob.specs.declared.status.Status.TheVariants as status
 use Rattle.sirob.specs.FaultLines.{fault_line, is_memory}
 use Rattle.sirob.specs.declared.script.Script.{Script}
-use Rattle.sirob.specs.declared.script_fault.ScriptFault.{ScriptFault}
-use Rattle.sirob.specs.declared.script_fault.ScriptFault.TheVariants as s
-use Rattle.sirob.specs.Commands.{Fails}
-use Rattle.sirob.specs.Script.{script_of}
-use Rattle.sirob.specs.Faults.{IsOfReading, IsOfDividing}
-use Rattle.sirob.specs.Parts.{parts_of}
+use Rattle.sirob.specs.Faults.{IsOfReading}
 use Rattle.sirob.specs.Output.{input_limit, parts_wanted, run_lines, AddsFirst, IsRun, IsDivided, IsSoundText, HasText, Gives, IsRefused, IsRefusedText, IsRefusedScript, IsStop, StopsBehind, at_once, behind_lines, memory_line, IsAnswer, done, refused, stopped, Ends, well, in_fault, in_fault_untold, in_memory, IsUnread, IsJust, Writes, IsReadFault}
 use Rattle.sirob.specs.Output as u
 
@@ -80,35 +75,6 @@ fault_ends lines _ _ _ no_memory (in_memory f memory) err = let never : true ≡
 pub fault_written : (lines : List ℕ) (f : RunFault) (old new : Option (List ℕ)) (status : Status)
     → is_memory f ≡ false → Writes (Ends [] (Err f)) old new status → Writes (Ends lines (Err f)) old new status
 fault_written lines f old new status no_memory (written, ends, appends) = (written, fault_ends lines (Err f) written status no_memory ends refl, appends)
-
--- dividing stopped
-pub refuses_parts : (mode : Mode) (input : List ℕ) (f : InputFault) → length input ≤ input_limit
-    → (f ≡ i.MissingPart → length (parts_of input) < parts_wanted mode) → (f ≡ i.ExtraPart → parts_wanted mode < length (parts_of input))
-    → IsOfDividing f → IsRefused mode input (fault.Input f)
-refuses_parts mode input i.MissingPart short missing extra kind = (short, missing refl)
-refuses_parts mode input i.ExtraPart short missing extra kind = (short, extra refl)
-refuses_parts mode input i.TooLong short missing extra kind = absurd kind
-refuses_parts mode input i.ReadFault short missing extra kind = absurd kind
-refuses_parts mode input i.Memory short missing extra kind = absurd kind
-
--- reading the text stopped
-pub refuses_text : (mode : Mode) (input text : List ℕ) (f : RunFault) → HasText mode input text → IsRefusedText text f → IsRefused mode input f
-refuses_text mode input text (fault.Text f) has r = (text, has, r)
-refuses_text mode input text (fault.Check f) has r = (text, has, r)
-refuses_text mode input text (fault.Input f) has r = absurd r
-refuses_text mode input text (fault.Script f) has r = absurd r
-
--- reading the script stopped
-pub refuses_script : (input text part : List ℕ) (set : DraftTree) (f : ScriptFault) (read : Result Script ScriptFault)
-    → IsDivided input (text ∷ part ∷ []) → IsSoundText text set → read ≡ script_of set part → Fails f read
-    → is_memory (fault.Script f) ≡ false → IsRefusedScript Run input f
-refuses_script input text part set s.Memory read divided spelled is fails no_memory = absurd (cc)
-refuses_script input text part set (s.BadLine line) read divided spelled is fails no_memory = (text, part, set, divided, spelled, sym is ∙ fails)
-refuses_script input text part set (s.UnknownName line) read divided spelled is fails no_memory = (text, part, set, divided, spelled, sym is ∙ fails)
-refuses_script input text part set (s.WrongKeys line) read divided spelled is fails no_memory = (text, part, set, divided, spelled, sym is ∙ fails)
-refuses_script input text part set (s.LateRow line) read divided spelled is fails no_memory = (text, part, set, divided, spelled, sym is ∙ fails)
-refuses_script input text part set (s.RepeatedRow line) read divided spelled is fails no_memory = (text, part, set, divided, spelled, sym is ∙ fails)
-refuses_script input text part set (s.TooManyEvents line) read divided spelled is fails no_memory = (text, part, set, divided, spelled, sym is ∙ fails)
 
 -- the script's lines stopped
 pub stops_running : (input written : List ℕ) (set : DraftTree) (script : Script) → IsRun input set script → AddsFirst (run_lines set script) [] written
