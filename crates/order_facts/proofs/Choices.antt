@@ -10,10 +10,11 @@ use Rattle.order_facts.specs.declared.steps.Node.{Node}
 use Rattle.order_facts.specs.declared.steps.Node.TheVariants.{Mine, MineUnknown, Theirs, TheirsUnknown, Number}
 use Rattle.order_facts.specs.declared.steps.Fact.{Fact}
 use Rattle.order_facts.specs.declared.sample.Choice.{Choice}
-use Rattle.order_facts.specs.Chain.{least, greatest, floor_of, ceiling_of, Entails, IsConsistent, IsI64, IsOfI64, Meets, value_of, Assignment}
-use Rattle.order_facts.specs.Reaches.{same_name, is_below, reaches, fact_at}
-use Rattle.order_facts.specs.Sample.{chosen, number_of, assignment_of, IsNearest, IsSampled, HasChoice}
-use Rattle.order_facts.proofs.Reach.{same_name-true, is_below-cases, reaches-first, reaches-last, reaches-fact, reaches-trans, IsIn}
+use Rattle.prog_tree.specs.Number.{least, greatest, IsI64}
+use Rattle.order_facts.specs.Chain.{floor_of, ceiling_of, Entails, IsConsistent, IsOfI64, Meets, value_under, Assignment}
+use Rattle.order_facts.specs.Reaches.{is_same_unknown, is_below, reaches, fact_at}
+use Rattle.order_facts.specs.Sample.{chosen, sample_number, assignment_of, IsNearest, IsSampled, HasChoice}
+use Rattle.order_facts.proofs.Reach.{is_same_unknown-true, is_below-cases, reaches-first, reaches-last, reaches-fact, reaches-trans, IsIn}
 use Rattle.order_facts.proofs.Bounds.{≤ℤ_trans, number-below, below-number, floor-reaches, reaches-ceiling}
 use Rattle.order_facts.proofs.Exact.{Entails-from_reaches, reaches-from_Entails, orderly_from_IsConsistent}
 use Rattle.order_facts.proofs.Places.{place_of}
@@ -82,17 +83,17 @@ IsSampled-free fs node c lowest highest no_lo no_hi = record {
 -- ---- each node gets its sample
 
 -- the node has a choice and gets its sample, or it has none and gets 0
-chosen-cases : (fs : List Fact) (node : Node) → same_name node node ≡ true → (choices : List Choice) → All (λ c. IsSampled fs c.node c.number) choices → IsSampled fs node (chosen choices node) ⊎ ((chosen choices node ≡ pos 0) × (Any (λ c. c.node ≡ node) choices → ⊥))
+chosen-cases : (fs : List Fact) (node : Node) → is_same_unknown node node ≡ true → (choices : List Choice) → All (λ c. IsSampled fs c.node c.number) choices → IsSampled fs node (chosen choices node) ⊎ ((chosen choices node ≡ pos 0) × (Any (λ c. c.node ≡ node) choices → ⊥))
 chosen-cases fs node own [] s = inr (refl, λ a. absurd (let h = a.2 in omega arith))
-chosen-cases fs node own (c ∷ rest) s = go (cases_Bool (same_name c.node node)) (chosen-cases fs node own rest (All-tail (λ (d : Choice). IsSampled fs d.node d.number) c rest s))
+chosen-cases fs node own (c ∷ rest) s = go (cases_Bool (is_same_unknown c.node node)) (chosen-cases fs node own rest (All-tail (λ (d : Choice). IsSampled fs d.node d.number) c rest s))
   where
-    go : (same_name c.node node ≡ true) ⊎ (same_name c.node node ≡ false) → IsSampled fs node (chosen rest node) ⊎ ((chosen rest node ≡ pos 0) × (Any (λ d. d.node ≡ node) rest → ⊥)) → IsSampled fs node (chosen (c ∷ rest) node) ⊎ ((chosen (c ∷ rest) node ≡ pos 0) × (Any (λ d. d.node ≡ node) (c ∷ rest) → ⊥))
-    go (inl e) h = inl (rw e (subst (λ (n : Node). IsSampled fs n c.number) (same_name-true _ _ e) (All-head (λ (d : Choice). IsSampled fs d.node d.number) c rest s)))
+    go : (is_same_unknown c.node node ≡ true) ⊎ (is_same_unknown c.node node ≡ false) → IsSampled fs node (chosen rest node) ⊎ ((chosen rest node ≡ pos 0) × (Any (λ d. d.node ≡ node) rest → ⊥)) → IsSampled fs node (chosen (c ∷ rest) node) ⊎ ((chosen (c ∷ rest) node ≡ pos 0) × (Any (λ d. d.node ≡ node) (c ∷ rest) → ⊥))
+    go (inl e) h = inl (rw e (subst (λ (n : Node). IsSampled fs n c.number) (is_same_unknown-true _ _ e) (All-head (λ (d : Choice). IsSampled fs d.node d.number) c rest s)))
     go (inr e) (inl h) = inl (rw e h)
     go (inr e) (inr h) = inr (rw e h.0, none)
       where
         other : c.node ≡ node → ⊥
-        other p = false≢true (sym e ∙ subst (λ (n : Node). same_name n node ≡ true) (sym p) own)
+        other p = false≢true (sym e ∙ subst (λ (n : Node). is_same_unknown n node ≡ true) (sym p) own)
 
         at : (k : ℕ) (d : Choice) → k < length (c ∷ rest) → get_or (c ∷ rest) k d ≡ d → d.node ≡ node → ⊥
         at zero d l q r = other (subst (λ (b : Choice). b.node ≡ node) (sym q) r)
@@ -102,7 +103,7 @@ chosen-cases fs node own (c ∷ rest) s = go (cases_Bool (same_name c.node node)
         none a = at a.0 a.1 a.2 a.3 a.4
 
 module _ (fs : List Fact) (choices : List Choice) (c : IsConsistent fs) (s : All (λ d. IsSampled fs d.node d.number) choices) (ends : (k : ℕ) → k < length fs → HasChoice choices (fact_at fs k).lo × HasChoice choices (fact_at fs k).hi) where
-  named : (node : Node) → same_name node node ≡ true → floor_of node ≡ least → ceiling_of node ≡ greatest → (HasChoice choices node → Any (λ d. d.node ≡ node) choices) → IsSampled fs node (chosen choices node)
+  named : (node : Node) → is_same_unknown node node ≡ true → floor_of node ≡ least → ceiling_of node ≡ greatest → (HasChoice choices node → Any (λ d. d.node ≡ node) choices) → IsSampled fs node (chosen choices node)
   named node own lowest highest has = go (chosen-cases fs node own choices s)
     where
       go : IsSampled fs node (chosen choices node) ⊎ ((chosen choices node ≡ pos 0) × (Any (λ d. d.node ≡ node) choices → ⊥)) → IsSampled fs node (chosen choices node)
@@ -115,12 +116,12 @@ module _ (fs : List Fact) (choices : List Choice) (c : IsConsistent fs) (s : All
           hi : (f : Fact) → (p : (k : ℕ) × (k < length fs) × (fact_at fs k ≡ f)) → f.hi ≡ node → ⊥
           hi f p e = h.1 (has (subst (λ (n : Node). HasChoice choices n) e (subst (λ (g : Fact). HasChoice choices g.hi) p.2 (ends p.0 p.1).1)))
 
-  pub IsSampled-number_of : (node : Node) → IsSampled fs node (number_of choices node)
-  IsSampled-number_of (Number k) = IsSampled-number fs k c
-  IsSampled-number_of (Mine i) = named (Mine i) (eq-eqb i i refl) refl refl (λ h. h)
-  IsSampled-number_of (MineUnknown i) = named (MineUnknown i) (eq-eqb i i refl) refl refl (λ h. h)
-  IsSampled-number_of (Theirs i) = named (Theirs i) (eq-eqb i i refl) refl refl (λ h. h)
-  IsSampled-number_of (TheirsUnknown i) = named (TheirsUnknown i) (eq-eqb i i refl) refl refl (λ h. h)
+  pub IsSampled-sample_number : (node : Node) → IsSampled fs node (sample_number choices node)
+  IsSampled-sample_number (Number k) = IsSampled-number fs k c
+  IsSampled-sample_number (Mine i) = named (Mine i) (eq-eqb i i refl) refl refl (λ h. h)
+  IsSampled-sample_number (MineUnknown i) = named (MineUnknown i) (eq-eqb i i refl) refl refl (λ h. h)
+  IsSampled-sample_number (Theirs i) = named (Theirs i) (eq-eqb i i refl) refl refl (λ h. h)
+  IsSampled-sample_number (TheirsUnknown i) = named (TheirsUnknown i) (eq-eqb i i refl) refl refl (λ h. h)
 
 -- ---- samples meet the facts
 
@@ -141,19 +142,19 @@ nearest-mono low high z low' high' z' n m l h = by_lt_z z' z (λ less. absurd (c
         let zero : unsigned_abs z ≤ unsigned_abs (pos 0) = n.nearest (pos 0) low_zero zero_high in
         absurd (omega (arith, ints))
 
-value_of-assignment_of : (choices : List Choice) (node : Node) → value_of (assignment_of choices) node ≡ number_of choices node
-value_of-assignment_of choices (Number k) = refl
-value_of-assignment_of choices _ = refl
+value_under-assignment_of : (choices : List Choice) (node : Node) → value_under (assignment_of choices) node ≡ sample_number choices node
+value_under-assignment_of choices (Number k) = refl
+value_under-assignment_of choices _ = refl
 
-module _ (fs : List Fact) (choices : List Choice) (s : (node : Node) → IsSampled fs node (number_of choices node)) where
+module _ (fs : List Fact) (choices : List Choice) (s : (node : Node) → IsSampled fs node (sample_number choices node)) where
   -- where the facts force one node below another, the sample keeps it
-  sampled-mono : (x y : Node) → Entails fs x y → number_of choices x ≤ℤ number_of choices y
+  sampled-mono : (x y : Node) → Entails fs x y → sample_number choices x ≤ℤ sample_number choices y
   sampled-mono x y h =
       let a = s x in
       let b = s y in
       nearest-mono a.low a.high _ b.low b.high _ a.between b.between (b.below.greatest a.low (λ v o m. ≤ℤ_trans _ _ _ (a.below.forced v o m) (h v o m))) (a.above.least b.high (λ v o m. ≤ℤ_trans _ _ _ (h v o m) (b.above.forced v o m)))
 
-  fits : (node : Node) → ((v : Assignment) → IsOfI64 v → IsI64 (value_of v node)) → IsI64 (number_of choices node)
+  fits : (node : Node) → ((v : Assignment) → IsOfI64 v → IsI64 (value_under v node)) → IsI64 (sample_number choices node)
   fits node h =
       let a = s node in
       (≤ℤ_trans _ _ _ (a.below.greatest least (λ v o m. (h v o).0)) a.between.at_least, ≤ℤ_trans _ _ _ a.between.at_most (a.above.least greatest (λ v o m. (h v o).1)))
@@ -162,4 +163,4 @@ module _ (fs : List Fact) (choices : List Choice) (s : (node : Node) → IsSampl
   IsOfI64-assignment_of = record { mine = λ i. fits (Mine i) (λ v o. o.mine i); mine_unknown = λ i. fits (MineUnknown i) (λ v o. o.mine_unknown i); theirs = λ i. fits (Theirs i) (λ v o. o.theirs i); theirs_unknown = λ i. fits (TheirsUnknown i) (λ v o. o.theirs_unknown i) }
 
   pub Meets-assignment_of : Meets (assignment_of choices) fs
-  Meets-assignment_of k d h = rw (value_of-assignment_of choices (get_or fs k d).lo, value_of-assignment_of choices (get_or fs k d).hi) (sampled-mono (get_or fs k d).lo (get_or fs k d).hi (λ v o m. m k d h))
+  Meets-assignment_of k d h = rw (value_under-assignment_of choices (get_or fs k d).lo, value_under-assignment_of choices (get_or fs k d).hi) (sampled-mono (get_or fs k d).lo (get_or fs k d).hi (λ v o m. m k d h))

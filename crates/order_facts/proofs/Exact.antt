@@ -6,7 +6,7 @@ use Rattle.std.proofs.lemmas.List.Elements.{All-nil, All-cons, All-head, All-tai
 use Rattle.order_facts.specs.declared.steps.Node.{Node}
 use Rattle.order_facts.specs.declared.steps.Node.TheVariants.{Mine, MineUnknown, Theirs, TheirsUnknown, Number}
 use Rattle.order_facts.specs.declared.steps.Fact.{Fact}
-use Rattle.order_facts.specs.Chain.{floor_of, ceiling_of, Assignment, IsOfI64, value_of, Meets, Entails, IsConsistent}
+use Rattle.order_facts.specs.Chain.{floor_of, ceiling_of, Assignment, IsOfI64, value_under, Meets, Entails, IsConsistent}
 use Rattle.order_facts.specs.Reaches.{reaches}
 use Rattle.order_facts.proofs.Reach.{is_below-cases, is_below-plain, reaches-cases, reaches-below, reaches-refl, reaches-fact, reaches-trans, IsIn}
 use Rattle.order_facts.proofs.Bounds.{≤ℤ_trans, ≤ℤ_antisym, larger, smaller, larger-left, larger-cases, smaller-left, larger-mono, smaller-mono, IsOrderly, low_of, high_of, low-floor, high-ceiling, low-reaches, reaches-high, low-mono, high-mono, low-high}
@@ -14,25 +14,25 @@ use Rattle.order_facts.proofs.Bounds.{≤ℤ_trans, ≤ℤ_antisym, larger, smal
 -- ---- an assignment that meets the facts, by recursion on them
 abbrev pub MeetsEach : Assignment → List Fact → Type 0
 MeetsEach v [] = Unit {0}
-MeetsEach v (f ∷ fs) = (value_of v f.lo ≤ℤ value_of v f.hi) × MeetsEach v fs
+MeetsEach v (f ∷ fs) = (value_under v f.lo ≤ℤ value_under v f.hi) × MeetsEach v fs
 
-pub floor-value : (v : Assignment) → IsOfI64 v → (x : Node) → (floor_of x ≤ℤ value_of v x) × (value_of v x ≤ℤ ceiling_of x)
+pub floor-value : (v : Assignment) → IsOfI64 v → (x : Node) → (floor_of x ≤ℤ value_under v x) × (value_under v x ≤ℤ ceiling_of x)
 floor-value v o (Mine i) = o.mine i
 floor-value v o (MineUnknown i) = o.mine_unknown i
 floor-value v o (Theirs i) = o.theirs i
 floor-value v o (TheirsUnknown i) = o.theirs_unknown i
 floor-value v o (Number k) = (≤ℤ_refl k, ≤ℤ_refl k)
 
-pub reaches-sound : (v : Assignment) → IsOfI64 v → (fs : List Fact) → MeetsEach v fs → (x y : Node) → reaches fs x y ≡ true → value_of v x ≤ℤ value_of v y
+pub reaches-sound : (v : Assignment) → IsOfI64 v → (fs : List Fact) → MeetsEach v fs → (x y : Node) → reaches fs x y ≡ true → value_under v x ≤ℤ value_under v y
 unfolding reaches
 reaches-sound v o [] m x y e = go (is_below-cases x y e)
   where
-    go : (x ≡ y) ⊎ (ceiling_of x ≤ℤ floor_of y) → value_of v x ≤ℤ value_of v y
+    go : (x ≡ y) ⊎ (ceiling_of x ≤ℤ floor_of y) → value_under v x ≤ℤ value_under v y
     go (inl p) = rw p (≤ℤ_refl _)
     go (inr h) = ≤ℤ_trans _ _ _ (floor-value v o x).1 (≤ℤ_trans _ _ _ h (floor-value v o y).0)
 reaches-sound v o (f ∷ fs) m x y e = go (reaches-cases f fs x y e) (reaches-sound v o fs m.1 x y) (reaches-sound v o fs m.1 x f.lo) (reaches-sound v o fs m.1 f.hi y)
   where
-    go : (reaches fs x y ≡ true) ⊎ ((reaches fs x f.lo ≡ true) × (reaches fs f.hi y ≡ true)) → (reaches fs x y ≡ true → value_of v x ≤ℤ value_of v y) → (reaches fs x f.lo ≡ true → value_of v x ≤ℤ value_of v f.lo) → (reaches fs f.hi y ≡ true → value_of v f.hi ≤ℤ value_of v y) → value_of v x ≤ℤ value_of v y
+    go : (reaches fs x y ≡ true) ⊎ ((reaches fs x f.lo ≡ true) × (reaches fs f.hi y ≡ true)) → (reaches fs x y ≡ true → value_under v x ≤ℤ value_under v y) → (reaches fs x f.lo ≡ true → value_under v x ≤ℤ value_under v f.lo) → (reaches fs f.hi y ≡ true → value_under v f.hi ≤ℤ value_under v y) → value_under v x ≤ℤ value_under v y
     go (inl a) whole front back = whole a
     go (inr p) whole front back = ≤ℤ_trans _ _ _ (front p.0) (≤ℤ_trans _ _ _ m.0 (back p.1))
 
@@ -47,10 +47,10 @@ IsBetween fs f = (x : Node) → (low_of fs x ≤ℤ f x) × (f x ≤ℤ high_of 
 between-number : (fs : List Fact) (f : Node → ℤ) → IsBetween fs f → (k : ℤ) → f (Number k) ≡ k
 between-number fs f b k = ≤ℤ_antisym _ _ (≤ℤ_trans _ _ _ (b (Number k)).1 (high-ceiling fs (Number k))) (≤ℤ_trans _ _ _ (low-floor fs (Number k)) (b (Number k)).0)
 
-pub value_of-assigned : (fs : List Fact) (f : Node → ℤ) → IsBetween fs f → (x : Node) → value_of (assigned f) x ≡ f x
+pub value_under-assigned : (fs : List Fact) (f : Node → ℤ) → IsBetween fs f → (x : Node) → value_under (assigned f) x ≡ f x
 unfolding assigned
-value_of-assigned fs f b (Number k) = sym (between-number fs f b k)
-value_of-assigned fs f b _ = refl
+value_under-assigned fs f b (Number k) = sym (between-number fs f b k)
+value_under-assigned fs f b _ = refl
 
 pub IsOfI64-assigned : (fs : List Fact) (f : Node → ℤ) → IsBetween fs f → IsOfI64 (assigned f)
 unfolding assigned
@@ -62,7 +62,7 @@ IsOfI64-assigned fs f b = record { mine = λ i. fits (Mine i); mine_unknown = λ
 -- an order of the facts that f keeps
 meets_each : (fs : List Fact) (f : Node → ℤ) → IsBetween fs f → (gs : List Fact) → ((g : Fact) → IsIn g gs → f g.lo ≤ℤ f g.hi) → MeetsEach (assigned f) gs
 meets_each fs f b [] h = tt
-meets_each fs f b (g ∷ gs) h = (rw (value_of-assigned fs f b g.lo, value_of-assigned fs f b g.hi) (h g (inl refl)), meets_each fs f b gs (λ k i. h k (inr i)))
+meets_each fs f b (g ∷ gs) h = (rw (value_under-assigned fs f b g.lo, value_under-assigned fs f b g.hi) (h g (inl refl)), meets_each fs f b gs (λ k i. h k (inr i)))
 
 -- ---- where s does not reach t, some assignment puts t below s
 module _ (fs : List Fact) (o : IsOrderly fs) (s : Node) where
@@ -91,7 +91,7 @@ module _ (fs : List Fact) (o : IsOrderly fs) (s : Node) where
       go (inr a) (inl b) = rw (a, b) (low-high fs o g.lo g.hi e)
       go (inr a) (inr b) = rw (a, b) (low-mono fs g.lo g.hi e)
 
-  pub counter : (t : Node) → reaches fs s t ≡ false → (v : Assignment) × IsOfI64 v × MeetsEach v fs × (value_of v s ≤ℤ value_of v t → ⊥)
+  pub counter : (t : Node) → reaches fs s t ≡ false → (v : Assignment) × IsOfI64 v × MeetsEach v fs × (value_under v s ≤ℤ value_under v t → ⊥)
   unfolding apart
   counter t unreached = (assigned apart, IsOfI64-assigned fs apart apart-between, meets_each fs apart apart-between fs apart-meets, against)
     where
@@ -104,8 +104,8 @@ module _ (fs : List Fact) (o : IsOrderly fs) (s : Node) where
       joined : high_of fs s ≤ℤ low_of fs t → reaches fs s t ≡ true
       joined h = reaches-trans fs _ _ _ (reaches-high fs s) (reaches-trans fs _ _ _ (reaches-below fs _ _ (is_below-plain (Number (high_of fs s)) (Number (low_of fs t)) h)) (low-reaches fs t))
 
-      against : value_of (assigned apart) s ≤ℤ value_of (assigned apart) t → ⊥
-      against h = false≢true (sym unreached ∙ joined (rw (value_of-assigned fs apart apart-between s, at_s, value_of-assigned fs apart apart-between t, at_t) at h))
+      against : value_under (assigned apart) s ≤ℤ value_under (assigned apart) t → ⊥
+      against h = false≢true (sym unreached ∙ joined (rw (value_under-assigned fs apart apart-between s, at_s, value_under-assigned fs apart apart-between t, at_t) at h))
 
 -- ---- the number nearest to 0 between the bounds
 abbrev pub nearest : ℤ → ℤ → ℤ
@@ -127,11 +127,11 @@ sampled-meets fs o = meets_each fs (sampled fs) (sampled-between fs o) fs each
 -- ---- in the words of the specification
 MeetsEach-from_Meets : (v : Assignment) (fs : List Fact) → Meets v fs → MeetsEach v fs
 MeetsEach-from_Meets v [] m = tt
-MeetsEach-from_Meets v (f ∷ fs) m = (All-head (λ g. value_of v g.lo ≤ℤ value_of v g.hi) f fs m, MeetsEach-from_Meets v fs (All-tail (λ g. value_of v g.lo ≤ℤ value_of v g.hi) f fs m))
+MeetsEach-from_Meets v (f ∷ fs) m = (All-head (λ g. value_under v g.lo ≤ℤ value_under v g.hi) f fs m, MeetsEach-from_Meets v fs (All-tail (λ g. value_under v g.lo ≤ℤ value_under v g.hi) f fs m))
 
 pub Meets-from_MeetsEach : (v : Assignment) (fs : List Fact) → MeetsEach v fs → Meets v fs
-Meets-from_MeetsEach v [] m = All-nil (λ g. value_of v g.lo ≤ℤ value_of v g.hi)
-Meets-from_MeetsEach v (f ∷ fs) m = All-cons (λ g. value_of v g.lo ≤ℤ value_of v g.hi) f fs m.0 (Meets-from_MeetsEach v fs m.1)
+Meets-from_MeetsEach v [] m = All-nil (λ g. value_under v g.lo ≤ℤ value_under v g.hi)
+Meets-from_MeetsEach v (f ∷ fs) m = All-cons (λ g. value_under v g.lo ≤ℤ value_under v g.hi) f fs m.0 (Meets-from_MeetsEach v fs m.1)
 
 -- consistent is orderly
 pub IsConsistent-from_orderly : (fs : List Fact) → IsOrderly fs → IsConsistent fs

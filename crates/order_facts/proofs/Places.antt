@@ -6,7 +6,8 @@ use Rattle.std.proofs.lemmas.List.{get_or_default}
 use Rattle.order_facts.specs.declared.steps.Node.{Node}
 use Rattle.order_facts.specs.declared.steps.Node.TheVariants.{Mine, Number}
 use Rattle.order_facts.specs.declared.steps.Fact.{Fact}
-use Rattle.order_facts.specs.Chain.{least, greatest, floor_of, ceiling_of, IsConsistent, HasContradiction, IsChainFrom, last_of}
+use Rattle.prog_tree.specs.Number.{least, greatest}
+use Rattle.order_facts.specs.Chain.{floor_of, ceiling_of, IsConsistent, HasContradiction, IsChainFrom, last_of}
 use Rattle.order_facts.specs.Reaches.{is_below, reaches, fact_at, HasOrderlyRow}
 use Rattle.order_facts.proofs.Reach.{reaches-first, reaches-last, reaches-below, reaches-fact, reaches-trans, IsIn}
 use Rattle.order_facts.proofs.Bounds.{HasOrderlyEnds, IsOrderly-from_ends}

@@ -7,7 +7,7 @@ use Rattle.std.proofs.lemmas.Int.{ints}
 use Rattle.order_facts.specs.declared.steps.Node.{Node}
 use Rattle.order_facts.specs.declared.steps.Node.TheVariants.{Mine, MineUnknown, Theirs, TheirsUnknown, Number}
 use Rattle.order_facts.specs.declared.steps.Fact.{Fact}
-use Rattle.order_facts.specs.Reaches.{same_name, is_below, reaches}
+use Rattle.order_facts.specs.Reaches.{is_same_unknown, is_below, reaches}
 use Rattle.order_facts.specs.Chain.{floor_of, ceiling_of}
 
 -- ---- Bool
@@ -31,12 +31,12 @@ pub ≤ℤ-le_z : (a b : ℤ) → a ≤ℤ b → le_z a b ≡ true
 
 -- ---- nodes that are the same, or in order whatever the facts
 
-pub same_name-true : (x y : Node) → same_name x y ≡ true → x ≡ y
-same_name-true (Mine i) (Mine j) e = ap Mine (eqb-true i j e)
-same_name-true (MineUnknown i) (MineUnknown j) e = ap MineUnknown (eqb-true i j e)
-same_name-true (Theirs i) (Theirs j) e = ap Theirs (eqb-true i j e)
-same_name-true (TheirsUnknown i) (TheirsUnknown j) e = ap TheirsUnknown (eqb-true i j e)
-same_name-true _ _ e = absurd (false≢true e)
+pub is_same_unknown-true : (x y : Node) → is_same_unknown x y ≡ true → x ≡ y
+is_same_unknown-true (Mine i) (Mine j) e = ap Mine (eqb-true i j e)
+is_same_unknown-true (MineUnknown i) (MineUnknown j) e = ap MineUnknown (eqb-true i j e)
+is_same_unknown-true (Theirs i) (Theirs j) e = ap Theirs (eqb-true i j e)
+is_same_unknown-true (TheirsUnknown i) (TheirsUnknown j) e = ap TheirsUnknown (eqb-true i j e)
+is_same_unknown-true _ _ e = absurd (false≢true e)
 
 pub floor-ceiling : (x : Node) → floor_of x ≤ℤ ceiling_of x
 floor-ceiling (Number k) = omega (arith, ints)
@@ -44,10 +44,10 @@ floor-ceiling _ = omega (arith, ints)
 
 pub is_below-cases : (x y : Node) → is_below x y ≡ true → (x ≡ y) ⊎ (ceiling_of x ≤ℤ floor_of y)
 unfolding is_below
-is_below-cases x y e = go (or_cases (same_name x y) (le_z (ceiling_of x) (floor_of y)) e)
+is_below-cases x y e = go (or_cases (is_same_unknown x y) (le_z (ceiling_of x) (floor_of y)) e)
   where
-    go : (same_name x y ≡ true) ⊎ (le_z (ceiling_of x) (floor_of y) ≡ true) → (x ≡ y) ⊎ (ceiling_of x ≤ℤ floor_of y)
-    go (inl a) = inl (same_name-true x y a)
+    go : (is_same_unknown x y ≡ true) ⊎ (le_z (ceiling_of x) (floor_of y) ≡ true) → (x ≡ y) ⊎ (ceiling_of x ≤ℤ floor_of y)
+    go (inl a) = inl (is_same_unknown-true x y a)
     go (inr b) = inr (le_z-true _ _ b)
 
 pub is_below-refl : (x : Node) → is_below x x ≡ true
@@ -60,7 +60,7 @@ is_below-refl (Number k) = or_right false _ (≤ℤ-le_z k k (≤ℤ_refl k))
 
 pub is_below-plain : (x y : Node) → ceiling_of x ≤ℤ floor_of y → is_below x y ≡ true
 unfolding is_below
-is_below-plain x y h = or_right (same_name x y) _ (≤ℤ-le_z _ _ h)
+is_below-plain x y h = or_right (is_same_unknown x y) _ (≤ℤ-le_z _ _ h)
 
 pub is_below-trans : (x y z : Node) → is_below x y ≡ true → is_below y z ≡ true → is_below x z ≡ true
 is_below-trans x y z a b = go (is_below-cases x y a) (is_below-cases y z b)

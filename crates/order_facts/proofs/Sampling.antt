@@ -6,7 +6,8 @@ use Rattle.std.proofs.lemmas.Int.{ints, clamps}
 use Rattle.order_facts.specs.declared.steps.Node.{Node}
 use Rattle.order_facts.specs.declared.steps.Node.TheVariants.{Number}
 use Rattle.order_facts.specs.declared.steps.Fact.{Fact}
-use Rattle.order_facts.specs.Chain.{least, greatest, floor_of, ceiling_of, IsConsistent}
+use Rattle.prog_tree.specs.Number.{least, greatest}
+use Rattle.order_facts.specs.Chain.{floor_of, ceiling_of, IsConsistent}
 use Rattle.order_facts.specs.Reaches.{reaches, fact_at}
 use Rattle.order_facts.specs.Sample.{IsNearest, IsSampled}
 use Rattle.order_facts.proofs.Reach.{reaches-fact, reaches-trans}

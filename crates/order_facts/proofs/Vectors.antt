@@ -3,9 +3,10 @@ use Rattle.std.proofs.Common.{◌≡◌, List, [], ◌∷◌, true, false, pos, 
 use Rattle.std.proofs.lemmas.Int.{ints}
 use Rattle.order_facts.specs.declared.steps.Node.TheVariants.{Mine, Theirs, Number}
 use Rattle.order_facts.specs.declared.steps.Fact.{Fact}
-use Rattle.order_facts.specs.Chain.{least, greatest, IsChain, RunsBetween, IsPlainStep}
+use Rattle.prog_tree.specs.Number.{least, greatest}
+use Rattle.order_facts.specs.Chain.{IsChain, RunsBetween, IsPlainStep}
 use Rattle.order_facts.specs.Reaches.{is_below, reaches}
-use Rattle.order_facts.specs.Sample.{number_of, IsNearest}
+use Rattle.order_facts.specs.Sample.{sample_number, IsNearest}
 
 -- 1 <= 2 and 2 <= 1, both given
 abbrev falling : List Fact
@@ -51,5 +52,5 @@ nearest-zero : IsNearest least greatest (pos 0)
 nearest-zero = record { at_least = omega (arith, ints); at_most = omega (arith, ints); nearest = λ w a b. omega (arith, ints) }
 
 -- a number is itself, a node without a choice is 0, and the first choice counts
-numbers : (number_of (record { node = Mine 0; number = pos 5 } ∷ record { node = Mine 0; number = pos 6 } ∷ []) (Mine 0) ≡ pos 5) × (number_of [] (Theirs 1) ≡ pos 0) × (number_of [] (Number (pos 9)) ≡ pos 9)
+numbers : (sample_number (record { node = Mine 0; number = pos 5 } ∷ record { node = Mine 0; number = pos 6 } ∷ []) (Mine 0) ≡ pos 5) × (sample_number [] (Theirs 1) ≡ pos 0) × (sample_number [] (Number (pos 9)) ≡ pos 9)
 numbers = (refl, refl, refl)

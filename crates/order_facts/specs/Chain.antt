@@ -1,20 +1,9 @@
 -- What facts say about order, and what a chain of them is.
-use Rattle.std.specs.Prelude.{◌≡◌, ℕ, ◌^◌, ◌-◌, List, [], ◌∷◌, pos, negsuc, ℤ, ◌≤ℤ◌, ◌<ℤ◌, Contains, All, ◌⊎◌}
+use Rattle.std.specs.Prelude.{◌≡◌, ℕ, List, [], ◌∷◌, ℤ, ◌≤ℤ◌, ◌<ℤ◌, Contains, All, ◌⊎◌}
+use Rattle.prog_tree.specs.Number.{least, greatest, IsI64}
 use Rattle.order_facts.specs.declared.steps.Node.{Node}
 use Rattle.order_facts.specs.declared.steps.Node.TheVariants.{Mine, MineUnknown, Theirs, TheirsUnknown, Number}
 use Rattle.order_facts.specs.declared.steps.Fact.{Fact}
-
--- the least i64
-abbrev pub least : ℤ
-least = negsuc (2 ^ 63 - 1)
-
--- the greatest i64
-abbrev pub greatest : ℤ
-greatest = pos (2 ^ 63 - 1)
-
--- a whole number that an i64 can be
-abbrev pub IsI64 : ℤ → Type 0
-IsI64 z = (least ≤ℤ z) × (z ≤ℤ greatest)
 
 -- ---- entailment
 
@@ -33,20 +22,20 @@ pub record IsOfI64 (v : Assignment) : Type 0 where
   pub theirs_unknown : (i : ℕ) → IsI64 (v.theirs_unknown i)
 
 -- what a node is under an assignment
-abbrev pub value_of : Assignment → Node → ℤ
-value_of v (Mine i) = v.mine i
-value_of v (MineUnknown i) = v.mine_unknown i
-value_of v (Theirs i) = v.theirs i
-value_of v (TheirsUnknown i) = v.theirs_unknown i
-value_of v (Number k) = k
+abbrev pub value_under : Assignment → Node → ℤ
+value_under v (Mine i) = v.mine i
+value_under v (MineUnknown i) = v.mine_unknown i
+value_under v (Theirs i) = v.theirs i
+value_under v (TheirsUnknown i) = v.theirs_unknown i
+value_under v (Number k) = k
 
 -- an assignment meets a list of facts: each fact's lower node is at most its upper one
 abbrev pub Meets : Assignment → List Fact → Type 0
-Meets v facts = All (λ f. value_of v f.lo ≤ℤ value_of v f.hi) facts
+Meets v facts = All (λ f. value_under v f.lo ≤ℤ value_under v f.hi) facts
 
 -- every assignment of i64 that meets all facts gives `x` at most what it gives `y`
 abbrev pub Entails : List Fact → Node → Node → Type 0
-Entails facts x y = (v : Assignment) → IsOfI64 v → Meets v facts → value_of v x ≤ℤ value_of v y
+Entails facts x y = (v : Assignment) → IsOfI64 v → Meets v facts → value_under v x ≤ℤ value_under v y
 
 -- some assignment of i64 meets all facts
 abbrev pub IsConsistent : List Fact → Type 0

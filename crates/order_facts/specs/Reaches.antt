@@ -7,16 +7,16 @@ use Rattle.order_facts.specs.declared.steps.Fact.{Fact}
 use Rattle.order_facts.specs.Chain.{floor_of, ceiling_of}
 
 -- two parameters or unknowns that are one
-abbrev pub same_name : Node → Node → Bool
-same_name (Mine i) (Mine j) = i == j
-same_name (MineUnknown i) (MineUnknown j) = i == j
-same_name (Theirs i) (Theirs j) = i == j
-same_name (TheirsUnknown i) (TheirsUnknown j) = i == j
-same_name _ _ = false
+abbrev pub is_same_unknown : Node → Node → Bool
+is_same_unknown (Mine i) (Mine j) = i == j
+is_same_unknown (MineUnknown i) (MineUnknown j) = i == j
+is_same_unknown (Theirs i) (Theirs j) = i == j
+is_same_unknown (TheirsUnknown i) (TheirsUnknown j) = i == j
+is_same_unknown _ _ = false
 
 -- `x` is `y`, or at most `y` whatever they are
 unfoldable pub is_below : Node → Node → Bool
-is_below x y = same_name x y || le_z (ceiling_of x) (floor_of y)
+is_below x y = is_same_unknown x y || le_z (ceiling_of x) (floor_of y)
 
 -- the facts put `x` below `y`: one more fact joins what is below its lower node to what its upper node is below
 unfoldable pub reaches : List Fact → Node → Node → Bool

@@ -5,21 +5,21 @@ use Rattle.order_facts.specs.declared.steps.Node.TheVariants.{Mine, MineUnknown,
 use Rattle.order_facts.specs.declared.steps.Fact.{Fact}
 use Rattle.order_facts.specs.declared.sample.Choice.{Choice}
 use Rattle.order_facts.specs.Chain.{Entails, Assignment}
-use Rattle.order_facts.specs.Reaches.{same_name}
+use Rattle.order_facts.specs.Reaches.{is_same_unknown}
 
 -- the number of the first choice of the node, or 0
 abbrev pub chosen : List Choice → Node → ℤ
 chosen [] node = pos 0
-chosen (c ∷ rest) node = if same_name c.node node then c.number else chosen rest node
+chosen (c ∷ rest) node = if is_same_unknown c.node node then c.number else chosen rest node
 
 -- what a sample gives a node: a number itself, and another node its choice
-abbrev pub number_of : List Choice → Node → ℤ
-number_of choices (Number k) = k
-number_of choices node = chosen choices node
+abbrev pub sample_number : List Choice → Node → ℤ
+sample_number choices (Number k) = k
+sample_number choices node = chosen choices node
 
 -- a sample as an assignment
 abbrev pub assignment_of : List Choice → Assignment
-assignment_of choices = record { mine = λ i. number_of choices (Mine i); mine_unknown = λ i. number_of choices (MineUnknown i); theirs = λ i. number_of choices (Theirs i); theirs_unknown = λ i. number_of choices (TheirsUnknown i) }
+assignment_of choices = record { mine = λ i. sample_number choices (Mine i); mine_unknown = λ i. sample_number choices (MineUnknown i); theirs = λ i. sample_number choices (Theirs i); theirs_unknown = λ i. sample_number choices (TheirsUnknown i) }
 
 -- the greatest number that the facts force below the node
 pub record IsForcedBelow (facts : List Fact) (node : Node) (low : ℤ) : Type 0 where

@@ -3,7 +3,7 @@
 ghost use Rattle.std.specs.Prelude.{◌≡◌, ◌↔◌, ◌≤◌, List, false, length, IfOk, IfSome, IfNone, IsSome, IsNone, IsTrue};
 ghost use Rattle.order_facts.specs.declared.steps.Node.{Node};
 ghost use Rattle.order_facts.specs.Chain.{Entails, IsConsistent, IsOfI64, Meets, HasContradiction, IsChain, RunsBetween};
-ghost use Rattle.order_facts.specs.Sample.{number_of, assignment_of, IsSampled};
+ghost use Rattle.order_facts.specs.Sample.{sample_number, assignment_of, IsSampled};
 
 use crate::matrix::Matrix;
 use crate::sample::Sample;
@@ -93,7 +93,7 @@ impl Closed {
     pub fn sample(&self) -> Result<Option<Sample>, AllocError>
         ensures none { IfOk result (λ found. IsNone found ↔ ¬ IsConsistent self.now) }
         ensures nearest { IfOk result (λ found. IfSome found
-            (λ s. (n : Node) → IsSampled self.now n (number_of s n))) }
+            (λ s. (n : Node) → IsSampled self.now n (sample_number s n))) }
         ensures meets { IfOk result (λ found. IfSome found
             (λ s. IsOfI64 (assignment_of s) × Meets (assignment_of s) self.now)) }
     {

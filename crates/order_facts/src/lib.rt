@@ -16,6 +16,3 @@ pub use closed::Closed;
 pub use given::{Facts, check_chain};
 pub use sample::Sample;
 pub use steps::Node;
-
-#[cfg(test)]
-mod tests;

@@ -6,7 +6,7 @@ ghost use Rattle.order_facts.specs.declared.steps.Node.TheVariants.{Number};
 ghost use Rattle.order_facts.specs.Chain.{IsConsistent, IsOfI64, Meets};
 ghost use Rattle.order_facts.specs.Reaches.{reaches};
 ghost use Rattle.order_facts.specs.Matrix.{IsMatrixOf};
-ghost use Rattle.order_facts.specs.Sample.{number_of, assignment_of, IsSampled, HasChoice};
+ghost use Rattle.order_facts.specs.Sample.{sample_number, assignment_of, IsSampled, HasChoice};
 
 use crate::matrix::Matrix;
 use crate::steps::{Fact, Node, highest, is_same, lowest};
@@ -111,7 +111,7 @@ impl Sample {
     pub(crate) fn of(alloc: Global, facts: &[Fact], matrix: &Matrix) -> Result<Sample, AllocError>
         requires matrix { IsMatrixOf matrix.now facts.now facts.now }
         requires consistent { IsConsistent facts.now }
-        ensures nearest { IfOk result (λ s. (n : Node) → IsSampled facts.now n (number_of s n)) }
+        ensures nearest { IfOk result (λ s. (n : Node) → IsSampled facts.now n (sample_number s n)) }
         ensures meets { IfOk result
             (λ s. IsOfI64 (assignment_of s) × Meets (assignment_of s) facts.now) }
     {
@@ -125,7 +125,7 @@ impl Sample {
 
     /// The node's number: a number itself, and 0 for a node in no fact.
     pub fn get(&self, node: Node) -> i64
-        ensures { result ≡ number_of self.now node }
+        ensures { result ≡ sample_number self.now node }
     {
         if let Node::Number(number) = node {
             return number;

@@ -12,7 +12,7 @@ use Rattle.std.proofs.lemmas.Int.{ints}
 use Rattle.std.proofs.lemmas.List.Kept.{IsStrictlySortedBy-filter}
 use Rattle.prog_tree.specs.declared.cell.Cell.{Cell}
 use Rattle.prog_tree.specs.declared.cell.Region.{Region}
-use Rattle.prog_tree.specs.Table.{cell_cmp, is_in, is_same_cell, is_among, cells_of, at_cell, TableState, row_at, with_row, without_row}
+use Rattle.prog_tree.specs.Table.{cell_cmp, is_in, is_same_cell, is_cell_among, cells_of, at_cell, TableState, row_at, with_row, without_row}
 use Rattle.prog_tree.specs.ChangeSet.{ChangedCells, changes_in, changed_row, changed}
 use Rattle.prog_tree.specs.Evaluation.{total_of}
 use Rattle.prog_tree.proofs.TableLemmas.{cell_total, find_is}
@@ -62,9 +62,9 @@ pub rows_without-cons : (k : Cell) (ks : List Cell) (m : TableState) → rows_wi
 rows_without-cons k ks [] = refl
 rows_without-cons k ks (row ∷ m) =
     let rest = rows_without-cons k ks m in
-    ap (λ b. cond (not (b || is_among ks row.0)) (row ∷ rows_without (k ∷ ks) m) (rows_without (k ∷ ks) m)) ((eq_by_cmp_equiv cell_total).symm row.0 k)
-    ∙ elim (is_same_cell k row.0) as (λ b. cond (not (b || is_among ks row.0)) (row ∷ rows_without (k ∷ ks) m) (rows_without (k ∷ ks) m) ≡ rows_without ks (cond (not b) (row ∷ without_row m k) (without_row m k)))
-    [ true ↦ rest | false ↦ ap (λ t. cond (not (is_among ks row.0)) (row ∷ t) t) rest ]
+    ap (λ b. cond (not (b || is_cell_among ks row.0)) (row ∷ rows_without (k ∷ ks) m) (rows_without (k ∷ ks) m)) ((eq_by_cmp_equiv cell_total).symm row.0 k)
+    ∙ elim (is_same_cell k row.0) as (λ b. cond (not (b || is_cell_among ks row.0)) (row ∷ rows_without (k ∷ ks) m) (rows_without (k ∷ ks) m) ≡ rows_without ks (cond (not b) (row ∷ without_row m k) (without_row m k)))
+    [ true ↦ rest | false ↦ ap (λ t. cond (not (is_cell_among ks row.0)) (row ∷ t) t) rest ]
 
 pub rows_without-nil : (m : TableState) → rows_without [] m ≡ m
 rows_without-nil [] = refl
@@ -86,18 +86,18 @@ AreAbsent m (e ∷ es) = (row_at m e.0 ≡ None) × AreAbsent m es
 -- all changed cells are among some cells
 abbrev AreAmong : List Cell → ChangedCells → Type 0
 AreAmong cells [] = Unit {0}
-AreAmong cells (e ∷ es) = (is_among cells e.0 ≡ true) × AreAmong cells es
+AreAmong cells (e ∷ es) = (is_cell_among cells e.0 ≡ true) × AreAmong cells es
 
 same_left : (q x k : Cell) → cell_cmp q x ≡ Equal → is_same_cell x k ≡ is_same_cell q k
 same_left q x k e = ap is_eq (sym (cell_total.congr q x k e))
 
-among_same : (cells : List Cell) (q x : Cell) → cell_cmp q x ≡ Equal → is_among cells x ≡ is_among cells q
+among_same : (cells : List Cell) (q x : Cell) → cell_cmp q x ≡ Equal → is_cell_among cells x ≡ is_cell_among cells q
 among_same cells q x e = ap (λ (f : Cell → Bool). list_any f cells) (λ i k. same_left q x k e i)
 
-row_at-rows_without : (own : List Cell) (m : TableState) (c : Cell) → is_among own c ≡ true → row_at (rows_without own m) c ≡ None
+row_at-rows_without : (own : List Cell) (m : TableState) (c : Cell) → is_cell_among own c ≡ true → row_at (rows_without own m) c ≡ None
 row_at-rows_without own m c h =
     find_is (rows_without own m) c
-    ∙ find-where_key cell_cmp (λ x. not (is_among own x)) c (λ x e. ap not (among_same own c x e)) m
+    ∙ find-where_key cell_cmp (λ x. not (is_cell_among own x)) c (λ x e. ap not (among_same own c x e)) m
     ∙ ap (λ b. cond (not b) (find cell_cmp c m) None) h
 
 are_absent : (own : List Cell) (m : TableState) (es : ChangedCells) → AreAmong own es → AreAbsent (rows_without own m) es
@@ -108,11 +108,11 @@ among_more : (k : Cell) (cells : List Cell) (es : ChangedCells) → AreAmong cel
 among_more k cells [] h = tt
 among_more k cells (e ∷ es) h = (one, among_more k cells es h.1)
   where
-    one : is_among (k ∷ cells) e.0 ≡ true
+    one : is_cell_among (k ∷ cells) e.0 ≡ true
     one = grind (arith, h.0)
 
-among_itself : (k : Cell) (cells : List Cell) → is_among (k ∷ cells) k ≡ true
-among_itself k cells = ap (λ o. is_eq o || is_among cells k) (tied_itself cell_total k)
+among_itself : (k : Cell) (cells : List Cell) → is_cell_among (k ∷ cells) k ≡ true
+among_itself k cells = ap (λ o. is_eq o || is_cell_among cells k) (tied_itself cell_total k)
 
 all_among : (es : ChangedCells) → AreAmong (cells_of es) es
 all_among [] = tt

@@ -13,7 +13,7 @@ use Rattle.prog_tree.specs.declared.table.TableDecl.{TableDecl}
 use Rattle.prog_tree.specs.declared.progress.Progress.{Progress}
 use Rattle.prog_tree.specs.Syntax.{ExprTree, Literal, Named, Plus, Less, KeyTree, BlockTree, BlockEnd, Then, Branch}
 use Rattle.prog_tree.specs.Syntax as s
-use Rattle.prog_tree.specs.Steps.{started, wrote}
+use Rattle.prog_tree.specs.Steps.{started_with, wrote}
 use Rattle.prog_tree.specs.Table.{TableState}
 use Rattle.prog_tree.specs.Evaluation.{total_of, rows_seen}
 use Rattle.prog_run.specs.Looks.{AreFound, asked_by, look_of}
@@ -46,7 +46,7 @@ abbrev cell_2 : ℤ → ℤ → Cell
 cell_2 a b = record { table = 1; first = a; second = b }
 
 abbrev nothing_yet : Progress
-nothing_yet = started ((codes "d", pos 7) ∷ [])
+nothing_yet = started_with ((codes "d", pos 7) ∷ [])
 
 -- put e[7, 2] = 5; delete e[7, 1];
 abbrev own : Progress

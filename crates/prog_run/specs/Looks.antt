@@ -10,7 +10,7 @@ use Rattle.prog_tree.specs.Syntax.{Name, ExprTree, KeyTree, RangeTree, Statement
 use Rattle.prog_tree.specs.Syntax as s
 use Rattle.prog_tree.specs.Numbering.{number_of}
 use Rattle.prog_tree.specs.Value.{value_of}
-use Rattle.prog_tree.specs.Table.{is_among, TableState, row_at}
+use Rattle.prog_tree.specs.Table.{is_cell_among, TableState, row_at}
 use Rattle.prog_tree.specs.ChangeSet.{ChangeSet, change_at}
 use Rattle.prog_tree.specs.Evaluation.{rows_left, cell_of, region_of, own_cells}
 use Rattle.prog_run.specs.declared.next.Question.{Question}
@@ -61,7 +61,7 @@ asked_next tables _ p = None
 
 -- rows but for those of some cells
 abbrev pub rows_without : List Cell → TableState → TableState
-rows_without own rows = filter (λ row. not (is_among own row.0)) rows
+rows_without own rows = filter (λ row. not (is_cell_among own row.0)) rows
 
 -- a look at a region, of a run with these changes, that found these rows; those of the cells that it had changed are left out
 abbrev pub region_look : ChangeSet → Region → TableState → Look

@@ -8,8 +8,6 @@ mod notes;
 mod region;
 mod run;
 mod statement;
-#[cfg(test)]
-mod tests;
 
 pub use fault::{AnswerFault, RunFault};
 pub use next::{Next, Question};

@@ -1,6 +1,10 @@
 pub mod ChangedLemmas
 pub mod EnvLemmas
+pub mod LookLaws
+pub mod NumberLaws
+pub mod NumberRuns
 pub mod TableLemmas
+pub mod TableStates
 pub mod TreeLemmas
 pub mod StatementVectors
 pub mod Vectors

@@ -8,7 +8,8 @@ use Rattle.prog_tree.specs.declared.deed.Look.TheVariants as look
 use Rattle.prog_tree.specs.Syntax.{ExprTree, Literal, Named, Plus, Minus, Times, Less, Equal, KeyTree, BlockTree, BlockEnd, Then, Branch}
 use Rattle.prog_tree.specs.Syntax as s
 use Rattle.prog_tree.specs.Table.{TableState}
-use Rattle.prog_tree.proofs.Vectors.{number, least, greatest, cell, region, test_of, if_less, ready, aborted, run}
+use Rattle.prog_tree.specs.Number.{least, greatest}
+use Rattle.prog_tree.proofs.Vectors.{number, cell, region, test_of, if_less, ready, aborted, run}
 
 -- ---- in short
 
@@ -144,6 +145,11 @@ lacks_after_put = refl
 pub keeps_and_looks : run [] (Then (s.Keep (codes "t") t_1) (Then (s.Get (codes "x") (codes "t") t_1 (number 0)) reply_x)) [] five_at_1
     ≡ record { ending = Ready; deeds = Kept (cell 0 (pos 1)) ∷ Read (cell 0 (pos 1)) (Some (pos 5)) ∷ []; replies = pos 5 ∷ []; changes = record { cells = []; kept = cell 0 (pos 1) ∷ [] }; looks = look.One (cell 0 (pos 1)) (Some (pos 5)) ∷ [] }
 keeps_and_looks = refl
+
+-- keep t[1]; let x = count t[1..3]; reply x; a kept cell is not the instance's own, so its row is among those looked at
+pub keeps_and_counts : run [] (Then (s.Keep (codes "t") t_1) (Then (s.Count (codes "x") (codes "t") (s.OneRange (number 1) (number 3))) reply_x)) [] five_at_1
+    ≡ record { ending = Ready; deeds = Kept (cell 0 (pos 1)) ∷ Counted (region (pos 1) (pos 3)) (pos 1) ∷ []; replies = pos 1 ∷ []; changes = record { cells = []; kept = cell 0 (pos 1) ∷ [] }; looks = look.Range (region (pos 1) (pos 3)) [] five_at_1 ∷ [] }
+keeps_and_counts = refl
 
 -- ---- tests
 

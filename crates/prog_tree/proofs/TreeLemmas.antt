@@ -1,7 +1,7 @@
 -- The meaning of a block by its list of statements.
 use mathlib.Core.Former.{Count}
-use Rattle.std.proofs.Common.{◌≡◌, List, [], ◌∷◌, ◌++◌, map, refl, ap, sym, ◌∙◌}
-use Rattle.prog_tree.specs.Syntax.{BlockTree, BlockEnd, Branch}
+use Rattle.std.proofs.Common.{◌≡◌, ◌↔◌, ℕ, suc, List, [], ◌∷◌, ◌++◌, map, length, refl, ap, sym, ◌∙◌}
+use Rattle.prog_tree.specs.Syntax.{BlockTree, BlockEnd, Then, Branch}
 use Rattle.prog_tree.specs.Tree.{test_tree, with_stmt, with_stmts, row_tree, stmts_tree, block_tree}
 use Rattle.prog_tree.specs.declared.expr.Test.{Test}
 use Rattle.prog_tree.specs.declared.stmt.Block.{Block}
@@ -47,3 +47,72 @@ same_stmts ss ts e = built_is ss ∙ ap built e ∙ sym (built_is ts)
 pub with_stmts-push : (ss : List Stmt) (s : Stmt) (rest : BlockTree) → with_stmts (ss ++ s ∷ []) rest ≡ with_stmts ss (with_stmt s rest)
 with_stmts-push [] s rest = refl
 with_stmts-push (x ∷ ss) s rest = ap (with_stmt x) (with_stmts-push ss s rest)
+
+-- ---- when two trees are the same
+
+-- how many statements a block has, its branches counted once each
+abbrev count_of : BlockTree → ℕ
+count_of BlockEnd = 0
+count_of (Then s rest) = suc (count_of rest)
+count_of (Branch x a b rest) = suc (count_of rest)
+
+count_of-with_stmt : (s : Stmt) (rest : BlockTree) → count_of (with_stmt s rest) ≡ suc (count_of rest)
+count_of-with_stmt (t.Branch' _ _ _ _ _) rest = refl
+count_of-with_stmt s rest = refl
+
+count_of-stmts : (ss : List Stmt) → count_of (stmts_tree ss) ≡ length ss
+count_of-stmts [] = refl
+count_of-stmts (s ∷ ss) = count_of-with_stmt s (stmts_tree ss) ∙ ap suc (count_of-stmts ss)
+
+-- what means the same has as many statements
+pub same_length : (ss ts : List Stmt) → stmts_tree ss ≡ stmts_tree ts → length ss ≡ length ts
+same_length ss ts e = sym (count_of-stmts ss) ∙ ap count_of e ∙ count_of-stmts ts
+
+-- the first statement alone, and the rest behind it
+abbrev first_of : BlockTree → BlockTree
+first_of BlockEnd = BlockEnd
+first_of (Then s rest) = Then s BlockEnd
+first_of (Branch x a b rest) = Branch x a b BlockEnd
+
+abbrev behind : BlockTree → BlockTree
+behind BlockEnd = BlockEnd
+behind (Then s rest) = rest
+behind (Branch x a b rest) = rest
+
+-- a statement alone, and another rest behind it
+abbrev before : BlockTree → BlockTree → BlockTree
+before BlockEnd rest = rest
+before (Then s _) rest = Then s rest
+before (Branch x a b _) rest = Branch x a b rest
+
+first_is-with_stmt : (s : Stmt) (rest : BlockTree) → first_of (with_stmt s rest) ≡ with_stmt s BlockEnd
+first_is-with_stmt (t.Branch' _ _ _ _ _) rest = refl
+first_is-with_stmt s rest = refl
+
+behind-with_stmt : (s : Stmt) (rest : BlockTree) → behind (with_stmt s rest) ≡ rest
+behind-with_stmt (t.Branch' _ _ _ _ _) rest = refl
+behind-with_stmt s rest = refl
+
+before-with_stmt : (s : Stmt) (rest : BlockTree) → before (with_stmt s BlockEnd) rest ≡ with_stmt s rest
+before-with_stmt (t.Branch' _ _ _ _ _) rest = refl
+before-with_stmt s rest = refl
+
+-- blocks are the same where their first statements are, and what is behind these
+pub same_block : (s r : Stmt) (ss rs : List Stmt) →
+    (stmts_tree (s ∷ ss) ≡ stmts_tree (r ∷ rs)) ↔ (with_stmt s BlockEnd ≡ with_stmt r BlockEnd) × (stmts_tree ss ≡ stmts_tree rs)
+same_block s r ss rs =
+    let a = stmts_tree ss in
+    let b = stmts_tree rs in (
+      λ e. (sym (first_is-with_stmt s a) ∙ ap first_of e ∙ first_is-with_stmt r b, sym (behind-with_stmt s a) ∙ ap behind e ∙ behind-with_stmt r b),
+      λ e. sym (before-with_stmt s a) ∙ ap (λ x. before x a) e.0 ∙ before-with_stmt r a ∙ ap (with_stmt r) e.1,
+    )
+
+-- branches are the same where their tests are, and their blocks
+pub same_branch : (x y : Test) (a b c d : Block) →
+    (with_stmt (t.Branch x a b) BlockEnd ≡ with_stmt (t.Branch y c d) BlockEnd) ↔ (test_tree x ≡ test_tree y) × (block_tree a ≡ block_tree c) × (block_tree b ≡ block_tree d)
+same_branch x y a b c d =
+    let from : with_stmt (t.Branch x a b) BlockEnd ≡ Branch (test_tree x) (block_tree a) (block_tree b) BlockEnd = ap (λ f. f BlockEnd) (branch_tree x a b) in
+    let to : with_stmt (t.Branch y c d) BlockEnd ≡ Branch (test_tree y) (block_tree c) (block_tree d) BlockEnd = ap (λ f. f BlockEnd) (branch_tree y c d) in (
+      λ e. let h : Branch (test_tree x) (block_tree a) (block_tree b) BlockEnd ≡ Branch (test_tree y) (block_tree c) (block_tree d) BlockEnd = sym from ∙ e ∙ to in (cc, cc, cc),
+      λ e. from ∙ (λ i. Branch (e.0 i) (e.1 i) (e.2 i) BlockEnd) ∙ sym to,
+    )

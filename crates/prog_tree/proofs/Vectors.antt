@@ -1,6 +1,6 @@
 -- Worked examples of what programs do, computed from the definitions.
 use Rattle.std.proofs.Common.{◌≡◌, [], ◌∷◌, refl, true, false}
-use Rattle.std.specs.Prelude.{ℕ, ℤ, pos, negsuc, codes, ◌-◌, ◌^◌, List, Bool, Some, None}
+use Rattle.std.specs.Prelude.{ℕ, ℤ, pos, negsuc, codes, List, Bool, Some, None}
 use Rattle.prog_tree.specs.declared.cell.Cell.{Cell}
 use Rattle.prog_tree.specs.declared.cell.Region.{Region}
 use Rattle.prog_tree.specs.declared.deed.Cause.{Cause}
@@ -14,6 +14,7 @@ use Rattle.prog_tree.specs.declared.table.TableDecl.{TableDecl}
 use Rattle.prog_tree.specs.declared.table.Arity.TheVariants as arity
 use Rattle.prog_tree.specs.ChangeSet.{ChangedCells, no_changes, changed}
 use Rattle.prog_tree.specs.Evaluation.{Evaluation, eval}
+use Rattle.prog_tree.specs.Number.{greatest}
 use Rattle.prog_tree.specs.Syntax.{ExprTree, Literal, Named, Plus, Minus, Times, RelationSign, Less, Equal, TestTree, KeyTree, BlockTree, BlockEnd, Then, Branch, ProgramTree}
 use Rattle.prog_tree.specs.Syntax as s
 use Rattle.prog_tree.specs.Table.{TableState}
@@ -28,12 +29,6 @@ plain_table name = record { name = name; arity = arity.One; grow = false }
 
 abbrev pub number : ℕ → ExprTree
 number n = Literal (pos n)
-
-abbrev pub least : ℤ
-least = negsuc (2 ^ 63 - 1)
-
-abbrev pub greatest : ℤ
-greatest = pos (2 ^ 63 - 1)
 
 -- a cell of a table with one key column
 abbrev pub cell : ℕ → ℤ → Cell
@@ -148,6 +143,14 @@ pub copies : run (codes "a" ∷ codes "b" ∷ [])
     ≡ ready (Read (cell 0 (pos 1)) (Some (pos 4)) ∷ Put (cell 0 (pos 2)) (pos 4) ∷ []) [] ((cell 0 (pos 2), Some (pos 4)) ∷ []) (look.One (cell 0 (pos 1)) (Some (pos 4)) ∷ [])
 copies = refl
 
+-- let name = get table[key] else 0;
+abbrev get_or_zero : List ℕ → List ℕ → List ℕ → BlockTree → BlockTree
+get_or_zero name table key rest = Then (s.Get name table (s.One (Named key)) (number 0)) rest
+
+-- put table[key] = value;
+abbrev put_at : List ℕ → List ℕ → ExprTree → BlockTree → BlockTree
+put_at table key value rest = Then (s.Put table (s.One (Named key)) value) rest
+
 -- ---- the register set
 
 -- let x = get t[k] else -1; reply x;
@@ -160,16 +163,99 @@ pub cuts : run (codes "k" ∷ []) (Then (s.Delete (codes "t") (s.One (Named (cod
     ≡ ready (Removed (cell 0 (pos 1)) ∷ []) [] ((cell 0 (pos 1), None) ∷ []) []
 cuts = refl
 
+abbrev set_body : BlockTree
+set_body = put_at (codes "t") (codes "k") (Named (codes "v")) BlockEnd
+
+-- put t[k] = v; of a present cell and of an absent one alike, with no look
+pub sets : run (codes "k" ∷ codes "v" ∷ []) set_body (pos 7 ∷ negsuc 4 ∷ []) ((cell 0 (pos 7), pos 1) ∷ [])
+    ≡ ready (Put (cell 0 (pos 7)) (negsuc 4) ∷ []) [] ((cell 0 (pos 7), Some (negsuc 4)) ∷ []) []
+sets = refl
+
+pub sets_a_new_row : run (codes "k" ∷ codes "v" ∷ []) set_body (pos 7 ∷ negsuc 4 ∷ []) []
+    ≡ ready (Put (cell 0 (pos 7)) (negsuc 4) ∷ []) [] ((cell 0 (pos 7), Some (negsuc 4)) ∷ []) []
+sets_a_new_row = refl
+
+-- ---- the transfer set
+
+-- let x = get t[a] else 0; put t[a] = x - v; let y = get t[b] else 0; put t[b] = y + v;
+abbrev transfer_run : List ℤ → TableState → Evaluation
+transfer_run args m =
+    run (codes "a" ∷ codes "b" ∷ codes "v" ∷ [])
+    (get_or_zero (codes "x") (codes "t") (codes "a")
+    (put_at (codes "t") (codes "a") (Minus (Named (codes "x")) (Named (codes "v")))
+    (get_or_zero (codes "y") (codes "t") (codes "b")
+    (put_at (codes "t") (codes "b") (Plus (Named (codes "y")) (Named (codes "v"))) BlockEnd))))
+    args m
+
+pub transfers : transfer_run (pos 2 ∷ pos 1 ∷ pos 5 ∷ []) ((cell 0 (pos 2), pos 9) ∷ [])
+    ≡ ready
+    (Read (cell 0 (pos 2)) (Some (pos 9)) ∷ Put (cell 0 (pos 2)) (pos 4) ∷ Read (cell 0 (pos 1)) None ∷ Put (cell 0 (pos 1)) (pos 5) ∷ [])
+    []
+    ((cell 0 (pos 1), Some (pos 5)) ∷ (cell 0 (pos 2), Some (pos 4)) ∷ [])
+    (look.One (cell 0 (pos 2)) (Some (pos 9)) ∷ look.One (cell 0 (pos 1)) None ∷ [])
+transfers = refl
+
+-- to the same cell: the second read finds the instance's own value, and looks nowhere
+pub transfers_to_itself : transfer_run (pos 2 ∷ pos 2 ∷ pos 5 ∷ []) ((cell 0 (pos 2), pos 9) ∷ [])
+    ≡ ready
+    (Read (cell 0 (pos 2)) (Some (pos 9)) ∷ Put (cell 0 (pos 2)) (pos 4) ∷ Read (cell 0 (pos 2)) (Some (pos 4)) ∷ Put (cell 0 (pos 2)) (pos 9) ∷ [])
+    []
+    ((cell 0 (pos 2), Some (pos 9)) ∷ [])
+    (look.One (cell 0 (pos 2)) (Some (pos 9)) ∷ [])
+transfers_to_itself = refl
+
 -- ---- SmallBank
 
 abbrev bank_run : List (List ℕ) → BlockTree → List ℤ → TableState → Evaluation
 bank_run params body args m = eval (plain_table (codes "savings") ∷ plain_table (codes "checking") ∷ []) (program_of params body) args m
 
-abbrev get_or_zero : List ℕ → List ℕ → List ℕ → BlockTree → BlockTree
-get_or_zero name table key rest = Then (s.Get name table (s.One (Named key)) (number 0)) rest
+-- let a = get savings[n] else 0; let b = get checking[n] else 0; reply a + b;
+pub balances : bank_run (codes "n" ∷ [])
+    (get_or_zero (codes "a") (codes "savings") (codes "n")
+    (get_or_zero (codes "b") (codes "checking") (codes "n")
+    (Then (s.Reply (Plus (Named (codes "a")) (Named (codes "b")))) BlockEnd)))
+    (pos 1 ∷ []) ((cell 0 (pos 1), pos 20) ∷ (cell 0 (pos 2), pos 6) ∷ [])
+    ≡ ready
+    (Read (cell 0 (pos 1)) (Some (pos 20)) ∷ Read (cell 1 (pos 1)) None ∷ [])
+    (pos 20 ∷ []) []
+    (look.One (cell 0 (pos 1)) (Some (pos 20)) ∷ look.One (cell 1 (pos 1)) None ∷ [])
+balances = refl
 
-abbrev put_at : List ℕ → List ℕ → ExprTree → BlockTree → BlockTree
-put_at table key value rest = Then (s.Put table (s.One (Named key)) value) rest
+-- if v < 0 { abort; } let b = get checking[n] else 0; put checking[n] = b + v;
+abbrev deposit_run : List ℤ → TableState → Evaluation
+deposit_run args m =
+    bank_run (codes "n" ∷ codes "v" ∷ [])
+    (if_less (Named (codes "v")) (number 0) (Then s.Abort BlockEnd) BlockEnd
+    (get_or_zero (codes "b") (codes "checking") (codes "n")
+    (put_at (codes "checking") (codes "n") (Plus (Named (codes "b")) (Named (codes "v"))) BlockEnd)))
+    args m
+
+pub deposits : deposit_run (pos 1 ∷ pos 5 ∷ []) ((cell 1 (pos 1), pos 2) ∷ [])
+    ≡ ready (Read (cell 1 (pos 1)) (Some (pos 2)) ∷ Put (cell 1 (pos 1)) (pos 7) ∷ []) [] ((cell 1 (pos 1), Some (pos 7)) ∷ []) (look.One (cell 1 (pos 1)) (Some (pos 2)) ∷ [])
+deposits = refl
+
+-- a negative deposit ends the instance before it looks
+pub deposits_nothing_negative : deposit_run (pos 1 ∷ negsuc 0 ∷ []) ((cell 1 (pos 1), pos 2) ∷ [])
+    ≡ aborted Asked [] []
+deposits_nothing_negative = refl
+
+-- let a = get savings[n] else 0; if a + v < 0 { abort; } put savings[n] = a + v;
+abbrev transact_run : List ℤ → TableState → Evaluation
+transact_run args m =
+    bank_run (codes "n" ∷ codes "v" ∷ [])
+    (get_or_zero (codes "a") (codes "savings") (codes "n")
+    (if_less (Plus (Named (codes "a")) (Named (codes "v"))) (number 0) (Then s.Abort BlockEnd) BlockEnd
+    (put_at (codes "savings") (codes "n") (Plus (Named (codes "a")) (Named (codes "v"))) BlockEnd)))
+    args m
+
+pub transacts : transact_run (pos 1 ∷ negsuc 19 ∷ []) ((cell 0 (pos 1), pos 20) ∷ [])
+    ≡ ready (Read (cell 0 (pos 1)) (Some (pos 20)) ∷ Put (cell 0 (pos 1)) (pos 0) ∷ []) [] ((cell 0 (pos 1), Some (pos 0)) ∷ []) (look.One (cell 0 (pos 1)) (Some (pos 20)) ∷ [])
+transacts = refl
+
+-- it asks to abort where the savings would be negative; the read before stays a deed
+pub transacts_nothing_negative : transact_run (pos 1 ∷ negsuc 20 ∷ []) ((cell 0 (pos 1), pos 20) ∷ [])
+    ≡ aborted Asked (Read (cell 0 (pos 1)) (Some (pos 20)) ∷ []) (look.One (cell 0 (pos 1)) (Some (pos 20)) ∷ [])
+transacts_nothing_negative = refl
 
 abbrev amalgamate_body : BlockTree
 amalgamate_body =
@@ -179,6 +265,15 @@ amalgamate_body =
     (put_at (codes "checking") (codes "n1") (number 0)
     (get_or_zero (codes "c") (codes "checking") (codes "n2")
     (put_at (codes "checking") (codes "n2") (Plus (Plus (Named (codes "c")) (Named (codes "a"))) (Named (codes "b"))) BlockEnd)))))
+
+pub amalgamates : bank_run (codes "n1" ∷ codes "n2" ∷ []) amalgamate_body (pos 2 ∷ pos 1 ∷ []) ((cell 0 (pos 2), pos 3) ∷ (cell 1 (pos 1), pos 10) ∷ (cell 1 (pos 2), pos 4) ∷ [])
+    ≡ ready
+    (Read (cell 0 (pos 2)) (Some (pos 3)) ∷ Read (cell 1 (pos 2)) (Some (pos 4)) ∷ Put (cell 0 (pos 2)) (pos 0) ∷ Put (cell 1 (pos 2)) (pos 0)
+    ∷ Read (cell 1 (pos 1)) (Some (pos 10)) ∷ Put (cell 1 (pos 1)) (pos 17) ∷ [])
+    []
+    ((cell 0 (pos 2), Some (pos 0)) ∷ (cell 1 (pos 1), Some (pos 17)) ∷ (cell 1 (pos 2), Some (pos 0)) ∷ [])
+    (look.One (cell 0 (pos 2)) (Some (pos 3)) ∷ look.One (cell 1 (pos 2)) (Some (pos 4)) ∷ look.One (cell 1 (pos 1)) (Some (pos 10)) ∷ [])
+amalgamates = refl
 
 -- both customers the same: the fifth step reads the instance's own 0, and looks nowhere
 pub amalgamates_one : bank_run (codes "n1" ∷ codes "n2" ∷ []) amalgamate_body (pos 1 ∷ pos 1 ∷ []) ((cell 0 (pos 1), pos 3) ∷ (cell 1 (pos 1), pos 4) ∷ [])

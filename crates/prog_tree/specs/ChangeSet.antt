@@ -1,13 +1,18 @@
 -- What an instance writes, and a table state with its changes made.
-use Rattle.std.specs.Prelude.{ℤ, Bool, ◌||◌, List, [], ◌∷◌, filter, Option, Some, None, is_some}
+use Rattle.std.specs.Prelude.{ℤ, Bool, ◌||◌, List, [], ◌∷◌, filter, Option, Some, None, is_some, IfSome, All}
 use Rattle.std.specs.BTreeSet.{insert_key}
 use Rattle.prog_tree.specs.declared.cell.Cell.{Cell}
 use Rattle.prog_tree.specs.declared.cell.Region.{Region}
-use Rattle.prog_tree.specs.Table.{cell_cmp, is_among, is_in, Cells, at_cell, with_cell, TableState, with_row, without_row}
+use Rattle.prog_tree.specs.Number.{IsI64}
+use Rattle.prog_tree.specs.Table.{cell_cmp, is_cell_among, is_in, IsI64Cell, Cells, at_cell, with_cell, TableState, with_row, without_row}
 
 -- the changed cells: each to a value, or removed
 abbrev pub ChangedCells : Type 0
 ChangedCells = Cells (Option ℤ)
+
+-- the columns of each changed cell are i64, and so is its new value
+abbrev pub HasI64Changes : ChangedCells → Type 0
+HasI64Changes changes = All (λ entry. IsI64Cell entry.0 × IfSome entry.1 IsI64) changes
 
 -- the changed cells, and those that are kept
 pub record ChangeSet : Type 0 where
@@ -28,7 +33,7 @@ with_kept s c = record s { kept = insert_key cell_cmp s.kept c }
 
 -- a cell is changed or kept
 abbrev pub touches_cell : ChangeSet → Cell → Bool
-touches_cell s c = is_some (change_at s c) || is_among s.kept c
+touches_cell s c = is_some (change_at s c) || is_cell_among s.kept c
 
 -- the changes of a region's cells
 abbrev pub changes_in : Region → ChangedCells → ChangedCells

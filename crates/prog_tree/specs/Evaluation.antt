@@ -13,11 +13,11 @@ use Rattle.prog_tree.specs.declared.deed.Look.TheVariants as look
 use Rattle.prog_tree.specs.declared.progress.Progress.{Progress}
 use Rattle.prog_tree.specs.declared.table.TableDecl.{TableDecl}
 use Rattle.prog_tree.specs.Numbering.{number_of}
-use Rattle.prog_tree.specs.Steps.{started, bound, did, replied, wrote, keeps, looked, closed}
+use Rattle.prog_tree.specs.Steps.{started_with, bound, did, replied, wrote, keeps, looked, closed}
 use Rattle.prog_tree.specs.Syntax.{Name, ExprTree, TestTree, KeyTree, One, Two, RangeTree, OneRange, TwoRange, StatementTree, BlockTree, BlockEnd, Then, Branch, ProgramTree}
 use Rattle.prog_tree.specs.Syntax as s
 use Rattle.prog_tree.specs.Value.{Bindings, or_else, exact, value_of, holds_of}
-use Rattle.prog_tree.specs.Table.{is_among, cells_of, TableState, row_at, rows_in}
+use Rattle.prog_tree.specs.Table.{is_cell_among, cells_of, TableState, row_at, rows_in}
 use Rattle.prog_tree.specs.ChangeSet.{ChangedCells, ChangeSet, change_at, changes_in, changed}
 
 -- after a statement or a block the instance goes on, or it has aborted
@@ -53,13 +53,13 @@ pair_of f (Some a) (Some b) = Some (f a b)
 pair_of f (Some a) None = None
 pair_of f None o = None
 
-abbrev pub cell_at : ℕ → ℤ → ℤ → Cell
-cell_at table x y = record { table = table; first = x; second = y }
+abbrev pub cell_in : ℕ → ℤ → ℤ → Cell
+cell_in table x y = record { table = table; first = x; second = y }
 
 -- the cell of a key; in a table of one column the second is 0
 abbrev pub cell_of : ℕ → KeyTree → Bindings → Option Cell
-cell_of table (One first) env = pair_of (cell_at table) (value_of first env) (Some (pos 0))
-cell_of table (Two first second) env = pair_of (cell_at table) (value_of first env) (value_of second env)
+cell_of table (One first) env = pair_of (cell_in table) (value_of first env) (Some (pos 0))
+cell_of table (Two first second) env = pair_of (cell_in table) (value_of first env) (value_of second env)
 
 -- in a table of one column, the cells between two ends
 abbrev pub region_between : ℕ → ℤ → ℤ → Region
@@ -86,7 +86,7 @@ own_cells r changes = cells_of (changes_in r changes)
 
 -- the rows of a region but for those of its own cells
 abbrev pub rows_left : Region → List Cell → TableState → TableState
-rows_left r own m = filter (λ row. not (is_among own row.0)) (rows_in r m)
+rows_left r own m = filter (λ row. not (is_cell_among own row.0)) (rows_in r m)
 
 -- the rows that the instance sees in a region: those of a look, with its own changes
 abbrev pub rows_seen : Region → ChangedCells → TableState → TableState
@@ -204,7 +204,7 @@ ended (Stops cause p) = as_evaluation (Aborted cause) p
 
 -- an instance before its first statement
 abbrev pub at_start : ProgramTree → List ℤ → Progress
-at_start program args = started (zip program.params args)
+at_start program args = started_with (zip program.params args)
 
 -- what a program does with arguments on a table state
 abbrev pub eval : List TableDecl → ProgramTree → List ℤ → TableState → Evaluation

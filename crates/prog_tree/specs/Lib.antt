@@ -1,5 +1,8 @@
 pub mod ChangeSet
 pub mod Evaluation
+pub mod Literals
+pub mod LookedAt
+pub mod Number
 pub mod Numbering
 pub mod Steps
 pub mod Syntax

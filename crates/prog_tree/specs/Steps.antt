@@ -9,8 +9,8 @@ use Rattle.prog_tree.specs.Value.{Bindings}
 use Rattle.prog_tree.specs.ChangeSet.{no_changes, with_change, with_kept}
 
 -- nothing was done yet
-abbrev pub started : Bindings → Progress
-started env = record { env = env; deeds = []; replies = []; changes = no_changes; looks = [] }
+abbrev pub started_with : Bindings → Progress
+started_with env = record { env = env; deeds = []; replies = []; changes = no_changes; looks = [] }
 
 abbrev pub bound : Name → ℤ → Progress → Progress
 bound name v p = record p { env = p.env ++ (name, v) ∷ [] }

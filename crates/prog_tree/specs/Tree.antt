@@ -1,5 +1,5 @@
 -- What the trees of `src/` mean.
-use Rattle.std.specs.Prelude.{List, [], ◌∷◌, map}
+use Rattle.std.specs.Prelude.{◌≡◌, List, [], ◌∷◌, map}
 use Rattle.prog_tree.specs.Syntax.{ExprTree, Literal, Named, Plus, Minus, Times, RelationSign, ComparisonTree, TestTree, KeyTree, One, Two, RangeTree, OneRange, TwoRange, StatementTree, BlockTree, BlockEnd, Then, Branch, ProgramTree, DraftTree}
 use Rattle.prog_tree.specs.Syntax as s
 use Rattle.prog_tree.specs.declared.expr.Expr.{Expr}
@@ -76,6 +76,10 @@ abbrev mutual
   pub row_tree : {n : _} → Row_of-Stmt n → BlockTree
   row_tree end_of-Stmt = BlockEnd
   row_tree (more_of-Stmt stmt rest) = with_stmt stmt (row_tree rest)
+
+-- a statement without blocks, by what it means
+abbrev pub IsStatement : Stmt → StatementTree → Type 0
+IsStatement stmt statement = with_stmt stmt BlockEnd ≡ Then statement BlockEnd
 
 -- statements, with the rest of their block
 abbrev pub with_stmts : List Stmt → BlockTree → BlockTree

@@ -1,7 +1,8 @@
 -- What expressions and tests are worth.
-use Rattle.std.specs.Prelude.{ℤ, ◌+ℤ◌, ◌-ℤ◌, ◌*ℤ◌, ◌^◌, pos, negsuc, nat_lt, nat_eq, int_lt, int_le, Bool, true, false, not, ◌&&◌, ◌||◌, List, [], ◌∷◌, Option, Some, None, if◌then◌else◌}
+use Rattle.std.specs.Prelude.{ℤ, ◌+ℤ◌, ◌-ℤ◌, ◌*ℤ◌, nat_eq, int_lt, int_le, Bool, true, false, not, ◌&&◌, ◌||◌, List, [], ◌∷◌, Option, Some, None, if◌then◌else◌}
 use Rattle.std.specs.Ordering.{int_eq}
 use Rattle.std.specs.Cmp.Lexicographic.{pointwise}
+use Rattle.prog_tree.specs.Number.{is_i64}
 use Rattle.prog_tree.specs.Syntax.{Name, ExprTree, Literal, Named, Plus, Minus, Times, RelationSign, Less, LessEqual, Greater, GreaterEqual, Equal, NotEqual, ComparisonTree, TestTree}
 
 -- names with their values, the newest last
@@ -19,11 +20,6 @@ or_else None o = o
 abbrev pub value_in : Bindings → Name → Option ℤ
 value_in [] name = None
 value_in (binding ∷ bindings) name = or_else (value_in bindings name) (if same_name binding.0 name then Some binding.1 else None)
-
--- whether a number is one of i64
-abbrev pub is_i64 : ℤ → Bool
-is_i64 (pos n) = nat_lt n (2 ^ 63)
-is_i64 (negsuc n) = nat_lt n (2 ^ 63)
 
 -- a result, or none outside i64
 abbrev pub exact : ℤ → Option ℤ
@@ -64,16 +60,16 @@ compared f None o = None
 abbrev pub comparison_holds : ComparisonTree → Bindings → Option Bool
 comparison_holds c env = compared (λ x y. turned c.negated (relates c.relation x y)) (value_of c.left env) (value_of c.right env)
 
-abbrev pub joined : (Bool → Bool → Bool) → Option Bool → Option Bool → Option Bool
-joined f (Some a) (Some b) = Some (f a b)
-joined f (Some a) None = None
-joined f None o = None
+abbrev pub joined_by : (Bool → Bool → Bool) → Option Bool → Option Bool → Option Bool
+joined_by f (Some a) (Some b) = Some (f a b)
+joined_by f (Some a) None = None
+joined_by f None o = None
 
 -- all comparisons are made, from left to right, also where one of them has settled the answer
 abbrev pub all_hold : List ComparisonTree → Bindings → Option Bool
 all_hold [] env = Some true
-all_hold (c ∷ cs) env = joined ◌&&◌ (comparison_holds c env) (all_hold cs env)
+all_hold (c ∷ cs) env = joined_by ◌&&◌ (comparison_holds c env) (all_hold cs env)
 
 abbrev pub holds_of : TestTree → Bindings → Option Bool
 holds_of [] env = Some false
-holds_of (cs ∷ rest) env = joined ◌||◌ (all_hold cs env) (holds_of rest env)
+holds_of (cs ∷ rest) env = joined_by ◌||◌ (all_hold cs env) (holds_of rest env)

@@ -1,3 +1,5 @@
+ghost use Rattle.std.specs.Prelude.{◌≡◌, ◌↔◌, IsTrue};
+
 use crate::cell::{Cell, Region};
 use crate::rows::Rows;
 use crate::sequence::Sequence;
@@ -51,4 +53,56 @@ pub enum Look {
         own: Sequence<Cell>,
         rows: Rows,
     },
+}
+
+fn same_regions(region: &Region, other: &Region) -> bool
+    ensures { IsTrue result ↔ (region.now ≡ other.now) }
+{
+    region == other
+}
+
+fn same_cells(cells: &[Cell], others: &[Cell]) -> bool
+    ensures { IsTrue result ↔ (cells.now ≡ others.now) }
+{
+    cells == others
+}
+
+impl Look {
+    /// Whether both looked at the same and found the same.
+    pub fn is_same(&self, other: &Look) -> bool
+        ensures { IsTrue result ↔ (self.now ≡ other.now) }
+    {
+        match (self, other) {
+            (Look::One(cell, held), Look::One(c, h)) => cell == c && held == h,
+            (
+                Look::Range { region, own, rows },
+                Look::Range {
+                    region: r,
+                    own: o,
+                    rows: s,
+                },
+            ) => {
+                if !same_regions(region, r) {
+                    return false;
+                }
+                same_cells(own.as_slice(), o.as_slice()) && rows.is_same(s)
+            }
+            _ => false,
+        }
+    }
+}
+
+/// Whether both lists have the same looks, in the same order.
+pub fn same_looks(looks: &[Look], others: &[Look]) -> bool
+    ensures { IsTrue result ↔ (looks.now ≡ others.now) }
+{
+    if looks.len() != others.len() {
+        return false;
+    }
+    for (look, other) in looks.iter().zip(others) {
+        if !look.is_same(other) {
+            return false;
+        }
+    }
+    true
 }

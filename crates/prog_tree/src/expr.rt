@@ -1,4 +1,4 @@
-ghost use Rattle.std.specs.Prelude.{◌≡◌, IfOk, map};
+ghost use Rattle.std.specs.Prelude.{◌≡◌, ◌↔◌, IfOk, IsTrue, map};
 ghost use Rattle.prog_tree.specs.Tree.{expr_tree, relation_sign, comparison_tree, clause_tree, test_tree};
 ghost use Rattle.prog_tree.specs.Value.{value_of, relates, comparison_holds, all_hold, holds_of};
 
@@ -55,6 +55,20 @@ impl Expr {
                 )
             }
         })
+    }
+
+    /// Whether both mean the same.
+    pub(crate) fn is_same(&self, other: &Expr) -> bool
+        ensures { IsTrue result ↔ (expr_tree self.now ≡ expr_tree other.now) }
+    {
+        match (self, other) {
+            (Expr::Literal(n), Expr::Literal(m)) => n == m,
+            (Expr::Name(a), Expr::Name(b)) => a.is_same(b),
+            (Expr::Plus(a, b), Expr::Plus(c, d)) => a.is_same(c) && b.is_same(d),
+            (Expr::Minus(a, b), Expr::Minus(c, d)) => a.is_same(c) && b.is_same(d),
+            (Expr::Times(a, b), Expr::Times(c, d)) => a.is_same(c) && b.is_same(d),
+            _ => false,
+        }
     }
 }
 
@@ -115,6 +129,16 @@ impl Comparison {
             right: self.right.copy(alloc)?,
         })
     }
+
+    /// Whether both mean the same.
+    pub(crate) fn is_same(&self, other: &Comparison) -> bool
+        ensures { IsTrue result ↔ (comparison_tree self.now ≡ comparison_tree other.now) }
+    {
+        self.negated == other.negated
+            && self.relation == other.relation
+            && self.left.is_same(&other.left)
+            && self.right.is_same(&other.right)
+    }
 }
 
 /// Comparisons that are joined by `and`.
@@ -145,6 +169,21 @@ impl Clause {
         }
         Ok(Clause { all: copies })
     }
+
+    /// Whether both have the same comparisons.
+    pub(crate) fn is_same(&self, other: &Clause) -> bool
+        ensures { IsTrue result ↔ (clause_tree self.now ≡ clause_tree other.now) }
+    {
+        if self.all.len() != other.all.len() {
+            return false;
+        }
+        for (comparison, same) in self.all.iter().zip(&other.all) {
+            if !comparison.is_same(same) {
+                return false;
+            }
+        }
+        true
+    }
 }
 
 /// A test: clauses that are joined by `or`.
@@ -173,5 +212,20 @@ impl Test {
             copies.push(clause.copy()?)?;
         }
         Ok(Test { any: copies })
+    }
+
+    /// Whether both have the same clauses.
+    pub(crate) fn is_same(&self, other: &Test) -> bool
+        ensures { IsTrue result ↔ (test_tree self.now ≡ test_tree other.now) }
+    {
+        if self.any.len() != other.any.len() {
+            return false;
+        }
+        for (clause, same) in self.any.iter().zip(&other.any) {
+            if !clause.is_same(same) {
+                return false;
+            }
+        }
+        true
     }
 }

@@ -1,4 +1,4 @@
-ghost use Rattle.std.specs.Prelude.{◌≡◌, IfOk, map};
+ghost use Rattle.std.specs.Prelude.{◌≡◌, ◌↔◌, IfOk, IsTrue, map};
 ghost use Rattle.prog_tree.specs.Tree.{program_tree, draft_tree};
 
 use crate::name::Name;
@@ -24,6 +24,20 @@ fn copy_names(names: &Vec<Name>) -> Result<Vec<Name>, AllocError>
     Ok(copies)
 }
 
+fn same_names(names: &[Name], others: &[Name]) -> bool
+    ensures { IsTrue result ↔ (names.now ≡ others.now) }
+{
+    if names.len() != others.len() {
+        return false;
+    }
+    for (name, other) in names.iter().zip(others) {
+        if !name.is_same(other) {
+            return false;
+        }
+    }
+    true
+}
+
 impl Program {
     pub(crate) fn copy(&self) -> Result<Self, AllocError>
         ensures { IfOk result (λ program. program_tree program ≡ program_tree self.now) }
@@ -33,6 +47,15 @@ impl Program {
             params: copy_names(&self.params)?,
             body: self.body.copy()?,
         })
+    }
+
+    /// Whether both have the same name, the same parameters and the same body.
+    pub fn is_same(&self, other: &Program) -> bool
+        ensures { IsTrue result ↔ (program_tree self.now ≡ program_tree other.now) }
+    {
+        self.name.is_same(&other.name)
+            && same_names(&self.params, &other.params)
+            && self.body.is_same(&other.body)
     }
 }
 

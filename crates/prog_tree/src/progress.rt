@@ -19,11 +19,11 @@ pub struct Progress<'a> {
 
 impl<'a> Progress<'a> {
     ghost use Rattle.std.specs.Prelude.{◌≡◌};
-    ghost use Rattle.prog_tree.specs.Steps.{started};
+    ghost use Rattle.prog_tree.specs.Steps.{started_with};
 
     /// A run that has only its arguments.
     pub fn new(alloc: Global, env: Env<'a>) -> Self
-        ensures { result ≡ started env.entry }
+        ensures { result ≡ started_with env.entry }
     {
         Progress {
             env,

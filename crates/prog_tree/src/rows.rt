@@ -1,6 +1,5 @@
-ghost use Rattle.std.specs.Prelude.{◌≡◌, [], length, IfOk, OnOk, OnErr, IsSome};
-ghost use Rattle.std.specs.List.Sorted.{IsStrictlySortedBy};
-ghost use Rattle.prog_tree.specs.Table.{cell_cmp, row_at, with_row, without_row, cells_of};
+ghost use Rattle.std.specs.Prelude.{◌≡◌, ◌↔◌, [], length, IfOk, OnOk, OnErr, IsTrue};
+ghost use Rattle.prog_tree.specs.Table.{HasI64Rows, IsTableState, row_at, with_row, without_row};
 
 use crate::cell::Cell;
 use std::alloc::{AllocError, Global};
@@ -15,11 +14,13 @@ pub struct Rows {
 }
 
 impl Model for Rows {
-    ghost use Rattle.prog_tree.specs.Table.{TableState};
+    ghost use Rattle.prog_tree.specs.Table.{TableState, HasI64Rows};
 
     ghost Value = { TableState };
 
     ghost view = { λ r. r.rows.entries };
+
+    ghost invariant = { λ r. HasI64Rows r.rows.entries };
 }
 
 impl Rows {
@@ -56,7 +57,8 @@ impl Rows {
 
     pub fn len(&self) -> usize
         ensures len { result ≡ length self.now }
-        ensures ordered { IsStrictlySortedBy cell_cmp (cells_of self.now) }
+        ensures ordered { IsTableState self.now }
+        ensures i64 { HasI64Rows self.now }
     {
         self.rows.len()
     }
@@ -64,7 +66,8 @@ impl Rows {
     /// The rows in the order of their cells.
     pub fn iter(&self) -> Iter<'_, Cell, i64>
         ensures rest { result ≡ self.now }
-        ensures ordered { IsStrictlySortedBy cell_cmp (cells_of self.now) }
+        ensures ordered { IsTableState self.now }
+        ensures i64 { HasI64Rows self.now }
     {
         self.rows.iter()
     }
@@ -75,5 +78,12 @@ impl Rows {
         Ok(Rows {
             rows: self.rows.clone()?,
         })
+    }
+
+    /// Whether both have the same rows.
+    pub fn is_same(&self, other: &Rows) -> bool
+        ensures { IsTrue result ↔ (self.now ≡ other.now) }
+    {
+        self.rows == other.rows
     }
 }

@@ -1,11 +1,20 @@
-ghost use Rattle.std.specs.Prelude.{◌≡◌, IfOk};
+ghost use Rattle.std.specs.Prelude.{◌≡◌, ◌↔◌, IfOk, IsTrue};
 ghost use Rattle.prog_tree.specs.Evaluation.{cell_of, region_of};
+ghost use Rattle.prog_tree.specs.Syntax.{BlockEnd};
 ghost use Rattle.prog_tree.specs.Tree.{key_tree, range_tree, with_stmt, block_tree};
 
 use crate::cell::{Cell, Region};
 use crate::env::Env;
 use crate::expr::{Expr, Test};
 use crate::name::Name;
+use crate::stmt_copy::{
+    copy_bind, copy_count, copy_delete, copy_get, copy_insert, copy_keep, copy_lacks, copy_need,
+    copy_put, copy_reply, copy_sum,
+};
+use crate::stmt_same::{
+    is_bind, is_count, is_delete, is_get, is_insert, is_keep, is_lacks, is_need, is_put, is_reply,
+    is_sum,
+};
 use std::alloc::{AllocError, Global};
 
 /// The key of a cell: an expression for each key column.
@@ -38,6 +47,17 @@ impl Key {
             Key::One(first) => Key::One(first.copy(alloc)?),
             Key::Two(first, second) => Key::Two(first.copy(alloc)?, second.copy(alloc)?),
         })
+    }
+
+    /// Whether both mean the same.
+    pub(crate) fn is_same(&self, other: &Key) -> bool
+        ensures { IsTrue result ↔ (key_tree self.now ≡ key_tree other.now) }
+    {
+        match (self, other) {
+            (Key::One(a), Key::One(b)) => a.is_same(b),
+            (Key::Two(a, b), Key::Two(c, d)) => a.is_same(c) && b.is_same(d),
+            _ => false,
+        }
     }
 }
 
@@ -88,6 +108,26 @@ impl Range {
                 high: high.copy(alloc)?,
             },
         })
+    }
+
+    /// Whether both mean the same.
+    pub(crate) fn is_same(&self, other: &Range) -> bool
+        ensures { IsTrue result ↔ (range_tree self.now ≡ range_tree other.now) }
+    {
+        match (self, other) {
+            (Range::One { low, high }, Range::One { low: l, high: h }) => {
+                low.is_same(l) && high.is_same(h)
+            }
+            (
+                Range::Two { first, low, high },
+                Range::Two {
+                    first: f,
+                    low: l,
+                    high: h,
+                },
+            ) => { first.is_same(f) && low.is_same(l) && high.is_same(h) }
+            _ => false,
+        }
     }
 }
 
@@ -172,58 +212,21 @@ impl Stmt {
         ensures { IfOk result (λ stmt. with_stmt stmt ≡ with_stmt self.now) }
     {
         match self {
-            Stmt::Bind { name, value } => Ok(Stmt::Bind {
-                name: name.copy()?,
-                value: value.copy(alloc)?,
-            }),
+            Stmt::Bind { name, value } => copy_bind(alloc, name, value),
             Stmt::Get {
                 name,
                 table,
                 key,
                 otherwise,
-            } => Ok(Stmt::Get {
-                name: name.copy()?,
-                table: table.copy()?,
-                key: key.copy(alloc)?,
-                otherwise: otherwise.copy(alloc)?,
-            }),
-            Stmt::Need { name, table, key } => Ok(Stmt::Need {
-                name: name.copy()?,
-                table: table.copy()?,
-                key: key.copy(alloc)?,
-            }),
-            Stmt::Count { name, table, range } => Ok(Stmt::Count {
-                name: name.copy()?,
-                table: table.copy()?,
-                range: range.copy(alloc)?,
-            }),
-            Stmt::Sum { name, table, range } => Ok(Stmt::Sum {
-                name: name.copy()?,
-                table: table.copy()?,
-                range: range.copy(alloc)?,
-            }),
-            Stmt::Lacks { table, key } => Ok(Stmt::Lacks {
-                table: table.copy()?,
-                key: key.copy(alloc)?,
-            }),
-            Stmt::Put { table, key, value } => Ok(Stmt::Put {
-                table: table.copy()?,
-                key: key.copy(alloc)?,
-                value: value.copy(alloc)?,
-            }),
-            Stmt::Insert { table, key, value } => Ok(Stmt::Insert {
-                table: table.copy()?,
-                key: key.copy(alloc)?,
-                value: value.copy(alloc)?,
-            }),
-            Stmt::Delete { table, key } => Ok(Stmt::Delete {
-                table: table.copy()?,
-                key: key.copy(alloc)?,
-            }),
-            Stmt::Keep { table, key } => Ok(Stmt::Keep {
-                table: table.copy()?,
-                key: key.copy(alloc)?,
-            }),
+            } => copy_get(alloc, name, table, key, otherwise),
+            Stmt::Need { name, table, key } => copy_need(alloc, name, table, key),
+            Stmt::Count { name, table, range } => copy_count(alloc, name, table, range),
+            Stmt::Sum { name, table, range } => copy_sum(alloc, name, table, range),
+            Stmt::Lacks { table, key } => copy_lacks(alloc, table, key),
+            Stmt::Put { table, key, value } => copy_put(alloc, table, key, value),
+            Stmt::Insert { table, key, value } => copy_insert(alloc, table, key, value),
+            Stmt::Delete { table, key } => copy_delete(alloc, table, key),
+            Stmt::Keep { table, key } => copy_keep(alloc, table, key),
             Stmt::Branch {
                 test,
                 then,
@@ -233,10 +236,52 @@ impl Stmt {
                 then: then.copy()?,
                 otherwise: otherwise.copy()?,
             }),
-            Stmt::Reply { value } => Ok(Stmt::Reply {
-                value: value.copy(alloc)?,
-            }),
+            Stmt::Reply { value } => copy_reply(alloc, value),
             Stmt::Abort => Ok(Stmt::Abort),
+        }
+    }
+
+    /// Whether both mean the same.
+    #[cycle(compares)]
+    #[tactic(auto, using(crate::proofs::TreeLemmas::same_branch))]
+    pub(crate) fn is_same(&self, other: &Stmt) -> bool
+        ensures { IsTrue result ↔ (with_stmt self.now BlockEnd ≡ with_stmt other.now BlockEnd) }
+    {
+        match self {
+            Stmt::Bind { name, value } => is_bind(other, name, value),
+            Stmt::Get {
+                name,
+                table,
+                key,
+                otherwise,
+            } => is_get(other, name, table, key, otherwise),
+            Stmt::Need { name, table, key } => is_need(other, name, table, key),
+            Stmt::Count { name, table, range } => is_count(other, name, table, range),
+            Stmt::Sum { name, table, range } => is_sum(other, name, table, range),
+            Stmt::Lacks { table, key } => is_lacks(other, table, key),
+            Stmt::Put { table, key, value } => is_put(other, table, key, value),
+            Stmt::Insert { table, key, value } => is_insert(other, table, key, value),
+            Stmt::Delete { table, key } => is_delete(other, table, key),
+            Stmt::Keep { table, key } => is_keep(other, table, key),
+            Stmt::Branch {
+                test,
+                then,
+                otherwise,
+            } => match other {
+                Stmt::Branch {
+                    test: t,
+                    then: a,
+                    otherwise: b,
+                } => {
+                    if !test.is_same(t) {
+                        return false;
+                    }
+                    then.is_same(a) && otherwise.is_same(b)
+                }
+                _ => false,
+            },
+            Stmt::Reply { value } => is_reply(other, value),
+            Stmt::Abort => matches!(other, Stmt::Abort),
         }
     }
 }
@@ -259,5 +304,22 @@ impl Block {
             copies.push(stmt.copy(alloc)?)?;
         }
         Ok(Block { stmts: copies })
+    }
+
+    /// Whether both have the same statements.
+    #[cycle(compares)]
+    #[tactic(auto, using(crate::proofs::TreeLemmas::same_length))]
+    pub(crate) fn is_same(&self, other: &Block) -> bool
+        ensures { IsTrue result ↔ (block_tree self.now ≡ block_tree other.now) }
+    {
+        if self.stmts.len() != other.stmts.len() {
+            return false;
+        }
+        for (stmt, same) in self.stmts.iter().zip(&other.stmts) {
+            if !stmt.is_same(same) {
+                return false;
+            }
+        }
+        true
     }
 }

@@ -1,4 +1,4 @@
-ghost use Rattle.std.specs.Prelude.{◌≡◌, IfOk};
+ghost use Rattle.std.specs.Prelude.{◌≡◌, ◌↔◌, IfOk, IsTrue};
 
 use crate::name::Name;
 use std::alloc::AllocError;
@@ -28,4 +28,26 @@ impl TableDecl {
             grow: self.grow,
         })
     }
+
+    /// Whether both declare the same.
+    pub fn is_same(&self, other: &TableDecl) -> bool
+        ensures { IsTrue result ↔ (self.now ≡ other.now) }
+    {
+        self.name.is_same(&other.name) && self.arity == other.arity && self.grow == other.grow
+    }
+}
+
+/// Whether both lists declare the same tables, in the same order.
+pub fn same_tables(tables: &[TableDecl], others: &[TableDecl]) -> bool
+    ensures { IsTrue result ↔ (tables.now ≡ others.now) }
+{
+    if tables.len() != others.len() {
+        return false;
+    }
+    for (table, other) in tables.iter().zip(others) {
+        if !table.is_same(other) {
+            return false;
+        }
+    }
+    true
 }

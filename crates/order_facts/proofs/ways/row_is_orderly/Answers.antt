@@ -1,7 +1,8 @@
 use Rattle.std.proofs.Common.{◌≡◌, ◌<◌, ◌≤ℤ◌, ◌<ℤ◌, ◌⊎◌, inl, inr, length, true, sym, ◌∙◌, arith, below_more}
 use Rattle.std.proofs.lemmas.Bool.{false≢true, eq-eqb}
 use Rattle.std.proofs.lemmas.Int.{ints}
-use Rattle.order_facts.specs.Chain.{least, greatest, floor_of, ceiling_of}
+use Rattle.prog_tree.specs.Number.{least, greatest}
+use Rattle.order_facts.specs.Chain.{floor_of, ceiling_of}
 use Rattle.order_facts.specs.Reaches.{reaches, fact_at}
 use Rattle.order_facts.proofs.Places.{fact_at-default, contradiction-from_facts}
 use Rattle.order_facts.proofs.ways.row_is_orderly.Goals as goal
