@@ -7,9 +7,9 @@ use Rattle.std.specs.List.{list_any}
 use Rattle.prog_tree.specs.declared.table.TableDecl.{TableDecl}
 use Rattle.prog_tree.specs.Syntax.{Name, StatementTree, BlockTree, BlockEnd, Then, Branch, ProgramTree}
 use Rattle.prog_tree.specs.Syntax as s
-use Rattle.prog_check.specs.Accesses.{kinds_at, columns_of, access_of, accesses_of}
+use Rattle.prog_check.specs.Accesses.{kinds_at, Columns, key_columns, range_columns, columns_of, next_unknown, access_of, accesses_to, accesses_of}
 use Rattle.prog_check.specs.Counts.{path_count, access_count, larger, added, heaviest, up_to, is_above}
-use Rattle.prog_check.specs.Paths.{Route, passing, choosing, joined, followed_by, statement_count, routes, accesses_along, path_of, program_paths}
+use Rattle.prog_check.specs.Paths.{Passed, Route, passing, choosing, joined, followed_by, statement_count, routes, accesses_along, path_of, program_paths}
 
 -- ---- counts up to a limit
 
@@ -113,13 +113,13 @@ above-up_to most limit (Some n) less = below_limit most limit n less
 
 module _ (tables : List TableDecl) where
   -- the accesses on statements
-  abbrev load : List (ℕ × StatementTree) → ℕ
+  abbrev load : List Passed → ℕ
   load [] = 0
-  load (s ∷ later) = access_count tables s.1 + load later
+  load (p ∷ later) = access_count tables p.statement + load later
 
-  load-append : (first later : List (ℕ × StatementTree)) → load (first ++ later) ≡ load first + load later
+  load-append : (first later : List Passed) → load (first ++ later) ≡ load first + load later
   load-append [] later = omega arith
-  load-append (s ∷ first) later = ap (λ n. access_count tables s.1 + n) (load-append first later) ∙ omega arith
+  load-append (p ∷ first) later = ap (λ n. access_count tables p.statement + n) (load-append first later) ∙ omega arith
 
   -- the greatest load of a route
   abbrev greatest : List Route → Option ℕ
@@ -168,12 +168,31 @@ module _ (tables : List TableDecl) where
       (greatest-append (map (choosing true) first) (map (choosing false) second) ∙ (λ i. larger (greatest-choosing true first i) (greatest-choosing false second i)))
       ∙ (λ i. added (larger (measured (number + 1) a i) (measured (number + 1 + statement_count a) b i)) (measured behind rest i))
 
+  one_each : (number : ℕ) (s : StatementTree) (columns : Columns) → length (accesses_to tables number s (Some columns)) ≡ access_count tables s
+  one_each number s columns = length-map (kinds_at tables s) (access_of tables number s columns)
+
+  -- a statement has an access for each of its kinds
+  length-accesses_of : (params : List Name) (unknown number : ℕ) (s : StatementTree) → length (accesses_of tables params unknown number s) ≡ access_count tables s
+  length-accesses_of params unknown number (s.Get x table key e) = one_each number (s.Get x table key e) (key_columns params unknown key)
+  length-accesses_of params unknown number (s.Need x table key) = one_each number (s.Need x table key) (key_columns params unknown key)
+  length-accesses_of params unknown number (s.Count x table range) = one_each number (s.Count x table range) (range_columns params unknown range)
+  length-accesses_of params unknown number (s.Sum x table range) = one_each number (s.Sum x table range) (range_columns params unknown range)
+  length-accesses_of params unknown number (s.Lacks table key) = one_each number (s.Lacks table key) (key_columns params unknown key)
+  length-accesses_of params unknown number (s.Put table key e) = one_each number (s.Put table key e) (key_columns params unknown key)
+  length-accesses_of params unknown number (s.Insert table key e) = one_each number (s.Insert table key e) (key_columns params unknown key)
+  length-accesses_of params unknown number (s.Delete table key) = one_each number (s.Delete table key) (key_columns params unknown key)
+  length-accesses_of params unknown number (s.Keep table key) = one_each number (s.Keep table key) (key_columns params unknown key)
+  length-accesses_of params unknown number (s.Bind x e) = refl
+  length-accesses_of params unknown number (s.Reply e) = refl
+  length-accesses_of params unknown number s.Abort = refl
+
   -- a path has the accesses of its statements
-  length-accesses : (params : List Name) (unknown : ℕ) (passed : List (ℕ × StatementTree)) → length (accesses_along tables params unknown passed) ≡ load passed
+  length-accesses : (params : List Name) (unknown : ℕ) (passed : List Passed) → length (accesses_along tables params unknown passed) ≡ load passed
   length-accesses params unknown [] = refl
-  length-accesses params unknown (s ∷ later) =
-      length-append (accesses_of tables params unknown s.0 s.1) (accesses_along tables params (columns_of params unknown s.1).next later)
-      ∙ (λ i. length-map (kinds_at tables s.1) (access_of tables s.0 s.1 (columns_of params unknown s.1)) i + length-accesses params (columns_of params unknown s.1).next later i)
+  length-accesses params unknown (p ∷ later) =
+      let next = next_unknown unknown (columns_of params unknown p.statement) in
+      length-append (accesses_of tables params unknown p.number p.statement) (accesses_along tables params next later)
+      ∙ (λ i. length-accesses_of params unknown p.number p.statement i + length-accesses params next later i)
 
   -- some path has more accesses than this where the heaviest has
   some_above : (limit program : ℕ) (params : List Name) (all : List Route)

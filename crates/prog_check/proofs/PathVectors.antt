@@ -1,6 +1,6 @@
 -- Worked examples of committing paths, computed from the definition.
 use Rattle.std.proofs.Common.{◌≡◌, ℕ, List, [], ◌∷◌, refl, true, false}
-use Rattle.std.specs.Prelude.{Bool, pos, codes}
+use Rattle.std.specs.Prelude.{ℤ, Bool, pos, negsuc, codes, Some, None}
 use Rattle.prog_tree.specs.declared.table.Arity.TheVariants as arity
 use Rattle.prog_tree.specs.declared.table.TableDecl.{TableDecl}
 use Rattle.prog_tree.specs.Syntax.{Name, ExprTree, Named, Plus, Minus, Times, TestTree, KeyTree, One, Two, OneRange, TwoRange, BlockTree, BlockEnd, Then, Branch, ProgramTree, DraftTree}
@@ -31,11 +31,11 @@ less left right = (record { negated = false; left = left; relation = s.Less; rig
 -- an access of a cell in a table of one column, and in one of two
 abbrev at_one : Kind → ℕ → Term → ℕ → Access
 at_one kind table term place =
-    record { kind = kind; table = table; first = record { low = term; high = term }; second = record { low = Literal (pos 0); high = Literal (pos 0) }; place = place }
+    record { kind = kind; table = table; first = record { low = term; high = term }; second = None; place = place }
 
 abbrev at_two : Kind → ℕ → Term → Term → ℕ → Access
 at_two kind table first second place =
-    record { kind = kind; table = table; first = record { low = first; high = first }; second = record { low = second; high = second }; place = place }
+    record { kind = kind; table = table; first = record { low = first; high = first }; second = Some (record { low = second; high = second }); place = place }
 
 abbrev path : ℕ → List Bool → List Access → Path
 path program choices accesses = record { program = program; choices = choices; accesses = accesses }
@@ -126,6 +126,90 @@ write_skew : paths_with (table_of (codes "t") arity.One false ∷ []) (skew (cod
     ∷ []
 write_skew = refl
 
+-- ---- the ledger set and the report set
+
+abbrev closed : Name
+closed = codes "closed"
+
+abbrev entry : Name
+entry = codes "entry"
+
+abbrev d_value : ExprTree
+d_value = Named (codes "d")
+
+-- table closed 1 grow; table entry 2 grow;
+abbrev ledger_tables : List TableDecl
+ledger_tables = table_of closed arity.One true ∷ table_of entry arity.Two true ∷ []
+
+-- lacks closed[d]; insert entry[d, e] = v;
+abbrev post : ProgramTree
+post =
+    program_of (codes "Post") (codes "d" ∷ codes "e" ∷ codes "v" ∷ [])
+    (Then (s.Lacks closed (One d_value)) (Then (s.Insert entry (Two d_value (Named (codes "e"))) v_value) BlockEnd))
+
+-- insert closed[d] = 1;
+abbrev close : ProgramTree
+close = program_of (codes "Close") (codes "d" ∷ []) (Then (s.Insert closed (One d_value) (number 1)) BlockEnd)
+
+abbrev least : ℤ
+least = negsuc 9223372036854775807
+
+abbrev greatest : ℤ
+greatest = pos 9223372036854775807
+
+-- let s = sum entry[d, least..greatest]; reply s;
+abbrev sum_and_reply : BlockTree
+sum_and_reply = Then (s.Sum (codes "s") entry (TwoRange d_value (s.Literal least) (s.Literal greatest))) (Then (s.Reply (Named (codes "s"))) BlockEnd)
+
+abbrev total : ProgramTree
+total = program_of (codes "Total") (codes "d" ∷ []) sum_and_reply
+
+-- let c = need closed[d]; and then what Total does
+abbrev report : ProgramTree
+report = program_of (codes "Report") (codes "d" ∷ []) (Then (s.Need (codes "c") closed (One d_value)) sum_and_reply)
+
+-- all entries of one day
+abbrev entries : ℕ → Access
+entries place =
+    record { kind = Reads; table = 1; first = record { low = Param 0; high = Param 0 }; second = Some (record { low = Literal least; high = Literal greatest }); place = place }
+
+ledger : paths_with ledger_tables (post ∷ close ∷ total ∷ [])
+    ≡ path 0 [] (at_one Lacks 0 (Param 0) 0 ∷ at_two Adds 1 (Param 0) (Param 1) 1 ∷ []) ∷ path 1 [] (at_one Adds 0 (Param 0) 0 ∷ []) ∷ path 2 [] (entries 0 ∷ []) ∷ []
+ledger = refl
+
+reports : paths_with ledger_tables (post ∷ close ∷ report ∷ [])
+    ≡ path 0 [] (at_one Lacks 0 (Param 0) 0 ∷ at_two Adds 1 (Param 0) (Param 1) 1 ∷ [])
+    ∷ path 1 [] (at_one Adds 0 (Param 0) 0 ∷ [])
+    ∷ path 2 [] (at_one Sees 0 (Param 0) 0 ∷ entries 1 ∷ [])
+    ∷ []
+reports = refl
+
+-- ---- the transfer set and the computed-key set
+
+abbrev x_value : ExprTree
+x_value = Named (codes "x")
+
+abbrev y_value : ExprTree
+y_value = Named (codes "y")
+
+-- let x = get t[a] else 0; put t[a] = x - v; let y = get t[b] else 0; put t[b] = y + v;
+abbrev transfer : ProgramTree
+transfer =
+    program_of (codes "Transfer") (codes "a" ∷ codes "b" ∷ codes "v" ∷ [])
+    (get (codes "x") (codes "t") (One a_value) (put (codes "t") (One a_value) (Minus x_value v_value)
+    (get (codes "y") (codes "t") (One b_value) (put (codes "t") (One b_value) (Plus y_value v_value) BlockEnd))))
+
+transfers : paths_with (table_of (codes "t") arity.One false ∷ []) (transfer ∷ [])
+    ≡ path 0 [] (at_one Reads 0 (Param 0) 0 ∷ at_one Writes 0 (Param 0) 1 ∷ at_one Reads 0 (Param 1) 2 ∷ at_one Writes 0 (Param 1) 3 ∷ []) ∷ []
+transfers = refl
+
+-- let x = get t[a + 0] else 0; put t[b] = x; a computed key is an unknown, whatever it is worth
+abbrev move : ProgramTree
+move = program_of (codes "Move") (codes "a" ∷ codes "b" ∷ []) (get (codes "x") (codes "t") (One (Plus a_value (number 0))) (put (codes "t") (One b_value) x_value BlockEnd))
+
+computed_key : paths_with (table_of (codes "t") arity.One false ∷ []) (move ∷ []) ≡ path 0 [] (at_one Reads 0 (Unknown 0) 0 ∷ at_one Writes 0 (Param 1) 1 ∷ []) ∷ []
+computed_key = refl
+
 -- ---- single statements
 
 -- the paths of a program `P(a, b)` over `table t 1; table e 2; table g 1 grow;`
@@ -159,7 +243,7 @@ delete_and_keep = refl
 
 -- count t[a..9]
 range_in_one : paths_in (Then (s.Count (codes "x") (codes "t") (OneRange a_value (number 9))) BlockEnd)
-    ≡ path 0 [] (record { kind = Reads; table = 0; first = record { low = Param 0; high = Literal (pos 9) }; second = record { low = Literal (pos 0); high = Literal (pos 0) }; place = 0 } ∷ []) ∷ []
+    ≡ path 0 [] (record { kind = Reads; table = 0; first = record { low = Param 0; high = Literal (pos 9) }; second = None; place = 0 } ∷ []) ∷ []
 range_in_one = refl
 
 -- ---- unknowns
@@ -167,8 +251,8 @@ range_in_one = refl
 -- sum e[a * 2, a * 2..b] and then sum e[a, a * 2..a * 2]: each expression is an unknown of its own, the low end first
 range_with_unknowns : paths_in (Then (s.Sum (codes "x") (codes "e") (TwoRange two_a two_a b_value)) (Then (s.Sum (codes "y") (codes "e") (TwoRange a_value two_a two_a)) BlockEnd))
     ≡ path 0 [] (
-    record { kind = Reads; table = 1; first = record { low = Unknown 0; high = Unknown 0 }; second = record { low = Unknown 1; high = Param 1 }; place = 0 }
-    ∷ record { kind = Reads; table = 1; first = record { low = Param 0; high = Param 0 }; second = record { low = Unknown 2; high = Unknown 3 }; place = 1 }
+    record { kind = Reads; table = 1; first = record { low = Unknown 0; high = Unknown 0 }; second = Some (record { low = Unknown 1; high = Param 1 }); place = 0 }
+    ∷ record { kind = Reads; table = 1; first = record { low = Param 0; high = Param 0 }; second = Some (record { low = Unknown 2; high = Unknown 3 }); place = 1 }
     ∷ [])
     ∷ []
 range_with_unknowns = refl

@@ -1,5 +1,5 @@
 -- Worked examples of first faults, computed from the definition.
-use Rattle.std.proofs.Common.{◌≡◌, ℕ, ◌+◌, zero, suc, [], ◌∷◌, refl, true, false, List}
+use Rattle.std.proofs.Common.{◌≡◌, ℕ, ◌+◌, zero, suc, [], ◌∷◌, ◌++◌, refl, true, false, List}
 use Rattle.std.specs.Prelude.{Bool, Option, Some, None, pos, codes}
 use Rattle.prog_tree.specs.declared.table.Arity.{Arity}
 use Rattle.prog_tree.specs.declared.table.Arity.TheVariants as arity
@@ -85,6 +85,10 @@ tables_64 = refl
 tables_65 : fault_of_tables (tables_from 0 65) ≡ Some (TooMany (Table 64))
 tables_65 = refl
 
+-- the number of tables is counted before the name
+table_65_twice : fault_of_tables (tables_from 0 64 ++ table_of (0 ∷ []) arity.One false ∷ []) ≡ Some (TooMany (Table 64))
+table_65_twice = refl
+
 program_twice : fault_of_programs (program_of (codes "P") [] BlockEnd ∷ program_of (codes "P") [] BlockEnd ∷ []) ≡ Some (DuplicateProgram (Program 1))
 program_twice = refl
 
@@ -98,12 +102,20 @@ programs_16 = refl
 programs_17 : fault_of_programs (programs_from 65 17) ≡ Some (TooMany (Program 16))
 programs_17 = refl
 
+-- the number of programs is counted before the name
+program_17_twice : fault_of_programs (programs_from 65 16 ++ program_of (65 ∷ []) [] BlockEnd ∷ []) ≡ Some (TooMany (Program 16))
+program_17_twice = refl
+
 parameters_8 : fault_of_programs (program_of (codes "P") (names_from 65 8) BlockEnd ∷ []) ≡ None
 parameters_8 = refl
 
 -- the count comes before the repeated name
 parameters_9 : fault_of_programs (program_of (codes "P") (codes "A" ∷ names_from 65 8) BlockEnd ∷ []) ≡ Some (TooMany (Program 0))
 parameters_9 = refl
+
+-- and a program's own name comes before its parameters are counted
+program_twice_with_9 : fault_of_programs (program_of (codes "P") [] BlockEnd ∷ program_of (codes "P") (names_from 65 9) BlockEnd ∷ []) ≡ Some (DuplicateProgram (Program 1))
+program_twice_with_9 = refl
 
 parameter_twice : fault_of_programs (program_of (codes "P") (codes "a" ∷ codes "b" ∷ codes "a" ∷ []) BlockEnd ∷ []) ≡ Some (DuplicateParameter (Program 0))
 parameter_twice = refl

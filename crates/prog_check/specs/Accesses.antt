@@ -1,5 +1,5 @@
 -- The accesses of a statement: what it does to its table, and what the text tells of where.
-use Rattle.std.specs.Prelude.{ℕ, ◌+◌, pos, Bool, true, false, List, [], ◌∷◌, map, Option, Some, None, if◌then◌else◌}
+use Rattle.std.specs.Prelude.{ℕ, ◌+◌, Bool, true, false, List, [], ◌∷◌, map, Option, Some, None, if◌then◌else◌}
 use Rattle.prog_tree.specs.declared.table.Arity.{Arity}
 use Rattle.prog_tree.specs.declared.table.TableDecl.{TableDecl}
 use Rattle.prog_tree.specs.Numbering.{number_of}
@@ -28,7 +28,9 @@ kinds_of grow (s.Put table key e) = Writes ∷ []
 kinds_of grow (s.Delete table key) = Writes ∷ []
 kinds_of grow (s.Insert table key e) = if grow then Adds ∷ [] else Reads ∷ Writes ∷ []
 kinds_of grow (s.Keep table key) = Keeps ∷ []
-kinds_of grow s = []
+kinds_of grow (s.Bind x e) = []
+kinds_of grow (s.Reply e) = []
+kinds_of grow s.Abort = []
 
 -- the number of the table that a statement uses, and whether it grows; a statement without a table has no access
 abbrev pub number_used : List TableDecl → Option (Name × Arity) → ℕ
@@ -53,17 +55,18 @@ abbrev pub is_unknown : Term → Bool
 is_unknown (Unknown n) = true
 is_unknown term = false
 
--- a column of one value, and the second column of a table that has only one
+-- a column of one value
 abbrev pub single : Term → Column
 single term = record { low = term; high = term }
 
-abbrev pub no_column : Column
-no_column = single (Literal (pos 0))
+-- the second column of a table that has only one
+abbrev pub no_column : Option Column
+no_column = None
 
 -- the columns of a key or a range, and the number of the next unknown behind them
 pub record Columns : Type 0 where
   pub first : Column
-  pub second : Column
+  pub second : Option Column
   pub next : ℕ
 
 module _ (params : List Name) where
@@ -72,7 +75,9 @@ module _ (params : List Name) where
   abbrev pub term_of : (unknown : ℕ) → ExprTree → Term
   term_of unknown (s.Literal n) = Literal n
   term_of unknown (s.Named x) = param_or (place_among params x) unknown
-  term_of unknown e = Unknown unknown
+  term_of unknown (s.Plus a b) = Unknown unknown
+  term_of unknown (s.Minus a b) = Unknown unknown
+  term_of unknown (s.Times a b) = Unknown unknown
 
   -- the number of the next unknown behind an expression
   abbrev pub next_behind : (unknown : ℕ) → ExprTree → ℕ
@@ -83,7 +88,7 @@ module _ (params : List Name) where
   key_columns unknown (One a) = record { first = single (term_of unknown a); second = no_column; next = next_behind unknown a }
   key_columns unknown (Two a b) =
       let behind = next_behind unknown a in
-      record { first = single (term_of unknown a); second = single (term_of behind b); next = next_behind behind b }
+      record { first = single (term_of unknown a); second = Some (single (term_of behind b)); next = next_behind behind b }
 
   abbrev pub range_columns : (unknown : ℕ) → RangeTree → Columns
   range_columns unknown (OneRange low high) =
@@ -94,29 +99,40 @@ module _ (params : List Name) where
       let behind = next_behind behind_first low in
       record {
         first = single (term_of unknown a);
-        second = record { low = term_of behind_first low; high = term_of behind high };
+        second = Some (record { low = term_of behind_first low; high = term_of behind high });
         next = next_behind behind high;
       }
 
-  -- the columns of a statement
-  abbrev pub columns_of : (unknown : ℕ) → StatementTree → Columns
-  columns_of unknown (s.Get x table key e) = key_columns unknown key
-  columns_of unknown (s.Need x table key) = key_columns unknown key
-  columns_of unknown (s.Count x table range) = range_columns unknown range
-  columns_of unknown (s.Sum x table range) = range_columns unknown range
-  columns_of unknown (s.Lacks table key) = key_columns unknown key
-  columns_of unknown (s.Put table key e) = key_columns unknown key
-  columns_of unknown (s.Insert table key e) = key_columns unknown key
-  columns_of unknown (s.Delete table key) = key_columns unknown key
-  columns_of unknown (s.Keep table key) = key_columns unknown key
-  columns_of unknown s = record { first = no_column; second = no_column; next = unknown }
+  -- the columns of a statement, or none where it has no table
+  abbrev pub columns_of : (unknown : ℕ) → StatementTree → Option Columns
+  columns_of unknown (s.Get x table key e) = Some (key_columns unknown key)
+  columns_of unknown (s.Need x table key) = Some (key_columns unknown key)
+  columns_of unknown (s.Count x table range) = Some (range_columns unknown range)
+  columns_of unknown (s.Sum x table range) = Some (range_columns unknown range)
+  columns_of unknown (s.Lacks table key) = Some (key_columns unknown key)
+  columns_of unknown (s.Put table key e) = Some (key_columns unknown key)
+  columns_of unknown (s.Insert table key e) = Some (key_columns unknown key)
+  columns_of unknown (s.Delete table key) = Some (key_columns unknown key)
+  columns_of unknown (s.Keep table key) = Some (key_columns unknown key)
+  columns_of unknown (s.Bind x e) = None
+  columns_of unknown (s.Reply e) = None
+  columns_of unknown s.Abort = None
+
+-- the number of the next unknown behind a statement's columns
+abbrev pub next_unknown : (unknown : ℕ) → Option Columns → ℕ
+next_unknown unknown None = unknown
+next_unknown unknown (Some columns) = columns.next
 
 -- ---- accesses
 
 abbrev pub access_of : List TableDecl → (number : ℕ) → StatementTree → Columns → Kind → Access
 access_of tables number s columns kind = record { kind = kind; table = number_used tables (used_table s); first = columns.first; second = columns.second; place = number }
 
--- The accesses of a statement of this number, one for each kind. They share their columns, whose unknowns are numbered from
--- this one on.
+-- the accesses of a statement of this number to these columns, one for each kind
+abbrev pub accesses_to : List TableDecl → (number : ℕ) → StatementTree → Option Columns → List Access
+accesses_to tables number s None = []
+accesses_to tables number s (Some columns) = map (access_of tables number s columns) (kinds_at tables s)
+
+-- The accesses of a statement of this number, which share their columns. Unknowns are numbered from this one on.
 abbrev pub accesses_of : List TableDecl → (params : List Name) → (unknown number : ℕ) → StatementTree → List Access
-accesses_of tables params unknown number s = map (access_of tables number s (columns_of params unknown s)) (kinds_at tables s)
+accesses_of tables params unknown number s = accesses_to tables number s (columns_of params unknown s)

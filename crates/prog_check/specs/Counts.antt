@@ -1,13 +1,13 @@
 -- How many committing paths a block has, and how many accesses lie on the heaviest, counted without going along each.
-use Rattle.std.specs.Prelude.{ℕ, ◌+◌, ◌*◌, min, max, nat_lt, Bool, false, List, length, Option, Some, None}
+use Rattle.std.specs.Prelude.{ℕ, ◌+◌, ◌*◌, min, max, nat_lt, Bool, false, List, length, Option, Some, None, if◌then◌else◌}
 use Rattle.prog_tree.specs.declared.table.TableDecl.{TableDecl}
-use Rattle.prog_tree.specs.Syntax.{StatementTree, Abort, BlockTree, BlockEnd, Then, Branch}
+use Rattle.prog_tree.specs.Syntax.{StatementTree, BlockTree, BlockEnd, Then, Branch}
 use Rattle.prog_check.specs.Accesses.{kinds_at}
+use Rattle.prog_check.specs.Uses.{is_abort}
 
 abbrev pub path_count : BlockTree → ℕ
 path_count BlockEnd = 1
-path_count (Then Abort rest) = 0
-path_count (Then s rest) = path_count rest
+path_count (Then s rest) = if is_abort s then 0 else path_count rest
 path_count (Branch test a b rest) = (path_count a + path_count b) * path_count rest
 
 -- the accesses of a statement
@@ -29,8 +29,7 @@ added (Some n) (Some m) = Some (n + m)
 -- the accesses on the heaviest committing path
 abbrev pub heaviest : List TableDecl → BlockTree → Option ℕ
 heaviest tables BlockEnd = Some 0
-heaviest tables (Then Abort rest) = None
-heaviest tables (Then s rest) = added (Some (access_count tables s)) (heaviest tables rest)
+heaviest tables (Then s rest) = if is_abort s then None else added (Some (access_count tables s)) (heaviest tables rest)
 heaviest tables (Branch test a b rest) = added (larger (heaviest tables a) (heaviest tables b)) (heaviest tables rest)
 
 -- counts are made up to a limit, above which they say no more than that it is passed

@@ -4,5 +4,6 @@ pub mod Faults
 pub mod Names
 pub mod Paths
 pub mod Sets
+pub mod Sound
 pub mod Tables
 pub mod Uses

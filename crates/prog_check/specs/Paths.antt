@@ -1,10 +1,11 @@
 -- The committing paths of a program, and the accesses on each.
-use Rattle.std.specs.Prelude.{ℕ, ◌+◌, Bool, true, false, List, [], ◌∷◌, ◌++◌, map}
+use Rattle.std.specs.Prelude.{ℕ, ◌+◌, Bool, true, false, List, [], ◌∷◌, ◌++◌, map, if◌then◌else◌}
 use Rattle.prog_tree.specs.declared.table.TableDecl.{TableDecl}
-use Rattle.prog_tree.specs.Syntax.{Name, StatementTree, Abort, BlockTree, BlockEnd, Then, Branch, ProgramTree, DraftTree}
+use Rattle.prog_tree.specs.Syntax.{Name, StatementTree, BlockTree, BlockEnd, Then, Branch, ProgramTree, DraftTree}
 use Rattle.prog_check.specs.declared.path.Access.{Access}
 use Rattle.prog_check.specs.declared.path.Path.{Path}
-use Rattle.prog_check.specs.Accesses.{columns_of, accesses_of}
+use Rattle.prog_check.specs.Accesses.{columns_of, next_unknown, accesses_of}
+use Rattle.prog_check.specs.Uses.{is_abort}
 
 -- how many statements a block has, those of its blocks too
 abbrev pub statement_count : BlockTree → ℕ
@@ -14,17 +15,22 @@ statement_count (Branch test a b rest) = 1 + statement_count a + statement_count
 
 -- ---- routes
 
+-- a statement on a way through a block, with its number
+pub record Passed : Type 0 where
+  pub number : ℕ
+  pub statement : StatementTree
+
 -- A way through a block: the branches that it meets, `true` where it takes the first block, and the statements that it
--- passes, each with its number.
+-- passes.
 pub record Route : Type 0 where
   pub choices : List Bool
-  pub passed : List (ℕ × StatementTree)
+  pub passed : List Passed
 
 abbrev pub ended : Route
 ended = record { choices = []; passed = [] }
 
 abbrev pub passing : (number : ℕ) → StatementTree → Route → Route
-passing number s route = record { choices = route.choices; passed = (number, s) ∷ route.passed }
+passing number s route = record { choices = route.choices; passed = record { number = number; statement = s } ∷ route.passed }
 
 abbrev pub choosing : Bool → Route → Route
 choosing first route = record { choices = first ∷ route.choices; passed = route.passed }
@@ -41,8 +47,7 @@ followed_by (route ∷ routes) later = map (joined route) later ++ followed_by r
 -- before those through its second. Statements are numbered in the order of the text, a branch before its blocks.
 abbrev pub routes : (number : ℕ) → BlockTree → List Route
 routes number BlockEnd = ended ∷ []
-routes number (Then Abort rest) = []
-routes number (Then s rest) = map (passing number s) (routes (number + 1) rest)
+routes number (Then s rest) = if is_abort s then [] else map (passing number s) (routes (number + 1) rest)
 routes number (Branch test a b rest) =
     followed_by
     (map (choosing true) (routes (number + 1) a) ++ map (choosing false) (routes (number + 1 + statement_count a) b))
@@ -51,10 +56,11 @@ routes number (Branch test a b rest) =
 -- ---- paths
 
 -- the accesses of statements, one after another, with unknowns numbered from this one on
-abbrev pub accesses_along : List TableDecl → (params : List Name) → (unknown : ℕ) → List (ℕ × StatementTree) → List Access
+abbrev pub accesses_along : List TableDecl → (params : List Name) → (unknown : ℕ) → List Passed → List Access
 accesses_along tables params unknown [] = []
-accesses_along tables params unknown (s ∷ later) =
-    accesses_of tables params unknown s.0 s.1 ++ accesses_along tables params (columns_of params unknown s.1).next later
+accesses_along tables params unknown (p ∷ later) =
+    accesses_of tables params unknown p.number p.statement
+    ++ accesses_along tables params (next_unknown unknown (columns_of params unknown p.statement)) later
 
 abbrev pub path_of : List TableDecl → (program : ℕ) (params : List Name) → Route → Path
 path_of tables program params route = record { program = program; choices = route.choices; accesses = accesses_along tables params 0 route.passed }

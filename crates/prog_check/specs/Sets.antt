@@ -7,6 +7,7 @@ use Rattle.prog_check.specs.declared.fault.CheckFault.TheVariants.{Memory}
 use Rattle.prog_check.specs.declared.body.Position.{Position}
 use Rattle.prog_check.specs.Faults.{block_fault, table_names, program_names, first_fault}
 use Rattle.prog_check.specs.Paths.{statement_count}
+use Rattle.prog_check.specs.Sound.{IsSound}
 
 -- what was found is the first fault; of memory nothing is said
 abbrev pub IsFirst : CheckFault → Option CheckFault → Type 0
@@ -27,8 +28,10 @@ GoesOn tables program before aborted stmt after (Ok aborts) =
 GoesOn tables program before aborted stmt after (Err found) =
     (rest : BlockTree) → IsFirst found (block_fault tables program before.number aborted before.visible (stmt rest))
 
--- what a checked set keeps: the names of its tables and programs in their order, and that its draft has no fault
+-- what a checked set keeps: the names of its tables and programs in their order, that its draft has no fault, and that it
+-- is sound
 pub record IsChecked (draft : DraftTree) (tables programs : List Name) : Type 0 where
   pub tables_named : tables ≡ table_names draft
   pub programs_named : programs ≡ program_names draft
-  pub sound : first_fault draft ≡ None
+  pub faultless : first_fault draft ≡ None
+  pub sound : IsSound draft

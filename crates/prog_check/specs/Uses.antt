@@ -59,7 +59,13 @@ new_name (Get x table key e) = Some x
 new_name (Need x table key) = Some x
 new_name (Count x table range) = Some x
 new_name (Sum x table range) = Some x
-new_name s = None
+new_name (Lacks table key) = None
+new_name (Put table key e) = None
+new_name (Insert table key e) = None
+new_name (Delete table key) = None
+new_name (Keep table key) = None
+new_name (Reply e) = None
+new_name Abort = None
 
 -- the names that are visible behind it
 abbrev pub with_new : List Name → Option Name → List Name
@@ -77,14 +83,35 @@ used_table (Put table key e) = Some (table, key_arity key)
 used_table (Insert table key e) = Some (table, key_arity key)
 used_table (Delete table key) = Some (table, key_arity key)
 used_table (Keep table key) = Some (table, key_arity key)
-used_table s = None
+used_table (Bind x e) = None
+used_table (Reply e) = None
+used_table Abort = None
 
 -- what a grow table refuses
 abbrev pub overwrites : StatementTree → Bool
+overwrites (Bind x e) = false
+overwrites (Get x table key e) = false
+overwrites (Need x table key) = false
+overwrites (Count x table range) = false
+overwrites (Sum x table range) = false
+overwrites (Lacks table key) = false
 overwrites (Put table key e) = true
+overwrites (Insert table key e) = false
 overwrites (Delete table key) = true
-overwrites s = false
+overwrites (Keep table key) = false
+overwrites (Reply e) = false
+overwrites Abort = false
 
 abbrev pub is_abort : StatementTree → Bool
+is_abort (Bind x e) = false
+is_abort (Get x table key e) = false
+is_abort (Need x table key) = false
+is_abort (Count x table range) = false
+is_abort (Sum x table range) = false
+is_abort (Lacks table key) = false
+is_abort (Put table key e) = false
+is_abort (Insert table key e) = false
+is_abort (Delete table key) = false
+is_abort (Keep table key) = false
+is_abort (Reply e) = false
 is_abort Abort = true
-is_abort s = false

@@ -5,14 +5,15 @@ mod body;
 mod counts;
 mod fault;
 mod heads;
+mod laws;
+mod literals;
 mod names;
 mod path;
 mod set;
 mod tables;
-#[cfg(test)]
-mod tests;
 mod uses;
 
 pub use fault::{CheckFault, Place};
+pub use laws::soundness;
 pub use path::{Access, Accesses, Choices, Column, Kind, Path, Term};
 pub use set::{ProgramSet, check};

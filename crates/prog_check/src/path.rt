@@ -1,5 +1,5 @@
 //! Committing paths and their accesses. Which paths a draft has is defined in `specs/Paths.antt`.
-use std::marker::Model;
+use prog_tree::Sequence;
 
 /// How an access touches its cells.
 #[derive(Clone, Copy, Debug, PartialEq, Eq)]
@@ -28,7 +28,8 @@ pub enum Term {
     Unknown(usize),
 }
 
-/// The two ends of a key column, which are one term where the access is a single cell.
+/// The two ends of a key column. A range may have equal ends, so one term at both doesn't tell a single cell: the statement
+/// at the access's place does.
 #[derive(Clone, Copy, Debug, PartialEq, Eq)]
 pub struct Column {
     pub low: Term,
@@ -36,44 +37,21 @@ pub struct Column {
 }
 
 /// What one statement does to cells of one table, with the statement's number in its program. In a table of one column
-/// both ends of the second are the number 0.
+/// there is no second.
 #[derive(Clone, Copy, Debug, PartialEq, Eq)]
 pub struct Access {
     pub kind: Kind,
     pub table: usize,
     pub first: Column,
-    pub second: Column,
+    pub second: Option<Column>,
     pub place: usize,
 }
 
-/// The branches of a path in the order in which it meets them, `true` where it takes the first block. Contracts see the list.
-#[derive(Debug, Drop)]
-pub struct Choices {
-    pub list: Vec<bool>,
-}
+/// The branches of a path in the order in which it meets them, `true` where it takes the first block.
+pub type Choices = Sequence<bool>;
 
-impl Model for Choices {
-    ghost use Rattle.std.specs.Prelude.{List, Bool};
-
-    ghost Value = { List Bool };
-
-    ghost view = { λ c. c.list.items };
-}
-
-/// The accesses of a path in the order of its statements. Contracts see the list.
-#[derive(Debug, Drop)]
-pub struct Accesses {
-    pub list: Vec<Access>,
-}
-
-impl Model for Accesses {
-    ghost use Rattle.std.specs.Prelude.{List};
-    ghost use Rattle.prog_check.specs.declared.path.Access.{Access};
-
-    ghost Value = { List Access };
-
-    ghost view = { λ a. a.list.items };
-}
+/// The accesses of a path in the order of its statements.
+pub type Accesses = Sequence<Access>;
 
 /// A way through a program that meets no `abort;`.
 #[derive(Debug, Drop)]

@@ -1,13 +1,15 @@
 //! Checked sets.
-ghost use Rattle.std.specs.Prelude.{◌≡◌, ◌<◌, None, map, length, IfSome, IfOk};
+ghost use Rattle.std.specs.Prelude.{◌≡◌, ◌<◌, None, map, length, IfSome, IfOk, OnOk};
 ghost use Rattle.prog_tree.specs.Numbering.{number_of};
 ghost use Rattle.prog_tree.specs.Tree.{draft_tree};
 ghost use Rattle.prog_check.specs.Faults.{table_names, program_names, first_fault};
 ghost use Rattle.prog_check.specs.Names.{place_among};
 ghost use Rattle.prog_check.specs.Sets.{Finds};
+ghost use Rattle.prog_check.specs.Sound.{IsSound};
 
 use crate::fault::CheckFault;
 use crate::heads::{check_programs, check_tables};
+use crate::literals::read_literals;
 use crate::names::Names;
 use crate::tables::Tables;
 use prog_tree::Draft;
@@ -40,8 +42,10 @@ impl Model for ProgramSet {
 
 /// The set of a draft, or the draft's first fault.
 pub fn check(alloc: Global, draft: Draft) -> Result<ProgramSet, CheckFault>
-    ensures { Finds (λ set. set ≡ draft) result (first_fault (draft_tree draft)) }
+    ensures found { Finds (λ set. set ≡ draft) result (first_fault (draft_tree draft)) }
+    ensures sound { OnOk result (IsSound (draft_tree draft)) }
 {
+    read_literals(&draft);
     let tables = check_tables(alloc, &draft.tables)?;
     let programs = check_programs(alloc, &Tables::new(&draft.tables, &tables), &draft.programs)?;
     Ok(ProgramSet {
@@ -54,7 +58,8 @@ pub fn check(alloc: Global, draft: Draft) -> Result<ProgramSet, CheckFault>
 impl ProgramSet {
     pub fn draft(&self) -> &Draft
         ensures same { result.now ≡ self.now }
-        ensures sound { first_fault (draft_tree self.now) ≡ None }
+        ensures faultless { first_fault (draft_tree self.now) ≡ None }
+        ensures sound { IsSound (draft_tree self.now) }
     {
         &self.draft
     }
