@@ -1,5 +1,5 @@
 -- A token in front of bytes that don't go on with it is cut off there.
-use Rattle.std.proofs.Common.{◌≡◌, ◌∙◌, ℕ, ◌+◌, ◌/◌, ◌%◌, ◌<◌, ◌≤◌, ◌^◌, ◌==◌, nat_lt, not, List, [], ◌∷◌, ◌++◌, length, Bool, true, false, ◌&&◌, Some, Ok, refl, sym, ap, slice_index, arith, true≢false}
+use Rattle.std.proofs.Common.{◌≡◌, ◌∙◌, ℕ, ◌+◌, ◌/◌, ◌%◌, ◌<◌, ◌≤◌, ◌^◌, ◌==◌, nat_lt, not, List, [], ◌∷◌, ◌++◌, length, Bool, true, false, ◌&&◌, Option, Some, Ok, refl, sym, ap, subst, slice_index, arith, true≢false}
 use Rattle.std.specs.Fmt.{decimal}
 use Rattle.std.specs.List.{list_all}
 use Rattle.std.proofs.lemmas.Bool.{and_parts, ltb-true, false_from_ne_true}
@@ -14,7 +14,7 @@ use Rattle.prog_text.specs.Cut.{IsName, IsNumber}
 use Rattle.prog_text.specs.Lexing.{is_letter, is_digit, is_word_byte, is_space, digits_value, word_token, piece_at, sign_at}
 use Rattle.prog_text.specs.Spelling.{spelling}
 use Rattle.prog_text.proofs.Converse.{Stops, letter_begins, digit_begins, letters_at, digits_at}
-use Rattle.prog_text.proofs.Longest.{Goes, goes}
+use Rattle.prog_text.proofs.Longest.{IsFront, Goes, goes}
 
 -- a byte that goes on with no word, no number and no sign but a dot
 abbrev pub is_break : ℕ → Bool
@@ -153,8 +153,8 @@ broken_piece t.Greater rest lexed breaks = greater_piece rest breaks
 broken_piece t.Equals rest lexed breaks = equals_piece rest breaks
 broken_piece u rest lexed breaks = refl
 
--- the bytes in front of what is cut are a piece of the text
-pub goes_at : (bytes : List ℕ) → Goes bytes (piece_at bytes)
+-- what is found at the front of the bytes stands there
+pub front_at : (bytes behind : List ℕ) (found : Option Token) → piece_at bytes ≡ Ok (found, behind) → IsFront bytes found behind
 unfolding piece_at
-goes_at [] = tt
-goes_at (b ∷ rest) = goes b rest
+front_at [] behind found is = absurd (cc is)
+front_at (b ∷ rest) behind found is = subst (Goes (b ∷ rest)) is (goes b rest)

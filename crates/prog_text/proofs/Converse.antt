@@ -12,7 +12,7 @@ use Rattle.prog_text.specs.declared.token.Token.{Token}
 use Rattle.prog_text.specs.declared.token.Token.TheVariants as t
 use Rattle.prog_text.specs.Spelling.{spelling}
 use Rattle.prog_text.specs.Lexing.{is_letter, is_digit, is_word_byte, is_space, is_comment_byte, digits_value, word_token, Placed, before, piece_at, word_at, number_at, sign_at, tokens_from, tokens_of}
-use Rattle.prog_text.specs.Cut.{IsNumber, Spells, IsWithin, IsLongest, EndsComment, IsCut, end, space, comment, token}
+use Rattle.prog_text.specs.Cut.{IsNumber, Spells, IsWithin, IsLongest, EndsComment, IsPiece, space, comment, token, IsCut, end, another}
 use Rattle.prog_text.proofs.Spelled.{letter_is_no_digit}
 use Rattle.prog_text.proofs.Longest.{word_spelled, cut_of_tokens}
 
@@ -23,7 +23,7 @@ abbrev pub Stops : (ℕ → Bool) → List ℕ → Type 0
 Stops p [] = Unit {0}
 Stops p (b ∷ rest) = p b ≡ false
 
-prefix_run : (p : ℕ → Bool) (line rest : List ℕ) → list_all p line ≡ true → Stops p rest → prefix_len p (line ++ rest) ≡ length line
+pub prefix_run : (p : ℕ → Bool) (line rest : List ℕ) → list_all p line ≡ true → Stops p rest → prefix_len p (line ++ rest) ≡ length line
 prefix_run p [] [] all stop = refl
 prefix_run p [] (b ∷ rest) all stop = rw stop refl
 prefix_run p (x ∷ line) rest all stop =
@@ -43,7 +43,7 @@ passes_push p word b all last = rw (list_all-append p word (b ∷ []), all, last
 
 -- ---- words
 
-letters_stop : (c : ℕ) (front rest : List ℕ) → is_letter c ≡ true → list_all is_word_byte (c ∷ front) ≡ true → IsLongest (c ∷ front) rest → Stops is_word_byte rest
+pub letters_stop : (c : ℕ) (front rest : List ℕ) → is_letter c ≡ true → list_all is_word_byte (c ∷ front) ≡ true → IsLongest (c ∷ front) rest → Stops is_word_byte rest
 letters_stop c front [] letter all longest = tt
 letters_stop c front (b ∷ rest) letter all longest =
     false_from_ne_true _ (λ e. longest _ b [] rest refl (word_spelled (c ∷ (front ++ b ∷ [])) letter (passes_push is_word_byte (c ∷ front) b all e)))
@@ -71,7 +71,7 @@ reserved_piece u word rest h letter all same short longest =
 
 -- ---- numbers
 
-digits_stop : (c : ℕ) (front rest : List ℕ) → is_digit c ≡ true → list_all is_digit (c ∷ front) ≡ true → IsLongest (c ∷ front) rest → Stops is_digit rest
+pub digits_stop : (c : ℕ) (front rest : List ℕ) → is_digit c ≡ true → list_all is_digit (c ∷ front) ≡ true → IsLongest (c ∷ front) rest → Stops is_digit rest
 digits_stop c front [] digit all longest = tt
 digits_stop c front (b ∷ rest) digit all longest =
     false_from_ne_true _ (λ e. longest (t.Number (digits_value (c ∷ (front ++ b ∷ [])))) b [] rest refl (record { begins = digit; goes_on = passes_push is_digit (c ∷ front) b all e; value = refl }))
@@ -179,23 +179,31 @@ step [] behind found placed n is shorter next enough = absurd (omega (arith, sho
 step (b ∷ bytes) behind found placed zero is shorter next enough = absurd (omega (arith, enough))
 step (b ∷ bytes) behind found placed (suc n) is shorter next enough = let read : tokens_from n behind ≡ Ok placed = next n (omega (arith, shorter, enough)) in rw (is, read) refl
 
-is_begun : (u : Token) (word : List ℕ) → Spells u word → 0 < length word
+pub is_begun : (u : Token) (word : List ℕ) → Spells u word → 0 < length word
 is_begun (t.Name x) [] h = absurd (true≢false (sym h.1.begins))
 is_begun (t.Number n) [] h = absurd (true≢false (sym h.begins))
 is_begun u [] h = absurd (true≢false (ap (λ w. nat_eq (length w) 0) h))
 is_begun u (b ∷ word) h = omega arith
 
-behind_is_shorter : (word rest : List ℕ) → 0 < length word → length rest < length (word ++ rest)
+pub behind_is_shorter : (word rest : List ℕ) → 0 < length word → length rest < length (word ++ rest)
 behind_is_shorter word rest begun = rw (length-append word rest) (omega arith)
+
+-- a piece is no empty one
+pub piece_begun : (found : Option Token) (word rest : List ℕ) → IsPiece found word rest → 0 < length word
+piece_begun _ _ _ (space b rest h) = omega arith
+piece_begun _ _ _ (comment line rest all ends) = omega arith
+piece_begun _ _ _ (token u word rest h within longest) = is_begun u word h
+
+-- what stands at the front is a piece
+pub piece_is : (found : Option Token) (word rest : List ℕ) → IsPiece found word rest → piece_at (word ++ rest) ≡ Ok (found, rest)
+piece_is _ _ _ (space b rest h) = space_piece b rest h
+piece_is _ _ _ (comment line rest all ends) = comment_piece line rest all ends
+piece_is _ _ _ (token u word rest h within longest) = token_piece u word rest h within longest
 
 tokens_from_cut : (bytes : List ℕ) (placed : Placed) → IsCut bytes placed → (n : ℕ) → length bytes ≤ n → tokens_from n bytes ≡ Ok placed
 tokens_from_cut _ _ end n enough = nothing_left n
-tokens_from_cut _ _ (space b rest placed h cut) n enough =
-    step (b ∷ rest) rest None placed n (space_piece b rest h) (omega arith) (tokens_from_cut rest placed cut) enough
-tokens_from_cut _ _ (comment line rest placed all ends cut) n enough =
-    step (35 ∷ (line ++ rest)) rest None placed n (comment_piece line rest all ends) (behind_is_shorter (35 ∷ line) rest (omega arith)) (tokens_from_cut rest placed cut) enough
-tokens_from_cut _ _ (token u word rest placed h within longest cut) n enough =
-    step (word ++ rest) rest (Some u) placed n (token_piece u word rest h within longest) (behind_is_shorter word rest (is_begun u word h)) (tokens_from_cut rest placed cut) enough
+tokens_from_cut _ _ (another found word rest placed h cut) n enough =
+    step (word ++ rest) rest found placed n (piece_is found word rest h) (behind_is_shorter word rest (piece_begun found word rest h)) (tokens_from_cut rest placed cut) enough
 
 -- a text that is cut into tokens has these tokens
 pub tokens_of_cut : (bytes : List ℕ) (placed : Placed) → IsCut bytes placed → tokens_of bytes ≡ Ok placed

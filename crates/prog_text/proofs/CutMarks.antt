@@ -1,15 +1,15 @@
 -- Marks that are cut again give their tokens.
-use Rattle.std.proofs.Common.{◌≡◌, ℕ, zero, suc, ◌*◌, List, [], ◌∷◌, ◌++◌, length, Bool, true, false, if◌then◌else◌, Some, Ok, replicate, refl, ap, subst, append_assoc}
+use Rattle.std.proofs.Common.{◌≡◌, ℕ, zero, suc, ◌*◌, List, [], ◌∷◌, ◌++◌, length, Bool, true, false, if◌then◌else◌, Some, None, Ok, replicate, refl, ap, append_assoc}
 use Rattle.std.proofs.lemmas.Grind.{flat_map-append}
 use Rattle.std.proofs.lemmas.List.Elements.{filter_map-append}
 use Rattle.prog_text.specs.declared.token.Token.{Token}
 use Rattle.prog_text.specs.declared.token.Token.TheVariants as t
 use Rattle.prog_text.specs.Spelling.{spelling}
-use Rattle.prog_text.specs.Lexing.{is_space, Placed, Piece, kinds, piece_at, sign_at}
-use Rattle.prog_text.specs.Cut.{IsCut, space}
+use Rattle.prog_text.specs.Lexing.{is_space, Placed, kinds, piece_at, sign_at}
+use Rattle.prog_text.specs.Cut.{IsCut, another, space}
 use Rattle.prog_text.specs.Canonical.{Mark, Word, Space, Indent, LineEnd, mark_bytes, mark_token, bytes_of, words_of, spaced, leading, in_brackets_if}
-use Rattle.prog_text.proofs.Longest.{Goes}
-use Rattle.prog_text.proofs.Breaks.{Breaks, IsLexed, broken_piece, goes_at}
+use Rattle.prog_text.proofs.Longest.{cut_front}
+use Rattle.prog_text.proofs.Breaks.{Breaks, IsLexed, broken_piece, front_at}
 
 -- the bytes are cut into these tokens, wherever they stand
 pub record IsCutInto (bytes : List ℕ) (ts : List Token) : Type 0 where
@@ -62,7 +62,7 @@ line_end_begins marks = record { breaks = λ rest. refl }
 -- ---- single marks
 
 space_cut : (b : ℕ) (rest : List ℕ) (ts : List Token) → IsCutInto rest ts → is_space b ≡ true → IsCutInto (b ∷ rest) ts
-space_cut b rest ts h e = record { placed = h.placed; cut = space b rest h.placed e h.cut; same = h.same }
+space_cut b rest ts h e = record { placed = h.placed; cut = another None (b ∷ []) rest h.placed (space b rest e) h.cut; same = h.same }
 
 pub space_closed : Closed (Space ∷ [])
 space_closed = record { cuts = λ rest ts h. space_cut 32 rest ts h refl }
@@ -79,8 +79,7 @@ indent_closed depth = record { cuts = λ rest ts h. rw (append_assoc (replicate 
 
 word_cut : (u : Token) (bytes rest : List ℕ) (ts : List Token) → piece_at bytes ≡ Ok (Some u, rest) → IsCutInto rest ts → IsCutInto bytes (u ∷ ts)
 word_cut u bytes rest ts is h =
-    let goes : Goes bytes (Ok (Some u, rest)) = subst (λ (piece : Piece). Goes bytes piece) is (goes_at bytes) in
-    record { placed = (u, length bytes) ∷ h.placed; cut = goes h.placed h.cut; same = ap (λ (us : List Token). u ∷ us) h.same }
+    record { placed = (u, length bytes) ∷ h.placed; cut = cut_front bytes rest (Some u) h.placed (front_at bytes rest (Some u) is) h.cut; same = ap (λ (us : List Token). u ∷ us) h.same }
 
 -- any token, before a break
 pub word_open : (u : Token) → IsLexed u → Open (Word u ∷ [])

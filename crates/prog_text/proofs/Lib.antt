@@ -11,6 +11,7 @@ pub mod WordBytes
 pub mod Derived
 pub mod DerivedStatements
 pub mod Enough
+pub mod Flaws
 mod CanonicalExamples
 pub mod CutMarks
 pub mod CutPhrases
@@ -31,4 +32,6 @@ pub mod PhrasesAgain
 pub mod PrintedBlocks
 pub mod Refusals
 pub mod RoundTrip
+mod RefusedExamples
+mod SmallBank
 mod Vectors

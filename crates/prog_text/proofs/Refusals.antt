@@ -1,5 +1,5 @@
 -- Which answer a text has: what reading its tokens says of them.
-use Rattle.std.proofs.Common.{◌≡◌, ℕ, zero, suc, ◌-◌, ◌<◌, ◌≤◌, List, [], ◌∷◌, ◌++◌, length, length-append, Bool, true, false, if◌then◌else◌, Option, Some, None, Result, Ok, Err, refl, ap, sym, ◌∙◌, subst, append_assoc, arith}
+use Rattle.std.proofs.Common.{◌≡◌, ℕ, zero, suc, ◌+◌, ◌-◌, ◌<◌, ◌≤◌, List, [], ◌∷◌, ◌++◌, length, length-append, Bool, true, false, if◌then◌else◌, Option, Some, None, Result, Ok, Err, refl, ap, sym, ◌∙◌, subst, append_assoc, arith}
 use Rattle.std.specs.Prelude.{option_map, MatchResult, IfOk, IfErr}
 use Rattle.std.proofs.lemmas.List.{append-nil}
 use Rattle.prog_tree.specs.Syntax.{DraftTree}
@@ -13,6 +13,7 @@ use Rattle.prog_text.specs.Lexing.{Placed, kinds}
 use Rattle.prog_text.specs.Limits.{brackets_after, operators_after, too_deep_from, too_deep}
 use Rattle.prog_text.specs.Reading.{Unexpected, Reading, ◌>>=◌, tables_at, programs_at, end_at, set_at}
 use Rattle.prog_text.proofs.Converse.{tokens_exactly}
+use Rattle.prog_text.proofs.Flaws.{flaws_exactly}
 use Rattle.prog_text.proofs.Alike.{Alike, both_read, both_stop, past, IsPast, same}
 use Rattle.prog_text.proofs.Local.{set_alike}
 use Rattle.prog_text.proofs.Only.{Reads}
@@ -106,7 +107,10 @@ accepted_once bytes d e h k =
     set_once (kinds h.placed) d e h.spelled (subst (λ (p : Placed). IsSet (kinds p) e) (cut_once bytes h.placed k.placed h.shallow.tokens k.shallow.tokens) k.spelled)
 
 flaw_excluded : (bytes : List ℕ) (flaw : Flaw) (place : ℕ) (d : DraftTree) → IsFlawed bytes flaw place → Accepts bytes d → ⊥
-flaw_excluded bytes flaw place d h k = absurd (cc (sym h.2 ∙ (tokens_exactly bytes k.placed).1 k.shallow.tokens.cut))
+flaw_excluded bytes flaw place d h k =
+    let first = h.1 in
+    let left : length bytes ≡ place + length first.rest = omega (arith, ap length first.parts, length-append first.front first.rest, first.at_place) in
+    absurd (cc (sym ((flaws_exactly bytes flaw (length first.rest)).1 (place, first, left)) ∙ (tokens_exactly bytes k.placed).1 k.shallow.tokens.cut))
 
 misfit_excluded : (ts : List Token) (n : ℕ) (d : DraftTree) → IsMisfit ts n → IsSet ts d → ⊥
 misfit_excluded ts n d h k = h.ends (h.rest, d, subst (λ (us : List Token). IsSet us d) (h.parts ∙ sym (append_assoc h.front (h.token ∷ []) h.rest)) k)

@@ -1,14 +1,14 @@
 -- The canonical text of a draft that some text has is a text of that draft.
-use Rattle.std.proofs.Common.{◌≡◌, ◌∙◌, ℕ, ◌≤◌, List, [], ◌++◌, length, None, refl, sym, ap, subst}
+use Rattle.std.proofs.Common.{◌≡◌, ◌∙◌, ℕ, ◌≤◌, List, [], ◌++◌, length, Option, None, refl, sym, ap, subst}
 use Rattle.std.proofs.lemmas.List.{append-nil}
 use Rattle.prog_tree.specs.Syntax.{DraftTree}
 use Rattle.prog_text.specs.declared.token.Token.{Token}
 use Rattle.prog_text.specs.declared.token.Token.TheVariants as t
 use Rattle.prog_text.specs.Answer.{text_limit, Accepts}
 use Rattle.prog_text.specs.Canonical.{words_of, draft_marks, canonical}
-use Rattle.prog_text.specs.Cut.{IsName, Spells, IsWithin, IsCut, end, space, comment, token}
+use Rattle.prog_text.specs.Cut.{IsName, Spells, IsWithin, IsPiece, space, comment, token, IsCut, end, another}
 use Rattle.prog_text.specs.Grammar.{IsSet}
-use Rattle.prog_text.specs.Lexing.{Placed, kinds}
+use Rattle.prog_text.specs.Lexing.{Placed, kinds, before}
 use Rattle.prog_text.specs.Limits.{too_deep}
 use Rattle.prog_text.proofs.Breaks.{IsLexed}
 use Rattle.prog_text.proofs.CutMarks.{IsCutInto, Closed}
@@ -21,11 +21,14 @@ lexed_token (t.Name x) word spells within = (subst IsName spells.0 spells.1, wit
 lexed_token (t.Number n) word spells within = within
 lexed_token u word spells within = tt
 
+lexed_piece : (found : Option Token) (word rest : List ℕ) (left : ℕ) (placed : Placed) → IsPiece found word rest → AreLexed (kinds placed) → AreLexed (kinds (before found left placed))
+lexed_piece _ _ _ left placed (space b rest h) others = others
+lexed_piece _ _ _ left placed (comment line rest all ends) others = others
+lexed_piece _ _ _ left placed (token u word rest spells within longest) others = (lexed_token u word spells within, others)
+
 lexed : (bytes : List ℕ) (placed : Placed) → IsCut bytes placed → AreLexed (kinds placed)
 lexed _ _ end = tt
-lexed _ _ (space b rest placed h cut) = lexed rest placed cut
-lexed _ _ (comment line rest placed all ends cut) = lexed rest placed cut
-lexed _ _ (token u word rest placed spells within longest cut) = (lexed_token u word spells within, lexed rest placed cut)
+lexed _ _ (another found word rest placed h cut) = lexed_piece found word rest (length (word ++ rest)) placed h (lexed rest placed cut)
 
 nothing_cut : IsCutInto [] []
 nothing_cut = record { placed = []; cut = end; same = refl }

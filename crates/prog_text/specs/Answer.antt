@@ -1,14 +1,14 @@
 -- Which answer a text has: a draft, or its first refusal.
-use Rattle.std.specs.Prelude.{◌≡◌, ℕ, ◌-◌, ◌<◌, ◌≤◌, List, [], ◌∷◌, ◌++◌, length, Some, None, Err, slice_index}
+use Rattle.std.specs.Prelude.{◌≡◌, ℕ, ◌-◌, ◌<◌, ◌≤◌, List, [], ◌∷◌, ◌++◌, length, Some, None, slice_index}
 use Rattle.prog_tree.specs.Syntax.{DraftTree}
 use Rattle.prog_text.specs.declared.fault.TextFault.{TextFault}
 use Rattle.prog_text.specs.declared.fault.TextFault.TheVariants as f
 use Rattle.prog_text.specs.declared.lex_error.Flaw.{Flaw}
 use Rattle.prog_text.specs.declared.lex_error.Flaw.TheVariants as w
 use Rattle.prog_text.specs.declared.token.Token.{Token}
-use Rattle.prog_text.specs.Cut.{IsCut}
+use Rattle.prog_text.specs.Cut.{IsCut, IsFirstFlaw}
 use Rattle.prog_text.specs.Grammar.{IsSet, BeginsSet}
-use Rattle.prog_text.specs.Lexing.{Placed, kinds, lefts, tokens_of}
+use Rattle.prog_text.specs.Lexing.{Placed, kinds, lefts}
 use Rattle.prog_text.specs.Limits.{too_deep}
 
 -- the greatest length of a text
@@ -50,9 +50,9 @@ pub record IsUnfinished (ts : List Token) : Type 0 where
 abbrev pub place_of : List ℕ → Placed → ℕ → ℕ
 place_of bytes placed n = length bytes - slice_index (lefts placed) n
 
--- the bytes have this flaw first, at this place
+-- the text is short enough, and has this flaw first, at this place
 abbrev pub IsFlawed : List ℕ → Flaw → ℕ → Type 0
-IsFlawed bytes flaw place = (left : ℕ) × (length bytes ≤ text_limit) × (tokens_of bytes ≡ Err (flaw, left)) × (place ≡ length bytes - left)
+IsFlawed bytes flaw place = (length bytes ≤ text_limit) × IsFirstFlaw bytes flaw place
 
 -- the refusal is the first that applies; want of memory may come at any time
 abbrev pub Refuses : List ℕ → TextFault → Type 0

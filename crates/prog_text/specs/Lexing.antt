@@ -7,6 +7,7 @@ use Rattle.prog_text.specs.declared.lex_error.LexError.{LexError}
 use Rattle.prog_text.specs.declared.lex_error.LexError.TheVariants as errors
 use Rattle.prog_text.specs.declared.token.Token.{Token}
 use Rattle.prog_text.specs.declared.token.Token.TheVariants as t
+use Rattle.prog_text.specs.Limits.{name_limit}
 use Rattle.prog_text.specs.Spelling.{spelling, reserved_words, signs}
 
 -- a letter or `_`
@@ -53,7 +54,7 @@ word_token word = unwrap_or (find (λ u. bytes_eq word (spelling u)) reserved_wo
 unfoldable pub word_at : List ℕ → Piece
 word_at bytes =
     let n = prefix_len is_word_byte (drop 1 bytes) + 1 in
-    if nat_lt 32 n then Err (NameTooLong, length bytes) else Ok (Some (word_token (take n bytes)), drop n bytes)
+    if nat_lt name_limit n then Err (NameTooLong, length bytes) else Ok (Some (word_token (take n bytes)), drop n bytes)
 
 -- a number, of which the first byte is known: the longest run of digits
 unfoldable pub number_at : List ℕ → Piece

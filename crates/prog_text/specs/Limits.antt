@@ -3,6 +3,18 @@ use Rattle.std.specs.Prelude.{ℕ, suc, ◌-◌, List, [], ◌∷◌, Option, So
 use Rattle.prog_text.specs.declared.token.Token.{Token}
 use Rattle.prog_text.specs.declared.token.Token.TheVariants as t
 
+-- the most brackets that may be open
+abbrev pub bracket_limit : ℕ
+bracket_limit = 16
+
+-- the most operators of a statement
+abbrev pub operator_limit : ℕ
+operator_limit = 32
+
+-- the most bytes of a name
+abbrev pub name_limit : ℕ
+name_limit = 32
+
 -- the brackets that are open behind a token, where n are open before it; never below zero
 abbrev pub brackets_after : Token → ℕ → ℕ
 brackets_after t.Open n = suc n
@@ -27,7 +39,7 @@ operators_after u n = n
 abbrev pub too_deep_from : (brackets operators : ℕ) → List Token → Option ℕ
 too_deep_from brackets operators [] = None
 too_deep_from brackets operators (u ∷ ts) =
-    if nat_lt 16 (brackets_after u brackets) || nat_lt 32 (operators_after u operators) then Some 0
+    if nat_lt bracket_limit (brackets_after u brackets) || nat_lt operator_limit (operators_after u operators) then Some 0
     else option_map suc (too_deep_from (brackets_after u brackets) (operators_after u operators) ts)
 
 abbrev pub too_deep : List Token → Option ℕ

@@ -1,5 +1,5 @@
 -- How each token is spelled.
-use Rattle.std.specs.Prelude.{ℕ, List, [], ◌∷◌, codes}
+use Rattle.std.specs.Prelude.{ℕ, List, [], ◌∷◌, ◌++◌, codes}
 use Rattle.std.specs.Fmt.{decimal}
 use Rattle.prog_text.specs.declared.token.Token.{Token}
 use Rattle.prog_text.specs.declared.token.Token.TheVariants as t
@@ -52,11 +52,21 @@ spelling t.GreaterEqual = codes ">="
 spelling t.EqualEqual = codes "=="
 spelling t.NotEqual = codes "!="
 
--- the words that are no names; `each` and `in` stand in no statement yet
+-- the words that begin what is named: a table, a program, or a value that is read
+abbrev pub naming_words : List Token
+naming_words = t.Table ∷ t.Grow ∷ t.Program ∷ t.Let ∷ t.Get ∷ t.Need ∷ t.Count ∷ t.Sum ∷ []
+
+-- the words of the other statements
+abbrev pub statement_words : List Token
+statement_words = t.Lacks ∷ t.Put ∷ t.Insert ∷ t.Delete ∷ t.Keep ∷ t.If ∷ t.Else ∷ t.Reply ∷ t.Abort ∷ []
+
+-- the words inside a statement; `each` and `in` stand in none yet
+abbrev pub inner_words : List Token
+inner_words = t.Or ∷ t.And ∷ t.Not ∷ t.Least ∷ t.Greatest ∷ t.Each ∷ t.In ∷ []
+
+-- the words that are no names
 abbrev pub reserved_words : List Token
-reserved_words =
-    t.Table ∷ t.Grow ∷ t.Program ∷ t.Let ∷ t.Get ∷ t.Need ∷ t.Count ∷ t.Sum ∷ t.Lacks ∷ t.Put ∷ t.Insert ∷ t.Delete ∷
-    t.Keep ∷ t.If ∷ t.Else ∷ t.Reply ∷ t.Abort ∷ t.Or ∷ t.And ∷ t.Not ∷ t.Least ∷ t.Greatest ∷ t.Each ∷ t.In ∷ []
+reserved_words = naming_words ++ (statement_words ++ inner_words)
 
 -- the signs, those of two bytes first
 abbrev pub signs : List Token

@@ -5,6 +5,7 @@ ghost use Rattle.prog_text.specs.Reading.{Goes, Gives, body_at, block_at};
 ghost use Rattle.prog_text.specs.OpenBlocks.{unread, unread_behind_end, unread_behind_if, unread_from_statement, state_of};
 
 use crate::conditions::test;
+use crate::limits::MOST_BRACKETS;
 use crate::read_error::ReadError;
 use crate::signs::{after_close_block, after_else, after_if, open_block};
 use crate::statements::statement;
@@ -44,7 +45,7 @@ impl MadeWith<Global> for Open {
 #[derive(Drop)]
 pub struct Body<'s, 'a> {
     // The blocks of branches that are open in it, the innermost last.
-    stack: SmallVec<Open, 16>,
+    stack: SmallVec<Open, MOST_BRACKETS>,
     // The statements of the innermost one so far.
     done: Vec<Stmt>,
     // The tokens that are left.
@@ -56,7 +57,7 @@ pub struct Body<'s, 'a> {
 // Goes on behind the closing sign of a first block.
 fn end_first<'s, 'a>(
     alloc: Global,
-    mut stack: SmallVec<Open, 16>,
+    mut stack: SmallVec<Open, MOST_BRACKETS>,
     done: Vec<Stmt>,
     test: Test,
     mut before: Vec<Stmt>,
@@ -99,7 +100,7 @@ fn end_first<'s, 'a>(
 
 // Goes on behind the closing sign of a second block.
 fn end_second<'s, 'a>(
-    stack: SmallVec<Open, 16>,
+    stack: SmallVec<Open, MOST_BRACKETS>,
     done: Vec<Stmt>,
     test: Test,
     first: Vec<Stmt>,
@@ -128,7 +129,7 @@ fn end_second<'s, 'a>(
 // Goes on behind a closing sign.
 fn end_block<'s, 'a>(
     alloc: Global,
-    mut stack: SmallVec<Open, 16>,
+    mut stack: SmallVec<Open, MOST_BRACKETS>,
     done: Vec<Stmt>,
     tokens: &'s [Token<'a>],
 ) -> Result<Body<'s, 'a>, ReadError>
@@ -157,7 +158,7 @@ fn end_block<'s, 'a>(
 // Goes on behind the word `if`, into the first block.
 fn begin_branch<'s, 'a>(
     alloc: Global,
-    mut stack: SmallVec<Open, 16>,
+    mut stack: SmallVec<Open, MOST_BRACKETS>,
     done: Vec<Stmt>,
     tokens: &'s [Token<'a>],
 ) -> Result<Body<'s, 'a>, ReadError>
@@ -179,7 +180,7 @@ fn begin_branch<'s, 'a>(
 // Goes on behind a statement without blocks.
 fn one_more<'s, 'a>(
     alloc: Global,
-    stack: SmallVec<Open, 16>,
+    stack: SmallVec<Open, MOST_BRACKETS>,
     mut done: Vec<Stmt>,
     tokens: &'s [Token<'a>],
 ) -> Result<Body<'s, 'a>, ReadError>

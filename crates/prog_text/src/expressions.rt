@@ -1,4 +1,5 @@
 ghost use Rattle.std.specs.Prelude.{◌≡◌, ◌<◌, length, IfOk};
+ghost use Rattle.prog_tree.specs.Syntax.{Plus, Minus, Times};
 ghost use Rattle.prog_tree.specs.Tree.{expr_tree};
 ghost use Rattle.prog_text.specs.Reading.{Gives, negative_at, factor_at, product_at, expr_at};
 
@@ -6,7 +7,25 @@ use crate::read_error::{ReadError, unexpected};
 use crate::signs::{after_minus, after_plus, after_times, close_bracket};
 use crate::token::Token;
 use prog_tree::{Expr, Name};
-use std::alloc::Global;
+use std::alloc::{AllocError, Global};
+
+fn times(alloc: Global, left: Expr, right: Expr) -> Result<Expr, AllocError>
+    ensures { IfOk result (λ e. expr_tree e ≡ Times (expr_tree left) (expr_tree right)) }
+{
+    Ok(Expr::Times(Box::new(alloc, left)?, Box::new(alloc, right)?))
+}
+
+fn plus(alloc: Global, left: Expr, right: Expr) -> Result<Expr, AllocError>
+    ensures { IfOk result (λ e. expr_tree e ≡ Plus (expr_tree left) (expr_tree right)) }
+{
+    Ok(Expr::Plus(Box::new(alloc, left)?, Box::new(alloc, right)?))
+}
+
+fn minus(alloc: Global, left: Expr, right: Expr) -> Result<Expr, AllocError>
+    ensures { IfOk result (λ e. expr_tree e ≡ Minus (expr_tree left) (expr_tree right)) }
+{
+    Ok(Expr::Minus(Box::new(alloc, left)?, Box::new(alloc, right)?))
+}
 
 // The number after a minus sign.
 fn negative<'s, 'a>(tokens: &'s [Token<'a>]) -> Result<(Expr, &'s [Token<'a>]), ReadError>
@@ -65,13 +84,13 @@ fn product<'s, 'a>(
     let (mut left, mut rest) = factor(alloc, tokens)?;
     while let Some(after) = after_times(rest) {
         let (right, after) = factor(alloc, after)?;
-        left = Expr::Times(Box::new(alloc, left)?, Box::new(alloc, right)?);
+        left = times(alloc, left, right)?;
         rest = after;
     }
     Ok((left, rest))
 }
 
-/// An expression. Each bracket in it is one call deeper; `too_deep` lets 16 through.
+/// An expression. Each bracket in it is one call deeper; `too_deep` lets `MOST_BRACKETS` through.
 #[cycle(expr)]
 #[tactic(auto, unfolding(crate::specs::Reading::sum_at, crate::specs::Reading::sum_from))]
 pub fn expr<'s, 'a>(
@@ -85,11 +104,11 @@ pub fn expr<'s, 'a>(
     loop {
         if let Some(after) = after_plus(rest) {
             let (right, after) = product(alloc, after)?;
-            left = Expr::Plus(Box::new(alloc, left)?, Box::new(alloc, right)?);
+            left = plus(alloc, left, right)?;
             rest = after;
         } else if let Some(after) = after_minus(rest) {
             let (right, after) = product(alloc, after)?;
-            left = Expr::Minus(Box::new(alloc, left)?, Box::new(alloc, right)?);
+            left = minus(alloc, left, right)?;
             rest = after;
         } else {
             return Ok((left, rest));

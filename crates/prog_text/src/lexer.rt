@@ -1,9 +1,11 @@
-ghost use Rattle.std.specs.Prelude.{◌≡◌, ℕ, ◌+◌, ◌<◌, ◌≤◌, length, drop, slice_index, IfOk, true, List, ◌↔◌, Ok};
+ghost use Rattle.std.specs.Prelude.{◌≡◌, ℕ, ◌+◌, ◌<◌, ◌≤◌, length, drop, slice_index, IfOk, true, List, ◌↔◌, Ok, Err};
 ghost use Rattle.std.specs.List.{prefix_len};
-ghost use Rattle.prog_text.specs.Cut.{IsCut};
+ghost use Rattle.prog_text.specs.Cut.{IsCut, IsFirstFlaw};
+ghost use Rattle.prog_text.specs.declared.lex_error.Flaw.{Flaw};
 ghost use Rattle.prog_text.specs.Lexing.{is_letter, is_digit, is_word_byte, is_space, is_comment_byte, value_within, Gives, piece_at, word_at, number_at, sign_at, tokens_of, Placed};
 
 use crate::lex_error::{Flaw, LexError};
+use crate::limits::MOST_NAME_BYTES;
 use crate::placed_tokens::PlacedTokens;
 use crate::token::{Magnitude, Token};
 use crate::words::word_token;
@@ -135,7 +137,7 @@ fn word_piece(bytes: &[u8]) -> Result<Piece<'_>, LexError>
     ensures shorter { IfOk result (λ p. length p.rest.now < length bytes.now) }
 {
     let len = word_len(&bytes[1..]) + 1;
-    if len > 32 {
+    if len > MOST_NAME_BYTES {
         return Err(at(Flaw::NameTooLong, bytes));
     }
     let (word, rest) = bytes.split_at(len);
@@ -223,4 +225,12 @@ pub fn tokens(alloc: Global, bytes: &[u8]) -> Result<PlacedTokens<'_>, LexError>
 #[tactic(auto, using(crate::proofs::Converse::tokens_exactly))]
 pub fn tokens_are_the_longest()
     ensures { (bytes : List ℕ) (placed : Placed) → (tokens_of bytes ≡ Ok placed) ↔ IsCut bytes placed }
+{}
+
+/// A text has exactly the first flaw that it is refused for: spaces, comments and tokens one after another stand
+/// before it, each the longest that stands there. This is a law, with an empty body.
+pub fn flaws_are_the_first()
+    ensures { (bytes : List ℕ) (flaw : Flaw) (left : ℕ)
+        → (tokens_of bytes ≡ Err (flaw, left))
+        ↔ ((place : ℕ) × IsFirstFlaw bytes flaw place × (length bytes ≡ place + left)) }
 {}

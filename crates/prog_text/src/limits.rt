@@ -1,14 +1,19 @@
 ghost use Rattle.std.specs.Prelude.{◌≡◌, ℕ, ◌+◌, ◌<◌, ◌≤◌};
-ghost use Rattle.prog_text.specs.Limits.{brackets_after, operators_after, too_deep};
+ghost use Rattle.prog_text.specs.Limits.{bracket_limit, operator_limit, brackets_after, operators_after, too_deep};
 
 use crate::token::Token;
 
-const MOST_BRACKETS: usize = 16;
+/// The most brackets that may be open.
+pub const MOST_BRACKETS: usize = 16;
 
+// The most operators of a statement.
 const MOST_OPERATORS: usize = 32;
 
+/// The most bytes of a name.
+pub const MOST_NAME_BYTES: usize = 32;
+
 fn brackets_after(token: &Token<'_>, brackets: usize) -> usize
-    requires { brackets ≤ 16 }
+    requires { brackets ≤ bracket_limit }
     ensures { result ≡ brackets_after token.now brackets }
 {
     match token {
@@ -19,7 +24,7 @@ fn brackets_after(token: &Token<'_>, brackets: usize) -> usize
 }
 
 fn operators_after(token: &Token<'_>, operators: usize) -> usize
-    requires { operators ≤ 32 }
+    requires { operators ≤ operator_limit }
     ensures { result ≡ operators_after token.now operators }
 {
     match token {

@@ -2,7 +2,7 @@ use crate::token::Token;
 use std::marker::Model;
 
 /// The tokens of a text, and beside each how many bytes are left where it begins.
-#[derive(Debug, Drop)]
+#[derive(Drop)]
 pub struct PlacedTokens<'a> {
     tokens: Vec<Token<'a>>,
     lefts: Vec<usize>,

@@ -4,33 +4,31 @@ ghost use Rattle.prog_tree.specs.Syntax.{Bind, Get, Need, Count, Sum, Lacks, Put
 ghost use Rattle.prog_tree.specs.Tree.{expr_tree, key_tree, range_tree};
 ghost use Rattle.prog_text.specs.Canonical.{Indent, bytes_of, expr_marks, key_marks, range_marks, let_marks, assigned_marks, ended, statement_line};
 
+use crate::margin::Margin;
 use crate::print_expressions::{push_expr, push_key, push_range};
 use prog_tree::{Expr, Key, Name, Range};
 use std::alloc::AllocError;
 
-/// Adds two spaces for each level of an indent.
-pub fn push_indent(text: &mut String, depth: usize) -> Result<(), AllocError>
-    ensures { OnOk result (string_bytes text.new ≡ string_bytes text.old ++ bytes_of (Indent depth ∷ [])) }
+/// Adds the white space before a line.
+pub fn push_indent(text: &mut String, margin: &Margin) -> Result<(), AllocError>
+    ensures { OnOk result (string_bytes text.new ≡ string_bytes text.old ++ bytes_of (Indent margin.now ∷ [])) }
 {
-    for _ in 0..depth {
-        text.push_str("  ")?;
-    }
-    Ok(())
+    text.push_str(margin.as_str())
 }
 
 // Begins the line of a statement with its first word.
-fn push_first(text: &mut String, depth: usize, word: &str) -> Result<(), AllocError>
-    ensures { OnOk result (string_bytes text.new ≡ string_bytes text.old ++ (bytes_of (Indent depth ∷ []) ++ word.now)) }
+fn push_first(text: &mut String, margin: &Margin, word: &str) -> Result<(), AllocError>
+    ensures { OnOk result (string_bytes text.new ≡ string_bytes text.old ++ (bytes_of (Indent margin.now ∷ []) ++ word.now)) }
 {
-    push_indent(text, depth)?;
+    push_indent(text, margin)?;
     text.push_str(word)
 }
 
 // Begins the line of a statement that binds a name.
-fn push_let(text: &mut String, depth: usize, name: &Name) -> Result<(), AllocError>
-    ensures { OnOk result (string_bytes text.new ≡ string_bytes text.old ++ bytes_of (Indent depth ∷ let_marks name.now)) }
+fn push_let(text: &mut String, margin: &Margin, name: &Name) -> Result<(), AllocError>
+    ensures { OnOk result (string_bytes text.new ≡ string_bytes text.old ++ bytes_of (Indent margin.now ∷ let_marks name.now)) }
 {
-    push_indent(text, depth)?;
+    push_indent(text, margin)?;
     write!(text, "let {name} = ")
 }
 
@@ -69,27 +67,27 @@ fn push_assigned(text: &mut String, table: &Name, key: &Key, value: &Expr) -> Re
 
 pub fn push_bind(
     text: &mut String,
-    depth: usize,
+    margin: &Margin,
     name: &Name,
     value: &Expr,
 ) -> Result<(), AllocError>
-    ensures { OnOk result (string_bytes text.new ≡ string_bytes text.old ++ bytes_of (statement_line depth (Bind name.now (expr_tree value.now)))) }
+    ensures { OnOk result (string_bytes text.new ≡ string_bytes text.old ++ bytes_of (statement_line margin.now (Bind name.now (expr_tree value.now)))) }
 {
-    push_let(text, depth, name)?;
+    push_let(text, margin, name)?;
     push_last_expr(text, value)
 }
 
 pub fn push_get(
     text: &mut String,
-    depth: usize,
+    margin: &Margin,
     name: &Name,
     table: &Name,
     key: &Key,
     otherwise: &Expr,
 ) -> Result<(), AllocError>
-    ensures { OnOk result (string_bytes text.new ≡ string_bytes text.old ++ bytes_of (statement_line depth (Get name.now table.now (key_tree key.now) (expr_tree otherwise.now)))) }
+    ensures { OnOk result (string_bytes text.new ≡ string_bytes text.old ++ bytes_of (statement_line margin.now (Get name.now table.now (key_tree key.now) (expr_tree otherwise.now)))) }
 {
-    push_let(text, depth, name)?;
+    push_let(text, margin, name)?;
     text.push_str("get ")?;
     push_key(text, table, key)?;
     text.push_str(" else ")?;
@@ -98,112 +96,117 @@ pub fn push_get(
 
 pub fn push_need(
     text: &mut String,
-    depth: usize,
+    margin: &Margin,
     name: &Name,
     table: &Name,
     key: &Key,
 ) -> Result<(), AllocError>
-    ensures { OnOk result (string_bytes text.new ≡ string_bytes text.old ++ bytes_of (statement_line depth (Need name.now table.now (key_tree key.now)))) }
+    ensures { OnOk result (string_bytes text.new ≡ string_bytes text.old ++ bytes_of (statement_line margin.now (Need name.now table.now (key_tree key.now)))) }
 {
-    push_let(text, depth, name)?;
+    push_let(text, margin, name)?;
     text.push_str("need ")?;
     push_last_key(text, table, key)
 }
 
 pub fn push_count(
     text: &mut String,
-    depth: usize,
+    margin: &Margin,
     name: &Name,
     table: &Name,
     range: &Range,
 ) -> Result<(), AllocError>
-    ensures { OnOk result (string_bytes text.new ≡ string_bytes text.old ++ bytes_of (statement_line depth (Count name.now table.now (range_tree range.now)))) }
+    ensures { OnOk result (string_bytes text.new ≡ string_bytes text.old ++ bytes_of (statement_line margin.now (Count name.now table.now (range_tree range.now)))) }
 {
-    push_let(text, depth, name)?;
+    push_let(text, margin, name)?;
     text.push_str("count ")?;
     push_last_range(text, table, range)
 }
 
 pub fn push_sum(
     text: &mut String,
-    depth: usize,
+    margin: &Margin,
     name: &Name,
     table: &Name,
     range: &Range,
 ) -> Result<(), AllocError>
-    ensures { OnOk result (string_bytes text.new ≡ string_bytes text.old ++ bytes_of (statement_line depth (Sum name.now table.now (range_tree range.now)))) }
+    ensures { OnOk result (string_bytes text.new ≡ string_bytes text.old ++ bytes_of (statement_line margin.now (Sum name.now table.now (range_tree range.now)))) }
 {
-    push_let(text, depth, name)?;
+    push_let(text, margin, name)?;
     text.push_str("sum ")?;
     push_last_range(text, table, range)
 }
 
 pub fn push_lacks(
     text: &mut String,
-    depth: usize,
+    margin: &Margin,
     table: &Name,
     key: &Key,
 ) -> Result<(), AllocError>
-    ensures { OnOk result (string_bytes text.new ≡ string_bytes text.old ++ bytes_of (statement_line depth (Lacks table.now (key_tree key.now)))) }
+    ensures { OnOk result (string_bytes text.new ≡ string_bytes text.old ++ bytes_of (statement_line margin.now (Lacks table.now (key_tree key.now)))) }
 {
-    push_first(text, depth, "lacks ")?;
+    push_first(text, margin, "lacks ")?;
     push_last_key(text, table, key)
 }
 
 pub fn push_put(
     text: &mut String,
-    depth: usize,
+    margin: &Margin,
     table: &Name,
     key: &Key,
     value: &Expr,
 ) -> Result<(), AllocError>
-    ensures { OnOk result (string_bytes text.new ≡ string_bytes text.old ++ bytes_of (statement_line depth (Put table.now (key_tree key.now) (expr_tree value.now)))) }
+    ensures { OnOk result (string_bytes text.new ≡ string_bytes text.old ++ bytes_of (statement_line margin.now (Put table.now (key_tree key.now) (expr_tree value.now)))) }
 {
-    push_first(text, depth, "put ")?;
+    push_first(text, margin, "put ")?;
     push_assigned(text, table, key, value)
 }
 
 pub fn push_insert(
     text: &mut String,
-    depth: usize,
+    margin: &Margin,
     table: &Name,
     key: &Key,
     value: &Expr,
 ) -> Result<(), AllocError>
-    ensures { OnOk result (string_bytes text.new ≡ string_bytes text.old ++ bytes_of (statement_line depth (Insert table.now (key_tree key.now) (expr_tree value.now)))) }
+    ensures { OnOk result (string_bytes text.new ≡ string_bytes text.old ++ bytes_of (statement_line margin.now (Insert table.now (key_tree key.now) (expr_tree value.now)))) }
 {
-    push_first(text, depth, "insert ")?;
+    push_first(text, margin, "insert ")?;
     push_assigned(text, table, key, value)
 }
 
 pub fn push_delete(
     text: &mut String,
-    depth: usize,
+    margin: &Margin,
     table: &Name,
     key: &Key,
 ) -> Result<(), AllocError>
-    ensures { OnOk result (string_bytes text.new ≡ string_bytes text.old ++ bytes_of (statement_line depth (Delete table.now (key_tree key.now)))) }
+    ensures { OnOk result (string_bytes text.new ≡ string_bytes text.old ++ bytes_of (statement_line margin.now (Delete table.now (key_tree key.now)))) }
 {
-    push_first(text, depth, "delete ")?;
+    push_first(text, margin, "delete ")?;
     push_last_key(text, table, key)
 }
 
-pub fn push_keep(text: &mut String, depth: usize, table: &Name, key: &Key) -> Result<(), AllocError>
-    ensures { OnOk result (string_bytes text.new ≡ string_bytes text.old ++ bytes_of (statement_line depth (Keep table.now (key_tree key.now)))) }
+pub fn push_keep(
+    text: &mut String,
+    margin: &Margin,
+    table: &Name,
+    key: &Key,
+) -> Result<(), AllocError>
+    ensures { OnOk result (string_bytes text.new ≡ string_bytes text.old ++ bytes_of (statement_line margin.now (Keep table.now (key_tree key.now)))) }
 {
-    push_first(text, depth, "keep ")?;
+    push_first(text, margin, "keep ")?;
     push_last_key(text, table, key)
 }
 
-pub fn push_reply(text: &mut String, depth: usize, value: &Expr) -> Result<(), AllocError>
-    ensures { OnOk result (string_bytes text.new ≡ string_bytes text.old ++ bytes_of (statement_line depth (Reply (expr_tree value.now)))) }
+pub fn push_reply(text: &mut String, margin: &Margin, value: &Expr) -> Result<(), AllocError>
+    ensures { OnOk result (string_bytes text.new ≡ string_bytes text.old ++ bytes_of (statement_line margin.now (Reply (expr_tree value.now)))) }
 {
-    push_first(text, depth, "reply ")?;
+    push_first(text, margin, "reply ")?;
     push_last_expr(text, value)
 }
 
-pub fn push_abort(text: &mut String, depth: usize) -> Result<(), AllocError>
-    ensures { OnOk result (string_bytes text.new ≡ string_bytes text.old ++ bytes_of (statement_line depth Abort)) }
+pub fn push_abort(text: &mut String, margin: &Margin) -> Result<(), AllocError>
+    ensures { OnOk result (string_bytes text.new ≡ string_bytes text.old ++ bytes_of (statement_line margin.now Abort)) }
 {
-    push_first(text, depth, "abort;\n")
+    push_first(text, margin, "abort;\n")
 }

@@ -4,6 +4,7 @@ ghost use Rattle.prog_tree.specs.Tree.{program_tree, draft_tree};
 ghost use Rattle.prog_text.specs.Answer.{text_limit, Accepts};
 ghost use Rattle.prog_text.specs.Canonical.{bytes_of, joined_by, comma, name_marks, arity_number, table_marks, program_marks, canonical};
 
+use crate::margin::Margin;
 use crate::print_blocks::{push_block, push_close};
 use prog_tree::{Arity, Draft, Name, Program, TableDecl};
 use std::alloc::{AllocError, Global};
@@ -42,15 +43,16 @@ fn push_params(text: &mut String, params: &[Name]) -> Result<(), AllocError>
     Ok(())
 }
 
-fn push_program(text: &mut String, program: &Program) -> Result<(), AllocError>
+fn push_program(alloc: Global, text: &mut String, program: &Program) -> Result<(), AllocError>
     ensures { OnOk result (string_bytes text.new ≡ string_bytes text.old ++ bytes_of (program_marks (program_tree program.now))) }
 {
     let name = &program.name;
     write!(text, "program {name}(")?;
     push_params(text, program.params.as_slice())?;
     text.push_str(") {\n")?;
-    push_block(text, 1, &program.body)?;
-    push_close(text, 0)
+    let outer = Margin::none(alloc);
+    push_block(text, &outer.deeper()?, &program.body)?;
+    push_close(text, &outer)
 }
 
 fn push_tables(text: &mut String, tables: &[TableDecl]) -> Result<(), AllocError>
@@ -62,16 +64,17 @@ fn push_tables(text: &mut String, tables: &[TableDecl]) -> Result<(), AllocError
     Ok(())
 }
 
-fn push_programs(text: &mut String, programs: &[Program]) -> Result<(), AllocError>
+fn push_programs(alloc: Global, text: &mut String, programs: &[Program]) -> Result<(), AllocError>
     ensures { OnOk result (string_bytes text.new ≡ string_bytes text.old ++ bytes_of (flat_map program_marks (map program_tree programs.now))) }
 {
     for program in programs {
-        push_program(text, program)?;
+        push_program(alloc, text, program)?;
     }
     Ok(())
 }
 
-/// The canonical text of a draft.
+/// The canonical text of a draft, however deep its blocks are. Memory is the only reason for an error: a text that is
+/// to grow, this one or the white space before a line, and gets no room.
 pub fn print(alloc: Global, draft: &Draft) -> Result<Vec<u8>, AllocError>
     ensures canonical { IfOk result (λ text. text.items ≡ canonical (draft_tree draft.now)) }
 
@@ -81,6 +84,6 @@ pub fn print(alloc: Global, draft: &Draft) -> Result<Vec<u8>, AllocError>
 {
     let mut text = String::new(alloc);
     push_tables(&mut text, draft.tables.as_slice())?;
-    push_programs(&mut text, draft.programs.as_slice())?;
+    push_programs(alloc, &mut text, draft.programs.as_slice())?;
     Ok(text.into_bytes())
 }

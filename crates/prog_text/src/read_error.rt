@@ -4,7 +4,7 @@ use crate::token::Token;
 use std::alloc::{AllocError, AllocFailed};
 
 /// Why the tokens weren't read.
-#[derive(Debug, Drop)]
+#[derive(Drop)]
 pub enum ReadError {
     Memory,
     /// This many tokens are left from the first that can't stand where it does.

@@ -13,12 +13,12 @@ push_block-loop-stmt-preserved t c =
     let i = c.loop-stmt.stmt-index in
     let s = c.stmt-item.result in
     rw (take_more items i s c.loop-stmt-test.true, ← c.stmt-item.is)
-    (printed_more c.args.depth (take i items) s _ _ _ c.loop-stmt.invariant c.in_ok-push_stmt.ensures)
+    (printed_more c.args.margin.now (take i items) s _ _ _ c.loop-stmt.invariant c.in_ok-push_stmt.ensures)
 
 pub push_else-returns : goal.push_else-returns
 push_else-returns t c =
     let items = c.args.block.now.stmts.items in
-    rw (else_marks_stmts c.args.depth items (λ (e : length items ≡ 0). grind (arith, common_steps, c.if-is_empty.ensures))) (grind (arith, common_steps))
+    rw (else_marks_stmts c.args.margin.now items (λ (e : length items ≡ 0). grind (arith, common_steps, c.if-is_empty.ensures))) (grind (arith, common_steps))
 
 pub push_stmt-returns-in_ok-push_else-in-Branch : goal.push_stmt-returns-in_ok-push_else-in-Branch
 push_stmt-returns-in_ok-push_else-in-Branch t c =

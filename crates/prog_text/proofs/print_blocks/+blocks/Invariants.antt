@@ -6,4 +6,4 @@ use Rattle.prog_text.proofs.print_blocks.+blocks.Given as goal
 -- the statements so far are printed
 abbrev pub invariant-push_block-loop-stmt : goal.invariant-push_block-loop-stmt
 invariant-push_block-loop-stmt l =
-    string_bytes l.text ≡ string_bytes l.initial.text ++ bytes_of (block_marks l.depth (stmts_tree (take l.stmt-index l.stmt-items)))
+    string_bytes l.text ≡ string_bytes l.initial.text ++ bytes_of (block_marks l.margin (stmts_tree (take l.stmt-index l.stmt-items)))

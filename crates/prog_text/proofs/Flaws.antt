@@ -1,0 +1,204 @@
+-- The first flaw of a text, by the relation and by the function.
+use Rattle.std.proofs.Common.{◌≡◌, ◌↔◌, ◌∙◌, inl, inr, ℕ, zero, suc, ◌+◌, ◌<◌, ◌≤◌, ◌^◌, ◌==◌, nat_lt, List, [], ◌∷◌, ◌++◌, length, true, false, Option, Result, Ok, Err, refl, sym, ap, subst, slice_index, append_assoc, arith, true≢false}
+use Rattle.std.specs.List.{list_all, prefix_len}
+use Rattle.std.proofs.Math.Seq.{take-append_seam}
+use Rattle.std.proofs.lemmas.Bool.{and_parts, ltb-true, lt-ltb, le-ltb, false_from_ne_true}
+use Rattle.std.proofs.lemmas.Bool.Decides.{Decides-eqb}
+use Rattle.std.proofs.lemmas.Grind.{common_steps}
+use Rattle.std.proofs.lemmas.List.{length-append}
+use Rattle.std.proofs.lemmas.Slice.Eq.{starts_is}
+use Rattle.prog_text.specs.declared.lex_error.Flaw.{Flaw}
+use Rattle.prog_text.specs.declared.lex_error.Flaw.TheVariants.{NumberOutOfRange, NameTooLong}
+use Rattle.prog_text.specs.declared.token.Token.{Token}
+use Rattle.prog_text.specs.declared.token.Token.TheVariants as t
+use Rattle.prog_text.specs.Spelling.{spelling, signs}
+use Rattle.prog_text.specs.Lexing.{is_letter, is_digit, is_word_byte, is_space, digits_value, Placed, Piece, Spot, before, ◌>>=◌, piece_at, word_at, number_at, sign_at, sign_among, flaw_at, tokens_from, tokens_of}
+use Rattle.prog_text.specs.Cut.{IsName, IsNumber, Spells, IsLongest, IsPiece, ArePieces, no_piece, one_more, HasFlaw, not_ascii, unknown, too_large, too_long, IsFirstFlaw}
+use Rattle.prog_text.proofs.Spelled.{IsAmong, letters, digits, sign, kind}
+use Rattle.prog_text.proofs.Longest.{IsFront, Goes, goes, BeginsNoneOf, AreSpelled, signs_spelled, spelled_alone, word_spelled}
+use Rattle.prog_text.proofs.Converse.{Stops, prefix_run, letter_begins, digit_begins, letters_stop, digits_stop, is_begun, behind_is_shorter, piece_begun, piece_is}
+
+-- ---- what the function finds is the first flaw
+
+-- a text that has a flaw by the function has it first
+abbrev Flawed : List ℕ → Result Placed Spot → Type 0
+Flawed bytes (Ok placed) = Unit {0}
+Flawed bytes (Err spot) = (place : ℕ) × IsFirstFlaw bytes spot.0 place × (length bytes ≡ place + spot.1)
+
+one_further : (bytes behind : List ℕ) (found : Option Token) (flaw : Flaw) (place : ℕ) → (h : IsFront bytes found behind) → IsFirstFlaw behind flaw place → IsFirstFlaw bytes flaw (length h.word + place)
+one_further bytes behind found flaw place h first = record {
+  front = h.word ++ first.front;
+  rest = first.rest;
+  parts = h.parts ∙ ap (λ xs. h.word ++ xs) first.parts ∙ sym (append_assoc h.word first.front first.rest);
+  pieces = one_more found h.word first.front first.rest (subst (IsPiece found h.word) first.parts h.is_piece) first.pieces;
+  flawed = first.flawed;
+  at_place = length-append h.word first.front ∙ ap (λ n. length h.word + n) first.at_place;
+}
+
+front_shorter : (bytes behind : List ℕ) (found : Option Token) → IsFront bytes found behind → length behind < length bytes
+front_shorter bytes behind found h = rw h.parts (behind_is_shorter h.word behind (piece_begun found h.word behind h.is_piece))
+
+behind_flawed : (bytes behind : List ℕ) (found : Option Token) → IsFront bytes found behind → (read : Result Placed Spot) → Flawed behind read → Flawed bytes (read >>= (λ others. Ok (before found (length bytes) others)))
+behind_flawed bytes behind found h (Ok others) later = tt
+behind_flawed bytes behind found h (Err spot) later =
+    (length h.word + later.0, one_further bytes behind found spot.0 later.0 h later.1, omega (arith, ap length h.parts, length-append h.word behind, later.2))
+
+piece_flawed : (n : ℕ) (bytes : List ℕ) (piece : Piece) → Goes bytes piece → ((behind : List ℕ) → length behind < length bytes → Flawed behind (tokens_from n behind))
+    → Flawed bytes (piece >>= (λ p. tokens_from n p.1 >>= (λ others. Ok (before p.0 (length bytes) others))))
+piece_flawed n bytes (Ok piece) h later = behind_flawed bytes piece.1 piece.0 h (tokens_from n piece.1) (later piece.1 (front_shorter bytes piece.1 piece.0 h))
+piece_flawed n bytes (Err spot) h later =
+    (0, record { front = []; rest = bytes; parts = refl; pieces = no_piece bytes; flawed = h.0; at_place = refl }, omega (arith, h.1))
+
+flawed_from : (n : ℕ) (bytes : List ℕ) → length bytes ≤ n → Flawed bytes (tokens_from n bytes)
+unfolding tokens_from
+flawed_from n [] enough = tt
+flawed_from zero (b ∷ rest) enough = absurd (omega (arith, enough))
+flawed_from (suc n) (b ∷ rest) enough =
+    piece_flawed n (b ∷ rest) (piece_at (b ∷ rest)) (goes b rest) (λ behind shorter. flawed_from n behind (omega (arith, shorter, enough)))
+
+-- ---- the function finds each flaw
+
+-- where no token begins, no sign does
+no_sign : (us : List Token) (bytes : List ℕ) → AreSpelled Spells us → ((u : Token) (word behind : List ℕ) → Spells u word → bytes ≡ word ++ behind → ⊥) → BeginsNoneOf us bytes
+no_sign [] bytes spelled none = tt
+no_sign (u ∷ us) bytes spelled none = (
+  false_from_ne_true _ (λ e. none u (spelling u) _ spelled.0 ((starts_is Decides-eqb bytes (spelling u) true (sym e)).0 refl)),
+  no_sign us bytes spelled.1 none,
+)
+
+no_sign_there : (us : List Token) (bytes : List ℕ) → BeginsNoneOf us bytes → sign_among us bytes ≡ flaw_at bytes
+no_sign_there [] bytes none = refl
+no_sign_there (u ∷ us) bytes none = rw none.0 (no_sign_there us bytes none.1)
+
+-- where no piece begins, the function has a flaw
+lone_flaw : (b : ℕ) (rest : List ℕ) → is_space b ≡ false → (b ≡ 35 → ⊥) → ((u : Token) (word behind : List ℕ) → Spells u word → b ∷ rest ≡ word ++ behind → ⊥) → piece_at (b ∷ rest) ≡ flaw_at (b ∷ rest)
+unfolding piece_at sign_at
+lone_flaw b rest no_space no_comment none =
+    let comment : (b == 35) ≡ false = false_from_ne_true _ (λ e. no_comment ((Decides-eqb b 35).0 e)) in
+    let letter : is_letter b ≡ false = false_from_ne_true _ (λ e. none _ (b ∷ []) rest (word_spelled (b ∷ []) e (rw e refl)) refl) in
+    let digit : is_digit b ≡ false = false_from_ne_true _ (λ e. none (t.Number (digits_value (b ∷ []))) (b ∷ []) rest (record { begins = e; goes_on = rw e refl; value = refl }) refl) in
+    rw (no_space, comment, letter, digit) (no_sign_there signs (b ∷ rest) (no_sign signs (b ∷ rest) (spelled_alone signs signs_spelled) none))
+
+-- a sign begins with a byte below 128
+among_small : (us : List Token) (word : List ℕ) → list_all (λ u. nat_lt (slice_index (spelling u) 0) 128) us ≡ true → IsAmong us word → slice_index word 0 < 128
+among_small [] word small there = absurd there
+among_small (u ∷ us) word small (inl e) = rw e (ltb-true _ _ (and_parts _ _ small).0)
+among_small (u ∷ us) word small (inr e) = among_small us word (and_parts _ _ small).1 e
+
+letter_small : (b : ℕ) → is_letter b ≡ true → b < 128
+letter_small b h = grind (arith, common_steps, h)
+
+digit_small : (b : ℕ) → is_digit b ≡ true → b < 128
+digit_small b h = grind (arith, common_steps, h)
+
+space_small : (b : ℕ) → is_space b ≡ true → b < 128
+space_small b h = grind (arith, common_steps, h)
+
+-- and so does each token
+first_small : (u : Token) (word : List ℕ) → Spells u word → slice_index word 0 < 128
+first_small u word spells =
+    elim (kind u word spells) [
+      | letters begins all ↦ letter_small _ begins
+      | digits begins all ↦ digit_small _ begins
+      | sign there ↦ among_small signs word refl there
+    ]
+
+no_empty : (us : List Token) → list_all (λ u. nat_lt 0 (length (spelling u))) us ≡ true → IsAmong us [] → ⊥
+no_empty [] some there = there
+no_empty (u ∷ us) some (inl e) =
+    let begun : 0 < length (spelling u) = ltb-true _ _ (and_parts _ _ some).0 in
+    omega (arith, ap length e, begun)
+no_empty (u ∷ us) some (inr e) = no_empty us (and_parts _ _ some).1 e
+
+none_past : (b : ℕ) (rest : List ℕ) → 128 ≤ b → (u : Token) (word behind : List ℕ) → Spells u word → b ∷ rest ≡ word ++ behind → ⊥
+none_past b rest large u [] behind spells parts =
+    elim (kind u [] spells) [
+      | letters begins all ↦ true≢false (sym begins)
+      | digits begins all ↦ true≢false (sym begins)
+      | sign there ↦ no_empty signs refl there
+    ]
+none_past b rest large u (x ∷ word) behind spells parts =
+    let first : b ≡ x = ap (λ xs. slice_index xs 0) parts in
+    let small : x < 128 = first_small u (x ∷ word) spells in
+    omega (arith, first, small, large)
+
+long_word : (c : ℕ) (front behind : List ℕ) → list_all is_word_byte (c ∷ front) ≡ true → 32 < length (c ∷ front) → Stops is_word_byte behind → word_at (c ∷ (front ++ behind)) ≡ Err (NameTooLong, length (c ∷ (front ++ behind)))
+unfolding word_at
+long_word c front behind all long stop =
+    let run : prefix_len is_word_byte (front ++ behind) ≡ length front = prefix_run is_word_byte front behind (and_parts _ _ all).1 stop in
+    let e : length front + 1 ≡ suc (length front) = omega arith in
+    let past : nat_lt 32 (suc (length front)) ≡ true = lt-ltb _ _ long in
+    rw (run, e, past) refl
+
+large_number : (c : ℕ) (front behind : List ℕ) → list_all is_digit (c ∷ front) ≡ true → 2 ^ 63 ≤ digits_value (c ∷ front) → Stops is_digit behind → number_at (c ∷ (front ++ behind)) ≡ Err (NumberOutOfRange, length (c ∷ (front ++ behind)))
+unfolding number_at
+large_number c front behind all large stop =
+    let run : prefix_len is_digit (front ++ behind) ≡ length front = prefix_run is_digit front behind (and_parts _ _ all).1 stop in
+    let e : length front + 1 ≡ suc (length front) = omega arith in
+    let past : nat_lt (digits_value (c ∷ front)) (2 ^ 63) ≡ false = le-ltb _ _ large in
+    rw (run, e, take-append_seam front behind, past) refl
+
+long_piece : (word behind : List ℕ) → IsName word → 32 < length word → IsLongest word behind → piece_at (word ++ behind) ≡ Err (NameTooLong, length (word ++ behind))
+unfolding piece_at
+long_piece [] behind h long longest = absurd (omega (arith, long))
+long_piece (c ∷ front) behind h long longest =
+    let begins : (is_space c ≡ false) × ((c == 35) ≡ false) = letter_begins c h.begins in
+    rw (begins.0, begins.1, h.begins) (long_word c front behind h.goes_on long (letters_stop c front behind h.begins h.goes_on longest))
+
+large_piece : (n : ℕ) (word behind : List ℕ) → IsNumber word n → 2 ^ 63 ≤ n → IsLongest word behind → piece_at (word ++ behind) ≡ Err (NumberOutOfRange, length (word ++ behind))
+unfolding piece_at
+large_piece n [] behind h large longest = absurd (true≢false (sym h.begins))
+large_piece n (c ∷ front) behind h large longest =
+    let begins : (is_space c ≡ false) × ((c == 35) ≡ false) × (is_letter c ≡ false) = digit_begins c h.begins in
+    let past : 2 ^ 63 ≤ digits_value (c ∷ front) = rw h.value large in
+    rw (begins.0, begins.1, begins.2, h.begins) (large_number c front behind h.goes_on past (digits_stop c front behind h.begins h.goes_on longest))
+
+flaw_piece : (flaw : Flaw) (bytes : List ℕ) → HasFlaw flaw bytes → piece_at bytes ≡ Err (flaw, length bytes)
+flaw_piece _ _ (not_ascii b rest large) =
+    let space : is_space b ≡ false = false_from_ne_true _ (λ e. let small : b < 128 = space_small b e in omega (arith, small, large)) in
+    let big : nat_lt b 128 ≡ false = le-ltb _ _ large in
+    lone_flaw b rest space (λ e. omega (arith, e, large)) (none_past b rest large) ∙ rw big refl
+flaw_piece _ _ (unknown b rest small no_space no_comment none) =
+    let is_small : nat_lt b 128 ≡ true = lt-ltb _ _ small in
+    lone_flaw b rest no_space no_comment none ∙ rw is_small refl
+flaw_piece _ _ (too_large n word behind h large longest) = large_piece n word behind h large longest
+flaw_piece _ _ (too_long word behind h long longest) = long_piece word behind h long longest
+
+-- a flaw stands at a byte
+flaw_begun : (flaw : Flaw) (bytes : List ℕ) → HasFlaw flaw bytes → 0 < length bytes
+flaw_begun _ _ (not_ascii b rest large) = omega arith
+flaw_begun _ _ (unknown b rest small no_space no_comment none) = omega arith
+flaw_begun _ _ (too_large n word behind h large longest) = omega (arith, length-append word behind, is_begun (t.Number n) word h)
+flaw_begun _ _ (too_long word behind h long longest) = omega (arith, length-append word behind, long)
+
+flaw_now : (flaw : Flaw) (bytes : List ℕ) (n : ℕ) → 0 < length bytes → length bytes ≤ n → piece_at bytes ≡ Err (flaw, length bytes) → tokens_from n bytes ≡ Err (flaw, length bytes)
+unfolding tokens_from
+flaw_now flaw [] n begun enough is = absurd (omega (arith, begun))
+flaw_now flaw (b ∷ rest) zero begun enough is = absurd (omega (arith, enough))
+flaw_now flaw (b ∷ rest) (suc n) begun enough is = rw is refl
+
+flaw_later : (flaw : Flaw) (left : ℕ) (bytes behind : List ℕ) (found : Option Token) (n : ℕ) → piece_at bytes ≡ Ok (found, behind) → length behind < length bytes
+    → ((m : ℕ) → length behind ≤ m → tokens_from m behind ≡ Err (flaw, left)) → length bytes ≤ n → tokens_from n bytes ≡ Err (flaw, left)
+unfolding tokens_from
+flaw_later flaw left [] behind found n is shorter next enough = absurd (omega (arith, shorter))
+flaw_later flaw left (b ∷ bytes) behind found zero is shorter next enough = absurd (omega (arith, enough))
+flaw_later flaw left (b ∷ bytes) behind found (suc n) is shorter next enough = let read : tokens_from n behind ≡ Err (flaw, left) = next n (omega (arith, shorter, enough)) in rw (is, read) refl
+
+flaw_behind : (front rest : List ℕ) → ArePieces front rest → (flaw : Flaw) → HasFlaw flaw rest → (n : ℕ) → length (front ++ rest) ≤ n → tokens_from n (front ++ rest) ≡ Err (flaw, length rest)
+flaw_behind _ _ (no_piece rest) flaw h n enough = flaw_now flaw rest n (flaw_begun flaw rest h) enough (flaw_piece flaw rest h)
+flaw_behind _ _ (one_more found piece front rest is pieces) flaw h n enough =
+    let parts = append_assoc piece front rest in
+    let shorter = behind_is_shorter piece (front ++ rest) (piece_begun found piece (front ++ rest) is) in
+    rw parts (flaw_later flaw (length rest) (piece ++ (front ++ rest)) (front ++ rest) found n (piece_is found piece (front ++ rest) is) shorter (flaw_behind front rest pieces flaw h) (subst (λ (xs : List ℕ). length xs ≤ n) parts enough))
+
+first_flaw_found : (bytes : List ℕ) (flaw : Flaw) (left place : ℕ) → IsFirstFlaw bytes flaw place → length bytes ≡ place + left → tokens_of bytes ≡ Err (flaw, left)
+first_flaw_found bytes flaw left place h parts =
+    let is : length h.rest ≡ left = omega (arith, ap length h.parts, length-append h.front h.rest, h.at_place, parts) in
+    rw h.parts (flaw_behind h.front h.rest h.pieces flaw h.flawed (length (h.front ++ h.rest)) (omega arith) ∙ ap (λ n. Err (flaw, n)) is)
+
+-- a text has exactly the first flaw that it is found to have
+pub flaws_exactly : (bytes : List ℕ) (flaw : Flaw) (left : ℕ) → (tokens_of bytes ≡ Err (flaw, left)) ↔ ((place : ℕ) × IsFirstFlaw bytes flaw place × (length bytes ≡ place + left))
+flaws_exactly bytes flaw left = (
+  λ h. subst (Flawed bytes) h (flawed_from (length bytes) bytes (omega arith)),
+  λ h. first_flaw_found bytes flaw left h.0 h.1 h.2,
+)
