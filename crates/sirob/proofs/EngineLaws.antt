@@ -23,7 +23,7 @@ use Rattle.prog_tree.specs.Table.{TableState}
 use Rattle.prog_run.specs.View.{begin_fault}
 use Rattle.sirob.specs.Clash.{clash_of}
 use Rattle.sirob.specs.History.{commits_of, evaluation, state_after, IsLawful}
-use Rattle.sirob.specs.Machine.{Begun, Machine, at_begin, stepped, with_begun, if_active, with_active, active_of, begin_by, commit_by, machine_step, at_end, next_of}
+use Rattle.sirob.specs.Machine.{Begun, Machine, at_begin, stepped, with_begun, if_active, with_active, active_of, begin_by, commit_by, machine_step, at_end, deed_or_end}
 use Rattle.sirob.specs.View.{Known, known_of, known_at, begun_of, written_by, last_state, machine_of, IsKnown, IsSound, IsKept, EndsReady, history_of}
 use Rattle.sirob.specs.declared.event.Event.TheVariants as event
 use Rattle.sirob.specs.declared.event.Reply.{Reply}
@@ -121,7 +121,7 @@ ready_stepped e b a r step before ready = by_deed (slice_get e.deeds b.steps) (a
     by_end run.Ready is same = is
     by_end (run.Aborted cause) is same = before (sym same ∙ ready)
 
-    by_deed : (o : Option Deed) → a.ready ≡ (next_of o e b).1.ready → e.ending ≡ Ready
+    by_deed : (o : Option Deed) → a.ready ≡ (deed_or_end o e b).1.ready → e.ending ≡ Ready
     by_deed (Some d) same = before (sym same ∙ ready)
     by_deed None same = by_end e.ending refl same
 

@@ -7,7 +7,7 @@ use Rattle.prog_tree.specs.declared.table.Arity.TheVariants as arity
 use Rattle.prog_tree.specs.Syntax.{Literal, Named, KeyTree, One, BlockTree, BlockEnd, Then, ProgramTree, DraftTree}
 use Rattle.prog_tree.specs.Syntax as s
 use Rattle.sirob.specs.History.{eval_of, state_after}
-use Rattle.sirob.specs.Machine.{started, replies_of, machine_after}
+use Rattle.sirob.specs.Machine.{new_machine, replies_of, machine_after}
 use Rattle.sirob.specs.declared.event.Event.{Event}
 use Rattle.sirob.specs.declared.event.Event.TheVariants.{Begin, Step, Commit}
 use Rattle.sirob.specs.declared.event.Reply.TheVariants as reply
@@ -39,7 +39,7 @@ registers = set_of (
 abbrev look_events : List Event
 look_events = Begin 0 (pos 7 ∷ []) ∷ Step 0 ∷ Step 0 ∷ Commit 0 ∷ []
 
-pub look : replies_of registers [] look_events started
+pub look : replies_of registers [] look_events new_machine
     ≡ reply.Begun 0 0 ∷ reply.Did (deed.Read (cell (pos 7)) None) ∷ reply.Ready (negsuc 0 ∷ []) ∷ reply.Committed 1 ∷ []
 unfolding eval_of
 look = refl
@@ -49,13 +49,13 @@ abbrev snapshot_events : List Event
 snapshot_events =
     Begin 0 (pos 1 ∷ []) ∷ Begin 1 (pos 1 ∷ pos 5 ∷ []) ∷ Step 1 ∷ Step 1 ∷ Commit 1 ∷ Step 0 ∷ Step 0 ∷ Commit 0 ∷ []
 
-pub snapshot : replies_of registers [] snapshot_events started
+pub snapshot : replies_of registers [] snapshot_events new_machine
     ≡ reply.Begun 0 0 ∷ reply.Begun 1 0 ∷ reply.Did (deed.Put (cell (pos 1)) (pos 5)) ∷ reply.Ready [] ∷ reply.Committed 1
     ∷ reply.Did (deed.Read (cell (pos 1)) None) ∷ reply.Ready (negsuc 0 ∷ []) ∷ reply.Committed 2 ∷ []
 unfolding eval_of
 snapshot = refl
 
-pub snapshot_rows : let h = (machine_after registers [] snapshot_events started).history in
+pub snapshot_rows : let h = (machine_after registers [] snapshot_events new_machine).history in
     state_after registers [] h (length h) ≡ (cell (pos 1), pos 5) ∷ []
 unfolding eval_of
 snapshot_rows = refl
@@ -66,7 +66,7 @@ clash_events =
     Begin 1 (pos 1 ∷ pos 5 ∷ []) ∷ Begin 1 (pos 1 ∷ pos 6 ∷ []) ∷ Step 0 ∷ Step 1 ∷ Commit 1 ∷ Step 0 ∷ Step 1 ∷ Commit 0 ∷ Commit 1 ∷ Step 1
     ∷ Commit 2 ∷ Begin 1 [] ∷ Begin 2 [] ∷ []
 
-pub clash : replies_of registers [] clash_events started
+pub clash : replies_of registers [] clash_events new_machine
     ≡ reply.Begun 0 0 ∷ reply.Begun 1 0 ∷ reply.Did (deed.Put (cell (pos 1)) (pos 5)) ∷ reply.Did (deed.Put (cell (pos 1)) (pos 6)) ∷ reply.NotReady
     ∷ reply.Ready [] ∷ reply.Ready [] ∷ reply.Committed 1 ∷ reply.Clashed (cell (pos 1)) 1 ∷ reply.Ended
     ∷ reply.NoSuchInstance ∷ reply.WrongArguments ∷ reply.NoSuchProgram ∷ []

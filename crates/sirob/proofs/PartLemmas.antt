@@ -6,11 +6,11 @@ use Rattle.std.proofs.Math.Seq.{take-add}
 use Rattle.std.proofs.lemmas.Grind.{common_steps}
 use Rattle.std.specs.Prelude.{MatchOption, is_some}
 use Rattle.std.specs.Borrow.{Bor}
-use Rattle.sirob.specs.Parts.{before_lines, lines_of, parts_of, parts_in, before_parts, is_separator}
+use Rattle.sirob.specs.Parts.{before_lines, full_lines_of, parts_of, parts_in, before_parts, is_separator}
 
 -- up to the first line feed
 pub line_to_feed : (bs : List ℕ) (n : ℕ) → n < length bs → ((k : ℕ) → k < n → get_or bs k 0 ≢ 10) → get_or bs n 0 ≡ 10
-    → lines_of bs ≡ take (suc n) bs ∷ lines_of (drop (suc n) bs)
+    → full_lines_of bs ≡ take (suc n) bs ∷ full_lines_of (drop (suc n) bs)
 line_to_feed [] n lt below here = absurd (omega arith)
 line_to_feed (b ∷ bs) zero lt below here = rw here refl
 line_to_feed (b ∷ bs) (suc n) lt below here =
@@ -19,7 +19,7 @@ line_to_feed (b ∷ bs) (suc n) lt below here =
     rw first (ap (before_lines b) rest)
 
 -- with no line feed all is one line
-pub line_to_end : (bs : List ℕ) → 0 < length bs → ((k : ℕ) → k < length bs → get_or bs k 0 ≢ 10) → lines_of bs ≡ bs ∷ []
+pub line_to_end : (bs : List ℕ) → 0 < length bs → ((k : ℕ) → k < length bs → get_or bs k 0 ≢ 10) → full_lines_of bs ≡ bs ∷ []
 line_to_end [] some below = absurd (omega arith)
 line_to_end (b ∷ []) some below =
     let first : nat_eq b 10 ≡ false = grind (arith, nat_tests, below 0 (omega arith)) in
@@ -40,7 +40,7 @@ has_part (line ∷ lines) = go (is_separator line) (parts_in lines)
     go false (p ∷ ps) = omega arith
 
 pub parts_of-some : (bs : List ℕ) → 0 < length (parts_of bs)
-parts_of-some bs = has_part (lines_of bs)
+parts_of-some bs = has_part (full_lines_of bs)
 
 -- nothing before the parts leaves them as they are
 pub before_parts-nil : (ps : List (List ℕ)) → 0 < length ps → before_parts [] ps ≡ ps
@@ -53,13 +53,13 @@ before_parts-twice a b [] = refl
 before_parts-twice a b (p ∷ ps) = ap (λ (l : List ℕ). l ∷ ps) (sym (append_assoc a b p))
 
 -- a first line that is no separator begins the first part
-pub parts_of-line : (bs line : List ℕ) → lines_of bs ≡ line ∷ lines_of (drop (length line) bs) → is_separator line ≡ false
+pub parts_of-line : (bs line : List ℕ) → full_lines_of bs ≡ line ∷ full_lines_of (drop (length line) bs) → is_separator line ≡ false
     → parts_of bs ≡ before_parts line (parts_of (drop (length line) bs))
 parts_of-line bs line first plain = ap parts_in first ∙ rw plain refl
 
 -- the text so far takes one more line
 pub one_more_line : (bs line : List ℕ) (at : ℕ) → parts_of bs ≡ before_parts (take at bs) (parts_of (drop at bs))
-    → lines_of (drop at bs) ≡ line ∷ lines_of (drop (length line) (drop at bs)) → is_separator line ≡ false → line ≡ take (length line) (drop at bs)
+    → full_lines_of (drop at bs) ≡ line ∷ full_lines_of (drop (length line) (drop at bs)) → is_separator line ≡ false → line ≡ take (length line) (drop at bs)
     → parts_of bs ≡ before_parts (take (at + length line) bs) (parts_of (drop (at + length line) bs))
 one_more_line bs line at same first plain front =
     let next = parts_of-line (drop at bs) line first plain in

@@ -8,7 +8,7 @@ use Rattle.prog_tree.specs.Tree.{draft_tree}
 use Rattle.prog_tree.specs.declared.program.Draft.{Draft}
 use Rattle.sirob.specs.declared.script.Script.{Script}
 use Rattle.sirob.specs.History.{state_after}
-use Rattle.sirob.specs.Machine.{Machine, started, machine_step, machine_after}
+use Rattle.sirob.specs.Machine.{Machine, new_machine, machine_step, machine_after}
 use Rattle.sirob.specs.View.{EngineView}
 use Rattle.sirob.proofs.OutputLaws.{adds_first_of, adds_both, adds_behind}
 use Rattle.sirob.specs.Output.{event_lines, row_lines, run_lines, state_of, Adds, AddsFirst}
@@ -22,29 +22,29 @@ module _ (set : DraftTree) (opening : TableState) (event : Event) (events : List
   first_after = sym (ap (λ (s : Reply × Machine). machine_after set opening events s.1) step)
 
 -- the lines of a script: those of its events, and then those of its rows
-module _ (set : DraftTree) (script : Script) (opening : TableState) (events : List Event) (m : Machine) (is_opening : opening ≡ script.rows) (is_events : events ≡ script.events) (is_started : m ≡ started) where
-  lines_are : event_lines set opening events m ≡ event_lines set script.rows script.events started
+module _ (set : DraftTree) (script : Script) (opening : TableState) (events : List Event) (m : Machine) (is_opening : opening ≡ script.rows) (is_events : events ≡ script.events) (is_started : m ≡ new_machine) where
+  lines_are : event_lines set opening events m ≡ event_lines set script.rows script.events new_machine
   lines_are =
       ap (λ o. event_lines set o events m) is_opening ∙ (ap (λ es. event_lines set script.rows es m) is_events ∙ ap (λ n. event_lines set script.rows script.events n) is_started)
 
-  pub after_is : machine_after set opening events m ≡ machine_after set script.rows script.events started
+  pub after_is : machine_after set opening events m ≡ machine_after set script.rows script.events new_machine
   after_is =
       ap (λ o. machine_after set o events m) is_opening ∙ (ap (λ es. machine_after set script.rows es m) is_events ∙ ap (λ n. machine_after set script.rows script.events n) is_started)
 
   abbrev rows_of_run : List (List ℕ)
-  rows_of_run = row_lines set (state_of set script.rows (machine_after set script.rows script.events started))
+  rows_of_run = row_lines set (state_of set script.rows (machine_after set script.rows script.events new_machine))
 
   pub first_events : (s t : List ℕ) → AddsFirst (event_lines set opening events m) s t → AddsFirst (run_lines set script) s t
-  first_events s t h = adds_first_of (event_lines set script.rows script.events started) rows_of_run s t (subst (λ l. AddsFirst l s t) lines_are h)
+  first_events s t h = adds_first_of (event_lines set script.rows script.events new_machine) rows_of_run s t (subst (λ l. AddsFirst l s t) lines_are h)
 
-  module _ (s t u : List ℕ) (rows : TableState) (is_state : rows ≡ state_of set script.rows (machine_after set script.rows script.events started)) (h : Adds (event_lines set opening events m) s t) where
+  module _ (s t u : List ℕ) (rows : TableState) (is_state : rows ≡ state_of set script.rows (machine_after set script.rows script.events new_machine)) (h : Adds (event_lines set opening events m) s t) where
     pub all_lines : Adds (row_lines set rows) t u → Adds (run_lines set script) s u
     all_lines k =
-        adds_both (event_lines set script.rows script.events started) rows_of_run s t u (subst (λ l. Adds l s t) lines_are h) (subst (λ r. Adds (row_lines set r) t u) is_state k)
+        adds_both (event_lines set script.rows script.events new_machine) rows_of_run s t u (subst (λ l. Adds l s t) lines_are h) (subst (λ r. Adds (row_lines set r) t u) is_state k)
 
     pub first_rows : AddsFirst (row_lines set rows) t u → AddsFirst (run_lines set script) s u
     first_rows k =
-        adds_behind (event_lines set script.rows script.events started) rows_of_run s t u (subst (λ l. Adds l s t) lines_are h) (subst (λ r. AddsFirst (row_lines set r) t u) is_state k)
+        adds_behind (event_lines set script.rows script.events new_machine) rows_of_run s t u (subst (λ l. Adds l s t) lines_are h) (subst (λ r. AddsFirst (row_lines set r) t u) is_state k)
 
 -- the rows of an engine
 pub state_is : (e : EngineView) (set : Draft) (opening state : TableState) (m : Machine)

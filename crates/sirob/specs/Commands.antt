@@ -58,10 +58,10 @@ abbrev pub arity_of : DraftTree → ℕ → Option Arity
 arity_of draft table = option_map (λ declared. declared.arity) (slice_get draft.tables table)
 
 -- the cell at keys, where they are as many as the table's key columns
-abbrev pub cell_at : Arity → ℕ → Keys → Option Cell
-cell_at arities.One table (One a) = Some (record { table = table; first = a; second = pos 0 })
-cell_at arities.Two table (Two a b) = Some (record { table = table; first = a; second = b })
-cell_at arity table keys = None
+abbrev pub cell_of_keys : Arity → ℕ → Keys → Option Cell
+cell_of_keys arities.One table (One a) = Some (record { table = table; first = a; second = pos 0 })
+cell_of_keys arities.Two table (Two a b) = Some (record { table = table; first = a; second = b })
+cell_of_keys arity table keys = None
 
 -- the words behind `row`
 unfoldable pub row_command : DraftTree → (line : ℕ) → List (List ℕ) → Result Command ScriptFault
@@ -69,7 +69,7 @@ row_command draft line words = do
   row ← ok_or (row_of words) (BadLine line)
   table ← ok_or (number_named (table_names draft) row.table) (UnknownName line)
   arity ← ok_or (arity_of draft table) (UnknownName line)
-  cell ← ok_or (cell_at arity table row.keys) (WrongKeys line)
+  cell ← ok_or (cell_of_keys arity table row.keys) (WrongKeys line)
   Ok (Row cell row.value)
 
 -- the words behind `begin`: PROGRAM ARG*
@@ -118,6 +118,6 @@ Fails Memory read = Unit {0}
 Fails fault read = read ≡ Err fault
 
 -- the code gives what the definition gives, unless memory runs out
-abbrev pub Gives : {X Y : Type 0} → (X → Y) → Result X ScriptFault → Result Y ScriptFault → Type 0
-Gives view (Ok x) read = read ≡ Ok (view x)
-Gives view (Err fault) read = Fails fault read
+abbrev pub Reads : {X Y : Type 0} → (X → Y) → Result X ScriptFault → Result Y ScriptFault → Type 0
+Reads view (Ok x) read = read ≡ Ok (view x)
+Reads view (Err fault) read = Fails fault read

@@ -10,7 +10,10 @@ pub mod Numbers
 pub mod Output
 pub mod Parts
 pub mod Printed
+pub mod Program
+pub mod Reading
 pub mod Script
 pub mod Status
+pub mod Stops
 pub mod View
 pub mod Writing

@@ -27,8 +27,8 @@ pub record Machine : Type 0 where
   pub begun : List Begun
   pub endings : ℕ
 
-abbrev pub started : Machine
-started = record { history = []; begun = []; endings = 0 }
+abbrev pub new_machine : Machine
+new_machine = record { history = []; begun = []; endings = 0 }
 
 abbrev pub most_endings : ℕ
 most_endings = 100000
@@ -50,13 +50,13 @@ at_end run.Ready replies b = (reply.Ready replies, record b { ready = true })
 at_end (run.Aborted cause) replies b = (reply.Aborted cause, ended_by b)
 
 -- the next deed, or the end
-abbrev pub next_of : Option Deed → Evaluation → Begun → Reply × Begun
-next_of (Some d) e b = (reply.Did d, record b { steps = b.steps + 1 })
-next_of None e b = at_end e.ending e.replies b
+abbrev pub deed_or_end : Option Deed → Evaluation → Begun → Reply × Begun
+deed_or_end (Some d) e b = (reply.Did d, record b { steps = b.steps + 1 })
+deed_or_end None e b = at_end e.ending e.replies b
 
 -- what an active instance answers to a step, and how it is then
 abbrev pub stepped : Evaluation → Begun → Reply × Begun
-stepped e b = next_of (slice_get e.deeds b.steps) e b
+stepped e b = deed_or_end (slice_get e.deeds b.steps) e b
 
 -- the instance of a number is now b, and where it is no longer active that is an ending
 abbrev pub with_begun : Machine → ℕ → Begun → Machine

@@ -18,13 +18,13 @@ natural_of [] = None
 natural_of (b ∷ bs) = if list_all is_digit (b ∷ bs) then Some (digits_value (b ∷ bs)) else None
 
 -- digits, or digits behind a minus sign
-abbrev pub number_of : List ℕ → Option ℤ
-number_of [] = None
-number_of (b ∷ bs) = if b == 45 then option_map (λ n. neg_ℤ (pos n)) (natural_of bs) else option_map pos (natural_of (b ∷ bs))
+abbrev pub integer_of : List ℕ → Option ℤ
+integer_of [] = None
+integer_of (b ∷ bs) = if b == 45 then option_map (λ n. neg_ℤ (pos n)) (natural_of bs) else option_map pos (natural_of (b ∷ bs))
 
 -- a number that is one of i64
 abbrev pub i64_of : List ℕ → Option ℤ
-i64_of word = option_and_then exact (number_of word)
+i64_of word = option_and_then exact (integer_of word)
 
 -- a number from low to high
 abbrev pub between : (low high : ℕ) → ℤ → Option ℕ

@@ -1,5 +1,5 @@
 -- What the commands write.
-use Rattle.std.specs.Prelude.{◌≡◌, ℕ, true, false, ◌<◌, ◌≤◌, List, [], ◌∷◌, ◌++◌, length, map, codes, Option, Some, None, Result, Ok, Err}
+use Rattle.std.specs.Prelude.{◌≡◌, ℕ, Bool, true, false, ◌<◌, ◌≤◌, List, [], ◌∷◌, ◌++◌, length, map, codes, Option, Some, None, Ok, Err}
 use Rattle.std.specs.Io.KnownBytes.{Appends}
 use Rattle.std.specs.List.{concat}
 use Rattle.prog_tree.specs.Syntax.{DraftTree}
@@ -19,10 +19,12 @@ use Rattle.sirob.specs.declared.status.Status.{Status}
 use Rattle.sirob.specs.declared.status.Status.TheVariants.{Done, Faulty, Memory}
 use Rattle.sirob.specs.FaultLines.{fault_line, is_memory}
 use Rattle.sirob.specs.History.{state_after}
-use Rattle.sirob.specs.Machine.{Machine, started, machine_step, machine_after}
+use Rattle.sirob.specs.Machine.{Machine, new_machine, machine_step, machine_after}
 use Rattle.sirob.specs.Parts.{parts_of}
 use Rattle.sirob.specs.Printed.{reply_line, row_line}
+use Rattle.sirob.specs.Reading.{ForInput}
 use Rattle.sirob.specs.Script.{script_of}
+use Rattle.sirob.specs.Writing.{AppendsFront}
 
 -- ---- the lines of a script
 
@@ -44,7 +46,7 @@ row_lines set state = map (λ row. row_line set.tables row.0 row.1) state
 -- the lines that a script makes: one for each of its events, and the rows that are left
 abbrev pub run_lines : DraftTree → Script → List (List ℕ)
 run_lines set script =
-    event_lines set script.rows script.events started ++ row_lines set (state_of set script.rows (machine_after set script.rows script.events started))
+    event_lines set script.rows script.events new_machine ++ row_lines set (state_of set script.rows (machine_after set script.rows script.events new_machine))
 
 -- ---- what an input means
 
@@ -137,12 +139,6 @@ pub data StopsBehind (mode : Mode) (input : List ℕ) : List ℕ → Type 0 wher
   at_once : StopsBehind mode input []
   behind_lines : (written : List ℕ) → GivesFirst mode input written → StopsBehind mode input written
 
--- a command stopped with this fault behind these bytes: a fault of the input comes before them all
-abbrev pub IsStop : Mode → List ℕ → RunFault → List ℕ → Type 0
-IsStop mode input f written =
-    (is_memory f ≡ false → IsRefused mode input f × (written ≡ []))
-    × (is_memory f ≡ true → StopsBehind mode input written)
-
 -- the line of want of memory
 abbrev pub memory_line : List ℕ
 memory_line = codes "fault memory" ++ 10 ∷ []
@@ -161,21 +157,14 @@ pub data IsUnread : List ℕ → Status → Type 0 where
   refused : IsUnread (fault_line (fault.Input input_fault.ReadFault)) Faulty
   stopped : IsUnread memory_line Memory
 
--- the one fault of a source that failed
-abbrev pub IsReadFault : {X : Type 0} → Result X RunFault → Type 0
-IsReadFault ended = ended ≡ Err (fault.Input input_fault.ReadFault)
+-- what may be written of a source, and the status behind it: the answer to an input that it can give;
+-- of one that failed, that it did
+abbrev pub IsReply : Mode → (left : Option (List ℕ)) → (failed : Bool) → List ℕ → Status → Type 0
+IsReply mode left false written status = ForInput left (λ input. IsAnswer mode input written status)
+IsReply mode left true written status = IsUnread written status
 
--- what is written of a command that has left these bytes and ended so, and the status behind it; of a fault, memory may lack for its line
-pub data Ends (lines : List ℕ) : Result (Unit {0}) RunFault → List ℕ → Status → Type 0 where
-  well : Ends lines (Ok tt) lines Done
-  in_fault : (f : RunFault) → is_memory f ≡ false → Ends lines (Err f) (fault_line f) Faulty
-  in_fault_untold : (f : RunFault) → is_memory f ≡ false → Ends lines (Err f) memory_line Memory
-  in_memory : (f : RunFault) → is_memory f ≡ true → Ends lines (Err f) (lines ++ memory_line) Memory
-
--- these bytes and this status
-abbrev pub IsJust : List ℕ → Status → List ℕ → Status → Type 0
-IsJust bytes status written ended = (written ≡ bytes) × (ended ≡ status)
-
--- such bytes were written, and such a status is given
-abbrev pub Writes : (List ℕ → Status → Type 0) → Option (List ℕ) → Option (List ℕ) → Status → Type 0
-Writes P old new status = (written : List ℕ) × P written status × Appends old new written
+-- such bytes were written, and such a status is given; a sink that failed has some first of such bytes,
+-- and the status is that of a fault
+abbrev pub Writes : (List ℕ → Status → Type 0) → (failed : Bool) → Option (List ℕ) → Option (List ℕ) → Status → Type 0
+Writes P false old new status = (written : List ℕ) × P written status × Appends old new written
+Writes P true old new status = (status ≡ Faulty) × (written : List ℕ) × (meant : Status) × P written meant × AppendsFront old new written

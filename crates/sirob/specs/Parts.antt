@@ -8,10 +8,10 @@ before_lines byte [] = (byte ∷ []) ∷ []
 before_lines byte (line ∷ lines) = (byte ∷ line) ∷ lines
 
 -- the lines of a text, each with the line feed (10) that ends it; the last one may have none
-abbrev pub lines_of : List ℕ → List (List ℕ)
-lines_of [] = []
-lines_of (byte ∷ bytes) =
-    if byte == 10 then (byte ∷ []) ∷ lines_of bytes else before_lines byte (lines_of bytes)
+abbrev pub full_lines_of : List ℕ → List (List ℕ)
+full_lines_of [] = []
+full_lines_of (byte ∷ bytes) =
+    if byte == 10 then (byte ∷ []) ∷ full_lines_of bytes else before_lines byte (full_lines_of bytes)
 
 -- the line is `%%`
 abbrev pub is_separator : List ℕ → Bool
@@ -30,4 +30,4 @@ parts_in (line ∷ lines) =
 
 -- the parts of a text
 abbrev pub parts_of : List ℕ → List (List ℕ)
-parts_of bytes = parts_in (lines_of bytes)
+parts_of bytes = parts_in (full_lines_of bytes)

@@ -3,7 +3,7 @@ use Rattle.std.specs.Prelude.{ℕ}
 use Rattle.sirob.specs.declared.status.Status.{Status}
 use Rattle.sirob.specs.declared.status.Status.TheVariants.{Done, Faulty, Memory}
 
-abbrev pub number_of : Status → ℕ
-number_of Done = 0
-number_of Faulty = 2
-number_of Memory = 3
+abbrev pub status_number : Status → ℕ
+status_number Done = 0
+status_number Faulty = 2
+status_number Memory = 3

@@ -6,7 +6,7 @@ ghost use Rattle.std.specs.Option.{option_copied};
 ghost use Rattle.prog_tree.specs.Tree.{draft_tree};
 ghost use Rattle.prog_check.specs.Faults.{table_names, program_names};
 ghost use Rattle.sirob.specs.Numbers.{numbers_of};
-ghost use Rattle.sirob.specs.Commands.{is_equals_sign, text_of, number_named, one_key, two_keys, row_of, arity_of, cell_at, instance_of, steps_of, row_command, begin_command, step_command, commit_command, command_of, line_command, Gives};
+ghost use Rattle.sirob.specs.Commands.{is_equals_sign, text_of, number_named, one_key, two_keys, row_of, arity_of, cell_of_keys, instance_of, steps_of, row_command, begin_command, step_command, commit_command, command_of, line_command, Reads};
 
 use crate::line_words::{Word, line_words};
 use crate::lines::is_skipped;
@@ -21,7 +21,7 @@ const GREATEST_INSTANCE: usize = 4_294_967_295;
 const MOST_STEPS: usize = 1000;
 
 /// What a line says.
-#[derive(Debug, Drop)]
+#[derive(Drop)]
 pub enum Command {
     /// An empty line or a comment.
     Skip,
@@ -34,14 +34,14 @@ pub enum Command {
 }
 
 // The keys of a row.
-#[derive(Clone, Copy, Debug)]
+#[derive(Clone, Copy)]
 pub enum Keys {
     One(i64),
     Two(i64, i64),
 }
 
 // The words of a row, with their numbers.
-#[derive(Debug, Drop)]
+#[derive(Drop)]
 pub struct RowWords<'a> {
     table: Word<'a>,
     keys: Keys,
@@ -123,8 +123,8 @@ fn row_words<'a>(words: &[Word<'a>]) -> Option<RowWords<'a>>
 }
 
 // The cell at keys, if they are as many as the table's key columns.
-fn cell_at(arity: Arity, table: usize, keys: Keys) -> Option<Cell>
-    ensures { result ≡ cell_at arity table keys }
+fn cell_of_keys(arity: Arity, table: usize, keys: Keys) -> Option<Cell>
+    ensures { result ≡ cell_of_keys arity table keys }
 {
     match (arity, keys) {
         (Arity::One, Keys::One(first)) => Some(Cell {
@@ -148,7 +148,7 @@ fn row(set: &ProgramSet, line: usize, words: &[Word<'_>]) -> Result<Command, Scr
     let RowWords { table, keys, value } = row_words(words).ok_or(ScriptFault::BadLine { line })?;
     let table = table_number(set, table.as_bytes()).ok_or(ScriptFault::UnknownName { line })?;
     let arity = arity(set, table).ok_or(ScriptFault::UnknownName { line })?;
-    let cell = cell_at(arity, table, keys).ok_or(ScriptFault::WrongKeys { line })?;
+    let cell = cell_of_keys(arity, table, keys).ok_or(ScriptFault::WrongKeys { line })?;
     Ok(Command::Row(cell, value))
 }
 
@@ -173,7 +173,7 @@ fn begin(
     line: usize,
     words: &[Word<'_>],
 ) -> Result<Command, ScriptFault>
-    ensures { Gives (λ command. command) result (begin_command (draft_tree set.now) line words.now) }
+    ensures { Reads (λ command. command) result (begin_command (draft_tree set.now) line words.now) }
 {
     let [name, args @ ..] = words else {
         return Err(ScriptFault::BadLine { line });
@@ -228,7 +228,7 @@ fn words_command(
     line: usize,
     words: &[Word<'_>],
 ) -> Result<Command, ScriptFault>
-    ensures { Gives (λ command. command) result (command_of (draft_tree set.now) line words.now) }
+    ensures { Reads (λ command. command) result (command_of (draft_tree set.now) line words.now) }
 {
     let [first, rest @ ..] = words else {
         return Err(ScriptFault::BadLine { line });
@@ -255,7 +255,7 @@ pub fn line_command(
     line: usize,
     bytes: &[u8],
 ) -> Result<Command, ScriptFault>
-    ensures { Gives (λ command. command) result (line_command (draft_tree set.now) line bytes.now) }
+    ensures { Reads (λ command. command) result (line_command (draft_tree set.now) line bytes.now) }
 {
     if is_skipped(bytes) {
         return Ok(Command::Skip);

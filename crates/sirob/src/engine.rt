@@ -3,7 +3,7 @@
 ghost use Rattle.std.specs.Prelude.{◌≡◌, length, IfOk, OnErr, slice_get, []};
 ghost use Rattle.prog_tree.specs.Tree.{draft_tree};
 ghost use Rattle.sirob.specs.History.{IsLawful, state_after};
-ghost use Rattle.sirob.specs.Machine.{started, begin_by, machine_step};
+ghost use Rattle.sirob.specs.Machine.{new_machine, begin_by, machine_step};
 
 use crate::clash::first_clash;
 use crate::event::{Event, Reply};
@@ -18,7 +18,7 @@ use std::marker::Model;
 const MOST_ENDINGS: usize = 100_000;
 
 /// An engine over a set of programs. It keeps the state that each commit left.
-#[derive(Debug, Drop)]
+#[derive(Drop)]
 pub struct Engine<'a> {
     alloc: Global,
     set: &'a ProgramSet,
@@ -46,7 +46,7 @@ impl<'a> Engine<'a> {
     ghost use Rattle.sirob.specs.declared.event.Event.TheVariants as event;
 
     pub fn open(alloc: Global, set: &'a ProgramSet, rows: Rows) -> Self
-        ensures { result ≡ record { set = set.now; opening = rows; machine = started } }
+        ensures { result ≡ record { set = set.now; opening = rows; machine = new_machine } }
     {
         Engine {
             alloc,
@@ -171,6 +171,3 @@ impl<'a> Engine<'a> {
         }
     }
 }
-
-#[cfg(test)]
-mod tests;

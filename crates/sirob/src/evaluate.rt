@@ -16,7 +16,7 @@ use std::alloc::{AllocError, Global};
 use std::marker::Model;
 
 /// What an instance does: its run, which is over, how it ended, and each store statement that it finished.
-#[derive(Debug, Drop)]
+#[derive(Drop)]
 pub struct Evaluated<'a> {
     run: Run<'a>,
     pub ending: End,

@@ -3,7 +3,7 @@
 use prog_tree::{Cause, Cell, Deed, Sequence};
 
 /// An event. Instances are numbered from 0, in the order of the begins that succeeded.
-#[derive(Debug, Drop)]
+#[derive(Drop)]
 pub enum Event {
     /// An instance of the program of a number begins, with its arguments.
     Begin { program: usize, args: Sequence<i64> },

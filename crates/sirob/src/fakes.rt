@@ -1,5 +1,5 @@
 //! Devices of the tests, over memory: slow ones, which may also fail.
-ghost use Rattle.std.specs.Prelude.{◌≡◌, ◌-◌, Some};
+ghost use Rattle.std.specs.Prelude.{◌≡◌, ◌-◌, ◌^◌, Some};
 
 use crate::sink::Sink;
 use crate::source::{DeviceFault, Source};
@@ -28,6 +28,8 @@ impl Source for SlowSource<'_> {
     ghost left = { λ s. Some s.bytes.now };
 
     ghost has_failed = { λ s. s.broken };
+
+    ghost pulls = { λ s. 2 ^ 64 - s.pulls_left };
 
     fn pull(&mut self, buffer: &mut [u8]) -> Result<usize, DeviceFault> {
         if self.broken || self.pulls_left == 0 {

@@ -16,7 +16,7 @@ use prog_tree::{Cell, Changes, End, Rows, Sequence};
 use std::alloc::{AllocError, Global};
 
 /// A program by its number, its arguments, and the number of commits that it sees.
-#[derive(Debug, Drop)]
+#[derive(Drop)]
 pub struct Instance {
     pub program: usize,
     pub args: Sequence<i64>,
@@ -24,7 +24,7 @@ pub struct Instance {
 }
 
 /// An instance that was begun.
-#[derive(Debug, Drop)]
+#[derive(Drop)]
 pub struct Held<'a> {
     pub instance: Instance,
     /// What it does on the state that it sees.
@@ -38,7 +38,7 @@ pub struct Held<'a> {
 }
 
 /// A commit: the number of its instance, and the state that it left.
-#[derive(Debug, Drop)]
+#[derive(Drop)]
 pub struct Commit {
     pub instance: usize,
     pub state: Rows,

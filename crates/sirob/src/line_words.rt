@@ -7,7 +7,7 @@ use std::alloc::{AllocError, Global};
 use std::marker::Model;
 
 /// A word of a line. Contracts see its bytes.
-#[derive(Debug, Drop)]
+#[derive(Drop)]
 pub struct Word<'a> {
     bytes: &'a [u8],
 }

@@ -1,7 +1,7 @@
 //! The parts of the input.
 ghost use Rattle.std.specs.Prelude.{◌≡◌, ◌<◌, ◌≤◌, ◌+◌, ◌++◌, ◌↔◌, [], ◌∷◌, IsTrue, IsOk, IfOk, IfErr, IsErrOf, IfSome, IfNone, MatchOption, ℕ, ◌≢◌, length, slice_index, take, drop};
 ghost use Rattle.sirob.specs.Faults.{IsOfDividing};
-ghost use Rattle.sirob.specs.Parts.{is_separator, lines_of, parts_of};
+ghost use Rattle.sirob.specs.Parts.{is_separator, full_lines_of, parts_of};
 
 use crate::source::InputFault;
 
@@ -19,7 +19,7 @@ pub fn one_part(input: &[u8]) -> Result<&[u8], InputFault>
 }
 
 /// The two parts of the input.
-#[derive(Clone, Copy, Debug)]
+#[derive(Clone, Copy)]
 pub struct Parts<'a> {
     pub text: &'a [u8],
     pub rest: &'a [u8],
@@ -83,7 +83,7 @@ fn first_line(bytes: &[u8]) -> &[u8]
     ensures some { 0 < length result.now }
     ensures within { length result.now ≤ length bytes.now }
     ensures front { result.now ≡ take (length result.now) bytes.now }
-    ensures first { lines_of bytes.now ≡ result.now ∷ lines_of (drop (length result.now) bytes.now) }
+    ensures first { full_lines_of bytes.now ≡ result.now ∷ full_lines_of (drop (length result.now) bytes.now) }
 {
     match first_feed(bytes) {
         Some(at) => &bytes[..at + 1],

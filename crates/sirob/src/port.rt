@@ -5,10 +5,11 @@ use crate::sink::Sink;
 use crate::source::{DeviceFault, Source};
 use std::io::{Read, Write};
 
-/// A reader or a writer. After a fault it keeps failing.
+/// A reader or a writer. After a fault it keeps failing, and so it does where its answered pulls can't be counted on.
 #[derive(Drop)]
 pub struct Port<T> {
     inner: T,
+    pulls: u64,
     broken: bool,
 }
 
@@ -19,6 +20,7 @@ impl<T> Port<T> {
     {
         Port {
             inner,
+            pulls: 0,
             broken: false,
         }
     }
@@ -26,7 +28,7 @@ impl<T> Port<T> {
     pub fn into_inner(self) -> T
         ensures { result ≡ self.inner }
     {
-        let Port { inner, broken: _ } = self;
+        let Port { inner, .. } = self;
         inner
     }
 }
@@ -36,12 +38,18 @@ impl<T: Read> Source for Port<T> {
 
     ghost has_failed = { λ p. p.broken };
 
+    ghost pulls = { λ p. p.pulls };
+
     fn pull(&mut self, buffer: &mut [u8]) -> Result<usize, DeviceFault> {
-        if self.broken {
+        if self.broken || self.pulls == u64::MAX {
+            self.broken = true;
             return Err(DeviceFault);
         }
         match self.inner.read(buffer) {
-            Ok(count) => Ok(count),
+            Ok(count) => {
+                self.pulls += 1;
+                Ok(count)
+            }
             Err(_) => {
                 self.broken = true;
                 Err(DeviceFault)

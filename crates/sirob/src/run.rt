@@ -2,7 +2,8 @@
 ghost use Rattle.std.specs.Prelude.{◌≡◌, ◌≤◌, [], length, string_bytes, IfErr, OnOk, OnErr};
 ghost use Rattle.prog_tree.specs.Tree.{draft_tree};
 ghost use Rattle.sirob.specs.Machine.{machine_after};
-ghost use Rattle.sirob.specs.Output.{input_limit, event_lines, row_lines, run_lines, Adds, AddsFirst, Gives, IsStop};
+ghost use Rattle.sirob.specs.Output.{input_limit, event_lines, row_lines, run_lines, Adds, AddsFirst, Gives};
+ghost use Rattle.sirob.specs.Stops.{IsStop};
 ghost use Rattle.sirob.specs.declared.command_line.Mode.TheVariants as mode;
 
 use crate::engine::Engine;

@@ -1,7 +1,9 @@
 //! Carries out what the words ask for, from a source to a sink.
-ghost use Rattle.std.specs.Prelude.{◌≡◌, ◌++◌, true, false, [], Err, string_bytes, IfOk, IfErr, IfSome};
+ghost use Rattle.std.specs.Prelude.{◌≡◌, ◌≤◌, ◌+◌, ◌++◌, true, false, [], Err, string_bytes, IfOk, IfErr};
 ghost use Rattle.sirob.specs.FaultLines.{is_memory};
-ghost use Rattle.sirob.specs.Output.{Gives, IsStop, IsAnswer, IsUnread, memory_line, IsReadFault, Ends, IsJust, Writes};
+ghost use Rattle.sirob.specs.Output.{Gives, IsReply, Writes, memory_line};
+ghost use Rattle.sirob.specs.Reading.{ForInput};
+ghost use Rattle.sirob.specs.Stops.{IsStop, IsReadFault, Ends, IsJust};
 ghost use Rattle.sirob.specs.declared.command_line.Mode.TheVariants as m;
 
 use crate::check::check_input;
@@ -9,18 +11,22 @@ use crate::command_line::Mode;
 use crate::run::run_input;
 use crate::run_fault::{RunFault, fault_line};
 use crate::sink::{Sink, write_whole};
-use crate::source::{Source, read_whole};
+use crate::source::{MOST_READS, Source, read_whole};
 use crate::status::Status;
 use std::alloc::Global;
 
-const MEMORY_LINE: &[u8] = b"fault memory\n";
+/// The line of want of memory.
+pub const MEMORY_LINE: &[u8] = b"fault memory\n";
 
 // Reads all of a source, and prints its set.
 fn check_source<S: Source>(alloc: Global, source: &mut S, out: &mut Vec<u8>) -> Result<(), RunFault>
     requires { out.old.items ≡ [] }
-    ensures ok { IfOk result (λ _. IfSome (S.left source.old) (λ input. Gives m.Check input out.new.items)) }
-    ensures err { IfErr result (λ fault. S.has_failed source.new ≡ false → IfSome (S.left source.old) (λ input. IsStop m.Check input fault out.new.items)) }
+    ensures ok { IfOk result (λ _.
+        ForInput (S.left source.old) (λ input. Gives m.Check input out.new.items)) }
+    ensures err { IfErr result (λ fault. S.has_failed source.new ≡ false
+        → ForInput (S.left source.old) (λ input. IsStop m.Check input fault out.new.items)) }
     ensures unread { S.has_failed source.new ≡ true → IsReadFault result }
+    ensures reads { S.pulls source.new ≤ S.pulls source.old + MOST_READS }
 {
     let input = read_whole(alloc, source)?;
     *out = check_input(alloc, &input)?;
@@ -30,18 +36,21 @@ fn check_source<S: Source>(alloc: Global, source: &mut S, out: &mut Vec<u8>) -> 
 // Reads all of a source, and runs its script.
 fn run_source<S: Source>(alloc: Global, source: &mut S, out: &mut String) -> Result<(), RunFault>
     requires { string_bytes out.old ≡ [] }
-    ensures ok { IfOk result (λ _. IfSome (S.left source.old) (λ input. Gives m.Run input (string_bytes out.new))) }
-    ensures err { IfErr result (λ fault. S.has_failed source.new ≡ false → IfSome (S.left source.old) (λ input. IsStop m.Run input fault (string_bytes out.new))) }
+    ensures ok { IfOk result (λ _.
+        ForInput (S.left source.old) (λ input. Gives m.Run input (string_bytes out.new))) }
+    ensures err { IfErr result (λ fault. S.has_failed source.new ≡ false
+        → ForInput (S.left source.old) (λ input. IsStop m.Run input fault (string_bytes out.new))) }
     ensures unread { S.has_failed source.new ≡ true → IsReadFault result }
+    ensures reads { S.pulls source.new ≤ S.pulls source.old + MOST_READS }
 {
     let input = read_whole(alloc, source)?;
     run_input(alloc, &input, out)
 }
 
-// Writes the last bytes; the status is the one given, or that of a failed write.
-fn write_last<K: Sink>(sink: &mut K, bytes: &[u8], status: Status) -> Status
-    ensures written { K.has_failed sink.new ≡ false → Writes (IsJust bytes.now status) (K.taken sink.old) (K.taken sink.new) result }
-    ensures failed { K.has_failed sink.new ≡ true → result ≡ Status.Faulty }
+/// Writes the last bytes; the status is the one given, or that of a failed write.
+pub fn write_last<K: Sink>(sink: &mut K, bytes: &[u8], status: Status) -> Status
+    ensures { Writes (IsJust bytes.now status)
+        (K.has_failed sink.new) (K.taken sink.old) (K.taken sink.new) result }
 {
     match write_whole(sink, bytes) {
         Ok(()) => status,
@@ -51,8 +60,8 @@ fn write_last<K: Sink>(sink: &mut K, bytes: &[u8], status: Status) -> Status
 
 // Writes lines, and then that memory ran out.
 fn write_stop<K: Sink>(sink: &mut K, lines: &[u8]) -> Status
-    ensures written { K.has_failed sink.new ≡ false → Writes (IsJust (lines.now ++ memory_line) Status.Memory) (K.taken sink.old) (K.taken sink.new) result }
-    ensures failed { K.has_failed sink.new ≡ true → result ≡ Status.Faulty }
+    ensures { Writes (IsJust (lines.now ++ memory_line) Status.Memory)
+        (K.has_failed sink.new) (K.taken sink.old) (K.taken sink.new) result }
 {
     match write_whole(sink, lines) {
         Ok(()) => write_last(sink, MEMORY_LINE, Status::Memory),
@@ -63,8 +72,8 @@ fn write_stop<K: Sink>(sink: &mut K, lines: &[u8]) -> Status
 // Writes the line of a fault, alone.
 fn write_fault<K: Sink>(alloc: Global, sink: &mut K, fault: RunFault) -> Status
     requires { is_memory fault ≡ false }
-    ensures written { K.has_failed sink.new ≡ false → Writes (Ends [] (Err fault)) (K.taken sink.old) (K.taken sink.new) result }
-    ensures failed { K.has_failed sink.new ≡ true → result ≡ Status.Faulty }
+    ensures { Writes (Ends [] (Err fault))
+        (K.has_failed sink.new) (K.taken sink.old) (K.taken sink.new) result }
 {
     match fault_line(alloc, fault) {
         Ok(line) => write_last(sink, line.as_bytes(), Status::Faulty),
@@ -79,8 +88,8 @@ fn write_answer<K: Sink>(
     lines: &[u8],
     ended: Result<(), RunFault>,
 ) -> Status
-    ensures written { K.has_failed sink.new ≡ false → Writes (Ends lines.now ended) (K.taken sink.old) (K.taken sink.new) result }
-    ensures failed { K.has_failed sink.new ≡ true → result ≡ Status.Faulty }
+    ensures { Writes (Ends lines.now ended)
+        (K.has_failed sink.new) (K.taken sink.old) (K.taken sink.new) result }
 {
     match ended {
         Ok(()) => write_last(sink, lines, Status::Done),
@@ -95,18 +104,16 @@ fn write_answer<K: Sink>(
 }
 
 /// Reads all of a source, does what the mode asks for, and writes the answer to a sink. A source that failed is a fault
-/// of the input; a sink that failed has some first bytes of the answer.
+/// of the input; of a sink that failed, the status is that of a fault.
 pub fn run_command<S: Source, K: Sink>(
     alloc: Global,
     mode: Mode,
     source: &mut S,
     sink: &mut K,
 ) -> Status
-    ensures answer { S.has_failed source.new ≡ false → K.has_failed sink.new ≡ false
-        → IfSome (S.left source.old) (λ input. Writes (IsAnswer mode input) (K.taken sink.old) (K.taken sink.new) result) }
-    ensures unread { S.has_failed source.new ≡ true → K.has_failed sink.new ≡ false
-        → Writes IsUnread (K.taken sink.old) (K.taken sink.new) result }
-    ensures unwritten { K.has_failed sink.new ≡ true → result ≡ Status.Faulty }
+    ensures reply { Writes (IsReply mode (S.left source.old) (S.has_failed source.new))
+        (K.has_failed sink.new) (K.taken sink.old) (K.taken sink.new) result }
+    ensures reads { S.pulls source.new ≤ S.pulls source.old + MOST_READS }
 {
     match mode {
         Mode::Check => {

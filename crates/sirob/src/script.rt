@@ -2,7 +2,7 @@
 ghost use Rattle.std.specs.Prelude.{◌≡◌, ◌++◌, ◌∷◌, [], None, Some, OnOk, IfErr, replicate};
 ghost use Rattle.prog_tree.specs.Table.{row_at, with_row};
 ghost use Rattle.prog_tree.specs.Tree.{draft_tree};
-ghost use Rattle.sirob.specs.Commands.{Gives};
+ghost use Rattle.sirob.specs.Commands.{Reads};
 ghost use Rattle.sirob.specs.Script.{row_fault, room_fault, order_fault, with_row_of, events_in, IsFault, script_of};
 
 use crate::command::{Command, line_command};
@@ -16,7 +16,7 @@ use std::alloc::{AllocError, Global};
 const MOST_EVENTS: usize = 1_000_000;
 
 /// The opening rows and the events of a script.
-#[derive(Debug, Drop)]
+#[derive(Drop)]
 pub struct Script {
     pub rows: Rows,
     pub events: Sequence<Event>,
@@ -113,7 +113,7 @@ impl Script {
 
 /// Reads a script, or finds its first fault.
 pub fn read_script(alloc: Global, set: &ProgramSet, part: &[u8]) -> Result<Script, ScriptFault>
-    ensures { Gives (λ script. script) result (script_of (draft_tree set.now) part.now) }
+    ensures { Reads (λ script. script) result (script_of (draft_tree set.now) part.now) }
 {
     let mut script = Script::new(alloc);
     let mut line = 0;

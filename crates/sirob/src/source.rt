@@ -1,7 +1,8 @@
 //! Where the input comes from, and how it is read whole.
-ghost use Rattle.std.specs.Prelude.{◌≡◌, ◌<◌, ◌≤◌, ◌↔◌, ℕ, Bool, List, Option, None, true, length, vec_len, IsErr, IfOk, IfErr, IfSome, OnOk, IsErrOf};
+ghost use Rattle.std.specs.Prelude.{◌≡◌, ◌<◌, ◌≤◌, ◌+◌, ◌↔◌, ℕ, Bool, List, Option, None, true, length, vec_len, IsErr, IfOk, IfErr, IfSome, OnOk, OnErr, IsErrOf};
 ghost use Rattle.std.specs.Io.KnownBytes.{ReadConsumes, IsAtEnd};
 ghost use Rattle.sirob.specs.Faults.{IsOfReading};
+ghost use Rattle.sirob.specs.Reading.{CanGive};
 
 use std::alloc::{AllocError, AllocFailed, Global};
 use std::fmt;
@@ -17,11 +18,16 @@ pub trait Source {
 
     ghost has_failed: { Self → Bool };
 
+    /// How many pulls were answered.
+    ghost pulls: { Self → ℕ };
+
     /// Some bytes, at the front of the buffer. None only at the end, or where the buffer is empty.
     fn pull(&mut self, buffer: &mut [u8]) -> Result<usize, DeviceFault>
         ensures bound { IfOk result (λ n. n ≤ length buffer.new) }
         ensures bytes { ReadConsumes (left self.old) (left self.new) result buffer.new }
-        ensures fault { IsErr result ↔ (has_failed self.new ≡ true) };
+        ensures fault { IsErr result ↔ (has_failed self.new ≡ true) }
+        ensures counted { OnOk result (pulls self.new ≡ pulls self.old + 1) }
+        ensures uncounted { OnErr result (pulls self.new ≡ pulls self.old) };
 
     fn failed(&self) -> bool
         ensures { result ≡ has_failed self.now };
@@ -90,12 +96,13 @@ fn zeros(alloc: Global, count: usize) -> Result<Vec<u8>, AllocError>
 /// All bytes of a source. At `TooLong` and `Memory` some of them may have been read.
 pub fn read_whole<S: Source>(alloc: Global, source: &mut S) -> Result<Vec<u8>, InputFault>
     ensures short { IfOk result (λ v. vec_len v ≤ MOST_BYTES) }
-    ensures whole { IfOk result (λ v. IfSome (S.left source.old) (λ all. v.items ≡ all)) }
+    ensures whole { IfOk result (λ v. CanGive (S.left source.old) v.items) }
     ensures end { OnOk result (IsAtEnd (S.left source.new)) }
-
-    ensures long { IsErrOf result InputFault.TooLong → IfSome (S.left source.old) (λ all. MOST_BYTES < length all) }
+    ensures long { IsErrOf result InputFault.TooLong
+        → IfSome (S.left source.old) (λ all. MOST_BYTES < length all) }
     ensures fault { IsErrOf result InputFault.ReadFault ↔ (S.has_failed source.new ≡ true) }
     ensures kinds { IfErr result IsOfReading }
+    ensures reads { S.pulls source.new ≤ S.pulls source.old + MOST_READS }
 {
     if source.failed() {
         return Err(InputFault::ReadFault);

@@ -1,6 +1,6 @@
 use Rattle.std.proofs.Common.{◌≡◌, ◌-◌, ℕ, List, ◌∷◌, length, take, drop, sym, subst, rules, arith}
 use Rattle.std.proofs.lemmas.Grind.{common_steps}
-use Rattle.sirob.specs.Parts.{parts_of, lines_of}
+use Rattle.sirob.specs.Parts.{parts_of, full_lines_of}
 use Rattle.sirob.proofs.PartLemmas.{before_parts-nil, parts_of-some, one_more_line}
 use Rattle.sirob.proofs.parts.first_part.Goals as goal
 
@@ -22,6 +22,6 @@ loop-at-preserved c =
     let first = c.first_line-line.ensures.first in record {
       within = search rules;
       same = one_more_line c.args.bytes.now line c.loop-at.at c.loop-at.invariant.same
-          (subst (λ (l : List ℕ). lines_of l ≡ line ∷ lines_of (drop (length line) l)) rest first) (sym c.if-is_separator.ensures)
+          (subst (λ (l : List ℕ). full_lines_of l ≡ line ∷ full_lines_of (drop (length line) l)) rest first) (sym c.if-is_separator.ensures)
           (subst (λ (l : List ℕ). line ≡ take (length line) l) rest front);
     }

@@ -2,7 +2,8 @@ use Rattle.std.proofs.Common.{sym, subst, string_bytes}
 use Rattle.std.proofs.lemmas.Result.{err_from_is_err_and}
 use Rattle.prog_tree.specs.Tree.{draft_tree}
 use Rattle.sirob.specs.declared.command_line.Mode.TheVariants.{Run}
-use Rattle.sirob.specs.Output.{run_lines, AddsFirst, IsStop}
+use Rattle.sirob.specs.Output.{run_lines, AddsFirst}
+use Rattle.sirob.specs.Stops.{IsStop}
 use Rattle.sirob.proofs.StopLaws.{stops_at_once, stops_running}
 use Rattle.sirob.proofs.run.run_input.Goals as goal
 

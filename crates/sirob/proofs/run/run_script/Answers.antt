@@ -1,7 +1,7 @@
 use Rattle.std.proofs.Common.{◌∙◌, ap, sym, subst, OnOk, OnErr, string_bytes}
 use Rattle.std.proofs.lemmas.Result.{err_from_is_err_and}
 use Rattle.prog_tree.specs.Tree.{draft_tree}
-use Rattle.sirob.specs.Machine.{machine_after, started}
+use Rattle.sirob.specs.Machine.{machine_after, new_machine}
 use Rattle.sirob.specs.Output.{run_lines, Adds, AddsFirst}
 use Rattle.sirob.proofs.RunLaws.{first_events, after_is, all_lines, first_rows, state_is, on_ok, on_err}
 use Rattle.sirob.proofs.run.run_script.Goals as goal
@@ -24,7 +24,7 @@ returns-clause-ok c =
     let machine = ap (λ e. e.machine) c.open-engine.ensures in
     let set = draft_tree c.draft-draft.result.now in
     let state =
-    state_is c.run_events.new.engine c.draft-draft.result.now c.args.script.rows c.rows.result.now (machine_after set c.args.script.rows c.args.script.events started)
+    state_is c.run_events.new.engine c.draft-draft.result.now c.args.script.rows c.rows.result.now (machine_after set c.args.script.rows c.args.script.events new_machine)
     c.rows.ensures.state (ran.set ∙ ap (λ e. e.set) c.open-engine.ensures ∙ sym c.draft-draft.ensures.same) (ran.opening ∙ opening)
     (ran.after ∙ after_is set c.args.script engine.opening c.as_slice.result.now engine.machine opening c.as_slice.ensures machine) in
     subst (λ d. OnOk c.list_rows.result (Adds (run_lines (draft_tree d) c.args.script) (string_bytes c.args.out.now) (string_bytes c.list_rows.new.out))) c.draft-draft.ensures.same
@@ -41,7 +41,7 @@ returns-clause-err c =
     let machine = ap (λ e. e.machine) c.open-engine.ensures in
     let set = draft_tree c.draft-draft.result.now in
     let state =
-    state_is c.run_events.new.engine c.draft-draft.result.now c.args.script.rows c.rows.result.now (machine_after set c.args.script.rows c.args.script.events started)
+    state_is c.run_events.new.engine c.draft-draft.result.now c.args.script.rows c.rows.result.now (machine_after set c.args.script.rows c.args.script.events new_machine)
     c.rows.ensures.state (ran.set ∙ ap (λ e. e.set) c.open-engine.ensures ∙ sym c.draft-draft.ensures.same) (ran.opening ∙ opening)
     (ran.after ∙ after_is set c.args.script engine.opening c.as_slice.result.now engine.machine opening c.as_slice.ensures machine) in
     subst (λ d. OnErr c.list_rows.result (AddsFirst (run_lines (draft_tree d) c.args.script) (string_bytes c.args.out.now) (string_bytes c.list_rows.new.out))) c.draft-draft.ensures.same

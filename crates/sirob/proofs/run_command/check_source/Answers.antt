@@ -1,8 +1,9 @@
-use Rattle.std.proofs.Common.{sym, subst, ap, Err, IfSome}
+use Rattle.std.proofs.Common.{sym, subst, ap, Err}
 use Rattle.std.proofs.lemmas.Result.{err_from_is_err_and}
 use Rattle.sirob.specs.declared.command_line.Mode.TheVariants.{Check}
 use Rattle.sirob.specs.declared.run_fault.RunFault.TheVariants as fault
-use Rattle.sirob.specs.Output.{IsStop}
+use Rattle.sirob.specs.Reading.{ForInput}
+use Rattle.sirob.specs.Stops.{IsStop}
 use Rattle.sirob.proofs.StopLaws.{stops_reading}
 use Rattle.sirob.proofs.run_command.check_source.Goals as goal
 
@@ -15,5 +16,5 @@ returns-in_err-input-clause-err g c =
     let read = c.in_err-input.ensures in
     rw (exit.1, exit.2)
     (λ works.
-    subst (λ written. IfSome left (λ input. IsStop Check input (fault.Input f) written)) (sym c.requires)
+    subst (λ written. ForInput left (λ input. IsStop Check input (fault.Input f) written)) (sym c.requires)
     (stops_reading Check f left failed read.kinds (λ e. read.long (ap Err e)) (λ e. read.fault.0 (ap Err e)) works))

@@ -1,0 +1,23 @@
+use Rattle.std.proofs.Common.{map, string_bytes}
+use Rattle.clap.specs.Words.{kind_of}
+use Rattle.sirob.specs.Output.{IsReply}
+use Rattle.sirob.specs.Program.{IsRefusal, IsEnd, done, refused}
+use Rattle.sirob.proofs.StopLaws.{writes_as}
+use Rattle.sirob.proofs.program.follow.Goals as goal
+
+pub returns-in-Ok-clause-end : goal.returns-in-Ok-clause-end
+returns-in-Ok-clause-end g c =
+    let words = map string_bytes c.args.words.now in
+    let left = g.S.Source.left c.args.source.now in
+    let failed = g.S.Source.has_failed c.run_command.new.source in
+    let mode = c.in-Ok.mode in
+    let read = c.in-Ok.ensures in
+    writes_as (IsReply mode left failed) (IsEnd words left failed) _ _ _ _ (done mode read.fault read.meaning) c.run_command.ensures.reply
+
+pub returns-in-Err-clause-end : goal.returns-in-Err-clause-end
+returns-in-Err-clause-end g c =
+    let words = map string_bytes c.args.words.now in
+    let left = g.S.Source.left c.args.source.now in
+    let failed = g.S.Source.has_failed c.args.source.now in
+    let kind = kind_of c.in-Err.error in
+    writes_as (IsRefusal kind) (IsEnd words left failed) _ _ _ _ (refused kind c.in-Err.ensures.fault) c.refuse_words.ensures

@@ -1,0 +1,108 @@
+//! The program, from the words of its command line to its status.
+ghost use Rattle.std.specs.Prelude.{◌≡◌, ◌≤◌, ◌+◌, [], true, map, string_bytes, IfOk, IfErr};
+ghost use Rattle.std.specs.IoError.{error_kind};
+ghost use Rattle.clap.specs.Words.{kind_of};
+ghost use Rattle.sirob.specs.Output.{Writes, memory_line};
+ghost use Rattle.sirob.specs.Program.{is_text, IsRefusal, IsWordless, IsEnd};
+ghost use Rattle.sirob.specs.Stops.{IsJust};
+
+use crate::command_line::read_words;
+use crate::run_command::{MEMORY_LINE, run_command, write_last};
+use crate::sink::Sink;
+use crate::source::{MOST_READS, Source};
+use crate::status::Status;
+use clap::Error;
+use clap::error::ErrorKind;
+use std::alloc::Global;
+use std::io;
+
+/// Does what the arguments ask for, from a source to a sink. What is wrong with the arguments goes to the standard
+/// error.
+pub fn carry_out<S: Source, K: Sink>(
+    rt: &(impl AllocGlobal + Eprint),
+    arguments: &io::Result<Vec<String>>,
+    source: &mut S,
+    sink: &mut K,
+) -> Status
+    ensures words { IfOk arguments.now (λ words. Writes
+        (IsEnd (map string_bytes words.items) (S.left source.old) (S.has_failed source.new))
+        (K.has_failed sink.new) (K.taken sink.old) (K.taken sink.new) result) }
+    ensures none { IfErr arguments.now (λ error. Writes (IsWordless (error_kind error))
+        (K.has_failed sink.new) (K.taken sink.old) (K.taken sink.new) result) }
+    ensures reads { S.pulls source.new ≤ S.pulls source.old + MOST_READS }
+{
+    match arguments {
+        Ok(words) => follow(rt, words.as_slice(), source, sink),
+        Err(error) => refuse_arguments(rt, error, sink),
+    }
+}
+
+// Does what words ask for.
+fn follow<S: Source, K: Sink>(
+    rt: &(impl AllocGlobal + Eprint),
+    words: &[String],
+    source: &mut S,
+    sink: &mut K,
+) -> Status
+    ensures end { Writes (IsEnd (map string_bytes words.now) (S.left source.old) (S.has_failed source.new))
+        (K.has_failed sink.new) (K.taken sink.old) (K.taken sink.new) result }
+    ensures reads { S.pulls source.new ≤ S.pulls source.old + MOST_READS }
+{
+    match read_words(rt.alloc(), words) {
+        Ok(mode) => run_command(rt.alloc(), mode, source, sink),
+        Err(error) => refuse_words(rt, &error, sink),
+    }
+}
+
+// Shows the text that words ask for, or tells what is wrong with them.
+fn refuse_words<K: Sink>(rt: &(impl AllocGlobal + Eprint), error: &Error, sink: &mut K) -> Status
+    ensures { Writes (IsRefusal (kind_of error.now))
+        (K.has_failed sink.new) (K.taken sink.old) (K.taken sink.new) result }
+{
+    if error.kind() == ErrorKind::OutOfMemory {
+        return tell_memory(sink);
+    }
+    if error.use_stderr() {
+        let _ = rt.eprint(error);
+        return tell_nothing(sink);
+    }
+    show(rt.alloc(), error, sink)
+}
+
+fn show<K: Sink>(alloc: Global, error: &Error, sink: &mut K) -> Status
+    requires { is_text (kind_of error.now) ≡ true }
+    ensures { Writes (IsRefusal (kind_of error.now))
+        (K.has_failed sink.new) (K.taken sink.old) (K.taken sink.new) result }
+{
+    match error.to_string(alloc) {
+        Ok(text) => write_last(sink, text.as_bytes(), Status::Done),
+        Err(_) => tell_memory(sink),
+    }
+}
+
+// Tells that an argument is no text, or that memory ran out.
+fn refuse_arguments<K: Sink>(rt: &impl Eprint, error: &io::Error, sink: &mut K) -> Status
+    ensures { Writes (IsWordless (error_kind error.now))
+        (K.has_failed sink.new) (K.taken sink.old) (K.taken sink.new) result }
+{
+    if error.kind() == io::ErrorKind::OutOfMemory {
+        return tell_memory(sink);
+    }
+    let _ = rt.eprintln("error: an argument is not UTF-8");
+    tell_nothing(sink)
+}
+
+fn tell_memory<K: Sink>(sink: &mut K) -> Status
+    ensures { Writes (IsJust memory_line Status.Memory)
+        (K.has_failed sink.new) (K.taken sink.old) (K.taken sink.new) result }
+{
+    write_last(sink, MEMORY_LINE, Status::Memory)
+}
+
+// Nothing is for the standard output.
+fn tell_nothing<K: Sink>(sink: &mut K) -> Status
+    ensures { Writes (IsJust [] Status.Faulty)
+        (K.has_failed sink.new) (K.taken sink.old) (K.taken sink.new) result }
+{
+    write_last(sink, b"", Status::Faulty)
+}
