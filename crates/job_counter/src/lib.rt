@@ -5,8 +5,6 @@
 ghost use Rattle.std.specs.Prelude.{◌≡◌, ◌+◌, ◌-◌, ◌<◌, ◌≤◌, ◌++◌, ◌∷◌, ◌↔◌, [], length, IfOk, IfSome, IfNone, IsNone};
 
 mod holding;
-#[cfg(test)]
-mod tests;
 
 use crate::holding::{Account, Amount, Draws, Gives, Holding, Looks, Together};
 use atomic_table::{Seat, Table};

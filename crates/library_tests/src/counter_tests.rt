@@ -1,7 +1,7 @@
 ghost use Rattle.std.specs.Prelude.{◌≡◌, IfOk};
 ghost use Rattle.job_counter.specs.Passes.{counter_of, name_of};
 
-use crate::{Counter, Pass};
+use job_counter::{Counter, Pass};
 use std::alloc::{AllocError, Global};
 use std::thread;
 

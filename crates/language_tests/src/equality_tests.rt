@@ -1,0 +1,72 @@
+//! When programs, tables and looks are the same, and the laws that stand as functions.
+
+use crate::texts::set_of;
+use prog_check::soundness;
+use prog_tree::{
+    Cell, Look, evaluations_depend_on_looks, evaluations_write_i64, i64_is_tested, same_looks,
+    same_tables, table_states_stay_i64, table_states_stay_in_order,
+};
+use std::alloc::Global;
+use std::test::Fail;
+
+const SET: &str = "table t 1; program P(k, v) { put t[k] = v; reply v; }";
+
+// Whether a set of one table and one program has the table and the program of `SET`.
+fn is_same_as_set(alloc: Global, text: &str) -> Result<(bool, bool), Fail> {
+    let (set, other) = (set_of(alloc, SET)?, set_of(alloc, text)?);
+    let (draft, other) = (set.draft(), other.draft());
+    let tables = same_tables(&draft.tables, &other.tables);
+    Ok((
+        tables,
+        draft.programs[0].is_same(&other.programs[0]) && draft.tables.len() == 1,
+    ))
+}
+
+#[test]
+fn sets_are_the_same_by_their_trees(rt: HostRuntime) -> Result<(), Fail> {
+    for (text, same) in [
+        (
+            "table t 1;\nprogram P(k, v) {\n  put t[k] = v;\n  reply v;\n}\n",
+            (true, true),
+        ),
+        (
+            "table t 1; program P(k, v) { put t[k] = v; reply k; }",
+            (true, false),
+        ),
+        (
+            "table t 1 grow; program P(k, v) { insert t[k] = v; reply v; }",
+            (false, false),
+        ),
+    ] {
+        assert_eq!(rt; is_same_as_set(rt.alloc(), text)?, same, "{text}");
+    }
+    Ok(())
+}
+
+#[test]
+fn looks_are_the_same_by_cell_and_value(rt: HostRuntime) {
+    let look = |first, held| {
+        Look::One(
+            Cell {
+                table: 0,
+                first,
+                second: 0,
+            },
+            held,
+        )
+    };
+    let looks = [look(1, Some(5)), look(2, None)];
+    assert!(rt; same_looks(&looks, &[look(1, Some(5)), look(2, None)]));
+    assert!(rt; !same_looks(&looks, &[look(1, Some(5)), look(2, Some(0))]));
+    assert!(rt; !same_looks(&looks, &looks[..1]));
+}
+
+#[test]
+fn laws_are_called() {
+    evaluations_depend_on_looks();
+    table_states_stay_in_order();
+    table_states_stay_i64();
+    evaluations_write_i64();
+    i64_is_tested();
+    soundness();
+}

@@ -1,0 +1,17 @@
+//! Worked examples of the calls of the language's crates. What the program shows in `cases/` is left to the cases.
+#![tactic(auto)]
+
+#[cfg(test)]
+mod change_tests;
+#[cfg(test)]
+mod check_tests;
+#[cfg(test)]
+mod equality_tests;
+#[cfg(test)]
+mod run_tests;
+#[cfg(test)]
+mod text_tests;
+#[cfg(test)]
+mod texts;
+#[cfg(test)]
+mod value_tests;

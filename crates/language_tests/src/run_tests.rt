@@ -1,0 +1,317 @@
+//! Runs step by step: the questions that they ask, and what their readers say.
+
+use crate::texts::{SMALL_BANK, set_of};
+use prog_run::{AnswerFault, Look, Next, Run};
+use prog_tree::{Cell, Rows};
+use std::alloc::{AllocError, Global};
+use std::process::Abort;
+use std::test::Fail;
+
+/// A run of a set's program, with the rows that it is answered, and its calls: each line a call and what it gives.
+#[derive(Clone, Copy)]
+struct Example {
+    text: &'static str,
+    program: usize,
+    args: &'static [i64],
+    /// Rows of the first table: both key columns and the value.
+    rows: &'static [(i64, i64, i64)],
+    calls: &'static str,
+}
+
+/// The cell that a look found, or the run's own cells that it left out and how many rows it found in others.
+fn shown_look(alloc: Global, look: &Look) -> Result<String, AllocError> {
+    match look {
+        Look::One(cell, held) => format!(in alloc; "{cell:?} {held:?}"),
+        Look::Range { own, rows, .. } => {
+            format!(in alloc; "{:?} and {} others", own.as_slice(), rows.len())
+        }
+    }
+}
+
+fn shown_last_look(alloc: Global, run: &Run<'_>) -> Result<String, AllocError> {
+    match run.looks().last() {
+        Some(look) => shown_look(alloc, look),
+        None => Ok(String::new(alloc)),
+    }
+}
+
+/// The number of tables and of parameters, and the arguments.
+fn shown_begin(alloc: Global, run: &Run<'_>) -> Result<String, AllocError> {
+    let (tables, params) = (run.tables().len(), run.program().params.len());
+    format!(in alloc; "{tables} {params} {:?}", run.args())
+}
+
+/// How many statements are done and how many looks were made, the replies and the end.
+fn shown_state(alloc: Global, run: &Run<'_>) -> Result<String, AllocError> {
+    let (done, looks, end) = (run.done(), run.looks().len(), run.end());
+    format!(in alloc; "{done} {looks} {:?} {end:?}", run.replies())
+}
+
+/// The changed cells' first columns with what they were changed to.
+fn shown_changes(alloc: Global, run: &Run<'_>) -> Result<String, AllocError> {
+    let mut text = String::new(alloc);
+    for (cell, value) in run.changes().iter() {
+        write!(text, "{} {value:?} ", cell.first)?;
+    }
+    Ok(text)
+}
+
+fn read(alloc: Global, run: &Run<'_>, word: &str) -> Result<String, AllocError> {
+    match word {
+        "begin" => shown_begin(alloc, run),
+        "look" => shown_last_look(alloc, run),
+        "changes" => shown_changes(alloc, run),
+        _ => shown_state(alloc, run),
+    }
+}
+
+fn shown_answer(alloc: Global, answer: Result<Next, AnswerFault>) -> Result<String, AllocError> {
+    match answer {
+        Ok(next) => format!(in alloc; "{next:?}"),
+        Err(fault) => format!(in alloc; "{fault}"),
+    }
+}
+
+/// One call: `advance`, `rows` to answer with these rows, `none` or a number to answer what a cell holds, or a reader.
+fn call(alloc: Global, run: &mut Run<'_>, rows: &Rows, word: &str) -> Result<String, AllocError> {
+    match word {
+        "advance" => format!(in alloc; "{:?}", run.advance()?),
+        "rows" => shown_answer(alloc, run.answer_scan(rows)),
+        "none" => shown_answer(alloc, run.answer_get(None)),
+        _ => match word.parse::<i64>() {
+            Ok(value) => shown_answer(alloc, run.answer_get(Some(value))),
+            Err(_) => read(alloc, run, word),
+        },
+    }
+}
+
+fn rows_of(alloc: Global, entries: &[(i64, i64, i64)]) -> Result<Rows, AllocError> {
+    let mut rows = Rows::new(alloc);
+    for &(first, second, value) in entries {
+        let cell = Cell {
+            table: 0,
+            first,
+            second,
+        };
+        rows.insert(cell, value)?;
+    }
+    Ok(rows)
+}
+
+/// Makes the calls of an example.
+fn play_calls(
+    rt: &impl Abort,
+    alloc: Global,
+    run: &mut Run<'_>,
+    rows: &Rows,
+    calls: &str,
+) -> Result<(), Fail> {
+    for line in calls.lines() {
+        let (word, want) = line.split_once(": ").ok_or("no answer")?;
+        let answer = call(alloc, run, rows, word)?;
+        assert!(rt; answer.as_str() == want, "{word}: {answer}");
+    }
+    Ok(())
+}
+
+fn play(rt: &impl Abort, alloc: Global, example: &Example) -> Result<(), Fail> {
+    let set = set_of(alloc, example.text)?;
+    let mut run = Run::new(alloc, &set, example.program, example.args)?;
+    let rows = rows_of(alloc, example.rows)?;
+    play_calls(rt, alloc, &mut run, &rows, example.calls)
+}
+
+const AMALGAMATE: Example = Example {
+    text: SMALL_BANK,
+    program: 3,
+    args: &[1, 1],
+    rows: &[],
+    calls: "\
+begin: 2 2 [1, 1]
+state: 0 0 [] None
+advance: Get(Cell { table: 0, first: 1, second: 0 })
+advance: Get(Cell { table: 0, first: 1, second: 0 })
+3: Did(Read(Cell { table: 0, first: 1, second: 0 }, Some(3)))
+advance: Get(Cell { table: 1, first: 1, second: 0 })
+4: Did(Read(Cell { table: 1, first: 1, second: 0 }, Some(4)))
+4: not asked
+look: Cell { table: 1, first: 1, second: 0 } Some(4)
+advance: Did(Put(Cell { table: 0, first: 1, second: 0 }, 0))
+advance: Did(Put(Cell { table: 1, first: 1, second: 0 }, 0))
+advance: Did(Read(Cell { table: 1, first: 1, second: 0 }, Some(0)))
+advance: Did(Put(Cell { table: 1, first: 1, second: 0 }, 7))
+advance: Done(Ready)
+state: 6 2 [] Some(Ready)
+changes: 1 Some(0) 1 Some(7) ",
+};
+
+#[test]
+fn a_customer_is_amalgamated_with_itself(rt: HostRuntime) -> Result<(), Fail> {
+    play(&rt, rt.alloc(), &AMALGAMATE)
+}
+
+/// The two-column set.
+const OWN: &str = "\
+table e 2;
+program Own(d) {
+  put e[d, 2] = 5;
+  delete e[d, 1];
+  let n = count e[d, 1..3];
+  let s = sum e[d, 1..3];
+  reply n;
+  reply s;
+}
+";
+
+const OWN_CHANGES: Example = Example {
+    text: OWN,
+    program: 0,
+    args: &[7],
+    rows: &[(7, 1, 9), (7, 3, 4)],
+    calls: "\
+advance: Did(Put(Cell { table: 0, first: 7, second: 2 }, 5))
+advance: Did(Removed(Cell { table: 0, first: 7, second: 1 }))
+rows: not asked
+advance: Scan(Region { table: 0, first_low: 7, first_high: 7, second_low: 1, second_high: 3 })
+none: not asked
+rows: Did(Counted(Region { table: 0, first_low: 7, first_high: 7, second_low: 1, second_high: 3 }, 2))
+look: [Cell { table: 0, first: 7, second: 1 }, Cell { table: 0, first: 7, second: 2 }] and 1 others
+advance: Scan(Region { table: 0, first_low: 7, first_high: 7, second_low: 1, second_high: 3 })
+rows: Did(Summed(Region { table: 0, first_low: 7, first_high: 7, second_low: 1, second_high: 3 }, 9))
+advance: Done(Ready)
+advance: Done(Ready)
+state: 4 2 [2, 9] Some(Ready)",
+};
+
+#[test]
+fn ranges_see_own_changes(rt: HostRuntime) -> Result<(), Fail> {
+    play(&rt, rt.alloc(), &OWN_CHANGES)
+}
+
+const ROWS_FROM_ELSEWHERE: Example = Example {
+    text: OWN,
+    program: 0,
+    args: &[7],
+    rows: &[(7, 1, 9), (7, 4, 1)],
+    calls: "\
+advance: Did(Put(Cell { table: 0, first: 7, second: 2 }, 5))
+advance: Did(Removed(Cell { table: 0, first: 7, second: 1 }))
+advance: Scan(Region { table: 0, first_low: 7, first_high: 7, second_low: 1, second_high: 3 })
+rows: bad rows
+advance: Scan(Region { table: 0, first_low: 7, first_high: 7, second_low: 1, second_high: 3 })
+state: 2 0 [] None",
+};
+
+#[test]
+fn rows_from_elsewhere_are_refused(rt: HostRuntime) -> Result<(), Fail> {
+    play(&rt, rt.alloc(), &ROWS_FROM_ELSEWHERE)
+}
+
+/// What a begin of the two-column set comes to.
+fn begun(alloc: Global, program: usize, args: &[i64]) -> Result<String, Fail> {
+    let set = set_of(alloc, OWN)?;
+    Ok(match Run::new(alloc, &set, program, args) {
+        Ok(run) => shown_begin(alloc, &run)?,
+        Err(fault) => fault.to_string(alloc)?,
+    })
+}
+
+#[test]
+fn a_begin_wants_a_program_and_its_arguments(rt: HostRuntime) -> Result<(), Fail> {
+    let cases: [(usize, &[i64], &str); 4] = [
+        (1, &[], "no such program"),
+        (0, &[], "wrong arguments"),
+        (0, &[7, 8], "wrong arguments"),
+        (0, &[7], "1 1 [7]"),
+    ];
+    for (program, args, want) in cases {
+        assert_eq!(rt; begun(rt.alloc(), program, args)?.as_str(), want);
+    }
+    Ok(())
+}
+
+/// The overflow set.
+const TOTALS: &str = "\
+table t 1;
+program Total() { let s = sum t[1..2]; reply s; }
+program Maybe(v) { if v < 0 { abort; } else { put t[9] = v; } }
+";
+
+/// Looks at one cell.
+const LOOKS: &str = "\
+table t 1;
+program Again(k) { lacks t[k]; keep t[k]; let x = need t[k]; reply x; }
+program Large(k) { let x = get t[k] else greatest + 1; insert t[k] = greatest + 1; }
+";
+
+const ENDS: [Example; 6] = [
+    Example {
+        text: TOTALS,
+        program: 0,
+        args: &[],
+        rows: &[(1, 0, 9223372036854775807), (2, 0, 1)],
+        calls: "\
+advance: Scan(Region { table: 0, first_low: 1, first_high: 2, second_low: 0, second_high: 0 })
+rows: Done(Aborted(Overflow))
+advance: Done(Aborted(Overflow))
+state: 0 1 [] Some(Aborted(Overflow))",
+    },
+    Example {
+        text: TOTALS,
+        program: 1,
+        args: &[-1],
+        rows: &[],
+        calls: "\
+advance: Done(Aborted(Asked))
+none: not asked",
+    },
+    Example {
+        text: TOTALS,
+        program: 1,
+        args: &[4],
+        rows: &[],
+        calls: "\
+advance: Did(Put(Cell { table: 0, first: 9, second: 0 }, 4))
+advance: Done(Ready)",
+    },
+    Example {
+        text: LOOKS,
+        program: 0,
+        args: &[1],
+        rows: &[],
+        calls: "\
+advance: Get(Cell { table: 0, first: 1, second: 0 })
+3: Done(Aborted(Present(Cell { table: 0, first: 1, second: 0 })))",
+    },
+    Example {
+        text: LOOKS,
+        program: 0,
+        args: &[1],
+        rows: &[],
+        calls: "\
+advance: Get(Cell { table: 0, first: 1, second: 0 })
+none: Did(Read(Cell { table: 0, first: 1, second: 0 }, None))
+advance: Did(Kept(Cell { table: 0, first: 1, second: 0 }))
+advance: Get(Cell { table: 0, first: 1, second: 0 })
+none: Done(Aborted(Missing(Cell { table: 0, first: 1, second: 0 })))
+look: Cell { table: 0, first: 1, second: 0 } None",
+    },
+    Example {
+        text: LOOKS,
+        program: 1,
+        args: &[1],
+        rows: &[],
+        calls: "\
+advance: Get(Cell { table: 0, first: 1, second: 0 })
+3: Did(Read(Cell { table: 0, first: 1, second: 0 }, Some(3)))
+advance: Done(Aborted(Overflow))",
+    },
+];
+
+#[test]
+fn runs_end_so(rt: HostRuntime) -> Result<(), Fail> {
+    for example in ENDS {
+        play(&rt, rt.alloc(), &example)?;
+    }
+    Ok(())
+}
