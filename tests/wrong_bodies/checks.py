@@ -1,0 +1,128 @@
+"""One check of a crate with many edits, and what it says of each edited function.
+
+Every function that is not edited, where that can be, gets a hole for its proof: so the edited ones are proved over
+the contracts of what they call, nothing else is proved again, and no failure reaches from one function to another.
+"""
+import os
+import re
+import shutil
+import subprocess
+import tempfile
+from dataclasses import dataclass
+
+from batches import all_functions
+from functions import functions_of
+
+KIT = os.path.dirname(os.path.dirname(os.path.realpath(shutil.which("rt"))))
+
+# an error of a proof file that only misses what the edit took away, which says little of the contract
+OF_NAMES = re.compile(r"has no field|is not in scope|has no `|was not admitted|is not admitted|has no such")
+
+
+@dataclass
+class Crate:
+    name: str
+    folder: str
+    words: list  # those of a check
+
+
+def crates_of(root):
+    """Returns the crates of crates.txt with the words of their checks, in the file's order."""
+    uses = {}
+    with open(f"{root}/crates.txt", encoding="utf-8") as lines:
+        for line in lines:
+            head, found, tail = line.partition("#")[0].partition(":")
+            if found:
+                uses[head.split()[0]] = tail.split()
+
+    def below(name):
+        return dict.fromkeys(it for dep in uses[name] if dep in uses for it in (*below(dep), dep))
+
+    def words(name):
+        root_file = "src/main.rt" if os.path.isfile(f"{root}/crates/{name}/src/main.rt") else "src/lib.rt"
+        built = [f"{KIT}/rlibs/{it}.rlib" for it in ("std", *uses[name]) if it not in uses]
+        built += [f"{root}/crates/{it}/out/rlib/{it}.rlib" for it in uses[name] if it in uses]
+        found = ["--crate-name", name, root_file, "--links", f"{name}="]
+        for it in built:
+            found += ["--extern", f"{os.path.basename(it).removesuffix('.rlib')}={it}"]
+        for it in (f"{KIT}/rlibs", *(f"{root}/crates/{dep}/out/rlib" for dep in below(name))):
+            found += ["-L", f"dependency={it}"]
+        logic = ["--antt-project", f"{KIT}/rattle/logic/antt-project.json", "--logic-built", f"{KIT}/logic_built"]
+        return [*found, *logic, "--jobs", "1", "--allow-holes"]
+
+    return [Crate(name, f"{root}/crates/{name}", words(name)) for name in uses]
+
+
+def with_holes(crate, texts, kept):
+    """Returns the texts with a hole for the proof of each plain function but those kept."""
+    texts = dict(texts)
+    for it in all_functions(texts):
+        if it.is_plain and it not in kept:
+            folder = f"proofs/{'/'.join(it.path)}"
+            for file in ("Answers", "Invariants"):
+                texts.pop(f"{folder}/{file}.antt", None)
+            texts[f"{folder}/Proof.antt"] = (
+                f"use Rattle.{crate.name}.proofs.{'.'.join(it.path)}.Statement.{{statement}}\n\n"
+                f"pub {it.path[-1]}_spec : {{M : Type 1}} → statement M\n{it.path[-1]}_spec = ?\n"
+            )
+    return texts
+
+
+def check_of(crate, texts, functions):
+    """Returns what a check of these texts says, proving these functions alone."""
+    with tempfile.TemporaryDirectory(prefix="wrong-bodies-") as room:
+        for path, text in texts.items():
+            os.makedirs(os.path.dirname(f"{room}/{path}"), exist_ok=True)
+            with open(f"{room}/{path}", "w", encoding="utf-8") as it:
+                it.write(text)
+        only = [word for it in functions for word in ("--only", it.name)]
+        how = {"cwd": room, "stdin": subprocess.DEVNULL, "stdout": subprocess.PIPE, "stderr": subprocess.STDOUT}
+        return subprocess.run([f"{KIT}/bin/rattle", "check", *crate.words, *only], **how, errors="replace").stdout
+
+
+def said_of(crate, texts, functions):
+    """Returns what a check says of these functions, over the contracts of the others."""
+    said = check_of(crate, with_holes(crate, texts, functions), functions)
+    # a function that calls itself, as others in a cycle, has no proof file of its own: it keeps its proof
+    in_cycles = set(re.findall(r"proofs/(\S+)/Proof\.antt: error\[reserved-name\]", said))
+    if in_cycles:
+        kept = [it for it in all_functions(texts) if "/".join(it.path) in in_cycles]
+        said = check_of(crate, with_holes(crate, texts, [*functions, *kept]), functions)
+    return said
+
+
+def was_read(said):
+    """Whether the crate was read, so that antt was asked of its functions."""
+    return re.search(r"^only=\d+ ", said, re.M) is not None
+
+
+def errors_in(said, function):
+    """Returns the errors that the front end has on the lines of a function."""
+    found = re.findall(rf"^\S*{re.escape(function.file)}:(\d+):\d+: (.*)", said, re.M)
+    return [text for line, text in found if function.first <= int(line) <= function.last]
+
+
+def refusal(crate, said, function):
+    """Returns why the prover refuses the function on its own account, or else None, and what it says of it."""
+    told = re.search(rf"^fn {re.escape(crate.name)}::{re.escape(function.name)}: (.*)", said, re.M)
+    status = told[1] if told else "nothing is said of it"
+    if not status.startswith(("not proved", "no proof")):
+        return None, status
+    places = re.findall(r"^note: (\S+?):(\d+):\d+: (it is not proved that .*|`search` found no proof .*)", said, re.M)
+    own = [
+        text
+        for file, line, text in places
+        if file.removeprefix("./") == function.file and function.first <= int(line) <= function.last
+    ]
+    room = "/".join(function.path) if function.is_plain else rf"(?:{'/'.join(function.path[:-1])}/\+?\w+|{'/'.join(function.path)})"
+    files = rf"^(?:\./)?proofs/{room}/\w+\.antt:\d+:\d+: error: (.*)"
+    own += [text for text in re.findall(files, said, re.M) if not OF_NAMES.search(text)]
+    own += re.findall(r"`search` (did not prove .*)", status)
+    return (own[0] if own else None), status
+
+
+def edited_functions(bodies, texts):
+    """Returns the functions of these wrong bodies as they stand in the edited texts."""
+    names = {(it.file, it.path) for body in bodies for it in body.functions}
+    files = sorted({file for file, _ in names})
+    return [it for file in files for it in functions_of(file, texts[file]) if (file, it.path) in names]

@@ -1,0 +1,119 @@
+"""Functions of a crate's sources: where each stands, and the name that a check gives it."""
+import re
+from dataclasses import dataclass
+
+# what has no structure of its own: comments, texts and characters
+BLANK = re.compile(r"//[^\n]*|/\*.*?\*/|b?\"(?:\\.|[^\"\\])*\"|b?'(?:\\[^\n]{1,8}?|[^'\\\n])'", re.S)
+CLAUSE = re.compile(r"\b(requires|ensures|ghost)\*?(\s+[\w-]+)?\s*:?\s*\Z")
+ITEM = re.compile(
+    r"(?P<attributes>(?:#\[[^\]]*\]\s*)*)(?:pub(?:\([^)]*\))?\s+)?(?:const\s+|unsafe\s+)*"
+    r"(?:(?P<kind>fn|mod|trait)\s+(?P<name>\w+)|(?P<impl>impl)\b(?P<head>[^{;]*))"
+)
+
+
+@dataclass(frozen=True)
+class Function:
+    file: str
+    first: int  # its lines in the file, from 1
+    last: int
+    path: tuple  # of names: modules, type, function
+    is_plain: bool  # a free function or a method of a type, in no cycle of calls
+    text: str
+
+    @property
+    def name(self):
+        return "::".join(self.path)
+
+
+def blanked(text):
+    return BLANK.sub(lambda it: re.sub(r"[^\n]", " ", it[0]), text)
+
+
+def module_of(file):
+    """Returns the names of the module that a file of src/ is."""
+    names = file.removeprefix("src/").removesuffix(".rt").removesuffix("/mod").split("/")
+    return () if names in (["lib"], ["main"]) else tuple(names)
+
+
+def group_end(text, at):
+    """Returns the place behind the brace that closes the one at this place."""
+    depth = 0
+    for it in re.finditer(r"[{}]", text[at:]):
+        depth += 1 if it[0] == "{" else -1
+        if depth == 0:
+            return at + it.end()
+    return len(text)
+
+
+def type_of_impl(head):
+    """Returns what stands for an impl in the names of its functions, and whether it is of a trait: `Port` and `PortSource`."""
+    head = re.sub(r"\s+", " ", head).strip()
+    params = set()
+    if head.startswith("<"):
+        depth, at = 0, 0
+        for at, sign in enumerate(head):
+            depth += (sign == "<") - (sign == ">")
+            if depth == 0:
+                break
+        params = {it.split(":")[0].strip() for it in re.split(r",(?![^<]*>)", head[1:at])}
+        head = head[at + 1 :].strip()
+    trait, _, target = head.rpartition(" for ")
+    owner = re.match(r"[&\w:]+", target)[0].split("::")[-1]
+    if not trait:
+        return owner, False
+    name, _, rest = trait.partition("<")
+    words = [it for it in re.findall(r"\w+", rest) if it not in params]
+    return owner + name.split("::")[-1] + "".join(it[0].upper() + it[1:] for it in words), True
+
+
+def functions_of(file, text):
+    """Returns the functions of a file, outer ones before those in them."""
+    plain, found = blanked(text), []
+
+    def walk(start, end, path, is_trait):
+        at = start
+        while item := ITEM.search(plain, at, end):
+            at = item.end()
+            if item["impl"]:
+                brace = plain.find("{", item.start("impl"))
+                behind = group_end(plain, brace)
+                owner, of_trait = type_of_impl(item["head"])
+                walk(brace + 1, behind - 1, (*path, owner), of_trait)
+            elif item["kind"] != "fn":
+                brace, semicolon = plain.find("{", at), plain.find(";", at)
+                if 0 <= semicolon < brace or brace < 0:
+                    continue
+                behind = group_end(plain, brace)
+                walk(brace + 1, behind - 1, (*path, item["name"]), item["kind"] == "trait")
+            else:
+                behind = function_end(plain, at)
+                first, last = plain.count("\n", 0, item.start()) + 1, plain.count("\n", 0, behind) + 1
+                is_plain = not is_trait and "cycle" not in item["attributes"]
+                found.append(Function(file, first, last, (*path, item["name"]), is_plain, plain[item.start() : behind]))
+            at = behind
+
+    walk(0, len(plain), module_of(file), False)
+    return found
+
+
+def function_end(plain, at):
+    """Returns the place behind a function's body, or behind the semicolon of one that has none."""
+    while sign := re.compile(r"[{;]").search(plain, at):
+        if sign[0] == ";":
+            return sign.end()
+        behind = group_end(plain, sign.start())
+        if not CLAUSE.search(plain[at : sign.start()]):
+            return behind
+        at = behind
+    return len(plain)
+
+
+def function_at(functions, line):
+    """Returns the innermost function that has this line, if any has it."""
+    having = [it for it in functions if it.first <= line <= it.last]
+    return min(having, key=lambda it: it.last - it.first, default=None)
+
+
+def calls(caller, callee):
+    """Whether a function's text names another as something that it calls, or hands on."""
+    return bool(re.search(rf"(?<!fn )\b{re.escape(callee.path[-1])}\b", caller.text.partition("{")[2] + caller.text))
