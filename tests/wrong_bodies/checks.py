@@ -8,7 +8,7 @@ import re
 import shutil
 import subprocess
 import tempfile
-from dataclasses import dataclass
+from dataclasses import dataclass, field
 
 from batches import all_functions
 from functions import functions_of
@@ -24,6 +24,7 @@ class Crate:
     name: str
     folder: str
     words: list  # those of a check
+    in_cycles: set = field(default_factory=set)  # paths of functions that share a proof with others, as far as known
 
 
 def crates_of(root):
@@ -54,11 +55,11 @@ def crates_of(root):
 
 
 def with_holes(crate, texts, kept):
-    """Returns the texts with a hole for the proof of each plain function but those kept."""
+    """Returns the texts with a hole for the proof of each plain function but those kept, or in a cycle of calls."""
     texts = dict(texts)
     for it in all_functions(texts):
-        if it.is_plain and it not in kept:
-            folder = f"proofs/{'/'.join(it.path)}"
+        folder = f"proofs/{'/'.join(it.path)}"
+        if it.is_plain and it not in kept and folder not in crate.in_cycles:
             for file in ("Answers", "Invariants"):
                 texts.pop(f"{folder}/{file}.antt", None)
             texts[f"{folder}/Proof.antt"] = (
@@ -68,26 +69,27 @@ def with_holes(crate, texts, kept):
     return texts
 
 
-def check_of(crate, texts, functions):
-    """Returns what a check of these texts says, proving these functions alone."""
+def check_of(crate, texts, functions, kept):
+    """Returns what a check of these texts says, proving these functions alone, over the work that earlier ones kept."""
     with tempfile.TemporaryDirectory(prefix="wrong-bodies-") as room:
         for path, text in texts.items():
             os.makedirs(os.path.dirname(f"{room}/{path}"), exist_ok=True)
             with open(f"{room}/{path}", "w", encoding="utf-8") as it:
                 it.write(text)
         only = [word for it in functions for word in ("--only", it.name)]
+        words = [f"{KIT}/bin/rattle", "check", *crate.words, *only, "--incremental", kept]
         how = {"cwd": room, "stdin": subprocess.DEVNULL, "stdout": subprocess.PIPE, "stderr": subprocess.STDOUT}
-        return subprocess.run([f"{KIT}/bin/rattle", "check", *crate.words, *only], **how, errors="replace").stdout
+        return subprocess.run(words, **how, errors="replace").stdout
 
 
-def said_of(crate, texts, functions):
+def said_of(crate, texts, functions, kept):
     """Returns what a check says of these functions, over the contracts of the others."""
-    said = check_of(crate, with_holes(crate, texts, functions), functions)
+    said = check_of(crate, with_holes(crate, texts, functions), functions, kept)
     # a function that calls itself, as others in a cycle, has no proof file of its own: it keeps its proof
-    in_cycles = set(re.findall(r"proofs/(\S+)/Proof\.antt: error\[reserved-name\]", said))
+    in_cycles = set(re.findall(r"(proofs/\S+)/Proof\.antt: error\[reserved-name\]", said))
     if in_cycles:
-        kept = [it for it in all_functions(texts) if "/".join(it.path) in in_cycles]
-        said = check_of(crate, with_holes(crate, texts, [*functions, *kept]), functions)
+        crate.in_cycles |= in_cycles
+        said = check_of(crate, with_holes(crate, texts, functions), functions, kept)
     return said
 
 
