@@ -1,0 +1,5 @@
+//! Tests of certificates as text.
+#![tactic(auto)]
+
+#[cfg(test)]
+mod tests;

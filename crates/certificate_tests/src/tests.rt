@@ -1,0 +1,278 @@
+//! Certificates as text, told by hand.
+
+use order_facts::Node;
+use prog_tree::Sequence;
+use robust_cert::{Certificate, Chain, Entry, JsonFault, Question, from_json, to_json};
+use std::alloc::{AllocError, Global};
+use std::test::Fail;
+
+/// A set without programs.
+const EMPTY: &str = "{\"entries\":[],\"levels\":[],\"version\":1}";
+
+/// The ledger set.
+const LEDGER: &str = "{\"entries\":[],\"levels\":[2,3,2],\"version\":1}";
+
+/// The report set, repaired.
+const REPORT: &str =
+    "{\"entries\":[[\"cover\",2,2,0,2,0,0,[[[\"m\",0],[\"t\",0]],[[\"t\",0],[\"m\",0]]]]],\"levels\":[3,3,3],\"version\":1}";
+
+/// The transfer set.
+const TRANSFERS: &str =
+    "{\"entries\":[[\"cover\",0,0,0,1,1,1,[[[\"m\",0],[\"t\",0]],[[\"t\",0],[\"m\",0]]]],[\"cover\",0,0,0,3,1,3,[[[\"m\",0],[\"t\",1]],[[\"t\",1],[\"m\",0]]]],[\"cover\",0,2,0,1,3,1,[[[\"m\",1],[\"t\",0]],[[\"t\",0],[\"m\",1]]]],[\"cover\",0,2,0,3,3,3,[[[\"m\",1],[\"t\",1]],[[\"t\",1],[\"m\",1]]]]],\"levels\":[1],\"version\":1}";
+
+/// Each kind of entry and node, numbers at the ends of their ranges, and empty lists.
+const EACH_KIND: &str =
+    "{\"entries\":[[\"apart\",0,0,4294967295,1,[[\"n\",2],[\"u\",4294967295],[\"v\",0],[\"n\",-9223372036854775808],[\"n\",9223372036854775807]]],[\"apart\",1,0,1,0,[]],[\"cover\",1,1,1,1,7,4294967295,[]],[\"cover\",1,1,2,1,0,0,[[]]]],\"levels\":[0,4294967295],\"version\":1}";
+
+/// Texts, and what is written of them again.
+const OTHERWISE: [(&str, &str); 3] = [
+    (
+        "{ \"version\" : 1,\n \"levels\" : [ 3 ] , \"entries\" : [ ] }\n",
+        "{\"entries\":[],\"levels\":[3],\"version\":1}",
+    ),
+    (
+        "{\"entries\":7,\"version\":9,\"entries\":[],\"levels\":[1],\"levels\":[3],\"version\":1}",
+        "{\"entries\":[],\"levels\":[3],\"version\":1}",
+    ),
+    (
+        "{\"\\u0065ntries\":[[\"\\u0061part\",0,0,0,1,[[\"\\u006d\",5]]]],\"levels\":[],\"version\":1}",
+        "{\"entries\":[[\"apart\",0,0,0,1,[[\"m\",5]]]],\"levels\":[],\"version\":1}",
+    ),
+];
+
+/// No JSON at all.
+const NO_JSON: [&str; 9] = [
+    "",
+    " \n\t\n",
+    "{\"entries\":[],\"levels\":[],\"version\":1,}",
+    "{\"entries\":[],\"levels\":[],\"version\":1} 2",
+    "{'version':1}",
+    "{\"entries\":[],\"levels\":[],\"version\":01}",
+    "{\"entries\":[],\"levels\":[],\"version\":1",
+    "\"\\ud800\"",
+    "{\"entries\":[],\"levels\":[1e999],\"version\":1}",
+];
+
+/// Members that are missing, too many or of another type, and versions that are no whole number.
+const MEMBERS: [&str; 24] = [
+    "[]",
+    "1",
+    "null",
+    "{}",
+    "{\"version\":1}",
+    "{\"levels\":[],\"version\":1}",
+    "{\"entries\":[],\"version\":1}",
+    "{\"entries\":[],\"levels\":[]}",
+    "{\"entries\":[],\"levels\":[],\"versiom\":1}",
+    "{\"bodies\":[],\"entries\":[],\"levels\":[],\"version\":1}",
+    "{\"entries\":[],\"levels\":[],\"more\":0,\"version\":1}",
+    "{\"entries\":[],\"levels\":[],\"version\":1,\"w\":1}",
+    "{\"Entries\":[],\"levels\":[],\"version\":1}",
+    "{\"entries\":{},\"levels\":[],\"version\":1}",
+    "{\"entries\":[],\"levels\":0,\"version\":1}",
+    "{\"entries\":null,\"levels\":[],\"version\":1}",
+    "{\"entries\":[],\"levels\":\"[]\",\"version\":1}",
+    "{\"entries\":[],\"levels\":[],\"version\":\"1\"}",
+    "{\"entries\":[],\"levels\":[],\"version\":null}",
+    "{\"entries\":[],\"levels\":[],\"version\":[1]}",
+    "{\"entries\":[],\"levels\":[],\"version\":1.0}",
+    "{\"entries\":[],\"levels\":[],\"version\":1e0}",
+    "{\"entries\":[],\"levels\":[],\"version\":-0}",
+    "{\"entries\":[],\"levels\":[],\"version\":18446744073709551616}",
+];
+
+/// Entries and nodes of another form.
+const ENTRIES: [&str; 28] = [
+    "{\"entries\":[7],\"levels\":[],\"version\":1}",
+    "{\"entries\":[[]],\"levels\":[],\"version\":1}",
+    "{\"entries\":[\"apart\"],\"levels\":[],\"version\":1}",
+    "{\"entries\":[[\"apart\",0,0,0,1]],\"levels\":[],\"version\":1}",
+    "{\"entries\":[[\"apart\",0,0,0,1,[],[]]],\"levels\":[],\"version\":1}",
+    "{\"entries\":[[\"apart\",0,0,1,[]]],\"levels\":[],\"version\":1}",
+    "{\"entries\":[[\"Apart\",0,0,0,1,[]]],\"levels\":[],\"version\":1}",
+    "{\"entries\":[[\"exposed\",0,0,0,1,[]]],\"levels\":[],\"version\":1}",
+    "{\"entries\":[[0,0,0,0,1,[]]],\"levels\":[],\"version\":1}",
+    "{\"entries\":[[\"cover\",0,0,0,1,[]]],\"levels\":[],\"version\":1}",
+    "{\"entries\":[[\"apart\",0,0,0,1,0,0,[]]],\"levels\":[],\"version\":1}",
+    "{\"entries\":[[\"cover\",0,0,0,1,0,0,[[\"m\",0]]]],\"levels\":[],\"version\":1}",
+    "{\"entries\":[[\"cover\",0,0,0,1,0,[]]],\"levels\":[],\"version\":1}",
+    "{\"entries\":[[\"cover\",0,0,0,1,0,\"0\",[]]],\"levels\":[],\"version\":1}",
+    "{\"entries\":[[\"cover\",0,0,0,1,-1,0,[]]],\"levels\":[],\"version\":1}",
+    "{\"entries\":[[\"apart\",0,0,0,1,null]],\"levels\":[],\"version\":1}",
+    "{\"entries\":[[\"apart\",\"0\",0,0,1,[]]],\"levels\":[],\"version\":1}",
+    "{\"entries\":[[\"apart\",0,0,0,-1,[]]],\"levels\":[],\"version\":1}",
+    "{\"entries\":[[\"apart\",0,0,0,1,[7]]],\"levels\":[],\"version\":1}",
+    "{\"entries\":[[\"apart\",0,0,0,1,[[]]]],\"levels\":[],\"version\":1}",
+    "{\"entries\":[[\"apart\",0,0,0,1,[[\"n\"]]]],\"levels\":[],\"version\":1}",
+    "{\"entries\":[[\"apart\",0,0,0,1,[[\"n\",2,3]]]],\"levels\":[],\"version\":1}",
+    "{\"entries\":[[\"apart\",0,0,0,1,[[\"x\",2]]]],\"levels\":[],\"version\":1}",
+    "{\"entries\":[[\"apart\",0,0,0,1,[[\"M\",2]]]],\"levels\":[],\"version\":1}",
+    "{\"entries\":[[\"apart\",0,0,0,1,[[\"mm\",2]]]],\"levels\":[],\"version\":1}",
+    "{\"entries\":[[\"apart\",0,0,0,1,[[2,\"m\"]]]],\"levels\":[],\"version\":1}",
+    "{\"entries\":[[\"apart\",0,0,0,1,[[\"n\",\"2\"]]]],\"levels\":[],\"version\":1}",
+    "{\"entries\":[[\"apart\",0,0,0,1,[[\"m\",-1]]]],\"levels\":[],\"version\":1}",
+];
+
+/// Numbers past their ranges, and ones that are no whole numbers.
+const NUMBERS: [&str; 20] = [
+    "{\"entries\":[],\"levels\":[4294967296],\"version\":1}",
+    "{\"entries\":[],\"levels\":[-3],\"version\":1}",
+    "{\"entries\":[],\"levels\":[3.0],\"version\":1}",
+    "{\"entries\":[],\"levels\":[-0],\"version\":1}",
+    "{\"entries\":[],\"levels\":[\"3\"],\"version\":1}",
+    "{\"entries\":[],\"levels\":[18446744073709551616],\"version\":1}",
+    "{\"entries\":[[\"apart\",4294967296,0,0,1,[]]],\"levels\":[],\"version\":1}",
+    "{\"entries\":[[\"apart\",0,4294967296,0,1,[]]],\"levels\":[],\"version\":1}",
+    "{\"entries\":[[\"apart\",0,0,4294967296,1,[]]],\"levels\":[],\"version\":1}",
+    "{\"entries\":[[\"apart\",0,0,0,4294967296,[]]],\"levels\":[],\"version\":1}",
+    "{\"entries\":[[\"cover\",0,0,0,1,4294967296,0,[]]],\"levels\":[],\"version\":1}",
+    "{\"entries\":[[\"cover\",0,0,0,1,0,4294967296,[]]],\"levels\":[],\"version\":1}",
+    "{\"entries\":[[\"apart\",0,0,0,1,[[\"m\",4294967296]]]],\"levels\":[],\"version\":1}",
+    "{\"entries\":[[\"apart\",0,0,0,1,[[\"u\",4294967296]]]],\"levels\":[],\"version\":1}",
+    "{\"entries\":[[\"apart\",0,0,0,1,[[\"t\",4294967296]]]],\"levels\":[],\"version\":1}",
+    "{\"entries\":[[\"apart\",0,0,0,1,[[\"v\",4294967296]]]],\"levels\":[],\"version\":1}",
+    "{\"entries\":[[\"apart\",0,0,0,1,[[\"n\",9223372036854775808]]]],\"levels\":[],\"version\":1}",
+    "{\"entries\":[[\"apart\",0,0,0,1,[[\"n\",-9223372036854775809]]]],\"levels\":[],\"version\":1}",
+    "{\"entries\":[[\"apart\",0,0,0,1,[[\"n\",1.0]]]],\"levels\":[],\"version\":1}",
+    "{\"entries\":[[\"apart\",0,0,0,1,[[\"n\",-0]]]],\"levels\":[],\"version\":1}",
+];
+
+/// Versions that are not 1, whatever stands beside them.
+const VERSIONS: [&str; 10] = [
+    "{\"entries\":[],\"levels\":[],\"version\":9}",
+    "{\"entries\":[],\"levels\":[],\"version\":0}",
+    "{\"entries\":[],\"levels\":[],\"version\":2}",
+    "{\"entries\":[],\"levels\":[],\"version\":-1}",
+    "{\"entries\":[],\"levels\":[],\"version\":18446744073709551615}",
+    "{\"entries\":[],\"levels\":[],\"version\":-9223372036854775808}",
+    "{\"version\":9}",
+    "{\"more\":1,\"levels\":7,\"version\":3}",
+    "{\"bodies\":[],\"entries\":[],\"levels\":[],\"version\":2}",
+    "{\"entries\":[[\"cover\",0,0,0,1,1,1,[[[\"m\",0],[\"t\",0]],[[\"t\",0],[\"m\",0]]]],[\"cover\",0,0,0,3,1,3,[[[\"m\",0],[\"t\",1]],[[\"t\",1],[\"m\",0]]]],[\"cover\",0,2,0,1,3,1,[[[\"m\",1],[\"t\",0]],[[\"t\",0],[\"m\",1]]]],[\"cover\",0,2,0,3,3,3,[[[\"m\",1],[\"t\",1]],[[\"t\",1],[\"m\",1]]]]],\"levels\":[1],\"version\":9}",
+];
+
+/// What is written of what was read, if it was.
+fn again(alloc: Global, text: &str) -> Option<String> {
+    let certificate = from_json(alloc, text.as_bytes()).ok()?;
+    to_json(alloc, &certificate).ok()
+}
+
+fn fault_of(alloc: Global, bytes: &[u8]) -> Option<JsonFault> {
+    from_json(alloc, bytes).err()
+}
+
+fn chain(alloc: Global, one: Node, other: Node) -> Result<Chain, AllocError> {
+    let mut chain = Sequence::new(alloc);
+    chain.push(one)?;
+    chain.push(other)?;
+    Ok(chain)
+}
+
+#[test]
+fn certificates_are_written_as_they_were_read(rt: HostRuntime) {
+    let alloc = rt.alloc();
+    for text in [EMPTY, LEDGER, REPORT, TRANSFERS, EACH_KIND] {
+        let written = again(alloc, text);
+        assert!(rt; written.is_some_and(|it| it.as_str() == text), "{text}");
+    }
+    for (text, canonical) in OTHERWISE {
+        let written = again(alloc, text);
+        assert!(rt;
+            written.is_some_and(|it| it.as_str() == canonical),
+            "{text}"
+        );
+    }
+}
+
+#[test]
+fn a_certificate_is_built_and_written(rt: HostRuntime) -> Result<(), Fail> {
+    let alloc = rt.alloc();
+    let mut chains = Sequence::new(alloc);
+    chains.push(chain(alloc, Node::Mine(0), Node::Theirs(0))?)?;
+    chains.push(chain(alloc, Node::Theirs(0), Node::Mine(0))?)?;
+    let mut entries = Sequence::new(alloc);
+    entries.push(Entry::Cover {
+        question: Question {
+            x: 2,
+            a: 2,
+            y: 0,
+            b: 2,
+        },
+        mine: 0,
+        theirs: 0,
+        chains,
+    })?;
+    let mut levels = Sequence::new(alloc);
+    for level in [3, 3, 3] {
+        levels.push(level)?;
+    }
+    let text = to_json(alloc, &Certificate { entries, levels })?;
+    assert!(rt; text.as_str() == REPORT);
+    Ok(())
+}
+
+#[test]
+fn a_text_that_is_cut_is_no_json(rt: HostRuntime) {
+    let alloc = rt.alloc();
+    for text in [EMPTY, REPORT, TRANSFERS] {
+        let bytes = text.as_bytes();
+        for length in 0..bytes.len() {
+            assert!(rt;
+                fault_of(alloc, &bytes[..length]) == Some(JsonFault::NotJson),
+                "{length} of {text}"
+            );
+        }
+    }
+    for text in NO_JSON {
+        assert!(rt;
+            fault_of(alloc, text.as_bytes()) == Some(JsonFault::NotJson),
+            "{text}"
+        );
+    }
+}
+
+#[test]
+fn bytes_and_depth_are_those_of_json(rt: HostRuntime) {
+    let alloc = rt.alloc();
+    let bytes = b"{\"entries\":[],\"levels\":[],\"version\":1,\"\xff\":1}";
+    assert!(rt; fault_of(alloc, bytes) == Some(JsonFault::NotJson));
+    let deep = [b'['; 128];
+    let mut nested = [b']'; 256];
+    nested[..128].copy_from_slice(&deep);
+    assert!(rt; fault_of(alloc, &nested) == Some(JsonFault::NotJson));
+    assert!(rt; fault_of(alloc, &nested[1..255]) == Some(JsonFault::WrongShape));
+}
+
+#[test]
+fn another_form_is_refused(rt: HostRuntime) {
+    let alloc = rt.alloc();
+    for text in MEMBERS {
+        assert!(rt;
+            fault_of(alloc, text.as_bytes()) == Some(JsonFault::WrongShape),
+            "{text}"
+        );
+    }
+    for text in ENTRIES {
+        assert!(rt;
+            fault_of(alloc, text.as_bytes()) == Some(JsonFault::WrongShape),
+            "{text}"
+        );
+    }
+    for text in NUMBERS {
+        assert!(rt;
+            fault_of(alloc, text.as_bytes()) == Some(JsonFault::WrongShape),
+            "{text}"
+        );
+    }
+}
+
+#[test]
+fn another_version_is_told_first(rt: HostRuntime) {
+    let alloc = rt.alloc();
+    for text in VERSIONS {
+        assert!(rt;
+            fault_of(alloc, text.as_bytes()) == Some(JsonFault::WrongVersion),
+            "{text}"
+        );
+    }
+}

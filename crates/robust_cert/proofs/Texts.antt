@@ -1,0 +1,63 @@
+-- The text of a list's value, a part after another.
+use Rattle.std.proofs.Common.{◌≡◌, ◌∷◌, [], ◌++◌, ℕ, List, map, true, codes, decimal, refl, sym, ap, ◌∙◌, append_assoc, Result, Ok, Err, is_ok, OnOk}
+use Rattle.std.specs.Bool.{if◌then◌else◌}
+use Rattle.std.specs.Fmt.{digits}
+use Rattle.std.specs.List.{flat_map}
+use Rattle.order_facts.specs.declared.steps.Node.{Node}
+use Rattle.serde_json.specs.Data.{Data}
+use Rattle.serde_json.specs.View.{items_of}
+use Rattle.serde_json.specs.Written.{compact_text, items_text}
+use Rattle.serde_json.proofs.OnLiterals.{serde_json_on_literals}
+use Rattle.robust_cert.specs.declared.certificate.Question.{Question}
+use Rattle.robust_cert.specs.declared.certificate.Entry.{Entry}
+use Rattle.robust_cert.specs.declared.certificate.Entry.TheVariants.{Apart, Cover}
+use Rattle.robust_cert.specs.declared.certificate.Certificate.{Certificate}
+use Rattle.robust_cert.specs.Json.{list_data, whole_data, chain_data, entry_data, certificate_text}
+
+-- each thing's text behind a comma
+abbrev pub behind_commas : {A : Type 0} → (A → Data) → List A → List ℕ
+behind_commas f = flat_map (λ x. 44 ∷ compact_text (f x))
+
+-- the text of a list, bracket by bracket
+abbrev pub bracketed : {A : Type 0} → (A → Data) → List A → List ℕ
+bracketed f [] = 91 ∷ 93 ∷ []
+bracketed f (x ∷ xs) = 91 ∷ (compact_text (f x) ++ (behind_commas f xs ++ (93 ∷ [])))
+
+items_text-later : {A : Type 0} (f : A → Data) (xs : List A) → items_text true (items_of (map f xs)) ≡ behind_commas f xs ++ (93 ∷ [])
+items_text-later f [] = refl
+items_text-later f (x ∷ xs) = ap (λ s. 44 ∷ (compact_text (f x) ++ s)) (items_text-later f xs) ∙ ap (λ s. 44 ∷ s) (sym (append_assoc (compact_text (f x)) (behind_commas f xs) (93 ∷ [])))
+
+pub bracketed_lem : {A : Type 0} (f : A → Data) (xs : List A) → bracketed f xs ≡ compact_text (list_data f xs)
+bracketed_lem f [] = refl
+bracketed_lem f (x ∷ xs) = ap (λ s. 91 ∷ (compact_text (f x) ++ s)) (sym (items_text-later f xs))
+
+-- ---- a value with a literal in it, part by part
+
+-- a number behind a comma
+abbrev pub next : ℕ → List ℕ → List ℕ
+next n rest = 44 ∷ (decimal n ++ rest)
+
+pub apart_text : (q : Question) (chain : List Node)
+    → codes "[\"apart\"" ++ next q.x (next q.a (next q.y (next q.b (44 ∷ (compact_text (chain_data chain) ++ (93 ∷ [])))))) ≡ compact_text (entry_data (Apart q chain))
+unfolding serde_json_on_literals
+apart_text q chain = refl
+
+pub cover_text : (q : Question) (mine theirs : ℕ) (chains : List (List Node))
+    → codes "[\"cover\"" ++ next q.x (next q.a (next q.y (next q.b (next mine (next theirs (44 ∷ (compact_text (list_data chain_data chains) ++ (93 ∷ [])))))))) ≡ compact_text (entry_data (Cover q mine theirs chains))
+unfolding serde_json_on_literals
+cover_text q mine theirs chains = refl
+
+pub whole_text : (c : Certificate)
+    → codes "{\"entries\":" ++ (compact_text (list_data entry_data c.entries) ++ (codes ",\"levels\":" ++ (compact_text (list_data whole_data c.levels) ++ codes ",\"version\":1}"))) ≡ certificate_text c
+unfolding serde_json_on_literals digits
+whole_text c = refl
+
+-- the pieces of a certificate's text, one pushed behind the other
+pub whole_written : (c : Certificate) (es : List Entry) (ls old one two three four : List ℕ) → es ≡ c.entries → ls ≡ c.levels
+    → one ≡ old ++ codes "{\"entries\":" → two ≡ one ++ compact_text (list_data entry_data es) → three ≡ two ++ codes ",\"levels\":" → four ≡ three ++ compact_text (list_data whole_data ls)
+    → four ++ codes ",\"version\":1}" ≡ old ++ certificate_text c
+whole_written c es ls old one two three four a b e f g h = rw (h, g, f, e, a, b, ← whole_text c) (simp append_assoc)
+
+pub last_piece : {T E : Type 0} (r : Result T E) (after before z whole : List ℕ) → after ≡ (if is_ok r then before ++ z else before) → before ++ z ≡ whole → OnOk r (after ≡ whole)
+last_piece (Ok _) after before z whole e f = e ∙ f
+last_piece (Err _) after before z whole e f = tt

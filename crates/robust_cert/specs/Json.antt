@@ -1,0 +1,93 @@
+-- The JSON value of a certificate, and its text.
+use Rattle.std.specs.Prelude.{◌≡◌, ◌<◌, ◌^◌, ℕ, List, map, codes, All, FitsSigned}
+use Rattle.std.specs.Int.{w64}
+use Rattle.order_facts.specs.declared.steps.Node.{Node}
+use Rattle.order_facts.specs.declared.steps.Node.TheVariants.{Mine, MineUnknown, Theirs, TheirsUnknown, Number}
+use Rattle.serde_json.specs.Data.{Num, unsigned, Data, number, string, array, object, Items, no_items, item, no_members, member}
+use Rattle.serde_json.specs.Find.{of_integer}
+use Rattle.serde_json.specs.View.{items_of}
+use Rattle.serde_json.specs.Written.{compact_text}
+use Rattle.robust_cert.specs.declared.certificate.Question.{Question}
+use Rattle.robust_cert.specs.declared.certificate.Entry.{Entry}
+use Rattle.robust_cert.specs.declared.certificate.Entry.TheVariants.{Apart, Cover}
+use Rattle.robust_cert.specs.declared.certificate.Certificate.{Certificate}
+
+-- a whole number that isn't negative
+abbrev pub whole_data : ℕ → Data
+whole_data n = number (unsigned n)
+
+-- each thing's value, in order
+abbrev pub list_data : {A : Type 0} → (A → Data) → List A → Data
+list_data f xs = array (items_of (map f xs))
+
+-- ---- a node is a letter and a number
+
+abbrev pub lettered : List ℕ → Num → Data
+lettered letter n = array (item (string letter) (item (number n) no_items))
+
+abbrev pub node_data : Node → Data
+node_data (Mine i) = lettered (codes "m") (unsigned i)
+node_data (MineUnknown i) = lettered (codes "u") (unsigned i)
+node_data (Theirs i) = lettered (codes "t") (unsigned i)
+node_data (TheirsUnknown i) = lettered (codes "v") (unsigned i)
+node_data (Number k) = lettered (codes "n") (of_integer k)
+
+abbrev pub chain_data : List Node → Data
+chain_data = list_data node_data
+
+-- ---- an entry is its kind, the four numbers of its question, and its reason
+
+abbrev pub entry_items : List ℕ → Question → Items → Data
+entry_items kind q reason = array (item (string kind) (item (whole_data q.x) (item (whole_data q.a) (item (whole_data q.y) (item (whole_data q.b) reason)))))
+
+abbrev pub apart_items : List Node → Items
+apart_items chain = item (chain_data chain) no_items
+
+abbrev pub cover_items : ℕ → ℕ → List (List Node) → Items
+cover_items mine theirs chains = item (whole_data mine) (item (whole_data theirs) (item (list_data chain_data chains) no_items))
+
+abbrev pub entry_data : Entry → Data
+entry_data (Apart q chain) = entry_items (codes "apart") q (apart_items chain)
+entry_data (Cover q mine theirs chains) = entry_items (codes "cover") q (cover_items mine theirs chains)
+
+-- ---- the whole
+
+-- the members of a certificate, of which the last is a version
+abbrev pub members_data : Data → Data → Num → Data
+members_data entries levels version = object (member (codes "entries") entries (member (codes "levels") levels (member (codes "version") (number version) no_members)))
+
+abbrev pub certificate_data : Certificate → Data
+certificate_data c = members_data (list_data entry_data c.entries) (list_data whole_data c.levels) (unsigned 1)
+
+-- its text, with no space
+abbrev pub certificate_text : Certificate → List ℕ
+certificate_text c = compact_text (certificate_data c)
+
+-- ---- the numbers are in the ranges that a text may have
+
+abbrev pub IsSmall : ℕ → Type 0
+IsSmall n = n < 2 ^ 32
+
+abbrev pub NodeFits : Node → Type 0
+NodeFits (Mine i) = IsSmall i
+NodeFits (MineUnknown i) = IsSmall i
+NodeFits (Theirs i) = IsSmall i
+NodeFits (TheirsUnknown i) = IsSmall i
+NodeFits (Number k) = FitsSigned w64 k
+
+abbrev pub ChainFits : List Node → Type 0
+ChainFits = All NodeFits
+
+abbrev pub QuestionFits : Question → Type 0
+QuestionFits q = IsSmall q.x × IsSmall q.a × IsSmall q.y × IsSmall q.b
+
+abbrev pub EntryFits : Entry → Type 0
+EntryFits (Apart q chain) = QuestionFits q × ChainFits chain
+EntryFits (Cover q mine theirs chains) = QuestionFits q × IsSmall mine × IsSmall theirs × All ChainFits chains
+
+abbrev pub CertificateFits : Certificate → Type 0
+CertificateFits c = All EntryFits c.entries × All IsSmall c.levels
+
+-- a JSON value is that of a certificate whose numbers fit
+abbrev pub IsValueOf : Certificate → Data → Type 0
+IsValueOf c d = CertificateFits c × (d ≡ certificate_data c)

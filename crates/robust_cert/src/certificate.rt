@@ -1,0 +1,42 @@
+//! What a certificate is.
+
+use order_facts::Node;
+use prog_tree::Sequence;
+
+/// Access `a` of node `x` against access `b` of node `y`.
+#[derive(Clone, Copy, Debug, PartialEq, Eq)]
+pub struct Question {
+    pub x: u32,
+    pub a: u32,
+    pub y: u32,
+    pub b: u32,
+}
+
+/// Nodes of which each is at most the next.
+pub type Chain = Sequence<Node>;
+
+/// Why a question leaves nothing to fear.
+#[derive(Debug, Drop)]
+pub enum Entry {
+    /// The two accesses never meet.
+    Apart {
+        question: Question,
+        chain: Chain,
+    },
+    /// Where they meet, `mine` of `x` and `theirs` of `y` write one cell. The chains say so, column by column: mine to
+    /// theirs, then theirs to mine.
+    Cover {
+        question: Question,
+        mine: u32,
+        theirs: u32,
+        chains: Sequence<Chain>,
+    },
+}
+
+/// What shows that a set is robust.
+#[derive(Debug, Drop)]
+pub struct Certificate {
+    pub entries: Sequence<Entry>,
+    /// One for each node.
+    pub levels: Sequence<u32>,
+}

@@ -1,0 +1,57 @@
+//! Why a certificate isn't read.
+
+ghost use Rattle.std.specs.Prelude.{◌≡◌};
+
+use std::alloc::{AllocError, AllocFailed};
+
+/// Why bytes are no certificate.
+#[derive(Clone, Copy, Debug, PartialEq, Eq)]
+pub enum JsonFault {
+    /// No JSON, or nested too deep, or no UTF-8.
+    NotJson,
+    /// No object with a whole number under `version`, or not of the form of that version.
+    WrongShape,
+    /// The number under `version` isn't 1.
+    WrongVersion,
+    Memory,
+}
+
+/// Why a part of a JSON value isn't taken as a part of a certificate.
+#[derive(Clone, Copy, Debug, PartialEq, Eq)]
+pub enum Untaken {
+    Misshapen,
+    Memory,
+}
+
+impl From<AllocError> for Untaken {
+    ghost use Rattle.robust_cert.specs.declared.fault.Untaken.TheVariants.{Memory};
+
+    ghost from_gives = { λ _ e. e ≡ Memory };
+
+    fn from(_error: AllocError) -> Self {
+        Untaken::Memory
+    }
+}
+
+impl<T: Drop> From<AllocFailed<T>> for Untaken {
+    ghost use Rattle.robust_cert.specs.declared.fault.Untaken.TheVariants.{Memory};
+
+    ghost from_gives = { λ _ e. e ≡ Memory };
+
+    fn from(_error: AllocFailed<T>) -> Self {
+        Untaken::Memory
+    }
+}
+
+impl From<Untaken> for JsonFault {
+    ghost use Rattle.robust_cert.specs.Helpers.{fault_of};
+
+    ghost from_gives = { λ untaken fault. fault ≡ fault_of untaken };
+
+    fn from(untaken: Untaken) -> Self {
+        match untaken {
+            Untaken::Misshapen => JsonFault::WrongShape,
+            Untaken::Memory => JsonFault::Memory,
+        }
+    }
+}

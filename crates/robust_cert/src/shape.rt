@@ -1,0 +1,210 @@
+//! From the parts of a JSON value to the parts of a certificate.
+
+ghost use Rattle.std.specs.Prelude.{◌≡◌, ◌≢◌, ◌^◌, codes, ℕ, ℤ, List, All, Some, Err, IfOk, IfSome, IfNone, IsTrue, ◌↔◌, FitsSigned};
+ghost use Rattle.std.specs.Int.{w64};
+ghost use Rattle.serde_json.specs.Data.{Data, number, string, array, item, no_items};
+ghost use Rattle.serde_json.specs.Find.{of_integer};
+ghost use Rattle.serde_json.specs.View.{view, items_view};
+ghost use Rattle.order_facts.specs.declared.steps.Node.{Node};
+ghost use Rattle.robust_cert.specs.declared.certificate.Question.{Question};
+ghost use Rattle.robust_cert.specs.declared.certificate.Entry.{Entry};
+ghost use Rattle.robust_cert.specs.Json.{whole_data, IsSmall, node_data, NodeFits, chain_data, ChainFits, QuestionFits, list_data, entry_data, entry_items, EntryFits, apart_items, cover_items};
+ghost use Rattle.robust_cert.specs.Helpers.{IsQuestion};
+
+use crate::certificate::{Chain, Entry, Question};
+use crate::fault::Untaken;
+use order_facts::Node;
+use prog_tree::Sequence;
+use serde_json::Value;
+use std::alloc::Global;
+
+/// A whole number below 2^32.
+pub fn small_of(value: &Value) -> Option<u32>
+    ensures some { IfSome result (λ n. view value.now ≡ whole_data n) }
+    ensures none { IfNone result ((n : ℕ) → IsSmall n → view value.now ≢ whole_data n) }
+{
+    u32::try_from(value.as_u64()?).ok()
+}
+
+fn index_of(value: &Value) -> Option<usize>
+    ensures some { IfSome result (λ n. IsSmall n × (view value.now ≡ whole_data n)) }
+    ensures none { IfNone result ((n : ℕ) → IsSmall n → view value.now ≢ whole_data n) }
+{
+    let index = small_of(value)?;
+    Some(index as usize)
+}
+
+fn integer_of(value: &Value) -> Option<i64>
+    ensures some { IfSome result (λ k. view value.now ≡ number (of_integer k)) }
+    ensures none { IfNone result ((k : ℤ) → FitsSigned w64 k
+        → view value.now ≢ number (of_integer k)) }
+{
+    value.as_i64()
+}
+
+fn node_of(value: &Value) -> Option<Node>
+    ensures some { IfSome result (λ node. NodeFits node × (view value.now ≡ node_data node)) }
+    ensures none { IfNone result ((node : Node) → NodeFits node → view value.now ≢ node_data node) }
+{
+    let [letter, number] = value.as_array()?.as_slice() else {
+        return None;
+    };
+    match letter.as_str()? {
+        "m" => Some(Node::Mine(index_of(number)?)),
+        "u" => Some(Node::MineUnknown(index_of(number)?)),
+        "t" => Some(Node::Theirs(index_of(number)?)),
+        "v" => Some(Node::TheirsUnknown(index_of(number)?)),
+        "n" => Some(Node::Number(integer_of(number)?)),
+        _ => None,
+    }
+}
+
+fn chain_of(alloc: Global, value: &Value) -> Result<Chain, Untaken>
+    ensures ok { IfOk result (λ chain. ChainFits chain × (view value.now ≡ chain_data chain)) }
+    ensures misshapen { result ≡ Err Untaken.Misshapen
+        → (chain : List Node) → ChainFits chain → view value.now ≢ chain_data chain }
+{
+    let Value::Array(items) = value else {
+        return Err(Untaken::Misshapen);
+    };
+    let mut nodes = Vec::with_capacity(alloc, items.len())?;
+    for item in items {
+        let Some(node) = node_of(item) else {
+            return Err(Untaken::Misshapen);
+        };
+        nodes.push(node)?;
+    }
+    Ok(Sequence::from_vec(nodes))
+}
+
+fn chains_of(alloc: Global, value: &Value) -> Result<Sequence<Chain>, Untaken>
+    ensures ok { IfOk result (λ chains. All ChainFits chains
+        × (view value.now ≡ list_data chain_data chains)) }
+    ensures misshapen { result ≡ Err Untaken.Misshapen
+        → (chains : List (List Node)) → All ChainFits chains
+        → view value.now ≢ list_data chain_data chains }
+{
+    let Value::Array(items) = value else {
+        return Err(Untaken::Misshapen);
+    };
+    let mut chains = Vec::with_capacity(alloc, items.len())?;
+    for item in items {
+        chains.push(chain_of(alloc, item)?)?;
+    }
+    Ok(Sequence::from_vec(chains))
+}
+
+fn question_of(x: &Value, a: &Value, y: &Value, b: &Value) -> Option<Question>
+    ensures some { IfSome result (λ q. QuestionFits q
+        × IsQuestion q (view x.now) (view a.now) (view y.now) (view b.now)) }
+    ensures none { IfNone result ((q : Question) → QuestionFits q
+        → ¬ IsQuestion q (view x.now) (view a.now) (view y.now) (view b.now)) }
+{
+    Some(Question {
+        x: small_of(x)?,
+        a: small_of(a)?,
+        y: small_of(y)?,
+        b: small_of(b)?,
+    })
+}
+
+fn apart_of(alloc: Global, question: Question, reason: &[Value]) -> Result<Entry, Untaken>
+    ensures ok { IfOk result (λ entry. (QuestionFits question → EntryFits entry)
+        × (entry_data entry ≡ entry_items (codes "apart") question (items_view reason.now))) }
+    ensures misshapen { result ≡ Err Untaken.Misshapen
+        → (chain : List Node) → ChainFits chain → items_view reason.now ≢ apart_items chain }
+{
+    let [chain] = reason else {
+        return Err(Untaken::Misshapen);
+    };
+    let chain = chain_of(alloc, chain)?;
+    Ok(Entry::Apart { question, chain })
+}
+
+fn cover_of(alloc: Global, question: Question, reason: &[Value]) -> Result<Entry, Untaken>
+    ensures ok { IfOk result (λ entry. (QuestionFits question → EntryFits entry)
+        × (entry_data entry ≡ entry_items (codes "cover") question (items_view reason.now))) }
+    ensures misshapen { result ≡ Err Untaken.Misshapen
+        → (m t : ℕ) (cs : List (List Node)) → IsSmall m → IsSmall t → All ChainFits cs
+        → items_view reason.now ≢ cover_items m t cs }
+{
+    let [mine, theirs, chains] = reason else {
+        return Err(Untaken::Misshapen);
+    };
+    let (Some(mine), Some(theirs)) = (small_of(mine), small_of(theirs)) else {
+        return Err(Untaken::Misshapen);
+    };
+    let chains = chains_of(alloc, chains)?;
+    Ok(Entry::Cover {
+        question,
+        mine,
+        theirs,
+        chains,
+    })
+}
+
+fn is_text(value: &Value, text: &str) -> bool
+    ensures { IsTrue result ↔ (view value.now ≡ string text.now) }
+{
+    value.as_str() == Some(text)
+}
+
+fn entry_of(alloc: Global, value: &Value) -> Result<Entry, Untaken>
+    ensures ok { IfOk result (λ entry. EntryFits entry × (view value.now ≡ entry_data entry)) }
+    ensures misshapen { result ≡ Err Untaken.Misshapen
+        → (entry : Entry) → EntryFits entry → view value.now ≢ entry_data entry }
+{
+    let Value::Array(items) = value else {
+        return Err(Untaken::Misshapen);
+    };
+    let [kind, x, a, y, b, reason @ ..] = items.as_slice() else {
+        return Err(Untaken::Misshapen);
+    };
+    let Some(question) = question_of(x, a, y, b) else {
+        return Err(Untaken::Misshapen);
+    };
+    if is_text(kind, "apart") {
+        apart_of(alloc, question, reason)
+    } else if is_text(kind, "cover") {
+        cover_of(alloc, question, reason)
+    } else {
+        Err(Untaken::Misshapen)
+    }
+}
+
+/// The entries of a certificate. Each value is dropped once it is taken, while it is still in the cache.
+pub fn entries_of(alloc: Global, items: Vec<Value>) -> Result<Sequence<Entry>, Untaken>
+    ensures ok { IfOk result (λ entries. All EntryFits entries
+        × (array (items_view items.items) ≡ list_data entry_data entries)) }
+    ensures misshapen { result ≡ Err Untaken.Misshapen
+        → (entries : List Entry) → All EntryFits entries
+        → array (items_view items.items) ≢ list_data entry_data entries }
+{
+    let mut entries = Vec::with_capacity(alloc, items.len())?;
+    for item in items {
+        let entry = entry_of(alloc, &item)?;
+        entries.push(entry)?;
+    }
+    Ok(Sequence::from_vec(entries))
+}
+
+/// The levels of a certificate.
+pub fn levels_of(alloc: Global, value: &Value) -> Result<Sequence<u32>, Untaken>
+    ensures ok { IfOk result (λ levels. All IsSmall levels
+        × (view value.now ≡ list_data whole_data levels)) }
+    ensures misshapen { result ≡ Err Untaken.Misshapen
+        → (levels : List ℕ) → All IsSmall levels
+        → view value.now ≢ list_data whole_data levels }
+{
+    let Value::Array(items) = value else {
+        return Err(Untaken::Misshapen);
+    };
+    let mut levels = Vec::with_capacity(alloc, items.len())?;
+    for item in items {
+        let Some(level) = small_of(item) else {
+            return Err(Untaken::Misshapen);
+        };
+        levels.push(level)?;
+    }
+    Ok(Sequence::from_vec(levels))
+}

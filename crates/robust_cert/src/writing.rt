@@ -1,0 +1,122 @@
+//! From a certificate to text.
+
+ghost use Rattle.std.specs.Prelude.{◌≡◌, IfOk, OnOk, string_bytes};
+ghost use Rattle.robust_cert.specs.Json.{node_data, chain_data, entry_data, whole_data, list_data, certificate_data, certificate_text};
+ghost use Rattle.robust_cert.specs.Helpers.{Appends};
+
+use crate::certificate::{Certificate, Chain, Entry, Question};
+use order_facts::Node;
+use std::alloc::{AllocError, Global};
+
+fn push_node(text: &mut String, node: Node) -> Result<(), AllocError>
+    ensures { OnOk result (Appends text.old text.new (node_data node)) }
+{
+    match node {
+        Node::Mine(index) => write!(text, "[\"m\",{index}]"),
+        Node::MineUnknown(index) => write!(text, "[\"u\",{index}]"),
+        Node::Theirs(index) => write!(text, "[\"t\",{index}]"),
+        Node::TheirsUnknown(index) => write!(text, "[\"v\",{index}]"),
+        Node::Number(number) => write!(text, "[\"n\",{number}]"),
+    }
+}
+
+fn push_chain(text: &mut String, chain: &[Node]) -> Result<(), AllocError>
+    ensures { OnOk result (Appends text.old text.new (chain_data chain.now)) }
+{
+    let [first, others @ ..] = chain else {
+        return text.push_str("[]");
+    };
+    text.push_str("[")?;
+    push_node(text, *first)?;
+    for node in others {
+        text.push_str(",")?;
+        push_node(text, *node)?;
+    }
+    text.push_str("]")
+}
+
+fn push_chains(text: &mut String, chains: &[Chain]) -> Result<(), AllocError>
+    ensures { OnOk result (Appends text.old text.new (list_data chain_data chains.now)) }
+{
+    let [first, others @ ..] = chains else {
+        return text.push_str("[]");
+    };
+    text.push_str("[")?;
+    push_chain(text, first.as_slice())?;
+    for chain in others {
+        text.push_str(",")?;
+        push_chain(text, chain.as_slice())?;
+    }
+    text.push_str("]")
+}
+
+fn push_entry(text: &mut String, entry: &Entry) -> Result<(), AllocError>
+    ensures { OnOk result (Appends text.old text.new (entry_data entry.now)) }
+{
+    match entry {
+        Entry::Apart { question, chain } => {
+            let Question { x, a, y, b } = *question;
+            write!(text, "[\"apart\",{x},{a},{y},{b},")?;
+            push_chain(text, chain.as_slice())?;
+            text.push_str("]")
+        }
+        Entry::Cover {
+            question,
+            mine,
+            theirs,
+            chains,
+        } => {
+            let Question { x, a, y, b } = *question;
+            write!(text, "[\"cover\",{x},{a},{y},{b},{mine},{theirs},")?;
+            push_chains(text, chains.as_slice())?;
+            text.push_str("]")
+        }
+    }
+}
+
+fn push_entries(text: &mut String, entries: &[Entry]) -> Result<(), AllocError>
+    ensures { OnOk result (Appends text.old text.new (list_data entry_data entries.now)) }
+{
+    let [first, others @ ..] = entries else {
+        return text.push_str("[]");
+    };
+    text.push_str("[")?;
+    push_entry(text, first)?;
+    for entry in others {
+        text.push_str(",")?;
+        push_entry(text, entry)?;
+    }
+    text.push_str("]")
+}
+
+fn push_levels(text: &mut String, levels: &[u32]) -> Result<(), AllocError>
+    ensures { OnOk result (Appends text.old text.new (list_data whole_data levels.now)) }
+{
+    let [first, others @ ..] = levels else {
+        return text.push_str("[]");
+    };
+    write!(text, "[{first}")?;
+    for level in others {
+        write!(text, ",{level}")?;
+    }
+    text.push_str("]")
+}
+
+fn push_certificate(text: &mut String, certificate: &Certificate) -> Result<(), AllocError>
+    ensures { OnOk result (Appends text.old text.new (certificate_data certificate.now)) }
+{
+    text.push_str("{\"entries\":")?;
+    push_entries(text, certificate.entries.as_slice())?;
+    text.push_str(",\"levels\":")?;
+    push_levels(text, certificate.levels.as_slice())?;
+    text.push_str(",\"version\":1}")
+}
+
+/// The text of a certificate.
+pub fn to_json(alloc: Global, certificate: &Certificate) -> Result<String, AllocError>
+    ensures { IfOk result (λ text. string_bytes text ≡ certificate_text certificate.now) }
+{
+    let mut text = String::new(alloc);
+    push_certificate(&mut text, certificate)?;
+    Ok(text)
+}
