@@ -11,15 +11,16 @@ use std::test::Fail;
 
 const SET: &str = "table t 1; program P(k, v) { put t[k] = v; reply v; }";
 
-// Whether a set of one table and one program has the table and the program of `SET`.
+// Whether a set has the tables of `SET`, and whether it has its program.
 fn is_same_as_set(alloc: Global, text: &str) -> Result<(bool, bool), Fail> {
     let (set, other) = (set_of(alloc, SET)?, set_of(alloc, text)?);
     let (draft, other) = (set.draft(), other.draft());
     let tables = same_tables(&draft.tables, &other.tables);
-    Ok((
-        tables,
-        draft.programs[0].is_same(&other.programs[0]) && draft.tables.len() == 1,
-    ))
+    let program = match (draft.programs.first(), other.programs.first()) {
+        (Some(program), Some(second)) => program.is_same(second),
+        _ => false,
+    };
+    Ok((tables, program))
 }
 
 #[test]
