@@ -8,7 +8,7 @@ use Rattle.std.proofs.lemmas.List.{append-nil, length-append, length-map}
 use Rattle.prog_tree.specs.declared.table.Arity.{Arity}
 use Rattle.prog_tree.specs.declared.table.Arity.TheVariants as arity
 use Rattle.prog_tree.specs.declared.table.TableDecl.{TableDecl}
-use Rattle.prog_tree.specs.Syntax.{Name, TestTree, StatementTree, BlockTree, BlockEnd, Then, Branch, ProgramTree, DraftTree}
+use Rattle.prog_tree.specs.Syntax.{Name, TestTree, StatementTree, BlockTree, BlockEnd, Then, Branch, Plain, Fork, ProgramTree, DraftTree}
 use Rattle.prog_tree.specs.Syntax as s
 use Rattle.prog_tree.specs.Value.{same_name}
 use Rattle.prog_check.specs.declared.fault.Place.{Place}
@@ -21,7 +21,7 @@ use Rattle.prog_check.specs.Names.{is_among, has_twice, Extends}
 use Rattle.prog_check.specs.Paths.{statement_count, program_paths}
 use Rattle.prog_check.specs.Tables.{declaration, grows}
 use Rattle.prog_check.specs.Uses.{test_names, used_names, new_name, with_new, used_table, overwrites, is_abort, key_arity}
-use Rattle.prog_check.specs.Faults.{Rule, first_broken, ◌or_else◌, same_arity, has_wrong_arity, place_rules, table_use_rules, value_use_rules, new_name_rules, statement_rules, branch_rules, block_fault, program_rules, path_rules, program_fault, programs_fault, table_rules, tables_fault, table_names}
+use Rattle.prog_check.specs.Faults.{Rule, first_broken, ◌or_else◌, same_arity, has_wrong_arity, place_rules, table_use_rules, value_use_rules, new_name_rules, statement_rules, block_fault, program_rules, path_rules, program_fault, programs_fault, table_rules, tables_fault, table_names}
 use Rattle.prog_check.specs.Sound.{AreDistinct, AreAmong, IsNoneOf, AllStatements, UsesVisible, BindsNew, AbortsLast, IsDeclared, OverwritesPlain, IsSoundProgram, Soundness}
 use Rattle.prog_check.proofs.NameLemmas.{has_twice-push}
 use Rattle.prog_check.proofs.RuleLemmas.{first_broken-append}
@@ -58,7 +58,7 @@ pub record StatementHolds (tables : List TableDecl) (program number : ℕ) (abor
   pub new : first_broken (new_name_rules (Statement program number) visible (new_name s)) ≡ None
 
 module _ (tables : List TableDecl) (program : ℕ) where
-  statement_holds : (number : ℕ) (aborted : Bool) (visible : List Name) (s : StatementTree) → first_broken (statement_rules tables program number aborted visible s) ≡ None → StatementHolds tables program number aborted visible s
+  statement_holds : (number : ℕ) (aborted : Bool) (visible : List Name) (s : StatementTree) → first_broken (statement_rules tables program number aborted visible (Plain s)) ≡ None → StatementHolds tables program number aborted visible s
   statement_holds number aborted visible s h =
       let place = Statement program number in
       let places = place_rules place number aborted in
@@ -78,7 +78,7 @@ module _ (tables : List TableDecl) (program : ℕ) where
 
   then_holds : (number : ℕ) (aborted : Bool) (visible : List Name) (s : StatementTree) (rest : BlockTree) → block_fault tables program number aborted visible (Then s rest) ≡ None → ThenHolds number aborted visible s rest
   then_holds number aborted visible s rest h =
-      let parts = or_else_none (first_broken (statement_rules tables program number aborted visible s)) (block_fault tables program (number + 1) (is_abort s) (with_new visible (new_name s)) rest) h in
+      let parts = or_else_none (first_broken (statement_rules tables program number aborted visible (Plain s))) (block_fault tables program (number + 1) (is_abort s) (with_new visible (new_name s)) rest) h in
       record { statement = statement_holds number aborted visible s parts.0; behind = parts.1 }
 
   pub record BranchHolds (number : ℕ) (aborted : Bool) (visible : List Name) (test : TestTree) (a b rest : BlockTree) : Type 0 where
@@ -93,7 +93,7 @@ module _ (tables : List TableDecl) (program : ℕ) where
       let first = block_fault tables program (number + 1) false visible a in
       let second = block_fault tables program (number + 1 + statement_count a) false visible b in
       let later = block_fault tables program (number + 1 + statement_count a + statement_count b) false visible rest in
-      let whole = or_else_none (first_broken (branch_rules program number aborted visible test)) (first or_else second or_else later) h in
+      let whole = or_else_none (first_broken (statement_rules tables program number aborted visible (Fork test a b))) (first or_else second or_else later) h in
       let rules = both_hold (place_rules (Statement program number) number aborted) (value_use_rules (Statement program number) visible (test_names test)) whole.0 in
       let blocks = or_else_none first (second or_else later) whole.1 in
       let behind = or_else_none second later blocks.1 in

@@ -2,9 +2,9 @@
 use Rattle.std.proofs.Common.{◌≡◌, ℕ, ◌+◌, List, Bool, false, ap, sym, subst, ◌∙◌, arith}
 use Rattle.std.specs.Prelude.{Option, None}
 use Rattle.prog_tree.specs.declared.table.TableDecl.{TableDecl}
-use Rattle.prog_tree.specs.Syntax.{Name, TestTree, BlockTree, Branch}
+use Rattle.prog_tree.specs.Syntax.{Name, TestTree, BlockTree, Branch, Fork}
 use Rattle.prog_check.specs.declared.fault.CheckFault.{CheckFault}
-use Rattle.prog_check.specs.Faults.{first_broken, branch_rules, block_fault, ◌or_else◌}
+use Rattle.prog_check.specs.Faults.{first_broken, statement_rules, block_fault, ◌or_else◌}
 use Rattle.prog_check.specs.Paths.{statement_count}
 use Rattle.prog_check.specs.Sets.{IsFirst}
 use Rattle.prog_check.proofs.RuleLemmas.{IsFirst-or_else}
@@ -15,7 +15,7 @@ fault_from tables program number visible block = block_fault tables program numb
 
 -- a statement that is a branch without a fault of its own, numbered n, and a first block from the number n1 on
 module _ (tables : List TableDecl) (program n : ℕ) (aborted : Bool) (visible : List Name) (stmt : BlockTree → BlockTree) (test : TestTree) (a b : BlockTree) (n1 : ℕ) (visible1 : List Name)
-    (is : stmt ≡ (λ rest. Branch test a b rest)) (holds : first_broken (branch_rules program n aborted visible test) ≡ None) (number1 : n1 ≡ n + 1) (same1 : visible1 ≡ visible) where
+    (is : stmt ≡ (λ rest. Branch test a b rest)) (holds : first_broken (statement_rules tables program n aborted visible (Fork test a b)) ≡ None) (number1 : n1 ≡ n + 1) (same1 : visible1 ≡ visible) where
   in_parts : (rest : BlockTree)
       → block_fault tables program n aborted visible (stmt rest) ≡ fault_from tables program n1 visible1 a or_else fault_from tables program (n1 + statement_count a) visible b or_else fault_from tables program (n1 + statement_count a + statement_count b) visible rest
   in_parts rest =

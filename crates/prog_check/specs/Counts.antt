@@ -1,7 +1,7 @@
 -- How many committing paths a block has, and how many accesses lie on the heaviest, counted without going along each.
 use Rattle.std.specs.Prelude.{ℕ, ◌+◌, ◌*◌, min, max, nat_lt, Bool, false, List, length, Option, Some, None, if◌then◌else◌}
 use Rattle.prog_tree.specs.declared.table.TableDecl.{TableDecl}
-use Rattle.prog_tree.specs.Syntax.{StatementTree, BlockTree, BlockEnd, Then, Branch}
+use Rattle.prog_tree.specs.Syntax.{StatementTree, BlockTree, BlockEnd, Then, Branch, StmtTree, Plain, Fork}
 use Rattle.prog_check.specs.Accesses.{kinds_at}
 use Rattle.prog_check.specs.Uses.{is_abort}
 
@@ -10,9 +10,14 @@ path_count BlockEnd = 1
 path_count (Then s rest) = if is_abort s then 0 else path_count rest
 path_count (Branch test a b rest) = (path_count a + path_count b) * path_count rest
 
--- the accesses of a statement
+-- the accesses of a statement without blocks
 abbrev pub access_count : List TableDecl → StatementTree → ℕ
 access_count tables s = length (kinds_at tables s)
+
+-- the same of any statement; a branch itself, without its blocks, has none
+abbrev pub access_count_by : List TableDecl → StmtTree → ℕ
+access_count_by tables (Plain s) = access_count tables s
+access_count_by tables (Fork test a b) = 0
 
 -- A weight is none where there is no path. The greater of two:
 abbrev pub larger : Option ℕ → Option ℕ → Option ℕ

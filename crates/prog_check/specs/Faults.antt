@@ -4,7 +4,7 @@ use Rattle.std.specs.List.{list_all, list_any}
 use Rattle.prog_tree.specs.declared.table.Arity.{Arity}
 use Rattle.prog_tree.specs.declared.table.Arity.TheVariants as arity
 use Rattle.prog_tree.specs.declared.table.TableDecl.{TableDecl}
-use Rattle.prog_tree.specs.Syntax.{Name, TestTree, StatementTree, BlockTree, BlockEnd, Then, Branch, ProgramTree, DraftTree}
+use Rattle.prog_tree.specs.Syntax.{Name, BlockTree, BlockEnd, Then, Branch, StmtTree, Plain, Fork, ProgramTree, DraftTree}
 use Rattle.prog_check.specs.declared.fault.Place.{Place}
 use Rattle.prog_check.specs.declared.fault.Place.TheVariants.{Table, Program, Statement}
 use Rattle.prog_check.specs.declared.fault.CheckFault.{CheckFault}
@@ -13,7 +13,7 @@ use Rattle.prog_check.specs.declared.path.Path.{Path}
 use Rattle.prog_check.specs.Names.{is_among, has_twice}
 use Rattle.prog_check.specs.Paths.{statement_count, program_paths}
 use Rattle.prog_check.specs.Tables.{declaration, grows}
-use Rattle.prog_check.specs.Uses.{test_names, used_names, new_name, with_new, used_table, overwrites, is_abort}
+use Rattle.prog_check.specs.Uses.{new_name, with_new, is_abort, used_names_by, new_name_by, used_table_by, overwrites_by}
 
 -- ---- rules
 
@@ -64,28 +64,23 @@ abbrev pub new_name_rules : Place → (visible : List Name) → Option Name → 
 new_name_rules place visible None = []
 new_name_rules place visible (Some x) = (is_among visible x, NameTaken place) ∷ []
 
--- the rules of a statement, in order
-abbrev pub statement_rules : List TableDecl → (program number : ℕ) (aborted : Bool) (visible : List Name) → StatementTree → List Rule
+-- the rules of a statement, in order; of a branch, without its blocks
+abbrev pub statement_rules : List TableDecl → (program number : ℕ) (aborted : Bool) (visible : List Name) → StmtTree → List Rule
 statement_rules tables program number aborted visible s =
     place_rules (Statement program number) number aborted
-    ++ table_use_rules tables (Statement program number) (overwrites s) (used_table s)
-    ++ value_use_rules (Statement program number) visible (used_names s)
-    ++ new_name_rules (Statement program number) visible (new_name s)
-
--- and those of a branch, without its blocks
-abbrev pub branch_rules : (program number : ℕ) (aborted : Bool) (visible : List Name) → TestTree → List Rule
-branch_rules program number aborted visible test =
-    place_rules (Statement program number) number aborted ++ value_use_rules (Statement program number) visible (test_names test)
+    ++ table_use_rules tables (Statement program number) (overwrites_by s) (used_table_by s)
+    ++ value_use_rules (Statement program number) visible (used_names_by s)
+    ++ new_name_rules (Statement program number) visible (new_name_by s)
 
 -- The first fault of a block whose first statement has this number, counted in the order of the text, a branch before its
 -- blocks. A `let` is visible behind its statement, to the end of its block.
 abbrev pub block_fault : List TableDecl → (program number : ℕ) (aborted : Bool) (visible : List Name) → BlockTree → Option CheckFault
 block_fault tables program number aborted visible BlockEnd = None
 block_fault tables program number aborted visible (Then s rest) =
-    first_broken (statement_rules tables program number aborted visible s)
+    first_broken (statement_rules tables program number aborted visible (Plain s))
     or_else block_fault tables program (number + 1) (is_abort s) (with_new visible (new_name s)) rest
 block_fault tables program number aborted visible (Branch test a b rest) =
-    first_broken (branch_rules program number aborted visible test)
+    first_broken (statement_rules tables program number aborted visible (Fork test a b))
     or_else block_fault tables program (number + 1) false visible a
     or_else block_fault tables program (number + 1 + statement_count a) false visible b
     or_else block_fault tables program (number + 1 + statement_count a + statement_count b) false visible rest

@@ -26,8 +26,9 @@ pub record Route : Type 0 where
   pub choices : List Bool
   pub passed : List Passed
 
-abbrev pub ended : Route
-ended = record { choices = []; passed = [] }
+-- the way through an empty block
+abbrev pub no_steps : Route
+no_steps = record { choices = []; passed = [] }
 
 abbrev pub passing : (number : ℕ) → StatementTree → Route → Route
 passing number s route = record { choices = route.choices; passed = record { number = number; statement = s } ∷ route.passed }
@@ -46,7 +47,7 @@ followed_by (route ∷ routes) later = map (joined route) later ++ followed_by r
 -- The routes of a block whose first statement has this number that meet no `abort;`, those through a branch's first block
 -- before those through its second. Statements are numbered in the order of the text, a branch before its blocks.
 abbrev pub routes : (number : ℕ) → BlockTree → List Route
-routes number BlockEnd = ended ∷ []
+routes number BlockEnd = no_steps ∷ []
 routes number (Then s rest) = if is_abort s then [] else map (passing number s) (routes (number + 1) rest)
 routes number (Branch test a b rest) =
     followed_by

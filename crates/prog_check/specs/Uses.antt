@@ -3,7 +3,7 @@ use Rattle.std.specs.Prelude.{Bool, true, false, List, [], ◌∷◌, ◌++◌, 
 use Rattle.std.specs.List.{flat_map}
 use Rattle.prog_tree.specs.declared.table.Arity.{Arity}
 use Rattle.prog_tree.specs.declared.table.Arity.TheVariants as arity
-use Rattle.prog_tree.specs.Syntax.{Name, ExprTree, Literal, Named, Plus, Minus, Times, ComparisonTree, TestTree, KeyTree, One, Two, RangeTree, OneRange, TwoRange, StatementTree, Bind, Get, Need, Count, Sum, Lacks, Put, Insert, Delete, Keep, Reply, Abort}
+use Rattle.prog_tree.specs.Syntax.{Name, ExprTree, Literal, Named, Plus, Minus, Times, ComparisonTree, TestTree, KeyTree, One, Two, RangeTree, OneRange, TwoRange, StatementTree, Bind, Get, Need, Count, Sum, Lacks, Put, Insert, Delete, Keep, Reply, Abort, StmtTree, Plain, Fork}
 
 abbrev pub expr_names : ExprTree → List Name
 expr_names (Literal n) = []
@@ -115,3 +115,21 @@ is_abort (Delete table key) = false
 is_abort (Keep table key) = false
 is_abort (Reply e) = false
 is_abort Abort = true
+
+-- ---- the same of any statement; a branch itself, without its blocks, uses the names of its test alone
+
+abbrev pub used_names_by : StmtTree → List Name
+used_names_by (Plain s) = used_names s
+used_names_by (Fork test a b) = test_names test
+
+abbrev pub new_name_by : StmtTree → Option Name
+new_name_by (Plain s) = new_name s
+new_name_by (Fork test a b) = None
+
+abbrev pub used_table_by : StmtTree → Option (Name × Arity)
+used_table_by (Plain s) = used_table s
+used_table_by (Fork test a b) = None
+
+abbrev pub overwrites_by : StmtTree → Bool
+overwrites_by (Plain s) = overwrites s
+overwrites_by (Fork test a b) = false

@@ -1,18 +1,18 @@
 //! The check of a program's statements.
 ghost use Rattle.std.specs.Prelude.{◌≡◌, ℕ, ◌+◌, ◌<◌, ◌++◌, false, OnOk, OnErr, length, option_copied, Option, Some, None};
 ghost use Rattle.std.specs.Option.{option_map};
-ghost use Rattle.prog_tree.specs.Tree.{test_tree, statement_tree, with_stmt, block_tree};
-ghost use Rattle.prog_check.specs.Faults.{first_broken, place_rules, table_use_rules, value_use_rules, new_name_rules, statement_rules, branch_rules, block_fault};
+ghost use Rattle.prog_tree.specs.Tree.{stmt_tree, with_stmt, block_tree};
+ghost use Rattle.prog_check.specs.Faults.{first_broken, place_rules, table_use_rules, value_use_rules, new_name_rules, statement_rules, block_fault};
 ghost use Rattle.prog_check.specs.Names.{Extends};
 ghost use Rattle.prog_check.specs.Paths.{statement_count};
 ghost use Rattle.prog_check.specs.Sets.{Finds, GoesOn};
-ghost use Rattle.prog_check.specs.Uses.{used_table, overwrites, used_names, test_names, new_name, with_new, is_abort};
+ghost use Rattle.prog_check.specs.Uses.{used_table_by, overwrites_by, used_names_by, new_name_by, with_new};
 
 use crate::fault::{CheckFault, Place};
 use crate::names::Names;
 use crate::tables::Tables;
-use crate::uses::{bound_name, is_overwriting, knows_test, knows_values, table_use};
-use prog_tree::{Block, Stmt, Test};
+use crate::uses::{bound_name, is_overwriting, knows_values, table_use};
+use prog_tree::{Block, Stmt};
 
 /// The statements of a program have the numbers below this.
 const MAX_STATEMENTS: usize = 256;
@@ -37,7 +37,7 @@ fn check_place(place: Place, number: usize, aborted: bool) -> Result<(), CheckFa
 }
 
 fn check_table(tables: &Tables<'_>, place: Place, stmt: &Stmt) -> Result<(), CheckFault>
-    ensures { Finds (λ _. Unit {0}) result (first_broken (table_use_rules tables.now place (overwrites (statement_tree stmt.now)) (used_table (statement_tree stmt.now)))) }
+    ensures { Finds (λ _. Unit {0}) result (first_broken (table_use_rules tables.now place (overwrites_by (stmt_tree stmt.now)) (used_table_by (stmt_tree stmt.now)))) }
 {
     let Some((name, arity)) = table_use(stmt) else {
         return Ok(());
@@ -55,7 +55,7 @@ fn check_table(tables: &Tables<'_>, place: Place, stmt: &Stmt) -> Result<(), Che
 }
 
 fn check_values(visible: &Names, place: Place, stmt: &Stmt) -> Result<(), CheckFault>
-    ensures { Finds (λ _. Unit {0}) result (first_broken (value_use_rules place visible.now (used_names (statement_tree stmt.now)))) }
+    ensures { Finds (λ _. Unit {0}) result (first_broken (value_use_rules place visible.now (used_names_by (stmt_tree stmt.now)))) }
 {
     if !knows_values(visible, stmt) {
         return Err(CheckFault::UnknownName { place });
@@ -63,19 +63,10 @@ fn check_values(visible: &Names, place: Place, stmt: &Stmt) -> Result<(), CheckF
     Ok(())
 }
 
-fn check_test(visible: &Names, place: Place, test: &Test) -> Result<(), CheckFault>
-    ensures { Finds (λ _. Unit {0}) result (first_broken (value_use_rules place visible.now (test_names (test_tree test.now)))) }
-{
-    if !knows_test(visible, test) {
-        return Err(CheckFault::UnknownName { place });
-    }
-    Ok(())
-}
-
 /// Makes the name that a statement gives to a value visible.
 fn declare(visible: &mut Names, place: Place, stmt: &Stmt) -> Result<(), CheckFault>
-    ensures found { Finds (λ _. Unit {0}) result (first_broken (new_name_rules place visible.old (new_name (statement_tree stmt.now)))) }
-    ensures visible { OnOk result (visible.new ≡ with_new visible.old (new_name (statement_tree stmt.now))) }
+    ensures found { Finds (λ _. Unit {0}) result (first_broken (new_name_rules place visible.old (new_name_by (stmt_tree stmt.now)))) }
+    ensures visible { OnOk result (visible.new ≡ with_new visible.old (new_name_by (stmt_tree stmt.now))) }
 {
     if let Some(name) = bound_name(stmt) {
         if !visible.insert(name)? {
@@ -85,17 +76,17 @@ fn declare(visible: &mut Names, place: Place, stmt: &Stmt) -> Result<(), CheckFa
     Ok(())
 }
 
-/// Checks a statement without blocks, and goes on behind it.
-fn check_plain(
+/// Checks a statement but for its blocks, and goes on behind it.
+fn check_own(
     tables: &Tables<'_>,
     program: usize,
     at: &mut Position,
     aborted: bool,
     stmt: &Stmt,
 ) -> Result<(), CheckFault>
-    ensures found { Finds (λ _. Unit {0}) result (first_broken (statement_rules tables.now program at.old.number aborted at.old.visible (statement_tree stmt.now))) }
+    ensures found { Finds (λ _. Unit {0}) result (first_broken (statement_rules tables.now program at.old.number aborted at.old.visible (stmt_tree stmt.now))) }
     ensures number { OnOk result (at.new.number ≡ at.old.number + 1) }
-    ensures visible { OnOk result (at.new.visible ≡ with_new at.old.visible (new_name (statement_tree stmt.now))) }
+    ensures visible { OnOk result (at.new.visible ≡ with_new at.old.visible (new_name_by (stmt_tree stmt.now))) }
 {
     let place = Place::Statement {
         program,
@@ -105,27 +96,6 @@ fn check_plain(
     check_table(tables, place, stmt)?;
     check_values(&at.visible, place, stmt)?;
     declare(&mut at.visible, place, stmt)?;
-    at.number += 1;
-    Ok(())
-}
-
-/// Checks a branch but for its blocks, and goes on before them.
-fn enter_branch(
-    program: usize,
-    at: &mut Position,
-    aborted: bool,
-    test: &Test,
-) -> Result<(), CheckFault>
-    ensures found { Finds (λ _. Unit {0}) result (first_broken (branch_rules program at.old.number aborted at.old.visible (test_tree test.now))) }
-    ensures number { OnOk result (at.new.number ≡ at.old.number + 1) }
-    ensures visible { OnOk result (at.new.visible ≡ at.old.visible) }
-{
-    let place = Place::Statement {
-        program,
-        statement: at.number,
-    };
-    check_place(place, at.number, aborted)?;
-    check_test(&at.visible, place, test)?;
     at.number += 1;
     Ok(())
 }
@@ -142,21 +112,18 @@ fn check_stmt(
     ensures goes_on { GoesOn tables.now program at.old aborted (with_stmt stmt.now) at.new result }
     ensures visible { OnOk result (Extends at.old.visible at.new.visible) }
 {
+    check_own(tables, program, at, aborted, stmt)?;
     match stmt {
         Stmt::Branch {
-            test,
             then,
             otherwise,
+            ..
         } => {
-            enter_branch(program, at, aborted, test)?;
             check_block(tables, program, at, then)?;
             check_block(tables, program, at, otherwise)?;
             Ok(false)
         }
-        _ => {
-            check_plain(tables, program, at, aborted, stmt)?;
-            Ok(matches!(stmt, Stmt::Abort))
-        }
+        _ => Ok(matches!(stmt, Stmt::Abort)),
     }
 }
 

@@ -2,8 +2,8 @@
 //! there may be a great many.
 ghost use Rattle.std.specs.Prelude.{◌≡◌, ◌*◌, ◌≤◌, min, IfSome};
 ghost use Rattle.prog_tree.specs.Syntax.{BlockTree};
-ghost use Rattle.prog_tree.specs.Tree.{statement_tree, with_stmt, block_tree, program_tree};
-ghost use Rattle.prog_check.specs.Counts.{path_count, access_count, larger, added, heaviest, up_to, is_above};
+ghost use Rattle.prog_tree.specs.Tree.{stmt_tree, with_stmt, block_tree, program_tree};
+ghost use Rattle.prog_check.specs.Counts.{path_count, access_count_by, larger, added, heaviest, up_to, is_above};
 ghost use Rattle.prog_check.specs.Faults.{first_broken, path_rules};
 ghost use Rattle.prog_check.specs.Paths.{program_paths};
 ghost use Rattle.prog_check.specs.Sets.{Finds};
@@ -55,9 +55,9 @@ fn is_grow_table(tables: &Tables<'_>, name: &Name) -> bool
     }
 }
 
-/// The accesses of a statement without blocks.
+/// The accesses of a statement itself.
 fn count_accesses(tables: &Tables<'_>, stmt: &Stmt) -> usize
-    ensures { result ≡ access_count tables.now (statement_tree stmt.now) }
+    ensures { result ≡ access_count_by tables.now (stmt_tree stmt.now) }
 {
     match stmt {
         Stmt::Insert { table, .. } if !is_grow_table(tables, table) => 2,

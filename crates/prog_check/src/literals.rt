@@ -1,9 +1,11 @@
 //! The numbers in a draft are of i64, as their type says. Contracts learn it where a body reads them.
+ghost use Rattle.std.specs.Prelude.{◌++◌};
 ghost use Rattle.std.specs.List.{All, AllByRecursion};
-ghost use Rattle.prog_tree.specs.Syntax.{BlockTree, Then};
-ghost use Rattle.prog_tree.specs.Tree.{expr_tree, comparison_tree, clause_tree, test_tree, key_tree, range_tree, statement_tree, with_stmt, block_tree, draft_tree};
+ghost use Rattle.prog_tree.specs.Syntax.{BlockTree};
+ghost use Rattle.prog_tree.specs.Tree.{expr_tree, comparison_tree, clause_tree, test_tree, key_tree, range_tree, stmt_tree, with_stmt, block_tree, draft_tree};
 ghost use Rattle.prog_tree.specs.Number.{IsI64};
-ghost use Rattle.prog_tree.specs.Literals.{expr_literals, comparison_literals, clause_literals, test_literals, key_literals, range_literals, statement_literals, block_literals, HasI64Literals};
+ghost use Rattle.prog_tree.specs.Literals.{expr_literals, comparison_literals, clause_literals, test_literals, key_literals, range_literals, block_literals, HasI64Literals};
+ghost use Rattle.prog_check.specs.Literals.{literals_by};
 
 use prog_tree::{Block, Clause, Comparison, Draft, Expr, Key, Range, Stmt, Test};
 
@@ -73,9 +75,9 @@ fn read_range(range: &Range)
     }
 }
 
-/// Reads the numbers of a statement without blocks.
+/// Reads the numbers of a statement but for its blocks.
 fn read_values(stmt: &Stmt)
-    ensures { All IsI64 (statement_literals (statement_tree stmt.now)) }
+    ensures { All IsI64 (literals_by (stmt_tree stmt.now)) }
 {
     match stmt {
         Stmt::Bind { value, .. } | Stmt::Reply { value } => read_expr(value),
@@ -92,14 +94,15 @@ fn read_values(stmt: &Stmt)
         | Stmt::Delete { key, .. }
         | Stmt::Keep { key, .. } => read_key(key),
         Stmt::Count { range, .. } | Stmt::Sum { range, .. } => read_range(range),
-        Stmt::Branch { .. } | Stmt::Abort => {}
+        Stmt::Branch { test, .. } => read_test(test),
+        Stmt::Abort => {}
     }
 }
 
 /// Reads them too, as what is said of the statement with the rest of its block.
 fn read_plain(stmt: &Stmt)
     ensures { (rest : BlockTree) → All IsI64 (block_literals rest)
-        → All IsI64 (block_literals (Then (statement_tree stmt.now) rest)) }
+        → All IsI64 (literals_by (stmt_tree stmt.now) ++ block_literals rest) }
 {
     read_values(stmt);
 }

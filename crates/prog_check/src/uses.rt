@@ -2,9 +2,9 @@
 ghost use Rattle.std.specs.Prelude.{◌≡◌, Option, option_copied};
 ghost use Rattle.std.specs.List.{list_all};
 ghost use Rattle.std.specs.Option.{option_map};
-ghost use Rattle.prog_tree.specs.Tree.{expr_tree, comparison_tree, clause_tree, test_tree, key_tree, range_tree, statement_tree};
+ghost use Rattle.prog_tree.specs.Tree.{expr_tree, comparison_tree, clause_tree, test_tree, key_tree, range_tree, stmt_tree};
 ghost use Rattle.prog_check.specs.Names.{is_among};
-ghost use Rattle.prog_check.specs.Uses.{expr_names, comparison_names, clause_names, test_names, key_names, range_names, key_arity, range_arity, used_names, new_name, used_table, overwrites, is_abort};
+ghost use Rattle.prog_check.specs.Uses.{expr_names, comparison_names, clause_names, test_names, key_names, range_names, key_arity, range_arity, used_names_by, new_name_by, used_table_by, overwrites_by};
 
 use crate::names::Names;
 use prog_tree::{Arity, Clause, Comparison, Expr, Key, Name, Range, Stmt, Test};
@@ -40,7 +40,7 @@ fn knows_clause(known: &Names, clause: &Clause) -> bool
 }
 
 /// Whether all names of a test are known.
-pub fn knows_test(known: &Names, test: &Test) -> bool
+fn knows_test(known: &Names, test: &Test) -> bool
     ensures { result ≡ list_all (is_among known.now) (test_names (test_tree test.now)) }
 {
     for clause in &test.any {
@@ -71,9 +71,9 @@ fn knows_range(known: &Names, range: &Range) -> bool
     }
 }
 
-/// Whether all names of values that a statement uses are known. A branch is asked by its test.
+/// Whether all names of values that a statement itself uses are known.
 pub fn knows_values(known: &Names, stmt: &Stmt) -> bool
-    ensures { result ≡ list_all (is_among known.now) (used_names (statement_tree stmt.now)) }
+    ensures { result ≡ list_all (is_among known.now) (used_names_by (stmt_tree stmt.now)) }
 {
     match stmt {
         Stmt::Bind { value, .. } | Stmt::Reply { value } => knows_expr(known, value),
@@ -86,13 +86,14 @@ pub fn knows_values(known: &Names, stmt: &Stmt) -> bool
         | Stmt::Delete { key, .. }
         | Stmt::Keep { key, .. } => knows_key(known, key),
         Stmt::Count { range, .. } | Stmt::Sum { range, .. } => knows_range(known, range),
-        Stmt::Branch { .. } | Stmt::Abort => true,
+        Stmt::Branch { test, .. } => knows_test(known, test),
+        Stmt::Abort => true,
     }
 }
 
 /// The name that a statement gives to a value.
 pub fn bound_name(stmt: &Stmt) -> Option<&Name>
-    ensures { option_copied result ≡ new_name (statement_tree stmt.now) }
+    ensures { option_copied result ≡ new_name_by (stmt_tree stmt.now) }
 {
     match stmt {
         Stmt::Bind { name, .. }
@@ -124,7 +125,7 @@ fn columns_of_range(range: &Range) -> Arity
 
 /// The table that a statement uses, and for how many columns.
 pub fn table_use(stmt: &Stmt) -> Option<(&Name, Arity)>
-    ensures { option_map (λ used. (used.0.now, used.1)) result ≡ used_table (statement_tree stmt.now) }
+    ensures { option_map (λ used. (used.0.now, used.1)) result ≡ used_table_by (stmt_tree stmt.now) }
 {
     match stmt {
         Stmt::Get { table, key, .. }
@@ -143,7 +144,7 @@ pub fn table_use(stmt: &Stmt) -> Option<(&Name, Arity)>
 
 /// Whether a statement does what a grow table refuses.
 pub fn is_overwriting(stmt: &Stmt) -> bool
-    ensures { result ≡ overwrites (statement_tree stmt.now) }
+    ensures { result ≡ overwrites_by (stmt_tree stmt.now) }
 {
     matches!(stmt, Stmt::Put { .. } | Stmt::Delete { .. })
 }

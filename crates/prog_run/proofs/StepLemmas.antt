@@ -1,20 +1,17 @@
 -- Laws of the steps of a run.
-use Rattle.std.proofs.Common.{◌≡◌, List, [], ◌∷◌, ◌++◌, refl, ap, sym, subst, ◌∙◌, true, true≢false}
+use Rattle.std.proofs.Common.{◌≡◌, List, [], ◌∷◌, ◌++◌, refl, ap, sym, subst, ◌∙◌, true}
 use Rattle.std.specs.Prelude.{ℤ, Some, None}
 use Rattle.prog_tree.specs.declared.cell.Cell.{Cell}
 use Rattle.prog_tree.specs.declared.deed.End.{End}
 use Rattle.prog_tree.specs.declared.progress.Progress.{Progress}
-use Rattle.prog_tree.specs.declared.stmt.Stmt.{Stmt}
-use Rattle.prog_tree.specs.declared.stmt.Stmt as t
 use Rattle.prog_tree.specs.declared.table.TableDecl.{TableDecl}
-use Rattle.prog_tree.specs.Syntax.{StatementTree, BlockTree, Then, ProgramTree}
+use Rattle.prog_tree.specs.Syntax.{StatementTree, BlockTree, Then, StmtTree, Plain, Fork, block_from, ProgramTree}
 use Rattle.prog_tree.specs.ChangeSet.{change_at}
-use Rattle.prog_tree.specs.Tree.{statement_tree, with_stmt}
 use Rattle.prog_tree.specs.Evaluation.{and_then, ended}
 use Rattle.prog_run.specs.Todo.{CursorTree, with_rest, todo}
-use Rattle.prog_run.specs.Cursor.{needs_store, is_store, SameTodo, KeepsStore, IsOver}
+use Rattle.prog_run.specs.Cursor.{needs_store, is_store_stmt, is_store, SameTodo, KeepsStore, IsOver}
 use Rattle.prog_run.specs.Looks.{asked_next}
-use Rattle.prog_run.specs.Statement.{IsDone}
+use Rattle.prog_run.specs.Statement.{IsDone, IsStmtDone}
 use Rattle.prog_run.specs.Step.{next_of, question_after, end_after, cursor_after, IsAsking, IsStep}
 use Rattle.prog_run.specs.View.{IsTrueTo, IsWaiting}
 use Rattle.prog_run.specs.declared.next.Next.{Next}
@@ -44,10 +41,16 @@ module _ (tables : List TableDecl) (statement : StatementTree) (rest : BlockTree
   step_of (outcome.Aborts cause) at h =
       (λ m f. ap ended (todo_then tables m statement rest c p is ∙ ap (λ r. and_then r (todo tables m (with_rest rest c))) (h.0 m f)), h.1, h.2)
 
--- a statement of the store, in its block
-pub store_stmt : (stmt : Stmt) (rest : BlockTree) → is_store (with_stmt stmt rest) ≡ true → (with_stmt stmt rest ≡ Then (statement_tree stmt) rest) × (needs_store (statement_tree stmt) ≡ true)
-store_stmt (t.Branch' test _ a _ b) rest h = absurd (true≢false (sym h))
-store_stmt stmt rest h = (refl, h)
+-- so is any statement that is done
+pub step_of_stmt : (tables : List TableDecl) (x : StmtTree) (rest : BlockTree) (c d : CursorTree) (p q : Progress) → c.here.rest ≡ block_from x rest → is_store_stmt x ≡ true
+    → (n : Outcome) → d ≡ cursor_after n rest c → IsStmtDone tables x n p q → IsStep tables (next_of n) c p d q
+step_of_stmt tables (Plain statement) rest c d p q is store n at h = step_of tables statement rest c d p q is store n at h
+step_of_stmt tables (Fork test a b) rest c d p q is store n at h = absurd h
+
+-- a statement in front of the rest of its block
+pub store_first : (x : StmtTree) (rest : BlockTree) → is_store (block_from x rest) ≡ is_store_stmt x
+store_first (Plain statement) rest = refl
+store_first (Fork test a b) rest = refl
 
 -- steps without the store and then a step at the store are a step
 module _ (tables : List TableDecl) (c b d : CursorTree) (p r q : Progress) (same : SameTodo c p b r) (k : KeepsStore p r) where

@@ -3,7 +3,7 @@ use Rattle.std.specs.Prelude.{◌≡◌, ◌<◌, Bool, true, false, Option, Som
 use Rattle.prog_tree.specs.declared.deed.End.{End}
 use Rattle.prog_tree.specs.declared.progress.Progress.{Progress}
 use Rattle.prog_tree.specs.declared.table.TableDecl.{TableDecl}
-use Rattle.prog_tree.specs.Syntax.{StatementTree, BlockTree, Then}
+use Rattle.prog_tree.specs.Syntax.{StatementTree, BlockTree, BlockEnd, Then, Branch, StmtTree, Plain, Fork}
 use Rattle.prog_tree.specs.Syntax as s
 use Rattle.prog_tree.specs.Tree.{stmts_tree}
 use Rattle.prog_tree.specs.Table.{TableState}
@@ -28,24 +28,51 @@ pub record KeepsStore (old new : Progress) : Type 0 where
   pub changes : new.changes ≡ old.changes
   pub looks : new.looks ≡ old.looks
 
--- whether a statement is one of the store
+-- whether a statement without blocks is one of the store
 abbrev pub needs_store : StatementTree → Bool
 needs_store (s.Bind name value) = false
+needs_store (s.Get name table key otherwise) = true
+needs_store (s.Need name table key) = true
+needs_store (s.Count name table range) = true
+needs_store (s.Sum name table range) = true
+needs_store (s.Lacks table key) = true
+needs_store (s.Put table key value) = true
+needs_store (s.Insert table key value) = true
+needs_store (s.Delete table key) = true
+needs_store (s.Keep table key) = true
 needs_store (s.Reply value) = false
 needs_store s.Abort = false
-needs_store _ = true
+
+-- whether a statement is one of the store; a branch is not
+abbrev pub is_store_stmt : StmtTree → Bool
+is_store_stmt (Plain statement) = needs_store statement
+is_store_stmt (Fork test a b) = false
 
 -- whether a statement changes a cell without a look
 abbrev pub is_change : StatementTree → Bool
+is_change (s.Bind name value) = false
+is_change (s.Get name table key otherwise) = false
+is_change (s.Need name table key) = false
+is_change (s.Count name table range) = false
+is_change (s.Sum name table range) = false
+is_change (s.Lacks table key) = false
 is_change (s.Put table key value) = true
+is_change (s.Insert table key value) = false
 is_change (s.Delete table key) = true
 is_change (s.Keep table key) = true
-is_change _ = false
+is_change (s.Reply value) = false
+is_change s.Abort = false
 
--- whether a block begins with such a statement
+-- the same of any statement
+abbrev pub is_change_stmt : StmtTree → Bool
+is_change_stmt (Plain statement) = is_change statement
+is_change_stmt (Fork test a b) = false
+
+-- whether a block begins with a statement of the store
 abbrev pub is_store : BlockTree → Bool
+is_store BlockEnd = false
 is_store (Then statement rest) = needs_store statement
-is_store _ = false
+is_store (Branch test a b rest) = false
 
 -- what is left then is what was left before
 abbrev pub SameTodo : CursorTree → Progress → CursorTree → Progress → Type 0

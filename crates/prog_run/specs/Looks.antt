@@ -6,7 +6,7 @@ use Rattle.prog_tree.specs.declared.deed.Look.{Look}
 use Rattle.prog_tree.specs.declared.deed.Look.TheVariants as look
 use Rattle.prog_tree.specs.declared.progress.Progress.{Progress}
 use Rattle.prog_tree.specs.declared.table.TableDecl.{TableDecl}
-use Rattle.prog_tree.specs.Syntax.{Name, ExprTree, KeyTree, RangeTree, StatementTree, BlockTree, Then}
+use Rattle.prog_tree.specs.Syntax.{Name, ExprTree, KeyTree, RangeTree, StatementTree, BlockTree, BlockEnd, Then, Branch, StmtTree, Plain, Fork}
 use Rattle.prog_tree.specs.Syntax as s
 use Rattle.prog_tree.specs.Numbering.{number_of}
 use Rattle.prog_tree.specs.Value.{value_of}
@@ -44,20 +44,31 @@ asked_at_key tables table key p = option_and_then (asked_for p.changes) (cell_of
 abbrev pub asked_in_range : List TableDecl → Name → RangeTree → Progress → Option Question
 asked_in_range tables table range p = option_map Range (region_of (number_of tables table) range p.env)
 
--- what a statement asks; the value of an insert comes before its look
+-- what a statement without blocks asks; the value of an insert comes before its look
 abbrev pub asked_by : List TableDecl → StatementTree → Progress → Option Question
+asked_by tables (s.Bind name value) p = None
 asked_by tables (s.Get name table key otherwise) p = asked_at_key tables table key p
 asked_by tables (s.Need name table key) p = asked_at_key tables table key p
 asked_by tables (s.Count name table range) p = asked_in_range tables table range p
 asked_by tables (s.Sum name table range) p = asked_in_range tables table range p
 asked_by tables (s.Lacks table key) p = asked_at_key tables table key p
+asked_by tables (s.Put table key value) p = None
 asked_by tables (s.Insert table key value) p = option_and_then (λ v. asked_at_key tables table key p) (value_of value p.env)
-asked_by tables _ p = None
+asked_by tables (s.Delete table key) p = None
+asked_by tables (s.Keep table key) p = None
+asked_by tables (s.Reply value) p = None
+asked_by tables s.Abort p = None
 
--- what the next statement asks
+-- what a statement asks; a branch asks nothing
+abbrev pub asked_by_stmt : List TableDecl → StmtTree → Progress → Option Question
+asked_by_stmt tables (Plain statement) p = asked_by tables statement p
+asked_by_stmt tables (Fork test a b) p = None
+
+-- what the first statement of a block asks
 abbrev pub asked_next : List TableDecl → BlockTree → Progress → Option Question
+asked_next tables BlockEnd p = None
 asked_next tables (Then statement rest) p = asked_by tables statement p
-asked_next tables _ p = None
+asked_next tables (Branch test a b rest) p = None
 
 -- rows but for those of some cells
 abbrev pub rows_without : List Cell → TableState → TableState

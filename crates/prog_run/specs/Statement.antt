@@ -8,7 +8,7 @@ use Rattle.prog_tree.specs.declared.deed.Deed.TheVariants.{Read, Counted, Summed
 use Rattle.prog_tree.specs.declared.deed.Look.TheVariants as look
 use Rattle.prog_tree.specs.declared.progress.Progress.{Progress}
 use Rattle.prog_tree.specs.declared.table.TableDecl.{TableDecl}
-use Rattle.prog_tree.specs.Syntax.{Name, ExprTree, StatementTree}
+use Rattle.prog_tree.specs.Syntax.{Name, ExprTree, StatementTree, StmtTree, Plain, Fork}
 use Rattle.prog_tree.specs.Value.{or_else, value_of, exact}
 use Rattle.prog_tree.specs.Table.{TableState}
 use Rattle.prog_tree.specs.ChangeSet.{change_at}
@@ -98,6 +98,11 @@ IsDoneBy flow asked (Asks question) p q = (q ≡ p) × (asked ≡ Some question)
 IsDoneBy flow asked (Did deed) p q = ((m : TableState) → AreFound m q.looks → flow m ≡ GoesOn q) × FoundBefore p q × (q.deeds ≡ p.deeds ++ deed ∷ [])
 IsDoneBy flow asked (Aborts cause) p q = ((m : TableState) → AreFound m q.looks → flow m ≡ Stops cause q) × FoundBefore p q × (q.deeds ≡ p.deeds)
 
--- one statement was done, or asks
+-- one statement without blocks was done, or asks
 abbrev pub IsDone : List TableDecl → StatementTree → Outcome → Progress → Progress → Type 0
 IsDone tables st n p q = IsDoneBy (λ m. run_statement tables m st p) (asked_by tables st p) n p q
+
+-- one statement was done, or asks; a branch is never done so
+abbrev pub IsStmtDone : List TableDecl → StmtTree → Outcome → Progress → Progress → Type 0
+IsStmtDone tables (Plain statement) n p q = IsDone tables statement n p q
+IsStmtDone tables (Fork test a b) n p q = ⊥

@@ -3,10 +3,10 @@ ghost use Rattle.std.specs.Prelude.{◌≡◌, true, None, IfOk, OnErr, option_a
 ghost use Rattle.prog_tree.specs.Numbering.{number_of};
 ghost use Rattle.prog_tree.specs.Value.{value_of};
 ghost use Rattle.prog_tree.specs.Evaluation.{cell_of, region_of};
-ghost use Rattle.prog_tree.specs.Tree.{expr_tree, key_tree, range_tree, statement_tree};
-ghost use Rattle.prog_run.specs.Cursor.{needs_store, is_change};
-ghost use Rattle.prog_run.specs.Looks.{asked_for, asked_by, looks_with};
-ghost use Rattle.prog_run.specs.Statement.{IsDone, IsDoneBy, IsFlow, IsUnfinished, IsSeen, from_cell, from_insert, from_region, get_flow, need_flow, lacks_flow, insert_flow, found_flow, count_flow, sum_flow, put_flow, delete_flow, keep_flow};
+ghost use Rattle.prog_tree.specs.Tree.{expr_tree, key_tree, range_tree, stmt_tree};
+ghost use Rattle.prog_run.specs.Cursor.{is_store_stmt, is_change_stmt};
+ghost use Rattle.prog_run.specs.Looks.{asked_for, asked_by_stmt, looks_with};
+ghost use Rattle.prog_run.specs.Statement.{IsStmtDone, IsDoneBy, IsFlow, IsUnfinished, IsSeen, from_cell, from_insert, from_region, get_flow, need_flow, lacks_flow, insert_flow, found_flow, count_flow, sum_flow, put_flow, delete_flow, keep_flow};
 
 use crate::next::{Answer, Outcome, Question};
 use crate::notes::{cut, note_found, note_kept, note_put, note_removed};
@@ -48,9 +48,9 @@ pub fn run_statement<'a>(
     progress: &mut Progress<'a>,
     answer: Option<Answer>,
 ) -> Result<Outcome, AllocError>
-    requires { needs_store (statement_tree stmt.now) ≡ true }
-    ensures done { IfOk result (λ n. IsDone tables.now (statement_tree stmt.now) n progress.old progress.new) }
-    ensures looks { IfOk result (λ n. progress.new.looks ≡ looks_with progress.old (asked_by tables.now (statement_tree stmt.now) progress.old) answer) }
+    requires { is_store_stmt (stmt_tree stmt.now) ≡ true }
+    ensures done { IfOk result (λ n. IsStmtDone tables.now (stmt_tree stmt.now) n progress.old progress.new) }
+    ensures looks { IfOk result (λ n. progress.new.looks ≡ looks_with progress.old (asked_by_stmt tables.now (stmt_tree stmt.now) progress.old) answer) }
     ensures err { OnErr result (progress.new ≡ progress.old) }
 {
     let looks = progress.looks.len();
@@ -71,9 +71,9 @@ fn try_statement<'a>(
     progress: &mut Progress<'a>,
     answer: Option<Answer>,
 ) -> Result<Outcome, AllocError>
-    requires { needs_store (statement_tree stmt.now) ≡ true }
-    ensures done { IfOk result (λ n. IsDone tables.now (statement_tree stmt.now) n progress.old progress.new) }
-    ensures looks { IfOk result (λ n. progress.new.looks ≡ looks_with progress.old (asked_by tables.now (statement_tree stmt.now) progress.old) answer) }
+    requires { is_store_stmt (stmt_tree stmt.now) ≡ true }
+    ensures done { IfOk result (λ n. IsStmtDone tables.now (stmt_tree stmt.now) n progress.old progress.new) }
+    ensures looks { IfOk result (λ n. progress.new.looks ≡ looks_with progress.old (asked_by_stmt tables.now (stmt_tree stmt.now) progress.old) answer) }
     ensures err { OnErr result (IsUnfinished progress.old progress.new) }
 {
     match stmt {
@@ -126,8 +126,8 @@ fn try_change<'a>(
     stmt: &'a Stmt,
     progress: &mut Progress<'a>,
 ) -> Result<Outcome, AllocError>
-    requires { is_change (statement_tree stmt.now) ≡ true }
-    ensures done { IfOk result (λ n. IsDone tables.now (statement_tree stmt.now) n progress.old progress.new) }
+    requires { is_change_stmt (stmt_tree stmt.now) ≡ true }
+    ensures done { IfOk result (λ n. IsStmtDone tables.now (stmt_tree stmt.now) n progress.old progress.new) }
     ensures looks { IfOk result (λ n. progress.new.looks ≡ progress.old.looks) }
     ensures err { OnErr result (progress.new ≡ progress.old) }
 {

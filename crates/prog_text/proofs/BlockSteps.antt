@@ -3,8 +3,8 @@ use Rattle.std.proofs.Common.{◌≡◌, List, [], ◌∷◌, ◌++◌, length, 
 use Rattle.std.proofs.lemmas.List.{reverse-append}
 use Rattle.std.specs.declared.vec.Vec.{Vec}
 use Rattle.std.specs.declared.alloc.Global.{Global}
-use Rattle.prog_tree.specs.Syntax.{TestTree, StatementTree, BlockTree, BlockEnd, Then, Branch}
-use Rattle.prog_tree.specs.Tree.{test_tree, statement_tree, with_stmt, with_stmts, stmts_tree}
+use Rattle.prog_tree.specs.Syntax.{TestTree, StatementTree, BlockTree, BlockEnd, Then, Branch, StmtTree, block_from}
+use Rattle.prog_tree.specs.Tree.{test_tree, stmt_tree, with_stmt, with_stmts, stmts_tree}
 use Rattle.prog_tree.specs.declared.expr.Test.{Test}
 use Rattle.prog_tree.specs.declared.stmt.Stmt.{Stmt}
 use Rattle.prog_tree.proofs.TreeLemmas.{with_stmts-push}
@@ -13,7 +13,7 @@ use Rattle.prog_text.specs.declared.blocks.Open.TheVariants.{First, Second}
 use Rattle.prog_text.specs.declared.read_error.ReadError.{ReadError}
 use Rattle.prog_text.specs.declared.read_error.ReadError.TheVariants as errors
 use Rattle.prog_text.specs.declared.token.Token.{Token}
-use Rattle.prog_text.specs.Reading.{Stop, Unexpected, Reading, ◌>>=◌, Fails, after_close_block, after_if, after_else, behind_sign, open_block_at, test_at, statement_at, block_at, second_at, behind_second, behind_first, branch_at, more_at, body_at}
+use Rattle.prog_text.specs.Reading.{Stop, Unexpected, Reading, ◌>>=◌, Fails, after_close_block, after_if, after_else, behind_sign, open_block_at, test_at, statement_at, block_at, second_at, behind_second, behind_first, branch_at, more_at, body_at, as_plain, unexpected}
 use Rattle.prog_text.specs.OpenBlocks.{in_front, outward, unread, unread_behind_end, unread_behind_if, unread_from_statement}
 use Rattle.prog_text.proofs.Enough.{body_is}
 
@@ -169,17 +169,29 @@ first_opens stack test before ts us vs e f =
 
 -- ---- a statement without blocks
 
-pub statement_fails : (k : ReadError) (stack : List Open) (done : List Stmt) (ts : List Token) → Fails k (statement_at ts) → Fails k (unread_from_statement stack done ts)
+plain_fails : (k : ReadError) (r : Reading StatementTree) → Fails k (as_plain r) → Fails k r
+plain_fails errors.Memory r h = tt
+plain_fails (errors.Unexpected left) (Ok y) h = absurd (cc)
+plain_fails (errors.Unexpected left) (Err e) h = ap (λ (r : Reading StmtTree). r >>= λ s. unexpected s.1) h
+
+pub statement_fails : (k : ReadError) (stack : List Open) (done : List Stmt) (ts : List Token) → Fails k (as_plain (statement_at ts)) → Fails k (unread_from_statement stack done ts)
 unfolding unread_from_statement more_at
-statement_fails k stack done ts h = reading_fails k (reverse stack) done _ (then_fails k (statement_at ts) _ h)
+statement_fails k stack done ts h = reading_fails k (reverse stack) done _ (then_fails k (statement_at ts) _ (plain_fails k (statement_at ts) h))
 
-with_statement : (s : StatementTree) (ts rest : List Token) → statement_at ts ≡ Ok (s, rest) → more_at body_at ts ≡ (body_at rest >>= λ rest. Ok (Then s rest.0, rest.1))
-unfolding more_at
-with_statement s ts rest e = rw e refl
+-- behind a statement, the rest of the block
+abbrev led : StmtTree × List Token → Reading BlockTree
+led x = body_at x.1 >>= λ rest. Ok (block_from x.0 rest.0, rest.1)
 
-pub statement_further : (stack : List Open) (done : List Stmt) (s : Stmt) (ts rest : List Token) → with_stmt s ≡ Then (statement_tree s) → statement_at ts ≡ Ok (statement_tree s, rest)
+abbrev led_plain : StatementTree × List Token → Reading BlockTree
+led_plain s = body_at s.1 >>= λ rest. Ok (Then s.0 rest.0, rest.1)
+
+goes_on : (x : StmtTree) (rest : List Token) (r : Reading StatementTree) → as_plain r ≡ Ok (x, rest) → (r >>= led_plain) ≡ led (x, rest)
+goes_on x rest (Ok y) e = ap (λ (r : Reading StmtTree). r >>= led) e
+goes_on x rest (Err k) e = absurd (cc)
+
+pub statement_further : (stack : List Open) (done : List Stmt) (s : Stmt) (ts rest : List Token) → as_plain (statement_at ts) ≡ Ok (stmt_tree s, rest)
     → unread stack (done ++ s ∷ []) rest ≡ unread_from_statement stack done ts
-unfolding unread unread_from_statement
-statement_further stack done s ts rest is e =
-    ap (outward (reverse stack)) (in_front-push done s (Then (statement_tree s)) (body_at rest) is)
-    ∙ ap (λ (r : Reading BlockTree). outward (reverse stack) (in_front done r)) (sym (with_statement (statement_tree s) ts rest e))
+unfolding unread unread_from_statement more_at
+statement_further stack done s ts rest e =
+    ap (outward (reverse stack)) (in_front-push done s (block_from (stmt_tree s)) (body_at rest) refl)
+    ∙ ap (λ (r : Reading BlockTree). outward (reverse stack) (in_front done r)) (sym (goes_on (stmt_tree s) rest (statement_at ts) e))

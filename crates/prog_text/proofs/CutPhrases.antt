@@ -10,7 +10,7 @@ use Rattle.prog_text.specs.declared.token.Token.{Token}
 use Rattle.prog_text.specs.declared.token.Token.TheVariants as t
 use Rattle.prog_text.specs.Grammar.{Many, none, more, Led, led, Separated, separated, least_number, greatest_number, IsFactor, number, negative, least, greatest, name, bracketed, IsProduct, factor, times, IsExpr, product, plus, minus, IsRelation, IsComparison, plain, negated, IsConjunction, IsTest, IsKey, IsRange, IsStatement, bind, get, need, count, sum, lacks, put, insert, delete, keep, reply, abort, IsStatements, nothing, branch, IsBlock, block, IsElse, missing, present, IsArity, IsTable, grows, IsName, IsParams, some, IsProgram, program, IsSet, set}
 use Rattle.prog_text.specs.Grammar as g
-use Rattle.prog_text.specs.Canonical.{Mark, Word, Space, LineEnd, spaced, leading, is_sum, number_marks, expr_marks, relation_token, comparison_marks, each_behind, joined_by, conjunction_marks, test_marks, comma, inside_key, key_marks, ends_marks, range_marks, let_marks, assigned_marks, statement_marks, line, ended, else_line, close_line, else_marks, block_marks, arity_number, table_marks, name_marks, program_marks, draft_marks}
+use Rattle.prog_text.specs.Canonical.{Mark, Word, Space, LineEnd, spaced, leading, is_sum, number_marks, expr_marks, relation_token, comparison_marks, each_behind, joined_by, conjunction_marks, test_marks, comma, inside_key, key_marks, ends_marks, range_marks, let_marks, assigned_marks, statement_marks, line, with_semicolon, else_line, close_line, else_marks, block_marks, arity_number, table_marks, name_marks, program_marks, draft_marks}
 use Rattle.prog_text.proofs.Breaks.{IsLexed}
 use Rattle.prog_text.proofs.CutMarks.{Closed, Open, Begins, nothing_closed, closed_open, closed_closed, closed_then_open, open_closed, open_then_open, space_begins, space_closed, line_end_closed, indent_closed, word_open, leading_closed, spaced_closed, open_bracket, close_bracket, open_key, close_key, open_block, close_block, semicolon, minus as minus_closed, dots, sign_begins, open_if, in_brackets}
 
@@ -166,7 +166,7 @@ statement_open _ _ abort h = word_open t.Abort tt
 
 -- ---- blocks
 
-ended_closed : (marks : List Mark) → Open marks → Closed (ended marks)
+ended_closed : (marks : List Mark) → Open marks → Closed (with_semicolon marks)
 ended_closed marks h = open_closed h (sign_begins t.Semicolon (LineEnd ∷ []) (λ rest. refl)) (closed_closed semicolon line_end_closed)
 
 line_closed : (depth : ℕ) (marks : List Mark) → Closed marks → Closed (line depth marks)

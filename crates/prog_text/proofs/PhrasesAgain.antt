@@ -7,7 +7,7 @@ use Rattle.prog_text.specs.declared.token.Token.{Token}
 use Rattle.prog_text.specs.declared.token.Token.TheVariants as t
 use Rattle.prog_text.specs.Grammar.{Many, none, more, Led, led, Separated, separated, IsExpr, IsRelation, IsComparison, plain, negated, IsConjunction, IsTest, IsKey, IsRange, IsStatement, bind, get, need, count, sum, lacks, put, insert, delete, keep, reply, abort, IsStatements, nothing, branch, IsBlock, block, IsElse, missing, present, IsTable, grows, IsName, IsParams, some, IsProgram, program, IsSet, set}
 use Rattle.prog_text.specs.Grammar as g
-use Rattle.prog_text.specs.Canonical.{Mark, Word, Space, LineEnd, words_of, spaced, expr_marks, relation_token, comparison_marks, each_behind, joined_by, conjunction_marks, test_marks, comma, key_marks, range_marks, statement_marks, ended, statement_line, if_line, close_line, else_marks, block_marks, table_marks, name_marks, program_marks, draft_marks}
+use Rattle.prog_text.specs.Canonical.{Mark, Word, Space, LineEnd, words_of, spaced, expr_marks, relation_token, comparison_marks, each_behind, joined_by, conjunction_marks, test_marks, comma, key_marks, range_marks, statement_marks, with_semicolon, statement_line, if_line, close_line, else_marks, block_marks, table_marks, name_marks, program_marks, draft_marks}
 use Rattle.prog_text.proofs.Lighter.{Lighter, nothing_lighter, same_lighter, behind_lighter, lighter_append, sides_lighter, ended_lighter}
 use Rattle.prog_text.proofs.SpelledAgain.{words_append, side_words, expr_spelled, expr_lighter}
 
@@ -159,7 +159,7 @@ bound x ts = t.Let ∷ t.Name x ∷ t.Equals ∷ ts
 bound_lighter : (x : Name) (us ts : List Token) → Lighter us ts → Lighter (bound x us) (bound x ts)
 bound_lighter x us ts h = behind_lighter t.Let (behind_lighter (t.Name x) (behind_lighter t.Equals h))
 
-statement_again : AreAgain IsStatement (λ s. ended (statement_marks s))
+statement_again : AreAgain IsStatement (λ s. with_semicolon (statement_marks s))
 statement_again _ s (bind x ts e d) =
     let value : Again IsExpr (words_of (expr_marks e)) ts e = expr_again ts e d in
     again_by IsStatement _ _ _ s (ap (bound x) (words_append (expr_marks e) line_rest)) (record {
@@ -305,13 +305,13 @@ branch_again depth xs ts es us test first second rest a b c d =
       lighter = in_line _ (t.OpenBlock ∷ (words_of (block_marks (suc depth) first) ++ t.CloseBlock ∷ [])) (second_words depth second) _ xs (t.OpenBlock ∷ (ts ++ t.CloseBlock ∷ [])) es us a.lighter (both_blocks _ _ ts es b.lighter c.lighter) d.lighter;
     })
 
-line_words : (depth : ℕ) (s : StatementTree) (rest : List Mark) → words_of (statement_line depth s ++ rest) ≡ words_of (ended (statement_marks s)) ++ words_of rest
-line_words depth s rest = words_append (ended (statement_marks s)) rest
+line_words : (depth : ℕ) (s : StatementTree) (rest : List Mark) → words_of (statement_line depth s ++ rest) ≡ words_of (with_semicolon (statement_marks s)) ++ words_of rest
+line_words depth s rest = words_append (with_semicolon (statement_marks s)) rest
 
 statements_again : (depth : ℕ) (ts : List Token) (b : BlockTree) → IsStatements ts b → Again IsStatements (words_of (block_marks depth b)) ts b
 statements_again depth _ _ nothing = record { spelled = nothing; lighter = nothing_lighter }
 statements_again depth _ _ (g.IsStatements.more ts us s rest here others) =
-    let first : Again IsStatement (words_of (ended (statement_marks s))) ts s = statement_again ts s here in
+    let first : Again IsStatement (words_of (with_semicolon (statement_marks s))) ts s = statement_again ts s here in
     let behind : Again IsStatements (words_of (block_marks depth rest)) us rest = statements_again depth us rest others in
     again_by IsStatements _ _ (ts ++ us) (Then s rest) (line_words depth s (block_marks depth rest)) (record {
       spelled = g.IsStatements.more _ _ s rest first.spelled behind.spelled;

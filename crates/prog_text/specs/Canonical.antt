@@ -154,11 +154,11 @@ abbrev pub line : ℕ → List Mark → List Mark
 line depth marks = Indent depth ∷ (marks ++ LineEnd ∷ [])
 
 -- to the end of a line
-abbrev pub ended : List Mark → List Mark
-ended marks = marks ++ Word t.Semicolon ∷ LineEnd ∷ []
+abbrev pub with_semicolon : List Mark → List Mark
+with_semicolon marks = marks ++ Word t.Semicolon ∷ LineEnd ∷ []
 
 abbrev pub statement_line : ℕ → StatementTree → List Mark
-statement_line depth s = Indent depth ∷ ended (statement_marks s)
+statement_line depth s = Indent depth ∷ with_semicolon (statement_marks s)
 
 -- ---- blocks
 
@@ -196,7 +196,7 @@ abbrev pub grow_marks : Bool → List Mark
 grow_marks grow = if grow then Space ∷ Word t.Grow ∷ [] else []
 
 abbrev pub table_marks : TableDecl → List Mark
-table_marks d = ended (leading t.Table ++ Word (t.Name d.name) ∷ Space ∷ Word (t.Number (arity_number d.arity)) ∷ grow_marks d.grow)
+table_marks d = with_semicolon (leading t.Table ++ Word (t.Name d.name) ∷ Space ∷ Word (t.Number (arity_number d.arity)) ∷ grow_marks d.grow)
 
 abbrev pub name_marks : Name → List Mark
 name_marks x = Word (t.Name x) ∷ []

@@ -2,7 +2,7 @@
 -- What a text means is said in `Grammar`; that these functions read it is proved.
 use Rattle.std.specs.Prelude.{◌≡◌, ℕ, zero, suc, pos, List, [], ◌∷◌, ◌++◌, length, Bool, true, false, Option, Some, None, Result, Ok, Err, if◌then◌else◌, ◌==◌}
 use Rattle.std.proofs.Common.{neg_ℤ}
-use Rattle.prog_tree.specs.Syntax.{Name, ExprTree, Literal, Named, Plus, Minus, Times, RelationSign, Less, LessEqual, Greater, GreaterEqual, Equal, NotEqual, ComparisonTree, TestTree, KeyTree, One, Two, RangeTree, OneRange, TwoRange, StatementTree, Bind, Get, Need, Count, Sum, Lacks, Put, Insert, Delete, Keep, Reply, Abort, BlockTree, BlockEnd, Then, Branch, ProgramTree, DraftTree}
+use Rattle.prog_tree.specs.Syntax.{Name, ExprTree, Literal, Named, Plus, Minus, Times, RelationSign, Less, LessEqual, Greater, GreaterEqual, Equal, NotEqual, ComparisonTree, TestTree, KeyTree, One, Two, RangeTree, OneRange, TwoRange, StatementTree, Bind, Get, Need, Count, Sum, Lacks, Put, Insert, Delete, Keep, Reply, Abort, BlockTree, BlockEnd, Then, Branch, StmtTree, Plain, ProgramTree, DraftTree}
 use Rattle.prog_tree.specs.declared.table.TableDecl.{TableDecl}
 use Rattle.prog_tree.specs.declared.table.Arity.{Arity}
 use Rattle.prog_tree.specs.declared.table.Arity.TheVariants as arity
@@ -468,6 +468,12 @@ statement_at (t.Keep ∷ ts) = keep_at ts
 statement_at (t.Reply ∷ ts) = reply_at ts
 statement_at (t.Abort ∷ ts) = abort_at ts
 statement_at ts = unexpected ts
+
+-- a statement without blocks, read as one of a block
+abbrev pub as_plain : Reading StatementTree → Reading StmtTree
+as_plain read = do
+  statement ← read
+  Ok (Plain statement.0, statement.1)
 
 -- ---- blocks; `body` reads what is left of a block, and its closing sign
 

@@ -14,13 +14,16 @@ fn relation<'s, 'a>(tokens: &'s [Token<'a>]) -> Result<(Relation, &'s [Token<'a>
     ensures reads { Gives (λ x. (relation_sign x.0, x.1.now)) result (relation_at tokens.now) }
     ensures shorter { IfOk result (λ x. length x.1.now < length tokens.now) }
 {
-    match tokens {
-        [Token::Less, rest @ ..] => Ok((Relation::Less, rest)),
-        [Token::LessEqual, rest @ ..] => Ok((Relation::LessEqual, rest)),
-        [Token::Greater, rest @ ..] => Ok((Relation::Greater, rest)),
-        [Token::GreaterEqual, rest @ ..] => Ok((Relation::GreaterEqual, rest)),
-        [Token::EqualEqual, rest @ ..] => Ok((Relation::Equal, rest)),
-        [Token::NotEqual, rest @ ..] => Ok((Relation::NotEqual, rest)),
+    let [first, rest @ ..] = tokens else {
+        return Err(unexpected(tokens));
+    };
+    match first {
+        Token::Less => Ok((Relation::Less, rest)),
+        Token::LessEqual => Ok((Relation::LessEqual, rest)),
+        Token::Greater => Ok((Relation::Greater, rest)),
+        Token::GreaterEqual => Ok((Relation::GreaterEqual, rest)),
+        Token::EqualEqual => Ok((Relation::Equal, rest)),
+        Token::NotEqual => Ok((Relation::NotEqual, rest)),
         _ => Err(unexpected(tokens)),
     }
 }

@@ -2,7 +2,7 @@
 ghost use Rattle.std.specs.Prelude.{◌≡◌, [], ◌∷◌, ◌++◌, OnOk, string_bytes};
 ghost use Rattle.prog_tree.specs.Syntax.{Bind, Get, Need, Count, Sum, Lacks, Put, Insert, Delete, Keep, Reply, Abort};
 ghost use Rattle.prog_tree.specs.Tree.{expr_tree, key_tree, range_tree};
-ghost use Rattle.prog_text.specs.Canonical.{Indent, bytes_of, expr_marks, key_marks, range_marks, let_marks, assigned_marks, ended, statement_line};
+ghost use Rattle.prog_text.specs.Canonical.{Indent, bytes_of, expr_marks, key_marks, range_marks, let_marks, assigned_marks, with_semicolon, statement_line};
 
 use crate::margin::Margin;
 use crate::print_expressions::{push_expr, push_key, push_range};
@@ -34,7 +34,7 @@ fn push_let(text: &mut String, margin: &Margin, name: &Name) -> Result<(), Alloc
 
 // Ends a line with an expression.
 fn push_last_expr(text: &mut String, expr: &Expr) -> Result<(), AllocError>
-    ensures { OnOk result (string_bytes text.new ≡ string_bytes text.old ++ bytes_of (ended (expr_marks (expr_tree expr.now)))) }
+    ensures { OnOk result (string_bytes text.new ≡ string_bytes text.old ++ bytes_of (with_semicolon (expr_marks (expr_tree expr.now)))) }
 {
     push_expr(text, expr)?;
     text.push_str(";\n")
@@ -42,7 +42,7 @@ fn push_last_expr(text: &mut String, expr: &Expr) -> Result<(), AllocError>
 
 // Ends a line with a key.
 fn push_last_key(text: &mut String, table: &Name, key: &Key) -> Result<(), AllocError>
-    ensures { OnOk result (string_bytes text.new ≡ string_bytes text.old ++ bytes_of (ended (key_marks table.now (key_tree key.now)))) }
+    ensures { OnOk result (string_bytes text.new ≡ string_bytes text.old ++ bytes_of (with_semicolon (key_marks table.now (key_tree key.now)))) }
 {
     push_key(text, table, key)?;
     text.push_str(";\n")
@@ -50,7 +50,7 @@ fn push_last_key(text: &mut String, table: &Name, key: &Key) -> Result<(), Alloc
 
 // Ends a line with a range.
 fn push_last_range(text: &mut String, table: &Name, range: &Range) -> Result<(), AllocError>
-    ensures { OnOk result (string_bytes text.new ≡ string_bytes text.old ++ bytes_of (ended (range_marks table.now (range_tree range.now)))) }
+    ensures { OnOk result (string_bytes text.new ≡ string_bytes text.old ++ bytes_of (with_semicolon (range_marks table.now (range_tree range.now)))) }
 {
     push_range(text, table, range)?;
     text.push_str(";\n")
@@ -58,7 +58,7 @@ fn push_last_range(text: &mut String, table: &Name, range: &Range) -> Result<(),
 
 // Ends a line with a key, `=` and an expression.
 fn push_assigned(text: &mut String, table: &Name, key: &Key, value: &Expr) -> Result<(), AllocError>
-    ensures { OnOk result (string_bytes text.new ≡ string_bytes text.old ++ bytes_of (ended (assigned_marks table.now (key_tree key.now) (expr_tree value.now)))) }
+    ensures { OnOk result (string_bytes text.new ≡ string_bytes text.old ++ bytes_of (with_semicolon (assigned_marks table.now (key_tree key.now) (expr_tree value.now)))) }
 {
     push_key(text, table, key)?;
     text.push_str(" = ")?;

@@ -1,8 +1,7 @@
 // Statements without blocks.
-ghost use Rattle.std.specs.Prelude.{◌≡◌, ◌<◌, length, IfOk};
-ghost use Rattle.prog_tree.specs.Syntax.{Then};
-ghost use Rattle.prog_tree.specs.Tree.{expr_tree, key_tree, range_tree, statement_tree, with_stmt};
-ghost use Rattle.prog_text.specs.Reading.{Gives, last_expr_at, last_key_at, last_range_at, assigned_at, bind_at, get_at, need_at, count_at, summed_at, bound_at, let_at, lacks_at, put_at, insert_at, delete_at, keep_at, reply_at, abort_at, statement_at};
+ghost use Rattle.std.specs.Prelude.{◌<◌, length, IfOk};
+ghost use Rattle.prog_tree.specs.Tree.{expr_tree, key_tree, range_tree, stmt_tree};
+ghost use Rattle.prog_text.specs.Reading.{Gives, last_expr_at, last_key_at, last_range_at, assigned_at, bind_at, get_at, need_at, count_at, summed_at, bound_at, let_at, lacks_at, put_at, insert_at, delete_at, keep_at, reply_at, abort_at, statement_at, as_plain};
 
 use crate::expressions::expr;
 use crate::keys::{key, range};
@@ -76,8 +75,8 @@ fn bind<'s, 'a>(
     name: Name,
     tokens: &'s [Token<'a>],
 ) -> Result<(Stmt, &'s [Token<'a>]), ReadError>
-    ensures reads { Gives (λ x. (statement_tree x.0, x.1.now)) result (bind_at name tokens.now) }
-    ensures plain { IfOk result (λ x. with_stmt x.0 ≡ Then (statement_tree x.0)) }
+    ensures reads { Gives (λ x. (stmt_tree x.0, x.1.now)) result
+        (as_plain (bind_at name tokens.now)) }
     ensures shorter { IfOk result (λ x. length x.1.now < length tokens.now) }
 {
     let (value, rest) = last_expr(alloc, tokens)?;
@@ -91,8 +90,8 @@ fn get<'s, 'a>(
     name: Name,
     tokens: &'s [Token<'a>],
 ) -> Result<(Stmt, &'s [Token<'a>]), ReadError>
-    ensures reads { Gives (λ x. (statement_tree x.0, x.1.now)) result (get_at name tokens.now) }
-    ensures plain { IfOk result (λ x. with_stmt x.0 ≡ Then (statement_tree x.0)) }
+    ensures reads { Gives (λ x. (stmt_tree x.0, x.1.now)) result
+        (as_plain (get_at name tokens.now)) }
     ensures shorter { IfOk result (λ x. length x.1.now < length tokens.now) }
 {
     let (table, key, rest) = key(alloc, tokens)?;
@@ -114,8 +113,8 @@ fn need<'s, 'a>(
     name: Name,
     tokens: &'s [Token<'a>],
 ) -> Result<(Stmt, &'s [Token<'a>]), ReadError>
-    ensures reads { Gives (λ x. (statement_tree x.0, x.1.now)) result (need_at name tokens.now) }
-    ensures plain { IfOk result (λ x. with_stmt x.0 ≡ Then (statement_tree x.0)) }
+    ensures reads { Gives (λ x. (stmt_tree x.0, x.1.now)) result
+        (as_plain (need_at name tokens.now)) }
     ensures shorter { IfOk result (λ x. length x.1.now < length tokens.now) }
 {
     let (table, key, rest) = last_key(alloc, tokens)?;
@@ -129,8 +128,8 @@ fn count<'s, 'a>(
     name: Name,
     tokens: &'s [Token<'a>],
 ) -> Result<(Stmt, &'s [Token<'a>]), ReadError>
-    ensures reads { Gives (λ x. (statement_tree x.0, x.1.now)) result (count_at name tokens.now) }
-    ensures plain { IfOk result (λ x. with_stmt x.0 ≡ Then (statement_tree x.0)) }
+    ensures reads { Gives (λ x. (stmt_tree x.0, x.1.now)) result
+        (as_plain (count_at name tokens.now)) }
     ensures shorter { IfOk result (λ x. length x.1.now < length tokens.now) }
 {
     let (table, range, rest) = last_range(alloc, tokens)?;
@@ -144,8 +143,8 @@ fn summed<'s, 'a>(
     name: Name,
     tokens: &'s [Token<'a>],
 ) -> Result<(Stmt, &'s [Token<'a>]), ReadError>
-    ensures reads { Gives (λ x. (statement_tree x.0, x.1.now)) result (summed_at name tokens.now) }
-    ensures plain { IfOk result (λ x. with_stmt x.0 ≡ Then (statement_tree x.0)) }
+    ensures reads { Gives (λ x. (stmt_tree x.0, x.1.now)) result
+        (as_plain (summed_at name tokens.now)) }
     ensures shorter { IfOk result (λ x. length x.1.now < length tokens.now) }
 {
     let (table, range, rest) = last_range(alloc, tokens)?;
@@ -159,8 +158,8 @@ fn bound<'s, 'a>(
     name: Name,
     tokens: &'s [Token<'a>],
 ) -> Result<(Stmt, &'s [Token<'a>]), ReadError>
-    ensures reads { Gives (λ x. (statement_tree x.0, x.1.now)) result (bound_at name tokens.now) }
-    ensures plain { IfOk result (λ x. with_stmt x.0 ≡ Then (statement_tree x.0)) }
+    ensures reads { Gives (λ x. (stmt_tree x.0, x.1.now)) result
+        (as_plain (bound_at name tokens.now)) }
     ensures shorter { IfOk result (λ x. length x.1.now < length tokens.now) }
 {
     match tokens {
@@ -178,8 +177,7 @@ fn let_binding<'s, 'a>(
     alloc: Global,
     tokens: &'s [Token<'a>],
 ) -> Result<(Stmt, &'s [Token<'a>]), ReadError>
-    ensures reads { Gives (λ x. (statement_tree x.0, x.1.now)) result (let_at tokens.now) }
-    ensures plain { IfOk result (λ x. with_stmt x.0 ≡ Then (statement_tree x.0)) }
+    ensures reads { Gives (λ x. (stmt_tree x.0, x.1.now)) result (as_plain (let_at tokens.now)) }
     ensures shorter { IfOk result (λ x. length x.1.now < length tokens.now) }
 {
     let (name, rest) = name(alloc, tokens)?;
@@ -193,8 +191,7 @@ fn lacks<'s, 'a>(
     alloc: Global,
     tokens: &'s [Token<'a>],
 ) -> Result<(Stmt, &'s [Token<'a>]), ReadError>
-    ensures reads { Gives (λ x. (statement_tree x.0, x.1.now)) result (lacks_at tokens.now) }
-    ensures plain { IfOk result (λ x. with_stmt x.0 ≡ Then (statement_tree x.0)) }
+    ensures reads { Gives (λ x. (stmt_tree x.0, x.1.now)) result (as_plain (lacks_at tokens.now)) }
     ensures shorter { IfOk result (λ x. length x.1.now < length tokens.now) }
 {
     let (table, key, rest) = last_key(alloc, tokens)?;
@@ -207,8 +204,7 @@ fn delete<'s, 'a>(
     alloc: Global,
     tokens: &'s [Token<'a>],
 ) -> Result<(Stmt, &'s [Token<'a>]), ReadError>
-    ensures reads { Gives (λ x. (statement_tree x.0, x.1.now)) result (delete_at tokens.now) }
-    ensures plain { IfOk result (λ x. with_stmt x.0 ≡ Then (statement_tree x.0)) }
+    ensures reads { Gives (λ x. (stmt_tree x.0, x.1.now)) result (as_plain (delete_at tokens.now)) }
     ensures shorter { IfOk result (λ x. length x.1.now < length tokens.now) }
 {
     let (table, key, rest) = last_key(alloc, tokens)?;
@@ -221,8 +217,7 @@ fn keep<'s, 'a>(
     alloc: Global,
     tokens: &'s [Token<'a>],
 ) -> Result<(Stmt, &'s [Token<'a>]), ReadError>
-    ensures reads { Gives (λ x. (statement_tree x.0, x.1.now)) result (keep_at tokens.now) }
-    ensures plain { IfOk result (λ x. with_stmt x.0 ≡ Then (statement_tree x.0)) }
+    ensures reads { Gives (λ x. (stmt_tree x.0, x.1.now)) result (as_plain (keep_at tokens.now)) }
     ensures shorter { IfOk result (λ x. length x.1.now < length tokens.now) }
 {
     let (table, key, rest) = last_key(alloc, tokens)?;
@@ -232,8 +227,7 @@ fn keep<'s, 'a>(
 // Behind the word `put`.
 #[tactic(auto, unfolding(crate::specs::Reading::put_at))]
 fn put<'s, 'a>(alloc: Global, tokens: &'s [Token<'a>]) -> Result<(Stmt, &'s [Token<'a>]), ReadError>
-    ensures reads { Gives (λ x. (statement_tree x.0, x.1.now)) result (put_at tokens.now) }
-    ensures plain { IfOk result (λ x. with_stmt x.0 ≡ Then (statement_tree x.0)) }
+    ensures reads { Gives (λ x. (stmt_tree x.0, x.1.now)) result (as_plain (put_at tokens.now)) }
     ensures shorter { IfOk result (λ x. length x.1.now < length tokens.now) }
 {
     let (table, key, value, rest) = assigned(alloc, tokens)?;
@@ -246,8 +240,7 @@ fn insert<'s, 'a>(
     alloc: Global,
     tokens: &'s [Token<'a>],
 ) -> Result<(Stmt, &'s [Token<'a>]), ReadError>
-    ensures reads { Gives (λ x. (statement_tree x.0, x.1.now)) result (insert_at tokens.now) }
-    ensures plain { IfOk result (λ x. with_stmt x.0 ≡ Then (statement_tree x.0)) }
+    ensures reads { Gives (λ x. (stmt_tree x.0, x.1.now)) result (as_plain (insert_at tokens.now)) }
     ensures shorter { IfOk result (λ x. length x.1.now < length tokens.now) }
 {
     let (table, key, value, rest) = assigned(alloc, tokens)?;
@@ -260,8 +253,7 @@ fn reply<'s, 'a>(
     alloc: Global,
     tokens: &'s [Token<'a>],
 ) -> Result<(Stmt, &'s [Token<'a>]), ReadError>
-    ensures reads { Gives (λ x. (statement_tree x.0, x.1.now)) result (reply_at tokens.now) }
-    ensures plain { IfOk result (λ x. with_stmt x.0 ≡ Then (statement_tree x.0)) }
+    ensures reads { Gives (λ x. (stmt_tree x.0, x.1.now)) result (as_plain (reply_at tokens.now)) }
     ensures shorter { IfOk result (λ x. length x.1.now < length tokens.now) }
 {
     let (value, rest) = last_expr(alloc, tokens)?;
@@ -271,8 +263,7 @@ fn reply<'s, 'a>(
 // Behind the word `abort`.
 #[tactic(auto, unfolding(crate::specs::Reading::abort_at))]
 fn abort<'s, 'a>(tokens: &'s [Token<'a>]) -> Result<(Stmt, &'s [Token<'a>]), ReadError>
-    ensures reads { Gives (λ x. (statement_tree x.0, x.1.now)) result (abort_at tokens.now) }
-    ensures plain { IfOk result (λ x. with_stmt x.0 ≡ Then (statement_tree x.0)) }
+    ensures reads { Gives (λ x. (stmt_tree x.0, x.1.now)) result (as_plain (abort_at tokens.now)) }
     ensures shorter { IfOk result (λ x. length x.1.now < length tokens.now) }
 {
     let rest = semicolon(tokens)?;
@@ -285,8 +276,8 @@ pub fn statement<'s, 'a>(
     alloc: Global,
     tokens: &'s [Token<'a>],
 ) -> Result<(Stmt, &'s [Token<'a>]), ReadError>
-    ensures reads { Gives (λ x. (statement_tree x.0, x.1.now)) result (statement_at tokens.now) }
-    ensures plain { IfOk result (λ x. with_stmt x.0 ≡ Then (statement_tree x.0)) }
+    ensures reads { Gives (λ x. (stmt_tree x.0, x.1.now)) result
+        (as_plain (statement_at tokens.now)) }
     ensures shorter { IfOk result (λ x. length x.1.now < length tokens.now) }
 {
     match tokens {

@@ -61,6 +61,16 @@ pub data BlockTree : Type 0 where
   Then : (statement : StatementTree) (rest : BlockTree) → BlockTree
   Branch : (test : TestTree) (yes no rest : BlockTree) → BlockTree
 
+-- one statement of a block: without blocks, or a branch
+pub data StmtTree : Type 0 where
+  Plain : (statement : StatementTree) → StmtTree
+  Fork : (test : TestTree) (yes no : BlockTree) → StmtTree
+
+-- the block that begins with a statement and goes on with the rest
+abbrev pub block_from : StmtTree → BlockTree → BlockTree
+block_from (Plain statement) rest = Then statement rest
+block_from (Fork test a b) rest = Branch test a b rest
+
 pub record ProgramTree : Type 0 where
   pub name : Name
   pub params : List Name

@@ -1,6 +1,6 @@
 -- What the trees of `src/` mean.
 use Rattle.std.specs.Prelude.{◌≡◌, List, [], ◌∷◌, map}
-use Rattle.prog_tree.specs.Syntax.{ExprTree, Literal, Named, Plus, Minus, Times, RelationSign, ComparisonTree, TestTree, KeyTree, One, Two, RangeTree, OneRange, TwoRange, StatementTree, BlockTree, BlockEnd, Then, Branch, ProgramTree, DraftTree}
+use Rattle.prog_tree.specs.Syntax.{ExprTree, Literal, Named, Plus, Minus, Times, RelationSign, ComparisonTree, TestTree, KeyTree, One, Two, RangeTree, OneRange, TwoRange, StatementTree, BlockTree, BlockEnd, StmtTree, Plain, Fork, block_from, ProgramTree, DraftTree}
 use Rattle.prog_tree.specs.Syntax as s
 use Rattle.prog_tree.specs.declared.expr.Expr.{Expr}
 use Rattle.prog_tree.specs.declared.expr.Expr as e
@@ -51,35 +51,34 @@ abbrev pub range_tree : Range → RangeTree
 range_tree (g.One low high) = OneRange (expr_tree low) (expr_tree high)
 range_tree (g.Two first low high) = TwoRange (expr_tree first) (expr_tree low) (expr_tree high)
 
--- a statement without blocks; a branch is none, and is never asked for here
-abbrev pub statement_tree : Stmt → StatementTree
-statement_tree (t.Bind name value) = s.Bind name (expr_tree value)
-statement_tree (t.Get name table key otherwise) = s.Get name table (key_tree key) (expr_tree otherwise)
-statement_tree (t.Need name table key) = s.Need name table (key_tree key)
-statement_tree (t.Count name table range) = s.Count name table (range_tree range)
-statement_tree (t.Sum name table range) = s.Sum name table (range_tree range)
-statement_tree (t.Lacks table key) = s.Lacks table (key_tree key)
-statement_tree (t.Put table key value) = s.Put table (key_tree key) (expr_tree value)
-statement_tree (t.Insert table key value) = s.Insert table (key_tree key) (expr_tree value)
-statement_tree (t.Delete table key) = s.Delete table (key_tree key)
-statement_tree (t.Keep table key) = s.Keep table (key_tree key)
-statement_tree (t.Reply value) = s.Reply (expr_tree value)
-statement_tree t.Abort = s.Abort
-statement_tree (t.Branch' _ _ _ _ _) = s.Abort
-
 abbrev mutual
-  -- a statement, with the rest of its block
-  pub with_stmt : Stmt → BlockTree → BlockTree
-  with_stmt (t.Branch' test _ a _ b) rest = Branch (test_tree test) (row_tree a) (row_tree b) rest
-  with_stmt stmt rest = Then (statement_tree stmt) rest
+  -- a statement without blocks, or a branch with its two
+  pub stmt_tree : Stmt → StmtTree
+  stmt_tree (t.Bind name value) = Plain (s.Bind name (expr_tree value))
+  stmt_tree (t.Get name table key otherwise) = Plain (s.Get name table (key_tree key) (expr_tree otherwise))
+  stmt_tree (t.Need name table key) = Plain (s.Need name table (key_tree key))
+  stmt_tree (t.Count name table range) = Plain (s.Count name table (range_tree range))
+  stmt_tree (t.Sum name table range) = Plain (s.Sum name table (range_tree range))
+  stmt_tree (t.Lacks table key) = Plain (s.Lacks table (key_tree key))
+  stmt_tree (t.Put table key value) = Plain (s.Put table (key_tree key) (expr_tree value))
+  stmt_tree (t.Insert table key value) = Plain (s.Insert table (key_tree key) (expr_tree value))
+  stmt_tree (t.Delete table key) = Plain (s.Delete table (key_tree key))
+  stmt_tree (t.Keep table key) = Plain (s.Keep table (key_tree key))
+  stmt_tree (t.Reply value) = Plain (s.Reply (expr_tree value))
+  stmt_tree t.Abort = Plain s.Abort
+  stmt_tree (t.Branch' test p a q b) = Fork (test_tree test) (row_tree a) (row_tree b)
 
   pub row_tree : {n : _} → Row_of-Stmt n → BlockTree
   row_tree end_of-Stmt = BlockEnd
-  row_tree (more_of-Stmt stmt rest) = with_stmt stmt (row_tree rest)
+  row_tree (more_of-Stmt stmt rest) = block_from (stmt_tree stmt) (row_tree rest)
 
 -- a statement without blocks, by what it means
-abbrev pub IsStatement : Stmt → StatementTree → Type 0
-IsStatement stmt statement = with_stmt stmt BlockEnd ≡ Then statement BlockEnd
+abbrev pub IsPlain : Stmt → StatementTree → Type 0
+IsPlain stmt statement = stmt_tree stmt ≡ Plain statement
+
+-- a statement, with the rest of its block
+abbrev pub with_stmt : Stmt → BlockTree → BlockTree
+with_stmt stmt = block_from (stmt_tree stmt)
 
 -- statements, with the rest of their block
 abbrev pub with_stmts : List Stmt → BlockTree → BlockTree

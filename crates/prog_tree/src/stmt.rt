@@ -1,7 +1,6 @@
 ghost use Rattle.std.specs.Prelude.{◌≡◌, ◌↔◌, IfOk, IsTrue};
 ghost use Rattle.prog_tree.specs.Evaluation.{cell_of, region_of};
-ghost use Rattle.prog_tree.specs.Syntax.{BlockEnd};
-ghost use Rattle.prog_tree.specs.Tree.{key_tree, range_tree, with_stmt, block_tree};
+ghost use Rattle.prog_tree.specs.Tree.{key_tree, range_tree, stmt_tree, block_tree};
 
 use crate::cell::{Cell, Region};
 use crate::env::Env;
@@ -209,7 +208,7 @@ pub enum Stmt {
 impl Stmt {
     #[cycle(copies)]
     pub(crate) fn copy(&self, alloc: Global) -> Result<Self, AllocError>
-        ensures { IfOk result (λ stmt. with_stmt stmt ≡ with_stmt self.now) }
+        ensures { IfOk result (λ stmt. stmt_tree stmt ≡ stmt_tree self.now) }
     {
         match self {
             Stmt::Bind { name, value } => copy_bind(alloc, name, value),
@@ -245,7 +244,7 @@ impl Stmt {
     #[cycle(compares)]
     #[tactic(auto, using(crate::proofs::TreeLemmas::same_branch))]
     pub(crate) fn is_same(&self, other: &Stmt) -> bool
-        ensures { IsTrue result ↔ (with_stmt self.now BlockEnd ≡ with_stmt other.now BlockEnd) }
+        ensures { IsTrue result ↔ (stmt_tree self.now ≡ stmt_tree other.now) }
     {
         match self {
             Stmt::Bind { name, value } => is_bind(other, name, value),

@@ -1,9 +1,8 @@
 //! The copies of statements without blocks, a function for each kind.
 
-ghost use Rattle.std.specs.Prelude.{◌≡◌, IfOk};
-ghost use Rattle.prog_tree.specs.Syntax.{Then};
+ghost use Rattle.std.specs.Prelude.{IfOk};
 ghost use Rattle.prog_tree.specs.Syntax as s;
-ghost use Rattle.prog_tree.specs.Tree.{expr_tree, key_tree, range_tree, with_stmt};
+ghost use Rattle.prog_tree.specs.Tree.{IsPlain, expr_tree, key_tree, range_tree};
 
 use crate::expr::Expr;
 use crate::name::Name;
@@ -11,7 +10,7 @@ use crate::stmt::{Key, Range, Stmt};
 use std::alloc::{AllocError, Global};
 
 pub(crate) fn copy_bind(alloc: Global, name: &Name, value: &Expr) -> Result<Stmt, AllocError>
-    ensures { IfOk result (λ stmt. with_stmt stmt ≡ Then (s.Bind name.now (expr_tree value.now))) }
+    ensures { IfOk result (λ stmt. IsPlain stmt (s.Bind name.now (expr_tree value.now))) }
 {
     Ok(Stmt::Bind {
         name: name.copy()?,
@@ -26,8 +25,8 @@ pub(crate) fn copy_get(
     key: &Key,
     otherwise: &Expr,
 ) -> Result<Stmt, AllocError>
-    ensures { IfOk result (λ stmt. with_stmt stmt ≡
-        Then (s.Get name.now table.now (key_tree key.now) (expr_tree otherwise.now))) }
+    ensures { IfOk result (λ stmt. IsPlain stmt
+        (s.Get name.now table.now (key_tree key.now) (expr_tree otherwise.now))) }
 {
     Ok(Stmt::Get {
         name: name.copy()?,
@@ -43,8 +42,8 @@ pub(crate) fn copy_need(
     table: &Name,
     key: &Key,
 ) -> Result<Stmt, AllocError>
-    ensures { IfOk result (λ stmt. with_stmt stmt ≡
-        Then (s.Need name.now table.now (key_tree key.now))) }
+    ensures { IfOk result (λ stmt. IsPlain stmt
+        (s.Need name.now table.now (key_tree key.now))) }
 {
     Ok(Stmt::Need {
         name: name.copy()?,
@@ -59,8 +58,8 @@ pub(crate) fn copy_count(
     table: &Name,
     range: &Range,
 ) -> Result<Stmt, AllocError>
-    ensures { IfOk result (λ stmt. with_stmt stmt ≡
-        Then (s.Count name.now table.now (range_tree range.now))) }
+    ensures { IfOk result (λ stmt. IsPlain stmt
+        (s.Count name.now table.now (range_tree range.now))) }
 {
     Ok(Stmt::Count {
         name: name.copy()?,
@@ -75,8 +74,8 @@ pub(crate) fn copy_sum(
     table: &Name,
     range: &Range,
 ) -> Result<Stmt, AllocError>
-    ensures { IfOk result (λ stmt. with_stmt stmt ≡
-        Then (s.Sum name.now table.now (range_tree range.now))) }
+    ensures { IfOk result (λ stmt. IsPlain stmt
+        (s.Sum name.now table.now (range_tree range.now))) }
 {
     Ok(Stmt::Sum {
         name: name.copy()?,
@@ -86,7 +85,7 @@ pub(crate) fn copy_sum(
 }
 
 pub(crate) fn copy_lacks(alloc: Global, table: &Name, key: &Key) -> Result<Stmt, AllocError>
-    ensures { IfOk result (λ stmt. with_stmt stmt ≡ Then (s.Lacks table.now (key_tree key.now))) }
+    ensures { IfOk result (λ stmt. IsPlain stmt (s.Lacks table.now (key_tree key.now))) }
 {
     Ok(Stmt::Lacks {
         table: table.copy()?,
@@ -100,8 +99,8 @@ pub(crate) fn copy_put(
     key: &Key,
     value: &Expr,
 ) -> Result<Stmt, AllocError>
-    ensures { IfOk result (λ stmt. with_stmt stmt ≡
-        Then (s.Put table.now (key_tree key.now) (expr_tree value.now))) }
+    ensures { IfOk result (λ stmt. IsPlain stmt
+        (s.Put table.now (key_tree key.now) (expr_tree value.now))) }
 {
     Ok(Stmt::Put {
         table: table.copy()?,
@@ -116,8 +115,8 @@ pub(crate) fn copy_insert(
     key: &Key,
     value: &Expr,
 ) -> Result<Stmt, AllocError>
-    ensures { IfOk result (λ stmt. with_stmt stmt ≡
-        Then (s.Insert table.now (key_tree key.now) (expr_tree value.now))) }
+    ensures { IfOk result (λ stmt. IsPlain stmt
+        (s.Insert table.now (key_tree key.now) (expr_tree value.now))) }
 {
     Ok(Stmt::Insert {
         table: table.copy()?,
@@ -127,7 +126,7 @@ pub(crate) fn copy_insert(
 }
 
 pub(crate) fn copy_delete(alloc: Global, table: &Name, key: &Key) -> Result<Stmt, AllocError>
-    ensures { IfOk result (λ stmt. with_stmt stmt ≡ Then (s.Delete table.now (key_tree key.now))) }
+    ensures { IfOk result (λ stmt. IsPlain stmt (s.Delete table.now (key_tree key.now))) }
 {
     Ok(Stmt::Delete {
         table: table.copy()?,
@@ -136,7 +135,7 @@ pub(crate) fn copy_delete(alloc: Global, table: &Name, key: &Key) -> Result<Stmt
 }
 
 pub(crate) fn copy_keep(alloc: Global, table: &Name, key: &Key) -> Result<Stmt, AllocError>
-    ensures { IfOk result (λ stmt. with_stmt stmt ≡ Then (s.Keep table.now (key_tree key.now))) }
+    ensures { IfOk result (λ stmt. IsPlain stmt (s.Keep table.now (key_tree key.now))) }
 {
     Ok(Stmt::Keep {
         table: table.copy()?,
@@ -145,7 +144,7 @@ pub(crate) fn copy_keep(alloc: Global, table: &Name, key: &Key) -> Result<Stmt, 
 }
 
 pub(crate) fn copy_reply(alloc: Global, value: &Expr) -> Result<Stmt, AllocError>
-    ensures { IfOk result (λ stmt. with_stmt stmt ≡ Then (s.Reply (expr_tree value.now))) }
+    ensures { IfOk result (λ stmt. IsPlain stmt (s.Reply (expr_tree value.now))) }
 {
     Ok(Stmt::Reply {
         value: value.copy(alloc)?,

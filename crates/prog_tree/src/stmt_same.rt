@@ -2,14 +2,14 @@
 
 ghost use Rattle.std.specs.Prelude.{◌↔◌, IsTrue};
 ghost use Rattle.prog_tree.specs.Syntax as s;
-ghost use Rattle.prog_tree.specs.Tree.{IsStatement, expr_tree, key_tree, range_tree};
+ghost use Rattle.prog_tree.specs.Tree.{IsPlain, expr_tree, key_tree, range_tree};
 
 use crate::expr::Expr;
 use crate::name::Name;
 use crate::stmt::{Key, Range, Stmt};
 
 pub(crate) fn is_bind(stmt: &Stmt, name: &Name, value: &Expr) -> bool
-    ensures { IsTrue result ↔ IsStatement stmt.now (s.Bind name.now (expr_tree value.now)) }
+    ensures { IsTrue result ↔ IsPlain stmt.now (s.Bind name.now (expr_tree value.now)) }
 {
     match stmt {
         Stmt::Bind { name: x, value: v } => name.is_same(x) && value.is_same(v),
@@ -19,7 +19,7 @@ pub(crate) fn is_bind(stmt: &Stmt, name: &Name, value: &Expr) -> bool
 
 pub(crate) fn is_get(stmt: &Stmt, name: &Name, table: &Name, key: &Key, otherwise: &Expr) -> bool
     ensures { IsTrue result ↔
-        IsStatement stmt.now (s.Get name.now table.now (key_tree key.now) (expr_tree otherwise.now)) }
+        IsPlain stmt.now (s.Get name.now table.now (key_tree key.now) (expr_tree otherwise.now)) }
 {
     match stmt {
         Stmt::Get {
@@ -33,7 +33,7 @@ pub(crate) fn is_get(stmt: &Stmt, name: &Name, table: &Name, key: &Key, otherwis
 }
 
 pub(crate) fn is_need(stmt: &Stmt, name: &Name, table: &Name, key: &Key) -> bool
-    ensures { IsTrue result ↔ IsStatement stmt.now (s.Need name.now table.now (key_tree key.now)) }
+    ensures { IsTrue result ↔ IsPlain stmt.now (s.Need name.now table.now (key_tree key.now)) }
 {
     match stmt {
         Stmt::Need {
@@ -47,7 +47,7 @@ pub(crate) fn is_need(stmt: &Stmt, name: &Name, table: &Name, key: &Key) -> bool
 
 pub(crate) fn is_count(stmt: &Stmt, name: &Name, table: &Name, range: &Range) -> bool
     ensures { IsTrue result ↔
-        IsStatement stmt.now (s.Count name.now table.now (range_tree range.now)) }
+        IsPlain stmt.now (s.Count name.now table.now (range_tree range.now)) }
 {
     match stmt {
         Stmt::Count {
@@ -61,7 +61,7 @@ pub(crate) fn is_count(stmt: &Stmt, name: &Name, table: &Name, range: &Range) ->
 
 pub(crate) fn is_sum(stmt: &Stmt, name: &Name, table: &Name, range: &Range) -> bool
     ensures { IsTrue result ↔
-        IsStatement stmt.now (s.Sum name.now table.now (range_tree range.now)) }
+        IsPlain stmt.now (s.Sum name.now table.now (range_tree range.now)) }
 {
     match stmt {
         Stmt::Sum {
@@ -74,7 +74,7 @@ pub(crate) fn is_sum(stmt: &Stmt, name: &Name, table: &Name, range: &Range) -> b
 }
 
 pub(crate) fn is_lacks(stmt: &Stmt, table: &Name, key: &Key) -> bool
-    ensures { IsTrue result ↔ IsStatement stmt.now (s.Lacks table.now (key_tree key.now)) }
+    ensures { IsTrue result ↔ IsPlain stmt.now (s.Lacks table.now (key_tree key.now)) }
 {
     match stmt {
         Stmt::Lacks { table: t, key: k } => table.is_same(t) && key.is_same(k),
@@ -84,7 +84,7 @@ pub(crate) fn is_lacks(stmt: &Stmt, table: &Name, key: &Key) -> bool
 
 pub(crate) fn is_put(stmt: &Stmt, table: &Name, key: &Key, value: &Expr) -> bool
     ensures { IsTrue result ↔
-        IsStatement stmt.now (s.Put table.now (key_tree key.now) (expr_tree value.now)) }
+        IsPlain stmt.now (s.Put table.now (key_tree key.now) (expr_tree value.now)) }
 {
     match stmt {
         Stmt::Put {
@@ -98,7 +98,7 @@ pub(crate) fn is_put(stmt: &Stmt, table: &Name, key: &Key, value: &Expr) -> bool
 
 pub(crate) fn is_insert(stmt: &Stmt, table: &Name, key: &Key, value: &Expr) -> bool
     ensures { IsTrue result ↔
-        IsStatement stmt.now (s.Insert table.now (key_tree key.now) (expr_tree value.now)) }
+        IsPlain stmt.now (s.Insert table.now (key_tree key.now) (expr_tree value.now)) }
 {
     match stmt {
         Stmt::Insert {
@@ -111,7 +111,7 @@ pub(crate) fn is_insert(stmt: &Stmt, table: &Name, key: &Key, value: &Expr) -> b
 }
 
 pub(crate) fn is_delete(stmt: &Stmt, table: &Name, key: &Key) -> bool
-    ensures { IsTrue result ↔ IsStatement stmt.now (s.Delete table.now (key_tree key.now)) }
+    ensures { IsTrue result ↔ IsPlain stmt.now (s.Delete table.now (key_tree key.now)) }
 {
     match stmt {
         Stmt::Delete { table: t, key: k } => table.is_same(t) && key.is_same(k),
@@ -120,7 +120,7 @@ pub(crate) fn is_delete(stmt: &Stmt, table: &Name, key: &Key) -> bool
 }
 
 pub(crate) fn is_keep(stmt: &Stmt, table: &Name, key: &Key) -> bool
-    ensures { IsTrue result ↔ IsStatement stmt.now (s.Keep table.now (key_tree key.now)) }
+    ensures { IsTrue result ↔ IsPlain stmt.now (s.Keep table.now (key_tree key.now)) }
 {
     match stmt {
         Stmt::Keep { table: t, key: k } => table.is_same(t) && key.is_same(k),
@@ -129,7 +129,7 @@ pub(crate) fn is_keep(stmt: &Stmt, table: &Name, key: &Key) -> bool
 }
 
 pub(crate) fn is_reply(stmt: &Stmt, value: &Expr) -> bool
-    ensures { IsTrue result ↔ IsStatement stmt.now (s.Reply (expr_tree value.now)) }
+    ensures { IsTrue result ↔ IsPlain stmt.now (s.Reply (expr_tree value.now)) }
 {
     match stmt {
         Stmt::Reply { value: v } => value.is_same(v),

@@ -10,4 +10,4 @@ returns-in_err-stmt-clause-reads c =
 pub returns-clause-reads : goal.returns-clause-reads
 returns-clause-reads c =
     rw c.in_ok-push.ensures.items
-    (statement_further c.args.stack.items c.args.done.items c.in_ok-stmt.stmt c.args.tokens.now c.in_ok-stmt.rest.now c.in_ok-stmt.ensures.plain c.in_ok-stmt.ensures.reads)
+    (statement_further c.args.stack.items c.args.done.items c.in_ok-stmt.stmt c.args.tokens.now c.in_ok-stmt.rest.now c.in_ok-stmt.ensures.reads)

@@ -1,14 +1,14 @@
 use Rattle.std.proofs.Common.{ap, sym, ◌∙◌, map}
 use Rattle.std.proofs.lemmas.List.{take_all}
-use Rattle.prog_tree.specs.Syntax.{Branch}
-use Rattle.prog_tree.specs.Tree.{with_stmt, stmts_tree}
-use Rattle.prog_tree.proofs.TreeLemmas.{branch_tree, same_stmts}
+use Rattle.prog_tree.specs.Syntax.{Fork}
+use Rattle.prog_tree.specs.Tree.{stmt_tree, stmts_tree}
+use Rattle.prog_tree.proofs.TreeLemmas.{fork_tree, same_stmts}
 use Rattle.prog_tree.proofs.stmt.+copies.Goals as goal
 
 pub Block::copy-returns : goal.Block::copy-returns
 Block::copy-returns t c =
     let items = c.deref-stmt-items.result.now in
-    same_stmts c.loop-stmt.copies.items items (c.loop-stmt.invariant ∙ ap (map with_stmt) (take_all c.loop-stmt.stmt-index items c.loop-stmt-test.false))
+    same_stmts c.loop-stmt.copies.items items (c.loop-stmt.invariant ∙ ap (map stmt_tree) (take_all c.loop-stmt.stmt-index items c.loop-stmt-test.false))
     ∙ ap stmts_tree c.deref-stmt-items.ensures.value
 
 pub Stmt::copy-returns-in_ok-copy-in-Branch-3 : goal.Stmt::copy-returns-in_ok-copy-in-Branch-3
@@ -17,7 +17,7 @@ Stmt::copy-returns-in_ok-copy-in-Branch-3 t c =
     let test = c.in_ok-copy-in-Branch in
     let first = c.in_ok-copy-in-Branch-2 in
     let second = c.in_ok-copy-in-Branch-3 in
-    branch_tree test.field-0 first.field-0 second.field-0
-    ∙ (λ i rest. Branch (test.ensures i) (first.ensures i) (second.ensures i) rest)
-    ∙ sym (branch_tree from.test from.then from.otherwise)
-    ∙ ap with_stmt (sym from.is)
+    fork_tree test.field-0 first.field-0 second.field-0
+    ∙ (λ i. Fork (test.ensures i) (first.ensures i) (second.ensures i))
+    ∙ sym (fork_tree from.test from.then from.otherwise)
+    ∙ ap stmt_tree (sym from.is)
