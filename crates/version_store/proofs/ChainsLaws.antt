@@ -1,0 +1,112 @@
+-- Laws of one written chain.
+use Rattle.std.proofs.Common.{◌≡◌, ◌∙◌, Bool, true, false, ◌||◌, cond, if◌then◌else◌, List, [], ◌∷◌, refl, ap, sym, subst}
+use Rattle.std.specs.Prelude.{Option, Some, None, IsSome, Result, Ok, Err, OnErr}
+use Rattle.std.specs.Cmp.{eq_by_cmp_equiv}
+use Rattle.std.specs.declared.cmp.Ordering.{Ordering}
+use Rattle.std.specs.declared.cmp.Ordering.TheVariants.{Less}
+use Rattle.std.specs.List.{AllByRecursion}
+use Rattle.std.specs.List.Sorted.{IsStrictlySortedBy}
+use Rattle.std.specs.Ordering.{is_eq}
+use Rattle.std.proofs.lemmas.Map.Keys.{sorted_head}
+use Rattle.prog_tree.specs.declared.cell.Cell.{Cell}
+use Rattle.prog_tree.specs.Table.{cell_cmp, Cells, cells_of, at_cell, is_same_cell, is_cell_among}
+use Rattle.prog_tree.proofs.TableLemmas.{cell_total}
+use Rattle.prog_tree.proofs.TableStates.{cell_is}
+use Rattle.version_store.specs.StandsFor.{Chain, no_chain, chain_or_none}
+use Rattle.version_store.specs.Reading.{chain_at, with_entry, MakesAt}
+
+-- n is m with a chain at a cell
+abbrev pub IsWritten : Cells Chain → Cells Chain → Cell → Chain → Type 0
+IsWritten m n cell chain = (c : Cell) → at_cell n c ≡ cond (is_same_cell cell c) (Some chain) (at_cell m c)
+
+pub made : (m n : Cells Chain) (cell : Cell) (f : Chain → Chain) (new : Chain) → new ≡ f (chain_at m cell) → IsWritten m n cell new → MakesAt cell f m n
+made m n cell f new is written c = ap chain_or_none (written c) ∙ go (is_same_cell cell c) (λ same. cell_is cell c same)
+  where
+    go : (b : Bool) → (b ≡ true → cell ≡ c) → chain_or_none (cond b (Some new) (at_cell m c)) ≡ (if b then f (chain_at m c) else chain_at m c)
+    go true same = is ∙ ap (λ x. f (chain_at m x)) (same refl)
+    go false same = refl
+
+pub made_found :
+    (m n : Cells Chain) (cell : Cell) (f : Chain → Chain) (old new : Chain) → Some old ≡ at_cell m cell → new ≡ f old →
+    (IsSome (at_cell m cell) → IsWritten m n cell new) → MakesAt cell f m n
+made_found m n cell f old new found is written = made m n cell f new (is ∙ ap (λ o. f (chain_or_none o)) found) (written (subst (λ (o : Option Chain). IsSome o) found refl))
+
+pub made_absent :
+    (m n : Cells Chain) (cell : Cell) (f : Chain → Chain) (new : Chain) → None ≡ at_cell m cell → new ≡ f no_chain → IsWritten m n cell new → MakesAt cell f m n
+made_absent m n cell f new absent is written = made m n cell f new (is ∙ ap (λ o. f (chain_or_none o)) absent) written
+
+-- what makes nothing new changes nothing
+pub same_chains : (m n : Cells Chain) (cell : Cell) → MakesAt cell (λ chain. chain) m n → (c : Cell) → chain_at n c ≡ chain_at m c
+same_chains m n cell h c = h c ∙ go (is_same_cell cell c)
+  where
+    go : (b : Bool) → (if b then chain_at m c else chain_at m c) ≡ chain_at m c
+    go true = refl
+    go false = refl
+
+-- what holds anyway holds at an error
+pub at_error : {T E P : Type 0} (r : Result T E) → P → OnErr r P
+at_error (Ok x) p = tt
+at_error (Err e) p = p
+
+-- where a cell has no chain, what makes nothing of nothing changes nothing
+pub not_made : (m : Cells Chain) (cell : Cell) (f : Chain → Chain) → None ≡ at_cell m cell → no_chain ≡ f no_chain → MakesAt cell f m m
+not_made m cell f absent none c = go (is_same_cell cell c) (λ same. cell_is cell c same)
+  where
+    here : chain_at m cell ≡ f (chain_at m cell)
+    here = ap chain_or_none (sym absent) ∙ none ∙ ap (λ o. f (chain_or_none o)) absent
+
+    go : (b : Bool) → (b ≡ true → cell ≡ c) → chain_at m c ≡ (if b then f (chain_at m c) else chain_at m c)
+    go true same = ap (chain_at m) (sym (same refl)) ∙ here ∙ ap (λ x. f (chain_at m x)) (same refl)
+    go false same = refl
+
+-- ---- walks over cells in order
+
+same_turned : (a b : Cell) → is_same_cell a b ≡ is_same_cell b a
+same_turned a b = (eq_by_cmp_equiv cell_total).symm a b
+
+is_not_eq : (o : Ordering) → o ≡ Less → is_eq o ≡ false
+is_not_eq o less = ap is_eq less
+
+none_above : {A : Type 0} (k : Cell) (rest : Cells A) → AllByRecursion (λ d. cell_cmp k d ≡ Less) (cells_of rest) → at_cell rest k ≡ None
+none_above k [] below = refl
+none_above k (e ∷ rest) below = ap (λ b. cond b (Some e.1) (at_cell rest k)) (is_not_eq (cell_cmp k e.0) below.0) ∙ none_above k rest below.1
+
+-- the first of cells in order is not behind itself
+pub none_behind : {A : Type 0} (k c : Cell) (rest : Cells A) → IsStrictlySortedBy cell_cmp (k ∷ cells_of rest) → is_same_cell c k ≡ true → at_cell rest c ≡ None
+none_behind k c rest sorted same = ap (at_cell rest) (cell_is c k same) ∙ none_above k rest (sorted_head cell_cmp k (cells_of rest) sorted)
+
+not_above : (k : Cell) (rest : List Cell) → AllByRecursion (λ d. cell_cmp k d ≡ Less) rest → is_cell_among rest k ≡ false
+not_above k [] below = refl
+not_above k (d ∷ rest) below = ap (λ b. b || is_cell_among rest k) (is_not_eq (cell_cmp k d) below.0) ∙ not_above k rest below.1
+
+not_behind : (k c : Cell) (rest : List Cell) → IsStrictlySortedBy cell_cmp (k ∷ rest) → is_same_cell c k ≡ true → is_cell_among rest c ≡ false
+not_behind k c rest sorted same = ap (is_cell_among rest) (cell_is c k same) ∙ not_above k rest (sorted_head cell_cmp k rest sorted)
+
+-- one more entry of a map was put into the chains
+pub entry_turn :
+    {A : Type 0} (f : A → Chain → Chain) (before after : Cells Chain) (k : Cell) (entry : A) (rest : Cells A) →
+    IsStrictlySortedBy cell_cmp (k ∷ cells_of rest) → MakesAt k (f entry) before after →
+    (c : Cell) → with_entry f (at_cell rest c) (chain_at after c) ≡ with_entry f (at_cell ((k, entry) ∷ rest) c) (chain_at before c)
+entry_turn f before after k entry rest sorted made c =
+    ap (with_entry f (at_cell rest c)) (made c ∙ ap (λ b. if b then f entry (chain_at before c) else chain_at before c) (same_turned k c))
+    ∙ go (is_same_cell c k) (λ same. none_behind k c rest sorted same)
+  where
+    go : (b : Bool) → (b ≡ true → at_cell rest c ≡ None) →
+        with_entry f (at_cell rest c) (if b then f entry (chain_at before c) else chain_at before c) ≡ with_entry f (cond b (Some entry) (at_cell rest c)) (chain_at before c)
+    go true none = ap (λ o. with_entry f o (f entry (chain_at before c))) (none refl)
+    go false none = refl
+
+-- the same for one more cell of a list
+pub cell_turn :
+    (f : Chain → Chain) (before after : Cells Chain) (k : Cell) (rest : List Cell) →
+    IsStrictlySortedBy cell_cmp (k ∷ rest) → MakesAt k f before after →
+    (c : Cell) → (if is_cell_among rest c then f (chain_at after c) else chain_at after c) ≡ (if is_cell_among (k ∷ rest) c then f (chain_at before c) else chain_at before c)
+cell_turn f before after k rest sorted made c =
+    ap (λ x. if is_cell_among rest c then f x else x) (made c ∙ ap (λ b. if b then f (chain_at before c) else chain_at before c) (same_turned k c))
+    ∙ go (is_same_cell c k) (λ same. not_behind k c rest sorted same)
+  where
+    go : (b : Bool) → (b ≡ true → is_cell_among rest c ≡ false) →
+        (if is_cell_among rest c then f (if b then f (chain_at before c) else chain_at before c) else (if b then f (chain_at before c) else chain_at before c))
+        ≡ (if b || is_cell_among rest c then f (chain_at before c) else chain_at before c)
+    go true none = ap (λ a. if a then f (f (chain_at before c)) else f (chain_at before c)) (none refl)
+    go false none = refl

@@ -1,0 +1,285 @@
+-- Laws of clashes: the first of some cells that has a number above the start.
+use Rattle.std.proofs.Common.{◌≡◌, ◌↔◌, ◌∙◌, ◌⊎◌, inl, inr, ℕ, suc, ◌<◌, ◌≤◌, Bool, true, false, ◌||◌, if◌then◌else◌, leb, nat_lt, List, [], ◌∷◌, refl, ap, sym, subst, arith}
+use Rattle.std.specs.Prelude.{Option, Some, None}
+use Rattle.std.specs.BTreeSet.{insert_key}
+use Rattle.std.specs.Cmp.{tied_itself}
+use Rattle.std.specs.declared.cmp.Ordering.{Ordering}
+use Rattle.std.specs.declared.cmp.Ordering.TheVariants.{Less, Equal, Greater}
+use Rattle.std.specs.List.{AllByRecursion}
+use Rattle.std.specs.List.Sorted.{IsStrictlySortedBy}
+use Rattle.std.specs.Ordering.{is_eq, is_lt, match_ordering, ordering_reverse}
+use Rattle.std.proofs.lemmas.Bool.Decides.{leb_tells}
+use Rattle.std.proofs.lemmas.Map.Keys.{sorted_head, sorted_tail}
+use Rattle.prog_tree.specs.declared.cell.Cell.{Cell}
+use Rattle.prog_tree.specs.ChangeSet.{ChangeSet, touches_cell}
+use Rattle.prog_tree.specs.Table.{cell_cmp, cells_of, is_same_cell, is_cell_among}
+use Rattle.prog_tree.proofs.TableLemmas.{cell_total}
+use Rattle.prog_tree.proofs.TableStates.{same_cell, cell_is}
+use Rattle.version_store.specs.Clash.{last_touch, IsClash, with_cells, touched, first_clash, clash_of}
+use Rattle.version_store.specs.Reading.{first_above, lesser}
+use Rattle.version_store.proofs.CommitLaws.{among-some}
+
+-- ---- the order of cells
+
+turned : (a b : Cell) → cell_cmp a b ≡ Greater → cell_cmp b a ≡ Less
+turned a b h = cell_total.antisymm b a ∙ ap ordering_reverse h
+
+not_both : (a b : Cell) → cell_cmp a b ≡ Less → cell_cmp b a ≡ Less → ⊥
+not_both a b p q = let back = cell_total.antisymm a b ∙ ap ordering_reverse q in absurd (cc)
+
+-- what is less than a cell is less than one that is not less than it
+less_than : (c x y : Cell) → cell_cmp c x ≡ Less → (cell_cmp y x ≡ Less → ⊥) → cell_cmp c y ≡ Less
+less_than c x y less least = go (cell_cmp x y) refl
+  where
+    go : (o : Ordering) → cell_cmp x y ≡ o → cell_cmp c y ≡ Less
+    go Less is = cell_total.trans c x y less is
+    go Equal is = subst (λ (d : Cell). cell_cmp c d ≡ Less) (same_cell x y is) less
+    go Greater is = absurd (least (turned x y is))
+
+-- ---- the first cell above the start
+
+-- the least cell that passes the test and has a number above the start, with its number; none where there is none
+abbrev pub IsFirst : (Cell → Bool) → (Cell → ℕ) → ℕ → Option (Cell × ℕ) → Type 0
+IsFirst p number start None = (c : Cell) → p c ≡ true → start < number c → ⊥
+IsFirst p number start (Some x) =
+    (p x.0 ≡ true) × (start < number x.0) × (x.1 ≡ number x.0) × ((c : Cell) → p c ≡ true → start < number c → cell_cmp c x.0 ≡ Less → ⊥)
+
+-- the same test and the same numbers
+pub first-same :
+    (p q : Cell → Bool) (f g : Cell → ℕ) (start : ℕ) (o : Option (Cell × ℕ)) → ((c : Cell) → p c ≡ q c) → ((c : Cell) → f c ≡ g c) → IsFirst p f start o → IsFirst q g start o
+first-same p q f g start None same equal h = λ c passes above. h c (same c ∙ passes) (subst (λ (n : ℕ). start < n) (sym (equal c)) above)
+first-same p q f g start (Some x) same equal h = (
+  sym (same x.0) ∙ h.0,
+  subst (λ (n : ℕ). start < n) (equal x.0) h.1,
+  h.2 ∙ equal x.0,
+  λ c passes above. h.3 c (same c ∙ passes) (subst (λ (n : ℕ). start < n) (sym (equal c)) above),
+)
+
+later : (a b : Bool) → b ≡ true → (a || b) ≡ true
+later true b h = refl
+later false b h = h
+
+-- a search finds the first of cells in order
+pub first-above : (number : Cell → ℕ) (start : ℕ) (cells : List Cell) → IsStrictlySortedBy cell_cmp cells → IsFirst (is_cell_among cells) number start (first_above number start cells)
+first-above number start [] sorted = λ c among above. absurd (cc)
+first-above number start (k ∷ ks) sorted =
+    go (leb_tells (suc start) (number k)) (first_above number start ks) (first-above number start ks (sorted_tail cell_cmp k ks sorted))
+  where
+    all_above : (ds : List Cell) (c : Cell) → AllByRecursion (λ d. cell_cmp k d ≡ Less) ds → is_cell_among ds c ≡ true → cell_cmp k c ≡ Less
+    all_above [] c all among = absurd (cc)
+    all_above (d ∷ ds) c all among = at (is_same_cell c d) refl among (all_above ds c all.1)
+      where
+        at : (b : Bool) → is_same_cell c d ≡ b → (b || is_cell_among ds c) ≡ true → (is_cell_among ds c ≡ true → cell_cmp k c ≡ Less) → cell_cmp k c ≡ Less
+        at true same h rest = subst (λ (x : Cell). cell_cmp k x ≡ Less) (sym (cell_is c d same)) all.0
+        at false other h rest = rest h
+
+    least : (c : Cell) (b : Bool) → is_same_cell c k ≡ b → (b || is_cell_among ks c) ≡ true → cell_cmp c k ≡ Less → ⊥
+    least c true same among less = let not = ap is_eq less in absurd (cc)
+    least c false other among less = not_both k c (all_above ks c (sorted_head cell_cmp k ks sorted) among) less
+
+    -- the first is not above the start
+    past : (c : Cell) → number k ≤ start → (b : Bool) → is_same_cell c k ≡ b → (b || is_cell_among ks c) ≡ true → start < number c → is_cell_among ks c ≡ true
+    past c low true same among above = let is : number c ≡ number k = ap number (cell_is c k same) in absurd (omega arith)
+    past c low false other among above = among
+
+    more : (o : Option (Cell × ℕ)) → number k ≤ start → IsFirst (is_cell_among ks) number start o → IsFirst (is_cell_among (k ∷ ks)) number start o
+    more None low h = λ c among above. h c (past c low (is_same_cell c k) refl among above) above
+    more (Some x) low h = (
+      later (is_same_cell x.0 k) (is_cell_among ks x.0) h.0,
+      h.1,
+      h.2,
+      λ c among above less. h.3 c (past c low (is_same_cell c k) refl among above) above less,
+    )
+
+    go : ((leb (suc start) (number k) ≡ true) × (suc start ≤ number k)) ⊎ ((leb (suc start) (number k) ≡ false) × (number k < suc start)) →
+        (o : Option (Cell × ℕ)) → IsFirst (is_cell_among ks) number start o → IsFirst (is_cell_among (k ∷ ks)) number start (if nat_lt start (number k) then Some (k, number k) else o)
+    go (inl more_than) o h =
+        subst (λ (b : Bool). IsFirst (is_cell_among (k ∷ ks)) number start (if b then Some (k, number k) else o)) (sym more_than.0) (
+          ap (λ b. b || is_cell_among ks k) (ap is_eq (tied_itself cell_total k)),
+          omega arith,
+          refl,
+          λ c among above less. least c (is_same_cell c k) refl among less,
+        )
+    go (inr at_most) o h =
+        subst (λ (b : Bool). IsFirst (is_cell_among (k ∷ ks)) number start (if b then Some (k, number k) else o)) (sym at_most.0) (more o (omega arith) h)
+
+-- the lesser of the first of two kinds of cells
+pub first-lesser :
+    (p q : Cell → Bool) (number : Cell → ℕ) (start : ℕ) (a b : Option (Cell × ℕ)) → IsFirst p number start a → IsFirst q number start b →
+    IsFirst (λ c. p c || q c) number start (lesser a b)
+first-lesser p q number start None None h k = λ c among above. at c (p c) (h c) among above
+  where
+    at : (c : Cell) (x : Bool) → (x ≡ true → start < number c → ⊥) → (x || q c) ≡ true → start < number c → ⊥
+    at c true none among above = none refl above
+    at c false none among above = k c among above
+first-lesser p q number start None (Some y) h k = (later (p y.0) (q y.0) k.0, k.1, k.2, λ c among above less. at c (p c) (h c) among above less)
+  where
+    at : (c : Cell) (x : Bool) → (x ≡ true → start < number c → ⊥) → (x || q c) ≡ true → start < number c → cell_cmp c y.0 ≡ Less → ⊥
+    at c true none among above less = none refl above
+    at c false none among above less = k.3 c among above less
+first-lesser p q number start (Some x) None h k = (ap (λ b. b || q x.0) h.0, h.1, h.2, λ c among above less. at c (p c) (h.3 c) among above less)
+  where
+    at : (c : Cell) (b : Bool) → (b ≡ true → start < number c → cell_cmp c x.0 ≡ Less → ⊥) → (b || q c) ≡ true → start < number c → cell_cmp c x.0 ≡ Less → ⊥
+    at c true none among above less = none refl above less
+    at c false none among above less = k c among above
+first-lesser p q number start (Some x) (Some y) h k = go (cell_cmp y.0 x.0) refl
+  where
+    at : (c d : Cell) (b : Bool) → (b ≡ true → cell_cmp c d ≡ Less → ⊥) → (q c ≡ true → cell_cmp c d ≡ Less → ⊥) → (b || q c) ≡ true → cell_cmp c d ≡ Less → ⊥
+    at c d true first second among less = first refl less
+    at c d false first second among less = second among less
+
+    first_stays : (cell_cmp y.0 x.0 ≡ Less → ⊥) → IsFirst (λ c. p c || q c) number start (Some x)
+    first_stays least = (
+      ap (λ b. b || q x.0) h.0,
+      h.1,
+      h.2,
+      λ c among above less. at c x.0 (p c) (λ is less. h.3 c is above less) (λ is less. k.3 c is above (less_than c x.0 y.0 less least)) among less,
+    )
+
+    second_counts : cell_cmp y.0 x.0 ≡ Less → IsFirst (λ c. p c || q c) number start (Some y)
+    second_counts before = (
+      later (p y.0) (q y.0) k.0,
+      k.1,
+      k.2,
+      λ c among above less. at c y.0 (p c) (λ is less. h.3 c is above (cell_total.trans c y.0 x.0 less before)) (λ is less. k.3 c is above less) among less,
+    )
+
+    go : (o : Ordering) → cell_cmp y.0 x.0 ≡ o → IsFirst (λ c. p c || q c) number start (if is_lt (cell_cmp y.0 x.0) then Some y else Some x)
+    go Less is = subst (λ (r : Ordering). IsFirst (λ c. p c || q c) number start (if is_lt r then Some y else Some x)) (sym is) (second_counts is)
+    go Equal is = subst (λ (r : Ordering). IsFirst (λ c. p c || q c) number start (if is_lt r then Some y else Some x)) (sym is) (first_stays (λ less. absurd (cc)))
+    go Greater is = subst (λ (r : Ordering). IsFirst (λ c. p c || q c) number start (if is_lt r then Some y else Some x)) (sym is) (first_stays (λ less. absurd (cc)))
+
+-- there is one first cell
+pub first-unique : (p : Cell → Bool) (number : Cell → ℕ) (start : ℕ) (a b : Option (Cell × ℕ)) → IsFirst p number start a → IsFirst p number start b → a ≡ b
+first-unique p number start None None h k = refl
+first-unique p number start None (Some y) h k = absurd (h y.0 k.0 k.1)
+first-unique p number start (Some x) None h k = absurd (k x.0 h.0 h.1)
+first-unique p number start (Some x) (Some y) h k = go (cell_cmp x.0 y.0) refl
+  where
+    go : (o : Ordering) → cell_cmp x.0 y.0 ≡ o → Some x ≡ Some y
+    go Less is = absurd (k.3 x.0 h.0 h.1 is)
+    go Equal is =
+        let cell = same_cell x.0 y.0 is in
+        let same = h.2 ∙ ap number cell ∙ sym k.2 in
+        λ i. Some (cell i, same i)
+    go Greater is = absurd (h.3 y.0 k.0 k.1 (turned x.0 y.0 is))
+
+-- ---- clashes
+
+-- the clash is the first of the touched cells, by the last commit that touched it
+abbrev IsFirstTouched : List ChangeSet → ℕ → ChangeSet → Option (Cell × ℕ) → Type 0
+IsFirstTouched ws start w o = IsFirst (touches_cell w) (λ c. last_touch c 1 ws) start o
+
+clash_by_first : (ws : List ChangeSet) (start : ℕ) (w : ChangeSet) (o : Option (Cell × ℕ)) → IsFirstTouched ws start w o → IsClash ws start w o
+clash_by_first ws start w None h = h
+clash_by_first ws start w (Some x) h = h
+
+first_by_clash : (ws : List ChangeSet) (start : ℕ) (w : ChangeSet) (o : Option (Cell × ℕ)) → IsClash ws start w o → IsFirstTouched ws start w o
+first_by_clash ws start w None h = h
+first_by_clash ws start w (Some x) h = h
+
+-- the first of the changed and of the kept cells, by numbers that are those of the last commits
+pub clash_found :
+    (ws : List ChangeSet) (start : ℕ) (w : ChangeSet) (number : Cell → ℕ) (o : Option (Cell × ℕ)) → IsStrictlySortedBy cell_cmp (cells_of w.cells) → IsStrictlySortedBy cell_cmp w.kept →
+    ((c : Cell) → number c ≡ last_touch c 1 ws) → o ≡ lesser (first_above number start (cells_of w.cells)) (first_above number start w.kept) → IsClash ws start w o
+clash_found ws start w number o changed kept same is =
+    let cells = cells_of w.cells in
+    let first = first-lesser (is_cell_among cells) (is_cell_among w.kept) number start (first_above number start cells) (first_above number start w.kept)
+    (first-above number start cells changed) (first-above number start w.kept kept) in
+    clash_by_first ws start w o
+    (subst (λ (x : Option (Cell × ℕ)). IsFirstTouched ws start w x) (sym is)
+    (first-same (λ c. is_cell_among cells c || is_cell_among w.kept c) (touches_cell w) number (λ c. last_touch c 1 ws) start _
+    (λ c. ap (λ b. b || is_cell_among w.kept c) (among-some w.cells c)) same first))
+
+-- ---- the search over the touched cells
+
+first_clash-above : (ws : List ChangeSet) (start : ℕ) (cells : List Cell) → first_clash ws start cells ≡ first_above (λ c. last_touch c 1 ws) start cells
+first_clash-above ws start [] = refl
+first_clash-above ws start (c ∷ cs) = ap (λ o. if nat_lt start (last_touch c 1 ws) then Some (c, last_touch c 1 ws) else o) (first_clash-above ws start cs)
+
+all_insert : (P : Cell → Type 0) (ks : List Cell) (k : Cell) → P k → AllByRecursion P ks → AllByRecursion P (insert_key cell_cmp ks k)
+all_insert P [] k here all = (here, tt)
+all_insert P (x ∷ ks) k here all = go (cell_cmp k x) (all_insert P ks k here all.1)
+  where
+    go : (o : Ordering) → AllByRecursion P (insert_key cell_cmp ks k) → AllByRecursion P (match_ordering o (k ∷ x ∷ ks) (x ∷ ks) (x ∷ insert_key cell_cmp ks k))
+    go Less rest = (here, all)
+    go Equal rest = all
+    go Greater rest = (all.0, rest)
+
+all_beyond : (k x : Cell) (ks : List Cell) → cell_cmp k x ≡ Less → AllByRecursion (λ d. cell_cmp x d ≡ Less) ks → AllByRecursion (λ d. cell_cmp k d ≡ Less) ks
+all_beyond k x [] less all = tt
+all_beyond k x (d ∷ ks) less all = (cell_total.trans k x d less all.0, all_beyond k x ks less all.1)
+
+sorted_insert : (ks : List Cell) (k : Cell) → IsStrictlySortedBy cell_cmp ks → IsStrictlySortedBy cell_cmp (insert_key cell_cmp ks k)
+unfolding IsStrictlySortedBy
+sorted_insert [] k h = (tt, tt)
+sorted_insert (x ∷ ks) k h = go (cell_cmp k x) refl (sorted_insert ks k h.1)
+  where
+    go : (o : Ordering) → cell_cmp k x ≡ o → IsStrictlySortedBy cell_cmp (insert_key cell_cmp ks k) → IsStrictlySortedBy cell_cmp (match_ordering o (k ∷ x ∷ ks) (x ∷ ks) (x ∷ insert_key cell_cmp ks k))
+    go Less is rest = ((is, all_beyond k x ks is h.0), h)
+    go Equal is rest = h
+    go Greater is rest = (all_insert (λ d. cell_cmp x d ≡ Less) ks k (turned k x is) h.0, rest)
+
+sorted_with : (cs cells : List Cell) → IsStrictlySortedBy cell_cmp cells → IsStrictlySortedBy cell_cmp (with_cells cells cs)
+sorted_with [] cells h = h
+sorted_with (c ∷ cs) cells h = sorted_with cs (insert_key cell_cmp cells c) (sorted_insert cells c h)
+
+swapped : (a b r : Bool) → (a || (b || r)) ≡ (b || (a || r))
+swapped true true r = refl
+swapped true false r = refl
+swapped false true r = refl
+swapped false false r = refl
+
+twice : (b r : Bool) → (b || r) ≡ (b || (b || r))
+twice true r = refl
+twice false r = refl
+
+among_insert : (ks : List Cell) (k c : Cell) → is_cell_among (insert_key cell_cmp ks k) c ≡ (is_same_cell c k || is_cell_among ks c)
+among_insert [] k c = refl
+among_insert (x ∷ ks) k c = go (cell_cmp k x) refl (among_insert ks k c)
+  where
+    go : (o : Ordering) → cell_cmp k x ≡ o → is_cell_among (insert_key cell_cmp ks k) c ≡ (is_same_cell c k || is_cell_among ks c) →
+        is_cell_among (match_ordering o (k ∷ x ∷ ks) (x ∷ ks) (x ∷ insert_key cell_cmp ks k)) c ≡ (is_same_cell c k || is_cell_among (x ∷ ks) c)
+    go Less is rest = refl
+    go Equal is rest = twice (is_same_cell c x) (is_cell_among ks c) ∙ ap (λ d. is_same_cell c d || (is_same_cell c x || is_cell_among ks c)) (sym (same_cell k x is))
+    go Greater is rest = ap (λ b. is_same_cell c x || b) rest ∙ swapped (is_same_cell c x) (is_same_cell c k) (is_cell_among ks c)
+
+among_with : (cs cells : List Cell) (c : Cell) → is_cell_among (with_cells cells cs) c ≡ (is_cell_among cells c || is_cell_among cs c)
+among_with [] cells c = sym (or_false (is_cell_among cells c))
+  where
+    or_false : (b : Bool) → (b || false) ≡ b
+    or_false true = refl
+    or_false false = refl
+among_with (d ∷ cs) cells c =
+    among_with cs (insert_key cell_cmp cells d) c
+    ∙ ap (λ b. b || is_cell_among cs c) (among_insert cells d c)
+    ∙ moved (is_same_cell c d) (is_cell_among cells c) (is_cell_among cs c)
+  where
+    moved : (a b r : Bool) → ((a || b) || r) ≡ (b || (a || r))
+    moved true true r = refl
+    moved true false r = refl
+    moved false true r = refl
+    moved false false r = refl
+
+among_touched : (w : ChangeSet) (c : Cell) → is_cell_among (touched w) c ≡ touches_cell w c
+among_touched w c =
+    among_with w.kept (with_cells [] (cells_of w.cells)) c
+    ∙ ap (λ b. b || is_cell_among w.kept c) (among_with (cells_of w.cells) [] c ∙ among-some w.cells c)
+
+nothing_sorted : IsStrictlySortedBy cell_cmp []
+unfolding IsStrictlySortedBy
+nothing_sorted = tt
+
+search_clashes : (ws : List ChangeSet) (start : ℕ) (w : ChangeSet) → IsFirstTouched ws start w (clash_of ws start w)
+search_clashes ws start w =
+    let number = λ (c : Cell). last_touch c 1 ws in
+    let sorted = sorted_with w.kept (with_cells [] (cells_of w.cells)) (sorted_with (cells_of w.cells) [] nothing_sorted) in
+    subst (λ (o : Option (Cell × ℕ)). IsFirstTouched ws start w o) (sym (first_clash-above ws start (touched w)))
+    (first-same (is_cell_among (touched w)) (touches_cell w) number number start _ (among_touched w) (λ c. refl) (first-above number start (touched w) sorted))
+
+-- the search finds the clash, and nothing else is one
+pub clashes_found : (ws : List ChangeSet) (start : ℕ) (w : ChangeSet) (o : Option (Cell × ℕ)) → IsClash ws start w o ↔ (o ≡ clash_of ws start w)
+clashes_found ws start w o = (
+  λ clash. first-unique (touches_cell w) (λ c. last_touch c 1 ws) start o (clash_of ws start w) (first_by_clash ws start w o clash) (search_clashes ws start w),
+  λ same. clash_by_first ws start w o (subst (λ (x : Option (Cell × ℕ)). IsFirstTouched ws start w x) (sym same) (search_clashes ws start w)),
+)

@@ -1,0 +1,10 @@
+pub mod ChainLaws
+pub mod ChainsLaws
+pub mod ClashLaws
+pub mod CommitLaws
+pub mod RegionLaws
+pub mod ScanLaws
+pub mod StandsLaws
+pub mod VersionLaws
+pub mod Walks
+pub mod Vectors

@@ -1,0 +1,34 @@
+use Rattle.std.proofs.Common.{◌∙◌, ap, subst}
+use Rattle.std.specs.Prelude.{IsSome}
+use Rattle.std.specs.BTreeMap.{BTreeMap}
+use Rattle.prog_tree.specs.declared.cell.Cell.{Cell}
+use Rattle.prog_tree.specs.Table.{at_cell}
+use Rattle.version_store.specs.Reading.{with_mark}
+use Rattle.version_store.specs.StandsFor.{Chain}
+use Rattle.version_store.proofs.ChainsLaws.{IsWritten, made_found, made_absent, same_chains, at_error}
+use Rattle.version_store.proofs.chains.Chains.add_mark.Goals as goal
+
+pub returns-in_err-add_mark-clause-err : goal.returns-in_err-add_mark-clause-err
+returns-in_err-add_mark-clause-err c =
+    let m = c.self.inside.chains.entries in
+    let chain = c.add_mark.new.self in
+    let n = (c.get_mut.follows.lender chain).entries in
+    let written = λ (some : IsSome (at_cell m c.args.cell)). ((c.get_mut.follows.holds chain).3 some).0 in
+    rw (← c.self.view_is) (at_error c.from_residual.result
+    (same_chains m n c.args.cell (made_found m n c.args.cell (λ x. x) c.in-Some.chain.now chain c.in-Some.ensures.value c.in_err-add_mark.ensures.err written)))
+
+pub returns-in-Some-clause-ok : goal.returns-in-Some-clause-ok
+returns-in-Some-clause-ok c =
+    let m = c.self.inside.chains.entries in
+    let chain = c.add_mark.new.self in
+    let n = (c.get_mut.follows.lender chain).entries in
+    let written = λ (some : IsSome (at_cell m c.args.cell)). ((c.get_mut.follows.holds chain).3 some).0 in
+    rw (← c.self.view_is) (made_found m n c.args.cell (with_mark c.args.number) c.in-Some.chain.now chain c.in-Some.ensures.value c.in_ok-add_mark.ensures.ok written)
+
+pub returns-clause-ok : goal.returns-clause-ok
+returns-clause-ok c =
+    let m = c.self.inside.chains.entries in
+    let chain = c.add_mark-2.new.self in
+    let made = c.in_ok-add_mark-2.ensures.ok ∙ ap (with_mark c.args.number) c.new-chain.ensures in
+    rw (← c.self.view_is) (made_absent m c.insert.new.self.entries c.args.cell (with_mark c.args.number) chain c.in_default.ensures.value made
+    (subst (λ (old : BTreeMap Cell Chain). IsWritten old.entries c.insert.new.self.entries c.args.cell chain) c.get_mut.follows.holds-at-none c.in_ok-insert.ensures.updates.0))

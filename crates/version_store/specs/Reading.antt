@@ -1,0 +1,121 @@
+-- What is read from the chains of cells, and what commits add to them.
+use Rattle.std.specs.Prelude.{◌≡◌, ℕ, ◌+◌, ◌≤◌, ⊤, ℤ, max, nat_lt, leb, Bool, true, false, List, [], ◌∷◌, ◌++◌, filter, Option, Some, None, if◌then◌else◌}
+use Rattle.std.specs.List.Sorted.{IsPartitionPoint}
+use Rattle.prog_tree.specs.declared.cell.Cell.{Cell}
+use Rattle.std.specs.Ordering.{is_lt}
+use Rattle.prog_tree.specs.ChangeSet.{ChangeSet, change_at, touches_cell}
+use Rattle.prog_tree.specs.Table.{cell_cmp, Cells, at_cell, is_same_cell, is_cell_among}
+use Rattle.version_store.specs.StandsFor.{Chain, chain_or_none}
+
+-- the chain of a cell
+abbrev pub chain_at : Cells Chain → Cell → Chain
+chain_at chains c = chain_or_none (at_cell chains c)
+
+-- each version's number is above the one before it, and the first is at least n
+abbrev pub RisesFrom : ℕ → List (ℕ × Option ℤ) → Type 0
+RisesFrom n [] = ⊤
+RisesFrom n (v ∷ vs) = (n ≤ v.0) × RisesFrom (v.0 + 1) vs
+
+-- the versions of each cell rise
+abbrev pub AllRise : Cells Chain → Type 0
+AllRise chains = (c : Cell) → RisesFrom 0 (chain_at chains c).versions
+
+-- the first `count` versions are at most n, and the others above
+abbrev pub IsCutAt : (n : ℕ) → List (ℕ × Option ℤ) → (count : ℕ) → Type 0
+IsCutAt n vs count = IsPartitionPoint (λ v. leb v.0 n ≡ true) (λ v. leb v.0 n ≡ false) vs count
+
+-- what a cell holds after the versions that are at most n, where it held something before them
+abbrev pub value_after : ℕ → Option ℤ → List (ℕ × Option ℤ) → Option ℤ
+value_after n before [] = before
+value_after n before (v ∷ vs) = value_after n (if leb v.0 n then v.1 else before) vs
+
+-- what the cell of a chain held after the first n commits
+abbrev pub value_at : ℕ → Chain → Option ℤ
+value_at n chain = value_after n None chain.versions
+
+-- the number of the last version, where one had a number before them
+abbrev pub last_version : ℕ → List (ℕ × Option ℤ) → ℕ
+last_version before [] = before
+last_version before (v ∷ vs) = last_version v.0 vs
+
+-- the last of the marks, where there was one before them
+abbrev pub last_mark : ℕ → List ℕ → ℕ
+last_mark before [] = before
+last_mark before (m ∷ ms) = last_mark m ms
+
+-- the greatest number in a chain, or 0
+abbrev pub last_number : Chain → ℕ
+last_number chain = max (last_version 0 chain.versions) (last_mark 0 chain.marks)
+
+-- the first of the cells whose number is above the start, with its number
+abbrev pub first_above : (Cell → ℕ) → (start : ℕ) → List Cell → Option (Cell × ℕ)
+first_above number start [] = None
+first_above number start (c ∷ cs) = if nat_lt start (number c) then Some (c, number c) else first_above number start cs
+
+-- the one of two that has the lesser cell
+abbrev pub lesser : Option (Cell × ℕ) → Option (Cell × ℕ) → Option (Cell × ℕ)
+lesser None other = other
+lesser (Some one) None = Some one
+lesser (Some one) (Some other) = if is_lt (cell_cmp other.0 one.0) then Some other else Some one
+
+abbrev pub with_version : ℕ → Option ℤ → Chain → Chain
+with_version n value chain = record chain { versions = chain.versions ++ (n, value) ∷ [] }
+
+abbrev pub with_mark : ℕ → Chain → Chain
+with_mark n chain = record chain { marks = chain.marks ++ n ∷ [] }
+
+-- a chain with what a map has at its cell put in
+abbrev pub with_entry : {A : Type 0} → (A → Chain → Chain) → Option A → Chain → Chain
+with_entry f None chain = chain
+with_entry f (Some entry) chain = f entry chain
+
+-- a chain with the version of an opening row
+abbrev pub with_row_of : Option ℤ → Chain → Chain
+with_row_of = with_entry (λ value. with_version 0 (Some value))
+
+-- a chain with the version of a commit that changes its cell
+abbrev pub with_change_by : ℕ → Option (Option ℤ) → Chain → Chain
+with_change_by n = with_entry (with_version n)
+
+-- a chain with the mark of a commit that keeps its cell
+abbrev pub with_mark_by : ℕ → Bool → Chain → Chain
+with_mark_by n kept chain = if kept then with_mark n chain else chain
+
+-- a chain with what a commit of a number does to its cell
+abbrev pub with_commit : ℕ → ChangeSet → Cell → Chain → Chain
+with_commit n w c chain = with_mark_by n (is_cell_among w.kept c) (with_change_by n (change_at w c) chain)
+
+-- a chain without what has the number n or a greater one
+abbrev pub cut_from : ℕ → Chain → Chain
+cut_from n chain = record {
+  versions = filter (λ v. nat_lt v.0 n) chain.versions;
+  marks = filter (λ m. nat_lt m n) chain.marks;
+}
+
+-- all numbers of a chain are below n
+abbrev pub IsBelow : ℕ → Chain → Type 0
+IsBelow n chain = cut_from n chain ≡ chain
+
+-- at each cell nothing has changed below the number, and nothing at all where the changes don't touch it
+abbrev pub IsGrown : ℕ → ChangeSet → Cells Chain → Cells Chain → Type 0
+IsGrown n w before after = (c : Cell) → (cut_from n (chain_at after c) ≡ cut_from n (chain_at before c)) × (touches_cell w c ≡ false → chain_at after c ≡ chain_at before c)
+
+-- the chain of a cell is what f makes of it, and the others are the same
+abbrev pub MakesAt : Cell → (Chain → Chain) → Cells Chain → Cells Chain → Type 0
+MakesAt cell f before after = (c : Cell) → chain_at after c ≡ if is_same_cell cell c then f (chain_at before c) else chain_at before c
+
+-- the same for each cell of a list
+abbrev pub MakesAmong : List Cell → (Chain → Chain) → Cells Chain → Cells Chain → Type 0
+MakesAmong cells f before after = (c : Cell) → chain_at after c ≡ if is_cell_among cells c then f (chain_at before c) else chain_at before c
+
+-- each chain is what f makes of it at its cell
+abbrev pub MakesEach : (Cell → Chain → Chain) → Cells Chain → Cells Chain → Type 0
+MakesEach f before after = (c : Cell) → chain_at after c ≡ f c (chain_at before c)
+
+-- where all numbers were below n, each chain is the same
+abbrev pub KeepsBelow : ℕ → Cells Chain → Cells Chain → Type 0
+KeepsBelow n before after = (c : Cell) → IsBelow n (chain_at before c) → chain_at after c ≡ chain_at before c
+
+-- the greatest number in the chain of a cell, or 0
+abbrev pub number_at : Cells Chain → Cell → ℕ
+number_at chains c = last_number (chain_at chains c)

@@ -1,0 +1,105 @@
+//! What the store keeps of one cell.
+ghost use Rattle.std.specs.Prelude.{◌≡◌, ◌≤◌, length, None, OnOk, OnErr};
+ghost use Rattle.version_store.specs.Reading.{RisesFrom, IsCutAt, value_at, last_version};
+ghost use Rattle.version_store.specs.Reading.{last_mark, last_number, with_version, with_mark, cut_from};
+ghost use Rattle.version_store.specs.StandsFor.{no_chain};
+
+use crate::version::Version;
+use std::alloc::{AllocError, Global};
+use std::marker::Model;
+
+/// The versions of a cell, and the numbers of the commits that keep it. Both rise.
+#[derive(Debug, Drop)]
+pub struct Chain {
+    versions: Vec<Version>,
+    marks: Vec<u64>,
+}
+
+impl Model for Chain {
+    ghost use Rattle.version_store.specs.StandsFor.{Chain};
+
+    ghost Value = { Chain };
+
+    ghost view = { λ c. record { versions = c.versions.items; marks = c.marks.items } };
+}
+
+// The number of the last version, or 0.
+fn last_version(versions: &[Version]) -> u64
+    ensures { result ≡ last_version 0 versions.now }
+{
+    match versions.last() {
+        Some(version) => version.number,
+        None => 0,
+    }
+}
+
+// The last mark, or 0.
+fn last_mark(marks: &[u64]) -> u64
+    ensures { result ≡ last_mark 0 marks.now }
+{
+    match marks.last() {
+        Some(mark) => *mark,
+        None => 0,
+    }
+}
+
+// How many versions are at most a number.
+fn count_within(versions: &[Version], number: u64) -> usize
+    ensures bound { result ≤ length versions.now }
+    ensures cut { RisesFrom 0 versions.now → IsCutAt number versions.now result }
+{
+    versions.partition_point(|version| version.number <= number)
+}
+
+impl Chain {
+    pub fn new(alloc: Global) -> Self
+        ensures { result ≡ no_chain }
+    {
+        Chain {
+            versions: Vec::new(alloc),
+            marks: Vec::new(alloc),
+        }
+    }
+
+    /// What the cell held after the first `number` commits.
+    pub fn value_at(&self, number: u64) -> Option<i64>
+        ensures { RisesFrom 0 self.now.versions → result ≡ value_at number self.now }
+    {
+        let count = count_within(&self.versions, number);
+        if count == 0 {
+            return None;
+        }
+        self.versions[count - 1].value
+    }
+
+    /// The greatest number in it, or 0.
+    pub fn last_number(&self) -> u64
+        ensures { result ≡ last_number self.now }
+    {
+        last_version(&self.versions).max(last_mark(&self.marks))
+    }
+
+    pub fn add_version(&mut self, number: u64, value: Option<i64>) -> Result<(), AllocError>
+        ensures ok { OnOk result (self.new ≡ with_version number value self.old) }
+        ensures err { OnErr result (self.new ≡ self.old) }
+    {
+        self.versions.push(Version { number, value })?;
+        Ok(())
+    }
+
+    pub fn add_mark(&mut self, number: u64) -> Result<(), AllocError>
+        ensures ok { OnOk result (self.new ≡ with_mark number self.old) }
+        ensures err { OnErr result (self.new ≡ self.old) }
+    {
+        self.marks.push(number)?;
+        Ok(())
+    }
+
+    /// Drops what has this number or a greater one.
+    pub fn cut_from(&mut self, number: u64)
+        ensures { self.new ≡ cut_from number self.old }
+    {
+        self.versions.retain(|version| version.number < number);
+        self.marks.retain(|mark| *mark < number);
+    }
+}

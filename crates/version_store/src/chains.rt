@@ -1,0 +1,254 @@
+//! The chains of all cells.
+ghost use Rattle.std.specs.Prelude.{◌≡◌, [], IfOk, OnOk, OnErr};
+ghost use Rattle.prog_tree.specs.declared.cell.Cell.{Cell};
+ghost use Rattle.prog_tree.specs.ChangeSet.{change_at};
+ghost use Rattle.prog_tree.specs.Table.{cells_of, IsTableState, row_at};
+ghost use Rattle.version_store.specs.Reading.{RisesFrom, AllRise, chain_at, value_at, number_at};
+ghost use Rattle.version_store.specs.Reading.{with_version, with_mark, with_row_of, with_change_by};
+ghost use Rattle.version_store.specs.Reading.{with_commit, cut_from, IsGrown};
+ghost use Rattle.version_store.specs.Reading.{MakesAt, MakesAmong, MakesEach, KeepsBelow};
+ghost use Rattle.version_store.specs.Regions.{AreCorners, seen_in, with_found};
+
+use crate::chain::Chain;
+use prog_tree::{Cell, Changes, Region, Rows};
+use std::alloc::{AllocError, Global};
+use std::collections::BTreeMap;
+use std::marker::Model;
+
+/// The chains by their cells. A cell without a chain has an empty one.
+#[derive(Debug, Drop)]
+pub struct Chains {
+    alloc: Global,
+    chains: BTreeMap<Cell, Chain>,
+}
+
+impl Model for Chains {
+    ghost use Rattle.prog_tree.specs.Table.{Cells};
+    ghost use Rattle.version_store.specs.StandsFor.{Chain};
+
+    ghost Value = { Cells Chain };
+
+    ghost view = { λ c. c.chains.entries };
+}
+
+// The least and the greatest cell that a region can have, or none where it has no cell.
+fn corners(region: Region) -> Option<(Cell, Cell)>
+    ensures { AreCorners region result }
+{
+    if region.first_low > region.first_high || region.second_low > region.second_high {
+        return None;
+    }
+    let low = Cell {
+        table: region.table,
+        first: region.first_low,
+        second: region.second_low,
+    };
+    let high = Cell {
+        table: region.table,
+        first: region.first_high,
+        second: region.second_high,
+    };
+    Some((low, high))
+}
+
+// Adds the row of a cell after the first `start` commits, where it has one.
+fn add_found(rows: &mut Rows, start: u64, cell: &Cell, chain: &Chain) -> Result<(), AllocError>
+    ensures { OnOk result (RisesFrom 0 chain.now.versions →
+        rows.new ≡ with_found rows.old cell.now (value_at start chain.now)) }
+{
+    if let Some(value) = chain.value_at(start) {
+        rows.insert(*cell, value)?;
+    }
+    Ok(())
+}
+
+// Adds it where it lies in the region.
+fn add_row(
+    rows: &mut Rows,
+    region: &Region,
+    start: u64,
+    cell: &Cell,
+    chain: &Chain,
+) -> Result<(), AllocError>
+    ensures { OnOk result (RisesFrom 0 chain.now.versions →
+        rows.new ≡ with_found rows.old cell.now (seen_in region.now start cell.now chain.now)) }
+{
+    if region.contains(cell) {
+        add_found(rows, start, cell, chain)?;
+    }
+    Ok(())
+}
+
+impl Chains {
+    pub fn new(alloc: Global) -> Self
+        ensures { result ≡ [] }
+    {
+        Chains {
+            alloc,
+            chains: BTreeMap::new(alloc),
+        }
+    }
+
+    /// What a cell held after the first `start` commits.
+    pub fn get(&self, start: u64, cell: &Cell) -> Option<i64>
+        ensures { AllRise self.now → result ≡ value_at start (chain_at self.now cell.now) }
+    {
+        match self.chains.get(cell) {
+            Some(chain) => chain.value_at(start),
+            None => None,
+        }
+    }
+
+    /// The rows of a region after the first `start` commits.
+    pub fn scan(&self, start: u64, region: &Region) -> Result<Rows, AllocError>
+        ensures ordered { IfOk result (λ rows. AllRise self.now → IsTableState rows) }
+        ensures rows { IfOk result (λ rows. AllRise self.now → (c : Cell) →
+            row_at rows c ≡ seen_in region.now start c (chain_at self.now c)) }
+    {
+        let mut rows = Rows::new(self.alloc);
+        let Some((low, high)) = corners(*region) else {
+            return Ok(rows);
+        };
+        for (cell, chain) in self.chains.range(low..=high) {
+            add_row(&mut rows, region, start, cell, chain)?;
+        }
+        Ok(rows)
+    }
+
+    /// The rows of all tables after the first `start` commits.
+    pub fn state(&self, start: u64) -> Result<Rows, AllocError>
+        ensures ordered { IfOk result (λ rows. AllRise self.now → IsTableState rows) }
+        ensures rows { IfOk result (λ rows. AllRise self.now → (c : Cell) →
+            row_at rows c ≡ value_at start (chain_at self.now c)) }
+    {
+        let mut rows = Rows::new(self.alloc);
+        for (cell, chain) in self.chains.iter() {
+            add_found(&mut rows, start, cell, chain)?;
+        }
+        Ok(rows)
+    }
+
+    /// The greatest number of a commit that changed or kept a cell, or 0.
+    pub fn last_number(&self, cell: &Cell) -> u64
+        ensures { result ≡ number_at self.now cell.now }
+    {
+        match self.chains.get(cell) {
+            Some(chain) => chain.last_number(),
+            None => 0,
+        }
+    }
+
+    pub fn add_version(
+        &mut self,
+        cell: Cell,
+        number: u64,
+        value: Option<i64>,
+    ) -> Result<(), AllocError>
+        ensures ok { OnOk result (MakesAt cell (with_version number value) self.old self.new) }
+        ensures err { OnErr result (MakesEach (λ c chain. chain) self.old self.new) }
+    {
+        if let Some(chain) = self.chains.get_mut(&cell) {
+            chain.add_version(number, value)?;
+            return Ok(());
+        }
+        let mut chain = Chain::new(self.alloc);
+        chain.add_version(number, value)?;
+        self.chains.insert(cell, chain)?;
+        Ok(())
+    }
+
+    fn add_mark(&mut self, cell: Cell, number: u64) -> Result<(), AllocError>
+        ensures ok { OnOk result (MakesAt cell (with_mark number) self.old self.new) }
+        ensures err { OnErr result (MakesEach (λ c chain. chain) self.old self.new) }
+    {
+        if let Some(chain) = self.chains.get_mut(&cell) {
+            chain.add_mark(number)?;
+            return Ok(());
+        }
+        let mut chain = Chain::new(self.alloc);
+        chain.add_mark(number)?;
+        self.chains.insert(cell, chain)?;
+        Ok(())
+    }
+
+    fn cut_from(&mut self, cell: &Cell, number: u64)
+        ensures { MakesAt cell.now (cut_from number) self.old self.new }
+    {
+        if let Some(chain) = self.chains.get_mut(cell) {
+            chain.cut_from(number);
+        }
+    }
+    /// The chains of opening rows.
+    pub fn open(alloc: Global, opening: &Rows) -> Result<Self, AllocError>
+        ensures { IfOk result (λ chains.
+            MakesEach (λ c. with_row_of (row_at opening.now c)) [] chains) }
+    {
+        let mut chains = Chains::new(alloc);
+        for (cell, value) in opening.iter() {
+            chains.add_version(*cell, 0, Some(*value))?;
+        }
+        Ok(chains)
+    }
+
+    // Adds a version of each changed cell.
+    fn add_versions(&mut self, number: u64, changes: &Changes) -> Result<(), AllocError>
+        ensures ok { OnOk result
+            (MakesEach (λ c. with_change_by number (change_at changes.now c)) self.old self.new) }
+        ensures err { OnErr result (IsGrown number changes.now self.old self.new) }
+    {
+        for (cell, change) in changes.iter() {
+            self.add_version(*cell, number, *change)?;
+        }
+        Ok(())
+    }
+
+    // Adds a mark of each kept cell.
+    fn add_marks(&mut self, number: u64, changes: &Changes) -> Result<(), AllocError>
+        ensures ok { OnOk result
+            (MakesAmong changes.now.kept (with_mark number) self.old self.new) }
+        ensures err { OnErr result (IsGrown number changes.now self.old self.new) }
+    {
+        for cell in changes.kept() {
+            self.add_mark(*cell, number)?;
+        }
+        Ok(())
+    }
+
+    fn cut_changed(&mut self, number: u64, changes: &Changes)
+        ensures { MakesAmong (cells_of changes.now.cells) (cut_from number) self.old self.new }
+    {
+        for (cell, _) in changes.iter() {
+            self.cut_from(cell, number);
+        }
+    }
+
+    fn cut_kept(&mut self, number: u64, changes: &Changes)
+        ensures { MakesAmong changes.now.kept (cut_from number) self.old self.new }
+    {
+        for cell in changes.kept() {
+            self.cut_from(cell, number);
+        }
+    }
+    // Adds a version of each changed cell, and a mark of each kept cell.
+    fn add_touches(&mut self, number: u64, changes: &Changes) -> Result<(), AllocError>
+        ensures ok { OnOk result (MakesEach (with_commit number changes.now) self.old self.new) }
+        ensures err { OnErr result (IsGrown number changes.now self.old self.new) }
+    {
+        self.add_versions(number, changes)?;
+        self.add_marks(number, changes)?;
+        Ok(())
+    }
+
+    /// Adds what a commit does. Without memory, chains that had only lesser numbers are as before.
+    pub fn add_commit(&mut self, number: u64, changes: &Changes) -> Result<(), AllocError>
+        ensures ok { OnOk result (MakesEach (with_commit number changes.now) self.old self.new) }
+        ensures err { OnErr result (KeepsBelow number self.old self.new) }
+    {
+        let Ok(()) = self.add_touches(number, changes) else {
+            self.cut_changed(number, changes);
+            self.cut_kept(number, changes);
+            return Err(AllocError);
+        };
+        Ok(())
+    }
+}

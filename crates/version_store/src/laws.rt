@@ -1,0 +1,13 @@
+//! Laws of the definitions, each the contract of a function that does nothing.
+
+ghost use Rattle.std.specs.Prelude.{◌≡◌, ◌↔◌, ℕ, List, Option};
+ghost use Rattle.prog_tree.specs.declared.cell.Cell.{Cell};
+ghost use Rattle.prog_tree.specs.ChangeSet.{ChangeSet};
+ghost use Rattle.version_store.specs.Clash.{IsClash, clash_of};
+
+/// The search over the touched cells, from the least on, finds the clash, and nothing else is one.
+pub fn clashes_are_found()
+    ensures { (ws : List ChangeSet) → (start : ℕ) → (changes : ChangeSet) →
+        (clash : Option (Cell × ℕ)) →
+        IsClash ws start changes clash ↔ (clash ≡ clash_of ws start changes) }
+{}

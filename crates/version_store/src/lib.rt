@@ -1,0 +1,13 @@
+//! A store of versions: what each cell held after each commit.
+#![tactic(auto)]
+
+mod chain;
+mod chains;
+mod clash;
+mod laws;
+mod store;
+mod version;
+
+pub use clash::Clash;
+pub use laws::clashes_are_found;
+pub use store::Store;

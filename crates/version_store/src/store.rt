@@ -1,0 +1,155 @@
+ghost use Rattle.std.specs.Prelude.{◌≡◌, ◌+◌, ◌-◌, ◌<◌, ◌≤◌, ◌^◌, List, [], ◌∷◌, ◌++◌, length, min};
+ghost use Rattle.std.specs.Prelude.{option_map, IfOk, OnErr};
+ghost use Rattle.prog_tree.specs.ChangeSet.{ChangeSet};
+ghost use Rattle.prog_tree.specs.Table.{TableState, rows_in, row_at};
+ghost use Rattle.version_store.specs.Clash.{IsClash};
+ghost use Rattle.version_store.specs.Commits.{state_at};
+ghost use Rattle.version_store.specs.StandsFor.{StandsFor};
+ghost use Rattle.version_store.specs.Versions.{versions_of};
+
+use crate::chains::Chains;
+use crate::clash::{Clash, first_clash};
+use prog_tree::{Cell, Changes, Region, Rows};
+use std::alloc::{AllocError, Global};
+use std::marker::Model;
+
+/// What each cell held after each commit.
+#[derive(Debug, Drop)]
+pub struct Store {
+    chains: Chains,
+    commits: u64,
+    floor: u64,
+    versions: u64,
+}
+
+impl Model for Store {
+    ghost use Rattle.version_store.specs.StandsFor.{StoreView};
+
+    ghost Value = { StoreView };
+
+    ghost view = { λ s. record {
+      chains = s.chains;
+      commits = s.commits;
+      floor = s.floor;
+      versions = s.versions;
+    } };
+}
+
+impl Store {
+    /// A store of opening rows, which have the number 0.
+    pub fn open(alloc: Global, opening: Rows) -> Result<Self, AllocError>
+        ensures stands { IfOk result (λ store. StandsFor store opening []) }
+    {
+        Ok(Store {
+            chains: Chains::open(alloc, &opening)?,
+            commits: 0,
+            floor: 0,
+            versions: opening.len() as u64,
+        })
+    }
+
+    /// How many commits were installed.
+    pub fn commits(&self) -> u64
+        ensures { result ≡ self.now.commits }
+    {
+        self.commits
+    }
+
+    /// The floor of the last vacuum, or 0.
+    pub fn floor(&self) -> u64
+        ensures { result ≡ self.now.floor }
+    {
+        self.floor
+    }
+
+    /// What a cell held after the first `start` commits.
+    pub fn get(&self, start: u64, cell: &Cell) -> Option<i64>
+        requires above { self.now.floor ≤ start }
+        requires within { start ≤ self.now.commits }
+        ensures { (opening : TableState) → (ws : List ChangeSet) →
+            StandsFor self.now opening ws →
+            result ≡ row_at (state_at opening ws start) cell.now }
+    {
+        self.chains.get(start, cell)
+    }
+
+    /// The rows of a region after the first `start` commits.
+    pub fn scan(&self, start: u64, region: &Region) -> Result<Rows, AllocError>
+        requires above { self.now.floor ≤ start }
+        requires within { start ≤ self.now.commits }
+        ensures { IfOk result (λ rows. (opening : TableState) → (ws : List ChangeSet) →
+            StandsFor self.now opening ws →
+            rows ≡ rows_in region.now (state_at opening ws start)) }
+    {
+        let rows = self.chains.scan(start, region)?;
+        Ok(rows)
+    }
+
+    /// The rows of all tables after the first `start` commits.
+    pub fn state(&self, start: u64) -> Result<Rows, AllocError>
+        requires above { self.now.floor ≤ start }
+        requires within { start ≤ self.now.commits }
+        ensures { IfOk result (λ rows. (opening : TableState) → (ws : List ChangeSet) →
+            StandsFor self.now opening ws →
+            rows ≡ state_at opening ws start) }
+    {
+        let rows = self.chains.state(start)?;
+        Ok(rows)
+    }
+
+    /// The clash of what an instance changes and keeps with the commits above its start.
+    pub fn clash(&self, start: u64, changes: &Changes) -> Option<Clash>
+        requires above { self.now.floor ≤ start }
+        requires within { start ≤ self.now.commits }
+        ensures { (opening : TableState) → (ws : List ChangeSet) →
+            StandsFor self.now opening ws →
+            IsClash ws start changes.now
+            (option_map (λ clash. (clash.cell, clash.number)) result) }
+    {
+        first_clash(&self.chains, start, changes)
+    }
+
+    /// Adds a commit, and answers with its number. Without memory the store stands for what it did.
+    pub fn install(&mut self, changes: &Changes) -> Result<u64, AllocError>
+        requires { self.old.commits < 2 ^ 64 - 1 }
+        ensures number { IfOk result (λ number. number ≡ self.old.commits + 1) }
+        ensures commits { IfOk result (λ number. self.new.commits ≡ number) }
+        ensures floor { self.new.floor ≡ self.old.floor }
+        ensures stands { IfOk result (λ number. (opening : TableState) → (ws : List ChangeSet) →
+            StandsFor self.old opening ws →
+            StandsFor self.new opening (ws ++ changes.now ∷ [])) }
+        ensures err { OnErr result (self.new.commits ≡ self.old.commits) }
+        ensures err_stands { OnErr result ((opening : TableState) → (ws : List ChangeSet) →
+            StandsFor self.old opening ws → StandsFor self.new opening ws) }
+    {
+        let number = self.commits + 1;
+        self.chains.add_commit(number, changes)?;
+        self.commits = number;
+        self.versions = self.versions.saturating_add(changes.iter().len() as u64);
+        Ok(number)
+    }
+
+    /// Records the floor below which nobody will read, and answers how many versions went: none,
+    /// until versions are really dropped.
+    pub fn vacuum(&mut self, floor: u64) -> u64
+        requires rises { self.old.floor ≤ floor }
+        requires within { floor ≤ self.old.commits }
+        ensures none { result ≡ 0 }
+        ensures floor { self.new.floor ≡ floor }
+        ensures commits { self.new.commits ≡ self.old.commits }
+        ensures stands { (opening : TableState) → (ws : List ChangeSet) →
+            StandsFor self.old opening ws → StandsFor self.new opening ws }
+    {
+        self.floor = floor;
+        0
+    }
+
+    /// How many versions it keeps, as far as a u64 can tell.
+    pub fn versions(&self) -> u64
+        ensures { (opening : TableState) → (ws : List ChangeSet) →
+            StandsFor self.now opening ws →
+            result ≡ min (length (versions_of opening ws)) (2 ^ 64 - 1) }
+    {
+        self.versions
+    }
+}
