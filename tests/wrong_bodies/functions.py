@@ -66,6 +66,14 @@ def type_of_impl(head):
     return owner + name.split("::")[-1] + "".join(it[0].upper() + it[1:] for it in words), True
 
 
+def home_of(plain, owner, module):
+    """Returns the module of a type, by which its methods are named: this one, or that from which the file takes it."""
+    if re.search(rf"\b(?:struct|enum)\s+{owner}\b", plain):
+        return module
+    taken = re.search(rf"\buse crate::((?:\w+::)+)(?:{owner}\b|\{{[^}}]*\b{owner}\b[^}}]*\}})", plain)
+    return tuple(taken[1].removesuffix("::").split("::")) if taken else module
+
+
 def functions_of(file, text):
     """Returns the functions of a file, outer ones before those in them."""
     plain, found = blanked(text), []
@@ -78,7 +86,8 @@ def functions_of(file, text):
                 brace = plain.find("{", item.start("impl"))
                 behind = group_end(plain, brace)
                 owner, of_trait = type_of_impl(item["head"])
-                walk(brace + 1, behind - 1, (*path, owner), of_trait)
+                home = path if of_trait else home_of(plain, owner, path)
+                walk(brace + 1, behind - 1, (*home, owner), of_trait)
             elif item["kind"] != "fn":
                 brace, semicolon = plain.find("{", at), plain.find(";", at)
                 if 0 <= semicolon < brace or brace < 0:

@@ -1,0 +1,153 @@
+-- One more instance at the end of a history.
+use Rattle.std.proofs.Common.{◌≡◌, ℕ, zero, suc, ◌+◌, ◌-◌, ◌<◌, ◌≤◌, max, true, false, List, [], ◌∷◌, ◌++◌, length, refl, ap, sym, ◌∙◌, subst, ◌⊎◌, inl, inr, cond, arith}
+use Rattle.std.specs.Prelude.{Some, None, slice_get}
+use Rattle.std.specs.Option.{option_map}
+use Rattle.std.proofs.lemmas.List.{length-append}
+use Rattle.std.proofs.lemmas.Option.{slice_get-map, slice_get_within}
+use Rattle.prog_tree.specs.declared.cell.Cell.{Cell}
+use Rattle.prog_tree.specs.declared.deed.End.TheVariants.{Ready}
+use Rattle.prog_tree.specs.ChangeSet.{ChangeSet, touches_cell}
+use Rattle.prog_tree.specs.Evaluation.{eval}
+use Rattle.prog_tree.specs.Syntax.{ProgramTree, DraftTree}
+use Rattle.prog_tree.specs.Table.{TableState}
+use Rattle.version_store.specs.Clash.{last_touch, IsClash}
+use Rattle.version_store.specs.Commits.{state_at}
+use Rattle.history_book.specs.History.{Instance, eval_of, commits_after, commits_of, state_after, evaluation, nth_instance, IsCalled, IsLawful}
+use Rattle.history_book.proofs.StateLaws.{state_at-push, commits_of-is}
+
+-- what an instance of a program does is what the program does
+pub eval_of-found : (set : DraftTree) (i : Instance) (p : ProgramTree) (m : TableState) → slice_get set.programs i.program ≡ Some p → eval_of set i m ≡ eval set.tables p i.args m
+unfolding eval_of
+eval_of-found set i p m found = rw found refl
+
+pub length-commits_after : (set : DraftTree) (opening : TableState) (past : List ChangeSet) (h : List Instance) → length (commits_after set opening past h) ≡ length past + length h
+length-commits_after set opening past [] = omega arith
+length-commits_after set opening past (i ∷ h) =
+    let w = (eval_of set i (state_at opening past i.start)).changes in
+    omega (arith, length-commits_after set opening (past ++ w ∷ []) h, length-append past (w ∷ []))
+
+-- as many commits as instances
+pub length-commits_of : (set : DraftTree) (opening : TableState) (h : List Instance) → length (commits_of set opening h) ≡ length h
+length-commits_of set opening h = omega (arith, length-commits_after set opening [] h)
+
+-- one more instance, with what it writes
+pub commits_after-push :
+    (set : DraftTree) (opening : TableState) (past : List ChangeSet) (h : List Instance) (i : Instance) →
+    let ws = commits_after set opening past h in
+    commits_after set opening past (h ++ i ∷ []) ≡ ws ++ (eval_of set i (state_at opening ws i.start)).changes ∷ []
+commits_after-push set opening past [] i = refl
+commits_after-push set opening past (j ∷ h) i =
+    commits_after-push set opening (past ++ (eval_of set j (state_at opening past j.start)).changes ∷ []) h i
+
+-- the commits of a longer history
+pub commits_of-push : (set : DraftTree) (opening : TableState) (h : List Instance) (i : Instance) →
+    commits_of set opening (h ++ i ∷ []) ≡ commits_of set opening h ++ (evaluation set opening h i).changes ∷ []
+commits_of-push set opening h i = commits_after-push set opening [] h i
+
+-- the states before it stay
+pub state_after-push : (set : DraftTree) (opening : TableState) (h : List Instance) (i : Instance) (n : ℕ) → n ≤ length h →
+    state_after set opening (h ++ i ∷ []) n ≡ state_after set opening h n
+state_after-push set opening h i n before =
+    let ws = commits_of set opening h in
+    let within : n ≤ length ws = omega (arith, length-commits_of set opening h) in
+    ap (λ vs. state_at opening vs n) (commits_of-push set opening h i) ∙ state_at-push opening ws (evaluation set opening h i).changes n within
+
+-- what an instance does is the same in a longer history
+pub evaluation-push :
+    (set : DraftTree) (opening : TableState) (h : List Instance) (i b : Instance) → b.start ≤ length h →
+    evaluation set opening (h ++ i ∷ []) b ≡ evaluation set opening h b
+evaluation-push set opening h i b before = ap (eval_of set b) (state_after-push set opening h i b.start before)
+
+-- ---- a commit among others
+
+-- a commit that touches the cell is no later than the last one
+pub last_touch-at : (c : Cell) (k : ℕ) (ws : List ChangeSet) (n : ℕ) (v : ChangeSet) → slice_get ws n ≡ Some v → touches_cell v c ≡ true → k + n ≤ last_touch c k ws
+last_touch-at c k [] n v found touches = absurd (cc)
+last_touch-at c k (w ∷ ws) zero v found touches =
+    let is : w ≡ v = cc in
+    let here : touches_cell w c ≡ true = ap (λ x. touches_cell x c) is ∙ touches in
+    let value : max k (last_touch c (k + 1) ws) ≡ last_touch c k (w ∷ ws) = ap (λ b. max (cond b k 0) (last_touch c (k + 1) ws)) (sym here) in
+    omega arith
+last_touch-at c k (w ∷ ws) (suc n) v found touches =
+    let rest : k + 1 + n ≤ last_touch c (k + 1) ws = last_touch-at c (k + 1) ws n v found touches in
+    elim (touches_cell w c) as (λ b. k + suc n ≤ max (cond b k 0) (last_touch c (k + 1) ws)) [ true ↦ omega arith | false ↦ omega arith ]
+
+-- ---- lawful histories
+
+-- an element of a list with one more is one of the list, or that one
+one_of : {X : Type 0} (xs : List X) (x y : X) (n : ℕ) → slice_get (xs ++ x ∷ []) n ≡ Some y → (slice_get xs n ≡ Some y) ⊎ ((n ≡ length xs) × (x ≡ y))
+one_of [] x y zero found = inr (refl, cc)
+one_of [] x y (suc n) found = absurd (cc)
+one_of (z ∷ xs) x y zero found = inl found
+one_of (z ∷ xs) x y (suc n) found = go (one_of xs x y n found)
+  where
+    go : (slice_get xs n ≡ Some y) ⊎ ((n ≡ length xs) × (x ≡ y)) → (slice_get xs n ≡ Some y) ⊎ ((suc n ≡ suc (length xs)) × (x ≡ y))
+    go (inl before) = inl before
+    go (inr here) = inr (ap suc here.0, here.1)
+
+module _ (set_of : DraftTree) (opening : TableState) where
+  pub lawful-nil : IsLawful set_of opening []
+  lawful-nil = record {
+    called = λ j b first found. absurd (cc);
+    starts = λ j b first found. absurd (cc);
+    ready = λ j b first found. absurd (cc);
+    apart = λ i j a b c first found other before less here there. absurd (cc);
+  }
+
+  module _ (h : List Instance) (i : Instance) (lawful : IsLawful set_of opening h) (before : i.start ≤ length h) where
+    -- an instance of the longer history: it starts early enough, and does there what it does here
+    stands : (j : ℕ) (b : Instance) → 1 ≤ j → nth_instance (h ++ i ∷ []) j ≡ Some b →
+        (b.start < j) × (j ≤ length h + 1) × (evaluation set_of opening (h ++ i ∷ []) b ≡ evaluation set_of opening h b)
+    stands j b first found = go (one_of h i b (j - 1) found)
+      where
+        go : (slice_get h (j - 1) ≡ Some b) ⊎ ((j - 1 ≡ length h) × (i ≡ b)) →
+            (b.start < j) × (j ≤ length h + 1) × (evaluation set_of opening (h ++ i ∷ []) b ≡ evaluation set_of opening h b)
+        go (inl old) =
+            let start : b.start < j = lawful.starts j b first old in
+            let inside : j - 1 < length h = slice_get_within h (j - 1) b old in
+            (start, omega arith, evaluation-push set_of opening h i b (omega arith))
+        go (inr new) =
+            let same : i.start ≡ b.start = ap (λ (x : Instance). x.start) new.1 in
+            let start : b.start ≤ length h = omega arith in
+            (omega arith, omega arith, evaluation-push set_of opening h i b start)
+
+    called_in : IsCalled set_of i → (j : ℕ) (b : Instance) → 1 ≤ j → (slice_get h (j - 1) ≡ Some b) ⊎ ((j - 1 ≡ length h) × (i ≡ b)) → IsCalled set_of b
+    called_in called j b first (inl old) = lawful.called j b first old
+    called_in called j b first (inr new) = subst (IsCalled set_of) new.1 called
+
+    ready_in : (evaluation set_of opening h i).ending ≡ Ready → (j : ℕ) (b : Instance) → 1 ≤ j → (slice_get h (j - 1) ≡ Some b) ⊎ ((j - 1 ≡ length h) × (i ≡ b)) →
+        (evaluation set_of opening h b).ending ≡ Ready
+    ready_in ends j b first (inl old) = lawful.ready j b first old
+    ready_in ends j b first (inr new) = ap (λ x. (evaluation set_of opening h x).ending) (sym new.1) ∙ ends
+
+    apart_in :
+        IsClash (commits_of set_of opening h) i.start (evaluation set_of opening h i).changes None →
+        (n j : ℕ) (a b : Instance) (c : Cell) → 1 ≤ n → (slice_get h (n - 1) ≡ Some a) ⊎ ((n - 1 ≡ length h) × (i ≡ a)) →
+        (slice_get h (j - 1) ≡ Some b) ⊎ ((j - 1 ≡ length h) × (i ≡ b)) → b.start < n → n < j → j ≤ length h + 1 →
+        touches_cell (evaluation set_of opening h a).changes c ≡ true → touches_cell (evaluation set_of opening h b).changes c ≡ true → ⊥
+    apart_in none n j a b c first (inr new) at_j between less within one other = omega arith
+    apart_in none n j a b c first (inl old) (inl later) between less within one other = lawful.apart n j a b c first old later between less one other
+    apart_in none n j a b c first (inl old) (inr new) between less within one other =
+        let ws = commits_of set_of opening h in
+        let w = (evaluation set_of opening h i).changes in
+        let changes = λ (x : Instance). (evaluation set_of opening h x).changes in
+        let here : touches_cell w c ≡ true = ap (λ x. touches_cell (changes x) c) new.1 ∙ other in
+        let place : slice_get ws (n - 1) ≡ Some (changes a) = ap (λ vs. slice_get vs (n - 1)) (commits_of-is set_of opening h lawful.starts) ∙ slice_get-map changes h (n - 1) ∙ ap (option_map changes) old in
+        let reach : 1 + (n - 1) ≤ last_touch c 1 ws = last_touch-at c 1 ws (n - 1) (changes a) place one in
+        let same : i.start ≡ b.start = ap (λ (x : Instance). x.start) new.1 in
+        none c here (omega arith)
+
+    pub lawful-push :
+        IsCalled set_of i → (evaluation set_of opening h i).ending ≡ Ready →
+        IsClash (commits_of set_of opening h) i.start (evaluation set_of opening h i).changes None → IsLawful set_of opening (h ++ i ∷ [])
+    lawful-push called ends none = record {
+      called = λ j b first found. called_in called j b first (one_of h i b (j - 1) found);
+      starts = λ j b first found. (stands j b first found).0;
+      ready = λ j b first found. ap (λ e. e.ending) (stands j b first found).2 ∙ ready_in ends j b first (one_of h i b (j - 1) found);
+      apart = λ n j a b c first at_n at_j between less one other.
+          let later : 1 ≤ j = omega arith in
+          let this = stands n a first at_n in
+          let that = stands j b later at_j in
+          apart_in none n j a b c first (one_of h i a (n - 1) at_n) (one_of h i b (j - 1) at_j) between less that.1
+          (ap (λ e. touches_cell e.changes c) (sym this.2) ∙ one) (ap (λ e. touches_cell e.changes c) (sym that.2) ∙ other);
+    }

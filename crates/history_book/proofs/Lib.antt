@@ -1,0 +1,9 @@
+pub mod ActiveLaws
+pub mod BookLaws
+pub mod ClashLaws
+pub mod CommitLaws
+pub mod EndingLaws
+pub mod FoundLaws
+pub mod HistoryLaws
+pub mod StateLaws
+pub mod Vectors

@@ -1,0 +1,121 @@
+-- Worked examples of histories, endings and active instances, computed from the definitions.
+use Rattle.std.proofs.Common.{◌≡◌, ℕ, [], ◌∷◌, List, refl, false}
+use Rattle.std.specs.Prelude.{ℤ, pos, negsuc, codes, map, Some, None}
+use Rattle.prog_tree.specs.declared.cell.Cell.{Cell}
+use Rattle.prog_tree.specs.declared.deed.Cause.TheVariants.{Asked}
+use Rattle.prog_tree.specs.declared.deed.End.TheVariants.{Ready}
+use Rattle.prog_tree.specs.declared.table.Arity.TheVariants as arity
+use Rattle.prog_tree.specs.ChangeSet.{no_changes}
+use Rattle.prog_tree.specs.Syntax.{Literal, Named, KeyTree, One, BlockEnd, Then, DraftTree}
+use Rattle.prog_tree.specs.Syntax as s
+use Rattle.prog_tree.specs.Table.{TableState}
+use Rattle.history_book.specs.History.{Instance, eval_of, commits_of, evaluation, state_after}
+use Rattle.history_book.specs.TrueBook.{committed}
+use Rattle.history_book.specs.View.{instance_of, row_of, nth_row, with_start, without, least_start}
+use Rattle.history_book.specs.declared.row.Ending.TheVariants as ending
+use Rattle.history_book.specs.declared.row.HistoryRow.{HistoryRow}
+
+abbrev cell : ℤ → Cell
+cell k = record { table = 0; first = k; second = pos 0 }
+
+abbrev key : List ℕ → KeyTree
+key name = One (Named name)
+
+-- `Look(k)` replies t[k] or -1, `Set(k, v)` puts v there, and `Cut(k)` deletes it
+abbrev registers : DraftTree
+registers = record {
+  tables = record { name = codes "t"; arity = arity.One; grow = false } ∷ [];
+  programs =
+      record {
+        name = codes "Look";
+        params = codes "k" ∷ [];
+        body = Then (s.Get (codes "x") (codes "t") (key (codes "k")) (Literal (negsuc 0))) (Then (s.Reply (Named (codes "x"))) BlockEnd);
+      }
+      ∷ record { name = codes "Set"; params = codes "k" ∷ codes "v" ∷ []; body = Then (s.Put (codes "t") (key (codes "k")) (Named (codes "v"))) BlockEnd }
+      ∷ record { name = codes "Cut"; params = codes "k" ∷ []; body = Then (s.Delete (codes "t") (key (codes "k"))) BlockEnd }
+      ∷ [];
+}
+
+abbrev call : ℕ → List ℤ → ℕ → Instance
+call program args start = record { program = program; args = args; start = start }
+
+-- t[1] is set to 1, 2 and 3; a look that began after the first of these commits then; and t[1] is deleted
+abbrev old_look : Instance
+old_look = call 0 (pos 1 ∷ []) 1
+
+abbrev history : List Instance
+history =
+    call 1 (pos 1 ∷ pos 1 ∷ []) 0 ∷ call 1 (pos 1 ∷ pos 2 ∷ []) 1 ∷ call 1 (pos 1 ∷ pos 3 ∷ []) 2 ∷ old_look
+    ∷ call 2 (pos 1 ∷ []) 4 ∷ []
+
+abbrev opening : TableState
+opening = (cell (pos 1), pos 0) ∷ []
+
+pub third_state : state_after registers opening history 3 ≡ (cell (pos 1), pos 3) ∷ []
+unfolding eval_of
+third_state = refl
+
+pub last_state : state_after registers opening history 5 ≡ []
+unfolding eval_of
+last_state = refl
+
+-- the look sees what its start had, whatever committed since
+pub old_reply : (evaluation registers opening history old_look).replies ≡ pos 1 ∷ []
+unfolding eval_of
+old_reply = refl
+
+pub old_ending : (evaluation registers opening history old_look).ending ≡ Ready
+unfolding eval_of
+old_ending = refl
+
+-- it is a commit too, which changes nothing
+pub what_was_written : map (λ w. w.cells) (commits_of registers opening history)
+    ≡ ((cell (pos 1), Some (pos 1)) ∷ []) ∷ ((cell (pos 1), Some (pos 2)) ∷ []) ∷ ((cell (pos 1), Some (pos 3)) ∷ []) ∷ []
+    ∷ ((cell (pos 1), None) ∷ []) ∷ []
+unfolding eval_of
+what_was_written = refl
+
+-- no program, no change
+pub of_no_program : (evaluation registers opening history (call 3 [] 0)).changes ≡ no_changes
+unfolding eval_of
+of_no_program = refl
+
+-- ---- rows and endings
+
+abbrev row : HistoryRow
+row = row_of old_look (pos 1 ∷ [])
+
+pub row_again : instance_of row ≡ old_look
+row_again = refl
+
+pub commits_in_order :
+    committed (ending.Committed 1 ∷ ending.Aborted row Asked ∷ ending.Clashed row (record { cell = cell (pos 1); number = 2 }) ∷ ending.Committed 2 ∷ [])
+    ≡ 1 ∷ 2 ∷ []
+commits_in_order = refl
+
+pub no_commit_zero : nth_row (row ∷ []) 0 ≡ None
+no_commit_zero = refl
+
+pub first_commit : nth_row (row ∷ []) 1 ≡ Some row
+first_commit = refl
+
+-- ---- active instances
+
+abbrev active : List (ℕ × Instance)
+active = (3, old_look) ∷ (5, call 2 (pos 1 ∷ []) 4) ∷ []
+
+pub least_active : least_start 9 active ≡ 1
+least_active = refl
+
+pub least_of_none : least_start 9 [] ≡ 9
+least_of_none = refl
+
+pub without_the_first : without 3 active ≡ (5, call 2 (pos 1 ∷ []) 4) ∷ []
+without_the_first = refl
+
+-- a ticket's start has to be the instance's
+pub with_its_start : with_start 1 (Some old_look) ≡ Some old_look
+with_its_start = refl
+
+pub with_another_start : with_start 2 (Some old_look) ≡ None
+with_another_start = refl

@@ -1,0 +1,338 @@
+//! The book.
+
+ghost use Rattle.std.specs.Prelude.{◌≡◌, ◌≤◌, Some, None, All, ◌↔◌, IsTrue, IfNone, IfSome, length, IfOk, IfErr, OnOk, OnErr, option_copied};
+ghost use Rattle.prog_tree.specs.Number.{IsI64};
+ghost use Rattle.prog_run.specs.View.{IsTrueRun};
+ghost use Rattle.history_book.specs.Refusals.{HasAborted, IsCommitFault, IsEndFault, IsCellRead, IsRegionRead, IsWithdrawal};
+ghost use Rattle.history_book.specs.Runs.{IsCommitted, IsAborted};
+ghost use Rattle.history_book.specs.TrueBook.{IsTrueBook};
+ghost use Rattle.history_book.specs.View.{state_in, new_book, nth_row, held_for, rows_for, least_start, vacuumed, is_full, begin_fault_of, IsBeginRefusedBy, next_ticket, begun_in};
+
+use crate::active::Active;
+use crate::fault::{BeginFault, CommitFault, EndFault, NoSuchTicket, ScanFault, Unused};
+use crate::row::{Ending, HistoryRow};
+use crate::ticket::{Receipt, Ticket};
+use prog_check::ProgramSet;
+use prog_run::Run;
+use prog_tree::{Cause, Cell, End, Region, Rows, Sequence};
+use std::alloc::{AllocError, Global};
+use std::collections::BTreeMap;
+use std::marker::Model;
+use version_store::Store;
+
+/// No begin succeeds where there are so many endings and active instances.
+const MOST_ENDINGS: usize = 100_000;
+
+/// What was begun, committed and ended over a set of programs.
+#[derive(Debug, Drop)]
+pub struct Book<'a> {
+    pub(crate) alloc: Global,
+    pub(crate) set: &'a ProgramSet,
+    opening: Rows,
+    pub(crate) store: Store,
+    pub(crate) rows: Vec<HistoryRow>,
+    pub(crate) endings: Vec<Ending>,
+    pub(crate) active: BTreeMap<u64, Active>,
+    begun: u64,
+}
+
+impl<'a> Model for Book<'a> {
+    ghost use Rattle.std.specs.Coded.{codes};
+    ghost use Rattle.prog_tree.specs.contracts.stmt.Block as block;
+    ghost use Rattle.history_book.specs.TrueBook.{IsTrueBook, IsStored};
+    ghost use Rattle.history_book.specs.View.{BookView};
+
+    ghost Value = { BookView };
+
+    ghost coded = { Prim.hlevel (codes, block.the_row.coded) };
+
+    ghost view = { λ b. record {
+      set = b.set.now;
+      opening = b.opening;
+      rows = b.rows.items;
+      endings = b.endings.items;
+      active = b.active.entries;
+      begun = b.begun;
+      floor = b.store.floor;
+    } };
+
+    ghost invariant = { λ b. IsTrueBook record {
+      set = b.set.now;
+      opening = b.opening;
+      rows = b.rows.items;
+      endings = b.endings.items;
+      active = b.active.entries;
+      begun = b.begun;
+      floor = b.store.floor;
+    }
+        × IsStored record {
+          set = b.set.now;
+          opening = b.opening;
+          rows = b.rows.items;
+          endings = b.endings.items;
+          active = b.active.entries;
+          begun = b.begun;
+          floor = b.store.floor;
+        } b.store };
+}
+
+// Whether a run is over and ready.
+fn is_ready(run: &Run<'_>) -> bool
+    ensures ready { IsTrue result ↔ (run.now.end ≡ Some End.Ready) }
+    ensures true_run { IsTrueRun run.now }
+{
+    matches!(run.end(), Some(End::Ready))
+}
+
+// Why a run aborted, if it did.
+fn cause_of(run: &Run<'_>) -> Option<Cause>
+    ensures none { IfNone result (HasAborted run.now → ⊥) }
+    ensures aborted { IfSome result (λ cause. run.now.end ≡ Some (End.Aborted cause)) }
+    ensures true_run { IsTrueRun run.now }
+{
+    match run.end() {
+        Some(End::Aborted(cause)) => Some(*cause),
+        _ => None,
+    }
+}
+
+// Numbers are of i64, as their type says.
+fn read_numbers(numbers: &[i64])
+    ensures { All IsI64 numbers.now }
+{
+    for number in numbers {
+        read_number(number);
+    }
+}
+
+fn read_number(number: &i64)
+    ensures { IsI64 number.now }
+{
+    let _number = *number;
+}
+
+impl<'a> Book<'a> {
+    /// A book of opening rows, in which nothing was begun.
+    pub fn open(alloc: Global, set: &'a ProgramSet, opening: Rows) -> Result<Self, AllocError>
+        ensures { IfOk result (λ book. book ≡ new_book set.now opening) }
+    {
+        let store = Store::open(alloc, opening.copy()?)?;
+        Ok(Book {
+            alloc,
+            set,
+            opening,
+            store,
+            rows: Vec::new(alloc),
+            endings: Vec::new(alloc),
+            active: BTreeMap::new(alloc),
+            begun: 0,
+        })
+    }
+
+    /// The set that it was opened with.
+    pub fn set(&self) -> &'a ProgramSet
+        ensures { result.now ≡ self.now.set }
+    {
+        self.set
+    }
+
+    /// The rows that it was opened with.
+    pub fn opening(&self) -> &Rows
+        ensures { result.now ≡ self.now.opening }
+    {
+        &self.opening
+    }
+
+    /// How many instances committed.
+    pub fn commits(&self) -> u64
+        ensures count { result ≡ length self.now.rows }
+        ensures true_book { IsTrueBook self.now }
+    {
+        self.store.commits()
+    }
+
+    /// The commit of a number.
+    pub fn nth_commit(&self, number: u64) -> Option<&HistoryRow>
+        ensures { option_copied result ≡ nth_row self.now.rows number }
+    {
+        if number == 0 || number > self.commits() {
+            return None;
+        }
+        self.rows.get((number - 1) as usize)
+    }
+
+    /// How each instance ended that committed, clashed or aborted, in this order.
+    pub fn endings(&self) -> &[Ending]
+        ensures all { result.now ≡ self.now.endings }
+        ensures true_book { IsTrueBook self.now }
+    {
+        &self.endings
+    }
+
+    /// The rows after all commits.
+    pub fn table(&self) -> Result<Rows, AllocError>
+        ensures { IfOk result (λ rows. rows ≡ state_in self.now (length self.now.rows)) }
+    {
+        self.store.state(self.store.commits())
+    }
+
+    /// Whether no begin can succeed.
+    pub fn is_full(&self) -> bool
+        ensures { result ≡ is_full self.now }
+    {
+        self.endings.len() + self.active.len() >= MOST_ENDINGS || self.begun == u64::MAX
+    }
+
+    // What is wrong with a begin.
+    fn begin_fault(&self, program: usize, args: &[i64]) -> Option<BeginFault>
+        ensures { result ≡ begin_fault_of self.now program args.now }
+    {
+        let Some(found) = self.set.draft().programs.get(program) else {
+            return Some(BeginFault::NoSuchProgram);
+        };
+        if found.params.len() != args.len() {
+            return Some(BeginFault::WrongArguments);
+        }
+        if self.is_full() {
+            return Some(BeginFault::Full);
+        }
+        None
+    }
+
+    /// Begins an instance, which sees all commits so far.
+    pub fn begin(&mut self, program: usize, args: &[i64]) -> Result<Ticket, BeginFault>
+        ensures refused { IsBeginRefusedBy (begin_fault_of self.old program args.now) result }
+        ensures ticket { IfOk result (λ ticket. ticket ≡ next_ticket self.old) }
+        ensures begun { OnOk result (self.new ≡ begun_in self.old program args.now) }
+        ensures err { OnErr result (self.new ≡ self.old) }
+    {
+        if let Some(fault) = self.begin_fault(program, args) {
+            return Err(fault);
+        }
+        let ticket = self.admit(program, args)?;
+        Ok(ticket)
+    }
+
+    // Begins an instance that is not refused.
+    fn admit(&mut self, program: usize, args: &[i64]) -> Result<Ticket, AllocError>
+        requires { begin_fault_of self.old program args.now ≡ None }
+        ensures ticket { IfOk result (λ ticket. ticket ≡ next_ticket self.old) }
+        ensures begun { OnOk result (self.new ≡ begun_in self.old program args.now) }
+        ensures err { OnErr result (self.new ≡ self.old) }
+    {
+        read_numbers(args);
+        let number = self.begun;
+        let start = self.store.commits();
+        let args = Sequence::from_vec(Vec::from_slice(self.alloc, args)?);
+        let active = Active {
+            program,
+            args,
+            start,
+        };
+        self.active.insert(number, active)?;
+        self.begun += 1;
+        Ok(Ticket { number, start })
+    }
+
+    /// What a cell holds for a ticket's instance, its own changes aside.
+    pub fn get(&self, ticket: &Ticket, cell: &Cell) -> Result<Option<i64>, NoSuchTicket>
+        ensures { IsCellRead (held_for self.now ticket.now cell.now) result }
+    {
+        let Some(active) = self.active_instance(ticket) else {
+            return Err(NoSuchTicket);
+        };
+        Ok(self.held(active.start, cell))
+    }
+
+    /// The rows of a region for a ticket's instance, its own changes aside.
+    pub fn scan(&self, ticket: &Ticket, region: &Region) -> Result<Rows, ScanFault>
+        ensures { IsRegionRead (rows_for self.now ticket.now region.now) result }
+    {
+        let Some(active) = self.active_instance(ticket) else {
+            return Err(ScanFault::NoSuchTicket);
+        };
+        let rows = self.rows_in(active.start, region)?;
+        Ok(rows)
+    }
+
+    /// Commits the instance of a ticket by its run, which is ready. The first refusal that applies is answered,
+    /// and a clash ends the instance too.
+    pub fn commit(&mut self, ticket: Ticket, run: Run<'a>) -> Result<Receipt, CommitFault<'a>>
+        ensures ok { IfOk result (λ receipt.
+            IsCommitted self.old self.new ticket run.entry receipt) }
+        ensures err { IfErr result (λ fault.
+            IsCommitFault self.old self.new ticket run.entry fault) }
+    {
+        let ready = is_ready(&run);
+        let row = match self.ended_row(&ticket, &run, ready) {
+            Ok(row) => row,
+            Err(refusal) => return Err(refusal.of_commit(Unused { ticket, run })),
+        };
+        match self.clash(row.start, run.changes()) {
+            Some(clash) => {
+                let ending = Ending::Clashed { row, clash };
+                match self.conclude(ticket.number, ending) {
+                    Ok(()) => Err(CommitFault::Clashed(clash)),
+                    Err(_) => Err(CommitFault::Memory(Unused { ticket, run })),
+                }
+            }
+            None => match self.install(ticket.number, row, run.changes()) {
+                Ok(number) => Ok(Receipt { commit: number }),
+                Err(_) => Err(CommitFault::Memory(Unused { ticket, run })),
+            },
+        }
+    }
+
+    /// Ends the instance of a ticket by its run, which has aborted. The first refusal that applies is
+    /// answered.
+    pub fn end(&mut self, ticket: Ticket, run: Run<'a>) -> Result<(), EndFault<'a>>
+        ensures ok { OnOk result (IsAborted self.old self.new ticket run.entry) }
+        ensures err { IfErr result (λ fault.
+            IsEndFault self.old self.new ticket run.entry fault) }
+    {
+        let cause = cause_of(&run);
+        let row = match self.ended_row(&ticket, &run, cause.is_some()) {
+            Ok(row) => row,
+            Err(refusal) => return Err(refusal.of_end(Unused { ticket, run })),
+        };
+        let Some(cause) = cause else { unreachable!() };
+        match self.conclude(ticket.number, Ending::Aborted { row, cause }) {
+            Ok(()) => Ok(()),
+            Err(_) => Err(EndFault::Memory(Unused { ticket, run })),
+        }
+    }
+
+    /// Withdraws the instance of a ticket, which leaves no ending. A ticket of no active instance is handed
+    /// back.
+    pub fn withdraw(&mut self, ticket: Ticket) -> Result<(), Ticket>
+        ensures { IsWithdrawal self.old self.new ticket result }
+    {
+        if self.active_instance(&ticket).is_none() {
+            return Err(ticket);
+        }
+        self.active.remove(&ticket.number);
+        Ok(())
+    }
+
+    /// Gives up what neither an active instance sees nor one that will be begun, and answers how many versions
+    /// went: none until versions are really dropped.
+    pub fn vacuum(&mut self) -> u64
+        ensures none { result ≡ 0 }
+        ensures floor { self.new ≡ vacuumed self.old }
+    {
+        let floor = self.oldest_start();
+        self.store.vacuum(floor)
+    }
+
+    // The least start of an active instance, that of the one begun first, or the number of commits.
+    fn oldest_start(&self) -> u64
+        ensures least { result ≡ least_start (length self.now.rows) self.now.active }
+        ensures above { self.now.floor ≤ result }
+        ensures within { result ≤ length self.now.rows }
+    {
+        match self.active.first_key_value() {
+            Some((_, oldest)) => oldest.start,
+            None => self.store.commits(),
+        }
+    }
+}

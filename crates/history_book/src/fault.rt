@@ -1,0 +1,198 @@
+//! Why calls of a book are refused, and what they hand back.
+
+ghost use Rattle.std.specs.Prelude.{◌≡◌};
+ghost use Rattle.history_book.specs.Refusals.{commit_fault_of, end_fault_of};
+
+use crate::ticket::Ticket;
+use prog_run::Run;
+use std::alloc::{AllocError, AllocFailed};
+use std::error::Error;
+use std::fmt;
+use version_store::Clash;
+
+/// Why an instance could not be begun.
+#[derive(Clone, Copy, Debug, PartialEq, Eq)]
+pub enum BeginFault {
+    /// The set has no program of the number.
+    NoSuchProgram,
+    /// There are more or fewer arguments than parameters.
+    WrongArguments,
+    /// Endings and active instances are 100,000 together, or 2^64 - 1 begins have succeeded.
+    Full,
+    /// There was no memory for it.
+    Memory,
+}
+
+impl From<AllocError> for BeginFault {
+    ghost use Rattle.std.specs.Prelude.{◌≡◌};
+    ghost use Rattle.history_book.specs.declared.fault.BeginFault.TheVariants.{Memory};
+
+    ghost from_gives = { λ _ e. e ≡ Memory };
+
+    fn from(_: AllocError) -> Self {
+        BeginFault::Memory
+    }
+}
+
+impl<T: Drop> From<AllocFailed<T>> for BeginFault {
+    ghost use Rattle.std.specs.Prelude.{◌≡◌};
+    ghost use Rattle.history_book.specs.declared.fault.BeginFault.TheVariants.{Memory};
+
+    ghost from_gives = { λ _ e. e ≡ Memory };
+
+    fn from(_: AllocFailed<T>) -> Self {
+        BeginFault::Memory
+    }
+}
+
+impl fmt::Display for BeginFault {
+    ghost use Rattle.std.specs.Prelude.{Some};
+    ghost use Rattle.history_book.specs.Texts.{begin_fault_text};
+
+    ghost output = { λ fault. Some (begin_fault_text fault) };
+
+    fn fmt<W: fmt::Write>(&self, f: &mut fmt::Formatter<W>) -> fmt::Result {
+        f.write_str(match self {
+            BeginFault::NoSuchProgram => "no such program",
+            BeginFault::WrongArguments => "wrong arguments",
+            BeginFault::Full => "full",
+            BeginFault::Memory => "memory",
+        })
+    }
+}
+
+impl Error for BeginFault {}
+
+/// The ticket's number and start are those of no active instance.
+#[derive(Clone, Copy, Debug, PartialEq, Eq)]
+pub struct NoSuchTicket;
+
+/// Why a region could not be read.
+#[derive(Clone, Copy, Debug, PartialEq, Eq)]
+pub enum ScanFault {
+    /// The ticket's number and start are those of no active instance.
+    NoSuchTicket,
+    /// There was no memory for the rows.
+    Memory,
+}
+
+impl From<AllocError> for ScanFault {
+    ghost use Rattle.std.specs.Prelude.{◌≡◌};
+    ghost use Rattle.history_book.specs.declared.fault.ScanFault.TheVariants.{Memory};
+
+    ghost from_gives = { λ _ e. e ≡ Memory };
+
+    fn from(_: AllocError) -> Self {
+        ScanFault::Memory
+    }
+}
+
+impl fmt::Display for ScanFault {
+    ghost use Rattle.std.specs.Prelude.{Some};
+    ghost use Rattle.history_book.specs.Texts.{scan_fault_text};
+
+    ghost output = { λ fault. Some (scan_fault_text fault) };
+
+    fn fmt<W: fmt::Write>(&self, f: &mut fmt::Formatter<W>) -> fmt::Result {
+        f.write_str(match self {
+            ScanFault::NoSuchTicket => "no such ticket",
+            ScanFault::Memory => "memory",
+        })
+    }
+}
+
+impl Error for ScanFault {}
+
+/// Where a run differs from the instance that it is handed in for.
+#[derive(Clone, Copy, Debug, PartialEq, Eq)]
+pub enum Place {
+    /// In its program, its arguments or the tables of its set.
+    Program,
+    /// In the look of this number, the first that did not find what the snapshot holds.
+    Look(usize),
+}
+
+/// A ticket and a run that were not used.
+#[derive(Debug, Drop)]
+pub struct Unused<'a> {
+    pub ticket: Ticket,
+    pub run: Run<'a>,
+}
+
+/// Why an instance did not commit.
+#[derive(Debug, Drop)]
+pub enum CommitFault<'a> {
+    /// The ticket's number and start are those of no active instance.
+    NoSuchTicket(Unused<'a>),
+    /// The run is not over, or it aborted.
+    NotReady(Unused<'a>),
+    /// The run is not one of the instance.
+    ForeignRun(Place, Unused<'a>),
+    /// There was no memory for it.
+    Memory(Unused<'a>),
+    /// A commit above the instance's start changed or kept a cell too. The instance has ended.
+    Clashed(Clash),
+}
+
+/// Why an instance did not end as an aborted one.
+#[derive(Debug, Drop)]
+pub enum EndFault<'a> {
+    /// The ticket's number and start are those of no active instance.
+    NoSuchTicket(Unused<'a>),
+    /// The run is not over, or it is ready.
+    NotAborted(Unused<'a>),
+    /// The run is not one of the instance.
+    ForeignRun(Place, Unused<'a>),
+    /// There was no memory for it.
+    Memory(Unused<'a>),
+}
+
+/// Why a ticket and a run do not end an instance.
+#[derive(Clone, Copy, Debug, PartialEq, Eq)]
+pub enum Refusal {
+    /// The ticket's number and start are those of no active instance.
+    NoSuchTicket,
+    /// The run has not ended as it has to.
+    WrongEnd,
+    /// The run is not one of the instance.
+    ForeignRun(Place),
+    /// There was no memory for it.
+    Memory,
+}
+
+impl From<AllocError> for Refusal {
+    ghost use Rattle.std.specs.Prelude.{◌≡◌};
+    ghost use Rattle.history_book.specs.declared.fault.Refusal.TheVariants.{Memory};
+
+    ghost from_gives = { λ _ e. e ≡ Memory };
+
+    fn from(_: AllocError) -> Self {
+        Refusal::Memory
+    }
+}
+
+impl Refusal {
+    /// The refusal of a commit, with what it hands back.
+    pub fn of_commit<'a>(self, unused: Unused<'a>) -> CommitFault<'a>
+        ensures { result ≡ commit_fault_of self unused.entry }
+    {
+        match self {
+            Refusal::NoSuchTicket => CommitFault::NoSuchTicket(unused),
+            Refusal::WrongEnd => CommitFault::NotReady(unused),
+            Refusal::ForeignRun(place) => CommitFault::ForeignRun(place, unused),
+            Refusal::Memory => CommitFault::Memory(unused),
+        }
+    }
+
+    /// The refusal of an end, with what it hands back.
+    pub fn of_end<'a>(self, unused: Unused<'a>) -> EndFault<'a>
+        ensures { result ≡ end_fault_of self unused.entry }
+    {
+        match self {
+            Refusal::NoSuchTicket => EndFault::NoSuchTicket(unused),
+            Refusal::WrongEnd => EndFault::NotAborted(unused),
+            Refusal::ForeignRun(place) => EndFault::ForeignRun(place, unused),
+            Refusal::Memory => EndFault::Memory(unused),
+        }
+    }
+}

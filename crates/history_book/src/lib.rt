@@ -1,0 +1,18 @@
+//! A book of snapshot histories: what was begun, what committed, and how each instance ended.
+#![tactic(auto)]
+
+mod active;
+mod book;
+mod fault;
+mod finish;
+mod laws;
+mod row;
+mod snapshot;
+mod ticket;
+
+pub use book::Book;
+pub use fault::{BeginFault, CommitFault, EndFault, NoSuchTicket, Place, ScanFault, Unused};
+pub use laws::{clashes_name_a_commit, commits_are_what_the_instances_write};
+pub use row::{Ending, HistoryRow};
+pub use ticket::{Receipt, Ticket};
+pub use version_store::Clash;
