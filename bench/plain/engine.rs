@@ -1,0 +1,394 @@
+//! The store of versions, and instances that are stepped over it.
+use crate::program::{Comparison, Expr, Key, Program, Range, Set, Stmt, Test};
+use std::collections::{BTreeMap, BTreeSet};
+
+#[derive(Clone, Copy, PartialEq, Eq, PartialOrd, Ord)]
+pub struct Cell {
+    pub table: usize,
+    pub first: i64,
+    pub second: i64,
+}
+
+#[derive(Clone, Copy)]
+pub struct Region {
+    pub low: Cell,
+    pub high: Cell,
+}
+
+impl Region {
+    fn is_empty(&self) -> bool {
+        self.low > self.high
+    }
+}
+
+#[derive(Default)]
+struct Chain {
+    versions: Vec<(u64, Option<i64>)>,
+    mark: u64,
+}
+
+impl Chain {
+    fn at(&self, start: u64) -> Option<i64> {
+        match self.versions.partition_point(|version| version.0 <= start) {
+            0 => None,
+            behind => self.versions[behind - 1].1,
+        }
+    }
+
+    fn last_touch(&self) -> u64 {
+        self.mark.max(self.versions.last().map_or(0, |version| version.0))
+    }
+}
+
+#[derive(Default)]
+pub struct Store {
+    chains: BTreeMap<Cell, Chain>,
+    pub commits: u64,
+}
+
+impl Store {
+    pub fn open(rows: BTreeMap<Cell, i64>) -> Store {
+        let chain = |value| Chain { versions: vec![(0, Some(value))], mark: 0 };
+        Store { chains: rows.into_iter().map(|(cell, value)| (cell, chain(value))).collect(), commits: 0 }
+    }
+
+    fn get(&self, start: u64, cell: &Cell) -> Option<i64> {
+        self.chains.get(cell).and_then(|chain| chain.at(start))
+    }
+
+    fn clash(&self, start: u64, run: &Run) -> Option<(Cell, u64)> {
+        let touched = run.changes.keys().chain(&run.kept);
+        let last = |cell: &Cell| self.chains.get(cell).map_or(0, Chain::last_touch);
+        touched.map(|cell| (*cell, last(cell))).filter(|found| found.1 > start).min()
+    }
+
+    fn install(&mut self, run: &Run) -> u64 {
+        self.commits += 1;
+        for (cell, value) in &run.changes {
+            self.chains.entry(*cell).or_default().versions.push((self.commits, *value));
+        }
+        for cell in &run.kept {
+            self.chains.entry(*cell).or_default().mark = self.commits;
+        }
+        self.commits
+    }
+
+    pub fn rows(&self) -> impl Iterator<Item = (&Cell, i64)> {
+        self.chains.iter().filter_map(|(cell, chain)| Some((cell, chain.versions.last()?.1?)))
+    }
+}
+
+pub enum Deed {
+    Read(Cell, Option<i64>),
+    Counted(Region, i64),
+    Summed(Region, i64),
+    Put(Cell, i64),
+    Removed(Cell),
+    Kept(Cell),
+}
+
+pub enum Cause {
+    Asked,
+    Missing(Cell),
+    Present(Cell),
+    Overflow,
+}
+
+pub enum Reply<'r> {
+    Did(Deed),
+    Ready(&'r [i64]),
+    Aborted(Cause),
+    Committed(u64),
+    Clashed(Cell, u64),
+    NoSuchInstance,
+    Ended,
+    NotReady,
+    Withdrawn,
+}
+
+pub struct Run<'a> {
+    start: u64,
+    open: Vec<(&'a [Stmt], usize)>,
+    values: Vec<i64>,
+    changes: BTreeMap<Cell, Option<i64>>,
+    kept: BTreeSet<Cell>,
+    replies: Vec<i64>,
+    ready: bool,
+}
+
+enum Stop {
+    Did(Deed),
+    Ready,
+    Aborted(Cause),
+}
+
+impl<'a> Run<'a> {
+    fn value(&self, expr: &Expr) -> Result<i64, Stop> {
+        let exact = |value: Option<i64>| value.ok_or(Stop::Aborted(Cause::Overflow));
+        match expr {
+            Expr::Literal(value) => Ok(*value),
+            Expr::Slot(slot) => Ok(self.values[*slot]),
+            Expr::Plus(a, b) => exact(self.value(a)?.checked_add(self.value(b)?)),
+            Expr::Minus(a, b) => exact(self.value(a)?.checked_sub(self.value(b)?)),
+            Expr::Times(a, b) => exact(self.value(a)?.checked_mul(self.value(b)?)),
+        }
+    }
+
+    fn compare(&self, c: &Comparison) -> Result<bool, Stop> {
+        let (a, b) = (self.value(&c.left)?, self.value(&c.right)?);
+        let holds = match c.sign.as_str() {
+            "<" => a < b,
+            "<=" => a <= b,
+            ">" => a > b,
+            ">=" => a >= b,
+            "==" => a == b,
+            _ => a != b,
+        };
+        Ok(holds != c.negated)
+    }
+
+    fn holds(&self, test: &Test) -> Result<bool, Stop> {
+        let mut any = false;
+        for clause in test {
+            let mut all = true;
+            for comparison in clause {
+                all &= self.compare(comparison)?;
+            }
+            any |= all;
+        }
+        Ok(any)
+    }
+
+    fn cell(&self, key: &Key) -> Result<Cell, Stop> {
+        let first = self.value(&key.first)?;
+        let second = key.second.as_ref().map_or(Ok(0), |second| self.value(second))?;
+        Ok(Cell { table: key.table, first, second })
+    }
+
+    fn region(&self, range: &Range) -> Result<Region, Stop> {
+        let cell = |first, second| Cell { table: range.table, first, second };
+        let fixed = range.first.as_ref().map(|first| self.value(first)).transpose()?;
+        let (low, high) = (self.value(&range.low)?, self.value(&range.high)?);
+        Ok(match fixed {
+            Some(first) => Region { low: cell(first, low), high: cell(first, high) },
+            None => Region { low: cell(low, 0), high: cell(high, 0) },
+        })
+    }
+
+    fn look(&self, store: &Store, cell: &Cell) -> Option<i64> {
+        match self.changes.get(cell) {
+            Some(own) => *own,
+            None => store.get(self.start, cell),
+        }
+    }
+
+    fn rows(&self, store: &Store, region: &Region) -> Vec<i64> {
+        if region.is_empty() {
+            return Vec::new();
+        }
+        let ends = region.low..=region.high;
+        let own = self.changes.range(ends.clone()).filter_map(|(_, value)| *value);
+        let others = store.chains.range(ends).filter(|(cell, _)| !self.changes.contains_key(cell));
+        own.chain(others.filter_map(|(_, chain)| chain.at(self.start))).collect()
+    }
+
+    fn bind(&mut self, value: i64) {
+        self.values.push(value);
+    }
+
+    fn statement(&mut self, store: &Store, stmt: &'a Stmt) -> Result<(), Stop> {
+        match stmt {
+            Stmt::Bind(value) => {
+                let value = self.value(value)?;
+                self.bind(value);
+                Ok(())
+            }
+            Stmt::Reply(value) => {
+                let value = self.value(value)?;
+                self.replies.push(value);
+                Ok(())
+            }
+            Stmt::Abort => Err(Stop::Aborted(Cause::Asked)),
+            Stmt::If(test, yes, no) => {
+                let block = if self.holds(test)? { yes } else { no };
+                self.open.push((block, self.values.len()));
+                Ok(())
+            }
+            Stmt::Get(key, otherwise) => {
+                let cell = self.cell(key)?;
+                let found = self.look(store, &cell);
+                let value = match found {
+                    Some(value) => value,
+                    None => self.value(otherwise)?,
+                };
+                self.bind(value);
+                Err(Stop::Did(Deed::Read(cell, found)))
+            }
+            Stmt::Need(key) => {
+                let cell = self.cell(key)?;
+                let Some(value) = self.look(store, &cell) else {
+                    return Err(Stop::Aborted(Cause::Missing(cell)));
+                };
+                self.bind(value);
+                Err(Stop::Did(Deed::Read(cell, Some(value))))
+            }
+            Stmt::Count(range) => {
+                let region = self.region(range)?;
+                let count = self.rows(store, &region).len() as i64;
+                self.bind(count);
+                Err(Stop::Did(Deed::Counted(region, count)))
+            }
+            Stmt::Sum(range) => {
+                let region = self.region(range)?;
+                let total: i128 = self.rows(store, &region).iter().map(|value| i128::from(*value)).sum();
+                let Ok(total) = i64::try_from(total) else {
+                    return Err(Stop::Aborted(Cause::Overflow));
+                };
+                self.bind(total);
+                Err(Stop::Did(Deed::Summed(region, total)))
+            }
+            Stmt::Lacks(key) => {
+                let cell = self.cell(key)?;
+                match self.look(store, &cell) {
+                    Some(_) => Err(Stop::Aborted(Cause::Present(cell))),
+                    None => Err(Stop::Did(Deed::Read(cell, None))),
+                }
+            }
+            Stmt::Put(key, value) => {
+                let cell = self.cell(key)?;
+                let value = self.value(value)?;
+                self.changes.insert(cell, Some(value));
+                Err(Stop::Did(Deed::Put(cell, value)))
+            }
+            Stmt::Insert(key, value) => {
+                let cell = self.cell(key)?;
+                let value = self.value(value)?;
+                if self.look(store, &cell).is_some() {
+                    return Err(Stop::Aborted(Cause::Present(cell)));
+                }
+                self.changes.insert(cell, Some(value));
+                Err(Stop::Did(Deed::Put(cell, value)))
+            }
+            Stmt::Delete(key) => {
+                let cell = self.cell(key)?;
+                self.changes.insert(cell, None);
+                Err(Stop::Did(Deed::Removed(cell)))
+            }
+            Stmt::Keep(key) => {
+                let cell = self.cell(key)?;
+                self.kept.insert(cell);
+                Err(Stop::Did(Deed::Kept(cell)))
+            }
+        }
+    }
+
+    fn step(&mut self, store: &Store) -> Stop {
+        loop {
+            let Some((rest, scope)) = self.open.last_mut() else {
+                return Stop::Ready;
+            };
+            let Some((stmt, behind)) = rest.split_first() else {
+                let scope = *scope;
+                self.values.truncate(scope);
+                self.open.pop();
+                continue;
+            };
+            *rest = behind;
+            if let Err(stop) = self.statement(store, stmt) {
+                return stop;
+            }
+        }
+    }
+}
+
+pub struct Engine<'a> {
+    set: &'a Set,
+    pub store: Store,
+    begun: Vec<Option<Run<'a>>>,
+    active: BTreeSet<usize>,
+    pub floor: u64,
+}
+
+impl<'a> Engine<'a> {
+    pub fn open(set: &'a Set, rows: BTreeMap<Cell, i64>) -> Engine<'a> {
+        Engine { set, store: Store::open(rows), begun: Vec::new(), active: BTreeSet::new(), floor: 0 }
+    }
+
+    /// The instance's number and start, where the arguments fit.
+    pub fn begin(&mut self, program: usize, args: Vec<i64>) -> Option<(usize, u64)> {
+        let Program { params, body } = &self.set.programs[program];
+        if *params != args.len() {
+            return None;
+        }
+        let (number, start) = (self.begun.len(), self.store.commits);
+        self.begun.push(Some(Run {
+            start,
+            open: vec![(body, args.len())],
+            values: args,
+            changes: BTreeMap::new(),
+            kept: BTreeSet::new(),
+            replies: Vec::new(),
+            ready: false,
+        }));
+        self.active.insert(number);
+        Some((number, start))
+    }
+
+    fn end(&mut self, number: usize) {
+        self.begun[number] = None;
+        self.active.remove(&number);
+    }
+
+    pub fn step(&mut self, number: usize) -> Reply<'_> {
+        let stop = match self.begun.get_mut(number) {
+            None => return Reply::NoSuchInstance,
+            Some(None) => return Reply::Ended,
+            Some(Some(run)) => run.step(&self.store),
+        };
+        match stop {
+            Stop::Did(deed) => Reply::Did(deed),
+            Stop::Aborted(cause) => {
+                self.end(number);
+                Reply::Aborted(cause)
+            }
+            Stop::Ready => {
+                let run = self.begun[number].as_mut().unwrap();
+                run.ready = true;
+                Reply::Ready(&run.replies)
+            }
+        }
+    }
+
+    pub fn commit(&mut self, number: usize) -> Reply<'_> {
+        let run = match self.begun.get(number) {
+            None => return Reply::NoSuchInstance,
+            Some(None) => return Reply::Ended,
+            Some(Some(run)) => run,
+        };
+        if !run.ready {
+            return Reply::NotReady;
+        }
+        let reply = match self.store.clash(run.start, run) {
+            Some((cell, last)) => Reply::Clashed(cell, last),
+            None => Reply::Committed(self.store.install(run)),
+        };
+        self.end(number);
+        reply
+    }
+
+    pub fn abort(&mut self, number: usize) -> Reply<'_> {
+        match self.begun.get(number) {
+            None => Reply::NoSuchInstance,
+            Some(None) => Reply::Ended,
+            Some(Some(_)) => {
+                self.end(number);
+                Reply::Withdrawn
+            }
+        }
+    }
+
+    pub fn vacuum(&mut self) {
+        let first = self.active.first().and_then(|number| self.begun[*number].as_ref());
+        self.floor = first.map_or(self.store.commits, |run| run.start);
+    }
+}
