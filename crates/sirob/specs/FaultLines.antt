@@ -8,11 +8,13 @@ use Rattle.prog_check.specs.declared.fault.CheckFault.TheVariants as c
 use Rattle.prog_text.specs.declared.fault.TextFault.{TextFault}
 use Rattle.prog_text.specs.declared.fault.TextFault.TheVariants as t
 use Rattle.sirob.specs.declared.run_fault.RunFault.{RunFault}
-use Rattle.sirob.specs.declared.run_fault.RunFault.TheVariants.{Input, Text, Check, Script}
-use Rattle.sirob.specs.declared.script_fault.ScriptFault.{ScriptFault}
-use Rattle.sirob.specs.declared.script_fault.ScriptFault.TheVariants as s
-use Rattle.sirob.specs.declared.source.InputFault.TheVariants as i
-use Rattle.sirob.specs.Faults.{code_of}
+use Rattle.sirob.specs.declared.run_fault.RunFault.TheVariants.{Input, Parts, Text, Check, Script}
+use Rattle.si_engine.specs.declared.script_fault.ScriptFault.{ScriptFault}
+use Rattle.si_engine.specs.declared.script_fault.ScriptFault.TheVariants as script
+use Rattle.si_engine.specs.declared.script_fault.LineFault.{LineFault}
+use Rattle.si_engine.specs.declared.script_fault.LineFault.TheVariants as s
+use Rattle.si_engine.specs.declared.source.InputFault.TheVariants as i
+use Rattle.sirob.specs.Faults.{code_of, part_code}
 
 -- a code and a byte's place
 abbrev pub at_byte : List ℕ → ℕ → List ℕ
@@ -56,17 +58,24 @@ check_fault c.Memory = codes "memory"
 abbrev pub in_line : List ℕ → ℕ → List ℕ
 in_line code line = code ++ (codes " line " ++ decimal line)
 
+abbrev pub line_fault : LineFault → List ℕ
+line_fault (s.BadLine line) = in_line (codes "S1") line
+line_fault (s.UnknownName line) = in_line (codes "S2") line
+line_fault (s.WrongKeys line) = in_line (codes "S3") line
+line_fault (s.LateRow line) = in_line (codes "S4") line
+line_fault (s.RepeatedRow line) = in_line (codes "S5") line
+line_fault (s.TooManyEvents line) = in_line (codes "S6") line
+line_fault s.Memory = codes "memory"
+
+-- a fault of the sink is never told
 abbrev pub script_fault : ScriptFault → List ℕ
-script_fault (s.BadLine line) = in_line (codes "S1") line
-script_fault (s.UnknownName line) = in_line (codes "S2") line
-script_fault (s.WrongKeys line) = in_line (codes "S3") line
-script_fault (s.LateRow line) = in_line (codes "S4") line
-script_fault (s.RepeatedRow line) = in_line (codes "S5") line
-script_fault (s.TooManyEvents line) = in_line (codes "S6") line
-script_fault s.Memory = codes "memory"
+script_fault (script.Input fault) = code_of fault
+script_fault (script.Line fault) = line_fault fault
+script_fault script.WriteFault = codes "I5"
 
 abbrev pub fault_text : RunFault → List ℕ
 fault_text (Input fault) = code_of fault
+fault_text (Parts fault) = part_code fault
 fault_text (Text fault) = text_fault fault
 fault_text (Check fault) = check_fault fault
 fault_text (Script fault) = script_fault fault
@@ -80,5 +89,6 @@ abbrev pub is_memory : RunFault → Bool
 is_memory (Input i.Memory) = true
 is_memory (Text t.Memory) = true
 is_memory (Check c.Memory) = true
-is_memory (Script s.Memory) = true
+is_memory (Script (script.Input i.Memory)) = true
+is_memory (Script (script.Line s.Memory)) = true
 is_memory fault = false

@@ -1,26 +1,16 @@
 -- The faults of the input.
 use Rattle.std.specs.Prelude.{ℕ, List, codes}
-use Rattle.sirob.specs.declared.source.InputFault.{InputFault}
-use Rattle.sirob.specs.declared.source.InputFault.TheVariants.{MissingPart, ExtraPart, TooLong, ReadFault, Memory}
+use Rattle.si_engine.specs.declared.source.InputFault.{InputFault}
+use Rattle.si_engine.specs.declared.source.InputFault.TheVariants.{TooLong, ReadFault, Memory}
+use Rattle.sirob.specs.declared.parts.PartFault.{PartFault}
+use Rattle.sirob.specs.declared.parts.PartFault.TheVariants.{MissingPart, ExtraPart}
 
 -- the code that a fault line gives
 abbrev pub code_of : InputFault → List ℕ
-code_of MissingPart = codes "I1"
-code_of ExtraPart = codes "I2"
 code_of TooLong = codes "I3"
 code_of ReadFault = codes "I4"
 code_of Memory = codes "memory"
 
--- reading can end so; the others are found in what was read
-abbrev pub IsOfReading : InputFault → Type 0
-IsOfReading MissingPart = ⊥
-IsOfReading ExtraPart = ⊥
-IsOfReading TooLong = Unit {0}
-IsOfReading ReadFault = Unit {0}
-IsOfReading Memory = Unit {0}
-
--- dividing can end so
-abbrev pub IsOfDividing : InputFault → Type 0
-IsOfDividing MissingPart = Unit {0}
-IsOfDividing ExtraPart = Unit {0}
-IsOfDividing fault = ⊥
+abbrev pub part_code : PartFault → List ℕ
+part_code MissingPart = codes "I1"
+part_code ExtraPart = codes "I2"

@@ -1,58 +1,29 @@
 -- What the commands write.
 use Rattle.std.specs.Prelude.{◌≡◌, ℕ, Bool, true, false, ◌<◌, ◌≤◌, List, [], ◌∷◌, ◌++◌, length, map, codes, Option, Some, None, Ok, Err}
 use Rattle.std.specs.Io.KnownBytes.{Appends}
-use Rattle.std.specs.List.{concat}
 use Rattle.prog_tree.specs.Syntax.{DraftTree}
-use Rattle.prog_tree.specs.Table.{TableState}
 use Rattle.prog_text.specs.Answer.{Accepts, Refuses}
 use Rattle.prog_text.specs.Canonical.{canonical}
 use Rattle.prog_check.specs.Faults.{first_fault}
 use Rattle.sirob.specs.declared.command_line.Mode.{Mode}
 use Rattle.sirob.specs.declared.command_line.Mode.TheVariants.{Check, Run}
-use Rattle.sirob.specs.declared.event.Event.{Event}
 use Rattle.sirob.specs.declared.run_fault.RunFault.{RunFault}
 use Rattle.sirob.specs.declared.run_fault.RunFault.TheVariants as fault
-use Rattle.sirob.specs.declared.script.Script.{Script}
-use Rattle.sirob.specs.declared.script_fault.ScriptFault.{ScriptFault}
-use Rattle.sirob.specs.declared.source.InputFault.TheVariants as input_fault
+use Rattle.si_engine.specs.declared.script.Script.{Script}
+use Rattle.si_engine.specs.declared.script_fault.LineFault.{LineFault}
+use Rattle.si_engine.specs.declared.script_fault.ScriptFault.TheVariants as script_fault
+use Rattle.si_engine.specs.declared.source.InputFault.TheVariants as input_fault
+use Rattle.sirob.specs.declared.parts.PartFault.TheVariants as part_fault
 use Rattle.sirob.specs.declared.status.Status.{Status}
 use Rattle.sirob.specs.declared.status.Status.TheVariants.{Done, Faulty, Memory}
+use Rattle.si_engine.specs.Reading.{ForInput, input_limit}
+use Rattle.si_engine.specs.Runs.{run_lines, Adds, AddsFirst}
+use Rattle.si_engine.specs.Script.{script_of}
+use Rattle.si_engine.specs.Writing.{AppendsFront}
 use Rattle.sirob.specs.FaultLines.{fault_line, is_memory}
-use Rattle.sirob.specs.History.{state_after}
-use Rattle.sirob.specs.Machine.{Machine, new_machine, machine_step, machine_after}
 use Rattle.sirob.specs.Parts.{parts_of}
-use Rattle.sirob.specs.Printed.{reply_line, row_line}
-use Rattle.sirob.specs.Reading.{ForInput}
-use Rattle.sirob.specs.Script.{script_of}
-use Rattle.sirob.specs.Writing.{AppendsFront}
-
--- ---- the lines of a script
-
--- one line for each event that the machine is handed: what it answers
-abbrev pub event_lines : DraftTree → TableState → List Event → Machine → List (List ℕ)
-event_lines set opening [] machine = []
-event_lines set opening (event ∷ events) machine =
-    let step = machine_step set opening event machine in
-    reply_line set.tables event step.0 ∷ event_lines set opening events step.1
-
--- the state after all that has committed
-abbrev pub state_of : DraftTree → TableState → Machine → TableState
-state_of set opening machine = state_after set opening machine.history (length machine.history)
-
--- one line for each row of a state, in cell order
-abbrev pub row_lines : DraftTree → TableState → List (List ℕ)
-row_lines set state = map (λ row. row_line set.tables row.0 row.1) state
-
--- the lines that a script makes: one for each of its events, and the rows that are left
-abbrev pub run_lines : DraftTree → Script → List (List ℕ)
-run_lines set script =
-    event_lines set script.rows script.events new_machine ++ row_lines set (state_of set script.rows (machine_after set script.rows script.events new_machine))
 
 -- ---- what an input means
-
--- the greatest length of the input
-abbrev pub input_limit : ℕ
-input_limit = 16777216
 
 -- how many parts a command wants
 abbrev pub parts_wanted : Mode → ℕ
@@ -102,7 +73,7 @@ HasText Check input text = IsDivided input (text ∷ [])
 HasText Run input text = (part : List ℕ) × IsDivided input (text ∷ part ∷ [])
 
 -- the text is that of a set without a fault, and this is the first of the script
-abbrev pub IsRefusedScript : Mode → List ℕ → ScriptFault → Type 0
+abbrev pub IsRefusedScript : Mode → List ℕ → LineFault → Type 0
 IsRefusedScript Check input f = ⊥
 IsRefusedScript Run input f =
     (text : List ℕ) × (part : List ℕ) × (set : DraftTree) × IsDivided input (text ∷ part ∷ []) × IsSoundText text set × (script_of set part ≡ Err f)
@@ -110,21 +81,14 @@ IsRefusedScript Run input f =
 -- the first fault of an input
 abbrev pub IsRefused : Mode → List ℕ → RunFault → Type 0
 IsRefused mode input (fault.Input input_fault.TooLong) = input_limit < length input
-IsRefused mode input (fault.Input input_fault.MissingPart) = (length input ≤ input_limit) × (length (parts_of input) < parts_wanted mode)
-IsRefused mode input (fault.Input input_fault.ExtraPart) = (length input ≤ input_limit) × (parts_wanted mode < length (parts_of input))
+IsRefused mode input (fault.Parts part_fault.MissingPart) = (length input ≤ input_limit) × (length (parts_of input) < parts_wanted mode)
+IsRefused mode input (fault.Parts part_fault.ExtraPart) = (length input ≤ input_limit) × (parts_wanted mode < length (parts_of input))
 IsRefused mode input (fault.Input f) = ⊥
-IsRefused mode input (fault.Script f) = IsRefusedScript mode input f
+IsRefused mode input (fault.Script (script_fault.Line f)) = IsRefusedScript mode input f
+IsRefused mode input (fault.Script f) = ⊥
 IsRefused mode input f = (text : List ℕ) × HasText mode input text × IsRefusedText text f
 
 -- ---- what is written
-
--- lines were added to a text
-abbrev pub Adds : List (List ℕ) → List ℕ → List ℕ → Type 0
-Adds lines before after = after ≡ before ++ concat lines
-
--- some first of these lines were added to a text, or all of them
-abbrev pub AddsFirst : List (List ℕ) → List ℕ → List ℕ → Type 0
-AddsFirst lines before after = (done : List (List ℕ)) × (rest : List (List ℕ)) × (lines ≡ done ++ rest) × Adds done before after
 
 -- what the input means was written
 abbrev pub Gives : Mode → List ℕ → List ℕ → Type 0

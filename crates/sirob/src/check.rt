@@ -1,6 +1,7 @@
 //! The command `check`: from the bytes of its input to the canonical text of their set.
 ghost use Rattle.std.specs.Prelude.{◌≡◌, ◌≤◌, [], length, IfOk, IfErr};
-ghost use Rattle.sirob.specs.Output.{input_limit, Gives};
+ghost use Rattle.si_engine.specs.Reading.{input_limit};
+ghost use Rattle.sirob.specs.Output.{Gives};
 ghost use Rattle.sirob.specs.Stops.{IsStop};
 ghost use Rattle.sirob.specs.declared.command_line.Mode.TheVariants as mode;
 

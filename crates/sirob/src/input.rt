@@ -1,13 +1,14 @@
-//! From the bytes of an input to a checked set, and to a script for it.
+//! From the bytes of an input to a checked set, and to the part behind it.
 ghost use Rattle.std.specs.Prelude.{◌≡◌, ◌≤◌, false, length, IfOk, IfErr};
 ghost use Rattle.prog_tree.specs.Tree.{draft_tree};
 ghost use Rattle.sirob.specs.FaultLines.{is_memory};
-ghost use Rattle.sirob.specs.Output.{input_limit, IsSoundText, IsChecked, IsRun, IsRefused, IsRefusedText};
+ghost use Rattle.si_engine.specs.Reading.{input_limit};
+ghost use Rattle.sirob.specs.Output.{IsSoundText, IsChecked, IsRefused, IsRefusedText};
+ghost use Rattle.sirob.specs.Stops.{IsSetAndPart};
 ghost use Rattle.sirob.specs.declared.command_line.Mode.TheVariants as mode;
 
 use crate::parts::{one_part, two_parts};
 use crate::run_fault::RunFault;
-use crate::script::{Script, read_script};
 use prog_check::{ProgramSet, check};
 use prog_text::parse;
 use std::alloc::Global;
@@ -33,14 +34,13 @@ pub fn read_text(alloc: Global, input: &[u8]) -> Result<ProgramSet, RunFault>
     Ok(set)
 }
 
-/// The set and the script of an input, where it has no fault.
-pub fn read_text_and_script(alloc: Global, input: &[u8]) -> Result<(ProgramSet, Script), RunFault>
+/// The set that the first part of an input spells, where it has no fault, and the bytes of the second part.
+pub fn read_text_and_part(alloc: Global, input: &[u8]) -> Result<(ProgramSet, &[u8]), RunFault>
     requires { length input.now ≤ input_limit }
-    ensures ok { IfOk result (λ r. IsRun input.now (draft_tree r.0) r.1) }
+    ensures ok { IfOk result (λ r. IsSetAndPart input.now (draft_tree r.0) r.1.now) }
     ensures err { IfErr result (λ fault. is_memory fault ≡ false → IsRefused mode.Run input.now fault) }
 {
     let parts = two_parts(input)?;
     let set = read_set(alloc, parts.text)?;
-    let script = read_script(alloc, &set, parts.rest)?;
-    Ok((set, script))
+    Ok((set, parts.rest))
 }

@@ -2,39 +2,19 @@
 #![tactic(auto)]
 
 mod check;
-mod clash;
-mod command;
 mod command_line;
-#[cfg(test)]
-mod device_tests;
-mod engine;
-mod evaluate;
-mod event;
-#[cfg(test)]
-mod fakes;
 mod input;
-mod instance;
-mod line_words;
-mod lines;
-mod number;
 mod parts;
-mod port;
-mod printed;
 mod program;
 mod run;
 mod run_command;
 mod run_fault;
-mod script;
-mod script_fault;
-mod sink;
-mod source;
-mod state;
 mod status;
 #[cfg(test)]
 mod word_tests;
 
-use crate::port::Port;
 use crate::program::carry_out;
+use si_engine::Port;
 use std::process::ExitCode;
 use std::rt::Env;
 use std::{env, io};

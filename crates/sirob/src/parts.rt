@@ -1,19 +1,23 @@
 //! The parts of the input.
 ghost use Rattle.std.specs.Prelude.{◌≡◌, ◌<◌, ◌≤◌, ◌+◌, ◌++◌, ◌↔◌, [], ◌∷◌, IsTrue, IsOk, IfOk, IfErr, IsErrOf, IfSome, IfNone, MatchOption, ℕ, ◌≢◌, length, slice_index, take, drop};
-ghost use Rattle.sirob.specs.Faults.{IsOfDividing};
 ghost use Rattle.sirob.specs.Parts.{is_separator, full_lines_of, parts_of};
 
-use crate::source::InputFault;
+/// The input hasn't the parts that are asked for.
+#[derive(Clone, Copy, Debug, PartialEq, Eq)]
+pub enum PartFault {
+    MissingPart,
+    ExtraPart,
+}
 
 /// The input, where no line of it is `%%`.
-pub fn one_part(input: &[u8]) -> Result<&[u8], InputFault>
+pub fn one_part(input: &[u8]) -> Result<&[u8], PartFault>
     ensures part { IfOk result (λ text. parts_of input.now ≡ text.now ∷ []) }
-    ensures extra { IsErrOf result InputFault.ExtraPart ↔ (1 < length (parts_of input.now)) }
-    ensures kinds { IfErr result (λ fault. fault ≡ InputFault.ExtraPart) }
+    ensures extra { IsErrOf result PartFault.ExtraPart ↔ (1 < length (parts_of input.now)) }
+    ensures kinds { IfErr result (λ fault. fault ≡ PartFault.ExtraPart) }
 {
     let first = first_part(input);
     if first.behind.is_some() {
-        return Err(InputFault::ExtraPart);
+        return Err(PartFault::ExtraPart);
     }
     Ok(first.part)
 }
@@ -26,20 +30,20 @@ pub struct Parts<'a> {
 }
 
 /// The input, divided at its one line `%%`. The line feed before that line belongs to the text.
-pub fn two_parts(input: &[u8]) -> Result<Parts<'_>, InputFault>
+pub fn two_parts(input: &[u8]) -> Result<Parts<'_>, PartFault>
     ensures ok { IsOk result ↔ (length (parts_of input.now) ≡ 2) }
     ensures parts { IfOk result (λ p. parts_of input.now ≡ p.text.now ∷ p.rest.now ∷ []) }
-    ensures missing { IsErrOf result InputFault.MissingPart ↔ (length (parts_of input.now) ≡ 1) }
-    ensures extra { IsErrOf result InputFault.ExtraPart ↔ (2 < length (parts_of input.now)) }
-    ensures kinds { IfErr result IsOfDividing }
+    ensures within { IfOk result (λ p. length p.rest.now ≤ length input.now) }
+    ensures missing { IsErrOf result PartFault.MissingPart ↔ (length (parts_of input.now) ≡ 1) }
+    ensures extra { IsErrOf result PartFault.ExtraPart ↔ (2 < length (parts_of input.now)) }
 {
     let first = first_part(input);
     let Some(rest) = first.behind else {
-        return Err(InputFault::MissingPart);
+        return Err(PartFault::MissingPart);
     };
     let second = first_part(rest);
     if second.behind.is_some() {
-        return Err(InputFault::ExtraPart);
+        return Err(PartFault::ExtraPart);
     }
     Ok(Parts {
         text: first.part,
@@ -55,7 +59,9 @@ struct FirstPart<'a> {
 }
 
 fn first_part(bytes: &[u8]) -> FirstPart<'_>
-    ensures { MatchOption result.behind (parts_of bytes.now ≡ result.part.now ∷ [])
+    ensures within { length result.part.now ≤ length bytes.now }
+    ensures behind_within { IfSome result.behind (λ behind. length behind.now ≤ length bytes.now) }
+    ensures parts { MatchOption result.behind (parts_of bytes.now ≡ result.part.now ∷ [])
         (λ behind. parts_of bytes.now ≡ result.part.now ∷ parts_of behind.now) }
 {
     let mut at = 0;

@@ -8,11 +8,10 @@ ghost use Rattle.sirob.specs.Stops.{IsJust};
 
 use crate::command_line::read_words;
 use crate::run_command::{MEMORY_LINE, run_command, write_last};
-use crate::sink::Sink;
-use crate::source::{MOST_READS, Source};
 use crate::status::Status;
 use clap::Error;
 use clap::error::ErrorKind;
+use si_engine::{MOST_READS, Sink, Source};
 use std::alloc::Global;
 use std::io;
 

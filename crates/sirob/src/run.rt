@@ -1,79 +1,41 @@
 //! The command `run`: from the bytes of its input to the lines of its output.
-ghost use Rattle.std.specs.Prelude.{◌≡◌, ◌≤◌, [], length, string_bytes, IfErr, OnOk, OnErr};
+ghost use Rattle.std.specs.Prelude.{◌≡◌, ◌≤◌, false, Err, length};
 ghost use Rattle.prog_tree.specs.Tree.{draft_tree};
-ghost use Rattle.sirob.specs.Machine.{machine_after};
-ghost use Rattle.sirob.specs.Output.{input_limit, event_lines, row_lines, run_lines, Adds, AddsFirst, Gives};
-ghost use Rattle.sirob.specs.Stops.{IsStop};
-ghost use Rattle.sirob.specs.declared.command_line.Mode.TheVariants as mode;
+ghost use Rattle.si_engine.specs.Reading.{input_limit};
+ghost use Rattle.si_engine.specs.Writing.{WritesOr};
+ghost use Rattle.sirob.specs.Stops.{IsPartRun, IsInputRun, write_lost};
 
-use crate::engine::Engine;
-use crate::event::Event;
-use crate::input::read_text_and_script;
-use crate::printed::{push_reply_line, push_row_line};
+use crate::input::read_text_and_part;
 use crate::run_fault::RunFault;
-use crate::script::Script;
 use prog_check::ProgramSet;
-use prog_tree::{Draft, Rows};
-use std::alloc::{AllocError, Global};
+use si_engine::{Bytes, Sink, run_script};
+use std::alloc::Global;
 
-// Hands the events to the engine, and adds the line of each reply.
-fn run_events(
-    engine: &mut Engine<'_>,
-    set: &Draft,
-    events: &[Event],
-    out: &mut String,
-) -> Result<(), AllocError>
-    requires { engine.old.set ≡ set.now }
-    ensures set { engine.new.set ≡ engine.old.set }
-    ensures opening { engine.new.opening ≡ engine.old.opening }
-    ensures after { OnOk result (engine.new.machine ≡ machine_after (draft_tree set.now) engine.old.opening events.now engine.old.machine) }
-    ensures ok { OnOk result (Adds (event_lines (draft_tree set.now) engine.old.opening events.now engine.old.machine) (string_bytes out.old) (string_bytes out.new)) }
-    ensures err { OnErr result (AddsFirst (event_lines (draft_tree set.now) engine.old.opening events.now engine.old.machine) (string_bytes out.old) (string_bytes out.new)) }
-{
-    for event in events {
-        let reply = engine.apply(event)?;
-        push_reply_line(out, &set.tables, event, &reply)?;
-    }
-    Ok(())
-}
-
-// Adds the line of each row.
-fn list_rows(set: &Draft, rows: &Rows, out: &mut String) -> Result<(), AllocError>
-    ensures ok { OnOk result (Adds (row_lines (draft_tree set.now) rows.now) (string_bytes out.old) (string_bytes out.new)) }
-    ensures err { OnErr result (AddsFirst (row_lines (draft_tree set.now) rows.now) (string_bytes out.old) (string_bytes out.new)) }
-{
-    for (cell, value) in rows.iter() {
-        push_row_line(out, &set.tables, cell, *value)?;
-    }
-    Ok(())
-}
-
-// Runs a script. Where memory runs out, some first of its lines were added.
-fn run_script(
+// Runs the script that the bytes of a part are.
+fn run_part<K: Sink>(
     alloc: Global,
     set: &ProgramSet,
-    script: Script,
-    out: &mut String,
-) -> Result<(), AllocError>
-    ensures ok { OnOk result (Adds (run_lines (draft_tree set.now) script) (string_bytes out.old) (string_bytes out.new)) }
-    ensures err { OnErr result (AddsFirst (run_lines (draft_tree set.now) script) (string_bytes out.old) (string_bytes out.new)) }
+    part: &[u8],
+    sink: &mut K,
+) -> Result<(), RunFault>
+    requires { length part.now ≤ input_limit }
+    ensures { WritesOr (Err write_lost) (IsPartRun (draft_tree set.now) part.now)
+        (K.has_failed sink.new) (K.taken sink.old) (K.taken sink.new) result }
 {
-    let Script { rows, events } = script;
-    let draft = set.draft();
-    let mut engine = Engine::open(alloc, set, rows);
-    run_events(&mut engine, draft, events.as_slice(), out)?;
-    list_rows(draft, engine.rows(), out)
+    match run_script(alloc, set, &mut Bytes::new(part), sink) {
+        Ok(()) => Ok(()),
+        Err(fault) => Err(RunFault::Script(fault)),
+    }
 }
 
-/// Runs the script of an input whose two parts are the text of a set and a script. Each event adds a line, and then each
-/// row; where memory runs out, some first lines were added.
-pub fn run_input(alloc: Global, input: &[u8], out: &mut String) -> Result<(), RunFault>
+/// Runs the script of an input whose two parts are the text of a set and a script. Each event writes a line, and then
+/// each row; where memory runs out, some first lines were written.
+pub fn run_input<K: Sink>(alloc: Global, input: &[u8], sink: &mut K) -> Result<(), RunFault>
     requires short { length input.now ≤ input_limit }
-    requires empty { string_bytes out.old ≡ [] }
-    ensures ok { OnOk result (Gives mode.Run input.now (string_bytes out.new)) }
-    ensures err { IfErr result (λ fault. IsStop mode.Run input.now fault (string_bytes out.new)) }
+    requires working { K.has_failed sink.old ≡ false }
+    ensures { WritesOr (Err write_lost) (IsInputRun input.now)
+        (K.has_failed sink.new) (K.taken sink.old) (K.taken sink.new) result }
 {
-    let (set, script) = read_text_and_script(alloc, input)?;
-    run_script(alloc, &set, script, out)?;
-    Ok(())
+    let (set, part) = read_text_and_part(alloc, input)?;
+    run_part(alloc, &set, part, sink)
 }

@@ -1,18 +1,18 @@
 //! Carries out what the words ask for, from a source to a sink.
-ghost use Rattle.std.specs.Prelude.{◌≡◌, ◌≤◌, ◌+◌, ◌++◌, true, false, [], Err, string_bytes, IfOk, IfErr};
+ghost use Rattle.std.specs.Prelude.{◌≡◌, ◌≤◌, ◌+◌, ◌++◌, true, false, [], Err, IfOk, IfErr};
 ghost use Rattle.sirob.specs.FaultLines.{is_memory};
 ghost use Rattle.sirob.specs.Output.{Gives, IsReply, Writes, memory_line};
-ghost use Rattle.sirob.specs.Reading.{ForInput};
-ghost use Rattle.sirob.specs.Stops.{IsStop, IsReadFault, Ends, IsJust};
+ghost use Rattle.si_engine.specs.Reading.{ForInput};
+ghost use Rattle.si_engine.specs.Writing.{WritesOr};
+ghost use Rattle.sirob.specs.Stops.{IsStop, IsReadFault, Ends, IsJust, IsSourceRun, write_lost};
 ghost use Rattle.sirob.specs.declared.command_line.Mode.TheVariants as m;
 
 use crate::check::check_input;
 use crate::command_line::Mode;
 use crate::run::run_input;
 use crate::run_fault::{RunFault, fault_line};
-use crate::sink::{Sink, write_whole};
-use crate::source::{MOST_READS, Source, read_whole};
 use crate::status::Status;
+use si_engine::{MOST_READS, Sink, Source, read_whole, write_whole};
 use std::alloc::Global;
 
 /// The line of want of memory.
@@ -34,17 +34,18 @@ fn check_source<S: Source>(alloc: Global, source: &mut S, out: &mut Vec<u8>) -> 
 }
 
 // Reads all of a source, and runs its script.
-fn run_source<S: Source>(alloc: Global, source: &mut S, out: &mut String) -> Result<(), RunFault>
-    requires { string_bytes out.old ≡ [] }
-    ensures ok { IfOk result (λ _.
-        ForInput (S.left source.old) (λ input. Gives m.Run input (string_bytes out.new))) }
-    ensures err { IfErr result (λ fault. S.has_failed source.new ≡ false
-        → ForInput (S.left source.old) (λ input. IsStop m.Run input fault (string_bytes out.new))) }
-    ensures unread { S.has_failed source.new ≡ true → IsReadFault result }
+fn run_source<S: Source, K: Sink>(
+    alloc: Global,
+    source: &mut S,
+    sink: &mut K,
+) -> Result<(), RunFault>
+    requires { K.has_failed sink.old ≡ false }
+    ensures run { WritesOr (Err write_lost) (IsSourceRun (S.left source.old) (S.has_failed source.new))
+        (K.has_failed sink.new) (K.taken sink.old) (K.taken sink.new) result }
     ensures reads { S.pulls source.new ≤ S.pulls source.old + MOST_READS }
 {
     let input = read_whole(alloc, source)?;
-    run_input(alloc, &input, out)
+    run_input(alloc, &input, sink)
 }
 
 /// Writes the last bytes; the status is the one given, or that of a failed write.
@@ -103,6 +104,22 @@ fn write_answer<K: Sink>(
     }
 }
 
+// Reads all of a source, runs its script, and writes the answer.
+fn answer_run<S: Source, K: Sink>(alloc: Global, source: &mut S, sink: &mut K) -> Status
+    ensures reply { Writes (IsReply m.Run (S.left source.old) (S.has_failed source.new))
+        (K.has_failed sink.new) (K.taken sink.old) (K.taken sink.new) result }
+    ensures reads { S.pulls source.new ≤ S.pulls source.old + MOST_READS }
+{
+    if sink.failed() {
+        return Status::Faulty;
+    }
+    let ended = run_source(alloc, source, sink);
+    if sink.failed() {
+        return Status::Faulty;
+    }
+    write_answer(alloc, sink, b"", ended)
+}
+
 /// Reads all of a source, does what the mode asks for, and writes the answer to a sink. A source that failed is a fault
 /// of the input; of a sink that failed, the status is that of a fault.
 pub fn run_command<S: Source, K: Sink>(
@@ -121,10 +138,6 @@ pub fn run_command<S: Source, K: Sink>(
             let ended = check_source(alloc, source, &mut text);
             write_answer(alloc, sink, &text, ended)
         }
-        Mode::Run => {
-            let mut lines = String::new(alloc);
-            let ended = run_source(alloc, source, &mut lines);
-            write_answer(alloc, sink, lines.as_bytes(), ended)
-        }
+        Mode::Run => answer_run(alloc, source, sink),
     }
 }

@@ -1,20 +1,42 @@
 //! What keeps a command from its work, and the line that says so.
 ghost use Rattle.std.specs.Prelude.{◌≡◌, IfOk, string_bytes};
-ghost use Rattle.sirob.specs.FaultLines.{text_fault, place_text, in_set, check_fault, script_fault, fault_line, is_memory};
+ghost use Rattle.sirob.specs.Faults.{code_of, part_code};
+ghost use Rattle.sirob.specs.FaultLines.{text_fault, place_text, in_set, check_fault, line_fault, script_fault, fault_line, is_memory};
 
-use crate::script_fault::ScriptFault;
-use crate::source::InputFault;
+use crate::parts::PartFault;
 use prog_check::{CheckFault, Place};
 use prog_text::TextFault;
+use si_engine::{InputFault, LineFault, ScriptFault};
 use std::alloc::{AllocError, Global};
 
 /// A fault, by the layer that finds it.
 #[derive(Clone, Copy, Debug, PartialEq, Eq)]
 pub enum RunFault {
     Input(InputFault),
+    Parts(PartFault),
     Text(TextFault),
     Check(CheckFault),
     Script(ScriptFault),
+}
+
+// A fault of the source, by its code.
+fn input_fault(alloc: Global, fault: InputFault) -> Result<String, AllocError>
+    ensures { IfOk result (λ text. string_bytes text ≡ code_of fault) }
+{
+    match fault {
+        InputFault::TooLong => format!(in alloc; "I3"),
+        InputFault::ReadFault => format!(in alloc; "I4"),
+        InputFault::Memory => format!(in alloc; "memory"),
+    }
+}
+
+fn part_fault(alloc: Global, fault: PartFault) -> Result<String, AllocError>
+    ensures { IfOk result (λ text. string_bytes text ≡ part_code fault) }
+{
+    match fault {
+        PartFault::MissingPart => format!(in alloc; "I1"),
+        PartFault::ExtraPart => format!(in alloc; "I2"),
+    }
 }
 
 // A fault of the text, by its code and the byte where it stands.
@@ -74,18 +96,29 @@ fn check_fault(alloc: Global, fault: CheckFault) -> Result<String, AllocError>
     }
 }
 
-// A fault of the script, by its code and its line.
+// A fault of a line of the script, by its code and its line.
+fn line_fault(alloc: Global, fault: LineFault) -> Result<String, AllocError>
+    ensures { IfOk result (λ text. string_bytes text ≡ line_fault fault) }
+{
+    match fault {
+        LineFault::BadLine { line } => format!(in alloc; "S1 line {line}"),
+        LineFault::UnknownName { line } => format!(in alloc; "S2 line {line}"),
+        LineFault::WrongKeys { line } => format!(in alloc; "S3 line {line}"),
+        LineFault::LateRow { line } => format!(in alloc; "S4 line {line}"),
+        LineFault::RepeatedRow { line } => format!(in alloc; "S5 line {line}"),
+        LineFault::TooManyEvents { line } => format!(in alloc; "S6 line {line}"),
+        LineFault::Memory => format!(in alloc; "memory"),
+    }
+}
+
+// A fault of the script. That of the sink is never told.
 fn script_fault(alloc: Global, fault: ScriptFault) -> Result<String, AllocError>
     ensures { IfOk result (λ text. string_bytes text ≡ script_fault fault) }
 {
     match fault {
-        ScriptFault::BadLine { line } => format!(in alloc; "S1 line {line}"),
-        ScriptFault::UnknownName { line } => format!(in alloc; "S2 line {line}"),
-        ScriptFault::WrongKeys { line } => format!(in alloc; "S3 line {line}"),
-        ScriptFault::LateRow { line } => format!(in alloc; "S4 line {line}"),
-        ScriptFault::RepeatedRow { line } => format!(in alloc; "S5 line {line}"),
-        ScriptFault::TooManyEvents { line } => format!(in alloc; "S6 line {line}"),
-        ScriptFault::Memory => format!(in alloc; "memory"),
+        ScriptFault::Input(fault) => input_fault(alloc, fault),
+        ScriptFault::Line(fault) => line_fault(alloc, fault),
+        ScriptFault::WriteFault => format!(in alloc; "I5"),
     }
 }
 
@@ -94,7 +127,8 @@ pub fn fault_line(alloc: Global, fault: RunFault) -> Result<String, AllocError>
     ensures { IfOk result (λ line. string_bytes line ≡ fault_line fault) }
 {
     let text = match fault {
-        RunFault::Input(fault) => format!(in alloc; "{fault}")?,
+        RunFault::Input(fault) => input_fault(alloc, fault)?,
+        RunFault::Parts(fault) => part_fault(alloc, fault)?,
         RunFault::Text(fault) => text_fault(alloc, fault)?,
         RunFault::Check(fault) => check_fault(alloc, fault)?,
         RunFault::Script(fault) => script_fault(alloc, fault)?,
@@ -110,6 +144,17 @@ impl From<InputFault> for RunFault {
 
     fn from(fault: InputFault) -> Self {
         RunFault::Input(fault)
+    }
+}
+
+impl From<PartFault> for RunFault {
+    ghost use Rattle.std.specs.Prelude.{◌≡◌};
+    ghost use Rattle.sirob.specs.declared.run_fault.RunFault.TheVariants.{Parts};
+
+    ghost from_gives = { λ fault e. e ≡ Parts fault };
+
+    fn from(fault: PartFault) -> Self {
+        RunFault::Parts(fault)
     }
 }
 
@@ -135,21 +180,10 @@ impl From<CheckFault> for RunFault {
     }
 }
 
-impl From<ScriptFault> for RunFault {
-    ghost use Rattle.std.specs.Prelude.{◌≡◌};
-    ghost use Rattle.sirob.specs.declared.run_fault.RunFault.TheVariants.{Script};
-
-    ghost from_gives = { λ fault e. e ≡ Script fault };
-
-    fn from(fault: ScriptFault) -> Self {
-        RunFault::Script(fault)
-    }
-}
-
 impl From<AllocError> for RunFault {
     ghost use Rattle.std.specs.Prelude.{◌≡◌};
     ghost use Rattle.sirob.specs.declared.run_fault.RunFault.TheVariants.{Input};
-    ghost use Rattle.sirob.specs.declared.source.InputFault.TheVariants.{Memory};
+    ghost use Rattle.si_engine.specs.declared.source.InputFault.TheVariants.{Memory};
 
     ghost from_gives = { λ _ e. e ≡ Input Memory };
 
@@ -168,7 +202,8 @@ impl RunFault {
             RunFault::Input(InputFault::Memory)
                 | RunFault::Text(TextFault::Memory)
                 | RunFault::Check(CheckFault::Memory)
-                | RunFault::Script(ScriptFault::Memory)
+                | RunFault::Script(ScriptFault::Input(InputFault::Memory))
+                | RunFault::Script(ScriptFault::Line(LineFault::Memory))
         )
     }
 }

@@ -5,7 +5,7 @@ use Rattle.sirob.proofs.parts.two_parts.Goals as goal
 use Rattle.sirob.proofs.parts.two_parts.Goals.{Then-is_some}
 
 many : (c : Then-is_some) → 2 < length (parts_of c.args.input.now)
-many c = three_parts c.args.input.now _ _ c.in-Some.rest _ _ c.in-Some.is c.first_part-first.ensures c.first_part-second.ensures (sym c.if-is_some.ensures)
+many c = three_parts c.args.input.now _ _ c.in-Some.rest _ _ c.in-Some.is c.first_part-first.ensures.parts c.first_part-second.ensures.parts (sym c.if-is_some.ensures)
 
 pub returns-then-is_some-clause-ok : goal.returns-then-is_some-clause-ok
 returns-then-is_some-clause-ok c = let long = many c in (λ no. cc, λ two. absurd (omega arith))

@@ -2,7 +2,7 @@ use Rattle.std.proofs.Common.{sym, subst, ap, Err}
 use Rattle.std.proofs.lemmas.Result.{err_from_is_err_and}
 use Rattle.sirob.specs.declared.command_line.Mode.TheVariants.{Check}
 use Rattle.sirob.specs.declared.run_fault.RunFault.TheVariants as fault
-use Rattle.sirob.specs.Reading.{ForInput}
+use Rattle.si_engine.specs.Reading.{ForInput}
 use Rattle.sirob.specs.Stops.{IsStop}
 use Rattle.sirob.proofs.StopLaws.{stops_reading}
 use Rattle.sirob.proofs.run_command.check_source.Goals as goal
@@ -17,4 +17,4 @@ returns-in_err-input-clause-err g c =
     rw (exit.1, exit.2)
     (λ works.
     subst (λ written. ForInput left (λ input. IsStop Check input (fault.Input f) written)) (sym c.requires)
-    (stops_reading Check f left failed read.kinds (λ e. read.long (ap Err e)) (λ e. read.fault.0 (ap Err e)) works))
+    (stops_reading Check f left failed (λ e. read.long (ap Err e)) (λ e. read.fault.0 (ap Err e)) works))

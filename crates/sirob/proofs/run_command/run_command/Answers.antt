@@ -1,7 +1,7 @@
 use Rattle.std.proofs.Common.{List, ℕ, IfOk, IfErr, false, ◌≡◌, sym, subst}
-use Rattle.sirob.specs.declared.command_line.Mode.TheVariants.{Check, Run}
+use Rattle.sirob.specs.declared.command_line.Mode.TheVariants.{Check}
 use Rattle.sirob.specs.Output.{Gives, IsReply}
-use Rattle.sirob.specs.Reading.{ForInput}
+use Rattle.si_engine.specs.Reading.{ForInput}
 use Rattle.sirob.specs.Stops.{IsStop, Ends}
 use Rattle.sirob.proofs.StopLaws.{replies, writes_as}
 use Rattle.sirob.proofs.run_command.run_command.Goals as goal
@@ -18,16 +18,3 @@ returns-in-Check-clause-reply g c =
     let stops = subst (λ (text : List ℕ). IfErr ended (λ f. failed ≡ false → ForInput left (λ input. IsStop Check input f text))) same done.err in
     rw c.in-Check.is
     (writes_as (Ends lines ended) (IsReply Check left failed) _ _ _ _ (replies Check left failed lines ended gives stops done.unread) c.write_answer.ensures)
-
-pub returns-in-Run-clause-reply : goal.returns-in-Run-clause-reply
-returns-in-Run-clause-reply g c =
-    let left = g.S.Source.left c.args.source.now in
-    let failed = g.S.Source.has_failed c.run_source-ended.new.source in
-    let ended = c.run_source-ended.result in
-    let lines = c.as_bytes.result.now in
-    let same = sym c.as_bytes.ensures.value in
-    let done = c.run_source-ended.ensures in
-    let gives = subst (λ (text : List ℕ). IfOk ended (λ x. ForInput left (λ input. Gives Run input text))) same done.ok in
-    let stops = subst (λ (text : List ℕ). IfErr ended (λ f. failed ≡ false → ForInput left (λ input. IsStop Run input f text))) same done.err in
-    rw c.in-Run.is
-    (writes_as (Ends lines ended) (IsReply Run left failed) _ _ _ _ (replies Run left failed lines ended gives stops done.unread) c.write_answer-in-Run.ensures)

@@ -1,20 +1,21 @@
-use Rattle.std.proofs.Common.{sym, subst, ap, Err}
+use Rattle.std.proofs.Common.{◌≡◌, Err, ap}
 use Rattle.std.proofs.lemmas.Result.{err_from_is_err_and}
-use Rattle.sirob.specs.declared.command_line.Mode.TheVariants.{Run}
-use Rattle.sirob.specs.declared.run_fault.RunFault.TheVariants as fault
-use Rattle.sirob.specs.Reading.{ForInput}
-use Rattle.sirob.specs.Stops.{IsStop}
-use Rattle.sirob.proofs.StopLaws.{stops_reading}
+use Rattle.si_engine.specs.declared.source.InputFault.TheVariants as i
+use Rattle.sirob.proofs.StopLaws.{read_stopped, run_of_source}
 use Rattle.sirob.proofs.run_command.run_source.Goals as goal
 
-pub returns-in_err-input-clause-err : goal.returns-in_err-input-clause-err
-returns-in_err-input-clause-err g c =
+pub returns-in_err-input-clause-run : goal.returns-in_err-input-clause-run
+returns-in_err-input-clause-run g c =
     let exit = err_from_is_err_and c.from_residual.result c.from_residual.ensures.1 in
-    let f = c.in_err-input.field-0.0 in
-    let left = g.S.Source.left c.args.source.now in
-    let failed = g.S.Source.has_failed c.read_whole.new.source in
     let read = c.in_err-input.ensures in
+    let f = c.in_err-input.field-0.0 in
     rw (exit.1, exit.2)
-    (λ works.
-    subst (λ written. ForInput left (λ input. IsStop Run input (fault.Input f) written)) (sym c.requires)
-    (stops_reading Run f left failed read.kinds (λ e. read.long (ap Err e)) (λ e. read.fault.0 (ap Err e)) works))
+    (read_stopped f (g.S.Source.left c.args.source.now) (g.S.Source.has_failed c.read_whole.new.source) _ _
+    c.requires (λ e. read.long (ap Err e)) (λ e. read.fault.0 (ap Err e))
+    (λ e. let told = read.fault.1 e in let is : f ≡ i.ReadFault = cc in is))
+
+pub returns-clause-run : goal.returns-clause-run
+returns-clause-run g c =
+    let read = c.in_ok-input.ensures in
+    run_of_source (g.S.Source.left c.args.source.now) (g.S.Source.has_failed c.read_whole.new.source) c.in_ok-input.input.items c.deref.result.now _ _ _ _
+    c.deref.ensures.value read.whole (λ e. let told = read.fault.1 e in absurd (cc)) c.run_input.ensures

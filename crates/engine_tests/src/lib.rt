@@ -1,0 +1,7 @@
+//! Tests of scripts over devices that are slow, and that fail at each of their calls.
+#![tactic(auto)]
+
+#[cfg(test)]
+mod device_tests;
+#[cfg(test)]
+mod fakes;

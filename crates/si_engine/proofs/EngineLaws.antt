@@ -1,0 +1,264 @@
+-- What an engine does is what the machine does.
+use Rattle.std.proofs.Common.{◌≡◌, ℕ, ◌+◌, ◌<◌, ◌≤◌, ◌==◌, Bool, true, false, List, [], ◌∷◌, ◌++◌, length, set, get_or, refl, ap, sym, ◌∙◌, subst, cond, ◌⊎◌, inl, inr, arith, Result, Ok, Err, OnErr}
+use Rattle.std.specs.Prelude.{slice_get, Option, Some, None, is_none, option_map}
+use Rattle.std.specs.BTreeMap.{is_at}
+use Rattle.std.specs.Map.{lookup}
+use Rattle.std.specs.Ordering.{nat_cmp}
+use Rattle.std.proofs.lemmas.Bool.Decides.{nat_tests}
+use Rattle.std.proofs.lemmas.List.{map-append, map-set, length-map, length-set, length-append}
+use Rattle.std.proofs.lemmas.Option.{slice_get-map, slice_get-get_or}
+use Rattle.prog_tree.specs.Table.{TableState}
+use Rattle.prog_tree.specs.Tree.{draft_tree}
+use Rattle.prog_run.specs.Looks.{AreFound}
+use Rattle.history_book.specs.History.{Instance, evaluation, state_after}
+use Rattle.history_book.specs.Runs.{ended_in, withdrawn_in, committed_in}
+use Rattle.history_book.specs.View as book
+use Rattle.history_book.specs.View.{BookView, instance_of, history_of, active_at, with_start, without, commits_in, state_in, done_in}
+use Rattle.history_book.specs.declared.row.Ending.{Ending}
+use Rattle.history_book.specs.declared.row.HistoryRow.{HistoryRow}
+use Rattle.history_book.proofs.HistoryLaws.{state_after-push}
+use Rattle.si_engine.specs.Machine.{Active, Machine, least_start, stepped, with_begun, if_active, with_active, machine_step}
+use Rattle.si_engine.specs.View.{EngineView, instance_in, active_in, begun_of, machine_of, IsHeld, IsActive, IsEngine, IsAfterStep, numbered}
+use Rattle.si_engine.specs.declared.active.ActiveRun.{ActiveRun}
+use Rattle.si_engine.specs.declared.event.Event.TheVariants as event
+use Rattle.si_engine.specs.declared.event.Reply.{Reply}
+use Rattle.si_engine.specs.declared.event.Reply.TheVariants as reply
+use Rattle.si_engine.proofs.PlaceLaws.{get-set_same, get-set_other, set-same, same_number, numbered-stays, numbered-ends, numbered-found, least-numbered}
+
+-- the place of a number
+pub place_at : (runs : List (Option ActiveRun)) (i : ℕ) (p : Option ActiveRun) → i < length runs → p ≡ get_or runs i p → slice_get runs i ≡ Some p
+place_at runs i p within is = slice_get-get_or runs i p within ∙ ap (λ (x : Option ActiveRun). Some x) (sym is)
+
+-- ---- what a book keeps where an instance leaves it
+
+pub record Leaves (v w : BookView) (number : ℕ) : Type 0 where
+  pub begun : w.begun ≡ v.begun
+  pub active : w.active ≡ without number v.active
+  pub held : (n : ℕ) (b : ActiveRun) → IsHeld v n b → IsHeld w n b
+
+pub leaves_ended : (v : BookView) (number : ℕ) (e : Ending) → Leaves v (ended_in v number e) number
+leaves_ended v number e = record {
+  begun = refl;
+  active = refl;
+  held = λ n b h. record {
+    place = h.place;
+    start = h.start;
+    own = record { same = record { tables = h.own.same.tables; program = h.own.same.program; args = h.own.same.args }; found = h.own.found };
+    is_true = h.is_true;
+    ready = h.ready;
+  };
+}
+
+leaves_withdrawn : (v : BookView) (number : ℕ) → Leaves v (withdrawn_in v number) number
+leaves_withdrawn v number = record {
+  begun = refl;
+  active = refl;
+  held = λ n b h. record {
+    place = h.place;
+    start = h.start;
+    own = record { same = record { tables = h.own.same.tables; program = h.own.same.program; args = h.own.same.args }; found = h.own.found };
+    is_true = h.is_true;
+    ready = h.ready;
+  };
+}
+
+-- the states that instances see are those of the longer history
+pub history-push : (rows : List HistoryRow) (row : HistoryRow) → history_of (rows ++ row ∷ []) ≡ history_of rows ++ instance_of row ∷ []
+history-push rows row = map-append instance_of rows (row ∷ [])
+
+state-push : (v : BookView) (number : ℕ) (row : HistoryRow) (n : ℕ) → n ≤ length v.rows → state_in (committed_in v number row) n ≡ state_in v n
+state-push v number row n within =
+    let inside : n ≤ length (history_of v.rows) = omega (arith, length-map v.rows instance_of) in
+    ap (λ h. state_of h) (history-push v.rows row) ∙ state_after-push (draft_tree v.set) v.opening (history_of v.rows) (instance_of row) n inside
+  where
+    state_of : List Instance → TableState
+    state_of h = state_after (draft_tree v.set) v.opening h n
+
+pub leaves_committed : (v : BookView) (number : ℕ) (row : HistoryRow) → Leaves v (committed_in v number row) number
+leaves_committed v number row = record {
+  begun = refl;
+  active = refl;
+  held = λ n b h.
+      let more : length (v.rows ++ row ∷ []) ≡ length v.rows + 1 = omega (arith, length-append v.rows (row ∷ [])) in
+      let start : b.ticket.start ≤ length v.rows = h.start in
+      record {
+        place = h.place;
+        start = omega (arith, more, start);
+        own = record {
+          same = record { tables = h.own.same.tables; program = h.own.same.program; args = h.own.same.args };
+          found = subst (λ m. AreFound m b.run.looks) (sym (state-push v number row b.ticket.start start)) h.own.found;
+        };
+        is_true = h.is_true;
+        ready = h.ready;
+      };
+}
+
+-- ---- an instance that is active here is active in the book
+
+pub begun_at : (runs : List (Option ActiveRun)) (i : ℕ) (p : Option ActiveRun) → slice_get runs i ≡ Some p → slice_get (begun_of runs) i ≡ Some (option_map active_in p)
+begun_at runs i p at = slice_get-map (option_map active_in) runs i ∙ ap (option_map (option_map active_in)) at
+
+pub begun-set : (runs : List (Option ActiveRun)) (i : ℕ) (p : Option ActiveRun) → begun_of (set runs i p) ≡ set (begun_of runs) i (option_map active_in p)
+begun-set runs i p = map-set (option_map active_in) runs i p
+
+with_own_start : (i : Instance) → with_start i.start (Some i) ≡ Some i
+with_own_start i =
+    let own : (i.start == i.start) ≡ true = grind (arith, nat_tests) in
+    ap (λ b. cond b (Some i) None) own
+
+module _ (v : BookView) (runs : List (Option ActiveRun)) (kept : IsEngine v runs) where
+  pub is_active : (i : ℕ) (a : ActiveRun) → slice_get runs i ≡ Some (Some a) → IsActive v a
+  is_active i a at =
+      let held = kept.held i a at in
+      let from_zero : i ≡ 0 + i = omega arith in
+      let found : lookup (is_at (nat_cmp a.ticket.number)) v.active ≡ Some (instance_in a) =
+      ap (λ n. lookup (is_at (nat_cmp n)) v.active) (held.place ∙ from_zero)
+      ∙ ap (lookup (is_at (nat_cmp (0 + i)))) kept.active
+      ∙ numbered-found 0 (begun_of runs) i (active_in a) (begun_at runs i (Some a) at) in
+      record {
+        active = ap (with_start a.ticket.start) found ∙ with_own_start (instance_in a);
+        held = subst (λ n. IsHeld v n a) (sym held.place) held;
+      }
+
+  -- one goes on,
+  pub engine-stays :
+      (i : ℕ) (a b : ActiveRun) → slice_get runs i ≡ Some (Some a) → IsHeld v a.ticket.number b → instance_in b ≡ instance_in a → IsEngine v (set runs i (Some b))
+  engine-stays i a b at held same = record {
+    counted = length-set runs i (Some b) ∙ kept.counted;
+    active =
+        kept.active
+        ∙ sym (numbered-stays 0 (begun_of runs) i (active_in a) (active_in b) (begun_at runs i (Some a) at) same)
+        ∙ ap (numbered 0) (sym (begun-set runs i (Some b)));
+    held = λ n x there. go n x there (same_number i n);
+  }
+    where
+      go : (n : ℕ) (x : ActiveRun) → slice_get (set runs i (Some b)) n ≡ Some (Some x) → (n ≡ i) ⊎ (n ≡ i → ⊥) → IsHeld v n x
+      go n x there (inl here) =
+          let is : Some (Some b) ≡ Some (Some x) = sym (get-set_same runs i (Some a) (Some b) at) ∙ ap (slice_get (set runs i (Some b))) (sym here) ∙ there in
+          let one : b ≡ x = cc in
+          subst (IsHeld v n) one (subst (λ k. IsHeld v k b) ((kept.held i a at).place ∙ sym here) held)
+      go n x there (inr other) = kept.held n x (sym (get-set_other runs i n (Some b) other) ∙ there)
+
+  -- or leaves,
+  pub engine-leaves : (w : BookView) (i : ℕ) (a : ActiveRun) → slice_get runs i ≡ Some (Some a) → Leaves v w a.ticket.number → IsEngine w (set runs i None)
+  engine-leaves w i a at leaves = record {
+    counted = length-set runs i None ∙ kept.counted ∙ sym leaves.begun;
+    active =
+        let from_zero : i ≡ 0 + i = omega arith in
+        leaves.active
+        ∙ ap (λ n. without n v.active) ((kept.held i a at).place ∙ from_zero)
+        ∙ ap (without (0 + i)) kept.active
+        ∙ sym (numbered-ends 0 (begun_of runs) i (active_in a) (begun_at runs i (Some a) at))
+        ∙ ap (numbered 0) (sym (begun-set runs i None));
+    held = λ n x there. leaves.held n x (go n x there (same_number i n));
+  }
+    where
+      go : (n : ℕ) (x : ActiveRun) → slice_get (set runs i None) n ≡ Some (Some x) → (n ≡ i) ⊎ (n ≡ i → ⊥) → IsHeld v n x
+      go n x there (inl here) =
+          let is : Some None ≡ Some (Some x) = sym (get-set_same runs i (Some a) None at) ∙ ap (slice_get (set runs i None)) (sym here) ∙ there in
+          absurd (cc)
+      go n x there (inr other) = kept.held n x (sym (get-set_other runs i n None other) ∙ there)
+
+  -- the instance of a number goes on where it is active,
+  pub with_active_is : (i : ℕ) (a : ActiveRun) (go : Active → Reply × Machine) → slice_get runs i ≡ Some (Some a) → with_active (machine_of v runs) i go ≡ go (active_in a)
+  with_active_is i a go at = ap (λ o. if_active o (machine_of v runs) go) (begun_at runs i (Some a) at)
+
+  -- and else has ended
+  ended_is : (i : ℕ) (p : Option ActiveRun) (go : Active → Reply × Machine) → slice_get runs i ≡ Some None → p ≡ None → (reply.Ended, machine_of v (set runs i p)) ≡ with_active (machine_of v runs) i go
+  ended_is i p go at none =
+      ap (λ ps. (reply.Ended, machine_of v ps)) (ap (set runs i) none ∙ set-same runs i None at)
+      ∙ sym (ap (λ o. if_active o (machine_of v runs) go) (begun_at runs i None at))
+
+  abbrev step_event : event.the_data → Reply × Machine
+  step_event e = machine_step (draft_tree v.set) v.opening e (machine_of v runs)
+
+  pub step_ended : (i : ℕ) (p : Option ActiveRun) → slice_get runs i ≡ Some None → p ≡ None → (reply.Ended, machine_of v (set runs i p)) ≡ step_event (event.Step i)
+  step_ended i p at none = ended_is i p _ at none
+
+  pub commit_ended : (i : ℕ) (p : Option ActiveRun) → slice_get runs i ≡ Some None → p ≡ None → (reply.Ended, machine_of v (set runs i p)) ≡ step_event (event.Commit i)
+  commit_ended i p at none = ended_is i p _ at none
+
+  pub abort_ended : (i : ℕ) (p : Option ActiveRun) → slice_get runs i ≡ Some None → p ≡ None → (reply.Ended, machine_of v (set runs i p)) ≡ step_event (event.Abort i)
+  abort_ended i p at none = ended_is i p _ at none
+
+  -- ---- an event on an active instance
+
+  -- the machine where the place of a number has changed
+  pub machine-set : (w : BookView) (i : ℕ) (p : Option ActiveRun) (ends : Bool) → history_of w.rows ≡ history_of v.rows → w.floor ≡ v.floor →
+      length w.endings ≡ cond ends (length v.endings + 1) (length v.endings) →
+      machine_of w (set runs i p) ≡ with_begun (machine_of v runs) i (option_map active_in p) ends
+  machine-set w i p ends history floor endings =
+      λ j. record { history = history j; begun = begun-set runs i p j; endings = endings j; floor = floor j }
+
+  pub stepped_is :
+      (w : BookView) (i : ℕ) (a : ActiveRun) (after : Option ActiveRun) (r : Reply) → slice_get runs i ≡ Some (Some a) →
+      (r, option_map active_in after) ≡ stepped (done_in v (instance_in a)) (active_in a) → IsAfterStep v w a after →
+      (r, machine_of w (set runs i after)) ≡ step_event (event.Step i)
+  stepped_is w i a after r at step left =
+      let s = machine_of v runs in
+      ap (λ m. (r, m)) (machine_is after left)
+      ∙ ap (λ (x : Reply × Option Active). (x.0, with_begun s i x.1 (is_none x.1))) step
+      ∙ sym (with_active_is i a (λ b. let x = stepped (evaluation (draft_tree v.set) v.opening s.history b.instance) b in (x.0, with_begun s i x.1 (is_none x.1))) at)
+    where
+      machine_is : (p : Option ActiveRun) → IsAfterStep v w a p →
+          machine_of w (set runs i p) ≡ with_begun (machine_of v runs) i (option_map active_in p) (is_none (option_map active_in p))
+      machine_is (Some b) h = machine-set w i (Some b) false (ap (λ (x : BookView). history_of x.rows) h.0) (ap (λ (x : BookView). x.floor) h.0) (ap (λ (x : BookView). length x.endings) h.0)
+      machine_is None h =
+          let more : length (v.endings ++ h.0 ∷ []) ≡ length v.endings + 1 = omega (arith, length-append v.endings (h.0 ∷ [])) in
+          machine-set w i None true (ap (λ (x : BookView). history_of x.rows) h.1) (ap (λ (x : BookView). x.floor) h.1) (ap (λ (x : BookView). length x.endings) h.1 ∙ more)
+
+  pub engine-stepped : (w : BookView) (i : ℕ) (a : ActiveRun) (after : Option ActiveRun) → slice_get runs i ≡ Some (Some a) → IsAfterStep v w a after → IsEngine w (set runs i after)
+  engine-stepped w i a (Some b) at left = subst (λ x. IsEngine x (set runs i (Some b))) (sym left.0) (engine-stays i a b at left.1 left.2)
+  engine-stepped w i a None at left = engine-leaves w i a at (subst (λ x. Leaves v x a.ticket.number) (sym left.1) (leaves_ended v a.ticket.number left.0))
+
+  pub aborted_is : (w : BookView) (i : ℕ) (a : ActiveRun) → slice_get runs i ≡ Some (Some a) → w ≡ withdrawn_in v a.ticket.number →
+      (reply.Withdrawn, machine_of w (set runs i None)) ≡ step_event (event.Abort i)
+  aborted_is w i a at left =
+      let machine = machine-set w i None false (ap (λ (x : BookView). history_of x.rows) left) (ap (λ (x : BookView). x.floor) left) (ap (λ (x : BookView). length x.endings) left) in
+      ap (λ m. (reply.Withdrawn, m)) machine
+      ∙ sym (with_active_is i a (λ b. (reply.Withdrawn, with_begun (machine_of v runs) i None false)) at)
+
+  pub engine-aborted : (w : BookView) (i : ℕ) (a : ActiveRun) → slice_get runs i ≡ Some (Some a) → w ≡ withdrawn_in v a.ticket.number → IsEngine w (set runs i None)
+  engine-aborted w i a at left = engine-leaves w i a at (subst (λ x. Leaves v x a.ticket.number) (sym left) (leaves_withdrawn v a.ticket.number))
+
+  pub machine-vacuum : (w : BookView) → w ≡ record v { floor = book.least_start (length v.rows) v.active } →
+      machine_of w runs ≡ record (machine_of v runs) { floor = least_start (length (machine_of v runs).history) (machine_of v runs).begun }
+  machine-vacuum w is =
+      let size : length v.rows ≡ length (history_of v.rows) = omega (arith, length-map v.rows instance_of) in
+      let floor : book.least_start (length v.rows) v.active ≡ least_start (length (history_of v.rows)) (begun_of runs) =
+      ap (book.least_start (length v.rows)) kept.active
+      ∙ least-numbered (length v.rows) 0 (begun_of runs)
+      ∙ ap (λ n. least_start n (begun_of runs)) size in
+      ap (λ x. machine_of x runs) is ∙ ap (λ n. record (machine_of v runs) { floor = n }) floor
+
+  pub engine-vacuum : (n : ℕ) → IsEngine (record v { floor = n }) runs
+  engine-vacuum n = record { counted = kept.counted; active = kept.active; held = λ i a at. held_there i a (kept.held i a at) }
+    where
+      held_there : (i : ℕ) (a : ActiveRun) → IsHeld v i a → IsHeld (record v { floor = n }) i a
+      held_there i a h = record {
+        place = h.place;
+        start = h.start;
+        own = record { same = record { tables = h.own.same.tables; program = h.own.same.program; args = h.own.same.args }; found = h.own.found };
+        is_true = h.is_true;
+        ready = h.ready;
+      }
+
+  -- what contracts see of an engine
+  abbrev view_of : BookView → List (Option ActiveRun) → EngineView
+  view_of w ps = record { set = w.set; opening = w.opening; machine = machine_of w ps }
+
+  pub unchanged : (w : BookView) (i : ℕ) (a : ActiveRun) (after : Option ActiveRun) → slice_get runs i ≡ Some (Some a) → IsAfterStep v w a after →
+      option_map active_in after ≡ Some (active_in a) → view_of w (set runs i after) ≡ view_of v runs
+  unchanged w i a (Some b) at left same =
+      let begun : begun_of (set runs i (Some b)) ≡ begun_of runs =
+      begun-set runs i (Some b)
+      ∙ ap (set (begun_of runs) i) same
+      ∙ set-same (begun_of runs) i (Some (active_in a)) (begun_at runs i (Some a) at) in
+      ap (λ x. view_of x (set runs i (Some b))) left.0
+      ∙ ap (λ bs. record { set = v.set; opening = v.opening; machine = record (machine_of v runs) { begun = bs } }) begun
+  unchanged w i a None at left same = absurd (cc)
+
+-- a fact that holds holds after an error
+pub on_err : {T E P : Type 0} (r : Result T E) → P → OnErr r P
+on_err (Ok x) holds = tt
+on_err (Err e) holds = holds

@@ -1,0 +1,136 @@
+-- Laws of the places of instances: which are active, by their numbers.
+use Rattle.std.proofs.Common.{◌≡◌, ℕ, zero, suc, ◌+◌, ◌<◌, ◌==◌, min, true, false, cond, nat_lt, List, [], ◌∷◌, ◌++◌, length, set, refl, ap, sym, ◌∙◌, ◌⊎◌, inl, inr, arith}
+use Rattle.std.specs.Prelude.{slice_get, Option, Some, None}
+use Rattle.std.specs.BTreeMap.{is_at}
+use Rattle.std.specs.Map.{lookup}
+use Rattle.std.specs.Ordering.{nat_cmp}
+use Rattle.std.proofs.lemmas.Bool.Decides.{nat_tests}
+use Rattle.history_book.specs.View.{without}
+use Rattle.history_book.specs.View as book
+use Rattle.si_engine.specs.Machine.{Active, active_of, least_start}
+use Rattle.si_engine.specs.View.{numbered}
+
+-- ---- lists
+
+pub get-set_same : {X : Type 0} (xs : List X) (i : ℕ) (x y : X) → slice_get xs i ≡ Some x → slice_get (set xs i y) i ≡ Some y
+get-set_same [] i x y at = absurd (cc)
+get-set_same (z ∷ xs) zero x y at = refl
+get-set_same (z ∷ xs) (suc i) x y at = get-set_same xs i x y at
+
+pub get-set_other : {X : Type 0} (xs : List X) (i j : ℕ) (y : X) → (j ≡ i → ⊥) → slice_get (set xs i y) j ≡ slice_get xs j
+get-set_other [] i j y other = refl
+get-set_other (z ∷ xs) zero zero y other = absurd (other refl)
+get-set_other (z ∷ xs) zero (suc j) y other = refl
+get-set_other (z ∷ xs) (suc i) zero y other = refl
+get-set_other (z ∷ xs) (suc i) (suc j) y other = get-set_other xs i j y (λ same. other (ap suc same))
+
+pub set-same : {X : Type 0} (xs : List X) (i : ℕ) (x : X) → slice_get xs i ≡ Some x → set xs i x ≡ xs
+set-same [] i x at = refl
+set-same (z ∷ xs) zero x at = let one : z ≡ x = cc in ap (λ y. y ∷ xs) (sym one)
+set-same (z ∷ xs) (suc i) x at = ap (λ ys. z ∷ ys) (set-same xs i x at)
+
+-- an element of a list with one more is one of the list, or that one
+pub get-push : {X : Type 0} (xs : List X) (x y : X) (i : ℕ) → slice_get (xs ++ x ∷ []) i ≡ Some y → (slice_get xs i ≡ Some y) ⊎ ((i ≡ length xs) × (x ≡ y))
+get-push [] x y zero found = inr (refl, cc)
+get-push [] x y (suc i) found = absurd (cc)
+get-push (z ∷ xs) x y zero found = inl found
+get-push {X = X} (z ∷ xs) x y (suc i) found = go (get-push xs x y i found)
+  where
+    go : (slice_get xs i ≡ Some y) ⊎ ((i ≡ length xs) × (x ≡ y)) → (slice_get xs i ≡ Some y) ⊎ ((suc i ≡ suc (length xs)) × (x ≡ y))
+    go (inl before) = inl before
+    go (inr here) = inr (ap suc here.0, here.1)
+
+-- a number is that of another, or not
+pub same_number : (i j : ℕ) → (j ≡ i) ⊎ (j ≡ i → ⊥)
+same_number zero zero = inl refl
+same_number zero (suc j) = inr (λ same. absurd (cc))
+same_number (suc i) zero = inr (λ same. absurd (cc))
+same_number (suc i) (suc j) = go (same_number i j)
+  where
+    go : (j ≡ i) ⊎ (j ≡ i → ⊥) → (suc j ≡ suc i) ⊎ (suc j ≡ suc i → ⊥)
+    go (inl same) = inl (ap suc same)
+    go (inr other) = inr (λ same. other (omega arith))
+
+-- ---- active instances with their numbers
+
+at_own : (n : ℕ) → is_at (nat_cmp n) n ≡ true
+at_own n =
+    let not_less : nat_lt n n ≡ false = grind (arith, nat_tests) in
+    let same : (n == n) ≡ true = grind (arith, nat_tests) in
+    rw (not_less, same) refl
+
+at_other : (n m : ℕ) → m < n → is_at (nat_cmp n) m ≡ false
+at_other n m less =
+    let not_less : nat_lt n m ≡ false = grind (arith, nat_tests) in
+    let not_same : (n == m) ≡ false = grind (arith, nat_tests) in
+    rw (not_less, not_same) refl
+
+shift : (k i : ℕ) → k + 1 + i ≡ k + suc i
+shift k i = omega arith
+
+-- one more begins
+pub numbered-push : (k : ℕ) (begun : List (Option Active)) (a : Active) → numbered k (begun ++ Some a ∷ []) ≡ numbered k begun ++ (k + length begun, a.instance) ∷ []
+numbered-push k [] a = let here : k ≡ k + 0 = omega arith in ap (λ n. (n, a.instance) ∷ []) here
+numbered-push k (Some b ∷ begun) a =
+    ap (λ es. (k, b.instance) ∷ es) (numbered-push (k + 1) begun a ∙ ap (λ n. numbered (k + 1) begun ++ (n, a.instance) ∷ []) (shift k (length begun)))
+numbered-push k (None ∷ begun) a =
+    numbered-push (k + 1) begun a ∙ ap (λ n. numbered (k + 1) begun ++ (n, a.instance) ∷ []) (shift k (length begun))
+
+-- one goes on
+pub numbered-stays :
+    (k : ℕ) (begun : List (Option Active)) (i : ℕ) (a b : Active) → slice_get begun i ≡ Some (Some a) → b.instance ≡ a.instance →
+    numbered k (set begun i (Some b)) ≡ numbered k begun
+numbered-stays k [] i a b at same = refl
+numbered-stays k (None ∷ begun) zero a b at same = absurd (cc)
+numbered-stays k (Some c ∷ begun) zero a b at same =
+    let one : c ≡ a = cc in
+    ap (λ j. (k, j) ∷ numbered (k + 1) begun) (same ∙ ap (λ (x : Active). x.instance) (sym one))
+numbered-stays k (None ∷ begun) (suc i) a b at same = numbered-stays (k + 1) begun i a b at same
+numbered-stays k (Some c ∷ begun) (suc i) a b at same = ap (λ es. (k, c.instance) ∷ es) (numbered-stays (k + 1) begun i a b at same)
+
+-- one ends
+pub numbered-ends :
+    (k : ℕ) (begun : List (Option Active)) (i : ℕ) (a : Active) → slice_get begun i ≡ Some (Some a) →
+    numbered k (set begun i None) ≡ without (k + i) (numbered k begun)
+numbered-ends k [] i a at = absurd (cc)
+numbered-ends k (None ∷ begun) zero a at = absurd (cc)
+numbered-ends k (Some c ∷ begun) zero a at =
+    let here : k + 0 ≡ k = omega arith in
+    let own : is_at (nat_cmp (k + 0)) k ≡ true = ap (λ n. is_at (nat_cmp n) k) here ∙ at_own k in
+    ap (λ b. cond b (numbered (k + 1) begun) ((k, c.instance) ∷ without (k + 0) (numbered (k + 1) begun))) (sym own)
+numbered-ends k (None ∷ begun) (suc i) a at = numbered-ends (k + 1) begun i a at ∙ ap (λ n. without n (numbered (k + 1) begun)) (shift k i)
+numbered-ends k (Some c ∷ begun) (suc i) a at =
+    let other : is_at (nat_cmp (k + suc i)) k ≡ false = at_other (k + suc i) k (omega arith) in
+    ap (λ es. (k, c.instance) ∷ es) (numbered-ends (k + 1) begun i a at ∙ ap (λ n. without n (numbered (k + 1) begun)) (shift k i))
+    ∙ ap (λ b. cond b (numbered (k + 1) begun) ((k, c.instance) ∷ without (k + suc i) (numbered (k + 1) begun))) (sym other)
+
+-- one is found by its number
+pub numbered-found :
+    (k : ℕ) (begun : List (Option Active)) (i : ℕ) (a : Active) → slice_get begun i ≡ Some (Some a) →
+    lookup (is_at (nat_cmp (k + i))) (numbered k begun) ≡ Some a.instance
+numbered-found k [] i a at = absurd (cc)
+numbered-found k (None ∷ begun) zero a at = absurd (cc)
+numbered-found k (Some c ∷ begun) zero a at =
+    let one : c ≡ a = cc in
+    let here : k + 0 ≡ k = omega arith in
+    let own : is_at (nat_cmp (k + 0)) k ≡ true = ap (λ n. is_at (nat_cmp n) k) here ∙ at_own k in
+    ap (λ b. cond b (Some c.instance) (lookup (is_at (nat_cmp (k + 0))) (numbered (k + 1) begun))) own ∙ ap (λ (x : Active). Some x.instance) one
+numbered-found k (None ∷ begun) (suc i) a at =
+    ap (λ n. lookup (is_at (nat_cmp n)) (numbered (k + 1) begun)) (sym (shift k i)) ∙ numbered-found (k + 1) begun i a at
+numbered-found k (Some c ∷ begun) (suc i) a at =
+    let other : is_at (nat_cmp (k + suc i)) k ≡ false = at_other (k + suc i) k (omega arith) in
+    ap (λ b. cond b (Some c.instance) (lookup (is_at (nat_cmp (k + suc i))) (numbered (k + 1) begun))) other
+    ∙ ap (λ n. lookup (is_at (nat_cmp n)) (numbered (k + 1) begun)) (sym (shift k i))
+    ∙ numbered-found (k + 1) begun i a at
+
+-- as many as are active
+pub length-numbered : (k : ℕ) (begun : List (Option Active)) → length (numbered k begun) ≡ active_of begun
+length-numbered k [] = refl
+length-numbered k (None ∷ begun) = length-numbered (k + 1) begun
+length-numbered k (Some a ∷ begun) = omega (arith, length-numbered (k + 1) begun)
+
+-- their least start
+pub least-numbered : (n k : ℕ) (begun : List (Option Active)) → book.least_start n (numbered k begun) ≡ least_start n begun
+least-numbered n k [] = refl
+least-numbered n k (None ∷ begun) = least-numbered n (k + 1) begun
+least-numbered n k (Some a ∷ begun) = ap (min a.instance.start) (least-numbered n (k + 1) begun)

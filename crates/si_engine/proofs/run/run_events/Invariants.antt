@@ -1,0 +1,18 @@
+use Rattle.std.proofs.Common.{◌≡◌, List, ℕ, ◌++◌, drop, string_bytes}
+use Rattle.prog_tree.specs.Tree.{draft_tree}
+use Rattle.si_engine.specs.Machine.{machine_after}
+use Rattle.si_engine.specs.Runs.{event_lines, Adds}
+use Rattle.si_engine.proofs.run.run_events.Given as goal
+
+-- the lines so far, and those of the events that are left, are all lines
+abbrev pub invariant-loop-event : goal.invariant-loop-event
+invariant-loop-event l = record {
+  same_set : l.engine.set ≡ l.fn.engine.set;
+  same_opening : l.engine.opening ≡ l.fn.engine.opening;
+  after : machine_after (draft_tree l.set) l.fn.engine.opening (drop l.event-index l.events) l.engine.machine
+      ≡ machine_after (draft_tree l.set) l.fn.engine.opening l.events l.fn.engine.machine;
+  done : List (List ℕ);
+  lines : event_lines (draft_tree l.set) l.fn.engine.opening l.events l.fn.engine.machine
+      ≡ done ++ event_lines (draft_tree l.set) l.fn.engine.opening (drop l.event-index l.events) l.engine.machine;
+  added : Adds done (string_bytes l.fn.out) (string_bytes l.out);
+}

@@ -1,0 +1,70 @@
+-- What a line of a script says.
+use Rattle.std.specs.Prelude.{ℕ, List, [], ◌∷◌, Option, Result, Ok, Err, codes, bytes_eq, option_map, option_and_then, if◌then◌else◌}
+use Rattle.std.specs.Option.{ok_or}
+use Rattle.prog_tree.specs.Syntax.{DraftTree}
+use Rattle.prog_check.specs.Faults.{program_names}
+use Rattle.si_engine.specs.declared.command.Command.{Command}
+use Rattle.si_engine.specs.declared.command.Command.TheVariants.{Skip, Row, Begin, Step, Commit, Abort, Vacuum}
+use Rattle.si_engine.specs.declared.script_fault.LineFault.{LineFault}
+use Rattle.si_engine.specs.declared.script_fault.LineFault.TheVariants.{BadLine, UnknownName}
+use Rattle.si_engine.specs.Lines.{is_skipped, words_of}
+use Rattle.si_engine.specs.Numbers.{numbers_of, number_between}
+use Rattle.si_engine.specs.RowLines.{◌>>=◌, number_named, row_line_of}
+
+-- the words behind `row`: TABLE K = V, or TABLE K1 K2 = V
+unfoldable pub row_command : DraftTree → (line : ℕ) → List (List ℕ) → Result Command LineFault
+row_command draft line words = do
+  row ← row_line_of draft line words
+  Ok (Row row)
+
+-- the words behind `begin`: PROGRAM ARG*
+unfoldable pub begin_command : DraftTree → (line : ℕ) → List (List ℕ) → Result Command LineFault
+begin_command draft line [] = Err (BadLine line)
+begin_command draft line (name ∷ words) = do
+  args ← ok_or (numbers_of words) (BadLine line)
+  program ← ok_or (number_named (program_names draft) name) (UnknownName line)
+  Ok (Begin program args)
+
+-- the number of an instance
+abbrev pub instance_of : List ℕ → Option ℕ
+instance_of word = number_between 0 4294967295 word
+
+abbrev pub steps_of : List ℕ → List ℕ → Option Command
+steps_of instance times = option_and_then (λ i. option_map (Step i) (number_between 1 1000 times)) (instance_of instance)
+
+-- the words behind `step`: I, or I N
+unfoldable pub step_command : (line : ℕ) → List (List ℕ) → Result Command LineFault
+step_command line (instance ∷ []) = ok_or (option_map (λ i. Step i 1) (instance_of instance)) (BadLine line)
+step_command line (instance ∷ times ∷ []) = ok_or (steps_of instance times) (BadLine line)
+step_command line words = Err (BadLine line)
+
+-- the words behind `commit`: I
+unfoldable pub commit_command : (line : ℕ) → List (List ℕ) → Result Command LineFault
+commit_command line (instance ∷ []) = ok_or (option_map Commit (instance_of instance)) (BadLine line)
+commit_command line words = Err (BadLine line)
+
+-- the words behind `abort`: I
+unfoldable pub abort_command : (line : ℕ) → List (List ℕ) → Result Command LineFault
+abort_command line (instance ∷ []) = ok_or (option_map Abort (instance_of instance)) (BadLine line)
+abort_command line words = Err (BadLine line)
+
+-- the words behind `vacuum`: none
+unfoldable pub vacuum_command : (line : ℕ) → List (List ℕ) → Result Command LineFault
+vacuum_command line [] = Ok Vacuum
+vacuum_command line words = Err (BadLine line)
+
+-- the words of a line that is not skipped; the first says what it is
+unfoldable pub command_of : DraftTree → (line : ℕ) → List (List ℕ) → Result Command LineFault
+command_of draft line [] = Err (BadLine line)
+command_of draft line (word ∷ words) =
+    if bytes_eq word (codes "row") then row_command draft line words
+    else if bytes_eq word (codes "begin") then begin_command draft line words
+    else if bytes_eq word (codes "step") then step_command line words
+    else if bytes_eq word (codes "commit") then commit_command line words
+    else if bytes_eq word (codes "abort") then abort_command line words
+    else if bytes_eq word (codes "vacuum") then vacuum_command line words
+    else Err (BadLine line)
+
+-- a line, with its number
+unfoldable pub line_command : DraftTree → (line : ℕ) → List ℕ → Result Command LineFault
+line_command draft line bytes = if is_skipped bytes then Ok Skip else command_of draft line (words_of bytes)

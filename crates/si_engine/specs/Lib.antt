@@ -1,0 +1,11 @@
+pub mod Commands
+pub mod Lines
+pub mod Machine
+pub mod Numbers
+pub mod Printed
+pub mod Reading
+pub mod RowLines
+pub mod Runs
+pub mod Script
+pub mod View
+pub mod Writing

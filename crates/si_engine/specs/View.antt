@@ -1,0 +1,88 @@
+-- What contracts see of an engine, and what its fields keep.
+use Rattle.std.specs.Prelude.{◌≡◌, ℕ, ◌+◌, ◌≤◌, true, List, [], ◌∷◌, length, map, Option, Some, None, option_map, slice_get}
+use Rattle.prog_tree.specs.declared.deed.End.TheVariants.{Ready}
+use Rattle.prog_tree.specs.declared.program.Draft.{Draft}
+use Rattle.prog_tree.specs.Table.{TableState}
+use Rattle.prog_run.specs.View.{IsTrueRun}
+use Rattle.history_book.specs.History.{Instance}
+use Rattle.history_book.specs.Runs.{IsOwnRun, IsCommitted, IsClashed, ended_in}
+use Rattle.history_book.specs.View.{BookView, history_of, active_at}
+use Rattle.history_book.specs.declared.row.Ending.{Ending}
+use Rattle.si_engine.specs.Machine.{Active, Machine}
+use Rattle.si_engine.specs.declared.active.ActiveRun.{ActiveRun}
+use Rattle.si_engine.specs.declared.event.Reply.{Reply}
+use Rattle.si_engine.specs.declared.event.Reply.TheVariants as reply
+
+pub record EngineView : Type 0 where
+  pub set : Draft
+  pub opening : TableState
+  pub machine : Machine
+
+-- ---- the machine of an engine
+
+-- the instance of a run
+abbrev pub instance_in : ActiveRun → Instance
+instance_in a = record { program = a.program; args = a.run.args; start = a.ticket.start }
+
+-- how far it has come
+abbrev pub active_in : ActiveRun → Active
+active_in a = record { instance = instance_in a; steps = length a.run.deeds; ready = a.ready }
+
+-- each instance that was begun, or none where it has ended
+abbrev pub begun_of : List (Option ActiveRun) → List (Option Active)
+begun_of = map (option_map active_in)
+
+abbrev pub machine_of : BookView → List (Option ActiveRun) → Machine
+machine_of v runs =
+    record {
+      history = history_of v.rows;
+      begun = begun_of runs;
+      endings = length v.endings;
+      floor = v.floor;
+    }
+
+-- ---- what holds of an active instance
+
+-- the instance of a number: its ticket has the number, its run is one of it, and it has answered
+-- that it is ready only where its run is
+pub record IsHeld (v : BookView) (number : ℕ) (a : ActiveRun) : Type 0 where
+  pub place : a.ticket.number ≡ number
+  pub start : a.ticket.start ≤ length v.rows
+  pub own : IsOwnRun v (instance_in a) a.run
+  pub is_true : IsTrueRun a.run
+  pub ready : a.ready ≡ true → a.run.end ≡ Some Ready
+
+-- the book has it among its active instances
+pub record IsActive (v : BookView) (a : ActiveRun) : Type 0 where
+  pub active : active_at v a.ticket ≡ Some (instance_in a)
+  pub held : IsHeld v a.ticket.number a
+
+-- ---- what an engine keeps
+
+-- the active instances with their numbers, of which the first is this
+abbrev pub numbered : ℕ → List (Option Active) → List (ℕ × Instance)
+numbered number [] = []
+numbered number (Some a ∷ begun) = (number, a.instance) ∷ numbered (number + 1) begun
+numbered number (None ∷ begun) = numbered (number + 1) begun
+
+-- as many were begun as in the book, the same are active, and each is held at its place
+pub record IsEngine (v : BookView) (runs : List (Option ActiveRun)) : Type 0 where
+  pub counted : length runs ≡ v.begun
+  pub active : v.active ≡ numbered 0 (begun_of runs)
+  pub held :
+      (number : ℕ) → (a : ActiveRun) → slice_get runs number ≡ Some (Some a) → IsHeld v number a
+
+-- ---- what a call on an active instance leaves
+
+-- after a step it is held as it was, and the book is the same; or it has left the book, with an
+-- ending
+abbrev pub IsAfterStep : (old new : BookView) → ActiveRun → Option ActiveRun → Type 0
+IsAfterStep old new a (Some b) =
+    (new ≡ old) × IsHeld old a.ticket.number b × (instance_in b ≡ instance_in a)
+IsAfterStep old new a None = (ending : Ending) × (new ≡ ended_in old a.ticket.number ending)
+
+-- it has committed or clashed, as is answered
+abbrev pub IsCommitReply : (old new : BookView) → ActiveRun → Reply → Type 0
+IsCommitReply old new a (reply.Committed number) = IsCommitted old new a.ticket a.run number
+IsCommitReply old new a (reply.Clashed clash) = IsClashed old new a.ticket a.run clash
+IsCommitReply old new a _ = ⊥

@@ -1,0 +1,179 @@
+//! Active instances: their runs over a book.
+
+ghost use Rattle.std.specs.Prelude.{◌≡◌, Some, None, IfOk, IfErr, OnOk, OnErr, IsSome, option_map};
+ghost use Rattle.prog_tree.specs.declared.deed.End.TheVariants.{Ready};
+ghost use Rattle.prog_run.specs.Looks.{AreFound};
+ghost use Rattle.prog_run.specs.Step.{question_after, end_after, deeds_after};
+ghost use Rattle.prog_run.specs.View.{IsTrueRun, SameBegin};
+ghost use Rattle.history_book.specs.Refusals.{HasAborted};
+ghost use Rattle.history_book.specs.Runs.{IsAborted, withdrawn_in};
+ghost use Rattle.history_book.specs.View.{state_in, done_in, active_at};
+ghost use Rattle.si_engine.specs.Machine.{stepped};
+ghost use Rattle.si_engine.specs.View.{active_in, instance_in, IsActive, IsAfterStep, IsCommitReply};
+
+use crate::event::Reply;
+use history_book::{Book, CommitFault, EndFault, ScanFault, Ticket, Unused};
+use prog_run::{AnswerFault, Next, Run};
+use prog_tree::{End, Sequence};
+use std::alloc::{AllocError, Global};
+
+/// An instance that has not ended.
+#[derive(Drop)]
+pub struct ActiveRun<'a> {
+    /// The number of its program.
+    pub program: usize,
+    pub ticket: Ticket,
+    pub run: Run<'a>,
+    /// A step answered that it is ready.
+    pub ready: bool,
+}
+
+// An answer that fits the question is refused for want of memory alone.
+fn taken(answer: Result<Next, AnswerFault>) -> Result<Next, AllocError>
+    requires { IfErr answer (λ fault. fault ≡ AnswerFault.Memory) }
+    ensures ok { IfOk result (λ next. answer ≡ Ok next) }
+    ensures err { OnErr result (answer ≡ Err AnswerFault.Memory) }
+{
+    match answer {
+        Ok(next) => Ok(next),
+        Err(AnswerFault::Memory) => Err(AllocError),
+        Err(_) => unreachable!(),
+    }
+}
+
+// The next store statement of a run, or its end. What it asks for is read in the book, as the
+// ticket's instance sees it.
+fn advance(book: &Book<'_>, ticket: &Ticket, run: &mut Run<'_>) -> Result<Next, AllocError>
+    requires active { IsSome (active_at book.now ticket.now) }
+    requires found { AreFound (state_in book.now ticket.now.start) run.old.looks }
+    ensures idle { IfOk result (λ next. question_after next ≡ None) }
+    ensures found { AreFound (state_in book.now ticket.now.start) run.new.looks }
+    ensures deeds { IfOk result (λ next. run.new.deeds ≡ deeds_after next run.old.deeds) }
+    ensures end { IfOk result (λ next. run.new.end ≡ end_after next) }
+    ensures true_run { IsTrueRun run.new }
+    ensures same { SameBegin run.old run.new }
+    ensures err_deeds { OnErr result (run.new.deeds ≡ run.old.deeds) }
+    ensures err_end { OnErr result (run.new.end ≡ run.old.end) }
+{
+    match run.advance()? {
+        Next::Get(cell) => {
+            let Ok(held) = book.get(ticket, &cell) else {
+                unreachable!()
+            };
+            let next = taken(run.answer_get(held))?;
+            Ok(next)
+        }
+        Next::Scan(region) => {
+            let rows = match book.scan(ticket, &region) {
+                Ok(rows) => rows,
+                Err(ScanFault::Memory) => return Err(AllocError),
+                Err(ScanFault::NoSuchTicket) => unreachable!(),
+            };
+            let next = taken(run.answer_scan(&rows))?;
+            Ok(next)
+        }
+        next => Ok(next),
+    }
+}
+
+impl<'a> ActiveRun<'a> {
+    // Ends it in the book, since its run has aborted. Without memory it is handed back.
+    fn end(self, book: &mut Book<'a>) -> Result<(), ActiveRun<'a>>
+        requires active { IsActive book.old self }
+        requires aborted { HasAborted self.run }
+        ensures ok { OnOk result (IsAborted book.old book.new self.entry.ticket self.entry.run) }
+        ensures err { IfErr result (λ back. back ≡ self.entry) }
+        ensures err_book { OnErr result (book.new ≡ book.old) }
+    {
+        let ActiveRun {
+            program,
+            ticket,
+            run,
+            ready,
+        } = self;
+        match book.end(ticket, run) {
+            Ok(()) => Ok(()),
+            Err(fault) => match fault {
+                EndFault::Memory(Unused { ticket, run }) => Err(ActiveRun {
+                    program,
+                    ticket,
+                    run,
+                    ready,
+                }),
+                _ => unreachable!(),
+            },
+        }
+    }
+
+    /// Steps it, through its next deed or to its end, and gives it back where it goes on. An aborted
+    /// one ends in the book.
+    pub fn step(
+        mut self,
+        alloc: Global,
+        book: &mut Book<'a>,
+    ) -> (Option<ActiveRun<'a>>, Result<Reply, AllocError>)
+        requires { IsActive book.old self }
+        ensures step { IfOk result.1 (λ reply. (reply, option_map active_in result.0)
+            ≡ stepped (done_in book.old (instance_in self.entry)) (active_in self.entry)) }
+        ensures after { IsAfterStep book.old book.new self.entry result.0 }
+        ensures err { OnErr result.1 (option_map active_in result.0 ≡ Some (active_in self.entry)) }
+    {
+        let active = &mut self;
+        match advance(book, &active.ticket, &mut active.run) {
+            Ok(Next::Did(deed)) => (Some(self), Ok(Reply::Did(deed))),
+            Ok(Next::Done(End::Ready)) => match Vec::from_slice(alloc, self.run.replies()) {
+                Ok(replies) => {
+                    self.ready = true;
+                    let replies = Sequence::from_vec(replies);
+                    (Some(self), Ok(Reply::Ready(replies)))
+                }
+                Err(_) => (Some(self), Err(AllocError)),
+            },
+            Ok(Next::Done(End::Aborted(cause))) => match self.end(book) {
+                Ok(()) => (None, Ok(Reply::Aborted(cause))),
+                Err(back) => (Some(back), Err(AllocError)),
+            },
+            Ok(_) => unreachable!(),
+            Err(_) => (Some(self), Err(AllocError)),
+        }
+    }
+
+    /// Commits it, or ends it by its clash. Without memory it is handed back.
+    pub fn commit(self, book: &mut Book<'a>) -> Result<Reply, ActiveRun<'a>>
+        requires active { IsActive book.old self }
+        requires ready { self.run.end ≡ Some Ready }
+        ensures ok { IfOk result (λ reply. IsCommitReply book.old book.new self.entry reply) }
+        ensures err { IfErr result (λ back. back ≡ self.entry) }
+        ensures err_book { OnErr result (book.new ≡ book.old) }
+    {
+        let ActiveRun {
+            program,
+            ticket,
+            run,
+            ready,
+        } = self;
+        match book.commit(ticket, run) {
+            Ok(receipt) => Ok(Reply::Committed(receipt.number() as usize)),
+            Err(fault) => match fault {
+                CommitFault::Clashed(clash) => Ok(Reply::Clashed(clash)),
+                CommitFault::Memory(Unused { ticket, run }) => Err(ActiveRun {
+                    program,
+                    ticket,
+                    run,
+                    ready,
+                }),
+                _ => unreachable!(),
+            },
+        }
+    }
+
+    /// Withdraws it from the book.
+    pub fn withdraw(self, book: &mut Book<'a>)
+        requires { IsActive book.old self }
+        ensures { book.new ≡ withdrawn_in book.old self.entry.ticket.number }
+    {
+        let Ok(()) = book.withdraw(self.ticket) else {
+            unreachable!()
+        };
+    }
+}

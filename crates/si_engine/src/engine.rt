@@ -1,0 +1,248 @@
+//! The engine: instances over a book, moved by events.
+
+ghost use Rattle.std.specs.Prelude.{◌≡◌, length, Some, None, IfOk, OnOk, OnErr, slice_get};
+ghost use Rattle.prog_tree.specs.Tree.{draft_tree};
+ghost use Rattle.prog_run.specs.View.{begin_fault, begun};
+ghost use Rattle.history_book.specs.History.{state_after};
+ghost use Rattle.history_book.specs.View.{history_of, begin_fault_of, next_ticket, begun_in};
+ghost use Rattle.si_engine.specs.Machine.{new_machine, begin_by, machine_step};
+
+use crate::active::ActiveRun;
+use crate::event::{Event, Reply};
+use history_book::{BeginFault, Book, Ticket};
+use prog_check::ProgramSet;
+use prog_run::{Run, RunFault};
+use prog_tree::Rows;
+use std::alloc::{AllocError, Global};
+use std::marker::Model;
+
+/// An engine over a set of programs.
+#[derive(Drop)]
+pub struct Engine<'a> {
+    alloc: Global,
+    book: Book<'a>,
+    /// Each instance that was begun, by its number; none where it has ended.
+    begun: Vec<Option<ActiveRun<'a>>>,
+}
+
+impl<'a> Model for Engine<'a> {
+    ghost use Rattle.std.specs.Coded.{codes};
+    ghost use Rattle.prog_tree.specs.contracts.stmt.Block as block;
+    ghost use Rattle.si_engine.specs.View.{EngineView, machine_of, IsEngine};
+
+    ghost Value = { EngineView };
+
+    ghost coded = { Prim.hlevel (codes, block.the_row.coded) };
+
+    ghost view = { λ e. record {
+      set = e.book.set;
+      opening = e.book.opening;
+      machine = machine_of e.book e.begun.items;
+    } };
+
+    ghost invariant = { λ e. IsEngine e.book e.begun.items };
+}
+
+// A run of a program that is there, with as many arguments as it has parameters.
+fn started<'a>(
+    alloc: Global,
+    set: &'a ProgramSet,
+    program: usize,
+    args: &[i64],
+) -> Result<Run<'a>, AllocError>
+    requires { begin_fault (slice_get set.now.programs.items program) args.now ≡ None }
+    ensures begun { IfOk result (λ run. run ≡ begun set.now.tables.items run.program args.now) }
+    ensures program { IfOk result (λ run.
+        slice_get set.now.programs.items program ≡ Some run.program) }
+{
+    match Run::new(alloc, set, program, args) {
+        Ok(run) => Ok(run),
+        Err(RunFault::Memory) => Err(AllocError),
+        Err(_) => unreachable!(),
+    }
+}
+
+// Begins an instance that is not refused.
+fn begin_in<'a>(book: &mut Book<'a>, program: usize, args: &[i64]) -> Result<Ticket, AllocError>
+    requires { begin_fault_of book.old program args.now ≡ None }
+    ensures ticket { IfOk result (λ ticket. ticket ≡ next_ticket book.old) }
+    ensures begun { OnOk result (book.new ≡ begun_in book.old program args.now) }
+    ensures err { OnErr result (book.new ≡ book.old) }
+{
+    match book.begin(program, args) {
+        Ok(ticket) => Ok(ticket),
+        Err(BeginFault::Memory) => Err(AllocError),
+        Err(_) => unreachable!(),
+    }
+}
+
+impl<'a> Engine<'a> {
+    ghost use Rattle.si_engine.specs.declared.event.Event.TheVariants as event;
+
+    /// An engine over the opening rows, in which nothing has begun.
+    pub fn open(alloc: Global, set: &'a ProgramSet, rows: Rows) -> Result<Self, AllocError>
+        ensures { IfOk result (λ engine.
+            engine ≡ record { set = set.now; opening = rows; machine = new_machine }) }
+    {
+        let book = Book::open(alloc, set, rows)?;
+        Ok(Engine {
+            alloc,
+            book,
+            begun: Vec::new(alloc),
+        })
+    }
+
+    /// The book of all that was begun, committed and ended.
+    pub fn book(&self) -> &Book<'a>
+        ensures set { result.now.set ≡ self.now.set }
+        ensures opening { result.now.opening ≡ self.now.opening }
+        ensures history { history_of result.now.rows ≡ self.now.machine.history }
+        ensures endings { length result.now.endings ≡ self.now.machine.endings }
+        ensures floor { result.now.floor ≡ self.now.machine.floor }
+    {
+        &self.book
+    }
+
+    /// The rows after all commits.
+    pub fn table(&self) -> Result<Rows, AllocError>
+        ensures { IfOk result (λ rows. let h = self.now.machine.history in
+            rows ≡ state_after (draft_tree self.now.set) self.now.opening h (length h)) }
+    {
+        let rows = self.book.table()?;
+        Ok(rows)
+    }
+
+    fn begin(&mut self, program: usize, args: &[i64]) -> Result<Reply, AllocError>
+        ensures set { self.new.set ≡ self.old.set }
+        ensures opening { self.new.opening ≡ self.old.opening }
+        ensures step { IfOk result (λ r. (r, self.new.machine) ≡ begin_by
+            (slice_get (draft_tree self.old.set).programs program)
+            self.old.machine program args.now) }
+        ensures err { OnErr result (self.new ≡ self.old) }
+    {
+        let set = self.book.set();
+        let Some(found) = set.draft().programs.get(program) else {
+            return Ok(Reply::NoSuchProgram);
+        };
+        if found.params.len() != args.len() {
+            return Ok(Reply::WrongArguments);
+        }
+        if self.book.is_full() {
+            return Ok(Reply::Full);
+        }
+        let run = started(self.alloc, set, program, args)?;
+        self.begun.reserve(1)?;
+        let ticket = begin_in(&mut self.book, program, args)?;
+        let instance = self.begun.len();
+        let start = ticket.start() as usize;
+        let active = ActiveRun {
+            program,
+            ticket,
+            run,
+            ready: false,
+        };
+        let Ok(()) = self.begun.push(Some(active)) else {
+            unreachable!()
+        };
+        Ok(Reply::Begun { instance, start })
+    }
+
+    fn step(&mut self, number: usize) -> Result<Reply, AllocError>
+        ensures set { self.new.set ≡ self.old.set }
+        ensures opening { self.new.opening ≡ self.old.opening }
+        ensures step { IfOk result (λ r. (r, self.new.machine) ≡ machine_step
+            (draft_tree self.old.set) self.old.opening (event.Step number) self.old.machine) }
+        ensures err { OnErr result (self.new ≡ self.old) }
+    {
+        if number >= self.begun.len() {
+            return Ok(Reply::NoSuchInstance);
+        }
+        let place = &mut self.begun[number];
+        let Some(active) = place.take() else {
+            return Ok(Reply::Ended);
+        };
+        let (after, reply) = active.step(self.alloc, &mut self.book);
+        *place = after;
+        let reply = reply?;
+        Ok(reply)
+    }
+
+    fn commit(&mut self, number: usize) -> Result<Reply, AllocError>
+        ensures set { self.new.set ≡ self.old.set }
+        ensures opening { self.new.opening ≡ self.old.opening }
+        ensures step { IfOk result (λ r. (r, self.new.machine) ≡ machine_step
+            (draft_tree self.old.set) self.old.opening (event.Commit number) self.old.machine) }
+        ensures err { OnErr result (self.new ≡ self.old) }
+    {
+        if number >= self.begun.len() {
+            return Ok(Reply::NoSuchInstance);
+        }
+        let place = &mut self.begun[number];
+        let Some(active) = place.take() else {
+            return Ok(Reply::Ended);
+        };
+        if !active.ready {
+            *place = Some(active);
+            return Ok(Reply::NotReady);
+        }
+        let reply = match active.commit(&mut self.book) {
+            Ok(reply) => reply,
+            Err(back) => {
+                *place = Some(back);
+                return Err(AllocError);
+            }
+        };
+        Ok(reply)
+    }
+
+    fn abort(&mut self, number: usize) -> Reply
+        ensures set { self.new.set ≡ self.old.set }
+        ensures opening { self.new.opening ≡ self.old.opening }
+        ensures step { (result, self.new.machine) ≡ machine_step
+            (draft_tree self.old.set) self.old.opening (event.Abort number) self.old.machine }
+    {
+        if number >= self.begun.len() {
+            return Reply::NoSuchInstance;
+        }
+        let Some(active) = self.begun[number].take() else {
+            return Reply::Ended;
+        };
+        active.withdraw(&mut self.book);
+        Reply::Withdrawn
+    }
+
+    fn vacuum(&mut self) -> Reply
+        ensures set { self.new.set ≡ self.old.set }
+        ensures opening { self.new.opening ≡ self.old.opening }
+        ensures step { (result, self.new.machine) ≡ machine_step
+            (draft_tree self.old.set) self.old.opening event.Vacuum self.old.machine }
+    {
+        Reply::Vacuumed(self.book.vacuum())
+    }
+
+    /// One event. After want of memory the same event may be sent again.
+    pub fn apply(&mut self, event: &Event) -> Result<Reply, AllocError>
+        ensures set { self.new.set ≡ self.old.set }
+        ensures opening { self.new.opening ≡ self.old.opening }
+        ensures step { IfOk result (λ r. (r, self.new.machine) ≡ machine_step
+            (draft_tree self.old.set) self.old.opening event.now self.old.machine) }
+        ensures err { OnErr result (self.new ≡ self.old) }
+    {
+        match event {
+            Event::Begin { program, args } => {
+                let reply = self.begin(*program, args.as_slice())?;
+                Ok(reply)
+            }
+            Event::Step(number) => {
+                let reply = self.step(*number)?;
+                Ok(reply)
+            }
+            Event::Commit(number) => {
+                let reply = self.commit(*number)?;
+                Ok(reply)
+            }
+            Event::Abort(number) => Ok(self.abort(*number)),
+            Event::Vacuum => Ok(self.vacuum()),
+        }
+    }
+}

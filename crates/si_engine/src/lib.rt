@@ -1,0 +1,29 @@
+//! The event machine over a set of programs, and scripts that hand it events.
+#![tactic(auto)]
+
+mod active;
+mod bytes;
+mod command;
+mod engine;
+mod event;
+mod line_words;
+mod lines;
+mod number;
+mod port;
+mod printed;
+mod row_line;
+mod run;
+mod script;
+mod script_fault;
+mod sink;
+mod source;
+
+pub use bytes::Bytes;
+pub use engine::Engine;
+pub use event::{Event, Reply};
+pub use port::Port;
+pub use run::run_script;
+pub use script::{Script, read_script};
+pub use script_fault::{LineFault, ScriptFault};
+pub use sink::{Sink, write_whole};
+pub use source::{DeviceFault, InputFault, MOST_BYTES, MOST_READS, Source, read_whole};

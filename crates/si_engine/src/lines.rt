@@ -1,0 +1,47 @@
+//! Lines of a part.
+ghost use Rattle.std.specs.Prelude.{◌≡◌, ◌==◌, ◌<◌, ◌≤◌, length, not};
+ghost use Rattle.std.specs.List.{prefix_len, before_first, after_first};
+ghost use Rattle.std.specs.Str.Lines.{strip_carriage_return};
+ghost use Rattle.si_engine.specs.Lines.{is_skipped};
+
+// How many bytes stand before the first separator.
+fn first_len(bytes: &[u8], separator: u8) -> usize
+    ensures value { result ≡ prefix_len (λ b. not (b == separator)) bytes.now }
+    ensures within { result ≤ length bytes.now }
+{
+    bytes.iter().take_while(|byte| **byte != separator).count()
+}
+
+/// The bytes before the first separator and those behind it, of which there are none if there is no separator.
+pub fn cut(bytes: &[u8], separator: u8) -> (&[u8], &[u8])
+    ensures first { result.0.now ≡ before_first (λ b. b == separator) bytes.now }
+    ensures rest { result.1.now ≡ after_first (λ b. b == separator) bytes.now }
+    ensures shorter { 0 < length bytes.now → length result.1.now < length bytes.now }
+{
+    let len = first_len(bytes, separator);
+    let (first, behind) = bytes.split_at(len);
+    match behind {
+        [] => (first, behind),
+        [_, rest @ ..] => (first, rest),
+    }
+}
+
+/// A line without one carriage return at its end.
+pub fn without_return(line: &[u8]) -> &[u8]
+    ensures { result.now ≡ strip_carriage_return line.now }
+{
+    match line {
+        [rest @ .., b'\r'] => rest,
+        _ => line,
+    }
+}
+
+/// Whether a line is empty or a comment.
+pub fn is_skipped(line: &[u8]) -> bool
+    ensures { result ≡ is_skipped line.now }
+{
+    match line {
+        [] => true,
+        [first, ..] => *first == b'#',
+    }
+}
