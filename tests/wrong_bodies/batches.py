@@ -1,9 +1,17 @@
-"""Which edits share one check: at most one to a function, and none to a function that names another edited one."""
+"""Which edits share one check.
+
+An edit of one plain function makes a function of its own, which stands beside the right one: all of these share one
+check. Any other edit is made in place: at most one to a function, and none to a function that names another edited one.
+"""
 import os
 from dataclasses import dataclass, field
 
 from edits import BadEdit, apply
 from functions import calls, function_at, functions_of
+from twins import add_twins, has_twin
+
+# how many edits of functions of their own share one check: as many as are worth loading a crate once more
+MOST_TWINS = 12
 
 
 @dataclass
@@ -18,7 +26,15 @@ class WrongBody:
 @dataclass
 class Batch:
     bodies: list = field(default_factory=list)
-    texts: dict = field(default_factory=dict)
+    texts: dict = field(default_factory=dict)  # as the edits make them
+    turned: dict = field(default_factory=dict)  # for each edit, the files and paths of the functions that have its lines
+    is_beside: bool = False  # each edit has a function of its own
+
+    def functions(self, bodies):
+        """Returns the functions that have the lines of these edits."""
+        names = {name for body in bodies for name in self.turned[body.edit.name]}
+        files = sorted({file for file, _ in names})
+        return [it for file in files for it in functions_of(file, self.texts[file]) if (file, it.path) in names]
 
 
 def sources_of(folder):
@@ -65,10 +81,16 @@ def are_apart(body, others):
 
 
 def batches_of(bodies, texts):
-    """Returns batches that hold each edit once, with the texts that the edits of each make."""
-    batches = []
+    """Returns batches that hold each edit once."""
+    beside = [it for it in bodies if not it.is_alone and has_twin(it, texts)]
+    count = -(-len(beside) // MOST_TWINS)
+    # edits of one function, and so of one cost, go to different checks
+    batches = [Batch(part, *add_twins(part, texts), True) for part in (beside[at::count] for at in range(count))]
+    in_place = []
     for body in bodies:
-        for batch in [*batches, Batch(texts=texts)]:
+        if body in beside:
+            continue
+        for batch in [*in_place, Batch(texts=texts)]:
             if not are_apart(body, batch.bodies):
                 continue
             try:
@@ -76,7 +98,8 @@ def batches_of(bodies, texts):
             except BadEdit:
                 continue
             batch.bodies.append(body)
-            if batch not in batches:
-                batches.append(batch)
+            batch.turned[body.edit.name] = [(it.file, it.path) for it in body.functions]
+            if batch not in in_place:
+                in_place.append(batch)
             break
-    return batches
+    return batches + in_place

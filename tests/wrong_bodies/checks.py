@@ -121,10 +121,3 @@ def refusal(crate, said, function):
     own += [text for text in re.findall(files, said, re.M) if not OF_NAMES.search(text)]
     own += re.findall(r"`search` (did not prove .*)", status)
     return (own[0] if own else None), status
-
-
-def edited_functions(bodies, texts):
-    """Returns the functions of these wrong bodies as they stand in the edited texts."""
-    names = {(it.file, it.path) for body in bodies for it in body.functions}
-    files = sorted({file for file, _ in names})
-    return [it for file in files for it in functions_of(file, texts[file]) if (file, it.path) in names]

@@ -19,6 +19,7 @@ class Function:
     path: tuple  # of names: modules, type, function
     is_plain: bool  # a free function or a method of a type, in no cycle of calls
     text: str
+    span: tuple  # where it begins and ends in the file's text
 
     @property
     def name(self):
@@ -98,7 +99,8 @@ def functions_of(file, text):
                 behind = function_end(plain, at)
                 first, last = plain.count("\n", 0, item.start()) + 1, plain.count("\n", 0, behind) + 1
                 is_plain = not is_trait and "cycle" not in item["attributes"]
-                found.append(Function(file, first, last, (*path, item["name"]), is_plain, plain[item.start() : behind]))
+                span = (item.start(), behind)
+                found.append(Function(file, first, last, (*path, item["name"]), is_plain, plain[slice(*span)], span))
             at = behind
 
     walk(0, len(plain), module_of(file), False)
