@@ -1,4 +1,5 @@
 //! The store of versions, and instances that are stepped over it.
+use crate::order::{Sight, Trace};
 use crate::program::{Comparison, Expr, Key, Program, Range, Set, Stmt, Test};
 use std::collections::{BTreeMap, BTreeSet};
 
@@ -112,6 +113,7 @@ pub struct Run<'a> {
     values: Vec<i64>,
     changes: BTreeMap<Cell, Option<i64>>,
     kept: BTreeSet<Cell>,
+    looked: Vec<Sight>,
     replies: Vec<i64>,
     ready: bool,
 }
@@ -175,18 +177,23 @@ impl<'a> Run<'a> {
         })
     }
 
-    fn look(&self, store: &Store, cell: &Cell) -> Option<i64> {
+    fn look(&mut self, store: &Store, cell: &Cell) -> Option<i64> {
         match self.changes.get(cell) {
             Some(own) => *own,
-            None => store.get(self.start, cell),
+            None => {
+                self.looked.push(Sight::One(*cell));
+                store.get(self.start, cell)
+            }
         }
     }
 
-    fn rows(&self, store: &Store, region: &Region) -> Vec<i64> {
+    fn rows(&mut self, store: &Store, region: &Region) -> Vec<i64> {
         if region.is_empty() {
             return Vec::new();
         }
         let ends = region.low..=region.high;
+        let own = self.changes.range(ends.clone()).map(|(cell, _)| *cell).collect();
+        self.looked.push(Sight::Range(*region, own));
         let own = self.changes.range(ends.clone()).filter_map(|(_, value)| *value);
         let others = store.chains.range(ends).filter(|(cell, _)| !self.changes.contains_key(cell));
         own.chain(others.filter_map(|(_, chain)| chain.at(self.start))).collect()
@@ -307,11 +314,12 @@ pub struct Engine<'a> {
     begun: Vec<Option<Run<'a>>>,
     active: BTreeSet<usize>,
     pub floor: u64,
+    pub traces: Vec<Trace>,
 }
 
 impl<'a> Engine<'a> {
     pub fn open(set: &'a Set, rows: BTreeMap<Cell, i64>) -> Engine<'a> {
-        Engine { set, store: Store::open(rows), begun: Vec::new(), active: BTreeSet::new(), floor: 0 }
+        Engine { set, store: Store::open(rows), begun: Vec::new(), active: BTreeSet::new(), floor: 0, traces: Vec::new() }
     }
 
     /// The instance's number and start, where the arguments fit.
@@ -327,6 +335,7 @@ impl<'a> Engine<'a> {
             values: args,
             changes: BTreeMap::new(),
             kept: BTreeSet::new(),
+            looked: Vec::new(),
             replies: Vec::new(),
             ready: false,
         }));
@@ -360,7 +369,7 @@ impl<'a> Engine<'a> {
     }
 
     pub fn commit(&mut self, number: usize) -> Reply<'_> {
-        let run = match self.begun.get(number) {
+        let run = match self.begun.get_mut(number) {
             None => return Reply::NoSuchInstance,
             Some(None) => return Reply::Ended,
             Some(Some(run)) => run,
@@ -370,7 +379,12 @@ impl<'a> Engine<'a> {
         }
         let reply = match self.store.clash(run.start, run) {
             Some((cell, last)) => Reply::Clashed(cell, last),
-            None => Reply::Committed(self.store.install(run)),
+            None => {
+                let looked = std::mem::take(&mut run.looked);
+                let changed = run.changes.keys().copied().collect();
+                self.traces.push(Trace { start: run.start as usize, changed, looked });
+                Reply::Committed(self.store.install(run))
+            }
         };
         self.end(number);
         reply

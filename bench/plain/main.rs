@@ -1,6 +1,7 @@
 //! What `sirob run` does, as plain Rust: no proof, no limits, no faults; it stops where an input is not well-formed.
 //! The store has the design of sirob's: a `BTreeMap` from cells to lists of versions.
 mod engine;
+mod order;
 mod program;
 mod script;
 

@@ -1,5 +1,6 @@
 //! Scripts: their lines, and the line of each reply.
 use crate::engine::{Cause, Cell, Deed, Engine, Region, Reply};
+use crate::order::{Order, serial_order};
 use crate::program::Set;
 use std::collections::BTreeMap;
 use std::fmt::Write;
@@ -163,4 +164,13 @@ pub fn run(set: &Set, lines: &str, out: &mut String) {
             _ => writeln!(out, "row {} {} {} = {value}", table.name, place.first, place.second),
         };
     }
+    let (word, numbers) = match serial_order(&engine.traces) {
+        Order::Serial(numbers) => ("order", numbers),
+        Order::Cycle(numbers) => ("cycle", numbers),
+    };
+    out.push_str(word);
+    for number in numbers {
+        let _ = write!(out, " {number}");
+    }
+    out.push('\n');
 }
