@@ -15,14 +15,14 @@ use Rattle.history_book.specs.View.{instance_of, row_of, nth_row, with_start, wi
 use Rattle.history_book.specs.declared.row.Ending.TheVariants as ending
 use Rattle.history_book.specs.declared.row.HistoryRow.{HistoryRow}
 
-abbrev cell : ℤ → Cell
+abbrev pub cell : ℤ → Cell
 cell k = record { table = 0; first = k; second = pos 0 }
 
-abbrev key : List ℕ → KeyTree
+abbrev pub key : List ℕ → KeyTree
 key name = One (Named name)
 
 -- `Look(k)` replies t[k] or -1, `Set(k, v)` puts v there, and `Cut(k)` deletes it
-abbrev registers : DraftTree
+abbrev pub registers : DraftTree
 registers = record {
   tables = record { name = codes "t"; arity = arity.One; grow = false } ∷ [];
   programs =
@@ -36,19 +36,19 @@ registers = record {
       ∷ [];
 }
 
-abbrev call : ℕ → List ℤ → ℕ → Instance
+abbrev pub call : ℕ → List ℤ → ℕ → Instance
 call program args start = record { program = program; args = args; start = start }
 
 -- t[1] is set to 1, 2 and 3; a look that began after the first of these commits then; and t[1] is deleted
-abbrev old_look : Instance
+abbrev pub old_look : Instance
 old_look = call 0 (pos 1 ∷ []) 1
 
-abbrev history : List Instance
+abbrev pub history : List Instance
 history =
     call 1 (pos 1 ∷ pos 1 ∷ []) 0 ∷ call 1 (pos 1 ∷ pos 2 ∷ []) 1 ∷ call 1 (pos 1 ∷ pos 3 ∷ []) 2 ∷ old_look
     ∷ call 2 (pos 1 ∷ []) 4 ∷ []
 
-abbrev opening : TableState
+abbrev pub opening : TableState
 opening = (cell (pos 1), pos 0) ∷ []
 
 pub third_state : state_after registers opening history 3 ≡ (cell (pos 1), pos 3) ∷ []

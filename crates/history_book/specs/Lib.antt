@@ -1,6 +1,9 @@
+pub mod Dependencies
 pub mod History
+pub mod Orders
 pub mod Refusals
 pub mod Runs
+pub mod Serial
 pub mod Texts
 pub mod Ticket
 pub mod TrueBook

@@ -1,12 +1,15 @@
 //! Laws of histories, each the contract of a function that does nothing.
 
-ghost use Rattle.std.specs.Prelude.{◌≡◌, ◌+◌, ℕ, List, map, Some};
+ghost use Rattle.std.specs.Prelude.{◌≡◌, ◌+◌, ◌≤◌, ℕ, Bool, true, List, length, map, Some};
 ghost use Rattle.prog_tree.specs.declared.cell.Cell.{Cell};
 ghost use Rattle.prog_tree.specs.ChangeSet.{ChangeSet, changed};
 ghost use Rattle.prog_tree.specs.Syntax.{DraftTree};
 ghost use Rattle.prog_tree.specs.Table.{TableState, IsTableState};
 ghost use Rattle.version_store.specs.Clash.{IsClash};
-ghost use Rattle.history_book.specs.History.{Instance, commits_of, evaluation, state_after, nth_instance, StartsBelow, NamesCommit};
+ghost use Rattle.history_book.specs.Dependencies.{depends};
+ghost use Rattle.history_book.specs.History.{Instance, commits_of, evaluation, state_after, nth_instance, IsLawful, StartsBelow, NamesCommit};
+ghost use Rattle.history_book.specs.Orders.{IsCycle, IsForward, IsReduced, IsUpTo, least_order};
+ghost use Rattle.history_book.specs.Serial.{is_each_once, Fits, RunsTheSame};
 
 /// Where each instance sees only earlier commits, what was committed is what the instances write on the states
 /// that they see, and each commit leads to the next state.
@@ -27,4 +30,52 @@ pub fn clashes_name_a_commit()
     ensures { (ws : List ChangeSet) → (start : ℕ) → (w : ChangeSet) →
         (cell : Cell) → (number : ℕ) →
         IsClash ws start w (Some (cell, number)) → NamesCommit ws start cell number }
+{}
+
+/// The pairs of a test that follow by steps from others can be left out: the least order is the
+/// same, and a cycle of what is left is a cycle of the whole.
+pub fn least_orders_of_reduced_relations()
+    ensures order { (n : ℕ) → (reduced before : ℕ → ℕ → Bool) → IsReduced n reduced before →
+        least_order reduced n ≡ least_order before n }
+    ensures cycles { (n : ℕ) → (reduced before : ℕ → ℕ → Bool) → IsReduced n reduced before →
+        (numbers : List ℕ) → IsCycle reduced numbers → IsCycle before numbers }
+{}
+
+/// Where there is a least order, there is no cycle.
+pub fn orders_are_of_relations_without_a_cycle()
+    ensures { (n : ℕ) → (before : ℕ → ℕ → Bool) →
+        ((i j : ℕ) → before i j ≡ true → IsUpTo n j) →
+        (order numbers : List ℕ) → least_order before n ≡ Some order → IsCycle before numbers → ⊥ }
+{}
+
+/// The least order of a lawful history's dependencies is an equivalent serial order, and where
+/// there is one, the dependencies have no cycle.
+pub fn least_orders_fit()
+    ensures fits { (set : DraftTree) → (opening : TableState) → (h : List Instance) →
+        IsLawful set opening h → IsTableState opening → (order : List ℕ) →
+        least_order (depends set opening h) (length h) ≡ Some order → Fits set opening h order }
+    ensures acyclic { (set : DraftTree) → (opening : TableState) → (h : List Instance) →
+        IsLawful set opening h → (order numbers : List ℕ) →
+        least_order (depends set opening h) (length h) ≡ Some order →
+        IsCycle (depends set opening h) numbers → ⊥ }
+{}
+
+/// In an order in which none has to stand before an earlier one, a serial run repeats the history:
+/// each instance does all that it did, and its looks find the same.
+pub fn forward_orders_run_the_same()
+    ensures same { (set : DraftTree) → (opening : TableState) → (h : List Instance) →
+        IsLawful set opening h → IsTableState opening → (order : List ℕ) →
+        is_each_once (length h) order ≡ true → IsForward (depends set opening h) order →
+        RunsTheSame set opening h order opening }
+    ensures fits { (set : DraftTree) → (opening : TableState) → (h : List Instance) →
+        IsLawful set opening h → IsTableState opening → (order : List ℕ) →
+        is_each_once (length h) order ≡ true → IsForward (depends set opening h) order →
+        Fits set opening h order }
+{}
+
+/// Only an instance of the history depends on another, or has another depend on it.
+pub fn dependencies_are_of_instances()
+    ensures { (set : DraftTree) → (opening : TableState) → (h : List Instance) → (i j : ℕ) →
+        StartsBelow h → depends set opening h i j ≡ true →
+        (i ≤ length h) × IsUpTo (length h) j }
 {}

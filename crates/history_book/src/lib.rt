@@ -12,7 +12,11 @@ mod ticket;
 
 pub use book::Book;
 pub use fault::{BeginFault, CommitFault, EndFault, NoSuchTicket, Place, ScanFault, Unused};
-pub use laws::{clashes_name_a_commit, commits_are_what_the_instances_write};
+pub use laws::{
+    clashes_name_a_commit, commits_are_what_the_instances_write, dependencies_are_of_instances,
+    forward_orders_run_the_same, least_orders_fit, least_orders_of_reduced_relations,
+    orders_are_of_relations_without_a_cycle,
+};
 pub use row::{Ending, HistoryRow};
 pub use ticket::{Receipt, Ticket};
 pub use version_store::Clash;

@@ -1,0 +1,52 @@
+-- Dependencies between the instances of a history, as tests, which compute.
+use Rattle.std.specs.Prelude.{ℕ, nat_lt, nat_le, ◌==◌, Bool, not, ◌&&◌, ◌||◌, is_some, List, Option, Some, None}
+use Rattle.std.specs.List.{list_any}
+use Rattle.prog_tree.specs.declared.cell.Cell.{Cell}
+use Rattle.prog_tree.specs.ChangeSet.{ChangedCells, change_at}
+use Rattle.prog_tree.specs.Evaluation.{Evaluation}
+use Rattle.prog_tree.specs.LookedAt.{has_looked}
+use Rattle.prog_tree.specs.Syntax.{DraftTree}
+use Rattle.prog_tree.specs.Table.{TableState}
+use Rattle.history_book.specs.History.{Instance, nothing, eval_of, nth_instance, state_after}
+
+-- what an instance, if there is one, does on a table state
+abbrev pub run_found : DraftTree → Option Instance → TableState → Evaluation
+run_found set None m = nothing
+run_found set (Some i) m = eval_of set i m
+
+-- how many commits an instance sees, if there is one
+abbrev pub start_found : Option Instance → ℕ
+start_found None = 0
+start_found (Some i) = i.start
+
+-- how many commits the instance of a number sees
+abbrev pub start_at : List Instance → ℕ → ℕ
+start_at h n = start_found (nth_instance h n)
+
+-- some changed cell passes a test
+abbrev pub changes_some : (Cell → Bool) → ChangedCells → Bool
+changes_some p changes = list_any (λ e. p e.0) changes
+
+module _ (set : DraftTree) (opening : TableState) (h : List Instance) where
+  -- what the instance of a number did on the state that it saw
+  abbrev pub evaluation_at : ℕ → Evaluation
+  evaluation_at n = run_found set (nth_instance h n) (state_after set opening h (start_at h n))
+
+  -- both change a cell, in commit order
+  abbrev pub write_write : ℕ → ℕ → Bool
+  write_write i j =
+      nat_lt i j && changes_some (λ c. is_some (change_at (evaluation_at j).changes c)) (evaluation_at i).changes.cells
+
+  -- the second looks at a cell that the first changes, and its snapshot has the change
+  abbrev pub write_read : ℕ → ℕ → Bool
+  write_read i j =
+      nat_le i (start_at h j) && changes_some (has_looked (evaluation_at j)) (evaluation_at i).changes.cells
+
+  -- the first looks at a cell that the second changes, and its snapshot lacks the change
+  abbrev pub read_write : ℕ → ℕ → Bool
+  read_write i j =
+      nat_lt (start_at h i) j && changes_some (has_looked (evaluation_at i)) (evaluation_at j).changes.cells
+
+  -- one of two different instances has to stand before the other in every serial order that gives the same
+  abbrev pub depends : ℕ → ℕ → Bool
+  depends i j = not (i == j) && (write_write i j || (write_read i j || read_write i j))

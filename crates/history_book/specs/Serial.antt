@@ -1,0 +1,36 @@
+-- Serial runs of a history's instances.
+use Rattle.std.specs.Prelude.{◌≡◌, ℕ, ◌==◌, Bool, true, ◌&&◌, List, [], ◌∷◌, length}
+use Rattle.std.specs.List.{list_all, range_with_len}
+use Rattle.prog_tree.specs.declared.deed.End.TheVariants.{Ready}
+use Rattle.prog_tree.specs.ChangeSet.{changed}
+use Rattle.prog_tree.specs.Syntax.{DraftTree}
+use Rattle.prog_tree.specs.Table.{TableState}
+use Rattle.history_book.specs.Dependencies.{run_found, evaluation_at}
+use Rattle.history_book.specs.History.{Instance, nth_instance, state_after}
+use Rattle.history_book.specs.Orders.{is_one_of}
+
+-- each number from 1 to n stands in the list, once
+abbrev pub is_each_once : ℕ → List ℕ → Bool
+is_each_once n order = (length order == n) && list_all (is_one_of order) (range_with_len 1 n)
+
+module _ (set : DraftTree) (opening : TableState) (h : List Instance) where
+  -- one after another from a state, each on what the one before left: each ends ready with its replies in the history,
+  -- and the last state is the history's
+  abbrev pub Runs : List ℕ → TableState → Type 0
+  Runs [] m = m ≡ state_after set opening h (length h)
+  Runs (n ∷ ns) m =
+      let e = run_found set (nth_instance h n) m in
+      (e.ending ≡ Ready) × (e.replies ≡ (evaluation_at set opening h n).replies) × Runs ns (changed m e.changes.cells)
+
+  -- one after another from a state, each on what the one before left: each does all that it did in the history, and
+  -- its looks find the same; the last state is the history's
+  abbrev pub RunsTheSame : List ℕ → TableState → Type 0
+  RunsTheSame [] m = m ≡ state_after set opening h (length h)
+  RunsTheSame (n ∷ ns) m =
+      let e = run_found set (nth_instance h n) m in
+      (e ≡ evaluation_at set opening h n) × RunsTheSame ns (changed m e.changes.cells)
+
+  -- an equivalent serial order: it has each commit once, and a serial run along it from the opening rows gives the same
+  pub record Fits (order : List ℕ) : Type 0 where
+    pub once : is_each_once (length h) order ≡ true
+    pub runs : Runs order opening
