@@ -1,0 +1,226 @@
+-- Worked examples of meeting, of edges and of dangerous structures, told by hand.
+use Rattle.std.specs.Prelude.{◌≡◌, ℕ, pos, Bool, true, false, List, [], ◌∷◌, Some, None, slice_get}
+use Rattle.std.specs.List.{AllByRecursion}
+use Rattle.std.proofs.Common.{refl, sym, subst, arith, inl, inr, suc, zero}
+use Rattle.std.proofs.lemmas.Int.{ints}
+use lib.Signed.{≤ℤ_refl}
+use Rattle.prog_tree.specs.declared.cell.Cell.{Cell}
+use Rattle.prog_check.specs.declared.path.Kind.{Kind}
+use Rattle.prog_check.specs.declared.path.Kind.TheVariants.{Reads, Writes}
+use Rattle.prog_check.specs.declared.path.Term.{Term}
+use Rattle.prog_check.specs.declared.path.Term.TheVariants.{Param, Unknown}
+use Rattle.prog_check.specs.declared.path.Access.{Access}
+use Rattle.prog_check.specs.declared.path.Path.{Path}
+use Rattle.prog_paths.specs.Meeting.{Assignment, IsOfI64, MeetsUnder, MayCover, number_under}
+use Rattle.prog_paths.specs.StaticGraph.{IsAccessOf, StaticEdge, IsCovered, IsVulnerable, here, onward, IsDangerous}
+
+-- ---- in short
+
+-- an access of a cell in a table of one column, and in one of two
+abbrev pub at_one : Kind → ℕ → Term → ℕ → Access
+at_one kind table term place =
+    record { kind = kind; table = table; first = record { low = term; high = term }; second = None; place = place }
+
+abbrev pub at_two : Kind → ℕ → Term → Term → ℕ → Access
+at_two kind table first second place =
+    record { kind = kind; table = table; first = record { low = first; high = first }; second = Some (record { low = second; high = second }); place = place }
+
+abbrev pub path : ℕ → List Bool → List Access → Path
+path program choices accesses = record { program = program; choices = choices; accesses = accesses }
+
+-- each parameter and each unknown is this number
+abbrev pub all_of : ℕ → Assignment
+all_of n = record { parameter = λ i. pos n; unknown = λ i. pos n }
+
+pub zeros_of_i64 : IsOfI64 (all_of 0)
+zeros_of_i64 = record { parameter = λ i. (omega (arith, ints), omega (arith, ints)); unknown = λ i. (omega (arith, ints), omega (arith, ints)) }
+
+ones_of_i64 : IsOfI64 (all_of 1)
+ones_of_i64 = record { parameter = λ i. (omega (arith, ints), omega (arith, ints)); unknown = λ i. (omega (arith, ints), omega (arith, ints)) }
+
+-- what holds of each access of a path holds of any
+each : (P : Access → Type 0) (accesses : List Access) → AllByRecursion P accesses → (k : ℕ) (a : Access) → slice_get accesses k ≡ Some a → P a
+each P [] h k a e = absurd (cc)
+each P (b ∷ later) h zero a e =
+    let same : b ≡ a = cc in
+    subst P same h.0
+each P (b ∷ later) h (suc k) a e = each P later h.1 k a e
+
+pub of_node : (P : Access → Type 0) (nodes : List Path) (x : ℕ) (p : Path) → slice_get nodes x ≡ Some p → AllByRecursion P p.accesses → (k : ℕ) (a : Access) → IsAccessOf nodes x k a → P a
+of_node P nodes x p at h k a (q, is, got) =
+    let same : q ≡ p = cc in
+    each P p.accesses h k a (subst (λ (r : Path). slice_get r.accesses k ≡ Some a) same got)
+
+-- ---- SmallBank
+
+abbrev small_bank : List Path
+small_bank =
+    path 0 [] (at_one Reads 0 (Param 0) 0 ∷ at_one Reads 1 (Param 0) 1 ∷ [])
+    ∷ path 1 (false ∷ []) (at_one Reads 1 (Param 0) 2 ∷ at_one Writes 1 (Param 0) 3 ∷ [])
+    ∷ path 2 (false ∷ []) (at_one Reads 0 (Param 0) 0 ∷ at_one Writes 0 (Param 0) 3 ∷ [])
+    ∷ path 3 [] (at_one Reads 0 (Param 0) 0 ∷ at_one Reads 1 (Param 0) 1 ∷ at_one Writes 0 (Param 0) 2 ∷ at_one Writes 1 (Param 0) 3 ∷ at_one Reads 1 (Param 1) 4 ∷ at_one Writes 1 (Param 1) 5 ∷ [])
+    ∷ path 4 (true ∷ []) (at_one Reads 0 (Param 0) 0 ∷ at_one Reads 1 (Param 0) 1 ∷ at_one Writes 1 (Param 0) 3 ∷ [])
+    ∷ path 4 (false ∷ []) (at_one Reads 0 (Param 0) 0 ∷ at_one Reads 1 (Param 0) 1 ∷ at_one Writes 1 (Param 0) 4 ∷ [])
+    ∷ []
+
+abbrev pub zero_cell : ℕ → Cell
+zero_cell table = record { table = table; first = pos 0; second = pos 0 }
+
+-- two parameters may both be 0
+pub meet_at_zero : (a b : Kind) (table i j p q : ℕ) → MeetsUnder (all_of 0) (all_of 0) (at_one a table (Param i) p) (at_one b table (Param j) q)
+meet_at_zero a b table i j p q = record {
+  mine_of_i64 = zeros_of_i64;
+  theirs_of_i64 = zeros_of_i64;
+  meet = (zero_cell table, record { table = refl; first = (≤ℤ_refl _, ≤ℤ_refl _); second = refl }, record { table = refl; first = (≤ℤ_refl _, ≤ℤ_refl _); second = refl });
+}
+
+abbrev pub CoversNothing : Access → Type 0
+CoversNothing a = MayCover a → ⊥
+
+pub reads_cover_nothing : (a : Access) → a.kind ≡ Reads → CoversNothing a
+reads_cover_nothing a e (inl h) = absurd (cc)
+reads_cover_nothing a e (inr (inl h)) = absurd (cc)
+reads_cover_nothing a e (inr (inr h)) = absurd (cc)
+
+-- Balance changes nothing, so nothing covers its read of a checking account that WriteCheck changes
+balance_before_check : IsVulnerable small_bank 0 4
+balance_before_check = record {
+  question = record { x = 0; a = 1; y = 4; b = 2 };
+  from = refl;
+  to = refl;
+  mine = at_one Reads 1 (Param 0) 1;
+  theirs = at_one Writes 1 (Param 0) 3;
+  asked = record { at_mine = (_, refl, refl); at_theirs = (_, refl, refl); table = refl };
+  kinds = inl (refl, inl refl);
+  holds = ((all_of 0, all_of 0, meet_at_zero Reads Writes 1 0 0 1 3), not_covered);
+}
+  where
+    not_covered : IsCovered small_bank 0 4 (at_one Reads 1 (Param 0) 1) (at_one Writes 1 (Param 0) 3) → ⊥
+    not_covered c =
+        of_node CoversNothing small_bank 0 (path 0 [] (at_one Reads 0 (Param 0) 0 ∷ at_one Reads 1 (Param 0) 1 ∷ [])) refl
+        (reads_cover_nothing (at_one Reads 0 (Param 0) 0) refl, (reads_cover_nothing (at_one Reads 1 (Param 0) 1) refl, tt)) c.first c.of_first c.at_first c.first_covers
+
+-- what covers is an access of this table
+abbrev pub CoversIn : ℕ → Access → Type 0
+CoversIn table a = MayCover a → a.table ≡ table
+
+-- WriteCheck changes checking accounts alone and TransactSaving savings, so nothing covers the read of a savings account
+check_before_transact : IsVulnerable small_bank 4 2
+check_before_transact = record {
+  question = record { x = 4; a = 0; y = 2; b = 1 };
+  from = refl;
+  to = refl;
+  mine = at_one Reads 0 (Param 0) 0;
+  theirs = at_one Writes 0 (Param 0) 3;
+  asked = record { at_mine = (_, refl, refl); at_theirs = (_, refl, refl); table = refl };
+  kinds = inl (refl, inl refl);
+  holds = ((all_of 0, all_of 0, meet_at_zero Reads Writes 0 0 0 0 3), not_covered);
+}
+  where
+    not_covered : IsCovered small_bank 4 2 (at_one Reads 0 (Param 0) 0) (at_one Writes 0 (Param 0) 3) → ⊥
+    not_covered c =
+        let mine : c.of_first.table ≡ 1 =
+        of_node (CoversIn 1) small_bank 4 (path 4 (true ∷ []) (at_one Reads 0 (Param 0) 0 ∷ at_one Reads 1 (Param 0) 1 ∷ at_one Writes 1 (Param 0) 3 ∷ [])) refl
+        (λ m. absurd (reads_cover_nothing (at_one Reads 0 (Param 0) 0) refl m), (λ m. refl, (λ m. refl, tt))) c.first c.of_first c.at_first c.first_covers in
+        let theirs : c.of_second.table ≡ 0 =
+        of_node (CoversIn 0) small_bank 2 (path 2 (false ∷ []) (at_one Reads 0 (Param 0) 0 ∷ at_one Writes 0 (Param 0) 3 ∷ [])) refl
+        (λ m. absurd (reads_cover_nothing (at_one Reads 0 (Param 0) 0) refl m), (λ m. refl, tt)) c.second c.of_second c.at_second c.second_covers in
+        let same : c.of_first.table ≡ c.of_second.table = (c.same (all_of 0) (all_of 0) (meet_at_zero Reads Writes 0 0 0 0 3)).table in
+        absurd (omega arith)
+
+-- Balance sees what TransactSaving puts
+transact_before_balance : StaticEdge small_bank 2 0
+transact_before_balance = inr (inl (record {
+  question = record { x = 0; a = 0; y = 2; b = 1 };
+  from = refl;
+  to = refl;
+  mine = at_one Reads 0 (Param 0) 0;
+  theirs = at_one Writes 0 (Param 0) 3;
+  asked = record { at_mine = (_, refl, refl); at_theirs = (_, refl, refl); table = refl };
+  kinds = inl (refl, inl refl);
+  holds = (all_of 0, all_of 0, meet_at_zero Reads Writes 0 0 0 0 3);
+}))
+
+small_bank_is_dangerous : IsDangerous small_bank
+small_bank_is_dangerous = (0, 4, 2, record { first = balance_before_check; second = check_before_transact; back = onward transact_before_balance here })
+
+-- ---- the computed-key set
+
+-- let x = get t[a + 0] else 0; put t[b] = x;
+abbrev moves : List Path
+moves = path 0 [] (at_one Reads 0 (Unknown 0) 0 ∷ at_one Writes 0 (Param 1) 1 ∷ []) ∷ []
+
+abbrev moved : Access
+moved = at_one Writes 0 (Param 1) 1
+
+-- the first instance reads what the second changes, whatever the first changes
+meet_at_one : MeetsUnder (record { parameter = (all_of 0).parameter; unknown = (all_of 1).unknown }) (all_of 1) (at_one Reads 0 (Unknown 0) 0) moved
+meet_at_one = record {
+  mine_of_i64 = record { parameter = zeros_of_i64.parameter; unknown = ones_of_i64.unknown };
+  theirs_of_i64 = ones_of_i64;
+  meet = (record { table = 0; first = pos 1; second = pos 0 }, record { table = refl; first = (≤ℤ_refl _, ≤ℤ_refl _); second = refl }, record { table = refl; first = (≤ℤ_refl _, ≤ℤ_refl _); second = refl });
+}
+
+-- what covers is the one change
+abbrev CoversAsMoved : Access → Type 0
+CoversAsMoved a = MayCover a → a ≡ moved
+
+-- a cell that is equal for some arguments alone covers nothing
+move_before_move : IsVulnerable moves 0 0
+move_before_move = record {
+  question = record { x = 0; a = 0; y = 0; b = 1 };
+  from = refl;
+  to = refl;
+  mine = at_one Reads 0 (Unknown 0) 0;
+  theirs = moved;
+  asked = record { at_mine = (_, refl, refl); at_theirs = (_, refl, refl); table = refl };
+  kinds = inl (refl, inl refl);
+  holds = ((_, _, meet_at_one), not_covered);
+}
+  where
+    is_moved : (k : ℕ) (a : Access) → IsAccessOf moves 0 k a → MayCover a → a ≡ moved
+    is_moved =
+        of_node CoversAsMoved moves 0 (path 0 [] (at_one Reads 0 (Unknown 0) 0 ∷ moved ∷ [])) refl
+        (λ m. absurd (reads_cover_nothing (at_one Reads 0 (Unknown 0) 0) refl m), (λ m. refl, tt))
+
+    not_covered : IsCovered moves 0 0 (at_one Reads 0 (Unknown 0) 0) moved → ⊥
+    not_covered c =
+        let mine = is_moved c.first c.of_first c.at_first c.first_covers in
+        let theirs = is_moved c.second c.of_second c.at_second c.second_covers in
+        let v : Assignment = record { parameter = (all_of 0).parameter; unknown = (all_of 1).unknown } in
+        let same = (c.same v (all_of 1) meet_at_one).first in
+        let zero_is : number_under v c.of_first.first.low ≡ pos 0 = subst (λ (a : Access). number_under v a.first.low ≡ pos 0) (sym mine) refl in
+        let one_is : number_under (all_of 1) c.of_second.first.low ≡ pos 1 = subst (λ (a : Access). number_under (all_of 1) a.first.low ≡ pos 1) (sym theirs) refl in
+        absurd (omega (arith, ints))
+
+moves_are_dangerous : IsDangerous moves
+moves_are_dangerous = (0, 0, 0, record { first = move_before_move; second = move_before_move; back = here })
+
+-- ---- the transfer set
+
+-- let x = get t[a] else 0; put t[a] = x - v; let y = get t[b] else 0; put t[b] = y + v;
+abbrev transfers : List Path
+transfers =
+    path 0 [] (at_one Reads 0 (Param 0) 0 ∷ at_one Writes 0 (Param 0) 1 ∷ at_one Reads 0 (Param 1) 2 ∷ at_one Writes 0 (Param 1) 3 ∷ []) ∷ []
+
+-- where the second reads the cell that the first changes, it changes that cell too
+read_is_covered : IsCovered transfers 0 0 (at_one Reads 0 (Param 0) 0) (at_one Writes 0 (Param 1) 3)
+read_is_covered = record {
+  first = 1;
+  second = 3;
+  of_first = at_one Writes 0 (Param 0) 1;
+  of_second = at_one Writes 0 (Param 1) 3;
+  at_first = (_, refl, refl);
+  at_second = (_, refl, refl);
+  first_covers = inl refl;
+  second_covers = inl refl;
+  same = λ v w m. record { table = refl; mine = (refl, tt); theirs = (refl, tt); first = equal v w m; second = refl };
+}
+  where
+    equal : (v w : Assignment) → MeetsUnder v w (at_one Reads 0 (Param 0) 0) (at_one Writes 0 (Param 1) 3) → v.parameter 0 ≡ w.parameter 1
+    equal v w m =
+        let a = m.meet.1.first.0 in
+        let b = m.meet.1.first.1 in
+        let c = m.meet.2.first.0 in
+        let d = m.meet.2.first.1 in
+        omega (arith, ints)

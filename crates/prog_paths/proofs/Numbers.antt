@@ -1,0 +1,60 @@
+-- Numbers of i64 in a run: arguments, rows, and what a statement gives to a name or a row.
+use Rattle.std.proofs.Common.{◌≡◌, List, [], ◌∷◌, Bool, true, false, subst}
+use Rattle.std.specs.Prelude.{ℤ, Some, if◌then◌else◌}
+use Rattle.std.specs.List.{All, AllByRecursion}
+use Rattle.std.proofs.lemmas.List.Elements.{recursion_from_All}
+use Rattle.prog_tree.specs.declared.cell.Cell.{Cell}
+use Rattle.prog_tree.specs.Syntax.{ExprTree, StatementTree, BlockTree, BlockEnd, Then, Branch}
+use Rattle.prog_tree.specs.Syntax as s
+use Rattle.prog_tree.specs.Number.{IsI64}
+use Rattle.prog_tree.specs.Table.{TableState, row_at, is_same_cell, HasI64Rows, IsI64Row}
+
+some_is : (a b : ℤ) → Some a ≡ Some b → a ≡ b
+some_is a b e = cc
+
+abbrev pub AllI64 : List ℤ → Type 0
+AllI64 [] = Unit {0}
+AllI64 (x ∷ xs) = IsI64 x × AllI64 xs
+
+abbrev pub RowsOfI64 : TableState → Type 0
+RowsOfI64 m = (c : Cell) (z : ℤ) → row_at m c ≡ Some z → IsI64 z
+
+-- a lone number is one of i64
+abbrev pub LiteralFits : ExprTree → Type 0
+LiteralFits (s.Literal n) = IsI64 n
+LiteralFits (s.Named x) = Unit {0}
+LiteralFits (s.Plus a b) = Unit {0}
+LiteralFits (s.Minus a b) = Unit {0}
+LiteralFits (s.Times a b) = Unit {0}
+
+-- the numbers that a statement gives to a name or a row
+abbrev pub StatementFits : StatementTree → Type 0
+StatementFits (s.Bind name value) = LiteralFits value
+StatementFits (s.Get name table key otherwise) = LiteralFits otherwise
+StatementFits (s.Put table key value) = LiteralFits value
+StatementFits (s.Insert table key value) = LiteralFits value
+StatementFits statement = Unit {0}
+
+abbrev pub BlockFits : BlockTree → Type 0
+BlockFits BlockEnd = Unit {0}
+BlockFits (Then statement rest) = StatementFits statement × BlockFits rest
+BlockFits (Branch test a b rest) = BlockFits a × BlockFits b × BlockFits rest
+
+-- from the forms of the law
+pub all_i64 : (xs : List ℤ) → All IsI64 xs → AllI64 xs
+all_i64 xs h = go xs (recursion_from_All IsI64 xs h)
+  where
+    go : (ys : List ℤ) → AllByRecursion IsI64 ys → AllI64 ys
+    go [] k = tt
+    go (y ∷ ys) k = (k.0, go ys k.1)
+
+pub rows_i64 : (m : TableState) → HasI64Rows m → RowsOfI64 m
+rows_i64 m h = go m (recursion_from_All IsI64Row m h)
+  where
+    here : (row : Cell × ℤ) (rows : TableState) (c : Cell) (z : ℤ) → IsI64 row.1 → (row_at rows c ≡ Some z → IsI64 z) → (b : Bool) → (if b then Some row.1 else row_at rows c) ≡ Some z → IsI64 z
+    here row rows c z own later true is = subst IsI64 (some_is row.1 z is) own
+    here row rows c z own later false is = later is
+
+    go : (rows : TableState) → AllByRecursion IsI64Row rows → RowsOfI64 rows
+    go [] k c z e = absurd (cc)
+    go (row ∷ rows) k c z e = here row rows c z k.0.1 (go rows k.1 c z) (is_same_cell c row.0) e

@@ -1,0 +1,9 @@
+pub mod Choices
+pub mod Columns
+pub mod Follows
+pub mod Kinds
+pub mod Law
+pub mod Meeting
+pub mod Questions
+pub mod StaticGraph
+pub mod Trails

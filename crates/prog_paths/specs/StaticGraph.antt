@@ -1,0 +1,103 @@
+-- Questions, static dependency edges, vulnerable edges, and dangerous structures over the committing paths of a set.
+use Rattle.std.specs.Prelude.{◌≡◌, ℕ, List, ◌<◌, ◌≤◌, ◌⊎◌, slice_get, Some}
+use Rattle.prog_check.specs.declared.path.Kind.{Kind}
+use Rattle.prog_check.specs.declared.path.Kind.TheVariants.{Reads, Sees, Lacks, Writes, Adds}
+use Rattle.prog_check.specs.declared.path.Access.{Access}
+use Rattle.prog_check.specs.declared.path.Path.{Path}
+use Rattle.prog_paths.specs.Meeting.{Assignment, MayCover, AreSameCell, MeetsUnder, CanMeet}
+
+-- ---- questions
+
+-- access `a` of node `x`, which is a place in the list of paths, is this access
+abbrev pub IsAccessOf : List Path → ℕ → ℕ → Access → Type 0
+IsAccessOf nodes x a access =
+    (path : Path) × (slice_get nodes x ≡ Some path) × (slice_get path.accesses a ≡ Some access)
+
+-- access `a` of node `x` against access `b` of node `y`
+pub record Question : Type 0 where
+  pub x : ℕ
+  pub a : ℕ
+  pub y : ℕ
+  pub b : ℕ
+
+-- what the first access does not see, the second changes: a read-write dependency, first to second
+abbrev pub AsksReadWrite : Question → Kind → Kind → Type 0
+AsksReadWrite q a b = ((a ≡ Reads) × ((b ≡ Writes) ⊎ (b ≡ Adds))) ⊎ ((a ≡ Lacks) × (b ≡ Adds))
+
+-- what the second changes, the first sees: a write-read dependency, second to first
+abbrev pub AsksWriteRead : Question → Kind → Kind → Type 0
+AsksWriteRead q a b = ((a ≡ Reads) × ((b ≡ Writes) ⊎ (b ≡ Adds))) ⊎ ((a ≡ Sees) × (b ≡ Adds))
+
+-- the first access stands at the second or before it, by node and then by number
+abbrev pub IsInOrder : Question → Type 0
+IsInOrder q = (q.x < q.y) ⊎ ((q.x ≡ q.y) × (q.a ≤ q.b))
+
+-- both change a cell: a write-write dependency, either way; such a pair is asked once
+abbrev pub AsksWriteWrite : Question → Kind → Kind → Type 0
+AsksWriteWrite q a b = (a ≡ Writes) × (b ≡ Writes) × IsInOrder q
+
+-- the two accesses that a question asks about, which use one table
+pub record AsksOf (nodes : List Path) (q : Question) (mine theirs : Access) : Type 0 where
+  pub at_mine : IsAccessOf nodes q.x q.a mine
+  pub at_theirs : IsAccessOf nodes q.y q.b theirs
+  pub table : mine.table ≡ theirs.table
+
+-- a question of node x against node y, of these kinds, whose accesses are P
+pub record HasQuestion (asks : Question → Kind → Kind → Type 0) (P : Question → Access → Access → Type 0)
+    (nodes : List Path) (x y : ℕ) : Type 0 where
+  pub question : Question
+  pub from : question.x ≡ x
+  pub to : question.y ≡ y
+  pub mine : Access
+  pub theirs : Access
+  pub asked : AsksOf nodes question mine theirs
+  pub kinds : asks question mine.kind theirs.kind
+  pub holds : P question mine theirs
+
+-- ---- edges
+
+-- the edges that the questions with P give
+abbrev pub EdgeOf : (Question → Access → Access → Type 0) → List Path → ℕ → ℕ → Type 0
+EdgeOf P nodes x y =
+    HasQuestion AsksReadWrite P nodes x y ⊎ HasQuestion AsksWriteRead P nodes y x
+    ⊎ HasQuestion AsksWriteWrite P nodes x y ⊎ HasQuestion AsksWriteWrite P nodes y x
+
+-- instances of x and y can have a dependency, x before y
+abbrev pub StaticEdge : List Path → ℕ → ℕ → Type 0
+StaticEdge = EdgeOf (λ q mine theirs. CanMeet mine theirs)
+
+-- a pair of accesses, one of x and one of y, that change or keep the same single cell wherever the question meets
+pub record IsCovered (nodes : List Path) (x y : ℕ) (mine theirs : Access) : Type 0 where
+  pub first : ℕ
+  pub second : ℕ
+  pub of_first : Access
+  pub of_second : Access
+  pub at_first : IsAccessOf nodes x first of_first
+  pub at_second : IsAccessOf nodes y second of_second
+  pub first_covers : MayCover of_first
+  pub second_covers : MayCover of_second
+  pub same : (v w : Assignment) → MeetsUnder v w mine theirs → AreSameCell v of_first w of_second
+
+-- the question whether a read-write dependency is possible is not covered, and can meet
+abbrev pub IsExposed : List Path → Question → Access → Access → Type 0
+IsExposed nodes q mine theirs = CanMeet mine theirs × (IsCovered nodes q.x q.y mine theirs → ⊥)
+
+-- instances of x and y can be concurrent with a read-write dependency
+abbrev pub IsVulnerable : List Path → ℕ → ℕ → Type 0
+IsVulnerable nodes x y = HasQuestion AsksReadWrite (IsExposed nodes) nodes x y
+
+-- ---- dangerous structures
+
+-- a walk along edges, of no step or more
+pub data Leads (edge : ℕ → ℕ → Type 0) : ℕ → ℕ → Type 0 where
+  here : {x : ℕ} → Leads edge x x
+  onward : {x y z : ℕ} → edge x y → Leads edge y z → Leads edge x z
+
+-- two vulnerable edges in a row, and a way back
+pub record IsDangerousAt (edge vulnerable : ℕ → ℕ → Type 0) (x y z : ℕ) : Type 0 where
+  pub first : vulnerable x y
+  pub second : vulnerable y z
+  pub back : Leads edge z x
+
+abbrev pub IsDangerous : List Path → Type 0
+IsDangerous nodes = (x : ℕ) × (y : ℕ) × (z : ℕ) × IsDangerousAt (StaticEdge nodes) (IsVulnerable nodes) x y z

@@ -1,0 +1,86 @@
+-- Ways through a program as far as they have come, and what a statement adds to each.
+use Rattle.std.specs.Prelude.{ℕ, ◌*◌, ◌≤◌, Bool, true, false, not, ◌&&◌, ◌||◌, List, [], ◌∷◌, ◌++◌, map, Option, None}
+use Rattle.std.specs.List.{AllByRecursion}
+use Rattle.prog_tree.specs.declared.table.TableDecl.{TableDecl}
+use Rattle.prog_tree.specs.Syntax.{Name, BlockTree, BlockEnd, Then, Branch, StmtTree, Plain, Fork, block_from}
+use Rattle.prog_check.specs.declared.path.Kind.{Kind}
+use Rattle.prog_check.specs.declared.path.Access.{Access}
+use Rattle.prog_check.specs.declared.path.Path.{Path}
+use Rattle.prog_check.specs.Accesses.{Columns, columns_of, next_unknown, accesses_of, kinds_of}
+use Rattle.prog_check.specs.Paths.{Passed, Route, accesses_along}
+use Rattle.prog_check.specs.Uses.{is_abort}
+use Rattle.prog_paths.specs.declared.trail.Trail.{Trail}
+
+-- ---- statements
+
+-- what a statement does to its table; a branch itself does nothing
+abbrev pub kinds_by : (grow : Bool) → StmtTree → List Kind
+kinds_by grow (Plain s) = kinds_of grow s
+kinds_by grow (Fork test a b) = []
+
+abbrev pub columns_by : (params : List Name) → (unknown : ℕ) → StmtTree → Option Columns
+columns_by params unknown (Plain s) = columns_of params unknown s
+columns_by params unknown (Fork test a b) = None
+
+abbrev pub accesses_by : List TableDecl → (params : List Name) → (unknown number : ℕ) → StmtTree → List Access
+accesses_by tables params unknown number (Plain s) = accesses_of tables params unknown number s
+accesses_by tables params unknown number (Fork test a b) = []
+
+-- a block that is one statement
+abbrev pub alone : StmtTree → BlockTree
+alone s = block_from s BlockEnd
+
+-- a statement that goes on behind itself, without blocks
+abbrev pub passes : StmtTree → Bool
+passes (Plain s) = not (is_abort s)
+passes (Fork test a b) = false
+
+-- some way through a block meets no `abort;`
+abbrev pub commits : BlockTree → Bool
+commits BlockEnd = true
+commits (Then s rest) = not (is_abort s) && commits rest
+commits (Branch test a b rest) = (commits a || commits b) && commits rest
+
+-- ---- trails
+
+-- the number of the next unknown behind statements
+abbrev pub unknown_behind : (params : List Name) → (unknown : ℕ) → List Passed → ℕ
+unknown_behind params unknown [] = unknown
+unknown_behind params unknown (p ∷ later) =
+    unknown_behind params (next_unknown unknown (columns_of params unknown p.statement)) later
+
+-- the way so far
+abbrev pub trail_of : List Bool → List Access → (unknown : ℕ) → Trail
+trail_of choices accesses unknown = record { choices = choices; accesses = accesses; unknown = unknown }
+
+-- a trail behind a statement without blocks
+abbrev pub past : List TableDecl → (params : List Name) → (number : ℕ) → StmtTree → Trail → Trail
+past tables params number s t =
+    trail_of t.choices (t.accesses ++ accesses_by tables params t.unknown number s)
+    (next_unknown t.unknown (columns_by params t.unknown s))
+
+-- a trail that takes a branch's first block, or its second
+abbrev pub choosing_first : Bool → Trail → Trail
+choosing_first first t = trail_of (t.choices ++ first ∷ []) t.accesses t.unknown
+
+-- a trail that goes on along a route
+abbrev pub along : List TableDecl → (params : List Name) → Trail → Route → Trail
+along tables params t route =
+    trail_of (t.choices ++ route.choices) (t.accesses ++ accesses_along tables params t.unknown route.passed)
+    (unknown_behind params t.unknown route.passed)
+
+-- each trail along each route
+abbrev pub all_along : List TableDecl → (params : List Name) → List Trail → List Route → List Trail
+all_along tables params [] rs = []
+all_along tables params (t ∷ ts) rs = map (along tables params t) rs ++ all_along tables params ts rs
+
+-- the path of a trail at the end of its program
+abbrev pub path_with : (program : ℕ) → Trail → Path
+path_with program t = record { program = program; choices = t.choices; accesses = t.accesses }
+
+-- before the statement of this number a trail has met at most three unknowns for each
+abbrev pub IsLow : (number : ℕ) → Trail → Type 0
+IsLow number t = t.unknown ≤ 3 * number
+
+abbrev pub AreLow : (number : ℕ) → List Trail → Type 0
+AreLow number ts = AllByRecursion (IsLow number) ts

@@ -1,0 +1,75 @@
+//! What a statement does to its table.
+ghost use Rattle.std.specs.Prelude.{◌≡◌, ◌++◌, option_copied};
+ghost use Rattle.std.specs.Option.{option_map};
+ghost use Rattle.prog_tree.specs.Numbering.{number_of};
+ghost use Rattle.prog_tree.specs.Tree.{stmt_tree};
+ghost use Rattle.prog_check.specs.Accesses.{grows_used, number_used};
+ghost use Rattle.prog_check.specs.Tables.{declaration, grows};
+ghost use Rattle.prog_check.specs.Uses.{used_table_by};
+ghost use Rattle.prog_paths.specs.Kinds.{items_of};
+ghost use Rattle.prog_paths.specs.Trails.{kinds_by};
+
+use prog_check::{Kind, ProgramSet};
+use prog_tree::{Name, Stmt};
+
+/// The kinds of a statement's accesses, one or two in a row.
+pub fn kinds(grow: bool, stmt: &Stmt) -> (Option<Kind>, Option<Kind>)
+    ensures { items_of result.0 ++ items_of result.1 ≡ kinds_by grow (stmt_tree stmt.now) }
+{
+    match stmt {
+        Stmt::Get { .. } | Stmt::Count { .. } | Stmt::Sum { .. } => (Some(Kind::Reads), None),
+        Stmt::Need { .. } if grow => (Some(Kind::Sees), None),
+        Stmt::Need { .. } => (Some(Kind::Reads), None),
+        Stmt::Lacks { .. } if grow => (Some(Kind::Lacks), None),
+        Stmt::Lacks { .. } => (Some(Kind::Reads), None),
+        Stmt::Put { .. } | Stmt::Delete { .. } => (Some(Kind::Writes), None),
+        Stmt::Insert { .. } if grow => (Some(Kind::Adds), None),
+        Stmt::Insert { .. } => (Some(Kind::Reads), Some(Kind::Writes)),
+        Stmt::Keep { .. } => (Some(Kind::Keeps), None),
+        _ => (None, None),
+    }
+}
+
+/// The name of the table that a statement uses.
+fn table_name(stmt: &Stmt) -> Option<&Name>
+    ensures { option_copied result
+        ≡ option_map (λ used. used.0) (used_table_by (stmt_tree stmt.now)) }
+{
+    match stmt {
+        Stmt::Get { table, .. }
+        | Stmt::Need { table, .. }
+        | Stmt::Count { table, .. }
+        | Stmt::Sum { table, .. }
+        | Stmt::Lacks { table, .. }
+        | Stmt::Put { table, .. }
+        | Stmt::Insert { table, .. }
+        | Stmt::Delete { table, .. }
+        | Stmt::Keep { table, .. } => Some(table),
+        _ => None,
+    }
+}
+
+/// The number of the table of a name, and whether it grows.
+fn table_at(set: &ProgramSet, name: &Name) -> (usize, bool)
+    ensures number { result.0 ≡ number_of set.now.tables.items name.now }
+    ensures grow { result.1 ≡ grows (declaration set.now.tables.items name.now) }
+{
+    let tables = set.draft().tables.as_slice();
+    match set.table_number(name.as_str()) {
+        Some(number) => (number, tables[number].grow),
+        None => (tables.len(), false),
+    }
+}
+
+/// The number of the table that a statement uses, and whether it grows.
+pub fn table_used(set: &ProgramSet, stmt: &Stmt) -> (usize, bool)
+    ensures number { result.0
+        ≡ number_used set.now.tables.items (used_table_by (stmt_tree stmt.now)) }
+    ensures grow { result.1
+        ≡ grows_used set.now.tables.items (used_table_by (stmt_tree stmt.now)) }
+{
+    match table_name(stmt) {
+        Some(name) => table_at(set, name),
+        None => (0, false),
+    }
+}

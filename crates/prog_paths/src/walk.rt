@@ -1,0 +1,174 @@
+//! The walk along a program's committing paths. It enters no block that always aborts, so each way
+//! that it keeps is one of the paths that are listed.
+ghost use Rattle.std.specs.Prelude.{◌≡◌, ◌+◌, ◌≤◌, ◌<◌, ◌++◌, true, map, min, IfOk, OnOk};
+ghost use Rattle.prog_tree.specs.Tree.{stmt_tree, block_tree};
+ghost use Rattle.prog_check.specs.Paths.{statement_count, routes};
+ghost use Rattle.prog_paths.specs.Trails.{IsLow, AreLow, alone, passes, commits, along, all_along};
+
+use crate::trail::{Trail, pass};
+use prog_check::ProgramSet;
+use prog_tree::{Block, Name, Stmt};
+use std::alloc::{AllocError, Global};
+
+/// One more than a program of a set has.
+const MORE_STATEMENTS: usize = 257;
+
+/// How many statements a statement is, with those of its blocks, up to 257.
+#[cycle(sizes)]
+fn count_own(stmt: &Stmt) -> usize
+    ensures few { result ≤ 257 }
+    ensures counted { result ≡ min (statement_count (alone (stmt_tree stmt.now))) 257 }
+{
+    match stmt {
+        Stmt::Branch {
+            then,
+            otherwise,
+            ..
+        } => (1 + count_all(then) + count_all(otherwise)).min(MORE_STATEMENTS),
+        _ => 1,
+    }
+}
+
+/// How many statements a block has, with those of its blocks, up to 257.
+#[cycle(sizes)]
+fn count_all(block: &Block) -> usize
+    ensures few { result ≤ 257 }
+    ensures counted { result ≡ min (statement_count (block_tree block.now)) 257 }
+{
+    let mut count = 0;
+    for stmt in &block.stmts {
+        count = (count + count_own(stmt)).min(MORE_STATEMENTS);
+    }
+    count
+}
+
+/// Whether some way leads on behind a statement.
+#[cycle(commits)]
+fn lets_on(stmt: &Stmt) -> bool
+    ensures { result ≡ commits (alone (stmt_tree stmt.now)) }
+{
+    match stmt {
+        Stmt::Branch {
+            then,
+            otherwise,
+            ..
+        } => commits(then) || commits(otherwise),
+        Stmt::Abort => false,
+        _ => true,
+    }
+}
+
+/// Whether some way through a block meets no `abort;`.
+#[cycle(commits)]
+fn commits(block: &Block) -> bool
+    ensures { result ≡ commits (block_tree block.now) }
+{
+    for stmt in &block.stmts {
+        if !lets_on(stmt) {
+            return false;
+        }
+    }
+    true
+}
+
+/// Takes all trails past a statement without blocks, of this number.
+fn pass_all(
+    alloc: Global,
+    set: &ProgramSet,
+    params: &[Name],
+    number: usize,
+    stmt: &Stmt,
+    trails: Vec<Trail>,
+) -> Result<Vec<Trail>, AllocError>
+    requires few { number < 256 }
+    requires low { AreLow number trails.items }
+    requires passes { passes (stmt_tree stmt.now) ≡ true }
+    ensures { IfOk result (λ r. r.items ≡ all_along set.now.tables.items params.now trails.items
+        (routes number (alone (stmt_tree stmt.now)))) }
+{
+    let mut passed = Vec::new(alloc);
+    for mut trail in trails {
+        pass(set, params, number, stmt, &mut trail)?;
+        passed.push(trail)?;
+    }
+    Ok(passed)
+}
+
+fn append(trails: &mut Vec<Trail>, more: Vec<Trail>) -> Result<(), AllocError>
+    ensures { OnOk result (trails.new.items ≡ trails.old.items ++ more.items) }
+{
+    for trail in more {
+        trails.push(trail)?;
+    }
+    Ok(())
+}
+
+/// All trails behind a statement of this number.
+#[cycle(walk)]
+fn walk_stmt(
+    alloc: Global,
+    set: &ProgramSet,
+    params: &[Name],
+    number: usize,
+    stmt: &Stmt,
+    trails: Vec<Trail>,
+) -> Result<Vec<Trail>, AllocError>
+    requires few { number + statement_count (alone (stmt_tree stmt.now)) ≤ 256 }
+    requires low { AreLow number trails.items }
+    ensures { IfOk result (λ r. r.items ≡ all_along set.now.tables.items params.now trails.items
+        (routes number (alone (stmt_tree stmt.now)))) }
+{
+    match stmt {
+        Stmt::Branch {
+            then,
+            otherwise,
+            ..
+        } => {
+            let second = number + 1 + count_all(then);
+            let mut passed = Vec::new(alloc);
+            for trail in trails {
+                let on = trail.choosing(alloc, true)?;
+                append(
+                    &mut passed,
+                    walk_block(alloc, set, params, number + 1, then, on)?,
+                )?;
+                let on = trail.choosing(alloc, false)?;
+                append(
+                    &mut passed,
+                    walk_block(alloc, set, params, second, otherwise, on)?,
+                )?;
+            }
+            Ok(passed)
+        }
+        Stmt::Abort => Ok(Vec::new(alloc)),
+        _ => pass_all(alloc, set, params, number, stmt, trails),
+    }
+}
+
+/// The trail's ways on through a block whose first statement has this number.
+#[cycle(walk)]
+pub fn walk_block(
+    alloc: Global,
+    set: &ProgramSet,
+    params: &[Name],
+    number: usize,
+    block: &Block,
+    trail: Trail,
+) -> Result<Vec<Trail>, AllocError>
+    requires few { number + statement_count (block_tree block.now) ≤ 256 }
+    requires low { IsLow number trail }
+    ensures { IfOk result (λ r. r.items ≡ map (along set.now.tables.items params.now trail)
+        (routes number (block_tree block.now))) }
+{
+    let mut trails = Vec::new(alloc);
+    if !commits(block) {
+        return Ok(trails);
+    }
+    trails.push(trail)?;
+    let mut number = number;
+    for stmt in &block.stmts {
+        trails = walk_stmt(alloc, set, params, number, stmt, trails)?;
+        number += count_own(stmt);
+    }
+    Ok(trails)
+}
