@@ -11,11 +11,18 @@ pub mod ForwardLaws
 pub mod FoundLaws
 pub mod HistoryLaws
 pub mod InTurn
+pub mod LeastFree
+pub mod NumberLists
 pub mod OrderLaws
 pub mod OrderVectors
 pub mod PlacedLaws
+pub mod PlacingLaws
+mod PlacingVectors
+pub mod PrecedenceLaws
 pub mod ReducedLaws
 pub mod RunsInOrder
 pub mod SerialLaws
 pub mod StateLaws
 pub mod Vectors
+pub mod WaitLaws
+pub mod WalkLaws

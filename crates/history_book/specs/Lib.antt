@@ -1,6 +1,8 @@
 pub mod Dependencies
 pub mod History
 pub mod Orders
+pub mod Placing
+pub mod Precedence
 pub mod Refusals
 pub mod Runs
 pub mod Serial

@@ -6,6 +6,8 @@ mod book;
 mod fault;
 mod finish;
 mod laws;
+mod order;
+mod precedence;
 mod row;
 mod snapshot;
 mod ticket;
@@ -17,6 +19,7 @@ pub use laws::{
     forward_orders_run_the_same, least_orders_fit, least_orders_of_reduced_relations,
     orders_are_of_relations_without_a_cycle,
 };
+pub use order::OrderFault;
 pub use row::{Ending, HistoryRow};
 pub use ticket::{Receipt, Ticket};
 pub use version_store::Clash;

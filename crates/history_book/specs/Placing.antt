@@ -1,0 +1,67 @@
+-- How an order is found: what each number waits for, and where none is free.
+use Rattle.std.specs.Prelude.{◌≡◌, ◌≢◌, ℕ, ◌+◌, ◌<◌, ◌≤◌, ◌==◌, Bool, true, List, [], ◌∷◌, length, slice_index, codes, if◌then◌else◌}
+use Rattle.history_book.specs.declared.order.OrderFault.{OrderFault}
+use Rattle.history_book.specs.declared.order.OrderFault.TheVariants.{Cycle, Memory}
+use Rattle.history_book.specs.Orders.{is_one_of, LeadsTo, IsCycle}
+use Rattle.history_book.specs.Precedence.{precedes}
+
+-- how many times a number stands among others
+abbrev pub times : ℕ → List ℕ → ℕ
+times n [] = 0
+times n (m ∷ ms) = (if m == n then 1 else 0) + times n ms
+
+-- for how many a number waits: how many times it stands behind a number that is not placed, the first list being that
+-- of the number k
+abbrev pub waits_from : (k : ℕ) → List (List ℕ) → (placed : List ℕ) → ℕ → ℕ
+waits_from k [] placed n = 0
+waits_from k (list ∷ lists) placed n =
+    (if is_one_of placed k then 0 else times n list) + waits_from (k + 1) lists placed n
+
+-- for each number from 0 on, for how many it waits
+pub record AreWaits (lists : List (List ℕ)) (placed waits : List ℕ) : Type 0 where
+  pub long : length waits ≡ length lists + 1
+  pub each : (n : ℕ) → n < length waits → slice_index waits n ≡ waits_from 1 lists placed n
+
+-- a number waits for others
+abbrev pub IsWaiting : (waits : List ℕ) → ℕ → Type 0
+IsWaiting waits n = slice_index waits n ≢ 0
+
+-- a number that waits has to stand before another
+abbrev pub HoldsBack : List (List ℕ) → (waits : List ℕ) → (leader n : ℕ) → Type 0
+HoldsBack lists waits leader n = (precedes lists leader n ≡ true) × IsWaiting waits leader
+
+-- each number that waits does so for one that waits too, and there is one
+pub record IsStuck (lists : List (List ℕ)) (waits : List ℕ) : Type 0 where
+  pub long : length waits ≡ length lists + 1
+  pub waiting : (n : ℕ) × (n < length waits) × IsWaiting waits n
+  pub for_one : (n : ℕ) → n < length waits → IsWaiting waits n → (i : ℕ) × HoldsBack lists waits i n
+
+-- a leader of the number is known
+abbrev pub HasLeader : (leaders : List ℕ) → ℕ → Type 0
+HasLeader leaders n = slice_index leaders n ≢ 0
+
+-- for each number from 0 on, one that waits and has to stand before it; 0 where there is none
+pub record AreLeaders (lists : List (List ℕ)) (waits leaders : List ℕ) : Type 0 where
+  pub long : length leaders ≡ length lists + 1
+  pub leads : (n : ℕ) → HasLeader leaders n → HoldsBack lists waits (slice_index leaders n) n
+  pub whole : (i n : ℕ) → precedes lists i n ≡ true → IsWaiting waits i → HasLeader leaders n
+
+-- each leader has to stand before what it leads
+abbrev pub IsLed : (before : ℕ → ℕ → Bool) → (leaders : List ℕ) → Type 0
+IsLed before leaders = (n : ℕ) → HasLeader leaders n → before (slice_index leaders n) n ≡ true
+
+-- each has to stand behind the next, and the last behind `end`, which is one of them; none stands twice
+pub record IsWalk (before : ℕ → ℕ → Bool) (numbers : List ℕ) (end : ℕ) : Type 0 where
+  pub leads : LeadsTo (λ i j. before j i) numbers end
+  pub once : (n : ℕ) → times n numbers ≤ 1
+  pub again : is_one_of numbers end ≡ true
+
+-- the cycle is one, or there was no memory
+abbrev pub IsOrderFault : (before : ℕ → ℕ → Bool) → OrderFault → Type 0
+IsOrderFault before (Cycle list) = IsCycle before list.items
+IsOrderFault before Memory = Unit {0}
+
+-- why there is no order, as it is printed
+abbrev pub order_fault_text : OrderFault → List ℕ
+order_fault_text (Cycle list) = codes "cycle"
+order_fault_text Memory = codes "memory"
