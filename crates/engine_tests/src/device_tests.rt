@@ -3,7 +3,7 @@
 use crate::fakes::{SlowSink, SlowSource};
 use prog_check::{ProgramSet, check};
 use prog_text::parse;
-use si_engine::{Bytes, InputFault, LineFault, Port, ScriptFault, run_script};
+use si_engine::{Bytes, Finding, InputFault, LineFault, Port, ScriptFault, run_script};
 use std::alloc::Global;
 use std::test::Fail;
 
@@ -28,6 +28,7 @@ const LOOKED: &[u8] = b"0 begun at 0
 1 begun at 1
 1 withdrawn
 vacuumed 0
+order 1
 ";
 
 fn set(alloc: Global) -> Result<ProgramSet, Fail> {
@@ -40,7 +41,7 @@ fn ports_are_devices(rt: HostRuntime) -> Result<(), Fail> {
     let set = set(rt.alloc())?;
     let mut sink = Port::new(Vec::new(rt.alloc()));
     let ended = run_script(rt.alloc(), &set, &mut Port::new(LOOK), &mut sink);
-    assert_eq!(rt; ended, Ok(()));
+    assert_eq!(rt; ended, Ok(Finding::Order));
     assert_eq!(rt; sink.into_inner().as_slice(), LOOKED);
     Ok(())
 }
@@ -50,7 +51,7 @@ fn run_with(
     alloc: Global,
     pulls: u64,
     pushes: u64,
-) -> Result<(Result<(), ScriptFault>, Vec<u8>), Fail> {
+) -> Result<(Result<Finding, ScriptFault>, Vec<u8>), Fail> {
     let set = set(alloc)?;
     let mut source = SlowSource::new(LOOK, pulls);
     let mut sink = SlowSink::new(alloc, pushes);
@@ -61,7 +62,7 @@ fn run_with(
 #[test]
 fn slow_devices_change_nothing(rt: HostRuntime) -> Result<(), Fail> {
     let (ended, bytes) = run_with(rt.alloc(), NEVER, NEVER)?;
-    assert_eq!(rt; ended, Ok(()));
+    assert_eq!(rt; ended, Ok(Finding::Order));
     assert_eq!(rt; bytes.as_slice(), LOOKED);
     Ok(())
 }
@@ -81,7 +82,7 @@ fn each_failed_pull_is_told(rt: HostRuntime) -> Result<(), Fail> {
 // Each push takes three bytes.
 #[test]
 fn each_failed_push_leaves_first_bytes(rt: HostRuntime) -> Result<(), Fail> {
-    for pushes in 0..31 {
+    for pushes in 0..34 {
         let (ended, bytes) = run_with(rt.alloc(), NEVER, pushes)?;
         assert_eq!(rt;
             ended,

@@ -1,7 +1,9 @@
-//! Tests of scripts over devices that are slow, and that fail at each of their calls.
+//! Tests of scripts over devices that are slow, and that fail at each of their calls, and of records.
 #![tactic(auto)]
 
 #[cfg(test)]
 mod device_tests;
 #[cfg(test)]
 mod fakes;
+#[cfg(test)]
+mod record_tests;

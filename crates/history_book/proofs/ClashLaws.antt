@@ -8,15 +8,15 @@ use Rattle.version_store.specs.Clash.{last_touch, IsClash}
 use Rattle.history_book.specs.History.{NamesCommit}
 
 -- a commit of a list, where the first has the number k, that touches the cell
-record Touches (c : Cell) (k : ℕ) (ws : List ChangeSet) (last : ℕ) : Type 0 where
-  place : ℕ
-  commit : ChangeSet
-  at : slice_get ws place ≡ Some commit
-  touched : touches_cell commit c ≡ true
-  number : last ≡ k + place
+pub record Touches (c : Cell) (k : ℕ) (ws : List ChangeSet) (last : ℕ) : Type 0 where
+  pub place : ℕ
+  pub commit : ChangeSet
+  pub at : slice_get ws place ≡ Some commit
+  pub touched : touches_cell commit c ≡ true
+  pub number : last ≡ k + place
 
 -- the last touch is by a commit
-last_touches : (c : Cell) (k : ℕ) (ws : List ChangeSet) → 0 < last_touch c k ws → Touches c k ws (last_touch c k ws)
+pub last_touches : (c : Cell) (k : ℕ) (ws : List ChangeSet) → 0 < last_touch c k ws → Touches c k ws (last_touch c k ws)
 last_touches c k [] some = absurd (omega arith)
 last_touches c k (w ∷ ws) some = go (leb_tells 1 later) (last_touches c (k + 1) ws)
   where

@@ -23,7 +23,7 @@ use Rattle.history_book.specs.declared.row.HistoryRow.{HistoryRow}
 use Rattle.history_book.proofs.HistoryLaws.{eval_of-found, length-commits_of}
 
 -- what a run of an instance came to is what the instance does
-own_run : (v : BookView) (i : Instance) (run : RunView) (end : End) → IsOwnRun v i run → IsTrueRun run → run.end ≡ Some end → result_of end run ≡ done_in v i
+pub own_run : (v : BookView) (i : Instance) (run : RunView) (end : End) → IsOwnRun v i run → IsTrueRun run → run.end ≡ Some end → result_of end run ≡ done_in v i
 own_run v i run end own is_true ends =
     let m = state_in v i.start in
     (is_true m own.found).ending end ends
@@ -46,6 +46,9 @@ module _ (v : BookView) (t : TicketView) (run : RunView) (row : HistoryRow) (end
 
   pub changes_are : run.changes ≡ (done_in v (instance_of row)).changes
   changes_are = ap (λ (e : Evaluation). e.changes) did ∙ ap (λ (i : Instance). (done_in v i).changes) (sym same_instance)
+
+  pub looks_are : run.looks ≡ (done_in v (instance_of row)).looks
+  looks_are = ap (λ (e : Evaluation). e.looks) did ∙ ap (λ (i : Instance). (done_in v i).looks) (sym same_instance)
 
   pub true_row : row.start ≤ length v.rows → IsTrueRow (draft_tree v.set) v.opening (history_of v.rows) row
   true_row within =

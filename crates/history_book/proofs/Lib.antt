@@ -1,4 +1,5 @@
 pub mod ActiveLaws
+pub mod AuditLaws
 pub mod BookLaws
 pub mod ClashLaws
 pub mod CommitLaws
@@ -13,16 +14,29 @@ pub mod HistoryLaws
 pub mod InTurn
 pub mod LeastFree
 pub mod NumberLists
+pub mod OnceLaws
 pub mod OrderLaws
 pub mod OrderVectors
+pub mod PairLaws
 pub mod PlacedLaws
 pub mod PlacingLaws
 mod PlacingVectors
 pub mod PrecedenceLaws
 pub mod ReducedLaws
+pub mod RegionPairs
+pub mod RepeatLaws
+pub mod ReplayLaws
+pub mod RightLaws
+pub mod RiseLaws
 pub mod RunsInOrder
+pub mod SerialBooks
 pub mod SerialLaws
 pub mod StateLaws
+pub mod TestLaws
+pub mod TraceLaws
+pub mod TracePairs
+pub mod TraceReach
 pub mod Vectors
 pub mod WaitLaws
 pub mod WalkLaws
+pub mod WriterLaws

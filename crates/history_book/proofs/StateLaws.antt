@@ -18,7 +18,7 @@ state_at-push opening ws w n before = ap (fold (λ m v. changed m v.cells) openi
 -- ---- the commits, instance by instance
 
 -- later instances leave the states before them
-state_at-commits_after : (set : DraftTree) (opening : TableState) (past : List ChangeSet) (h : List Instance) (n : ℕ) → n ≤ length past →
+pub state_at-commits_after : (set : DraftTree) (opening : TableState) (past : List ChangeSet) (h : List Instance) (n : ℕ) → n ≤ length past →
     state_at opening (commits_after set opening past h) n ≡ state_at opening past n
 state_at-commits_after set opening past [] n before = refl
 state_at-commits_after set opening past (i ∷ h) n before =

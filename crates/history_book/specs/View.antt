@@ -11,8 +11,12 @@ use Rattle.prog_tree.specs.ChangeSet.{ChangeSet}
 use Rattle.prog_tree.specs.Evaluation.{Evaluation}
 use Rattle.prog_tree.specs.Table.{TableState, row_at, rows_in}
 use Rattle.prog_tree.specs.Tree.{draft_tree}
+use Rattle.history_book.specs.Dependencies.{depends}
 use Rattle.history_book.specs.History.{Instance, commits_of, state_after, evaluation}
+use Rattle.history_book.specs.Serial.{Fits}
 use Rattle.history_book.specs.Ticket.{TicketView}
+use Rattle.history_book.specs.TraceView.{TraceView}
+use Rattle.history_book.specs.Traces.{trace_in, traces_of}
 use Rattle.history_book.specs.declared.fault.BeginFault.{BeginFault}
 use Rattle.history_book.specs.declared.fault.BeginFault.TheVariants.{NoSuchProgram, WrongArguments, Full, Memory}
 use Rattle.history_book.specs.declared.row.Ending.{Ending}
@@ -59,6 +63,22 @@ state_in v n = state_after (draft_tree v.set) v.opening (history_of v.rows) n
 -- what an instance does on the state that it sees
 abbrev pub done_in : BookView → Instance → Evaluation
 done_in v i = evaluation (draft_tree v.set) v.opening (history_of v.rows) i
+
+-- what it looked at and changed there
+abbrev pub trace_for : BookView → Instance → TraceView
+trace_for v i = trace_in (draft_tree v.set) v.opening (history_of v.rows) i
+
+-- the traces of its commits
+abbrev pub traces_in : BookView → List TraceView
+traces_in v = traces_of (draft_tree v.set) v.opening (history_of v.rows)
+
+-- one of two commits has to stand before the other
+abbrev pub depends_in : BookView → ℕ → ℕ → Bool
+depends_in v = depends (draft_tree v.set) v.opening (history_of v.rows)
+
+-- an equivalent serial order of its commits
+abbrev pub FitsBook : BookView → List ℕ → Type 0
+FitsBook v order = Fits (draft_tree v.set) v.opening (history_of v.rows) order
 
 -- the row of a commit number; numbers begin at 1
 abbrev pub nth_row : List HistoryRow → ℕ → Option HistoryRow

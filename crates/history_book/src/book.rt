@@ -1,17 +1,26 @@
 //! The book.
 
-ghost use Rattle.std.specs.Prelude.{◌≡◌, ◌≤◌, Some, None, All, ◌↔◌, IsTrue, IfNone, IfSome, length, IfOk, IfErr, OnOk, OnErr, option_copied};
+ghost use Rattle.std.specs.Prelude.{◌≡◌, ◌≤◌, ℕ, List, Some, None, All, ◌↔◌, IsTrue, IfNone, IfSome, length, IfOk, IfErr, OnOk, OnErr, option_copied};
 ghost use Rattle.prog_tree.specs.Number.{IsI64};
+ghost use Rattle.prog_tree.specs.Table.{IsTableState};
 ghost use Rattle.prog_run.specs.View.{IsTrueRun};
+ghost use Rattle.history_book.specs.Orders.{IsCycle, IsReduced, least_order};
+ghost use Rattle.history_book.specs.Placing.{IsOrderFault};
+ghost use Rattle.history_book.specs.Precedence.{precedes};
 ghost use Rattle.history_book.specs.Refusals.{HasAborted, IsCommitFault, IsEndFault, IsCellRead, IsRegionRead, IsWithdrawal};
 ghost use Rattle.history_book.specs.Runs.{IsCommitted, IsAborted};
 ghost use Rattle.history_book.specs.TrueBook.{IsTrueBook};
+ghost use Rattle.history_book.specs.View.{depends_in, FitsBook};
 ghost use Rattle.history_book.specs.View.{state_in, new_book, nth_row, held_for, rows_for, least_start, vacuumed, is_full, begin_fault_of, IsBeginRefusedBy, next_ticket, begun_in};
 
 use crate::active::Active;
 use crate::fault::{BeginFault, CommitFault, EndFault, NoSuchTicket, ScanFault, Unused};
+use crate::order::OrderFault;
+use crate::precedence::Precedence;
+use crate::readers::reduced;
 use crate::row::{Ending, HistoryRow};
 use crate::ticket::{Receipt, Ticket};
+use crate::trace::Trace;
 use prog_check::ProgramSet;
 use prog_run::Run;
 use prog_tree::{Cause, Cell, End, Region, Rows, Sequence};
@@ -21,26 +30,28 @@ use std::marker::Model;
 use version_store::Store;
 
 /// No begin succeeds where there are so many endings and active instances.
-const MOST_ENDINGS: usize = 100_000;
+pub(crate) const MOST_ENDINGS: usize = 100_000;
 
 /// What was begun, committed and ended over a set of programs.
 #[derive(Debug, Drop)]
 pub struct Book<'a> {
     pub(crate) alloc: Global,
     pub(crate) set: &'a ProgramSet,
-    opening: Rows,
+    pub(crate) opening: Rows,
     pub(crate) store: Store,
     pub(crate) rows: Vec<HistoryRow>,
     pub(crate) endings: Vec<Ending>,
     pub(crate) active: BTreeMap<u64, Active>,
-    begun: u64,
+    pub(crate) traces: Vec<Trace>,
+    pub(crate) begun: u64,
 }
 
 impl<'a> Model for Book<'a> {
     ghost use Rattle.std.specs.Coded.{codes};
     ghost use Rattle.prog_tree.specs.contracts.stmt.Block as block;
     ghost use Rattle.history_book.specs.TrueBook.{IsTrueBook, IsStored};
-    ghost use Rattle.history_book.specs.View.{BookView};
+    ghost use Rattle.std.specs.Prelude.{◌≡◌};
+    ghost use Rattle.history_book.specs.View.{BookView, traces_in};
 
     ghost Value = { BookView };
 
@@ -73,11 +84,20 @@ impl<'a> Model for Book<'a> {
           active = b.active.entries;
           begun = b.begun;
           floor = b.store.floor;
-        } b.store };
+        } b.store
+        × (b.traces.items ≡ traces_in record {
+          set = b.set.now;
+          opening = b.opening;
+          rows = b.rows.items;
+          endings = b.endings.items;
+          active = b.active.entries;
+          begun = b.begun;
+          floor = b.store.floor;
+        }) };
 }
 
 // Whether a run is over and ready.
-fn is_ready(run: &Run<'_>) -> bool
+pub(crate) fn is_ready(run: &Run<'_>) -> bool
     ensures ready { IsTrue result ↔ (run.now.end ≡ Some End.Ready) }
     ensures true_run { IsTrueRun run.now }
 {
@@ -97,7 +117,7 @@ fn cause_of(run: &Run<'_>) -> Option<Cause>
 }
 
 // Numbers are of i64, as their type says.
-fn read_numbers(numbers: &[i64])
+pub(crate) fn read_numbers(numbers: &[i64])
     ensures { All IsI64 numbers.now }
 {
     for number in numbers {
@@ -125,6 +145,7 @@ impl<'a> Book<'a> {
             rows: Vec::new(alloc),
             endings: Vec::new(alloc),
             active: BTreeMap::new(alloc),
+            traces: Vec::new(alloc),
             begun: 0,
         })
     }
@@ -197,6 +218,33 @@ impl<'a> Book<'a> {
             return Some(BeginFault::Full);
         }
         None
+    }
+
+    /// The least equivalent serial order of the commits: at each place the least number that can stand
+    /// there.
+    pub fn serial_order(&self) -> Result<Vec<usize>, OrderFault>
+        ensures order { IfOk result (λ order.
+            least_order (depends_in self.now) (length self.now.rows) ≡ Some order.items) }
+        ensures fits { IfOk result (λ order. FitsBook self.now order.items) }
+        ensures acyclic { IfOk result (λ order. (numbers : List ℕ) →
+            IsCycle (depends_in self.now) numbers → ⊥) }
+        ensures cycle { IfErr result (IsOrderFault (depends_in self.now)) }
+    {
+        let precedence = self.precedence()?;
+        let order = precedence.order(self.alloc)?;
+        Ok(order)
+    }
+
+    // What has to stand before what among the commits, in few pairs.
+    fn precedence(&self) -> Result<Precedence, AllocError>
+        ensures commits { IfOk result (λ precedence. length precedence ≡ length self.now.rows) }
+        ensures reduced { IfOk result (λ precedence.
+            IsReduced (length self.now.rows) (precedes precedence) (depends_in self.now)) }
+        ensures true_book { IsTrueBook self.now }
+        ensures ordered { IsTableState self.now.opening }
+    {
+        let precedence = reduced(self.alloc, &self.traces)?;
+        Ok(precedence)
     }
 
     /// Begins an instance, which sees all commits so far.
@@ -276,7 +324,7 @@ impl<'a> Book<'a> {
                     Err(_) => Err(CommitFault::Memory(Unused { ticket, run })),
                 }
             }
-            None => match self.install(ticket.number, row, run.changes()) {
+            None => match self.install(ticket.number, row, &run) {
                 Ok(number) => Ok(Receipt { commit: number }),
                 Err(_) => Err(CommitFault::Memory(Unused { ticket, run })),
             },

@@ -2,18 +2,26 @@
 #![tactic(auto)]
 
 mod active;
+mod audit;
 mod book;
 mod fault;
 mod finish;
+mod fits;
 mod laws;
 mod order;
 mod precedence;
+mod readers;
+mod replay;
 mod row;
 mod snapshot;
 mod ticket;
+mod trace;
+mod writers;
 
+pub use audit::{AuditFault, RowFault, lawful_rows_are_right};
 pub use book::Book;
 pub use fault::{BeginFault, CommitFault, EndFault, NoSuchTicket, Place, ScanFault, Unused};
+pub use fits::AnyFitFault;
 pub use laws::{
     clashes_name_a_commit, commits_are_what_the_instances_write, dependencies_are_of_instances,
     forward_orders_run_the_same, least_orders_fit, least_orders_of_reduced_relations,

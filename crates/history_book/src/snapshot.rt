@@ -29,7 +29,7 @@ fn remove_all(rows: &mut Rows, cells: &[Cell])
     }
 }
 
-fn same_numbers(numbers: &[i64], others: &[i64]) -> bool
+pub(crate) fn same_numbers(numbers: &[i64], others: &[i64]) -> bool
     ensures { IsTrue result ↔ (numbers.now ≡ others.now) }
 {
     numbers == others

@@ -1,6 +1,9 @@
 mod LineLemmas
 mod MachineVectors
 mod PrintedVectors
+mod RecordLemmas
+mod RecordVectors
+mod SayingLemmas
 mod ScriptLemmas
 mod ScriptVectors
 mod TextLemmas

@@ -19,6 +19,10 @@ adds_both a b s t u first second =
 pub adds_line : (a : List (List ℕ)) (line s t u : List ℕ) → Adds a s t → u ≡ t ++ line → Adds (a ++ line ∷ []) s u
 adds_line a line s t u first second = adds_both a (line ∷ []) s t u first (second ∙ ap (λ text. t ++ text) (sym (append-nil line)))
 
+-- all of them are some first ones
+pub adds_all : (lines : List (List ℕ)) (s t u : List ℕ) → Adds lines s t → u ≡ t → AddsFirst lines s u
+adds_all lines s t u added same = (lines, [], sym (append-nil lines), same ∙ added)
+
 pub adds_first_of : (a b : List (List ℕ)) (s t : List ℕ) → AddsFirst a s t → AddsFirst (a ++ b) s t
 adds_first_of a b s t (done, rest, is, added) = (done, rest ++ b, ap (λ x. x ++ b) is ∙ append_assoc done rest b, added)
 

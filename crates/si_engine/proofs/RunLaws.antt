@@ -1,17 +1,19 @@
 -- Laws on the lines of events, one after another.
-use Rattle.std.proofs.Common.{◌≡◌, Bool, true, false, Option, List, [], ◌∷◌, ℕ, length, refl, subst, Result, Ok, Err, OnOk, OnErr, sym, ap, ◌∙◌}
+use Rattle.std.proofs.Common.{◌≡◌, Bool, true, false, Option, List, [], ◌∷◌, ◌++◌, ℕ, length, refl, subst, Result, Ok, Err, IfOk, OnErr, sym, ap, ◌∙◌, append_assoc}
+use Rattle.std.proofs.lemmas.List.{length-map}
 use Rattle.prog_tree.specs.Syntax.{DraftTree}
 use Rattle.prog_tree.specs.Table.{TableState}
 use Rattle.si_engine.specs.declared.event.Event.{Event}
 use Rattle.si_engine.specs.declared.event.Reply.{Reply}
+use Rattle.si_engine.specs.declared.finding.Finding.{Finding}
+use Rattle.si_engine.specs.declared.script.Script.{Script}
 use Rattle.prog_tree.specs.Tree.{draft_tree}
 use Rattle.prog_tree.specs.declared.program.Draft.{Draft}
-use Rattle.si_engine.specs.declared.script.Script.{Script}
-use Rattle.history_book.specs.History.{state_after}
+use Rattle.history_book.specs.History.{Instance, state_after}
+use Rattle.history_book.specs.View.{BookView, state_in, history_of, instance_of}
 use Rattle.si_engine.specs.Machine.{Machine, new_machine, machine_step, machine_after}
-use Rattle.si_engine.specs.View.{EngineView}
 use Rattle.si_engine.proofs.OutputLaws.{adds_first_of, adds_both, adds_behind}
-use Rattle.si_engine.specs.Runs.{event_lines, row_lines, run_lines, state_of, Adds, AddsFirst, IsRunOf, done, refused, stopped, IsUnreadRun, unread, IsRunReply}
+use Rattle.si_engine.specs.Runs.{event_lines, row_lines, end_lines, run_lines, history_of_run, Adds, AddsFirst, AddsEnd, AddsRun, IsRunOf, done, refused, stopped, IsUnreadRun, unread, IsRunReply}
 use Rattle.si_engine.specs.Printed.{reply_line}
 use Rattle.si_engine.specs.Reading.{ForInput}
 use Rattle.si_engine.specs.Script.{IsScript, IsScriptFault}
@@ -37,42 +39,45 @@ module _ (set : DraftTree) (script : Script) (opening : TableState) (events : Li
   after_is =
       ap (λ o. machine_after set o events m) is_opening ∙ (ap (λ es. machine_after set script.rows es m) is_events ∙ ap (λ n. machine_after set script.rows script.events n) is_started)
 
-  abbrev rows_of_run : List (List ℕ)
-  rows_of_run = row_lines set (state_of set script.rows (machine_after set script.rows script.events new_machine))
+  abbrev lines_of_end : List (List ℕ)
+  lines_of_end = end_lines set script.rows (history_of_run set script)
 
   pub first_events : (s t : List ℕ) → AddsFirst (event_lines set opening events m) s t → AddsFirst (run_lines set script) s t
-  first_events s t h = adds_first_of (event_lines set script.rows script.events new_machine) rows_of_run s t (subst (λ l. AddsFirst l s t) lines_are h)
+  first_events s t h = adds_first_of (event_lines set script.rows script.events new_machine) lines_of_end s t (subst (λ l. AddsFirst l s t) lines_are h)
 
-  -- all lines of the events, and none of a row
-  pub only_events : (s t : List ℕ) → Adds (event_lines set opening events m) s t → AddsFirst (run_lines set script) s t
-  only_events s t h = (event_lines set script.rows script.events new_machine, rows_of_run, refl, subst (λ l. Adds l s t) lines_are h)
+  module _ (s t u : List ℕ) (d : DraftTree) (o : TableState) (history : List Instance) (same_set : d ≡ set) (same : o ≡ script.rows) (is_history : history ≡ history_of_run set script) (h : Adds (event_lines set opening events m) s t) where
+    -- all lines of the events, and all that a history ends with
+    pub all_lines : (finding : Finding) → AddsEnd d o history finding t u → AddsRun set script finding s u
+    all_lines finding end = go (subst (λ i. AddsEnd set script.rows i finding t u) is_history (subst (λ p. AddsEnd set p history finding t u) same (subst (λ e. AddsEnd e o history finding t u) same_set end))) where
+      go : AddsEnd set script.rows (history_of_run set script) finding t u → AddsRun set script finding s u
+      go (last, found, added) = (
+        last,
+        found,
+        subst (λ l. Adds l s u) (sym (append_assoc (event_lines set script.rows script.events new_machine) lines_of_end (last ∷ [])))
+            (adds_both (event_lines set script.rows script.events new_machine) (lines_of_end ++ last ∷ []) s t u (subst (λ l. Adds l s t) lines_are h) added),
+      )
 
-  module _ (s t u : List ℕ) (rows : TableState) (is_state : rows ≡ state_of set script.rows (machine_after set script.rows script.events new_machine)) (h : Adds (event_lines set opening events m) s t) where
-    pub all_lines : Adds (row_lines set rows) t u → Adds (run_lines set script) s u
-    all_lines k =
-        adds_both (event_lines set script.rows script.events new_machine) rows_of_run s t u (subst (λ l. Adds l s t) lines_are h) (subst (λ r. Adds (row_lines set r) t u) is_state k)
+    -- all lines of the events, and some first ones of the rows
+    pub first_rows : AddsFirst (end_lines d o history) t u → AddsFirst (run_lines set script) s u
+    first_rows first =
+        adds_behind (event_lines set script.rows script.events new_machine) lines_of_end s t u (subst (λ l. Adds l s t) lines_are h)
+        (subst (λ i. AddsFirst (end_lines set script.rows i) t u) is_history (subst (λ p. AddsFirst (end_lines set p history) t u) same (subst (λ e. AddsFirst (end_lines e o history) t u) same_set first)))
 
-    pub first_rows : AddsFirst (row_lines set rows) t u → AddsFirst (run_lines set script) s u
-    first_rows k =
-        adds_behind (event_lines set script.rows script.events new_machine) rows_of_run s t u (subst (λ l. Adds l s t) lines_are h) (subst (λ r. AddsFirst (row_lines set r) t u) is_state k)
+pub if_ok : {X E : Type 0} {P Q : X → Type 0} (r : Result X E) → ((x : X) → P x → Q x) → IfOk r P → IfOk r Q
+if_ok (Ok x) f h = f x h
+if_ok (Err e) f h = h
 
--- the rows of an engine
-pub state_is : (e : EngineView) (set : Draft) (opening state : TableState) (m : Machine)
-    → state ≡ state_after (draft_tree e.set) e.opening e.machine.history (length e.machine.history)
-    → e.set ≡ set → e.opening ≡ opening → e.machine ≡ m → state ≡ state_of (draft_tree set) opening m
-state_is e set opening state m is a b c =
-    is
-    ∙ (ap (λ d. state_after (draft_tree d) e.opening e.machine.history (length e.machine.history)) a
-    ∙ (ap (λ o. state_after (draft_tree set) o e.machine.history (length e.machine.history)) b
-    ∙ ap (λ n. state_of (draft_tree set) opening n) c))
-
-pub on_ok : {E P Q : Type 0} (r : Result (Unit {0}) E) → (P → Q) → OnOk r P → OnOk r Q
-on_ok (Ok x) f h = f h
-on_ok (Err e) f h = h
-
-pub on_err : {E P Q : Type 0} (r : Result (Unit {0}) E) → (P → Q) → OnErr r P → OnErr r Q
+pub on_err : {X E P Q : Type 0} (r : Result X E) → (P → Q) → OnErr r P → OnErr r Q
 on_err (Ok x) f h = h
 on_err (Err e) f h = f h
+
+-- the lines of the rows that a book leaves
+pub rows_left : (v : BookView) (d : Draft) (rows : TableState) → d ≡ v.set → rows ≡ state_in v (length v.rows)
+    → row_lines (draft_tree d) rows ≡ end_lines (draft_tree v.set) v.opening (history_of v.rows)
+rows_left v d rows same is =
+    ap (λ s. row_lines (draft_tree s) rows) same
+    ∙ (ap (row_lines (draft_tree v.set)) is
+    ∙ ap (λ n. row_lines (draft_tree v.set) (state_after (draft_tree v.set) v.opening (history_of v.rows) n)) (sym (length-map v.rows instance_of)))
 
 -- ---- runs of the bytes of a source
 
@@ -84,12 +89,12 @@ module _ (set : DraftTree) (left : Option (List ℕ)) where
       → ForInput left (λ part. IsRunOf set part written (Err (fault.Input input_fault.Memory)))
   run_stopped script written (part, can, is) first = (part, can, stopped script is written first)
 
-  pub run_done : (script : Script) (written : List ℕ) → ForInput left (λ part. IsScript set part script) → Adds (run_lines set script) [] written
-      → ForInput left (λ part. IsRunOf set part written (Ok tt))
-  run_done script written (part, can, is) all = (part, can, done script is written all)
+  pub run_done : (script : Script) (finding : Finding) (written : List ℕ) → ForInput left (λ part. IsScript set part script) → AddsRun set script finding [] written
+      → ForInput left (λ part. IsRunOf set part written (Ok finding))
+  run_done script finding written (part, can, is) all = (part, can, done script is finding written all)
 
   -- what a run replies, whether or not the source failed
-  pub run_replies : (failed : Bool) (written : List ℕ) (ended : Result (Unit {0}) ScriptFault)
+  pub run_replies : (failed : Bool) (written : List ℕ) (ended : Result Finding ScriptFault)
       → (failed ≡ false → ForInput left (λ part. IsRunOf set part written ended)) → (failed ≡ true → IsUnreadRun written ended)
       → IsRunReply set left failed written ended
   run_replies false written ended run none = run refl

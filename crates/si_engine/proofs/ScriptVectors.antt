@@ -9,7 +9,8 @@ use Rattle.si_engine.specs.Lines.{lines_of, words_of}
 use Rattle.si_engine.specs.Numbers.{i64_of, number_between}
 use Rattle.si_engine.specs.Commands.{line_command, command_of, row_command, begin_command, step_command, commit_command, abort_command, vacuum_command}
 use Rattle.si_engine.specs.RowLines.{row_line_of}
-use Rattle.si_engine.specs.Script.{script_of, commands_from, room_fault}
+use Rattle.si_engine.specs.Sayings.{sayings_from}
+use Rattle.si_engine.specs.Script.{script_of, room_fault}
 
 -- a carriage return goes, the second one before it stays; the end of the part ends a line too
 lines : lines_of (codes "a b\r\n\n# c\r\r\nd\r") ≡ codes "a b" ∷ [] ∷ codes "# c\r" ∷ codes "d" ∷ []
@@ -151,27 +152,27 @@ script : script_of draft (codes "# rows\nrow e 7 1 = 9\r\nrow t 2 = 5\n\nrow t 1
   rows = (record { table = 0; first = pos 1; second = pos 0 }, pos 4) ∷ (record { table = 0; first = pos 2; second = pos 0 }, pos 5) ∷ (record { table = 1; first = pos 7; second = pos 1 }, pos 9) ∷ [];
   events = e.Begin 0 (pos 1 ∷ []) ∷ e.Step 0 ∷ e.Step 0 ∷ e.Commit 0 ∷ [];
 })
-unfolding draft commands_from line_command command_of row_command row_line_of begin_command step_command commit_command
+unfolding draft sayings_from line_command command_of row_command row_line_of begin_command step_command commit_command
 script = refl
 
 row_behind_a_vacuum : script_of draft (codes "vacuum\nabort 0\nrow t 2 = 1") ≡ Err (f.LateRow 3)
-unfolding draft commands_from line_command command_of row_command row_line_of abort_command vacuum_command
+unfolding draft sayings_from line_command command_of row_command row_line_of abort_command vacuum_command
 row_behind_a_vacuum = refl
 
 late_row : script_of draft (codes "row t 1 = 1\ncommit 0\n\nrow t 2 = 1\nrow t 1 = 1") ≡ Err (f.LateRow 4)
-unfolding draft commands_from line_command command_of row_command row_line_of commit_command
+unfolding draft sayings_from line_command command_of row_command row_line_of commit_command
 late_row = refl
 
 repeated_row : script_of draft (codes "row t 1 = 1\nrow t 2 = 1\n# again\nrow t 01 = 2\njump") ≡ Err (f.RepeatedRow 4)
-unfolding draft commands_from line_command command_of row_command row_line_of
+unfolding draft sayings_from line_command command_of row_command row_line_of
 repeated_row = refl
 
 late_before_repeated : script_of draft (codes "row t 1 = 1\nstep 0\nrow t 1 = 1") ≡ Err (f.LateRow 3)
-unfolding draft commands_from line_command command_of row_command row_line_of step_command
+unfolding draft sayings_from line_command command_of row_command row_line_of step_command
 late_before_repeated = refl
 
 unknown_before_late : script_of draft (codes "step 0\nrow u 1 = 1") ≡ Err (f.UnknownName 2)
-unfolding draft commands_from line_command command_of row_command row_line_of step_command
+unfolding draft sayings_from line_command command_of row_command row_line_of step_command
 unknown_before_late = refl
 
 room : room_fault 9 [] 1000000 ≡ None

@@ -8,8 +8,9 @@ use Rattle.si_engine.specs.declared.command.Command.TheVariants.{Skip, Row, Begi
 use Rattle.si_engine.specs.declared.script_fault.LineFault.{LineFault}
 use Rattle.si_engine.specs.declared.script_fault.LineFault.TheVariants.{BadLine, UnknownName}
 use Rattle.si_engine.specs.Lines.{is_skipped, words_of}
+use Rattle.si_engine.specs.Names.{number_named}
 use Rattle.si_engine.specs.Numbers.{numbers_of, number_between}
-use Rattle.si_engine.specs.RowLines.{◌>>=◌, number_named, row_line_of}
+use Rattle.si_engine.specs.RowLines.{◌>>=◌, row_line_of}
 
 -- the words behind `row`: TABLE K = V, or TABLE K1 K2 = V
 unfoldable pub row_command : DraftTree → (line : ℕ) → List (List ℕ) → Result Command LineFault

@@ -1,11 +1,15 @@
 pub mod Commands
+pub mod LastLine
 pub mod Lines
 pub mod Machine
+pub mod Names
 pub mod Numbers
 pub mod Printed
 pub mod Reading
+pub mod Records
 pub mod RowLines
 pub mod Runs
+pub mod Sayings
 pub mod Script
 pub mod View
 pub mod Writing

@@ -34,6 +34,10 @@ between low high z = None
 abbrev pub number_between : (low high : ℕ) → List ℕ → Option ℕ
 number_between low high word = option_and_then (between low high) (i64_of word)
 
+-- a number that is one of u64
+abbrev pub u64_of : List ℕ → Option ℕ
+u64_of word = option_and_then (between 0 18446744073709551615) (integer_of word)
+
 -- the numbers of words, if all of them are such
 abbrev pub numbers_of : List (List ℕ) → Option (List ℤ)
 numbers_of [] = Some []

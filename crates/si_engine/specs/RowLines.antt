@@ -1,13 +1,10 @@
 -- Row lines, which scripts, records and jobs share.
 use Rattle.std.specs.Prelude.{ℕ, ℤ, pos, ◌≡◌, Bool, List, [], ◌∷◌, Option, Some, None, Result, Ok, Err, is_some, codes, bytes_eq, option_map, option_and_then, slice_get, if◌then◌else◌}
-use Rattle.std.specs.List.{list_all}
-use Rattle.std.specs.Char.{is_ascii}
 use Rattle.std.specs.Option.{ok_or}
 use Rattle.prog_tree.specs.declared.cell.Cell.{Cell}
 use Rattle.prog_tree.specs.declared.table.Arity.{Arity}
 use Rattle.prog_tree.specs.declared.table.Arity.TheVariants as arities
-use Rattle.prog_tree.specs.Syntax.{Name, DraftTree}
-use Rattle.prog_check.specs.Names.{place_among}
+use Rattle.prog_tree.specs.Syntax.{DraftTree}
 use Rattle.prog_check.specs.Faults.{table_names}
 use Rattle.si_engine.specs.declared.row_line.Keys.{Keys}
 use Rattle.si_engine.specs.declared.row_line.Keys.TheVariants.{One, Two}
@@ -15,6 +12,7 @@ use Rattle.si_engine.specs.declared.row_line.RowLine.{RowLine}
 use Rattle.si_engine.specs.declared.row_line.RowWords.{RowWords}
 use Rattle.si_engine.specs.declared.script_fault.LineFault.{LineFault}
 use Rattle.si_engine.specs.declared.script_fault.LineFault.TheVariants.{BadLine, UnknownName, WrongKeys, LateRow, RepeatedRow, Memory}
+use Rattle.si_engine.specs.Names.{number_named}
 use Rattle.si_engine.specs.Numbers.{i64_of}
 
 -- one step after another, up to the first fault
@@ -22,14 +20,6 @@ infixl 10 ◌>>=◌
 abbrev pub ◌>>=◌ : {A B : Type 0} → Result A LineFault → (A → Result B LineFault) → Result B LineFault
 (Ok x) >>= f = f x
 (Err fault) >>= f = Err fault
-
--- a word that can be a name has ASCII bytes alone
-abbrev pub text_of : List ℕ → Option Name
-text_of word = if list_all is_ascii word then Some word else None
-
--- the number of the table or program that has this name
-abbrev pub number_named : List Name → List ℕ → Option ℕ
-number_named names word = option_and_then (place_among names) (text_of word)
 
 abbrev pub is_equals_sign : List ℕ → Bool
 is_equals_sign word = bytes_eq word (codes "=")

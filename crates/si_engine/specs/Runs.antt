@@ -3,12 +3,14 @@ use Rattle.std.specs.Prelude.{◌≡◌, ℕ, Bool, true, false, List, [], ◌�
 use Rattle.std.specs.List.{concat}
 use Rattle.prog_tree.specs.Syntax.{DraftTree}
 use Rattle.prog_tree.specs.Table.{TableState}
-use Rattle.history_book.specs.History.{state_after}
+use Rattle.history_book.specs.History.{Instance, state_after}
 use Rattle.si_engine.specs.declared.event.Event.{Event}
+use Rattle.si_engine.specs.declared.finding.Finding.{Finding}
 use Rattle.si_engine.specs.declared.script.Script.{Script}
 use Rattle.si_engine.specs.declared.script_fault.ScriptFault.{ScriptFault}
 use Rattle.si_engine.specs.declared.script_fault.ScriptFault.TheVariants as fault
 use Rattle.si_engine.specs.declared.source.InputFault.TheVariants as input_fault
+use Rattle.si_engine.specs.LastLine.{IsLastLine}
 use Rattle.si_engine.specs.Machine.{Machine, new_machine, machine_step, machine_after}
 use Rattle.si_engine.specs.Printed.{reply_line, row_line}
 use Rattle.si_engine.specs.Reading.{ForInput}
@@ -21,18 +23,22 @@ event_lines set opening (event ∷ events) machine =
     let step = machine_step set opening event machine in
     reply_line set.tables event step.0 ∷ event_lines set opening events step.1
 
--- the state after all that has committed
-abbrev pub state_of : DraftTree → TableState → Machine → TableState
-state_of set opening machine = state_after set opening machine.history (length machine.history)
-
 -- one line for each row of a state, in cell order
 abbrev pub row_lines : DraftTree → TableState → List (List ℕ)
 row_lines set state = map (λ row. row_line set.tables row.0 row.1) state
 
--- the lines that a script makes: one for each of its events, and the rows that are left
+-- one line for each row that a history leaves
+abbrev pub end_lines : DraftTree → TableState → List Instance → List (List ℕ)
+end_lines set opening h = row_lines set (state_after set opening h (length h))
+
+-- what a script commits
+abbrev pub history_of_run : DraftTree → Script → List Instance
+history_of_run set script = (machine_after set script.rows script.events new_machine).history
+
+-- the lines that a script makes before the last line: one for each of its events, and the rows that are left
 abbrev pub run_lines : DraftTree → Script → List (List ℕ)
 run_lines set script =
-    event_lines set script.rows script.events new_machine ++ row_lines set (state_of set script.rows (machine_after set script.rows script.events new_machine))
+    event_lines set script.rows script.events new_machine ++ end_lines set script.rows (history_of_run set script)
 
 -- lines were added to a text
 abbrev pub Adds : List (List ℕ) → List ℕ → List ℕ → Type 0
@@ -40,22 +46,40 @@ Adds lines before after = after ≡ before ++ concat lines
 
 -- some first of these lines were added to a text, or all of them
 abbrev pub AddsFirst : List (List ℕ) → List ℕ → List ℕ → Type 0
-AddsFirst lines before after = (done : List (List ℕ)) × (rest : List (List ℕ)) × (lines ≡ done ++ rest) × Adds done before after
+AddsFirst lines before after =
+    (done : List (List ℕ)) × (rest : List (List ℕ)) × (lines ≡ done ++ rest) × Adds done before after
+
+-- after a history: the rows that are left, one line each, and the last line
+abbrev pub AddsEnd : DraftTree → TableState → List Instance → Finding → List ℕ → List ℕ → Type 0
+AddsEnd set opening h finding before after =
+    (last : List ℕ) × IsLastLine set opening h finding last
+    × Adds (end_lines set opening h ++ last ∷ []) before after
+
+-- all lines of a script, and the last line
+abbrev pub AddsRun : DraftTree → Script → Finding → List ℕ → List ℕ → Type 0
+AddsRun set script finding before after =
+    (last : List ℕ) × IsLastLine set script.rows (history_of_run set script) finding last
+    × Adds (run_lines set script ++ last ∷ []) before after
 
 -- what a run of these bytes writes, and how it ends
-pub data IsRunOf (set : DraftTree) (part : List ℕ) : List ℕ → Result (Unit {0}) ScriptFault → Type 0 where
-  -- all lines of the script that the bytes are
-  done : (script : Script) → IsScript set part script → (written : List ℕ) → Adds (run_lines set script) [] written → IsRunOf set part written (Ok tt)
+pub data IsRunOf (set : DraftTree) (part : List ℕ) : List ℕ → Result Finding ScriptFault → Type 0 where
+  -- all lines of the script that the bytes are, and the last line
+  done :
+      (script : Script) → IsScript set part script → (finding : Finding) → (written : List ℕ) →
+      AddsRun set script finding [] written → IsRunOf set part written (Ok finding)
   -- nothing, and the first fault
   refused : (f : ScriptFault) → IsScriptFault set part f → IsRunOf set part [] (Err f)
-  -- some first lines, behind which memory ran out
-  stopped : (script : Script) → IsScript set part script → (written : List ℕ) → AddsFirst (run_lines set script) [] written → IsRunOf set part written (Err (fault.Input input_fault.Memory))
+  -- some first lines before the last, behind which memory ran out
+  stopped :
+      (script : Script) → IsScript set part script → (written : List ℕ) →
+      AddsFirst (run_lines set script) [] written → IsRunOf set part written (Err (fault.Input input_fault.Memory))
 
 -- what a run of a source that failed writes, and how it ends
-pub data IsUnreadRun : List ℕ → Result (Unit {0}) ScriptFault → Type 0 where
+pub data IsUnreadRun : List ℕ → Result Finding ScriptFault → Type 0 where
   unread : IsUnreadRun [] (Err (fault.Input input_fault.ReadFault))
 
 -- what a run of a source writes, and how it ends: that of bytes that the source can give, or that it failed
-abbrev pub IsRunReply : DraftTree → (left : Option (List ℕ)) → (failed : Bool) → List ℕ → Result (Unit {0}) ScriptFault → Type 0
+abbrev pub IsRunReply :
+    DraftTree → (left : Option (List ℕ)) → (failed : Bool) → List ℕ → Result Finding ScriptFault → Type 0
 IsRunReply set left false written ended = ForInput left (λ part. IsRunOf set part written ended)
 IsRunReply set left true written ended = IsUnreadRun written ended

@@ -1,5 +1,5 @@
 -- What a script says: its rows and its events, or its first fault.
-use Rattle.std.specs.Prelude.{ℕ, ◌+◌, ◌≡◌, ◌<◌, ◌≤◌, nat_lt, ◌==◌, not, Bool, List, [], ◌∷◌, ◌++◌, length, fold, replicate, Option, Some, None, Result, Ok, Err, if◌then◌else◌}
+use Rattle.std.specs.Prelude.{ℕ, ◌+◌, ◌≡◌, ◌≤◌, nat_lt, ◌==◌, not, Bool, List, [], ◌∷◌, length, fold, replicate, Option, Some, None, Result, Ok, if◌then◌else◌}
 use Rattle.std.specs.List.{flat_map}
 use Rattle.prog_tree.specs.Syntax.{DraftTree}
 use Rattle.prog_tree.specs.Table.{TableState, row_at, with_row}
@@ -11,12 +11,11 @@ use Rattle.si_engine.specs.declared.script.Script.{Script}
 use Rattle.si_engine.specs.declared.script_fault.LineFault.{LineFault}
 use Rattle.si_engine.specs.declared.script_fault.LineFault.TheVariants.{TooManyEvents}
 use Rattle.si_engine.specs.declared.script_fault.ScriptFault.{ScriptFault}
-use Rattle.si_engine.specs.declared.script_fault.ScriptFault.TheVariants as fault
-use Rattle.si_engine.specs.declared.source.InputFault.TheVariants as input_fault
 use Rattle.si_engine.specs.Commands.{line_command}
 use Rattle.si_engine.specs.Lines.{lines_of}
 use Rattle.si_engine.specs.Reading.{input_limit}
-use Rattle.si_engine.specs.RowLines.{◌>>=◌, row_fault, Fails}
+use Rattle.si_engine.specs.RowLines.{◌>>=◌, row_fault}
+use Rattle.si_engine.specs.Sayings.{sayings_from, IsPartFault}
 
 -- the row of a command, among others
 abbrev pub with_row_of : TableState → Command → TableState
@@ -58,22 +57,13 @@ order_fault line rows events (Commit instance) = room_fault line events 1
 order_fault line rows events (Abort instance) = room_fault line events 1
 order_fault line rows events Vacuum = room_fault line events 1
 
--- a command behind others, unless it is wrong there
-abbrev pub behind : Option LineFault → List Command → Command → Result (List Command) LineFault
-behind None before command = Ok (before ++ command ∷ [])
-behind (Some fault) before command = Err fault
+-- the same behind commands
+abbrev pub fault_behind : (line : ℕ) → List Command → Command → Option LineFault
+fault_behind line before command = order_fault line (rows_of before) (events_of before) command
 
--- the commands of lines from a number on, behind those of the lines before; or the first fault
-unfoldable pub commands_from : DraftTree → (line : ℕ) → (before : List Command) → List (List ℕ) → Result (List Command) LineFault
-commands_from draft line before [] = Ok before
-commands_from draft line before (bytes ∷ lines) = do
-  command ← line_command draft line bytes
-  commands ← behind (order_fault line (rows_of before) (events_of before) command) before command
-  commands_from draft (line + 1) commands lines
-
--- the commands of all lines of a part, which are counted from 1
+-- the commands of all lines of a part, which are counted from 1; or the first fault
 abbrev pub commands_of : DraftTree → List ℕ → Result (List Command) LineFault
-commands_of draft part = commands_from draft 1 [] (lines_of part)
+commands_of draft part = sayings_from (line_command draft) fault_behind 1 [] (lines_of part)
 
 -- their rows and events
 abbrev pub script_of : DraftTree → List ℕ → Result Script LineFault
@@ -88,8 +78,4 @@ pub record IsScript (draft : DraftTree) (part : List ℕ) (script : Script) : Ty
 
 -- the bytes are no script without a fault, and this is the first; want of memory says nothing of them
 abbrev pub IsScriptFault : DraftTree → List ℕ → ScriptFault → Type 0
-IsScriptFault draft part (fault.Input input_fault.TooLong) = input_limit < length part
-IsScriptFault draft part (fault.Input input_fault.ReadFault) = ⊥
-IsScriptFault draft part (fault.Input input_fault.Memory) = Unit {0}
-IsScriptFault draft part (fault.Line f) = (length part ≤ input_limit) × Fails f (script_of draft part)
-IsScriptFault draft part fault.WriteFault = ⊥
+IsScriptFault draft part f = IsPartFault (script_of draft part) part f

@@ -1,19 +1,18 @@
 //! Lines of a script as commands.
-ghost use Rattle.std.specs.Prelude.{◌≡◌, IfOk, Ok};
+ghost use Rattle.std.specs.Prelude.{◌≡◌, Ok};
 ghost use Rattle.prog_tree.specs.Tree.{draft_tree};
-ghost use Rattle.prog_check.specs.Faults.{program_names};
 ghost use Rattle.si_engine.specs.Commands.{row_command, instance_of, steps_of, begin_command, step_command, commit_command, abort_command, vacuum_command, command_of, line_command};
-ghost use Rattle.si_engine.specs.Numbers.{numbers_of};
-ghost use Rattle.si_engine.specs.RowLines.{number_named, Reads};
+ghost use Rattle.si_engine.specs.RowLines.{Reads};
 
 use crate::line_words::{Word, line_words};
 use crate::lines::is_skipped;
-use crate::number::{number, number_between};
-use crate::row_line::{RowLine, row_line, text};
+use crate::names::program_number;
+use crate::number::{number_between, numbers};
+use crate::row_line::{RowLine, row_line};
 use crate::script_fault::LineFault;
 use prog_check::ProgramSet;
 use prog_tree::Sequence;
-use std::alloc::{AllocError, Global};
+use std::alloc::Global;
 
 const GREATEST_INSTANCE: usize = 4_294_967_295;
 
@@ -40,26 +39,6 @@ fn row(set: &ProgramSet, line: usize, words: &[Word<'_>]) -> Result<Command, Lin
 {
     let row = row_line(set, line, words)?;
     Ok(Command::Row(row))
-}
-
-fn program_number(set: &ProgramSet, word: &[u8]) -> Option<usize>
-    ensures { result ≡ number_named (program_names (draft_tree set.now)) word.now }
-{
-    set.program_number(text(word)?)
-}
-
-// The numbers of words, if all are such.
-fn numbers(alloc: Global, words: &[Word<'_>]) -> Result<Option<Sequence<i64>>, AllocError>
-    ensures { IfOk result (λ numbers. numbers ≡ numbers_of words.now) }
-{
-    let mut numbers = Sequence::new(alloc);
-    for word in words {
-        let Some(number) = number(word.as_bytes()) else {
-            return Ok(None);
-        };
-        numbers.push(number)?;
-    }
-    Ok(Some(numbers))
 }
 
 #[tactic(auto, unfolding(crate::specs::Commands::begin_command))]

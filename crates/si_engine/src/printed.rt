@@ -1,8 +1,10 @@
-//! The lines of replies and rows.
+//! The lines of replies and rows, and the last line.
 ghost use Rattle.std.specs.Prelude.{◌≡◌, ◌++◌, IfOk, OnOk, OnErr, string_bytes};
+ghost use Rattle.si_engine.specs.LastLine.{commits_text, last_line};
 ghost use Rattle.si_engine.specs.Printed.{table_head, cell_text, region_text, value_text, deed_text, cause_text, numbers_text, reply_text, subject, reply_line, row_line};
 
 use crate::event::{Event, Reply};
+use crate::finding::Finding;
 use prog_tree::{Arity, Cause, Cell, Deed, Region, TableDecl};
 use std::alloc::{AllocError, Global};
 
@@ -202,5 +204,40 @@ pub fn push_row_line(
     ensures err { OnErr result (string_bytes text.new ≡ string_bytes text.old) }
 {
     let line = row_line(*text.allocator(), tables, cell, value)?;
+    text.push_str(line.as_str())
+}
+
+// Commit numbers, each behind a space.
+fn commits_text(alloc: Global, numbers: &[usize]) -> Result<String, AllocError>
+    ensures { IfOk result (λ text. string_bytes text ≡ commits_text numbers.now) }
+{
+    let mut text = String::new(alloc);
+    for number in numbers {
+        write!(text, " {number}")?;
+    }
+    Ok(text)
+}
+
+fn last_line(alloc: Global, finding: Finding, numbers: &[usize]) -> Result<String, AllocError>
+    ensures { IfOk result (λ text. string_bytes text ≡ last_line finding numbers.now) }
+{
+    let numbers = commits_text(alloc, numbers)?;
+    match finding {
+        Finding::Order => format!(in alloc; "order{numbers}\n"),
+        Finding::Cycle => format!(in alloc; "cycle{numbers}\n"),
+    }
+}
+
+/// Adds the last line of a run or an audit; a text without memory for the line stays as it is.
+pub fn push_last_line(
+    text: &mut String,
+    finding: Finding,
+    numbers: &[usize],
+) -> Result<(), AllocError>
+    ensures ok { OnOk result
+        (string_bytes text.new ≡ string_bytes text.old ++ last_line finding numbers.now) }
+    ensures err { OnErr result (string_bytes text.new ≡ string_bytes text.old) }
+{
+    let line = last_line(*text.allocator(), finding, numbers)?;
     text.push_str(line.as_str())
 }

@@ -1,14 +1,11 @@
 //! Row lines, which scripts, records and jobs share.
 ghost use Rattle.std.specs.Prelude.{◌≡◌, ◌+◌, None, Some, OnOk, IfErr};
-ghost use Rattle.std.specs.List.{list_all};
-ghost use Rattle.std.specs.Char.{is_ascii};
-ghost use Rattle.std.specs.Option.{option_copied};
 ghost use Rattle.prog_tree.specs.Table.{row_at, with_row};
 ghost use Rattle.prog_tree.specs.Tree.{draft_tree};
-ghost use Rattle.prog_check.specs.Faults.{table_names};
-ghost use Rattle.si_engine.specs.RowLines.{is_equals_sign, text_of, number_named, one_key, two_keys, row_of, arity_of, cell_of_keys, row_line_of, row_fault, IsFault};
+ghost use Rattle.si_engine.specs.RowLines.{is_equals_sign, one_key, two_keys, row_of, arity_of, cell_of_keys, row_line_of, row_fault, IsFault};
 
 use crate::line_words::Word;
+use crate::names::table_number;
 use crate::number::number;
 use crate::script_fault::LineFault;
 use prog_check::ProgramSet;
@@ -34,28 +31,6 @@ pub struct RowWords<'a> {
     table: Word<'a>,
     keys: Keys,
     value: i64,
-}
-
-fn is_ascii(word: &[u8]) -> bool
-    ensures { result ≡ list_all is_ascii word.now }
-{
-    word.iter().all(|byte| byte.is_ascii())
-}
-
-/// A word as a text, if it is ASCII.
-pub fn text(word: &[u8]) -> Option<&str>
-    ensures { option_copied result ≡ text_of word.now }
-{
-    if !is_ascii(word) {
-        return None;
-    }
-    str::from_utf8(word).ok()
-}
-
-fn table_number(set: &ProgramSet, word: &[u8]) -> Option<usize>
-    ensures { result ≡ number_named (table_names (draft_tree set.now)) word.now }
-{
-    set.table_number(text(word)?)
 }
 
 // How many key columns the table of a number has.

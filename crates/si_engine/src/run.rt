@@ -1,20 +1,21 @@
-//! Runs of scripts: from the bytes of a script to the lines of its replies and rows.
-ghost use Rattle.std.specs.Prelude.{◌≡◌, ◌≤◌, ◌+◌, [], false, true, Err, string_bytes, OnOk, OnErr};
+//! Runs of scripts: from the bytes of a script to the lines of its replies, its rows and the end.
+ghost use Rattle.std.specs.Prelude.{◌≡◌, ◌≤◌, ◌+◌, [], false, true, Err, string_bytes, IfOk, OnOk, OnErr};
 ghost use Rattle.prog_tree.specs.Tree.{draft_tree};
 ghost use Rattle.si_engine.specs.Machine.{machine_after};
 ghost use Rattle.si_engine.specs.Reading.{ForInput};
-ghost use Rattle.si_engine.specs.Runs.{event_lines, row_lines, run_lines, Adds, AddsFirst, IsRunOf, IsUnreadRun, IsRunReply};
+ghost use Rattle.si_engine.specs.Runs.{event_lines, run_lines, Adds, AddsFirst, AddsRun, IsRunOf, IsUnreadRun, IsRunReply};
 ghost use Rattle.si_engine.specs.Writing.{IsJust, WritesOr};
 
 use crate::engine::Engine;
 use crate::event::Event;
-use crate::printed::{push_reply_line, push_row_line};
+use crate::finding::{Finding, push_findings};
+use crate::printed::push_reply_line;
 use crate::script::{Script, read_script};
 use crate::script_fault::ScriptFault;
 use crate::sink::{Sink, write_whole};
 use crate::source::{MOST_READS, Source};
 use prog_check::ProgramSet;
-use prog_tree::{Draft, Rows};
+use prog_tree::Draft;
 use std::alloc::{AllocError, Global};
 
 // Hands the events to the engine, and adds the line of each reply.
@@ -27,9 +28,14 @@ fn run_events(
     requires { engine.old.set ≡ set.now }
     ensures set { engine.new.set ≡ engine.old.set }
     ensures opening { engine.new.opening ≡ engine.old.opening }
-    ensures after { OnOk result (engine.new.machine ≡ machine_after (draft_tree set.now) engine.old.opening events.now engine.old.machine) }
-    ensures ok { OnOk result (Adds (event_lines (draft_tree set.now) engine.old.opening events.now engine.old.machine) (string_bytes out.old) (string_bytes out.new)) }
-    ensures err { OnErr result (AddsFirst (event_lines (draft_tree set.now) engine.old.opening events.now engine.old.machine) (string_bytes out.old) (string_bytes out.new)) }
+    ensures after { OnOk result (engine.new.machine ≡ machine_after
+        (draft_tree set.now) engine.old.opening events.now engine.old.machine) }
+    ensures ok { OnOk result (Adds
+        (event_lines (draft_tree set.now) engine.old.opening events.now engine.old.machine)
+        (string_bytes out.old) (string_bytes out.new)) }
+    ensures err { OnErr result (AddsFirst
+        (event_lines (draft_tree set.now) engine.old.opening events.now engine.old.machine)
+        (string_bytes out.old) (string_bytes out.new)) }
 {
     for event in events {
         let reply = engine.apply(event)?;
@@ -38,33 +44,24 @@ fn run_events(
     Ok(())
 }
 
-// Adds the line of each row.
-fn list_rows(set: &Draft, rows: &Rows, out: &mut String) -> Result<(), AllocError>
-    ensures ok { OnOk result (Adds (row_lines (draft_tree set.now) rows.now) (string_bytes out.old) (string_bytes out.new)) }
-    ensures err { OnErr result (AddsFirst (row_lines (draft_tree set.now) rows.now) (string_bytes out.old) (string_bytes out.new)) }
-{
-    for (cell, value) in rows.iter() {
-        push_row_line(out, &set.tables, cell, *value)?;
-    }
-    Ok(())
-}
-
-// Adds the lines of a script. Where memory runs out, some first of its lines were added.
+// Adds the lines of a script, and the last line. Where memory runs out, some first lines before
+// that were added.
 fn push_lines(
     alloc: Global,
     set: &ProgramSet,
     script: Script,
     out: &mut String,
-) -> Result<(), AllocError>
-    ensures ok { OnOk result (Adds (run_lines (draft_tree set.now) script) (string_bytes out.old) (string_bytes out.new)) }
-    ensures err { OnErr result (AddsFirst (run_lines (draft_tree set.now) script) (string_bytes out.old) (string_bytes out.new)) }
+) -> Result<Finding, AllocError>
+    ensures ok { IfOk result (λ finding. AddsRun (draft_tree set.now) script finding
+        (string_bytes out.old) (string_bytes out.new)) }
+    ensures err { OnErr result (AddsFirst (run_lines (draft_tree set.now) script)
+        (string_bytes out.old) (string_bytes out.new)) }
 {
     let Script { rows, events } = script;
     let draft = set.draft();
     let mut engine = Engine::open(alloc, set, rows)?;
     run_events(&mut engine, draft, events.as_slice(), out)?;
-    let table = engine.table()?;
-    list_rows(draft, &table, out)
+    push_findings(engine.book(), out)
 }
 
 // Reads all of a source as a script, runs it, and adds its lines.
@@ -73,24 +70,25 @@ fn run_source<S: Source>(
     set: &ProgramSet,
     source: &mut S,
     out: &mut String,
-) -> Result<(), ScriptFault>
+) -> Result<Finding, ScriptFault>
     requires { string_bytes out.old ≡ [] }
     ensures run { S.has_failed source.new ≡ false
-        → ForInput (S.left source.old) (λ part. IsRunOf (draft_tree set.now) part (string_bytes out.new) result) }
+        → ForInput (S.left source.old) (λ part.
+        IsRunOf (draft_tree set.now) part (string_bytes out.new) result) }
     ensures unread { S.has_failed source.new ≡ true → IsUnreadRun (string_bytes out.new) result }
     ensures reads { S.pulls source.new ≤ S.pulls source.old + MOST_READS }
 {
     let script = read_script(alloc, set, source)?;
-    push_lines(alloc, set, script, out)?;
-    Ok(())
+    let finding = push_lines(alloc, set, script, out)?;
+    Ok(finding)
 }
 
 // Writes bytes, and answers with the end that is given, or that the sink failed.
 fn write_end<K: Sink>(
     sink: &mut K,
     bytes: &[u8],
-    ended: Result<(), ScriptFault>,
-) -> Result<(), ScriptFault>
+    ended: Result<Finding, ScriptFault>,
+) -> Result<Finding, ScriptFault>
     ensures { WritesOr (Err ScriptFault.WriteFault) (IsJust bytes.now ended)
         (K.has_failed sink.new) (K.taken sink.old) (K.taken sink.new) result }
 {
@@ -100,14 +98,15 @@ fn write_end<K: Sink>(
     }
 }
 
-/// Reads all of a source as a script, and runs it on a set. A sink gets a line for each event, and then one for each row;
-/// nothing at a fault of the script, and some first lines where memory ran out.
+/// Reads all of a source as a script, and runs it on a set. A sink gets a line for each event, one
+/// for each row, and the last line; nothing at a fault of the script, and some first lines, but not
+/// the last, where memory ran out.
 pub fn run_script<S: Source, K: Sink>(
     alloc: Global,
     set: &ProgramSet,
     source: &mut S,
     sink: &mut K,
-) -> Result<(), ScriptFault>
+) -> Result<Finding, ScriptFault>
     ensures run { WritesOr (Err ScriptFault.WriteFault)
         (IsRunReply (draft_tree set.now) (S.left source.old) (S.has_failed source.new))
         (K.has_failed sink.new) (K.taken sink.old) (K.taken sink.new) result }

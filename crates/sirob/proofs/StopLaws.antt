@@ -1,34 +1,47 @@
--- Laws on how a run stops, and on what is then written.
-use Rattle.std.proofs.Common.{◌≡◌, ◌≤◌, ◌<◌, ◌-◌, ◌^◌, ◌+◌, ◌++◌, ℕ, Bool, true, false, List, [], ◌∷◌, length, take, drop, replicate, take-append-drop, take_at, append_assoc, append-nil, zero-add, suc-add, arith, Option, Some, None, Result, Ok, Err, IfOk, IfErr, IfSome, refl, sym, subst, ap, ◌∙◌}
+-- Laws on how a command stops, and on what is then written.
+use Rattle.std.proofs.Common.{◌≡◌, ◌⊎◌, inl, inr, ◌≤◌, ◌<◌, ◌-◌, ◌^◌, ◌+◌, ◌++◌, ℕ, Bool, true, false, List, [], ◌∷◌, length, map, take, drop, replicate, take-append-drop, take_at, append_assoc, append-nil, zero-add, suc-add, arith, Option, Some, None, Result, Ok, Err, IfSome, refl, sym, subst, ap, ◌∙◌}
 use Rattle.std.proofs.KnownBytes.{Appends-nil, Appends-trans}
 use Rattle.std.proofs.lemmas.List.{length-replicate}
+use Rattle.std.proofs.lemmas.List.FromFn.{length-map-range_with_len}
 use Rattle.std.specs.Io.KnownBytes.{Appends}
+use Rattle.prog_tree.specs.declared.program.Draft.{Draft}
 use Rattle.prog_tree.specs.Syntax.{DraftTree}
-use Rattle.sirob.specs.declared.command_line.Mode.{Mode}
-use Rattle.sirob.specs.declared.command_line.Mode.TheVariants.{Check, Run}
-use Rattle.sirob.specs.declared.run_fault.RunFault.{RunFault}
-use Rattle.sirob.specs.declared.run_fault.RunFault.TheVariants as fault
-use Rattle.si_engine.specs.declared.script.Script.{Script}
-use Rattle.si_engine.specs.declared.source.InputFault.{InputFault}
-use Rattle.si_engine.specs.declared.source.InputFault.TheVariants as i
-use Rattle.sirob.specs.declared.status.Status.{Status}
-use Rattle.sirob.specs.declared.status.Status.TheVariants as status
-use Rattle.sirob.specs.FaultLines.{fault_line, is_memory}
-use Rattle.si_engine.specs.Runs.{run_lines, AddsFirst, IsRunOf, IsRunReply}
-use Rattle.si_engine.specs.Runs as r
-use Rattle.si_engine.specs.RowLines.{Fails}
-use Rattle.si_engine.specs.Script.{script_of, IsScript, IsScriptFault}
+use Rattle.prog_tree.specs.Tree.{draft_tree}
+use Rattle.history_book.specs.declared.row.Ending.TheVariants as ending
+use Rattle.history_book.specs.Audit.{audited}
+use Rattle.history_book.specs.TrueBook.{IsTrueBook}
+use Rattle.history_book.specs.View.{BookView, history_of}
+use Rattle.std.specs.List.{range_with_len}
+use Rattle.si_engine.specs.declared.finding.Finding.{Finding}
+use Rattle.si_engine.specs.declared.records.Records.{Records}
 use Rattle.si_engine.specs.declared.script_fault.LineFault.{LineFault}
 use Rattle.si_engine.specs.declared.script_fault.LineFault.TheVariants as l
 use Rattle.si_engine.specs.declared.script_fault.ScriptFault.{ScriptFault}
 use Rattle.si_engine.specs.declared.script_fault.ScriptFault.TheVariants as s
-use Rattle.sirob.specs.Output.{IsRun, Gives, IsRefused, StopsBehind, at_once, behind_lines, memory_line, IsAnswer, done, refused, stopped, IsUnread, IsReply, Writes}
-use Rattle.sirob.specs.Output as u
+use Rattle.si_engine.specs.declared.source.InputFault.{InputFault}
+use Rattle.si_engine.specs.declared.source.InputFault.TheVariants as i
 use Rattle.si_engine.specs.Reading.{CanGive, ForInput}
-use Rattle.sirob.specs.Stops.{IsStop, IsReadFault, Ends, well, in_fault, in_fault_untold, in_memory, IsJust, IsSetAndPart, IsPartRun, IsInputRun, IsSourceRun, as_command, write_lost}
+use Rattle.si_engine.specs.Records.{records_of, IsRecords, IsRecordsFault}
+use Rattle.si_engine.specs.RowLines.{Fails}
+use Rattle.si_engine.specs.Runs.{end_lines, AddsEnd, AddsFirst, IsRunOf, IsRunReply}
+use Rattle.si_engine.specs.Runs as r
+use Rattle.si_engine.specs.Sayings.{IsPartFault}
+use Rattle.si_engine.specs.Script.{script_of}
 use Rattle.si_engine.specs.Writing.{AppendsFront, WritesOr}
+use Rattle.si_engine.specs.Writing as w
+use Rattle.sirob.specs.declared.command_line.Mode.{Mode}
+use Rattle.sirob.specs.declared.command_line.Mode.TheVariants.{Check, Run, Audit}
+use Rattle.sirob.specs.declared.run_fault.RunFault.{RunFault}
+use Rattle.sirob.specs.declared.run_fault.RunFault.TheVariants as fault
+use Rattle.sirob.specs.declared.status.Status.{Status}
+use Rattle.sirob.specs.declared.status.Status.TheVariants as status
+use Rattle.sirob.specs.FaultLines.{fault_line, is_memory}
+use Rattle.sirob.specs.Output.{parts_wanted, Gives, GivesFirstPart, IsAudited, IsRefused, IsRefusedInput, IsRefusedPart, StopsBehind, at_once, behind_lines, memory_line, IsAnswer, done, refused, stopped, IsUnread, IsReply, Writes}
+use Rattle.sirob.specs.Output as u
+use Rattle.sirob.specs.Status.{status_of}
+use Rattle.sirob.specs.Stops.{IsStop, IsReadFault, Ends, well, in_fault, in_memory, IsJust, IsSetAndPart, IsPartGiven, IsPartStop, IsPartDone, IsInputDone, IsSourceDone, as_command, write_lost}
 
--- ---- how a run stops
+-- ---- how reading an input stops
 
 -- a fault of the input stands before the first line
 pub stops_at_once : (mode : Mode) (input : List ℕ) (f : RunFault) → (is_memory f ≡ false → IsRefused mode input f) → IsStop mode input f []
@@ -47,7 +60,7 @@ longer_than : (n : ℕ) → (input : List ℕ) × (n < length input)
 longer_than n = (replicate (n + 1) 0, subst (λ (k : ℕ). n < k) (sym (length-replicate (n + 1) 0)) (omega arith))
 
 -- reading stopped
-pub stops_reading :
+stops_reading :
     (mode : Mode) (f : InputFault) (left : Option (List ℕ)) (failed : Bool)
     → (f ≡ i.TooLong → IfSome left (λ all. 16777216 < length all)) → (f ≡ i.ReadFault → failed ≡ true) → failed ≡ false
     → ForInput left (λ input. IsStop mode input (fault.Input f) [])
@@ -55,48 +68,146 @@ stops_reading mode f None failed long fails works =
     let input = longer_than 16777216 in (input.0, tt, stops_at mode f input.0 failed (λ e. input.1) fails works)
 stops_reading mode f (Some bytes) failed long fails works = (bytes, refl, stops_at mode f bytes failed long fails works)
 
--- the script's lines stopped
-stops_running : (input written : List ℕ) (set : DraftTree) (script : Script) → IsRun input set script → AddsFirst (run_lines set script) [] written
-    → IsStop Run input (fault.Script (s.Input i.Memory)) written
-stops_running input written set script run first = ((λ no_memory. absurd (cc)), (λ memory. behind_lines written (run_lines set script, (set, script, run, refl), first)))
-
--- the script has a fault
-stops_line : (input : List ℕ) (set : DraftTree) (part : List ℕ) → IsSetAndPart input set part → (f : LineFault) → Fails f (script_of set part)
-    → is_memory (fault.Script (s.Line f)) ≡ false → IsRefused Run input (fault.Script (s.Line f))
-stops_line input set part has (l.BadLine n) wrong no_memory = (has.text, part, set, has.divided, has.spelled, wrong)
-stops_line input set part has (l.UnknownName n) wrong no_memory = (has.text, part, set, has.divided, has.spelled, wrong)
-stops_line input set part has (l.WrongKeys n) wrong no_memory = (has.text, part, set, has.divided, has.spelled, wrong)
-stops_line input set part has (l.LateRow n) wrong no_memory = (has.text, part, set, has.divided, has.spelled, wrong)
-stops_line input set part has (l.RepeatedRow n) wrong no_memory = (has.text, part, set, has.divided, has.spelled, wrong)
-stops_line input set part has (l.TooManyEvents n) wrong no_memory = (has.text, part, set, has.divided, has.spelled, wrong)
-stops_line input set part has l.Memory wrong no_memory = absurd (cc)
-
-stops_script : (input : List ℕ) (set : DraftTree) (part : List ℕ) → IsSetAndPart input set part → (f : ScriptFault) → IsScriptFault set part f
-    → is_memory (fault.Script f) ≡ false → IsRefused Run input (fault.Script f)
-stops_script input set part has (s.Input i.TooLong) wrong no_memory = let short : length part ≤ 16777216 = has.within in absurd (omega arith)
-stops_script input set part has (s.Input i.ReadFault) wrong no_memory = absurd wrong
-stops_script input set part has (s.Input i.Memory) wrong no_memory = absurd (cc)
-stops_script input set part has (s.Line f) wrong no_memory = stops_line input set part has f wrong.1 no_memory
-stops_script input set part has s.WriteFault wrong no_memory = absurd wrong
-
--- an input whose second part is a script
-runs_script : (input : List ℕ) (set : DraftTree) (part : List ℕ) (script : Script) → IsSetAndPart input set part → IsScript set part script → IsRun input set script
-runs_script input set part script has is = record { text = has.text; part = part; divided = has.divided; spelled = has.spelled; read = is.read }
-
-input_run : (input : List ℕ) (set : DraftTree) (part : List ℕ) → IsSetAndPart input set part
-    → (written : List ℕ) (inner : Result (Unit {0}) ScriptFault) → IsRunOf set part written inner → IsInputRun input written (as_command inner)
-input_run input set part has _ _ (r.done script is written adds) = ((run_lines set script, (set, script, runs_script input set part script has is, refl), adds), tt)
-input_run input set part has _ _ (r.refused f wrong) = (tt, stops_at_once Run input (fault.Script f) (stops_script input set part has f wrong))
-input_run input set part has _ _ (r.stopped script is written first) = (tt, stops_running input written set script (runs_script input set part script has is) first)
-
--- a run of the second part is one of the input
-pub part_is_input : (input : List ℕ) (set : DraftTree) (part : List ℕ) → IsSetAndPart input set part
-    → (written : List ℕ) (ended : Result (Unit {0}) RunFault) → IsPartRun set part written ended → IsInputRun input written ended
-part_is_input input set part has written ended (inner, run, is) = subst (IsInputRun input written) (sym is) (input_run input set part has written inner run)
+-- a fault up to the text is one of the input
+pub refused_input : (mode : Mode) (wanted : ℕ) (input : List ℕ) (f : RunFault) → parts_wanted mode ≡ wanted → IsRefusedInput wanted input f → IsRefused mode input f
+refused_input mode wanted input (fault.Input f) is wrong = subst (λ (n : ℕ). IsRefusedInput n input (fault.Input f)) (sym is) wrong
+refused_input mode wanted input (fault.Parts f) is wrong = subst (λ (n : ℕ). IsRefusedInput n input (fault.Parts f)) (sym is) wrong
+refused_input mode wanted input (fault.Text f) is wrong = subst (λ (n : ℕ). IsRefusedInput n input (fault.Text f)) (sym is) wrong
+refused_input mode wanted input (fault.Check f) is wrong = subst (λ (n : ℕ). IsRefusedInput n input (fault.Check f)) (sym is) wrong
+refused_input mode wanted input (fault.Script f) is (text, others, divided, count, wrong) = absurd wrong
+refused_input mode wanted input (fault.Audit f) is (text, others, divided, count, wrong) = absurd wrong
 
 -- the canonical text could not be made
 pub stops_printing : (input : List ℕ) → IsStop Check input (fault.Input i.Memory) []
 stops_printing input = ((λ no_memory. absurd (cc)), (λ memory. at_once))
+
+-- ---- how a second part ends
+
+-- a fault of the part stands before the first line
+pub part_at_once : (mode : Mode) (set : DraftTree) (part : List ℕ) (f : RunFault) → (is_memory f ≡ false → IsRefusedPart mode set part f) → IsPartStop mode set part f []
+part_at_once mode set part f h = ((λ no_memory. (h no_memory, refl)), (λ memory. inl refl))
+
+-- a fault of a line, where memory did not lack
+line_fails : {Y : Type 0} (read : Result Y LineFault) (f : LineFault) → Fails f read → is_memory (fault.Script (s.Line f)) ≡ false → read ≡ Err f
+line_fails read (l.BadLine n) wrong no_memory = wrong
+line_fails read (l.UnknownName n) wrong no_memory = wrong
+line_fails read (l.WrongKeys n) wrong no_memory = wrong
+line_fails read (l.LateRow n) wrong no_memory = wrong
+line_fails read (l.RepeatedRow n) wrong no_memory = wrong
+line_fails read (l.TooManyEvents n) wrong no_memory = wrong
+line_fails read l.Memory wrong no_memory = absurd (cc)
+
+-- a fault of a part that is no longer than an input may be is one of its lines
+part_fails : {Y : Type 0} (read : Result Y LineFault) (part : List ℕ) (Q : ScriptFault → Type 0) → length part ≤ 16777216
+    → ((f : LineFault) → read ≡ Err f → Q (s.Line f)) → (f : ScriptFault) → IsPartFault read part f → is_memory (fault.Script f) ≡ false → Q f
+part_fails read part Q within told (s.Input i.TooLong) wrong no_memory = absurd (omega (arith, wrong, within))
+part_fails read part Q within told (s.Input i.ReadFault) wrong no_memory = absurd wrong
+part_fails read part Q within told (s.Input i.Memory) wrong no_memory = absurd (cc)
+part_fails read part Q within told (s.Line f) wrong no_memory = told f (line_fails read f wrong.1 no_memory)
+part_fails read part Q within told s.WriteFault wrong no_memory = absurd wrong
+
+-- a run of the script that a part is
+script_done : (set : DraftTree) (part : List ℕ) → length part ≤ 16777216
+    → (written : List ℕ) (inner : Result Finding ScriptFault) → IsRunOf set part written inner → IsPartDone Run set part written (as_command inner)
+script_done set part within _ _ (r.done script is finding written adds) = ((finding, (script, is.read, adds), refl), tt)
+script_done set part within _ _ (r.refused f wrong) =
+    (tt, part_at_once Run set part (fault.Script f) (part_fails (script_of set part) part (λ g. IsRefusedPart Run set part (fault.Script g)) within (λ g e. e) f wrong))
+script_done set part within _ _ (r.stopped script is written first) = (tt, ((λ no_memory. absurd (cc)), (λ memory. inr (script, is.read, first))))
+
+-- the records of a part that could be read
+pub records_read : (set : DraftTree) (left part : List ℕ) (records : Records) → left ≡ part
+    → ForInput (Some left) (λ part. IsRecords set part records) → records_of set part ≡ Ok records
+records_read set left part records same (input, is, read) = subst (λ (p : List ℕ). records_of set p ≡ Ok records) (is ∙ same) read.read
+
+-- those that could not
+pub records_refused : (set : DraftTree) (left part : List ℕ) (f : ScriptFault) → left ≡ part → length part ≤ 16777216
+    → ForInput (Some left) (λ part. IsRecordsFault set part f) → is_memory (fault.Script f) ≡ false → IsRefusedPart Audit set part (fault.Script f)
+records_refused set left part f same within (input, is, wrong) no_memory =
+    part_fails (records_of set part) part (λ g. IsRefusedPart Audit set part (fault.Script g)) within (λ g e. e) f
+    (subst (λ (p : List ℕ). IsRecordsFault set p f) (is ∙ same) wrong) no_memory
+
+-- ---- how an audit ends
+
+-- records that a book was made of are audited
+audit_sound : (set : Draft) (part : List ℕ) (records : Records) (book : BookView) → records_of (draft_tree set) part ≡ Ok records
+    → book ≡ audited set records.rows records.records → IsTrueBook book → IsAudited (draft_tree set) part records
+audit_sound set part records book read is is_true =
+    let v : IsTrueBook (audited set records.rows records.records) = subst (λ (b : BookView). IsTrueBook b) is is_true in
+    let count : length (map ending.Committed (range_with_len 1 (length records.records))) ≡ length records.records =
+    length-map-range_with_len ending.Committed 1 (length records.records) in
+    record { read = read; few = omega (arith, v.few, count); lawful = v.lawful; replies = v.rows }
+
+-- its rows and the last line were added to nothing
+pub audit_given : (set : Draft) (part : List ℕ) (records : Records) (book : BookView) (finding : Finding) (before written : List ℕ)
+    → records_of (draft_tree set) part ≡ Ok records → book ≡ audited set records.rows records.records → IsTrueBook book → before ≡ []
+    → AddsEnd (draft_tree book.set) book.opening (history_of book.rows) finding before written → IsPartGiven Audit (draft_tree set) part (status_of finding) written
+audit_given set part records book finding before written read is is_true none adds =
+    let ends = subst (λ (b : BookView). AddsEnd (draft_tree b.set) b.opening (history_of b.rows) finding before written) is adds in (
+      finding,
+      (
+        records,
+        audit_sound set part records book read is is_true,
+        subst (λ (t : List ℕ). AddsEnd (draft_tree set) records.rows (history_of records.records) finding t written) none ends,
+      ),
+      refl,
+    )
+
+-- some first of its rows were
+pub audit_stopped : (set : Draft) (part : List ℕ) (records : Records) (book : BookView) (before written : List ℕ)
+    → records_of (draft_tree set) part ≡ Ok records → book ≡ audited set records.rows records.records → IsTrueBook book → before ≡ []
+    → AddsFirst (end_lines (draft_tree book.set) book.opening (history_of book.rows)) before written → IsPartStop Audit (draft_tree set) part (fault.Input i.Memory) written
+audit_stopped set part records book before written read is is_true none adds =
+    let first = subst (λ (b : BookView). AddsFirst (end_lines (draft_tree b.set) b.opening (history_of b.rows)) before written) is adds in (
+      (λ no_memory. absurd (cc)),
+      (λ memory. inr (
+        records,
+        audit_sound set part records book read is is_true,
+        subst (λ (t : List ℕ). AddsFirst (end_lines (draft_tree set) records.rows (history_of records.records)) t written) none first,
+      )),
+    )
+
+-- ---- from a second part to its input
+
+-- what a part means, its input means
+part_given : (mode : Mode) (input : List ℕ) (set : DraftTree) (part : List ℕ) → IsSetAndPart input set part
+    → (ended : Status) (written : List ℕ) → IsPartGiven mode set part ended written → Gives mode input written ended
+part_given Check input set part has ended written (finding, gives, is) = absurd gives
+part_given Run input set part has ended written (finding, gives, is) = (set, part, finding, has.has, gives, is)
+part_given Audit input set part has ended written (finding, gives, is) = (set, part, finding, has.has, gives, is)
+
+part_refused : (mode : Mode) (input : List ℕ) (set : DraftTree) (part : List ℕ) → IsSetAndPart input set part
+    → (f : RunFault) → IsRefusedPart mode set part f → IsRefused mode input f
+part_refused mode input set part has (fault.Script f) wrong = (set, part, has.has, wrong)
+part_refused mode input set part has (fault.Audit f) wrong = (set, part, has.has, wrong)
+part_refused Check input set part has (fault.Input f) wrong = absurd wrong
+part_refused Run input set part has (fault.Input f) wrong = absurd wrong
+part_refused Audit input set part has (fault.Input f) wrong = absurd wrong
+part_refused Check input set part has (fault.Parts f) wrong = absurd wrong
+part_refused Run input set part has (fault.Parts f) wrong = absurd wrong
+part_refused Audit input set part has (fault.Parts f) wrong = absurd wrong
+part_refused Check input set part has (fault.Text f) wrong = absurd wrong
+part_refused Run input set part has (fault.Text f) wrong = absurd wrong
+part_refused Audit input set part has (fault.Text f) wrong = absurd wrong
+part_refused Check input set part has (fault.Check f) wrong = absurd wrong
+part_refused Run input set part has (fault.Check f) wrong = absurd wrong
+part_refused Audit input set part has (fault.Check f) wrong = absurd wrong
+
+part_behind : (mode : Mode) (input : List ℕ) (set : DraftTree) (part : List ℕ) → IsSetAndPart input set part
+    → (written : List ℕ) → (written ≡ []) ⊎ GivesFirstPart mode set part written → StopsBehind mode input written
+part_behind mode input set part has written (inl none) = subst (λ (l : List ℕ). StopsBehind mode input l) (sym none) at_once
+part_behind mode input set part has written (inr first) = behind_lines written (set, part, has.has, first)
+
+-- the end of a part is that of its input
+part_is_input : (mode : Mode) (input : List ℕ) (set : DraftTree) (part : List ℕ) → IsSetAndPart input set part
+    → (written : List ℕ) (ended : Result Status RunFault) → IsPartDone mode set part written ended → IsInputDone mode input written ended
+part_is_input mode input set part has written (Ok ended) given = (part_given mode input set part has ended written given.0, tt)
+part_is_input mode input set part has written (Err f) given = (
+  tt,
+  (
+    (λ no_memory. let wrong = given.1.0 no_memory in (part_refused mode input set part has f wrong.0, wrong.1)),
+    (λ memory. part_behind mode input set part has written (given.1.1 memory)),
+  ),
+)
 
 -- ---- what is written
 
@@ -149,174 +260,123 @@ front_behind : (old mid new : Option (List ℕ)) (first second : List ℕ) → A
 front_behind old mid new first second appends (n, more) =
     (length first + n, subst (Appends old new) (sym (take_past first second n)) (Appends-trans old mid new first (take n second) appends more))
 
--- bytes were written behind others
-pub wrote_behind : (first second : List ℕ) (given : Status) (failed : Bool) (old mid new : Option (List ℕ)) (status : Status)
-    → Appends old mid first → Writes (IsJust second given) failed mid new status → Writes (IsJust (first ++ second) given) failed old new status
-wrote_behind first second given false old mid new status appends (written, just, more) =
-    (first ++ written, (ap (λ l. first ++ l) just.0, just.1), Appends-trans old mid new first written appends more)
-wrote_behind first second given true old mid new status appends (faulty, written, meant, just, more) =
-    (faulty, first ++ written, meant, (ap (λ l. first ++ l) just.0, just.1), front_behind old mid new first written appends more)
-
--- the line of a fault stands alone, whatever lines there are
-fault_alone : (lines : List ℕ) (ended : Result (Unit {0}) RunFault) (written : List ℕ) (status : Status)
-    → IfErr ended (λ f. is_memory f ≡ false) → IfOk ended (λ x. ⊥) → Ends [] ended written status → Ends lines ended written status
-fault_alone lines _ _ _ no_memory err well = absurd err
-fault_alone lines _ _ _ no_memory err (in_fault f e) = in_fault f e
-fault_alone lines _ _ _ no_memory err (in_fault_untold f e) = in_fault_untold f e
-fault_alone lines _ _ _ no_memory err (in_memory f memory) = let never : true ≡ false = sym memory ∙ no_memory in absurd (cc)
-
-pub fault_ends : (lines : List ℕ) (f : RunFault) → is_memory f ≡ false
-    → (written : List ℕ) (status : Status) → Ends [] (Err f) written status → Ends lines (Err f) written status
-fault_ends lines f no_memory written status ends = fault_alone lines (Err f) written status no_memory tt ends
+-- lines were written, and this end was given
+pub wrote_lines : (P : List ℕ → Result Status RunFault → Type 0) (lines : List ℕ) (given : Result Status RunFault) (failed : Bool) (old new : Option (List ℕ)) (ended : Result Status RunFault)
+    → P lines given → WritesOr (Err write_lost) (w.IsJust lines given) failed old new ended → WritesOr (Err write_lost) P failed old new ended
+wrote_lines P lines given failed old new ended is writes =
+    writes_or_as (λ (e : Result Status RunFault). e) (Err write_lost) (w.IsJust lines given) P failed old new ended
+    (λ written end just. subst (λ (l : List ℕ). P l end) (sym just.0) (subst (P lines) (sym just.1) is)) writes
 
 -- ---- what a command replies
 
--- the answer to a run's end
-answered : (mode : Mode) (input lines : List ℕ) (ended : Result (Unit {0}) RunFault) (written : List ℕ) (status : Status)
-    → IfOk ended (λ x. Gives mode input lines) → IfErr ended (λ f. IsStop mode input f lines) → Ends lines ended written status → IsAnswer mode input written status
-answered mode input lines _ _ _ runs stops well = done lines runs
-answered mode input lines _ _ _ runs stops (in_fault f no_memory) = refused f no_memory (stops.0 no_memory).0
-answered mode input lines _ _ _ runs stops (in_fault_untold f no_memory) = stopped [] at_once
-answered mode input lines _ _ _ runs stops (in_memory f memory) = stopped lines (stops.1 memory)
+-- the answer to an input, with the line behind it
+answered : (mode : Mode) (input lines : List ℕ) (ended : Result Status RunFault) (written : List ℕ) (end : Status)
+    → IsInputDone mode input lines ended → Ends ended written end → IsAnswer mode input (lines ++ written) end
+answered mode input lines _ _ _ given (well end) = subst (λ (l : List ℕ). IsAnswer mode input l end) (sym (append-nil lines)) (done lines end given.0)
+answered mode input lines _ _ _ given (in_fault f no_memory) =
+    let wrong = given.1.0 no_memory in
+    subst (λ (l : List ℕ). IsAnswer mode input (l ++ fault_line f) status.Faulty) (sym wrong.1) (refused f no_memory wrong.0)
+answered mode input lines _ _ _ given (in_memory f) = go (is_memory f) refl
+  where
+    go : (b : Bool) → is_memory f ≡ b → IsAnswer mode input (lines ++ memory_line) status.Memory
+    go true memory = stopped lines (given.1.1 memory)
+    go false no_memory = subst (λ (l : List ℕ). IsAnswer mode input (l ++ memory_line) status.Memory) (sym (given.1.0 no_memory).1) (stopped [] at_once)
 
-unread : (lines : List ℕ) (ended : Result (Unit {0}) RunFault) (written : List ℕ) (status : Status)
-    → IsReadFault ended → Ends lines ended written status → IsUnread written status
-unread lines _ _ _ is well = absurd (cc)
-unread lines _ _ _ is (in_fault f no_memory) = let same : f ≡ fault.Input i.ReadFault = cc in subst (λ g. IsUnread (fault_line g) status.Faulty) (sym same) u.refused
-unread lines _ _ _ is (in_fault_untold f no_memory) = u.stopped
-unread lines _ _ _ is (in_memory f memory) =
-    let same : f ≡ fault.Input i.ReadFault = cc in let never : false ≡ true = subst (λ g. is_memory g ≡ true) same memory in absurd (cc)
+unread : (ended : Result Status RunFault) (written : List ℕ) (end : Status) → IsReadFault ended → Ends ended written end → IsUnread written end
+unread _ _ _ is (well end) = absurd (cc)
+unread _ _ _ is (in_fault f no_memory) = let same : f ≡ fault.Input i.ReadFault = cc in subst (λ (g : RunFault). IsUnread (fault_line g) status.Faulty) (sym same) u.refused
+unread _ _ _ is (in_memory f) = u.stopped
 
-pub replies : (mode : Mode) (left : Option (List ℕ)) (failed : Bool) (lines : List ℕ) (ended : Result (Unit {0}) RunFault)
-    → IfOk ended (λ x. ForInput left (λ input. Gives mode input lines))
-    → IfErr ended (λ f. failed ≡ false → ForInput left (λ input. IsStop mode input f lines))
-    → (failed ≡ true → IsReadFault ended)
-    → (written : List ℕ) (status : Status) → Ends lines ended written status → IsReply mode left failed written status
-replies mode left true lines ended runs stops fails written status ends = unread lines ended written status (fails refl) ends
-replies mode left false lines (Ok x) (input, can, gives) stops fails written status ends =
-    (input, can, answered mode input lines (Ok x) written status gives tt ends)
-replies mode left false lines (Err f) runs stops fails written status ends =
-    let stop = stops refl in (stop.0, stop.1, answered mode stop.0 lines (Err f) written status tt stop.2 ends)
-
--- ---- a run, and the line behind it
-
--- a fault of the input stands behind no line
-no_line : (input lines : List ℕ) (f : RunFault) → IsStop Run input f lines → is_memory f ≡ false → lines ≡ []
-no_line input lines f stop no_memory = (stop.0 no_memory).1
-
--- what stands behind a run's lines
-ends_behind : (lines : List ℕ) (ended : Result (Unit {0}) RunFault) (written : List ℕ) (status : Status)
-    → IfErr ended (λ f. is_memory f ≡ false → lines ≡ []) → Ends [] ended written status → Ends lines ended (lines ++ written) status
-ends_behind lines _ _ _ none well = subst (λ l. Ends lines (Ok tt) l status.Done) (sym (append-nil lines)) well
-ends_behind lines _ _ _ none (in_fault f no_memory) =
-    subst (λ l. Ends lines (Err f) (l ++ fault_line f) status.Faulty) (sym (none no_memory)) (in_fault f no_memory)
-ends_behind lines _ _ _ none (in_fault_untold f no_memory) =
-    subst (λ l. Ends lines (Err f) (l ++ memory_line) status.Memory) (sym (none no_memory)) (in_fault_untold f no_memory)
-ends_behind lines _ _ _ none (in_memory f memory) = in_memory f memory
-
-no_lines : (input lines : List ℕ) (ended : Result (Unit {0}) RunFault) → IfErr ended (λ f. IsStop Run input f lines) → IfErr ended (λ f. is_memory f ≡ false → lines ≡ [])
-no_lines input lines (Ok x) stop = tt
-no_lines input lines (Err f) stop = no_line input lines f stop
-
-all_empty : (lines : List ℕ) (ended : Result (Unit {0}) RunFault) → lines ≡ [] → IfErr ended (λ f. is_memory f ≡ false → lines ≡ [])
-all_empty lines (Ok x) none = tt
-all_empty lines (Err f) none = λ no_memory. none
-
-pub run_replied : (left : Option (List ℕ)) (failed : Bool) (lines : List ℕ) (ended : Result (Unit {0}) RunFault) (written : List ℕ) (status : Status)
-    → IsSourceRun left failed lines ended → Ends [] ended written status → IsReply Run left failed (lines ++ written) status
-run_replied left false lines ended written status (input, can, run) ends =
-    (input, can, answered Run input lines ended (lines ++ written) status run.0 run.1 (ends_behind lines ended written status (no_lines input lines ended run.1) ends))
-run_replied left true lines ended written status (is, none) ends =
-    unread lines ended (lines ++ written) status is (ends_behind lines ended written status (all_empty lines ended none) ends)
+replied : (mode : Mode) (left : Option (List ℕ)) (failed : Bool) (lines : List ℕ) (ended : Result Status RunFault) (written : List ℕ) (end : Status)
+    → IsSourceDone mode left failed lines ended → Ends ended written end → IsReply mode left failed (lines ++ written) end
+replied mode left false lines ended written end (input, can, given) ends = (input, can, answered mode input lines ended written end given ends)
+replied mode left true lines ended written end (is, none) ends =
+    subst (λ (l : List ℕ). IsUnread (l ++ written) end) (sym none) (unread ended written end is ends)
 
 -- some line can stand behind each end
-some_end : (ended : Result (Unit {0}) RunFault) → (written : List ℕ) × (status : Status) × Ends [] ended written status
-some_end (Ok tt) = ([], status.Done, well)
-some_end (Err f) = go (is_memory f) refl
-  where
-    go : (b : Bool) → is_memory f ≡ b → (written : List ℕ) × (status : Status) × Ends [] (Err f) written status
-    go true memory = (memory_line, status.Memory, in_memory f memory)
-    go false no_memory = (memory_line, status.Memory, in_fault_untold f no_memory)
+some_end : (ended : Result Status RunFault) → (written : List ℕ) × (end : Status) × Ends ended written end
+some_end (Ok end) = ([], end, well end)
+some_end (Err f) = (memory_line, status.Memory, in_memory f)
 
--- the sink failed within a run
-pub run_lost : (left : Option (List ℕ)) (source_failed failed : Bool) (old new : Option (List ℕ)) (ended : Result (Unit {0}) RunFault)
-    → failed ≡ true → WritesOr (Err write_lost) (IsSourceRun left source_failed) failed old new ended → Writes (IsReply Run left source_failed) failed old new status.Faulty
-run_lost left source_failed false old new ended fails writes = absurd (cc)
-run_lost left source_failed true old new ended fails (lost, lines, meant, run, appends) =
+-- the sink failed on the way
+pub lost : (mode : Mode) (left : Option (List ℕ)) (source_failed failed : Bool) (old new : Option (List ℕ)) (ended : Result Status RunFault)
+    → failed ≡ true → WritesOr (Err write_lost) (IsSourceDone mode left source_failed) failed old new ended → Writes (IsReply mode left source_failed) failed old new status.Faulty
+lost mode left source_failed false old new ended fails writes = absurd (cc)
+lost mode left source_failed true old new ended fails (lost_is, lines, meant, given, appends) =
     let behind = some_end meant in
-    (refl, lines ++ behind.0, behind.1, run_replied left source_failed lines meant behind.0 behind.1 run behind.2, front_before old new lines behind.0 appends)
+    (refl, lines ++ behind.0, behind.1, replied mode left source_failed lines meant behind.0 behind.1 given behind.2, front_before old new lines behind.0 appends)
 
--- the sink took all of a run
-pub run_written : (left : Option (List ℕ)) (source_failed mid_failed failed : Bool) (old mid new : Option (List ℕ)) (ended : Result (Unit {0}) RunFault) (status : Status)
-    → mid_failed ≡ false → WritesOr (Err write_lost) (IsSourceRun left source_failed) mid_failed old mid ended → Writes (Ends [] ended) failed mid new status
-    → Writes (IsReply Run left source_failed) failed old new status
-run_written left source_failed true failed old mid new ended status works run behind = absurd (cc)
-run_written left source_failed false false old mid new ended status works (lines, run, appends) (written, ends, more) =
-    (lines ++ written, run_replied left source_failed lines ended written status run ends, Appends-trans old mid new lines written appends more)
-run_written left source_failed false true old mid new ended status works (lines, run, appends) (faulty, written, meant, ends, more) =
-    (faulty, lines ++ written, meant, run_replied left source_failed lines ended written meant run ends, front_behind old mid new lines written appends more)
+-- the sink took all lines
+pub whole : (mode : Mode) (left : Option (List ℕ)) (source_failed mid_failed failed : Bool) (old mid new : Option (List ℕ)) (ended : Result Status RunFault) (end : Status)
+    → mid_failed ≡ false → WritesOr (Err write_lost) (IsSourceDone mode left source_failed) mid_failed old mid ended → Writes (Ends ended) failed mid new end
+    → Writes (IsReply mode left source_failed) failed old new end
+whole mode left source_failed true failed old mid new ended end works given behind = absurd (cc)
+whole mode left source_failed false false old mid new ended end works (lines, given, appends) (written, ends, more) =
+    (lines ++ written, replied mode left source_failed lines ended written end given ends, Appends-trans old mid new lines written appends more)
+whole mode left source_failed false true old mid new ended end works (lines, given, appends) (faulty, written, meant, ends, more) =
+    (faulty, lines ++ written, meant, replied mode left source_failed lines ended written meant given ends, front_behind old mid new lines written appends more)
 
 -- some answer can be given to each source
-some_reply : (left : Option (List ℕ)) (failed : Bool) → IsReply Run left failed memory_line status.Memory
-some_reply None false = ([], tt, stopped [] at_once)
-some_reply (Some bytes) false = (bytes, refl, stopped [] at_once)
-some_reply left true = u.stopped
+some_reply : (mode : Mode) (left : Option (List ℕ)) (failed : Bool) → IsReply mode left failed memory_line status.Memory
+some_reply mode None false = ([], tt, stopped [] at_once)
+some_reply mode (Some bytes) false = (bytes, refl, stopped [] at_once)
+some_reply mode left true = u.stopped
 
 -- the sink failed before
-pub not_begun : (left : Option (List ℕ)) (source_failed failed : Bool) (old : Option (List ℕ)) → failed ≡ true → Writes (IsReply Run left source_failed) failed old old status.Faulty
-not_begun left source_failed false old fails = absurd (cc)
-not_begun left source_failed true old fails = (refl, memory_line, status.Memory, some_reply left source_failed, (0, Appends-nil old))
+pub not_begun : (mode : Mode) (left : Option (List ℕ)) (source_failed failed : Bool) (old : Option (List ℕ)) → failed ≡ true → Writes (IsReply mode left source_failed) failed old old status.Faulty
+not_begun mode left source_failed false old fails = absurd (cc)
+not_begun mode left source_failed true old fails = (refl, memory_line, status.Memory, some_reply mode left source_failed, (0, Appends-nil old))
 
--- ---- a run, from its part up to its source
+-- ---- from a part up to its source
 
 -- the bytes at hand were pulled too seldom to fail
 pub not_broken : (broken : Bool) (pulls before : ℕ) → (broken ≡ true → pulls ≡ 2 ^ 64 - 1) → pulls ≤ before + 16777217 → before ≡ 0 → broken ≡ false
 not_broken false pulls before counted few none = refl
 not_broken true pulls before counted few none = let all = counted refl in absurd (omega (arith, all, few, none))
 
-pub part_run : (set : DraftTree) (part : List ℕ) (broken failed : Bool) (old new : Option (List ℕ)) (inner : Result (Unit {0}) ScriptFault)
-    → broken ≡ false → WritesOr (Err s.WriteFault) (IsRunReply set (Some part) broken) failed old new inner
-    → WritesOr (Err write_lost) (IsPartRun set part) failed old new (as_command inner)
-part_run set part true failed old new inner works writes = absurd (cc)
-part_run set part false failed old new inner works writes =
-    writes_or_as as_command (Err s.WriteFault) (IsRunReply set (Some part) false) (IsPartRun set part) failed old new inner turn writes
+pub part_run : (set : DraftTree) (left part : List ℕ) (broken failed : Bool) (old new : Option (List ℕ)) (inner : Result Finding ScriptFault)
+    → left ≡ part → length part ≤ 16777216 → broken ≡ false → WritesOr (Err s.WriteFault) (IsRunReply set (Some left) broken) failed old new inner
+    → WritesOr (Err write_lost) (IsPartDone Run set part) failed old new (as_command inner)
+part_run set left part true failed old new inner same within works writes = absurd (cc)
+part_run set left part false failed old new inner same within works writes =
+    writes_or_as as_command (Err s.WriteFault) (IsRunReply set (Some left) false) (IsPartDone Run set part) failed old new inner turn writes
   where
-    turn : (written : List ℕ) (end : Result (Unit {0}) ScriptFault) → IsRunReply set (Some part) false written end → IsPartRun set part written (as_command end)
-    turn written end (input, is, run) = (end, subst (λ (p : List ℕ). IsRunOf set p written end) is run, refl)
+    turn : (written : List ℕ) (end : Result Finding ScriptFault) → IsRunReply set (Some left) false written end → IsPartDone Run set part written (as_command end)
+    turn written end (input, is, run) = script_done set part within written end (subst (λ (p : List ℕ). IsRunOf set p written end) (is ∙ same) run)
 
--- a fault of the input, before anything is written
-pub input_stopped : (input : List ℕ) (f : RunFault) (failed : Bool) (old : Option (List ℕ)) → failed ≡ false → (is_memory f ≡ false → IsRefused Run input f)
-    → WritesOr (Err write_lost) (IsInputRun input) failed old old (Err f)
-input_stopped input f true old works refused_by = absurd (cc)
-input_stopped input f false old works refused_by = ([], (tt, stops_at_once Run input f refused_by), Appends-nil old)
+-- a fault before anything is written
+pub input_stopped : (mode : Mode) (input : List ℕ) (f : RunFault) (failed : Bool) (old : Option (List ℕ)) → failed ≡ false → IsStop mode input f []
+    → WritesOr (Err write_lost) (IsInputDone mode input) failed old old (Err f)
+input_stopped mode input f true old works stop = absurd (cc)
+input_stopped mode input f false old works stop = ([], (tt, stop), Appends-nil old)
 
-pub run_of_part : (input : List ℕ) (set : DraftTree) (part : List ℕ) (failed : Bool) (old new : Option (List ℕ)) (ended : Result (Unit {0}) RunFault)
-    → IsSetAndPart input set part → WritesOr (Err write_lost) (IsPartRun set part) failed old new ended → WritesOr (Err write_lost) (IsInputRun input) failed old new ended
-run_of_part input set part failed old new ended has writes =
-    writes_or_as (λ (e : Result (Unit {0}) RunFault). e) (Err write_lost) (IsPartRun set part) (IsInputRun input) failed old new ended (part_is_input input set part has) writes
+pub done_of_part : (mode : Mode) (input : List ℕ) (set : DraftTree) (part : List ℕ) (failed : Bool) (old new : Option (List ℕ)) (ended : Result Status RunFault)
+    → IsSetAndPart input set part → WritesOr (Err write_lost) (IsPartDone mode set part) failed old new ended → WritesOr (Err write_lost) (IsInputDone mode input) failed old new ended
+done_of_part mode input set part failed old new ended has writes =
+    writes_or_as (λ (e : Result Status RunFault). e) (Err write_lost) (IsPartDone mode set part) (IsInputDone mode input) failed old new ended (part_is_input mode input set part has) writes
 
 -- the source could not be read
-unread_source : (f : InputFault) (left : Option (List ℕ)) (source_failed : Bool)
+unread_source : (mode : Mode) (f : InputFault) (left : Option (List ℕ)) (source_failed : Bool)
     → (f ≡ i.TooLong → IfSome left (λ all. 16777216 < length all)) → (f ≡ i.ReadFault → source_failed ≡ true) → (source_failed ≡ true → f ≡ i.ReadFault)
-    → IsSourceRun left source_failed [] (Err (fault.Input f))
-unread_source f left true long fails is = (ap (λ (g : InputFault). Err (fault.Input g)) (is refl), refl)
-unread_source f left false long fails is =
-    let stop = stops_reading Run f left false long fails refl in
+    → IsSourceDone mode left source_failed [] (Err (fault.Input f))
+unread_source mode f left true long fails is = (ap (λ (g : InputFault). Err (fault.Input g)) (is refl), refl)
+unread_source mode f left false long fails is =
+    let stop = stops_reading mode f left false long fails refl in
     (stop.0, stop.1, (tt, stop.2))
 
-pub read_stopped : (f : InputFault) (left : Option (List ℕ)) (source_failed failed : Bool) (old : Option (List ℕ)) → failed ≡ false
+pub read_stopped : (mode : Mode) (f : InputFault) (left : Option (List ℕ)) (source_failed failed : Bool) (old : Option (List ℕ)) → failed ≡ false
     → (f ≡ i.TooLong → IfSome left (λ all. 16777216 < length all)) → (f ≡ i.ReadFault → source_failed ≡ true) → (source_failed ≡ true → f ≡ i.ReadFault)
-    → WritesOr (Err write_lost) (IsSourceRun left source_failed) failed old old (Err (fault.Input f))
-read_stopped f left source_failed true old works long fails is = absurd (cc)
-read_stopped f left source_failed false old works long fails is = ([], unread_source f left source_failed long fails is, Appends-nil old)
+    → WritesOr (Err write_lost) (IsSourceDone mode left source_failed) failed old old (Err (fault.Input f))
+read_stopped mode f left source_failed true old works long fails is = absurd (cc)
+read_stopped mode f left source_failed false old works long fails is = ([], unread_source mode f left source_failed long fails is, Appends-nil old)
 
 -- the source was read
-pub run_of_source : (left : Option (List ℕ)) (source_failed : Bool) (items input : List ℕ) (failed : Bool) (old new : Option (List ℕ)) (ended : Result (Unit {0}) RunFault)
-    → input ≡ items → CanGive left items → (source_failed ≡ true → ⊥) → WritesOr (Err write_lost) (IsInputRun input) failed old new ended
-    → WritesOr (Err write_lost) (IsSourceRun left source_failed) failed old new ended
-run_of_source left true items input failed old new ended same can works writes = absurd (works refl)
-run_of_source left false items input failed old new ended same can works writes =
-    writes_or_as (λ (e : Result (Unit {0}) RunFault). e) (Err write_lost) (IsInputRun input) (IsSourceRun left false) failed old new ended turn writes
+pub done_of_source : (mode : Mode) (left : Option (List ℕ)) (source_failed : Bool) (items input : List ℕ) (failed : Bool) (old new : Option (List ℕ)) (ended : Result Status RunFault)
+    → input ≡ items → CanGive left items → (source_failed ≡ true → ⊥) → WritesOr (Err write_lost) (IsInputDone mode input) failed old new ended
+    → WritesOr (Err write_lost) (IsSourceDone mode left source_failed) failed old new ended
+done_of_source mode left true items input failed old new ended same can works writes = absurd (works refl)
+done_of_source mode left false items input failed old new ended same can works writes =
+    writes_or_as (λ (e : Result Status RunFault). e) (Err write_lost) (IsInputDone mode input) (IsSourceDone mode left false) failed old new ended turn writes
   where
-    turn : (written : List ℕ) (end : Result (Unit {0}) RunFault) → IsInputRun input written end → IsSourceRun left false written end
-    turn written end run = (items, can, subst (λ (l : List ℕ). IsInputRun l written end) same run)
+    turn : (written : List ℕ) (end : Result Status RunFault) → IsInputDone mode input written end → IsSourceDone mode left false written end
+    turn written end given = (items, can, subst (λ (l : List ℕ). IsInputDone mode l written end) same given)

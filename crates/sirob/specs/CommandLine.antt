@@ -3,7 +3,7 @@ use Rattle.std.specs.Prelude.{◌≡◌, List, [], Option, Some, true, codes, op
 use Rattle.clap.specs.Walk.{Rule, Row, Text}
 use Rattle.clap.specs.Simple.{App, Shape, new_shape, with_subcommand}
 use Rattle.sirob.specs.declared.command_line.Mode.{Mode}
-use Rattle.sirob.specs.declared.command_line.Mode.TheVariants.{Check, Run}
+use Rattle.sirob.specs.declared.command_line.Mode.TheVariants.{Check, Run, Audit}
 
 -- a subcommand with these arguments
 abbrev pub command_with : Text → List Rule → Shape
@@ -15,7 +15,10 @@ top_app = record { top = record (new_shape (codes "sirob")) { subcommand_require
 
 -- and with its subcommands
 abbrev pub sirob_app : App
-sirob_app = with_subcommand (with_subcommand top_app (command_with (codes "check") [])) (command_with (codes "run") [])
+sirob_app =
+    let with_check = with_subcommand top_app (command_with (codes "check") []) in
+    let with_run = with_subcommand with_check (command_with (codes "run") []) in
+    with_subcommand with_run (command_with (codes "audit") [])
 
 -- the name of the subcommand
 abbrev pub name_in : Option (Text × List Row) → Option Text
@@ -25,6 +28,7 @@ name_in = option_map (λ p. p.0)
 abbrev pub IsNamedBy : Mode → Option (Text × List Row) → Type 0
 IsNamedBy Check command = name_in command ≡ Some (codes "check")
 IsNamedBy Run command = name_in command ≡ Some (codes "run")
+IsNamedBy Audit command = name_in command ≡ Some (codes "audit")
 
 -- the subcommand is one of the program's own
 abbrev pub NamesMode : Option (Text × List Row) → Type 0

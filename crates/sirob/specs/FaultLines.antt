@@ -8,7 +8,11 @@ use Rattle.prog_check.specs.declared.fault.CheckFault.TheVariants as c
 use Rattle.prog_text.specs.declared.fault.TextFault.{TextFault}
 use Rattle.prog_text.specs.declared.fault.TextFault.TheVariants as t
 use Rattle.sirob.specs.declared.run_fault.RunFault.{RunFault}
-use Rattle.sirob.specs.declared.run_fault.RunFault.TheVariants.{Input, Parts, Text, Check, Script}
+use Rattle.sirob.specs.declared.run_fault.RunFault.TheVariants.{Input, Parts, Text, Check, Script, Audit}
+use Rattle.history_book.specs.declared.audit.AuditFault.{AuditFault}
+use Rattle.history_book.specs.declared.audit.AuditFault.TheVariants as a
+use Rattle.history_book.specs.declared.audit.RowFault.{RowFault}
+use Rattle.history_book.specs.declared.audit.RowFault.TheVariants as r
 use Rattle.si_engine.specs.declared.script_fault.ScriptFault.{ScriptFault}
 use Rattle.si_engine.specs.declared.script_fault.ScriptFault.TheVariants as script
 use Rattle.si_engine.specs.declared.script_fault.LineFault.{LineFault}
@@ -54,7 +58,7 @@ check_fault (c.TooMany place) = in_set (codes "C10") place
 check_fault (c.TooManyPaths place) = in_set (codes "C11") place
 check_fault c.Memory = codes "memory"
 
--- a code and a line of the script, from 1
+-- a code and a line of the second part, from 1
 abbrev pub in_line : List ℕ → ℕ → List ℕ
 in_line code line = code ++ (codes " line " ++ decimal line)
 
@@ -73,12 +77,27 @@ script_fault (script.Input fault) = code_of fault
 script_fault (script.Line fault) = line_fault fault
 script_fault script.WriteFault = codes "I5"
 
+abbrev pub row_code : RowFault → List ℕ
+row_code r.NoSuchProgram = codes "H1"
+row_code r.WrongArguments = codes "H2"
+row_code r.StartTooLate = codes "H3"
+row_code r.NotReady = codes "H4"
+row_code r.WrongReplies = codes "H5"
+row_code (r.Clashed clash) = codes "H6"
+
+-- a code and a record, from 0
+abbrev pub audit_fault : AuditFault → List ℕ
+audit_fault a.Full = codes "H7"
+audit_fault (a.Row number fault) = row_code fault ++ (codes " " ++ decimal number)
+audit_fault a.Memory = codes "memory"
+
 abbrev pub fault_text : RunFault → List ℕ
 fault_text (Input fault) = code_of fault
 fault_text (Parts fault) = part_code fault
 fault_text (Text fault) = text_fault fault
 fault_text (Check fault) = check_fault fault
 fault_text (Script fault) = script_fault fault
+fault_text (Audit fault) = audit_fault fault
 
 -- the whole line, with its line feed
 abbrev pub fault_line : RunFault → List ℕ
@@ -91,4 +110,5 @@ is_memory (Text t.Memory) = true
 is_memory (Check c.Memory) = true
 is_memory (Script (script.Input i.Memory)) = true
 is_memory (Script (script.Line s.Memory)) = true
+is_memory (Audit a.Memory) = true
 is_memory fault = false

@@ -1,27 +1,34 @@
 -- What the commands write.
-use Rattle.std.specs.Prelude.{◌≡◌, ℕ, Bool, true, false, ◌<◌, ◌≤◌, List, [], ◌∷◌, ◌++◌, length, map, codes, Option, Some, None, Ok, Err}
+use Rattle.std.specs.Prelude.{◌≡◌, ℕ, Bool, true, false, ◌<◌, ◌≤◌, All, List, [], ◌∷◌, ◌++◌, length, codes, Option, Some, None, Ok, Err}
 use Rattle.std.specs.Io.KnownBytes.{Appends}
 use Rattle.prog_tree.specs.Syntax.{DraftTree}
 use Rattle.prog_text.specs.Answer.{Accepts, Refuses}
 use Rattle.prog_text.specs.Canonical.{canonical}
 use Rattle.prog_check.specs.Faults.{first_fault}
-use Rattle.sirob.specs.declared.command_line.Mode.{Mode}
-use Rattle.sirob.specs.declared.command_line.Mode.TheVariants.{Check, Run}
-use Rattle.sirob.specs.declared.run_fault.RunFault.{RunFault}
-use Rattle.sirob.specs.declared.run_fault.RunFault.TheVariants as fault
+use Rattle.history_book.specs.Audit.{IsAuditFault}
+use Rattle.history_book.specs.History.{IsLawful}
+use Rattle.history_book.specs.TrueBook.{IsTrueRow}
+use Rattle.history_book.specs.View.{history_of, most_endings}
+use Rattle.si_engine.specs.declared.finding.Finding.{Finding}
+use Rattle.si_engine.specs.declared.records.Records.{Records}
 use Rattle.si_engine.specs.declared.script.Script.{Script}
-use Rattle.si_engine.specs.declared.script_fault.LineFault.{LineFault}
 use Rattle.si_engine.specs.declared.script_fault.ScriptFault.TheVariants as script_fault
 use Rattle.si_engine.specs.declared.source.InputFault.TheVariants as input_fault
-use Rattle.sirob.specs.declared.parts.PartFault.TheVariants as part_fault
-use Rattle.sirob.specs.declared.status.Status.{Status}
-use Rattle.sirob.specs.declared.status.Status.TheVariants.{Done, Faulty, Memory}
 use Rattle.si_engine.specs.Reading.{ForInput, input_limit}
-use Rattle.si_engine.specs.Runs.{run_lines, Adds, AddsFirst}
+use Rattle.si_engine.specs.Records.{records_of}
+use Rattle.si_engine.specs.Runs.{run_lines, end_lines, AddsFirst, AddsEnd, AddsRun}
 use Rattle.si_engine.specs.Script.{script_of}
 use Rattle.si_engine.specs.Writing.{AppendsFront}
+use Rattle.sirob.specs.declared.command_line.Mode.{Mode}
+use Rattle.sirob.specs.declared.command_line.Mode.TheVariants.{Check, Run, Audit}
+use Rattle.sirob.specs.declared.parts.PartFault.TheVariants as part_fault
+use Rattle.sirob.specs.declared.run_fault.RunFault.{RunFault}
+use Rattle.sirob.specs.declared.run_fault.RunFault.TheVariants as fault
+use Rattle.sirob.specs.declared.status.Status.{Status}
+use Rattle.sirob.specs.declared.status.Status.TheVariants.{Done, Faulty, Memory}
 use Rattle.sirob.specs.FaultLines.{fault_line, is_memory}
 use Rattle.sirob.specs.Parts.{parts_of}
+use Rattle.sirob.specs.Status.{status_of}
 
 -- ---- what an input means
 
@@ -29,6 +36,7 @@ use Rattle.sirob.specs.Parts.{parts_of}
 abbrev pub parts_wanted : Mode → ℕ
 parts_wanted Check = 1
 parts_wanted Run = 2
+parts_wanted Audit = 2
 
 -- the input has just these parts
 pub record IsDivided (input : List ℕ) (parts : List (List ℕ)) : Type 0 where
@@ -46,18 +54,22 @@ pub record IsChecked (input : List ℕ) (set : DraftTree) : Type 0 where
   pub divided : IsDivided input (text ∷ [])
   pub spelled : IsSoundText text set
 
--- the input is the text of a set without a fault, and a script for it without one
-pub record IsRun (input : List ℕ) (set : DraftTree) (script : Script) : Type 0 where
+-- the input is the text of a set without a fault, and this part behind it
+pub record HasPart (input : List ℕ) (set : DraftTree) (part : List ℕ) : Type 0 where
   pub text : List ℕ
-  pub part : List ℕ
   pub divided : IsDivided input (text ∷ part ∷ [])
   pub spelled : IsSoundText text set
-  pub read : script_of set part ≡ Ok script
 
--- what a command writes for an input without a fault, in pieces: the canonical text, or a script's lines
-abbrev pub Means : Mode → List ℕ → List (List ℕ) → Type 0
-Means Check input pieces = (set : DraftTree) × IsChecked input set × (pieces ≡ canonical set ∷ [])
-Means Run input pieces = (set : DraftTree) × (script : Script) × IsRun input set script × (pieces ≡ run_lines set script)
+-- the part is these records, which are a lawful history, not too long, with the replies of evaluation
+pub record IsAudited (set : DraftTree) (part : List ℕ) (records : Records) : Type 0 where
+  pub read : records_of set part ≡ Ok records
+  pub few : length records.records ≤ most_endings
+  pub lawful : IsLawful set records.rows (history_of records.records)
+  pub replies : All (IsTrueRow set records.rows (history_of records.records)) records.records
+
+-- the rows that audited records leave, one line each
+abbrev pub audit_lines : DraftTree → Records → List (List ℕ)
+audit_lines set records = end_lines set records.rows (history_of records.records)
 
 -- ---- the faults of an input
 
@@ -67,38 +79,75 @@ IsRefusedText text (fault.Text f) = Refuses text f
 IsRefusedText text (fault.Check f) = (set : DraftTree) × Accepts text set × (first_fault set ≡ Some f)
 IsRefusedText text f = ⊥
 
--- the input has the parts that the command wants, and this text is the first
-abbrev pub HasText : Mode → List ℕ → List ℕ → Type 0
-HasText Check input text = IsDivided input (text ∷ [])
-HasText Run input text = (part : List ℕ) × IsDivided input (text ∷ part ∷ [])
+-- the first fault of an input of which so many parts are wanted, up to its text
+abbrev pub IsRefusedInput : (wanted : ℕ) → List ℕ → RunFault → Type 0
+IsRefusedInput wanted input (fault.Input input_fault.TooLong) = input_limit < length input
+IsRefusedInput wanted input (fault.Input f) = ⊥
+IsRefusedInput wanted input (fault.Parts part_fault.MissingPart) =
+    (length input ≤ input_limit) × (length (parts_of input) < wanted)
+IsRefusedInput wanted input (fault.Parts part_fault.ExtraPart) =
+    (length input ≤ input_limit) × (wanted < length (parts_of input))
+IsRefusedInput wanted input f =
+    (text : List ℕ) × (others : List (List ℕ))
+    × IsDivided input (text ∷ others) × (length (text ∷ others) ≡ wanted) × IsRefusedText text f
 
--- the text is that of a set without a fault, and this is the first of the script
-abbrev pub IsRefusedScript : Mode → List ℕ → LineFault → Type 0
-IsRefusedScript Check input f = ⊥
-IsRefusedScript Run input f =
-    (text : List ℕ) × (part : List ℕ) × (set : DraftTree) × IsDivided input (text ∷ part ∷ []) × IsSoundText text set × (script_of set part ≡ Err f)
+-- the first fault of a second part: of its lines, or of its records as a history
+abbrev pub IsRefusedPart : Mode → DraftTree → List ℕ → RunFault → Type 0
+IsRefusedPart Run set part (fault.Script (script_fault.Line f)) = script_of set part ≡ Err f
+IsRefusedPart Audit set part (fault.Script (script_fault.Line f)) = records_of set part ≡ Err f
+IsRefusedPart Audit set part (fault.Audit f) =
+    (records : Records) × (records_of set part ≡ Ok records) × IsAuditFault set records.rows records.records f
+IsRefusedPart mode set part f = ⊥
+
+-- the input has a second part, of which this is the first fault
+abbrev pub IsRefusedByPart : Mode → List ℕ → RunFault → Type 0
+IsRefusedByPart mode input f =
+    (set : DraftTree) × (part : List ℕ) × HasPart input set part × IsRefusedPart mode set part f
 
 -- the first fault of an input
 abbrev pub IsRefused : Mode → List ℕ → RunFault → Type 0
-IsRefused mode input (fault.Input input_fault.TooLong) = input_limit < length input
-IsRefused mode input (fault.Parts part_fault.MissingPart) = (length input ≤ input_limit) × (length (parts_of input) < parts_wanted mode)
-IsRefused mode input (fault.Parts part_fault.ExtraPart) = (length input ≤ input_limit) × (parts_wanted mode < length (parts_of input))
-IsRefused mode input (fault.Input f) = ⊥
-IsRefused mode input (fault.Script (script_fault.Line f)) = IsRefusedScript mode input f
-IsRefused mode input (fault.Script f) = ⊥
-IsRefused mode input f = (text : List ℕ) × HasText mode input text × IsRefusedText text f
+IsRefused mode input (fault.Script f) = IsRefusedByPart mode input (fault.Script f)
+IsRefused mode input (fault.Audit f) = IsRefusedByPart mode input (fault.Audit f)
+IsRefused mode input f = IsRefusedInput (parts_wanted mode) input f
 
 -- ---- what is written
 
--- what the input means was written
-abbrev pub Gives : Mode → List ℕ → List ℕ → Type 0
-Gives mode input written = (pieces : List (List ℕ)) × Means mode input pieces × Adds pieces [] written
+-- all that a second part without a fault means was written: a script's lines, or those of audited records
+abbrev pub GivesPart : Mode → DraftTree → List ℕ → Finding → List ℕ → Type 0
+GivesPart Check set part finding written = ⊥
+GivesPart Run set part finding written =
+    (script : Script) × (script_of set part ≡ Ok script) × AddsRun set script finding [] written
+GivesPart Audit set part finding written =
+    (records : Records) × IsAudited set part records
+    × AddsEnd set records.rows (history_of records.records) finding [] written
 
--- some first pieces of it were written
+-- some first lines of it were written, before the last
+abbrev pub GivesFirstPart : Mode → DraftTree → List ℕ → List ℕ → Type 0
+GivesFirstPart Check set part written = ⊥
+GivesFirstPart Run set part written =
+    (script : Script) × (script_of set part ≡ Ok script) × AddsFirst (run_lines set script) [] written
+GivesFirstPart Audit set part written =
+    (records : Records) × IsAudited set part records × AddsFirst (audit_lines set records) [] written
+
+-- all that an input means by its second part was written, and this is the status behind it
+abbrev pub GivesByPart : Mode → List ℕ → List ℕ → Status → Type 0
+GivesByPart mode input written status =
+    (set : DraftTree) × (part : List ℕ) × (finding : Finding)
+    × HasPart input set part × GivesPart mode set part finding written × (status ≡ status_of finding)
+
+-- all that the input means was written, and this is the status behind it: the canonical text, or what its part means
+abbrev pub Gives : Mode → List ℕ → List ℕ → Status → Type 0
+Gives Check input written status =
+    (set : DraftTree) × IsChecked input set × (written ≡ canonical set) × (status ≡ Done)
+Gives Run input written status = GivesByPart Run input written status
+Gives Audit input written status = GivesByPart Audit input written status
+
+-- some first lines of it were written
 abbrev pub GivesFirst : Mode → List ℕ → List ℕ → Type 0
-GivesFirst mode input written = (pieces : List (List ℕ)) × Means mode input pieces × AddsFirst pieces [] written
+GivesFirst mode input written =
+    (set : DraftTree) × (part : List ℕ) × HasPart input set part × GivesFirstPart mode set part written
 
--- memory ran out: before the first piece was known, or behind some first pieces
+-- memory ran out: before the first line was known, or behind some first lines
 pub data StopsBehind (mode : Mode) (input : List ℕ) : List ℕ → Type 0 where
   at_once : StopsBehind mode input []
   behind_lines : (written : List ℕ) → GivesFirst mode input written → StopsBehind mode input written
@@ -110,10 +159,10 @@ memory_line = codes "fault memory" ++ 10 ∷ []
 -- what may be written for an input, and the status behind it
 pub data IsAnswer (mode : Mode) (input : List ℕ) : List ℕ → Status → Type 0 where
   -- all that the input means
-  done : (written : List ℕ) → Gives mode input written → IsAnswer mode input written Done
+  done : (written : List ℕ) (status : Status) → Gives mode input written status → IsAnswer mode input written status
   -- the line of the first fault, alone
   refused : (f : RunFault) → is_memory f ≡ false → IsRefused mode input f → IsAnswer mode input (fault_line f) Faulty
-  -- some first pieces of it, or none, and the line of want of memory
+  -- some first lines of it, or none, and the line of want of memory
   stopped : (written : List ℕ) → StopsBehind mode input written → IsAnswer mode input (written ++ memory_line) Memory
 
 -- what is written of a source that failed, and the status behind it

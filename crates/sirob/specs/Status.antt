@@ -1,9 +1,18 @@
--- The numbers of the program's exit statuses.
+-- The program's exit statuses.
 use Rattle.std.specs.Prelude.{ℕ}
+use Rattle.si_engine.specs.declared.finding.Finding.{Finding}
+use Rattle.si_engine.specs.declared.finding.Finding.TheVariants.{Order, Cycle}
 use Rattle.sirob.specs.declared.status.Status.{Status}
-use Rattle.sirob.specs.declared.status.Status.TheVariants.{Done, Faulty, Memory}
+use Rattle.sirob.specs.declared.status.Status.TheVariants.{Done, Unserializable, Faulty, Memory}
 
+-- the number that the process ends with
 abbrev pub status_number : Status → ℕ
 status_number Done = 0
+status_number Unserializable = 1
 status_number Faulty = 2
 status_number Memory = 3
+
+-- the status behind what is found out about a history's commits
+abbrev pub status_of : Finding → Status
+status_of Order = Done
+status_of Cycle = Unserializable

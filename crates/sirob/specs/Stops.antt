@@ -1,19 +1,58 @@
 -- How the steps of a command end: words of their contracts, and of no promise.
-use Rattle.std.specs.Prelude.{◌≡◌, ℕ, ◌≤◌, Bool, true, false, List, [], ◌∷◌, ◌++◌, length, Option, Result, Ok, Err, IfOk, IfErr}
+use Rattle.std.specs.Prelude.{◌≡◌, ◌⊎◌, ℕ, ◌≤◌, Bool, true, false, List, [], length, Option, Result, Ok, Err, IfOk, IfErr}
 use Rattle.prog_tree.specs.Syntax.{DraftTree}
+use Rattle.si_engine.specs.declared.finding.Finding.{Finding}
+use Rattle.si_engine.specs.declared.script_fault.ScriptFault.{ScriptFault}
+use Rattle.si_engine.specs.declared.script_fault.ScriptFault.TheVariants as script_fault
+use Rattle.si_engine.specs.declared.source.InputFault.TheVariants as input_fault
+use Rattle.si_engine.specs.Reading.{ForInput, input_limit}
 use Rattle.sirob.specs.declared.command_line.Mode.{Mode}
 use Rattle.sirob.specs.declared.run_fault.RunFault.{RunFault}
 use Rattle.sirob.specs.declared.run_fault.RunFault.TheVariants as fault
-use Rattle.si_engine.specs.declared.source.InputFault.TheVariants as input_fault
-use Rattle.si_engine.specs.declared.script_fault.ScriptFault.{ScriptFault}
-use Rattle.si_engine.specs.declared.script_fault.ScriptFault.TheVariants as script_fault
-use Rattle.si_engine.specs.Reading.{ForInput, input_limit}
-use Rattle.si_engine.specs.Runs.{IsRunOf}
 use Rattle.sirob.specs.declared.status.Status.{Status}
-use Rattle.sirob.specs.declared.status.Status.TheVariants.{Done, Faulty, Memory}
+use Rattle.sirob.specs.declared.status.Status.TheVariants.{Faulty, Memory}
 use Rattle.sirob.specs.FaultLines.{fault_line, is_memory}
-use Rattle.sirob.specs.declared.command_line.Mode.TheVariants.{Run}
-use Rattle.sirob.specs.Output.{IsDivided, IsSoundText, Gives, IsRefused, StopsBehind, memory_line}
+use Rattle.sirob.specs.Output.{HasPart, Gives, GivesPart, GivesFirstPart, IsRefused, IsRefusedPart, StopsBehind, memory_line}
+use Rattle.sirob.specs.Status.{status_of}
+
+-- these bytes and this status
+abbrev pub IsJust : List ℕ → Status → List ℕ → Status → Type 0
+IsJust bytes status written ended = (written ≡ bytes) × (ended ≡ status)
+
+-- the sink failed
+abbrev pub write_lost : RunFault
+write_lost = fault.Script script_fault.WriteFault
+
+-- ---- a second part
+
+-- the input is the text of a set without a fault and this part, which is no longer than an input may be
+pub record IsSetAndPart (input : List ℕ) (set : DraftTree) (part : List ℕ) : Type 0 where
+  pub has : HasPart input set part
+  pub within : length part ≤ input_limit
+
+-- all that a part means was written, and this is the status behind it
+abbrev pub IsPartGiven : Mode → DraftTree → List ℕ → Status → List ℕ → Type 0
+IsPartGiven mode set part status written =
+    (finding : Finding) × GivesPart mode set part finding written × (status ≡ status_of finding)
+
+-- a part stopped with this fault behind these bytes: a fault of the input comes before them all
+abbrev pub IsPartStop : Mode → DraftTree → List ℕ → RunFault → List ℕ → Type 0
+IsPartStop mode set part f written =
+    (is_memory f ≡ false → IsRefusedPart mode set part f × (written ≡ []))
+    × (is_memory f ≡ true → (written ≡ []) ⊎ GivesFirstPart mode set part written)
+
+-- what is written for a part, and how it ends
+abbrev pub IsPartDone : Mode → DraftTree → List ℕ → List ℕ → Result Status RunFault → Type 0
+IsPartDone mode set part written ended =
+    IfOk ended (λ status. IsPartGiven mode set part status written)
+    × IfErr ended (λ f. IsPartStop mode set part f written)
+
+-- the end of a script's run as that of a command
+abbrev pub as_command : Result Finding ScriptFault → Result Status RunFault
+as_command (Ok finding) = Ok (status_of finding)
+as_command (Err f) = Err (fault.Script f)
+
+-- ---- an input
 
 -- a command stopped with this fault behind these bytes: a fault of the input comes before them all
 abbrev pub IsStop : Mode → List ℕ → RunFault → List ℕ → Type 0
@@ -21,48 +60,27 @@ IsStop mode input f written =
     (is_memory f ≡ false → IsRefused mode input f × (written ≡ []))
     × (is_memory f ≡ true → StopsBehind mode input written)
 
+-- what is written for an input, and how it ends
+abbrev pub IsInputDone : Mode → List ℕ → List ℕ → Result Status RunFault → Type 0
+IsInputDone mode input written ended =
+    IfOk ended (λ status. Gives mode input written status) × IfErr ended (λ f. IsStop mode input f written)
+
+-- ---- a source
+
 -- the one fault of a source that failed
 abbrev pub IsReadFault : {X : Type 0} → Result X RunFault → Type 0
 IsReadFault ended = ended ≡ Err (fault.Input input_fault.ReadFault)
 
--- what is written of a command that has left these bytes and ended so, and the status behind it; of a fault, memory may lack for its line
-pub data Ends (lines : List ℕ) : Result (Unit {0}) RunFault → List ℕ → Status → Type 0 where
-  well : Ends lines (Ok tt) lines Done
-  in_fault : (f : RunFault) → is_memory f ≡ false → Ends lines (Err f) (fault_line f) Faulty
-  in_fault_untold : (f : RunFault) → is_memory f ≡ false → Ends lines (Err f) memory_line Memory
-  in_memory : (f : RunFault) → is_memory f ≡ true → Ends lines (Err f) (lines ++ memory_line) Memory
+-- what is written for a source, and how it ends: nothing where the source failed
+abbrev pub IsSourceDone : Mode → (left : Option (List ℕ)) → (failed : Bool) → List ℕ → Result Status RunFault → Type 0
+IsSourceDone mode left false written ended = ForInput left (λ input. IsInputDone mode input written ended)
+IsSourceDone mode left true written ended = IsReadFault ended × (written ≡ [])
 
--- these bytes and this status
-abbrev pub IsJust : List ℕ → Status → List ℕ → Status → Type 0
-IsJust bytes status written ended = (written ≡ bytes) × (ended ≡ status)
+-- ---- the line behind all
 
--- ---- the command `run`
-
--- the input has two parts: the text of a set without a fault, and this one
-pub record IsSetAndPart (input : List ℕ) (set : DraftTree) (part : List ℕ) : Type 0 where
-  pub text : List ℕ
-  pub divided : IsDivided input (text ∷ part ∷ [])
-  pub spelled : IsSoundText text set
-  pub within : length part ≤ input_limit
-
--- the sink failed
-abbrev pub write_lost : RunFault
-write_lost = fault.Script script_fault.WriteFault
-
--- the end of a script's run as that of a command
-abbrev pub as_command : Result (Unit {0}) ScriptFault → Result (Unit {0}) RunFault
-as_command (Ok x) = Ok x
-as_command (Err f) = Err (fault.Script f)
-
--- what a run of a part writes, and how it ends
-abbrev pub IsPartRun : DraftTree → List ℕ → List ℕ → Result (Unit {0}) RunFault → Type 0
-IsPartRun set part written ended = (inner : Result (Unit {0}) ScriptFault) × IsRunOf set part written inner × (ended ≡ as_command inner)
-
--- what a run of an input writes, and how it ends
-abbrev pub IsInputRun : List ℕ → List ℕ → Result (Unit {0}) RunFault → Type 0
-IsInputRun input written ended = IfOk ended (λ x. Gives Run input written) × IfErr ended (λ f. IsStop Run input f written)
-
--- what a run of a source writes, and how it ends: nothing where the source failed
-abbrev pub IsSourceRun : (left : Option (List ℕ)) → (failed : Bool) → List ℕ → Result (Unit {0}) RunFault → Type 0
-IsSourceRun left false written ended = ForInput left (λ input. IsInputRun input written ended)
-IsSourceRun left true written ended = IsReadFault ended × (written ≡ [])
+-- what is written behind the lines of a command that ended so, and the status behind it; memory may lack for the line
+-- of a fault
+pub data Ends : Result Status RunFault → List ℕ → Status → Type 0 where
+  well : (status : Status) → Ends (Ok status) [] status
+  in_fault : (f : RunFault) → is_memory f ≡ false → Ends (Err f) (fault_line f) Faulty
+  in_memory : (f : RunFault) → Ends (Err f) memory_line Memory

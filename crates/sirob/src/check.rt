@@ -1,22 +1,38 @@
 //! The command `check`: from the bytes of its input to the canonical text of their set.
-ghost use Rattle.std.specs.Prelude.{◌≡◌, ◌≤◌, [], length, IfOk, IfErr};
+ghost use Rattle.std.specs.Prelude.{◌≡◌, ◌≤◌, false, [], Err, length, IfOk, IfErr};
 ghost use Rattle.si_engine.specs.Reading.{input_limit};
+ghost use Rattle.si_engine.specs.Writing.{WritesOr};
 ghost use Rattle.sirob.specs.Output.{Gives};
-ghost use Rattle.sirob.specs.Stops.{IsStop};
+ghost use Rattle.sirob.specs.Stops.{IsStop, IsInputDone, write_lost};
 ghost use Rattle.sirob.specs.declared.command_line.Mode.TheVariants as mode;
+ghost use Rattle.sirob.specs.declared.status.Status.TheVariants as status;
 
 use crate::input::read_text;
+use crate::lines::write_lines;
 use crate::run_fault::RunFault;
+use crate::status::Status;
 use prog_text::print;
+use si_engine::Sink;
 use std::alloc::Global;
 
-/// The canonical text of the set that an input spells.
-pub fn check_input(alloc: Global, input: &[u8]) -> Result<Vec<u8>, RunFault>
+// The canonical text of the set that an input spells.
+fn canonical_text(alloc: Global, input: &[u8]) -> Result<Vec<u8>, RunFault>
     requires { length input.now ≤ input_limit }
-    ensures ok { IfOk result (λ text. Gives mode.Check input.now text.items) }
+    ensures ok { IfOk result (λ text. Gives mode.Check input.now text.items status.Done) }
     ensures err { IfErr result (λ fault. IsStop mode.Check input.now fault []) }
 {
     let set = read_text(alloc, input)?;
     let text = print(alloc, set.draft())?;
     Ok(text)
+}
+
+/// Writes the canonical text of the set that an input spells.
+pub fn check_input<K: Sink>(alloc: Global, input: &[u8], sink: &mut K) -> Result<Status, RunFault>
+    requires short { length input.now ≤ input_limit }
+    requires working { K.has_failed sink.old ≡ false }
+    ensures { WritesOr (Err write_lost) (IsInputDone mode.Check input.now)
+        (K.has_failed sink.new) (K.taken sink.old) (K.taken sink.new) result }
+{
+    let text = canonical_text(alloc, input)?;
+    write_lines(sink, &text, Ok(Status::Done))
 }

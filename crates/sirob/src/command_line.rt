@@ -12,6 +12,7 @@ use std::alloc::{AllocError, Global};
 pub enum Mode {
     Check,
     Run,
+    Audit,
 }
 
 // A subcommand with no argument.
@@ -28,7 +29,7 @@ fn top<'a>(alloc: Global) -> Result<Command<'a>, AllocError>
 {
     Command::new(alloc, "sirob")
         .about(
-            "Checks and runs transaction programs under snapshot isolation, from standard input to standard output",
+            "Checks, runs and audits transaction programs under snapshot isolation, from standard input to standard output",
         )
         .subcommand_required(true)
         .bin_name("sirob")
@@ -52,11 +53,17 @@ fn command<'a>(alloc: Global) -> Result<Command<'a>, AllocError>
     let run = plain(
         alloc,
         "run",
-        "Reads a set of programs, a line %% and a script; writes a line for each event, then the rows",
+        "Reads a set of programs, a line %% and a script; writes a line for each event, the rows, and an order or a cycle",
+    );
+    let audit = plain(
+        alloc,
+        "audit",
+        "Reads a set of programs, a line %% and records of commits; writes the rows, and an order or a cycle",
     );
     let all = top(alloc)?;
     let all = add(all, check)?;
     let all = add(all, run)?;
+    let all = add(all, audit)?;
     Ok(all)
 }
 
@@ -79,6 +86,9 @@ fn mode_in(matches: &ArgMatches<'_>) -> Mode
     }
     if matches.subcommand_matches("run").is_some() {
         return Mode::Run;
+    }
+    if matches.subcommand_matches("audit").is_some() {
+        return Mode::Audit;
     }
     unreachable!()
 }

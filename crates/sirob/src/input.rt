@@ -3,9 +3,8 @@ ghost use Rattle.std.specs.Prelude.{◌≡◌, ◌≤◌, false, length, IfOk, I
 ghost use Rattle.prog_tree.specs.Tree.{draft_tree};
 ghost use Rattle.sirob.specs.FaultLines.{is_memory};
 ghost use Rattle.si_engine.specs.Reading.{input_limit};
-ghost use Rattle.sirob.specs.Output.{IsSoundText, IsChecked, IsRefused, IsRefusedText};
+ghost use Rattle.sirob.specs.Output.{IsSoundText, IsChecked, IsRefusedInput, IsRefusedText};
 ghost use Rattle.sirob.specs.Stops.{IsSetAndPart};
-ghost use Rattle.sirob.specs.declared.command_line.Mode.TheVariants as mode;
 
 use crate::parts::{one_part, two_parts};
 use crate::run_fault::RunFault;
@@ -27,7 +26,8 @@ fn read_set(alloc: Global, text: &[u8]) -> Result<ProgramSet, RunFault>
 pub fn read_text(alloc: Global, input: &[u8]) -> Result<ProgramSet, RunFault>
     requires { length input.now ≤ input_limit }
     ensures ok { IfOk result (λ set. IsChecked input.now (draft_tree set)) }
-    ensures err { IfErr result (λ fault. is_memory fault ≡ false → IsRefused mode.Check input.now fault) }
+    ensures err { IfErr result (λ fault. is_memory fault ≡ false
+        → IsRefusedInput 1 input.now fault) }
 {
     let text = one_part(input)?;
     let set = read_set(alloc, text)?;
@@ -38,7 +38,8 @@ pub fn read_text(alloc: Global, input: &[u8]) -> Result<ProgramSet, RunFault>
 pub fn read_text_and_part(alloc: Global, input: &[u8]) -> Result<(ProgramSet, &[u8]), RunFault>
     requires { length input.now ≤ input_limit }
     ensures ok { IfOk result (λ r. IsSetAndPart input.now (draft_tree r.0) r.1.now) }
-    ensures err { IfErr result (λ fault. is_memory fault ≡ false → IsRefused mode.Run input.now fault) }
+    ensures err { IfErr result (λ fault. is_memory fault ≡ false
+        → IsRefusedInput 2 input.now fault) }
 {
     let parts = two_parts(input)?;
     let set = read_set(alloc, parts.text)?;

@@ -1,9 +1,12 @@
-//! The program `sirob`: hands its arguments and its ports on. Today it checks sets of programs and runs scripts.
+//! The program `sirob`: hands its arguments and its ports on. Today it checks sets of programs,
+//! runs scripts and audits histories.
 #![tactic(auto)]
 
+mod audit;
 mod check;
 mod command_line;
 mod input;
+mod lines;
 mod parts;
 mod program;
 mod run;

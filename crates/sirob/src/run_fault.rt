@@ -1,9 +1,10 @@
 //! What keeps a command from its work, and the line that says so.
 ghost use Rattle.std.specs.Prelude.{◌≡◌, IfOk, string_bytes};
 ghost use Rattle.sirob.specs.Faults.{code_of, part_code};
-ghost use Rattle.sirob.specs.FaultLines.{text_fault, place_text, in_set, check_fault, line_fault, script_fault, fault_line, is_memory};
+ghost use Rattle.sirob.specs.FaultLines.{text_fault, place_text, in_set, check_fault, line_fault, script_fault, row_code, audit_fault, fault_line, is_memory};
 
 use crate::parts::PartFault;
+use history_book::{AuditFault, RowFault};
 use prog_check::{CheckFault, Place};
 use prog_text::TextFault;
 use si_engine::{InputFault, LineFault, ScriptFault};
@@ -17,6 +18,7 @@ pub enum RunFault {
     Text(TextFault),
     Check(CheckFault),
     Script(ScriptFault),
+    Audit(AuditFault),
 }
 
 // A fault of the source, by its code.
@@ -96,7 +98,7 @@ fn check_fault(alloc: Global, fault: CheckFault) -> Result<String, AllocError>
     }
 }
 
-// A fault of a line of the script, by its code and its line.
+// A fault of a line of the second part, by its code and its line.
 fn line_fault(alloc: Global, fault: LineFault) -> Result<String, AllocError>
     ensures { IfOk result (λ text. string_bytes text ≡ line_fault fault) }
 {
@@ -111,7 +113,7 @@ fn line_fault(alloc: Global, fault: LineFault) -> Result<String, AllocError>
     }
 }
 
-// A fault of the script. That of the sink is never told.
+// A fault of the second part. That of the sink is never told.
 fn script_fault(alloc: Global, fault: ScriptFault) -> Result<String, AllocError>
     ensures { IfOk result (λ text. string_bytes text ≡ script_fault fault) }
 {
@@ -119,6 +121,34 @@ fn script_fault(alloc: Global, fault: ScriptFault) -> Result<String, AllocError>
         ScriptFault::Input(fault) => input_fault(alloc, fault),
         ScriptFault::Line(fault) => line_fault(alloc, fault),
         ScriptFault::WriteFault => format!(in alloc; "I5"),
+    }
+}
+
+// A fault of a record, by its code.
+fn row_code(fault: RowFault) -> &'static str
+    ensures { result.now ≡ row_code fault }
+{
+    match fault {
+        RowFault::NoSuchProgram => "H1",
+        RowFault::WrongArguments => "H2",
+        RowFault::StartTooLate => "H3",
+        RowFault::NotReady => "H4",
+        RowFault::WrongReplies => "H5",
+        RowFault::Clashed(_) => "H6",
+    }
+}
+
+// A fault of records as a history, by its code and its record, from 0.
+fn audit_fault(alloc: Global, fault: AuditFault) -> Result<String, AllocError>
+    ensures { IfOk result (λ text. string_bytes text ≡ audit_fault fault) }
+{
+    match fault {
+        AuditFault::Full => format!(in alloc; "H7"),
+        AuditFault::Row { number, fault } => {
+            let code = row_code(fault);
+            format!(in alloc; "{code} {number}")
+        }
+        AuditFault::Memory => format!(in alloc; "memory"),
     }
 }
 
@@ -132,6 +162,7 @@ pub fn fault_line(alloc: Global, fault: RunFault) -> Result<String, AllocError>
         RunFault::Text(fault) => text_fault(alloc, fault)?,
         RunFault::Check(fault) => check_fault(alloc, fault)?,
         RunFault::Script(fault) => script_fault(alloc, fault)?,
+        RunFault::Audit(fault) => audit_fault(alloc, fault)?,
     };
     format!(in alloc; "fault {text}\n")
 }
@@ -180,6 +211,28 @@ impl From<CheckFault> for RunFault {
     }
 }
 
+impl From<ScriptFault> for RunFault {
+    ghost use Rattle.std.specs.Prelude.{◌≡◌};
+    ghost use Rattle.sirob.specs.declared.run_fault.RunFault.TheVariants.{Script};
+
+    ghost from_gives = { λ fault e. e ≡ Script fault };
+
+    fn from(fault: ScriptFault) -> Self {
+        RunFault::Script(fault)
+    }
+}
+
+impl From<AuditFault> for RunFault {
+    ghost use Rattle.std.specs.Prelude.{◌≡◌};
+    ghost use Rattle.sirob.specs.declared.run_fault.RunFault.TheVariants.{Audit};
+
+    ghost from_gives = { λ fault e. e ≡ Audit fault };
+
+    fn from(fault: AuditFault) -> Self {
+        RunFault::Audit(fault)
+    }
+}
+
 impl From<AllocError> for RunFault {
     ghost use Rattle.std.specs.Prelude.{◌≡◌};
     ghost use Rattle.sirob.specs.declared.run_fault.RunFault.TheVariants.{Input};
@@ -204,6 +257,7 @@ impl RunFault {
                 | RunFault::Check(CheckFault::Memory)
                 | RunFault::Script(ScriptFault::Input(InputFault::Memory))
                 | RunFault::Script(ScriptFault::Line(LineFault::Memory))
+                | RunFault::Audit(AuditFault::Memory)
         )
     }
 }

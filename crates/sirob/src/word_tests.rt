@@ -30,9 +30,10 @@ fn other_words_are_answered_so(rt: HostRuntime) -> Result<(), Fail> {
     Ok(())
 }
 
-const ANSWERS: [(&str, &str); 6] = [
+const ANSWERS: [(&str, &str); 7] = [
     ("sirob check", ""),
     ("sirob run", ""),
+    ("sirob audit", ""),
     ("target/sirob --help", HELP),
     ("sirob", NO_COMMAND),
     ("sirob walk", UNKNOWN_COMMAND),
@@ -40,13 +41,14 @@ const ANSWERS: [(&str, &str); 6] = [
 ];
 
 const HELP: &str = "\
-Checks and runs transaction programs under snapshot isolation, from standard input to standard output
+Checks, runs and audits transaction programs under snapshot isolation, from standard input to standard output
 
 Usage: sirob <COMMAND>
 
 Commands:
   check  Reads a set of programs; writes its canonical text, or its first fault
-  run    Reads a set of programs, a line %% and a script; writes a line for each event, then the rows
+  run    Reads a set of programs, a line %% and a script; writes a line for each event, the rows, and an order or a cycle
+  audit  Reads a set of programs, a line %% and records of commits; writes the rows, and an order or a cycle
   help   Print this message or the help of the given subcommand(s)
 
 Options:
@@ -55,7 +57,7 @@ Options:
 
 const NO_COMMAND: &str = "\
 error: 'sirob' requires a subcommand but one was not provided
-  [subcommands: check, run, help]
+  [subcommands: check, run, audit, help]
 
 Usage: sirob <COMMAND>
 

@@ -3,7 +3,7 @@ use prog_tree::{Changes, Region, Rows};
 use std::alloc::{AllocError, Global};
 use std::process::Abort;
 use std::test::Fail;
-use version_store::{Clash, Store};
+use version_store::{Clash, Store, corners};
 
 fn opening_rows(alloc: Global, given: &[(i64, i64)]) -> Result<Rows, AllocError> {
     let mut rows = Rows::new(alloc);
@@ -151,4 +151,18 @@ fn clashes_name_the_least_cell(rt: HostRuntime) -> Result<(), Fail> {
         assert_eq!(rt; clash(&rt, &store, start, &changes), found, "at {start}");
     }
     Ok(())
+}
+
+#[test]
+fn regions_have_corners_unless_they_are_empty(rt: HostRuntime) {
+    let mut region = Region {
+        table: 0,
+        first_low: 2,
+        first_high: 7,
+        second_low: 0,
+        second_high: 0,
+    };
+    assert_eq!(rt; corners(region), Some((cell(2), cell(7))));
+    region.first_high = 1;
+    assert_eq!(rt; corners(region), None);
 }

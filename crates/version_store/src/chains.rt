@@ -31,8 +31,9 @@ impl Model for Chains {
     ghost view = { λ c. c.chains.entries };
 }
 
-// The least and the greatest cell that a region can have, or none where it has no cell.
-fn corners(region: Region) -> Option<(Cell, Cell)>
+/// The least and the greatest cell that a region can have, or none where it has no cell. Between them
+/// stand cells beside the region too.
+pub fn corners(region: Region) -> Option<(Cell, Cell)>
     ensures { AreCorners region result }
 {
     if region.first_low > region.first_high || region.second_low > region.second_high {

@@ -8,6 +8,7 @@ mod laws;
 mod store;
 mod version;
 
+pub use chains::corners;
 pub use clash::Clash;
 pub use laws::clashes_are_found;
 pub use store::Store;

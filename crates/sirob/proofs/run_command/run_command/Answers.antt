@@ -1,20 +1,17 @@
-use Rattle.std.proofs.Common.{List, ℕ, IfOk, IfErr, false, ◌≡◌, sym, subst}
-use Rattle.sirob.specs.declared.command_line.Mode.TheVariants.{Check}
-use Rattle.sirob.specs.Output.{Gives, IsReply}
-use Rattle.si_engine.specs.Reading.{ForInput}
-use Rattle.sirob.specs.Stops.{IsStop, Ends}
-use Rattle.sirob.proofs.StopLaws.{replies, writes_as}
+use Rattle.std.proofs.Common.{◌∙◌, sym}
+use Rattle.sirob.proofs.StopLaws.{not_begun, lost, whole}
 use Rattle.sirob.proofs.run_command.run_command.Goals as goal
 
-pub returns-in-Check-clause-reply : goal.returns-in-Check-clause-reply
-returns-in-Check-clause-reply g c =
-    let left = g.S.Source.left c.args.source.now in
-    let failed = g.S.Source.has_failed c.check_source-ended.new.source in
-    let ended = c.check_source-ended.result in
-    let lines = c.deref.result.now in
-    let same = sym c.deref.ensures.value in
-    let done = c.check_source-ended.ensures in
-    let gives = subst (λ (text : List ℕ). IfOk ended (λ x. ForInput left (λ input. Gives Check input text))) same done.ok in
-    let stops = subst (λ (text : List ℕ). IfErr ended (λ f. failed ≡ false → ForInput left (λ input. IsStop Check input f text))) same done.err in
-    rw c.in-Check.is
-    (writes_as (Ends lines ended) (IsReply Check left failed) _ _ _ _ (replies Check left failed lines ended gives stops done.unread) c.write_answer.ensures)
+pub returns-then-failed-clause-reply : goal.returns-then-failed-clause-reply
+returns-then-failed-clause-reply g c =
+    not_begun c.args.mode (g.S.Source.left c.args.source.now) (g.S.Source.has_failed c.args.source.now) _ _ (sym c.failed.ensures ∙ c.if-failed.true)
+
+pub returns-then-failed-2-clause-reply : goal.returns-then-failed-2-clause-reply
+returns-then-failed-2-clause-reply g c =
+    lost c.args.mode (g.S.Source.left c.args.source.now) (g.S.Source.has_failed c.answer_source-ended.new.source) _ _ _ c.answer_source-ended.result
+    (sym c.failed-2.ensures ∙ c.if-failed-2.true) c.answer_source-ended.ensures.done
+
+pub returns-clause-reply : goal.returns-clause-reply
+returns-clause-reply g c =
+    whole c.args.mode (g.S.Source.left c.args.source.now) (g.S.Source.has_failed c.answer_source-ended.new.source) _ _ _ _ _ c.answer_source-ended.result c.write_end.result
+    (sym c.failed-2.ensures ∙ c.if-failed-2.false) c.answer_source-ended.ensures.done c.write_end.ensures

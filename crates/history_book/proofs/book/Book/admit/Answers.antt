@@ -12,6 +12,7 @@ invariant_of-self-2 c =
     let active = begun-active _ c.args.program c.args.args.now _ _ _ c.self.invariant.0 given start c.in_ok-insert.ensures.entries in (
       true-admitted _ c.args.program c.args.args.now c.insert.new.self.entries c.self.invariant.0 none c.read_numbers.ensures active c.in_ok-insert.ensures.ordered,
       record { stands = c.self.invariant.1.stands; commits = c.self.invariant.1.commits },
+      c.self.invariant.2,
     )
 
 pub returns-clause-begun : goal.returns-clause-begun

@@ -1,10 +1,11 @@
-use Rattle.std.proofs.Common.{ap, subst}
+use Rattle.std.proofs.Common.{ap, subst, refl}
 use Rattle.std.specs.Prelude.{None, Some}
 use Rattle.prog_tree.specs.ChangeSet.{ChangeSet}
+use Rattle.prog_tree.specs.declared.deed.End.TheVariants.{Ready}
 use Rattle.version_store.specs.Clash.{IsClash}
 use Rattle.history_book.specs.Ticket.{TicketView}
 use Rattle.history_book.specs.View.{commits_in}
-use Rattle.history_book.proofs.CommitLaws.{true_clash, may_commit, is_committed, is_clashed}
+use Rattle.history_book.proofs.CommitLaws.{looks_are, true_clash, may_commit, is_committed, is_clashed}
 use Rattle.history_book.proofs.book.Book.commit.Goals as goal
 
 pub conclude-requires-clause-is_true : goal.conclude-requires-clause-is_true
@@ -24,8 +25,12 @@ pub install-requires-clause-commit : goal.install-requires-clause-commit
 install-requires-clause-commit c =
     let ready = c.is_ready-ready.ensures.ready.0 c.in-Ok.ensures.ended in
     let none = subst (λ (w : ChangeSet). IsClash (commits_in c.args.self.now) c.in-Ok.row.start w None) c.changes.ensures c.in-None.ensures in
-    may_commit c.args.self.now c.args.ticket c.args.run c.in-Ok.row c.in-Ok.ensures.row c.is_ready-ready.ensures.true_run c.changes-in-None.result.now ready c.in-Ok.ensures.within
-    c.changes-in-None.ensures none
+    may_commit c.args.self.now c.args.ticket c.args.run c.in-Ok.row c.in-Ok.ensures.row c.is_ready-ready.ensures.true_run c.args.run.changes ready c.in-Ok.ensures.within refl none
+
+pub install-requires-clause-looks : goal.install-requires-clause-looks
+install-requires-clause-looks c =
+    let ready = c.is_ready-ready.ensures.ready.0 c.in-Ok.ensures.ended in
+    looks_are c.args.self.now c.args.ticket c.args.run c.in-Ok.row Ready c.in-Ok.ensures.row c.is_ready-ready.ensures.true_run ready
 
 pub returns-in-Ok-install-clause-ok : goal.returns-in-Ok-install-clause-ok
 returns-in-Ok-install-clause-ok c =

@@ -16,4 +16,5 @@ invariant_of-self-2 c =
       true-ended _ c.args.number c.args.ending c.push.new.self.items c.remove.new.self.entries c.self.invariant.0 found is_true c.requires.no_commit
           c.in_ok-push.ensures.items c.remove.ensures.entries c.remove.ensures.ordered,
       record { stands = c.self.invariant.1.stands; commits = c.self.invariant.1.commits },
+      c.self.invariant.2,
     )

@@ -1,0 +1,112 @@
+-- Rows that are taken up behind others.
+use Rattle.std.proofs.Common.{◌≡◌, ℕ, ◌+◌, ◌<◌, ◌≤◌, List, [], ◌∷◌, ◌++◌, length, map, take, refl, ap, sym, ◌∙◌, subst, append_assoc, append-nil, arith}
+use Rattle.std.specs.Prelude.{All, Some, slice_get}
+use Rattle.std.specs.List.{range_with_len}
+use Rattle.std.specs.List.Sorted.{IsStrictlySortedBy}
+use Rattle.std.specs.Map.{keys_of}
+use Rattle.std.specs.Option.{option_map}
+use Rattle.std.specs.Ordering.{nat_cmp}
+use Rattle.std.proofs.lemmas.List.{length-append}
+use Rattle.std.proofs.lemmas.List.Elements.{All-nil, All-push}
+use Rattle.std.proofs.lemmas.List.FromFn.{map-range_with_len_more, length-map-range_with_len}
+use Rattle.std.proofs.lemmas.Option.{slice_get-map}
+use Rattle.prog_tree.specs.declared.program.Draft.{Draft}
+use Rattle.prog_tree.specs.declared.program.Program.{Program}
+use Rattle.prog_tree.specs.Syntax.{DraftTree}
+use Rattle.prog_tree.specs.Table.{TableState}
+use Rattle.prog_tree.specs.Tree.{draft_tree, program_tree}
+use Rattle.history_book.specs.Audit.{audited, taken_up, IsRightRow, IsRowFault, AreRightBehind, IsAuditFault, IsRowRefusal}
+use Rattle.history_book.specs.History.{Instance, IsCalled}
+use Rattle.history_book.specs.TrueBook.{IsTrueActive, IsTrueBook, StartsRise}
+use Rattle.history_book.specs.View.{BookView, instance_of, history_of}
+use Rattle.history_book.specs.declared.audit.AuditFault.{AuditFault}
+use Rattle.history_book.specs.declared.audit.AuditFault.TheVariants as audit
+use Rattle.history_book.specs.declared.row.Ending.TheVariants.{Committed}
+use Rattle.history_book.specs.declared.row.HistoryRow.{HistoryRow}
+use Rattle.history_book.proofs.ActiveLaws.{Entry}
+
+-- one instance is begun where none is active
+pub true-begun_as : (v : BookView) (i : Instance) (active : List Entry) → IsTrueBook v → v.active ≡ [] → IsCalled (draft_tree v.set) i → v.floor ≤ i.start → i.start ≤ length v.rows →
+    length v.endings < 100000 → active ≡ (v.begun, i) ∷ [] → IsStrictlySortedBy nat_cmp (keys_of active) → IsTrueBook (record v { active = active; begun = v.begun + 1 })
+true-begun_as v i active book none called above within room is by_number =
+    let new : BookView = record v { active = active; begun = v.begun + 1 } in
+    let this : IsTrueActive new (v.begun, i) = record { called = called; floor = above; start = within; number = omega arith } in
+    record {
+      lawful = book.lawful;
+      rows = book.rows;
+      endings = book.endings;
+      numbered = book.numbered;
+      active = subst (All (IsTrueActive new)) (sym is) (All-push (IsTrueActive new) [] (v.begun, i) (All-nil (IsTrueActive new)) this);
+      by_number = by_number;
+      rise = subst StartsRise (sym is) (All-nil _, tt);
+      floor = book.floor;
+      few = omega (arith, ap length is);
+    }
+
+-- the program of a number, as a tree
+pub program_at : (items : List Program) (n : ℕ) (p : Program) → slice_get items n ≡ Some p → slice_get (map program_tree items) n ≡ Some (program_tree p)
+program_at items n p found = slice_get-map program_tree items n ∙ ap (option_map program_tree) found
+
+-- ---- one row more
+
+-- what is left after one row more
+pub one_more_yielded : (yielded rest all : List HistoryRow) (row : HistoryRow) (left : List HistoryRow) → yielded ++ left ≡ all → left ≡ row ∷ rest → (yielded ++ row ∷ []) ++ rest ≡ all
+one_more_yielded yielded rest all row left is first = append_assoc yielded (row ∷ []) rest ∙ ap (λ l. yielded ++ l) (sym first) ∙ is
+
+-- an audited book with one row more
+pub taken_up-audited : (set : Draft) (opening : TableState) (rows : List HistoryRow) (row : HistoryRow) → taken_up (audited set opening rows) row ≡ audited set opening (rows ++ row ∷ [])
+taken_up-audited set opening rows row =
+    let n = length rows in
+    let longer : n + 1 ≡ length (rows ++ row ∷ []) = omega (arith, length-append rows (row ∷ [])) in
+    let next : 1 + n ≡ n + 1 = omega arith in
+    let endings : map Committed (range_with_len 1 n) ++ Committed (n + 1) ∷ [] ≡ map Committed (range_with_len 1 (length (rows ++ row ∷ []))) =
+    sym (map-range_with_len_more Committed 1 n (n + 1) next) ∙ ap (λ k. map Committed (range_with_len 1 k)) longer in
+    λ k. record { set = set; opening = opening; rows = rows ++ row ∷ []; endings = endings k; active = []; begun = longer k; floor = 0 }
+
+module _ (set : DraftTree) (opening : TableState) where
+  pub right-push : (h : List Instance) (rows : List HistoryRow) (row : HistoryRow) → AreRightBehind set opening h rows → IsRightRow set opening (h ++ history_of rows) row →
+      AreRightBehind set opening h (rows ++ row ∷ [])
+  right-push h [] row before here = (subst (λ g. IsRightRow set opening g row) (append-nil h) here, tt)
+  right-push h (r ∷ rows) row before here =
+      let along : h ++ history_of (r ∷ rows) ≡ (h ++ instance_of r ∷ []) ++ history_of rows = sym (append_assoc h (instance_of r ∷ []) (history_of rows)) in
+      (before.0, right-push (h ++ instance_of r ∷ []) rows row before.1 (subst (λ g. IsRightRow set opening g row) along here))
+
+-- the row behind those that were taken up
+first_left : (yielded rest : List HistoryRow) (row : HistoryRow) → slice_get (yielded ++ row ∷ rest) (length yielded) ≡ Some row
+first_left [] rest row = refl
+first_left (r ∷ yielded) rest row = first_left yielded rest row
+
+taken_before : (yielded rest : List HistoryRow) → take (length yielded) (yielded ++ rest) ≡ yielded
+taken_before [] rest = refl
+taken_before (r ∷ yielded) rest = ap (λ l. r ∷ l) (taken_before yielded rest)
+
+-- a row that is refused is the first that is wrong
+pub refused_at : (v : BookView) (set : Draft) (opening : TableState) (yielded left rest all : List HistoryRow) (row : HistoryRow) (fault : AuditFault) → v ≡ audited set opening yielded →
+    yielded ++ left ≡ all → left ≡ row ∷ rest → length all ≤ 100000 → AreRightBehind (draft_tree set) opening [] yielded → IsRowRefusal v row fault →
+    IsAuditFault (draft_tree set) opening all fault
+refused_at v set opening yielded left rest all row audit.Full book is first few right refused = absurd refused
+refused_at v set opening yielded left rest all row audit.Memory book is first few right refused = few
+refused_at v set opening yielded left rest all row (audit.Row number fault) book is first few right refused =
+    let here : IsRowRefusal (audited set opening yielded) row (audit.Row number fault) = subst (λ (w : BookView). IsRowRefusal w row (audit.Row number fault)) book refused in
+    let place : length yielded ≡ number = sym here.0 in
+    let whole : yielded ++ row ∷ rest ≡ all = ap (λ l. yielded ++ l) (sym first) ∙ is in
+    let taken : yielded ≡ take number all = sym (taken_before yielded (row ∷ rest)) ∙ ap (take (length yielded)) whole ∙ ap (λ n. take n all) place in (
+      few,
+      record {
+        before = subst (AreRightBehind (draft_tree set) opening []) taken right;
+        wrong = row;
+        at = ap (slice_get all) (sym place) ∙ ap (λ l. slice_get l (length yielded)) (sym whole) ∙ first_left yielded rest row;
+        is = subst (λ rows. IsRowFault (draft_tree set) opening (history_of rows) row fault) taken here.1;
+      },
+    )
+
+-- there was room for each row
+pub room_left : (v : BookView) (set : Draft) (opening : TableState) (yielded left rest all : List HistoryRow) (row : HistoryRow) → v ≡ audited set opening yielded →
+    yielded ++ left ≡ all → left ≡ row ∷ rest → length v.endings < length all
+room_left v set opening yielded left rest all row book is first =
+    omega (arith, ap (λ (w : BookView). length w.endings) book, length-map-range_with_len Committed 1 (length yielded), ap length is, length-append yielded left, ap length first)
+
+-- all rows were taken up
+pub none_left : (yielded left all : List HistoryRow) → yielded ++ left ≡ all → length left ≡ 0 → yielded ≡ all
+none_left yielded [] all is none = sym (append-nil yielded) ∙ is
+none_left yielded (row ∷ left) all is none = absurd (omega arith)

@@ -1,0 +1,195 @@
+-- Lists that have each number once, and the marks by which this is tested.
+use Rattle.std.proofs.Common.{◌≡◌, ◌==◌, ℕ, zero, suc, ◌+◌, ◌<◌, ◌≤◌, Bool, true, false, List, [], ◌∷◌, ◌++◌, length, map, get_or, replicate, refl, ap, sym, ◌∙◌, ◌⊎◌, inl, inr, cond, leb, true≢false, arith}
+use Rattle.std.specs.Prelude.{◌&&◌, ◌||◌, slice_set}
+use Rattle.std.specs.List.{list_all, range_with_len}
+use Rattle.std.proofs.lemmas.Bool.Decides.{nat_tests, leb_tells}
+use Rattle.std.proofs.lemmas.List.Folds.{list_any-append, list_any_at, list_all-map}
+use Rattle.std.proofs.lemmas.List.{length-append}
+use Rattle.history_book.specs.Orders.{is_one_of}
+use Rattle.history_book.specs.Serial.{is_each_once}
+
+-- ---- one number more
+
+one_more : (xs : List ℕ) (x m : ℕ) → is_one_of (xs ++ x ∷ []) m ≡ (is_one_of xs m || ((x == m) || false))
+one_more xs x m = list_any-append (λ k. k == m) xs (x ∷ [])
+
+more_here : (xs : List ℕ) (x m : ℕ) → x ≡ m → is_one_of (xs ++ x ∷ []) m ≡ true
+more_here xs x m same =
+    let is : (x == m) ≡ true = grind (arith, nat_tests) in
+    one_more xs x m ∙ ap (λ b. is_one_of xs m || (b || false)) is ∙ last (is_one_of xs m)
+  where
+    last : (b : Bool) → (b || true) ≡ true
+    last true = refl
+    last false = refl
+
+more_elsewhere : (xs : List ℕ) (x m : ℕ) → (x ≡ m → ⊥) → is_one_of (xs ++ x ∷ []) m ≡ is_one_of xs m
+more_elsewhere xs x m other =
+    let is : (x == m) ≡ false = grind (arith, nat_tests) in
+    one_more xs x m ∙ ap (λ b. is_one_of xs m || (b || false)) is ∙ last (is_one_of xs m)
+  where
+    last : (b : Bool) → (b || false) ≡ b
+    last true = refl
+    last false = refl
+
+-- a number outside the range changes no mark
+pub unmarked : (xs : List ℕ) (x a n : ℕ) → ((m : ℕ) → a ≤ m → m < a + n → x ≡ m → ⊥) → map (is_one_of xs) (range_with_len a n) ≡ map (is_one_of (xs ++ x ∷ [])) (range_with_len a n)
+unmarked xs x a zero outside = refl
+unmarked xs x a (suc n) outside =
+    let first = more_elsewhere xs x a (outside a (omega arith) (omega arith)) in
+    let rest = unmarked xs x (a + 1) n (λ m low high. outside m (omega arith) (omega arith)) in
+    λ i. sym first i ∷ rest i
+
+pub marked : (xs : List ℕ) (x a n i : ℕ) → i < n → x ≡ a + i → slice_set (map (is_one_of xs) (range_with_len a n)) i true ≡ map (is_one_of (xs ++ x ∷ [])) (range_with_len a n)
+marked xs x a zero i within is = absurd (omega arith)
+marked xs x a (suc n) zero within is =
+    let first = more_here xs x a (omega arith) in
+    let rest = unmarked xs x (a + 1) n (λ m low high same. absurd (omega arith)) in
+    λ i. sym first i ∷ rest i
+marked xs x a (suc n) (suc i) within is =
+    let first = more_elsewhere xs x a (λ (same : x ≡ a). absurd (omega arith)) in
+    let rest = marked xs x (a + 1) n i (omega arith) (omega arith) in
+    λ k. sym first k ∷ rest k
+
+-- nothing is marked by no number
+pub none_marked : (a n : ℕ) → replicate n false ≡ map (is_one_of []) (range_with_len a n)
+none_marked a zero = refl
+none_marked a (suc n) = let rest = none_marked (a + 1) n in λ i. false ∷ rest i
+
+-- a list of the right length has each number once where all are marked
+pub once_by_marks : (n : ℕ) (order : List ℕ) (marks : List Bool) (all : Bool) → length order ≡ n → marks ≡ map (is_one_of order) (range_with_len 1 n) → all ≡ list_all (λ mark. mark) marks →
+    all ≡ is_each_once n order
+once_by_marks n order marks all size is tells =
+    let same : (length order == n) ≡ true = grind (arith, nat_tests) in
+    tells ∙ ap (list_all (λ mark. mark)) is ∙ list_all-map (λ mark. mark) (is_one_of order) (range_with_len 1 n) ∙ ap (λ b. b && list_all (is_one_of order) (range_with_len 1 n)) (sym same)
+
+-- ---- each number from 1 to n in a list of length n
+
+-- a list without the first place of a number
+without_one : ℕ → List ℕ → List ℕ
+without_one x [] = []
+without_one x (y ∷ ys) = cond (y == x) ys (y ∷ without_one x ys)
+
+shorter : (x : ℕ) (ys : List ℕ) → is_one_of ys x ≡ true → length ys ≡ suc (length (without_one x ys))
+unfolding without_one
+shorter x [] has = absurd (true≢false (sym has))
+shorter x (y ∷ ys) has = go (y == x) has (shorter x ys)
+  where
+    go : (b : Bool) → (b || is_one_of ys x) ≡ true → (is_one_of ys x ≡ true → length ys ≡ suc (length (without_one x ys))) →
+        suc (length ys) ≡ suc (length (cond b ys (y ∷ without_one x ys)))
+    go true h rest = refl
+    go false h rest = ap suc (rest h)
+
+-- a number of the list is that one, or among the others
+one_or_other : (x m : ℕ) (ys : List ℕ) → is_one_of ys m ≡ true → (m ≡ x) ⊎ (is_one_of (without_one x ys) m ≡ true)
+unfolding without_one
+one_or_other x m [] has = absurd (true≢false (sym has))
+one_or_other x m (y ∷ ys) has = go (y == x) refl (y == m) refl has (one_or_other x m ys)
+  where
+    go : (b : Bool) → (y == x) ≡ b → (c : Bool) → (y == m) ≡ c → (c || is_one_of ys m) ≡ true → (is_one_of ys m ≡ true → (m ≡ x) ⊎ (is_one_of (without_one x ys) m ≡ true)) →
+        (m ≡ x) ⊎ (is_one_of (cond b ys (y ∷ without_one x ys)) m ≡ true)
+    go true is true at h rest = let same : m ≡ x = grind (arith, nat_tests) in inl same
+    go true is false at h rest = inr h
+    go false is true at h rest = inr (ap (λ t. t || is_one_of (without_one x ys) m) at)
+    go false is false at h rest = later (rest h)
+      where
+        later : (m ≡ x) ⊎ (is_one_of (without_one x ys) m ≡ true) → (m ≡ x) ⊎ (((y == m) || is_one_of (without_one x ys) m) ≡ true)
+        later (inl same) = inl same
+        later (inr other) = inr (ap (λ t. t || is_one_of (without_one x ys) m) at ∙ other)
+
+-- numbers other than that one stay
+others_stay : (x : ℕ) (ys : List ℕ) (n : ℕ) → x ≡ suc n → ((m : ℕ) → 1 ≤ m → m ≤ suc n → is_one_of ys m ≡ true) → (m : ℕ) → 1 ≤ m → m ≤ n → is_one_of (without_one x ys) m ≡ true
+others_stay x ys n is all m low high = go (one_or_other x m ys (all m low (omega arith)))
+  where
+    go : (m ≡ x) ⊎ (is_one_of (without_one x ys) m ≡ true) → is_one_of (without_one x ys) m ≡ true
+    go (inl same) = absurd (omega arith)
+    go (inr other) = other
+
+-- it is at least as long
+pub long_enough : (n : ℕ) (ys : List ℕ) → ((m : ℕ) → 1 ≤ m → m ≤ n → is_one_of ys m ≡ true) → n ≤ length ys
+long_enough zero ys all = omega arith
+long_enough (suc n) ys all =
+    let here : is_one_of ys (suc n) ≡ true = all (suc n) (omega arith) (omega arith) in
+    omega (arith, shorter (suc n) ys here, long_enough n (without_one (suc n) ys) (others_stay (suc n) ys n refl all))
+
+-- it has no other number
+pub no_other : (n : ℕ) (ys : List ℕ) → length ys ≡ n → ((m : ℕ) → 1 ≤ m → m ≤ n → is_one_of ys m ≡ true) → (k : ℕ) → is_one_of ys k ≡ true → (1 ≤ k) × (k ≤ n)
+no_other zero [] size all k has = absurd (true≢false (sym has))
+no_other zero (y ∷ ys) size all k has = absurd (omega arith)
+no_other (suc n) ys size all k has =
+    let here : is_one_of ys (suc n) ≡ true = all (suc n) (omega arith) (omega arith) in
+    go (one_or_other (suc n) k ys has)
+    (no_other n (without_one (suc n) ys) (omega (arith, shorter (suc n) ys here)) (others_stay (suc n) ys n refl all) k)
+  where
+    go : (k ≡ suc n) ⊎ (is_one_of (without_one (suc n) ys) k ≡ true) → (is_one_of (without_one (suc n) ys) k ≡ true → (1 ≤ k) × (k ≤ n)) → (1 ≤ k) × (k ≤ suc n)
+    go (inl same) rest = (omega arith, omega arith)
+    go (inr other) rest = let r = rest other in (r.0, omega (arith, r.1))
+
+-- each number of a range is there
+in_range : (p : ℕ → Bool) (a n : ℕ) → list_all p (range_with_len a n) ≡ true → (m : ℕ) → a ≤ m → m < a + n → p m ≡ true
+in_range p a zero all m low high = absurd (omega arith)
+in_range p a (suc n) all m low high = go (p a) refl (leb_tells m a) all (λ h more. in_range p (a + 1) n h m more (omega arith))
+  where
+    go : (b : Bool) → p a ≡ b → ((leb m a ≡ true) × (m ≤ a)) ⊎ ((leb m a ≡ false) × (a < m)) → (b && list_all p (range_with_len (a + 1) n)) ≡ true →
+        (list_all p (range_with_len (a + 1) n) ≡ true → a + 1 ≤ m → p m ≡ true) → p m ≡ true
+    go true is (inl le) h rest = let same : m ≡ a = omega (arith, le.1) in ap p same ∙ is
+    go true is (inr more) h rest = rest h (omega (arith, more.1))
+    go false is place h rest = absurd (true≢false (sym h))
+
+pub record IsWhole (n : ℕ) (order : List ℕ) : Type 0 where
+  pub size : length order ≡ n
+  pub all : (m : ℕ) → 1 ≤ m → m ≤ n → is_one_of order m ≡ true
+
+pub whole : (n : ℕ) (order : List ℕ) → is_each_once n order ≡ true → IsWhole n order
+whole n order once = go (length order == n) refl once
+  where
+    go : (b : Bool) → (length order == n) ≡ b → (b && list_all (is_one_of order) (range_with_len 1 n)) ≡ true → IsWhole n order
+    go true is h = record { size = grind (arith, nat_tests); all = λ m low high. in_range (is_one_of order) 1 n h m low (omega arith) }
+    go false is h = absurd (true≢false (sym h))
+
+-- the numbers of a list are in it
+pub is_in_at : (order : List ℕ) (i d : ℕ) → i < length order → is_one_of order (get_or order i d) ≡ true
+is_in_at order i d within = list_any_at (λ k. k == get_or order i d) order i d within (self (get_or order i d))
+  where
+    self : (k : ℕ) → (k == k) ≡ true
+    self k = grind (arith, nat_tests)
+
+-- where each number stands once, all are in the range
+pub within_range : (n : ℕ) (order : List ℕ) → is_each_once n order ≡ true → (i d : ℕ) → i < length order → (1 ≤ get_or order i d) × (get_or order i d ≤ n)
+within_range n order once i d within =
+    let w = whole n order once in
+    no_other n order w.size w.all (get_or order i d) (is_in_at order i d within)
+
+-- ---- one number twice
+
+-- a list that has each number from 1 to n, and is as long, has none of them twice
+pub not_twice : (n : ℕ) (placed rest : List ℕ) (m : ℕ) → is_one_of placed m ≡ true → is_each_once n (placed ++ m ∷ rest) ≡ true → ⊥
+not_twice n placed rest m has once =
+    let w = whole n (placed ++ m ∷ rest) once in
+    let enough : n ≤ length (placed ++ rest) = long_enough n (placed ++ rest) (λ q low high. still q (w.all q low high)) in
+    omega (arith, enough, w.size, length-append placed (m ∷ rest), length-append placed rest)
+  where
+    still : (q : ℕ) → is_one_of (placed ++ m ∷ rest) q ≡ true → is_one_of (placed ++ rest) q ≡ true
+    still q there =
+        go (m == q) refl (is_one_of placed q) refl (sym (list_any-append (λ k. k == q) placed (m ∷ rest)) ∙ there)
+      where
+        go : (b : Bool) → (m == q) ≡ b → (c : Bool) → is_one_of placed q ≡ c → (is_one_of placed q || ((m == q) || is_one_of rest q)) ≡ true → is_one_of (placed ++ rest) q ≡ true
+        go b is true at h = list_any-append (λ k. k == q) placed rest ∙ ap (λ t. t || is_one_of rest q) at
+        go true is false at h = let same : m ≡ q = grind (arith, nat_tests) in absurd (true≢false (sym has ∙ ap (is_one_of placed) same ∙ at))
+        go false is false at h =
+            list_any-append (λ k. k == q) placed rest ∙ ap (λ t. t || is_one_of rest q) at ∙ (sym (ap (λ t. t || is_one_of rest q) is) ∙ sym (ap (λ t. t || ((m == q) || is_one_of rest q)) at) ∙ h)
+
+-- the number behind those that are placed lies in the range
+pub next_within : (n : ℕ) (placed rest : List ℕ) (m : ℕ) → is_each_once n (placed ++ m ∷ rest) ≡ true → (1 ≤ m) × (m ≤ n)
+next_within n placed rest m once =
+    let w = whole n (placed ++ m ∷ rest) once in
+    no_other n (placed ++ m ∷ rest) w.size w.all m (list_any-append (λ k. k == m) placed (m ∷ rest) ∙ last (is_one_of placed m) (m == m) self)
+  where
+    self : (m == m) ≡ true
+    self = grind (arith, nat_tests)
+
+    all : (a : Bool) → (a || true) ≡ true
+    all true = refl
+    all false = refl
+
+    last : (a b : Bool) → b ≡ true → (a || (b || is_one_of rest m)) ≡ true
+    last a b is = ap (λ t. a || (t || is_one_of rest m)) is ∙ all a

@@ -1,0 +1,54 @@
+-- What walks that add pairs of commits keep.
+use Rattle.std.proofs.Common.{◌≡◌, ◌∙◌, ◌==◌, ℕ, Bool, true, false, ◌&&◌, ◌||◌, List, [], ◌∷◌, ◌++◌, length, refl, ap, sym}
+use Rattle.std.proofs.lemmas.List.Folds.{list_any-append}
+use Rattle.history_book.specs.Precedence.{precedes}
+use Rattle.history_book.specs.Reduced.{Pairs, is_pair_among, HasPairs}
+
+or_assoc : (a b c : Bool) → ((a || b) || c) ≡ (a || (b || c))
+or_assoc true b c = refl
+or_assoc false b c = refl
+
+pub or_false : (a : Bool) → (a || false) ≡ a
+or_false true = refl
+or_false false = refl
+
+pub among-append : (ps qs : Pairs) (i j : ℕ) → is_pair_among (ps ++ qs) i j ≡ (is_pair_among ps i j || is_pair_among qs i j)
+among-append ps qs i j = list_any-append (λ (p : ℕ × ℕ). (i == p.0) && (j == p.1)) ps qs
+
+-- with the pairs that are left, the lists are what they will be at the end
+pub record Walk (rest all : Pairs) (old now : List (List ℕ)) : Type 0 where
+  pub towards : (i j : ℕ) → (precedes now i j || is_pair_among rest i j) ≡ (precedes old i j || is_pair_among all i j)
+  pub commits : length now ≡ length old
+
+pub walk_begins : (all : Pairs) (old : List (List ℕ)) → Walk all all old old
+walk_begins all old = record { towards = λ i j. refl; commits = refl }
+
+pub walk_ends : (rest all : Pairs) (old now : List (List ℕ)) → rest ≡ [] → Walk rest all old now → HasPairs all old now
+walk_ends rest all old now none walk i j =
+    sym (or_false (precedes now i j)) ∙ ap (λ (ps : Pairs). precedes now i j || is_pair_among ps i j) (sym none) ∙ walk.towards i j
+
+pub walk_on : (left ps rest all : Pairs) (old now next : List (List ℕ)) → left ≡ ps ++ rest → Walk left all old now → HasPairs ps now next → length next ≡ length now → Walk rest all old next
+walk_on left ps rest all old now next is walk adds same = record {
+  towards = λ i j.
+      ap (λ b. b || is_pair_among rest i j) (adds i j)
+      ∙ or_assoc (precedes now i j) (is_pair_among ps i j) (is_pair_among rest i j)
+      ∙ ap (λ b. precedes now i j || b) (sym (among-append ps rest i j))
+      ∙ ap (λ (qs : Pairs). precedes now i j || is_pair_among qs i j) (sym is)
+      ∙ walk.towards i j;
+  commits = same ∙ walk.commits;
+}
+
+-- one pair was added
+pub one_pair : (a b : ℕ) (old new : List (List ℕ)) → ((i j : ℕ) → precedes new i j ≡ (precedes old i j || ((i == a) && (j == b)))) → HasPairs ((a, b) ∷ []) old new
+one_pair a b old new adds i j = adds i j ∙ ap (λ x. precedes old i j || x) (sym (or_false ((i == a) && (j == b))))
+
+-- nothing was added
+pub no_pair : (p : List (List ℕ)) → HasPairs [] p p
+no_pair p i j = sym (or_false (precedes p i j))
+
+pub both_pairs : (ps qs : Pairs) (old mid new : List (List ℕ)) → HasPairs ps old mid → HasPairs qs mid new → HasPairs (ps ++ qs) old new
+both_pairs ps qs old mid new first second i j =
+    second i j
+    ∙ ap (λ b. b || is_pair_among qs i j) (first i j)
+    ∙ or_assoc (precedes old i j) (is_pair_among ps i j) (is_pair_among qs i j)
+    ∙ ap (λ b. precedes old i j || b) (sym (among-append ps qs i j))

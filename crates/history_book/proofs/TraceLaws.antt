@@ -1,0 +1,165 @@
+-- The traces of a history say what depends on what in it.
+use Rattle.std.proofs.Common.{◌≡◌, ◌∙◌, ◌==◌, ℕ, zero, suc, ◌-◌, ◌<◌, ◌≤◌, nat_lt, ℤ, Bool, true, false, cond, ◌&&◌, ◌||◌, not, List, [], ◌∷◌, ◌++◌, length, map, refl, ap, sym, subst, arith}
+use Rattle.std.specs.Prelude.{nat_le, Option, Some, None, is_some, slice_get}
+use Rattle.std.specs.Option.{option_map}
+use Rattle.std.specs.List.{list_any}
+use Rattle.std.proofs.lemmas.List.{map-append}
+use Rattle.std.proofs.lemmas.Option.{slice_get-map, slice_get_within}
+use Rattle.prog_tree.specs.declared.cell.Cell.{Cell}
+use Rattle.prog_tree.specs.declared.deed.Look.{Look}
+use Rattle.prog_tree.specs.declared.deed.Look.TheVariants as look
+use Rattle.prog_tree.specs.ChangeSet.{ChangedCells, change_at}
+use Rattle.prog_tree.specs.Evaluation.{Evaluation}
+use Rattle.prog_tree.specs.LookedAt.{looks_at, some_looks_at, has_looked}
+use Rattle.prog_tree.specs.Syntax.{DraftTree}
+use Rattle.prog_tree.specs.Table.{TableState, Cells, cells_of, at_cell, is_same_cell, is_cell_among}
+use Rattle.history_book.specs.Dependencies.{run_found, start_found, start_at, changes_some, evaluation_at, depends}
+use Rattle.history_book.specs.History.{Instance, state_after, StartsBelow}
+use Rattle.history_book.specs.Orders.{IsReduced}
+use Rattle.history_book.specs.Placing.{IsOrderFault}
+use Rattle.history_book.specs.TraceView.{TraceView}
+use Rattle.history_book.specs.Traces.{sight_of, trace_of, trace_in, traces_of, takes_in, looked_at, changed_at, trace_found, trace_at, SeesEarlier, some_changed, trace_depends}
+use Rattle.prog_tree.specs.Tree.{draft_tree}
+use Rattle.history_book.specs.TrueBook.{IsTrueBook}
+use Rattle.history_book.specs.View.{BookView, instance_of, history_of, traces_in, trace_for}
+use Rattle.history_book.specs.declared.row.HistoryRow.{HistoryRow}
+use Rattle.history_book.specs.declared.order.OrderFault.{OrderFault}
+use Rattle.history_book.specs.declared.order.OrderFault.TheVariants as fault
+use Rattle.history_book.proofs.HistoryLaws.{evaluation-push}
+use Rattle.history_book.proofs.ReducedLaws.{cycle_same}
+
+-- ---- tests
+
+any_map : {X Y : Type 0} (p : Y → Bool) (f : X → Y) (xs : List X) → list_any p (map f xs) ≡ list_any (λ x. p (f x)) xs
+any_map p f [] = refl
+any_map p f (x ∷ xs) = ap (λ b. p (f x) || b) (any_map p f xs)
+
+any_same : {X : Type 0} (p q : X → Bool) (xs : List X) → ((x : X) → p x ≡ q x) → list_any p xs ≡ list_any q xs
+any_same p q xs same i = list_any (λ x. same x i) xs
+
+among_cells : {A : Type 0} (m : Cells A) (c : Cell) → is_cell_among (cells_of m) c ≡ is_some (at_cell m c)
+among_cells [] c = refl
+among_cells (e ∷ es) c = ap (λ b. is_same_cell c e.0 || b) (among_cells es c) ∙ go (is_same_cell c e.0)
+  where
+    go : (b : Bool) → (b || is_some (at_cell es c)) ≡ is_some (cond b (Some e.1) (at_cell es c))
+    go true = refl
+    go false = refl
+
+takes_looks : (l : Look) (c : Cell) → takes_in (sight_of l) c ≡ looks_at l c
+takes_looks (look.One cell held) c = refl
+takes_looks (look.Range region own rows) c = refl
+
+looked_has : (start : ℕ) (changes : ChangedCells) (looks : List Look) (c : Cell) → looked_at (trace_of start changes looks) c ≡ some_looks_at looks c
+looked_has start changes looks c =
+    any_map (λ s. takes_in s c) sight_of looks
+    ∙ any_same (λ (l : Look). takes_in (sight_of l) c) (λ l. looks_at l c) looks (λ l. takes_looks l c)
+
+some_changes : (p q : Cell → Bool) (start : ℕ) (changes : ChangedCells) (looks : List Look) → ((c : Cell) → p c ≡ q c) → some_changed p (trace_of start changes looks) ≡ changes_some q changes
+some_changes p q start changes looks same =
+    any_same p q (cells_of changes) same ∙ any_map q (λ (e : Cell × Option ℤ). e.0) changes
+
+-- ---- the same dependencies
+
+module _ (set : DraftTree) (opening : TableState) (h : List Instance) where
+  abbrev at : ℕ → Evaluation
+  at n = evaluation_at set opening h n
+
+  abbrev trace : ℕ → TraceView
+  trace n = trace_of (start_at h n) (at n).changes.cells (at n).looks
+
+  trace_is : (n : ℕ) → trace_at (traces_of set opening h) (suc n) ≡ trace (suc n)
+  trace_is n =
+      ap trace_found (slice_get-map (trace_in set opening h) h n)
+      ∙ go (slice_get h n)
+      ∙ ap (λ k. trace_of (start_found (slice_get h k)) (run_found set (slice_get h k) (state_after set opening h (start_found (slice_get h k)))).changes.cells (run_found set (slice_get h k) (state_after set opening h (start_found (slice_get h k)))).looks) place
+    where
+      place : n ≡ suc n - 1
+      place = omega arith
+
+      go : (o : Option Instance) →
+          trace_found (option_map (trace_in set opening h) o)
+          ≡ trace_of (start_found o) (run_found set o (state_after set opening h (start_found o))).changes.cells (run_found set o (state_after set opening h (start_found o))).looks
+      go None = refl
+      go (Some b) = refl
+
+  trace_of_number : (n : ℕ) → 1 ≤ n → trace_at (traces_of set opening h) n ≡ trace n
+  trace_of_number zero low = absurd (omega (arith, low))
+  trace_of_number (suc n) low = trace_is n
+
+  same_writes : (i j : ℕ) → some_changed (changed_at (trace j)) (trace i) ≡ changes_some (λ c. is_some (change_at (at j).changes c)) (at i).changes.cells
+  same_writes i j =
+      some_changes (changed_at (trace j)) (λ c. is_some (change_at (at j).changes c)) (start_at h i) (at i).changes.cells (at i).looks (λ c. among_cells (at j).changes.cells c)
+
+  same_looks : (i j : ℕ) → some_changed (looked_at (trace j)) (trace i) ≡ changes_some (has_looked (at j)) (at i).changes.cells
+  same_looks i j =
+      some_changes (looked_at (trace j)) (has_looked (at j)) (start_at h i) (at i).changes.cells (at i).looks (λ c. looked_has (start_at h j) (at j).changes.cells (at j).looks c)
+
+  -- for two traces, as for two evaluations
+  by_traces : ℕ → ℕ → TraceView → TraceView → Bool
+  by_traces i j a b =
+      not (i == j) && ((nat_lt i j && some_changed (changed_at b) a) || ((nat_le i b.start && some_changed (looked_at b) a) || (nat_lt a.start j && some_changed (looked_at a) b)))
+
+  pub depends_same : (i j : ℕ) → 1 ≤ i → 1 ≤ j → trace_depends (traces_of set opening h) i j ≡ depends set opening h i j
+  unfolding by_traces
+  depends_same i j first second =
+      (λ k. by_traces i j (trace_of_number i first k) (trace_of_number j second k))
+      ∙ (λ k. not (i == j) && ((nat_lt i j && same_writes i j k) || ((nat_le i (start_at h j) && same_looks i j k) || (nat_lt (start_at h i) j && same_looks j i k))))
+
+  pub reduced_same : (reduced : ℕ → ℕ → Bool) (n : ℕ) (traces : List TraceView) → traces ≡ traces_of set opening h → IsReduced n reduced (trace_depends traces) → IsReduced n reduced (depends set opening h)
+  reduced_same reduced n traces is r =
+      let h : IsReduced n reduced (trace_depends (traces_of set opening h)) = subst (λ (ts : List TraceView). IsReduced n reduced (trace_depends ts)) is r in
+      record {
+        within = h.within;
+        sound = λ i j wi wj told. sym (depends_same i j wi.0 wj.0) ∙ h.sound i j wi wj told;
+        whole = λ i j wi wj told. h.whole i j wi wj (depends_same i j wi.0 wj.0 ∙ told);
+      }
+
+  pub traces_see_earlier : StartsBelow h → SeesEarlier (traces_of set opening h)
+  traces_see_earlier below n t found = go (slice_get h n) refl (sym (slice_get-map (trace_in set opening h) h n) ∙ found)
+    where
+      go : (o : Option Instance) → slice_get h n ≡ o → option_map (trace_in set opening h) (slice_get h n) ≡ Some t → t.start ≤ n
+      go None none some = absurd (let x : option_map (trace_in set opening h) None ≡ Some t = ap (option_map (trace_in set opening h)) (sym none) ∙ some in cc)
+      go (Some b) at_n some =
+          let place : n ≡ suc n - 1 = omega arith in
+          let is : Some (trace_in set opening h b) ≡ Some t = ap (option_map (trace_in set opening h)) (sym at_n) ∙ some in
+          let same : trace_in set opening h b ≡ t = cc in
+          let low : b.start < suc n = below (suc n) b (omega arith) (ap (slice_get h) (sym place) ∙ at_n) in
+          let starts : b.start ≡ t.start = ap (λ (u : TraceView). u.start) same in
+          omega (arith, low, starts)
+
+  -- ---- one more
+
+  map_same : {X Y : Type 0} (f g : X → Y) (xs : List X) → ((k : ℕ) (x : X) → slice_get xs k ≡ Some x → f x ≡ g x) → map f xs ≡ map g xs
+  map_same f g [] same = refl
+  map_same f g (x ∷ xs) same = (λ i. same 0 x refl i ∷ map f xs) ∙ ap (λ ys. g x ∷ ys) (map_same f g xs (λ k y found. same (suc k) y found))
+
+  module _ (i : Instance) (below : StartsBelow h) (within : i.start ≤ length h) where
+    trace_in_longer : (b : Instance) → b.start ≤ length h → trace_in set opening (h ++ i ∷ []) b ≡ trace_in set opening h b
+    trace_in_longer b before = ap (λ (e : Evaluation). trace_of b.start e.changes.cells e.looks) (evaluation-push set opening h i b before)
+
+    start_within : (k : ℕ) (b : Instance) → slice_get h k ≡ Some b → b.start ≤ length h
+    start_within k b found =
+        let place : k ≡ suc k - 1 = omega arith in
+        let low : b.start < suc k = below (suc k) b (omega arith) (ap (slice_get h) (sym place) ∙ found) in
+        let inside : k < length h = slice_get_within h k b found in
+        omega (arith, low, inside)
+
+    pub traces_of-push : traces_of set opening (h ++ i ∷ []) ≡ traces_of set opening h ++ trace_in set opening h i ∷ []
+    traces_of-push =
+        map-append (trace_in set opening (h ++ i ∷ [])) h (i ∷ [])
+        ∙ (λ k. map_same (trace_in set opening (h ++ i ∷ [])) (trace_in set opening h) h (λ n b found. trace_in_longer b (start_within n b found)) k ++ trace_in_longer i within k ∷ [])
+
+-- a fault of what is reduced is one of the whole
+pub same_fault : (n : ℕ) (reduced before : ℕ → ℕ → Bool) (e : OrderFault) → IsReduced n reduced before → IsOrderFault reduced e → IsOrderFault before e
+same_fault n reduced before (fault.Cycle numbers) r cycle = cycle_same n reduced before r numbers.items cycle
+same_fault n reduced before fault.Memory r memory = tt
+
+-- a book with one more commit is traced where it has one more trace
+pub traced-committed :
+    (v : BookView) (row : HistoryRow) (t : TraceView) (rows : List HistoryRow) (old new : List TraceView) → IsTrueBook v → old ≡ traces_in v → row.start ≤ length (history_of v.rows) →
+    t ≡ trace_for v (instance_of row) → rows ≡ v.rows ++ row ∷ [] → new ≡ old ++ t ∷ [] → new ≡ traces_of (draft_tree v.set) v.opening (history_of rows)
+traced-committed v row t rows old new book traced within is one_row one_trace =
+    one_trace
+    ∙ (λ k. traced k ++ is k ∷ [])
+    ∙ sym (traces_of-push (draft_tree v.set) v.opening (history_of v.rows) (instance_of row) book.lawful.starts within)
+    ∙ ap (traces_of (draft_tree v.set) v.opening) (sym (ap history_of one_row ∙ map-append instance_of v.rows (row ∷ [])))

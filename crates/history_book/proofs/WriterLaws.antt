@@ -1,0 +1,185 @@
+-- Laws of the writers of cells.
+use Rattle.std.proofs.Common.{◌≡◌, ◌∙◌, ℕ, zero, suc, ◌+◌, ◌<◌, ◌≤◌, leb, nat_lt, Bool, true, false, cond, ◌||◌, if◌then◌else◌, List, [], ◌∷◌, ◌++◌, length, get_or, refl, ap, sym, subst, arith}
+use Rattle.std.specs.Prelude.{nat_le, Option, Some, None, IfSome, IsSome, All}
+use Rattle.std.specs.Cmp.{eq_by_cmp_equiv}
+use Rattle.std.specs.List.Sorted.{IsStrictlySortedBy, IsNonDecreasingBy}
+use Rattle.std.proofs.lemmas.Bool.Decides.{nat_tests}
+use Rattle.std.proofs.lemmas.List.Elements.{All-head, All-tail}
+use Rattle.std.proofs.lemmas.Map.Keys.{sorted_tail}
+use Rattle.prog_tree.specs.declared.cell.Cell.{Cell}
+use Rattle.prog_tree.specs.Table.{cell_cmp, Cells, cells_of, at_cell, is_same_cell, is_cell_among}
+use Rattle.prog_tree.proofs.TableLemmas.{cell_total}
+use Rattle.prog_tree.proofs.TableStates.{cell_is}
+use Rattle.version_store.proofs.ChainsLaws.{none_behind}
+use Rattle.history_book.specs.Reduced.{numbers_found, numbers_at, IsAddedAt, RiseFrom, AreWithin, AllRiseWithin, IsCutBy, later_or, last_seen, first_missed}
+
+-- ---- walks over the cells of a commit
+
+abbrev pub with_number : Bool → ℕ → List ℕ → List ℕ
+with_number here n ws = if here then ws ++ n ∷ [] else ws
+
+-- with the cells that are left, the numbers are what they will be at the end
+pub record AddsNumber (n : ℕ) (cells rest : List Cell) (old now : Cells (List ℕ)) : Type 0 where
+  pub sorted : IsStrictlySortedBy cell_cmp rest
+  pub ends : (c : Cell) → with_number (is_cell_among rest c) n (numbers_at now c) ≡ with_number (is_cell_among cells c) n (numbers_at old c)
+
+-- the cells of a map that has something at each of some cells
+abbrev marks : List Cell → Cells (Unit {0})
+marks [] = []
+marks (c ∷ cs) = (c, tt) ∷ marks cs
+
+cells_of-marks : (cs : List Cell) → cells_of (marks cs) ≡ cs
+cells_of-marks [] = refl
+cells_of-marks (c ∷ cs) = ap (λ ds. c ∷ ds) (cells_of-marks cs)
+
+none_marked : (cs : List Cell) (c : Cell) → at_cell (marks cs) c ≡ None → is_cell_among cs c ≡ false
+none_marked [] c none = refl
+none_marked (d ∷ cs) c none = go (is_same_cell c d) (none_marked cs c) none
+  where
+    go : (b : Bool) → (at_cell (marks cs) c ≡ None → is_cell_among cs c ≡ false) → cond b (Some tt) (at_cell (marks cs) c) ≡ None → (b || is_cell_among cs c) ≡ false
+    go true rest h = absurd (cc)
+    go false rest h = rest h
+
+same_turned : (a b : Cell) → is_same_cell a b ≡ is_same_cell b a
+same_turned a b = (eq_by_cmp_equiv cell_total).symm a b
+
+-- the first of cells in order is not behind itself
+not_behind : (k c : Cell) (rest : List Cell) → IsStrictlySortedBy cell_cmp (k ∷ rest) → is_same_cell c k ≡ true → is_cell_among rest c ≡ false
+not_behind k c rest sorted same =
+    none_marked rest c (none_behind k c (marks rest) (subst (λ (cs : List Cell). IsStrictlySortedBy cell_cmp (k ∷ cs)) (sym (cells_of-marks rest)) sorted) same)
+
+pub one_more_number :
+    (n : ℕ) (cells left rest : List Cell) (k : Cell) (old now next : Cells (List ℕ)) → left ≡ k ∷ rest → AddsNumber n cells left old now →
+    IsAddedAt (is_same_cell k) n now next → AddsNumber n cells rest old next
+one_more_number n cells left rest k old now next is so_far added = record {
+  sorted = sorted_tail cell_cmp k rest h.sorted;
+  ends = λ c. turn c ∙ h.ends c;
+}
+  where
+    h : AddsNumber n cells (k ∷ rest) old now
+    h = subst (λ (cs : List Cell). AddsNumber n cells cs old now) is so_far
+
+    turn : (c : Cell) → with_number (is_cell_among rest c) n (numbers_at next c) ≡ with_number (is_cell_among (k ∷ rest) c) n (numbers_at now c)
+    turn c =
+        ap (with_number (is_cell_among rest c) n) (added c ∙ ap (λ b. with_number b n (numbers_at now c)) (same_turned k c))
+        ∙ go (is_same_cell c k) (λ same. not_behind k c rest h.sorted same)
+      where
+        go : (b : Bool) → (b ≡ true → is_cell_among rest c ≡ false) →
+            with_number (is_cell_among rest c) n (with_number b n (numbers_at now c)) ≡ with_number (b || is_cell_among rest c) n (numbers_at now c)
+        go true none = ap (λ a. with_number a n (numbers_at now c ++ n ∷ [])) (none refl)
+        go false none = refl
+
+-- ---- one number more at a cell
+
+pub added_found :
+    (m n : Cells (List ℕ)) (cell : Cell) (number : ℕ) (old new : List ℕ) → Some old ≡ at_cell m cell → new ≡ old ++ number ∷ [] →
+    (IsSome (at_cell m cell) → (c : Cell) → at_cell n c ≡ cond (is_same_cell cell c) (Some new) (at_cell m c)) → IsAddedAt (is_same_cell cell) number m n
+added_found m n cell number old new found is written c =
+    ap numbers_found (written (subst (λ (o : Option (List ℕ)). IsSome o) found refl) c) ∙ go (is_same_cell cell c) (λ same. cell_is cell c same)
+  where
+    go : (b : Bool) → (b ≡ true → cell ≡ c) → numbers_found (cond b (Some new) (at_cell m c)) ≡ (if b then numbers_at m c ++ number ∷ [] else numbers_at m c)
+    go true same = is ∙ ap (λ o. numbers_found o ++ number ∷ []) (found ∙ ap (at_cell m) (same refl))
+    go false same = refl
+
+pub added_absent :
+    (m n : Cells (List ℕ)) (cell : Cell) (number : ℕ) (new : List ℕ) → None ≡ at_cell m cell → new ≡ number ∷ [] →
+    ((c : Cell) → at_cell n c ≡ cond (is_same_cell cell c) (Some new) (at_cell m c)) → IsAddedAt (is_same_cell cell) number m n
+added_absent m n cell number new absent is written c =
+    ap numbers_found (written c) ∙ go (is_same_cell cell c) (λ same. cell_is cell c same)
+  where
+    go : (b : Bool) → (b ≡ true → cell ≡ c) → numbers_found (cond b (Some new) (at_cell m c)) ≡ (if b then numbers_at m c ++ number ∷ [] else numbers_at m c)
+    go true same = is ∙ ap (λ o. numbers_found o ++ number ∷ []) (absent ∙ ap (at_cell m) (same refl))
+    go false same = refl
+
+-- ---- the bisection
+
+least_risen : (n : ℕ) (ms : List ℕ) (j d : ℕ) → RiseFrom n ms → j < length ms → n ≤ get_or ms j d
+least_risen n [] j d rise within = absurd (omega arith)
+least_risen n (m ∷ ms) zero d rise within = rise.0
+least_risen n (m ∷ ms) (suc j) d rise within = omega (arith, least_risen (m + 1) ms j d rise.1 (omega arith), rise.0)
+
+-- numbers that rise don't fall
+pub risen : (n : ℕ) (ms : List ℕ) → RiseFrom n ms → IsNonDecreasingBy (λ (m : ℕ). m) ms
+risen n [] rise i j d order within = absurd (omega arith)
+risen n (m ∷ ms) rise zero zero d order within = omega arith
+risen n (m ∷ ms) rise zero (suc j) d order within = omega (arith, least_risen (m + 1) ms j d rise.1 (omega arith))
+risen n (m ∷ ms) rise (suc i) zero d order within = absurd (omega arith)
+risen n (m ∷ ms) rise (suc i) (suc j) d order within = risen (m + 1) ms rise.1 i j d (omega arith) (omega arith)
+
+cut_rest : (n m : ℕ) (ms : List ℕ) (r : ℕ) → IsCutBy n (m ∷ ms) (suc r) → IsCutBy n ms r
+cut_rest n m ms r cut = (λ k d low high. cut.0 (suc k) d (omega arith) (omega arith), λ k d low high. cut.1 (suc k) d (omega arith) (omega arith))
+
+cut_none : (n m : ℕ) (ms : List ℕ) → IsCutBy n (m ∷ ms) 0 → IsCutBy n ms 0
+cut_none n m ms cut = (λ k d low high. absurd (omega arith), λ k d low high. cut.1 (suc k) d (omega arith) (omega arith))
+
+pub seen_none : (n : ℕ) (ms : List ℕ) → IsCutBy n ms 0 → None ≡ last_seen n ms
+seen_none n [] cut = refl
+seen_none n (m ∷ ms) cut =
+    let above : leb m n ≡ false = cut.1 0 0 (omega arith) (omega arith) in
+    let rest = seen_none n ms (cut_none n m ms cut) in
+    rw (← rest, above) refl
+
+pub seen_last : (n : ℕ) (ms : List ℕ) (count : ℕ) → IsCutBy n ms (suc count) → suc count ≤ length ms → Some (get_or ms count 0) ≡ last_seen n ms
+seen_last n [] count cut bound = absurd (omega arith)
+seen_last n (m ∷ ms) zero cut bound =
+    let within : leb m n ≡ true = cut.0 0 0 (omega arith) (omega arith) in
+    let rest = seen_none n ms (cut_rest n m ms 0 cut) in
+    rw (← rest, within) refl
+seen_last n (m ∷ ms) (suc count) cut bound =
+    let rest = seen_last n ms count (cut_rest n m ms (suc count) cut) (omega arith) in
+    rw (← rest) refl
+
+not_above : (n m : ℕ) → leb m n ≡ true → nat_lt n m ≡ false
+not_above n m h = grind (arith, nat_tests)
+
+is_above : (n m : ℕ) → leb m n ≡ false → nat_lt n m ≡ true
+is_above n m h = grind (arith, nat_tests)
+
+pub missed_none : (n : ℕ) (ms : List ℕ) → IsCutBy n ms (length ms) → None ≡ first_missed n ms
+missed_none n [] cut = refl
+missed_none n (m ∷ ms) cut =
+    let within : leb m n ≡ true = cut.0 0 0 (omega arith) (omega arith) in
+    let not = not_above n m within in
+    rw not (missed_none n ms (cut_rest n m ms (length ms) cut))
+
+pub missed_first : (n : ℕ) (ms : List ℕ) (count : ℕ) → IsCutBy n ms count → count < length ms → Some (get_or ms count 0) ≡ first_missed n ms
+missed_first n [] count cut bound = absurd (omega arith)
+missed_first n (m ∷ ms) zero cut bound =
+    let above : leb m n ≡ false = cut.1 0 0 (omega arith) (omega arith) in
+    rw (is_above n m above) refl
+missed_first n (m ∷ ms) (suc count) cut bound =
+    let within : leb m n ≡ true = cut.0 0 0 (omega arith) (omega arith) in
+    rw (not_above n m within) (missed_first n ms count (cut_rest n m ms count cut) (omega arith))
+
+-- ---- what holds of all numbers holds of these
+
+pub seen_holds : (P : ℕ → Type 0) (n : ℕ) (ms : List ℕ) → All P ms → IfSome (last_seen n ms) P
+seen_holds P n [] all = tt
+seen_holds P n (m ∷ ms) all = go (last_seen n ms) (nat_le m n) (seen_holds P n ms (All-tail P m ms all)) (All-head P m ms all)
+  where
+    go : (o : Option ℕ) (b : Bool) → IfSome o P → P m → IfSome (later_or m b o) P
+    go (Some w) b rest here = rest
+    go None true rest here = here
+    go None false rest here = tt
+
+pub missed_holds : (P : ℕ → Type 0) (n : ℕ) (ms : List ℕ) → All P ms → IfSome (first_missed n ms) P
+missed_holds P n [] all = tt
+missed_holds P n (m ∷ ms) all = go (nat_lt n m) (missed_holds P n ms (All-tail P m ms all)) (All-head P m ms all)
+  where
+    go : (b : Bool) → IfSome (first_missed n ms) P → P m → IfSome (if b then Some m else first_missed n ms) P
+    go true rest here = here
+    go false rest here = rest
+
+-- ---- what holds of all entries holds of the one at a cell
+
+pub entry_holds : (n : ℕ) (m : Cells (List ℕ)) (c : Cell) (ws : List ℕ) → AllRiseWithin n m → Some ws ≡ at_cell m c → RiseFrom 0 ws × AreWithin n ws
+entry_holds n [] c ws all found = absurd (cc)
+entry_holds n (e ∷ es) c ws all found =
+    go (is_same_cell c e.0) (entry_holds n es c ws (All-tail P e es all)) (All-head P e es all) found
+  where
+    P : Cell × List ℕ → Type 0
+    P d = RiseFrom 0 d.1 × AreWithin n d.1
+
+    go : (b : Bool) → (Some ws ≡ at_cell es c → RiseFrom 0 ws × AreWithin n ws) → P e → Some ws ≡ cond b (Some e.1) (at_cell es c) → RiseFrom 0 ws × AreWithin n ws
+    go true rest here is = let same : e.1 ≡ ws = cc in subst (λ (vs : List ℕ). RiseFrom 0 vs × AreWithin n vs) same here
+    go false rest here is = rest is

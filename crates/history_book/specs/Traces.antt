@@ -1,0 +1,87 @@
+-- What each commit looked at and changed, and what of it depends on what.
+use Rattle.std.specs.Prelude.{◌≡◌, ◌≤◌, ℕ, zero, suc, nat_lt, nat_le, ◌==◌, Bool, not, ◌&&◌, ◌||◌, List, [], map, Option, Some, None, slice_get}
+use Rattle.std.specs.List.{list_any}
+use Rattle.prog_tree.specs.declared.cell.Cell.{Cell}
+use Rattle.prog_tree.specs.declared.deed.Look.{Look}
+use Rattle.prog_tree.specs.declared.deed.Look.TheVariants as look
+use Rattle.prog_tree.specs.ChangeSet.{ChangedCells}
+use Rattle.prog_tree.specs.Syntax.{DraftTree}
+use Rattle.prog_tree.specs.Table.{TableState, cells_of, is_same_cell, is_cell_among, is_in}
+use Rattle.history_book.specs.History.{Instance, evaluation}
+use Rattle.history_book.specs.TraceView.{TraceView}
+use Rattle.history_book.specs.declared.trace.Sight.{Sight}
+use Rattle.history_book.specs.declared.trace.Sight.TheVariants as sight
+
+-- a look without what it found
+abbrev pub sight_of : Look → Sight
+sight_of (look.One cell held) = sight.One cell
+sight_of (look.Range region own rows) = sight.Range region own
+
+-- the trace of an instance by its start, its changes and its looks
+abbrev pub trace_of : ℕ → ChangedCells → List Look → TraceView
+trace_of start changes looks =
+    record { start = start; changed = cells_of changes; looked = map sight_of looks }
+
+-- the trace of an instance of a history
+abbrev pub trace_in : DraftTree → TableState → List Instance → Instance → TraceView
+trace_in set opening h i =
+    let e = evaluation set opening h i in
+    trace_of i.start e.changes.cells e.looks
+
+-- the traces of all its instances
+abbrev pub traces_of : DraftTree → TableState → List Instance → List TraceView
+traces_of set opening h = map (trace_in set opening h) h
+
+-- a sight of a region takes in each of its cells, present or absent, but for those that the instance had changed
+abbrev pub takes_in : Sight → Cell → Bool
+takes_in (sight.One cell) c = is_same_cell cell c
+takes_in (sight.Range region own) c = is_in region c && not (is_cell_among own c)
+
+-- the commit looked at the cell
+abbrev pub looked_at : TraceView → Cell → Bool
+looked_at t c = list_any (λ s. takes_in s c) t.looked
+
+-- the commit changed the cell
+abbrev pub changed_at : TraceView → Cell → Bool
+changed_at t c = is_cell_among t.changed c
+
+-- nothing was looked at or changed
+abbrev pub no_trace : TraceView
+no_trace = record { start = 0; changed = []; looked = [] }
+
+-- the trace that was found, or one of nothing
+abbrev pub trace_found : Option TraceView → TraceView
+trace_found None = no_trace
+trace_found (Some t) = t
+
+-- the trace of a commit number; numbers begin at 1
+abbrev pub trace_at : List TraceView → ℕ → TraceView
+trace_at traces zero = no_trace
+trace_at traces (suc n) = trace_found (slice_get traces n)
+
+-- each commit saw only earlier ones
+abbrev pub SeesEarlier : List TraceView → Type 0
+SeesEarlier traces = (n : ℕ) (t : TraceView) → slice_get traces n ≡ Some t → t.start ≤ n
+
+-- a commit changed a cell of which something holds
+abbrev pub some_changed : (Cell → Bool) → TraceView → Bool
+some_changed p t = list_any p t.changed
+
+module _ (traces : List TraceView) where
+  -- both changed a cell, in commit order
+  abbrev pub changes_again : ℕ → ℕ → Bool
+  changes_again i j = nat_lt i j && some_changed (changed_at (trace_at traces j)) (trace_at traces i)
+
+  -- the second looked at a cell that the first changed, and its snapshot had the change
+  abbrev pub sees_change : ℕ → ℕ → Bool
+  sees_change i j =
+      nat_le i (trace_at traces j).start && some_changed (looked_at (trace_at traces j)) (trace_at traces i)
+
+  -- the first looked at a cell that the second changed, and its snapshot lacked the change
+  abbrev pub misses_change : ℕ → ℕ → Bool
+  misses_change i j =
+      nat_lt (trace_at traces i).start j && some_changed (looked_at (trace_at traces i)) (trace_at traces j)
+
+  -- one of two different commits has to stand before the other in every serial order that gives the same
+  abbrev pub trace_depends : ℕ → ℕ → Bool
+  trace_depends i j = not (i == j) && (changes_again i j || (sees_change i j || misses_change i j))

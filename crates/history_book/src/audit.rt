@@ -1,0 +1,162 @@
+//! The audit of given rows.
+
+ghost use Rattle.std.specs.Prelude.{◌≡◌, ◌<◌, ◌≤◌, ℕ, All, List, [], length, IfOk, IfErr, OnOk, MatchOption};
+ghost use Rattle.prog_tree.specs.Syntax.{DraftTree};
+ghost use Rattle.prog_tree.specs.Table.{TableState};
+ghost use Rattle.prog_tree.specs.Tree.{draft_tree};
+ghost use Rattle.history_book.specs.Audit.{CameTo, audited, taken_up, IsBegun, IsRightRow, IsRowFault, IsRowRefusal, AreRightBehind, IsWrongAt, IsAuditFault};
+ghost use Rattle.history_book.specs.History.{IsLawful};
+ghost use Rattle.history_book.specs.TrueBook.{IsTrueRow};
+ghost use Rattle.history_book.specs.View.{done_in, history_of, instance_of, most_endings, most_begins};
+
+use crate::book::{Book, MOST_ENDINGS, is_ready, read_numbers};
+use crate::row::HistoryRow;
+use crate::snapshot::same_numbers;
+use prog_check::ProgramSet;
+use prog_run::Run;
+use prog_tree::Rows;
+use std::alloc::{AllocError, Global};
+use version_store::Clash;
+
+/// What is wrong with a row.
+#[derive(Clone, Copy, Debug, PartialEq, Eq)]
+pub enum RowFault {
+    /// The set has no program of the number.
+    NoSuchProgram,
+    /// There are more or fewer arguments than parameters.
+    WrongArguments,
+    /// There are fewer rows before it than commits that it sees.
+    StartTooLate,
+    /// Its program aborts.
+    NotReady,
+    /// Its program replies something else.
+    WrongReplies,
+    /// A row above its start changed or kept a cell that it changes or keeps.
+    Clashed(Clash),
+}
+
+/// Why rows have no book.
+#[derive(Clone, Copy, Debug, PartialEq, Eq)]
+pub enum AuditFault {
+    /// There are more than 100,000.
+    Full,
+    /// The first row that is wrong; rows are numbered from 0.
+    Row { number: usize, fault: RowFault },
+    /// There was no memory for it.
+    Memory,
+}
+
+impl From<AllocError> for AuditFault {
+    ghost use Rattle.std.specs.Prelude.{◌≡◌};
+    ghost use Rattle.history_book.specs.declared.audit.AuditFault.TheVariants.{Memory};
+
+    ghost from_gives = { λ _ e. e ≡ Memory };
+
+    fn from(_: AllocError) -> Self {
+        AuditFault::Memory
+    }
+}
+
+impl<'a> Book<'a> {
+    // What is wrong with a row's call, or with its start.
+    fn call_fault(&self, row: &HistoryRow) -> Option<RowFault>
+        ensures { MatchOption result
+            (IsBegun (draft_tree self.now.set) self.now.opening (history_of self.now.rows) row.now)
+            (IsRowFault (draft_tree self.now.set) self.now.opening (history_of self.now.rows) row.now) }
+    {
+        read_numbers(row.args.as_slice());
+        let Some(program) = self.set.draft().programs.get(row.program) else {
+            return Some(RowFault::NoSuchProgram);
+        };
+        if program.params.len() != row.args.len() {
+            return Some(RowFault::WrongArguments);
+        }
+        if row.start > self.commits() {
+            return Some(RowFault::StartTooLate);
+        }
+        None
+    }
+
+    // What is wrong with what a row's run came to.
+    fn run_fault(&self, row: &HistoryRow, run: &Run<'_>) -> Option<RowFault>
+        requires begun { IsBegun (draft_tree self.now.set) self.now.opening
+            (history_of self.now.rows) row.now }
+        requires above { self.now.floor ≤ row.now.start }
+        requires came { CameTo run.now (done_in self.now (instance_of row.now)) }
+        ensures { MatchOption result
+            (IsRightRow (draft_tree self.now.set) self.now.opening (history_of self.now.rows) row.now)
+            (IsRowFault (draft_tree self.now.set) self.now.opening (history_of self.now.rows) row.now) }
+    {
+        if !is_ready(run) {
+            return Some(RowFault::NotReady);
+        }
+        if !same_numbers(row.replies.as_slice(), run.replies()) {
+            return Some(RowFault::WrongReplies);
+        }
+        match self.clash(row.start, run.changes()) {
+            Some(clash) => Some(RowFault::Clashed(clash)),
+            None => None,
+        }
+    }
+
+    // Takes a row up as the next commit.
+    fn add_row(&mut self, row: HistoryRow) -> Result<(), AuditFault>
+        requires none { self.old.active ≡ [] }
+        requires floor { self.old.floor ≡ 0 }
+        requires room { length self.old.endings < most_endings }
+        requires more { self.old.begun < most_begins }
+        ensures right { OnOk result (IsRightRow (draft_tree self.old.set) self.old.opening
+            (history_of self.old.rows) row) }
+        ensures taken { OnOk result (self.new ≡ taken_up self.old row) }
+        ensures refused { IfErr result (IsRowRefusal self.old row) }
+    {
+        let number = self.rows.len();
+        if let Some(fault) = self.call_fault(&row) {
+            return Err(AuditFault::Row { number, fault });
+        }
+        let run = self.replay(&row)?;
+        if let Some(fault) = self.run_fault(&row, &run) {
+            return Err(AuditFault::Row { number, fault });
+        }
+        self.take_up(row, &run)?;
+        Ok(())
+    }
+
+    /// A book of given rows, each of which counts as a begin that succeeded and a commit.
+    pub fn audit(
+        alloc: Global,
+        set: &'a ProgramSet,
+        opening: Rows,
+        rows: Vec<HistoryRow>,
+    ) -> Result<Book<'a>, AuditFault>
+        ensures book { IfOk result (λ book. book ≡ audited set.now opening rows.items) }
+        ensures right { OnOk result
+            (AreRightBehind (draft_tree set.now) opening [] rows.items) }
+        ensures refused { IfErr result (λ fault.
+            IsAuditFault (draft_tree set.now) opening rows.items fault) }
+    {
+        if rows.len() > MOST_ENDINGS {
+            return Err(AuditFault::Full);
+        }
+        let mut book = Book::open(alloc, set, opening)?;
+        for row in rows {
+            book.add_row(row)?;
+        }
+        Ok(book)
+    }
+}
+
+/// No row is wrong just where the rows' history is lawful and their replies are those of their
+/// evaluations.
+pub fn lawful_rows_are_right()
+    ensures lawful { (set : DraftTree) → (opening : TableState) → (rows : List HistoryRow) →
+        AreRightBehind set opening [] rows → IsLawful set opening (history_of rows) }
+    ensures replies { (set : DraftTree) → (opening : TableState) → (rows : List HistoryRow) →
+        AreRightBehind set opening [] rows → All (IsTrueRow set opening (history_of rows)) rows }
+    ensures right { (set : DraftTree) → (opening : TableState) → (rows : List HistoryRow) →
+        IsLawful set opening (history_of rows) →
+        All (IsTrueRow set opening (history_of rows)) rows → AreRightBehind set opening [] rows }
+    ensures wrong { (set : DraftTree) → (opening : TableState) → (rows : List HistoryRow) →
+        (number : ℕ) → (fault : RowFault) →
+        AreRightBehind set opening [] rows → IsWrongAt set opening rows number fault → ⊥ }
+{}

@@ -1,0 +1,92 @@
+//! What commits looked at and changed.
+
+ghost use Rattle.std.specs.Prelude.{◌≡◌, map, IfOk};
+ghost use Rattle.std.specs.List.Sorted.{IsStrictlySortedBy};
+ghost use Rattle.prog_tree.specs.Table.{cell_cmp, cells_of};
+ghost use Rattle.history_book.specs.Traces.{sight_of, trace_of};
+
+use prog_run::Run;
+use prog_tree::{Cell, Changes, Look, Region, Sequence};
+use std::alloc::{AllocError, Global};
+use std::marker::Model;
+
+/// What a look looked at, without what it found.
+#[derive(Debug, Drop)]
+pub enum Sight {
+    One(Cell),
+    /// A region, but for its `own` cells: the ones that the instance had changed.
+    Range { region: Region, own: Sequence<Cell> },
+}
+
+/// How many commits an instance saw, the cells that it changed, in their order, and what it
+/// looked at.
+#[derive(Debug, Drop)]
+pub struct Trace {
+    pub(crate) start: u64,
+    pub(crate) changed: Sequence<Cell>,
+    pub(crate) looked: Sequence<Sight>,
+}
+
+impl Model for Trace {
+    ghost use Rattle.std.specs.List.Sorted.{IsStrictlySortedBy};
+    ghost use Rattle.prog_tree.specs.Table.{cell_cmp};
+    ghost use Rattle.history_book.specs.TraceView.{TraceView};
+
+    ghost Value = { TraceView };
+
+    ghost view = { λ t. record { start = t.start; changed = t.changed; looked = t.looked } };
+
+    ghost invariant = { λ t. IsStrictlySortedBy cell_cmp t.changed };
+}
+
+// The changed cells.
+fn changed_cells(alloc: Global, changes: &Changes) -> Result<Sequence<Cell>, AllocError>
+    ensures cells { IfOk result (λ cells. cells ≡ cells_of changes.now.cells) }
+    ensures ordered { IfOk result (λ cells. IsStrictlySortedBy cell_cmp cells) }
+{
+    let mut cells = Sequence::new(alloc);
+    for (cell, _) in changes.iter() {
+        cells.push(*cell)?;
+    }
+    Ok(cells)
+}
+
+// A look without what it found.
+fn sight_of(alloc: Global, look: &Look) -> Result<Sight, AllocError>
+    ensures { IfOk result (λ sight. sight ≡ sight_of look.now) }
+{
+    match look {
+        Look::One(cell, _) => Ok(Sight::One(*cell)),
+        Look::Range { region, own, .. } => Ok(Sight::Range {
+            region: *region,
+            own: Sequence::from_vec(Vec::from_slice(alloc, own.as_slice())?),
+        }),
+    }
+}
+
+// The looks without what they found.
+fn sights_of(alloc: Global, looks: &[Look]) -> Result<Sequence<Sight>, AllocError>
+    ensures { IfOk result (λ sights. sights ≡ map sight_of looks.now) }
+{
+    let mut sights = Sequence::new(alloc);
+    for look in looks {
+        sights.push(sight_of(alloc, look)?)?;
+    }
+    Ok(sights)
+}
+
+impl Trace {
+    /// The trace of an instance that saw so many commits, by its run.
+    pub(crate) fn of(alloc: Global, start: u64, run: &Run<'_>) -> Result<Self, AllocError>
+        ensures { IfOk result (λ trace.
+            trace ≡ trace_of start run.now.changes.cells run.now.looks) }
+    {
+        let changed = changed_cells(alloc, run.changes())?;
+        let looked = sights_of(alloc, run.looks())?;
+        Ok(Trace {
+            start,
+            changed,
+            looked,
+        })
+    }
+}

@@ -1,0 +1,64 @@
+//! The command `audit`: from the bytes of records to the rows that they leave.
+ghost use Rattle.std.specs.Prelude.{◌≡◌, ◌≤◌, false, [], Ok, Err, length, string_bytes, IfOk, IfErr};
+ghost use Rattle.prog_tree.specs.Tree.{draft_tree};
+ghost use Rattle.si_engine.specs.Reading.{input_limit};
+ghost use Rattle.si_engine.specs.Records.{records_of};
+ghost use Rattle.si_engine.specs.Writing.{WritesOr};
+ghost use Rattle.sirob.specs.FaultLines.{is_memory};
+ghost use Rattle.sirob.specs.Output.{IsRefusedPart};
+ghost use Rattle.sirob.specs.Stops.{IsPartDone, write_lost};
+ghost use Rattle.sirob.specs.declared.command_line.Mode.TheVariants as mode;
+
+use crate::lines::write_lines;
+use crate::run_fault::RunFault;
+use crate::status::Status;
+use history_book::Book;
+use prog_check::ProgramSet;
+use si_engine::{Bytes, Records, Sink, push_findings, read_records};
+use std::alloc::Global;
+
+// The records that the bytes of a part are.
+fn records_in(alloc: Global, set: &ProgramSet, part: &[u8]) -> Result<Records, RunFault>
+    requires { length part.now ≤ input_limit }
+    ensures ok { IfOk result (λ records. records_of (draft_tree set.now) part.now ≡ Ok records) }
+    ensures err { IfErr result (λ fault. is_memory fault ≡ false
+        → IsRefusedPart mode.Audit (draft_tree set.now) part.now fault) }
+{
+    let records = read_records(alloc, set, &mut Bytes::new(part))?;
+    Ok(records)
+}
+
+// Audits the records that the bytes of a part are, and adds the rows that are left and the last
+// line.
+fn push_audit(
+    alloc: Global,
+    set: &ProgramSet,
+    part: &[u8],
+    out: &mut String,
+) -> Result<Status, RunFault>
+    requires short { length part.now ≤ input_limit }
+    requires empty { string_bytes out.old ≡ [] }
+    ensures { IsPartDone mode.Audit (draft_tree set.now) part.now (string_bytes out.new) result }
+{
+    let Records { rows, records } = records_in(alloc, set, part)?;
+    let book = Book::audit(alloc, set, rows, records.into_vec())?;
+    let finding = push_findings(&book, out)?;
+    Ok(Status::of(finding))
+}
+
+/// Audits the records that the bytes of a part are. Each row that is left writes a line, and last
+/// the order or the cycle; where memory runs out, some first lines were written.
+pub fn audit_part<K: Sink>(
+    alloc: Global,
+    set: &ProgramSet,
+    part: &[u8],
+    sink: &mut K,
+) -> Result<Status, RunFault>
+    requires { length part.now ≤ input_limit }
+    ensures { WritesOr (Err write_lost) (IsPartDone mode.Audit (draft_tree set.now) part.now)
+        (K.has_failed sink.new) (K.taken sink.old) (K.taken sink.new) result }
+{
+    let mut lines = String::new(alloc);
+    let ended = push_audit(alloc, set, part, &mut lines);
+    write_lines(sink, lines.as_bytes(), ended)
+}
