@@ -73,7 +73,7 @@ whole m path v p q no_looks none s =
 
 -- ---- programs
 
-goes_on : (f : Flow) → (ended f).ending ≡ Ready → (q : Progress) × (f ≡ GoesOn q)
+pub goes_on : (f : Flow) → (ended f).ending ≡ Ready → (q : Progress) × (f ≡ GoesOn q)
 goes_on (GoesOn q) e = (q, refl)
 goes_on (Stops cause q) e = absurd (cc)
 

@@ -128,7 +128,7 @@ block_fits (Branch test a b rest) h =
 
 -- ---- programs
 
-program_sound : (tables : List TableDecl) (number : ℕ) (program : ProgramTree) (args : List ℤ) → IsSoundProgram tables number program → length program.params ≡ length args → ProgramSound tables program args
+pub program_sound : (tables : List TableDecl) (number : ℕ) (program : ProgramTree) (args : List ℤ) → IsSoundProgram tables number program → length program.params ≡ length args → ProgramSound tables program args
 program_sound tables number program args sound same =
     record { body = block_sound tables program.params program.body sound.params_stay sound.grow_tables_stay; arguments = arguments_fit program.params args sound.params_distinct same }
 

@@ -1,18 +1,28 @@
-mod LineLemmas
-mod MachineVectors
-mod PrintedVectors
-mod RecordLemmas
-mod RecordVectors
-mod SayingLemmas
-mod ScriptLemmas
-mod ScriptVectors
-mod TextLemmas
+pub mod AccessLaws
 pub mod BeginLaws
 pub mod ClashLaws
 pub mod CommitLaws
+pub mod CycleLaws
+pub mod EdgeLaws
 pub mod EngineLaws
 pub mod EvaluateLaws
+pub mod GrowLaws
 pub mod HeldLaws
+pub mod InsertLaws
+pub mod KindLaws
+mod LineLemmas
+mod MachineVectors
+pub mod NodeLaws
 pub mod OutputLaws
 pub mod PlaceLaws
+mod PrintedVectors
+mod RecordLemmas
+mod RecordVectors
+pub mod RowLaws
 pub mod RunLaws
+mod SayingLemmas
+mod ScriptLemmas
+mod ScriptVectors
+pub mod SkewVectors
+mod TextLemmas
+pub mod VulnerableLaws

@@ -7,6 +7,7 @@ pub mod Numbers
 pub mod Printed
 pub mod Reading
 pub mod Records
+pub mod Robustness
 pub mod RowLines
 pub mod Runs
 pub mod Sayings

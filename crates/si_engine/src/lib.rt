@@ -15,6 +15,7 @@ mod port;
 mod printed;
 mod record_line;
 mod records;
+mod robustness;
 mod row_line;
 mod run;
 mod script;
@@ -28,6 +29,10 @@ pub use event::{Event, Reply};
 pub use finding::{Finding, push_findings};
 pub use port::Port;
 pub use records::{Records, read_records};
+pub use robustness::{
+    concurrent_dependencies_are_vulnerable, cycles_are_dangerous, dependencies_are_static_edges,
+    grow_tables_gain_each_row_once, instances_follow_nodes, states_have_i64_rows,
+};
 pub use run::run_script;
 pub use script::{Script, read_script};
 pub use script_fault::{LineFault, ScriptFault};

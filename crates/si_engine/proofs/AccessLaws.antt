@@ -1,0 +1,170 @@
+-- What committed instances look at, change and keep, by the accesses of the nodes that they follow.
+use Rattle.std.proofs.Common.{◌≡◌, ◌≢◌, ℕ, ◌<◌, true, List, [], ◌∷◌, ◌⊎◌, inl, inr, refl, ap, sym, subst, ◌∙◌}
+use Rattle.std.specs.Prelude.{Some, is_some, slice_get, IsTrue, not}
+use Rattle.std.proofs.lemmas.Bool.{cases_order}
+use Rattle.prog_tree.specs.declared.cell.Cell.{Cell}
+use Rattle.prog_tree.specs.declared.deed.Look.{Look}
+use Rattle.prog_tree.specs.declared.deed.Look.TheVariants as look
+use Rattle.prog_tree.specs.ChangeSet.{change_at, touches_cell}
+use Rattle.prog_tree.specs.LookedAt.{looks_at, some_looks_at, has_looked}
+use Rattle.prog_tree.specs.Syntax.{DraftTree}
+use Rattle.prog_tree.specs.Table.{TableState, is_in, is_cell_among}
+use Rattle.prog_tree.proofs.TableStates.{cell_is}
+use Rattle.prog_check.specs.declared.path.Access.{Access}
+use Rattle.prog_check.specs.declared.path.Kind.TheVariants.{Sees, Lacks, Writes, Adds}
+use Rattle.prog_check.specs.Paths.{paths_of}
+use Rattle.prog_check.specs.Tables.{grows}
+use Rattle.prog_paths.specs.Follows.{IsLookOf, LooksAt, KeepsCell, FoundAs, ChangedAs}
+use Rattle.prog_paths.specs.Meeting.{IsOf, MeetsUnder}
+use Rattle.prog_paths.specs.StaticGraph.{Question, HasQuestion}
+use Rattle.prog_check.specs.declared.path.Kind.{Kind}
+use Rattle.prog_paths.proofs.KindsFit.{KindFits}
+use Rattle.history_book.specs.Dependencies.{run_found, start_found, start_at, evaluation_at}
+use Rattle.history_book.specs.History.{Instance, nth_instance, state_after, evaluation}
+use Rattle.history_book.proofs.DependencyLaws.{Changes, found_at, start_at-below}
+use Rattle.history_book.proofs.DependencyRelations.{WriteWriteBy}
+use Rattle.history_book.proofs.OrderLaws.{both_parts, either_part, first_holds, second_holds, fails}
+use Rattle.si_engine.specs.Robustness.{Grows, IsCommitted, AreConcurrent, IsHistory, FollowsNode}
+use Rattle.si_engine.proofs.GrowLaws.{Has, ChangesAt}
+use Rattle.si_engine.proofs.KindLaws.{access_fits, grows_by, plain_by}
+
+-- ---- looks, as tests and as relations
+
+look_of : (l : Look) (c : Cell) → looks_at l c ≡ true → IsLookOf l c
+look_of (look.One cell held) c h = sym (cell_is cell c h)
+look_of (look.Range region own rows) c h =
+    let k = both_parts (is_in region c) (not (is_cell_among own c)) h in (k.0, fails (is_cell_among own c) k.1)
+
+looks_of : (ls : List Look) (c : Cell) → some_looks_at ls c ≡ true → LooksAt ls c
+looks_of [] c h = absurd (cc)
+looks_of (l ∷ ls) c h = go (either_part (looks_at l c) (some_looks_at ls c) h) (looks_of ls c)
+  where
+    go : (looks_at l c ≡ true) ⊎ (some_looks_at ls c ≡ true) → (some_looks_at ls c ≡ true → LooksAt ls c) →
+        LooksAt (l ∷ ls) c
+    go (inl here) later = inl (look_of l c here)
+    go (inr there) later = inr (later there)
+
+module _ (set : DraftTree) (opening : TableState) (h : List Instance) (is : IsHistory set opening h) where
+  -- ---- what two instances touch
+
+  -- the instance of a number changed or kept the cell
+  abbrev pub TouchesAt : ℕ → Cell → Type 0
+  TouchesAt n c = ChangesAt set opening h is n c ⊎ KeepsCell (evaluation_at set opening h n).changes c
+
+  pub starts : (n : ℕ) → IsCommitted h n → start_at h n < n
+  starts n one = start_at-below h is.lawful.starts n one
+
+  touch_test : (n : ℕ) (b : Instance) (c : Cell) → nth_instance h n ≡ Some b → TouchesAt n c →
+      touches_cell (evaluation set opening h b).changes c ≡ true
+  touch_test n b c found t =
+      ap (λ o. touches_cell (run_found set o (state_after set opening h (start_found o))).changes c) (sym found)
+      ∙ either t
+    where
+      either : TouchesAt n c → touches_cell (evaluation_at set opening h n).changes c ≡ true
+      either (inl changed) = first_holds _ _ changed
+      either (inr kept) = second_holds (is_some (change_at (evaluation_at set opening h n).changes c)) _ kept
+
+  -- the first committer wins
+  pub first_wins : (i j : ℕ) (c : Cell) → IsCommitted h i → IsCommitted h j → start_at h j < i → i < j →
+      TouchesAt i c → TouchesAt j c → ⊥
+  first_wins i j c one other unseen before mine theirs =
+      let a = found_at h i one in
+      let b = found_at h j other in
+      let start : b.0.start < i = subst (λ (n : ℕ). n < i) (ap start_found b.1) unseen in
+      is.lawful.apart i j a.0 b.0 c one.0 a.1 b.1 start before (touch_test i a.0 c a.1 mine)
+      (touch_test j b.0 c b.1 theirs)
+
+  -- who changes what another one changed saw that change
+  pub sees_overwritten : (i j : ℕ) → IsCommitted h i → IsCommitted h j → start_at h j < i →
+      WriteWriteBy Cell (Changes set opening h) i j → ⊥
+  sees_overwritten i j one other unseen w =
+      first_wins i j w.cell one other unseen w.before (inl (ap is_some w.first.1)) (inl (ap is_some w.second.1))
+
+  -- two concurrent instances touch no cell both
+  pub none_shared : (i j : ℕ) (c : Cell) → IsCommitted h i → IsCommitted h j → i ≢ j → AreConcurrent h i j →
+      TouchesAt i c → TouchesAt j c → ⊥
+  none_shared i j c one other differ both mine theirs = cases (cases_order i j)
+    where
+      cases : (i ≡ j) ⊎ ((i < j) ⊎ (j < i)) → ⊥
+      cases (inl e) = differ e
+      cases (inr (inl l)) = first_wins i j c one other both.1 l mine theirs
+      cases (inr (inr l)) = first_wins j i c other one both.0 l theirs mine
+
+  -- ---- accesses that hold a cell
+
+  -- an access of the node that an instance follows holds the cell
+  pub record Holds (i : ℕ) (f : FollowsNode set opening h i) (c : Cell) : Type 0 where
+    pub number : ℕ
+    pub access : Access
+    pub at : slice_get f.path.accesses number ≡ Some access
+    pub holds : IsOf f.v access c
+
+  -- an access that holds the cell, of a kind that fits what a look found there
+  abbrev pub HoldsLook : (i : ℕ) → FollowsNode set opening h i → Cell → Type 0
+  HoldsLook i f c =
+      (t : Holds i f c) × FoundAs t.access.kind (Has set opening h is (start_at h i) c) (ChangesAt set opening h is i c)
+
+  -- an access that holds the cell, of a kind that changes it
+  abbrev pub HoldsChange : (i : ℕ) → FollowsNode set opening h i → Cell → Type 0
+  HoldsChange i f c = (t : Holds i f c) × ChangedAs t.access.kind (Has set opening h is (start_at h i) c)
+
+  -- whatever an instance looked at, an access holds, of a kind that fits what it found
+  pub looked : (i : ℕ) (f : FollowsNode set opening h i) (c : Cell) →
+      IsTrue (has_looked (evaluation_at set opening h i) c) → HoldsLook i f c
+  looked i f c looks =
+      let t = f.follows.look c (looks_of (evaluation_at set opening h i).looks c looks) in
+      (record { number = t.0; access = t.1; at = t.2; holds = t.3 }, t.4)
+
+  -- whatever it changed, an access holds that changes
+  pub changed_in : (i : ℕ) (f : FollowsNode set opening h i) (c : Cell) → ChangesAt set opening h is i c →
+      HoldsChange i f c
+  changed_in i f c k =
+      let t = f.follows.change c k in (record { number = t.0; access = t.1; at = t.2; holds = t.3 }, t.4)
+
+  fits_at : (i : ℕ) (f : FollowsNode set opening h i) (c : Cell) (t : Holds i f c) →
+      KindFits (grows (slice_get set.tables c.table)) t.access.kind
+  fits_at i f c t =
+      subst (λ (n : ℕ). KindFits (grows (slice_get set.tables n)) t.access.kind) (sym t.holds.table)
+      (access_fits set is.sound f.node t.number f.path t.access f.path_at t.at)
+
+  pub grow_at : (i : ℕ) (f : FollowsNode set opening h i) (c : Cell) (t : Holds i f c) →
+      (t.access.kind ≡ Sees) ⊎ (t.access.kind ≡ Lacks) ⊎ (t.access.kind ≡ Adds) → Grows set c.table
+  grow_at i f c t k = grows_by (grows (slice_get set.tables c.table)) t.access.kind (fits_at i f c t) k
+
+  pub plain_at : (i : ℕ) (f : FollowsNode set opening h i) (c : Cell) (t : Holds i f c) → t.access.kind ≡ Writes →
+      Grows set c.table → ⊥
+  plain_at i f c t k grow = plain_by (grows (slice_get set.tables c.table)) t.access.kind (fits_at i f c t) k grow
+
+  -- ---- two accesses that hold one cell are a question that meets
+
+  module _ (i j : ℕ) (f : FollowsNode set opening h i) (g : FollowsNode set opening h j) (c : Cell) (t : Holds i f c) (s : Holds j g c) where
+    pub meets : MeetsUnder f.v g.v t.access s.access
+    meets = record { mine_of_i64 = f.of_i64; theirs_of_i64 = g.of_i64; meet = (c, t.holds, s.holds) }
+
+    abbrev pub question_of : Question
+    question_of = record { x = f.node; a = t.number; y = g.node; b = s.number }
+
+    -- a question about them of which P holds
+    pub asked_with : (asks : Question → Kind → Kind → Type 0) (P : Question → Access → Access → Type 0) →
+        asks question_of t.access.kind s.access.kind → P question_of t.access s.access →
+        HasQuestion asks P (paths_of set) f.node g.node
+    asked_with asks P kinds p =
+        record {
+          question = question_of;
+          from = refl;
+          to = refl;
+          mine = t.access;
+          theirs = s.access;
+          asked = record {
+            at_mine = (f.path, f.path_at, t.at);
+            at_theirs = (g.path, g.path_at, s.at);
+            table = sym t.holds.table ∙ s.holds.table;
+          };
+          kinds = kinds;
+          holds = p;
+        }
+
+    -- a question that meets under the assignments followed
+    pub asked : (asks : Question → Kind → Kind → Type 0) → asks question_of t.access.kind s.access.kind →
+        HasQuestion asks (λ q a b. MeetsUnder f.v g.v a b) (paths_of set) f.node g.node
+    asked asks kinds = asked_with asks (λ q a b. MeetsUnder f.v g.v a b) kinds meets
