@@ -1,6 +1,6 @@
 //! Checked sets: faults with their places, and the numbers of names.
 
-use crate::texts::set_of;
+use example_sets::{LEDGER, set_of};
 use prog_check::{CheckFault, Place, check};
 use prog_text::parse;
 use std::alloc::Global;
@@ -37,15 +37,6 @@ fn faults_have_their_place(rt: HostRuntime) -> Result<(), Fail> {
     }
     Ok(())
 }
-
-/// The ledger set.
-const LEDGER: &str = "\
-table closed 1 grow;
-table entry 2 grow;
-program Post(d, e, v) { lacks closed[d]; insert entry[d, e] = v; }
-program Close(d) { insert closed[d] = 1; }
-program Total(d) { let s = sum entry[d, least..greatest]; reply s; }
-";
 
 #[test]
 fn a_set_finds_its_names(rt: HostRuntime) -> Result<(), Fail> {

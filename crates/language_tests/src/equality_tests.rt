@@ -1,6 +1,6 @@
 //! When programs, tables and looks are the same, and the laws that stand as functions.
 
-use crate::texts::set_of;
+use example_sets::set_of;
 use prog_check::soundness;
 use prog_tree::{
     Cell, Look, evaluations_depend_on_looks, evaluations_write_i64, i64_is_tested, same_looks,

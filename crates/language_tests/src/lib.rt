@@ -12,6 +12,4 @@ mod run_tests;
 #[cfg(test)]
 mod text_tests;
 #[cfg(test)]
-mod texts;
-#[cfg(test)]
 mod value_tests;

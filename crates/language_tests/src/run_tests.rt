@@ -1,6 +1,6 @@
 //! Runs step by step: the questions that they ask, and what their readers say.
 
-use crate::texts::{SMALL_BANK, set_of};
+use example_sets::{SMALL_BANK, set_of};
 use prog_run::{AnswerFault, Look, Next, Run};
 use prog_tree::{Cell, Rows};
 use std::alloc::{AllocError, Global};

@@ -1,8 +1,44 @@
 //! Texts that are read, copied and printed.
 
-use crate::texts::{EVERY_STATEMENT, SMALL_BANK};
+use example_sets::SMALL_BANK;
 use prog_text::{TextFault, parse, print};
 use std::test::Fail;
+
+/// Each kind of statement, key and range. The canonical text.
+const EVERY_STATEMENT: &str = "\
+table t 1;
+table e 2;
+table g 1 grow;
+table h 2 grow;
+program Empty() {
+}
+program All(a, b) {
+  let x = a;
+  let y = get t[x] else a + 1;
+  let z = get e[a, b] else -1;
+  let w = need t[a];
+  let q = need h[a, b];
+  let n = count t[a..b];
+  let s = sum e[a, least..greatest];
+  lacks g[a];
+  lacks e[a, 1];
+  put t[a] = least;
+  put e[a, b] = x * y;
+  insert g[a] = 1;
+  insert h[a, b] = -1;
+  insert t[b] = 0;
+  delete t[a];
+  delete e[1, 2];
+  keep g[a];
+  keep e[a, b];
+  if a < b {
+    reply a;
+  } else {
+    abort;
+  }
+  reply n + s + z + w + q;
+}
+";
 
 #[test]
 fn refusals_have_their_place(rt: HostRuntime) {

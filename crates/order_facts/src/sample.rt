@@ -123,6 +123,14 @@ impl Sample {
         Ok(Sample { choices })
     }
 
+    /// The same sample once more.
+    pub fn copy(&self) -> Result<Sample, AllocError>
+        ensures { IfOk result (λ s. s ≡ self.now) }
+    {
+        let choices = Vec::from_slice(*self.choices.allocator(), &self.choices)?;
+        Ok(Sample { choices })
+    }
+
     /// The node's number: a number itself, and 0 for a node in no fact.
     pub fn get(&self, node: Node) -> i64
         ensures { result ≡ sample_number self.now node }

@@ -1,7 +1,8 @@
 //! The committing paths of sets.
 
-use crate::sets::{LEDGER, MOVE, REPORT, SMALL_BANK, TRANSFER, set_of, wide_text};
+use crate::sets::wide_text;
 use crate::shown::{shown, shown_path};
+use example_sets::{LEDGER, MOVE, REPORT, SMALL_BANK, TRANSFER, set_of};
 use prog_paths::paths;
 use std::alloc::Global;
 use std::process::Abort;
@@ -58,6 +59,15 @@ fn a_computed_key_is_an_unknown(rt: HostRuntime) -> Result<(), Fail> {
     Ok(())
 }
 
+/// The accesses of a wide path: each pair stands behind the five branches and the pairs before it.
+const WIDE_ACCESSES: &str = "\
+Reads 0[Param(0)] 5; Writes 0[Param(0)] 6; Reads 0[Param(0)] 7; Writes 0[Param(0)] 8; \
+Reads 0[Param(0)] 9; Writes 0[Param(0)] 10; Reads 0[Param(0)] 11; Writes 0[Param(0)] 12; \
+Reads 0[Param(0)] 13; Writes 0[Param(0)] 14; Reads 0[Param(0)] 15; Writes 0[Param(0)] 16; \
+Reads 0[Param(0)] 17; Writes 0[Param(0)] 18; Reads 0[Param(0)] 19; Writes 0[Param(0)] 20; \
+Reads 0[Param(0)] 21; Writes 0[Param(0)] 22; Reads 0[Param(0)] 23; Writes 0[Param(0)] 24; \
+Reads 0[Param(0)] 25; Writes 0[Param(0)] 26; Reads 0[Param(0)] 27; Writes 0[Param(0)] 28;";
+
 #[test]
 fn sixteen_programs_have_thirty_two_paths_each(rt: HostRuntime) -> Result<(), Fail> {
     let alloc: Global = rt.alloc();
@@ -65,26 +75,15 @@ fn sixteen_programs_have_thirty_two_paths_each(rt: HostRuntime) -> Result<(), Fa
     let set = set_of(alloc, text.as_str())?;
     let paths = paths(alloc, &set)?;
     assert_eq!(rt; paths.len(), 512);
-    for (number, path) in [
-        (
-            0,
-            "0 [true, true, true, true, true]: Reads 0[Param(0)] 5; Writes 0[Param(0)] 6;",
-        ),
-        (
-            33,
-            "1 [true, true, true, true, false]: Reads 0[Param(0)] 5; Writes 0[Param(0)] 6;",
-        ),
-        (
-            496,
-            "15 [false, true, true, true, true]: Reads 0[Param(0)] 5; Writes 0[Param(0)] 6;",
-        ),
-        (
-            511,
-            "15 [false, false, false, false, false]: Reads 0[Param(0)] 5; Writes 0[Param(0)] 6;",
-        ),
+    for (number, start) in [
+        (0, "0 [true, true, true, true, true]: "),
+        (33, "1 [true, true, true, true, false]: "),
+        (496, "15 [false, true, true, true, true]: "),
+        (511, "15 [false, false, false, false, false]: "),
     ] {
         assert!(rt; number < paths.len());
-        assert_eq!(rt; shown_path(alloc, &paths[number])?.as_str(), path);
+        let path = shown_path(alloc, &paths[number])?;
+        assert_eq!(rt; path.as_str().strip_prefix(start), Some(WIDE_ACCESSES));
     }
     Ok(())
 }

@@ -1,6 +1,6 @@
 //! The facts of questions.
 
-use crate::sets::{LEDGER, MOVE, TRANSFER, set_of};
+use example_sets::{LEDGER, MOVE, TRANSFER, set_of};
 use order_facts::{Closed, Node};
 use prog_paths::{Path, paths, question_facts};
 use std::alloc::Global;

@@ -1,102 +1,25 @@
-//! Texts of the tests, and the sets that they are.
+//! The wide set.
 
-use prog_check::{ProgramSet, check};
-use prog_text::parse;
 use std::alloc::{AllocError, Global};
-use std::test::Fail;
 
-/// Savings and checking accounts.
-pub const SMALL_BANK: &str = "\
-table savings 1;
-table checking 1;
-program Balance(n) {
-  let a = get savings[n] else 0;
-  let b = get checking[n] else 0;
-  reply a + b;
-}
-program DepositChecking(n, v) {
-  if v < 0 {
-    abort;
-  }
-  let b = get checking[n] else 0;
-  put checking[n] = b + v;
-}
-program TransactSaving(n, v) {
-  let a = get savings[n] else 0;
-  if a + v < 0 {
-    abort;
-  }
-  put savings[n] = a + v;
-}
-program Amalgamate(n1, n2) {
-  let a = get savings[n1] else 0;
-  let b = get checking[n1] else 0;
-  put savings[n1] = 0;
-  put checking[n1] = 0;
-  let c = get checking[n2] else 0;
-  put checking[n2] = c + a + b;
-}
-program WriteCheck(n, v) {
-  let a = get savings[n] else 0;
-  let b = get checking[n] else 0;
-  if a + b < v {
-    put checking[n] = b - v - 1;
-  } else {
-    put checking[n] = b - v;
-  }
-}
-";
-
-/// The ledger set, with the report that needs a closed day in place of the total.
-pub const REPORT: &str = "\
-table closed 1 grow;
-table entry 2 grow;
-program Post(d, e, v) { lacks closed[d]; insert entry[d, e] = v; }
-program Close(d) { insert closed[d] = 1; }
-program Report(d) { let c = need closed[d]; let s = sum entry[d, least..greatest]; reply s; }
-";
-
-/// The ledger set.
-pub const LEDGER: &str = "\
-table closed 1 grow;
-table entry 2 grow;
-program Post(d, e, v) { lacks closed[d]; insert entry[d, e] = v; }
-program Close(d) { insert closed[d] = 1; }
-program Total(d) { let s = sum entry[d, least..greatest]; reply s; }
-";
-
-/// The transfer set.
-pub const TRANSFER: &str = "\
-table t 1;
-program Transfer(a, b, v) {
-  let x = get t[a] else 0;
-  put t[a] = x - v;
-  let y = get t[b] else 0;
-  put t[b] = y + v;
-}
-";
-
-/// The computed-key set.
-pub const MOVE: &str = "\
-table t 1;
-program Move(a, b) { let x = get t[a + 0] else 0; put t[b] = x; }
-";
-
-/// The checked set of a text.
-pub fn set_of(alloc: Global, text: &str) -> Result<ProgramSet, Fail> {
-    let draft = parse(alloc, text.as_bytes())?;
-    Ok(check(alloc, draft)?)
+/// Five branches and twelve pairs of a read and a write.
+fn push_wide_body(text: &mut String) -> Result<(), AllocError> {
+    for _ in 0..5 {
+        text.push_str("if v < 0 { } ")?;
+    }
+    for pair in 0..12 {
+        write!(text, "let a{pair} = get t[v] else 0; put t[v] = a{pair}; ")?;
+    }
+    Ok(())
 }
 
-/// Sixteen programs with five branches each.
+/// Sixteen programs with five branches and twelve pairs of a read and a write each.
 pub fn wide_text(alloc: Global) -> Result<String, AllocError> {
     let mut text = String::from_str(alloc, "table t 1;\n")?;
     for number in 0..16 {
         write!(text, "program P{number}(v) {{ ")?;
-        for _ in 0..5 {
-            text.push_str("if v < 0 { } ")?;
-        }
-        text.push_str("let a = get t[v] else 0; put t[v] = a; }\n")?;
+        push_wide_body(&mut text)?;
+        text.push_str("}\n")?;
     }
     Ok(text)
 }

@@ -12,7 +12,7 @@ use Rattle.prog_check.specs.declared.path.Term.TheVariants.{Param, Unknown}
 use Rattle.prog_check.specs.declared.path.Access.{Access}
 use Rattle.prog_check.specs.declared.path.Path.{Path}
 use Rattle.prog_paths.specs.Meeting.{Assignment, IsOfI64, MeetsUnder, MayCover, number_under}
-use Rattle.prog_paths.specs.StaticGraph.{IsAccessOf, StaticEdge, IsCovered, IsVulnerable, here, onward, IsDangerous}
+use Rattle.prog_paths.specs.StaticGraph.{IsAccessOf, Question, HasQuestion, StaticEdge, IsCovered, IsVulnerable, here, onward, IsDangerous}
 
 -- ---- in short
 
@@ -51,17 +51,46 @@ of_node P nodes x p at h k a (q, is, got) =
     let same : q ≡ p = cc in
     each P p.accesses h k a (subst (λ (r : Path). slice_get r.accesses k ≡ Some a) same got)
 
+-- a question between accesses of two nodes
+pub has_question :
+    {asks : Question → Kind → Kind → Type 0} {P : Question → Access → Access → Type 0} {nodes : List Path} →
+    (q : Question) (from to : Path) (mine theirs : Access) → slice_get nodes q.x ≡ Some from → slice_get from.accesses q.a ≡ Some mine → slice_get nodes q.y ≡ Some to → slice_get to.accesses q.b ≡ Some theirs →
+    mine.table ≡ theirs.table → asks q mine.kind theirs.kind → P q mine theirs → HasQuestion asks P nodes q.x q.y
+has_question q from to mine theirs from_is mine_is to_is theirs_is table kinds holds = record {
+  question = q;
+  from = refl;
+  to = refl;
+  mine = mine;
+  theirs = theirs;
+  asked = record { at_mine = (from, from_is, mine_is); at_theirs = (to, to_is, theirs_is); table = table };
+  kinds = kinds;
+  holds = holds;
+}
+
 -- ---- SmallBank
 
+abbrev balance : Path
+balance = path 0 [] (at_one Reads 0 (Param 0) 0 ∷ at_one Reads 1 (Param 0) 1 ∷ [])
+
+abbrev deposit_checking : Path
+deposit_checking = path 1 (false ∷ []) (at_one Reads 1 (Param 0) 2 ∷ at_one Writes 1 (Param 0) 3 ∷ [])
+
+abbrev transact_saving : Path
+transact_saving = path 2 (false ∷ []) (at_one Reads 0 (Param 0) 0 ∷ at_one Writes 0 (Param 0) 3 ∷ [])
+
+abbrev amalgamate : Path
+amalgamate =
+    path 3 [] (at_one Reads 0 (Param 0) 0 ∷ at_one Reads 1 (Param 0) 1 ∷ at_one Writes 0 (Param 0) 2 ∷ at_one Writes 1 (Param 0) 3 ∷ at_one Reads 1 (Param 1) 4 ∷ at_one Writes 1 (Param 1) 5 ∷ [])
+
+-- the two paths of WriteCheck, the first with the penalty
+abbrev overdrawing_check : Path
+overdrawing_check = path 4 (true ∷ []) (at_one Reads 0 (Param 0) 0 ∷ at_one Reads 1 (Param 0) 1 ∷ at_one Writes 1 (Param 0) 3 ∷ [])
+
+abbrev covered_check : Path
+covered_check = path 4 (false ∷ []) (at_one Reads 0 (Param 0) 0 ∷ at_one Reads 1 (Param 0) 1 ∷ at_one Writes 1 (Param 0) 4 ∷ [])
+
 abbrev small_bank : List Path
-small_bank =
-    path 0 [] (at_one Reads 0 (Param 0) 0 ∷ at_one Reads 1 (Param 0) 1 ∷ [])
-    ∷ path 1 (false ∷ []) (at_one Reads 1 (Param 0) 2 ∷ at_one Writes 1 (Param 0) 3 ∷ [])
-    ∷ path 2 (false ∷ []) (at_one Reads 0 (Param 0) 0 ∷ at_one Writes 0 (Param 0) 3 ∷ [])
-    ∷ path 3 [] (at_one Reads 0 (Param 0) 0 ∷ at_one Reads 1 (Param 0) 1 ∷ at_one Writes 0 (Param 0) 2 ∷ at_one Writes 1 (Param 0) 3 ∷ at_one Reads 1 (Param 1) 4 ∷ at_one Writes 1 (Param 1) 5 ∷ [])
-    ∷ path 4 (true ∷ []) (at_one Reads 0 (Param 0) 0 ∷ at_one Reads 1 (Param 0) 1 ∷ at_one Writes 1 (Param 0) 3 ∷ [])
-    ∷ path 4 (false ∷ []) (at_one Reads 0 (Param 0) 0 ∷ at_one Reads 1 (Param 0) 1 ∷ at_one Writes 1 (Param 0) 4 ∷ [])
-    ∷ []
+small_bank = balance ∷ deposit_checking ∷ transact_saving ∷ amalgamate ∷ overdrawing_check ∷ covered_check ∷ []
 
 abbrev pub zero_cell : ℕ → Cell
 zero_cell table = record { table = table; first = pos 0; second = pos 0 }
@@ -84,20 +113,13 @@ reads_cover_nothing a e (inr (inr h)) = absurd (cc)
 
 -- Balance changes nothing, so nothing covers its read of a checking account that WriteCheck changes
 balance_before_check : IsVulnerable small_bank 0 4
-balance_before_check = record {
-  question = record { x = 0; a = 1; y = 4; b = 2 };
-  from = refl;
-  to = refl;
-  mine = at_one Reads 1 (Param 0) 1;
-  theirs = at_one Writes 1 (Param 0) 3;
-  asked = record { at_mine = (_, refl, refl); at_theirs = (_, refl, refl); table = refl };
-  kinds = inl (refl, inl refl);
-  holds = ((all_of 0, all_of 0, meet_at_zero Reads Writes 1 0 0 1 3), not_covered);
-}
+balance_before_check =
+    has_question (record { x = 0; a = 1; y = 4; b = 2 }) balance overdrawing_check (at_one Reads 1 (Param 0) 1) (at_one Writes 1 (Param 0) 3)
+    refl refl refl refl refl (inl (refl, inl refl)) ((all_of 0, all_of 0, meet_at_zero Reads Writes 1 0 0 1 3), not_covered)
   where
     not_covered : IsCovered small_bank 0 4 (at_one Reads 1 (Param 0) 1) (at_one Writes 1 (Param 0) 3) → ⊥
     not_covered c =
-        of_node CoversNothing small_bank 0 (path 0 [] (at_one Reads 0 (Param 0) 0 ∷ at_one Reads 1 (Param 0) 1 ∷ [])) refl
+        of_node CoversNothing small_bank 0 balance refl
         (reads_cover_nothing (at_one Reads 0 (Param 0) 0) refl, (reads_cover_nothing (at_one Reads 1 (Param 0) 1) refl, tt)) c.first c.of_first c.at_first c.first_covers
 
 -- what covers is an access of this table
@@ -106,52 +128,41 @@ CoversIn table a = MayCover a → a.table ≡ table
 
 -- WriteCheck changes checking accounts alone and TransactSaving savings, so nothing covers the read of a savings account
 check_before_transact : IsVulnerable small_bank 4 2
-check_before_transact = record {
-  question = record { x = 4; a = 0; y = 2; b = 1 };
-  from = refl;
-  to = refl;
-  mine = at_one Reads 0 (Param 0) 0;
-  theirs = at_one Writes 0 (Param 0) 3;
-  asked = record { at_mine = (_, refl, refl); at_theirs = (_, refl, refl); table = refl };
-  kinds = inl (refl, inl refl);
-  holds = ((all_of 0, all_of 0, meet_at_zero Reads Writes 0 0 0 0 3), not_covered);
-}
+check_before_transact =
+    has_question (record { x = 4; a = 0; y = 2; b = 1 }) overdrawing_check transact_saving (at_one Reads 0 (Param 0) 0) (at_one Writes 0 (Param 0) 3)
+    refl refl refl refl refl (inl (refl, inl refl)) ((all_of 0, all_of 0, meet_at_zero Reads Writes 0 0 0 0 3), not_covered)
   where
     not_covered : IsCovered small_bank 4 2 (at_one Reads 0 (Param 0) 0) (at_one Writes 0 (Param 0) 3) → ⊥
     not_covered c =
         let mine : c.of_first.table ≡ 1 =
-        of_node (CoversIn 1) small_bank 4 (path 4 (true ∷ []) (at_one Reads 0 (Param 0) 0 ∷ at_one Reads 1 (Param 0) 1 ∷ at_one Writes 1 (Param 0) 3 ∷ [])) refl
+        of_node (CoversIn 1) small_bank 4 overdrawing_check refl
         (λ m. absurd (reads_cover_nothing (at_one Reads 0 (Param 0) 0) refl m), (λ m. refl, (λ m. refl, tt))) c.first c.of_first c.at_first c.first_covers in
         let theirs : c.of_second.table ≡ 0 =
-        of_node (CoversIn 0) small_bank 2 (path 2 (false ∷ []) (at_one Reads 0 (Param 0) 0 ∷ at_one Writes 0 (Param 0) 3 ∷ [])) refl
+        of_node (CoversIn 0) small_bank 2 transact_saving refl
         (λ m. absurd (reads_cover_nothing (at_one Reads 0 (Param 0) 0) refl m), (λ m. refl, tt)) c.second c.of_second c.at_second c.second_covers in
         let same : c.of_first.table ≡ c.of_second.table = (c.same (all_of 0) (all_of 0) (meet_at_zero Reads Writes 0 0 0 0 3)).table in
         absurd (omega arith)
 
 -- Balance sees what TransactSaving puts
 transact_before_balance : StaticEdge small_bank 2 0
-transact_before_balance = inr (inl (record {
-  question = record { x = 0; a = 0; y = 2; b = 1 };
-  from = refl;
-  to = refl;
-  mine = at_one Reads 0 (Param 0) 0;
-  theirs = at_one Writes 0 (Param 0) 3;
-  asked = record { at_mine = (_, refl, refl); at_theirs = (_, refl, refl); table = refl };
-  kinds = inl (refl, inl refl);
-  holds = (all_of 0, all_of 0, meet_at_zero Reads Writes 0 0 0 0 3);
-}))
+transact_before_balance =
+    inr (inl (has_question (record { x = 0; a = 0; y = 2; b = 1 }) balance transact_saving (at_one Reads 0 (Param 0) 0) (at_one Writes 0 (Param 0) 3)
+    refl refl refl refl refl (inl (refl, inl refl)) (all_of 0, all_of 0, meet_at_zero Reads Writes 0 0 0 0 3)))
 
 small_bank_is_dangerous : IsDangerous small_bank
 small_bank_is_dangerous = (0, 4, 2, record { first = balance_before_check; second = check_before_transact; back = onward transact_before_balance here })
 
 -- ---- the computed-key set
 
--- let x = get t[a + 0] else 0; put t[b] = x;
-abbrev moves : List Path
-moves = path 0 [] (at_one Reads 0 (Unknown 0) 0 ∷ at_one Writes 0 (Param 1) 1 ∷ []) ∷ []
-
 abbrev moved : Access
 moved = at_one Writes 0 (Param 1) 1
+
+-- let x = get t[a + 0] else 0; put t[b] = x;
+abbrev move : Path
+move = path 0 [] (at_one Reads 0 (Unknown 0) 0 ∷ moved ∷ [])
+
+abbrev moves : List Path
+moves = move ∷ []
 
 -- the first instance reads what the second changes, whatever the first changes
 meet_at_one : MeetsUnder (record { parameter = (all_of 0).parameter; unknown = (all_of 1).unknown }) (all_of 1) (at_one Reads 0 (Unknown 0) 0) moved
@@ -167,20 +178,13 @@ CoversAsMoved a = MayCover a → a ≡ moved
 
 -- a cell that is equal for some arguments alone covers nothing
 move_before_move : IsVulnerable moves 0 0
-move_before_move = record {
-  question = record { x = 0; a = 0; y = 0; b = 1 };
-  from = refl;
-  to = refl;
-  mine = at_one Reads 0 (Unknown 0) 0;
-  theirs = moved;
-  asked = record { at_mine = (_, refl, refl); at_theirs = (_, refl, refl); table = refl };
-  kinds = inl (refl, inl refl);
-  holds = ((_, _, meet_at_one), not_covered);
-}
+move_before_move =
+    has_question (record { x = 0; a = 0; y = 0; b = 1 }) move move (at_one Reads 0 (Unknown 0) 0) moved
+    refl refl refl refl refl (inl (refl, inl refl)) ((_, _, meet_at_one), not_covered)
   where
     is_moved : (k : ℕ) (a : Access) → IsAccessOf moves 0 k a → MayCover a → a ≡ moved
     is_moved =
-        of_node CoversAsMoved moves 0 (path 0 [] (at_one Reads 0 (Unknown 0) 0 ∷ moved ∷ [])) refl
+        of_node CoversAsMoved moves 0 move refl
         (λ m. absurd (reads_cover_nothing (at_one Reads 0 (Unknown 0) 0) refl m), (λ m. refl, tt))
 
     not_covered : IsCovered moves 0 0 (at_one Reads 0 (Unknown 0) 0) moved → ⊥

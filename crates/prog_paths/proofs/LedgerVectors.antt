@@ -12,7 +12,7 @@ use Rattle.prog_check.specs.declared.path.Access.{Access}
 use Rattle.prog_check.specs.declared.path.Path.{Path}
 use Rattle.prog_paths.specs.Meeting.{MeetsUnder, CanMeet}
 use Rattle.prog_paths.specs.StaticGraph.{IsAccessOf, Question, AsksReadWrite, AsksWriteRead, AsksWriteWrite, HasQuestion, StaticEdge, IsCovered, IsExposed, IsVulnerable, Leads, here, onward, IsDangerous}
-use Rattle.prog_paths.proofs.GraphVectors.{at_one, at_two, path, all_of, zero_cell, zeros_of_i64, of_node, meet_at_zero, CoversNothing, CoversIn, reads_cover_nothing}
+use Rattle.prog_paths.proofs.GraphVectors.{at_one, at_two, path, all_of, zero_cell, zeros_of_i64, of_node, has_question, meet_at_zero, CoversNothing, CoversIn, reads_cover_nothing}
 
 -- ---- the sets
 
@@ -69,16 +69,9 @@ lacks_cover_nothing a e (inr (inr h)) = absurd (cc)
 
 -- the report changes nothing
 report_before_post : IsVulnerable reports 2 0
-report_before_post = record {
-  question = record { x = 2; a = 1; y = 0; b = 1 };
-  from = refl;
-  to = refl;
-  mine = entries 1;
-  theirs = at_two Adds 1 (Param 0) (Param 1) 1;
-  asked = record { at_mine = (_, refl, refl); at_theirs = (_, refl, refl); table = refl };
-  kinds = inl (refl, inr refl);
-  holds = ((all_of 0, all_of 0, entries_meet), not_covered);
-}
+report_before_post =
+    has_question (record { x = 2; a = 1; y = 0; b = 1 }) report post (entries 1) (at_two Adds 1 (Param 0) (Param 1) 1)
+    refl refl refl refl refl (inl (refl, inr refl)) ((all_of 0, all_of 0, entries_meet), not_covered)
   where
     not_covered : IsCovered reports 2 0 (entries 1) (at_two Adds 1 (Param 0) (Param 1) 1) → ⊥
     not_covered c =
@@ -87,16 +80,9 @@ report_before_post = record {
 
 -- Post adds entries alone and Close closed days
 post_before_close : IsVulnerable reports 0 1
-post_before_close = record {
-  question = record { x = 0; a = 0; y = 1; b = 0 };
-  from = refl;
-  to = refl;
-  mine = at_one Lacks 0 (Param 0) 0;
-  theirs = at_one Adds 0 (Param 0) 0;
-  asked = record { at_mine = (_, refl, refl); at_theirs = (_, refl, refl); table = refl };
-  kinds = inr (refl, refl);
-  holds = ((all_of 0, all_of 0, meet_at_zero Lacks Adds 0 0 0 0 0), not_covered);
-}
+post_before_close =
+    has_question (record { x = 0; a = 0; y = 1; b = 0 }) post close (at_one Lacks 0 (Param 0) 0) (at_one Adds 0 (Param 0) 0)
+    refl refl refl refl refl (inr (refl, refl)) ((all_of 0, all_of 0, meet_at_zero Lacks Adds 0 0 0 0 0), not_covered)
   where
     not_covered : IsCovered reports 0 1 (at_one Lacks 0 (Param 0) 0) (at_one Adds 0 (Param 0) 0) → ⊥
     not_covered c =
@@ -109,16 +95,9 @@ post_before_close = record {
 
 -- the report sees the day that Close adds
 close_before_report : StaticEdge reports 1 2
-close_before_report = inr (inl (record {
-  question = record { x = 2; a = 0; y = 1; b = 0 };
-  from = refl;
-  to = refl;
-  mine = at_one Sees 0 (Param 0) 0;
-  theirs = at_one Adds 0 (Param 0) 0;
-  asked = record { at_mine = (_, refl, refl); at_theirs = (_, refl, refl); table = refl };
-  kinds = inr (refl, refl);
-  holds = (all_of 0, all_of 0, meet_at_zero Sees Adds 0 0 0 0 0);
-}))
+close_before_report =
+    inr (inl (has_question (record { x = 2; a = 0; y = 1; b = 0 }) report close (at_one Sees 0 (Param 0) 0) (at_one Adds 0 (Param 0) 0)
+    refl refl refl refl refl (inr (refl, refl)) (all_of 0, all_of 0, meet_at_zero Sees Adds 0 0 0 0 0)))
 
 reports_are_dangerous : IsDangerous reports
 reports_are_dangerous = (2, 0, 1, record { first = report_before_post; second = post_before_close; back = onward close_before_report here })

@@ -20,3 +20,8 @@ pub mod LedgerVectors
 pub mod Nodes
 pub mod Questions
 pub mod SingleCells
+pub mod Shown
+pub mod Asked
+pub mod Membership
+pub mod Order
+pub mod Few

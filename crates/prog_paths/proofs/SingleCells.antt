@@ -1,7 +1,8 @@
 -- On a draft's paths each access that changes or keeps is of a single cell.
 use Rattle.std.specs.Prelude.{◌≡◌, ℕ, ◌+◌, List, [], ◌∷◌, ◌++◌, map, Some, slice_get}
 use Rattle.std.specs.List.{AllByRecursion}
-use Rattle.std.proofs.Common.{refl, subst, inl, inr, suc, zero}
+use Rattle.std.proofs.lemmas.Option.{slice_get-get_or}
+use Rattle.std.proofs.Common.{get_or, refl, subst, inl, inr, suc, zero}
 use Rattle.prog_tree.specs.declared.table.TableDecl.{TableDecl}
 use Rattle.prog_tree.specs.Syntax.{Name, KeyTree, One, Two, StatementTree, ProgramTree}
 use Rattle.prog_tree.specs.Syntax as s
@@ -13,6 +14,7 @@ use Rattle.prog_check.specs.Accesses.{Columns, key_columns, range_columns, colum
 use Rattle.prog_check.specs.Paths.{Passed, Route, accesses_along, path_of, routes, program_paths, paths_from, paths_of}
 use Rattle.prog_paths.specs.Meeting.{MayCover, IsSingle, IsSingleSecond}
 use Rattle.prog_paths.specs.Questions.{LawOfSingleCells}
+use Rattle.prog_paths.specs.Listing.{LawOfSingleChanges}
 
 abbrev CoversSingly : Access → Type 0
 CoversSingly a = MayCover a → IsSingle a
@@ -88,3 +90,10 @@ paths-single tables program (p ∷ ps) =
 pub law_of_single_cells : LawOfSingleCells
 law_of_single_cells draft x a access (path, is, got) =
     all-at CoversSingly path.accesses (all-at HasSingleCovers (paths_of draft) (paths-single draft.tables 0 draft.programs) x path is) a access got
+
+-- ---- each path
+
+pub law_of_single_changes : LawOfSingleChanges
+law_of_single_changes draft k d lt a e inside may =
+    let path : Path = get_or (paths_of draft) k d in
+    law_of_single_cells draft k a (get_or path.accesses a e) (path, slice_get-get_or (paths_of draft) k d lt, slice_get-get_or path.accesses a e inside) may

@@ -32,7 +32,7 @@ use Rattle.prog_paths.proofs.Numbers.{StatementFits}
 use Rattle.prog_paths.proofs.Ranges.{EnvOfI64, ChangesOfI64, Ranged, exact_i64, value_i64, env_push, changes_put}
 use Rattle.prog_paths.proofs.Values.{nth, agrees_nth, EnvFits, assigned, IsApart, fits_push, RemovesPlain}
 use Rattle.prog_paths.proofs.Cells.{change_either, changes_either, changes_here, changes_stay, keeps_either, keeps_here, keeps_stay}
-use Rattle.prog_paths.proofs.Terms.{CellIn, CellAt, KeyFits, key_fits, range_fits}
+use Rattle.prog_paths.proofs.Terms.{CellIn, CellAt, key_fits, range_fits}
 use Rattle.prog_paths.proofs.Blocks.{value_goes, Did, StatementFollows}
 
 -- ---- tables by name and by number
@@ -246,6 +246,28 @@ module _ (tables : List TableDecl) (m : TableState) (params : List Name) (parame
         of_i64 = λ h r. (k.of_i64 r.env, record { rows = r.rows; env = ranged h r; changes = subst ChangesOfI64 (sym changes) r.changes });
       }
 
+  -- what changes or keeps the cell of a key alone, and looks at nothing
+  touch_did : (number : ℕ) (st : StatementTree) (p q : Progress) (table : Name) (key : KeyTree) (cell : Cell) (kind : Kind) →
+      ((u : ℕ) → columns_of params u st ≡ Some (key_columns params u key)) →
+      ((u : ℕ) → accesses_of tables params u number st ≡ access_at kind (number_of tables table) (key_columns params u key) number ∷ []) →
+      cell_of (number_of tables table) key p.env ≡ Some cell → q.env ≡ p.env → EnvFits params parameter p.env →
+      ((v : Assignment) (columns : Columns) → CellAt v columns (number_of tables table) cell → Segment m v (access_at kind (number_of tables table) columns number ∷ []) p q) →
+      (cell.table ≡ number_of tables table → RemovesPlain tables q.changes) → (StatementFits st → Ranged m p → ChangesOfI64 q.changes) → Did tables m params parameter number st p q
+  touch_did number st p q table key cell kind columns accesses is env fits segment removes ranged =
+      let k = key_fits params parameter (number_of tables table) key p.env cell fits is in
+      record {
+        values = k.values;
+        count = λ u. ap (next_unknown u) (columns u) ∙ k.count u;
+        segment = λ f u h.
+            let v = assigned params parameter f in
+            subst (λ l. Segment m v l p q) (sym (accesses u)) (segment v (key_columns params u key) (k.fits f u h));
+        more = [];
+        env = env ∙ sym (append-nil p.env);
+        fits = subst (EnvFits params parameter) (sym env) fits;
+        removes = removes (k.fits (nth k.values) 0 (agrees_nth k.values)).holds.table;
+        of_i64 = λ h r. (k.of_i64 r.env, record { rows = r.rows; env = subst EnvOfI64 (sym env) r.env; changes = ranged h r });
+      }
+
   -- a change of the cell of a key, and no look
   write_did : (number : ℕ) (st : StatementTree) (p q : Progress) (table : Name) (key : KeyTree) (cell : Cell) (w : Option ℤ) →
       ((u : ℕ) → columns_of params u st ≡ Some (key_columns params u key)) →
@@ -253,27 +275,14 @@ module _ (tables : List TableDecl) (m : TableState) (params : List Name) (parame
       cell_of (number_of tables table) key p.env ≡ Some cell → q.env ≡ p.env → q.changes ≡ with_change p.changes cell w → q.looks ≡ p.looks →
       EnvFits params parameter p.env → (cell.table ≡ number_of tables table → RemovesPlain tables (with_change p.changes cell w)) → (StatementFits st → Ranged m p → (v : ℤ) → w ≡ Some v → IsI64 v) → Did tables m params parameter number st p q
   write_did number st p q table key cell w columns accesses is env changes looks fits removes ranged =
-      let k = key_fits params parameter (number_of tables table) key p.env cell fits is in
-      record {
-        values = k.values;
-        count = λ u. ap (next_unknown u) (columns u) ∙ k.count u;
-        segment = λ f u h.
-            let v = assigned params parameter f in
-            let a = access_at Writes (number_of tables table) (key_columns params u key) number in
-            let at = k.fits f u h in
-            subst (λ l. Segment m v l p q) (sym (accesses u))
-            (segment_change m v (a ∷ []) p q cell w (look_same m v (a ∷ []) p q looks) changes
-            (a, inl refl, is_of v Writes (number_of tables table) (key_columns params u key) number cell at.holds, inl refl)
-            (only_one v a cell (cell_is_under v Writes (number_of tables table) (key_columns params u key) number cell at)));
-        more = [];
-        env = env ∙ sym (append-nil p.env);
-        fits = subst (EnvFits params parameter) (sym env) fits;
-        removes = subst (RemovesPlain tables) (sym changes) (removes (table_of_cell k.values k));
-        of_i64 = λ h r. (k.of_i64 r.env, record { rows = r.rows; env = subst EnvOfI64 (sym env) r.env; changes = subst ChangesOfI64 (sym changes) (changes_put p.changes cell w r.changes (ranged h r)) });
-      }
-    where
-      table_of_cell : (xs : List ℤ) → KeyFits params parameter p.env (number_of tables table) key cell → cell.table ≡ number_of tables table
-      table_of_cell xs k = (k.fits (nth k.values) 0 (agrees_nth k.values)).holds.table
+      touch_did number st p q table key cell Writes columns accesses is env fits
+      (λ v cs at.
+      let a = access_at Writes (number_of tables table) cs number in
+      segment_change m v (a ∷ []) p q cell w (look_same m v (a ∷ []) p q looks) changes
+      (a, inl refl, is_of v Writes (number_of tables table) cs number cell at.holds, inl refl)
+      (only_one v a cell (cell_is_under v Writes (number_of tables table) cs number cell at)))
+      (λ in_table. subst (RemovesPlain tables) (sym changes) (removes in_table))
+      (λ h r. subst ChangesOfI64 (sym changes) (changes_put p.changes cell w r.changes (ranged h r)))
 
   keep_did : (number : ℕ) (st : StatementTree) (p q : Progress) (table : Name) (key : KeyTree) (cell : Cell) →
       ((u : ℕ) → columns_of params u st ≡ Some (key_columns params u key)) →
@@ -281,24 +290,14 @@ module _ (tables : List TableDecl) (m : TableState) (params : List Name) (parame
       cell_of (number_of tables table) key p.env ≡ Some cell → q.env ≡ p.env → q.changes ≡ with_kept p.changes cell → q.looks ≡ p.looks →
       EnvFits params parameter p.env → RemovesPlain tables p.changes → Did tables m params parameter number st p q
   keep_did number st p q table key cell columns accesses is env changes looks fits removes =
-      let k = key_fits params parameter (number_of tables table) key p.env cell fits is in
-      record {
-        values = k.values;
-        count = λ u. ap (next_unknown u) (columns u) ∙ k.count u;
-        segment = λ f u h.
-            let v = assigned params parameter f in
-            let a = access_at Keeps (number_of tables table) (key_columns params u key) number in
-            let at = k.fits f u h in
-            subst (λ l. Segment m v l p q) (sym (accesses u))
-            (segment_keep m v (a ∷ []) p q cell (look_same m v (a ∷ []) p q looks) changes
-            (a, inl refl, is_of v Keeps (number_of tables table) (key_columns params u key) number cell at.holds, refl)
-            (only_one v a cell (cell_is_under v Keeps (number_of tables table) (key_columns params u key) number cell at)));
-        more = [];
-        env = env ∙ sym (append-nil p.env);
-        fits = subst (EnvFits params parameter) (sym env) fits;
-        removes = subst (RemovesPlain tables) (sym changes) removes;
-        of_i64 = λ h r. (k.of_i64 r.env, record { rows = r.rows; env = subst EnvOfI64 (sym env) r.env; changes = subst ChangesOfI64 (sym changes) r.changes });
-      }
+      touch_did number st p q table key cell Keeps columns accesses is env fits
+      (λ v cs at.
+      let a = access_at Keeps (number_of tables table) cs number in
+      segment_keep m v (a ∷ []) p q cell (look_same m v (a ∷ []) p q looks) changes
+      (a, inl refl, is_of v Keeps (number_of tables table) cs number cell at.holds, refl)
+      (only_one v a cell (cell_is_under v Keeps (number_of tables table) cs number cell at)))
+      (λ in_table. subst (RemovesPlain tables) (sym changes) removes)
+      (λ h r. subst ChangesOfI64 (sym changes) r.changes)
 
   -- ---- one by one
 

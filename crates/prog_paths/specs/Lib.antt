@@ -1,9 +1,14 @@
+pub mod Asked
 pub mod Choices
 pub mod Columns
+pub mod Few
 pub mod Follows
 pub mod Kinds
 pub mod Law
+pub mod Listing
 pub mod Meeting
+pub mod Places
 pub mod Questions
+pub mod Shown
 pub mod StaticGraph
 pub mod Trails

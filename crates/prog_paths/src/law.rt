@@ -1,5 +1,6 @@
 //! The laws of paths and of questions, as functions that a check has to prove.
 ghost use Rattle.prog_paths.specs.Law.{LawOfPaths};
+ghost use Rattle.prog_paths.specs.Listing.{LawOfListing, LawOfOrder, LawOfSingleChanges};
 ghost use Rattle.prog_paths.specs.Questions.{LawOfMeeting, LawOfQuestions, LawOfEqualTerms, LawOfSingleCells};
 
 /// Each evaluation that ends Ready follows exactly one committing path.
@@ -14,4 +15,15 @@ pub fn law_of_questions()
     ensures consistent { LawOfQuestions }
     ensures equal { LawOfEqualTerms }
     ensures single { LawOfSingleCells }
+{}
+
+/// The list of questions has all that the paths ask, each once, in order.
+pub fn law_of_listing()
+    ensures questions { LawOfListing }
+    ensures order { LawOfOrder }
+{}
+
+/// What a path of a draft changes or keeps is a single cell.
+pub fn law_of_single_changes()
+    ensures { LawOfSingleChanges }
 {}

@@ -2,15 +2,21 @@
 //! run that ends Ready follows one path, and that facts are met just where accesses meet.
 #![tactic(auto)]
 
+mod asking;
 mod columns;
+mod count;
 mod kinds;
 mod law;
 mod listing;
+mod places;
 mod question;
 mod trail;
 mod walk;
 
-pub use law::{law_of_paths, law_of_questions};
+pub use asking::{asks_read_write, asks_write_read, both_write, may_cover};
+pub use count::is_too_large;
+pub use law::{law_of_listing, law_of_paths, law_of_questions, law_of_single_changes};
 pub use listing::paths;
+pub use places::{Placed, Question, all_places, asks, question_between};
 pub use prog_check::{Access, Accesses, Choices, Column, Kind, Path, Term};
-pub use question::{mine_node, question_facts, their_node};
+pub use question::{column_or_zero, mine_node, question_facts, their_node};

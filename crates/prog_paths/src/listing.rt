@@ -2,6 +2,7 @@
 ghost use Rattle.std.specs.Prelude.{◌≡◌, ◌≤◌, ◌++◌, map, IfOk, OnOk};
 ghost use Rattle.prog_tree.specs.Tree.{draft_tree, program_tree};
 ghost use Rattle.prog_check.specs.Paths.{statement_count, program_paths, paths_of};
+ghost use Rattle.prog_paths.specs.Few.{AreFew};
 ghost use Rattle.prog_paths.specs.Trails.{path_with};
 
 use crate::trail::Trail;
@@ -54,7 +55,8 @@ fn add_paths(
 /// The committing paths of a set, program by program, those through a branch's first block before
 /// those through its second.
 pub fn paths(alloc: Global, set: &ProgramSet) -> Result<Vec<Path>, AllocError>
-    ensures { IfOk result (λ paths. paths.items ≡ paths_of (draft_tree set.now)) }
+    ensures exact { IfOk result (λ paths. paths.items ≡ paths_of (draft_tree set.now)) }
+    ensures few { IfOk result (λ paths. AreFew paths.items) }
 {
     let mut paths = Vec::new(alloc);
     for (number, program) in set.draft().programs.iter().enumerate() {

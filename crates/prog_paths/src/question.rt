@@ -36,7 +36,8 @@ fn add_column(facts: &mut Facts, mine: Column, theirs: Column) -> Result<(), All
     Ok(())
 }
 
-fn column_or_zero(column: Option<Column>) -> Column
+/// What stands for a second column that a table doesn't have.
+pub fn column_or_zero(column: Option<Column>) -> Column
     ensures { result ≡ column_or_zero column }
 {
     let zero = Term::Literal(0);

@@ -1,4 +1,5 @@
-use Rattle.std.proofs.Common.{◌<◌, ◌∙◌, ap, subst, length, get_or}
+use Rattle.std.proofs.Common.{◌<◌, ◌∙◌, ap, subst, length, get_or, arith}
+use Rattle.prog_paths.proofs.Few.{few-at_end}
 use Rattle.prog_paths.proofs.Listed.{few_of}
 use Rattle.prog_paths.proofs.listing.paths.Goals as goal
 
@@ -8,3 +9,9 @@ add_paths-requires c =
     let same = c.deref-program-items.ensures.value ∙ ap (λ d. d.programs.items) c.draft.ensures.same in
     few_of c.args.set.now n c.program-item.result c.draft.ensures.sound (subst (λ ps. n < length ps) same c.loop-number-test.true)
     (c.program-item.is ∙ ap (λ ps. get_or ps n c.program-item.result) same)
+
+pub returns-clause-few : goal.returns-clause-few
+returns-clause-few c =
+    let same = c.deref-program-items.ensures.value ∙ ap (λ d. d.programs.items) c.draft.ensures.same in
+    let count = ap length same in
+    few-at_end c.args.set.now c.loop-number.number c.loop-number.paths.items c.draft.ensures.sound (omega (arith, count)) c.loop-number.invariant

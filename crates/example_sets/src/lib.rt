@@ -1,0 +1,96 @@
+//! Texts of sets that several crates of tests take, and the sets that they are.
+#![tactic(auto)]
+
+ghost use Rattle.std.specs.Prelude.{IfOk};
+ghost use Rattle.prog_text.specs.Answer.{Accepts};
+ghost use Rattle.prog_tree.specs.Tree.{draft_tree};
+
+use prog_check::{ProgramSet, check};
+use prog_text::parse;
+use std::alloc::Global;
+use std::test::Fail;
+
+/// SmallBank: savings and checking accounts. The canonical text.
+pub const SMALL_BANK: &str = "\
+table savings 1;
+table checking 1;
+program Balance(n) {
+  let a = get savings[n] else 0;
+  let b = get checking[n] else 0;
+  reply a + b;
+}
+program DepositChecking(n, v) {
+  if v < 0 {
+    abort;
+  }
+  let b = get checking[n] else 0;
+  put checking[n] = b + v;
+}
+program TransactSaving(n, v) {
+  let a = get savings[n] else 0;
+  if a + v < 0 {
+    abort;
+  }
+  put savings[n] = a + v;
+}
+program Amalgamate(n1, n2) {
+  let a = get savings[n1] else 0;
+  let b = get checking[n1] else 0;
+  put savings[n1] = 0;
+  put checking[n1] = 0;
+  let c = get checking[n2] else 0;
+  put checking[n2] = c + a + b;
+}
+program WriteCheck(n, v) {
+  let a = get savings[n] else 0;
+  let b = get checking[n] else 0;
+  if a + b < v {
+    put checking[n] = b - v - 1;
+  } else {
+    put checking[n] = b - v;
+  }
+}
+";
+
+/// The ledger set, with the report that needs a closed day in place of the total.
+pub const REPORT: &str = "\
+table closed 1 grow;
+table entry 2 grow;
+program Post(d, e, v) { lacks closed[d]; insert entry[d, e] = v; }
+program Close(d) { insert closed[d] = 1; }
+program Report(d) { let c = need closed[d]; let s = sum entry[d, least..greatest]; reply s; }
+";
+
+/// The ledger set.
+pub const LEDGER: &str = "\
+table closed 1 grow;
+table entry 2 grow;
+program Post(d, e, v) { lacks closed[d]; insert entry[d, e] = v; }
+program Close(d) { insert closed[d] = 1; }
+program Total(d) { let s = sum entry[d, least..greatest]; reply s; }
+";
+
+/// The transfer set.
+pub const TRANSFER: &str = "\
+table t 1;
+program Transfer(a, b, v) {
+  let x = get t[a] else 0;
+  put t[a] = x - v;
+  let y = get t[b] else 0;
+  put t[b] = y + v;
+}
+";
+
+/// The computed-key set.
+pub const MOVE: &str = "\
+table t 1;
+program Move(a, b) { let x = get t[a + 0] else 0; put t[b] = x; }
+";
+
+/// The checked set of a text.
+pub fn set_of(alloc: Global, text: &str) -> Result<ProgramSet, Fail>
+    ensures { IfOk result (λ set. Accepts text.now (draft_tree set)) }
+{
+    let draft = parse(alloc, text.as_bytes())?;
+    Ok(check(alloc, draft)?)
+}

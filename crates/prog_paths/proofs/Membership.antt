@@ -1,0 +1,242 @@
+-- Which questions stand in the list of all questions.
+use Rattle.std.proofs.Common.{◌≡◌, ℕ, ◌<◌, ◌+◌, ◌⊎◌, inl, inr, Bool, true, false, ◌||◌, ◌&&◌, List, [], ◌∷◌, ◌++◌, length, get_or, refl, sym, subst, ap, ◌∙◌, arith, zero, suc, Contains}
+use Rattle.std.specs.Prelude.{Some, slice_get, All, if◌then◌else◌, nat_lt, nat_le, ◌==◌}
+use Rattle.std.proofs.lemmas.Bool.{false≢true, eqb-true, eq-eqb, ltb-true, lt-ltb, leb-true, le-leb}
+use Rattle.std.proofs.lemmas.List.Elements.{All-head, All-tail}
+use Rattle.std.proofs.lemmas.Option.{none-some, same_Some}
+use Rattle.prog_check.specs.declared.path.Kind.{Kind}
+use Rattle.prog_check.specs.declared.path.Kind.TheVariants.{Reads, Sees, Lacks, Writes, Adds}
+use Rattle.prog_check.specs.declared.path.Access.{Access}
+use Rattle.prog_check.specs.declared.path.Path.{Path}
+use Rattle.prog_paths.specs.StaticGraph.{Question, IsInOrder}
+use Rattle.prog_paths.specs.declared.places.Placed.{Placed}
+use Rattle.prog_paths.specs.declared.places.Question.{Question as Asked}
+use Rattle.prog_paths.specs.Asked.{Asks, asks, kinds_depend, both_write, is_in_order, question_between, placed_from, all_from, asked_by, asked_among, questions_of}
+use Rattle.prog_paths.specs.Asked.{numbers_of}
+use Rattle.prog_paths.specs.Places.{IsAt}
+use Rattle.prog_paths.specs.Listing.{IsAskedOf, LawOfListing}
+use Rattle.prog_paths.proofs.Asked.{placed, all_places_stand}
+
+-- ---- membership by recursion
+
+abbrev In : {A : Type 0} → A → List A → Type 0
+In x [] = ⊥
+In x (y ∷ ys) = (y ≡ x) ⊎ In x ys
+
+In-from_Contains : (qs : List Asked) (q : Asked) → Contains qs q → In q qs
+In-from_Contains qs q c = go qs c.0 c.1 c.2
+  where
+    go : (rest : List Asked) (k : ℕ) → k < length rest → get_or rest k q ≡ q → In q rest
+    go [] k h e = absurd (omega arith)
+    go (r ∷ rest) zero h e = inl e
+    go (r ∷ rest) (suc k) h e = inr (go rest k (omega arith) e)
+
+Contains-from_In : (qs : List Asked) (q : Asked) → In q qs → Contains qs q
+Contains-from_In [] q i = absurd i
+Contains-from_In (r ∷ qs) q (inl e) = (zero, omega arith, e)
+Contains-from_In (r ∷ qs) q (inr i) = let c = Contains-from_In qs q i in (suc c.0, omega (arith, c.1), c.2)
+
+In-left : {A : Type 0} (x : A) (xs ys : List A) → In x xs → In x (xs ++ ys)
+In-left x [] ys i = absurd i
+In-left x (y ∷ xs) ys (inl e) = inl e
+In-left x (y ∷ xs) ys (inr i) = inr (In-left x xs ys i)
+
+In-right : {A : Type 0} (x : A) (xs ys : List A) → In x ys → In x (xs ++ ys)
+In-right x [] ys i = i
+In-right x (y ∷ xs) ys i = inr (In-right x xs ys i)
+
+In-split : {A : Type 0} (x : A) (xs ys : List A) → In x (xs ++ ys) → In x xs ⊎ In x ys
+In-split x [] ys i = inr i
+In-split x (y ∷ xs) ys (inl e) = inl (inl e)
+In-split x (y ∷ xs) ys (inr i) = go (In-split x xs ys i)
+  where
+    go : In x xs ⊎ In x ys → In x (y ∷ xs) ⊎ In x ys
+    go (inl k) = inl (inr k)
+    go (inr k) = inr k
+
+All-in : {A : Type 0} (P : A → Type 0) (xs : List A) (x : A) → All P xs → In x xs → P x
+All-in P [] x h i = absurd i
+All-in P (y ∷ xs) x h (inl e) = subst P e (All-head P y xs h)
+All-in P (y ∷ xs) x h (inr i) = All-in P xs x (All-tail P y xs h) i
+
+-- ---- what is asked
+
+into_if : (b : Bool) (q x : Asked) (l : List Asked) → In q l → In q (if b then x ∷ l else l)
+into_if true q x l i = inr i
+into_if false q x l i = i
+
+first_if : (b : Bool) (q x : Asked) (l : List Asked) → b ≡ true → x ≡ q → In q (if b then x ∷ l else l)
+first_if true q x l h e = inl e
+first_if false q x l h e = absurd (false≢true h)
+
+out_of_if : (b : Bool) (q x : Asked) (l : List Asked) → In q (if b then x ∷ l else l) → ((b ≡ true) × (x ≡ q)) ⊎ In q l
+out_of_if true q x l (inl e) = inl (refl, e)
+out_of_if true q x l (inr i) = inr i
+out_of_if false q x l i = inr i
+
+into_by : (first second : Placed) (seconds : List Placed) → asks first second ≡ true → In second seconds → In (question_between first second) (asked_by first seconds)
+into_by first second [] h i = absurd i
+into_by first second (s ∷ rest) h (inl e) = first_if (asks first s) _ _ (asked_by first rest) (ap (asks first) e ∙ h) (ap (question_between first) e)
+into_by first second (s ∷ rest) h (inr i) = into_if (asks first s) _ _ (asked_by first rest) (into_by first second rest h i)
+
+-- one that some place of a list is asked about
+abbrev IsBy : Placed → List Placed → Asked → Type 0
+IsBy first seconds q = (second : Placed) × In second seconds × (asks first second ≡ true) × (question_between first second ≡ q)
+
+out_of_by : (first : Placed) (seconds : List Placed) (q : Asked) → In q (asked_by first seconds) → IsBy first seconds q
+out_of_by first [] q i = absurd i
+out_of_by first (s ∷ rest) q i = go (out_of_if (asks first s) q (question_between first s) (asked_by first rest) i) (λ k. out_of_by first rest q k)
+  where
+    go : ((asks first s ≡ true) × (question_between first s ≡ q)) ⊎ In q (asked_by first rest) → (In q (asked_by first rest) → IsBy first rest q) → IsBy first (s ∷ rest) q
+    go (inl h) later = (s, inl refl, h.0, h.1)
+    go (inr k) later = let w = later k in (w.0, inr w.1, w.2, w.3)
+
+into_among : (firsts seconds : List Placed) (first second : Placed) → In first firsts → In second seconds → asks first second ≡ true → In (question_between first second) (asked_among firsts seconds)
+into_among [] seconds first second i j h = absurd i
+into_among (f ∷ firsts) seconds first second (inl e) j h =
+    subst (λ (g : Placed). In (question_between first second) (asked_by g seconds ++ asked_among firsts seconds)) (sym e)
+    (In-left _ (asked_by first seconds) (asked_among firsts seconds) (into_by first second seconds h j))
+into_among (f ∷ firsts) seconds first second (inr i) j h = In-right _ (asked_by f seconds) (asked_among firsts seconds) (into_among firsts seconds first second i j h)
+
+abbrev IsAmong : List Placed → List Placed → Asked → Type 0
+IsAmong firsts seconds q = (first : Placed) × In first firsts × IsBy first seconds q
+
+out_of_among : (firsts seconds : List Placed) (q : Asked) → In q (asked_among firsts seconds) → IsAmong firsts seconds q
+out_of_among [] seconds q i = absurd i
+out_of_among (f ∷ firsts) seconds q i = go (In-split q (asked_by f seconds) (asked_among firsts seconds) i) (λ k. out_of_among firsts seconds q k)
+  where
+    go : In q (asked_by f seconds) ⊎ In q (asked_among firsts seconds) → (In q (asked_among firsts seconds) → IsAmong firsts seconds q) → IsAmong (f ∷ firsts) seconds q
+    go (inl k) later = (f, inl refl, out_of_by f seconds q k)
+    go (inr k) later = let w = later k in (w.0, inr w.1, w.2)
+
+-- ---- all places
+
+in_node : (node n : ℕ) (xs : List Access) (i : ℕ) (a : Access) → slice_get xs i ≡ Some a → In (placed node (n + i) a) (placed_from node n xs)
+in_node node n [] i a e = absurd (none-some a e)
+in_node node n (x ∷ xs) zero a e =
+    let z : n ≡ n + 0 = omega arith in
+    let s = same_Some x a e in
+    inl (λ k. placed node (z k) (s k))
+in_node node n (x ∷ xs) (suc i) a e =
+    let z : n + 1 + i ≡ n + suc i = omega arith in
+    inr (subst (λ (k : ℕ). In (placed node k a) (placed_from node (n + 1) xs)) z (in_node node (n + 1) xs i a e))
+
+in_all : (n : ℕ) (rest : List Path) (i : ℕ) (path : Path) (k : ℕ) (a : Access) → slice_get rest i ≡ Some path → slice_get path.accesses k ≡ Some a → In (placed (n + i) k a) (all_from n rest)
+in_all n [] i path k a e f = absurd (none-some path e)
+in_all n (p ∷ rest) zero path k a e f =
+    let z : n ≡ n + 0 = omega arith in
+    let s = same_Some p path e in
+    let own = in_node n 0 p.accesses k a (subst (λ (r : Path). slice_get r.accesses k ≡ Some a) (sym s) f) in
+    let y : 0 + k ≡ k = omega arith in
+    In-left _ (placed_from n 0 p.accesses) (all_from (n + 1) rest)
+    (subst (λ (m : ℕ). In (placed m k a) (placed_from n 0 p.accesses)) z (subst (λ (m : ℕ). In (placed n m a) (placed_from n 0 p.accesses)) y own))
+in_all n (p ∷ rest) (suc i) path k a e f =
+    let z : n + 1 + i ≡ n + suc i = omega arith in
+    In-right _ (placed_from n 0 p.accesses) (all_from (n + 1) rest)
+    (subst (λ (m : ℕ). In (placed m k a) (all_from (n + 1) rest)) z (in_all (n + 1) rest i path k a e f))
+
+in_places : (paths : List Path) (p : Placed) → IsAt paths p → In p (all_from 0 paths)
+in_places paths p at =
+    let z : 0 + p.node ≡ p.node = omega arith in
+    subst (λ (m : ℕ). In (placed m p.number p.access) (all_from 0 paths)) z (in_all 0 paths p.node at.0 p.number p.access at.1 at.2)
+
+-- ---- the test of kinds and tables
+
+pub both_true : (a b : Bool) → (a && b) ≡ true → (a ≡ true) × (b ≡ true)
+both_true true b e = (refl, e)
+both_true false b e = absurd (false≢true e)
+
+pub either_true : (a b : Bool) → (a || b) ≡ true → (a ≡ true) ⊎ (b ≡ true)
+either_true true b e = inl refl
+either_true false b e = inr e
+
+pub depends-Asks : (q : Question) (mine theirs : Kind) → kinds_depend mine theirs ≡ true → Asks q mine theirs
+depends-Asks q Reads Writes e = inl (inl (refl, inl refl))
+depends-Asks q Reads Adds e = inl (inl (refl, inr refl))
+depends-Asks q Lacks Adds e = inl (inr (refl, refl))
+depends-Asks q Sees Adds e = inr (inl (inr (refl, refl)))
+depends-Asks q _ _ e = absurd (false≢true e)
+
+in_order : (first second : Placed) → is_in_order first second ≡ true → IsInOrder (numbers_of (question_between first second))
+in_order first second e = go (either_true (nat_lt first.node second.node) _ e)
+  where
+    go : (nat_lt first.node second.node ≡ true) ⊎ (((first.node == second.node) && nat_le first.number second.number) ≡ true) → IsInOrder (numbers_of (question_between first second))
+    go (inl h) = inl (ltb-true first.node second.node h)
+    go (inr h) = let p = both_true (first.node == second.node) _ h in inr (eqb-true first.node second.node p.0, leb-true first.number second.number p.1)
+
+writes_both : (mine theirs : Kind) → both_write mine theirs ≡ true → (mine ≡ Writes) × (theirs ≡ Writes)
+writes_both Writes Writes e = (refl, refl)
+writes_both _ _ e = absurd (false≢true e)
+
+pub Asks-from_asks : (first second : Placed) → asks first second ≡ true → (first.access.table ≡ second.access.table) × Asks (numbers_of (question_between first second)) first.access.kind second.access.kind
+Asks-from_asks first second e =
+    let parts = both_true (first.access.table == second.access.table) _ e in
+    (eqb-true first.access.table second.access.table parts.0, by (either_true (kinds_depend first.access.kind second.access.kind) _ parts.1))
+  where
+    by : (kinds_depend first.access.kind second.access.kind ≡ true) ⊎ ((both_write first.access.kind second.access.kind && is_in_order first second) ≡ true) → Asks (numbers_of (question_between first second)) first.access.kind second.access.kind
+    by (inl d) = depends-Asks (numbers_of (question_between first second)) first.access.kind second.access.kind d
+    by (inr w) =
+        let p = both_true (both_write first.access.kind second.access.kind) _ w in
+        let k = writes_both first.access.kind second.access.kind p.0 in
+        inr (inr (k.0, k.1, in_order first second p.1))
+
+all_true : (a b : Bool) → a ≡ true → b ≡ true → (a && b) ≡ true
+all_true true b h k = k
+all_true false b h k = absurd (false≢true h)
+
+left_true : (a b : Bool) → a ≡ true → (a || b) ≡ true
+left_true true b h = refl
+left_true false b h = absurd (false≢true h)
+
+right_true : (a b : Bool) → b ≡ true → (a || b) ≡ true
+right_true true b h = refl
+right_true false b h = h
+
+depends_true : (mine theirs m t : Kind) → mine ≡ m → theirs ≡ t → kinds_depend m t ≡ true → kinds_depend mine theirs ≡ true
+depends_true mine theirs m t a b h = (λ i. kinds_depend (a i) (b i)) ∙ h
+
+-- the question asks by its kinds, or both write and stand in order
+abbrev IsAskedBy : Placed → Placed → Type 0
+IsAskedBy first second = (kinds_depend first.access.kind second.access.kind || (both_write first.access.kind second.access.kind && is_in_order first second)) ≡ true
+
+kinds_true : (first second : Placed) → Asks (numbers_of (question_between first second)) first.access.kind second.access.kind → IsAskedBy first second
+kinds_true first second (inl (inl (m, inl t))) = left_true _ _ (depends_true first.access.kind second.access.kind Reads Writes m t refl)
+kinds_true first second (inl (inl (m, inr t))) = left_true _ _ (depends_true first.access.kind second.access.kind Reads Adds m t refl)
+kinds_true first second (inl (inr (m, t))) = left_true _ _ (depends_true first.access.kind second.access.kind Lacks Adds m t refl)
+kinds_true first second (inr (inl (inl (m, inl t)))) = left_true _ _ (depends_true first.access.kind second.access.kind Reads Writes m t refl)
+kinds_true first second (inr (inl (inl (m, inr t)))) = left_true _ _ (depends_true first.access.kind second.access.kind Reads Adds m t refl)
+kinds_true first second (inr (inl (inr (m, t)))) = left_true _ _ (depends_true first.access.kind second.access.kind Sees Adds m t refl)
+kinds_true first second (inr (inr (m, t, o))) = right_true (kinds_depend first.access.kind second.access.kind) _ (all_true (both_write first.access.kind second.access.kind) _ (λ i. both_write (m i) (t i)) (ordered o))
+  where
+    ordered : IsInOrder (numbers_of (question_between first second)) → is_in_order first second ≡ true
+    ordered (inl h) = left_true (nat_lt first.node second.node) _ (lt-ltb first.node second.node h)
+    ordered (inr (e, h)) = right_true (nat_lt first.node second.node) _ (all_true (first.node == second.node) _ (eq-eqb first.node second.node e) (le-leb first.number second.number h))
+
+pub asks-from_Asks : (first second : Placed) → first.access.table ≡ second.access.table → Asks (numbers_of (question_between first second)) first.access.kind second.access.kind → asks first second ≡ true
+asks-from_Asks first second table h = all_true (first.access.table == second.access.table) _ (eq-eqb first.access.table second.access.table table) (kinds_true first second h)
+
+-- ---- the law
+
+asked-from_in : (paths : List Path) (q : Asked) → In q (questions_of paths) → IsAskedOf paths q
+asked-from_in paths q i =
+    let w = out_of_among (all_from 0 paths) (all_from 0 paths) q i in
+    let v = w.2 in
+    subst (λ (r : Asked). IsAskedOf paths r) v.3
+    (of_places w.0 v.0 (All-in (λ p. IsAt paths p) (all_from 0 paths) w.0 (all_places_stand paths) w.1) (All-in (λ p. IsAt paths p) (all_from 0 paths) v.0 (all_places_stand paths) v.1) v.2)
+  where
+    of_places : (first second : Placed) → IsAt paths first → IsAt paths second → asks first second ≡ true → IsAskedOf paths (question_between first second)
+    of_places first second a b e =
+        let k = Asks-from_asks first second e in
+        record { mine = first.access; theirs = second.access; asked = record { at_mine = a; at_theirs = b; table = k.0 }; mine_kind = refl; their_kind = refl; asks = k.1 }
+
+in-from_asked : (paths : List Path) (q : Asked) → IsAskedOf paths q → In q (questions_of paths)
+in-from_asked paths q h =
+    let first : Placed = placed q.x q.a h.mine in
+    let second : Placed = placed q.y q.b h.theirs in
+    let own = into_among (all_from 0 paths) (all_from 0 paths) first second (in_places paths first h.asked.at_mine) (in_places paths second h.asked.at_theirs) (asks-from_Asks first second h.asked.table h.asks) in
+    let mine = h.mine_kind in
+    let theirs = h.their_kind in
+    subst (λ (r : Asked). In r (questions_of paths)) (λ i. record { x = q.x; a = q.a; y = q.y; b = q.b; mine = sym mine i; theirs = sym theirs i }) own
+
+pub law_of_listing : LawOfListing
+law_of_listing paths q = (λ c. asked-from_in paths q (In-from_Contains (questions_of paths) q c), λ h. Contains-from_In (questions_of paths) q (in-from_asked paths q h))

@@ -1,0 +1,45 @@
+-- The laws of the list of questions: it has each once, in order, and may be asked of the paths of a set.
+use Rattle.std.specs.Prelude.{◌≡◌, ◌↔◌, ℕ, ◌<◌, ◌⊎◌, List, [], ◌∷◌, All, Contains}
+use Rattle.prog_tree.specs.Syntax.{DraftTree}
+use Rattle.prog_check.specs.Paths.{paths_of}
+use Rattle.prog_check.specs.declared.path.Access.{Access}
+use Rattle.prog_check.specs.declared.path.Path.{Path}
+use Rattle.prog_paths.specs.StaticGraph.{Question, AsksOf}
+use Rattle.prog_paths.specs.declared.places.Question.{Question as Asked}
+use Rattle.prog_paths.specs.Asked.{Asks, ChangesSingleCells, numbers_of, questions_of}
+
+-- a question of the paths, with the kinds of its accesses
+pub record IsAskedOf (paths : List Path) (q : Asked) : Type 0 where
+  pub mine : Access
+  pub theirs : Access
+  pub asked : AsksOf paths (numbers_of q) mine theirs
+  pub mine_kind : q.mine ≡ mine.kind
+  pub their_kind : q.theirs ≡ theirs.kind
+  pub asks : Asks (numbers_of q) mine.kind theirs.kind
+
+-- the place of an access stands before that of another, by node and then by number
+abbrev pub IsPlaceBefore : ℕ → ℕ → ℕ → ℕ → Type 0
+IsPlaceBefore x a y b = (x < y) ⊎ ((x ≡ y) × (a < b))
+
+-- a question stands before another, by the first access and then by the second
+abbrev pub IsBefore : Question → Question → Type 0
+IsBefore p q = IsPlaceBefore p.x p.a q.x q.a ⊎ ((p.x ≡ q.x) × (p.a ≡ q.a) × IsPlaceBefore p.y p.b q.y q.b)
+
+-- the question of each thing stands before those of all that follow
+abbrev pub RiseBy : {A : Type 0} → (A → Question) → List A → Type 0
+RiseBy question [] = Unit {0}
+RiseBy question (x ∷ rest) = All (λ later. IsBefore (question x) (question later)) rest × RiseBy question rest
+
+-- the list has a question just where the paths ask it
+abbrev pub LawOfListing : Type 0
+LawOfListing = (paths : List Path) (q : Asked) → Contains (questions_of paths) q ↔ IsAskedOf paths q
+
+-- the list rises
+abbrev pub LawOfOrder : Type 0
+LawOfOrder = (paths : List Path) → RiseBy numbers_of (questions_of paths)
+
+-- ---- paths of a draft
+
+-- what a path of a draft changes or keeps is one cell each time, so the paths of a set may be asked for their pairs
+abbrev pub LawOfSingleChanges : Type 0
+LawOfSingleChanges = (draft : DraftTree) → All ChangesSingleCells (paths_of draft)
