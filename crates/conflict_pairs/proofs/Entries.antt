@@ -1,0 +1,65 @@
+-- The questions of entries, one more at a time.
+use Rattle.std.proofs.Common.{◌≡◌, ℕ, ◌<◌, ◌≤◌, ◌+◌, Bool, true, false, List, [], ◌∷◌, ◌++◌, length, map, get_or, drop, min, refl, sym, subst, ap, ◌∙◌, arith, append_assoc, length-append, suc}
+use Rattle.std.specs.Prelude.{Some, slice_get, All, if◌then◌else◌}
+use Rattle.std.proofs.lemmas.Bool.{false≢true}
+use Rattle.std.proofs.lemmas.List.{drop_more, drop_all, append-nil}
+use Rattle.std.proofs.lemmas.List.Elements.{All-nil, All-cons, All-append}
+use Rattle.prog_check.specs.declared.path.Access.{Access}
+use Rattle.prog_check.specs.declared.path.Path.{Path}
+use Rattle.prog_paths.specs.declared.places.Placed.{Placed}
+use Rattle.prog_paths.specs.declared.places.Question.{Question as Asked}
+use Rattle.conflict_pairs.specs.declared.table.Entry.{Entry}
+use Rattle.prog_paths.specs.Asked.{asks, question_between, placed_from, all_from, asked_by, asked_among, limit}
+use Rattle.conflict_pairs.specs.Table.{Table, IsRightEntry, StandsFor}
+use Rattle.prog_paths.specs.Places.{IsAt}
+use Rattle.prog_paths.proofs.Asked.{if_yes, if_no, asked_by-append, asked_among-next}
+
+-- ---- the questions of entries
+
+abbrev pub questions_in : List Entry → List Asked
+questions_in = map (λ (e : Entry). e.question)
+
+questions_in-push : (old : List Entry) (e : Entry) → questions_in (old ++ e ∷ []) ≡ questions_in old ++ e.question ∷ []
+questions_in-push [] e = refl
+questions_in-push (x ∷ old) e = ap (λ (l : List Asked). x.question ∷ l) (questions_in-push old e)
+
+pub asked-one : (old new : List Entry) (e : Entry) (first second : Placed) → asks first second ≡ true → e.question ≡ question_between first second → new ≡ old ++ e ∷ [] → questions_in new ≡ questions_in old ++ asked_by first (second ∷ [])
+asked-one old new e first second asked is added =
+    ap questions_in added ∙ questions_in-push old e ∙ ap (λ (q : Asked). questions_in old ++ q ∷ []) is
+    ∙ ap (λ (l : List Asked). questions_in old ++ l) (sym (if_yes (asks first second) (question_between first second) [] asked))
+
+pub asked-none : (old : List Entry) (first second : Placed) → asks first second ≡ false → questions_in old ≡ questions_in old ++ asked_by first (second ∷ [])
+asked-none old first second unasked =
+    sym (append-nil (questions_in old)) ∙ ap (λ (l : List Asked). questions_in old ++ l) (sym (if_no (asks first second) (question_between first second) [] unasked))
+
+asked_by-next : (first : Placed) (n : ℕ) (xs : List Placed) (d : Placed) → n < length xs → asked_by first (drop n xs) ≡ asked_by first (get_or xs n d ∷ []) ++ asked_by first (drop (n + 1) xs)
+asked_by-next first n xs d lt = ap (asked_by first) (drop_more xs n d lt) ∙ asked_by-append first (get_or xs n d ∷ []) (drop (n + 1) xs)
+
+pub asked-more : (old new : List Entry) (whole : List Asked) (first : Placed) (n : ℕ) (xs : List Placed) (d : Placed) → n < length xs → questions_in new ≡ questions_in old ++ asked_by first (get_or xs n d ∷ []) → questions_in old ++ asked_by first (drop n xs) ≡ whole → questions_in new ++ asked_by first (drop (n + 1) xs) ≡ whole
+asked-more old new whole first n xs d lt added h =
+    ap (λ (l : List Asked). l ++ asked_by first (drop (n + 1) xs)) added
+    ∙ append_assoc (questions_in old) (asked_by first (get_or xs n d ∷ [])) (asked_by first (drop (n + 1) xs))
+    ∙ ap (λ (l : List Asked). questions_in old ++ l) (sym (asked_by-next first n xs d lt))
+    ∙ h
+
+pub asked-end : (old : List Entry) (whole : List Asked) (first : Placed) (n : ℕ) (xs : List Placed) → length xs ≤ n → questions_in old ++ asked_by first (drop n xs) ≡ whole → questions_in old ≡ whole
+asked-end old whole first n xs le h = sym (append-nil (questions_in old)) ∙ ap (λ (l : List Placed). questions_in old ++ asked_by first l) (sym (drop_all n xs le)) ∙ h
+
+pub among-more : (old new : List Entry) (whole : List Asked) (n : ℕ) (xs seconds : List Placed) (d : Placed) → n < length xs → questions_in new ≡ questions_in old ++ asked_by (get_or xs n d) seconds → questions_in old ++ asked_among (drop n xs) seconds ≡ whole → questions_in new ++ asked_among (drop (n + 1) xs) seconds ≡ whole
+among-more old new whole n xs seconds d lt added h =
+    ap (λ (l : List Asked). l ++ asked_among (drop (n + 1) xs) seconds) added
+    ∙ append_assoc (questions_in old) (asked_by (get_or xs n d) seconds) (asked_among (drop (n + 1) xs) seconds)
+    ∙ ap (λ (l : List Asked). questions_in old ++ l) (sym (asked_among-next n xs seconds d lt))
+    ∙ h
+
+pub among-end : (old : List Entry) (whole : List Asked) (n : ℕ) (xs seconds : List Placed) → length xs ≤ n → questions_in old ++ asked_among (drop n xs) seconds ≡ whole → questions_in old ≡ whole
+among-end old whole n xs seconds le h = sym (append-nil (questions_in old)) ∙ ap (λ (l : List Placed). questions_in old ++ asked_among l seconds) (sym (drop_all n xs le)) ∙ h
+
+-- ---- the table
+
+pub StandsFor-from : (table : Table) (paths : List Path) (places : List Placed) (entries : List Entry) → table.nodes ≡ length paths → table.entries ≡ entries → places ≡ all_from 0 paths → questions_in entries ≡ asked_among places places → All (λ e. IsRightEntry paths e) entries → StandsFor table paths
+StandsFor-from table paths places entries nodes is all questions right = record {
+  nodes = nodes;
+  questions = ap questions_in is ∙ questions ∙ (λ i. asked_among (all i) (all i));
+  right = subst (λ (l : List Entry). All (λ e. IsRightEntry paths e) l) (sym is) right;
+}

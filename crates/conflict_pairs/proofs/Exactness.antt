@@ -1,0 +1,34 @@
+-- Which of the three a right verdict is.
+use Rattle.prog_check.specs.declared.path.Access.{Access}
+use Rattle.prog_check.specs.declared.path.Path.{Path}
+use Rattle.std.specs.Prelude.{List}
+use Rattle.prog_paths.specs.Meeting.{CanMeet}
+use Rattle.prog_paths.specs.StaticGraph.{Question}
+use Rattle.conflict_pairs.specs.declared.outcome.Verdict.{Verdict}
+use Rattle.conflict_pairs.specs.declared.outcome.Verdict.TheVariants.{Apart, Covered, Exposed}
+use Rattle.conflict_pairs.specs.Verdicts.{mine_of, theirs_of, IsRightOf}
+use Rattle.conflict_pairs.specs.Law.{IsExact, LawOfVerdicts}
+use Rattle.prog_paths.specs.Listing.{LawOfSingleChanges}
+
+exact : (nodes : List Path) (q : Question) (mine theirs : Access) (v : Verdict) → IsRightOf nodes q mine theirs v → IsExact nodes q mine theirs v
+exact nodes q mine theirs (Apart chain) h = record {
+  apart = (λ _. h.0, λ _. tt);
+  covered = (λ u. absurd u, λ t. absurd (h.0 t.1));
+  exposed = (λ u. absurd u, λ t. absurd (h.0 t.0));
+}
+exact nodes q mine theirs (Covered m t chains) h = record {
+  apart = (λ u. absurd u, λ apart. absurd (apart h.can_meet));
+  covered = (λ _. (h.asks, h.can_meet, h.least.cover), λ _. tt);
+  exposed = (λ u. absurd u, λ t. absurd (t.1 h.asks h.least.cover));
+}
+exact nodes q mine theirs (Exposed sample) h = record {
+  apart = (λ u. absurd u, λ apart. absurd (apart can));
+  covered = (λ u. absurd u, λ t. absurd (h.uncovered t.0 t.2));
+  exposed = (λ _. (can, h.uncovered), λ _. tt);
+}
+  where
+    can : CanMeet mine theirs
+    can = (mine_of sample, theirs_of sample, h.meets)
+
+pub law_of_verdicts : LawOfVerdicts
+law_of_verdicts nodes q mine theirs v asked h = exact nodes q mine theirs v (h mine theirs asked)

@@ -1,0 +1,118 @@
+-- Chains that fall, of a fact alone and among more facts.
+use Rattle.std.proofs.Common.{◌≡◌, ℕ, List, [], ◌∷◌, ◌++◌, inl, inr, sym, subst, ap, Contains}
+use Rattle.std.specs.Prelude.{Option, Some, None, slice_get, All, IfNone}
+use Rattle.std.proofs.lemmas.List.Elements.{All-append}
+use Rattle.order_facts.specs.declared.steps.Node.{Node}
+use Rattle.order_facts.specs.declared.steps.Fact.{Fact}
+use Rattle.order_facts.specs.declared.steps.Node.TheVariants.{Number}
+use Rattle.order_facts.specs.Chain.{IsStep, IsChainFrom, IsChain, RunsBetween, HasContradiction}
+use Rattle.prog_check.specs.declared.path.Column.{Column}
+use Rattle.prog_check.specs.declared.path.Access.{Access}
+use Rattle.prog_paths.specs.Questions.{mine_node, their_node, column_facts, column_or_zero, second_facts, question_facts}
+use Rattle.order_facts.proofs.Reach.{IsIn}
+use Rattle.order_facts.proofs.Chains.{IsIn-from_Contains, Contains-from_IsIn}
+use Rattle.conflict_pairs.specs.Verdicts.{IsFall, HasFall}
+use Rattle.prog_paths.specs.Shown.{Falls}
+use Rattle.conflict_pairs.specs.Search.{FallsBetween, lower_nodes, upper_nodes}
+
+-- ---- among more facts
+
+abbrev Includes : List Fact → List Fact → Type 0
+Includes more facts = (f : Fact) → IsIn f facts → IsIn f more
+
+IsStep-more : (facts more : List Fact) → Includes more facts → (a b : Node) → IsStep facts a b → IsStep more a b
+IsStep-more facts more h a b (inl c) = inl (Contains-from_IsIn more _ (h _ (IsIn-from_Contains facts _ c)))
+IsStep-more facts more h a b (inr p) = inr p
+
+IsChainFrom-more : (facts more : List Fact) → Includes more facts → (a : Node) (rest : List Node) → IsChainFrom facts a rest → IsChainFrom more a rest
+IsChainFrom-more facts more h a [] c = tt
+IsChainFrom-more facts more h a (b ∷ rest) c = (IsStep-more facts more h a b c.0, IsChainFrom-more facts more h b rest c.1)
+
+IsChain-more : (facts more : List Fact) → Includes more facts → (chain : List Node) → IsChain facts chain → IsChain more chain
+IsChain-more facts more h [] c = c
+IsChain-more facts more h (a ∷ rest) c = IsChainFrom-more facts more h a rest c
+
+Falls-more : (facts more : List Fact) → Includes more facts → (chain : List Node) → Falls facts chain → Falls more chain
+Falls-more facts more h chain f = record { greater = f.greater; smaller = f.smaller; falls = f.falls; is_chain = IsChain-more facts more h chain f.is_chain; runs = f.runs }
+
+IsIn-left : (f : Fact) (fs gs : List Fact) → IsIn f fs → IsIn f (fs ++ gs)
+IsIn-left f [] gs i = absurd i
+IsIn-left f (g ∷ fs) gs (inl e) = inl e
+IsIn-left f (g ∷ fs) gs (inr i) = inr (IsIn-left f fs gs i)
+
+IsIn-right : (f : Fact) (fs gs : List Fact) → IsIn f gs → IsIn f (fs ++ gs)
+IsIn-right f [] gs i = i
+IsIn-right f (g ∷ fs) gs i = inr (IsIn-right f fs gs i)
+
+pub Falls-left : (fs gs : List Fact) (chain : List Node) → Falls fs chain → Falls (fs ++ gs) chain
+Falls-left fs gs chain f = Falls-more fs (fs ++ gs) (λ f i. IsIn-left f fs gs i) chain f
+
+pub Falls-right : (fs gs : List Fact) (chain : List Node) → Falls gs chain → Falls (fs ++ gs) chain
+Falls-right fs gs chain f = Falls-more gs (fs ++ gs) (λ f i. IsIn-right f fs gs i) chain f
+
+-- ---- of a fact alone
+
+pub Falls-fact : (facts : List Fact) (from to : Node) → IsIn (record { lo = from; hi = to }) facts → IsFall from to → Falls facts (from ∷ to ∷ [])
+Falls-fact facts from to i f = record {
+  greater = f.greater;
+  smaller = f.smaller;
+  falls = f.falls;
+  is_chain = (inl (Contains-from_IsIn facts _ i), tt);
+  runs = (f.from_is, f.to_is);
+}
+
+pub Falls-two : (facts : List Fact) (from to : Node) (chain : List Node) → IsIn (record { lo = from; hi = to }) facts → IsFall from to × (chain ≡ from ∷ to ∷ []) → Falls facts chain
+Falls-two facts from to chain i h = subst (λ (c : List Node). Falls facts c) (sym h.1) (Falls-fact facts from to i h.0)
+
+-- ---- the nodes of a question's facts
+
+abbrev LowerAt : Column → Column → Option Column → Option Column → Node → Type 0
+LowerAt m t m2 t2 node = (i : ℕ) × (slice_get (mine_node m.low ∷ their_node t.low ∷ mine_node (column_or_zero m2).low ∷ their_node (column_or_zero t2).low ∷ []) i ≡ Some node)
+
+lower-at : (m t : Column) (m2 t2 : Option Column) (f : Fact) → IsIn f (column_facts m t ++ second_facts m2 t2) → LowerAt m t m2 t2 f.lo
+lower-at m t m2 t2 f (inl e) = (0, ap (λ (g : Fact). Some g.lo) e)
+lower-at m t m2 t2 f (inr (inl e)) = (1, ap (λ (g : Fact). Some g.lo) e)
+lower-at m t None None f (inr (inr i)) = absurd i
+lower-at m t None (Some d) f (inr (inr (inl e))) = (2, ap (λ (g : Fact). Some g.lo) e)
+lower-at m t None (Some d) f (inr (inr (inr (inl e)))) = (3, ap (λ (g : Fact). Some g.lo) e)
+lower-at m t None (Some d) f (inr (inr (inr (inr i)))) = absurd i
+lower-at m t (Some c) d f (inr (inr (inl e))) = (2, ap (λ (g : Fact). Some g.lo) e)
+lower-at m t (Some c) d f (inr (inr (inr (inl e)))) = (3, ap (λ (g : Fact). Some g.lo) e)
+lower-at m t (Some c) d f (inr (inr (inr (inr i)))) = absurd i
+
+pub lower-place : (mine theirs : Access) (f : Fact) → Contains (question_facts mine theirs) f → (i : ℕ) × (slice_get (lower_nodes mine theirs) i ≡ Some f.lo)
+lower-place mine theirs f c = lower-at mine.first theirs.first mine.second theirs.second f (IsIn-from_Contains (question_facts mine theirs) f c)
+
+abbrev UpperAt : Column → Column → Option Column → Option Column → Node → Type 0
+UpperAt m t m2 t2 node = (i : ℕ) × (slice_get (their_node t.low ∷ mine_node m.high ∷ their_node (column_or_zero t2).low ∷ mine_node (column_or_zero m2).high ∷ []) i ≡ Some node)
+
+upper-at : (m t : Column) (m2 t2 : Option Column) (f : Fact) → IsIn f (column_facts m t ++ second_facts m2 t2) → UpperAt m t m2 t2 f.hi
+upper-at m t m2 t2 f (inl e) = (0, ap (λ (g : Fact). Some g.hi) e)
+upper-at m t m2 t2 f (inr (inl e)) = (1, ap (λ (g : Fact). Some g.hi) e)
+upper-at m t None None f (inr (inr i)) = absurd i
+upper-at m t None (Some d) f (inr (inr (inl e))) = (2, ap (λ (g : Fact). Some g.hi) e)
+upper-at m t None (Some d) f (inr (inr (inr (inl e)))) = (3, ap (λ (g : Fact). Some g.hi) e)
+upper-at m t None (Some d) f (inr (inr (inr (inr i)))) = absurd i
+upper-at m t (Some c) d f (inr (inr (inl e))) = (2, ap (λ (g : Fact). Some g.hi) e)
+upper-at m t (Some c) d f (inr (inr (inr (inl e)))) = (3, ap (λ (g : Fact). Some g.hi) e)
+upper-at m t (Some c) d f (inr (inr (inr (inr i)))) = absurd i
+
+pub upper-place : (mine theirs : Access) (f : Fact) → Contains (question_facts mine theirs) f → (i : ℕ) × (slice_get (upper_nodes mine theirs) i ≡ Some f.hi)
+upper-place mine theirs f c = upper-at mine.first theirs.first mine.second theirs.second f (IsIn-from_Contains (question_facts mine theirs) f c)
+
+-- a contradiction is a chain between two of these nodes that fall
+pub FallsBetween-contradiction : (facts : List Fact) → (h : HasContradiction facts) → FallsBetween facts h.first.lo h.last.hi
+FallsBetween-contradiction facts h = record {
+  fall = record { greater = h.greater; smaller = h.smaller; from_is = h.first_is; to_is = h.last_is; falls = h.falls };
+  chain = h.chain;
+  runs = (h.chain_is, subst (λ (n : Node). RunsBetween n h.last.hi h.chain) (sym h.first_is) (subst (λ (n : Node). RunsBetween (Number h.greater) n h.chain) (sym h.last_is) h.chain_runs));
+}
+
+-- where none of some facts and none of others is of two numbers that fall, none of both is
+pub none_fall : (result : Option (List Node)) (fs gs : List Fact) → All (λ f. IsFall f.lo f.hi → ⊥) fs → IfNone result (All (λ f. IsFall f.lo f.hi → ⊥) gs) → IfNone result (All (λ f. IsFall f.lo f.hi → ⊥) (fs ++ gs))
+none_fall None fs gs h k = All-append (λ f. IsFall f.lo f.hi → ⊥) fs gs h k
+none_fall (Some chain) fs gs h k = tt
+
+-- where no fact is of two numbers that fall, none is
+pub no_fall : (facts : List Fact) → All (λ f. IsFall f.lo f.hi → ⊥) facts → HasFall facts → ⊥
+no_fall facts none h = subst (λ (f : Fact). IsFall f.lo f.hi → ⊥) h.given.2 (none h.given.0 h.fact h.given.1) h.falls

@@ -1,0 +1,7 @@
+pub mod Falling
+pub mod Covering
+pub mod Meaning
+pub mod Entries
+pub mod Moving
+pub mod Exactness
+pub mod Conditions

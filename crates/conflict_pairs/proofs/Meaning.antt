@@ -1,0 +1,163 @@
+-- What the facts of a question say, in the words of meeting and covering.
+use Rattle.std.proofs.Common.{◌≡◌, ℕ, ◌⊎◌, inl, inr, List, pos, refl, sym, subst, ◌∙◌, arith}
+use Rattle.std.specs.Prelude.{Option, Some, None, slice_get, get_or, Result, Ok, Err, IfOk}
+use Rattle.std.proofs.lemmas.Int.{ints}
+use Rattle.std.proofs.lemmas.Option.{slice_get_within, get_or_from_slice_get, same_Some}
+use Rattle.order_facts.specs.declared.steps.Node.{Node}
+use Rattle.order_facts.specs.declared.steps.Fact.{Fact}
+use Rattle.order_facts.specs.declared.sample.Choice.{Choice}
+use Rattle.order_facts.specs.Chain as facts
+use Rattle.order_facts.specs.Sample.{assignment_of}
+use Rattle.order_facts.proofs.Chains.{reaches-from_chain}
+use Rattle.order_facts.proofs.Exact.{orderly_from_IsConsistent}
+use Rattle.prog_check.specs.declared.path.Kind.TheVariants.{Writes, Adds}
+use Rattle.prog_check.specs.declared.path.Term.{Term}
+use Rattle.prog_check.specs.declared.path.Term.TheVariants.{Literal}
+use Rattle.prog_check.specs.declared.path.Column.{Column}
+use Rattle.prog_check.specs.declared.path.Access.{Access}
+use Rattle.prog_check.specs.declared.path.Path.{Path}
+use Rattle.prog_paths.specs.Meeting.{Assignment, MeetsUnder, CanMeet, MayCover, IsSingle, AreSameCell, second_under}
+use Rattle.prog_paths.specs.StaticGraph.{Question, IsAccessOf, IsCovered}
+use Rattle.prog_paths.specs.Questions.{question_facts, AreEqualWhereTheyMeet, EntailsEqual}
+use Rattle.prog_paths.proofs.Questions.{law_of_meeting, law_of_questions, law_of_equal_terms}
+use Rattle.prog_paths.specs.Asked.{Asks, IsQuestion, ChangesSingleCells, two, between}
+use Rattle.conflict_pairs.specs.declared.outcome.Verdict.{Verdict}
+use Rattle.conflict_pairs.specs.declared.outcome.Verdict.TheVariants.{Apart, Covered, Exposed}
+use Rattle.conflict_pairs.specs.Verdicts.{HasFall, NumbersFall, mine_of, theirs_of, IsCoveredBy, IsExposedBy, IsRightOf, IsRight}
+use Rattle.prog_paths.specs.Shown.{Falls, second_pair}
+use Rattle.prog_paths.specs.Shown.{AllEqual, CoversBy}
+use Rattle.conflict_pairs.specs.Search.{CoversAt, IsCoverFound, ShowEqualAt, IsNoCover, IsUncovered, IsJudged}
+use Rattle.prog_paths.proofs.Shown.{IsPair, apart-from_Falls, same-from_CoversBy, CoversBy-from_same, single_at, may_cover-second}
+
+-- an access of one of two paths
+pub access-first : (x y : Path) (k : ℕ) (a : Access) → IsAccessOf (two x y) 0 k a → slice_get x.accesses k ≡ Some a
+access-first x y k a at = subst (λ (p : Path). slice_get p.accesses k ≡ Some a) (sym (same_Some x at.0 at.1)) at.2
+
+pub access-second : (x y : Path) (k : ℕ) (a : Access) → IsAccessOf (two x y) 1 k a → slice_get y.accesses k ≡ Some a
+access-second x y k a at = subst (λ (p : Path). slice_get p.accesses k ≡ Some a) (sym (same_Some y at.0 at.1)) at.2
+
+module _ (x y : Path) (a b : ℕ) (mine theirs : Access) (pair : IsPair mine theirs) (single_x : ChangesSingleCells x) (single_y : ChangesSingleCells y) where
+  abbrev own_facts : List Fact
+  own_facts = question_facts mine theirs
+
+  IsCovered-from_CoversAt : (m t : ℕ) → CoversAt own_facts x.accesses y.accesses m t → IsCovered (two x y) 0 1 mine theirs
+  IsCovered-from_CoversAt m t h = record {
+    first = m;
+    second = t;
+    of_first = h.mine;
+    of_second = h.theirs;
+    at_first = (x, refl, h.at_mine);
+    at_second = (y, refl, h.at_theirs);
+    first_covers = h.covers.mine_covers;
+    second_covers = h.covers.theirs_covers;
+    same = same-from_CoversBy mine theirs pair h.mine h.theirs (single_at x m h.mine single_x h.at_mine h.covers.mine_covers) (single_at y t h.theirs single_y h.at_theirs h.covers.theirs_covers) h.covers;
+  }
+
+  CoversAt-from_IsCovered : CanMeet mine theirs → (h : IsCovered (two x y) 0 1 mine theirs) → CoversAt own_facts x.accesses y.accesses h.first h.second
+  CoversAt-from_IsCovered can h = record {
+    mine = h.of_first;
+    theirs = h.of_second;
+    at_mine = access-first x y h.first h.of_first h.at_first;
+    at_theirs = access-second x y h.second h.of_second h.at_second;
+    covers = CoversBy-from_same mine theirs pair h.of_first h.of_second h.first_covers h.second_covers can h.same;
+  }
+
+  can_meet : facts.IsConsistent own_facts → CanMeet mine theirs
+  can_meet k = (law_of_questions mine theirs pair.table pair.single).0 k
+
+  covered-right : (m t : ℕ) (chains : List (List Node)) → IsCoverFound own_facts mine.kind theirs.kind x.accesses y.accesses m t → ShowEqualAt own_facts x.accesses y.accesses m t chains → IsCoveredBy (two x y) (between a b) mine theirs m t chains
+  unfolding IsCovered-from_CoversAt
+  covered-right m t chains h equal = record {
+    asks = h.asks (between a b);
+    can_meet = can_meet h.consistent;
+    least = record {
+      cover = IsCovered-from_CoversAt m t h.first.covers;
+      mine_is = refl;
+      theirs_is = refl;
+      least = λ other. h.first.least other.first other.second (CoversAt-from_IsCovered (can_meet h.consistent) other);
+    };
+    equal = equal h.first.covers.mine h.first.covers.theirs h.first.covers.at_mine h.first.covers.at_theirs;
+  }
+
+  exposed-right : (sample : List Choice) → IsUncovered own_facts (Exposed sample) → IsNoCover own_facts mine.kind theirs.kind x.accesses y.accesses → IsExposedBy (two x y) (between a b) mine theirs sample
+  exposed-right sample h none = record {
+    meets = meets;
+    nearest = h.1;
+    uncovered = λ asks c. none consistent (between a b) asks c.first c.second (CoversAt-from_IsCovered (can_meet consistent) c);
+  }
+    where
+      consistent : facts.IsConsistent own_facts
+      consistent = (assignment_of sample, h.0.0, h.0.1)
+
+      meets : MeetsUnder (mine_of sample) (theirs_of sample) mine theirs
+      meets = record {
+        mine_of_i64 = record { parameter = h.0.0.mine; unknown = h.0.0.mine_unknown };
+        theirs_of_i64 = record { parameter = h.0.0.theirs; unknown = h.0.0.theirs_unknown };
+        meet = (law_of_meeting mine theirs pair.table pair.single (mine_of sample) (theirs_of sample)).0 h.0.1;
+      }
+
+  right-from_judged : (v : Verdict) → IsJudged x.accesses y.accesses mine theirs v → IsRightOf (two x y) (between a b) mine theirs v
+  right-from_judged (Apart chain) h = (apart-from_Falls mine theirs pair chain h, h)
+  right-from_judged (Covered m t chains) h = covered-right m t chains h.0 h.1
+  right-from_judged (Exposed sample) h = exposed-right sample h.0 h.1
+
+-- what is said of the accesses at these places is right of the question
+pub IsRight-from_IsJudged : (x y : Path) (a b : ℕ) (d e : Access) → IsQuestion (two x y) (between a b) → ChangesSingleCells x → ChangesSingleCells y → (v : Verdict) → IsJudged x.accesses y.accesses (get_or x.accesses a d) (get_or y.accesses b e) v → IsRight (two x y) (between a b) v
+IsRight-from_IsJudged x y a b d e q single_x single_y v h mine theirs asked =
+    right-from_judged x y a b mine theirs pair single_x single_y v
+    (subst (λ (n : Access). IsJudged x.accesses y.accesses n theirs v) first_is
+    (subst (λ (n : Access). IsJudged x.accesses y.accesses (get_or x.accesses a d) n v) second_is h))
+  where
+    at_mine : slice_get x.accesses a ≡ Some mine
+    at_mine = access-first x y a mine asked.at_mine
+
+    at_theirs : slice_get y.accesses b ≡ Some theirs
+    at_theirs = access-second x y b theirs asked.at_theirs
+
+    first_is : get_or x.accesses a d ≡ mine
+    first_is = get_or_from_slice_get x.accesses a mine d at_mine
+
+    second_is : get_or y.accesses b e ≡ theirs
+    second_is = get_or_from_slice_get y.accesses b theirs e at_theirs
+
+    same_second : q.theirs ≡ theirs
+    same_second = same_Some _ _ (sym (access-second x y b q.theirs q.asked.at_theirs) ∙ at_theirs)
+
+    pair : IsPair mine theirs
+    pair = record {
+      table = asked.table;
+      single = single_at y b theirs single_y at_theirs (subst MayCover same_second (may_cover-second (between a b) q.mine q.theirs q.asks));
+    }
+
+-- the same of lists that are the paths' accesses
+pub IsRight-from_lists : (x y : Path) (a b : ℕ) (xs ys : List Access) (d e : Access) → IsQuestion (two x y) (between a b) → ChangesSingleCells x → ChangesSingleCells y → xs ≡ x.accesses → ys ≡ y.accesses → (v : Verdict) → IsJudged xs ys (get_or xs a d) (get_or ys b e) v → IsRight (two x y) (between a b) v
+IsRight-from_lists x y a b xs ys d e q single_x single_y is_xs is_ys v h =
+    IsRight-from_IsJudged x y a b d e q single_x single_y v
+    (subst (λ (l : List Access). IsJudged l y.accesses (get_or l a d) (get_or y.accesses b e) v) is_xs
+    (subst (λ (l : List Access). IsJudged xs l (get_or xs a d) (get_or l b e) v) is_ys h))
+
+-- ---- where nothing covers
+
+IsJudged-from_own : (xs ys : List Access) (mine theirs : Access) (v : Verdict) → IsUncovered (question_facts mine theirs) v → IsNoCover (question_facts mine theirs) mine.kind theirs.kind xs ys → IsJudged xs ys mine theirs v
+IsJudged-from_own xs ys mine theirs (Apart chain) h none = h
+IsJudged-from_own xs ys mine theirs (Covered m t chains) h none = absurd h
+IsJudged-from_own xs ys mine theirs (Exposed sample) h none = (h, none)
+
+pub IsJudged-from_uncovered : (xs ys : List Access) (mine theirs : Access) (fs : List Fact) (v : Verdict) → fs ≡ question_facts mine theirs → IsUncovered fs v → IsNoCover fs mine.kind theirs.kind xs ys → IsJudged xs ys mine theirs v
+IsJudged-from_uncovered xs ys mine theirs fs v e h none =
+    IsJudged-from_own xs ys mine theirs v (subst (λ (gs : List Fact). IsUncovered gs v) e h) (subst (λ (gs : List Fact). IsNoCover gs mine.kind theirs.kind xs ys) e none)
+
+-- ---- at once
+
+pub IfOk_then : {T E : Type 0} {P : T → Type 0} (r : Result T E) (Q : T → Type 0) → IfOk r P → ((x : T) → P x → Q x) → IfOk r Q
+IfOk_then (Ok x) Q h f = f x h
+IfOk_then (Err e) Q h f = tt
+
+pub HasFall-from_lists : (x y : Path) (a b : ℕ) (xs ys : List Access) (d e : Access) → xs ≡ x.accesses → ys ≡ y.accesses → NumbersFall (two x y) (between a b) → HasFall (question_facts (get_or xs a d) (get_or ys b e))
+HasFall-from_lists x y a b xs ys d e is_xs is_ys h =
+    let first = get_or_from_slice_get x.accesses a h.mine d (access-first x y a h.mine h.asked.at_mine) in
+    let second = get_or_from_slice_get y.accesses b h.theirs e (access-second x y b h.theirs h.asked.at_theirs) in
+    subst (λ (l : List Access). HasFall (question_facts (get_or l a d) (get_or ys b e))) (sym is_xs)
+    (subst (λ (l : List Access). HasFall (question_facts (get_or x.accesses a d) (get_or l b e))) (sym is_ys)
+    (subst (λ (n : Access). HasFall (question_facts n (get_or y.accesses b e))) (sym first)
+    (subst (λ (n : Access). HasFall (question_facts h.mine n)) (sym second) h.falls)))

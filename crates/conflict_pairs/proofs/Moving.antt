@@ -1,0 +1,133 @@
+-- A question between two paths is that of a list in which they stand.
+use Rattle.std.proofs.Common.{◌≡◌, ℕ, ◌<◌, ◌⊎◌, inl, inr, Bool, true, false, List, ◌||◌, ◌&&◌, refl, sym, subst, ap, ◌∙◌, arith, get_or, length}
+use Rattle.std.specs.Prelude.{Some, slice_get, All, ◌==◌}
+use Rattle.std.proofs.lemmas.Bool.{false≢true, eqb-true}
+use Rattle.std.proofs.lemmas.Option.{slice_get_within, get_or_from_slice_get, same_Some}
+use Rattle.order_facts.specs.declared.steps.Node.{Node}
+use Rattle.prog_check.specs.declared.path.Kind.{Kind}
+use Rattle.prog_check.specs.declared.path.Kind.TheVariants.{Reads, Sees, Lacks, Writes, Adds}
+use Rattle.prog_check.specs.declared.path.Access.{Access}
+use Rattle.prog_check.specs.declared.path.Path.{Path}
+use Rattle.prog_paths.specs.StaticGraph.{Question, IsAccessOf, IsCovered}
+use Rattle.prog_paths.specs.declared.places.Placed.{Placed}
+use Rattle.conflict_pairs.specs.declared.outcome.Verdict.{Verdict}
+use Rattle.conflict_pairs.specs.declared.outcome.Verdict.TheVariants.{Apart, Covered, Exposed}
+use Rattle.prog_paths.specs.Asked.{Asks, IsQuestion, ChangesSingleCells, two, between, asks, kinds_depend, both_write, is_in_order}
+use Rattle.conflict_pairs.specs.Verdicts.{IsCoveredBy, IsRightOf, IsRight}
+use Rattle.prog_paths.specs.Places.{IsAt}
+use Rattle.prog_paths.proofs.Membership.{both_true, either_true, depends-Asks}
+
+-- ---- what is asked
+
+write-Asks : (a b : ℕ) (mine theirs : Kind) → both_write mine theirs ≡ true → Asks (between a b) mine theirs
+write-Asks a b Writes Writes e = inr (inr (refl, refl, inl (omega arith)))
+write-Asks a b _ _ e = absurd (false≢true e)
+
+-- what one placed access asks of another is a question between their paths
+asked_between : (a b : ℕ) (first second : Placed) → asks first second ≡ true → (first.access.table ≡ second.access.table) × Asks (between a b) first.access.kind second.access.kind
+asked_between a b first second e =
+    let parts = both_true (first.access.table == second.access.table) _ e in
+    (same_table parts.0, by (either_true (kinds_depend first.access.kind second.access.kind) _ parts.1))
+  where
+    same_table : (first.access.table == second.access.table) ≡ true → first.access.table ≡ second.access.table
+    same_table t = eqb-true first.access.table second.access.table t
+
+    by : (kinds_depend first.access.kind second.access.kind ≡ true) ⊎ ((both_write first.access.kind second.access.kind && is_in_order first second) ≡ true) → Asks (between a b) first.access.kind second.access.kind
+    by (inl d) = depends-Asks (between a b) first.access.kind second.access.kind d
+    by (inr w) = write-Asks a b first.access.kind second.access.kind (both_true (both_write first.access.kind second.access.kind) _ w).0
+
+-- the path of a placed access, read from the list
+path_is : (paths : List Path) (p : Placed) (d : Path) → (at : IsAt paths p) → get_or paths p.node d ≡ at.0
+path_is paths p d at = get_or_from_slice_get paths p.node at.0 d at.1
+
+pub node_within : (paths : List Path) (p : Placed) → IsAt paths p → p.node < length paths
+node_within paths p at = slice_get_within paths p.node at.0 at.1
+
+pub number_at : (paths : List Path) (p : Placed) (path : Path) → path ≡ get_or paths p.node path → IsAt paths p → slice_get path.accesses p.number ≡ Some p.access
+number_at paths p path is at = subst (λ (z : Path). slice_get z.accesses p.number ≡ Some p.access) (sym (is ∙ path_is paths p path at)) at.2
+
+pub IsQuestion-between : (paths : List Path) (first second : Placed) (x y : Path) → IsAt paths first → IsAt paths second → asks first second ≡ true → x ≡ get_or paths first.node x → y ≡ get_or paths second.node y → IsQuestion (two x y) (between first.number second.number)
+IsQuestion-between paths first second x y at_first at_second e is_x is_y =
+    let asked = asked_between first.number second.number first second e in
+    record {
+      mine = first.access;
+      theirs = second.access;
+      asked = record { at_mine = (x, refl, number_at paths first x is_x at_first); at_theirs = (y, refl, number_at paths second y is_y at_second); table = asked.0 };
+      asks = asked.1;
+    }
+
+pub single_of : (paths : List Path) (p : Placed) (path : Path) → All ChangesSingleCells paths → IsAt paths p → path ≡ get_or paths p.node path → ChangesSingleCells path
+single_of paths p path h at is = subst ChangesSingleCells (sym is) (h p.node path (node_within paths p at))
+
+-- ---- the verdict
+
+module _ (paths : List Path) (x y : Path) (i a j b : ℕ) (at_x : slice_get paths i ≡ Some x) (at_y : slice_get paths j ≡ Some y) where
+  abbrev here : Question
+  here = record { x = i; a = a; y = j; b = b }
+
+  first_there : (k : ℕ) (access : Access) → IsAccessOf (two x y) 0 k access → IsAccessOf paths i k access
+  first_there k access h = (x, at_x, subst (λ (p : Path). slice_get p.accesses k ≡ Some access) (sym (same_Some x h.0 h.1)) h.2)
+
+  second_there : (k : ℕ) (access : Access) → IsAccessOf (two x y) 1 k access → IsAccessOf paths j k access
+  second_there k access h = (y, at_y, subst (λ (p : Path). slice_get p.accesses k ≡ Some access) (sym (same_Some y h.0 h.1)) h.2)
+
+  first_back : (k : ℕ) (access : Access) → IsAccessOf paths i k access → IsAccessOf (two x y) 0 k access
+  first_back k access h = (x, refl, subst (λ (p : Path). slice_get p.accesses k ≡ Some access) (sym (same_Some x h.0 (sym at_x ∙ h.1))) h.2)
+
+  second_back : (k : ℕ) (access : Access) → IsAccessOf paths j k access → IsAccessOf (two x y) 1 k access
+  second_back k access h = (y, refl, subst (λ (p : Path). slice_get p.accesses k ≡ Some access) (sym (same_Some y h.0 (sym at_y ∙ h.1))) h.2)
+
+  cover_there : (mine theirs : Access) → IsCovered (two x y) 0 1 mine theirs → IsCovered paths i j mine theirs
+  cover_there mine theirs h = record {
+    first = h.first;
+    second = h.second;
+    of_first = h.of_first;
+    of_second = h.of_second;
+    at_first = first_there h.first h.of_first h.at_first;
+    at_second = second_there h.second h.of_second h.at_second;
+    first_covers = h.first_covers;
+    second_covers = h.second_covers;
+    same = h.same;
+  }
+
+  cover_back : (mine theirs : Access) → IsCovered paths i j mine theirs → IsCovered (two x y) 0 1 mine theirs
+  cover_back mine theirs h = record {
+    first = h.first;
+    second = h.second;
+    of_first = h.of_first;
+    of_second = h.of_second;
+    at_first = first_back h.first h.of_first h.at_first;
+    at_second = second_back h.second h.of_second h.at_second;
+    first_covers = h.first_covers;
+    second_covers = h.second_covers;
+    same = h.same;
+  }
+
+  covered_there : (mine theirs : Access) (m t : ℕ) (chains : List (List Node)) → IsCoveredBy (two x y) (between a b) mine theirs m t chains → IsCoveredBy paths here mine theirs m t chains
+  unfolding cover_there cover_back
+  covered_there mine theirs m t chains h = record {
+    asks = h.asks;
+    can_meet = h.can_meet;
+    least = record {
+      cover = cover_there mine theirs h.least.cover;
+      mine_is = h.least.mine_is;
+      theirs_is = h.least.theirs_is;
+      least = λ other. h.least.least (cover_back mine theirs other);
+    };
+    equal = h.equal;
+  }
+
+  right_there : (mine theirs : Access) (v : Verdict) → IsRightOf (two x y) (between a b) mine theirs v → IsRightOf paths here mine theirs v
+  right_there mine theirs (Apart chain) h = h
+  right_there mine theirs (Covered m t chains) h = covered_there mine theirs m t chains h
+  right_there mine theirs (Exposed sample) h = record { meets = h.meets; nearest = h.nearest; uncovered = λ asks c. h.uncovered asks (cover_back mine theirs c) }
+
+  pub IsRight-there : (v : Verdict) → IsRight (two x y) (between a b) v → IsRight paths here v
+  IsRight-there v h mine theirs asked =
+      right_there mine theirs v (h mine theirs (record { at_mine = first_back a mine asked.at_mine; at_theirs = second_back b theirs asked.at_theirs; table = asked.table }))
+
+pub IsRight-placed : (paths : List Path) (first second : Placed) (x y : Path) → IsAt paths first → IsAt paths second → x ≡ get_or paths first.node x → y ≡ get_or paths second.node y → (v : Verdict) → IsRight (two x y) (between first.number second.number) v → IsRight paths (record { x = first.node; a = first.number; y = second.node; b = second.number }) v
+IsRight-placed paths first second x y at_first at_second is_x is_y v h =
+    IsRight-there paths x y first.node first.number second.node second.number
+    (at_first.1 ∙ ap Some (sym (is_x ∙ path_is paths first x at_first)))
+    (at_second.1 ∙ ap Some (sym (is_y ∙ path_is paths second y at_second))) v h

@@ -1,0 +1,7 @@
+use Rattle.std.proofs.Common.{ℕ, ◌<◌}
+use Rattle.conflict_pairs.specs.Search.{CoversAt}
+use Rattle.conflict_pairs.proofs.cover.least_cover.Given as goal
+
+-- no access so far covers
+abbrev pub invariant-loop-m : goal.invariant-loop-m
+invariant-loop-m l = (i t : ℕ) → i < l.m → CoversAt l.closed l.mine l.theirs i t → ⊥

@@ -1,0 +1,5 @@
+pub mod Chain
+pub mod Verdicts
+pub mod Search
+pub mod Table
+pub mod Law

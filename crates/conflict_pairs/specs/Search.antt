@@ -1,0 +1,86 @@
+-- What the search for a verdict finds, over the facts alone.
+use Rattle.std.specs.Prelude.{◌≡◌, ◌<◌, ◌≤◌, ◌⊎◌, ℕ, List, [], ◌∷◌, Some, slice_get}
+use Rattle.order_facts.specs.declared.steps.Node.{Node}
+use Rattle.order_facts.specs.declared.steps.Fact.{Fact}
+use Rattle.order_facts.specs.Chain.{Entails, IsConsistent, IsOfI64, Meets}
+use Rattle.order_facts.specs.Sample.{sample_number, assignment_of, IsSampled}
+use Rattle.prog_check.specs.declared.path.Kind.{Kind}
+use Rattle.prog_paths.specs.StaticGraph.{Question, AsksReadWrite}
+use Rattle.prog_check.specs.declared.path.Term.{Term}
+use Rattle.prog_check.specs.declared.path.Access.{Access}
+use Rattle.prog_paths.specs.Meeting.{MayCover}
+use Rattle.prog_paths.specs.Questions.{mine_node, their_node, column_or_zero, question_facts}
+use Rattle.conflict_pairs.specs.Verdicts.{IsFall}
+use Rattle.conflict_pairs.specs.declared.outcome.Verdict.{Verdict}
+use Rattle.conflict_pairs.specs.declared.outcome.Verdict.TheVariants.{Apart, Covered, Exposed}
+use Rattle.prog_paths.specs.Shown.{Falls, Runs, ShowEqual, key_pairs, CoversBy}
+
+-- ---- apart
+
+-- some chain of the facts runs from the first node to the second, which are numbers that fall
+pub record FallsBetween (facts : List Fact) (from to : Node) : Type 0 where
+  pub fall : IsFall from to
+  pub chain : List Node
+  pub runs : Runs facts from to chain
+
+-- the lower nodes of a question's facts
+abbrev pub lower_nodes : Access → Access → List Node
+lower_nodes mine theirs =
+    mine_node mine.first.low ∷ their_node theirs.first.low
+    ∷ mine_node (column_or_zero mine.second).low ∷ their_node (column_or_zero theirs.second).low ∷ []
+
+-- the upper nodes of a question's facts
+abbrev pub upper_nodes : Access → Access → List Node
+upper_nodes mine theirs =
+    their_node theirs.first.low ∷ mine_node mine.first.high
+    ∷ their_node (column_or_zero theirs.second).low ∷ mine_node (column_or_zero mine.second).high ∷ []
+
+-- ---- covered
+
+-- access `m` of one list and access `t` of another cover
+pub record CoversAt (facts : List Fact) (xs ys : List Access) (m t : ℕ) : Type 0 where
+  pub mine : Access
+  pub theirs : Access
+  pub at_mine : slice_get xs m ≡ Some mine
+  pub at_theirs : slice_get ys t ≡ Some theirs
+  pub covers : CoversBy facts mine theirs
+
+-- they do, and no pair before them
+pub record CoversFirst (facts : List Fact) (xs ys : List Access) (m t : ℕ) : Type 0 where
+  pub covers : CoversAt facts xs ys m t
+  pub least : (i j : ℕ) → CoversAt facts xs ys i j → (m < i) ⊎ ((m ≡ i) × (t ≤ j))
+
+-- such a pair is found for a question that asks for a read-write dependency and can meet
+pub record IsCoverFound (facts : List Fact) (mine theirs : Kind) (xs ys : List Access) (m t : ℕ) : Type 0 where
+  pub consistent : IsConsistent facts
+  pub asks : (q : Question) → AsksReadWrite q mine theirs
+  pub first : CoversFirst facts xs ys m t
+
+-- where such a question can meet there is none
+abbrev pub IsNoCover : List Fact → Kind → Kind → List Access → List Access → Type 0
+IsNoCover facts mine theirs xs ys =
+    IsConsistent facts → (q : Question) → AsksReadWrite q mine theirs → (m t : ℕ) → ¬ CoversAt facts xs ys m t
+
+-- what the facts say where nothing covers: a chain falls, or they are met by the sample, and not covered
+abbrev pub IsUncovered : List Fact → Verdict → Type 0
+IsUncovered facts (Apart chain) = Falls facts chain
+IsUncovered facts (Covered m t chains) = ⊥
+IsUncovered facts (Exposed sample) =
+    (IsOfI64 (assignment_of sample) × Meets (assignment_of sample) facts)
+    × ((n : Node) → IsSampled facts n (sample_number sample n))
+
+-- the chains show that the two accesses at these places have one cell
+abbrev pub ShowEqualAt : List Fact → List Access → List Access → ℕ → ℕ → List (List Node) → Type 0
+ShowEqualAt facts xs ys m t chains =
+    (mine theirs : Access) → slice_get xs m ≡ Some mine → slice_get ys t ≡ Some theirs
+    → ShowEqual facts (key_pairs mine theirs) chains
+
+-- the verdict says what the facts say of two accesses of two paths
+abbrev pub IsJudged : List Access → List Access → Access → Access → Verdict → Type 0
+IsJudged xs ys mine theirs (Apart chain) = IsUncovered (question_facts mine theirs) (Apart chain)
+IsJudged xs ys mine theirs (Covered m t chains) =
+    IsCoverFound (question_facts mine theirs) mine.kind theirs.kind xs ys m t
+    × ShowEqualAt (question_facts mine theirs) xs ys m t chains
+IsJudged xs ys mine theirs (Exposed sample) =
+    IsUncovered (question_facts mine theirs) (Exposed sample)
+    × IsNoCover (question_facts mine theirs) mine.kind theirs.kind xs ys

@@ -1,0 +1,93 @@
+-- When a verdict on a question is right.
+use Rattle.std.specs.Prelude.{◌≡◌, ℕ, ◌<◌, ◌≤◌, ◌⊎◌, ℤ, ◌<ℤ◌, List, [], ◌∷◌, Option, Some, None, Contains}
+use Rattle.order_facts.specs.declared.steps.Node.{Node}
+use Rattle.order_facts.specs.declared.steps.Node.TheVariants.{Mine, MineUnknown, Theirs, TheirsUnknown, Number}
+use Rattle.order_facts.specs.declared.steps.Fact.{Fact}
+use Rattle.order_facts.specs.declared.sample.Choice.{Choice}
+use Rattle.order_facts.specs.Chain.{IsChain, RunsBetween}
+use Rattle.order_facts.specs.Sample.{sample_number, IsSampled}
+use Rattle.prog_check.specs.declared.path.Term.{Term}
+use Rattle.prog_check.specs.declared.path.Column.{Column}
+use Rattle.prog_check.specs.declared.path.Access.{Access}
+use Rattle.prog_check.specs.declared.path.Path.{Path}
+use Rattle.prog_paths.specs.Meeting.{Assignment, MeetsUnder, CanMeet}
+use Rattle.prog_paths.specs.Questions.{mine_node, their_node, column_or_zero, question_facts}
+use Rattle.prog_paths.specs.StaticGraph.{Question, AsksOf, AsksReadWrite, IsCovered}
+use Rattle.conflict_pairs.specs.declared.outcome.Verdict.{Verdict}
+use Rattle.conflict_pairs.specs.declared.outcome.Verdict.TheVariants.{Apart, Covered, Exposed}
+use Rattle.prog_paths.specs.Shown.{Falls, key_pairs, ShowEqual}
+
+-- ---- apart
+
+-- both nodes are numbers, the second smaller
+pub record IsFall (from to : Node) : Type 0 where
+  pub greater : ℤ
+  pub smaller : ℤ
+  pub from_is : from ≡ Number greater
+  pub to_is : to ≡ Number smaller
+  pub falls : smaller <ℤ greater
+
+-- some fact puts a number at most a smaller one
+pub record HasFall (facts : List Fact) : Type 0 where
+  pub fact : Fact
+  pub given : Contains facts fact
+  pub falls : IsFall fact.lo fact.hi
+
+-- in a column of the question's two accesses two numbers stand that can't meet: a fact of them falls
+pub record NumbersFall (nodes : List Path) (q : Question) : Type 0 where
+  pub mine : Access
+  pub theirs : Access
+  pub asked : AsksOf nodes q mine theirs
+  pub falls : HasFall (question_facts mine theirs)
+
+-- ---- covered
+
+-- these two accesses cover the question, and no pair before them does
+pub record IsLeastCover (nodes : List Path) (q : Question) (mine theirs : Access) (m t : ℕ) : Type 0 where
+  pub cover : IsCovered nodes q.x q.y mine theirs
+  pub mine_is : cover.first ≡ m
+  pub theirs_is : cover.second ≡ t
+  pub least : (other : IsCovered nodes q.x q.y mine theirs)
+      → (m < other.first) ⊎ ((m ≡ other.first) × (t ≤ other.second))
+
+-- the question asks for a read-write dependency and can meet, and these two accesses cover it, as the chains show
+pub record IsCoveredBy (nodes : List Path) (q : Question) (mine theirs : Access) (m t : ℕ)
+    (chains : List (List Node)) : Type 0 where
+  pub asks : AsksReadWrite q mine.kind theirs.kind
+  pub can_meet : CanMeet mine theirs
+  pub least : IsLeastCover nodes q mine theirs m t
+  pub equal : ShowEqual (question_facts mine theirs) (key_pairs least.cover.of_first least.cover.of_second) chains
+
+-- ---- exposed
+
+-- a sample's numbers for the first instance
+abbrev pub mine_of : List Choice → Assignment
+mine_of sample = record {
+  parameter = λ i. sample_number sample (Mine i);
+  unknown = λ i. sample_number sample (MineUnknown i);
+}
+
+-- a sample's numbers for the second instance
+abbrev pub theirs_of : List Choice → Assignment
+theirs_of sample = record {
+  parameter = λ i. sample_number sample (Theirs i);
+  unknown = λ i. sample_number sample (TheirsUnknown i);
+}
+
+-- the accesses meet under the sample, and no pair covers what may be a read-write dependency
+pub record IsExposedBy (nodes : List Path) (q : Question) (mine theirs : Access) (sample : List Choice) : Type 0 where
+  pub meets : MeetsUnder (mine_of sample) (theirs_of sample) mine theirs
+  pub nearest : (n : Node) → IsSampled (question_facts mine theirs) n (sample_number sample n)
+  pub uncovered : AsksReadWrite q mine.kind theirs.kind → ¬ IsCovered nodes q.x q.y mine theirs
+
+-- ---- the verdict
+
+-- a verdict is right of the question between these two accesses
+abbrev pub IsRightOf : List Path → Question → Access → Access → Verdict → Type 0
+IsRightOf nodes q mine theirs (Apart chain) = ¬ CanMeet mine theirs × Falls (question_facts mine theirs) chain
+IsRightOf nodes q mine theirs (Covered m t chains) = IsCoveredBy nodes q mine theirs m t chains
+IsRightOf nodes q mine theirs (Exposed sample) = IsExposedBy nodes q mine theirs sample
+
+-- a verdict is right of a question of the paths
+abbrev pub IsRight : List Path → Question → Verdict → Type 0
+IsRight nodes q verdict = (mine theirs : Access) → AsksOf nodes q mine theirs → IsRightOf nodes q mine theirs verdict

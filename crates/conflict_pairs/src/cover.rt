@@ -1,0 +1,139 @@
+//! Pairs of accesses that cover a question.
+ghost use Rattle.std.specs.Prelude.{◌≡◌, ◌↔◌, ◌<◌, ◌++◌, [], ◌∷◌, ℕ, List, IfOk, OnOk, IfSome, IfNone, IsTrue, Some, slice_get};
+ghost use Rattle.order_facts.specs.Chain.{Entails, IsConsistent};
+ghost use Rattle.prog_check.specs.declared.path.Access.{Access};
+ghost use Rattle.prog_check.specs.declared.path.Term.{Term};
+ghost use Rattle.prog_paths.specs.Kinds.{items_of};
+ghost use Rattle.prog_paths.specs.Questions.{mine_node, their_node};
+ghost use Rattle.prog_paths.specs.Shown.{Runs, ShowEqual, second_pair, key_pairs};
+ghost use Rattle.prog_paths.specs.Shown.{AllEqual, CoversBy};
+ghost use Rattle.conflict_pairs.specs.Search.{CoversAt, CoversFirst};
+
+use crate::chain::Chain;
+use order_facts::{Closed, Node};
+use prog_check::{Access, Column, Term};
+use prog_paths::{may_cover, mine_node, their_node};
+use prog_tree::Sequence;
+use std::alloc::{AllocError, Global};
+
+/// Whether the facts put the two terms at most each other.
+fn is_equal(closed: &Closed, mine: Term, theirs: Term) -> bool
+    ensures { IsTrue result ↔ AllEqual closed.now ((mine, theirs) ∷ []) }
+{
+    let mine = mine_node(mine);
+    let theirs = their_node(theirs);
+    closed.entails(mine, theirs) && closed.entails(theirs, mine)
+}
+
+/// The terms of the second columns of two cells, where their table has one.
+fn second_terms(mine: Option<Column>, theirs: Option<Column>) -> Option<(Term, Term)>
+    ensures { items_of result ≡ second_pair mine theirs }
+{
+    let zero = Term::Literal(0);
+    match (mine, theirs) {
+        (None, None) => None,
+        (None, Some(theirs)) => Some((zero, theirs.low)),
+        (Some(mine), None) => Some((mine.low, zero)),
+        (Some(mine), Some(theirs)) => Some((mine.low, theirs.low)),
+    }
+}
+
+fn is_equal_second(closed: &Closed, mine: Option<Column>, theirs: Option<Column>) -> bool
+    ensures { IsTrue result ↔ AllEqual closed.now (second_pair mine theirs) }
+{
+    match second_terms(mine, theirs) {
+        Some((mine, theirs)) => is_equal(closed, mine, theirs),
+        None => true,
+    }
+}
+
+/// Whether both change or keep, at one cell by the facts.
+fn covers(closed: &Closed, mine: &Access, theirs: &Access) -> bool
+    ensures { IsTrue result ↔ CoversBy closed.now mine.now theirs.now }
+{
+    may_cover(mine)
+        && may_cover(theirs)
+        && mine.table == theirs.table
+        && is_equal(closed, mine.first.low, theirs.first.low)
+        && is_equal_second(closed, mine.second, theirs.second)
+}
+
+/// The number of the first access that covers with one of the first path.
+fn covering(closed: &Closed, mine: &Access, theirs: &[Access]) -> Option<usize>
+    ensures some { IfSome result (λ t. (of_theirs : Access)
+        × (slice_get theirs.now t ≡ Some of_theirs) × CoversBy closed.now mine.now of_theirs) }
+    ensures first { IfSome result (λ t. (j : ℕ) (of_theirs : Access) → j < t
+        → slice_get theirs.now j ≡ Some of_theirs → ¬ CoversBy closed.now mine.now of_theirs) }
+    ensures none { IfNone result ((j : ℕ) (of_theirs : Access)
+        → slice_get theirs.now j ≡ Some of_theirs → ¬ CoversBy closed.now mine.now of_theirs) }
+{
+    theirs
+        .iter()
+        .position(|of_theirs| covers(closed, mine, of_theirs))
+}
+
+/// The numbers of the least pair that covers, by the first path's access and then by the other's.
+pub fn least_cover(closed: &Closed, mine: &[Access], theirs: &[Access]) -> Option<(usize, usize)>
+    ensures some { IfSome result (λ c. CoversFirst closed.now mine.now theirs.now c.0 c.1) }
+    ensures none { IfNone result ((m t : ℕ) → ¬ CoversAt closed.now mine.now theirs.now m t) }
+{
+    for (m, of_mine) in mine.iter().enumerate() {
+        if let Some(t) = covering(closed, of_mine, theirs) {
+            return Some((m, t));
+        }
+    }
+    None
+}
+
+/// A chain between two nodes of which the facts put the first at most the second.
+fn chain_between(closed: &Closed, from: Node, to: Node) -> Result<Chain, AllocError>
+    requires consistent { IsConsistent closed.now }
+    requires entailed { Entails closed.now from to }
+    ensures { IfOk result (λ chain. Runs closed.now from to chain) }
+{
+    match closed.chain(from, to)? {
+        Some(nodes) => Ok(Chain::from_vec(nodes)),
+        None => unreachable!(),
+    }
+}
+
+/// The chains, with one from one term to another and one back.
+fn with_both(
+    mut chains: Sequence<Chain>,
+    closed: &Closed,
+    mine: Term,
+    theirs: Term,
+) -> Result<Sequence<Chain>, AllocError>
+    requires consistent { IsConsistent closed.now }
+    requires equal { AllEqual closed.now ((mine, theirs) ∷ []) }
+    ensures { IfOk result (λ more. (pairs : List (Term × Term)) → ShowEqual closed.now pairs chains
+        → ShowEqual closed.now (pairs ++ (mine, theirs) ∷ []) more) }
+{
+    let mine = mine_node(mine);
+    let theirs = their_node(theirs);
+    chains.push(chain_between(closed, mine, theirs)?)?;
+    chains.push(chain_between(closed, theirs, mine)?)?;
+    Ok(chains)
+}
+
+/// The chains of two accesses that cover, column by column: mine to theirs, then theirs to mine.
+pub fn cover_chains(
+    alloc: Global,
+    closed: &Closed,
+    mine: &Access,
+    theirs: &Access,
+) -> Result<Sequence<Chain>, AllocError>
+    requires consistent { IsConsistent closed.now }
+    requires equal { AllEqual closed.now (key_pairs mine.now theirs.now) }
+    ensures { IfOk result (λ chains. ShowEqual closed.now (key_pairs mine.now theirs.now) chains) }
+{
+    let none = Sequence::new(alloc);
+    let chains = with_both(none, closed, mine.first.low, theirs.first.low)?;
+    match second_terms(mine.second, theirs.second) {
+        Some((mine, theirs)) => {
+            let all = with_both(chains, closed, mine, theirs)?;
+            Ok(all)
+        }
+        None => Ok(chains),
+    }
+}

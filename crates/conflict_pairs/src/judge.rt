@@ -1,0 +1,127 @@
+//! The verdict on a question.
+ghost use Rattle.std.specs.Prelude.{◌≡◌, IfOk, IfSome, IfNone, IsOk};
+ghost use Rattle.order_facts.specs.Chain.{IsConsistent};
+ghost use Rattle.prog_paths.specs.Questions.{question_facts};
+ghost use Rattle.prog_check.specs.declared.path.Access.{Access};
+ghost use Rattle.prog_paths.specs.Asked.{IsQuestion, ChangesSingleCells, two, between};
+ghost use Rattle.conflict_pairs.specs.Verdicts.{HasFall, NumbersFall, IsRight};
+ghost use Rattle.conflict_pairs.specs.Search.{CoversAt, ShowEqualAt, IsCoverFound, IsNoCover, IsUncovered, IsJudged};
+
+use crate::apart::{contradiction, number_fall};
+use crate::chain::Chain;
+use crate::cover::{cover_chains, least_cover};
+use crate::outcome::Verdict;
+use order_facts::Closed;
+use prog_check::{Access, Kind, Path};
+use prog_paths::{asks_read_write, question_facts};
+use prog_tree::Sequence;
+use std::alloc::{AllocError, Global};
+
+/// The least pair that covers, where one is looked for: for a possible read-write dependency.
+fn cover(
+    closed: &Closed,
+    mine: Kind,
+    theirs: Kind,
+    xs: &[Access],
+    ys: &[Access],
+) -> Option<(usize, usize)>
+    ensures some { IfSome result
+        (λ c. IsCoverFound closed.now mine theirs xs.now ys.now c.0 c.1) }
+    ensures none { IfNone result (IsNoCover closed.now mine theirs xs.now ys.now) }
+{
+    if closed.consistent() && asks_read_write(mine, theirs) {
+        least_cover(closed, xs, ys)
+    } else {
+        None
+    }
+}
+
+/// The chains of a pair that covers.
+fn chains_at(
+    alloc: Global,
+    closed: &Closed,
+    xs: &[Access],
+    ys: &[Access],
+    m: usize,
+    t: usize,
+) -> Result<Sequence<Chain>, AllocError>
+    requires consistent { IsConsistent closed.now }
+    requires covers { CoversAt closed.now xs.now ys.now m t }
+    ensures { IfOk result (λ chains. ShowEqualAt closed.now xs.now ys.now m t chains) }
+{
+    let mine = xs[m];
+    let theirs = ys[t];
+    let chains = cover_chains(alloc, closed, &mine, &theirs)?;
+    Ok(chains)
+}
+
+/// What is said of a question that nothing covers.
+fn uncovered(closed: &Closed, mine: &Access, theirs: &Access) -> Result<Verdict, AllocError>
+    requires { closed.now ≡ question_facts mine.now theirs.now }
+    ensures { IfOk result (λ verdict. IsUncovered closed.now verdict) }
+{
+    if !closed.consistent() {
+        return Ok(Verdict::Apart(contradiction(closed, mine, theirs)?));
+    }
+    match closed.sample()? {
+        Some(sample) => Ok(Verdict::Exposed(sample)),
+        None => unreachable!(),
+    }
+}
+
+/// What the closed facts say of the question of two accesses of two paths.
+fn judged_closed(
+    alloc: Global,
+    xs: &[Access],
+    ys: &[Access],
+    mine: &Access,
+    theirs: &Access,
+) -> Result<Verdict, AllocError>
+    ensures { IfOk result (λ verdict. IsJudged xs.now ys.now mine.now theirs.now verdict) }
+{
+    let closed = question_facts(alloc, mine, theirs)?.close()?;
+    if let Some((m, t)) = cover(&closed, mine.kind, theirs.kind, xs, ys) {
+        let chains = chains_at(alloc, &closed, xs, ys, m, t)?;
+        return Ok(Verdict::Covered {
+            mine: m,
+            theirs: t,
+            chains,
+        });
+    }
+    let verdict = uncovered(&closed, mine, theirs)?;
+    Ok(verdict)
+}
+
+/// What the facts say of the question of two accesses of two paths, at once where two of its
+/// numbers fall.
+fn judged(
+    alloc: Global,
+    xs: &[Access],
+    ys: &[Access],
+    mine: &Access,
+    theirs: &Access,
+) -> Result<Verdict, AllocError>
+    ensures judged { IfOk result
+        (λ verdict. IsJudged xs.now ys.now mine.now theirs.now verdict) }
+    ensures at_once { HasFall (question_facts mine.now theirs.now) → IsOk result }
+{
+    match number_fall(mine, theirs) {
+        Some(chain) => Ok(Verdict::Apart(chain)),
+        None => judged_closed(alloc, xs, ys, mine, theirs),
+    }
+}
+
+/// What the facts say of the question of access `a` of one path against access `b` of another.
+/// Where two numbers of a column fall it takes no memory.
+pub fn verdict(alloc: Global, x: &Path, a: usize, y: &Path, b: usize) -> Result<Verdict, AllocError>
+    requires question { IsQuestion (two x.now y.now) (between a b) }
+    requires single_x { ChangesSingleCells x.now }
+    requires single_y { ChangesSingleCells y.now }
+    ensures right { IfOk result
+        (λ verdict. IsRight (two x.now y.now) (between a b) verdict) }
+    ensures at_once { NumbersFall (two x.now y.now) (between a b) → IsOk result }
+{
+    let xs = x.accesses.as_slice();
+    let ys = y.accesses.as_slice();
+    judged(alloc, xs, ys, &xs[a], &ys[b])
+}

@@ -1,0 +1,25 @@
+//! What the facts say of each question between two accesses: that the two never meet, that a pair of
+//! single cells covers it, or that it is exposed; and the table of all questions of a list of paths
+//! with their verdicts.
+#![tactic(auto)]
+
+mod apart;
+mod chain;
+mod condition;
+mod cover;
+mod fault;
+mod judge;
+mod law;
+mod listing;
+mod outcome;
+mod table;
+
+pub use chain::Chain;
+pub use condition::{changes_single_cells, is_question};
+pub use fault::PairFault;
+pub use judge::verdict;
+pub use law::law_of_verdicts;
+pub use listing::pairs;
+pub use outcome::Verdict;
+pub use prog_paths::Question;
+pub use table::PairTable;

@@ -1,0 +1,33 @@
+-- The first entry that makes an edge vulnerable has a sample.
+use Rattle.std.proofs.Common.{◌≡◌, ℕ, List, map, true, refl, subst, arith}
+use Rattle.std.proofs.lemmas.Bool.{and_parts, false≢true}
+use Rattle.std.proofs.lemmas.List.{length-map}
+use Rattle.order_facts.specs.declared.sample.Sample.{Sample}
+use Rattle.conflict_pairs.specs.declared.outcome.Verdict.{Verdict}
+use Rattle.conflict_pairs.specs.declared.outcome.Verdict.TheVariants.{Apart, Covered, Exposed}
+use Rattle.conflict_pairs.specs.declared.table.Entry.{Entry}
+use Rattle.dep_graph.specs.declared.mark.Mark.{Mark}
+use Rattle.dep_graph.specs.Marks.{gives_vulnerable, IsFirstVulnerable}
+use Rattle.prog_paths.specs.Asked.{asks_read_write}
+use Rattle.dep_graph.specs.Marking.{is_exposed, mark_of}
+use Rattle.dep_graph.proofs.Entries.{IsEntryAt, entry_at}
+
+sample_of : (v : Verdict) → is_exposed v ≡ true → (sample : Sample) × (v ≡ Exposed sample)
+sample_of (Apart chain) e = absurd (false≢true e)
+sample_of (Covered m t chains) e = absurd (false≢true e)
+sample_of (Exposed sample) e = (sample, refl)
+
+-- the entry at the first place, and its sample
+pub record HasSampleAt (entries : List Entry) (n : ℕ) : Type 0 where
+  pub at_place : IsEntryAt entries n
+  pub sample : Sample
+  pub verdict : at_place.entry.verdict ≡ Exposed sample
+
+pub sample_at : (entries : List Entry) (x y n : ℕ) → IsFirstVulnerable (map mark_of entries) x y n → HasSampleAt entries n
+sample_at entries x y n f =
+    let e = entry_at entries n (omega (arith, f.inside, length-map entries mark_of)) in
+    let gives = subst (λ (m : Mark). gives_vulnerable x y m ≡ true) e.gives f.gives in
+    let vulnerable = (and_parts (mark_of e.entry).vulnerable _ gives).0 in
+    let exposed = (and_parts (asks_read_write e.entry.question.mine e.entry.question.theirs) _ vulnerable).1 in
+    let s = sample_of e.entry.verdict exposed in
+    record { at_place = e; sample = s.0; verdict = s.1 }

@@ -1,0 +1,6 @@
+use Rattle.std.proofs.Common.{ℕ, ◌<◌}
+use Rattle.dep_graph.specs.Triple.{ClosesAt}
+use Rattle.dep_graph.proofs.triple.least_end.Given as goal
+
+abbrev pub invariant-loop-z : goal.invariant-loop-z
+invariant-loop-z l = (z : ℕ) → z < l.z → ¬ ClosesAt l.vulnerable l.reach l.x l.y z

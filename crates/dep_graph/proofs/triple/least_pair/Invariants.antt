@@ -1,0 +1,6 @@
+use Rattle.std.proofs.Common.{ℕ, ◌<◌}
+use Rattle.dep_graph.specs.Triple.{ClosesAt}
+use Rattle.dep_graph.proofs.triple.least_pair.Given as goal
+
+abbrev pub invariant-loop-y : goal.invariant-loop-y
+invariant-loop-y l = (y z : ℕ) → y < l.y → ¬ ClosesAt l.vulnerable l.reach l.x y z

@@ -1,0 +1,9 @@
+pub mod Marking
+pub mod Ways
+pub mod Counting
+pub mod Square
+pub mod Reaching
+pub mod Distances
+pub mod Triple
+pub mod Marks
+pub mod Danger

@@ -1,0 +1,48 @@
+-- What a table's questions with their verdicts make of the graph.
+use Rattle.std.specs.Prelude.{◌≡◌, ℕ, List, length, ◌<◌, ◌≤◌, Bool, true, false, ◌||◌, ◌&&◌, ◌==◌, slice_index_or}
+use Rattle.std.specs.List.{list_any}
+use Rattle.dep_graph.specs.declared.mark.Mark.{Mark}
+
+-- how many nodes there are, and what each question gives
+pub record Marks : Type 0 where
+  pub nodes : ℕ
+  pub marks : List Mark
+
+-- what the question at a place gives
+abbrev pub mark_at : List Mark → ℕ → Mark
+mark_at marks n =
+    slice_index_or marks n (record { x = 0; y = 0; forward = false; backward = false; vulnerable = false })
+
+-- the question gives an edge from x to y
+abbrev pub gives_edge : ℕ → ℕ → Mark → Bool
+gives_edge x y m = (m.forward && (m.x == x && m.y == y)) || (m.backward && (m.y == x && m.x == y))
+
+-- the question makes the edge from x to y vulnerable
+abbrev pub gives_vulnerable : ℕ → ℕ → Mark → Bool
+gives_vulnerable x y m = m.vulnerable && (m.x == x && m.y == y)
+
+-- a question gives an edge from x to y
+abbrev pub has_edge : List Mark → ℕ → ℕ → Bool
+has_edge marks x y = list_any (gives_edge x y) marks
+
+-- a question makes the edge from x to y vulnerable
+abbrev pub has_vulnerable : List Mark → ℕ → ℕ → Bool
+has_vulnerable marks x y = list_any (gives_vulnerable x y) marks
+
+-- some question gives an edge from the node x to the node y
+pub record HasEdge (t : Marks) (x y : ℕ) : Type 0 where
+  pub x_inside : x < t.nodes
+  pub y_inside : y < t.nodes
+  pub has : has_edge t.marks x y ≡ true
+
+-- some question makes the edge from the node x to the node y vulnerable
+pub record HasVulnerable (t : Marks) (x y : ℕ) : Type 0 where
+  pub x_inside : x < t.nodes
+  pub y_inside : y < t.nodes
+  pub has : has_vulnerable t.marks x y ≡ true
+
+-- the first place of a question that makes the edge from x to y vulnerable
+pub record IsFirstVulnerable (marks : List Mark) (x y n : ℕ) : Type 0 where
+  pub inside : n < length marks
+  pub gives : gives_vulnerable x y (mark_at marks n) ≡ true
+  pub first : (m : ℕ) → m < length marks → gives_vulnerable x y (mark_at marks m) ≡ true → n ≤ m

@@ -1,0 +1,168 @@
+//! The static graph of a table of questions.
+
+ghost use Rattle.std.specs.Prelude.{◌≡◌, ◌↔◌, List, length, ◌<◌, IfOk, IfSome, IfNone, IsTrue};
+ghost use Rattle.prog_check.specs.declared.path.Path.{Path};
+ghost use Rattle.prog_paths.specs.StaticGraph.{StaticEdge, IsVulnerable, Leads, IsDangerous};
+ghost use Rattle.conflict_pairs.specs.Table.{StandsFor};
+ghost use Rattle.dep_graph.specs.Counting.{IsCountOf};
+ghost use Rattle.dep_graph.specs.Square.{IsSquareOf, Enters};
+ghost use Rattle.dep_graph.specs.Marks.{has_edge, has_vulnerable, gives_edge, gives_vulnerable};
+ghost use Rattle.dep_graph.specs.Marking.{marks_of};
+ghost use Rattle.dep_graph.specs.Danger.{IsLeastDanger};
+
+use crate::closure::close;
+use crate::danger::{Danger, first_exposure};
+use crate::least_way::least_way;
+use crate::mark::{Mark, entry_mark};
+use crate::square::Square;
+use crate::triple::least_triple;
+use conflict_pairs::PairTable;
+use prog_tree::Sequence;
+use std::alloc::{AllocError, Global};
+use std::marker::Model;
+
+/// Which nodes of a table are joined by an edge, by a vulnerable one, and which reach which.
+#[derive(Drop)]
+pub struct Graph<'a> {
+    table: &'a PairTable,
+    edges: Square,
+    vulnerable: Square,
+    reach: Square,
+}
+
+impl<'a> Model for Graph<'a> {
+    ghost use Rattle.conflict_pairs.specs.Table.{Table};
+    ghost use Rattle.dep_graph.specs.Marks.{has_edge, has_vulnerable};
+    ghost use Rattle.dep_graph.specs.Marking.{marks_of};
+    ghost use Rattle.dep_graph.specs.Square.{IsSquareOf, IsReachOf};
+
+    ghost Value = { Table };
+
+    ghost view = { λ g. g.table.now };
+
+    ghost invariant = { λ g. record {
+      edges : IsSquareOf g.edges g.table.now.nodes (has_edge (marks_of g.table.now).marks);
+      vulnerable : IsSquareOf g.vulnerable g.table.now.nodes
+          (has_vulnerable (marks_of g.table.now).marks);
+      reach : IsReachOf g.reach g.edges;
+    } };
+}
+
+/// Enters the edges of one question.
+fn enter_edges(edges: &mut Square, mark: Mark)
+    ensures { Enters edges.old edges.new (λ x y. gives_edge x y mark) }
+{
+    if mark.x < edges.size() && mark.y < edges.size() {
+        if mark.forward {
+            edges.raise(mark.x, mark.y);
+        }
+        if mark.backward {
+            edges.raise(mark.y, mark.x);
+        }
+    }
+}
+
+/// Enters the vulnerable edge of one question.
+fn enter_vulnerable(vulnerable: &mut Square, mark: Mark)
+    ensures { Enters vulnerable.old vulnerable.new (λ x y. gives_vulnerable x y mark) }
+{
+    if mark.vulnerable && mark.x < vulnerable.size() && mark.y < vulnerable.size() {
+        vulnerable.raise(mark.x, mark.y);
+    }
+}
+
+fn edges_of(alloc: Global, table: &PairTable) -> Result<Square, AllocError>
+    ensures { IfOk result
+        (λ s. IsSquareOf s table.now.nodes (has_edge (marks_of table.now).marks)) }
+{
+    let mut edges = Square::new(alloc, table.nodes())?;
+    for n in 0..table.len() {
+        enter_edges(&mut edges, entry_mark(table, n));
+    }
+    Ok(edges)
+}
+
+fn vulnerable_of(alloc: Global, table: &PairTable) -> Result<Square, AllocError>
+    ensures { IfOk result
+        (λ s. IsSquareOf s table.now.nodes (has_vulnerable (marks_of table.now).marks)) }
+{
+    let mut vulnerable = Square::new(alloc, table.nodes())?;
+    for n in 0..table.len() {
+        enter_vulnerable(&mut vulnerable, entry_mark(table, n));
+    }
+    Ok(vulnerable)
+}
+
+impl<'a> Graph<'a> {
+    /// The graph of a table.
+    pub fn build(alloc: Global, table: &'a PairTable) -> Result<Graph<'a>, AllocError>
+        ensures { IfOk result (λ g. g ≡ table.now) }
+    {
+        let edges = edges_of(alloc, table)?;
+        let vulnerable = vulnerable_of(alloc, table)?;
+        let reach = close(alloc, &edges)?;
+        Ok(Graph {
+            table,
+            edges,
+            vulnerable,
+            reach,
+        })
+    }
+
+    /// How many nodes it has.
+    pub fn nodes(&self) -> usize
+        ensures { result ≡ self.now.nodes }
+    {
+        self.edges.size()
+    }
+
+    /// Whether instances of `x` and `y` can have a dependency, `x` before `y`.
+    pub fn edge(&self, x: usize, y: usize) -> bool
+        requires x { x < self.now.nodes }
+        requires y { y < self.now.nodes }
+        ensures { (paths : List Path) → StandsFor self.now paths
+            → (IsTrue result ↔ StaticEdge paths x y) }
+    {
+        self.edges.get(x, y)
+    }
+
+    /// Whether the edge from `x` to `y` is vulnerable.
+    pub fn vulnerable(&self, x: usize, y: usize) -> bool
+        requires x { x < self.now.nodes }
+        requires y { y < self.now.nodes }
+        ensures { (paths : List Path) → StandsFor self.now paths
+            → (IsTrue result ↔ IsVulnerable paths x y) }
+    {
+        self.vulnerable.get(x, y)
+    }
+
+    /// How many nodes reach `x`, itself counted.
+    pub fn level(&self, x: usize) -> usize
+        requires { x < self.now.nodes }
+        ensures { (paths : List Path) → StandsFor self.now paths
+            → IsCountOf (λ u. Leads (StaticEdge paths) u x) (length paths) result }
+    {
+        self.reach.column_count(x)
+    }
+
+    /// The least dangerous structure, if there is one.
+    pub fn danger(&self) -> Result<Option<Danger>, AllocError>
+        ensures found { IfOk result (λ found. IfSome found (λ d. (paths : List Path)
+            → StandsFor self.now paths → IsLeastDanger paths d)) }
+        ensures none { IfOk result (λ found. IfNone found ((paths : List Path)
+            → StandsFor self.now paths → ¬ IsDangerous paths)) }
+    {
+        let Some(triple) = least_triple(&self.vulnerable, &self.reach) else {
+            return Ok(None);
+        };
+        let back = least_way(self.edges.allocator(), &self.edges, triple.z, triple.x)?;
+        Ok(Some(Danger {
+            x: triple.x,
+            y: triple.y,
+            z: triple.z,
+            first: first_exposure(self.table, triple.x, triple.y)?,
+            second: first_exposure(self.table, triple.y, triple.z)?,
+            back: Sequence::from_vec(back),
+        }))
+    }
+}
