@@ -6,3 +6,12 @@ pub mod Distinct
 pub mod Outcomes
 pub mod Again
 mod Vectors
+pub mod Chains
+pub mod Safety
+pub mod Cursor
+pub mod Passing
+pub mod Leftover
+pub mod Reasons
+pub mod Firsts
+pub mod Verdicts
+pub mod Facts

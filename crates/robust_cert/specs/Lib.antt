@@ -1,3 +1,11 @@
 pub mod Json
 pub mod Reading
 pub mod Helpers
+pub mod Accepted
+pub mod Refused
+pub mod Law
+pub mod Square
+pub mod Telling
+pub mod Leaving
+pub mod Levels
+pub mod Flaws

@@ -1,4 +1,4 @@
-//! Why a certificate isn't read.
+//! Why a certificate isn't read, or isn't accepted.
 
 ghost use Rattle.std.specs.Prelude.{◌≡◌};
 
@@ -14,6 +14,38 @@ pub enum JsonFault {
     /// The number under `version` isn't 1.
     WrongVersion,
     Memory,
+}
+
+/// Why a certificate isn't accepted for a set, in the order in which it is looked at.
+#[derive(Clone, Copy, Debug, PartialEq, Eq)]
+pub enum CertFault {
+    /// The set asks more than 1,000,000 questions.
+    TooLarge,
+    /// Not one level for each path.
+    PathCount,
+    /// The entry of this number is about no question of the set.
+    NoSuchEntry(usize),
+    /// The entry doesn't stand behind the one before it.
+    EntryOrder(usize),
+    /// The cover names no two accesses that may cover, or has a wrong number of chains.
+    BadCover(usize),
+    /// A chain of the entry is none, or runs elsewhere.
+    BadChain(usize),
+    /// The level falls along the edge between these nodes.
+    LevelFalls(usize, usize),
+    /// The level doesn't rise over the vulnerable edges between these nodes.
+    Dangerous(usize, usize, usize),
+    Memory,
+}
+
+impl From<AllocError> for CertFault {
+    ghost use Rattle.robust_cert.specs.declared.fault.CertFault.TheVariants.{Memory};
+
+    ghost from_gives = { λ _ e. e ≡ Memory };
+
+    fn from(_error: AllocError) -> Self {
+        CertFault::Memory
+    }
 }
 
 /// Why a part of a JSON value isn't taken as a part of a certificate.

@@ -1,0 +1,156 @@
+-- The order of questions, and what is told at the cursor.
+use Rattle.std.proofs.Common.{◌≡◌, ℕ, ◌<◌, ◌⊎◌, inl, inr, true, false, List, [], ◌∷◌, length, get_or, refl, sym, subst, ◌∙◌, arith, zero, suc, Some, None, Contains, nat_lt, tests, Bor}
+use Rattle.std.specs.Prelude.{◌==◌, slice_get, All, Option, is_some, IfSome, option_copied}
+use Rattle.std.proofs.lemmas.Bool.{false≢true, cases_Bool, cases_order, and_parts, and_from, eqb-true, eq-eqb, false_from_ne_true}
+use Rattle.std.proofs.lemmas.List.Elements.{All-head, All-tail}
+use Rattle.std.proofs.lemmas.Option.{same_Some, none-some, slice_get-get_or, slice_get_within, get_or_from_slice_get, slice_get_past, slice_get_read}
+use Rattle.prog_paths.specs.StaticGraph.{Question}
+use Rattle.prog_paths.specs.Listing.{IsPlaceBefore, IsBefore, RiseBy}
+use Rattle.robust_cert.specs.declared.certificate.Entry.{Entry}
+use Rattle.robust_cert.specs.declared.telling.Telling.{Telling}
+use Rattle.robust_cert.specs.declared.telling.Telling as telling
+use Rattle.robust_cert.specs.Accepted.{question_of}
+use Rattle.robust_cert.specs.Telling.{is_same, telling_by, telling_of, IsBehind}
+
+-- ---- the order of questions
+
+place_trans : (x a y b z c : ℕ) → IsPlaceBefore x a y b → IsPlaceBefore y b z c → IsPlaceBefore x a z c
+place_trans x a y b z c (inl h) (inl k) = inl (omega (arith, h, k))
+place_trans x a y b z c (inl h) (inr (e, k)) = inl (omega (arith, h, e))
+place_trans x a y b z c (inr (e, h)) (inl k) = inl (omega (arith, e, k))
+place_trans x a y b z c (inr (e, h)) (inr (f, k)) = inr (e ∙ f, omega (arith, h, k))
+
+place_irreflexive : (x a : ℕ) → IsPlaceBefore x a x a → ⊥
+place_irreflexive x a (inl h) = absurd (omega (arith, h))
+place_irreflexive x a (inr (e, h)) = absurd (omega (arith, h))
+
+place_cases : (x a y b : ℕ) → IsPlaceBefore x a y b ⊎ (IsPlaceBefore y b x a ⊎ ((x ≡ y) × (a ≡ b)))
+place_cases x a y b = go (cases_order x y) (cases_order a b)
+  where
+    go : (x ≡ y) ⊎ ((x < y) ⊎ (y < x)) → (a ≡ b) ⊎ ((a < b) ⊎ (b < a)) → IsPlaceBefore x a y b ⊎ (IsPlaceBefore y b x a ⊎ ((x ≡ y) × (a ≡ b)))
+    go (inr (inl h)) _ = inl (inl h)
+    go (inr (inr h)) _ = inr (inl (inl h))
+    go (inl e) (inl f) = inr (inr (e, f))
+    go (inl e) (inr (inl h)) = inl (inr (e, h))
+    go (inl e) (inr (inr h)) = inr (inl (inr (sym e, h)))
+
+pub before_trans : (p q r : Question) → IsBefore p q → IsBefore q r → IsBefore p r
+before_trans p q r (inl h) (inl k) = inl (place_trans p.x p.a q.x q.a r.x r.a h k)
+before_trans p q r (inl h) (inr (e, f, k)) = inl (subst (λ (n : ℕ). IsPlaceBefore p.x p.a r.x n) f (subst (λ (n : ℕ). IsPlaceBefore p.x p.a n q.a) e h))
+before_trans p q r (inr (e, f, h)) (inl k) = inl (subst (λ (n : ℕ). IsPlaceBefore p.x n r.x r.a) (sym f) (subst (λ (n : ℕ). IsPlaceBefore n q.a r.x r.a) (sym e) k))
+before_trans p q r (inr (e, f, h)) (inr (g, i, k)) = inr (e ∙ g, f ∙ i, place_trans p.y p.b q.y q.b r.y r.b h k)
+
+before_irreflexive : (p : Question) → IsBefore p p → ⊥
+before_irreflexive p (inl h) = place_irreflexive p.x p.a h
+before_irreflexive p (inr (e, f, h)) = place_irreflexive p.y p.b h
+
+same_numbers : (p q : Question) → p.x ≡ q.x → p.a ≡ q.a → p.y ≡ q.y → p.b ≡ q.b → p ≡ q
+same_numbers p q x a y b = λ i. record { x = x i; a = a i; y = y i; b = b i }
+
+before_cases : (p q : Question) → IsBefore p q ⊎ (IsBefore q p ⊎ (p ≡ q))
+before_cases p q = go (place_cases p.x p.a q.x q.a) (place_cases p.y p.b q.y q.b)
+  where
+    go : IsPlaceBefore p.x p.a q.x q.a ⊎ (IsPlaceBefore q.x q.a p.x p.a ⊎ ((p.x ≡ q.x) × (p.a ≡ q.a))) → IsPlaceBefore p.y p.b q.y q.b ⊎ (IsPlaceBefore q.y q.b p.y p.b ⊎ ((p.y ≡ q.y) × (p.b ≡ q.b))) → IsBefore p q ⊎ (IsBefore q p ⊎ (p ≡ q))
+    go (inl h) _ = inl (inl h)
+    go (inr (inl h)) _ = inr (inl (inl h))
+    go (inr (inr (e, f))) (inl h) = inl (inr (e, f, h))
+    go (inr (inr (e, f))) (inr (inl h)) = inr (inl (inr (sym e, sym f, h)))
+    go (inr (inr (e, f))) (inr (inr (g, i))) = inr (inr (same_numbers p q e f g i))
+
+-- ---- whether two questions are one
+
+pub same-from_true : (p q : Question) → is_same p q ≡ true → p ≡ q
+same-from_true p q e =
+    let x = and_parts (p.x == q.x) _ e in
+    let a = and_parts (p.a == q.a) _ x.1 in
+    let y = and_parts (p.y == q.y) _ a.1 in
+    same_numbers p q (eqb-true p.x q.x x.0) (eqb-true p.a q.a a.0) (eqb-true p.y q.y y.0) (eqb-true p.b q.b y.1)
+
+pub true-from_same : (p q : Question) → p ≡ q → is_same p q ≡ true
+true-from_same p q e = subst (λ (r : Question). is_same p r ≡ true) e (and_from _ _ (eq-eqb p.x p.x refl) (and_from _ _ (eq-eqb p.a p.a refl) (and_from _ _ (eq-eqb p.y p.y refl) (eq-eqb p.b p.b refl))))
+
+before-differs : (p q : Question) → IsBefore p q → is_same p q ≡ false
+before-differs p q h = false_from_ne_true (is_same p q) (λ e. before_irreflexive q (subst (λ (r : Question). IsBefore r q) (same-from_true p q e) h))
+
+behind-differs : (p q : Question) → IsBefore q p → is_same p q ≡ false
+behind-differs p q h = false_from_ne_true (is_same p q) (λ e. before_irreflexive q (subst (λ (r : Question). IsBefore q r) (same-from_true p q e) h))
+
+-- ---- what is told
+
+skipped : (e : Entry) (rest : List Entry) (q : Question) → is_same (question_of e) q ≡ false → telling_of (e ∷ rest) q ≡ telling_of rest q
+skipped e rest q h = rw h refl
+
+pub met : (e : Entry) (rest : List Entry) (q : Question) → is_same (question_of e) q ≡ true → telling_of (e ∷ rest) q ≡ telling_by e
+met e rest q h = rw h refl
+
+untold : (entries : List Entry) (q : Question) → All (λ e. is_same (question_of e) q ≡ false) entries → telling_of entries q ≡ telling.TheVariants.Nothing
+untold [] q h = refl
+untold (e ∷ rest) q h = skipped e rest q (All-head (λ f. is_same (question_of f) q ≡ false) e rest h) ∙ untold rest q (All-tail (λ f. is_same (question_of f) q ≡ false) e rest h)
+
+behind-next : (e : Entry) (rest : List Entry) (k : ℕ) (q : Question) → IsBehind (e ∷ rest) (suc k) q → IsBehind rest k q
+behind-next e rest k q h j d lt at = h (suc j) d (omega (arith, lt)) at
+
+-- where the cursor stands at an entry about the question, that tells it
+pub told-here : (entries : List Entry) (at : ℕ) (q : Question) → IsBehind entries at q → (e : Entry) → slice_get entries at ≡ Some e → is_same (question_of e) q ≡ true → telling_by e ≡ telling_of entries q
+told-here [] at q behind e is same = absurd (none-some e is)
+told-here (d ∷ rest) zero q behind e is same =
+    let one = same_Some d e is in
+    sym (met d rest q (subst (λ (f : Entry). is_same (question_of f) q ≡ true) (sym one) same) ∙ (λ i. telling_by (one i)))
+told-here (d ∷ rest) (suc at) q behind e is same =
+    told-here rest at q (behind-next d rest at q behind) e is same
+    ∙ sym (skipped d rest q (before-differs (question_of d) q (behind 0 d (omega arith) refl)))
+
+-- where it stands at no such entry, none tells it
+pub told-nowhere : (entries : List Entry) (at : ℕ) (q : Question) → RiseBy question_of entries → IsBehind entries at q → ((e : Entry) → slice_get entries at ≡ Some e → (IsBefore (question_of e) q → ⊥) × (is_same (question_of e) q ≡ false)) → telling.TheVariants.Nothing ≡ telling_of entries q
+told-nowhere [] at q rise behind other = refl
+told-nowhere (d ∷ rest) zero q rise behind other = sym (skipped d rest q (other d refl).1 ∙ untold rest q later)
+  where
+    after : IsBefore (question_of d) q ⊎ (IsBefore q (question_of d) ⊎ (question_of d ≡ q)) → IsBefore q (question_of d)
+    after (inl h) = absurd ((other d refl).0 h)
+    after (inr (inl h)) = h
+    after (inr (inr e)) = absurd (false≢true (sym (other d refl).1 ∙ true-from_same (question_of d) q e))
+
+    later : All (λ e. is_same (question_of e) q ≡ false) rest
+    later k e lt = behind-differs (question_of (get_or rest k e)) q (before_trans q (question_of d) (question_of (get_or rest k e)) (after (before_cases (question_of d) q)) (rise.0 k e lt))
+told-nowhere (d ∷ rest) (suc at) q rise behind other =
+    told-nowhere rest at q rise.1 (behind-next d rest at q behind) other
+    ∙ sym (skipped d rest q (before-differs (question_of d) q (behind 0 d (omega arith) refl)))
+
+-- ---- an entry and what is told of its question
+
+-- the entries before one stand before its question
+pub behind-entry : (entries : List Entry) (k : ℕ) (e : Entry) → RiseBy question_of entries → slice_get entries k ≡ Some e → IsBehind entries k (question_of e)
+behind-entry [] k e rise at j f lt is = absurd (none-some e at)
+behind-entry (d ∷ rest) zero e rise at j f lt is = absurd (omega (arith, lt))
+behind-entry (d ∷ rest) (suc k) e rise at zero f lt is =
+    let inside = slice_get_within rest k e at in
+    let first = subst (λ (g : Entry). IsBefore (question_of d) (question_of g)) (get_or_from_slice_get rest k e e at) (rise.0 k e inside) in
+    subst (λ (g : Entry). IsBefore (question_of g) (question_of e)) (same_Some d f is) first
+behind-entry (d ∷ rest) (suc k) e rise at (suc j) f lt is = behind-entry rest k e rise.1 at j f (omega (arith, lt)) is
+
+pub telling-from_entry : (entries : List Entry) (q : Question) (e : Entry) → RiseBy question_of entries → Contains entries e → question_of e ≡ q → telling_of entries q ≡ telling_by e
+telling-from_entry entries q e rise (k, lt, is) about =
+    let at : slice_get entries k ≡ Some e = slice_get-get_or entries k e lt ∙ (λ i. Some (is i)) in
+    sym (told-here entries k q (subst (λ (r : Question). IsBehind entries k r) about (behind-entry entries k e rise at)) e at (true-from_same (question_of e) q about))
+
+-- nothing is told of a question, or an entry about it tells it
+pub record IsToldBy (entries : List Entry) (q : Question) (e : Entry) : Type 0 where
+  pub inside : Contains entries e
+  pub about : question_of e ≡ q
+  pub tells : telling_of entries q ≡ telling_by e
+
+pub told_cases : (entries : List Entry) (q : Question) → (telling_of entries q ≡ telling.TheVariants.Nothing) ⊎ ((e : Entry) × IsToldBy entries q e)
+told_cases [] q = inl refl
+told_cases (d ∷ rest) q = go (cases_Bool (is_same (question_of d) q)) (told_cases rest q)
+  where
+    go : (is_same (question_of d) q ≡ true) ⊎ (is_same (question_of d) q ≡ false) → (telling_of rest q ≡ telling.TheVariants.Nothing) ⊎ ((e : Entry) × IsToldBy rest q e) → (telling_of (d ∷ rest) q ≡ telling.TheVariants.Nothing) ⊎ ((e : Entry) × IsToldBy (d ∷ rest) q e)
+    go (inl h) _ = inr (d, record { inside = (zero, omega arith, refl); about = same-from_true (question_of d) q h; tells = met d rest q h })
+    go (inr h) (inl n) = inl (skipped d rest q h ∙ n)
+    go (inr h) (inr (e, t)) = inr (e, record { inside = (suc t.inside.0, omega (arith, t.inside.1), t.inside.2); about = t.about; tells = skipped d rest q h ∙ t.tells })
+
+-- ---- reading
+
+-- what `get` of a slice returns
+pub got : (found : Option (Bor Entry)) (entries : List Entry) (i : ℕ) → is_some found ≡ nat_lt i (length entries) → IfSome found (λ e. e.now ≡ get_or entries i e.now) → option_copied found ≡ slice_get entries i
+got None entries i e h = sym (slice_get_past entries i (search (tests, arith)))
+got (Some d) entries i e h = sym (slice_get_read entries (length entries) i d.now refl (search (tests, arith)) h)

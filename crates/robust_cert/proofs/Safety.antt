@@ -1,0 +1,120 @@
+-- An accepted certificate leaves no dangerous structure.
+use Rattle.std.proofs.Common.{◌≡◌, ℕ, ◌≤◌, inl, inr, List, subst, arith}
+use Rattle.std.specs.Prelude.{All, Contains}
+use Rattle.std.proofs.lemmas.List.Elements.{All-contains}
+use Rattle.prog_check.specs.declared.path.Kind.{Kind}
+use Rattle.prog_check.specs.declared.path.Access.{Access}
+use Rattle.prog_check.specs.declared.path.Path.{Path}
+use Rattle.prog_check.specs.Paths.{paths_of}
+use Rattle.order_facts.specs.declared.steps.Node.{Node}
+use Rattle.prog_paths.specs.Meeting.{CanMeet}
+use Rattle.prog_paths.specs.StaticGraph.{Question, AsksOf, AsksReadWrite, AsksWriteRead, AsksWriteWrite, HasQuestion, IsAccessOf, StaticEdge, IsCovered, IsExposed, IsVulnerable, Leads, here, onward, IsDangerousAt, IsDangerous}
+use Rattle.prog_paths.specs.Asked.{Asks, ChangesSingleCells}
+use Rattle.prog_paths.specs.Questions.{question_facts}
+use Rattle.prog_paths.specs.Shown.{Falls, key_pairs, AllEqual}
+use Rattle.prog_paths.proofs.Shown.{IsPair, apart-from_Falls, same-from_CoversBy, may_cover-second}
+use Rattle.prog_paths.proofs.SingleCells.{law_of_single_changes}
+use Rattle.robust_cert.specs.declared.certificate.Question as cert
+use Rattle.robust_cert.specs.declared.certificate.Entry.{Entry}
+use Rattle.robust_cert.specs.declared.certificate.Entry.TheVariants.{Apart, Cover}
+use Rattle.robust_cert.specs.declared.certificate.Certificate.{Certificate}
+use Rattle.robust_cert.specs.Accepted.{asked_by, question_of, ChainsHold, Holds, SaysApart, IsToldApart, IsTold, IsLeft, IsLeftVulnerable, LevelsRise, IsAccepted}
+use Rattle.robust_cert.specs.Law.{LawOfAcceptance}
+use Rattle.robust_cert.proofs.Chains.{AllEqual-from_ShowEqual, same_access, single_of}
+
+-- ---- levels
+
+level-Leads : {edge vulnerable : ℕ → ℕ → Type 0} {level : ℕ → ℕ} {x y : ℕ} → LevelsRise edge vulnerable level → Leads edge x y → level x ≤ level y
+level-Leads r here = omega arith
+level-Leads {level = level} r (onward {x = x} {y = y} {z = z} e w) = let a = r.never_fall x y e in let b = level-Leads r w in omega arith
+
+-- levels that rise leave no two vulnerable edges in a row with a way back
+unclosed : {edge vulnerable : ℕ → ℕ → Type 0} {level : ℕ → ℕ} (x y z : ℕ) → LevelsRise edge vulnerable level → IsDangerousAt edge vulnerable x y z → ⊥
+unclosed x y z r d = let up = r.rise x y z d.first d.second in let back = level-Leads r d.back in absurd (omega arith)
+
+-- ---- fewer edges
+
+HasQuestion-weaker : (asks : Question → Kind → Kind → Type 0) (P Q : Question → Access → Access → Type 0) (nodes : List Path) (x y : ℕ) → ((q : Question) (mine theirs : Access) → AsksOf nodes q mine theirs → asks q mine.kind theirs.kind → P q mine theirs → Q q mine theirs) → HasQuestion asks P nodes x y → HasQuestion asks Q nodes x y
+HasQuestion-weaker asks P Q nodes x y f h = record {
+  question = h.question;
+  from = h.from;
+  to = h.to;
+  mine = h.mine;
+  theirs = h.theirs;
+  asked = h.asked;
+  kinds = h.kinds;
+  holds = f h.question h.mine h.theirs h.asked h.kinds h.holds;
+}
+
+-- ---- what an accepted certificate says of each question
+
+module _ (nodes : List Path) (single : All ChangesSingleCells nodes) (c : Certificate) (a : IsAccepted nodes c) where
+  pair_of : (q : Question) (mine theirs : Access) → AsksOf nodes q mine theirs → Asks q mine.kind theirs.kind → IsPair mine theirs
+  pair_of q mine theirs asked asks = record { table = asked.table; single = single_of nodes single q.y q.b theirs asked.at_theirs (may_cover-second q mine theirs asks) }
+
+  -- a question that is told apart never meets
+  apart-right : (q : Question) (mine theirs : Access) → AsksOf nodes q mine theirs → Asks q mine.kind theirs.kind → IsToldApart c.entries q → CanMeet mine theirs → ⊥
+  apart-right q mine theirs asked asks (e, inside, says) meet = by e (All-contains (Holds nodes) c.entries e a.holds inside) says
+    where
+      by : (e : Entry) → Holds nodes e → SaysApart q e → ⊥
+      by (Cover p m t chains) h s = s
+      by (Apart p chain) h s =
+          let w = h.chains in
+          let own = subst (λ (r : Question). AsksOf nodes r w.0 w.1) s w.2 in
+          let first = same_access nodes q.x q.a w.0 mine own.at_mine asked.at_mine in
+          let second = same_access nodes q.y q.b w.1 theirs own.at_theirs asked.at_theirs in
+          let falls = subst (λ (t : Access). Falls (question_facts mine t) chain) second (subst (λ (m : Access). Falls (question_facts m w.1) chain) first w.3) in
+          apart-from_Falls mine theirs (pair_of q mine theirs asked asks) chain falls meet
+
+  -- a question that is told meets only where it is covered
+  told-right : (q : Question) (mine theirs : Access) → AsksOf nodes q mine theirs → Asks q mine.kind theirs.kind → IsTold c.entries q → CanMeet mine theirs → IsCovered nodes q.x q.y mine theirs
+  told-right q mine theirs asked asks (e, inside, about) meet = by e (All-contains (Holds nodes) c.entries e a.holds inside) inside about
+    where
+      by : (e : Entry) → Holds nodes e → Contains c.entries e → question_of e ≡ q → IsCovered nodes q.x q.y mine theirs
+      by (Apart p chain) h i s = absurd (apart-right q mine theirs asked asks (Apart p chain, i, s) meet)
+      by (Cover p m t chains) h i s = covered p m t chains h.chains s
+        where
+          covered : (p : cert.Question) (m t : ℕ) (chains : List (List Node)) → ChainsHold nodes (Cover p m t chains) → asked_by p ≡ q → IsCovered nodes q.x q.y mine theirs
+          covered p m t chains (of_mine, of_theirs, cover, shown) s =
+              let own = subst (λ (r : Question). AsksOf nodes r cover.mine cover.theirs) s cover.asked in
+              let first = same_access nodes q.x q.a cover.mine mine own.at_mine asked.at_mine in
+              let second = same_access nodes q.y q.b cover.theirs theirs own.at_theirs asked.at_theirs in
+              let equal = AllEqual-from_ShowEqual (question_facts cover.mine cover.theirs) (key_pairs of_mine of_theirs) chains shown in
+              let by_own = subst (λ (b : Access). AllEqual (question_facts mine b) (key_pairs of_mine of_theirs)) second (subst (λ (b : Access). AllEqual (question_facts b cover.theirs) (key_pairs of_mine of_theirs)) first equal) in
+              let at_first = subst (λ (r : Question). IsAccessOf nodes r.x m of_mine) s cover.at_mine in
+              let at_second = subst (λ (r : Question). IsAccessOf nodes r.y t of_theirs) s cover.at_theirs in
+              record {
+                first = m;
+                second = t;
+                of_first = of_mine;
+                of_second = of_theirs;
+                at_first = at_first;
+                at_second = at_second;
+                first_covers = cover.mine_covers;
+                second_covers = cover.theirs_covers;
+                same = same-from_CoversBy mine theirs (pair_of q mine theirs asked asks) of_mine of_theirs (single_of nodes single q.x m of_mine at_first cover.mine_covers) (single_of nodes single q.y t of_theirs at_second cover.theirs_covers) (record { mine_covers = cover.mine_covers; theirs_covers = cover.theirs_covers; table = cover.table; equal = by_own });
+              }
+
+  -- ---- each edge is left
+
+  apart_left : (asks : Question → Kind → Kind → Type 0) → ((q : Question) (m t : Kind) → asks q m t → Asks q m t) → (x y : ℕ) → HasQuestion asks (λ q mine theirs. CanMeet mine theirs) nodes x y → HasQuestion asks (λ q mine theirs. ¬ IsToldApart c.entries q) nodes x y
+  apart_left asks ask x y = HasQuestion-weaker asks (λ q mine theirs. CanMeet mine theirs) (λ q mine theirs. ¬ IsToldApart c.entries q) nodes x y (λ q mine theirs asked kinds meet told. apart-right q mine theirs asked (ask q mine.kind theirs.kind kinds) told meet)
+
+  left : (x y : ℕ) → StaticEdge nodes x y → IsLeft nodes c.entries x y
+  left x y (inl h) = inl (apart_left AsksReadWrite (λ q m t k. inl k) x y h)
+  left x y (inr (inl h)) = inr (inl (apart_left AsksWriteRead (λ q m t k. inr (inl k)) y x h))
+  left x y (inr (inr (inl h))) = inr (inr (inl (apart_left AsksWriteWrite (λ q m t k. inr (inr k)) x y h)))
+  left x y (inr (inr (inr h))) = inr (inr (inr (apart_left AsksWriteWrite (λ q m t k. inr (inr k)) y x h)))
+
+  exposed : (x y : ℕ) → IsVulnerable nodes x y → IsLeftVulnerable nodes c.entries x y
+  exposed x y = HasQuestion-weaker AsksReadWrite (IsExposed nodes) (λ q mine theirs. ¬ IsTold c.entries q) nodes x y (λ q mine theirs asked kinds bare told. bare.1 (told-right q mine theirs asked (inl kinds) told bare.0))
+
+  along : (x y : ℕ) → Leads (StaticEdge nodes) x y → Leads (IsLeft nodes c.entries) x y
+  along x _ here = here
+  along x z (onward {y = y} e w) = onward (left x y e) (along y z w)
+
+  safe : IsDangerous nodes → ⊥
+  safe (x, y, z, d) = unclosed x y z a.levels_rise (record { first = exposed x y d.first; second = exposed y z d.second; back = along z x d.back })
+
+pub accepted_is_safe : LawOfAcceptance
+accepted_is_safe draft c a = safe (paths_of draft) (law_of_single_changes draft) c a

@@ -1,0 +1,105 @@
+-- When a certificate is accepted for a list of paths. Numbers are compared and chains are read; no path is followed.
+use Rattle.std.specs.Prelude.{◌≡◌, ℕ, ◌<◌, ◌≤◌, ◌*◌, List, length, All, Contains, slice_index_or}
+use Rattle.prog_check.specs.declared.path.Access.{Access}
+use Rattle.prog_check.specs.declared.path.Path.{Path}
+use Rattle.prog_paths.specs.Meeting.{MayCover}
+use Rattle.prog_paths.specs.StaticGraph.{IsAccessOf, AsksOf, AsksReadWrite, HasQuestion, EdgeOf}
+use Rattle.prog_paths.specs.StaticGraph as graph
+use Rattle.prog_paths.specs.Questions.{question_facts}
+use Rattle.prog_paths.specs.Asked.{IsQuestion, questions_of, limit}
+use Rattle.prog_paths.specs.Listing.{RiseBy}
+use Rattle.prog_paths.specs.Shown.{Falls, key_pairs, ShowEqual}
+use Rattle.robust_cert.specs.declared.certificate.Question.{Question}
+use Rattle.robust_cert.specs.declared.certificate.Entry.{Entry}
+use Rattle.robust_cert.specs.declared.certificate.Entry.TheVariants.{Apart, Cover}
+use Rattle.robust_cert.specs.declared.certificate.Certificate.{Certificate}
+
+-- ---- what an entry is about
+
+-- the question of four numbers
+abbrev pub asked_by : Question → graph.Question
+asked_by q = record { x = q.x; a = q.a; y = q.y; b = q.b }
+
+-- the question that an entry is about
+abbrev pub question_of : Entry → graph.Question
+question_of (Apart q chain) = asked_by q
+question_of (Cover q mine theirs chains) = asked_by q
+
+-- ---- when an entry holds
+
+-- the question asks for a read-write dependency; two accesses, one of each of its nodes, change or keep, in one table
+pub record IsCoverOf (nodes : List Path) (q : graph.Question) (m t : ℕ) (of_mine of_theirs : Access) : Type 0 where
+  pub mine : Access
+  pub theirs : Access
+  pub asked : AsksOf nodes q mine theirs
+  pub asks : AsksReadWrite q mine.kind theirs.kind
+  pub at_mine : IsAccessOf nodes q.x m of_mine
+  pub at_theirs : IsAccessOf nodes q.y t of_theirs
+  pub mine_covers : MayCover of_mine
+  pub theirs_covers : MayCover of_theirs
+  pub table : of_mine.table ≡ of_theirs.table
+
+-- a cover entry names such accesses, and has two chains for each key column of their table
+abbrev pub IsFitting : List Path → Entry → Type 0
+IsFitting nodes (Apart q chain) = Unit {0}
+IsFitting nodes (Cover q m t chains) =
+    (of_mine : Access) × (of_theirs : Access) × IsCoverOf nodes (asked_by q) m t of_mine of_theirs
+    × (length chains ≡ 2 * length (key_pairs of_mine of_theirs))
+
+-- the chains hold by the question's facts: one runs from a number to a smaller one; or they show the two cells equal,
+-- column by column
+abbrev pub ChainsHold : List Path → Entry → Type 0
+ChainsHold nodes (Apart q chain) =
+    (mine : Access) × (theirs : Access) × AsksOf nodes (asked_by q) mine theirs
+    × Falls (question_facts mine theirs) chain
+ChainsHold nodes (Cover q m t chains) =
+    (of_mine : Access) × (of_theirs : Access) × (cover : IsCoverOf nodes (asked_by q) m t of_mine of_theirs)
+    × ShowEqual (question_facts cover.mine cover.theirs) (key_pairs of_mine of_theirs) chains
+
+-- an entry is about a question of the paths, and says of it what holds
+pub record Holds (nodes : List Path) (e : Entry) : Type 0 where
+  pub question : IsQuestion nodes (question_of e)
+  pub fitting : IsFitting nodes e
+  pub chains : ChainsHold nodes e
+
+-- ---- what the entries leave
+
+-- an entry says that the question is apart
+abbrev pub SaysApart : graph.Question → Entry → Type 0
+SaysApart q (Apart p chain) = asked_by p ≡ q
+SaysApart q (Cover p m t chains) = ⊥
+
+abbrev pub IsToldApart : List Entry → graph.Question → Type 0
+IsToldApart entries q = (e : Entry) × Contains entries e × SaysApart q e
+
+-- an entry is about the question
+abbrev pub IsTold : List Entry → graph.Question → Type 0
+IsTold entries q = (e : Entry) × Contains entries e × (question_of e ≡ q)
+
+-- an edge is left where a question that gives it is not told apart
+abbrev pub IsLeft : List Path → List Entry → ℕ → ℕ → Type 0
+IsLeft nodes entries = EdgeOf (λ q mine theirs. ¬ IsToldApart entries q) nodes
+
+-- and is vulnerable where a question for a read-write dependency is not told
+abbrev pub IsLeftVulnerable : List Path → List Entry → ℕ → ℕ → Type 0
+IsLeftVulnerable nodes entries = HasQuestion AsksReadWrite (λ q mine theirs. ¬ IsTold entries q) nodes
+
+-- the level of a node
+abbrev pub level_of : Certificate → ℕ → ℕ
+level_of c x = slice_index_or c.levels x 0
+
+-- levels never fall along an edge, and rise over two vulnerable edges in a row
+pub record LevelsRise (edge vulnerable : ℕ → ℕ → Type 0) (level : ℕ → ℕ) : Type 0 where
+  pub never_fall : (x y : ℕ) → edge x y → level x ≤ level y
+  pub rise : (x y z : ℕ) → vulnerable x y → vulnerable y z → level x < level z
+
+-- ---- the whole
+
+-- At most as many questions as an analysis may have; a level for each node; the entries are about questions, rising
+-- strictly, and hold; the levels rise over what the entries leave.
+pub record IsAccepted (nodes : List Path) (c : Certificate) : Type 0 where
+  pub few : length (questions_of nodes) ≤ limit
+  pub levels : length c.levels ≡ length nodes
+  pub rising : RiseBy question_of c.entries
+  pub holds : All (Holds nodes) c.entries
+  pub levels_rise : LevelsRise (IsLeft nodes c.entries) (IsLeftVulnerable nodes c.entries) (level_of c)

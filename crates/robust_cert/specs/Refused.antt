@@ -1,0 +1,78 @@
+-- The first fault of a certificate that is not accepted.
+use Rattle.std.specs.Prelude.{◌≡◌, ℕ, ◌<◌, ◌≤◌, ◌+◌, ◌⊎◌, List, length, All, take, Some, slice_get}
+use Rattle.prog_check.specs.declared.path.Path.{Path}
+use Rattle.prog_paths.specs.Asked.{IsQuestion, questions_of, limit}
+use Rattle.prog_paths.specs.Listing.{IsBefore, RiseBy}
+use Rattle.robust_cert.specs.declared.certificate.Entry.{Entry}
+use Rattle.robust_cert.specs.declared.certificate.Certificate.{Certificate}
+use Rattle.robust_cert.specs.declared.fault.CertFault.{CertFault}
+use Rattle.robust_cert.specs.declared.fault.CertFault.TheVariants.{TooLarge, PathCount, NoSuchEntry, EntryOrder, BadChain, BadCover, LevelFalls, Dangerous, Memory}
+use Rattle.robust_cert.specs.Accepted.{question_of, IsFitting, ChainsHold, Holds, IsLeft, IsLeftVulnerable, level_of}
+
+-- ---- the whole, in the order in which it is looked at
+
+-- neither too many questions nor a wrong number of levels
+pub record IsOfSize (nodes : List Path) (c : Certificate) : Type 0 where
+  pub few : length (questions_of nodes) ≤ limit
+  pub levels : length c.levels ≡ length nodes
+
+-- the first entries, so many of them, rise and hold
+pub record StandTo (nodes : List Path) (c : Certificate) (k : ℕ) : Type 0 where
+  pub size : IsOfSize nodes c
+  pub rising : RiseBy question_of (take k c.entries)
+  pub holds : All (Holds nodes) (take k c.entries)
+
+-- the entry of a number stands, as those before it do
+pub record IsAtFault (nodes : List Path) (c : Certificate) (k : ℕ) (e : Entry) : Type 0 where
+  pub before : StandTo nodes c k
+  pub at : slice_get c.entries k ≡ Some e
+
+-- the question of the entry stands behind that of the entry before it
+abbrev pub IsBehindLast : List Entry → ℕ → Entry → Type 0
+IsBehindLast entries k e =
+    (j : ℕ) (last : Entry) → j + 1 ≡ k → slice_get entries j ≡ Some last → IsBefore (question_of last) (question_of e)
+
+-- ---- the edges that are left
+
+-- the level falls along an edge that is left
+pub record FallsAt (nodes : List Path) (c : Certificate) (x y : ℕ) : Type 0 where
+  pub edge : IsLeft nodes c.entries x y
+  pub falls : level_of c y < level_of c x
+
+-- the level doesn't rise over two vulnerable edges
+pub record StaysAt (nodes : List Path) (c : Certificate) (x y z : ℕ) : Type 0 where
+  pub first : IsLeftVulnerable nodes c.entries x y
+  pub second : IsLeftVulnerable nodes c.entries y z
+  pub stays : level_of c z ≤ level_of c x
+
+-- two nodes, or three, stand at others or before them
+abbrev pub IsAtMostPair : (x y u v : ℕ) → Type 0
+IsAtMostPair x y u v = (x < u) ⊎ ((x ≡ u) × (y ≤ v))
+
+abbrev pub IsAtMostTriple : (x y z u v w : ℕ) → Type 0
+IsAtMostTriple x y z u v w = (x < u) ⊎ ((x ≡ u) × IsAtMostPair y z v w)
+
+-- ---- the fault
+
+-- the first fault, each with all that comes before it in order
+abbrev pub IsFirstFault : List Path → Certificate → CertFault → Type 0
+IsFirstFault nodes c TooLarge = limit < length (questions_of nodes)
+IsFirstFault nodes c PathCount = (length (questions_of nodes) ≤ limit) × (length c.levels ≡ length nodes → ⊥)
+IsFirstFault nodes c (NoSuchEntry k) = (e : Entry) × IsAtFault nodes c k e × (IsQuestion nodes (question_of e) → ⊥)
+IsFirstFault nodes c (EntryOrder k) =
+    (e : Entry) × IsAtFault nodes c k e × IsQuestion nodes (question_of e) × (IsBehindLast c.entries k e → ⊥)
+IsFirstFault nodes c (BadCover k) =
+    (e : Entry) × IsAtFault nodes c k e × IsQuestion nodes (question_of e) × IsBehindLast c.entries k e
+    × (IsFitting nodes e → ⊥)
+IsFirstFault nodes c (BadChain k) =
+    (e : Entry) × IsAtFault nodes c k e × IsQuestion nodes (question_of e) × IsBehindLast c.entries k e
+    × IsFitting nodes e × (ChainsHold nodes e → ⊥)
+IsFirstFault nodes c (LevelFalls x y) =
+    StandTo nodes c (length c.entries) × FallsAt nodes c x y
+    × ((u v : ℕ) → FallsAt nodes c u v → IsAtMostPair x y u v)
+IsFirstFault nodes c (Dangerous x y z) =
+    StandTo nodes c (length c.entries)
+    × ((u v : ℕ) → FallsAt nodes c u v → ⊥)
+    × StaysAt nodes c x y z
+    × ((u v w : ℕ) → StaysAt nodes c u v w → IsAtMostTriple x y z u v w)
+IsFirstFault nodes c Memory = Unit {0}

@@ -1,0 +1,71 @@
+-- What the entries tell of a question, and what that leaves.
+use Rattle.std.specs.Prelude.{◌≡◌, ℕ, ◌<◌, List, [], ◌∷◌, Bool, true, false, ◌||◌, ◌&&◌, ◌==◌, if◌then◌else◌, Some, slice_get}
+use Rattle.prog_paths.specs.StaticGraph.{Question}
+use Rattle.prog_paths.specs.declared.places.Question.{Question as Asked}
+use Rattle.prog_paths.specs.Asked.{numbers_of, asks_read_write, asks_write_read, both_write}
+use Rattle.prog_paths.specs.Listing.{IsBefore}
+use Rattle.robust_cert.specs.declared.certificate.Entry.{Entry}
+use Rattle.robust_cert.specs.declared.certificate.Entry.TheVariants.{Apart, Cover}
+use Rattle.robust_cert.specs.declared.numbers.Numbers.{Numbers}
+use Rattle.robust_cert.specs.declared.telling.Telling.{Telling}
+use Rattle.robust_cert.specs.declared.telling.Telling as telling
+use Rattle.robust_cert.specs.declared.mark.Mark.{Mark}
+use Rattle.robust_cert.specs.Accepted.{question_of}
+
+-- the question of four numbers
+abbrev pub question_with : Numbers → Question
+question_with n = record { x = n.x; a = n.a; y = n.y; b = n.b }
+
+-- two questions have the same numbers
+abbrev pub is_same : Question → Question → Bool
+is_same p q = p.x == q.x && (p.a == q.a && (p.y == q.y && p.b == q.b))
+
+-- what an entry tells of its question
+abbrev pub telling_by : Entry → Telling
+telling_by (Apart q chain) = telling.TheVariants.Apart
+telling_by (Cover q mine theirs chains) = telling.TheVariants.Cover
+
+-- what the entries tell of a question
+abbrev pub telling_of : List Entry → Question → Telling
+telling_of [] q = telling.TheVariants.Nothing
+telling_of (e ∷ rest) q = if is_same (question_of e) q then telling_by e else telling_of rest q
+
+-- the entries before this one stand before the question
+abbrev pub IsBehind : List Entry → ℕ → Question → Type 0
+IsBehind entries cursor q = (k : ℕ) (e : Entry) → k < cursor → slice_get entries k ≡ Some e → IsBefore (question_of e) q
+
+-- ---- what a question gives
+
+-- a question of which this is told may have its accesses meet
+abbrev pub may_meet : Telling → Bool
+may_meet telling.TheVariants.Nothing = true
+may_meet telling.TheVariants.Apart = false
+may_meet telling.TheVariants.Cover = true
+
+-- a question of which this is told counts as exposed
+abbrev pub may_be_exposed : Telling → Bool
+may_be_exposed telling.TheVariants.Nothing = true
+may_be_exposed telling.TheVariants.Apart = false
+may_be_exposed telling.TheVariants.Cover = false
+
+-- what a question gives of which this is told
+abbrev pub mark_with : Asked → Telling → Mark
+mark_with q told = record {
+  x = q.x;
+  y = q.y;
+  forward = may_meet told && (asks_read_write q.mine q.theirs || both_write q.mine q.theirs);
+  backward = may_meet told && (asks_write_read q.mine q.theirs || both_write q.mine q.theirs);
+  vulnerable = may_be_exposed told && asks_read_write q.mine q.theirs;
+}
+
+-- what a question gives under these entries
+abbrev pub mark_under : List Entry → Asked → Mark
+mark_under entries q = mark_with q (telling_of entries (numbers_of q))
+
+-- the mark is of an edge from x to y
+abbrev pub gives_edge : ℕ → ℕ → Mark → Bool
+gives_edge x y m = (m.forward && (m.x == x && m.y == y)) || (m.backward && (m.y == x && m.x == y))
+
+-- the mark is of a vulnerable edge from x to y
+abbrev pub gives_vulnerable : ℕ → ℕ → Mark → Bool
+gives_vulnerable x y m = m.vulnerable && (m.x == x && m.y == y)
