@@ -1,0 +1,89 @@
+-- The numbers of what is told are small.
+use Rattle.std.proofs.Common.{◌≡◌, ℕ, ◌<◌, ◌≤◌, ◌+◌, List, [], ◌∷◌, ◌++◌, drop, length, ◌⊎◌, inl, inr, sym, subst, ap, ◌∙◌, arith, append_assoc}
+use Rattle.std.specs.Prelude.{Some, slice_get, slice_index_or}
+use Rattle.std.proofs.lemmas.List.{drop_more, drop_all, append-nil, get_or_append_left, get_or_push}
+use Rattle.std.proofs.lemmas.Bool.{cases_lt}
+use Rattle.std.proofs.lemmas.Option.{slice_get_within, get_or_from_slice_get}
+use Rattle.prog_check.specs.declared.path.Access.{Access}
+use Rattle.prog_check.specs.declared.path.Path.{Path}
+use Rattle.prog_paths.specs.StaticGraph.{IsAccessOf}
+use Rattle.prog_paths.specs.declared.places.Question.{Question as Asked}
+use Rattle.prog_paths.specs.Asked.{numbers_of}
+use Rattle.prog_paths.specs.Few.{AreFew}
+use Rattle.prog_paths.specs.Listing.{IsAskedOf}
+use Rattle.conflict_pairs.specs.declared.outcome.Verdict.{Verdict}
+use Rattle.conflict_pairs.specs.declared.outcome.Verdict.TheVariants.{Apart, Covered, Exposed}
+use Rattle.conflict_pairs.specs.declared.table.Entry.{Entry as Judged}
+use Rattle.conflict_pairs.specs.Table.{Table}
+use Rattle.conflict_pairs.specs.Verdicts.{IsRight}
+use Rattle.dep_graph.specs.Counting.{IsCountOf, none, counted, passed}
+use Rattle.robust_cert.specs.declared.certificate.Entry.{Entry}
+use Rattle.robust_cert.specs.Json.{IsSmall}
+use Rattle.si_repair.specs.Telling.{told_by, told_of, IsOfFew, AskedFits, VerdictFits}
+use Rattle.si_repair.proofs.Telling.{IsEntryOf, entries_stand}
+
+-- ---- numbers
+
+-- a count of the numbers below a bound is at most the bound
+pub count-within : (P : ℕ → Type 0) (n count : ℕ) → IsCountOf P n count → count ≤ n
+count-within P _ _ none = omega arith
+count-within P _ _ (counted {n = n} {count = count} p c) = let i = count-within P n count c in omega arith
+count-within P _ _ (passed {n = n} p c) = let i = count-within P n _ c in omega arith
+
+pub small_from : (n : ℕ) → n ≤ 512 → IsSmall n
+small_from n h = omega (arith, h)
+
+access_small : (paths : List Path) (x a : ℕ) (access : Access) → AreFew paths → IsAccessOf paths x a access → IsSmall x × IsSmall a
+access_small paths x a access few at =
+    let inside = slice_get_within paths x at.0 at.1 in
+    let below = slice_get_within at.0.accesses a access at.2 in
+    let nodes = few.paths in
+    let own : length at.0.accesses ≤ 24 = subst (λ (p : Path). length p.accesses ≤ 24) (get_or_from_slice_get paths x at.0 at.0 at.1) (few.accesses x at.0 inside) in
+    (small_from x (omega (arith, inside, nodes)), small_from a (omega (arith, below, own)))
+
+question_fits : (paths : List Path) (q : Asked) → AreFew paths → IsAskedOf paths q → AskedFits q
+question_fits paths q few asked =
+    let first = access_small paths q.x q.a asked.mine few asked.asked.at_mine in
+    let second = access_small paths q.y q.b asked.theirs few asked.asked.at_theirs in
+    (first.0, first.1, second.0, second.1)
+
+verdict_fits : (paths : List Path) (q : Asked) (v : Verdict) → AreFew paths → IsAskedOf paths q → IsRight paths (numbers_of q) v → VerdictFits v
+verdict_fits paths q (Apart chain) few asked right = tt
+verdict_fits paths q (Covered m t chains) few asked right =
+    let least = (right asked.mine asked.theirs asked.asked).least in
+    let cover = least.cover in (
+      subst (λ (n : ℕ). IsSmall n) least.mine_is (access_small paths q.x cover.first cover.of_first few cover.at_first).1,
+      subst (λ (n : ℕ). IsSmall n) least.theirs_is (access_small paths q.y cover.second cover.of_second few cover.at_second).1,
+    )
+verdict_fits paths q (Exposed sample) few asked right = tt
+
+pub entry_fits : (t : Table) → IsOfFew t → (n : ℕ) (e : Judged) → slice_get t.entries n ≡ Some e → AskedFits e.question × VerdictFits e.verdict
+entry_fits t f n e at =
+    let stands = subst (λ (d : Judged). IsEntryOf f.paths d) (get_or_from_slice_get t.entries n e e at) (entries_stand t f.paths f.stands n e (slice_get_within t.entries n e at)) in
+    (question_fits f.paths e.question f.few stands.asked, verdict_fits f.paths e.question e.verdict f.few stands.asked stands.right)
+
+-- ---- one more entry
+
+pub told_more : (old new whole : List Entry) (es : List Judged) (n : ℕ) (e : Judged) (q : Asked) (v : Verdict) → slice_get es n ≡ Some e → q ≡ e.question → v ≡ e.verdict → new ≡ old ++ told_by q v → old ++ told_of (drop n es) ≡ whole → new ++ told_of (drop (n + 1) es) ≡ whole
+told_more old new whole es n e q v at asked judged added h =
+    ap (λ (l : List Entry). l ++ told_of (drop (n + 1) es)) (added ∙ (λ i. old ++ told_by (asked i) (judged i)))
+    ∙ append_assoc old (told_by e.question e.verdict) (told_of (drop (n + 1) es))
+    ∙ ap (λ (l : List Judged). old ++ told_of l) (sym next)
+    ∙ h
+  where
+    next : drop n es ≡ e ∷ drop (n + 1) es
+    next = drop_more es n e (slice_get_within es n e at) ∙ ap (λ (d : Judged). d ∷ drop (n + 1) es) (get_or_from_slice_get es n e e at)
+
+pub told_end : (old whole : List Entry) (es : List Judged) (n : ℕ) → length es ≤ n → old ++ told_of (drop n es) ≡ whole → old ≡ whole
+told_end old whole es n past h = sym (append-nil old) ∙ ap (λ (l : List Judged). old ++ told_of l) (sym (drop_all n es past)) ∙ h
+
+-- ---- one more level
+
+pub pushed : (P : ℕ → ℕ → Type 0) (old new : List ℕ) (v n : ℕ) → length old ≡ n → new ≡ old ++ v ∷ [] → ((k : ℕ) → k < n → P k (slice_index_or old k 0)) → P n v → (k : ℕ) → k < n + 1 → P k (slice_index_or new k 0)
+pushed P old new v n size added each last k inside = subst (λ (l : List ℕ). P k (slice_index_or l k 0)) (sym added) (go (cases_lt k n))
+  where
+    go : (k < n) ⊎ (n ≤ k) → P k (slice_index_or (old ++ v ∷ []) k 0)
+    go (inl l) = subst (λ (m : ℕ). P k m) (sym (get_or_append_left old (v ∷ []) 0 k (omega (arith, size, l)))) (each k l)
+    go (inr l) =
+        let same : n ≡ k = omega arith in
+        subst (λ (m : ℕ). P m (slice_index_or (old ++ v ∷ []) m 0)) same (subst (λ (m : ℕ). P n m) (sym (get_or_push old v 0 n size)) last)

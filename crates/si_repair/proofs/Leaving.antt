@@ -1,0 +1,158 @@
+-- What the told entries leave is what can meet, and what is exposed.
+use Rattle.std.proofs.Common.{◌≡◌, ℕ, ◌<◌, List, length, inl, inr, refl, sym, subst}
+use Rattle.std.specs.Prelude.{Contains}
+use Rattle.std.proofs.lemmas.Option.{slice_get_within}
+use Rattle.prog_check.specs.declared.path.Kind.{Kind}
+use Rattle.prog_check.specs.declared.path.Access.{Access}
+use Rattle.prog_check.specs.declared.path.Path.{Path}
+use Rattle.prog_paths.specs.Meeting.{CanMeet}
+use Rattle.prog_paths.specs.StaticGraph.{Question, AsksOf, AsksReadWrite, AsksWriteRead, AsksWriteWrite, HasQuestion, StaticEdge, IsExposed, IsVulnerable}
+use Rattle.prog_paths.specs.declared.places.Question.{Question as Asked}
+use Rattle.prog_paths.specs.Asked.{Asks, numbers_of}
+use Rattle.prog_paths.proofs.Segments.{IsMember}
+use Rattle.prog_paths.proofs.Membership.{law_of_listing}
+use Rattle.conflict_pairs.specs.declared.outcome.Verdict.{Verdict}
+use Rattle.conflict_pairs.specs.declared.outcome.Verdict.TheVariants.{Apart, Covered, Exposed}
+use Rattle.conflict_pairs.specs.declared.table.Entry.{Entry as Judged}
+use Rattle.conflict_pairs.specs.Table.{Table, StandsFor, IsRightEntry}
+use Rattle.conflict_pairs.specs.Verdicts.{mine_of, theirs_of, IsRight, IsRightOf}
+use Rattle.robust_cert.specs.declared.certificate.Entry.{Entry}
+use Rattle.robust_cert.specs.declared.certificate.Entry as told
+use Rattle.robust_cert.specs.Accepted.{IsTold, IsToldApart, IsLeft, IsLeftVulnerable}
+use Rattle.si_repair.specs.Findings.{IsHarmless, TellsEach}
+use Rattle.si_repair.specs.Telling.{told_question, told_by, told_of}
+use Rattle.si_repair.proofs.Members.{Contains-from_member, All-member, entry_with, told_member}
+
+-- ---- one question
+
+-- a verdict that is right of a question, of which all is told that there is to tell
+record IsJudged (paths : List Path) (entries : List Entry) (q : Question) : Type 0 where
+  asked : Asked
+  is : numbers_of asked ≡ q
+  verdict : Verdict
+  right : IsRight paths q verdict
+  all_told : (x : Entry) → IsMember x (told_by asked verdict) → IsMember x entries
+
+module _ (paths : List Path) (entries : List Entry) (q : Question) (mine theirs : Access) where
+  meets : (asked : Asked) → numbers_of asked ≡ q → (v : Verdict) → ((x : Entry) → IsMember x (told_by asked v) → IsMember x entries) → IsRightOf paths q mine theirs v → (IsToldApart entries q → ⊥) → CanMeet mine theirs
+  meets asked is (Apart chain) all_told r none =
+      let e = told.TheVariants.Apart (told_question asked) chain in
+      absurd (none (e, Contains-from_member entries e (all_told e (inl refl)), is))
+  meets asked is (Covered m t chains) all_told r none = r.can_meet
+  meets asked is (Exposed sample) all_told r none = (mine_of sample, theirs_of sample, r.meets)
+
+  exposed : (asked : Asked) → numbers_of asked ≡ q → (v : Verdict) → ((x : Entry) → IsMember x (told_by asked v) → IsMember x entries) → IsRightOf paths q mine theirs v → AsksReadWrite q mine.kind theirs.kind → (IsTold entries q → ⊥) → IsExposed paths q mine theirs
+  exposed asked is (Apart chain) all_told r asks none =
+      let e = told.TheVariants.Apart (told_question asked) chain in
+      absurd (none (e, Contains-from_member entries e (all_told e (inl refl)), is))
+  exposed asked is (Covered m t chains) all_told r asks none =
+      let e = told.TheVariants.Cover (told_question asked) m t chains in
+      absurd (none (e, Contains-from_member entries e (all_told e (inl refl)), is))
+  exposed asked is (Exposed sample) all_told r asks none = ((mine_of sample, theirs_of sample, r.meets), r.uncovered asks)
+
+  is_told : (asked : Asked) → numbers_of asked ≡ q → (v : Verdict) → ((x : Entry) → IsMember x (told_by asked v) → IsMember x entries) → IsRightOf paths q mine theirs v → IsHarmless paths q mine theirs → IsTold entries q
+  is_told asked is (Apart chain) all_told r h =
+      let e = told.TheVariants.Apart (told_question asked) chain in (e, Contains-from_member entries e (all_told e (inl refl)), is)
+  is_told asked is (Covered m t chains) all_told r h =
+      let e = told.TheVariants.Cover (told_question asked) m t chains in (e, Contains-from_member entries e (all_told e (inl refl)), is)
+  is_told asked is (Exposed sample) all_told r (inl apart) = absurd (apart (mine_of sample, theirs_of sample, r.meets))
+  is_told asked is (Exposed sample) all_told r (inr covered) = absurd (r.uncovered covered.0 covered.1)
+
+-- ---- all questions
+
+module _ (t : Table) (paths : List Path) (s : StandsFor t paths) where
+  judged : (q : Question) (mine theirs : Access) → AsksOf paths q mine theirs → Asks q mine.kind theirs.kind → IsJudged paths (told_of t.entries) q
+  judged q mine theirs of_question asks = made found.0 found.1 found.2
+    where
+      asked : Asked
+      asked = record { x = q.x; a = q.a; y = q.y; b = q.b; mine = mine.kind; theirs = theirs.kind }
+
+      found : (e : Judged) × IsMember e t.entries × (e.question ≡ asked)
+      found =
+          entry_with t.entries asked
+          (subst (λ (qs : List Asked). Contains qs asked) (sym s.questions)
+          ((law_of_listing paths asked).1 (record { mine = mine; theirs = theirs; asked = of_question; mine_kind = refl; their_kind = refl; asks = asks })))
+
+      made : (e : Judged) → IsMember e t.entries → e.question ≡ asked → IsJudged paths (told_of t.entries) q
+      made e i is = record {
+        asked = asked;
+        is = refl;
+        verdict = e.verdict;
+        right = subst (λ (p : Asked). IsRight paths (numbers_of p) e.verdict) is (All-member (λ d. IsRightEntry paths d) t.entries e s.right i);
+        all_told = λ x m. told_member t.entries e x i (subst (λ (p : Asked). IsMember x (told_by p e.verdict)) (sym is) m);
+      }
+
+  left_meets : (q : Question) (mine theirs : Access) → AsksOf paths q mine theirs → Asks q mine.kind theirs.kind → (IsToldApart (told_of t.entries) q → ⊥) → CanMeet mine theirs
+  left_meets q mine theirs of_question asks none =
+      let j = judged q mine theirs of_question asks in
+      meets paths (told_of t.entries) q mine theirs j.asked j.is j.verdict j.all_told (j.right mine theirs of_question) none
+
+  left_exposed : (q : Question) (mine theirs : Access) → AsksOf paths q mine theirs → AsksReadWrite q mine.kind theirs.kind → (IsTold (told_of t.entries) q → ⊥) → IsExposed paths q mine theirs
+  left_exposed q mine theirs of_question asks none =
+      let j = judged q mine theirs of_question (inl asks) in
+      exposed paths (told_of t.entries) q mine theirs j.asked j.is j.verdict j.all_told (j.right mine theirs of_question) asks none
+
+  pub tells_each : TellsEach paths (told_of t.entries)
+  tells_each q question mine theirs of_question harmless =
+      let j = judged q question.mine question.theirs question.asked question.asks in
+      is_told paths (told_of t.entries) q mine theirs j.asked j.is j.verdict j.all_told (j.right mine theirs of_question) harmless
+
+  -- ---- edges
+
+  static : (asks : Question → Kind → Kind → Type 0) (x y : ℕ) → ((q : Question) (a b : Kind) → asks q a b → Asks q a b) → HasQuestion asks (λ q mine theirs. IsToldApart (told_of t.entries) q → ⊥) paths x y → HasQuestion asks (λ q mine theirs. CanMeet mine theirs) paths x y
+  static asks x y some_ask h = record {
+    question = h.question;
+    from = h.from;
+    to = h.to;
+    mine = h.mine;
+    theirs = h.theirs;
+    asked = h.asked;
+    kinds = h.kinds;
+    holds = left_meets h.question h.mine h.theirs h.asked (some_ask h.question h.mine.kind h.theirs.kind h.kinds) h.holds;
+  }
+
+  pub static-from_left : (x y : ℕ) → IsLeft paths (told_of t.entries) x y → StaticEdge paths x y
+  static-from_left x y (inl h) = inl (static AsksReadWrite x y (λ q a b k. inl k) h)
+  static-from_left x y (inr (inl h)) = inr (inl (static AsksWriteRead y x (λ q a b k. inr (inl k)) h))
+  static-from_left x y (inr (inr (inl h))) = inr (inr (inl (static AsksWriteWrite x y (λ q a b k. inr (inr k)) h)))
+  static-from_left x y (inr (inr (inr h))) = inr (inr (inr (static AsksWriteWrite y x (λ q a b k. inr (inr k)) h)))
+
+  pub vulnerable-from_left : (x y : ℕ) → IsLeftVulnerable paths (told_of t.entries) x y → IsVulnerable paths x y
+  vulnerable-from_left x y h = record {
+    question = h.question;
+    from = h.from;
+    to = h.to;
+    mine = h.mine;
+    theirs = h.theirs;
+    asked = h.asked;
+    kinds = h.kinds;
+    holds = left_exposed h.question h.mine h.theirs h.asked h.kinds h.holds;
+  }
+
+-- ---- nodes of edges
+
+module _ (paths : List Path) (x y : ℕ) where
+  ends_inside : (asks : Question → Kind → Kind → Type 0) (P : Question → Access → Access → Type 0) → HasQuestion asks P paths x y → (x < length paths) × (y < length paths)
+  ends_inside asks P h = (
+    subst (λ (n : ℕ). n < length paths) h.from (slice_get_within paths h.question.x h.asked.at_mine.0 h.asked.at_mine.1),
+    subst (λ (n : ℕ). n < length paths) h.to (slice_get_within paths h.question.y h.asked.at_theirs.0 h.asked.at_theirs.1),
+  )
+
+pub edge_inside : (paths : List Path) (x y : ℕ) → StaticEdge paths x y → (x < length paths) × (y < length paths)
+edge_inside paths x y (inl h) = ends_inside paths x y AsksReadWrite (λ q mine theirs. CanMeet mine theirs) h
+edge_inside paths x y (inr (inl h)) = let r = ends_inside paths y x AsksWriteRead (λ q mine theirs. CanMeet mine theirs) h in (r.1, r.0)
+edge_inside paths x y (inr (inr (inl h))) = ends_inside paths x y AsksWriteWrite (λ q mine theirs. CanMeet mine theirs) h
+edge_inside paths x y (inr (inr (inr h))) = let r = ends_inside paths y x AsksWriteWrite (λ q mine theirs. CanMeet mine theirs) h in (r.1, r.0)
+
+-- a vulnerable edge is an edge
+pub static-from_vulnerable : (paths : List Path) (x y : ℕ) → IsVulnerable paths x y → StaticEdge paths x y
+static-from_vulnerable paths x y h = inl (record {
+  question = h.question;
+  from = h.from;
+  to = h.to;
+  mine = h.mine;
+  theirs = h.theirs;
+  asked = h.asked;
+  kinds = h.kinds;
+  holds = h.holds.0;
+})

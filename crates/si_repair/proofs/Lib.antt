@@ -1,0 +1,5 @@
+pub mod Members
+pub mod Telling
+pub mod Leaving
+pub mod Accepting
+pub mod Fitting

@@ -1,0 +1,147 @@
+-- What is told of a table's entries rises, holds, and is the certificate's own.
+use Rattle.std.proofs.Common.{◌≡◌, ℕ, ◌*◌, List, [], ◌∷◌, ◌++◌, map, length, refl, sym, subst, arith}
+use Rattle.std.specs.Prelude.{All}
+use Rattle.std.proofs.lemmas.List.Elements.{All-nil, All-cons, All-head, All-tail, All-append, All-contains_itself}
+use Rattle.order_facts.specs.declared.steps.Node.{Node}
+use Rattle.order_facts.specs.declared.steps.Fact.{Fact}
+use Rattle.prog_check.specs.declared.path.Path.{Path}
+use Rattle.prog_check.specs.declared.path.Term.{Term}
+use Rattle.prog_paths.specs.StaticGraph.{Question, IsAccessOf}
+use Rattle.prog_paths.specs.declared.places.Question.{Question as Asked}
+use Rattle.prog_paths.specs.Asked.{IsQuestion, numbers_of, questions_of}
+use Rattle.prog_paths.specs.Listing.{IsAskedOf, IsBefore, RiseBy}
+use Rattle.prog_paths.specs.Shown.{ShowEqual, key_pairs}
+use Rattle.prog_paths.specs.Questions.{question_facts}
+use Rattle.prog_paths.proofs.Membership.{law_of_listing}
+use Rattle.prog_paths.proofs.Order.{law_of_order}
+use Rattle.conflict_pairs.specs.declared.outcome.Verdict.{Verdict}
+use Rattle.conflict_pairs.specs.declared.outcome.Verdict.TheVariants.{Apart, Covered, Exposed}
+use Rattle.conflict_pairs.specs.declared.table.Entry.{Entry as Judged}
+use Rattle.conflict_pairs.specs.Table.{Table, StandsFor, IsRightEntry}
+use Rattle.conflict_pairs.specs.Verdicts.{IsRight, IsCoveredBy}
+use Rattle.robust_cert.specs.declared.certificate.Entry.{Entry}
+use Rattle.robust_cert.specs.declared.certificate.Entry as told
+use Rattle.robust_cert.specs.Accepted.{question_of, IsCoverOf, Holds}
+use Rattle.si_repair.specs.Findings.{IsOwnEntry}
+use Rattle.si_repair.specs.Telling.{told_question, told_by, told_of}
+
+-- ---- in order
+
+behind-by : (p : Question) (q : Asked) (v : Verdict) → IsBefore p (numbers_of q) → All (λ later. IsBefore p (question_of later)) (told_by q v)
+behind-by p q (Apart chain) h = All-cons (λ later. IsBefore p (question_of later)) (told.TheVariants.Apart (told_question q) chain) [] h (All-nil (λ later. IsBefore p (question_of later)))
+behind-by p q (Covered m t chains) h = All-cons (λ later. IsBefore p (question_of later)) (told.TheVariants.Cover (told_question q) m t chains) [] h (All-nil (λ later. IsBefore p (question_of later)))
+behind-by p q (Exposed sample) h = All-nil (λ later. IsBefore p (question_of later))
+
+behind : (p : Question) (es : List Judged) → All (λ later. IsBefore p (numbers_of later)) (map (λ (e : Judged). e.question) es) → All (λ later. IsBefore p (question_of later)) (told_of es)
+behind p [] h = All-nil (λ later. IsBefore p (question_of later))
+behind p (e ∷ es) h =
+    let rest = map (λ (d : Judged). d.question) es in
+    All-append (λ later. IsBefore p (question_of later)) (told_by e.question e.verdict) (told_of es)
+    (behind-by p e.question e.verdict (All-head (λ later. IsBefore p (numbers_of later)) e.question rest h))
+    (behind p es (All-tail (λ later. IsBefore p (numbers_of later)) e.question rest h))
+
+rising-by : (q : Asked) (v : Verdict) (rest : List Entry) → All (λ later. IsBefore (numbers_of q) (question_of later)) rest → RiseBy question_of rest → RiseBy question_of (told_by q v ++ rest)
+rising-by q (Apart chain) rest h r = (h, r)
+rising-by q (Covered m t chains) rest h r = (h, r)
+rising-by q (Exposed sample) rest h r = r
+
+rising-of : (es : List Judged) → RiseBy numbers_of (map (λ (e : Judged). e.question) es) → RiseBy question_of (told_of es)
+rising-of [] r = tt
+rising-of (e ∷ es) r = rising-by e.question e.verdict (told_of es) (behind (numbers_of e.question) es r.0) (rising-of es r.1)
+
+pub rising : (t : Table) (paths : List Path) → StandsFor t paths → RiseBy question_of (told_of t.entries)
+rising t paths s = rising-of t.entries (subst (λ (qs : List Asked). RiseBy numbers_of qs) (sym s.questions) (law_of_order paths))
+
+-- ---- one entry
+
+-- the question is one of the paths, and the verdict on it is right
+pub record IsEntryOf (paths : List Path) (e : Judged) : Type 0 where
+  pub asked : IsAskedOf paths e.question
+  pub right : IsRightEntry paths e
+
+questions_asked : (P : Asked → Type 0) (es : List Judged) → All P (map (λ (e : Judged). e.question) es) → All (λ e. P e.question) es
+questions_asked P [] h = All-nil (λ (e : Judged). P e.question)
+questions_asked P (e ∷ es) h =
+    let rest = map (λ (d : Judged). d.question) es in
+    All-cons (λ (d : Judged). P d.question) e es (All-head P e.question rest h) (questions_asked P es (All-tail P e.question rest h))
+
+all_asked : (paths : List Path) → All (λ q. IsAskedOf paths q) (questions_of paths)
+all_asked paths n d inside = (law_of_listing paths _).0 (All-contains_itself (questions_of paths) n d inside)
+
+pub entries_stand : (t : Table) (paths : List Path) → StandsFor t paths → All (λ e. IsEntryOf paths e) t.entries
+entries_stand t paths s n d inside = record {
+  asked = questions_asked (λ q. IsAskedOf paths q) t.entries (subst (λ (qs : List Asked). All (λ q. IsAskedOf paths q) qs) (sym s.questions) (all_asked paths)) n d inside;
+  right = s.right n d inside;
+}
+
+-- two chains show each pair equal
+two_for_each : (facts : List Fact) (pairs : List (Term × Term)) (chains : List (List Node)) → ShowEqual facts pairs chains → length chains ≡ 2 * length pairs
+two_for_each facts [] [] h = refl
+two_for_each facts (p ∷ ps) (there ∷ back ∷ chains) h = let rest = two_for_each facts ps chains h.2 in omega (arith, rest)
+two_for_each facts [] (c ∷ cs) h = absurd h
+two_for_each facts (p ∷ ps) [] h = absurd h
+two_for_each facts (p ∷ ps) (c ∷ []) h = absurd h
+
+module _ (paths : List Path) (q : Asked) (asked : IsAskedOf paths q) where
+  is_question : IsQuestion paths (numbers_of q)
+  is_question = record { mine = asked.mine; theirs = asked.theirs; asked = asked.asked; asks = asked.asks }
+
+  -- what covers the question is what a cover entry names
+  IsCoverOf-from_covered : (m t : ℕ) (chains : List (List Node)) → (r : IsCoveredBy paths (numbers_of q) asked.mine asked.theirs m t chains) → IsCoverOf paths (numbers_of q) m t r.least.cover.of_first r.least.cover.of_second
+  IsCoverOf-from_covered m t chains r =
+      let cover = r.least.cover in
+      record {
+        mine = asked.mine;
+        theirs = asked.theirs;
+        asked = asked.asked;
+        asks = r.asks;
+        at_mine = subst (λ (n : ℕ). IsAccessOf paths q.x n cover.of_first) r.least.mine_is cover.at_first;
+        at_theirs = subst (λ (n : ℕ). IsAccessOf paths q.y n cover.of_second) r.least.theirs_is cover.at_second;
+        mine_covers = cover.first_covers;
+        theirs_covers = cover.second_covers;
+        table = (cover.same r.can_meet.0 r.can_meet.1 r.can_meet.2).table;
+      }
+
+  holds-by : (v : Verdict) → IsRight paths (numbers_of q) v → All (Holds paths) (told_by q v)
+  unfolding IsCoverOf-from_covered
+  holds-by (Apart chain) right =
+      All-cons (Holds paths) (told.TheVariants.Apart (told_question q) chain) []
+      (record { question = is_question; fitting = tt; chains = (asked.mine, asked.theirs, asked.asked, (right asked.mine asked.theirs asked.asked).1) })
+      (All-nil (Holds paths))
+  holds-by (Covered m t chains) right =
+      let r = right asked.mine asked.theirs asked.asked in
+      let first = r.least.cover.of_first in
+      let second = r.least.cover.of_second in
+      let cover = IsCoverOf-from_covered m t chains r in
+      All-cons (Holds paths) (told.TheVariants.Cover (told_question q) m t chains) []
+      (record {
+        question = is_question;
+        fitting = (first, second, cover, two_for_each (question_facts asked.mine asked.theirs) (key_pairs first second) chains r.equal);
+        chains = (first, second, cover, r.equal);
+      })
+      (All-nil (Holds paths))
+  holds-by (Exposed sample) right = All-nil (Holds paths)
+
+  own-by : (v : Verdict) → IsRight paths (numbers_of q) v → All (IsOwnEntry paths) (told_by q v)
+  own-by (Apart chain) right =
+      All-cons (IsOwnEntry paths) (told.TheVariants.Apart (told_question q) chain) [] (λ mine theirs of_question. (right mine theirs of_question).0) (All-nil (IsOwnEntry paths))
+  own-by (Covered m t chains) right =
+      All-cons (IsOwnEntry paths) (told.TheVariants.Cover (told_question q) m t chains) []
+      (λ mine theirs of_question. let r = right mine theirs of_question in (r.can_meet, r.least)) (All-nil (IsOwnEntry paths))
+  own-by (Exposed sample) right = All-nil (IsOwnEntry paths)
+
+-- ---- all entries
+
+-- what is so of all that is told of each entry is so of all that is told
+told_all : (P : Entry → Type 0) (paths : List Path) → ((q : Asked) → IsAskedOf paths q → (v : Verdict) → IsRight paths (numbers_of q) v → All P (told_by q v)) → (es : List Judged) → All (λ e. IsEntryOf paths e) es → All P (told_of es)
+told_all P paths by [] h = All-nil P
+told_all P paths by (e ∷ es) h =
+    let first = All-head (λ d. IsEntryOf paths d) e es h in
+    All-append P (told_by e.question e.verdict) (told_of es) (by e.question first.asked e.verdict first.right)
+    (told_all P paths by es (All-tail (λ d. IsEntryOf paths d) e es h))
+
+pub told_holds : (t : Table) (paths : List Path) → StandsFor t paths → All (Holds paths) (told_of t.entries)
+told_holds t paths s = told_all (Holds paths) paths (holds-by paths) t.entries (entries_stand t paths s)
+
+pub told_own : (t : Table) (paths : List Path) → StandsFor t paths → All (IsOwnEntry paths) (told_of t.entries)
+told_own t paths s = told_all (IsOwnEntry paths) paths (own-by paths) t.entries (entries_stand t paths s)

@@ -1,0 +1,48 @@
+-- What an analysis has to find of a list of paths.
+use Rattle.std.specs.Prelude.{◌⊎◌, ℕ, ◌<◌, List, length, All}
+use Rattle.prog_check.specs.declared.path.Access.{Access}
+use Rattle.prog_check.specs.declared.path.Path.{Path}
+use Rattle.prog_paths.specs.Meeting.{CanMeet}
+use Rattle.prog_paths.specs.StaticGraph.{AsksOf, AsksReadWrite, IsCovered, StaticEdge, Leads}
+use Rattle.prog_paths.specs.StaticGraph as graph
+use Rattle.prog_paths.specs.Asked.{IsQuestion}
+use Rattle.conflict_pairs.specs.Verdicts.{IsLeastCover}
+use Rattle.dep_graph.specs.Counting.{IsCountOf}
+use Rattle.dep_graph.specs.Danger.{IsLeastDanger}
+use Rattle.robust_cert.specs.declared.certificate.Entry.{Entry}
+use Rattle.robust_cert.specs.declared.certificate.Entry.TheVariants.{Apart, Cover}
+use Rattle.robust_cert.specs.declared.certificate.Certificate.{Certificate}
+use Rattle.robust_cert.specs.Accepted.{asked_by, IsTold, level_of, IsAccepted}
+use Rattle.si_repair.specs.declared.finding.Finding.{Finding}
+use Rattle.si_repair.specs.declared.finding.Finding.TheVariants.{Robust, Refused}
+
+-- the accesses never meet, or a pair of single cells covers what may be a read-write dependency
+abbrev pub IsHarmless : List Path → graph.Question → Access → Access → Type 0
+IsHarmless nodes q mine theirs =
+    (CanMeet mine theirs → ⊥) ⊎ (AsksReadWrite q mine.kind theirs.kind × IsCovered nodes q.x q.y mine theirs)
+
+-- an entry says apart of a question that can't meet, and else names the least cover
+abbrev pub IsOwnEntry : List Path → Entry → Type 0
+IsOwnEntry nodes (Apart q chain) =
+    (mine theirs : Access) → AsksOf nodes (asked_by q) mine theirs → CanMeet mine theirs → ⊥
+IsOwnEntry nodes (Cover q m t chains) =
+    (mine theirs : Access) → AsksOf nodes (asked_by q) mine theirs
+    → CanMeet mine theirs × IsLeastCover nodes (asked_by q) mine theirs m t
+
+-- each question that is harmless has an entry
+abbrev pub TellsEach : List Path → List Entry → Type 0
+TellsEach nodes entries =
+    (q : graph.Question) → IsQuestion nodes q → (mine theirs : Access) → AsksOf nodes q mine theirs
+    → IsHarmless nodes q mine theirs → IsTold entries q
+
+-- the certificate of a list of paths: an entry for each harmless question, and for each node the number of nodes that
+-- lead to it, itself counted
+pub record IsCertificateOf (nodes : List Path) (c : Certificate) : Type 0 where
+  pub own : All (IsOwnEntry nodes) c.entries
+  pub each : TellsEach nodes c.entries
+  pub levels : (x : ℕ) → x < length nodes → IsCountOf (λ u. Leads (StaticEdge nodes) u x) (length nodes) (level_of c x)
+
+-- the checker accepts the certificate, which is that of the paths; or the structure is the least dangerous one
+abbrev pub IsRightFinding : List Path → Finding → Type 0
+IsRightFinding nodes (Robust c) = IsAccepted nodes c × IsCertificateOf nodes c
+IsRightFinding nodes (Refused d) = IsLeastDanger nodes d

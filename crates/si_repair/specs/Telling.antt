@@ -1,0 +1,66 @@
+-- What a certificate tells of the entries of a table: words of private clauses.
+use Rattle.std.specs.Prelude.{◌≡◌, ℕ, ◌<◌, List, [], ◌∷◌, length, slice_index_or}
+use Rattle.std.specs.List.{flat_map}
+use Rattle.prog_check.specs.declared.path.Path.{Path}
+use Rattle.prog_paths.specs.StaticGraph.{StaticEdge, Leads}
+use Rattle.prog_paths.specs.Few.{AreFew}
+use Rattle.prog_paths.specs.declared.places.Question.{Question as Asked}
+use Rattle.conflict_pairs.specs.declared.outcome.Verdict.{Verdict}
+use Rattle.conflict_pairs.specs.declared.outcome.Verdict.TheVariants.{Apart, Covered, Exposed}
+use Rattle.conflict_pairs.specs.declared.table.Entry.{Entry as Judged}
+use Rattle.conflict_pairs.specs.declared.fault.PairFault.{PairFault}
+use Rattle.conflict_pairs.specs.declared.fault.PairFault as pairs
+use Rattle.conflict_pairs.specs.Table.{Table, StandsFor}
+use Rattle.dep_graph.specs.Counting.{IsCountOf}
+use Rattle.robust_cert.specs.declared.certificate.Question.{Question}
+use Rattle.robust_cert.specs.declared.certificate.Entry.{Entry}
+use Rattle.robust_cert.specs.declared.certificate.Entry as told
+use Rattle.robust_cert.specs.Json.{IsSmall, QuestionFits}
+use Rattle.si_repair.specs.declared.fault.AnalyseFault.{AnalyseFault}
+use Rattle.si_repair.specs.declared.fault.AnalyseFault as faults
+
+-- why a set is not analysed whose questions have no table
+abbrev pub fault_of : PairFault → AnalyseFault
+fault_of pairs.TheVariants.TooLarge = faults.TheVariants.TooLarge
+fault_of pairs.TheVariants.Memory = faults.TheVariants.Memory
+
+-- ---- entries
+
+-- a question's four numbers
+abbrev pub told_question : Asked → Question
+told_question q = record { x = q.x; a = q.a; y = q.y; b = q.b }
+
+-- what is told of a question with its verdict: nothing where it is exposed
+abbrev pub told_by : Asked → Verdict → List Entry
+told_by q (Apart chain) = told.TheVariants.Apart (told_question q) chain ∷ []
+told_by q (Covered m t chains) = told.TheVariants.Cover (told_question q) m t chains ∷ []
+told_by q (Exposed sample) = []
+
+-- what is told of the entries of a table, in order
+abbrev pub told_of : List Judged → List Entry
+told_of = flat_map (λ e. told_by e.question e.verdict)
+
+-- ---- levels
+
+-- for each node the number of nodes that lead to it, itself counted
+pub record AreLevels (paths : List Path) (levels : List ℕ) : Type 0 where
+  pub one_each : length levels ≡ length paths
+  pub counted : (x : ℕ) → x < length paths
+      → IsCountOf (λ u. Leads (StaticEdge paths) u x) (length paths) (slice_index_or levels x 0)
+
+-- ---- numbers
+
+-- the table of few paths, so that its numbers are small
+pub record IsOfFew (t : Table) : Type 0 where
+  pub paths : List Path
+  pub stands : StandsFor t paths
+  pub few : AreFew paths
+
+-- the numbers of a question are small
+abbrev pub AskedFits : Asked → Type 0
+AskedFits q = QuestionFits (told_question q)
+
+-- and those of the accesses that cover it
+abbrev pub VerdictFits : Verdict → Type 0
+VerdictFits (Covered m t chains) = IsSmall m × IsSmall t
+VerdictFits _ = Unit {0}

@@ -1,0 +1,34 @@
+//! The analysis of a set.
+ghost use Rattle.std.specs.Prelude.{◌≡◌, ◌<◌, ◌≤◌, length, IfOk, OnOk, Err};
+ghost use Rattle.prog_tree.specs.Tree.{draft_tree};
+ghost use Rattle.prog_check.specs.Paths.{paths_of};
+ghost use Rattle.prog_paths.specs.Asked.{questions_of, limit};
+ghost use Rattle.si_repair.specs.declared.fault.AnalyseFault as AnalyseFault;
+ghost use Rattle.si_repair.specs.Findings.{IsRightFinding};
+
+use crate::fault::AnalyseFault;
+use crate::finding::Finding;
+use crate::writing::certificate_of;
+use conflict_pairs::pairs;
+use dep_graph::Graph;
+use prog_check::ProgramSet;
+use prog_paths::paths;
+use std::alloc::Global;
+
+/// The certificate that a set is robust, or its least dangerous structure.
+pub fn certify(alloc: Global, set: &ProgramSet) -> Result<Finding, AnalyseFault>
+    ensures finding { IfOk result
+        (λ finding. IsRightFinding (paths_of (draft_tree set.now)) finding) }
+    ensures in_bounds { OnOk result
+        (length (questions_of (paths_of (draft_tree set.now))) ≤ limit) }
+    ensures too_large { result ≡ Err AnalyseFault.TooLarge
+        → limit < length (questions_of (paths_of (draft_tree set.now))) }
+{
+    let paths = paths(alloc, set)?;
+    let table = pairs(alloc, &paths)?;
+    let graph = Graph::build(alloc, &table)?;
+    match graph.danger()? {
+        Some(danger) => Ok(Finding::Refused(danger)),
+        None => Ok(Finding::Robust(certificate_of(alloc, &table, &graph)?)),
+    }
+}

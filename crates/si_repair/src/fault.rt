@@ -1,0 +1,37 @@
+//! Why a set is not analysed.
+
+use conflict_pairs::PairFault;
+use std::alloc::AllocError;
+
+/// Why a set is not analysed.
+#[derive(Clone, Copy, Debug, PartialEq, Eq)]
+pub enum AnalyseFault {
+    /// The set asks more than 1,000,000 questions.
+    TooLarge,
+    Memory,
+}
+
+impl From<AllocError> for AnalyseFault {
+    ghost use Rattle.std.specs.Prelude.{◌≡◌};
+    ghost use Rattle.si_repair.specs.declared.fault.AnalyseFault.TheVariants.{Memory};
+
+    ghost from_gives = { λ _ e. e ≡ Memory };
+
+    fn from(_error: AllocError) -> Self {
+        AnalyseFault::Memory
+    }
+}
+
+impl From<PairFault> for AnalyseFault {
+    ghost use Rattle.std.specs.Prelude.{◌≡◌};
+    ghost use Rattle.si_repair.specs.Telling.{fault_of};
+
+    ghost from_gives = { λ fault e. e ≡ fault_of fault };
+
+    fn from(fault: PairFault) -> Self {
+        match fault {
+            PairFault::TooLarge => AnalyseFault::TooLarge,
+            PairFault::Memory => AnalyseFault::Memory,
+        }
+    }
+}
