@@ -3,7 +3,7 @@ use Rattle.std.proofs.Common.{◌≡◌, ◌≢◌, ◌⊎◌, inl, inr, ◌↔�
 use Rattle.std.specs.Prelude.{Option, Some, None, is_some, slice_get, IsTrue, ◌≤◌, ◌-◌, length}
 use Rattle.std.specs.Cmp.{tied_itself}
 use Rattle.std.specs.Ordering.{is_eq}
-use Rattle.std.proofs.lemmas.Bool.{cases_lt, ltb-true, lt-ltb, leb-true, le-leb, eqb-false}
+use Rattle.std.proofs.lemmas.Bool.{cases_lt, ltb-true, lt-ltb, leb-true, le-leb, eqb-false, and_from, and_parts, not-true, or_cases, or_left, or_right}
 use Rattle.std.proofs.lemmas.Bool.Decides.{eqb_tells}
 use Rattle.std.proofs.lemmas.Option.{slice_get_within}
 use Rattle.prog_tree.specs.declared.cell.Cell.{Cell}
@@ -17,7 +17,6 @@ use Rattle.history_book.specs.Dependencies.{run_found, start_found, start_at, ev
 use Rattle.history_book.specs.History.{Instance, nth_instance, state_after, StartsBelow}
 use Rattle.history_book.specs.Orders.{IsUpTo}
 use Rattle.history_book.proofs.DependencyRelations.{WriteWriteBy, WriteReadBy, ReadWriteBy, DependsBy}
-use Rattle.history_book.proofs.OrderLaws.{both_parts, both_hold, either_part, first_holds, second_holds, fails}
 
 module _ (set : DraftTree) (opening : TableState) (h : List Instance) where
   -- it looked at a cell
@@ -57,8 +56,8 @@ changes_at p [] c w found passes = absurd (cc)
 changes_at p (e ∷ es) c w found passes = go (is_same_cell c e.0) refl found (changes_at p es c w)
   where
     go : (b : Bool) → is_same_cell c e.0 ≡ b → cond b (Some e.1) (at_cell es c) ≡ Some w → (at_cell es c ≡ Some w → p c ≡ true → changes_some p es ≡ true) → (p e.0 || changes_some p es) ≡ true
-    go true same is rest = first_holds (p e.0) (changes_some p es) (ap p (sym (cell_is c e.0 same)) ∙ passes)
-    go false other is rest = second_holds (p e.0) (changes_some p es) (rest is passes)
+    go true same is rest = or_left (p e.0) (changes_some p es) (ap p (sym (cell_is c e.0 same)) ∙ passes)
+    go false other is rest = or_right (p e.0) (changes_some p es) (rest is passes)
 
 module _ (set : DraftTree) (opening : TableState) (h : List Instance) (i j : ℕ) where
   abbrev cells_by : ℕ → ChangedCells
@@ -69,44 +68,44 @@ module _ (set : DraftTree) (opening : TableState) (h : List Instance) (i j : ℕ
 
   from_write_write : write_write set opening h i j ≡ true → WriteWriteBy Cell (Changes set opening h) i j
   from_write_write t =
-      let parts = both_parts _ _ t in
+      let parts = and_parts _ _ t in
       let r = changed_at (is_changed_by j) (cells_by i) parts.1 in
       record { cell = r.0; before = ltb-true i j parts.0; first = (r.1, r.2); second = some_is _ r.3 }
 
   to_write_write : WriteWriteBy Cell (Changes set opening h) i j → write_write set opening h i j ≡ true
-  to_write_write d = both_hold _ _ (lt-ltb i j d.before) (changes_at (is_changed_by j) (cells_by i) d.cell d.first.0 d.first.1 (ap is_some d.second.1))
+  to_write_write d = and_from _ _ (lt-ltb i j d.before) (changes_at (is_changed_by j) (cells_by i) d.cell d.first.0 d.first.1 (ap is_some d.second.1))
 
   from_write_read : write_read set opening h i j ≡ true → WriteReadBy Cell (start_at h) (Looks set opening h) (Changes set opening h) i j
   from_write_read t =
-      let parts = both_parts _ _ t in
+      let parts = and_parts _ _ t in
       let r = changed_at (has_looked (evaluation_at set opening h j)) (cells_by i) parts.1 in
       record { cell = r.0; seen = leb-true i (start_at h j) parts.0; change = (r.1, r.2); look = r.3 }
 
   to_write_read : WriteReadBy Cell (start_at h) (Looks set opening h) (Changes set opening h) i j → write_read set opening h i j ≡ true
-  to_write_read d = both_hold _ _ (le-leb i (start_at h j) d.seen) (changes_at (has_looked (evaluation_at set opening h j)) (cells_by i) d.cell d.change.0 d.change.1 d.look)
+  to_write_read d = and_from _ _ (le-leb i (start_at h j) d.seen) (changes_at (has_looked (evaluation_at set opening h j)) (cells_by i) d.cell d.change.0 d.change.1 d.look)
 
   from_read_write : i ≢ j → read_write set opening h i j ≡ true → ReadWriteBy Cell (start_at h) (Looks set opening h) (Changes set opening h) i j
   from_read_write other t =
-      let parts = both_parts _ _ t in
+      let parts = and_parts _ _ t in
       let r = changed_at (has_looked (evaluation_at set opening h i)) (cells_by j) parts.1 in
       record { cell = r.0; other = other; unseen = ltb-true (start_at h i) j parts.0; look = r.3; change = (r.1, r.2) }
 
   to_read_write : ReadWriteBy Cell (start_at h) (Looks set opening h) (Changes set opening h) i j → read_write set opening h i j ≡ true
-  to_read_write d = both_hold _ _ (lt-ltb (start_at h i) j d.unseen) (changes_at (has_looked (evaluation_at set opening h i)) (cells_by j) d.cell d.change.0 d.change.1 d.look)
+  to_read_write d = and_from _ _ (lt-ltb (start_at h i) j d.unseen) (changes_at (has_looked (evaluation_at set opening h i)) (cells_by j) d.cell d.change.0 d.change.1 d.look)
 
   from_test : depends set opening h i j ≡ true → DependsOn set opening h i j
-  from_test t = go (either_part _ _ parts.1)
+  from_test t = go (or_cases _ _ parts.1)
     where
       parts : (not (eqb i j) ≡ true) × ((write_write set opening h i j || (write_read set opening h i j || read_write set opening h i j)) ≡ true)
-      parts = both_parts _ _ t
+      parts = and_parts _ _ t
 
       reads : (write_read set opening h i j ≡ true) ⊎ (read_write set opening h i j ≡ true) → DependsOn set opening h i j
       reads (inl w) = inr (inl (from_write_read w))
-      reads (inr w) = inr (inr (from_read_write (eqb-false i j (fails (eqb i j) parts.0)) w))
+      reads (inr w) = inr (inr (from_read_write (eqb-false i j (not-true (eqb i j) parts.0)) w))
 
       go : (write_write set opening h i j ≡ true) ⊎ ((write_read set opening h i j || read_write set opening h i j) ≡ true) → DependsOn set opening h i j
       go (inl w) = inl (from_write_write w)
-      go (inr r) = reads (either_part _ _ r)
+      go (inr r) = reads (or_cases _ _ r)
 
   module _ (below : start_at h j < j) where
     apart : DependsOn set opening h i j → i ≢ j
@@ -115,12 +114,12 @@ module _ (set : DraftTree) (opening : TableState) (h : List Instance) (i j : ℕ
     apart (inr (inr d)) same = d.other same
 
     some_test : DependsOn set opening h i j → (write_write set opening h i j || (write_read set opening h i j || read_write set opening h i j)) ≡ true
-    some_test (inl d) = first_holds _ _ (to_write_write d)
-    some_test (inr (inl d)) = second_holds (write_write set opening h i j) _ (first_holds _ _ (to_write_read d))
-    some_test (inr (inr d)) = second_holds (write_write set opening h i j) _ (second_holds (write_read set opening h i j) _ (to_read_write d))
+    some_test (inl d) = or_left _ _ (to_write_write d)
+    some_test (inr (inl d)) = or_right (write_write set opening h i j) _ (or_left _ _ (to_write_read d))
+    some_test (inr (inr d)) = or_right (write_write set opening h i j) _ (or_right (write_read set opening h i j) _ (to_read_write d))
 
     to_test : DependsOn set opening h i j → depends set opening h i j ≡ true
-    to_test d = both_hold _ _ (other (eqb_tells i j)) (some_test d)
+    to_test d = and_from _ _ (other (eqb_tells i j)) (some_test d)
       where
         other : ((eqb i j ≡ true) × (i ≡ j)) ⊎ ((eqb i j ≡ false) × (i ≢ j)) → not (eqb i j) ≡ true
         other (inl e) = absurd (apart d e.1)
@@ -191,5 +190,5 @@ module _ (set : DraftTree) (opening : TableState) (h : List Instance) where
   depends_within i j below t =
       let d = from_test set opening h i j t in
       let both = both_act i j d in
-      let other = eqb-false i j (fails (eqb i j) (both_parts _ _ t).0) in
+      let other = eqb-false i j (not-true (eqb i j) (and_parts _ _ t).0) in
       (both.0, (second_counts i j below other d, both.1))

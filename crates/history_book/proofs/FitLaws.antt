@@ -2,7 +2,7 @@
 use Rattle.std.proofs.Common.{◌≡◌, ◌⊎◌, inl, inr, ℕ, ◌+◌, eqb, true, List, [], ◌∷◌, length, arith, refl}
 use Rattle.std.specs.Prelude.{Some}
 use Rattle.std.specs.List.{list_all, range_with_len}
-use Rattle.std.proofs.lemmas.Bool.{eq-eqb}
+use Rattle.std.proofs.lemmas.Bool.{eq-eqb, and_from, and_parts}
 use Rattle.prog_tree.specs.Syntax.{DraftTree}
 use Rattle.prog_tree.specs.Table.{TableState, IsTableState}
 use Rattle.history_book.specs.Dependencies.{depends}
@@ -12,7 +12,7 @@ use Rattle.history_book.specs.Serial.{is_each_once, Fits, RunsTheSame}
 use Rattle.history_book.proofs.CycleLaws.{no_cycle}
 use Rattle.history_book.proofs.DependencyLaws.{DependsOn, depends_tells, depends_within, start_at-below}
 use Rattle.history_book.proofs.ForwardLaws.{forward_fits}
-use Rattle.history_book.proofs.OrderLaws.{both_parts, both_hold, holds_not, all-where, is_one_of-member, ranged_up_to, least_order-comes}
+use Rattle.history_book.proofs.OrderLaws.{holds_not, all-where, is_one_of-member, ranged_up_to, least_order-comes}
 use Rattle.history_book.proofs.PlacedLaws.{fits_by_count}
 use Rattle.history_book.proofs.InTurn.{IsMember, FitsAfter, ComesAfter}
 use Rattle.history_book.proofs.SerialLaws.{serial_runs_same, serial_runs}
@@ -34,7 +34,7 @@ module _ (n : ℕ) (R : ℕ → ℕ → Type 0) where
   -- all numbers, each once
   each_once : (order : List ℕ) → ComesAfter n R [] order → is_each_once n order ≡ true
   each_once order c =
-      both_hold (eqb (length order) n) (list_all (is_one_of order) (range_with_len 1 n))
+      and_from (eqb (length order) n) (list_all (is_one_of order) (range_with_len 1 n))
       (eq-eqb (length order) n (let e = as_many [] order c in omega arith))
       (all-where (is_one_of order) (range_with_len 1 n) (λ i m. is_one_of-member order i (there i (placed_in [] order (fits_by_count n R [] order tt c) i (ranged_up_to n i m)))))
     where
@@ -74,7 +74,7 @@ module _ (set : DraftTree) (opening : TableState) (h : List Instance) (lawful : 
       no_cycle (depends set opening h) (length h) (λ i j t. (depends_within set opening h i j lawful.starts t).1)
 
   no_loop : (i : ℕ) → depends set opening h i i ≡ true → ⊥
-  no_loop i t = holds_not (eqb i i) (both_parts _ _ t).0 (eq-eqb i i refl)
+  no_loop i t = holds_not (eqb i i) (and_parts _ _ t).0 (eq-eqb i i refl)
 
   forward : (order : List ℕ) → is_each_once (length h) order ≡ true → IsForward (depends set opening h) order → FitsAfter (length h) (DependsOn set opening h) [] order
   forward order once onward = by_cells order (forward_fits (depends set opening h) (length h) no_loop order once onward)

@@ -2,12 +2,12 @@
 use Rattle.std.proofs.Common.{◌≡◌, ◌⊎◌, inl, inr, ℕ, zero, suc, ◌+◌, ◌<◌, ◌≤◌, eqb, Bool, true, false, List, [], ◌∷◌, ◌++◌, length, refl, ap, sym, subst, ◌∙◌, arith}
 use Rattle.std.specs.Prelude.{All}
 use Rattle.std.specs.List.{list_all, range_with_len}
-use Rattle.std.proofs.lemmas.Bool.{cases_lt, eqb-true}
+use Rattle.std.proofs.lemmas.Bool.{cases_lt, eqb-true, and_parts}
 use Rattle.std.proofs.lemmas.List.{length-append}
 use Rattle.std.proofs.lemmas.List.Elements.{All-head, All-tail}
 use Rattle.history_book.specs.Orders.{is_one_of, IsForward, IsUpTo}
 use Rattle.history_book.specs.Serial.{is_each_once}
-use Rattle.history_book.proofs.OrderLaws.{both_parts, all-at, member_of, up_to_ranged}
+use Rattle.history_book.proofs.OrderLaws.{all-at, member_of, up_to_ranged}
 use Rattle.history_book.proofs.InTurn.{IsMember, FitsAfter}
 
 -- what is left of a list without one of its numbers
@@ -122,4 +122,4 @@ module _ (before : ℕ → ℕ → Bool) (n : ℕ) (no_loop : (i : ℕ) → befo
   forward_fits order once onward = forward_after [] order (let e = eqb-true (length order) n parts.0 in omega arith) (λ j up. inr (member_of order j (all-at (is_one_of order) (range_with_len 1 n) j parts.1 (up_to_ranged n j up)))) onward
     where
       parts : (eqb (length order) n ≡ true) × (list_all (is_one_of order) (range_with_len 1 n) ≡ true)
-      parts = both_parts (eqb (length order) n) (list_all (is_one_of order) (range_with_len 1 n)) once
+      parts = and_parts (eqb (length order) n) (list_all (is_one_of order) (range_with_len 1 n)) once

@@ -1,36 +1,12 @@
 -- Least orders: each number comes after all that has to stand before it.
-use Rattle.std.proofs.Common.{◌≡◌, ◌⊎◌, inl, inr, ◌↔◌, ℕ, zero, suc, ◌+◌, ◌<◌, ◌≤◌, eqb, Bool, true, false, not, cond, ◌&&◌, ◌||◌, List, [], ◌∷◌, ◌++◌, length, refl, ap, sym, subst, ◌∙◌, arith, append_assoc, append-nil}
+use Rattle.std.proofs.Common.{◌≡◌, ◌⊎◌, inl, inr, ◌↔◌, ℕ, zero, suc, ◌+◌, ◌<◌, ◌≤◌, eqb, Bool, true, false, not, cond, ◌||◌, List, [], ◌∷◌, ◌++◌, length, refl, ap, sym, subst, ◌∙◌, arith, append_assoc, append-nil}
 use Rattle.std.specs.Prelude.{Option, Some, None, option_and_then}
 use Rattle.std.specs.List.{list_all, range_with_len}
-use Rattle.std.proofs.lemmas.Bool.{cases_lt, eqb-true, eq-eqb}
+use Rattle.std.proofs.lemmas.Bool.{cases_lt, eqb-true, eq-eqb, and_from, and_parts, or_cases, or_left, or_right}
 use Rattle.history_book.specs.Orders.{is_one_of, is_free, first_free, placed_by, least_order, IsUpTo}
 use Rattle.history_book.proofs.InTurn.{IsMember, ComesAfter}
 
 -- ---- tests
-
-pub both_parts : (a b : Bool) → (a && b) ≡ true → (a ≡ true) × (b ≡ true)
-both_parts true b h = (refl, h)
-both_parts false b h = absurd (cc)
-
-pub both_hold : (a b : Bool) → a ≡ true → b ≡ true → (a && b) ≡ true
-both_hold true b h k = k
-both_hold false b h k = absurd (cc)
-
-pub either_part : (a b : Bool) → (a || b) ≡ true → (a ≡ true) ⊎ (b ≡ true)
-either_part true b h = inl refl
-either_part false b h = inr h
-
-pub first_holds : (a b : Bool) → a ≡ true → (a || b) ≡ true
-first_holds true b h = refl
-first_holds false b h = absurd (cc)
-
-pub second_holds : (a b : Bool) → b ≡ true → (a || b) ≡ true
-second_holds true b h = refl
-second_holds false b h = h
-
-pub fails : (b : Bool) → not b ≡ true → b ≡ false
-fails true h = absurd (cc)
-fails false h = refl
 
 pub fails_where : (b : Bool) → (b ≡ true → ⊥) → not b ≡ true
 fails_where true h = absurd (h refl)
@@ -44,7 +20,7 @@ holds_not false h k = absurd (cc)
 
 pub member_of : (xs : List ℕ) (n : ℕ) → is_one_of xs n ≡ true → IsMember n xs
 member_of [] n h = absurd (cc)
-member_of (x ∷ xs) n h = go (either_part (eqb x n) (is_one_of xs n) h) (member_of xs n)
+member_of (x ∷ xs) n h = go (or_cases (eqb x n) (is_one_of xs n) h) (member_of xs n)
   where
     go : (eqb x n ≡ true) ⊎ (is_one_of xs n ≡ true) → (is_one_of xs n ≡ true → IsMember n xs) → (x ≡ n) ⊎ IsMember n xs
     go (inl e) rest = inl (eqb-true x n e)
@@ -52,8 +28,8 @@ member_of (x ∷ xs) n h = go (either_part (eqb x n) (is_one_of xs n) h) (member
 
 pub is_one_of-member : (xs : List ℕ) (n : ℕ) → IsMember n xs → is_one_of xs n ≡ true
 is_one_of-member [] n m = absurd m
-is_one_of-member (x ∷ xs) n (inl e) = first_holds (eqb x n) (is_one_of xs n) (eq-eqb x n e)
-is_one_of-member (x ∷ xs) n (inr m) = second_holds (eqb x n) (is_one_of xs n) (is_one_of-member xs n m)
+is_one_of-member (x ∷ xs) n (inl e) = or_left (eqb x n) (is_one_of xs n) (eq-eqb x n e)
+is_one_of-member (x ∷ xs) n (inr m) = or_right (eqb x n) (is_one_of xs n) (is_one_of-member xs n m)
 
 pub member-more : (xs : List ℕ) (y n : ℕ) → IsMember n xs → IsMember n (xs ++ y ∷ [])
 member-more [] y n m = absurd m
@@ -95,12 +71,12 @@ ranged_up_to n i m = let r = ranged-member 1 n i m in let a = r.0 in let b = r.1
 
 pub all-at : (p : ℕ → Bool) (xs : List ℕ) (i : ℕ) → list_all p xs ≡ true → IsMember i xs → p i ≡ true
 all-at p [] i h m = absurd m
-all-at p (x ∷ xs) i h (inl e) = ap p (sym e) ∙ (both_parts (p x) (list_all p xs) h).0
-all-at p (x ∷ xs) i h (inr m) = all-at p xs i (both_parts (p x) (list_all p xs) h).1 m
+all-at p (x ∷ xs) i h (inl e) = ap p (sym e) ∙ (and_parts (p x) (list_all p xs) h).0
+all-at p (x ∷ xs) i h (inr m) = all-at p xs i (and_parts (p x) (list_all p xs) h).1 m
 
 pub all-where : (p : ℕ → Bool) (xs : List ℕ) → ((i : ℕ) → IsMember i xs → p i ≡ true) → list_all p xs ≡ true
 all-where p [] h = refl
-all-where p (x ∷ xs) h = both_hold (p x) (list_all p xs) (h x (inl refl)) (all-where p xs (λ i m. h i (inr m)))
+all-where p (x ∷ xs) h = and_from (p x) (list_all p xs) (h x (inl refl)) (all-where p xs (λ i m. h i (inr m)))
 
 -- ---- free numbers
 
@@ -110,10 +86,10 @@ module _ (before : ℕ → ℕ → Bool) (n : ℕ) where
   IsFree placed m = (IsMember m placed → ⊥) × ((i : ℕ) → IsUpTo n i → before i m ≡ true → IsMember i placed)
 
   pub free_by_test : (placed : List ℕ) (m : ℕ) → is_free before (range_with_len 1 n) placed m ≡ true → IsFree placed m
-  free_by_test placed m h = (λ k. holds_not (is_one_of placed m) parts.0 (is_one_of-member placed m k), λ i up e. among i e (either_part (not (before i m)) (is_one_of placed i) (all-at (λ j. not (before j m) || is_one_of placed j) (range_with_len 1 n) i parts.1 (up_to_ranged n i up))))
+  free_by_test placed m h = (λ k. holds_not (is_one_of placed m) parts.0 (is_one_of-member placed m k), λ i up e. among i e (or_cases (not (before i m)) (is_one_of placed i) (all-at (λ j. not (before j m) || is_one_of placed j) (range_with_len 1 n) i parts.1 (up_to_ranged n i up))))
     where
       parts : (not (is_one_of placed m) ≡ true) × (list_all (λ i. not (before i m) || is_one_of placed i) (range_with_len 1 n) ≡ true)
-      parts = both_parts (not (is_one_of placed m)) (list_all (λ i. not (before i m) || is_one_of placed i) (range_with_len 1 n)) h
+      parts = and_parts (not (is_one_of placed m)) (list_all (λ i. not (before i m) || is_one_of placed i) (range_with_len 1 n)) h
 
       among : (i : ℕ) → before i m ≡ true → (not (before i m) ≡ true) ⊎ (is_one_of placed i ≡ true) → IsMember i placed
       among i e (inl f) = absurd (holds_not (before i m) f e)
@@ -121,7 +97,7 @@ module _ (before : ℕ → ℕ → Bool) (n : ℕ) where
 
   pub free_tested : (placed : List ℕ) (m : ℕ) → IsFree placed m → is_free before (range_with_len 1 n) placed m ≡ true
   free_tested placed m free =
-      both_hold (not (is_one_of placed m)) (list_all (λ i. not (before i m) || is_one_of placed i) (range_with_len 1 n))
+      and_from (not (is_one_of placed m)) (list_all (λ i. not (before i m) || is_one_of placed i) (range_with_len 1 n))
       (fails_where (is_one_of placed m) (λ t. free.0 (member_of placed m t)))
       (all-where (λ i. not (before i m) || is_one_of placed i) (range_with_len 1 n) (λ i k. go i k (before i m) refl))
     where

@@ -2,7 +2,7 @@
 use Rattle.std.proofs.Common.{◌≡◌, ◌∙◌, ◌==◌, ℕ, Bool, true, false, ◌&&◌, ◌||◌, List, [], ◌∷◌, ◌++◌, length, refl, ap, sym}
 use Rattle.std.proofs.lemmas.List.Folds.{list_any-append}
 use Rattle.history_book.specs.Precedence.{precedes}
-use Rattle.history_book.specs.Reduced.{Pairs, is_pair_among, HasPairs}
+use Rattle.history_book.specs.Reduced.{Pairs, is_pair_among, Adds}
 
 or_assoc : (a b c : Bool) → ((a || b) || c) ≡ (a || (b || c))
 or_assoc true b c = refl
@@ -23,32 +23,43 @@ pub record Walk (rest all : Pairs) (old now : List (List ℕ)) : Type 0 where
 pub walk_begins : (all : Pairs) (old : List (List ℕ)) → Walk all all old old
 walk_begins all old = record { towards = λ i j. refl; commits = refl }
 
-pub walk_ends : (rest all : Pairs) (old now : List (List ℕ)) → rest ≡ [] → Walk rest all old now → HasPairs all old now
-walk_ends rest all old now none walk i j =
-    sym (or_false (precedes now i j)) ∙ ap (λ (ps : Pairs). precedes now i j || is_pair_among ps i j) (sym none) ∙ walk.towards i j
+pub walk_ends : (rest all : Pairs) (old now : List (List ℕ)) → rest ≡ [] → Walk rest all old now → Adds all old now
+walk_ends rest all old now none walk = record {
+  commits = walk.commits;
+  pairs = λ i j.
+      sym (or_false (precedes now i j))
+      ∙ ap (λ (ps : Pairs). precedes now i j || is_pair_among ps i j) (sym none)
+      ∙ walk.towards i j;
+}
 
-pub walk_on : (left ps rest all : Pairs) (old now next : List (List ℕ)) → left ≡ ps ++ rest → Walk left all old now → HasPairs ps now next → length next ≡ length now → Walk rest all old next
-walk_on left ps rest all old now next is walk adds same = record {
+pub walk_on : (left ps rest all : Pairs) (old now next : List (List ℕ)) → left ≡ ps ++ rest → Walk left all old now → Adds ps now next → Walk rest all old next
+walk_on left ps rest all old now next is walk adds = record {
   towards = λ i j.
-      ap (λ b. b || is_pair_among rest i j) (adds i j)
+      ap (λ b. b || is_pair_among rest i j) (adds.pairs i j)
       ∙ or_assoc (precedes now i j) (is_pair_among ps i j) (is_pair_among rest i j)
       ∙ ap (λ b. precedes now i j || b) (sym (among-append ps rest i j))
       ∙ ap (λ (qs : Pairs). precedes now i j || is_pair_among qs i j) (sym is)
       ∙ walk.towards i j;
-  commits = same ∙ walk.commits;
+  commits = adds.commits ∙ walk.commits;
 }
 
 -- one pair was added
-pub one_pair : (a b : ℕ) (old new : List (List ℕ)) → ((i j : ℕ) → precedes new i j ≡ (precedes old i j || ((i == a) && (j == b)))) → HasPairs ((a, b) ∷ []) old new
-one_pair a b old new adds i j = adds i j ∙ ap (λ x. precedes old i j || x) (sym (or_false ((i == a) && (j == b))))
+pub one_pair : (a b : ℕ) (old new : List (List ℕ)) → length new ≡ length old → ((i j : ℕ) → precedes new i j ≡ (precedes old i j || ((i == a) && (j == b)))) → Adds ((a, b) ∷ []) old new
+one_pair a b old new same adds = record {
+  commits = same;
+  pairs = λ i j. adds i j ∙ ap (λ x. precedes old i j || x) (sym (or_false ((i == a) && (j == b))));
+}
 
 -- nothing was added
-pub no_pair : (p : List (List ℕ)) → HasPairs [] p p
-no_pair p i j = sym (or_false (precedes p i j))
+pub no_pair : (p : List (List ℕ)) → Adds [] p p
+no_pair p = record { commits = refl; pairs = λ i j. sym (or_false (precedes p i j)) }
 
-pub both_pairs : (ps qs : Pairs) (old mid new : List (List ℕ)) → HasPairs ps old mid → HasPairs qs mid new → HasPairs (ps ++ qs) old new
-both_pairs ps qs old mid new first second i j =
-    second i j
-    ∙ ap (λ b. b || is_pair_among qs i j) (first i j)
-    ∙ or_assoc (precedes old i j) (is_pair_among ps i j) (is_pair_among qs i j)
-    ∙ ap (λ b. precedes old i j || b) (sym (among-append ps qs i j))
+pub both_pairs : (ps qs : Pairs) (old mid new : List (List ℕ)) → Adds ps old mid → Adds qs mid new → Adds (ps ++ qs) old new
+both_pairs ps qs old mid new first second = record {
+  commits = second.commits ∙ first.commits;
+  pairs = λ i j.
+      second.pairs i j
+      ∙ ap (λ b. b || is_pair_among qs i j) (first.pairs i j)
+      ∙ or_assoc (precedes old i j) (is_pair_among ps i j) (is_pair_among qs i j)
+      ∙ ap (λ b. precedes old i j || b) (sym (among-append ps qs i j));
+}

@@ -1,12 +1,12 @@
 -- Pairs of a region's readers.
-use Rattle.std.proofs.Common.{◌≡◌, ◌∙◌, ℕ, Bool, true, false, cond, ◌&&◌, not, if◌then◌else◌, List, [], ◌∷◌, ◌++◌, length, refl, ap, sym, subst}
+use Rattle.std.proofs.Common.{◌≡◌, ◌∙◌, ℕ, Bool, true, false, cond, ◌&&◌, not, if◌then◌else◌, List, [], ◌∷◌, ◌++◌, refl, ap, sym, subst}
 use Rattle.std.specs.Prelude.{filter, All, Some}
 use Rattle.std.proofs.lemmas.List.Elements.{All-head, All-tail, All-filter}
 use Rattle.prog_tree.specs.declared.cell.Cell.{Cell}
 use Rattle.prog_tree.specs.declared.cell.Region.{Region}
 use Rattle.prog_tree.specs.Table.{Cells, is_in, is_cell_among}
 use Rattle.version_store.specs.Regions.{is_between, AreCorners}
-use Rattle.history_book.specs.Reduced.{Pairs, HasPairs, RiseFrom, AreWithin, AllRiseWithin, steps_of, writers_steps, reader_pairs, region_pairs}
+use Rattle.history_book.specs.Reduced.{Pairs, Adds, RiseFrom, AreWithin, AllRiseWithin, steps_of, writers_steps, reader_pairs, region_pairs}
 use Rattle.history_book.specs.Traces.{takes_in}
 use Rattle.history_book.specs.declared.trace.Sight.TheVariants as sight
 use Rattle.history_book.proofs.PairLaws.{Walk, walk_begins, walk_on}
@@ -22,19 +22,19 @@ module _ (old : List (List ℕ)) (n : ℕ) where
       (All-head P (k, ws) rest here, All-tail P (k, ws) rest here)
 
   pub steps_on : (all : Pairs) (now next : List (List ℕ)) (left rest : Cells (List ℕ)) (k : Cell) (ws : List ℕ) → left ≡ (k, ws) ∷ rest →
-      Both (writers_steps left) all old now n left → HasPairs (steps_of ws) now next → length next ≡ length now → Both (writers_steps rest) all old next n rest
-  steps_on all now next left rest k ws is so_far adds same =
-      (walk_on (writers_steps left) (steps_of ws) (writers_steps rest) all old now next (ap writers_steps is) so_far.0 adds same, (entry_first left rest k ws is so_far.1).1)
+      Both (writers_steps left) all old now n left → Adds (steps_of ws) now next → Both (writers_steps rest) all old next n rest
+  steps_on all now next left rest k ws is so_far adds =
+      (walk_on (writers_steps left) (steps_of ws) (writers_steps rest) all old now next (ap writers_steps is) so_far.0 adds, (entry_first left rest k ws is so_far.1).1)
 
   module _ (reader start : ℕ) (region : Region) (own : List Cell) where
     pub region_on : (b : Bool) (all : Pairs) (now next : List (List ℕ)) (left rest : Cells (List ℕ)) (k : Cell) (ws : List ℕ) → left ≡ (k, ws) ∷ rest →
         takes_in (sight.Range region own) k ≡ b → Both (region_pairs reader start region own left) all old now n left →
-        HasPairs (if b then reader_pairs reader start ws else []) now next → length next ≡ length now →
+        Adds (if b then reader_pairs reader start ws else []) now next →
         Both (region_pairs reader start region own rest) all old next n rest
-    region_on b all now next left rest k ws is taken so_far adds same =
+    region_on b all now next left rest k ws is taken so_far adds =
         let ps : Bool → Pairs = λ t. if t then reader_pairs reader start ws else [] in (
           walk_on (region_pairs reader start region own left) (ps b) (region_pairs reader start region own rest) all old now next
-              (ap (region_pairs reader start region own) is ∙ ap (λ t. ps t ++ region_pairs reader start region own rest) taken) so_far.0 adds same,
+              (ap (region_pairs reader start region own) is ∙ ap (λ t. ps t ++ region_pairs reader start region own rest) taken) so_far.0 adds,
           (entry_first left rest k ws is so_far.1).1,
         )
 

@@ -2,12 +2,13 @@
 use Rattle.std.proofs.Common.{◌≡◌, ◌∙◌, ◌==◌, ◌⊎◌, inl, inr, ℕ, zero, suc, ◌+◌, ◌<◌, ◌≤◌, nat_lt, Bool, true, false, true≢false, ◌||◌, if◌then◌else◌, List, [], ◌∷◌, length, get_or, refl, ap, sym, subst, arith}
 use Rattle.std.specs.Prelude.{nat_le, Option, Some, None, slice_get, IfSome}
 use Rattle.std.proofs.lemmas.Option.{slice_get_cases}
+use Rattle.std.proofs.lemmas.Bool.{or_cases, or_left, or_right}
 use Rattle.prog_tree.specs.declared.cell.Cell.{Cell}
 use Rattle.history_book.specs.Orders.{is_one_of, IsUpTo}
 use Rattle.history_book.specs.Reduced.{RiseFrom, writers_from, writers_of, later_or, last_seen, first_missed}
 use Rattle.history_book.specs.TraceView.{TraceView}
 use Rattle.history_book.specs.Traces.{changed_at, trace_found, trace_at}
-use Rattle.history_book.proofs.TestLaws.{one_of, or_first, or_second, lt_told, lt_tells, le_told, le_tells, eq_told, eq_itself, ne_tells}
+use Rattle.history_book.proofs.TestLaws.{lt_told, lt_tells, le_told, le_tells, eq_told, eq_itself, ne_tells}
 
 pub weaken : (n m : ℕ) (ms : List ℕ) → n ≤ m → RiseFrom m ms → RiseFrom n ms
 weaken n m [] le rise = tt
@@ -15,7 +16,7 @@ weaken n m (k ∷ ms) le rise = (omega (arith, le, rise.0), rise.1)
 
 pub at_least : (n : ℕ) (ms : List ℕ) (w : ℕ) → RiseFrom n ms → is_one_of ms w ≡ true → n ≤ w
 at_least n [] w rise h = absurd (cc)
-at_least n (m ∷ ms) w rise h = go (one_of (m == w) (is_one_of ms w) h) (λ later. at_least (m + 1) ms w rise.1 later)
+at_least n (m ∷ ms) w rise h = go (or_cases (m == w) (is_one_of ms w) h) (λ later. at_least (m + 1) ms w rise.1 later)
   where
     go : ((m == w) ≡ true) ⊎ (is_one_of ms w ≡ true) → (is_one_of ms w ≡ true → m + 1 ≤ w) → n ≤ w
     go (inl same) rest = let is : m ≡ w = eq_told m w same in omega (arith, is, rise.0)
@@ -48,7 +49,7 @@ one_of_writers k (t ∷ ts) c zero = go (changed_at t c) refl
     same = omega arith
 
     go : (b : Bool) → changed_at t c ≡ b → is_one_of (if b then k ∷ writers_from (k + 1) ts c else writers_from (k + 1) ts c) (k + 0) ≡ changed_at t c
-    go true is = or_first (k == (k + 0)) (is_one_of (writers_from (k + 1) ts c) (k + 0)) (subst (λ n. (k == n) ≡ true) (sym same) (eq_itself k)) ∙ sym is
+    go true is = or_left (k == (k + 0)) (is_one_of (writers_from (k + 1) ts c) (k + 0)) (subst (λ n. (k == n) ≡ true) (sym same) (eq_itself k)) ∙ sym is
     go false is = not_below (k + 1) (writers_from (k + 1) ts c) (k + 0) (writers_rise (k + 1) ts c) (omega arith) ∙ sym is
 one_of_writers k (t ∷ ts) c (suc i) = go (changed_at t c) ∙ ap (is_one_of (writers_from (k + 1) ts c)) next ∙ one_of_writers (k + 1) ts c i
   where
@@ -97,8 +98,8 @@ seen_is s [] = tt
 seen_is s (m ∷ ms) = go (last_seen s ms) (nat_le m s) refl (seen_is s ms)
   where
     go : (o : Option ℕ) (b : Bool) → nat_le m s ≡ b → IfSome o (λ w. (is_one_of ms w ≡ true) × (w ≤ s)) → IfSome (later_or m b o) (λ w. (is_one_of (m ∷ ms) w ≡ true) × (w ≤ s))
-    go (Some w) b is rest = (or_second (m == w) (is_one_of ms w) rest.0, rest.1)
-    go None true is rest = (or_first (m == m) (is_one_of ms m) (eq_itself m), le_told m s is)
+    go (Some w) b is rest = (or_right (m == w) (is_one_of ms w) rest.0, rest.1)
+    go None true is rest = (or_left (m == m) (is_one_of ms m) (eq_itself m), le_told m s is)
     go None false is rest = tt
 
 pub missed_is : (s : ℕ) (ms : List ℕ) → IfSome (first_missed s ms) (λ w. (is_one_of ms w ≡ true) × (s < w))
@@ -106,9 +107,9 @@ missed_is s [] = tt
 missed_is s (m ∷ ms) = go (nat_lt s m) refl (first_missed s ms) (missed_is s ms)
   where
     go : (b : Bool) → nat_lt s m ≡ b → (o : Option ℕ) → IfSome o (λ w. (is_one_of ms w ≡ true) × (s < w)) → IfSome (if b then Some m else o) (λ w. (is_one_of (m ∷ ms) w ≡ true) × (s < w))
-    go true is o rest = (or_first (m == m) (is_one_of ms m) (eq_itself m), lt_told s m is)
+    go true is o rest = (or_left (m == m) (is_one_of ms m) (eq_itself m), lt_told s m is)
     go false is None rest = tt
-    go false is (Some w) rest = (or_second (m == w) (is_one_of ms w) rest.0, rest.1)
+    go false is (Some w) rest = (or_right (m == w) (is_one_of ms w) rest.0, rest.1)
 
 -- the last seen is at least as great as each that is seen
 pub record SeenFrom (s : ℕ) (ms : List ℕ) (i : ℕ) : Type 0 where
@@ -118,7 +119,7 @@ pub record SeenFrom (s : ℕ) (ms : List ℕ) (i : ℕ) : Type 0 where
 
 pub seen_from : (n s : ℕ) (ms : List ℕ) (i : ℕ) → RiseFrom n ms → is_one_of ms i ≡ true → i ≤ s → SeenFrom s ms i
 seen_from n s [] i rise h low = absurd (cc)
-seen_from n s (m ∷ ms) i rise h low = go (one_of (m == i) (is_one_of ms i) h) (λ later. seen_from (m + 1) s ms i rise.1 later low)
+seen_from n s (m ∷ ms) i rise h low = go (or_cases (m == i) (is_one_of ms i) h) (λ later. seen_from (m + 1) s ms i rise.1 later low)
   where
     first : (o : Option ℕ) → last_seen s ms ≡ o → IfSome o (λ w. (is_one_of ms w ≡ true) × (w ≤ s)) → m ≡ i → SeenFrom s (m ∷ ms) i
     first None none rest same =
@@ -142,7 +143,7 @@ pub record MissedTo (s : ℕ) (ms : List ℕ) (j : ℕ) : Type 0 where
 
 pub missed_to : (n s : ℕ) (ms : List ℕ) (j : ℕ) → RiseFrom n ms → is_one_of ms j ≡ true → s < j → MissedTo s ms j
 missed_to n s [] j rise h up = absurd (cc)
-missed_to n s (m ∷ ms) j rise h up = go (nat_lt s m) refl (one_of (m == j) (is_one_of ms j) h) (λ later. missed_to (m + 1) s ms j rise.1 later up)
+missed_to n s (m ∷ ms) j rise h up = go (nat_lt s m) refl (or_cases (m == j) (is_one_of ms j) h) (λ later. missed_to (m + 1) s ms j rise.1 later up)
   where
     go : (b : Bool) → nat_lt s m ≡ b → ((m == j) ≡ true) ⊎ (is_one_of ms j ≡ true) → (is_one_of ms j ≡ true → MissedTo s ms j) → MissedTo s (m ∷ ms) j
     go true is (inl same) rest = let eq : m ≡ j = eq_told m j same in record { first = m; is = ap (λ b. if b then Some m else first_missed s ms) is; to = omega (arith, eq) }

@@ -1,38 +1,15 @@
 -- Tests and what they tell.
-use Rattle.std.proofs.Common.{◌≡◌, ◌∙◌, ◌==◌, ◌⊎◌, inl, inr, ℕ, ◌<◌, ◌≤◌, nat_lt, Bool, true, false, true≢false, ◌&&◌, ◌||◌, not, List, [], ◌∷◌, refl, ap, sym, subst, arith}
+use Rattle.std.proofs.Common.{◌≡◌, ◌∙◌, ◌==◌, ◌⊎◌, inl, inr, ℕ, ◌<◌, ◌≤◌, nat_lt, Bool, true, false, true≢false, ◌||◌, not, List, [], ◌∷◌, refl, ap, sym, subst, arith}
 use Rattle.std.specs.Prelude.{nat_le}
 use Rattle.std.specs.Cmp.{tied_itself}
 use Rattle.std.specs.List.{list_any}
 use Rattle.std.specs.Ordering.{is_eq}
 use Rattle.std.proofs.lemmas.Bool.Decides.{nat_tests}
+use Rattle.std.proofs.lemmas.Bool.{or_cases, or_left, or_right}
 use Rattle.prog_tree.specs.declared.cell.Cell.{Cell}
 use Rattle.prog_tree.specs.Table.{is_same_cell, is_cell_among}
 use Rattle.prog_tree.proofs.TableLemmas.{cell_total}
 use Rattle.prog_tree.proofs.TableStates.{cell_is}
-
-pub first_of : (a b : Bool) → (a && b) ≡ true → a ≡ true
-first_of true b h = refl
-first_of false b h = absurd (cc)
-
-pub second_of : (a b : Bool) → (a && b) ≡ true → b ≡ true
-second_of true b h = h
-second_of false b h = absurd (cc)
-
-pub both_of : (a b : Bool) → a ≡ true → b ≡ true → (a && b) ≡ true
-both_of true b p q = q
-both_of false b p q = absurd (cc)
-
-pub one_of : (a b : Bool) → (a || b) ≡ true → (a ≡ true) ⊎ (b ≡ true)
-one_of true b h = inl refl
-one_of false b h = inr h
-
-pub or_first : (a b : Bool) → a ≡ true → (a || b) ≡ true
-or_first true b h = refl
-or_first false b h = absurd (cc)
-
-pub or_second : (a b : Bool) → b ≡ true → (a || b) ≡ true
-or_second true b h = refl
-or_second false b h = h
 
 pub lt_told : (i j : ℕ) → nat_lt i j ≡ true → i < j
 lt_told i j h = grind (arith, nat_tests)
@@ -74,11 +51,11 @@ same_itself c = ap is_eq (tied_itself cell_total c)
 -- a cell among others that passes a test
 pub any_at : (q : Cell → Bool) (cs : List Cell) (c : Cell) → is_cell_among cs c ≡ true → q c ≡ true → list_any q cs ≡ true
 any_at q [] c among holds = absurd (cc)
-any_at q (d ∷ cs) c among holds = go (one_of (is_same_cell c d) (is_cell_among cs c) among) (λ later. any_at q cs c later holds)
+any_at q (d ∷ cs) c among holds = go (or_cases (is_same_cell c d) (is_cell_among cs c) among) (λ later. any_at q cs c later holds)
   where
     go : (is_same_cell c d ≡ true) ⊎ (is_cell_among cs c ≡ true) → (is_cell_among cs c ≡ true → list_any q cs ≡ true) → (q d || list_any q cs) ≡ true
-    go (inl same) rest = or_first (q d) (list_any q cs) (subst (λ (x : Cell). q x ≡ true) (cell_is c d same) holds)
-    go (inr later) rest = or_second (q d) (list_any q cs) (rest later)
+    go (inl same) rest = or_left (q d) (list_any q cs) (subst (λ (x : Cell). q x ≡ true) (cell_is c d same) holds)
+    go (inr later) rest = or_right (q d) (list_any q cs) (rest later)
 
 -- a cell among some that passes a test
 pub record PassesAmong (q : Cell → Bool) (cs : List Cell) : Type 0 where
@@ -88,10 +65,10 @@ pub record PassesAmong (q : Cell → Bool) (cs : List Cell) : Type 0 where
 
 pub any_some : (q : Cell → Bool) (cs : List Cell) → list_any q cs ≡ true → PassesAmong q cs
 any_some q [] h = absurd (cc)
-any_some q (d ∷ cs) h = go (one_of (q d) (list_any q cs) h) (any_some q cs)
+any_some q (d ∷ cs) h = go (or_cases (q d) (list_any q cs) h) (any_some q cs)
   where
     go : (q d ≡ true) ⊎ (list_any q cs ≡ true) → (list_any q cs ≡ true → PassesAmong q cs) → PassesAmong q (d ∷ cs)
-    go (inl here) rest = record { cell = d; among = or_first (is_same_cell d d) (is_cell_among cs d) (same_itself d); passes = here }
+    go (inl here) rest = record { cell = d; among = or_left (is_same_cell d d) (is_cell_among cs d) (same_itself d); passes = here }
     go (inr later) rest =
         let found = rest later in
-        record { cell = found.cell; among = or_second (is_same_cell found.cell d) (is_cell_among cs found.cell) found.among; passes = found.passes }
+        record { cell = found.cell; among = or_right (is_same_cell found.cell d) (is_cell_among cs found.cell) found.among; passes = found.passes }

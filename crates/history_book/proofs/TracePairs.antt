@@ -6,6 +6,7 @@ use Rattle.std.specs.List.Sorted.{IsStrictlySortedBy}
 use Rattle.std.proofs.lemmas.List.Elements.{All-nil, All-cons}
 use Rattle.std.proofs.lemmas.Map.Keys.{sorted_tail}
 use Rattle.std.proofs.lemmas.Option.{slice_get_cases}
+use Rattle.std.proofs.lemmas.Bool.{and_from, and_parts, or_cases, or_left, or_right}
 use Rattle.prog_tree.specs.declared.cell.Cell.{Cell}
 use Rattle.prog_tree.specs.declared.cell.Region.{Region}
 use Rattle.prog_tree.specs.Table.{cell_cmp, Cells, cells_of, at_cell, is_same_cell}
@@ -17,7 +18,7 @@ use Rattle.history_book.specs.Traces.{takes_in, looked_at, changed_at, trace_fou
 use Rattle.history_book.specs.declared.trace.Sight.{Sight}
 use Rattle.history_book.specs.declared.trace.Sight.TheVariants as sight
 use Rattle.history_book.proofs.RiseLaws.{weaken, writers_rise, IsWriter, writer_changed, writer_upto, seen_is, missed_is}
-use Rattle.history_book.proofs.TestLaws.{first_of, second_of, both_of, one_of, or_first, or_second, lt_tells, le_tells, eq_told, eq_itself, ne_tells, apart_by_lt, same_itself, any_at}
+use Rattle.history_book.proofs.TestLaws.{lt_tells, le_tells, eq_told, eq_itself, ne_tells, apart_by_lt, same_itself, any_at}
 
 -- ---- a map of writers
 
@@ -44,7 +45,7 @@ of_writers traces m sorted has = of_writers_by traces m sorted (λ c ws found. a
 all_within : (traces : List TraceView) (c : Cell) (ws : List ℕ) → ((w : ℕ) → is_one_of ws w ≡ true → IsWriter traces c w) → AreWithin (length traces) ws
 all_within traces c [] are = All-nil _
 all_within traces c (w ∷ ws) are =
-    All-cons (IsUpTo (length traces)) w ws (writer_upto traces c w (are w (or_first (w == w) (is_one_of ws w) (eq_itself w)))) (all_within traces c ws (λ v h. are v (or_second (w == v) (is_one_of ws v) h)))
+    All-cons (IsUpTo (length traces)) w ws (writer_upto traces c w (are w (or_left (w == w) (is_one_of ws w) (eq_itself w)))) (all_within traces c ws (λ v h. are v (or_right (w == v) (is_one_of ws v) h)))
 
 pub all_rise_within : (traces : List TraceView) (m : Cells (List ℕ)) → OfWriters traces m → AllRiseWithin (length traces) m
 all_rise_within traces [] of = All-nil _
@@ -73,12 +74,12 @@ module _ (traces : List TraceView) where
 
   pub each_told : (ps : Pairs) (i j : ℕ) → Each ps → is_pair_among ps i j ≡ true → IsTold i j
   each_told [] i j each h = absurd (cc)
-  each_told (p ∷ ps) i j each h = go (one_of ((i == p.0) && (j == p.1)) (is_pair_among ps i j) h) (each_told ps i j each.1)
+  each_told (p ∷ ps) i j each h = go (or_cases ((i == p.0) && (j == p.1)) (is_pair_among ps i j) h) (each_told ps i j each.1)
     where
       go : (((i == p.0) && (j == p.1)) ≡ true) ⊎ (is_pair_among ps i j ≡ true) → (is_pair_among ps i j ≡ true → IsTold i j) → IsTold i j
       go (inl here) rest =
-          let a : i ≡ p.0 = eq_told i p.0 (first_of (i == p.0) (j == p.1) here) in
-          let b : j ≡ p.1 = eq_told j p.1 (second_of (i == p.0) (j == p.1) here) in
+          let a : i ≡ p.0 = eq_told i p.0 (and_parts (i == p.0) (j == p.1) here).0 in
+          let b : j ≡ p.1 = eq_told j p.1 (and_parts (i == p.0) (j == p.1) here).1 in
           subst (λ x. IsTold x j) (sym a) (subst (λ y. IsTold p.0 y) (sym b) each.0)
       go (inr behind) rest = rest behind
 
@@ -89,22 +90,22 @@ module _ (traces : List TraceView) where
     first = writer_upto traces c i wi;
     second = writer_upto traces c j wj;
     depends =
-        both_of (not (i == j)) _ (apart_by_lt i j order)
-        (or_first (changes_again traces i j) _
-        (both_of (nat_lt i j) _ (lt_tells i j order)
+        and_from (not (i == j)) _ (apart_by_lt i j order)
+        (or_left (changes_again traces i j) _
+        (and_from (nat_lt i j) _ (lt_tells i j order)
         (any_at (changed_at (trace_at traces j)) (trace_at traces i).changed c (writer_changed traces c i wi) (writer_changed traces c j wj))));
   }
 
   each_steps : (c : Cell) (w : ℕ) (ws : List ℕ) → IsWriter traces c w → ((v : ℕ) → is_one_of ws v ≡ true → IsWriter traces c v) → RiseFrom (w + 1) ws → Each (steps_from w ws)
   each_steps c w [] here are rise = tt
   each_steps c w (v ∷ ws) here are rise =
-      let next = are v (or_first (v == v) (is_one_of ws v) (eq_itself v)) in
-      (write_after c w v (omega (arith, rise.0)) here next, each_steps c v ws next (λ u h. are u (or_second (v == u) (is_one_of ws u) h)) rise.1)
+      let next = are v (or_left (v == v) (is_one_of ws v) (eq_itself v)) in
+      (write_after c w v (omega (arith, rise.0)) here next, each_steps c v ws next (λ u h. are u (or_right (v == u) (is_one_of ws u) h)) rise.1)
 
   each_steps_of : (c : Cell) (ws : List ℕ) → ((v : ℕ) → is_one_of ws v ≡ true → IsWriter traces c v) → RiseFrom 1 ws → Each (steps_of ws)
   each_steps_of c [] are rise = tt
   each_steps_of c (w ∷ ws) are rise =
-      each_steps c w ws (are w (or_first (w == w) (is_one_of ws w) (eq_itself w))) (λ u h. are u (or_second (w == u) (is_one_of ws u) h)) rise.1
+      each_steps c w ws (are w (or_left (w == w) (is_one_of ws w) (eq_itself w))) (λ u h. are u (or_right (w == u) (is_one_of ws u) h)) rise.1
 
   each_writers : (m : Cells (List ℕ)) → OfWriters traces m → Each (writers_steps m)
   each_writers [] of = tt
@@ -130,10 +131,10 @@ module _ (traces : List TraceView) where
             first = writer_upto traces c w is.0;
             second = within;
             depends =
-                both_of (not (w == r)) _ (apart_by_lt w r low)
-                (or_second (changes_again traces w r) _
-                (or_first (sees_change traces w r) _
-                (both_of (nat_le w start) _ (le_tells w start is.1)
+                and_from (not (w == r)) _ (apart_by_lt w r low)
+                (or_right (changes_again traces w r) _
+                (or_left (sees_change traces w r) _
+                (and_from (nat_le w start) _ (le_tells w start is.1)
                 (any_at (looked_at (trace_at traces r)) (trace_at traces w).changed c (writer_changed traces c w is.0) looked))));
           },
           tt,
@@ -150,10 +151,10 @@ module _ (traces : List TraceView) where
             first = within;
             second = writer_upto traces c w is.0;
             depends =
-                both_of (not (r == w)) _ (ap not (ne_tells r w (λ same. true≢false (sym (eq_itself r) ∙ ap (λ x. x == r) same ∙ apart))))
-                (or_second (changes_again traces r w) _
-                (or_second (sees_change traces r w) _
-                (both_of (nat_lt start w) _ (lt_tells start w is.1)
+                and_from (not (r == w)) _ (ap not (ne_tells r w (λ same. true≢false (sym (eq_itself r) ∙ ap (λ x. x == r) same ∙ apart))))
+                (or_right (changes_again traces r w) _
+                (or_right (sees_change traces r w) _
+                (and_from (nat_lt start w) _ (lt_tells start w is.1)
                 (any_at (looked_at (trace_at traces r)) (trace_at traces w).changed c (writer_changed traces c w is.0) looked))));
           },
           tt,
@@ -185,8 +186,8 @@ module _ (traces : List TraceView) where
     each_sights m [] of has takes = tt
     each_sights m (s ∷ ss) of has takes =
         each-append (sight_pairs r start m s) (sights_pairs r start m ss)
-        (each_sight m s of has (λ c h. takes c (or_first (takes_in s c) (list_any (λ s. takes_in s c) ss) h)))
-        (each_sights m ss of has (λ c h. takes c (or_second (takes_in s c) (list_any (λ s. takes_in s c) ss) h)))
+        (each_sight m s of has (λ c h. takes c (or_left (takes_in s c) (list_any (λ s. takes_in s c) ss) h)))
+        (each_sights m ss of has (λ c h. takes c (or_right (takes_in s c) (list_any (λ s. takes_in s c) ss) h)))
 
   each_readers : (m : Cells (List ℕ)) (k : ℕ) (ts : List TraceView) →
       ((i : ℕ) (t : TraceView) → slice_get ts i ≡ Some t → Each (sights_pairs (k + i) t.start m t.looked)) → Each (readers_pairs m k ts)

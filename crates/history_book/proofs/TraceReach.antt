@@ -2,13 +2,14 @@
 use Rattle.std.proofs.Common.{◌≡◌, ◌∙◌, ◌==◌, ◌⊎◌, inl, inr, ℕ, zero, suc, ◌+◌, ◌<◌, ◌≤◌, nat_lt, Bool, true, false, cond, ◌&&◌, ◌||◌, not, if◌then◌else◌, List, [], ◌∷◌, ◌++◌, length, refl, ap, sym, subst, arith}
 use Rattle.std.specs.Prelude.{nat_le, Option, Some, slice_get, IfSome}
 use Rattle.std.specs.List.{list_any}
+use Rattle.std.proofs.lemmas.Bool.{and_from, and_parts, or_cases, or_left, or_right}
 use Rattle.prog_tree.specs.declared.cell.Cell.{Cell}
 use Rattle.prog_tree.specs.declared.cell.Region.{Region}
 use Rattle.prog_tree.specs.Table.{Cells, at_cell, is_same_cell}
 use Rattle.prog_tree.proofs.TableStates.{cell_is}
 use Rattle.history_book.specs.Orders.{is_one_of, IsUpTo, IsReduced, IsBefore, step, steps}
 use Rattle.history_book.specs.Precedence.{precedes}
-use Rattle.history_book.specs.Reduced.{writers_of, numbers_found, numbers_at, HasWriters, RiseFrom, Pairs, is_pair_among, HasPairs, steps_from, steps_of, writers_steps, last_seen, first_missed, seen_pairs, missed_pairs, reader_pairs, region_pairs, sight_pairs, sights_pairs, readers_pairs}
+use Rattle.history_book.specs.Reduced.{writers_of, numbers_found, numbers_at, HasWriters, RiseFrom, Pairs, is_pair_among, Adds, steps_from, steps_of, writers_steps, last_seen, first_missed, seen_pairs, missed_pairs, reader_pairs, region_pairs, sight_pairs, sights_pairs, readers_pairs}
 use Rattle.history_book.specs.TraceView.{TraceView}
 use Rattle.history_book.specs.Traces.{takes_in, looked_at, changed_at, trace_found, trace_at, SeesEarlier, changes_again, sees_change, misses_change, trace_depends}
 use Rattle.history_book.specs.declared.trace.Sight.{Sight}
@@ -16,18 +17,18 @@ use Rattle.history_book.specs.declared.trace.Sight.TheVariants as sight
 use Rattle.history_book.proofs.PairLaws.{among-append, both_pairs}
 use Rattle.history_book.proofs.RiseLaws.{at_least, writers_rise, IsWriter, changed_writer, seen_is, missed_is, seen_from, SeenFrom, missed_to, MissedTo}
 use Rattle.history_book.proofs.TracePairs.{OfWriters, Each, each_told, IsTraceOf, trace_of_upto, each_reduced}
-use Rattle.history_book.proofs.TestLaws.{lt_by, first_of, second_of, both_of, one_of, or_first, or_second, lt_told, le_told, eq_told, eq_itself, ne_tells, ne_told, any_some}
+use Rattle.history_book.proofs.TestLaws.{lt_by, lt_told, le_told, eq_told, eq_itself, ne_tells, ne_told, any_some}
 
 -- ---- pairs among others
 
 among_first : (ps qs : Pairs) (i j : ℕ) → is_pair_among ps i j ≡ true → is_pair_among (ps ++ qs) i j ≡ true
-among_first ps qs i j h = among-append ps qs i j ∙ or_first (is_pair_among ps i j) (is_pair_among qs i j) h
+among_first ps qs i j h = among-append ps qs i j ∙ or_left (is_pair_among ps i j) (is_pair_among qs i j) h
 
 among_second : (ps qs : Pairs) (i j : ℕ) → is_pair_among qs i j ≡ true → is_pair_among (ps ++ qs) i j ≡ true
-among_second ps qs i j h = among-append ps qs i j ∙ or_second (is_pair_among ps i j) (is_pair_among qs i j) h
+among_second ps qs i j h = among-append ps qs i j ∙ or_right (is_pair_among ps i j) (is_pair_among qs i j) h
 
 among_itself : (i j : ℕ) (ps : Pairs) → is_pair_among ((i, j) ∷ ps) i j ≡ true
-among_itself i j ps = or_first ((i == i) && (j == j)) (is_pair_among ps i j) (both_of (i == i) (j == j) (eq_itself i) (eq_itself j))
+among_itself i j ps = or_left ((i == i) && (j == j)) (is_pair_among ps i j) (and_from (i == i) (j == j) (eq_itself i) (eq_itself j))
 
 -- the pairs of the first are pairs of the second
 abbrev pub AreAmong : Pairs → (ℕ → ℕ → Bool) → Type 0
@@ -42,7 +43,7 @@ module _ (before : ℕ → ℕ → Bool) where
 
   steps_reach : (w : ℕ) (ws : List ℕ) (b : ℕ) → AreAmong (steps_from w ws) before → is_one_of ws b ≡ true → IsBefore before w b
   steps_reach w [] b are h = absurd (cc)
-  steps_reach w (v ∷ ws) b are h = go (one_of (v == b) (is_one_of ws b) h) (steps_reach v ws b (λ i j k. are i j (or_second ((i == w) && (j == v)) (is_pair_among (steps_from v ws) i j) k)))
+  steps_reach w (v ∷ ws) b are h = go (or_cases (v == b) (is_one_of ws b) h) (steps_reach v ws b (λ i j k. are i j (or_right ((i == w) && (j == v)) (is_pair_among (steps_from v ws) i j) k)))
     where
       first : before w v ≡ true
       first = are w v (among_itself w v (steps_from v ws))
@@ -53,13 +54,13 @@ module _ (before : ℕ → ℕ → Bool) where
 
   steps_more : (w : ℕ) (ws : List ℕ) (i j : ℕ) → is_pair_among (steps_of ws) i j ≡ true → is_pair_among (steps_from w ws) i j ≡ true
   steps_more w [] i j h = absurd (cc)
-  steps_more w (v ∷ ws) i j h = or_second ((i == w) && (j == v)) (is_pair_among (steps_from v ws) i j) h
+  steps_more w (v ∷ ws) i j h = or_right ((i == w) && (j == v)) (is_pair_among (steps_from v ws) i j) h
 
   -- of numbers that rise, with each before the next, a lesser one is before a greater
   pub chain : (n : ℕ) (ws : List ℕ) (a b : ℕ) → RiseFrom n ws → AreAmong (steps_of ws) before → is_one_of ws a ≡ true → is_one_of ws b ≡ true → a < b → IsBefore before a b
   chain n [] a b rise are ha hb order = absurd (cc)
   chain n (w ∷ ws) a b rise are ha hb order =
-      go (one_of (w == a) (is_one_of ws a) ha) (one_of (w == b) (is_one_of ws b) hb)
+      go (or_cases (w == a) (is_one_of ws a) ha) (or_cases (w == b) (is_one_of ws b) hb)
       (λ ka kb. chain (w + 1) ws a b rise.1 (λ i j k. are i j (steps_more w ws i j k)) ka kb order)
     where
       go : ((w == a) ≡ true) ⊎ (is_one_of ws a ≡ true) → ((w == b) ≡ true) ⊎ (is_one_of ws b ≡ true) →
@@ -105,7 +106,7 @@ module _ (r s : ℕ) (c : Cell) (i j : ℕ) where
   sights_among : (m : Cells (List ℕ)) (ts : List Sight) → list_any (λ t. takes_in t c) ts ≡ true → is_pair_among (reader_pairs r s (numbers_at m c)) i j ≡ true →
       is_pair_among (sights_pairs r s m ts) i j ≡ true
   sights_among m [] taken h = absurd (cc)
-  sights_among m (t ∷ ts) taken h = go (one_of (takes_in t c) (list_any (λ t. takes_in t c) ts) taken) (λ later. sights_among m ts later h)
+  sights_among m (t ∷ ts) taken h = go (or_cases (takes_in t c) (list_any (λ t. takes_in t c) ts) taken) (λ later. sights_among m ts later h)
     where
       go : (takes_in t c ≡ true) ⊎ (list_any (λ t. takes_in t c) ts ≡ true) → (list_any (λ t. takes_in t c) ts ≡ true → is_pair_among (sights_pairs r s m ts) i j ≡ true) →
           is_pair_among (sight_pairs r s m t ++ sights_pairs r s m ts) i j ≡ true
@@ -202,33 +203,33 @@ module _ (traces : List TraceView) (m : Cells (List ℕ)) (has : HasWriters trac
 
   pub told_reaches : (i j : ℕ) → IsUpTo (length traces) i → IsUpTo (length traces) j → trace_depends traces i j ≡ true → IsBefore before i j
   told_reaches i j wi wj told =
-      by_kind (one_of (changes_again traces i j) (sees_change traces i j || misses_change traces i j) (second_of (not (i == j)) (changes_again traces i j || (sees_change traces i j || misses_change traces i j)) told))
+      by_kind (or_cases (changes_again traces i j) (sees_change traces i j || misses_change traces i j) (and_parts (not (i == j)) (changes_again traces i j || (sees_change traces i j || misses_change traces i j)) told).1)
     where
       apart : i ≡ j → ⊥
-      apart = ne_told i j (first_of (not (i == j)) (changes_again traces i j || (sees_change traces i j || misses_change traces i j)) told)
+      apart = ne_told i j (and_parts (not (i == j)) (changes_again traces i j || (sees_change traces i j || misses_change traces i j)) told).0
 
       by_write : changes_again traces i j ≡ true → IsBefore before i j
       by_write h =
-          let found = any_some (changed_at (trace_at traces j)) (trace_at traces i).changed (second_of (nat_lt i j) _ h) in
-          writers_chain found.cell i j (changed_writer traces found.cell i found.among) (changed_writer traces found.cell j found.passes) (lt_told i j (first_of (nat_lt i j) _ h))
+          let found = any_some (changed_at (trace_at traces j)) (trace_at traces i).changed (and_parts (nat_lt i j) _ h).1 in
+          writers_chain found.cell i j (changed_writer traces found.cell i found.among) (changed_writer traces found.cell j found.passes) (lt_told i j (and_parts (nat_lt i j) _ h).0)
 
       by_look : (sees_change traces i j ≡ true) ⊎ (misses_change traces i j ≡ true) → IsBefore before i j
       by_look (inl h) =
-          let found = any_some (looked_at (trace_at traces j)) (trace_at traces i).changed (second_of (nat_le i (starts j)) _ h) in
-          sees_reaches found.cell i j wj (changed_writer traces found.cell i found.among) found.passes (le_told i (starts j) (first_of (nat_le i (starts j)) _ h))
+          let found = any_some (looked_at (trace_at traces j)) (trace_at traces i).changed (and_parts (nat_le i (starts j)) _ h).1 in
+          sees_reaches found.cell i j wj (changed_writer traces found.cell i found.among) found.passes (le_told i (starts j) (and_parts (nat_le i (starts j)) _ h).0)
       by_look (inr h) =
-          let found = any_some (looked_at (trace_at traces i)) (trace_at traces j).changed (second_of (nat_lt (starts i) j) _ h) in
-          misses_reaches found.cell i j wi (changed_writer traces found.cell j found.among) found.passes (lt_told (starts i) j (first_of (nat_lt (starts i) j) _ h)) apart
+          let found = any_some (looked_at (trace_at traces i)) (trace_at traces j).changed (and_parts (nat_lt (starts i) j) _ h).1 in
+          misses_reaches found.cell i j wi (changed_writer traces found.cell j found.among) found.passes (lt_told (starts i) j (and_parts (nat_lt (starts i) j) _ h).0) apart
 
       by_kind : (changes_again traces i j ≡ true) ⊎ ((sees_change traces i j || misses_change traces i j) ≡ true) → IsBefore before i j
       by_kind (inl h) = by_write h
-      by_kind (inr h) = by_look (one_of (sees_change traces i j) (misses_change traces i j) h)
+      by_kind (inr h) = by_look (or_cases (sees_change traces i j) (misses_change traces i j) h)
 
 -- ---- both
 
 pub is_reduced :
     (traces : List TraceView) (m : Cells (List ℕ)) (none chained all : List (List ℕ)) → OfWriters traces m → HasWriters traces m → SeesEarlier traces →
-    ((i j : ℕ) → precedes none i j ≡ false) → HasPairs (writers_steps m) none chained → HasPairs (readers_pairs m 1 traces) chained all →
+    ((i j : ℕ) → precedes none i j ≡ false) → Adds (writers_steps m) none chained → Adds (readers_pairs m 1 traces) chained all →
     IsReduced (length traces) (precedes all) (trace_depends traces)
 is_reduced traces m none chained all of has sees free first second = record {
   within = λ i j h. (each_told traces (writers_steps m ++ readers_pairs m 1 traces) i j each (sym (just i j) ∙ h)).second;
@@ -241,5 +242,5 @@ is_reduced traces m none chained all of has sees free first second = record {
 
     just : (i j : ℕ) → precedes all i j ≡ is_pair_among (writers_steps m ++ readers_pairs m 1 traces) i j
     just i j =
-        both_pairs (writers_steps m) (readers_pairs m 1 traces) none chained all first second i j
+        (both_pairs (writers_steps m) (readers_pairs m 1 traces) none chained all first second).pairs i j
         ∙ ap (λ b. b || is_pair_among (writers_steps m ++ readers_pairs m 1 traces) i j) (free i j)

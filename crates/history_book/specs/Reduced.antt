@@ -1,5 +1,5 @@
 -- Fewer pairs of commits, through which the others follow.
-use Rattle.std.specs.Prelude.{◌≡◌, ℕ, ◌+◌, ◌≤◌, nat_le, nat_lt, leb, ◌==◌, Bool, true, false, ◌&&◌, ◌||◌, All, List, [], ◌∷◌, ◌++◌, Option, Some, None, if◌then◌else◌}
+use Rattle.std.specs.Prelude.{◌≡◌, ℕ, ◌+◌, ◌≤◌, nat_le, nat_lt, leb, ◌==◌, Bool, true, false, ◌&&◌, ◌||◌, All, List, [], ◌∷◌, ◌++◌, length, Option, Some, None, if◌then◌else◌}
 use Rattle.std.specs.List.{list_any}
 use Rattle.std.specs.List.Sorted.{IsPartitionPoint}
 use Rattle.prog_tree.specs.declared.cell.Cell.{Cell}
@@ -71,6 +71,11 @@ is_pair_among pairs i j = list_any (λ p. (i == p.0) && (j == p.1)) pairs
 -- the new lists have what the old ones had, and the pairs
 abbrev pub HasPairs : Pairs → (old new : List (List ℕ)) → Type 0
 HasPairs pairs old new = (i j : ℕ) → precedes new i j ≡ (precedes old i j || is_pair_among pairs i j)
+
+-- as many commits as before, with the pairs
+pub record Adds (ps : Pairs) (old new : List (List ℕ)) : Type 0 where
+  pub commits : length new ≡ length old
+  pub pairs : HasPairs ps old new
 
 -- a number stands before the first of others, and each of these before the next
 abbrev pub steps_from : ℕ → List ℕ → Pairs

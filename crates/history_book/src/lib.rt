@@ -28,6 +28,7 @@ pub use laws::{
     orders_are_of_relations_without_a_cycle,
 };
 pub use order::OrderFault;
+pub use replay::taken;
 pub use row::{Ending, HistoryRow};
 pub use ticket::{Receipt, Ticket};
 pub use version_store::Clash;

@@ -4,7 +4,7 @@ ghost use Rattle.std.specs.Prelude.{◌≡◌, length, IfOk, OnOk, IfSome};
 ghost use Rattle.prog_tree.specs.Table.{is_cell_among};
 ghost use Rattle.history_book.specs.Orders.{IsReduced, IsUpTo};
 ghost use Rattle.history_book.specs.Traces.{trace_depends, takes_in, SeesEarlier};
-ghost use Rattle.history_book.specs.Reduced.{HasPairs, RiseFrom, AreWithin, AllRiseWithin, numbers_at};
+ghost use Rattle.history_book.specs.Reduced.{Adds, RiseFrom, AreWithin, AllRiseWithin, numbers_at};
 ghost use Rattle.history_book.specs.Reduced.{steps_from, steps_of, writers_steps};
 ghost use Rattle.history_book.specs.Reduced.{seen_pairs, missed_pairs, reader_pairs};
 ghost use Rattle.history_book.specs.Reduced.{sight_pairs, region_pairs, sights_pairs, readers_pairs};
@@ -25,9 +25,7 @@ fn add_steps_from(
 ) -> Result<(), AllocError>
     requires first { IsUpTo (length precedence.old) first }
     requires rest { AreWithin (length precedence.old) rest.now }
-    ensures commits { length precedence.new ≡ length precedence.old }
-    ensures pairs { OnOk result
-        (HasPairs (steps_from first rest.now) precedence.old precedence.new) }
+    ensures { OnOk result (Adds (steps_from first rest.now) precedence.old precedence.new) }
 {
     let mut last = first;
     for number in rest {
@@ -40,9 +38,7 @@ fn add_steps_from(
 // Puts each number before the next.
 fn add_steps(precedence: &mut Precedence, numbers: &[usize]) -> Result<(), AllocError>
     requires { AreWithin (length precedence.old) numbers.now }
-    ensures commits { length precedence.new ≡ length precedence.old }
-    ensures pairs { OnOk result
-        (HasPairs (steps_of numbers.now) precedence.old precedence.new) }
+    ensures { OnOk result (Adds (steps_of numbers.now) precedence.old precedence.new) }
 {
     let Some((first, rest)) = numbers.split_first() else {
         return Ok(());
@@ -54,9 +50,7 @@ fn add_steps(precedence: &mut Precedence, numbers: &[usize]) -> Result<(), Alloc
 // Puts each writer of a cell before the next writer of it.
 fn add_writers(precedence: &mut Precedence, writers: &Writers) -> Result<(), AllocError>
     requires { AllRiseWithin (length precedence.old) writers.now }
-    ensures commits { length precedence.new ≡ length precedence.old }
-    ensures pairs { OnOk result
-        (HasPairs (writers_steps writers.now) precedence.old precedence.new) }
+    ensures { OnOk result (Adds (writers_steps writers.now) precedence.old precedence.new) }
 {
     for (_, numbers) in writers.cells.iter() {
         add_steps(precedence, numbers.as_slice())?;
@@ -72,9 +66,7 @@ fn add_seen(
 ) -> Result<(), AllocError>
     requires reader { IsUpTo (length precedence.old) reader }
     requires writer { IfSome writer (IsUpTo (length precedence.old)) }
-    ensures commits { length precedence.new ≡ length precedence.old }
-    ensures pairs { OnOk result
-        (HasPairs (seen_pairs reader writer) precedence.old precedence.new) }
+    ensures { OnOk result (Adds (seen_pairs reader writer) precedence.old precedence.new) }
 {
     if let Some(writer) = writer {
         precedence.add(writer, reader)?;
@@ -90,9 +82,7 @@ fn add_missed(
 ) -> Result<(), AllocError>
     requires reader { IsUpTo (length precedence.old) reader }
     requires writer { IfSome writer (IsUpTo (length precedence.old)) }
-    ensures commits { length precedence.new ≡ length precedence.old }
-    ensures pairs { OnOk result
-        (HasPairs (missed_pairs reader writer) precedence.old precedence.new) }
+    ensures { OnOk result (Adds (missed_pairs reader writer) precedence.old precedence.new) }
 {
     let Some(writer) = writer else {
         return Ok(());
@@ -113,9 +103,8 @@ fn add_reader(
     requires reader { IsUpTo (length precedence.old) reader }
     requires rise { RiseFrom 0 writers.now }
     requires within { AreWithin (length precedence.old) writers.now }
-    ensures commits { length precedence.new ≡ length precedence.old }
-    ensures pairs { OnOk result
-        (HasPairs (reader_pairs reader start writers.now) precedence.old precedence.new) }
+    ensures { OnOk result
+        (Adds (reader_pairs reader start writers.now) precedence.old precedence.new) }
 {
     add_seen(precedence, reader, last_seen(writers, start))?;
     add_missed(precedence, reader, first_missed(writers, start))?;
@@ -132,9 +121,7 @@ fn add_cell(
 ) -> Result<(), AllocError>
     requires reader { IsUpTo (length precedence.old) reader }
     requires within { AllRiseWithin (length precedence.old) writers.now }
-    ensures commits { length precedence.new ≡ length precedence.old }
-    ensures pairs { OnOk result
-        (HasPairs (reader_pairs reader start (numbers_at writers.now cell.now))
+    ensures { OnOk result (Adds (reader_pairs reader start (numbers_at writers.now cell.now))
         precedence.old precedence.new) }
 {
     if let Some(numbers) = writers.cells.get(cell) {
@@ -176,9 +163,7 @@ fn add_region(
 ) -> Result<(), AllocError>
     requires reader { IsUpTo (length precedence.old) reader }
     requires within { AllRiseWithin (length precedence.old) writers.now }
-    ensures commits { length precedence.new ≡ length precedence.old }
-    ensures pairs { OnOk result
-        (HasPairs (region_pairs reader start region.now own.now writers.now)
+    ensures { OnOk result (Adds (region_pairs reader start region.now own.now writers.now)
         precedence.old precedence.new) }
 {
     let Some((low, high)) = corners(*region) else {
@@ -202,9 +187,8 @@ fn add_sight(
 ) -> Result<(), AllocError>
     requires reader { IsUpTo (length precedence.old) reader }
     requires within { AllRiseWithin (length precedence.old) writers.now }
-    ensures commits { length precedence.new ≡ length precedence.old }
-    ensures pairs { OnOk result
-        (HasPairs (sight_pairs reader start writers.now sight.now) precedence.old precedence.new) }
+    ensures { OnOk result
+        (Adds (sight_pairs reader start writers.now sight.now) precedence.old precedence.new) }
 {
     match sight {
         Sight::One(cell) => add_cell(precedence, reader, start, cell, writers)?,
@@ -225,10 +209,8 @@ fn add_sights(
 ) -> Result<(), AllocError>
     requires reader { IsUpTo (length precedence.old) reader }
     requires within { AllRiseWithin (length precedence.old) writers.now }
-    ensures commits { length precedence.new ≡ length precedence.old }
-    ensures pairs { OnOk result
-        (HasPairs (sights_pairs reader start writers.now sights.now)
-        precedence.old precedence.new) }
+    ensures { OnOk result
+        (Adds (sights_pairs reader start writers.now sights.now) precedence.old precedence.new) }
 {
     for sight in sights {
         add_sight(precedence, reader, start, sight, writers)?;
@@ -244,9 +226,8 @@ fn add_readers(
 ) -> Result<(), AllocError>
     requires commits { length precedence.old ≡ length traces.now }
     requires within { AllRiseWithin (length precedence.old) writers.now }
-    ensures commits { length precedence.new ≡ length precedence.old }
-    ensures pairs { OnOk result
-        (HasPairs (readers_pairs writers.now 1 traces.now) precedence.old precedence.new) }
+    ensures { OnOk result
+        (Adds (readers_pairs writers.now 1 traces.now) precedence.old precedence.new) }
 {
     for (index, trace) in traces.iter().enumerate() {
         add_sights(

@@ -17,10 +17,11 @@ use prog_run::{AnswerFault, Next, Run, RunFault};
 use prog_tree::Sequence;
 use std::alloc::AllocError;
 
-// An answer that fits the question is refused for want of memory alone.
-fn taken(answer: Result<Next, AnswerFault>) -> Result<Next, AllocError>
+/// An answer that fits the question is refused for want of memory alone.
+pub fn taken(answer: Result<Next, AnswerFault>) -> Result<Next, AllocError>
     requires { IfErr answer (λ fault. fault ≡ AnswerFault.Memory) }
-    ensures { IfOk result (λ next. answer ≡ Ok next) }
+    ensures ok { IfOk result (λ next. answer ≡ Ok next) }
+    ensures err { OnErr result (answer ≡ Err AnswerFault.Memory) }
 {
     match answer {
         Ok(next) => Ok(next),

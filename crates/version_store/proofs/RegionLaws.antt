@@ -5,7 +5,7 @@ use Rattle.std.specs.Cmp.{tied_itself, nat_cmp_total}
 use Rattle.std.specs.declared.cmp.Ordering.{Ordering}
 use Rattle.std.specs.declared.cmp.Ordering.TheVariants.{Less, Equal, Greater}
 use Rattle.std.specs.Ordering.{int_cmp, is_gt, is_le, is_lt, ordering_then}
-use Rattle.std.proofs.lemmas.Bool.{eqb-true}
+use Rattle.std.proofs.lemmas.Bool.{eqb-true, and_from, and_parts}
 use Rattle.std.proofs.lemmas.Bool.Decides.{nat_tests}
 use Rattle.prog_tree.specs.declared.cell.Cell.{Cell}
 use Rattle.prog_tree.specs.declared.cell.Region.{Region}
@@ -13,18 +13,6 @@ use Rattle.prog_tree.specs.Table.{cell_cmp, is_in, lies_between}
 use Rattle.version_store.specs.Regions.{is_between, AreCorners}
 
 -- ---- tests
-
-first_of : (a b : Bool) → (a && b) ≡ true → a ≡ true
-first_of true b h = refl
-first_of false b h = absurd (cc)
-
-second_of : (a b : Bool) → (a && b) ≡ true → b ≡ true
-second_of true b h = h
-second_of false b h = absurd (cc)
-
-both_of : (a b : Bool) → a ≡ true → b ≡ true → (a && b) ≡ true
-both_of true b p q = q
-both_of false b p q = absurd (cc)
 
 none_of : (b : Bool) → (b ≡ true → false ≡ true) → b ≡ false
 none_of true h = sym (h refl)
@@ -94,15 +82,15 @@ record IsWithin (r : Region) (c : Cell) : Type 0 where
 
 within : (r : Region) (c : Cell) → is_in r c ≡ true → IsWithin r c
 within r c h =
-    let columns = second_of (r.table == c.table) (lies_between r.first_low c.first r.first_high && lies_between r.second_low c.second r.second_high) h in
-    let first = first_of (lies_between r.first_low c.first r.first_high) (lies_between r.second_low c.second r.second_high) columns in
-    let second = second_of (lies_between r.first_low c.first r.first_high) (lies_between r.second_low c.second r.second_high) columns in
+    let columns = (and_parts (r.table == c.table) (lies_between r.first_low c.first r.first_high && lies_between r.second_low c.second r.second_high) h).1 in
+    let first = (and_parts (lies_between r.first_low c.first r.first_high) (lies_between r.second_low c.second r.second_high) columns).0 in
+    let second = (and_parts (lies_between r.first_low c.first r.first_high) (lies_between r.second_low c.second r.second_high) columns).1 in
     record {
-      table = eqb-true _ _ (first_of (r.table == c.table) _ h);
-      first_low = first_of (int_le r.first_low c.first) (int_le c.first r.first_high) first;
-      first_high = second_of (int_le r.first_low c.first) (int_le c.first r.first_high) first;
-      second_low = first_of (int_le r.second_low c.second) (int_le c.second r.second_high) second;
-      second_high = second_of (int_le r.second_low c.second) (int_le c.second r.second_high) second;
+      table = eqb-true _ _ (and_parts (r.table == c.table) _ h).0;
+      first_low = (and_parts (int_le r.first_low c.first) (int_le c.first r.first_high) first).0;
+      first_high = (and_parts (int_le r.first_low c.first) (int_le c.first r.first_high) first).1;
+      second_low = (and_parts (int_le r.second_low c.second) (int_le c.second r.second_high) second).0;
+      second_high = (and_parts (int_le r.second_low c.second) (int_le c.second r.second_high) second).1;
     }
 
 abbrev pub low_corner : Region → Cell
@@ -115,7 +103,7 @@ between : (r : Region) (c : Cell) → IsWithin r c → is_between (low_corner r)
 between r c h =
     let low = not_gt c.table r.first_low r.second_low c.first c.second (not_above r.first_low c.first h.first_low) (not_above r.second_low c.second h.second_low) in
     let high = not_lt c.table r.first_high r.second_high c.first c.second (not_above c.first r.first_high h.first_high) (not_above c.second r.second_high h.second_high) in
-    both_of _ _
+    and_from _ _
     (ap (λ t. is_le (cell_cmp (corner t r.first_low r.second_low) c)) h.table ∙ le_from_not_gt _ low)
     (ap (λ t. not (is_lt (cell_cmp (corner t r.first_high r.second_high) c))) h.table ∙ ap not high)
 

@@ -13,5 +13,5 @@ pub add_missed-requires-clause-writer : goal.add_missed-requires-clause-writer
 add_missed-requires-clause-writer c =
     let P : ℕ → ℕ → Type 0 = λ n. IsUpTo n in
     let here = missed_holds (P (length c.args.precedence.now)) c.args.start c.args.writers.now c.requires.within in
-    subst (λ (n : ℕ). IfSome c.first_missed.result (P n)) (sym c.add_seen.ensures.commits)
+    subst (λ (n : ℕ). IfSome c.first_missed.result (P n)) (sym c.in_ok-add_seen.ensures.commits)
     (subst (λ (o : Option ℕ). IfSome o (P (length c.args.precedence.now))) (sym c.first_missed.ensures) here)

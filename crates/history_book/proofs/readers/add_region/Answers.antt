@@ -1,16 +1,16 @@
-use Rattle.std.proofs.Common.{◌≡◌, ◌∙◌, ℕ, List, true, false, length, subst, sym, refl}
+use Rattle.std.proofs.Common.{◌≡◌, ◌∙◌, ℕ, List, true, false, length, subst, sym}
 use Rattle.std.specs.Prelude.{filter}
 use Rattle.prog_tree.specs.declared.cell.Cell.{Cell}
 use Rattle.version_store.specs.Regions.{is_between}
-use Rattle.history_book.specs.Reduced.{Pairs, RiseFrom, AreWithin, HasPairs, reader_pairs, region_pairs}
+use Rattle.history_book.specs.Reduced.{Pairs, RiseFrom, AreWithin, Adds, reader_pairs, region_pairs}
 use Rattle.history_book.proofs.PairLaws.{no_pair}
 use Rattle.history_book.proofs.RegionPairs.{entry_first, region_on, region_begins, no_region}
 use Rattle.history_book.proofs.readers.add_region.Goals as goal
 
-pub returns-in_default-clause-pairs : goal.returns-in_default-clause-pairs
-returns-in_default-clause-pairs c =
+pub returns-in_default : goal.returns-in_default
+returns-in_default c =
     let old = c.args.precedence.now in
-    subst (λ (ps : Pairs). HasPairs ps old old) (sym (no_region old (length old) c.args.reader c.args.start c.args.region.now c.args.own.now c.args.writers.now c.in_default.ensures)) (no_pair old)
+    subst (λ (ps : Pairs). Adds ps old old) (sym (no_region old (length old) c.args.reader c.args.start c.args.region.now c.args.own.now c.args.writers.now c.in_default.ensures)) (no_pair old)
 
 pub loop-cell-init : goal.loop-cell-init
 loop-cell-init c =
@@ -42,8 +42,7 @@ loop-cell-preserved-in-Continue-1 c =
     region_on old (length old) c.args.reader c.args.start c.args.region.now c.args.own.now true
     (region_pairs c.args.reader c.args.start c.args.region.now c.args.own.now c.args.writers.now) c.loop-cell.precedence c.add_reader.new.precedence c.loop-cell.cell-iterator c.next.new.self
     c.in-Some-2.cell.now c.in-Some-2.numbers.now c.in-Some-2.ensures.steps (sym c.takes_in.ensures ∙ c.if-takes_in.true) c.loop-cell.invariant
-    (subst (λ (ws : List ℕ). HasPairs (reader_pairs c.args.reader c.args.start ws) c.loop-cell.precedence c.add_reader.new.precedence) c.as_slice.ensures c.in_ok-add_reader.ensures.pairs)
-    c.in_ok-add_reader.ensures.commits
+    (subst (λ (ws : List ℕ). Adds (reader_pairs c.args.reader c.args.start ws) c.loop-cell.precedence c.add_reader.new.precedence) c.as_slice.ensures c.in_ok-add_reader.ensures)
 
 pub loop-cell-preserved : goal.loop-cell-preserved
 loop-cell-preserved c =
@@ -51,4 +50,4 @@ loop-cell-preserved c =
     region_on old (length old) c.args.reader c.args.start c.args.region.now c.args.own.now false
     (region_pairs c.args.reader c.args.start c.args.region.now c.args.own.now c.args.writers.now) c.loop-cell.precedence c.loop-cell.precedence c.loop-cell.cell-iterator c.next.new.self
     c.in-Some-2.cell.now c.in-Some-2.numbers.now c.in-Some-2.ensures.steps (sym c.takes_in.ensures ∙ c.if-takes_in.false) c.loop-cell.invariant
-    (no_pair c.loop-cell.precedence) refl
+    (no_pair c.loop-cell.precedence)

@@ -24,4 +24,4 @@ returns-clause-reduced c =
     let m = c.in_ok-writers.writers in
     is_reduced traces m c.in_ok-precedence.precedence c.add_writers.new.precedence c.add_readers.new.precedence
     (of_writers traces m c.in_ok-writers.ensures.ordered c.in_ok-writers.ensures.writers) c.in_ok-writers.ensures.writers c.requires c.in_ok-precedence.ensures.free
-    c.in_ok-add_writers.ensures.pairs c.in_ok-add_readers.ensures.pairs
+    c.in_ok-add_writers.ensures c.in_ok-add_readers.ensures

@@ -20,7 +20,7 @@ returns-in_ok-next-in-Get-clause-found c =
     let held = c.held-held.result in
     let asked = c.in_ok-next.ensures.advance.asked ∙ ap question_after c.in-Get.is in
     let before = subst (AreFound m) (sym c.in_ok-next.ensures.advance.looks) c.requires.found in
-    let answered = subst (λ r. IfOk r (λ next. IfSome (asked_cell old.asked) (λ cell. IsAnswered (look.One cell held) next old new))) c.in_ok-next-in-Get.ensures c.answer_get.ensures.answered in
+    let answered = subst (λ r. IfOk r (λ next. IfSome (asked_cell old.asked) (λ cell. IsAnswered (look.One cell held) next old new))) c.in_ok-next-in-Get.ensures.ok c.answer_get.ensures.answered in
     found_cell m old new c.in-Get.cell held c.in_ok-next-in-Get.next asked c.held-held.ensures before answered
 
 pub returns-in_ok-next-in-Scan-clause-found : goal.returns-in_ok-next-in-Scan-clause-found
@@ -31,5 +31,5 @@ returns-in_ok-next-in-Scan-clause-found c =
     let rows = c.in_ok-rows-in-Scan.rows in
     let asked = c.in_ok-next.ensures.advance.asked ∙ ap question_after c.in-Scan.is in
     let before = subst (AreFound m) (sym c.in_ok-next.ensures.advance.looks) c.requires.found in
-    let answered = subst (λ r. IfOk r (λ next. IfSome (asked_region old.asked) (λ region. IsAnswered (region_look old.changes region rows) next old new))) c.in_ok-next-in-Scan.ensures c.answer_scan.ensures.answered in
+    let answered = subst (λ r. IfOk r (λ next. IfSome (asked_region old.asked) (λ region. IsAnswered (region_look old.changes region rows) next old new))) c.in_ok-next-in-Scan.ensures.ok c.answer_scan.ensures.answered in
     found_region m old new c.in-Scan.region rows c.in_ok-next-in-Scan.next asked c.in_ok-rows-in-Scan.ensures before answered

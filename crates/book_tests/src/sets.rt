@@ -1,0 +1,53 @@
+//! Sets and rows of the tests.
+
+use prog_check::{ProgramSet, check};
+use prog_text::parse;
+use prog_tree::{Cell, Rows};
+use std::alloc::{AllocError, Global};
+
+/// Registers that are looked at, set and cut, and a program that aborts.
+pub const REGISTERS: &str = "\
+table t 1;
+program Look(k) { let x = get t[k] else -1; reply x; }
+program Set(k, v) { put t[k] = v; }
+program Cut(k) { delete t[k]; }
+program Stop() { abort; }
+";
+
+pub const LOOK: usize = 0;
+
+pub const SET: usize = 1;
+
+pub const STOP: usize = 3;
+
+pub const NO_PROGRAM: usize = 4;
+
+pub const BALANCE: usize = 0;
+
+pub const TRANSACT_SAVING: usize = 2;
+
+pub const WRITE_CHECK: usize = 4;
+
+/// The checked set of a text.
+pub fn set_of(alloc: Global, text: &str) -> Option<ProgramSet> {
+    let draft = parse(alloc, text.as_bytes()).ok()?;
+    check(alloc, draft).ok()
+}
+
+/// A cell of a table with one key column.
+pub fn cell(table: usize, first: i64) -> Cell {
+    Cell {
+        table,
+        first,
+        second: 0,
+    }
+}
+
+/// Rows of tables with one key column: the table, the key and the value of each.
+pub fn rows_of(alloc: Global, given: &[(usize, i64, i64)]) -> Result<Rows, AllocError> {
+    let mut rows = Rows::new(alloc);
+    for (table, first, value) in given {
+        rows.insert(cell(*table, *first), *value)?;
+    }
+    Ok(rows)
+}
