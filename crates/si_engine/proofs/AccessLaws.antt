@@ -1,7 +1,7 @@
 -- What committed instances look at, change and keep, by the accesses of the nodes that they follow.
 use Rattle.std.proofs.Common.{◌≡◌, ◌≢◌, ℕ, ◌<◌, true, List, [], ◌∷◌, ◌⊎◌, inl, inr, refl, ap, sym, subst, ◌∙◌}
 use Rattle.std.specs.Prelude.{Some, is_some, slice_get, IsTrue, not}
-use Rattle.std.proofs.lemmas.Bool.{cases_order}
+use Rattle.std.proofs.lemmas.Bool.{cases_order, and_parts, not-true, or_cases, or_left, or_right}
 use Rattle.prog_tree.specs.declared.cell.Cell.{Cell}
 use Rattle.prog_tree.specs.declared.deed.Look.{Look}
 use Rattle.prog_tree.specs.declared.deed.Look.TheVariants as look
@@ -23,7 +23,6 @@ use Rattle.history_book.specs.Dependencies.{run_found, start_found, start_at, ev
 use Rattle.history_book.specs.History.{Instance, nth_instance, state_after, evaluation}
 use Rattle.history_book.proofs.DependencyLaws.{Changes, found_at, start_at-below}
 use Rattle.history_book.proofs.DependencyRelations.{WriteWriteBy}
-use Rattle.history_book.proofs.OrderLaws.{both_parts, either_part, first_holds, second_holds, fails}
 use Rattle.si_engine.specs.Robustness.{Grows, IsCommitted, AreConcurrent, IsHistory, FollowsNode}
 use Rattle.si_engine.proofs.GrowLaws.{Has, ChangesAt}
 use Rattle.si_engine.proofs.KindLaws.{access_fits, grows_by, plain_by}
@@ -33,11 +32,11 @@ use Rattle.si_engine.proofs.KindLaws.{access_fits, grows_by, plain_by}
 look_of : (l : Look) (c : Cell) → looks_at l c ≡ true → IsLookOf l c
 look_of (look.One cell held) c h = sym (cell_is cell c h)
 look_of (look.Range region own rows) c h =
-    let k = both_parts (is_in region c) (not (is_cell_among own c)) h in (k.0, fails (is_cell_among own c) k.1)
+    let k = and_parts (is_in region c) (not (is_cell_among own c)) h in (k.0, not-true (is_cell_among own c) k.1)
 
 looks_of : (ls : List Look) (c : Cell) → some_looks_at ls c ≡ true → LooksAt ls c
 looks_of [] c h = absurd (cc)
-looks_of (l ∷ ls) c h = go (either_part (looks_at l c) (some_looks_at ls c) h) (looks_of ls c)
+looks_of (l ∷ ls) c h = go (or_cases (looks_at l c) (some_looks_at ls c) h) (looks_of ls c)
   where
     go : (looks_at l c ≡ true) ⊎ (some_looks_at ls c ≡ true) → (some_looks_at ls c ≡ true → LooksAt ls c) →
         LooksAt (l ∷ ls) c
@@ -61,8 +60,8 @@ module _ (set : DraftTree) (opening : TableState) (h : List Instance) (is : IsHi
       ∙ either t
     where
       either : TouchesAt n c → touches_cell (evaluation_at set opening h n).changes c ≡ true
-      either (inl changed) = first_holds _ _ changed
-      either (inr kept) = second_holds (is_some (change_at (evaluation_at set opening h n).changes c)) _ kept
+      either (inl changed) = or_left _ _ changed
+      either (inr kept) = or_right (is_some (change_at (evaluation_at set opening h n).changes c)) _ kept
 
   -- the first committer wins
   pub first_wins : (i j : ℕ) (c : Cell) → IsCommitted h i → IsCommitted h j → start_at h j < i → i < j →

@@ -1,7 +1,7 @@
 -- A cycle of dependencies shows a dangerous structure.
 use Rattle.std.proofs.Common.{◌≡◌, ℕ, ◌<◌, ◌≤◌, eqb, true, List, [], ◌∷◌, inl, inr, refl, subst, arith}
 use Rattle.std.specs.List.{AllByRecursion}
-use Rattle.std.proofs.lemmas.Bool.{eqb-false}
+use Rattle.std.proofs.lemmas.Bool.{eqb-false, and_parts, not-true}
 use Rattle.std.proofs.lemmas.List.Elements.{recursion_from_All}
 use Rattle.prog_tree.specs.declared.cell.Cell.{Cell}
 use Rattle.prog_tree.specs.Syntax.{DraftTree}
@@ -16,8 +16,7 @@ use Rattle.history_book.specs.History.{Instance}
 use Rattle.history_book.specs.Orders.{LeadsTo}
 use Rattle.history_book.proofs.DependencyLaws.{Looks, Changes, DependsOn, depends_tells, depends_within}
 use Rattle.history_book.proofs.DependencyRelations.{ReadWriteBy}
-use Rattle.history_book.proofs.OrderLaws.{both_parts, fails}
-use Rattle.si_engine.specs.Robustness.{EdgeUnder, IsCommitted, AreConcurrent, IsHistory, FollowsNode, LawOfCycles}
+use Rattle.si_engine.specs.Robustness.{EdgeUnder, IsCommitted, AreConcurrent, IsHistory, FollowsNode, LawOfCycles, LawOfSafeSets}
 use Rattle.si_engine.proofs.EdgeLaws.{edge_of}
 use Rattle.si_engine.proofs.AccessLaws.{starts, sees_overwritten}
 use Rattle.si_engine.proofs.NodeLaws.{law_of_nodes}
@@ -119,7 +118,7 @@ module _ (set : DraftTree) (opening : TableState) (h : List Instance) (is : IsHi
   leads_to_instance i (j ∷ js) end leads = leads_to_instance j js end leads.1
 
   never_itself : (i : ℕ) → Before i i → ⊥
-  never_itself i d = eqb-false i i (fails (eqb i i) (both_parts _ _ d).0) refl
+  never_itself i d = eqb-false i i (not-true (eqb i i) (and_parts _ _ d).0) refl
 
   around : (first : ℕ) (rest : List ℕ) → AllByRecursion (λ n. first < n) rest →
       LeadsTo (depends set opening h) (first ∷ rest) first → IsDangerous (paths_of set)
@@ -133,3 +132,6 @@ pub law_of_cycles : LawOfCycles
 law_of_cycles set opening h is numbers cycle =
     around set opening h is cycle.first cycle.rest (recursion_from_All (λ n. cycle.first < n) cycle.rest cycle.least)
     (subst (λ xs. LeadsTo (depends set opening h) xs cycle.first) cycle.is cycle.leads)
+
+pub law_of_safe_sets : LawOfSafeSets
+law_of_safe_sets set opening h safe is numbers cycle = safe (law_of_cycles set opening h is numbers cycle)

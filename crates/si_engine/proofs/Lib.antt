@@ -7,22 +7,24 @@ pub mod EdgeLaws
 pub mod EngineLaws
 pub mod EvaluateLaws
 pub mod GrowLaws
+pub mod HeadlineLaws
+mod HeadlineVectors
 pub mod HeldLaws
 pub mod InsertLaws
 pub mod KindLaws
 mod LineLemmas
 mod MachineVectors
 pub mod NodeLaws
+pub mod OutcomeLaws
 pub mod OutputLaws
 pub mod PlaceLaws
 mod PrintedVectors
-mod RecordLemmas
 mod RecordVectors
 pub mod RowLaws
 pub mod RunLaws
 mod SayingLemmas
-mod ScriptLemmas
 mod ScriptVectors
 pub mod SkewVectors
 mod TextLemmas
+pub mod ToldLaws
 pub mod VulnerableLaws

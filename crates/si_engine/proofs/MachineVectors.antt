@@ -14,18 +14,18 @@ use Rattle.si_engine.specs.declared.event.Event.{Event}
 use Rattle.si_engine.specs.declared.event.Event.TheVariants.{Begin, Step, Commit, Abort, Vacuum}
 use Rattle.si_engine.specs.declared.event.Reply.TheVariants as reply
 
-abbrev cell : ℤ → Cell
+abbrev pub cell : ℤ → Cell
 cell k = record { table = 0; first = k; second = pos 0 }
 
-abbrev key : List ℕ → KeyTree
+abbrev pub key : List ℕ → KeyTree
 key name = One (Named name)
 
-abbrev set_of : List ProgramTree → DraftTree
+abbrev pub set_of : List ProgramTree → DraftTree
 set_of programs = record { tables = record { name = codes "t"; arity = arity.One; grow = false } ∷ []; programs = programs }
 
 -- ---- the register set
 
-abbrev registers : DraftTree
+abbrev pub registers : DraftTree
 registers = set_of (
     -- let x = get t[k] else -1; reply x;
     record {
@@ -49,7 +49,7 @@ unfolding eval_of
 look = refl
 
 -- a write commits between a look's begin and its first step, and the look does not see it
-abbrev snapshot_events : List Event
+abbrev pub snapshot_events : List Event
 snapshot_events =
     Begin 0 (pos 1 ∷ []) ∷ Begin 1 (pos 1 ∷ pos 5 ∷ []) ∷ Step 1 ∷ Step 1 ∷ Commit 1 ∷ Step 0 ∷ Step 0 ∷ Commit 0 ∷ []
 

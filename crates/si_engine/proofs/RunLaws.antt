@@ -1,6 +1,8 @@
 -- Laws on the lines of events, one after another.
-use Rattle.std.proofs.Common.{◌≡◌, Bool, true, false, Option, List, [], ◌∷◌, ◌++◌, ℕ, length, refl, subst, Result, Ok, Err, IfOk, OnErr, sym, ap, ◌∙◌, append_assoc}
+use Rattle.std.proofs.Common.{◌≡◌, Bool, true, false, Option, List, [], ◌∷◌, ◌++◌, ℕ, length, refl, subst, Result, Ok, Err, IfOk, OnOk, OnErr, sym, ap, ◌∙◌, append_assoc}
 use Rattle.std.proofs.lemmas.List.{length-map}
+use Rattle.std.proofs.lemmas.List.Concat.{flat_map-cons}
+use Rattle.std.specs.List.{zip}
 use Rattle.prog_tree.specs.Syntax.{DraftTree}
 use Rattle.prog_tree.specs.Table.{TableState}
 use Rattle.si_engine.specs.declared.event.Event.{Event}
@@ -11,8 +13,9 @@ use Rattle.prog_tree.specs.Tree.{draft_tree}
 use Rattle.prog_tree.specs.declared.program.Draft.{Draft}
 use Rattle.history_book.specs.History.{Instance, state_after}
 use Rattle.history_book.specs.View.{BookView, state_in, history_of, instance_of}
-use Rattle.si_engine.specs.Machine.{Machine, new_machine, machine_step, machine_after}
+use Rattle.si_engine.specs.Machine.{Machine, new_machine, machine_step, machine_after, replies_of}
 use Rattle.si_engine.proofs.OutputLaws.{adds_first_of, adds_both, adds_behind}
+use Rattle.si_engine.specs.Headline.{commit_in, commits_said}
 use Rattle.si_engine.specs.Runs.{event_lines, row_lines, end_lines, run_lines, history_of_run, Adds, AddsFirst, AddsEnd, AddsRun, IsRunOf, done, refused, stopped, IsUnreadRun, unread, IsRunReply}
 use Rattle.si_engine.specs.Printed.{reply_line}
 use Rattle.si_engine.specs.Reading.{ForInput}
@@ -28,6 +31,15 @@ module _ (set : DraftTree) (opening : TableState) (event : Event) (events : List
 
   pub first_after : machine_after set opening (event ∷ events) m ≡ machine_after set opening events next
   first_after = sym (ap (λ (s : Reply × Machine). machine_after set opening events s.1) step)
+
+  pub first_reply : replies_of set opening (event ∷ events) m ≡ r ∷ replies_of set opening events next
+  first_reply = sym (ap (λ (s : Reply × Machine). s.0 ∷ replies_of set opening events s.1) step)
+
+  pub first_commit : commits_said (zip (event ∷ events) (replies_of set opening (event ∷ events) m))
+      ≡ commit_in (event, r) ++ commits_said (zip events (replies_of set opening events next))
+  first_commit =
+      ap (λ replies. commits_said (zip (event ∷ events) replies)) first_reply
+      ∙ flat_map-cons commit_in (event, r) (zip events (replies_of set opening events next))
 
 -- the lines of a script: those of its events, and then those of its rows
 module _ (set : DraftTree) (script : Script) (opening : TableState) (events : List Event) (m : Machine) (is_opening : opening ≡ script.rows) (is_events : events ≡ script.events) (is_started : m ≡ new_machine) where
@@ -66,6 +78,10 @@ module _ (set : DraftTree) (script : Script) (opening : TableState) (events : Li
 pub if_ok : {X E : Type 0} {P Q : X → Type 0} (r : Result X E) → ((x : X) → P x → Q x) → IfOk r P → IfOk r Q
 if_ok (Ok x) f h = f x h
 if_ok (Err e) f h = h
+
+pub on_ok : {X E P Q : Type 0} (r : Result X E) → (P → Q) → OnOk r P → OnOk r Q
+on_ok (Ok x) f h = f h
+on_ok (Err e) f h = h
 
 pub on_err : {X E P Q : Type 0} (r : Result X E) → (P → Q) → OnErr r P → OnErr r Q
 on_err (Ok x) f h = h

@@ -61,6 +61,10 @@ module _ {S : Type 0} (say : (line : ℕ) → List ℕ → Result S LineFault) (
   all_said line before [] all same none = sym same
   all_said line before (b ∷ bs) all same none = absurd (omega arith)
 
+-- a whole that all lines make
+pub made : {S W : Type 0} (whole : List S → W) (all : Result (List S) LineFault) (sayings : List S) (is : W) → all ≡ Ok sayings → is ≡ whole sayings → (all >>= (λ s. Ok (whole s))) ≡ Ok is
+made whole all sayings is said same = rw said (ap Ok (sym same))
+
 -- a line stands in front of those that are left, behind which the others say what the whole says
 pub record Stands {S : Type 0} (say : (line : ℕ) → List ℕ → Result S LineFault) (wrong : (line : ℕ) → List S → S → Option LineFault)
     (all : Result (List S) LineFault) (line : ℕ) (before : List S) (rest bytes : List ℕ) : Type 0 where

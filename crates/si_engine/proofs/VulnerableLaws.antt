@@ -2,6 +2,7 @@
 use Rattle.std.proofs.Common.{◌≡◌, ◌≢◌, ℕ, eqb, true, false, not, List, ◌⊎◌, inl, inr, ap, sym, subst, ◌∙◌, arith}
 use Rattle.std.specs.Prelude.{Some, slice_get}
 use Rattle.std.proofs.lemmas.Bool.Decides.{eqb_tells}
+use Rattle.std.proofs.lemmas.Bool.{and_from, or_right}
 use Rattle.prog_tree.specs.declared.cell.Cell.{Cell}
 use Rattle.prog_tree.specs.Syntax.{DraftTree}
 use Rattle.prog_tree.specs.Table.{TableState}
@@ -14,7 +15,6 @@ use Rattle.history_book.specs.Dependencies.{start_at, write_write, write_read, r
 use Rattle.history_book.specs.History.{Instance}
 use Rattle.history_book.proofs.DependencyLaws.{Looks, Changes, DependsOn, depends_tells}
 use Rattle.history_book.proofs.DependencyRelations.{ReadWriteBy}
-use Rattle.history_book.proofs.OrderLaws.{both_hold, second_holds}
 use Rattle.si_engine.specs.Robustness.{IsCommitted, AreConcurrent, IsHistory, FollowsNode, LawOfVulnerableEdges}
 use Rattle.si_engine.proofs.EdgeLaws.{asked_read_write}
 use Rattle.si_engine.proofs.AccessLaws.{TouchesAt, starts, sees_overwritten, none_shared, meets, asked_with}
@@ -45,8 +45,8 @@ module _ (set : DraftTree) (opening : TableState) (h : List Instance) (is : IsHi
 
     depends_on : read_write set opening h i j ≡ true → depends set opening h i j ≡ true
     depends_on test =
-        both_hold _ _ (apart (eqb_tells i j))
-        (second_holds (write_write set opening h i j) _ (second_holds (write_read set opening h i j) _ test))
+        and_from _ _ (apart (eqb_tells i j))
+        (or_right (write_write set opening h i j) _ (or_right (write_read set opening h i j) _ test))
       where
         apart : ((eqb i j ≡ true) × (i ≡ j)) ⊎ ((eqb i j ≡ false) × (i ≢ j)) → not (eqb i j) ≡ true
         apart (inl e) = absurd (differ e.1)

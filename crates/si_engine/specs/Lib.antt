@@ -1,4 +1,5 @@
 pub mod Commands
+pub mod Headline
 pub mod LastLine
 pub mod Lines
 pub mod Machine

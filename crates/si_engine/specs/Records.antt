@@ -1,5 +1,5 @@
 -- What a list of records says: its rows and its records, or its first fault.
-use Rattle.std.specs.Prelude.{ℕ, ◌≡◌, ◌≤◌, ◌==◌, not, Bool, List, [], ◌∷◌, length, fold, Option, None, Result, Ok, Err, codes, bytes_eq, option_map, option_and_then, if◌then◌else◌}
+use Rattle.std.specs.Prelude.{ℕ, ◌==◌, not, Bool, List, [], ◌∷◌, length, fold, Option, None, Result, Ok, Err, codes, bytes_eq, option_map, option_and_then, if◌then◌else◌}
 use Rattle.std.specs.List.{flat_map, before_first, after_first}
 use Rattle.std.specs.Option.{ok_or}
 use Rattle.prog_tree.specs.Syntax.{DraftTree}
@@ -14,12 +14,11 @@ use Rattle.si_engine.specs.declared.records.Records.{Records}
 use Rattle.si_engine.specs.declared.script_fault.LineFault.{LineFault}
 use Rattle.si_engine.specs.declared.script_fault.LineFault.TheVariants.{BadLine, UnknownName}
 use Rattle.si_engine.specs.declared.script_fault.ScriptFault.{ScriptFault}
-use Rattle.si_engine.specs.Lines.{is_skipped, words_of, lines_of}
+use Rattle.si_engine.specs.Lines.{is_skipped, words_of}
 use Rattle.si_engine.specs.Names.{number_named}
 use Rattle.si_engine.specs.Numbers.{numbers_of, u64_of}
-use Rattle.si_engine.specs.Reading.{input_limit}
 use Rattle.si_engine.specs.RowLines.{◌>>=◌, row_line_of, row_fault}
-use Rattle.si_engine.specs.Sayings.{sayings_from, IsPartFault}
+use Rattle.si_engine.specs.Sayings.{made_of, IsPart, IsPartFault}
 
 -- ---- what a line says
 
@@ -107,20 +106,17 @@ record_fault line rows records said = None
 abbrev pub record_fault_behind : (line : ℕ) → List RecordLine → RecordLine → Option LineFault
 record_fault_behind line before said = record_fault line (rows_in_lines before) (records_in before) said
 
--- what all lines of a part say, which are counted from 1; or the first fault
-abbrev pub record_lines_of : DraftTree → List ℕ → Result (List RecordLine) LineFault
-record_lines_of draft part = sayings_from (record_line draft) record_fault_behind 1 [] (lines_of part)
+-- the rows and records of lines
+abbrev pub records_with : List RecordLine → Records
+records_with lines = record { rows = rows_in_lines lines; records = records_in lines }
 
--- their rows and records
+-- the rows and records that all lines of a part make, or the first fault
 abbrev pub records_of : DraftTree → List ℕ → Result Records LineFault
-records_of draft part = do
-  lines ← record_lines_of draft part
-  Ok (record { rows = rows_in_lines lines; records = records_in lines })
+records_of draft part = made_of (record_line draft) record_fault_behind records_with part
 
 -- the bytes are a list of records without a fault
-pub record IsRecords (draft : DraftTree) (part : List ℕ) (records : Records) : Type 0 where
-  pub short : length part ≤ input_limit
-  pub read : records_of draft part ≡ Ok records
+abbrev pub IsRecords : DraftTree → List ℕ → Records → Type 0
+IsRecords draft part records = IsPart (records_of draft part) part records
 
 -- the bytes are no list of records without a fault, and this is the first; want of memory says nothing of them
 abbrev pub IsRecordsFault : DraftTree → List ℕ → ScriptFault → Type 0

@@ -102,3 +102,9 @@ abbrev pub LawOfCycles : Type 0
 LawOfCycles =
     (set : DraftTree) (opening : TableState) (h : List Instance) → IsHistory set opening h
     → (numbers : List ℕ) → IsCycle (depends set opening h) numbers → IsDangerous (paths_of set)
+
+-- a set without a dangerous structure has no lawful history with a cycle of dependencies
+abbrev pub LawOfSafeSets : Type 0
+LawOfSafeSets =
+    (set : DraftTree) (opening : TableState) (h : List Instance) → ¬ IsDangerous (paths_of set)
+    → IsHistory set opening h → (numbers : List ℕ) → ¬ IsCycle (depends set opening h) numbers

@@ -1,15 +1,18 @@
 -- What a run of a script writes.
 use Rattle.std.specs.Prelude.{◌≡◌, ℕ, Bool, true, false, List, [], ◌∷◌, ◌++◌, length, map, Option, Result, Ok, Err}
-use Rattle.std.specs.List.{concat}
+use Rattle.std.specs.List.{concat, zip}
+use Rattle.prog_tree.specs.declared.table.TableDecl.{TableDecl}
 use Rattle.prog_tree.specs.Syntax.{DraftTree}
 use Rattle.prog_tree.specs.Table.{TableState}
 use Rattle.history_book.specs.History.{Instance, state_after}
 use Rattle.si_engine.specs.declared.event.Event.{Event}
 use Rattle.si_engine.specs.declared.finding.Finding.{Finding}
+use Rattle.si_engine.specs.declared.robust_run.Outcome.{Outcome}
 use Rattle.si_engine.specs.declared.script.Script.{Script}
 use Rattle.si_engine.specs.declared.script_fault.ScriptFault.{ScriptFault}
 use Rattle.si_engine.specs.declared.script_fault.ScriptFault.TheVariants as fault
 use Rattle.si_engine.specs.declared.source.InputFault.TheVariants as input_fault
+use Rattle.si_engine.specs.Headline.{Exchange}
 use Rattle.si_engine.specs.LastLine.{IsLastLine}
 use Rattle.si_engine.specs.Machine.{Machine, new_machine, machine_step, machine_after}
 use Rattle.si_engine.specs.Printed.{reply_line, row_line}
@@ -22,6 +25,10 @@ event_lines set opening [] machine = []
 event_lines set opening (event ∷ events) machine =
     let step = machine_step set opening event machine in
     reply_line set.tables event step.0 ∷ event_lines set opening events step.1
+
+-- one line for each event that was answered
+abbrev pub exchange_lines : List TableDecl → List Exchange → List (List ℕ)
+exchange_lines tables said = map (λ exchange. reply_line tables exchange.0 exchange.1) said
 
 -- one line for each row of a state, in cell order
 abbrev pub row_lines : DraftTree → TableState → List (List ℕ)
@@ -39,6 +46,11 @@ history_of_run set script = (machine_after set script.rows script.events new_mac
 abbrev pub run_lines : DraftTree → Script → List (List ℕ)
 run_lines set script =
     event_lines set script.rows script.events new_machine ++ end_lines set script.rows (history_of_run set script)
+
+-- the same of what events came to
+abbrev pub outcome_lines : DraftTree → List Event → Outcome → List (List ℕ)
+outcome_lines set events o =
+    exchange_lines set.tables (zip events o.replies) ++ row_lines set o.table
 
 -- lines were added to a text
 abbrev pub Adds : List (List ℕ) → List ℕ → List ℕ → Type 0

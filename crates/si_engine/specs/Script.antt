@@ -1,5 +1,5 @@
 -- What a script says: its rows and its events, or its first fault.
-use Rattle.std.specs.Prelude.{ℕ, ◌+◌, ◌≡◌, ◌≤◌, nat_lt, ◌==◌, not, Bool, List, [], ◌∷◌, length, fold, replicate, Option, Some, None, Result, Ok, if◌then◌else◌}
+use Rattle.std.specs.Prelude.{ℕ, ◌+◌, nat_lt, ◌==◌, not, Bool, List, [], ◌∷◌, length, fold, replicate, Option, Some, None, Result, if◌then◌else◌}
 use Rattle.std.specs.List.{flat_map}
 use Rattle.prog_tree.specs.Syntax.{DraftTree}
 use Rattle.prog_tree.specs.Table.{TableState, row_at, with_row}
@@ -12,10 +12,8 @@ use Rattle.si_engine.specs.declared.script_fault.LineFault.{LineFault}
 use Rattle.si_engine.specs.declared.script_fault.LineFault.TheVariants.{TooManyEvents}
 use Rattle.si_engine.specs.declared.script_fault.ScriptFault.{ScriptFault}
 use Rattle.si_engine.specs.Commands.{line_command}
-use Rattle.si_engine.specs.Lines.{lines_of}
-use Rattle.si_engine.specs.Reading.{input_limit}
-use Rattle.si_engine.specs.RowLines.{◌>>=◌, row_fault}
-use Rattle.si_engine.specs.Sayings.{sayings_from, IsPartFault}
+use Rattle.si_engine.specs.RowLines.{row_fault}
+use Rattle.si_engine.specs.Sayings.{made_of, IsPart, IsPartFault}
 
 -- the row of a command, among others
 abbrev pub with_row_of : TableState → Command → TableState
@@ -61,20 +59,17 @@ order_fault line rows events Vacuum = room_fault line events 1
 abbrev pub fault_behind : (line : ℕ) → List Command → Command → Option LineFault
 fault_behind line before command = order_fault line (rows_of before) (events_of before) command
 
--- the commands of all lines of a part, which are counted from 1; or the first fault
-abbrev pub commands_of : DraftTree → List ℕ → Result (List Command) LineFault
-commands_of draft part = sayings_from (line_command draft) fault_behind 1 [] (lines_of part)
+-- the rows and events of commands
+abbrev pub script_with : List Command → Script
+script_with commands = record { rows = rows_of commands; events = events_of commands }
 
--- their rows and events
+-- the script that the commands of all lines of a part make, or the first fault
 abbrev pub script_of : DraftTree → List ℕ → Result Script LineFault
-script_of draft part = do
-  commands ← commands_of draft part
-  Ok (record { rows = rows_of commands; events = events_of commands })
+script_of draft part = made_of (line_command draft) fault_behind script_with part
 
 -- the bytes are a script without a fault
-pub record IsScript (draft : DraftTree) (part : List ℕ) (script : Script) : Type 0 where
-  pub short : length part ≤ input_limit
-  pub read : script_of draft part ≡ Ok script
+abbrev pub IsScript : DraftTree → List ℕ → Script → Type 0
+IsScript draft part script = IsPart (script_of draft part) part script
 
 -- the bytes are no script without a fault, and this is the first; want of memory says nothing of them
 abbrev pub IsScriptFault : DraftTree → List ℕ → ScriptFault → Type 0

@@ -12,8 +12,8 @@ ghost use Rattle.si_engine.specs.Machine.{stepped};
 ghost use Rattle.si_engine.specs.View.{active_in, instance_in, IsActive, IsAfterStep, IsCommitReply};
 
 use crate::event::Reply;
-use history_book::{Book, CommitFault, EndFault, ScanFault, Ticket, Unused};
-use prog_run::{AnswerFault, Next, Run};
+use history_book::{Book, CommitFault, EndFault, ScanFault, Ticket, Unused, taken};
+use prog_run::{Next, Run};
 use prog_tree::{End, Sequence};
 use std::alloc::{AllocError, Global};
 
@@ -26,19 +26,6 @@ pub struct ActiveRun<'a> {
     pub run: Run<'a>,
     /// A step answered that it is ready.
     pub ready: bool,
-}
-
-// An answer that fits the question is refused for want of memory alone.
-fn taken(answer: Result<Next, AnswerFault>) -> Result<Next, AllocError>
-    requires { IfErr answer (λ fault. fault ≡ AnswerFault.Memory) }
-    ensures ok { IfOk result (λ next. answer ≡ Ok next) }
-    ensures err { OnErr result (answer ≡ Err AnswerFault.Memory) }
-{
-    match answer {
-        Ok(next) => Ok(next),
-        Err(AnswerFault::Memory) => Err(AllocError),
-        Err(_) => unreachable!(),
-    }
 }
 
 // The next store statement of a run, or its end. What it asks for is read in the book, as the

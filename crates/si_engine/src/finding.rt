@@ -19,8 +19,8 @@ pub enum Finding {
     Cycle,
 }
 
-// Adds the line of each row.
-fn list_rows(set: &Draft, rows: &Rows, out: &mut String) -> Result<(), AllocError>
+/// Adds the line of each row.
+pub(crate) fn list_rows(set: &Draft, rows: &Rows, out: &mut String) -> Result<(), AllocError>
     ensures ok { OnOk result (Adds (row_lines (draft_tree set.now) rows.now)
         (string_bytes out.old) (string_bytes out.new)) }
     ensures err { OnErr result (AddsFirst (row_lines (draft_tree set.now) rows.now)

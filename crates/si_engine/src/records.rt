@@ -2,14 +2,14 @@
 ghost use Rattle.std.specs.Prelude.{◌≡◌, ◌≤◌, ◌+◌, ◌↔◌, ◌++◌, [], true, false, None, OnOk, IfOk, IfErr, IsErrOf};
 ghost use Rattle.prog_tree.specs.Tree.{draft_tree};
 ghost use Rattle.si_engine.specs.Reading.{ForInput};
-ghost use Rattle.si_engine.specs.RowLines.{IsFault, Reads};
-ghost use Rattle.si_engine.specs.Records.{with_row_in, record_in, record_fault, records_of, IsRecords, IsRecordsFault};
+ghost use Rattle.si_engine.specs.RowLines.{IsFault};
+ghost use Rattle.si_engine.specs.Records.{with_row_in, record_in, record_fault, IsRecords, IsRecordsFault};
 
-use crate::lines::{cut, without_return};
+use crate::from_lines::{FromLines, read_part};
 use crate::record_line::{RecordLine, record_line};
 use crate::row_line::add_row;
 use crate::script_fault::{LineFault, ScriptFault};
-use crate::source::{InputFault, MOST_READS, Source, read_whole};
+use crate::source::{InputFault, MOST_READS, Source};
 use history_book::HistoryRow;
 use prog_check::ProgramSet;
 use prog_tree::{Rows, Sequence};
@@ -23,18 +23,8 @@ pub struct Records {
 }
 
 impl Records {
-    fn new(alloc: Global) -> Self
-        ensures rows { result.rows ≡ [] }
-        ensures records { result.records ≡ [] }
-    {
-        Records {
-            rows: Rows::new(alloc),
-            records: Sequence::new(alloc),
-        }
-    }
-
     // Behind an error the list is of no use.
-    fn add(&mut self, line: usize, said: RecordLine) -> Result<(), LineFault>
+    fn add_line(&mut self, line: usize, said: RecordLine) -> Result<(), LineFault>
         ensures placed { OnOk result
             (record_fault line self.old.rows self.old.records said ≡ None) }
         ensures rows { OnOk result (self.new.rows ≡ with_row_in self.old.rows said) }
@@ -51,21 +41,36 @@ impl Records {
     }
 }
 
-// The list of records that the bytes of a part are, or its first fault.
-fn records_in(alloc: Global, set: &ProgramSet, part: &[u8]) -> Result<Records, LineFault>
-    ensures { Reads (λ records. records) result (records_of (draft_tree set.now) part.now) }
-{
-    let mut records = Records::new(alloc);
-    let mut line = 0;
-    let mut rest = part;
-    while !rest.is_empty() {
-        line += 1;
-        let (bytes, behind) = cut(rest, b'\n');
-        let said = record_line(alloc, set, line, without_return(bytes))?;
-        records.add(line, said)?;
-        rest = behind;
+impl FromLines for Records {
+    ghost use Rattle.si_engine.specs.Records.{record_line, record_fault_behind, records_with};
+
+    type Saying = RecordLine;
+
+    ghost says = { record_line };
+
+    ghost wrong = { record_fault_behind };
+
+    ghost whole = { records_with };
+
+    fn none(alloc: Global) -> Self {
+        Records {
+            rows: Rows::new(alloc),
+            records: Sequence::new(alloc),
+        }
     }
-    Ok(records)
+
+    fn read_line(
+        alloc: Global,
+        set: &ProgramSet,
+        line: usize,
+        bytes: &[u8],
+    ) -> Result<RecordLine, LineFault> {
+        record_line(alloc, set, line, bytes)
+    }
+
+    fn add(&mut self, line: usize, said: RecordLine) -> Result<(), LineFault> {
+        self.add_line(line, said)
+    }
 }
 
 /// Reads all of a source as a list of records for a set, or finds its first fault. Behind an error
@@ -84,7 +89,5 @@ pub fn read_records<S: Source>(
         ↔ IsErrOf result (ScriptFault.Input InputFault.ReadFault) }
     ensures reads { S.pulls source.new ≤ S.pulls source.old + MOST_READS }
 {
-    let part = read_whole(alloc, source)?;
-    let records = records_in(alloc, set, &part)?;
-    Ok(records)
+    read_part(alloc, set, source)
 }

@@ -6,7 +6,7 @@ ghost use Rattle.prog_tree.specs.Syntax.{DraftTree};
 ghost use Rattle.prog_tree.specs.Table.{TableState, HasI64Rows};
 ghost use Rattle.prog_check.specs.Sound.{IsSound};
 ghost use Rattle.history_book.specs.History.{Instance, IsLawful, state_after};
-ghost use Rattle.si_engine.specs.Robustness.{LawOfCycles, LawOfInserts, LawOfNodes};
+ghost use Rattle.si_engine.specs.Robustness.{LawOfCycles, LawOfInserts, LawOfNodes, LawOfSafeSets};
 ghost use Rattle.si_engine.specs.Robustness.{LawOfSingleInserts, LawOfStaticEdges};
 ghost use Rattle.si_engine.specs.Robustness.{LawOfVulnerableEdges};
 
@@ -43,4 +43,9 @@ pub fn concurrent_dependencies_are_vulnerable()
 /// A cycle of dependencies shows a dangerous structure: where there is none, there is no cycle.
 pub fn cycles_are_dangerous()
     ensures { LawOfCycles }
+{}
+
+/// So a set without a dangerous structure has no lawful history with a cycle of dependencies.
+pub fn safe_sets_have_no_cycle()
+    ensures { LawOfSafeSets }
 {}

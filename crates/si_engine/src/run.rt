@@ -83,8 +83,8 @@ fn run_source<S: Source>(
     Ok(finding)
 }
 
-// Writes bytes, and answers with the end that is given, or that the sink failed.
-fn write_end<K: Sink>(
+/// Writes bytes, and answers with the end that is given, or that the sink failed.
+pub(crate) fn write_end<K: Sink>(
     sink: &mut K,
     bytes: &[u8],
     ended: Result<Finding, ScriptFault>,

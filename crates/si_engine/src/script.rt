@@ -2,15 +2,15 @@
 ghost use Rattle.std.specs.Prelude.{◌≡◌, ◌≤◌, ◌+◌, ◌↔◌, ◌++◌, ◌∷◌, [], true, false, None, Some, OnOk, IfOk, IfErr, IsErrOf, replicate};
 ghost use Rattle.prog_tree.specs.Tree.{draft_tree};
 ghost use Rattle.si_engine.specs.Reading.{ForInput};
-ghost use Rattle.si_engine.specs.RowLines.{IsFault, Reads};
-ghost use Rattle.si_engine.specs.Script.{room_fault, order_fault, with_row_of, events_in, script_of, IsScript, IsScriptFault};
+ghost use Rattle.si_engine.specs.RowLines.{IsFault};
+ghost use Rattle.si_engine.specs.Script.{room_fault, order_fault, with_row_of, events_in, IsScript, IsScriptFault};
 
 use crate::command::{Command, line_command};
 use crate::event::Event;
-use crate::lines::{cut, without_return};
+use crate::from_lines::{FromLines, read_part};
 use crate::row_line::add_row;
 use crate::script_fault::{LineFault, ScriptFault};
-use crate::source::{InputFault, MOST_READS, Source, read_whole};
+use crate::source::{InputFault, MOST_READS, Source};
 use prog_check::ProgramSet;
 use prog_tree::{Rows, Sequence};
 use std::alloc::{AllocError, Global};
@@ -25,16 +25,6 @@ pub struct Script {
 }
 
 impl Script {
-    fn new(alloc: Global) -> Self
-        ensures rows { result.rows ≡ [] }
-        ensures events { result.events ≡ [] }
-    {
-        Script {
-            rows: Rows::new(alloc),
-            events: Sequence::new(alloc),
-        }
-    }
-
     // Whether there is room for so many events more.
     fn check_room(&self, line: usize, more: usize) -> Result<(), LineFault>
         ensures placed { OnOk result (room_fault line self.now.events more ≡ None) }
@@ -79,7 +69,7 @@ impl Script {
     }
 
     // Behind an error the script is of no use.
-    fn add(&mut self, line: usize, command: Command) -> Result<(), LineFault>
+    fn add_command(&mut self, line: usize, command: Command) -> Result<(), LineFault>
         ensures placed { OnOk result (order_fault line self.old.rows self.old.events command ≡ None) }
         ensures rows { OnOk result (self.new.rows ≡ with_row_of self.old.rows command) }
         ensures events { OnOk result (self.new.events ≡ self.old.events ++ events_in command) }
@@ -100,21 +90,37 @@ impl Script {
     }
 }
 
-// The script that the bytes of a part are, or its first fault.
-fn script_in(alloc: Global, set: &ProgramSet, part: &[u8]) -> Result<Script, LineFault>
-    ensures { Reads (λ script. script) result (script_of (draft_tree set.now) part.now) }
-{
-    let mut script = Script::new(alloc);
-    let mut line = 0;
-    let mut rest = part;
-    while !rest.is_empty() {
-        line += 1;
-        let (bytes, behind) = cut(rest, b'\n');
-        let command = line_command(alloc, set, line, without_return(bytes))?;
-        script.add(line, command)?;
-        rest = behind;
+impl FromLines for Script {
+    ghost use Rattle.si_engine.specs.Commands.{line_command};
+    ghost use Rattle.si_engine.specs.Script.{fault_behind, script_with};
+
+    type Saying = Command;
+
+    ghost says = { line_command };
+
+    ghost wrong = { fault_behind };
+
+    ghost whole = { script_with };
+
+    fn none(alloc: Global) -> Self {
+        Script {
+            rows: Rows::new(alloc),
+            events: Sequence::new(alloc),
+        }
     }
-    Ok(script)
+
+    fn read_line(
+        alloc: Global,
+        set: &ProgramSet,
+        line: usize,
+        bytes: &[u8],
+    ) -> Result<Command, LineFault> {
+        line_command(alloc, set, line, bytes)
+    }
+
+    fn add(&mut self, line: usize, command: Command) -> Result<(), LineFault> {
+        self.add_command(line, command)
+    }
 }
 
 /// Reads all of a source as a script for a set, or finds its first fault. Behind an error the source may have been read
@@ -131,7 +137,5 @@ pub fn read_script<S: Source>(
     ensures unread { S.has_failed source.new ≡ true ↔ IsErrOf result (ScriptFault.Input InputFault.ReadFault) }
     ensures reads { S.pulls source.new ≤ S.pulls source.old + MOST_READS }
 {
-    let part = read_whole(alloc, source)?;
-    let script = script_in(alloc, set, &part)?;
-    Ok(script)
+    read_part(alloc, set, source)
 }

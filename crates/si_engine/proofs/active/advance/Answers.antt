@@ -4,7 +4,8 @@ use Rattle.prog_run.specs.Looks.{AreFound, region_look}
 use Rattle.prog_run.specs.Step.{question_after}
 use Rattle.prog_run.specs.View.{IsAnswered, asked_cell, asked_region}
 use Rattle.history_book.specs.View.{state_in}
-use Rattle.si_engine.proofs.EvaluateLaws.{found_cell, found_region, no_scan_fault, memory_alone, held_is, rows_are}
+use Rattle.history_book.proofs.ReplayLaws.{found_cell, found_region, no_scan_fault, memory_alone}
+use Rattle.si_engine.proofs.EvaluateLaws.{held_is, rows_are}
 use Rattle.si_engine.proofs.active.advance.Goals as goal
 
 pub taken-requires-in-Scan : goal.taken-requires-in-Scan

@@ -1,0 +1,80 @@
+-- The lines of an outcome are those of the run.
+use Rattle.std.proofs.Common.{◌≡◌, List, [], ◌∷◌, ◌++◌, ℕ, length, refl, ap, sym, ◌∙◌, subst, Result, Err, IfOk, Bool, true, false}
+use Rattle.std.specs.Prelude.{Some, Option}
+use Rattle.std.specs.List.{zip}
+use Rattle.prog_tree.specs.declared.program.Draft.{Draft}
+use Rattle.prog_tree.specs.Syntax.{DraftTree}
+use Rattle.prog_tree.specs.Tree.{draft_tree}
+use Rattle.prog_tree.specs.Table.{TableState}
+use Rattle.history_book.specs.Dependencies.{depends}
+use Rattle.history_book.specs.Orders.{least_order}
+use Rattle.si_engine.specs.declared.event.Event.{Event}
+use Rattle.si_engine.specs.declared.finding.Finding.{Finding}
+use Rattle.si_engine.specs.declared.finding.Finding.TheVariants.{Order}
+use Rattle.si_engine.specs.declared.robust_run.Outcome.{Outcome}
+use Rattle.si_engine.specs.declared.script.Script.{Script}
+use Rattle.si_engine.specs.declared.script_fault.ScriptFault.{ScriptFault}
+use Rattle.si_engine.specs.Headline.{Headline}
+use Rattle.si_engine.specs.LastLine.{last_line}
+use Rattle.si_engine.specs.Machine.{Machine, new_machine, machine_step, machine_after, replies_of}
+use Rattle.si_engine.specs.Printed.{reply_line}
+use Rattle.si_engine.specs.Runs.{event_lines, exchange_lines, row_lines, outcome_lines, run_lines, history_of_run, Adds, AddsFirst, AddsRun}
+use Rattle.si_engine.specs.Writing.{IsJust, WritesOr}
+
+lines_said : (set : DraftTree) (opening : TableState) (events : List Event) (s : Machine) →
+    exchange_lines set.tables (zip events (replies_of set opening events s)) ≡ event_lines set opening events s
+lines_said set opening [] s = refl
+lines_said set opening (e ∷ es) s =
+    let step = machine_step set opening e s in
+    ap (λ lines. reply_line set.tables e step.0 ∷ lines) (lines_said set opening es step.1)
+
+module _ (set : DraftTree) (script : Script) (o : Outcome) (is : Headline set script.rows script.events o) where
+  lines_of_outcome : outcome_lines set script.events o ≡ run_lines set script
+  lines_of_outcome =
+      ap (λ replies. exchange_lines set.tables (zip script.events replies) ++ row_lines set o.table) is.replies
+      ∙ (ap (λ lines. lines ++ row_lines set o.table) (lines_said set script.rows script.events new_machine)
+      ∙ ap (λ table. event_lines set script.rows script.events new_machine ++ row_lines set table) is.table)
+
+  adds_run : (s t : List ℕ) →
+      (let h = history_of_run set script in least_order (depends set script.rows h) (length h) ≡ Some o.order) →
+      Adds (outcome_lines set script.events o ++ last_line Order o.order ∷ []) s t → AddsRun set script Order s t
+  adds_run s t least added =
+      let line = last_line Order o.order in
+      (line, (o.order, least, refl), subst (λ lines. Adds (lines ++ line ∷ []) s t) lines_of_outcome added)
+
+  adds_first : (s t : List ℕ) → AddsFirst (outcome_lines set script.events o) s t → AddsFirst (run_lines set script) s t
+  adds_first s t first = subst (λ lines. AddsFirst lines s t) lines_of_outcome first
+
+-- the same of a set and events that were handed on
+module _ (set given : Draft) (script : Script) (o : Outcome) (first second : List Event) (same : given ≡ set) (is_first : first ≡ script.events) (is_second : second ≡ script.events) (is : Headline (draft_tree set) script.rows first o) where
+  abbrev handed_on : List (List ℕ)
+  handed_on = outcome_lines (draft_tree given) second o
+
+  is_headline : Headline (draft_tree set) script.rows script.events o
+  is_headline = subst (λ (es : List Event). Headline (draft_tree set) script.rows es o) is_first is
+
+  lines_are : handed_on ≡ outcome_lines (draft_tree set) script.events o
+  lines_are = ap (λ d. outcome_lines (draft_tree d) second o) same ∙ ap (λ es. outcome_lines (draft_tree set) es o) is_second
+
+  abbrev IsLeast : List Event → Type 0
+  IsLeast es =
+      let h = (machine_after (draft_tree set) script.rows es new_machine).history in
+      least_order (depends (draft_tree set) script.rows h) (length h) ≡ Some o.order
+
+  pub run_added : (s t : List ℕ) → IsLeast first → Adds (handed_on ++ last_line Order o.order ∷ []) s t →
+      AddsRun (draft_tree set) script Order s t
+  run_added s t least added =
+      adds_run (draft_tree set) script o is_headline s t (subst IsLeast is_first least)
+      (subst (λ lines. Adds (lines ++ last_line Order o.order ∷ []) s t) lines_are added)
+
+  pub first_added : (s t : List ℕ) → AddsFirst handed_on s t → AddsFirst (run_lines (draft_tree set) script) s t
+  first_added s t first = adds_first (draft_tree set) script o is_headline s t (subst (λ lines. AddsFirst lines s t) lines_are first)
+
+-- what was found is told, where the sink did not fail
+pub found_stays : (lost : ScriptFault) (bytes : List ℕ) (end ended : Result Finding ScriptFault) (failed : Bool) (old new : Option (List ℕ)) →
+    IfOk end (λ finding. finding ≡ Order) → WritesOr (Err lost) (IsJust bytes end) failed old new ended →
+    IfOk ended (λ finding. finding ≡ Order)
+found_stays lost bytes end ended false old new is (written, just, appends) =
+    subst (λ (e : Result Finding ScriptFault). IfOk e (λ finding. finding ≡ Order)) (sym just.1) is
+found_stays lost bytes end ended true old new is (lost_is, written, meant, just, appends) =
+    subst (λ (e : Result Finding ScriptFault). IfOk e (λ finding. finding ≡ Order)) (sym lost_is) tt
