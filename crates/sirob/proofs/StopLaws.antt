@@ -30,16 +30,16 @@ use Rattle.si_engine.specs.Script.{script_of}
 use Rattle.si_engine.specs.Writing.{AppendsFront, WritesOr}
 use Rattle.si_engine.specs.Writing as w
 use Rattle.sirob.specs.declared.command_line.Mode.{Mode}
-use Rattle.sirob.specs.declared.command_line.Mode.TheVariants.{Check, Run, Audit}
+use Rattle.sirob.specs.declared.command_line.Mode.TheVariants.{Check, Certify, Verify, Run, Audit}
 use Rattle.sirob.specs.declared.run_fault.RunFault.{RunFault}
 use Rattle.sirob.specs.declared.run_fault.RunFault.TheVariants as fault
 use Rattle.sirob.specs.declared.status.Status.{Status}
 use Rattle.sirob.specs.declared.status.Status.TheVariants as status
 use Rattle.sirob.specs.FaultLines.{fault_line, is_memory}
-use Rattle.sirob.specs.Output.{parts_wanted, Gives, GivesFirstPart, IsAudited, IsRefused, IsRefusedInput, IsRefusedPart, StopsBehind, at_once, behind_lines, memory_line, IsAnswer, done, refused, stopped, IsUnread, IsReply, Writes}
+use Rattle.sirob.specs.Output.{parts_wanted, Gives, GivesPart, GivesFirstPart, HasSet, MayRun, IsAudited, IsChecked, IsRefused, IsRefusedInput, IsRefusedPart, StopsBehind, at_once, behind_lines, memory_line, IsAnswer, done, refused, stopped, IsUnread, IsReply, Writes}
 use Rattle.sirob.specs.Output as u
 use Rattle.sirob.specs.Status.{status_of}
-use Rattle.sirob.specs.Stops.{IsStop, IsReadFault, Ends, well, in_fault, in_memory, IsJust, IsSetAndPart, IsPartGiven, IsPartStop, IsPartDone, IsInputDone, IsSourceDone, as_command, write_lost}
+use Rattle.sirob.specs.Stops.{IsUnanalysedBy, IsStop, IsReadFault, Ends, well, in_fault, in_memory, IsJust, IsSetAndPart, IsPartStop, IsPartDone, IsInputDone, IsSourceDone, as_command, write_lost}
 
 -- ---- how reading an input stops
 
@@ -74,8 +74,36 @@ refused_input mode wanted input (fault.Input f) is wrong = subst (λ (n : ℕ). 
 refused_input mode wanted input (fault.Parts f) is wrong = subst (λ (n : ℕ). IsRefusedInput n input (fault.Parts f)) (sym is) wrong
 refused_input mode wanted input (fault.Text f) is wrong = subst (λ (n : ℕ). IsRefusedInput n input (fault.Text f)) (sym is) wrong
 refused_input mode wanted input (fault.Check f) is wrong = subst (λ (n : ℕ). IsRefusedInput n input (fault.Check f)) (sym is) wrong
+refused_input mode wanted input (fault.Analysis f) is (text, others, divided, count, wrong) = absurd wrong
+refused_input mode wanted input (fault.Json f) is (text, others, divided, count, wrong) = absurd wrong
+refused_input mode wanted input (fault.Certificate f) is (text, others, divided, count, wrong) = absurd wrong
 refused_input mode wanted input (fault.Script f) is (text, others, divided, count, wrong) = absurd wrong
 refused_input mode wanted input (fault.Audit f) is (text, others, divided, count, wrong) = absurd wrong
+
+-- a set that is not analysed is the fault of its input
+pub set_refused : (input : List ℕ) (set : DraftTree) → IsChecked input set → (f : RunFault) → IsUnanalysedBy set f → IsRefused Certify input f
+set_refused input set checked (fault.Analysis f) wrong =
+    (tt, set, record { text = checked.text; others = []; divided = checked.divided; count = refl; spelled = checked.spelled }, wrong)
+set_refused input set checked (fault.Json f) wrong = absurd wrong
+set_refused input set checked (fault.Certificate f) wrong = absurd wrong
+set_refused input set checked (fault.Script f) wrong = absurd wrong
+set_refused input set checked (fault.Audit f) wrong = absurd wrong
+set_refused input set checked (fault.Input f) wrong = absurd wrong
+set_refused input set checked (fault.Parts f) wrong = absurd wrong
+set_refused input set checked (fault.Text f) wrong = absurd wrong
+set_refused input set checked (fault.Check f) wrong = absurd wrong
+
+-- and so it is where a script stands behind it
+pub script_refused : (set : DraftTree) (part : List ℕ) (f : RunFault) → IsUnanalysedBy set f → IsRefusedPart (Run true) set part f
+script_refused set part (fault.Analysis f) wrong = (refl, wrong)
+script_refused set part (fault.Json f) wrong = absurd wrong
+script_refused set part (fault.Certificate f) wrong = absurd wrong
+script_refused set part (fault.Script f) wrong = absurd wrong
+script_refused set part (fault.Audit f) wrong = absurd wrong
+script_refused set part (fault.Input f) wrong = absurd wrong
+script_refused set part (fault.Parts f) wrong = absurd wrong
+script_refused set part (fault.Text f) wrong = absurd wrong
+script_refused set part (fault.Check f) wrong = absurd wrong
 
 -- the canonical text could not be made
 pub stops_printing : (input : List ℕ) → IsStop Check input (fault.Input i.Memory) []
@@ -107,12 +135,13 @@ part_fails read part Q within told (s.Line f) wrong no_memory = told f (line_fai
 part_fails read part Q within told s.WriteFault wrong no_memory = absurd wrong
 
 -- a run of the script that a part is
-script_done : (set : DraftTree) (part : List ℕ) → length part ≤ 16777216
-    → (written : List ℕ) (inner : Result Finding ScriptFault) → IsRunOf set part written inner → IsPartDone Run set part written (as_command inner)
-script_done set part within _ _ (r.done script is finding written adds) = ((finding, (script, is.read, adds), refl), tt)
-script_done set part within _ _ (r.refused f wrong) =
-    (tt, part_at_once Run set part (fault.Script f) (part_fails (script_of set part) part (λ g. IsRefusedPart Run set part (fault.Script g)) within (λ g e. e) f wrong))
-script_done set part within _ _ (r.stopped script is written first) = (tt, ((λ no_memory. absurd (cc)), (λ memory. inr (script, is.read, first))))
+script_done : (robust : Bool) (set : DraftTree) (part : List ℕ) → MayRun robust set → length part ≤ 16777216
+    → (written : List ℕ) (inner : Result Finding ScriptFault) → IsRunOf set part written inner → IsPartDone (Run robust) set part written (as_command inner)
+script_done robust set part may within _ _ (r.done script is finding written adds) = (inl (may, (finding, script, is.read, adds, refl)), tt)
+script_done robust set part may within _ _ (r.refused f wrong) =
+    let told = part_fails (script_of set part) part (λ g. IsRefusedPart (Run robust) set part (fault.Script g)) within (λ g e. (may, e)) f wrong in
+    (tt, part_at_once (Run robust) set part (fault.Script f) told)
+script_done robust set part may within _ _ (r.stopped script is written first) = (tt, ((λ no_memory. absurd (cc)), (λ memory. inr (may, script, is.read, first))))
 
 -- the records of a part that could be read
 pub records_read : (set : DraftTree) (left part : List ℕ) (records : Records) → left ≡ part
@@ -140,15 +169,13 @@ audit_sound set part records book read is is_true =
 -- its rows and the last line were added to nothing
 pub audit_given : (set : Draft) (part : List ℕ) (records : Records) (book : BookView) (finding : Finding) (before written : List ℕ)
     → records_of (draft_tree set) part ≡ Ok records → book ≡ audited set records.rows records.records → IsTrueBook book → before ≡ []
-    → AddsEnd (draft_tree book.set) book.opening (history_of book.rows) finding before written → IsPartGiven Audit (draft_tree set) part (status_of finding) written
+    → AddsEnd (draft_tree book.set) book.opening (history_of book.rows) finding before written → GivesPart Audit (draft_tree set) part written (status_of finding)
 audit_given set part records book finding before written read is is_true none adds =
     let ends = subst (λ (b : BookView). AddsEnd (draft_tree b.set) b.opening (history_of b.rows) finding before written) is adds in (
       finding,
-      (
-        records,
-        audit_sound set part records book read is is_true,
-        subst (λ (t : List ℕ). AddsEnd (draft_tree set) records.rows (history_of records.records) finding t written) none ends,
-      ),
+      records,
+      audit_sound set part records book read is is_true,
+      subst (λ (t : List ℕ). AddsEnd (draft_tree set) records.rows (history_of records.records) finding t written) none ends,
       refl,
     )
 
@@ -170,27 +197,29 @@ audit_stopped set part records book before written read is is_true none adds =
 
 -- what a part means, its input means
 part_given : (mode : Mode) (input : List ℕ) (set : DraftTree) (part : List ℕ) → IsSetAndPart input set part
-    → (ended : Status) (written : List ℕ) → IsPartGiven mode set part ended written → Gives mode input written ended
-part_given Check input set part has ended written (finding, gives, is) = absurd gives
-part_given Run input set part has ended written (finding, gives, is) = (set, part, finding, has.has, gives, is)
-part_given Audit input set part has ended written (finding, gives, is) = (set, part, finding, has.has, gives, is)
+    → (ended : Status) (written : List ℕ) → GivesPart mode set part written ended → Gives mode input written ended
+part_given Check input set part has ended written gives = absurd gives
+part_given Certify input set part has ended written gives = absurd gives
+part_given Verify input set part has ended written gives = (set, part, has.has, gives)
+part_given (Run robust) input set part has ended written gives = (set, part, has.has, gives)
+part_given Audit input set part has ended written gives = (set, part, has.has, gives)
 
-part_refused : (mode : Mode) (input : List ℕ) (set : DraftTree) (part : List ℕ) → IsSetAndPart input set part
+-- the input has the set, and its part
+set_of_part : (input : List ℕ) (set : DraftTree) (part : List ℕ) (wanted : ℕ) → wanted ≡ 2 → IsSetAndPart input set part → HasSet wanted input set
+set_of_part input set part wanted two has =
+    record { text = has.has.text; others = part ∷ []; divided = has.has.divided; count = sym two; spelled = has.has.spelled }
+
+part_refused : (mode : Mode) (input : List ℕ) (set : DraftTree) (part : List ℕ) → parts_wanted mode ≡ 2 → IsSetAndPart input set part
     → (f : RunFault) → IsRefusedPart mode set part f → IsRefused mode input f
-part_refused mode input set part has (fault.Script f) wrong = (set, part, has.has, wrong)
-part_refused mode input set part has (fault.Audit f) wrong = (set, part, has.has, wrong)
-part_refused Check input set part has (fault.Input f) wrong = absurd wrong
-part_refused Run input set part has (fault.Input f) wrong = absurd wrong
-part_refused Audit input set part has (fault.Input f) wrong = absurd wrong
-part_refused Check input set part has (fault.Parts f) wrong = absurd wrong
-part_refused Run input set part has (fault.Parts f) wrong = absurd wrong
-part_refused Audit input set part has (fault.Parts f) wrong = absurd wrong
-part_refused Check input set part has (fault.Text f) wrong = absurd wrong
-part_refused Run input set part has (fault.Text f) wrong = absurd wrong
-part_refused Audit input set part has (fault.Text f) wrong = absurd wrong
-part_refused Check input set part has (fault.Check f) wrong = absurd wrong
-part_refused Run input set part has (fault.Check f) wrong = absurd wrong
-part_refused Audit input set part has (fault.Check f) wrong = absurd wrong
+part_refused mode input set part two has (fault.Analysis f) wrong = (wrong.0, set, set_of_part input set part (parts_wanted mode) two has, wrong.1)
+part_refused mode input set part two has (fault.Json f) wrong = (set, part, has.has, wrong)
+part_refused mode input set part two has (fault.Certificate f) wrong = (set, part, has.has, wrong)
+part_refused mode input set part two has (fault.Script f) wrong = (set, part, has.has, wrong)
+part_refused mode input set part two has (fault.Audit f) wrong = (set, part, has.has, wrong)
+part_refused mode input set part two has (fault.Input f) wrong = absurd wrong
+part_refused mode input set part two has (fault.Parts f) wrong = absurd wrong
+part_refused mode input set part two has (fault.Text f) wrong = absurd wrong
+part_refused mode input set part two has (fault.Check f) wrong = absurd wrong
 
 part_behind : (mode : Mode) (input : List ℕ) (set : DraftTree) (part : List ℕ) → IsSetAndPart input set part
     → (written : List ℕ) → (written ≡ []) ⊎ GivesFirstPart mode set part written → StopsBehind mode input written
@@ -198,13 +227,13 @@ part_behind mode input set part has written (inl none) = subst (λ (l : List ℕ
 part_behind mode input set part has written (inr first) = behind_lines written (set, part, has.has, first)
 
 -- the end of a part is that of its input
-part_is_input : (mode : Mode) (input : List ℕ) (set : DraftTree) (part : List ℕ) → IsSetAndPart input set part
+part_is_input : (mode : Mode) (input : List ℕ) (set : DraftTree) (part : List ℕ) → parts_wanted mode ≡ 2 → IsSetAndPart input set part
     → (written : List ℕ) (ended : Result Status RunFault) → IsPartDone mode set part written ended → IsInputDone mode input written ended
-part_is_input mode input set part has written (Ok ended) given = (part_given mode input set part has ended written given.0, tt)
-part_is_input mode input set part has written (Err f) given = (
+part_is_input mode input set part two has written (Ok ended) given = (part_given mode input set part has ended written given.0, tt)
+part_is_input mode input set part two has written (Err f) given = (
   tt,
   (
-    (λ no_memory. let wrong = given.1.0 no_memory in (part_refused mode input set part has f wrong.0, wrong.1)),
+    (λ no_memory. let wrong = given.1.0 no_memory in (part_refused mode input set part two has f wrong.0, wrong.1)),
     (λ memory. part_behind mode input set part has written (given.1.1 memory)),
   ),
 )
@@ -334,15 +363,15 @@ pub not_broken : (broken : Bool) (pulls before : ℕ) → (broken ≡ true → p
 not_broken false pulls before counted few none = refl
 not_broken true pulls before counted few none = let all = counted refl in absurd (omega (arith, all, few, none))
 
-pub part_run : (set : DraftTree) (left part : List ℕ) (broken failed : Bool) (old new : Option (List ℕ)) (inner : Result Finding ScriptFault)
-    → left ≡ part → length part ≤ 16777216 → broken ≡ false → WritesOr (Err s.WriteFault) (IsRunReply set (Some left) broken) failed old new inner
-    → WritesOr (Err write_lost) (IsPartDone Run set part) failed old new (as_command inner)
-part_run set left part true failed old new inner same within works writes = absurd (cc)
-part_run set left part false failed old new inner same within works writes =
-    writes_or_as as_command (Err s.WriteFault) (IsRunReply set (Some left) false) (IsPartDone Run set part) failed old new inner turn writes
+pub part_run : (robust : Bool) (set : DraftTree) (left part : List ℕ) (broken failed : Bool) (old new : Option (List ℕ)) (inner : Result Finding ScriptFault)
+    → MayRun robust set → left ≡ part → length part ≤ 16777216 → broken ≡ false → WritesOr (Err s.WriteFault) (IsRunReply set (Some left) broken) failed old new inner
+    → WritesOr (Err write_lost) (IsPartDone (Run robust) set part) failed old new (as_command inner)
+part_run robust set left part true failed old new inner may same within works writes = absurd (cc)
+part_run robust set left part false failed old new inner may same within works writes =
+    writes_or_as as_command (Err s.WriteFault) (IsRunReply set (Some left) false) (IsPartDone (Run robust) set part) failed old new inner turn writes
   where
-    turn : (written : List ℕ) (end : Result Finding ScriptFault) → IsRunReply set (Some left) false written end → IsPartDone Run set part written (as_command end)
-    turn written end (input, is, run) = script_done set part within written end (subst (λ (p : List ℕ). IsRunOf set p written end) (is ∙ same) run)
+    turn : (written : List ℕ) (end : Result Finding ScriptFault) → IsRunReply set (Some left) false written end → IsPartDone (Run robust) set part written (as_command end)
+    turn written end (input, is, run) = script_done robust set part may within written end (subst (λ (p : List ℕ). IsRunOf set p written end) (is ∙ same) run)
 
 -- a fault before anything is written
 pub input_stopped : (mode : Mode) (input : List ℕ) (f : RunFault) (failed : Bool) (old : Option (List ℕ)) → failed ≡ false → IsStop mode input f []
@@ -350,10 +379,17 @@ pub input_stopped : (mode : Mode) (input : List ℕ) (f : RunFault) (failed : Bo
 input_stopped mode input f true old works stop = absurd (cc)
 input_stopped mode input f false old works stop = ([], (tt, stop), Appends-nil old)
 
+-- a fault of a set or its part before anything is written
+pub part_stopped : (mode : Mode) (set : DraftTree) (part : List ℕ) (f : RunFault) (failed : Bool) (old : Option (List ℕ)) → failed ≡ false
+    → (is_memory f ≡ false → IsRefusedPart mode set part f) → WritesOr (Err write_lost) (IsPartDone mode set part) failed old old (Err f)
+part_stopped mode set part f true old works wrong = absurd (cc)
+part_stopped mode set part f false old works wrong = ([], (tt, part_at_once mode set part f wrong), Appends-nil old)
+
 pub done_of_part : (mode : Mode) (input : List ℕ) (set : DraftTree) (part : List ℕ) (failed : Bool) (old new : Option (List ℕ)) (ended : Result Status RunFault)
-    → IsSetAndPart input set part → WritesOr (Err write_lost) (IsPartDone mode set part) failed old new ended → WritesOr (Err write_lost) (IsInputDone mode input) failed old new ended
-done_of_part mode input set part failed old new ended has writes =
-    writes_or_as (λ (e : Result Status RunFault). e) (Err write_lost) (IsPartDone mode set part) (IsInputDone mode input) failed old new ended (part_is_input mode input set part has) writes
+    → parts_wanted mode ≡ 2 → IsSetAndPart input set part → WritesOr (Err write_lost) (IsPartDone mode set part) failed old new ended
+    → WritesOr (Err write_lost) (IsInputDone mode input) failed old new ended
+done_of_part mode input set part failed old new ended two has writes =
+    writes_or_as (λ (e : Result Status RunFault). e) (Err write_lost) (IsPartDone mode set part) (IsInputDone mode input) failed old new ended (part_is_input mode input set part two has) writes
 
 -- the source could not be read
 unread_source : (mode : Mode) (f : InputFault) (left : Option (List ℕ)) (source_failed : Bool)

@@ -1,13 +1,23 @@
 -- The program's command line, as `clap` reads it.
-use Rattle.std.specs.Prelude.{◌≡◌, List, [], Option, Some, true, codes, option_map}
-use Rattle.clap.specs.Walk.{Rule, Row, Text}
-use Rattle.clap.specs.Simple.{App, Shape, new_shape, with_subcommand}
+use Rattle.std.specs.Prelude.{◌≡◌, Bool, List, [], ◌∷◌, Option, Some, None, true, false, codes, option_map}
+use Rattle.std.specs.Option.{option_map_or}
+use Rattle.std.specs.Str.{bytes_eq}
+use Rattle.clap.specs.Walk.{Rule, Row, Text, first_of}
+use Rattle.clap.specs.Simple.{App, Shape, new_shape, new_rule, with_subcommand}
+use Rattle.clap.specs.declared.builder.action.ArgAction.TheVariants.{SetTrue}
 use Rattle.sirob.specs.declared.command_line.Mode.{Mode}
-use Rattle.sirob.specs.declared.command_line.Mode.TheVariants.{Check, Run, Audit}
+use Rattle.sirob.specs.declared.command_line.Mode.TheVariants.{Check, Certify, Verify, Run, Audit}
 
 -- a subcommand with these arguments
 abbrev pub command_with : Text → List Rule → Shape
 command_with name rules = record (new_shape name) { rules = rules }
+
+-- an argument that is on where its word stands
+abbrev pub flag_rule : Text → Rule
+flag_rule name = record (new_rule name) { long = Some name; action = Some SetTrue }
+
+abbrev pub run_shape : Shape
+run_shape = command_with (codes "run") (flag_rule (codes "robust") ∷ [])
 
 -- the program's own command, with no subcommand yet
 abbrev pub top_app : App
@@ -17,17 +27,34 @@ top_app = record { top = record (new_shape (codes "sirob")) { subcommand_require
 abbrev pub sirob_app : App
 sirob_app =
     let with_check = with_subcommand top_app (command_with (codes "check") []) in
-    let with_run = with_subcommand with_check (command_with (codes "run") []) in
+    let with_certify = with_subcommand with_check (command_with (codes "certify") []) in
+    let with_verify = with_subcommand with_certify (command_with (codes "verify") []) in
+    let with_run = with_subcommand with_verify run_shape in
     with_subcommand with_run (command_with (codes "audit") [])
 
 -- the name of the subcommand
 abbrev pub name_in : Option (Text × List Row) → Option Text
 name_in = option_map (λ p. p.0)
 
+-- a text is there, and is `true`
+abbrev pub is_true : Option Text → Bool
+is_true (Some text) = bytes_eq text (codes "true")
+is_true None = false
+
+-- whether a flag is on
+abbrev pub has_flag : Text → List Row → Bool
+has_flag name rows = is_true (first_of name rows)
+
+-- and whether one of the subcommand is
+abbrev pub flag_in : Text → Option (Text × List Row) → Bool
+flag_in name command = option_map_or (λ p. has_flag name p.1) command false
+
 -- the mode that a subcommand with its arguments names
 abbrev pub IsNamedBy : Mode → Option (Text × List Row) → Type 0
 IsNamedBy Check command = name_in command ≡ Some (codes "check")
-IsNamedBy Run command = name_in command ≡ Some (codes "run")
+IsNamedBy Certify command = name_in command ≡ Some (codes "certify")
+IsNamedBy Verify command = name_in command ≡ Some (codes "verify")
+IsNamedBy (Run robust) command = (name_in command ≡ Some (codes "run")) × (robust ≡ flag_in (codes "robust") command)
 IsNamedBy Audit command = name_in command ≡ Some (codes "audit")
 
 -- the subcommand is one of the program's own

@@ -8,11 +8,17 @@ use Rattle.prog_check.specs.declared.fault.CheckFault.TheVariants as c
 use Rattle.prog_text.specs.declared.fault.TextFault.{TextFault}
 use Rattle.prog_text.specs.declared.fault.TextFault.TheVariants as t
 use Rattle.sirob.specs.declared.run_fault.RunFault.{RunFault}
-use Rattle.sirob.specs.declared.run_fault.RunFault.TheVariants.{Input, Parts, Text, Check, Script, Audit}
+use Rattle.sirob.specs.declared.run_fault.RunFault.TheVariants.{Input, Parts, Text, Check, Analysis, Json, Certificate, Script, Audit}
 use Rattle.history_book.specs.declared.audit.AuditFault.{AuditFault}
 use Rattle.history_book.specs.declared.audit.AuditFault.TheVariants as a
 use Rattle.history_book.specs.declared.audit.RowFault.{RowFault}
 use Rattle.history_book.specs.declared.audit.RowFault.TheVariants as r
+use Rattle.robust_cert.specs.declared.fault.CertFault.{CertFault}
+use Rattle.robust_cert.specs.declared.fault.CertFault.TheVariants as k
+use Rattle.robust_cert.specs.declared.fault.JsonFault.{JsonFault}
+use Rattle.robust_cert.specs.declared.fault.JsonFault.TheVariants as j
+use Rattle.si_repair.specs.declared.fault.AnalyseFault.{AnalyseFault}
+use Rattle.si_repair.specs.declared.fault.AnalyseFault.TheVariants as q
 use Rattle.si_engine.specs.declared.script_fault.ScriptFault.{ScriptFault}
 use Rattle.si_engine.specs.declared.script_fault.ScriptFault.TheVariants as script
 use Rattle.si_engine.specs.declared.script_fault.LineFault.{LineFault}
@@ -58,6 +64,32 @@ check_fault (c.TooMany place) = in_set (codes "C10") place
 check_fault (c.TooManyPaths place) = in_set (codes "C11") place
 check_fault c.Memory = codes "memory"
 
+abbrev pub analyse_fault : AnalyseFault → List ℕ
+analyse_fault q.TooLarge = codes "Q1"
+analyse_fault q.Memory = codes "memory"
+
+abbrev pub json_fault : JsonFault → List ℕ
+json_fault j.NotJson = codes "J1"
+json_fault j.WrongShape = codes "J2"
+json_fault j.WrongVersion = codes "J3"
+json_fault j.Memory = codes "memory"
+
+-- a number behind a space
+abbrev pub spaced : ℕ → List ℕ
+spaced n = codes " " ++ decimal n
+
+-- a code, and the entry from 0, or the nodes
+abbrev pub certificate_fault : CertFault → List ℕ
+certificate_fault k.PathCount = codes "K1"
+certificate_fault (k.NoSuchEntry entry) = codes "K2" ++ spaced entry
+certificate_fault (k.EntryOrder entry) = codes "K3" ++ spaced entry
+certificate_fault (k.BadChain entry) = codes "K4" ++ spaced entry
+certificate_fault (k.BadCover entry) = codes "K5" ++ spaced entry
+certificate_fault (k.LevelFalls x y) = codes "K6" ++ (spaced x ++ spaced y)
+certificate_fault (k.Dangerous x y z) = codes "K7" ++ (spaced x ++ (spaced y ++ spaced z))
+certificate_fault k.TooLarge = codes "K8"
+certificate_fault k.Memory = codes "memory"
+
 -- a code and a line of the second part, from 1
 abbrev pub in_line : List ℕ → ℕ → List ℕ
 in_line code line = code ++ (codes " line " ++ decimal line)
@@ -96,6 +128,9 @@ fault_text (Input fault) = code_of fault
 fault_text (Parts fault) = part_code fault
 fault_text (Text fault) = text_fault fault
 fault_text (Check fault) = check_fault fault
+fault_text (Analysis fault) = analyse_fault fault
+fault_text (Json fault) = json_fault fault
+fault_text (Certificate fault) = certificate_fault fault
 fault_text (Script fault) = script_fault fault
 fault_text (Audit fault) = audit_fault fault
 
@@ -108,6 +143,9 @@ abbrev pub is_memory : RunFault → Bool
 is_memory (Input i.Memory) = true
 is_memory (Text t.Memory) = true
 is_memory (Check c.Memory) = true
+is_memory (Analysis q.Memory) = true
+is_memory (Json j.Memory) = true
+is_memory (Certificate k.Memory) = true
 is_memory (Script (script.Input i.Memory)) = true
 is_memory (Script (script.Line s.Memory)) = true
 is_memory (Audit a.Memory) = true

@@ -4,5 +4,6 @@ pub mod Faults
 pub mod Output
 pub mod Parts
 pub mod Program
+pub mod Refusal
 pub mod Status
 pub mod Stops

@@ -1,10 +1,22 @@
 -- What the commands write.
-use Rattle.std.specs.Prelude.{◌≡◌, ℕ, Bool, true, false, ◌<◌, ◌≤◌, All, List, [], ◌∷◌, ◌++◌, length, codes, Option, Some, None, Ok, Err}
+use Rattle.std.specs.Prelude.{◌≡◌, ◌⊎◌, ℕ, Bool, true, false, ◌<◌, ◌≤◌, All, List, [], ◌∷◌, ◌++◌, length, codes, Option, Some, None, Ok, Err}
 use Rattle.std.specs.Io.KnownBytes.{Appends}
 use Rattle.prog_tree.specs.Syntax.{DraftTree}
 use Rattle.prog_text.specs.Answer.{Accepts, Refuses}
 use Rattle.prog_text.specs.Canonical.{canonical}
 use Rattle.prog_check.specs.Faults.{first_fault}
+use Rattle.prog_check.specs.Paths.{paths_of}
+use Rattle.prog_paths.specs.Asked.{questions_of, limit}
+use Rattle.dep_graph.specs.declared.danger.Danger.{Danger}
+use Rattle.dep_graph.specs.Danger.{IsLeastDanger}
+use Rattle.robust_cert.specs.declared.certificate.Certificate.{Certificate}
+use Rattle.robust_cert.specs.Accepted.{IsAccepted}
+use Rattle.robust_cert.specs.Json.{certificate_text}
+use Rattle.robust_cert.specs.Reading.{HasFault, IsTextOf}
+use Rattle.robust_cert.specs.Refused.{IsFirstFault}
+use Rattle.si_repair.specs.declared.fault.AnalyseFault.{AnalyseFault}
+use Rattle.si_repair.specs.declared.fault.AnalyseFault.TheVariants as analyse_fault
+use Rattle.si_repair.specs.Findings.{IsCertificateOf}
 use Rattle.history_book.specs.Audit.{IsAuditFault}
 use Rattle.history_book.specs.History.{IsLawful}
 use Rattle.history_book.specs.TrueBook.{IsTrueRow}
@@ -12,6 +24,7 @@ use Rattle.history_book.specs.View.{history_of, most_endings}
 use Rattle.si_engine.specs.declared.finding.Finding.{Finding}
 use Rattle.si_engine.specs.declared.records.Records.{Records}
 use Rattle.si_engine.specs.declared.script.Script.{Script}
+use Rattle.si_engine.specs.declared.script_fault.LineFault.{LineFault}
 use Rattle.si_engine.specs.declared.script_fault.ScriptFault.TheVariants as script_fault
 use Rattle.si_engine.specs.declared.source.InputFault.TheVariants as input_fault
 use Rattle.si_engine.specs.Reading.{ForInput, input_limit}
@@ -20,14 +33,15 @@ use Rattle.si_engine.specs.Runs.{run_lines, end_lines, AddsFirst, AddsEnd, AddsR
 use Rattle.si_engine.specs.Script.{script_of}
 use Rattle.si_engine.specs.Writing.{AppendsFront}
 use Rattle.sirob.specs.declared.command_line.Mode.{Mode}
-use Rattle.sirob.specs.declared.command_line.Mode.TheVariants.{Check, Run, Audit}
+use Rattle.sirob.specs.declared.command_line.Mode.TheVariants.{Check, Certify, Verify, Run, Audit}
 use Rattle.sirob.specs.declared.parts.PartFault.TheVariants as part_fault
 use Rattle.sirob.specs.declared.run_fault.RunFault.{RunFault}
 use Rattle.sirob.specs.declared.run_fault.RunFault.TheVariants as fault
 use Rattle.sirob.specs.declared.status.Status.{Status}
-use Rattle.sirob.specs.declared.status.Status.TheVariants.{Done, Faulty, Memory}
+use Rattle.sirob.specs.declared.status.Status.TheVariants.{Done, Unserializable, Faulty, Memory}
 use Rattle.sirob.specs.FaultLines.{fault_line, is_memory}
 use Rattle.sirob.specs.Parts.{parts_of}
+use Rattle.sirob.specs.Refusal.{refusal_text}
 use Rattle.sirob.specs.Status.{status_of}
 
 -- ---- what an input means
@@ -35,7 +49,9 @@ use Rattle.sirob.specs.Status.{status_of}
 -- how many parts a command wants
 abbrev pub parts_wanted : Mode → ℕ
 parts_wanted Check = 1
-parts_wanted Run = 2
+parts_wanted Certify = 1
+parts_wanted Verify = 2
+parts_wanted (Run robust) = 2
 parts_wanted Audit = 2
 
 -- the input has just these parts
@@ -59,6 +75,20 @@ pub record HasPart (input : List ℕ) (set : DraftTree) (part : List ℕ) : Type
   pub text : List ℕ
   pub divided : IsDivided input (text ∷ part ∷ [])
   pub spelled : IsSoundText text set
+
+-- the set asks no more questions than an analysis may have
+abbrev pub AsksFew : DraftTree → Type 0
+AsksFew set = length (questions_of (paths_of set)) ≤ limit
+
+-- some certificate is accepted for the set, so that it has no dangerous structure
+pub record IsRobust (set : DraftTree) : Type 0 where
+  pub certificate : Certificate
+  pub accepted : IsAccepted (paths_of set) certificate
+
+-- what a script runs on: any set, or a robust one where that is asked for
+abbrev pub MayRun : (robust : Bool) → DraftTree → Type 0
+MayRun false set = Unit {0}
+MayRun true set = IsRobust set
 
 -- the part is these records, which are a lawful history, not too long, with the replies of evaluation
 pub record IsAudited (set : DraftTree) (part : List ℕ) (records : Records) : Type 0 where
@@ -91,12 +121,43 @@ IsRefusedInput wanted input f =
     (text : List ℕ) × (others : List (List ℕ))
     × IsDivided input (text ∷ others) × (length (text ∷ others) ≡ wanted) × IsRefusedText text f
 
--- the first fault of a second part: of its lines, or of its records as a history
+-- the set is not analysed
+abbrev pub IsUnanalysed : DraftTree → AnalyseFault → Type 0
+IsUnanalysed set analyse_fault.TooLarge = limit < length (questions_of (paths_of set))
+IsUnanalysed set analyse_fault.Memory = ⊥
+
+-- the set is analysed for a command, before its second part is looked at
+abbrev pub IsAnalysedFor : Mode → Type 0
+IsAnalysedFor Certify = Unit {0}
+IsAnalysedFor (Run robust) = robust ≡ true
+IsAnalysedFor mode = ⊥
+
+-- the input has as many parts as are wanted, and the first spells this set, which has no fault
+pub record HasSet (wanted : ℕ) (input : List ℕ) (set : DraftTree) : Type 0 where
+  pub text : List ℕ
+  pub others : List (List ℕ)
+  pub divided : IsDivided input (text ∷ others)
+  pub count : length (text ∷ others) ≡ wanted
+  pub spelled : IsSoundText text set
+
+-- the first fault of the lines of a second part
+abbrev pub IsRefusedLine : Mode → DraftTree → List ℕ → LineFault → Type 0
+IsRefusedLine (Run robust) set part f = MayRun robust set × (script_of set part ≡ Err f)
+IsRefusedLine Audit set part f = records_of set part ≡ Err f
+IsRefusedLine mode set part f = ⊥
+
+-- the first fault of a set with a second part: of the analysis that comes before its lines; of its lines, of its records
+-- as a history, or of its certificate
 abbrev pub IsRefusedPart : Mode → DraftTree → List ℕ → RunFault → Type 0
-IsRefusedPart Run set part (fault.Script (script_fault.Line f)) = script_of set part ≡ Err f
-IsRefusedPart Audit set part (fault.Script (script_fault.Line f)) = records_of set part ≡ Err f
-IsRefusedPart Audit set part (fault.Audit f) =
-    (records : Records) × (records_of set part ≡ Ok records) × IsAuditFault set records.rows records.records f
+IsRefusedPart mode set part (fault.Analysis f) = IsAnalysedFor mode × IsUnanalysed set f
+IsRefusedPart mode set part (fault.Script (script_fault.Line f)) = IsRefusedLine mode set part f
+IsRefusedPart mode set part (fault.Audit f) =
+    (mode ≡ Audit) × (records : Records)
+    × (records_of set part ≡ Ok records) × IsAuditFault set records.rows records.records f
+IsRefusedPart mode set part (fault.Json f) = (mode ≡ Verify) × HasFault part f
+IsRefusedPart mode set part (fault.Certificate f) =
+    (mode ≡ Verify) × (certificate : Certificate)
+    × IsTextOf certificate part × IsFirstFault (paths_of set) certificate f
 IsRefusedPart mode set part f = ⊥
 
 -- the input has a second part, of which this is the first fault
@@ -104,43 +165,90 @@ abbrev pub IsRefusedByPart : Mode → List ℕ → RunFault → Type 0
 IsRefusedByPart mode input f =
     (set : DraftTree) × (part : List ℕ) × HasPart input set part × IsRefusedPart mode set part f
 
+-- the input has a set that is not analysed, though the command asks for it
+abbrev pub IsRefusedSet : Mode → List ℕ → AnalyseFault → Type 0
+IsRefusedSet mode input f =
+    IsAnalysedFor mode × (set : DraftTree) × HasSet (parts_wanted mode) input set × IsUnanalysed set f
+
 -- the first fault of an input
 abbrev pub IsRefused : Mode → List ℕ → RunFault → Type 0
+IsRefused mode input (fault.Analysis f) = IsRefusedSet mode input f
+IsRefused mode input (fault.Json f) = IsRefusedByPart mode input (fault.Json f)
+IsRefused mode input (fault.Certificate f) = IsRefusedByPart mode input (fault.Certificate f)
 IsRefused mode input (fault.Script f) = IsRefusedByPart mode input (fault.Script f)
 IsRefused mode input (fault.Audit f) = IsRefusedByPart mode input (fault.Audit f)
 IsRefused mode input f = IsRefusedInput (parts_wanted mode) input f
 
 -- ---- what is written
 
--- all that a second part without a fault means was written: a script's lines, or those of audited records
-abbrev pub GivesPart : Mode → DraftTree → List ℕ → Finding → List ℕ → Type 0
-GivesPart Check set part finding written = ⊥
-GivesPart Run set part finding written =
-    (script : Script) × (script_of set part ≡ Ok script) × AddsRun set script finding [] written
-GivesPart Audit set part finding written =
-    (records : Records) × IsAudited set part records
-    × AddsEnd set records.rows (history_of records.records) finding [] written
+-- the text of a certificate of the set, which is accepted for it, and a line feed
+pub record GivesCertificate (set : DraftTree) (written : List ℕ) (ended : Status) : Type 0 where
+  pub certificate : Certificate
+  pub accepted : IsAccepted (paths_of set) certificate
+  pub own : IsCertificateOf (paths_of set) certificate
+  pub text : written ≡ certificate_text certificate ++ 10 ∷ []
+  pub status : ended ≡ Done
+
+-- the refusal of the set by its least dangerous structure
+pub record GivesRefusal (set : DraftTree) (written : List ℕ) (ended : Status) : Type 0 where
+  pub danger : Danger
+  pub few : AsksFew set
+  pub least : IsLeastDanger (paths_of set) danger
+  pub text : written ≡ refusal_text set danger
+  pub status : ended ≡ Unserializable
+
+-- what an analysis of the set finds
+abbrev pub GivesFinding : DraftTree → List ℕ → Status → Type 0
+GivesFinding set written status = GivesCertificate set written status ⊎ GivesRefusal set written status
+
+-- the part is a certificate that is accepted for the set
+pub record ShowsRobust (set : DraftTree) (part : List ℕ) : Type 0 where
+  pub certificate : Certificate
+  pub read : IsTextOf certificate part
+  pub accepted : IsAccepted (paths_of set) certificate
+
+-- all lines of the script that the part is
+abbrev pub GivesRun : DraftTree → List ℕ → List ℕ → Status → Type 0
+GivesRun set part written status =
+    (finding : Finding) × (script : Script) × (script_of set part ≡ Ok script)
+    × AddsRun set script finding [] written × (status ≡ status_of finding)
+
+-- the lines of the rows that audited records leave, and the last line
+abbrev pub GivesAudit : DraftTree → List ℕ → List ℕ → Status → Type 0
+GivesAudit set part written status =
+    (finding : Finding) × (records : Records) × IsAudited set part records
+    × AddsEnd set records.rows (history_of records.records) finding [] written × (status ≡ status_of finding)
+
+-- all that a second part without a fault means was written, and this is the status behind it; a set that may not run
+-- is refused in its place
+abbrev pub GivesPart : Mode → DraftTree → List ℕ → List ℕ → Status → Type 0
+GivesPart Verify set part written status = ShowsRobust set part × (written ≡ codes "robust\n") × (status ≡ Done)
+GivesPart (Run robust) set part written status =
+    (MayRun robust set × GivesRun set part written status) ⊎ ((robust ≡ true) × GivesRefusal set written status)
+GivesPart Audit set part written status = GivesAudit set part written status
+GivesPart mode set part written status = ⊥
 
 -- some first lines of it were written, before the last
 abbrev pub GivesFirstPart : Mode → DraftTree → List ℕ → List ℕ → Type 0
-GivesFirstPart Check set part written = ⊥
-GivesFirstPart Run set part written =
-    (script : Script) × (script_of set part ≡ Ok script) × AddsFirst (run_lines set script) [] written
+GivesFirstPart (Run robust) set part written =
+    MayRun robust set × (script : Script) × (script_of set part ≡ Ok script)
+    × AddsFirst (run_lines set script) [] written
 GivesFirstPart Audit set part written =
     (records : Records) × IsAudited set part records × AddsFirst (audit_lines set records) [] written
+GivesFirstPart mode set part written = ⊥
 
 -- all that an input means by its second part was written, and this is the status behind it
 abbrev pub GivesByPart : Mode → List ℕ → List ℕ → Status → Type 0
 GivesByPart mode input written status =
-    (set : DraftTree) × (part : List ℕ) × (finding : Finding)
-    × HasPart input set part × GivesPart mode set part finding written × (status ≡ status_of finding)
+    (set : DraftTree) × (part : List ℕ) × HasPart input set part × GivesPart mode set part written status
 
--- all that the input means was written, and this is the status behind it: the canonical text, or what its part means
+-- all that the input means was written, and this is the status behind it: the canonical text, what an analysis finds,
+-- or what its part means
 abbrev pub Gives : Mode → List ℕ → List ℕ → Status → Type 0
 Gives Check input written status =
     (set : DraftTree) × IsChecked input set × (written ≡ canonical set) × (status ≡ Done)
-Gives Run input written status = GivesByPart Run input written status
-Gives Audit input written status = GivesByPart Audit input written status
+Gives Certify input written status = (set : DraftTree) × IsChecked input set × GivesFinding set written status
+Gives mode input written status = GivesByPart mode input written status
 
 -- some first lines of it were written
 abbrev pub GivesFirst : Mode → List ℕ → List ℕ → Type 0

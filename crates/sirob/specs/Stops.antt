@@ -1,18 +1,22 @@
 -- How the steps of a command end: words of their contracts, and of no promise.
-use Rattle.std.specs.Prelude.{◌≡◌, ◌⊎◌, ℕ, ◌≤◌, Bool, true, false, List, [], length, Option, Result, Ok, Err, IfOk, IfErr}
+use Rattle.std.specs.Prelude.{◌≡◌, ◌⊎◌, ℕ, ◌≤◌, Bool, true, false, List, [], length, Option, Result, Ok, Err, IfOk, IfErr, string_bytes}
+use Rattle.prog_tree.specs.declared.program.Draft.{Draft}
 use Rattle.prog_tree.specs.Syntax.{DraftTree}
+use Rattle.prog_tree.specs.Tree.{draft_tree}
 use Rattle.si_engine.specs.declared.finding.Finding.{Finding}
 use Rattle.si_engine.specs.declared.script_fault.ScriptFault.{ScriptFault}
 use Rattle.si_engine.specs.declared.script_fault.ScriptFault.TheVariants as script_fault
 use Rattle.si_engine.specs.declared.source.InputFault.TheVariants as input_fault
 use Rattle.si_engine.specs.Reading.{ForInput, input_limit}
 use Rattle.sirob.specs.declared.command_line.Mode.{Mode}
+use Rattle.sirob.specs.declared.robust.Verified.{Verified}
+use Rattle.sirob.specs.declared.robust.Verified.TheVariants as verified
 use Rattle.sirob.specs.declared.run_fault.RunFault.{RunFault}
 use Rattle.sirob.specs.declared.run_fault.RunFault.TheVariants as fault
 use Rattle.sirob.specs.declared.status.Status.{Status}
-use Rattle.sirob.specs.declared.status.Status.TheVariants.{Faulty, Memory}
+use Rattle.sirob.specs.declared.status.Status.TheVariants.{Unserializable, Faulty, Memory}
 use Rattle.sirob.specs.FaultLines.{fault_line, is_memory}
-use Rattle.sirob.specs.Output.{HasPart, Gives, GivesPart, GivesFirstPart, IsRefused, IsRefusedPart, StopsBehind, memory_line}
+use Rattle.sirob.specs.Output.{HasPart, Gives, GivesPart, GivesFirstPart, GivesRefusal, IsRobust, IsUnanalysed, IsRefused, IsRefusedPart, StopsBehind, memory_line}
 use Rattle.sirob.specs.Status.{status_of}
 
 -- these bytes and this status
@@ -23,17 +27,24 @@ IsJust bytes status written ended = (written ≡ bytes) × (ended ≡ status)
 abbrev pub write_lost : RunFault
 write_lost = fault.Script script_fault.WriteFault
 
+-- ---- an analysis
+
+-- the set is not analysed, and this is the fault that says so
+abbrev pub IsUnanalysedBy : DraftTree → RunFault → Type 0
+IsUnanalysedBy set (fault.Analysis f) = IsUnanalysed set f
+IsUnanalysedBy set f = ⊥
+
+-- the set was found robust, or is refused by a text
+abbrev pub IsVerified : Draft → Verified → Type 0
+IsVerified set (verified.Robust robust) = (robust ≡ set) × IsRobust (draft_tree set)
+IsVerified set (verified.Refused text) = GivesRefusal (draft_tree set) (string_bytes text) Unserializable
+
 -- ---- a second part
 
 -- the input is the text of a set without a fault and this part, which is no longer than an input may be
 pub record IsSetAndPart (input : List ℕ) (set : DraftTree) (part : List ℕ) : Type 0 where
   pub has : HasPart input set part
   pub within : length part ≤ input_limit
-
--- all that a part means was written, and this is the status behind it
-abbrev pub IsPartGiven : Mode → DraftTree → List ℕ → Status → List ℕ → Type 0
-IsPartGiven mode set part status written =
-    (finding : Finding) × GivesPart mode set part finding written × (status ≡ status_of finding)
 
 -- a part stopped with this fault behind these bytes: a fault of the input comes before them all
 abbrev pub IsPartStop : Mode → DraftTree → List ℕ → RunFault → List ℕ → Type 0
@@ -44,7 +55,7 @@ IsPartStop mode set part f written =
 -- what is written for a part, and how it ends
 abbrev pub IsPartDone : Mode → DraftTree → List ℕ → List ℕ → Result Status RunFault → Type 0
 IsPartDone mode set part written ended =
-    IfOk ended (λ status. IsPartGiven mode set part status written)
+    IfOk ended (λ status. GivesPart mode set part written status)
     × IfErr ended (λ f. IsPartStop mode set part f written)
 
 -- the end of a script's run as that of a command

@@ -1,17 +1,19 @@
 //! The command line.
-ghost use Rattle.std.specs.Prelude.{◌≡◌, false, IfOk, [], ◌∷◌, map, string_bytes};
-ghost use Rattle.clap.specs.Words.{app_of, shape_of, with_subcommand, subcommand_of, subcommand_rows_of, fault_of, FailsBy};
+ghost use Rattle.std.specs.Prelude.{◌≡◌, false, IfOk, [], ◌∷◌, map, option_map, string_bytes};
+ghost use Rattle.clap.specs.Words.{app_of, shape_of, rows_of, rule_of, found_of, with_subcommand, subcommand_of, subcommand_rows_of, fault_of, FailsBy};
 ghost use Rattle.clap.specs.declared.builder.command.Command.TheViews.{out-Command as fields_of};
-ghost use Rattle.sirob.specs.CommandLine.{sirob_app, top_app, command_with, IsNamedBy, NamesMode};
+ghost use Rattle.sirob.specs.CommandLine.{sirob_app, top_app, command_with, flag_rule, run_shape, is_true, has_flag, IsNamedBy, NamesMode};
 
-use clap::{ArgMatches, Command, Error};
+use clap::{Arg, ArgAction, ArgMatches, Command, Error};
 use std::alloc::{AllocError, Global};
 
 /// What the program is asked to do.
 #[derive(Clone, Copy, Debug, PartialEq, Eq)]
 pub enum Mode {
     Check,
-    Run,
+    Certify,
+    Verify,
+    Run { robust: bool },
     Audit,
 }
 
@@ -23,13 +25,42 @@ fn plain<'a>(alloc: Global, name: &'a str, about: &'a str) -> Command<'a>
     Command::new(alloc, name).about(about)
 }
 
+// An argument that is on where its word stands.
+fn flag<'a>(alloc: Global, name: &'a str, help: &'a str) -> Arg<'a>
+    ensures rule { rule_of result ≡ flag_rule name.entry.now }
+    ensures local { result.global ≡ false }
+{
+    Arg::new(alloc, name)
+        .long(name)
+        .action(ArgAction::SetTrue)
+        .help(help)
+}
+
+// The command `run`, which may ask for a robust set.
+fn run<'a>(alloc: Global) -> Result<Command<'a>, AllocError>
+    ensures shape { IfOk result (λ c. shape_of c ≡ run_shape) }
+    ensures local { IfOk result (λ c. (fields_of c).has_globals ≡ false) }
+{
+    let robust = flag(
+        alloc,
+        "robust",
+        "Runs the script only where the set is robust, and else writes its refusal",
+    );
+    plain(
+        alloc,
+        "run",
+        "Reads a set of programs, a line %% and a script; writes a line for each event, the rows, and an order or a cycle",
+    )
+    .arg(robust)
+}
+
 // The program's own command, with no subcommand yet.
 fn top<'a>(alloc: Global) -> Result<Command<'a>, AllocError>
     ensures { IfOk result (λ c. app_of c ≡ top_app) }
 {
     Command::new(alloc, "sirob")
         .about(
-            "Checks, runs and audits transaction programs under snapshot isolation, from standard input to standard output",
+            "Checks, certifies, runs and audits transaction programs under snapshot isolation, from standard input to standard output",
         )
         .subcommand_required(true)
         .bin_name("sirob")
@@ -50,11 +81,17 @@ fn command<'a>(alloc: Global) -> Result<Command<'a>, AllocError>
         "check",
         "Reads a set of programs; writes its canonical text, or its first fault",
     );
-    let run = plain(
+    let certify = plain(
         alloc,
-        "run",
-        "Reads a set of programs, a line %% and a script; writes a line for each event, the rows, and an order or a cycle",
+        "certify",
+        "Reads a set of programs; writes a certificate that it is robust, or its refusal",
     );
+    let verify = plain(
+        alloc,
+        "verify",
+        "Reads a set of programs, a line %% and a certificate; writes that the set is robust, or the certificate's first fault",
+    );
+    let run = run(alloc)?;
     let audit = plain(
         alloc,
         "audit",
@@ -62,6 +99,8 @@ fn command<'a>(alloc: Global) -> Result<Command<'a>, AllocError>
     );
     let all = top(alloc)?;
     let all = add(all, check)?;
+    let all = add(all, certify)?;
+    let all = add(all, verify)?;
     let all = add(all, run)?;
     let all = add(all, audit)?;
     Ok(all)
@@ -77,6 +116,22 @@ pub fn read_words<'a>(alloc: Global, words: &'a [String]) -> Result<Mode, Error>
     Ok(mode_in(&matches))
 }
 
+fn is_true(text: Option<&str>) -> bool
+    ensures { result ≡ is_true (option_map (λ s. s.now) text.entry) }
+{
+    match text {
+        Some(text) => text == "true",
+        None => false,
+    }
+}
+
+// Whether a flag is on.
+fn has_flag(matches: &ArgMatches<'_>, name: &str) -> bool
+    ensures { result ≡ has_flag name.now (rows_of (found_of matches.now)) }
+{
+    is_true(matches.get_str(name))
+}
+
 fn mode_in(matches: &ArgMatches<'_>) -> Mode
     requires { NamesMode (subcommand_rows_of matches.now) }
     ensures { IsNamedBy result (subcommand_rows_of matches.now) }
@@ -84,8 +139,16 @@ fn mode_in(matches: &ArgMatches<'_>) -> Mode
     if matches.subcommand_matches("check").is_some() {
         return Mode::Check;
     }
-    if matches.subcommand_matches("run").is_some() {
-        return Mode::Run;
+    if matches.subcommand_matches("certify").is_some() {
+        return Mode::Certify;
+    }
+    if matches.subcommand_matches("verify").is_some() {
+        return Mode::Verify;
+    }
+    if let Some(run) = matches.subcommand_matches("run") {
+        return Mode::Run {
+            robust: has_flag(run, "robust"),
+        };
     }
     if matches.subcommand_matches("audit").is_some() {
         return Mode::Audit;

@@ -1,18 +1,23 @@
-//! The program `sirob`: hands its arguments and its ports on. Today it checks sets of programs,
-//! runs scripts and audits histories.
+//! The program `sirob`: hands its arguments and its ports on. Today it checks and certifies sets
+//! of programs, runs scripts and audits histories.
 #![tactic(auto)]
 
+mod analysis_fault;
 mod audit;
+mod certify;
 mod check;
 mod command_line;
 mod input;
 mod lines;
 mod parts;
 mod program;
+mod refusal;
+mod robust;
 mod run;
 mod run_command;
 mod run_fault;
 mod status;
+mod verify;
 #[cfg(test)]
 mod word_tests;
 

@@ -7,12 +7,14 @@ ghost use Rattle.sirob.specs.Output.{parts_wanted, IsReply, Writes, memory_line}
 ghost use Rattle.sirob.specs.Stops.{IsInputDone, IsSourceDone, Ends, IsJust, write_lost};
 
 use crate::audit::audit_part;
+use crate::certify::certify_input;
 use crate::check::check_input;
 use crate::command_line::Mode;
 use crate::input::read_text_and_part;
-use crate::run::run_part;
+use crate::run::{run_part, run_robust_part};
 use crate::run_fault::{RunFault, fault_line};
 use crate::status::Status;
+use crate::verify::verify_part;
 use si_engine::{MOST_READS, Sink, Source, read_whole, write_whole};
 use std::alloc::Global;
 
@@ -34,8 +36,10 @@ fn part_input<K: Sink>(
 {
     let (set, part) = read_text_and_part(alloc, input)?;
     match mode {
-        Mode::Check => unreachable!(),
-        Mode::Run => run_part(alloc, &set, part, sink),
+        Mode::Check | Mode::Certify => unreachable!(),
+        Mode::Verify => verify_part(alloc, set, part, sink),
+        Mode::Run { robust: false } => run_part(alloc, &set, part, sink),
+        Mode::Run { robust: true } => run_robust_part(alloc, set, part, sink),
         Mode::Audit => audit_part(alloc, &set, part, sink),
     }
 }
@@ -54,7 +58,8 @@ fn answer_input<K: Sink>(
 {
     match mode {
         Mode::Check => check_input(alloc, input, sink),
-        Mode::Run | Mode::Audit => part_input(alloc, mode, input, sink),
+        Mode::Certify => certify_input(alloc, input, sink),
+        Mode::Verify | Mode::Run { .. } | Mode::Audit => part_input(alloc, mode, input, sink),
     }
 }
 

@@ -3,11 +3,14 @@ ghost use Rattle.std.specs.Prelude.{◌≡◌, IfOk, string_bytes};
 ghost use Rattle.sirob.specs.Faults.{code_of, part_code};
 ghost use Rattle.sirob.specs.FaultLines.{text_fault, place_text, in_set, check_fault, line_fault, script_fault, row_code, audit_fault, fault_line, is_memory};
 
+use crate::analysis_fault::{analyse_fault, certificate_fault, json_fault};
 use crate::parts::PartFault;
 use history_book::{AuditFault, RowFault};
 use prog_check::{CheckFault, Place};
 use prog_text::TextFault;
+use robust_cert::{CertFault, JsonFault};
 use si_engine::{InputFault, LineFault, ScriptFault};
+use si_repair::AnalyseFault;
 use std::alloc::{AllocError, Global};
 
 /// A fault, by the layer that finds it.
@@ -17,6 +20,9 @@ pub enum RunFault {
     Parts(PartFault),
     Text(TextFault),
     Check(CheckFault),
+    Analysis(AnalyseFault),
+    Json(JsonFault),
+    Certificate(CertFault),
     Script(ScriptFault),
     Audit(AuditFault),
 }
@@ -161,6 +167,9 @@ pub fn fault_line(alloc: Global, fault: RunFault) -> Result<String, AllocError>
         RunFault::Parts(fault) => part_fault(alloc, fault)?,
         RunFault::Text(fault) => text_fault(alloc, fault)?,
         RunFault::Check(fault) => check_fault(alloc, fault)?,
+        RunFault::Analysis(fault) => analyse_fault(alloc, fault)?,
+        RunFault::Json(fault) => json_fault(alloc, fault)?,
+        RunFault::Certificate(fault) => certificate_fault(alloc, fault)?,
         RunFault::Script(fault) => script_fault(alloc, fault)?,
         RunFault::Audit(fault) => audit_fault(alloc, fault)?,
     };
@@ -211,6 +220,28 @@ impl From<CheckFault> for RunFault {
     }
 }
 
+impl From<AnalyseFault> for RunFault {
+    ghost use Rattle.std.specs.Prelude.{◌≡◌};
+    ghost use Rattle.sirob.specs.declared.run_fault.RunFault.TheVariants.{Analysis};
+
+    ghost from_gives = { λ fault e. e ≡ Analysis fault };
+
+    fn from(fault: AnalyseFault) -> Self {
+        RunFault::Analysis(fault)
+    }
+}
+
+impl From<JsonFault> for RunFault {
+    ghost use Rattle.std.specs.Prelude.{◌≡◌};
+    ghost use Rattle.sirob.specs.declared.run_fault.RunFault.TheVariants.{Json};
+
+    ghost from_gives = { λ fault e. e ≡ Json fault };
+
+    fn from(fault: JsonFault) -> Self {
+        RunFault::Json(fault)
+    }
+}
+
 impl From<ScriptFault> for RunFault {
     ghost use Rattle.std.specs.Prelude.{◌≡◌};
     ghost use Rattle.sirob.specs.declared.run_fault.RunFault.TheVariants.{Script};
@@ -255,6 +286,9 @@ impl RunFault {
             RunFault::Input(InputFault::Memory)
                 | RunFault::Text(TextFault::Memory)
                 | RunFault::Check(CheckFault::Memory)
+                | RunFault::Analysis(AnalyseFault::Memory)
+                | RunFault::Json(JsonFault::Memory)
+                | RunFault::Certificate(CertFault::Memory)
                 | RunFault::Script(ScriptFault::Input(InputFault::Memory))
                 | RunFault::Script(ScriptFault::Line(LineFault::Memory))
                 | RunFault::Audit(AuditFault::Memory)

@@ -10,7 +10,8 @@ use std::process::ExitCode;
 #[derive(Clone, Copy, Debug, PartialEq, Eq)]
 pub enum Status {
     Done,
-    /// No serial order gives the same: the commits depend on one another in a cycle.
+    /// The set is refused; or no serial order gives the same, since the commits depend on one another
+    /// in a cycle.
     Unserializable,
     /// The words or the input are faulty, or a read or a write failed.
     Faulty,

@@ -30,26 +30,32 @@ fn other_words_are_answered_so(rt: HostRuntime) -> Result<(), Fail> {
     Ok(())
 }
 
-const ANSWERS: [(&str, &str); 7] = [
+const ANSWERS: [(&str, &str); 11] = [
     ("sirob check", ""),
+    ("sirob certify", ""),
+    ("sirob verify", ""),
     ("sirob run", ""),
+    ("sirob run --robust", ""),
     ("sirob audit", ""),
     ("target/sirob --help", HELP),
     ("sirob", NO_COMMAND),
     ("sirob walk", UNKNOWN_COMMAND),
     ("sirob run now", ONE_WORD_MORE),
+    ("sirob check --robust", NO_FLAG_OF_CHECK),
 ];
 
 const HELP: &str = "\
-Checks, runs and audits transaction programs under snapshot isolation, from standard input to standard output
+Checks, certifies, runs and audits transaction programs under snapshot isolation, from standard input to standard output
 
 Usage: sirob <COMMAND>
 
 Commands:
-  check  Reads a set of programs; writes its canonical text, or its first fault
-  run    Reads a set of programs, a line %% and a script; writes a line for each event, the rows, and an order or a cycle
-  audit  Reads a set of programs, a line %% and records of commits; writes the rows, and an order or a cycle
-  help   Print this message or the help of the given subcommand(s)
+  check    Reads a set of programs; writes its canonical text, or its first fault
+  certify  Reads a set of programs; writes a certificate that it is robust, or its refusal
+  verify   Reads a set of programs, a line %% and a certificate; writes that the set is robust, or the certificate's first fault
+  run      Reads a set of programs, a line %% and a script; writes a line for each event, the rows, and an order or a cycle
+  audit    Reads a set of programs, a line %% and records of commits; writes the rows, and an order or a cycle
+  help     Print this message or the help of the given subcommand(s)
 
 Options:
   -h, --help  Print help
@@ -57,7 +63,7 @@ Options:
 
 const NO_COMMAND: &str = "\
 error: 'sirob' requires a subcommand but one was not provided
-  [subcommands: check, run, audit, help]
+  [subcommands: check, certify, verify, run, audit, help]
 
 Usage: sirob <COMMAND>
 
@@ -75,7 +81,15 @@ For more information, try '--help'.
 const ONE_WORD_MORE: &str = "\
 error: unexpected argument 'now' found
 
-Usage: sirob run
+Usage: sirob run [OPTIONS]
+
+For more information, try '--help'.
+";
+
+const NO_FLAG_OF_CHECK: &str = "\
+error: unexpected argument '--robust' found
+
+Usage: sirob check
 
 For more information, try '--help'.
 ";

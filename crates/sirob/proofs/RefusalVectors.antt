@@ -1,0 +1,55 @@
+-- Refusals, written by hand.
+use Rattle.std.proofs.Common.{◌≡◌, ℕ, pos, neg_ℤ, true, false, [], ◌∷◌, refl, codes}
+use Rattle.std.specs.Prelude.{ℤ}
+use Rattle.std.specs.Fmt.{digits}
+use Rattle.order_facts.specs.declared.steps.Node.TheVariants.{Mine}
+use Rattle.prog_tree.specs.declared.table.Arity.TheVariants as arity
+use Rattle.prog_tree.specs.Syntax.{Name, Literal, Named, One, BlockEnd, Then, ProgramTree, DraftTree}
+use Rattle.prog_tree.specs.Syntax as s
+use Rattle.prog_check.specs.declared.path.Kind.TheVariants.{Reads, Writes}
+use Rattle.prog_check.specs.declared.path.Path.{Path}
+use Rattle.dep_graph.specs.declared.danger.Danger.{Danger}
+use Rattle.dep_graph.specs.declared.danger.Exposure.{Exposure}
+use Rattle.sirob.specs.Refusal.{node_head, sample_text, refusal_text}
+
+-- a program that copies the row of one key to another
+abbrev copies : Name → ℤ → ℤ → ProgramTree
+copies name from to = record {
+  name = name;
+  params = [];
+  body =
+      Then (s.Get (codes "x") (codes "t") (One (Literal from)) (Literal (pos 0)))
+      (Then (s.Put (codes "t") (One (Literal to)) (Named (codes "x"))) BlockEnd);
+}
+
+abbrev pair : DraftTree
+pair = record {
+  tables = record { name = codes "t"; arity = arity.One; grow = false } ∷ [];
+  programs = copies (codes "Left") (pos 1) (pos 2) ∷ copies (codes "Right") (pos 2) (pos 1) ∷ [];
+}
+
+-- what the first access of one reads, the second of the other writes
+abbrev crossing : ℕ → ℕ → Exposure
+crossing x y = record { question = record { x = x; a = 0; y = y; b = 1; mine = Reads; theirs = Writes }; sample = [] }
+
+abbrev skew : Danger
+skew = record { x = 0; y = 1; z = 0; first = crossing 0 1; second = crossing 1 0; back = 0 ∷ [] }
+
+refused_pair : refusal_text pair skew ≡ codes "refused\nfirst 0:Left 0, 1:Right 1, () ()\nsecond 1:Right 0, 0:Left 1, () ()\nback 0\n"
+unfolding digits
+refused_pair = refl
+
+-- a program of two parameters, and a path of it through three branches
+abbrev branching : ProgramTree
+branching = record { name = codes "P"; params = codes "k" ∷ codes "v" ∷ []; body = BlockEnd }
+
+abbrev way : Path
+way = record { program = 0; choices = true ∷ false ∷ true ∷ []; accesses = [] }
+
+letter_for_each_branch : node_head (branching ∷ []) (way ∷ []) 0 ≡ (codes "P:tet", 2)
+letter_for_each_branch = refl
+
+-- a parameter without a choice is 0
+chosen_numbers : sample_text (record { node = Mine 1; number = neg_ℤ (pos 3) } ∷ []) 2 1 ≡ codes "(0, -3) (0)"
+unfolding digits
+chosen_numbers = refl

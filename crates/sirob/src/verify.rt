@@ -1,0 +1,46 @@
+//! The command `verify`: from a set and the bytes of a certificate to whether the set is robust.
+ghost use Rattle.std.specs.Prelude.{◌≡◌, false, Err, IfErr, OnOk};
+ghost use Rattle.prog_tree.specs.Tree.{draft_tree};
+ghost use Rattle.si_engine.specs.Writing.{WritesOr};
+ghost use Rattle.sirob.specs.FaultLines.{is_memory};
+ghost use Rattle.sirob.specs.Output.{IsRefusedPart, ShowsRobust};
+ghost use Rattle.sirob.specs.Stops.{IsPartDone, write_lost};
+ghost use Rattle.sirob.specs.declared.command_line.Mode.TheVariants as mode;
+
+use crate::lines::write_lines;
+use crate::run_fault::RunFault;
+use crate::status::Status;
+use prog_check::ProgramSet;
+use robust_cert::{from_json, verify};
+use si_engine::Sink;
+use std::alloc::Global;
+
+const ROBUST_LINE: &[u8] = b"robust\n";
+
+// Whether the bytes of a part are a certificate that is accepted for a set.
+fn check_certificate(alloc: Global, set: ProgramSet, part: &[u8]) -> Result<(), RunFault>
+    ensures ok { OnOk result (ShowsRobust (draft_tree set) part.now) }
+    ensures err { IfErr result (λ fault. is_memory fault ≡ false
+        → IsRefusedPart mode.Verify (draft_tree set) part.now fault) }
+{
+    let certificate = from_json(alloc, part)?;
+    match verify(alloc, set, &certificate) {
+        Ok(_) => Ok(()),
+        Err((_, fault)) => Err(RunFault::Certificate(fault)),
+    }
+}
+
+/// Writes that a set is robust, where the bytes of a part are a certificate that is accepted for it.
+pub fn verify_part<K: Sink>(
+    alloc: Global,
+    set: ProgramSet,
+    part: &[u8],
+    sink: &mut K,
+) -> Result<Status, RunFault>
+    requires { K.has_failed sink.old ≡ false }
+    ensures { WritesOr (Err write_lost) (IsPartDone mode.Verify (draft_tree set) part.now)
+        (K.has_failed sink.new) (K.taken sink.old) (K.taken sink.new) result }
+{
+    check_certificate(alloc, set, part)?;
+    write_lines(sink, ROBUST_LINE, Ok(Status::Done))
+}
