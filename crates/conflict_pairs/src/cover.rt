@@ -12,7 +12,7 @@ ghost use Rattle.conflict_pairs.specs.Search.{CoversAt, CoversFirst};
 use crate::chain::Chain;
 use order_facts::{Closed, Node};
 use prog_check::{Access, Column, Term};
-use prog_paths::{may_cover, mine_node, their_node};
+use prog_paths::{may_cover, mine_node, second_terms, their_node};
 use prog_tree::Sequence;
 use std::alloc::{AllocError, Global};
 
@@ -23,19 +23,6 @@ fn is_equal(closed: &Closed, mine: Term, theirs: Term) -> bool
     let mine = mine_node(mine);
     let theirs = their_node(theirs);
     closed.entails(mine, theirs) && closed.entails(theirs, mine)
-}
-
-/// The terms of the second columns of two cells, where their table has one.
-fn second_terms(mine: Option<Column>, theirs: Option<Column>) -> Option<(Term, Term)>
-    ensures { items_of result ≡ second_pair mine theirs }
-{
-    let zero = Term::Literal(0);
-    match (mine, theirs) {
-        (None, None) => None,
-        (None, Some(theirs)) => Some((zero, theirs.low)),
-        (Some(mine), None) => Some((mine.low, zero)),
-        (Some(mine), Some(theirs)) => Some((mine.low, theirs.low)),
-    }
 }
 
 fn is_equal_second(closed: &Closed, mine: Option<Column>, theirs: Option<Column>) -> bool

@@ -19,4 +19,4 @@ pub use law::{law_of_listing, law_of_paths, law_of_questions, law_of_single_chan
 pub use listing::paths;
 pub use places::{Placed, Question, all_places, asks, question_between};
 pub use prog_check::{Access, Accesses, Choices, Column, Kind, Path, Term};
-pub use question::{column_or_zero, mine_node, question_facts, their_node};
+pub use question::{column_or_zero, mine_node, question_facts, second_terms, their_node};

@@ -1,6 +1,8 @@
 //! The facts of a question.
 ghost use Rattle.std.specs.Prelude.{◌≡◌, ◌++◌, IfOk, OnOk};
+ghost use Rattle.prog_paths.specs.Kinds.{items_of};
 ghost use Rattle.prog_paths.specs.Questions.{mine_node, their_node, column_facts, column_or_zero, question_facts};
+ghost use Rattle.prog_paths.specs.Shown.{second_pair};
 
 use order_facts::{Facts, Node};
 use prog_check::{Access, Column, Term};
@@ -45,6 +47,17 @@ pub fn column_or_zero(column: Option<Column>) -> Column
         low: zero,
         high: zero,
     })
+}
+
+/// The terms of the second columns of two cells, where their table has one.
+pub fn second_terms(mine: Option<Column>, theirs: Option<Column>) -> Option<(Term, Term)>
+    ensures { items_of result ≡ second_pair mine theirs }
+{
+    if mine.is_some() || theirs.is_some() {
+        Some((column_or_zero(mine).low, column_or_zero(theirs).low))
+    } else {
+        None
+    }
 }
 
 /// The facts of the question of an access against a single cell. Assignments meet them just where

@@ -15,7 +15,9 @@ use crate::certificate::{Chain, Entry};
 use crate::numbers::Numbers;
 use order_facts::{Facts, Node, check_chain};
 use prog_check::{Access, Column, Path, Term};
-use prog_paths::{Placed, asks, asks_read_write, may_cover, mine_node, question_facts, their_node};
+use prog_paths::{
+    Placed, asks, asks_read_write, may_cover, mine_node, question_facts, second_terms, their_node,
+};
 use std::alloc::{AllocError, Global};
 
 /// What an entry is wrong in.
@@ -121,19 +123,6 @@ fn run_both(facts: &Facts, mine: Term, theirs: Term, there: &[Node], back: &[Nod
     let mine = mine_node(mine);
     let theirs = their_node(theirs);
     runs(facts, mine, theirs, there) && runs(facts, theirs, mine, back)
-}
-
-/// The terms of the second columns of two cells, where their table has one.
-fn second_terms(mine: Option<Column>, theirs: Option<Column>) -> Option<(Term, Term)>
-    ensures { items_of result ≡ second_pair mine theirs }
-{
-    let zero = Term::Literal(0);
-    match (mine, theirs) {
-        (None, None) => None,
-        (None, Some(theirs)) => Some((zero, theirs.low)),
-        (Some(mine), None) => Some((mine.low, zero)),
-        (Some(mine), Some(theirs)) => Some((mine.low, theirs.low)),
-    }
 }
 
 fn show_second(facts: &Facts, terms: Option<(Term, Term)>, chains: &[Chain]) -> bool
