@@ -1,17 +1,13 @@
 -- The questions of entries, one more at a time.
-use Rattle.std.proofs.Common.{◌≡◌, ℕ, ◌<◌, ◌≤◌, ◌+◌, Bool, true, false, List, [], ◌∷◌, ◌++◌, length, map, get_or, drop, min, refl, sym, subst, ap, ◌∙◌, arith, append_assoc, length-append, suc}
-use Rattle.std.specs.Prelude.{Some, slice_get, All, if◌then◌else◌}
-use Rattle.std.proofs.lemmas.Bool.{false≢true}
+use Rattle.std.proofs.Common.{◌≡◌, ℕ, ◌<◌, ◌≤◌, ◌+◌, true, false, List, [], ◌∷◌, ◌++◌, length, map, get_or, drop, refl, sym, subst, ap, ◌∙◌, append_assoc}
+use Rattle.std.specs.Prelude.{All}
 use Rattle.std.proofs.lemmas.List.{drop_more, drop_all, append-nil}
-use Rattle.std.proofs.lemmas.List.Elements.{All-nil, All-cons, All-append}
-use Rattle.prog_check.specs.declared.path.Access.{Access}
 use Rattle.prog_check.specs.declared.path.Path.{Path}
 use Rattle.prog_paths.specs.declared.places.Placed.{Placed}
 use Rattle.prog_paths.specs.declared.places.Question.{Question as Asked}
 use Rattle.conflict_pairs.specs.declared.table.Entry.{Entry}
-use Rattle.prog_paths.specs.Asked.{asks, question_between, placed_from, all_from, asked_by, asked_among, limit}
+use Rattle.prog_paths.specs.Asked.{asks, question_between, all_from, asked_by, asked_among}
 use Rattle.conflict_pairs.specs.Table.{Table, IsRightEntry, StandsFor}
-use Rattle.prog_paths.specs.Places.{IsAt}
 use Rattle.prog_paths.proofs.Asked.{if_yes, if_no, asked_by-append, asked_among-next}
 
 -- ---- the questions of entries

@@ -8,7 +8,6 @@ use Rattle.conflict_pairs.specs.declared.outcome.Verdict.{Verdict}
 use Rattle.conflict_pairs.specs.declared.outcome.Verdict.TheVariants.{Apart, Covered, Exposed}
 use Rattle.conflict_pairs.specs.Verdicts.{mine_of, theirs_of, IsRightOf}
 use Rattle.conflict_pairs.specs.Law.{IsExact, LawOfVerdicts}
-use Rattle.prog_paths.specs.Listing.{LawOfSingleChanges}
 
 exact : (nodes : List Path) (q : Question) (mine theirs : Access) (v : Verdict) → IsRightOf nodes q mine theirs v → IsExact nodes q mine theirs v
 exact nodes q mine theirs (Apart chain) h = record {

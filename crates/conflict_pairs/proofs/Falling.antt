@@ -1,5 +1,5 @@
 -- Chains that fall, of a fact alone and among more facts.
-use Rattle.std.proofs.Common.{◌≡◌, ℕ, List, [], ◌∷◌, ◌++◌, inl, inr, sym, subst, ap, Contains}
+use Rattle.std.proofs.Common.{◌≡◌, ℕ, List, [], ◌∷◌, ◌++◌, map, inl, inr, sym, subst, ap, Contains}
 use Rattle.std.specs.Prelude.{Option, Some, None, slice_get, All, IfNone}
 use Rattle.std.proofs.lemmas.List.Elements.{All-append}
 use Rattle.order_facts.specs.declared.steps.Node.{Node}
@@ -8,7 +8,7 @@ use Rattle.order_facts.specs.declared.steps.Node.TheVariants.{Number}
 use Rattle.order_facts.specs.Chain.{IsStep, IsChainFrom, IsChain, RunsBetween, HasContradiction}
 use Rattle.prog_check.specs.declared.path.Column.{Column}
 use Rattle.prog_check.specs.declared.path.Access.{Access}
-use Rattle.prog_paths.specs.Questions.{mine_node, their_node, column_facts, column_or_zero, second_facts, question_facts}
+use Rattle.prog_paths.specs.Questions.{column_facts, column_or_zero, second_facts, question_facts}
 use Rattle.order_facts.proofs.Reach.{IsIn}
 use Rattle.order_facts.proofs.Chains.{IsIn-from_Contains, Contains-from_IsIn}
 use Rattle.conflict_pairs.specs.Verdicts.{IsFall, HasFall}
@@ -66,39 +66,26 @@ Falls-two facts from to chain i h = subst (λ (c : List Node). Falls facts c) (s
 
 -- ---- the nodes of a question's facts
 
-abbrev LowerAt : Column → Column → Option Column → Option Column → Node → Type 0
-LowerAt m t m2 t2 node = (i : ℕ) × (slice_get (mine_node m.low ∷ their_node t.low ∷ mine_node (column_or_zero m2).low ∷ their_node (column_or_zero t2).low ∷ []) i ≡ Some node)
+-- a node is among those at one end of the facts, a missing second column taken as zero
+abbrev EndAt : (Fact → Node) → Column → Column → Option Column → Option Column → Node → Type 0
+EndAt end m t m2 t2 node = (i : ℕ) × (slice_get (map end (column_facts m t ++ column_facts (column_or_zero m2) (column_or_zero t2))) i ≡ Some node)
 
-lower-at : (m t : Column) (m2 t2 : Option Column) (f : Fact) → IsIn f (column_facts m t ++ second_facts m2 t2) → LowerAt m t m2 t2 f.lo
-lower-at m t m2 t2 f (inl e) = (0, ap (λ (g : Fact). Some g.lo) e)
-lower-at m t m2 t2 f (inr (inl e)) = (1, ap (λ (g : Fact). Some g.lo) e)
-lower-at m t None None f (inr (inr i)) = absurd i
-lower-at m t None (Some d) f (inr (inr (inl e))) = (2, ap (λ (g : Fact). Some g.lo) e)
-lower-at m t None (Some d) f (inr (inr (inr (inl e)))) = (3, ap (λ (g : Fact). Some g.lo) e)
-lower-at m t None (Some d) f (inr (inr (inr (inr i)))) = absurd i
-lower-at m t (Some c) d f (inr (inr (inl e))) = (2, ap (λ (g : Fact). Some g.lo) e)
-lower-at m t (Some c) d f (inr (inr (inr (inl e)))) = (3, ap (λ (g : Fact). Some g.lo) e)
-lower-at m t (Some c) d f (inr (inr (inr (inr i)))) = absurd i
+end_at : (end : Fact → Node) (m t : Column) (m2 t2 : Option Column) (f : Fact) → IsIn f (column_facts m t ++ second_facts m2 t2) → EndAt end m t m2 t2 (end f)
+end_at end m t m2 t2 f (inl e) = (0, ap (λ (g : Fact). Some (end g)) e)
+end_at end m t m2 t2 f (inr (inl e)) = (1, ap (λ (g : Fact). Some (end g)) e)
+end_at end m t None None f (inr (inr i)) = absurd i
+end_at end m t None (Some d) f (inr (inr (inl e))) = (2, ap (λ (g : Fact). Some (end g)) e)
+end_at end m t None (Some d) f (inr (inr (inr (inl e)))) = (3, ap (λ (g : Fact). Some (end g)) e)
+end_at end m t None (Some d) f (inr (inr (inr (inr i)))) = absurd i
+end_at end m t (Some c) d f (inr (inr (inl e))) = (2, ap (λ (g : Fact). Some (end g)) e)
+end_at end m t (Some c) d f (inr (inr (inr (inl e)))) = (3, ap (λ (g : Fact). Some (end g)) e)
+end_at end m t (Some c) d f (inr (inr (inr (inr i)))) = absurd i
 
 pub lower-place : (mine theirs : Access) (f : Fact) → Contains (question_facts mine theirs) f → (i : ℕ) × (slice_get (lower_nodes mine theirs) i ≡ Some f.lo)
-lower-place mine theirs f c = lower-at mine.first theirs.first mine.second theirs.second f (IsIn-from_Contains (question_facts mine theirs) f c)
-
-abbrev UpperAt : Column → Column → Option Column → Option Column → Node → Type 0
-UpperAt m t m2 t2 node = (i : ℕ) × (slice_get (their_node t.low ∷ mine_node m.high ∷ their_node (column_or_zero t2).low ∷ mine_node (column_or_zero m2).high ∷ []) i ≡ Some node)
-
-upper-at : (m t : Column) (m2 t2 : Option Column) (f : Fact) → IsIn f (column_facts m t ++ second_facts m2 t2) → UpperAt m t m2 t2 f.hi
-upper-at m t m2 t2 f (inl e) = (0, ap (λ (g : Fact). Some g.hi) e)
-upper-at m t m2 t2 f (inr (inl e)) = (1, ap (λ (g : Fact). Some g.hi) e)
-upper-at m t None None f (inr (inr i)) = absurd i
-upper-at m t None (Some d) f (inr (inr (inl e))) = (2, ap (λ (g : Fact). Some g.hi) e)
-upper-at m t None (Some d) f (inr (inr (inr (inl e)))) = (3, ap (λ (g : Fact). Some g.hi) e)
-upper-at m t None (Some d) f (inr (inr (inr (inr i)))) = absurd i
-upper-at m t (Some c) d f (inr (inr (inl e))) = (2, ap (λ (g : Fact). Some g.hi) e)
-upper-at m t (Some c) d f (inr (inr (inr (inl e)))) = (3, ap (λ (g : Fact). Some g.hi) e)
-upper-at m t (Some c) d f (inr (inr (inr (inr i)))) = absurd i
+lower-place mine theirs f c = end_at (λ g. g.lo) mine.first theirs.first mine.second theirs.second f (IsIn-from_Contains (question_facts mine theirs) f c)
 
 pub upper-place : (mine theirs : Access) (f : Fact) → Contains (question_facts mine theirs) f → (i : ℕ) × (slice_get (upper_nodes mine theirs) i ≡ Some f.hi)
-upper-place mine theirs f c = upper-at mine.first theirs.first mine.second theirs.second f (IsIn-from_Contains (question_facts mine theirs) f c)
+upper-place mine theirs f c = end_at (λ g. g.hi) mine.first theirs.first mine.second theirs.second f (IsIn-from_Contains (question_facts mine theirs) f c)
 
 -- a contradiction is a chain between two of these nodes that fall
 pub FallsBetween-contradiction : (facts : List Fact) → (h : HasContradiction facts) → FallsBetween facts h.first.lo h.last.hi

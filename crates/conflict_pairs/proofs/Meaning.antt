@@ -1,31 +1,22 @@
 -- What the facts of a question say, in the words of meeting and covering.
-use Rattle.std.proofs.Common.{◌≡◌, ℕ, ◌⊎◌, inl, inr, List, pos, refl, sym, subst, ◌∙◌, arith}
-use Rattle.std.specs.Prelude.{Option, Some, None, slice_get, get_or, Result, Ok, Err, IfOk}
-use Rattle.std.proofs.lemmas.Int.{ints}
-use Rattle.std.proofs.lemmas.Option.{slice_get_within, get_or_from_slice_get, same_Some}
+use Rattle.std.proofs.Common.{◌≡◌, ℕ, List, refl, sym, subst, ◌∙◌}
+use Rattle.std.specs.Prelude.{Some, slice_get, get_or, Result, Ok, Err, IfOk}
+use Rattle.std.proofs.lemmas.Option.{get_or_from_slice_get, same_Some}
 use Rattle.order_facts.specs.declared.steps.Node.{Node}
 use Rattle.order_facts.specs.declared.steps.Fact.{Fact}
 use Rattle.order_facts.specs.declared.sample.Choice.{Choice}
 use Rattle.order_facts.specs.Chain as facts
 use Rattle.order_facts.specs.Sample.{assignment_of}
-use Rattle.order_facts.proofs.Chains.{reaches-from_chain}
-use Rattle.order_facts.proofs.Exact.{orderly_from_IsConsistent}
-use Rattle.prog_check.specs.declared.path.Kind.TheVariants.{Writes, Adds}
-use Rattle.prog_check.specs.declared.path.Term.{Term}
-use Rattle.prog_check.specs.declared.path.Term.TheVariants.{Literal}
-use Rattle.prog_check.specs.declared.path.Column.{Column}
 use Rattle.prog_check.specs.declared.path.Access.{Access}
 use Rattle.prog_check.specs.declared.path.Path.{Path}
-use Rattle.prog_paths.specs.Meeting.{Assignment, MeetsUnder, CanMeet, MayCover, IsSingle, AreSameCell, second_under}
-use Rattle.prog_paths.specs.StaticGraph.{Question, IsAccessOf, IsCovered}
-use Rattle.prog_paths.specs.Questions.{question_facts, AreEqualWhereTheyMeet, EntailsEqual}
-use Rattle.prog_paths.proofs.Questions.{law_of_meeting, law_of_questions, law_of_equal_terms}
-use Rattle.prog_paths.specs.Asked.{Asks, IsQuestion, ChangesSingleCells, two, between}
+use Rattle.prog_paths.specs.Meeting.{MeetsUnder, CanMeet, MayCover}
+use Rattle.prog_paths.specs.StaticGraph.{IsAccessOf, IsCovered}
+use Rattle.prog_paths.specs.Questions.{question_facts}
+use Rattle.prog_paths.proofs.Questions.{law_of_meeting, law_of_questions}
+use Rattle.prog_paths.specs.Asked.{IsQuestion, ChangesSingleCells, two, between}
 use Rattle.conflict_pairs.specs.declared.outcome.Verdict.{Verdict}
 use Rattle.conflict_pairs.specs.declared.outcome.Verdict.TheVariants.{Apart, Covered, Exposed}
 use Rattle.conflict_pairs.specs.Verdicts.{HasFall, NumbersFall, mine_of, theirs_of, IsCoveredBy, IsExposedBy, IsRightOf, IsRight}
-use Rattle.prog_paths.specs.Shown.{Falls, second_pair}
-use Rattle.prog_paths.specs.Shown.{AllEqual, CoversBy}
 use Rattle.conflict_pairs.specs.Search.{CoversAt, IsCoverFound, ShowEqualAt, IsNoCover, IsUncovered, IsJudged}
 use Rattle.prog_paths.proofs.Shown.{IsPair, apart-from_Falls, same-from_CoversBy, CoversBy-from_same, single_at, may_cover-second}
 

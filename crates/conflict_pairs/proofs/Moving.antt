@@ -1,11 +1,11 @@
 -- A question between two paths is that of a list in which they stand.
-use Rattle.std.proofs.Common.{◌≡◌, ℕ, ◌<◌, ◌⊎◌, inl, inr, Bool, true, false, List, ◌||◌, ◌&&◌, refl, sym, subst, ap, ◌∙◌, arith, get_or, length}
+use Rattle.std.proofs.Common.{◌≡◌, ℕ, ◌<◌, ◌⊎◌, inl, inr, true, List, ◌&&◌, refl, sym, subst, ap, ◌∙◌, arith, get_or, length}
 use Rattle.std.specs.Prelude.{Some, slice_get, All, ◌==◌}
 use Rattle.std.proofs.lemmas.Bool.{false≢true, eqb-true}
 use Rattle.std.proofs.lemmas.Option.{slice_get_within, get_or_from_slice_get, same_Some}
 use Rattle.order_facts.specs.declared.steps.Node.{Node}
 use Rattle.prog_check.specs.declared.path.Kind.{Kind}
-use Rattle.prog_check.specs.declared.path.Kind.TheVariants.{Reads, Sees, Lacks, Writes, Adds}
+use Rattle.prog_check.specs.declared.path.Kind.TheVariants.{Writes}
 use Rattle.prog_check.specs.declared.path.Access.{Access}
 use Rattle.prog_check.specs.declared.path.Path.{Path}
 use Rattle.prog_paths.specs.StaticGraph.{Question, IsAccessOf, IsCovered}
@@ -59,52 +59,38 @@ IsQuestion-between paths first second x y at_first at_second e is_x is_y =
 pub single_of : (paths : List Path) (p : Placed) (path : Path) → All ChangesSingleCells paths → IsAt paths p → path ≡ get_or paths p.node path → ChangesSingleCells path
 single_of paths p path h at is = subst ChangesSingleCells (sym is) (h p.node path (node_within paths p at))
 
+-- ---- the same path in another list
+
+access_moved : (xs ys : List Path) (i k : ℕ) (path : Path) → slice_get xs i ≡ Some path → slice_get ys k ≡ Some path → (n : ℕ) (access : Access) → IsAccessOf xs i n access → IsAccessOf ys k n access
+access_moved xs ys i k path here there n access h = (path, there, subst (λ (p : Path). slice_get p.accesses n ≡ Some access) (sym (same_Some path h.0 (sym here ∙ h.1))) h.2)
+
+cover_moved : (xs ys : List Path) (i j k l : ℕ) (x y : Path) → slice_get xs i ≡ Some x → slice_get xs j ≡ Some y → slice_get ys k ≡ Some x → slice_get ys l ≡ Some y → (mine theirs : Access) → IsCovered xs i j mine theirs → IsCovered ys k l mine theirs
+cover_moved xs ys i j k l x y at_i at_j at_k at_l mine theirs h = record {
+  first = h.first;
+  second = h.second;
+  of_first = h.of_first;
+  of_second = h.of_second;
+  at_first = access_moved xs ys i k x at_i at_k h.first h.of_first h.at_first;
+  at_second = access_moved xs ys j l y at_j at_l h.second h.of_second h.at_second;
+  first_covers = h.first_covers;
+  second_covers = h.second_covers;
+  same = h.same;
+}
+
 -- ---- the verdict
 
 module _ (paths : List Path) (x y : Path) (i a j b : ℕ) (at_x : slice_get paths i ≡ Some x) (at_y : slice_get paths j ≡ Some y) where
   abbrev here : Question
   here = record { x = i; a = a; y = j; b = b }
 
-  first_there : (k : ℕ) (access : Access) → IsAccessOf (two x y) 0 k access → IsAccessOf paths i k access
-  first_there k access h = (x, at_x, subst (λ (p : Path). slice_get p.accesses k ≡ Some access) (sym (same_Some x h.0 h.1)) h.2)
-
-  second_there : (k : ℕ) (access : Access) → IsAccessOf (two x y) 1 k access → IsAccessOf paths j k access
-  second_there k access h = (y, at_y, subst (λ (p : Path). slice_get p.accesses k ≡ Some access) (sym (same_Some y h.0 h.1)) h.2)
-
-  first_back : (k : ℕ) (access : Access) → IsAccessOf paths i k access → IsAccessOf (two x y) 0 k access
-  first_back k access h = (x, refl, subst (λ (p : Path). slice_get p.accesses k ≡ Some access) (sym (same_Some x h.0 (sym at_x ∙ h.1))) h.2)
-
-  second_back : (k : ℕ) (access : Access) → IsAccessOf paths j k access → IsAccessOf (two x y) 1 k access
-  second_back k access h = (y, refl, subst (λ (p : Path). slice_get p.accesses k ≡ Some access) (sym (same_Some y h.0 (sym at_y ∙ h.1))) h.2)
-
   cover_there : (mine theirs : Access) → IsCovered (two x y) 0 1 mine theirs → IsCovered paths i j mine theirs
-  cover_there mine theirs h = record {
-    first = h.first;
-    second = h.second;
-    of_first = h.of_first;
-    of_second = h.of_second;
-    at_first = first_there h.first h.of_first h.at_first;
-    at_second = second_there h.second h.of_second h.at_second;
-    first_covers = h.first_covers;
-    second_covers = h.second_covers;
-    same = h.same;
-  }
+  cover_there = cover_moved (two x y) paths 0 1 i j x y refl refl at_x at_y
 
   cover_back : (mine theirs : Access) → IsCovered paths i j mine theirs → IsCovered (two x y) 0 1 mine theirs
-  cover_back mine theirs h = record {
-    first = h.first;
-    second = h.second;
-    of_first = h.of_first;
-    of_second = h.of_second;
-    at_first = first_back h.first h.of_first h.at_first;
-    at_second = second_back h.second h.of_second h.at_second;
-    first_covers = h.first_covers;
-    second_covers = h.second_covers;
-    same = h.same;
-  }
+  cover_back = cover_moved paths (two x y) i j 0 1 x y at_x at_y refl refl
 
   covered_there : (mine theirs : Access) (m t : ℕ) (chains : List (List Node)) → IsCoveredBy (two x y) (between a b) mine theirs m t chains → IsCoveredBy paths here mine theirs m t chains
-  unfolding cover_there cover_back
+  unfolding cover_moved cover_there cover_back
   covered_there mine theirs m t chains h = record {
     asks = h.asks;
     can_meet = h.can_meet;
@@ -124,7 +110,7 @@ module _ (paths : List Path) (x y : Path) (i a j b : ℕ) (at_x : slice_get path
 
   pub IsRight-there : (v : Verdict) → IsRight (two x y) (between a b) v → IsRight paths here v
   IsRight-there v h mine theirs asked =
-      right_there mine theirs v (h mine theirs (record { at_mine = first_back a mine asked.at_mine; at_theirs = second_back b theirs asked.at_theirs; table = asked.table }))
+      right_there mine theirs v (h mine theirs (record { at_mine = access_moved paths (two x y) i 0 x at_x refl a mine asked.at_mine; at_theirs = access_moved paths (two x y) j 1 y at_y refl b theirs asked.at_theirs; table = asked.table }))
 
 pub IsRight-placed : (paths : List Path) (first second : Placed) (x y : Path) → IsAt paths first → IsAt paths second → x ≡ get_or paths first.node x → y ≡ get_or paths second.node y → (v : Verdict) → IsRight (two x y) (between first.number second.number) v → IsRight paths (record { x = first.node; a = first.number; y = second.node; b = second.number }) v
 IsRight-placed paths first second x y at_first at_second is_x is_y v h =

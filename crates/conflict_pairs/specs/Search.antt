@@ -2,13 +2,11 @@
 use Rattle.std.specs.Prelude.{◌≡◌, ◌<◌, ◌≤◌, ◌⊎◌, ℕ, List, [], ◌∷◌, Some, slice_get}
 use Rattle.order_facts.specs.declared.steps.Node.{Node}
 use Rattle.order_facts.specs.declared.steps.Fact.{Fact}
-use Rattle.order_facts.specs.Chain.{Entails, IsConsistent, IsOfI64, Meets}
+use Rattle.order_facts.specs.Chain.{IsConsistent, IsOfI64, Meets}
 use Rattle.order_facts.specs.Sample.{sample_number, assignment_of, IsSampled}
 use Rattle.prog_check.specs.declared.path.Kind.{Kind}
 use Rattle.prog_paths.specs.StaticGraph.{Question, AsksReadWrite}
-use Rattle.prog_check.specs.declared.path.Term.{Term}
 use Rattle.prog_check.specs.declared.path.Access.{Access}
-use Rattle.prog_paths.specs.Meeting.{MayCover}
 use Rattle.prog_paths.specs.Questions.{mine_node, their_node, column_or_zero, question_facts}
 use Rattle.conflict_pairs.specs.Verdicts.{IsFall}
 use Rattle.conflict_pairs.specs.declared.outcome.Verdict.{Verdict}

@@ -1,8 +1,6 @@
 -- A table of questions with their verdicts, and which paths it stands for.
 use Rattle.std.specs.Prelude.{◌≡◌, ℕ, List, length, map, All}
 use Rattle.prog_check.specs.declared.path.Path.{Path}
-use Rattle.prog_paths.specs.StaticGraph.{Question}
-use Rattle.prog_paths.specs.declared.places.Question.{Question as Asked}
 use Rattle.conflict_pairs.specs.declared.table.Entry.{Entry}
 use Rattle.prog_paths.specs.Asked.{numbers_of, questions_of}
 use Rattle.conflict_pairs.specs.Verdicts.{IsRight}

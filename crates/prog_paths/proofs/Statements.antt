@@ -8,6 +8,7 @@ use Rattle.prog_tree.specs.declared.cell.Region.{Region}
 use Rattle.prog_tree.specs.declared.deed.Look.{Look}
 use Rattle.prog_tree.specs.declared.deed.Look.TheVariants as look
 use Rattle.prog_tree.specs.declared.deed.Cause.TheVariants.{Missing, Present}
+use Rattle.prog_tree.specs.declared.deed.Deed.{Deed}
 use Rattle.prog_tree.specs.declared.deed.Deed.TheVariants.{Read, Counted, Summed, Put, Removed, Kept}
 use Rattle.prog_tree.specs.declared.progress.Progress.{Progress}
 use Rattle.prog_tree.specs.declared.table.TableDecl.{TableDecl}
@@ -18,7 +19,7 @@ use Rattle.prog_tree.specs.Steps.{bound, did, replied, wrote, keeps, looked}
 use Rattle.prog_tree.specs.Value.{Bindings, same_name, or_else, exact, value_of}
 use Rattle.prog_tree.specs.Table.{TableState, row_at}
 use Rattle.prog_tree.specs.ChangeSet.{ChangeSet, change_at, with_change, with_kept}
-use Rattle.prog_tree.specs.Evaluation.{Flow, GoesOn, Stops, if_present, seen_or, with_seen, cell_of, region_of, total_of, own_cells, rows_left, rows_seen, run_statement}
+use Rattle.prog_tree.specs.Evaluation.{Flow, GoesOn, Stops, with_value, in_range, with_rows, if_present, seen_or, with_seen, cell_of, region_of, total_of, own_cells, rows_left, rows_seen, run_statement}
 use Rattle.prog_check.specs.declared.path.Kind.{Kind}
 use Rattle.prog_check.specs.declared.path.Kind.TheVariants.{Reads, Sees, Lacks, Writes, Adds, Keeps}
 use Rattle.prog_check.specs.declared.path.Access.{Access}
@@ -527,31 +528,31 @@ module _ (tables : List TableDecl) (m : TableState) (params : List Name) (parame
         of_i64 = λ h r. (k.of_i64 r.env, record { rows = r.rows; env = ranged r; changes = subst ChangesOfI64 (sym changes) r.changes });
       }
 
-  count_follows : (number : ℕ) (name table : Name) (range : RangeTree) (p q : Progress) → run_statement tables m (s.Count name table range) p ≡ GoesOn q → IsApart params name → EnvFits params parameter p.env → RemovesPlain tables p.changes →
-      Did tables m params parameter number (s.Count name table range) p q
-  count_follows number name table range p q e apart fits removes =
+  -- a statement that binds a number which the rows of a range come to
+  scan_follows : (number : ℕ) (st : StatementTree) (name table : Name) (range : RangeTree) (total : TableState → ℤ) (deed : Region → ℤ → Deed) (p q : Progress) →
+      ((u : ℕ) → columns_of params u st ≡ Some (range_columns params u range)) →
+      ((u : ℕ) → accesses_of tables params u number st ≡ access_at Reads (number_of tables table) (range_columns params u range) number ∷ []) →
+      in_range tables m table range p (λ region. with_rows tables m region p (λ rows z. with_value (exact (total rows)) z (λ v. GoesOn (bound name v (did (deed region v) z))))) ≡ GoesOn q →
+      IsApart params name → EnvFits params parameter p.env → RemovesPlain tables p.changes → Did tables m params parameter number st p q
+  scan_follows number st name table range total deed p q columns accesses e apart fits removes =
       let c = value_goes (region_of (number_of tables table) range p.env) p _ q e in
       let own = own_cells c.0 p.changes.cells in
       let rows = rows_left c.0 own m in
+      let seen = rows_seen c.0 p.changes.cells rows in
       let z = looked (look.Range c.0 own rows) p in
-      let x = value_goes (exact (pos (length (rows_seen c.0 p.changes.cells rows)))) z (λ v. GoesOn (bound name v (did (Counted c.0 v) z))) q c.2 in
-      let after = bound name x.0 (did (Counted c.0 x.0) z) in
-      subst (Did tables m params parameter number (s.Count name table range) p) (goes_same after q x.2)
-      (range_did number (s.Count name table range) p after table range c.0 own rows ((name, x.0) ∷ []) (λ u. refl) (λ u. refl) c.1 refl refl refl fits (fits_push params parameter p.env name x.0 apart fits) removes
-      (λ r. env_push p.env name x.0 r.env (exact_i64 (pos (length (rows_seen c.0 p.changes.cells rows))) x.0 x.1)))
+      let x = value_goes (exact (total seen)) z (λ v. GoesOn (bound name v (did (deed c.0 v) z))) q c.2 in
+      let after = bound name x.0 (did (deed c.0 x.0) z) in
+      subst (Did tables m params parameter number st p) (goes_same after q x.2)
+      (range_did number st p after table range c.0 own rows ((name, x.0) ∷ []) columns accesses c.1 refl refl refl fits (fits_push params parameter p.env name x.0 apart fits) removes
+      (λ r. env_push p.env name x.0 r.env (exact_i64 (total seen) x.0 x.1)))
+
+  count_follows : (number : ℕ) (name table : Name) (range : RangeTree) (p q : Progress) → run_statement tables m (s.Count name table range) p ≡ GoesOn q → IsApart params name → EnvFits params parameter p.env → RemovesPlain tables p.changes →
+      Did tables m params parameter number (s.Count name table range) p q
+  count_follows number name table range p q e apart fits removes = scan_follows number (s.Count name table range) name table range (λ rows. pos (length rows)) Counted p q (λ u. refl) (λ u. refl) e apart fits removes
 
   sum_follows : (number : ℕ) (name table : Name) (range : RangeTree) (p q : Progress) → run_statement tables m (s.Sum name table range) p ≡ GoesOn q → IsApart params name → EnvFits params parameter p.env → RemovesPlain tables p.changes →
       Did tables m params parameter number (s.Sum name table range) p q
-  sum_follows number name table range p q e apart fits removes =
-      let c = value_goes (region_of (number_of tables table) range p.env) p _ q e in
-      let own = own_cells c.0 p.changes.cells in
-      let rows = rows_left c.0 own m in
-      let z = looked (look.Range c.0 own rows) p in
-      let x = value_goes (exact (total_of (rows_seen c.0 p.changes.cells rows))) z (λ v. GoesOn (bound name v (did (Summed c.0 v) z))) q c.2 in
-      let after = bound name x.0 (did (Summed c.0 x.0) z) in
-      subst (Did tables m params parameter number (s.Sum name table range) p) (goes_same after q x.2)
-      (range_did number (s.Sum name table range) p after table range c.0 own rows ((name, x.0) ∷ []) (λ u. refl) (λ u. refl) c.1 refl refl refl fits (fits_push params parameter p.env name x.0 apart fits) removes
-      (λ r. env_push p.env name x.0 r.env (exact_i64 (total_of (rows_seen c.0 p.changes.cells rows)) x.0 x.1)))
+  sum_follows number name table range p q e apart fits removes = scan_follows number (s.Sum name table range) name table range total_of Summed p q (λ u. refl) (λ u. refl) e apart fits removes
 
   -- ---- all of them
 
