@@ -1,9 +1,8 @@
 //! What the analysis of sets finds: the text of a certificate, or the least dangerous structure.
 
-use crate::sets::{
-    APART, COLUMNS, KEPT_REPORT, LEDGER, REPORT, SKEW, SMALL_BANK, TRANSFER, set_of,
-};
+use crate::sets::{APART, COLUMNS, KEPT_REPORT, SKEW};
 use dep_graph::{Danger, Exposure};
+use example_sets::{LEDGER, REPORT, SMALL_BANK, TRANSFER, set_of};
 use robust_cert::to_json;
 use si_repair::{AnalyseFault, Finding, certify};
 use std::alloc::{AllocError, Global};
