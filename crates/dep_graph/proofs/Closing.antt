@@ -4,8 +4,8 @@ use Rattle.std.specs.Prelude.{◌==◌, ◌≢◌}
 use Rattle.std.proofs.lemmas.Bool.{or_cases, or_left, or_right, and_parts, and_from, eqb-true, eq-eqb, cases_lt}
 use Rattle.std.proofs.lemmas.Bool.Decides.{eqb_tells}
 use Rattle.prog_paths.specs.StaticGraph.{Leads, here, onward}
-use Rattle.dep_graph.specs.declared.square.Square.{Square}
-use Rattle.dep_graph.specs.Square.{entry, Joins, JoinsEachToItself, RaisesEntry, JoinsThrough, IsReachOf}
+use Rattle.prog_paths.specs.Square.{Grid, entry, Joins, RaisesEntry}
+use Rattle.dep_graph.specs.Reaching.{JoinsEachToItself, JoinsThrough, IsReachOf}
 use Rattle.dep_graph.specs.Reaching.{leads_through}
 
 pub Leads-trans : {edge : ℕ → ℕ → Type 0} {x y z : ℕ} → Leads edge x y → Leads edge y z → Leads edge x z
@@ -72,7 +72,7 @@ through_joined edge (suc k) m l x y a b = go (cases_lt m k) (λ i. through_joine
 
 -- ---- through all nodes, and walks
 
-Leads-from_through : (edges : Square) (k x y : ℕ) → k ≤ edges.size → x < edges.size → y < edges.size → leads_through (entry edges) k x y ≡ true → Leads (Joins edges) x y
+Leads-from_through : (edges : Grid) (k x y : ℕ) → k ≤ edges.size → x < edges.size → y < edges.size → leads_through (entry edges) k x y ≡ true → Leads (Joins edges) x y
 unfolding leads_through
 Leads-from_through edges zero x y n p q h = go (or_cases (x == y) (entry edges x y) h)
   where
@@ -88,13 +88,13 @@ Leads-from_through edges (suc k) x y n p q h = go (through_cases (entry edges) k
     go (inl a) walk = walk x y p q a
     go (inr b) walk = Leads-trans (walk x k p inside b.0) (walk k y inside q b.1)
 
-through-from_Leads : (edges : Square) (x y : ℕ) → Leads (Joins edges) x y → leads_through (entry edges) edges.size x y ≡ true
+through-from_Leads : (edges : Grid) (x y : ℕ) → Leads (Joins edges) x y → leads_through (entry edges) edges.size x y ≡ true
 through-from_Leads edges x y here = through_same (entry edges) x edges.size
 through-from_Leads edges x y (onward {y = m} e w) = through_joined (entry edges) edges.size m e.to_inside x y (through_one (entry edges) x m e.joined edges.size) (through-from_Leads edges m y w)
 
 -- ---- the code
 
-pub IsReachOf-from_through : (reach edges : Square) → reach.size ≡ edges.size → ((i j : ℕ) → i < edges.size → j < edges.size → entry reach i j ≡ leads_through (entry edges) edges.size i j) → IsReachOf reach edges
+pub IsReachOf-from_through : (reach edges : Grid) → reach.size ≡ edges.size → ((i j : ℕ) → i < edges.size → j < edges.size → entry reach i j ≡ leads_through (entry edges) edges.size i j) → IsReachOf reach edges
 IsReachOf-from_through reach edges size same = record {
   size = size;
   walks = λ x y p q. (
@@ -103,11 +103,11 @@ IsReachOf-from_through reach edges size same = record {
   );
 }
 
-pub entries-first : (reach edges : Square) → JoinsEachToItself reach edges → (i j : ℕ) → i < edges.size → j < edges.size → entry reach i j ≡ leads_through (entry edges) 0 i j
+pub entries-first : (reach edges : Grid) → JoinsEachToItself reach edges → (i j : ℕ) → i < edges.size → j < edges.size → entry reach i j ≡ leads_through (entry edges) 0 i j
 unfolding leads_through
 entries-first reach edges j = j.entries
 
-pub entries-next : (old new edges : Square) (k : ℕ) → old.size ≡ edges.size → k < edges.size → ((i j : ℕ) → i < edges.size → j < edges.size → entry old i j ≡ leads_through (entry edges) k i j) → JoinsThrough old new k → (i j : ℕ) → i < edges.size → j < edges.size → entry new i j ≡ leads_through (entry edges) (k + 1) i j
+pub entries-next : (old new edges : Grid) (k : ℕ) → old.size ≡ edges.size → k < edges.size → ((i j : ℕ) → i < edges.size → j < edges.size → entry old i j ≡ leads_through (entry edges) k i j) → JoinsThrough old new k → (i j : ℕ) → i < edges.size → j < edges.size → entry new i j ≡ leads_through (entry edges) (k + 1) i j
 unfolding leads_through
 entries-next old new edges k size inside before joins i j p q = joins.entries i j (omega arith) (omega arith) ∙ rw (before i j p q, before i k p inside, before k j inside q) (ap (λ n. leads_through (entry edges) n i j) next)
   where
@@ -115,7 +115,7 @@ entries-next old new edges k size inside before joins i j p q = joins.entries i 
     next = omega arith
 
 -- one more node joined to itself
-pub entries-itself : (old new edges : Square) (k : ℕ) → old.size ≡ edges.size → k < edges.size
+pub entries-itself : (old new edges : Grid) (k : ℕ) → old.size ≡ edges.size → k < edges.size
     → ((i j : ℕ) → i < k → j < edges.size → entry old i j ≡ (i == j || entry edges i j))
     → ((i j : ℕ) → i < edges.size → j < edges.size → k ≤ i → entry old i j ≡ entry edges i j)
     → RaisesEntry old new k k

@@ -3,10 +3,11 @@ use Rattle.std.proofs.Common.{◌≡◌, ◌↔◌, ℕ, zero, suc, List, [], �
 use Rattle.std.specs.List.{list_any}
 use Rattle.std.proofs.lemmas.Bool.{or_cases}
 use Rattle.std.proofs.lemmas.List.Folds.{list_any_more}
-use Rattle.dep_graph.specs.declared.mark.Mark.{Mark}
-use Rattle.dep_graph.specs.declared.square.Square.{Square}
+use Rattle.prog_paths.specs.declared.mark.Mark.{Mark}
 use Rattle.prog_paths.specs.StaticGraph.{Leads, IsDangerousAt}
-use Rattle.dep_graph.specs.Square.{entry, Joins, IsSquareOf, Enters, IsReachOf}
+use Rattle.prog_paths.specs.Square.{Grid, entry, Joins, IsSquareOf, Enters}
+use Rattle.dep_graph.specs.Reaching.{IsReachOf}
+use Rattle.prog_paths.proofs.Grids.{test-from_joined, joined-from_test}
 use Rattle.dep_graph.specs.Triple.{ClosesAt}
 use Rattle.dep_graph.specs.Marks.{Marks, mark_at, has_edge, has_vulnerable, HasEdge, HasVulnerable}
 use Rattle.dep_graph.specs.Counting.{IsCountOf}
@@ -14,7 +15,7 @@ use Rattle.dep_graph.proofs.Counts.{IsCountOf-same}
 use Rattle.dep_graph.proofs.Alike.{IsWithin, Leads-within}
 
 -- one more question is entered
-pub IsSquareOf-entered : (gives : ℕ → ℕ → Mark → Bool) (marks : List Mark) (nodes n : ℕ) (old new : Square) → n < length marks → IsSquareOf old nodes (λ x y. list_any (gives x y) (take n marks)) → Enters old new (λ x y. gives x y (mark_at marks n)) → IsSquareOf new nodes (λ x y. list_any (gives x y) (take (n + 1) marks))
+pub IsSquareOf-entered : (gives : ℕ → ℕ → Mark → Bool) (marks : List Mark) (nodes n : ℕ) (old new : Grid) → n < length marks → IsSquareOf old nodes (λ x y. list_any (gives x y) (take n marks)) → Enters old new (λ x y. gives x y (mark_at marks n)) → IsSquareOf new nodes (λ x y. list_any (gives x y) (take (n + 1) marks))
 IsSquareOf-entered gives marks nodes n old new inside before e = record {
   size_is = e.size ∙ before.size_is;
   entries = λ i j p q. e.entries i j (omega (arith, before.size_is)) (omega (arith, before.size_is)) ∙ ap (λ b. b || gives i j (mark_at marks n)) (before.entries i j p q) ∙ sym (list_any_more (gives i j) marks n _ inside);
@@ -32,39 +33,27 @@ place_of p (m ∷ ms) h = go (or_cases (p m) _ h) (λ t. place_of p ms t)
 -- ---- the tables of a graph
 
 -- what a graph keeps of its table
-pub record Keeps (t : Marks) (edges vulnerable reach : Square) : Type 0 where
+pub record Keeps (t : Marks) (edges vulnerable reach : Grid) : Type 0 where
   pub edges_are : IsSquareOf edges t.nodes (has_edge t.marks)
   pub vulnerable_are : IsSquareOf vulnerable t.nodes (has_vulnerable t.marks)
   pub reach_is : IsReachOf reach edges
 
-module _ (t : Marks) (edges vulnerable reach : Square) (k : Keeps t edges vulnerable reach) where
+module _ (t : Marks) (edges vulnerable reach : Grid) (k : Keeps t edges vulnerable reach) where
   pub HasEdge-joined : IsWithin (Joins edges) (HasEdge t)
   HasEdge-joined x y j =
       let size = k.edges_are.size_is in
-      let a = j.from_inside in
-      let b = j.to_inside in
-      record { x_inside = omega arith; y_inside = omega arith; has = sym (k.edges_are.entries x y (omega arith) (omega arith)) ∙ j.joined }
+      record { x_inside = omega (arith, size, j.from_inside); y_inside = omega (arith, size, j.to_inside); has = test-from_joined edges t.nodes (has_edge t.marks) k.edges_are x y j }
 
   pub Joins-edge : IsWithin (HasEdge t) (Joins edges)
-  Joins-edge x y h =
-      let size = k.edges_are.size_is in
-      let a = h.x_inside in
-      let b = h.y_inside in
-      record { from_inside = omega arith; to_inside = omega arith; joined = k.edges_are.entries x y a b ∙ h.has }
+  Joins-edge x y h = joined-from_test edges t.nodes (has_edge t.marks) k.edges_are x y h.x_inside h.y_inside h.has
 
   pub HasVulnerable-joined : IsWithin (Joins vulnerable) (HasVulnerable t)
   HasVulnerable-joined x y j =
       let size = k.vulnerable_are.size_is in
-      let a = j.from_inside in
-      let b = j.to_inside in
-      record { x_inside = omega arith; y_inside = omega arith; has = sym (k.vulnerable_are.entries x y (omega arith) (omega arith)) ∙ j.joined }
+      record { x_inside = omega (arith, size, j.from_inside); y_inside = omega (arith, size, j.to_inside); has = test-from_joined vulnerable t.nodes (has_vulnerable t.marks) k.vulnerable_are x y j }
 
   pub Joins-vulnerable : IsWithin (HasVulnerable t) (Joins vulnerable)
-  Joins-vulnerable x y h =
-      let size = k.vulnerable_are.size_is in
-      let a = h.x_inside in
-      let b = h.y_inside in
-      record { from_inside = omega arith; to_inside = omega arith; joined = k.vulnerable_are.entries x y a b ∙ h.has }
+  Joins-vulnerable x y h = joined-from_test vulnerable t.nodes (has_vulnerable t.marks) k.vulnerable_are x y h.x_inside h.y_inside h.has
 
   pub dangerous-from_closes : (x y z : ℕ) → ClosesAt vulnerable reach x y z → IsDangerousAt (HasEdge t) (HasVulnerable t) x y z
   dangerous-from_closes x y z c = record {

@@ -4,9 +4,10 @@ use Rattle.std.specs.Prelude.{slice_get}
 use Rattle.conflict_pairs.specs.declared.table.Entry.{Entry}
 use Rattle.prog_paths.specs.declared.places.Question.{Question}
 use Rattle.conflict_pairs.specs.declared.outcome.Verdict.{Verdict}
-use Rattle.dep_graph.specs.declared.mark.Mark.{Mark}
+use Rattle.prog_paths.specs.declared.mark.Mark.{Mark}
 use Rattle.dep_graph.specs.Marks.{mark_at}
-use Rattle.dep_graph.specs.Marking.{goes_forward, goes_backward, is_vulnerable, mark_of}
+use Rattle.prog_paths.specs.Marks.{mark_by}
+use Rattle.dep_graph.specs.Marking.{can_meet, is_exposed, mark_of}
 
 -- the entry at a place, and what it gives
 pub record IsEntryAt (entries : List Entry) (n : ℕ) : Type 0 where
@@ -19,8 +20,7 @@ entry_at [] n h = absurd (omega arith)
 entry_at (e ∷ es) zero h = record { entry = e; is = refl; gives = refl }
 entry_at (e ∷ es) (suc n) h = let r = entry_at es n (omega arith) in record { entry = r.entry; is = r.is; gives = r.gives }
 
--- a mark made of a question and a verdict is what their entry gives
-pub mark-made : (e : Entry) (q : Question) (v : Verdict) (forward backward vulnerable : Bool) → q ≡ e.question → v ≡ e.verdict
-    → forward ≡ goes_forward q.mine q.theirs v → backward ≡ goes_backward q.mine q.theirs v → vulnerable ≡ is_vulnerable q.mine q.theirs v
-    → (m : Mark) → m ≡ record { x = q.x; y = q.y; forward = forward; backward = backward; vulnerable = vulnerable } → m ≡ mark_of e
-mark-made e q v forward backward vulnerable same verdict f b w m made = made ∙ rw (f, b, w, same, verdict) refl
+-- a mark by a question and its verdict is what their entry gives
+pub mark-made : (e : Entry) (q : Question) (v : Verdict) (meets exposed : Bool) → q ≡ e.question → v ≡ e.verdict → meets ≡ can_meet v → exposed ≡ is_exposed v
+    → (m : Mark) → m ≡ mark_by q meets exposed → m ≡ mark_of e
+mark-made e q v meets exposed same verdict k x m made = made ∙ rw (k, x, same, verdict) refl

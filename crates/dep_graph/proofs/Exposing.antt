@@ -6,9 +6,9 @@ use Rattle.order_facts.specs.declared.sample.Sample.{Sample}
 use Rattle.conflict_pairs.specs.declared.outcome.Verdict.{Verdict}
 use Rattle.conflict_pairs.specs.declared.outcome.Verdict.TheVariants.{Apart, Covered, Exposed}
 use Rattle.conflict_pairs.specs.declared.table.Entry.{Entry}
-use Rattle.dep_graph.specs.declared.mark.Mark.{Mark}
-use Rattle.dep_graph.specs.Marks.{gives_vulnerable, IsFirstVulnerable}
-use Rattle.prog_paths.specs.Asked.{asks_read_write}
+use Rattle.prog_paths.specs.declared.mark.Mark.{Mark}
+use Rattle.prog_paths.specs.Marks.{gives_vulnerable}
+use Rattle.dep_graph.specs.Marks.{IsFirstVulnerable}
 use Rattle.dep_graph.specs.Marking.{is_exposed, mark_of}
 use Rattle.dep_graph.proofs.Entries.{IsEntryAt, entry_at}
 
@@ -28,6 +28,6 @@ sample_at entries x y n f =
     let e = entry_at entries n (omega (arith, f.inside, length-map entries mark_of)) in
     let gives = subst (λ (m : Mark). gives_vulnerable x y m ≡ true) e.gives f.gives in
     let vulnerable = (and_parts (mark_of e.entry).vulnerable _ gives).0 in
-    let exposed = (and_parts (asks_read_write e.entry.question.mine e.entry.question.theirs) _ vulnerable).1 in
+    let exposed = (and_parts (is_exposed e.entry.verdict) _ vulnerable).0 in
     let s = sample_of e.entry.verdict exposed in
     record { at_place = e; sample = s.0; verdict = s.1 }

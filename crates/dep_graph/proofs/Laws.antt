@@ -4,11 +4,10 @@ use Rattle.std.specs.Prelude.{IsTrue}
 use Rattle.prog_check.specs.declared.path.Path.{Path}
 use Rattle.prog_paths.specs.StaticGraph.{StaticEdge, IsVulnerable, Leads, IsDangerousAt, IsDangerous}
 use Rattle.conflict_pairs.specs.Table.{Table, StandsFor}
-use Rattle.dep_graph.specs.declared.square.Square.{Square}
 use Rattle.dep_graph.specs.declared.triple.Triple.{Triple}
 use Rattle.dep_graph.specs.declared.danger.Danger.{Danger}
 use Rattle.dep_graph.specs.Counting.{IsCountOf}
-use Rattle.dep_graph.specs.Square.{entry, Joins}
+use Rattle.prog_paths.specs.Square.{Grid, entry, Joins}
 use Rattle.dep_graph.specs.Triple.{ClosesAt, IsLeastTriple}
 use Rattle.dep_graph.specs.Ways.{IsLeastWay}
 use Rattle.dep_graph.specs.Marks.{HasEdge}
@@ -19,7 +18,7 @@ use Rattle.dep_graph.proofs.Alike.{IsWithin, Leads-within, IsLeastWay-alike, IsD
 use Rattle.dep_graph.proofs.Entering.{Keeps, HasEdge-joined, Joins-edge, HasVulnerable-joined, Joins-vulnerable, dangerous-from_closes, closes-from_dangerous, IsCountOf-reach}
 use Rattle.dep_graph.proofs.Standing.{static-from_HasEdge, HasEdge-from_static, vulnerable-from_HasVulnerable, HasVulnerable-from_vulnerable, IsLeastExposed-from_first}
 
-module _ (t : Table) (edges vulnerable reach : Square) (k : Keeps (marks_of t) edges vulnerable reach) (paths : List Path) (s : StandsFor t paths) where
+module _ (t : Table) (edges vulnerable reach : Grid) (k : Keeps (marks_of t) edges vulnerable reach) (paths : List Path) (s : StandsFor t paths) where
   static-joined : IsWithin (Joins edges) (StaticEdge paths)
   static-joined x y j = static-from_HasEdge t paths s x y (HasEdge-joined (marks_of t) edges vulnerable reach k x y j)
 

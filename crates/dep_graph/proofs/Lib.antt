@@ -5,10 +5,8 @@ pub mod Onward
 pub mod Alike
 pub mod Entering
 pub mod Entries
-pub mod Asked
 pub mod Standing
 pub mod Laws
-pub mod Ordered
 pub mod Placing
 pub mod Exposing
 pub mod Rising

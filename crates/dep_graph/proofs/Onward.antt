@@ -1,14 +1,14 @@
 -- Always on to the least node that is nearer: a least way.
 use Rattle.std.proofs.Common.{◌≡◌, ℕ, List, [], ◌∷◌, length, ◌<◌, ◌≤◌, ◌+◌, ◌⊎◌, inl, inr, Option, Some, refl, sym, ap, subst, ◌∙◌, arith}
 use Rattle.std.proofs.lemmas.Bool.{cases_lt}
-use Rattle.dep_graph.specs.declared.square.Square.{Square}
-use Rattle.dep_graph.specs.Square.{Joins}
-use Rattle.dep_graph.specs.Ways.{LeadsOn, IsWay, IsAtMost, IsLeastWay}
+use Rattle.prog_paths.specs.Square.{Grid, Joins}
+use Rattle.prog_paths.specs.Listing.{IsAtMost}
+use Rattle.dep_graph.specs.Ways.{LeadsOn, IsWay, IsLeastWay}
 use Rattle.dep_graph.specs.Distances.{distance_at, IsDistanceOfWay, KnowsWithin, StepsNearer, IsLeastNearer}
 use Rattle.dep_graph.proofs.Rounds.{least_known}
 
 -- the node that a way of at most so many steps leads to next is that many steps from the end
-StepsNearer-next : (edges : Square) (end rounds : ℕ) (distances : List (Option ℕ)) → KnowsWithin edges end distances rounds → (node steps : ℕ) → distance_at distances node ≡ Some (steps + 1) → (next : ℕ) (rest : List ℕ) → Joins edges node next → LeadsOn (Joins edges) next rest end → length rest ≤ steps → StepsNearer edges distances node steps next
+StepsNearer-next : (edges : Grid) (end rounds : ℕ) (distances : List (Option ℕ)) → KnowsWithin edges end distances rounds → (node steps : ℕ) → distance_at distances node ≡ Some (steps + 1) → (next : ℕ) (rest : List ℕ) → Joins edges node next → LeadsOn (Joins edges) next rest end → length rest ≤ steps → StepsNearer edges distances node steps next
 StepsNearer-next edges end rounds distances k node steps at next rest edge leads short =
     let within = (k.right node (steps + 1) at).within in
     let a = k.all next rest leads (omega arith) in
@@ -20,7 +20,7 @@ StepsNearer-next edges end rounds distances k node steps at next rest edge leads
     record { edge = edge; near = a.1 ∙ ap Some same }
 
 -- from a node that is not the end some edge leads nearer
-pub some_nearer : (edges : Square) (end rounds : ℕ) (distances : List (Option ℕ)) → KnowsWithin edges end distances rounds → (node steps : ℕ) → distance_at distances node ≡ Some (steps + 1) → (w : ℕ) × StepsNearer edges distances node steps w
+pub some_nearer : (edges : Grid) (end rounds : ℕ) (distances : List (Option ℕ)) → KnowsWithin edges end distances rounds → (node steps : ℕ) → distance_at distances node ≡ Some (steps + 1) → (w : ℕ) × StepsNearer edges distances node steps w
 some_nearer edges end rounds distances k node steps at = go way.nodes way.long way.leads
   where
     way : IsDistanceOfWay edges end rounds node (steps + 1)
@@ -31,7 +31,7 @@ some_nearer edges end rounds distances k node steps at = go way.nodes way.long w
     go (next ∷ rest) long leads = (next, StepsNearer-next edges end rounds distances k node steps at next rest leads.0 leads.1 (omega arith))
 
 -- the end itself is a least way to the end
-pub IsLeastWay-end : (edges : Square) (end rounds : ℕ) (distances : List (Option ℕ)) → KnowsWithin edges end distances rounds → (node : ℕ) → distance_at distances node ≡ Some 0 → IsLeastWay (Joins edges) node end (node ∷ [])
+pub IsLeastWay-end : (edges : Grid) (end rounds : ℕ) (distances : List (Option ℕ)) → KnowsWithin edges end distances rounds → (node : ℕ) → distance_at distances node ≡ Some 0 → IsLeastWay (Joins edges) node end (node ∷ [])
 IsLeastWay-end edges end rounds distances k node at = record {
   way = (refl, same way.nodes way.long way.leads);
   shortest = shortest;
@@ -54,7 +54,7 @@ IsLeastWay-end edges end rounds distances k node at = record {
     least (b ∷ bs) w e = inr (sym w.0, tt)
 
 -- a least way from the least nearer node, with the node before it, is a least way
-pub IsLeastWay-onward : (edges : Square) (end rounds : ℕ) (distances : List (Option ℕ)) → KnowsWithin edges end distances rounds → (node steps next : ℕ) → distance_at distances node ≡ Some (steps + 1) → IsLeastNearer edges distances node steps next → (rest : List ℕ) → IsLeastWay (Joins edges) next end (next ∷ rest) → IsLeastWay (Joins edges) node end (node ∷ next ∷ rest)
+pub IsLeastWay-onward : (edges : Grid) (end rounds : ℕ) (distances : List (Option ℕ)) → KnowsWithin edges end distances rounds → (node steps next : ℕ) → distance_at distances node ≡ Some (steps + 1) → IsLeastNearer edges distances node steps next → (rest : List ℕ) → IsLeastWay (Joins edges) next end (next ∷ rest) → IsLeastWay (Joins edges) node end (node ∷ next ∷ rest)
 IsLeastWay-onward edges end rounds distances k node steps next at near rest l = record {
   way = (refl, (near.nearer.edge, l.way.1));
   shortest = shortest;

@@ -4,9 +4,8 @@ use Rattle.std.specs.Prelude.{IsSome}
 use Rattle.std.proofs.lemmas.Bool.{cases_lt, false≢true}
 use Rattle.std.proofs.lemmas.List.{get_or_past, get_or_append_left, get_or-append-add, get_or-replicate, length-replicate, length-set}
 use Rattle.std.proofs.lemmas.Bool.{cases_eq}
-use Rattle.dep_graph.specs.declared.square.Square.{Square}
 use Rattle.prog_paths.specs.StaticGraph.{Leads, here, onward}
-use Rattle.dep_graph.specs.Square.{Joins}
+use Rattle.prog_paths.specs.Square.{Grid, Joins}
 use Rattle.dep_graph.specs.Ways.{LeadsOn}
 use Rattle.dep_graph.specs.Distances.{distance_at, LeadsToKnown, IsNewlyKnown, AreNextDistances, IsDistanceOfWay, KnowsWithin}
 
@@ -28,7 +27,7 @@ known-inside distances node steps h = go (cases_lt node (length distances))
     go (inr l) = let e = get_or_past distances node None l in absurd cc
 
 -- a known distance is that of a shortest way
-pub least_known : (edges : Square) (end rounds : ℕ) (distances : List (Option ℕ)) → KnowsWithin edges end distances rounds → (node steps : ℕ) → distance_at distances node ≡ Some steps → (nodes : List ℕ) → LeadsOn (Joins edges) node nodes end → steps ≤ length nodes
+pub least_known : (edges : Grid) (end rounds : ℕ) (distances : List (Option ℕ)) → KnowsWithin edges end distances rounds → (node steps : ℕ) → distance_at distances node ≡ Some steps → (nodes : List ℕ) → LeadsOn (Joins edges) node nodes end → steps ≤ length nodes
 least_known edges end rounds distances k node steps h nodes leads = go (cases_lt rounds (length nodes))
   where
     go : (rounds < length nodes) ⊎ (length nodes ≤ rounds) → steps ≤ length nodes
@@ -41,7 +40,7 @@ least_known edges end rounds distances k node steps h nodes leads = go (cases_lt
 
 -- ---- before the first round
 
-pub KnowsWithin-first : (edges : Square) (end : ℕ) → end < edges.size → KnowsWithin edges end (set (replicate edges.size None) end (Some 0)) 0
+pub KnowsWithin-first : (edges : Grid) (end : ℕ) → end < edges.size → KnowsWithin edges end (set (replicate edges.size None) end (Some 0)) 0
 KnowsWithin-first edges end inside = record {
   size = length-set (replicate edges.size None) end (Some 0) ∙ length-replicate edges.size None;
   right = λ node steps h. right node steps (cases_eq node end) h;
@@ -85,7 +84,7 @@ each-pushed P old new x n full e before one k h = subst (λ (l : List (Option �
         let last : x ≡ get_or (old ++ x ∷ []) k None = sym (ap (λ m. get_or (old ++ x ∷ []) m None) here ∙ get_or-append-add old (x ∷ []) 0 None) in
         subst (λ (o : Option ℕ). P k o) last (subst (λ m. P m x) same one)
 
-KnowsWithin-right : (edges : Square) (end rounds : ℕ) (old new : List (Option ℕ)) → KnowsWithin edges end old rounds → AreNextDistances edges old (rounds + 1) new → (node steps : ℕ) → distance_at new node ≡ Some steps → IsDistanceOfWay edges end (rounds + 1) node steps
+KnowsWithin-right : (edges : Grid) (end rounds : ℕ) (old new : List (Option ℕ)) → KnowsWithin edges end old rounds → AreNextDistances edges old (rounds + 1) new → (node steps : ℕ) → distance_at new node ≡ Some steps → IsDistanceOfWay edges end (rounds + 1) node steps
 KnowsWithin-right edges end rounds old new k n node steps h = go ((n.each node (omega (arith, n.size, known-inside new node steps h))).right steps h)
   where
     fresh : (next s : ℕ) → distance_at old node ≡ None → Joins edges node next → distance_at old next ≡ Some s → steps ≡ rounds + 1 → IsDistanceOfWay edges end (rounds + 1) node steps
@@ -113,7 +112,7 @@ KnowsWithin-right edges end rounds old new k n node steps h = go ((n.each node (
         record { within = let w = way.within in omega arith; nodes = way.nodes; long = way.long; leads = way.leads }
     go (inr f) = fresh f.leads.0 f.leads.2 f.was f.leads.1 f.leads.3 f.is_round
 
-KnowsWithin-all : (edges : Square) (end rounds : ℕ) (old new : List (Option ℕ)) → KnowsWithin edges end old rounds → AreNextDistances edges old (rounds + 1) new → (node : ℕ) (nodes : List ℕ) → LeadsOn (Joins edges) node nodes end → length nodes ≤ rounds + 1 → (steps : ℕ) × (distance_at new node ≡ Some steps) × (steps ≤ length nodes)
+KnowsWithin-all : (edges : Grid) (end rounds : ℕ) (old new : List (Option ℕ)) → KnowsWithin edges end old rounds → AreNextDistances edges old (rounds + 1) new → (node : ℕ) (nodes : List ℕ) → LeadsOn (Joins edges) node nodes end → length nodes ≤ rounds + 1 → (steps : ℕ) × (distance_at new node ≡ Some steps) × (steps ≤ length nodes)
 KnowsWithin-all edges end rounds old new k n node [] leads short =
     let a = k.all node [] leads (omega arith) in
     (a.0, (n.each node (known-inside old node a.0 a.1)).kept a.0 a.1, a.2)
@@ -130,7 +129,7 @@ KnowsWithin-all edges end rounds old new k n node (next ∷ rest) leads short = 
         let a = k.all node (next ∷ rest) leads l in
         (a.0, (n.each node (known-inside old node a.0 a.1)).kept a.0 a.1, a.2)
 
-pub KnowsWithin-next : (edges : Square) (end rounds : ℕ) (old new : List (Option ℕ)) → KnowsWithin edges end old rounds → AreNextDistances edges old (rounds + 1) new → KnowsWithin edges end new (rounds + 1)
+pub KnowsWithin-next : (edges : Grid) (end rounds : ℕ) (old new : List (Option ℕ)) → KnowsWithin edges end old rounds → AreNextDistances edges old (rounds + 1) new → KnowsWithin edges end new (rounds + 1)
 KnowsWithin-next edges end rounds old new k n = record {
   size = n.size ∙ k.size;
   right = KnowsWithin-right edges end rounds old new k n;
@@ -180,7 +179,7 @@ unknown-lt (Some a ∷ xs) (None ∷ ys) e h (suc k) l was is = absurd (false≢
 unknown-lt (Some a ∷ xs) (Some b ∷ ys) e h (suc k) l was is = let i = unknown-lt xs ys (omega arith) (Keeps-rest (Some a) (Some b) xs ys h) k (omega arith) was is in omega arith
 
 -- on a walk from an unknown node to the end some edge leads from an unknown node to a known one
-crossing : (edges : Square) (end rounds : ℕ) (distances : List (Option ℕ)) → KnowsWithin edges end distances rounds → (node : ℕ) → Leads (Joins edges) node end → distance_at distances node ≡ None → (u : ℕ) × (u < length distances) × (distance_at distances u ≡ None) × LeadsToKnown edges distances u
+crossing : (edges : Grid) (end rounds : ℕ) (distances : List (Option ℕ)) → KnowsWithin edges end distances rounds → (node : ℕ) → Leads (Joins edges) node end → distance_at distances node ≡ None → (u : ℕ) × (u < length distances) × (distance_at distances u ≡ None) × LeadsToKnown edges distances u
 crossing edges end rounds distances k node here none = let a = k.all node [] refl (omega arith) in let e = a.1 in absurd cc
 crossing edges end rounds distances k node (onward {y = next} e walk) none = go (known (distance_at distances next)) (λ h. crossing edges end rounds distances k next walk h)
   where
@@ -189,7 +188,7 @@ crossing edges end rounds distances k node (onward {y = next} e walk) none = go 
     go (inr s) rest = (node, (let a = k.size in let b = e.from_inside in omega arith), none, (next, e, s.0, s.1))
 
 -- each round makes one more known, as long as a node that leads to the end is not
-pub unknown-next : (edges : Square) (end rounds round : ℕ) (old new : List (Option ℕ)) → KnowsWithin edges end old rounds → AreNextDistances edges old round new → (node : ℕ) → Leads (Joins edges) node end → distance_at old node ≡ None → unknown new < unknown old
+pub unknown-next : (edges : Grid) (end rounds round : ℕ) (old new : List (Option ℕ)) → KnowsWithin edges end old rounds → AreNextDistances edges old round new → (node : ℕ) → Leads (Joins edges) node end → distance_at old node ≡ None → unknown new < unknown old
 unknown-next edges end rounds round old new k n node walk none =
     let c = crossing edges end rounds old k node walk none in
     unknown-lt old new n.size keeps c.0 c.1 c.2 ((n.each c.0 c.1).all c.3)

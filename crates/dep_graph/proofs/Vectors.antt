@@ -1,7 +1,8 @@
 -- Worked examples of the definitions, told by hand.
 use Rattle.std.proofs.Common.{◌≡◌, ℕ, Bool, true, false, ◌&&◌, ◌||◌, [], ◌∷◌, inl, inr, refl, arith}
 use Rattle.std.specs.Prelude.{◌==◌}
-use Rattle.dep_graph.specs.Ways.{IsAtMost, IsWay}
+use Rattle.prog_paths.specs.Listing.{IsAtMost}
+use Rattle.dep_graph.specs.Ways.{IsWay}
 use Rattle.dep_graph.specs.Counting.{IsCountOf, none, counted, passed}
 use Rattle.dep_graph.specs.Reaching.{leads_through}
 

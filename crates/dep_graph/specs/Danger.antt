@@ -9,7 +9,8 @@ use Rattle.conflict_pairs.specs.Table.{Table}
 use Rattle.prog_paths.specs.Asked.{numbers_of}
 use Rattle.dep_graph.specs.declared.danger.Danger.{Danger}
 use Rattle.dep_graph.specs.declared.danger.Exposure.{Exposure}
-use Rattle.dep_graph.specs.Ways.{IsAtMost, IsLeastWay}
+use Rattle.prog_paths.specs.Listing.{IsAtMost}
+use Rattle.dep_graph.specs.Ways.{IsLeastWay}
 use Rattle.dep_graph.specs.Marks.{IsFirstVulnerable}
 use Rattle.dep_graph.specs.Marking.{marks_of}
 

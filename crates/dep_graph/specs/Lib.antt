@@ -1,7 +1,6 @@
 pub mod Marking
 pub mod Ways
 pub mod Counting
-pub mod Square
 pub mod Reaching
 pub mod Distances
 pub mod Triple

@@ -1,7 +1,8 @@
 -- What a table's questions with their verdicts make of the graph.
-use Rattle.std.specs.Prelude.{◌≡◌, ℕ, List, length, ◌<◌, ◌≤◌, Bool, true, false, ◌||◌, ◌&&◌, ◌==◌, slice_index_or}
+use Rattle.std.specs.Prelude.{◌≡◌, ℕ, List, length, ◌<◌, ◌≤◌, Bool, true, false, slice_index_or}
 use Rattle.std.specs.List.{list_any}
-use Rattle.dep_graph.specs.declared.mark.Mark.{Mark}
+use Rattle.prog_paths.specs.declared.mark.Mark.{Mark}
+use Rattle.prog_paths.specs.Marks.{gives_edge, gives_vulnerable}
 
 -- how many nodes there are, and what each question gives
 pub record Marks : Type 0 where
@@ -12,14 +13,6 @@ pub record Marks : Type 0 where
 abbrev pub mark_at : List Mark → ℕ → Mark
 mark_at marks n =
     slice_index_or marks n (record { x = 0; y = 0; forward = false; backward = false; vulnerable = false })
-
--- the question gives an edge from x to y
-abbrev pub gives_edge : ℕ → ℕ → Mark → Bool
-gives_edge x y m = (m.forward && (m.x == x && m.y == y)) || (m.backward && (m.y == x && m.x == y))
-
--- the question makes the edge from x to y vulnerable
-abbrev pub gives_vulnerable : ℕ → ℕ → Mark → Bool
-gives_vulnerable x y m = m.vulnerable && (m.x == x && m.y == y)
 
 -- a question gives an edge from x to y
 abbrev pub has_edge : List Mark → ℕ → ℕ → Bool

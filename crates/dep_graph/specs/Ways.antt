@@ -1,5 +1,6 @@
 -- Ways as lists of nodes, and the least of the shortest.
-use Rattle.std.specs.Prelude.{◌≡◌, ℕ, List, [], ◌∷◌, length, ◌<◌, ◌≤◌, ◌⊎◌}
+use Rattle.std.specs.Prelude.{◌≡◌, ℕ, List, [], ◌∷◌, length, ◌≤◌}
+use Rattle.prog_paths.specs.Listing.{IsAtMost}
 
 -- on from a node through the nodes of a list to the end, each joined to the next
 abbrev pub LeadsOn : (ℕ → ℕ → Type 0) → ℕ → List ℕ → ℕ → Type 0
@@ -10,12 +11,6 @@ LeadsOn edge node (next ∷ rest) end = edge node next × LeadsOn edge next rest
 abbrev pub IsWay : (ℕ → ℕ → Type 0) → ℕ → ℕ → List ℕ → Type 0
 IsWay edge from end [] = ⊥
 IsWay edge from end (node ∷ rest) = (node ≡ from) × LeadsOn edge node rest end
-
--- the one list of nodes is the other, or stands before it in node order
-abbrev pub IsAtMost : List ℕ → List ℕ → Type 0
-IsAtMost [] others = Unit {0}
-IsAtMost (x ∷ xs) [] = ⊥
-IsAtMost (x ∷ xs) (y ∷ ys) = (x < y) ⊎ ((x ≡ y) × IsAtMost xs ys)
 
 -- no way is shorter, and none that is as short stands before it
 pub record IsLeastWay (edge : ℕ → ℕ → Type 0) (from end : ℕ) (nodes : List ℕ) : Type 0 where

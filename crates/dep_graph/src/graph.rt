@@ -1,22 +1,22 @@
 //! The static graph of a table of questions.
 
-ghost use Rattle.std.specs.Prelude.{◌≡◌, ◌↔◌, List, length, ◌<◌, IfOk, IfSome, IfNone, IsTrue};
+ghost use Rattle.std.specs.Prelude.{◌≡◌, ◌↔◌, List, length, ◌<◌, ◌≤◌, true, IfOk, IfSome, IfNone, IsTrue};
 ghost use Rattle.prog_check.specs.declared.path.Path.{Path};
 ghost use Rattle.prog_paths.specs.StaticGraph.{StaticEdge, IsVulnerable, Leads, IsDangerous};
 ghost use Rattle.conflict_pairs.specs.Table.{StandsFor};
 ghost use Rattle.dep_graph.specs.Counting.{IsCountOf};
-ghost use Rattle.dep_graph.specs.Square.{IsSquareOf, Enters};
-ghost use Rattle.dep_graph.specs.Marks.{has_edge, has_vulnerable, gives_edge, gives_vulnerable};
+ghost use Rattle.prog_paths.specs.Square.{entry, IsSquareOf};
+ghost use Rattle.dep_graph.specs.Marks.{has_edge, has_vulnerable};
 ghost use Rattle.dep_graph.specs.Marking.{marks_of};
 ghost use Rattle.dep_graph.specs.Danger.{IsLeastDanger};
 
 use crate::closure::close;
 use crate::danger::{Danger, first_exposure};
 use crate::least_way::least_way;
-use crate::mark::{Mark, entry_mark};
-use crate::square::Square;
+use crate::mark::entry_mark;
 use crate::triple::least_triple;
 use conflict_pairs::PairTable;
+use prog_paths::{Square, enter_edges, enter_vulnerable};
 use prog_tree::Sequence;
 use std::alloc::{AllocError, Global};
 use std::marker::Model;
@@ -34,7 +34,8 @@ impl<'a> Model for Graph<'a> {
     ghost use Rattle.conflict_pairs.specs.Table.{Table};
     ghost use Rattle.dep_graph.specs.Marks.{has_edge, has_vulnerable};
     ghost use Rattle.dep_graph.specs.Marking.{marks_of};
-    ghost use Rattle.dep_graph.specs.Square.{IsSquareOf, IsReachOf};
+    ghost use Rattle.prog_paths.specs.Square.{IsSquareOf};
+    ghost use Rattle.dep_graph.specs.Reaching.{IsReachOf};
 
     ghost Value = { Table };
 
@@ -46,29 +47,6 @@ impl<'a> Model for Graph<'a> {
           (has_vulnerable (marks_of g.table.now).marks);
       reach : IsReachOf g.reach g.edges;
     } };
-}
-
-/// Enters the edges of one question.
-fn enter_edges(edges: &mut Square, mark: Mark)
-    ensures { Enters edges.old edges.new (λ x y. gives_edge x y mark) }
-{
-    if mark.x < edges.size() && mark.y < edges.size() {
-        if mark.forward {
-            edges.raise(mark.x, mark.y);
-        }
-        if mark.backward {
-            edges.raise(mark.y, mark.x);
-        }
-    }
-}
-
-/// Enters the vulnerable edge of one question.
-fn enter_vulnerable(vulnerable: &mut Square, mark: Mark)
-    ensures { Enters vulnerable.old vulnerable.new (λ x y. gives_vulnerable x y mark) }
-{
-    if mark.vulnerable && mark.x < vulnerable.size() && mark.y < vulnerable.size() {
-        vulnerable.raise(mark.x, mark.y);
-    }
 }
 
 fn edges_of(alloc: Global, table: &PairTable) -> Result<Square, AllocError>
@@ -91,6 +69,21 @@ fn vulnerable_of(alloc: Global, table: &PairTable) -> Result<Square, AllocError>
         enter_vulnerable(&mut vulnerable, entry_mark(table, n));
     }
     Ok(vulnerable)
+}
+
+/// How many nodes are joined to the node.
+fn column_count(square: &Square, to: usize) -> usize
+    requires { to < square.now.size }
+    ensures count { IsCountOf (λ from. entry square.now from to ≡ true) square.now.size result }
+    ensures within { result ≤ square.now.size }
+{
+    let mut count = 0;
+    for from in 0..square.size() {
+        if square.get(from, to) {
+            count += 1;
+        }
+    }
+    count
 }
 
 impl<'a> Graph<'a> {
@@ -142,7 +135,7 @@ impl<'a> Graph<'a> {
         ensures { (paths : List Path) → StandsFor self.now paths
             → IsCountOf (λ u. Leads (StaticEdge paths) u x) (length paths) result }
     {
-        self.reach.column_count(x)
+        column_count(&self.reach, x)
     }
 
     /// The least dangerous structure, if there is one.

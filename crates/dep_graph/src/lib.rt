@@ -8,7 +8,6 @@ mod distances;
 mod graph;
 mod least_way;
 mod mark;
-mod square;
 mod triple;
 
 pub use danger::{Danger, Exposure};

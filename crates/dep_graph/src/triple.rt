@@ -3,7 +3,7 @@
 ghost use Rattle.std.specs.Prelude.{◌≡◌, ℕ, ◌<◌, ◌≤◌, IfSome, IfNone};
 ghost use Rattle.dep_graph.specs.Triple.{ClosesAt, LeastEnd, LeastPair, IsLeastTriple};
 
-use crate::square::Square;
+use prog_paths::Square;
 
 /// Three nodes in a row.
 #[derive(Clone, Copy)]

@@ -25,3 +25,7 @@ pub mod Asked
 pub mod Membership
 pub mod Order
 pub mod Few
+pub mod Edges
+pub mod Elements
+pub mod Grids
+pub mod Marked

@@ -1,9 +1,11 @@
 -- The list of all questions rises.
-use Rattle.std.proofs.Common.{◌≡◌, ℕ, ◌<◌, ◌+◌, ◌⊎◌, inl, inr, Bool, true, false, List, [], ◌∷◌, ◌++◌, refl, sym, subst, arith}
-use Rattle.std.specs.Prelude.{All, if◌then◌else◌}
+use Rattle.std.proofs.Common.{◌≡◌, ℕ, ◌<◌, ◌+◌, ◌⊎◌, inl, inr, Bool, true, false, List, [], ◌∷◌, ◌++◌, refl, sym, subst, arith, zero, suc, Some}
+use Rattle.std.specs.Prelude.{All, slice_get, if◌then◌else◌}
 use Rattle.std.proofs.lemmas.List.Elements.{All-nil, All-cons, All-head, All-tail, All-append}
+use Rattle.std.proofs.lemmas.Option.{none-some, same_Some, slice_get_within, get_or_from_slice_get}
 use Rattle.prog_check.specs.declared.path.Access.{Access}
 use Rattle.prog_check.specs.declared.path.Path.{Path}
+use Rattle.prog_paths.specs.StaticGraph.{Question}
 use Rattle.prog_paths.specs.declared.places.Placed.{Placed}
 use Rattle.prog_paths.specs.declared.places.Question.{Question as Asked}
 use Rattle.prog_paths.specs.Asked.{asks, question_between, placed_from, all_from, asked_by, asked_among, numbers_of}
@@ -97,3 +99,14 @@ among_rises (f ∷ firsts) seconds p s =
 
 pub law_of_order : LawOfOrder
 law_of_order paths = among_rises (all_from 0 paths) (all_from 0 paths) (all_rise 0 paths) (all_rise 0 paths)
+
+-- ---- places of what rises
+
+pub rise-between : {A : Type 0} (question : A → Question) (xs : List A) → RiseBy question xs → (j k : ℕ) (x y : A) → slice_get xs j ≡ Some x → slice_get xs k ≡ Some y → j < k → IsBefore (question x) (question y)
+rise-between question [] rise j k x y at_j at_k lt = absurd (none-some x at_j)
+rise-between question (d ∷ rest) rise j zero x y at_j at_k lt = absurd (omega (arith, lt))
+rise-between {A = A} question (d ∷ rest) rise zero (suc k) x y at_j at_k lt =
+    let inside = slice_get_within rest k y at_k in
+    let first = subst (λ (z : A). IsBefore (question d) (question z)) (get_or_from_slice_get rest k y y at_k) (rise.0 k y inside) in
+    subst (λ (z : A). IsBefore (question z) (question y)) (same_Some d x at_j) first
+rise-between question (d ∷ rest) rise (suc j) (suc k) x y at_j at_k lt = rise-between question rest rise.1 j k x y at_j at_k (omega (arith, lt))

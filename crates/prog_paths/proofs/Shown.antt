@@ -1,13 +1,11 @@
 -- What the facts of a question say, in the words of meeting and of one cell.
-use Rattle.std.proofs.Common.{◌≡◌, ℕ, ◌⊎◌, inl, inr, List, pos, refl, sym, subst, ◌∙◌, arith}
-use Rattle.std.specs.Prelude.{Option, Some, None, slice_get, get_or, Result, Ok, Err, IfOk}
+use Rattle.std.proofs.Common.{◌≡◌, ℕ, ◌⊎◌, inl, inr, List, pos, refl, subst, arith}
+use Rattle.std.specs.Prelude.{Option, Some, None, slice_get}
 use Rattle.std.proofs.lemmas.Int.{ints}
-use Rattle.std.proofs.lemmas.Option.{slice_get_within, get_or_from_slice_get, same_Some}
+use Rattle.std.proofs.lemmas.Option.{slice_get_within, get_or_from_slice_get}
 use Rattle.order_facts.specs.declared.steps.Node.{Node}
 use Rattle.order_facts.specs.declared.steps.Fact.{Fact}
-use Rattle.order_facts.specs.declared.sample.Choice.{Choice}
 use Rattle.order_facts.specs.Chain as facts
-use Rattle.order_facts.specs.Sample.{assignment_of}
 use Rattle.order_facts.proofs.Chains.{reaches-from_chain}
 use Rattle.order_facts.proofs.Exact.{orderly_from_IsConsistent}
 use Rattle.prog_check.specs.declared.path.Kind.TheVariants.{Writes, Adds}
@@ -17,10 +15,10 @@ use Rattle.prog_check.specs.declared.path.Column.{Column}
 use Rattle.prog_check.specs.declared.path.Access.{Access}
 use Rattle.prog_check.specs.declared.path.Path.{Path}
 use Rattle.prog_paths.specs.Meeting.{Assignment, MeetsUnder, CanMeet, MayCover, IsSingle, AreSameCell, second_under}
-use Rattle.prog_paths.specs.StaticGraph.{Question, IsAccessOf, IsCovered}
+use Rattle.prog_paths.specs.StaticGraph.{Question}
 use Rattle.prog_paths.specs.Questions.{question_facts, AreEqualWhereTheyMeet, EntailsEqual}
-use Rattle.prog_paths.proofs.Questions.{law_of_meeting, law_of_questions, law_of_equal_terms}
-use Rattle.prog_paths.specs.Asked.{Asks, IsQuestion, ChangesSingleCells, two, between}
+use Rattle.prog_paths.proofs.Questions.{law_of_questions, law_of_equal_terms}
+use Rattle.prog_paths.specs.Asked.{Asks, ChangesSingleCells}
 use Rattle.prog_paths.specs.Shown.{Falls, second_pair}
 use Rattle.prog_paths.specs.Shown.{AllEqual, CoversBy}
 

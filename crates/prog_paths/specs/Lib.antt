@@ -6,9 +6,11 @@ pub mod Follows
 pub mod Kinds
 pub mod Law
 pub mod Listing
+pub mod Marks
 pub mod Meeting
 pub mod Places
 pub mod Questions
 pub mod Shown
+pub mod Square
 pub mod StaticGraph
 pub mod Trails

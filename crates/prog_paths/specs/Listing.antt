@@ -25,6 +25,12 @@ IsPlaceBefore x a y b = (x < y) ⊎ ((x ≡ y) × (a < b))
 abbrev pub IsBefore : Question → Question → Type 0
 IsBefore p q = IsPlaceBefore p.x p.a q.x q.a ⊎ ((p.x ≡ q.x) × (p.a ≡ q.a) × IsPlaceBefore p.y p.b q.y q.b)
 
+-- the one list of nodes is the other, or stands before it in node order
+abbrev pub IsAtMost : List ℕ → List ℕ → Type 0
+IsAtMost [] others = Unit {0}
+IsAtMost (x ∷ xs) [] = ⊥
+IsAtMost (x ∷ xs) (y ∷ ys) = (x < y) ⊎ ((x ≡ y) × IsAtMost xs ys)
+
 -- the question of each thing stands before those of all that follow
 abbrev pub RiseBy : {A : Type 0} → (A → Question) → List A → Type 0
 RiseBy question [] = Unit {0}

@@ -1,5 +1,5 @@
 -- What the chains of an entry show of its question.
-use Rattle.std.proofs.Common.{◌≡◌, ℕ, ◌-◌, List, [], ◌∷◌, length, subst, sym, ◌∙◌, arith}
+use Rattle.std.proofs.Common.{◌≡◌, ℕ, ◌-◌, List, [], ◌∷◌, length, subst, sym, arith}
 use Rattle.std.specs.Prelude.{Some, slice_get, All}
 use Rattle.std.proofs.lemmas.Option.{same_Some, none-some, slice_get_within, get_or_from_slice_get}
 use Rattle.order_facts.specs.declared.steps.Node.{Node}
@@ -26,12 +26,6 @@ AllEqual-from_ShowEqual facts (p ∷ ps) [] h = absurd h
 AllEqual-from_ShowEqual facts (p ∷ ps) (there ∷ []) h = absurd h
 AllEqual-from_ShowEqual facts (p ∷ ps) (there ∷ back ∷ chains) h =
     ((entailed facts _ _ there h.0, entailed facts _ _ back h.1), AllEqual-from_ShowEqual facts ps chains h.2)
-
--- a place has one access
-pub same_access : (nodes : List Path) (x a : ℕ) (one other : Access) → IsAccessOf nodes x a one → IsAccessOf nodes x a other → one ≡ other
-same_access nodes x a one other h k =
-    let path = same_Some h.0 k.0 (sym h.1 ∙ k.1) in
-    same_Some one other (sym h.2 ∙ subst (λ (p : Path). slice_get p.accesses a ≡ Some other) (sym path) k.2)
 
 -- what changes or keeps is one cell
 pub single_of : (nodes : List Path) → All ChangesSingleCells nodes → (x a : ℕ) (access : Access) → IsAccessOf nodes x a access → MayCover access → IsSingle access

@@ -3,9 +3,10 @@ use Rattle.std.proofs.Common.{◌≡◌, ℕ, ◌<◌, ◌⊎◌, inl, inr, true
 use Rattle.std.specs.Prelude.{◌==◌, slice_get, All, Option, is_some, IfSome, option_copied}
 use Rattle.std.proofs.lemmas.Bool.{false≢true, cases_Bool, cases_order, and_parts, and_from, eqb-true, eq-eqb, false_from_ne_true}
 use Rattle.std.proofs.lemmas.List.Elements.{All-head, All-tail}
-use Rattle.std.proofs.lemmas.Option.{same_Some, none-some, slice_get-get_or, slice_get_within, get_or_from_slice_get, slice_get_past, slice_get_read}
+use Rattle.std.proofs.lemmas.Option.{same_Some, none-some, slice_get-get_or, slice_get_past, slice_get_read}
 use Rattle.prog_paths.specs.StaticGraph.{Question}
 use Rattle.prog_paths.specs.Listing.{IsPlaceBefore, IsBefore, RiseBy}
+use Rattle.prog_paths.proofs.Order.{rise-between}
 use Rattle.robust_cert.specs.declared.certificate.Entry.{Entry}
 use Rattle.robust_cert.specs.declared.telling.Telling.{Telling}
 use Rattle.robust_cert.specs.declared.telling.Telling as telling
@@ -120,13 +121,7 @@ told-nowhere (d ∷ rest) (suc at) q rise behind other =
 
 -- the entries before one stand before its question
 pub behind-entry : (entries : List Entry) (k : ℕ) (e : Entry) → RiseBy question_of entries → slice_get entries k ≡ Some e → IsBehind entries k (question_of e)
-behind-entry [] k e rise at j f lt is = absurd (none-some e at)
-behind-entry (d ∷ rest) zero e rise at j f lt is = absurd (omega (arith, lt))
-behind-entry (d ∷ rest) (suc k) e rise at zero f lt is =
-    let inside = slice_get_within rest k e at in
-    let first = subst (λ (g : Entry). IsBefore (question_of d) (question_of g)) (get_or_from_slice_get rest k e e at) (rise.0 k e inside) in
-    subst (λ (g : Entry). IsBefore (question_of g) (question_of e)) (same_Some d f is) first
-behind-entry (d ∷ rest) (suc k) e rise at (suc j) f lt is = behind-entry rest k e rise.1 at j f (omega (arith, lt)) is
+behind-entry entries k e rise at j f lt is = rise-between question_of entries rise j k f e is at lt
 
 pub telling-from_entry : (entries : List Entry) (q : Question) (e : Entry) → RiseBy question_of entries → Contains entries e → question_of e ≡ q → telling_of entries q ≡ telling_by e
 telling-from_entry entries q e rise (k, lt, is) about =

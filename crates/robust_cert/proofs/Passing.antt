@@ -12,13 +12,13 @@ use Rattle.prog_paths.specs.Listing.{IsBefore, RiseBy}
 use Rattle.prog_paths.proofs.Asked.{asked_by-append, asked_among-append}
 use Rattle.prog_paths.proofs.Order.{law_of_order}
 use Rattle.robust_cert.specs.declared.certificate.Entry.{Entry}
-use Rattle.robust_cert.specs.declared.square.Square.{Square}
 use Rattle.robust_cert.specs.declared.left.Left.{Left}
-use Rattle.robust_cert.specs.declared.mark.Mark.{Mark}
+use Rattle.prog_paths.specs.declared.mark.Mark.{Mark}
 use Rattle.robust_cert.specs.declared.telling.Telling.{Telling}
 use Rattle.robust_cert.specs.Accepted.{question_of}
-use Rattle.robust_cert.specs.Square.{entry, IsEmptySquare, IsSquareOf, Enters}
-use Rattle.robust_cert.specs.Telling.{telling_of, mark_with, mark_under, gives_edge, gives_vulnerable, IsBehind}
+use Rattle.prog_paths.specs.Square.{Grid, entry, IsEmptySquare, IsSquareOf, Enters}
+use Rattle.prog_paths.specs.Marks.{gives_edge, gives_vulnerable}
+use Rattle.robust_cert.specs.Telling.{telling_of, mark_with, mark_under, IsBehind}
 use Rattle.robust_cert.specs.Leaving.{some_edge, some_vulnerable, Leaves, EntersMark, IsReady, Passes}
 use Rattle.robust_cert.proofs.Cursor.{before_trans}
 
@@ -57,7 +57,7 @@ or_none : (a : Bool) → a ≡ (a || false)
 or_none true = refl
 or_none false = refl
 
-Enters-append : (old mid new : Square) (f g h : ℕ → ℕ → Bool) → ((i j : ℕ) → h i j ≡ (f i j || g i j)) → Enters old mid f → Enters mid new g → Enters old new h
+Enters-append : (old mid new : Grid) (f g h : ℕ → ℕ → Bool) → ((i j : ℕ) → h i j ≡ (f i j || g i j)) → Enters old mid f → Enters mid new g → Enters old new h
 Enters-append old mid new f g h both first second = record {
   size = second.size ∙ first.size;
   entries = λ i j p q.
@@ -68,13 +68,13 @@ Enters-append old mid new f g h both first second = record {
       ∙ ap (λ (b : Bool). entry old i j || b) (sym (both i j));
 }
 
-Enters-nothing : (s : Square) → Enters s s (λ i j. false)
+Enters-nothing : (s : Grid) → Enters s s (λ i j. false)
 Enters-nothing s = record { size = refl; entries = λ i j p q. or_none (entry s i j) }
 
-Enters-alike : (old new : Square) (f g : ℕ → ℕ → Bool) → ((i j : ℕ) → f i j ≡ g i j) → Enters old new f → Enters old new g
+Enters-alike : (old new : Grid) (f g : ℕ → ℕ → Bool) → ((i j : ℕ) → f i j ≡ g i j) → Enters old new f → Enters old new g
 Enters-alike old new f g same e = record { size = e.size; entries = λ i j p q. e.entries i j p q ∙ ap (λ (b : Bool). entry old i j || b) (same i j) }
 
-square-from_empty : (old new : Square) (size : ℕ) (test : ℕ → ℕ → Bool) → IsEmptySquare old size → Enters old new test → IsSquareOf new size test
+square-from_empty : (old new : Grid) (size : ℕ) (test : ℕ → ℕ → Bool) → IsEmptySquare old size → Enters old new test → IsSquareOf new size test
 square-from_empty old new size test empty e = record {
   size_is = e.size ∙ empty.size_is;
   entries = λ i j p q.

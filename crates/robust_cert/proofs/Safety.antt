@@ -1,26 +1,27 @@
 -- An accepted certificate leaves no dangerous structure.
-use Rattle.std.proofs.Common.{◌≡◌, ℕ, ◌≤◌, inl, inr, List, subst, arith}
+use Rattle.std.proofs.Common.{◌≡◌, ℕ, ◌≤◌, inl, List, subst, arith}
 use Rattle.std.specs.Prelude.{All, Contains}
 use Rattle.std.proofs.lemmas.List.Elements.{All-contains}
-use Rattle.prog_check.specs.declared.path.Kind.{Kind}
 use Rattle.prog_check.specs.declared.path.Access.{Access}
 use Rattle.prog_check.specs.declared.path.Path.{Path}
 use Rattle.prog_check.specs.Paths.{paths_of}
 use Rattle.order_facts.specs.declared.steps.Node.{Node}
 use Rattle.prog_paths.specs.Meeting.{CanMeet}
-use Rattle.prog_paths.specs.StaticGraph.{Question, AsksOf, AsksReadWrite, AsksWriteRead, AsksWriteWrite, HasQuestion, IsAccessOf, StaticEdge, IsCovered, IsExposed, IsVulnerable, Leads, here, onward, IsDangerousAt, IsDangerous}
+use Rattle.prog_paths.specs.StaticGraph.{Question, AsksOf, AsksReadWrite, IsAccessOf, StaticEdge, IsCovered, IsExposed, IsVulnerable, Leads, here, onward, IsDangerousAt, IsDangerous}
 use Rattle.prog_paths.specs.Asked.{Asks, ChangesSingleCells}
 use Rattle.prog_paths.specs.Questions.{question_facts}
 use Rattle.prog_paths.specs.Shown.{Falls, key_pairs, AllEqual}
 use Rattle.prog_paths.proofs.Shown.{IsPair, apart-from_Falls, same-from_CoversBy, may_cover-second}
+use Rattle.prog_paths.proofs.Marked.{same_access}
+use Rattle.prog_paths.proofs.Edges.{HasQuestion-weaker, EdgeOf-weaker}
 use Rattle.prog_paths.proofs.SingleCells.{law_of_single_changes}
 use Rattle.robust_cert.specs.declared.certificate.Question as cert
 use Rattle.robust_cert.specs.declared.certificate.Entry.{Entry}
 use Rattle.robust_cert.specs.declared.certificate.Entry.TheVariants.{Apart, Cover}
 use Rattle.robust_cert.specs.declared.certificate.Certificate.{Certificate}
-use Rattle.robust_cert.specs.Accepted.{asked_by, question_of, ChainsHold, Holds, SaysApart, IsToldApart, IsTold, IsLeft, IsLeftVulnerable, LevelsRise, IsAccepted}
+use Rattle.robust_cert.specs.Accepted.{numbers_told, question_of, ChainsHold, Holds, SaysApart, IsToldApart, IsTold, IsLeft, IsLeftVulnerable, LevelsRise, IsAccepted}
 use Rattle.robust_cert.specs.Law.{LawOfAcceptance}
-use Rattle.robust_cert.proofs.Chains.{AllEqual-from_ShowEqual, same_access, single_of}
+use Rattle.robust_cert.proofs.Chains.{AllEqual-from_ShowEqual, single_of}
 
 -- ---- levels
 
@@ -31,20 +32,6 @@ level-Leads {level = level} r (onward {x = x} {y = y} {z = z} e w) = let a = r.n
 -- levels that rise leave no two vulnerable edges in a row with a way back
 unclosed : {edge vulnerable : ℕ → ℕ → Type 0} {level : ℕ → ℕ} (x y z : ℕ) → LevelsRise edge vulnerable level → IsDangerousAt edge vulnerable x y z → ⊥
 unclosed x y z r d = let up = r.rise x y z d.first d.second in let back = level-Leads r d.back in absurd (omega arith)
-
--- ---- fewer edges
-
-HasQuestion-weaker : (asks : Question → Kind → Kind → Type 0) (P Q : Question → Access → Access → Type 0) (nodes : List Path) (x y : ℕ) → ((q : Question) (mine theirs : Access) → AsksOf nodes q mine theirs → asks q mine.kind theirs.kind → P q mine theirs → Q q mine theirs) → HasQuestion asks P nodes x y → HasQuestion asks Q nodes x y
-HasQuestion-weaker asks P Q nodes x y f h = record {
-  question = h.question;
-  from = h.from;
-  to = h.to;
-  mine = h.mine;
-  theirs = h.theirs;
-  asked = h.asked;
-  kinds = h.kinds;
-  holds = f h.question h.mine h.theirs h.asked h.kinds h.holds;
-}
 
 -- ---- what an accepted certificate says of each question
 
@@ -74,7 +61,7 @@ module _ (nodes : List Path) (single : All ChangesSingleCells nodes) (c : Certif
       by (Apart p chain) h i s = absurd (apart-right q mine theirs asked asks (Apart p chain, i, s) meet)
       by (Cover p m t chains) h i s = covered p m t chains h.chains s
         where
-          covered : (p : cert.Question) (m t : ℕ) (chains : List (List Node)) → ChainsHold nodes (Cover p m t chains) → asked_by p ≡ q → IsCovered nodes q.x q.y mine theirs
+          covered : (p : cert.Question) (m t : ℕ) (chains : List (List Node)) → ChainsHold nodes (Cover p m t chains) → numbers_told p ≡ q → IsCovered nodes q.x q.y mine theirs
           covered p m t chains (of_mine, of_theirs, cover, shown) s =
               let own = subst (λ (r : Question). AsksOf nodes r cover.mine cover.theirs) s cover.asked in
               let first = same_access nodes q.x q.a cover.mine mine own.at_mine asked.at_mine in
@@ -97,17 +84,20 @@ module _ (nodes : List Path) (single : All ChangesSingleCells nodes) (c : Certif
 
   -- ---- each edge is left
 
-  apart_left : (asks : Question → Kind → Kind → Type 0) → ((q : Question) (m t : Kind) → asks q m t → Asks q m t) → (x y : ℕ) → HasQuestion asks (λ q mine theirs. CanMeet mine theirs) nodes x y → HasQuestion asks (λ q mine theirs. ¬ IsToldApart c.entries q) nodes x y
-  apart_left asks ask x y = HasQuestion-weaker asks (λ q mine theirs. CanMeet mine theirs) (λ q mine theirs. ¬ IsToldApart c.entries q) nodes x y (λ q mine theirs asked kinds meet told. apart-right q mine theirs asked (ask q mine.kind theirs.kind kinds) told meet)
+  abbrev Meets : Question → Access → Access → Type 0
+  Meets q mine theirs = CanMeet mine theirs
+
+  abbrev Free : Question → Access → Access → Type 0
+  Free q mine theirs = ¬ IsToldApart c.entries q
+
+  abbrev Untold : Question → Access → Access → Type 0
+  Untold q mine theirs = ¬ IsTold c.entries q
 
   left : (x y : ℕ) → StaticEdge nodes x y → IsLeft nodes c.entries x y
-  left x y (inl h) = inl (apart_left AsksReadWrite (λ q m t k. inl k) x y h)
-  left x y (inr (inl h)) = inr (inl (apart_left AsksWriteRead (λ q m t k. inr (inl k)) y x h))
-  left x y (inr (inr (inl h))) = inr (inr (inl (apart_left AsksWriteWrite (λ q m t k. inr (inr k)) x y h)))
-  left x y (inr (inr (inr h))) = inr (inr (inr (apart_left AsksWriteWrite (λ q m t k. inr (inr k)) y x h)))
+  left = EdgeOf-weaker Meets Free nodes (λ q mine theirs asked asks meet told. apart-right q mine theirs asked asks told meet)
 
   exposed : (x y : ℕ) → IsVulnerable nodes x y → IsLeftVulnerable nodes c.entries x y
-  exposed x y = HasQuestion-weaker AsksReadWrite (IsExposed nodes) (λ q mine theirs. ¬ IsTold c.entries q) nodes x y (λ q mine theirs asked kinds bare told. bare.1 (told-right q mine theirs asked (inl kinds) told bare.0))
+  exposed = HasQuestion-weaker AsksReadWrite (IsExposed nodes) Untold nodes (λ q mine theirs asked kinds bare told. bare.1 (told-right q mine theirs asked (inl kinds) told bare.0))
 
   along : (x y : ℕ) → Leads (StaticEdge nodes) x y → Leads (IsLeft nodes c.entries) x y
   along x _ here = here

@@ -16,14 +16,14 @@ use Rattle.robust_cert.specs.declared.certificate.Certificate.{Certificate}
 
 -- ---- what an entry is about
 
--- the question of four numbers
-abbrev pub asked_by : Question → graph.Question
-asked_by q = record { x = q.x; a = q.a; y = q.y; b = q.b }
+-- the four numbers that a certificate tells of a question
+abbrev pub numbers_told : Question → graph.Question
+numbers_told q = record { x = q.x; a = q.a; y = q.y; b = q.b }
 
 -- the question that an entry is about
 abbrev pub question_of : Entry → graph.Question
-question_of (Apart q chain) = asked_by q
-question_of (Cover q mine theirs chains) = asked_by q
+question_of (Apart q chain) = numbers_told q
+question_of (Cover q mine theirs chains) = numbers_told q
 
 -- ---- when an entry holds
 
@@ -43,17 +43,17 @@ pub record IsCoverOf (nodes : List Path) (q : graph.Question) (m t : ℕ) (of_mi
 abbrev pub IsFitting : List Path → Entry → Type 0
 IsFitting nodes (Apart q chain) = Unit {0}
 IsFitting nodes (Cover q m t chains) =
-    (of_mine : Access) × (of_theirs : Access) × IsCoverOf nodes (asked_by q) m t of_mine of_theirs
+    (of_mine : Access) × (of_theirs : Access) × IsCoverOf nodes (numbers_told q) m t of_mine of_theirs
     × (length chains ≡ 2 * length (key_pairs of_mine of_theirs))
 
 -- the chains hold by the question's facts: one runs from a number to a smaller one; or they show the two cells equal,
 -- column by column
 abbrev pub ChainsHold : List Path → Entry → Type 0
 ChainsHold nodes (Apart q chain) =
-    (mine : Access) × (theirs : Access) × AsksOf nodes (asked_by q) mine theirs
+    (mine : Access) × (theirs : Access) × AsksOf nodes (numbers_told q) mine theirs
     × Falls (question_facts mine theirs) chain
 ChainsHold nodes (Cover q m t chains) =
-    (of_mine : Access) × (of_theirs : Access) × (cover : IsCoverOf nodes (asked_by q) m t of_mine of_theirs)
+    (of_mine : Access) × (of_theirs : Access) × (cover : IsCoverOf nodes (numbers_told q) m t of_mine of_theirs)
     × ShowEqual (question_facts cover.mine cover.theirs) (key_pairs of_mine of_theirs) chains
 
 -- an entry is about a question of the paths, and says of it what holds
@@ -66,7 +66,7 @@ pub record Holds (nodes : List Path) (e : Entry) : Type 0 where
 
 -- an entry says that the question is apart
 abbrev pub SaysApart : graph.Question → Entry → Type 0
-SaysApart q (Apart p chain) = asked_by p ≡ q
+SaysApart q (Apart p chain) = numbers_told p ≡ q
 SaysApart q (Cover p m t chains) = ⊥
 
 abbrev pub IsToldApart : List Entry → graph.Question → Type 0

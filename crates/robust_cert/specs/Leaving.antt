@@ -8,10 +8,11 @@ use Rattle.prog_paths.specs.Asked.{numbers_of, questions_of}
 use Rattle.prog_paths.specs.Listing.{IsBefore, RiseBy}
 use Rattle.robust_cert.specs.declared.certificate.Entry.{Entry}
 use Rattle.robust_cert.specs.declared.left.Left.{Left}
-use Rattle.robust_cert.specs.declared.mark.Mark.{Mark}
+use Rattle.prog_paths.specs.declared.mark.Mark.{Mark}
 use Rattle.robust_cert.specs.Accepted.{question_of}
-use Rattle.robust_cert.specs.Square.{IsSquareOf, Enters}
-use Rattle.robust_cert.specs.Telling.{mark_under, gives_edge, gives_vulnerable, IsBehind}
+use Rattle.prog_paths.specs.Square.{IsSquareOf, Enters}
+use Rattle.prog_paths.specs.Marks.{gives_edge, gives_vulnerable}
+use Rattle.robust_cert.specs.Telling.{mark_under, IsBehind}
 
 -- some of the questions gives an edge from x to y
 abbrev pub some_edge : List Entry → List Asked → ℕ → ℕ → Bool

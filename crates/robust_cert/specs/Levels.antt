@@ -1,50 +1,49 @@
 -- Levels that fall, or don't rise, in a table of edges.
-use Rattle.std.specs.Prelude.{◌≡◌, ℕ, ◌<◌, ◌≤◌, List, slice_index_or}
-use Rattle.robust_cert.specs.declared.square.Square.{Square}
+use Rattle.std.specs.Prelude.{◌≡◌, ℕ, ◌<◌, ◌≤◌, List, [], ◌∷◌, slice_index_or}
 use Rattle.robust_cert.specs.declared.left.Left.{Left}
 use Rattle.robust_cert.specs.declared.levels.Pair.{Pair}
 use Rattle.robust_cert.specs.declared.levels.Triple.{Triple}
 use Rattle.robust_cert.specs.declared.fault.CertFault.{CertFault}
 use Rattle.robust_cert.specs.declared.fault.CertFault.TheVariants.{LevelFalls, Dangerous}
-use Rattle.robust_cert.specs.Square.{Joins}
-use Rattle.robust_cert.specs.Refused.{IsAtMostPair, IsAtMostTriple}
+use Rattle.prog_paths.specs.Square.{Grid, Joins}
+use Rattle.prog_paths.specs.Listing.{IsAtMost}
 
 -- the level falls along an edge
-pub record Falls (edges : Square) (levels : List ℕ) (x y : ℕ) : Type 0 where
+pub record Falls (edges : Grid) (levels : List ℕ) (x y : ℕ) : Type 0 where
   pub edge : Joins edges x y
   pub falls : slice_index_or levels y 0 < slice_index_or levels x 0
 
 -- the least node to which the level falls from x
-pub record FallsFirst (edges : Square) (levels : List ℕ) (x y : ℕ) : Type 0 where
+pub record FallsFirst (edges : Grid) (levels : List ℕ) (x y : ℕ) : Type 0 where
   pub falls : Falls edges levels x y
   pub least : (other : ℕ) → Falls edges levels x other → y ≤ other
 
 -- the least edge along which it falls
-pub record IsLeastFall (edges : Square) (levels : List ℕ) (p : Pair) : Type 0 where
+pub record IsLeastFall (edges : Grid) (levels : List ℕ) (p : Pair) : Type 0 where
   pub falls : Falls edges levels p.x p.y
-  pub least : (x y : ℕ) → Falls edges levels x y → IsAtMostPair p.x p.y x y
+  pub least : (x y : ℕ) → Falls edges levels x y → IsAtMost (p.x ∷ p.y ∷ []) (x ∷ y ∷ [])
 
 -- the level doesn't rise over two vulnerable edges
-pub record Stays (vulnerable : Square) (levels : List ℕ) (x y z : ℕ) : Type 0 where
+pub record Stays (vulnerable : Grid) (levels : List ℕ) (x y z : ℕ) : Type 0 where
   pub first : Joins vulnerable x y
   pub second : Joins vulnerable y z
   pub stays : slice_index_or levels z 0 ≤ slice_index_or levels x 0
 
 -- the least node to which it doesn't rise from x by way of y
-pub record StaysFirst (vulnerable : Square) (levels : List ℕ) (x y z : ℕ) : Type 0 where
+pub record StaysFirst (vulnerable : Grid) (levels : List ℕ) (x y z : ℕ) : Type 0 where
   pub stays : Stays vulnerable levels x y z
   pub least : (other : ℕ) → Stays vulnerable levels x y other → z ≤ other
 
 -- the least two nodes over which it doesn't rise from x
-pub record StaysFrom (vulnerable : Square) (levels : List ℕ) (x : ℕ) (t : Triple) : Type 0 where
+pub record StaysFrom (vulnerable : Grid) (levels : List ℕ) (x : ℕ) (t : Triple) : Type 0 where
   pub from : t.x ≡ x
   pub stays : Stays vulnerable levels t.x t.y t.z
-  pub least : (y z : ℕ) → Stays vulnerable levels x y z → IsAtMostPair t.y t.z y z
+  pub least : (y z : ℕ) → Stays vulnerable levels x y z → IsAtMost (t.y ∷ t.z ∷ []) (y ∷ z ∷ [])
 
 -- the least two vulnerable edges over which it doesn't rise
-pub record IsLeastStay (vulnerable : Square) (levels : List ℕ) (t : Triple) : Type 0 where
+pub record IsLeastStay (vulnerable : Grid) (levels : List ℕ) (t : Triple) : Type 0 where
   pub stays : Stays vulnerable levels t.x t.y t.z
-  pub least : (x y z : ℕ) → Stays vulnerable levels x y z → IsAtMostTriple t.x t.y t.z x y z
+  pub least : (x y z : ℕ) → Stays vulnerable levels x y z → IsAtMost (t.x ∷ t.y ∷ t.z ∷ []) (x ∷ y ∷ z ∷ [])
 
 -- the levels never fall along an edge, and rise over two vulnerable ones
 pub record RiseOver (left : Left) (levels : List ℕ) : Type 0 where

@@ -4,7 +4,6 @@ pub mod Helpers
 pub mod Accepted
 pub mod Refused
 pub mod Law
-pub mod Square
 pub mod Telling
 pub mod Leaving
 pub mod Levels

@@ -1,8 +1,8 @@
 -- The first fault of a certificate that is not accepted.
-use Rattle.std.specs.Prelude.{◌≡◌, ℕ, ◌<◌, ◌≤◌, ◌+◌, ◌⊎◌, List, length, All, take, Some, slice_get}
+use Rattle.std.specs.Prelude.{◌≡◌, ℕ, ◌<◌, ◌≤◌, ◌+◌, List, [], ◌∷◌, length, All, take, Some, slice_get}
 use Rattle.prog_check.specs.declared.path.Path.{Path}
 use Rattle.prog_paths.specs.Asked.{IsQuestion, questions_of, limit}
-use Rattle.prog_paths.specs.Listing.{IsBefore, RiseBy}
+use Rattle.prog_paths.specs.Listing.{IsBefore, IsAtMost, RiseBy}
 use Rattle.robust_cert.specs.declared.certificate.Entry.{Entry}
 use Rattle.robust_cert.specs.declared.certificate.Certificate.{Certificate}
 use Rattle.robust_cert.specs.declared.fault.CertFault.{CertFault}
@@ -45,13 +45,6 @@ pub record StaysAt (nodes : List Path) (c : Certificate) (x y z : ℕ) : Type 0 
   pub second : IsLeftVulnerable nodes c.entries y z
   pub stays : level_of c z ≤ level_of c x
 
--- two nodes, or three, stand at others or before them
-abbrev pub IsAtMostPair : (x y u v : ℕ) → Type 0
-IsAtMostPair x y u v = (x < u) ⊎ ((x ≡ u) × (y ≤ v))
-
-abbrev pub IsAtMostTriple : (x y z u v w : ℕ) → Type 0
-IsAtMostTriple x y z u v w = (x < u) ⊎ ((x ≡ u) × IsAtMostPair y z v w)
-
 -- ---- the fault
 
 -- the first fault, each with all that comes before it in order
@@ -69,10 +62,10 @@ IsFirstFault nodes c (BadChain k) =
     × IsFitting nodes e × (ChainsHold nodes e → ⊥)
 IsFirstFault nodes c (LevelFalls x y) =
     StandTo nodes c (length c.entries) × FallsAt nodes c x y
-    × ((u v : ℕ) → FallsAt nodes c u v → IsAtMostPair x y u v)
+    × ((u v : ℕ) → FallsAt nodes c u v → IsAtMost (x ∷ y ∷ []) (u ∷ v ∷ []))
 IsFirstFault nodes c (Dangerous x y z) =
     StandTo nodes c (length c.entries)
     × ((u v : ℕ) → FallsAt nodes c u v → ⊥)
     × StaysAt nodes c x y z
-    × ((u v w : ℕ) → StaysAt nodes c u v w → IsAtMostTriple x y z u v w)
+    × ((u v w : ℕ) → StaysAt nodes c u v w → IsAtMost (x ∷ y ∷ z ∷ []) (u ∷ v ∷ w ∷ []))
 IsFirstFault nodes c Memory = Unit {0}

@@ -1,15 +1,16 @@
 -- What the entries tell of a question, and what that leaves.
-use Rattle.std.specs.Prelude.{◌≡◌, ℕ, ◌<◌, List, [], ◌∷◌, Bool, true, false, ◌||◌, ◌&&◌, ◌==◌, if◌then◌else◌, Some, slice_get}
+use Rattle.std.specs.Prelude.{◌≡◌, ℕ, ◌<◌, List, [], ◌∷◌, Bool, true, false, ◌&&◌, ◌==◌, if◌then◌else◌, Some, slice_get}
 use Rattle.prog_paths.specs.StaticGraph.{Question}
 use Rattle.prog_paths.specs.declared.places.Question.{Question as Asked}
-use Rattle.prog_paths.specs.Asked.{numbers_of, asks_read_write, asks_write_read, both_write}
+use Rattle.prog_paths.specs.Asked.{numbers_of}
 use Rattle.prog_paths.specs.Listing.{IsBefore}
+use Rattle.prog_paths.specs.Marks.{mark_by}
 use Rattle.robust_cert.specs.declared.certificate.Entry.{Entry}
 use Rattle.robust_cert.specs.declared.certificate.Entry.TheVariants.{Apart, Cover}
 use Rattle.robust_cert.specs.declared.numbers.Numbers.{Numbers}
 use Rattle.robust_cert.specs.declared.telling.Telling.{Telling}
 use Rattle.robust_cert.specs.declared.telling.Telling as telling
-use Rattle.robust_cert.specs.declared.mark.Mark.{Mark}
+use Rattle.prog_paths.specs.declared.mark.Mark.{Mark}
 use Rattle.robust_cert.specs.Accepted.{question_of}
 
 -- the question of four numbers
@@ -50,22 +51,8 @@ may_be_exposed telling.TheVariants.Cover = false
 
 -- what a question gives of which this is told
 abbrev pub mark_with : Asked → Telling → Mark
-mark_with q told = record {
-  x = q.x;
-  y = q.y;
-  forward = may_meet told && (asks_read_write q.mine q.theirs || both_write q.mine q.theirs);
-  backward = may_meet told && (asks_write_read q.mine q.theirs || both_write q.mine q.theirs);
-  vulnerable = may_be_exposed told && asks_read_write q.mine q.theirs;
-}
+mark_with q told = mark_by q (may_meet told) (may_be_exposed told)
 
 -- what a question gives under these entries
 abbrev pub mark_under : List Entry → Asked → Mark
 mark_under entries q = mark_with q (telling_of entries (numbers_of q))
-
--- the mark is of an edge from x to y
-abbrev pub gives_edge : ℕ → ℕ → Mark → Bool
-gives_edge x y m = (m.forward && (m.x == x && m.y == y)) || (m.backward && (m.y == x && m.x == y))
-
--- the mark is of a vulnerable edge from x to y
-abbrev pub gives_vulnerable : ℕ → ℕ → Mark → Bool
-gives_vulnerable x y m = m.vulnerable && (m.x == x && m.y == y)

@@ -2,18 +2,17 @@
 ghost use Rattle.std.specs.Prelude.{◌≡◌, [], ◌∷◌, IfOk};
 ghost use Rattle.prog_paths.specs.Asked.{asked_by, asked_among};
 ghost use Rattle.prog_paths.specs.Listing.{RiseBy};
+ghost use Rattle.prog_paths.specs.Square.{Enters};
 ghost use Rattle.robust_cert.specs.Accepted.{question_of};
-ghost use Rattle.robust_cert.specs.Square.{Enters};
-ghost use Rattle.robust_cert.specs.Telling.{gives_edge, gives_vulnerable};
 ghost use Rattle.robust_cert.specs.Leaving.{some_edge, some_vulnerable, Leaves, EntersMark, IsReady, Passes};
 
 use crate::certificate::Entry;
-use crate::mark::{Mark, mark_with};
 use crate::numbers::Numbers;
-use crate::square::Square;
-use crate::telling::told;
+use crate::telling::{mark_with, told};
 use prog_check::Path;
-use prog_paths::{Placed, all_places, asks, question_between};
+use prog_paths::{
+    Mark, Placed, Square, all_places, asks, enter_edges, enter_vulnerable, question_between,
+};
 use std::alloc::{AllocError, Global};
 
 /// Which nodes are joined by an edge that is left, and by a vulnerable one.
@@ -21,27 +20,6 @@ use std::alloc::{AllocError, Global};
 pub struct Left {
     pub edges: Square,
     pub vulnerable: Square,
-}
-
-fn enter_edges(edges: &mut Square, mark: Mark)
-    ensures { Enters edges.old edges.new (λ x y. gives_edge x y mark) }
-{
-    if mark.x < edges.size() && mark.y < edges.size() {
-        if mark.forward {
-            edges.raise(mark.x, mark.y);
-        }
-        if mark.backward {
-            edges.raise(mark.y, mark.x);
-        }
-    }
-}
-
-fn enter_vulnerable(vulnerable: &mut Square, mark: Mark)
-    ensures { Enters vulnerable.old vulnerable.new (λ x y. gives_vulnerable x y mark) }
-{
-    if mark.vulnerable && mark.x < vulnerable.size() && mark.y < vulnerable.size() {
-        vulnerable.raise(mark.x, mark.y);
-    }
 }
 
 fn enter(left: &mut Left, mark: Mark)

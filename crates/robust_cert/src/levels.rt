@@ -4,7 +4,7 @@ ghost use Rattle.robust_cert.specs.Levels.{Falls, FallsFirst, IsLeastFall, Stays
 
 use crate::fault::CertFault;
 use crate::left::Left;
-use crate::square::Square;
+use prog_paths::Square;
 
 /// Two nodes in a row.
 #[derive(Clone, Copy)]

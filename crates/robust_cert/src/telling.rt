@@ -1,12 +1,13 @@
-//! What the entries tell of a question.
+//! What the entries tell of a question, and what that leaves.
 ghost use Rattle.std.specs.Prelude.{◌≡◌, Some, slice_get};
 ghost use Rattle.prog_paths.specs.Listing.{IsBefore, RiseBy};
 ghost use Rattle.robust_cert.specs.declared.certificate.Entry.{Entry};
 ghost use Rattle.robust_cert.specs.Accepted.{question_of};
-ghost use Rattle.robust_cert.specs.Telling.{question_with, telling_by, telling_of, IsBehind};
+ghost use Rattle.robust_cert.specs.Telling.{question_with, telling_by, telling_of, IsBehind, may_meet, may_be_exposed, mark_with};
 
 use crate::certificate::Entry;
 use crate::numbers::Numbers;
+use prog_paths::{Mark, Question, mark_by};
 
 /// What is told of a question.
 #[derive(Clone, Copy)]
@@ -53,4 +54,23 @@ pub fn told(entries: &[Entry], cursor: usize, question: Numbers) -> (Telling, us
         Some(entry) if Numbers::of_entry(entry).is_same(question) => (told_by(entry), at),
         _ => (Telling::Nothing, at),
     }
+}
+
+fn may_meet(told: Telling) -> bool
+    ensures { result ≡ may_meet told }
+{
+    !matches!(told, Telling::Apart)
+}
+
+fn may_be_exposed(told: Telling) -> bool
+    ensures { result ≡ may_be_exposed told }
+{
+    matches!(told, Telling::Nothing)
+}
+
+/// What a question gives of which this is told.
+pub fn mark_with(question: Question, told: Telling) -> Mark
+    ensures { result ≡ mark_with question told }
+{
+    mark_by(question, may_meet(told), may_be_exposed(told))
 }

@@ -1,15 +1,14 @@
 -- What the told entries leave is what can meet, and what is exposed.
 use Rattle.std.proofs.Common.{◌≡◌, ℕ, ◌<◌, List, length, inl, inr, refl, sym, subst}
 use Rattle.std.specs.Prelude.{Contains}
-use Rattle.std.proofs.lemmas.Option.{slice_get_within}
-use Rattle.prog_check.specs.declared.path.Kind.{Kind}
 use Rattle.prog_check.specs.declared.path.Access.{Access}
 use Rattle.prog_check.specs.declared.path.Path.{Path}
 use Rattle.prog_paths.specs.Meeting.{CanMeet}
-use Rattle.prog_paths.specs.StaticGraph.{Question, AsksOf, AsksReadWrite, AsksWriteRead, AsksWriteWrite, HasQuestion, StaticEdge, IsExposed, IsVulnerable}
+use Rattle.prog_paths.specs.StaticGraph.{Question, AsksOf, AsksReadWrite, StaticEdge, IsExposed, IsVulnerable}
 use Rattle.prog_paths.specs.declared.places.Question.{Question as Asked}
 use Rattle.prog_paths.specs.Asked.{Asks, numbers_of}
 use Rattle.prog_paths.proofs.Segments.{IsMember}
+use Rattle.prog_paths.proofs.Edges.{HasQuestion-weaker, EdgeOf-weaker, EdgeOf-inside}
 use Rattle.prog_paths.proofs.Membership.{law_of_listing}
 use Rattle.conflict_pairs.specs.declared.outcome.Verdict.{Verdict}
 use Rattle.conflict_pairs.specs.declared.outcome.Verdict.TheVariants.{Apart, Covered, Exposed}
@@ -22,6 +21,9 @@ use Rattle.robust_cert.specs.Accepted.{IsTold, IsToldApart, IsLeft, IsLeftVulner
 use Rattle.si_repair.specs.Findings.{IsHarmless, TellsEach}
 use Rattle.si_repair.specs.Telling.{told_question, told_by, told_of}
 use Rattle.si_repair.proofs.Members.{Contains-from_member, All-member, entry_with, told_member}
+
+abbrev Meets : Question → Access → Access → Type 0
+Meets q mine theirs = CanMeet mine theirs
 
 -- ---- one question
 
@@ -99,60 +101,23 @@ module _ (t : Table) (paths : List Path) (s : StandsFor t paths) where
 
   -- ---- edges
 
-  static : (asks : Question → Kind → Kind → Type 0) (x y : ℕ) → ((q : Question) (a b : Kind) → asks q a b → Asks q a b) → HasQuestion asks (λ q mine theirs. IsToldApart (told_of t.entries) q → ⊥) paths x y → HasQuestion asks (λ q mine theirs. CanMeet mine theirs) paths x y
-  static asks x y some_ask h = record {
-    question = h.question;
-    from = h.from;
-    to = h.to;
-    mine = h.mine;
-    theirs = h.theirs;
-    asked = h.asked;
-    kinds = h.kinds;
-    holds = left_meets h.question h.mine h.theirs h.asked (some_ask h.question h.mine.kind h.theirs.kind h.kinds) h.holds;
-  }
+  abbrev Free : Question → Access → Access → Type 0
+  Free q mine theirs = ¬ IsToldApart (told_of t.entries) q
+
+  abbrev Untold : Question → Access → Access → Type 0
+  Untold q mine theirs = ¬ IsTold (told_of t.entries) q
 
   pub static-from_left : (x y : ℕ) → IsLeft paths (told_of t.entries) x y → StaticEdge paths x y
-  static-from_left x y (inl h) = inl (static AsksReadWrite x y (λ q a b k. inl k) h)
-  static-from_left x y (inr (inl h)) = inr (inl (static AsksWriteRead y x (λ q a b k. inr (inl k)) h))
-  static-from_left x y (inr (inr (inl h))) = inr (inr (inl (static AsksWriteWrite x y (λ q a b k. inr (inr k)) h)))
-  static-from_left x y (inr (inr (inr h))) = inr (inr (inr (static AsksWriteWrite y x (λ q a b k. inr (inr k)) h)))
+  static-from_left = EdgeOf-weaker Free Meets paths left_meets
 
   pub vulnerable-from_left : (x y : ℕ) → IsLeftVulnerable paths (told_of t.entries) x y → IsVulnerable paths x y
-  vulnerable-from_left x y h = record {
-    question = h.question;
-    from = h.from;
-    to = h.to;
-    mine = h.mine;
-    theirs = h.theirs;
-    asked = h.asked;
-    kinds = h.kinds;
-    holds = left_exposed h.question h.mine h.theirs h.asked h.kinds h.holds;
-  }
+  vulnerable-from_left = HasQuestion-weaker AsksReadWrite Untold (IsExposed paths) paths left_exposed
 
 -- ---- nodes of edges
 
-module _ (paths : List Path) (x y : ℕ) where
-  ends_inside : (asks : Question → Kind → Kind → Type 0) (P : Question → Access → Access → Type 0) → HasQuestion asks P paths x y → (x < length paths) × (y < length paths)
-  ends_inside asks P h = (
-    subst (λ (n : ℕ). n < length paths) h.from (slice_get_within paths h.question.x h.asked.at_mine.0 h.asked.at_mine.1),
-    subst (λ (n : ℕ). n < length paths) h.to (slice_get_within paths h.question.y h.asked.at_theirs.0 h.asked.at_theirs.1),
-  )
-
 pub edge_inside : (paths : List Path) (x y : ℕ) → StaticEdge paths x y → (x < length paths) × (y < length paths)
-edge_inside paths x y (inl h) = ends_inside paths x y AsksReadWrite (λ q mine theirs. CanMeet mine theirs) h
-edge_inside paths x y (inr (inl h)) = let r = ends_inside paths y x AsksWriteRead (λ q mine theirs. CanMeet mine theirs) h in (r.1, r.0)
-edge_inside paths x y (inr (inr (inl h))) = ends_inside paths x y AsksWriteWrite (λ q mine theirs. CanMeet mine theirs) h
-edge_inside paths x y (inr (inr (inr h))) = let r = ends_inside paths y x AsksWriteWrite (λ q mine theirs. CanMeet mine theirs) h in (r.1, r.0)
+edge_inside paths = EdgeOf-inside Meets paths
 
 -- a vulnerable edge is an edge
 pub static-from_vulnerable : (paths : List Path) (x y : ℕ) → IsVulnerable paths x y → StaticEdge paths x y
-static-from_vulnerable paths x y h = inl (record {
-  question = h.question;
-  from = h.from;
-  to = h.to;
-  mine = h.mine;
-  theirs = h.theirs;
-  asked = h.asked;
-  kinds = h.kinds;
-  holds = h.holds.0;
-})
+static-from_vulnerable paths x y h = inl (HasQuestion-weaker AsksReadWrite (IsExposed paths) Meets paths (λ q mine theirs asked asks exposed. exposed.0) x y h)

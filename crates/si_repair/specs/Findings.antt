@@ -12,7 +12,7 @@ use Rattle.dep_graph.specs.Danger.{IsLeastDanger}
 use Rattle.robust_cert.specs.declared.certificate.Entry.{Entry}
 use Rattle.robust_cert.specs.declared.certificate.Entry.TheVariants.{Apart, Cover}
 use Rattle.robust_cert.specs.declared.certificate.Certificate.{Certificate}
-use Rattle.robust_cert.specs.Accepted.{asked_by, IsTold, level_of, IsAccepted}
+use Rattle.robust_cert.specs.Accepted.{numbers_told, IsTold, level_of, IsAccepted}
 use Rattle.si_repair.specs.declared.finding.Finding.{Finding}
 use Rattle.si_repair.specs.declared.finding.Finding.TheVariants.{Robust, Refused}
 
@@ -24,10 +24,10 @@ IsHarmless nodes q mine theirs =
 -- an entry says apart of a question that can't meet, and else names the least cover
 abbrev pub IsOwnEntry : List Path → Entry → Type 0
 IsOwnEntry nodes (Apart q chain) =
-    (mine theirs : Access) → AsksOf nodes (asked_by q) mine theirs → CanMeet mine theirs → ⊥
+    (mine theirs : Access) → AsksOf nodes (numbers_told q) mine theirs → CanMeet mine theirs → ⊥
 IsOwnEntry nodes (Cover q m t chains) =
-    (mine theirs : Access) → AsksOf nodes (asked_by q) mine theirs
-    → CanMeet mine theirs × IsLeastCover nodes (asked_by q) mine theirs m t
+    (mine theirs : Access) → AsksOf nodes (numbers_told q) mine theirs
+    → CanMeet mine theirs × IsLeastCover nodes (numbers_told q) mine theirs m t
 
 -- each question that is harmless has an entry
 abbrev pub TellsEach : List Path → List Entry → Type 0

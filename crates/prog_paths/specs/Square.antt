@@ -1,34 +1,38 @@
--- A square table of which node is joined to which.
-use Rattle.std.specs.Prelude.{◌≡◌, ℕ, ◌<◌, ◌+◌, ◌*◌, ◌||◌, Bool, true, false, slice_index_or}
-use Rattle.robust_cert.specs.declared.square.Square.{Square}
+-- Square tables of which node is joined to which.
+use Rattle.std.specs.Prelude.{◌≡◌, ℕ, ◌<◌, ◌+◌, ◌*◌, ◌||◌, List, Bool, true, false, slice_index_or}
+
+-- so many nodes, and for each two of them whether the first is joined to the second, row by row
+pub record Grid : Type 0 where
+  pub size : ℕ
+  pub entries : List Bool
 
 -- the entry in the row of one node and the column of another
-abbrev pub entry : Square → ℕ → ℕ → Bool
-entry s from to = slice_index_or s.entries.items (from * s.size + to) false
+abbrev pub entry : Grid → ℕ → ℕ → Bool
+entry s from to = slice_index_or s.entries (from * s.size + to) false
 
 -- the table joins the first of two of its nodes to the second
-pub record Joins (s : Square) (from to : ℕ) : Type 0 where
+pub record Joins (s : Grid) (from to : ℕ) : Type 0 where
   pub from_inside : from < s.size
   pub to_inside : to < s.size
   pub joined : entry s from to ≡ true
 
 -- a table of so many nodes that joins none of them
-pub record IsEmptySquare (s : Square) (size : ℕ) : Type 0 where
+pub record IsEmptySquare (s : Grid) (size : ℕ) : Type 0 where
   pub size_is : s.size ≡ size
   pub entries : (i j : ℕ) → i < size → j < size → entry s i j ≡ false
 
 -- a table of so many nodes that joins just those of which a test is true
-pub record IsSquareOf (s : Square) (size : ℕ) (test : ℕ → ℕ → Bool) : Type 0 where
+pub record IsSquareOf (s : Grid) (size : ℕ) (test : ℕ → ℕ → Bool) : Type 0 where
   pub size_is : s.size ≡ size
   pub entries : (i j : ℕ) → i < size → j < size → entry s i j ≡ test i j
 
 -- the new table joins what the old one joins, and those of which a test is true
-pub record Enters (old new : Square) (test : ℕ → ℕ → Bool) : Type 0 where
+pub record Enters (old new : Grid) (test : ℕ → ℕ → Bool) : Type 0 where
   pub size : new.size ≡ old.size
   pub entries : (i j : ℕ) → i < old.size → j < old.size → entry new i j ≡ (entry old i j || test i j)
 
 -- one entry is true, and the others are as they were
-pub record RaisesEntry (old new : Square) (from to : ℕ) : Type 0 where
+pub record RaisesEntry (old new : Grid) (from to : ℕ) : Type 0 where
   pub size : new.size ≡ old.size
   pub here : entry new from to ≡ true
   pub others : (i j : ℕ) → i < old.size → j < old.size → ¬ ((i ≡ from) × (j ≡ to)) → entry new i j ≡ entry old i j

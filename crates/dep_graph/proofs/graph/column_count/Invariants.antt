@@ -1,10 +1,10 @@
 use Rattle.std.proofs.Common.{◌≡◌, ◌≤◌, true}
-use Rattle.dep_graph.specs.Square.{entry}
+use Rattle.prog_paths.specs.Square.{entry}
 use Rattle.dep_graph.specs.Counting.{IsCountOf}
-use Rattle.dep_graph.proofs.square.Square.column_count.Given as goal
+use Rattle.dep_graph.proofs.graph.column_count.Given as goal
 
 abbrev pub invariant-loop-from : goal.invariant-loop-from
 invariant-loop-from l = record {
-  counted : IsCountOf (λ from. entry l.self from l.to ≡ true) l.from l.count;
+  counted : IsCountOf (λ from. entry l.square from l.to ≡ true) l.from l.count;
   within : l.count ≤ l.from;
 }

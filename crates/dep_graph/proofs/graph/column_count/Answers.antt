@@ -1,10 +1,10 @@
 use Rattle.std.proofs.Common.{◌≡◌, true, subst, sym, ◌∙◌, arith}
 use Rattle.std.proofs.lemmas.Bool.{false≢true}
 use Rattle.dep_graph.specs.Counting.{IsCountOf, none}
-use Rattle.dep_graph.specs.Square.{entry}
+use Rattle.prog_paths.specs.Square.{entry}
 use Rattle.dep_graph.proofs.Counts.{IsCountOf-counted, IsCountOf-passed}
-use Rattle.dep_graph.proofs.square.Square.column_count.Goals as goal
-use Rattle.dep_graph.proofs.square.Square.column_count.Goals.{then-get, else-get}
+use Rattle.dep_graph.proofs.graph.column_count.Goals as goal
+use Rattle.dep_graph.proofs.graph.column_count.Goals.{then-get, else-get}
 
 pub loop-from-init : goal.loop-from-init
 loop-from-init c = record { counted = none; within = omega arith }
@@ -23,6 +23,6 @@ loop-from-preserved c = elim c.if-get.branch [
 
 pub returns-clause-count : goal.returns-clause-count
 returns-clause-count c =
-    let s = c.args.self.now in
+    let s = c.args.square.now in
     let all : c.loop-from.from ≡ s.size = omega arith in
     subst (λ n. IsCountOf (λ from. entry s from c.args.to ≡ true) n c.loop-from.count) all c.loop-from.invariant.counted

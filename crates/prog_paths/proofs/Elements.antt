@@ -1,0 +1,46 @@
+-- Elements of lists: at a place, behind a map, passing a test.
+use Rattle.std.proofs.Common.{◌≡◌, ℕ, ◌⊎◌, inl, inr, Bool, true, List, [], ◌∷◌, map, refl, sym, subst, ap, ◌∙◌, arith, zero, suc, Contains, Some}
+use Rattle.std.specs.Prelude.{slice_get}
+use Rattle.std.specs.List.{list_any}
+use Rattle.std.proofs.lemmas.Bool.{false≢true, or_cases}
+use Rattle.std.proofs.lemmas.List.Folds.{list_any_at}
+use Rattle.std.proofs.lemmas.Option.{none-some, same_Some, slice_get_within, get_or_from_slice_get, slice_get-get_or}
+
+pub contains_at : {A : Type 0} (xs : List A) (n : ℕ) (x : A) → slice_get xs n ≡ Some x → Contains xs x
+contains_at xs n x at = (n, slice_get_within xs n x at, get_or_from_slice_get xs n x x at)
+
+pub place_of : {A : Type 0} (xs : List A) (x : A) → Contains xs x → (n : ℕ) × (slice_get xs n ≡ Some x)
+place_of xs x (n, lt, is) = (n, slice_get-get_or xs n x lt ∙ ap Some is)
+
+-- ---- behind a map
+
+later : {A : Type 0} (x y : A) (xs : List A) → Contains xs y → Contains (x ∷ xs) y
+later x y xs (k, lt, is) = (suc k, omega (arith, lt), is)
+
+pub contains_mapped : {A B : Type 0} (f : A → B) (xs : List A) (x : A) → Contains xs x → Contains (map f xs) (f x)
+contains_mapped f [] x (k, lt, is) = absurd (omega (arith, lt))
+contains_mapped f (y ∷ xs) x (zero, lt, is) = (zero, omega arith, ap f is)
+contains_mapped f (y ∷ xs) x (suc k, lt, is) = later (f y) (f x) (map f xs) (contains_mapped f xs x (k, omega (arith, lt), is))
+
+pub from_mapped : {A B : Type 0} (f : A → B) (xs : List A) (y : B) → Contains (map f xs) y → (x : A) × Contains xs x × (f x ≡ y)
+from_mapped f [] y (k, lt, is) = absurd (omega (arith, lt))
+from_mapped f (x ∷ xs) y (zero, lt, is) = (x, (zero, omega arith, refl), is)
+from_mapped f (x ∷ xs) y (suc k, lt, is) = let r = from_mapped f xs y (k, omega (arith, lt), is) in (r.0, later x r.0 xs r.1, r.2)
+
+pub mapped_at : {A B : Type 0} (f : A → B) (xs : List A) (n : ℕ) (x : A) → slice_get xs n ≡ Some x → slice_get (map f xs) n ≡ Some (f x)
+mapped_at f [] n x at = absurd (none-some x at)
+mapped_at f (y ∷ xs) zero x at = ap (λ z. Some (f z)) (same_Some y x at)
+mapped_at f (y ∷ xs) (suc n) x at = mapped_at f xs n x at
+
+-- ---- passing a test
+
+pub any_in : {A : Type 0} (p : A → Bool) (xs : List A) → list_any p xs ≡ true → (x : A) × Contains xs x × (p x ≡ true)
+any_in p [] h = absurd (false≢true h)
+any_in {A = A} p (x ∷ xs) h = go (or_cases (p x) _ h) (λ t. any_in p xs t)
+  where
+    go : (p x ≡ true) ⊎ (list_any p xs ≡ true) → (list_any p xs ≡ true → (y : A) × Contains xs y × (p y ≡ true)) → (y : A) × Contains (x ∷ xs) y × (p y ≡ true)
+    go (inl a) rest = (x, (zero, omega arith, refl), a)
+    go (inr b) rest = let r = rest b in (r.0, later x r.0 xs r.1, r.2)
+
+pub in_any : {A : Type 0} (p : A → Bool) (xs : List A) (x : A) → Contains xs x → p x ≡ true → list_any p xs ≡ true
+in_any {A = A} p xs x (k, lt, is) h = list_any_at p xs k x lt (subst (λ (y : A). p y ≡ true) (sym is) h)

@@ -1,0 +1,23 @@
+-- What a question gives: an edge from its first node to its second, one back, a vulnerable one.
+use Rattle.std.specs.Prelude.{ℕ, Bool, ◌||◌, ◌&&◌, ◌==◌}
+use Rattle.prog_paths.specs.declared.places.Question.{Question as Asked}
+use Rattle.prog_paths.specs.declared.mark.Mark.{Mark}
+use Rattle.prog_paths.specs.Asked.{asks_read_write, asks_write_read, both_write}
+
+-- what a question gives, by whether its accesses may meet and whether it counts as exposed
+abbrev pub mark_by : Asked → (meets exposed : Bool) → Mark
+mark_by q meets exposed = record {
+  x = q.x;
+  y = q.y;
+  forward = meets && (asks_read_write q.mine q.theirs || both_write q.mine q.theirs);
+  backward = meets && (asks_write_read q.mine q.theirs || both_write q.mine q.theirs);
+  vulnerable = exposed && asks_read_write q.mine q.theirs;
+}
+
+-- the mark is of an edge from x to y
+abbrev pub gives_edge : ℕ → ℕ → Mark → Bool
+gives_edge x y m = (m.forward && (m.x == x && m.y == y)) || (m.backward && (m.y == x && m.x == y))
+
+-- the mark is of a vulnerable edge from x to y
+abbrev pub gives_vulnerable : ℕ → ℕ → Mark → Bool
+gives_vulnerable x y m = m.vulnerable && (m.x == x && m.y == y)
