@@ -1,5 +1,7 @@
 -- A chain is a way by steps: it shows that its first node reaches its last, and there is one wherever a node reaches another.
-use Rattle.std.proofs.Common.{◌≡◌, ℕ, List, [], ◌∷◌, ◌++◌, true, ◌⊎◌, ◌≤ℤ◌, inl, inr, refl, sym, subst, ap, ◌∙◌, arith, length, Contains, get_or, ◌<◌, ◌+◌, suc, zero}
+use Rattle.std.proofs.Common.{◌≡◌, ◌↔◌, ℕ, Bool, List, [], ◌∷◌, ◌++◌, true, ◌⊎◌, ◌≤ℤ◌, inl, inr, refl, sym, subst, ap, ◌∙◌, arith, length, Contains, get_or, ◌<◌, ◌≤◌, ◌+◌, ◌-◌, suc, zero}
+use Rattle.std.proofs.lemmas.Bool.{cases_lt}
+use Rattle.std.proofs.lemmas.List.{get_or_default}
 use Rattle.order_facts.specs.declared.steps.Node.{Node}
 use Rattle.order_facts.specs.declared.steps.Fact.{Fact}
 use Rattle.order_facts.specs.Chain.{floor_of, ceiling_of, IsStep, IsChainFrom, IsChain, RunsBetween, last_of}
@@ -96,6 +98,20 @@ IsChain-from_at facts (a ∷ rest) h s = from-at facts a rest s
 pub at-from_IsChain : (facts : List Fact) (xs : List Node) → IsChain facts xs → (k : ℕ) → k + 1 < length xs → StepAt facts xs k
 at-from_IsChain facts [] c k h = absurd c
 at-from_IsChain facts (a ∷ rest) c k h = at-from facts a rest c k h
+
+-- what the call at i says of the place i - 1
+pub step_at : (facts : List Fact) (xs : List Node) (i : ℕ) (d e : Node) (r : Bool) → 1 ≤ i → i < length xs → ((r ≡ true) ↔ IsStep facts (get_or xs (i - 1) d) (get_or xs i e)) → (r ≡ true) ↔ StepAt facts xs (i - 1)
+unfolding StepAt
+step_at facts xs i d e r one h s =
+    let back : i - 1 + 1 ≡ i = omega arith in
+    rw (back, get_or_default xs (i - 1) (Mine 0) d (omega arith), get_or_default xs i (Mine 0) e h) s
+
+pub step_more : (facts : List Fact) (xs : List Node) (i k : ℕ) → 1 ≤ i → k + 1 < i + 1 → ((n : ℕ) → n + 1 < i → StepAt facts xs n) → StepAt facts xs (i - 1) → StepAt facts xs k
+step_more facts xs i k one h before here = go (cases_lt (k + 1) i)
+  where
+    go : (k + 1 < i) ⊎ (i ≤ k + 1) → StepAt facts xs k
+    go (inl l) = before k l
+    go (inr l) = let e : i - 1 ≡ k = omega arith in subst (λ n. StepAt facts xs n) e here
 
 -- one more node behind a chain
 pub IsChain-push : (facts : List Fact) (xs : List Node) (x z w : Node) → IsChain facts xs → RunsBetween x z xs → IsStep facts z w → IsChain facts (xs ++ w ∷ []) × RunsBetween x w (xs ++ w ∷ [])

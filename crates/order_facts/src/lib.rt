@@ -15,4 +15,4 @@ mod ways;
 pub use closed::Closed;
 pub use given::{Facts, check_chain};
 pub use sample::Sample;
-pub use steps::Node;
+pub use steps::{Node, is_plain_step};

@@ -83,7 +83,7 @@ module _ (nodes : List Path) (c : Certificate) (k : ℕ) (inside : k < length c.
       go (EntryOrder n) (is, q, against) = (e, at n is, q, λ b. against (subst (λ (m : ℕ). IsBehindLast c.entries m e) is b))
       go (BadCover n) (is, q, b, against) = (e, at n is, q, last n is b, against)
       go (BadChain n) (is, q, b, f, against) = (e, at n is, q, last n is b, f, against)
-      go Memory _ = tt
+      go Memory h = absurd h
       go TooLarge h = absurd h
       go PathCount h = absurd h
       go (LevelFalls x y) h = absurd h

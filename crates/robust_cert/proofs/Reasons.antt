@@ -1,7 +1,6 @@
 -- The reason of a cover, by the two accesses of its question.
 use Rattle.std.proofs.Common.{◌≡◌, ℕ, List, sym, subst, ap, ◌∙◌}
 use Rattle.order_facts.specs.declared.steps.Node.{Node}
-use Rattle.order_facts.specs.declared.steps.Fact.{Fact}
 use Rattle.prog_check.specs.declared.path.Access.{Access}
 use Rattle.prog_check.specs.declared.path.Path.{Path}
 use Rattle.prog_paths.specs.StaticGraph.{Question, AsksOf}
@@ -16,13 +15,13 @@ use Rattle.prog_paths.proofs.Marked.{same_access}
 
 pub cover-holds : (nodes : List Path) (e : Entry) (p : cert.Question) (m t : ℕ) (chains : List (List Node)) → e ≡ Cover p m t chains → (mine theirs : Access) → IsAskedPair nodes (question_of e) mine theirs
     → (q : Question) → q ≡ question_of e → (count : ℕ) (of_mine of_theirs : Access) → CoversWith nodes q m t count of_mine of_theirs
-    → (facts : List Fact) (list : List (List Node)) → facts ≡ question_facts mine theirs → list ≡ chains → ShowEqual facts (key_pairs of_mine of_theirs) list → ChainsHold nodes e
-cover-holds nodes e p m t chains is mine theirs pair q named count of_mine of_theirs w facts list of_facts of_list shown =
+    → (list : List (List Node)) → list ≡ chains → ShowEqual (question_facts mine theirs) (key_pairs of_mine of_theirs) list → ChainsHold nodes e
+cover-holds nodes e p m t chains is mine theirs pair q named count of_mine of_theirs w list of_list shown =
     let about : question_of e ≡ numbers_told p = ap question_of is in
     let cover : IsCoverOf nodes (numbers_told p) m t of_mine of_theirs = subst (λ (r : Question). IsCoverOf nodes r m t of_mine of_theirs) (named ∙ about) w.cover in
     let asked : AsksOf nodes (numbers_told p) mine theirs = subst (λ (r : Question). AsksOf nodes r mine theirs) about pair.asked in
     let first = same_access nodes (numbers_told p).x (numbers_told p).a mine cover.mine asked.at_mine cover.asked.at_mine in
     let second = same_access nodes (numbers_told p).y (numbers_told p).b theirs cover.theirs asked.at_theirs cover.asked.at_theirs in
-    let own = subst (λ (l : List (List Node)). ShowEqual (question_facts mine theirs) (key_pairs of_mine of_theirs) l) of_list (subst (λ (fs : List Fact). ShowEqual fs (key_pairs of_mine of_theirs) list) of_facts shown) in
+    let own = subst (λ (l : List (List Node)). ShowEqual (question_facts mine theirs) (key_pairs of_mine of_theirs) l) of_list shown in
     let moved = subst (λ (a : Access). ShowEqual (question_facts cover.mine a) (key_pairs of_mine of_theirs) chains) second (subst (λ (a : Access). ShowEqual (question_facts a theirs) (key_pairs of_mine of_theirs) chains) first own) in
     subst (ChainsHold nodes) (sym is) (of_mine, of_theirs, cover, moved)

@@ -2,17 +2,19 @@
 use Rattle.std.specs.Prelude.{◌≡◌, ℕ, ℤ, ◌<ℤ◌, ◌*◌, List, length, Some, slice_get}
 use Rattle.order_facts.specs.declared.steps.Node.{Node}
 use Rattle.order_facts.specs.declared.steps.Node.TheVariants.{Number}
+use Rattle.order_facts.specs.declared.steps.Fact.{Fact}
 use Rattle.order_facts.specs.Chain.{RunsBetween}
 use Rattle.prog_check.specs.declared.path.Access.{Access}
 use Rattle.prog_check.specs.declared.path.Path.{Path}
 use Rattle.prog_paths.specs.StaticGraph.{Question, AsksOf}
 use Rattle.prog_paths.specs.Asked.{Asks, IsQuestion}
+use Rattle.prog_paths.specs.Questions.{question_facts}
 use Rattle.prog_paths.specs.Shown.{key_pairs}
 use Rattle.robust_cert.specs.declared.certificate.Entry.{Entry}
 use Rattle.robust_cert.specs.declared.flaw.Flaw.{Flaw}
 use Rattle.robust_cert.specs.declared.flaw.Flaw as flaw
 use Rattle.robust_cert.specs.declared.fault.CertFault.{CertFault}
-use Rattle.robust_cert.specs.declared.fault.CertFault.TheVariants.{NoSuchEntry, EntryOrder, BadChain, BadCover, Memory}
+use Rattle.robust_cert.specs.declared.fault.CertFault.TheVariants.{NoSuchEntry, EntryOrder, BadChain, BadCover}
 use Rattle.robust_cert.specs.Accepted.{question_of, IsCoverOf, IsFitting, ChainsHold, Holds}
 use Rattle.robust_cert.specs.Refused.{IsBehindLast}
 
@@ -20,6 +22,10 @@ use Rattle.robust_cert.specs.Refused.{IsBehindLast}
 pub record IsAskedPair (nodes : List Path) (q : Question) (mine theirs : Access) : Type 0 where
   pub asked : AsksOf nodes q mine theirs
   pub asks : Asks q mine.kind theirs.kind
+
+-- the facts of the question between two accesses
+abbrev pub facts_between : Access × Access → List Fact
+facts_between asked = question_facts asked.0 asked.1
 
 -- the nodes begin with a number and end with a smaller one
 pub record RunsDown (chain : List Node) : Type 0 where
@@ -37,7 +43,6 @@ pub record CoversWith (nodes : List Path) (q : Question) (m t count : ℕ) (of_m
 abbrev pub IsFlawOf : List Path → Entry → Flaw → Type 0
 IsFlawOf nodes e flaw.TheVariants.Cover = ¬ IsFitting nodes e
 IsFlawOf nodes e flaw.TheVariants.Chain = IsFitting nodes e × ¬ ChainsHold nodes e
-IsFlawOf nodes e flaw.TheVariants.Memory = Unit {0}
 
 -- the entry of a number holds, and stands behind the one before it
 abbrev pub StandsAt : List Path → List Entry → ℕ → Type 0
@@ -53,7 +58,6 @@ IsFaultOf nodes entries k e (BadCover n) =
 IsFaultOf nodes entries k e (BadChain n) =
     (n ≡ k) × IsQuestion nodes (question_of e) × IsBehindLast entries k e × IsFitting nodes e
     × ¬ ChainsHold nodes e
-IsFaultOf nodes entries k e Memory = Unit {0}
 IsFaultOf nodes entries k e _ = ⊥
 
 abbrev pub IsFaultAt : List Path → List Entry → ℕ → CertFault → Type 0

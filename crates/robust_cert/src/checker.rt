@@ -47,7 +47,7 @@ fn check(alloc: Global, set: &ProgramSet, certificate: &Certificate) -> Result<(
 {
     let paths = paths(alloc, set)?;
     check_size(&paths, certificate)?;
-    check_entries(alloc, &paths, certificate)?;
+    check_entries(&paths, certificate)?;
     check_left(alloc, &paths, certificate)
 }
 

@@ -10,7 +10,6 @@ use crate::fault::CertFault;
 use crate::flaw::{Flaw, asked_pair, check_reason};
 use crate::numbers::Numbers;
 use prog_check::Path;
-use std::alloc::Global;
 
 /// Whether the entry of a number stands behind the one before it.
 fn is_behind_last(entries: &[Entry], k: usize) -> bool
@@ -22,7 +21,7 @@ fn is_behind_last(entries: &[Entry], k: usize) -> bool
 }
 
 /// Whether the entry of a number is about a question, stands behind the last, and says what holds.
-fn check_entry(alloc: Global, paths: &[Path], entries: &[Entry], k: usize) -> Result<(), CertFault>
+fn check_entry(paths: &[Path], entries: &[Entry], k: usize) -> Result<(), CertFault>
     requires { k < length entries.now }
     ensures stands { OnOk result (StandsAt paths.now entries.now k) }
     ensures fault { IfErr result (λ fault. IsFaultAt paths.now entries.now k fault) }
@@ -34,20 +33,15 @@ fn check_entry(alloc: Global, paths: &[Path], entries: &[Entry], k: usize) -> Re
     if !is_behind_last(entries, k) {
         return Err(CertFault::EntryOrder(k));
     }
-    match check_reason(alloc, paths, asked, entry) {
+    match check_reason(paths, &asked, entry) {
         Ok(()) => Ok(()),
         Err(Flaw::Cover) => Err(CertFault::BadCover(k)),
         Err(Flaw::Chain) => Err(CertFault::BadChain(k)),
-        Err(Flaw::Memory) => Err(CertFault::Memory),
     }
 }
 
 /// Whether all entries rise and hold, or which is the first that doesn't.
-pub fn check_entries(
-    alloc: Global,
-    paths: &[Path],
-    certificate: &Certificate,
-) -> Result<(), CertFault>
+pub fn check_entries(paths: &[Path], certificate: &Certificate) -> Result<(), CertFault>
     requires { IsOfSize paths.now certificate.now }
     ensures stand { OnOk result
         (StandTo paths.now certificate.now (length certificate.now.entries)) }
@@ -55,7 +49,7 @@ pub fn check_entries(
 {
     let entries = certificate.entries.as_slice();
     for k in 0..entries.len() {
-        check_entry(alloc, paths, entries, k)?;
+        check_entry(paths, entries, k)?;
     }
     Ok(())
 }

@@ -5,6 +5,7 @@
 //! tells its first fault.
 #![tactic(auto)]
 
+mod by_facts;
 mod certificate;
 mod checker;
 mod entry_check;

@@ -1,6 +1,6 @@
 use Rattle.prog_paths.specs.Questions.{column_facts, second_facts}
 use Rattle.robust_cert.proofs.Facts.{in_other}
-use Rattle.robust_cert.proofs.flaw.is_fact.Goals as goal
+use Rattle.robust_cert.proofs.by_facts.is_fact.Goals as goal
 
 pub returns-else-is_column_fact : goal.returns-else-is_column_fact
 returns-else-is_column_fact c =
