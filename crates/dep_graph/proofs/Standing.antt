@@ -9,7 +9,7 @@ use Rattle.std.proofs.lemmas.Option.{slice_get_within, same_Some}
 use Rattle.prog_check.specs.declared.path.Access.{Access}
 use Rattle.prog_check.specs.declared.path.Path.{Path}
 use Rattle.prog_paths.specs.Meeting.{CanMeet}
-use Rattle.prog_paths.specs.StaticGraph.{Question, AsksReadWrite, StaticEdge, IsExposed, IsVulnerable}
+use Rattle.prog_paths.specs.StaticGraph.{Question, AsksOf, AsksReadWrite, StaticEdge, IsExposed, IsVulnerable}
 use Rattle.prog_paths.specs.declared.places.Question.{Question as Asked}
 use Rattle.prog_paths.specs.declared.mark.Mark.{Mark}
 use Rattle.prog_paths.specs.Asked.{numbers_of, questions_of}
@@ -17,7 +17,7 @@ use Rattle.prog_paths.specs.Listing.{IsAskedOf, IsBefore}
 use Rattle.prog_paths.specs.Marks.{mark_by, gives_edge, gives_vulnerable}
 use Rattle.prog_paths.proofs.Edges.{HasQuestion-inside, EdgeOf-inside}
 use Rattle.prog_paths.proofs.Elements.{contains_at, place_of, contains_mapped, from_mapped, mapped_at, any_in, in_any}
-use Rattle.prog_paths.proofs.Marked.{same_asked, edge-from_mark, vulnerable-from_mark, vulnerable-from_mark-question, mark-from_edge, mark-from_vulnerable}
+use Rattle.prog_paths.proofs.Marked.{same_access, same_asked, edge-from_mark, vulnerable-from_mark, vulnerable-from_mark-question, mark-from_edge, mark-from_vulnerable}
 use Rattle.prog_paths.proofs.Membership.{law_of_listing}
 use Rattle.prog_paths.proofs.Order.{law_of_order, rise-between}
 use Rattle.conflict_pairs.specs.declared.outcome.Verdict.{Verdict}
@@ -232,6 +232,8 @@ module _ (t : Table) (paths : List Path) (s : StandsFor t paths) where
   IsLeastExposed-from_first x y e f = record {
     exposed = here.exposed;
     is = here.is ∙ ap numbers_of same_question;
+    mine_kind = ap (λ (q : Asked). q.mine) (sym same_question) ∙ told.mine_kind ∙ ap (λ (a : Access). a.kind) (same_access paths here.entry.question.x here.entry.question.a told.mine here.exposed.mine told.asked.at_mine asked.at_mine);
+    their_kind = ap (λ (q : Asked). q.theirs) (sym same_question) ∙ told.their_kind ∙ ap (λ (a : Access). a.kind) (same_access paths here.entry.question.y here.entry.question.b told.theirs here.exposed.theirs told.asked.at_theirs asked.at_theirs);
     sample = sample;
     least = λ h. subst (λ (q : Asked). (q.a < h.question.a) ⊎ ((q.a ≡ h.question.a) × (q.b ≤ h.question.b))) same_question (place.least h);
   }
@@ -247,6 +249,12 @@ module _ (t : Table) (paths : List Path) (s : StandsFor t paths) where
 
       same_question : here.entry.question ≡ e.question
       same_question = ap (λ (d : Entry). d.question) same ∙ f.question
+
+      told : IsAskedOf paths here.entry.question
+      told = asked_of here.entry (contains_at t.entries f.place here.entry here.at)
+
+      asked : AsksOf paths (numbers_of here.entry.question) here.exposed.mine here.exposed.theirs
+      asked = subst (λ (q : Question). AsksOf paths q here.exposed.mine here.exposed.theirs) here.is here.exposed.asked
 
       verdict : here.entry.verdict ≡ Exposed e.sample
       verdict = ap (λ (d : Entry). d.verdict) same ∙ f.verdict

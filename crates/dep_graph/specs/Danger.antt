@@ -23,10 +23,13 @@ pub record IsFirstExposure (t : Table) (x y : ℕ) (e : Exposure) : Type 0 where
   pub question : entry.question ≡ e.question
   pub verdict : entry.verdict ≡ Exposed e.sample
 
--- a question that makes the edge from x to y vulnerable, with its sample; none of these questions is before it
+-- a question that makes the edge from x to y vulnerable, with its kinds and its sample; none of these questions is
+-- before it
 pub record IsLeastExposed (paths : List Path) (x y : ℕ) (e : Exposure) : Type 0 where
   pub exposed : HasQuestion AsksReadWrite (IsExposed paths) paths x y
   pub is : exposed.question ≡ numbers_of e.question
+  pub mine_kind : e.question.mine ≡ exposed.mine.kind
+  pub their_kind : e.question.theirs ≡ exposed.theirs.kind
   pub sample : IsExposedBy paths exposed.question exposed.mine exposed.theirs e.sample
   pub least : (h : HasQuestion AsksReadWrite (IsExposed paths) paths x y)
       → (e.question.a < h.question.a) ⊎ ((e.question.a ≡ h.question.a) × (e.question.b ≤ h.question.b))
