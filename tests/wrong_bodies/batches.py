@@ -10,8 +10,8 @@ from edits import BadEdit, apply
 from functions import calls, function_at, functions_of
 from twins import add_twins, has_twin
 
-# how many edits of functions of their own share one check: as many as are worth loading a crate once more
-MOST_TWINS = 12
+# how many edits of functions of their own share one check: as many as memory holds
+MOST_TWINS = 24
 
 
 @dataclass
@@ -28,7 +28,6 @@ class Batch:
     bodies: list = field(default_factory=list)
     texts: dict = field(default_factory=dict)  # as the edits make them
     turned: dict = field(default_factory=dict)  # for each edit, the files and paths of the functions that have its lines
-    is_beside: bool = False  # each edit has a function of its own
 
     def functions(self, bodies):
         """Returns the functions that have the lines of these edits."""
@@ -85,7 +84,7 @@ def batches_of(bodies, texts):
     beside = [it for it in bodies if not it.is_alone and has_twin(it, texts)]
     count = -(-len(beside) // MOST_TWINS)
     # edits of one function, and so of one cost, go to different checks
-    batches = [Batch(part, *add_twins(part, texts), True) for part in (beside[at::count] for at in range(count))]
+    batches = [Batch(part, *add_twins(part, texts)) for part in (beside[at::count] for at in range(count))]
     in_place = []
     for body in bodies:
         if body in beside:

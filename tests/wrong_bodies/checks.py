@@ -1,7 +1,8 @@
 """One check of a crate with many edits, and what it says of each edited function.
 
-Every function that is not edited, where that can be, gets a hole for its proof: so the edited ones are proved over
-the contracts of what they call, nothing else is proved again, and no failure reaches from one function to another.
+Every function that is not edited, where that can be, has no body and a hole for its proof: so the edited ones are
+proved over the contracts of what they call, nothing else is proved again, nor is what only the others call, and no
+failure reaches from one function to another.
 """
 import os
 import re
@@ -49,23 +50,29 @@ def crates_of(root):
         for it in (f"{KIT}/rlibs", *(f"{root}/crates/{dep}/out/rlib" for dep in below(name))):
             found += ["-L", f"dependency={it}"]
         logic = ["--antt-project", f"{KIT}/rattle/logic/antt-project.json", "--logic-built", f"{KIT}/logic_built"]
-        return [*found, *logic, "--jobs", "1", "--allow-holes"]
+        return [*found, *logic, "--allow-holes"]
 
     return [Crate(name, f"{root}/crates/{name}", words(name)) for name in uses]
 
 
 def with_holes(crate, texts, kept):
-    """Returns the texts with a hole for the proof of each plain function but those kept, or in a cycle of calls."""
-    texts = dict(texts)
-    for it in all_functions(texts):
+    """Returns the texts with no body, and a hole for the proof, of each plain function but those kept, or in a cycle of calls."""
+    functions, texts = all_functions(texts), dict(texts)
+    # those behind others first, so that the places of these stay right
+    for it in sorted(functions, key=lambda it: -it.body):
         folder = f"proofs/{'/'.join(it.path)}"
-        if it.is_plain and it not in kept and folder not in crate.in_cycles:
-            for file in ("Answers", "Invariants"):
-                texts.pop(f"{folder}/{file}.antt", None)
-            texts[f"{folder}/Proof.antt"] = (
-                f"use Rattle.{crate.name}.proofs.{'.'.join(it.path)}.Statement.{{statement}}\n\n"
-                f"pub {it.path[-1]}_spec : {{M : Type 1}} → statement M\n{it.path[-1]}_spec = ?\n"
-            )
+        if not it.is_plain or it in kept or folder in crate.in_cycles:
+            continue
+        text, behind = texts[it.file], it.span[1]
+        # as many lines as it had, so that those behind it stay where they are
+        lines = "\n" * text.count("\n", it.body, behind)
+        texts[it.file] = f"{text[:it.body]}{{ unreachable!(){lines} }}{text[behind:]}"
+        for file in ("Answers", "Invariants"):
+            texts.pop(f"{folder}/{file}.antt", None)
+        texts[f"{folder}/Proof.antt"] = (
+            f"use Rattle.{crate.name}.proofs.{'.'.join(it.path)}.Statement.{{statement}}\n\n"
+            f"pub {it.path[-1]}_spec : {{M : Type 1}} → statement M\n{it.path[-1]}_spec = ?\n"
+        )
     return texts
 
 

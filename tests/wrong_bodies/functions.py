@@ -20,6 +20,7 @@ class Function:
     is_plain: bool  # a free function or a method of a type, in no cycle of calls
     text: str
     span: tuple  # where it begins and ends in the file's text
+    body: int  # where its body's brace stands there, or its end where it has none
 
     @property
     def name(self):
@@ -96,27 +97,27 @@ def functions_of(file, text):
                 behind = group_end(plain, brace)
                 walk(brace + 1, behind - 1, (*path, item["name"]), item["kind"] == "trait")
             else:
-                behind = function_end(plain, at)
+                brace, behind = body_of(plain, at)
                 first, last = plain.count("\n", 0, item.start()) + 1, plain.count("\n", 0, behind) + 1
                 is_plain = not is_trait and "cycle" not in item["attributes"]
                 span = (item.start(), behind)
-                found.append(Function(file, first, last, (*path, item["name"]), is_plain, plain[slice(*span)], span))
+                found.append(Function(file, first, last, (*path, item["name"]), is_plain, plain[slice(*span)], span, brace))
             at = behind
 
     walk(0, len(plain), module_of(file), False)
     return found
 
 
-def function_end(plain, at):
-    """Returns the place behind a function's body, or behind the semicolon of one that has none."""
+def body_of(plain, at):
+    """Returns the place of the brace of a function's body, and that behind it; of one that has none, twice that behind its semicolon."""
     while sign := re.compile(r"[{;]").search(plain, at):
         if sign[0] == ";":
-            return sign.end()
+            return sign.end(), sign.end()
         behind = group_end(plain, sign.start())
         if not CLAUSE.search(plain[at : sign.start()]):
-            return behind
+            return sign.start(), behind
         at = behind
-    return len(plain)
+    return len(plain), len(plain)
 
 
 def function_at(functions, line):
@@ -128,3 +129,11 @@ def function_at(functions, line):
 def calls(caller, callee):
     """Whether a function's text names another as something that it calls, or hands on."""
     return bool(re.search(rf"(?<!fn )\b{re.escape(callee.path[-1])}\b", caller.text.partition("{")[2] + caller.text))
+
+
+def calls_itself(function):
+    """Whether a function's body names the function, by no value or module but its own."""
+    name = re.escape(function.path[-1])
+    owner = re.escape(function.path[-2]) if len(function.path) > 1 else "Self"
+    body = function.text[function.body - function.span[0] :]
+    return bool(re.search(rf"(?<![.:\w]){name}\b(?!\s*:)|\b(?:self\.|Self::|{owner}::){name}\b", body))

@@ -5,7 +5,7 @@ Nothing calls a twin, so any number of edits of one function, and of functions t
 import re
 
 from edits import apply
-from functions import calls, functions_of
+from functions import calls_itself, functions_of
 
 MARK = "_turned_"
 
@@ -27,7 +27,7 @@ def has_twin(body, texts):
     if len(body.functions) != 1 or not body.functions[0].is_plain or len({file for file, _, _ in body.edit.pairs}) != 1:
         return False
     _, function = turned_function(body, texts)
-    return function is not None and not calls(function, function)
+    return function is not None and not calls_itself(function)
 
 
 def add_twins(bodies, texts):
