@@ -18,8 +18,6 @@ mod run_command;
 mod run_fault;
 mod status;
 mod verify;
-#[cfg(test)]
-mod word_tests;
 
 use crate::program::carry_out;
 use si_engine::Port;
