@@ -1,5 +1,5 @@
 -- What a run of a script writes.
-use Rattle.std.specs.Prelude.{◌≡◌, ℕ, Bool, true, false, List, [], ◌∷◌, ◌++◌, length, map, Option, Result, Ok, Err}
+use Rattle.std.specs.Prelude.{◌≡◌, ℕ, Bool, true, false, List, [], ◌∷◌, ◌++◌, length, map, Option, Result, Ok, Err, IfOk}
 use Rattle.std.specs.List.{concat, zip}
 use Rattle.prog_tree.specs.declared.table.TableDecl.{TableDecl}
 use Rattle.prog_tree.specs.Syntax.{DraftTree}
@@ -7,6 +7,7 @@ use Rattle.prog_tree.specs.Table.{TableState}
 use Rattle.history_book.specs.History.{Instance, state_after}
 use Rattle.si_engine.specs.declared.event.Event.{Event}
 use Rattle.si_engine.specs.declared.finding.Finding.{Finding}
+use Rattle.si_engine.specs.declared.finding.Finding.TheVariants.{Order}
 use Rattle.si_engine.specs.declared.robust_run.Outcome.{Outcome}
 use Rattle.si_engine.specs.declared.script.Script.{Script}
 use Rattle.si_engine.specs.declared.script_fault.ScriptFault.{ScriptFault}
@@ -95,3 +96,9 @@ abbrev pub IsRunReply :
     DraftTree → (left : Option (List ℕ)) → (failed : Bool) → List ℕ → Result Finding ScriptFault → Type 0
 IsRunReply set left false written ended = ForInput left (λ part. IsRunOf set part written ended)
 IsRunReply set left true written ended = IsUnreadRun written ended
+
+-- and that of a run on a robust set, which ends in an order
+abbrev pub IsOrderedReply :
+    DraftTree → (left : Option (List ℕ)) → (failed : Bool) → List ℕ → Result Finding ScriptFault → Type 0
+IsOrderedReply set left failed written ended =
+    IsRunReply set left failed written ended × IfOk ended (λ finding. finding ≡ Order)

@@ -4,7 +4,7 @@ ghost use Rattle.std.specs.List.{zip};
 ghost use Rattle.prog_tree.specs.Tree.{draft_tree};
 ghost use Rattle.si_engine.specs.LastLine.{last_line};
 ghost use Rattle.si_engine.specs.Reading.{ForInput};
-ghost use Rattle.si_engine.specs.Runs.{exchange_lines, outcome_lines, run_lines, Adds, AddsFirst, AddsRun, IsRunOf, IsUnreadRun, IsRunReply};
+ghost use Rattle.si_engine.specs.Runs.{exchange_lines, outcome_lines, run_lines, Adds, AddsFirst, AddsRun, IsRunOf, IsUnreadRun, IsOrderedReply};
 ghost use Rattle.si_engine.specs.Writing.{WritesOr};
 
 use crate::event::{Event, Reply};
@@ -104,7 +104,7 @@ pub fn run_robust_script<S: Source, K: Sink>(
     sink: &mut K,
 ) -> Result<Finding, ScriptFault>
     ensures run { WritesOr (Err ScriptFault.WriteFault)
-        (IsRunReply (draft_tree set.now) (S.left source.old) (S.has_failed source.new))
+        (IsOrderedReply (draft_tree set.now) (S.left source.old) (S.has_failed source.new))
         (K.has_failed sink.new) (K.taken sink.old) (K.taken sink.new) result }
     ensures reads { S.pulls source.new ≤ S.pulls source.old + MOST_READS }
     ensures order { IfOk result (λ finding. finding ≡ Finding.Order) }

@@ -1,5 +1,5 @@
 -- Laws on how a command stops, and on what is then written.
-use Rattle.std.proofs.Common.{◌≡◌, ◌⊎◌, inl, inr, ◌≤◌, ◌<◌, ◌-◌, ◌^◌, ◌+◌, ◌++◌, ℕ, Bool, true, false, List, [], ◌∷◌, length, map, take, drop, replicate, take-append-drop, take_at, append_assoc, append-nil, zero-add, suc-add, arith, Option, Some, None, Result, Ok, Err, IfSome, refl, sym, subst, ap, ◌∙◌}
+use Rattle.std.proofs.Common.{◌≡◌, ◌⊎◌, inl, inr, ◌≤◌, ◌<◌, ◌-◌, ◌^◌, ◌+◌, ◌++◌, ℕ, Bool, true, false, List, [], ◌∷◌, length, map, take, drop, replicate, take-append-drop, take_at, append_assoc, append-nil, zero-add, suc-add, arith, Option, Some, None, Result, Ok, Err, IfOk, IfSome, refl, sym, subst, ap, ◌∙◌}
 use Rattle.std.proofs.KnownBytes.{Appends-nil, Appends-trans}
 use Rattle.std.proofs.lemmas.List.{length-replicate}
 use Rattle.std.proofs.lemmas.List.FromFn.{length-map-range_with_len}
@@ -23,7 +23,7 @@ use Rattle.si_engine.specs.declared.source.InputFault.TheVariants as i
 use Rattle.si_engine.specs.Reading.{CanGive, ForInput}
 use Rattle.si_engine.specs.Records.{records_of, IsRecords, IsRecordsFault}
 use Rattle.si_engine.specs.RowLines.{Fails}
-use Rattle.si_engine.specs.Runs.{end_lines, AddsEnd, AddsFirst, IsRunOf, IsRunReply}
+use Rattle.si_engine.specs.Runs.{end_lines, AddsEnd, AddsFirst, IsRunOf, IsRunReply, IsOrderedReply}
 use Rattle.si_engine.specs.Runs as r
 use Rattle.si_engine.specs.Sayings.{IsPartFault}
 use Rattle.si_engine.specs.Script.{script_of}
@@ -36,7 +36,7 @@ use Rattle.sirob.specs.declared.run_fault.RunFault.TheVariants as fault
 use Rattle.sirob.specs.declared.status.Status.{Status}
 use Rattle.sirob.specs.declared.status.Status.TheVariants as status
 use Rattle.sirob.specs.FaultLines.{fault_line, is_memory}
-use Rattle.sirob.specs.Output.{parts_wanted, Gives, GivesPart, GivesFirstPart, HasSet, MayRun, IsAudited, IsChecked, IsRefused, IsRefusedInput, IsRefusedPart, StopsBehind, at_once, behind_lines, memory_line, IsAnswer, done, refused, stopped, IsUnread, IsReply, Writes}
+use Rattle.sirob.specs.Output.{parts_wanted, Gives, GivesPart, GivesFirstPart, HasSet, MayEnd, MayRun, IsAudited, IsChecked, IsRefused, IsRefusedInput, IsRefusedPart, StopsBehind, at_once, behind_lines, memory_line, IsAnswer, done, refused, stopped, IsUnread, IsReply, Writes}
 use Rattle.sirob.specs.Output as u
 use Rattle.sirob.specs.Status.{status_of}
 use Rattle.sirob.specs.Stops.{IsUnanalysedBy, IsStop, IsReadFault, Ends, well, in_fault, in_memory, IsJust, IsSetAndPart, IsPartStop, IsPartDone, IsInputDone, IsSourceDone, as_command, write_lost}
@@ -136,12 +136,31 @@ part_fails read part Q within told s.WriteFault wrong no_memory = absurd wrong
 
 -- a run of the script that a part is
 script_done : (robust : Bool) (set : DraftTree) (part : List ℕ) → MayRun robust set → length part ≤ 16777216
-    → (written : List ℕ) (inner : Result Finding ScriptFault) → IsRunOf set part written inner → IsPartDone (Run robust) set part written (as_command inner)
-script_done robust set part may within _ _ (r.done script is finding written adds) = (inl (may, (finding, script, is.read, adds, refl)), tt)
-script_done robust set part may within _ _ (r.refused f wrong) =
+    → (written : List ℕ) (inner : Result Finding ScriptFault) → IsRunOf set part written inner → IfOk inner (MayEnd robust)
+    → IsPartDone (Run robust) set part written (as_command inner)
+script_done robust set part may within _ _ (r.done script is finding written adds) ends = (inl (may, (finding, ends, script, is.read, adds, refl)), tt)
+script_done robust set part may within _ _ (r.refused f wrong) ends =
     let told = part_fails (script_of set part) part (λ g. IsRefusedPart (Run robust) set part (fault.Script g)) within (λ g e. (may, e)) f wrong in
     (tt, part_at_once (Run robust) set part (fault.Script f) told)
-script_done robust set part may within _ _ (r.stopped script is written first) = (tt, ((λ no_memory. absurd (cc)), (λ memory. inr (may, script, is.read, first))))
+script_done robust set part may within _ _ (r.stopped script is written first) ends = (tt, ((λ no_memory. absurd (cc)), (λ memory. inr (may, script, is.read, first))))
+
+-- what a run writes of the bytes at hand
+abbrev IsReplyOn : (robust : Bool) → DraftTree → List ℕ → (broken : Bool) → List ℕ → Result Finding ScriptFault → Type 0
+IsReplyOn false set left broken = IsRunReply set (Some left) broken
+IsReplyOn true set left broken = IsOrderedReply set (Some left) broken
+
+-- of a run on any set no end is asked
+ends_freely : (inner : Result Finding ScriptFault) → IfOk inner (MayEnd false)
+ends_freely (Ok finding) = tt
+ends_freely (Err f) = tt
+
+-- a run of the bytes at hand
+reply_done : (robust : Bool) (set : DraftTree) (left part : List ℕ) → MayRun robust set → left ≡ part → length part ≤ 16777216
+    → (written : List ℕ) (inner : Result Finding ScriptFault) → IsReplyOn robust set left false written inner → IsPartDone (Run robust) set part written (as_command inner)
+reply_done false set left part may same within written inner (input, is, run) =
+    script_done false set part may within written inner (subst (λ (p : List ℕ). IsRunOf set p written inner) (is ∙ same) run) (ends_freely inner)
+reply_done true set left part may same within written inner ((input, is, run), order) =
+    script_done true set part may within written inner (subst (λ (p : List ℕ). IsRunOf set p written inner) (is ∙ same) run) order
 
 -- the records of a part that could be read
 pub records_read : (set : DraftTree) (left part : List ℕ) (records : Records) → left ≡ part
@@ -364,14 +383,12 @@ not_broken false pulls before counted few none = refl
 not_broken true pulls before counted few none = let all = counted refl in absurd (omega (arith, all, few, none))
 
 pub part_run : (robust : Bool) (set : DraftTree) (left part : List ℕ) (broken failed : Bool) (old new : Option (List ℕ)) (inner : Result Finding ScriptFault)
-    → MayRun robust set → left ≡ part → length part ≤ 16777216 → broken ≡ false → WritesOr (Err s.WriteFault) (IsRunReply set (Some left) broken) failed old new inner
+    → MayRun robust set → left ≡ part → length part ≤ 16777216 → broken ≡ false → WritesOr (Err s.WriteFault) (IsReplyOn robust set left broken) failed old new inner
     → WritesOr (Err write_lost) (IsPartDone (Run robust) set part) failed old new (as_command inner)
 part_run robust set left part true failed old new inner may same within works writes = absurd (cc)
 part_run robust set left part false failed old new inner may same within works writes =
-    writes_or_as as_command (Err s.WriteFault) (IsRunReply set (Some left) false) (IsPartDone (Run robust) set part) failed old new inner turn writes
-  where
-    turn : (written : List ℕ) (end : Result Finding ScriptFault) → IsRunReply set (Some left) false written end → IsPartDone (Run robust) set part written (as_command end)
-    turn written end (input, is, run) = script_done robust set part may within written end (subst (λ (p : List ℕ). IsRunOf set p written end) (is ∙ same) run)
+    writes_or_as as_command (Err s.WriteFault) (IsReplyOn robust set left false) (IsPartDone (Run robust) set part) failed old new inner
+    (reply_done robust set left part may same within) writes
 
 -- a fault before anything is written
 pub input_stopped : (mode : Mode) (input : List ℕ) (f : RunFault) (failed : Bool) (old : Option (List ℕ)) → failed ≡ false → IsStop mode input f []

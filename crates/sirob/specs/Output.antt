@@ -22,6 +22,7 @@ use Rattle.history_book.specs.History.{IsLawful}
 use Rattle.history_book.specs.TrueBook.{IsTrueRow}
 use Rattle.history_book.specs.View.{history_of, most_endings}
 use Rattle.si_engine.specs.declared.finding.Finding.{Finding}
+use Rattle.si_engine.specs.declared.finding.Finding.TheVariants.{Order}
 use Rattle.si_engine.specs.declared.records.Records.{Records}
 use Rattle.si_engine.specs.declared.script.Script.{Script}
 use Rattle.si_engine.specs.declared.script_fault.LineFault.{LineFault}
@@ -207,10 +208,15 @@ pub record ShowsRobust (set : DraftTree) (part : List ℕ) : Type 0 where
   pub read : IsTextOf certificate part
   pub accepted : IsAccepted (paths_of set) certificate
 
+-- how a run may end: on a robust set in an order, and else in an order or a cycle
+abbrev pub MayEnd : (robust : Bool) → Finding → Type 0
+MayEnd false finding = Unit {0}
+MayEnd true finding = finding ≡ Order
+
 -- all lines of the script that the part is
-abbrev pub GivesRun : DraftTree → List ℕ → List ℕ → Status → Type 0
-GivesRun set part written status =
-    (finding : Finding) × (script : Script) × (script_of set part ≡ Ok script)
+abbrev pub GivesRun : (robust : Bool) → DraftTree → List ℕ → List ℕ → Status → Type 0
+GivesRun robust set part written status =
+    (finding : Finding) × MayEnd robust finding × (script : Script) × (script_of set part ≡ Ok script)
     × AddsRun set script finding [] written × (status ≡ status_of finding)
 
 -- the lines of the rows that audited records leave, and the last line
@@ -224,7 +230,7 @@ GivesAudit set part written status =
 abbrev pub GivesPart : Mode → DraftTree → List ℕ → List ℕ → Status → Type 0
 GivesPart Verify set part written status = ShowsRobust set part × (written ≡ codes "robust\n") × (status ≡ Done)
 GivesPart (Run robust) set part written status =
-    (MayRun robust set × GivesRun set part written status) ⊎ ((robust ≡ true) × GivesRefusal set written status)
+    (MayRun robust set × GivesRun robust set part written status) ⊎ ((robust ≡ true) × GivesRefusal set written status)
 GivesPart Audit set part written status = GivesAudit set part written status
 GivesPart mode set part written status = ⊥
 
