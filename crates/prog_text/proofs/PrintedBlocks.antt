@@ -6,6 +6,7 @@ use Rattle.prog_tree.proofs.TreeLemmas.{with_stmts-push}
 use Rattle.prog_tree.specs.Tree.{stmt_tree, with_stmt, with_stmts, stmts_tree}
 use Rattle.prog_tree.specs.declared.stmt.Stmt.{Stmt}
 use Rattle.prog_text.specs.Canonical.{Mark, mark_bytes, bytes_of, else_line, else_marks, block_marks}
+use Rattle.prog_text.specs.Printed.{Page, added}
 
 -- a statement, and the rest of its block
 block_from_marks : (depth : ℕ) (x : StmtTree) (rest : BlockTree) → block_marks depth (block_from x rest) ≡ block_marks depth (block_from x BlockEnd) ++ block_marks depth rest
@@ -30,13 +31,17 @@ pub else_marks_stmts : (depth : ℕ) (ss : List Stmt) → (length ss ≡ 0 → �
 else_marks_stmts depth [] h = absurd (h refl)
 else_marks_stmts depth (s ∷ ss) h = else_marks_full depth (stmt_tree s) (stmts_tree ss)
 
+abbrev at_depth : ℕ → List ℕ → Page
+at_depth depth bytes = record { bytes = bytes; depth = depth }
+
 -- one more statement is printed
-pub printed_more : (depth : ℕ) (ss : List Stmt) (s : Stmt) (old text new : List ℕ) → text ≡ old ++ bytes_of (block_marks depth (stmts_tree ss))
-    → new ≡ text ++ bytes_of (block_marks depth (with_stmt s BlockEnd)) → new ≡ old ++ bytes_of (block_marks depth (stmts_tree (ss ++ s ∷ [])))
-printed_more depth ss s old text new before more =
+pub printed_more : (ss : List Stmt) (s : Stmt) (old page new : Page) → page ≡ added (bytes_of (block_marks old.depth (stmts_tree ss))) old
+    → new ≡ added (bytes_of (block_marks page.depth (with_stmt s BlockEnd))) page → new ≡ added (bytes_of (block_marks old.depth (stmts_tree (ss ++ s ∷ [])))) old
+printed_more ss s old page new before more =
+    let last = bytes_of (block_marks old.depth (with_stmt s BlockEnd)) in
     more
-    ∙ ap (λ (front : List ℕ). front ++ bytes_of (block_marks depth (with_stmt s BlockEnd))) before
-    ∙ append_assoc old (bytes_of (block_marks depth (stmts_tree ss))) (bytes_of (block_marks depth (with_stmt s BlockEnd)))
-    ∙ ap (λ (here : List ℕ). old ++ here) (sym (flat_map-append mark_bytes (block_marks depth (stmts_tree ss)) (block_marks depth (with_stmt s BlockEnd)))
-    ∙ ap bytes_of (sym (with_stmts_marks depth ss (with_stmt s BlockEnd))))
-    ∙ ap (λ (b : BlockTree). old ++ bytes_of (block_marks depth b)) (sym (with_stmts-push ss s BlockEnd))
+    ∙ ap (λ (p : Page). added (bytes_of (block_marks p.depth (with_stmt s BlockEnd))) p) before
+    ∙ ap (at_depth old.depth) (append_assoc old.bytes (bytes_of (block_marks old.depth (stmts_tree ss))) last
+    ∙ ap (λ (here : List ℕ). old.bytes ++ here) (sym (flat_map-append mark_bytes (block_marks old.depth (stmts_tree ss)) (block_marks old.depth (with_stmt s BlockEnd)))
+    ∙ ap bytes_of (sym (with_stmts_marks old.depth ss (with_stmt s BlockEnd)))
+    ∙ ap (λ (b : BlockTree). bytes_of (block_marks old.depth b)) (sym (with_stmts-push ss s BlockEnd))))

@@ -5,5 +5,6 @@ pub mod Grammar
 pub mod Lexing
 pub mod Limits
 pub mod OpenBlocks
+pub mod Printed
 pub mod Reading
 pub mod Spelling
