@@ -15,7 +15,7 @@ pub fn print(alloc: Global, draft: &Draft) -> Result<Vec<u8>, AllocError>
     // What is printed of a draft that was read is read as this draft again, if it is no longer than a text may be.
     ensures read_again { (bytes : List ℕ) → Accepts bytes (draft_tree draft.now)
         → IfOk result (λ text. length text.items ≤ text_limit
-            → Accepts text.items (draft_tree draft.now)) }
+        → Accepts text.items (draft_tree draft.now)) }
 {
     let mut printer = Printer::new(alloc);
     printer.tables(draft.tables.as_slice())?;
