@@ -3,6 +3,7 @@ use Rattle.std.specs.Prelude.{List, [], ◌∷◌, Bool, true, false, Ok, revers
 use Rattle.prog_tree.specs.Syntax.{BlockTree}
 use Rattle.prog_tree.specs.Tree.{test_tree, with_stmts, stmts_tree}
 use Rattle.prog_tree.specs.declared.stmt.Stmt.{Stmt}
+use Rattle.prog_text.specs.declared.blocks.Body.{Body}
 use Rattle.prog_text.specs.declared.blocks.Open.{Open}
 use Rattle.prog_text.specs.declared.blocks.Open.TheVariants.{First, Second}
 use Rattle.prog_text.specs.declared.token.Token.{Token}
@@ -46,3 +47,7 @@ unread_from_statement stack done ts = outward (reverse stack) (in_front done (mo
 abbrev pub state_of : (ended : Bool) → List Open → List Stmt → List Token → Reading BlockTree
 state_of true stack done ts = Ok (stmts_tree done, ts)
 state_of false stack done ts = unread stack done ts
+
+-- what is still to be read of the block that this is
+abbrev pub unread_of : Body → Reading BlockTree
+unread_of body = state_of body.ended body.stack.items body.done.items body.rest.now

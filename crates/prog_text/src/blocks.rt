@@ -2,7 +2,7 @@
 ghost use Rattle.std.specs.Prelude.{◌≡◌, ◌<◌, ◌≤◌, [], ◌∷◌, ◌++◌, length, IfOk};
 ghost use Rattle.prog_tree.specs.Tree.{block_tree};
 ghost use Rattle.prog_text.specs.Reading.{Goes, Gives, body_at, block_at};
-ghost use Rattle.prog_text.specs.OpenBlocks.{unread, unread_behind_end, unread_behind_if, unread_from_statement, state_of};
+ghost use Rattle.prog_text.specs.OpenBlocks.{unread, unread_behind_end, unread_behind_if, unread_from_statement, unread_of};
 
 use crate::conditions::test;
 use crate::limits::MOST_BRACKETS;
@@ -63,7 +63,7 @@ fn end_first<'s, 'a>(
     mut before: Vec<Stmt>,
     tokens: &'s [Token<'a>],
 ) -> Result<Body<'s, 'a>, ReadError>
-    ensures reads { Goes (λ body. state_of body.ended body.stack.items body.done.items body.rest.now) result
+    ensures reads { Goes unread_of result
         (unread_behind_end (stack.items ++ Open.First test before ∷ []) done.items tokens.now) }
     ensures shorter { IfOk result (λ body. length body.rest.now ≤ length tokens.now) }
 {
@@ -107,8 +107,9 @@ fn end_second<'s, 'a>(
     mut before: Vec<Stmt>,
     tokens: &'s [Token<'a>],
 ) -> Result<Body<'s, 'a>, ReadError>
-    ensures reads { Goes (λ body. state_of body.ended body.stack.items body.done.items body.rest.now) result
-        (unread_behind_end (stack.items ++ Open.Second test first before ∷ []) done.items tokens.now) }
+    ensures reads { Goes unread_of result
+        (unread_behind_end (stack.items ++ Open.Second test first before ∷ []) done.items
+        tokens.now) }
     ensures shorter { IfOk result (λ body. length body.rest.now ≤ length tokens.now) }
 {
     let then = Block { stmts: first };
@@ -133,7 +134,7 @@ fn end_block<'s, 'a>(
     done: Vec<Stmt>,
     tokens: &'s [Token<'a>],
 ) -> Result<Body<'s, 'a>, ReadError>
-    ensures reads { Goes (λ body. state_of body.ended body.stack.items body.done.items body.rest.now) result
+    ensures reads { Goes unread_of result
         (unread_behind_end stack.items done.items tokens.now) }
     ensures shorter { IfOk result (λ body. length body.rest.now ≤ length tokens.now) }
 {
@@ -162,7 +163,7 @@ fn begin_branch<'s, 'a>(
     done: Vec<Stmt>,
     tokens: &'s [Token<'a>],
 ) -> Result<Body<'s, 'a>, ReadError>
-    ensures reads { Goes (λ body. state_of body.ended body.stack.items body.done.items body.rest.now) result
+    ensures reads { Goes unread_of result
         (unread_behind_if stack.items done.items tokens.now) }
     ensures shorter { IfOk result (λ body. length body.rest.now < length tokens.now) }
 {
@@ -184,7 +185,7 @@ fn one_more<'s, 'a>(
     mut done: Vec<Stmt>,
     tokens: &'s [Token<'a>],
 ) -> Result<Body<'s, 'a>, ReadError>
-    ensures reads { Goes (λ body. state_of body.ended body.stack.items body.done.items body.rest.now) result
+    ensures reads { Goes unread_of result
         (unread_from_statement stack.items done.items tokens.now) }
     ensures shorter { IfOk result (λ body. length body.rest.now < length tokens.now) }
 {
@@ -200,7 +201,7 @@ fn one_more<'s, 'a>(
 
 // Reads a statement, the beginning of a branch or the end of a block.
 fn next<'s, 'a>(alloc: Global, body: Body<'s, 'a>) -> Result<Body<'s, 'a>, ReadError>
-    ensures reads { Goes (λ after. state_of after.ended after.stack.items after.done.items after.rest.now) result
+    ensures reads { Goes unread_of result
         (unread body.entry.stack.items body.entry.done.items body.entry.rest.now) }
     ensures shorter { IfOk result (λ after. length after.rest.now < length body.entry.rest.now) }
 {

@@ -35,7 +35,8 @@ fn compared<'s, 'a>(
     negated: bool,
     tokens: &'s [Token<'a>],
 ) -> Result<(Comparison, &'s [Token<'a>]), ReadError>
-    ensures reads { Gives (λ x. (comparison_tree x.0, x.1.now)) result (compared_at negated tokens.now) }
+    ensures reads { Gives (λ x. (comparison_tree x.0, x.1.now)) result
+        (compared_at negated tokens.now) }
     ensures shorter { IfOk result (λ x. length x.1.now < length tokens.now) }
 {
     let (left, rest) = expr(alloc, tokens)?;

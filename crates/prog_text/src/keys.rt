@@ -17,7 +17,8 @@ fn key_behind<'s, 'a>(
     first: Expr,
     tokens: &'s [Token<'a>],
 ) -> Result<(Key, &'s [Token<'a>]), ReadError>
-    ensures reads { Gives (λ x. (key_tree x.0, x.1.now)) result (key_from (expr_tree first) tokens.now) }
+    ensures reads { Gives (λ x. (key_tree x.0, x.1.now)) result
+        (key_from (expr_tree first) tokens.now) }
     ensures shorter { IfOk result (λ x. length x.1.now < length tokens.now) }
 {
     if let Some(rest) = after_comma(tokens) {
@@ -67,7 +68,8 @@ fn range_behind<'s, 'a>(
     first: Expr,
     tokens: &'s [Token<'a>],
 ) -> Result<(Range, &'s [Token<'a>]), ReadError>
-    ensures reads { Gives (λ x. (range_tree x.0, x.1.now)) result (range_from (expr_tree first) tokens.now) }
+    ensures reads { Gives (λ x. (range_tree x.0, x.1.now)) result
+        (range_from (expr_tree first) tokens.now) }
     ensures shorter { IfOk result (λ x. length x.1.now < length tokens.now) }
 {
     if let Some(rest) = after_comma(tokens) {

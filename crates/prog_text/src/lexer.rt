@@ -224,7 +224,8 @@ pub fn tokens(alloc: Global, bytes: &[u8]) -> Result<PlacedTokens<'_>, LexError>
 /// that stands there. This is a law, with an empty body.
 #[tactic(auto, using(crate::proofs::Converse::tokens_exactly))]
 pub fn tokens_are_the_longest()
-    ensures { (bytes : List ℕ) (placed : Placed) → (tokens_of bytes ≡ Ok placed) ↔ IsCut bytes placed }
+    ensures { (bytes : List ℕ) (placed : Placed)
+        → (tokens_of bytes ≡ Ok placed) ↔ IsCut bytes placed }
 {}
 
 /// A text has exactly the first flaw that it is refused for: spaces, comments and tokens one after another stand

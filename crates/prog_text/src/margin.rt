@@ -16,7 +16,8 @@ impl Model for Margin {
 
     ghost view = { λ m. length (string_bytes m.spaces) / 2 };
 
-    ghost invariant = { λ m. string_bytes m.spaces ≡ replicate (2 * (length (string_bytes m.spaces) / 2)) 32 };
+    ghost invariant = { λ m. string_bytes m.spaces
+        ≡ replicate (2 * (length (string_bytes m.spaces) / 2)) 32 };
 }
 
 impl Margin {

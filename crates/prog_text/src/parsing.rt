@@ -85,7 +85,8 @@ pub fn parse(alloc: Global, text: &[u8]) -> Result<Draft, TextFault>
 
     // What is spelled so, with no refusal, is read so, unless memory runs out.
     ensures only { (d : DraftTree) → Accepts text.now d
-        → MatchResult result (λ draft. draft_tree draft ≡ d) (λ fault. fault ≡ TextFault.Memory) }
+        → MatchResult result (λ draft. draft_tree draft ≡ d)
+        (λ fault. fault ≡ TextFault.Memory) }
 
     // A refusal is the first that applies.
     ensures refused { IfErr result (Refuses text.now) }

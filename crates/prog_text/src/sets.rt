@@ -67,7 +67,8 @@ struct Tables<'s, 'a> {
 
 #[tactic(auto, unfolding(crate::specs::Reading::many_from))]
 fn read_tables<'s, 'a>(alloc: Global, tokens: &'s [Token<'a>]) -> Result<Tables<'s, 'a>, ReadError>
-    ensures { Gives (λ tables. (tables.done.items, tables.rest.now)) result (tables_at tokens.now) }
+    ensures { Gives (λ tables. (tables.done.items, tables.rest.now)) result
+        (tables_at tokens.now) }
 {
     let mut tables = Tables {
         done: Vec::new(alloc),

@@ -45,7 +45,8 @@ fn last_range<'s, 'a>(
     alloc: Global,
     tokens: &'s [Token<'a>],
 ) -> Result<(Name, Range, &'s [Token<'a>]), ReadError>
-    ensures reads { Gives (λ x. ((x.0, range_tree x.1), x.2.now)) result (last_range_at tokens.now) }
+    ensures reads { Gives (λ x. ((x.0, range_tree x.1), x.2.now)) result
+        (last_range_at tokens.now) }
     ensures shorter { IfOk result (λ x. length x.2.now < length tokens.now) }
 {
     let (table, range, rest) = range(alloc, tokens)?;
@@ -59,7 +60,8 @@ fn assigned<'s, 'a>(
     alloc: Global,
     tokens: &'s [Token<'a>],
 ) -> Result<(Name, Key, Expr, &'s [Token<'a>]), ReadError>
-    ensures reads { Gives (λ x. (((x.0, key_tree x.1), expr_tree x.2), x.3.now)) result (assigned_at tokens.now) }
+    ensures reads { Gives (λ x. (((x.0, key_tree x.1), expr_tree x.2), x.3.now)) result
+        (assigned_at tokens.now) }
     ensures shorter { IfOk result (λ x. length x.3.now < length tokens.now) }
 {
     let (table, key, rest) = key(alloc, tokens)?;
@@ -204,7 +206,8 @@ fn delete<'s, 'a>(
     alloc: Global,
     tokens: &'s [Token<'a>],
 ) -> Result<(Stmt, &'s [Token<'a>]), ReadError>
-    ensures reads { Gives (λ x. (stmt_tree x.0, x.1.now)) result (as_plain (delete_at tokens.now)) }
+    ensures reads { Gives (λ x. (stmt_tree x.0, x.1.now)) result
+        (as_plain (delete_at tokens.now)) }
     ensures shorter { IfOk result (λ x. length x.1.now < length tokens.now) }
 {
     let (table, key, rest) = last_key(alloc, tokens)?;
@@ -240,7 +243,8 @@ fn insert<'s, 'a>(
     alloc: Global,
     tokens: &'s [Token<'a>],
 ) -> Result<(Stmt, &'s [Token<'a>]), ReadError>
-    ensures reads { Gives (λ x. (stmt_tree x.0, x.1.now)) result (as_plain (insert_at tokens.now)) }
+    ensures reads { Gives (λ x. (stmt_tree x.0, x.1.now)) result
+        (as_plain (insert_at tokens.now)) }
     ensures shorter { IfOk result (λ x. length x.1.now < length tokens.now) }
 {
     let (table, key, value, rest) = assigned(alloc, tokens)?;
