@@ -1,5 +1,5 @@
 ghost use Rattle.std.specs.Prelude.{◌≡◌};
-ghost use Rattle.prog_tree.specs.Table.{is_in, lies_between};
+ghost use Rattle.prog_tree.specs.Table.{is_cell_among, is_in, lies_between};
 
 /// A cell of a table. In a table of one key column the second is 0.
 #[derive(Clone, Copy, Debug, PartialEq, Eq, PartialOrd, Ord)]
@@ -17,6 +17,13 @@ pub struct Region {
     pub first_high: i64,
     pub second_low: i64,
     pub second_high: i64,
+}
+
+/// Whether a cell is one of some cells.
+pub fn is_among(cells: &[Cell], cell: &Cell) -> bool
+    ensures { result ≡ is_cell_among cells.now cell.now }
+{
+    cells.iter().any(|other| cell.cmp(other).is_eq())
 }
 
 fn is_between(low: i64, x: i64, high: i64) -> bool

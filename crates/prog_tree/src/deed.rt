@@ -1,7 +1,6 @@
 ghost use Rattle.std.specs.Prelude.{◌≡◌, ◌↔◌, IsTrue};
 
 use crate::cell::{Cell, Region};
-use crate::rows::Rows;
 use crate::sequence::Sequence;
 
 /// What a finished store statement did.
@@ -47,11 +46,12 @@ pub enum End {
 pub enum Look {
     /// A cell and what it held.
     One(Cell, Option<i64>),
-    /// A region and its rows, but for those of its `own` cells: the ones that the instance had changed.
+    /// A region and its rows in the order of their cells, but for those of its `own` cells: the ones that the
+    /// instance had changed.
     Range {
         region: Region,
         own: Sequence<Cell>,
-        rows: Rows,
+        rows: Sequence<(Cell, i64)>,
     },
 }
 
@@ -65,6 +65,12 @@ fn same_cells(cells: &[Cell], others: &[Cell]) -> bool
     ensures { IsTrue result ↔ (cells.now ≡ others.now) }
 {
     cells == others
+}
+
+fn same_rows(rows: &[(Cell, i64)], others: &[(Cell, i64)]) -> bool
+    ensures { IsTrue result ↔ (rows.now ≡ others.now) }
+{
+    rows == others
 }
 
 impl Look {
@@ -85,7 +91,7 @@ impl Look {
                 if !same_regions(region, r) {
                     return false;
                 }
-                same_cells(own.as_slice(), o.as_slice()) && rows.is_same(s)
+                same_cells(own.as_slice(), o.as_slice()) && same_rows(rows.as_slice(), s.as_slice())
             }
             _ => false,
         }

@@ -17,7 +17,7 @@ mod stmt_copy;
 mod stmt_same;
 mod table;
 
-pub use cell::{Cell, Region};
+pub use cell::{Cell, Region, is_among};
 pub use changes::Changes;
 pub use deed::{Cause, Deed, End, Look, same_looks};
 pub use env::Env;
