@@ -1,5 +1,5 @@
 use crate::twin::{Deed, cell, changes, rows_after};
-use prog_tree::{Changes, Region, Rows};
+use prog_tree::{Cell, Changes, Region, Rows};
 use std::alloc::{AllocError, Global};
 use std::process::Abort;
 use std::test::Fail;
@@ -97,10 +97,15 @@ fn worked_store(rt: &impl Abort, alloc: Global) -> Result<Store, AllocError> {
 }
 
 /// The rows of a region after as many commits as the store can tell of.
-fn scan(rt: &impl Abort, store: &Store, start: u64, region: &Region) -> Result<Rows, AllocError> {
+fn scan(
+    rt: &impl Abort,
+    store: &Store,
+    start: u64,
+    region: &Region,
+) -> Result<Vec<(Cell, i64)>, AllocError> {
     assert!(rt; store.floor() <= start);
     assert!(rt; start <= store.commits());
-    Ok(store.scan(start, region)?)
+    Ok(store.scan(start, region)?.into_vec())
 }
 
 #[test]
@@ -117,11 +122,54 @@ fn scans_are_those_of_the_list(rt: HostRuntime) -> Result<(), Fail> {
             second_high: 0,
         };
         for start in 0..6 {
-            let rows = rows_after(&opening, &COMMITS[..start], &region)?;
+            let rows = rows_after(alloc, &opening, &COMMITS[..start], &region)?;
             let found = scan(&rt, &store, start as u64, &region)?;
-            assert!(rt; found.is_same(&rows), "{low}..{high} at {start}");
+            assert!(rt;
+                found.as_slice() == rows.as_slice(),
+                "{low}..{high} at {start}"
+            );
         }
     }
+    Ok(())
+}
+
+/// Whether rows are those of `t[1..3]` but for `own` cells, after as many commits as the store can
+/// tell of.
+fn are_held(
+    rt: &impl Abort,
+    store: &Store,
+    start: u64,
+    own: &[Cell],
+    rows: &[(Cell, i64)],
+) -> bool {
+    assert!(rt; store.floor() <= start);
+    assert!(rt; start <= store.commits());
+    let region = Region {
+        table: 0,
+        first_low: 1,
+        first_high: 3,
+        second_low: 0,
+        second_high: 0,
+    };
+    store.are_held(start, &region, own, rows)
+}
+
+#[test]
+fn held_rows_are_all_but_the_own(rt: HostRuntime) -> Result<(), Fail> {
+    let alloc: Global = rt.alloc();
+    let store = worked_store(&rt, alloc)?;
+    let rows = [(cell(1), 10), (cell(2), 20)];
+    for (start, own, held) in [
+        (0, 3, false),
+        (1, 3, true),
+        (1, 2, false),
+        (2, 9, true),
+        (3, 3, false),
+    ] {
+        let found = are_held(&rt, &store, start, &[cell(own)], &rows);
+        assert_eq!(rt; found, held, "at {start} without {own}");
+    }
+    assert!(rt; are_held(&rt, &store, 5, &[cell(1)], &[(cell(3), 31)]));
     Ok(())
 }
 

@@ -35,10 +35,11 @@ pub fn changes(alloc: Global, deeds: &[Deed]) -> Result<Changes, AllocError> {
 
 /// The rows of a region after these commits were made one after another.
 pub fn rows_after(
+    alloc: Global,
     opening: &Rows,
     commits: &[&[Deed]],
     region: &Region,
-) -> Result<Rows, AllocError> {
+) -> Result<Vec<(Cell, i64)>, AllocError> {
     let mut rows = opening.copy()?;
     for deeds in commits {
         for deed in *deeds {
@@ -53,11 +54,11 @@ pub fn rows_after(
             }
         }
     }
-    let all = rows.copy()?;
-    for (cell, _) in all.iter() {
-        if !region.contains(cell) {
-            rows.remove(cell);
+    let mut found = Vec::new(alloc);
+    for (cell, value) in rows.iter() {
+        if region.contains(cell) {
+            found.push((*cell, *value))?;
         }
     }
-    Ok(rows)
+    Ok(found)
 }

@@ -2,6 +2,7 @@
 use Rattle.std.proofs.Common.{◌≡◌, ℕ, zero, suc, ◌+◌, ◌-◌, ◌<◌, ◌≤◌, true, false, List, [], ◌∷◌, length, refl, ap, sym, ◌∙◌, cond, arith, leb, get_or}
 use Rattle.std.specs.Prelude.{ℤ, Option, Some, None, slice_get}
 use Rattle.std.specs.List.Sorted.{IsNonDecreasingBy}
+use Rattle.std.proofs.lemmas.Bool.Decides.{nat_tests}
 use Rattle.version_store.specs.Reading.{RisesFrom, IsCutAt, value_after, last_version, last_mark}
 
 -- ---- the last one
@@ -53,6 +54,23 @@ cut_rest n v vs r cut = (λ k d low high. cut.0 (suc k) d (omega arith) (omega a
 
 cut_none : (n : ℕ) (v : ℕ × Option ℤ) (vs : List (ℕ × Option ℤ)) → IsCutAt n (v ∷ vs) 0 → IsCutAt n vs 0
 cut_none n v vs cut = (λ k d low high. absurd (omega arith), λ k d low high. cut.1 (suc k) d (omega arith) (omega arith))
+
+-- the last is not below where they rise from
+last_risen : (before n : ℕ) (vs : List (ℕ × Option ℤ)) → before ≤ n → RisesFrom n vs → before ≤ last_version before vs
+last_risen before n [] order rises = omega arith
+last_risen before n (v ∷ vs) order rises = omega (arith, order, rises.0, last_risen v.0 (v.0 + 1) vs (omega arith) rises.1)
+
+last_greatest : (before n : ℕ) (vs : List (ℕ × Option ℤ)) → RisesFrom n vs → (k : ℕ) (d : ℕ × Option ℤ) → k < length vs → (get_or vs k d).0 ≤ last_version before vs
+last_greatest before n [] rises k d within = absurd (omega arith)
+last_greatest before n (v ∷ vs) rises zero d within = last_risen v.0 (v.0 + 1) vs (omega arith) rises.1
+last_greatest before n (v ∷ vs) rises (suc k) d within = last_greatest v.0 (v.0 + 1) vs rises.1 k d (omega arith)
+
+-- where the last is at most n, all are
+pub cut_behind_all : (n : ℕ) (vs : List (ℕ × Option ℤ)) → RisesFrom 0 vs → last_version 0 vs ≤ n → IsCutAt n vs (length vs)
+cut_behind_all n vs rises last = (λ k d low high. within k d (omega arith), λ k d low high. absurd (omega arith))
+  where
+    within : (k : ℕ) (d : ℕ × Option ℤ) → k < length vs → leb (get_or vs k d).0 n ≡ true
+    within k d inside = let order : (get_or vs k d).0 ≤ n = omega (arith, last_greatest 0 0 vs rises k d inside, last) in grind (arith, nat_tests)
 
 -- where all are above n, nothing changes
 pub value_after-none : (n : ℕ) (before : Option ℤ) (vs : List (ℕ × Option ℤ)) → IsCutAt n vs 0 → before ≡ value_after n before vs

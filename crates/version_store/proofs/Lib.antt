@@ -2,6 +2,7 @@ pub mod ChainLaws
 pub mod ChainsLaws
 pub mod ClashLaws
 pub mod CommitLaws
+pub mod FoundLaws
 pub mod RegionLaws
 pub mod ScanLaws
 pub mod StandsLaws

@@ -1,14 +1,15 @@
 -- What a store answers, for each history that it stands for.
-use Rattle.std.proofs.Common.{◌≡◌, ◌∙◌, ℕ, ◌+◌, ◌-◌, ◌^◌, min, cond, List, [], ◌∷◌, ◌++◌, length, take, ap, sym, subst, arith, length-append}
+use Rattle.std.proofs.Common.{◌≡◌, ◌∙◌, ℕ, ◌+◌, ◌-◌, ◌^◌, min, cond, not, List, [], ◌∷◌, ◌++◌, length, take, ap, sym, subst, arith, length-append}
 use Rattle.std.specs.Prelude.{None, fold}
 use Rattle.prog_tree.specs.declared.cell.Cell.{Cell}
 use Rattle.prog_tree.specs.declared.cell.Region.{Region}
 use Rattle.prog_tree.specs.ChangeSet.{ChangeSet, changed}
-use Rattle.prog_tree.specs.Table.{is_in, TableState, IsTableState, row_at, rows_in}
-use Rattle.prog_tree.proofs.TableStates.{IsTableState-changed, IsTableState-rows_in, same_state, row_at-where}
+use Rattle.prog_tree.specs.Evaluation.{rows_left}
+use Rattle.prog_tree.specs.Table.{is_in, is_cell_among, TableState, IsTableState, row_at, rows_in}
+use Rattle.prog_tree.proofs.TableStates.{IsTableState-changed, IsTableState-rows_in, IsTableState-rows_left, same_state, row_at-where, row_at-rows_left}
 use Rattle.version_store.specs.Commits.{state_at}
 use Rattle.version_store.specs.Reading.{AllRise, RisesFrom, chain_at, value_at, with_commit, IsBelow}
-use Rattle.version_store.specs.Regions.{seen_in}
+use Rattle.version_store.specs.Regions.{seen_in, seen_left, IsSeen}
 use Rattle.version_store.specs.StandsFor.{Chain, StoreView, StandsFor, chain_of}
 use Rattle.version_store.proofs.VersionLaws.{value_at-chain_of, chain_rises, chain_of-push, chain_below, length-versions_of}
 
@@ -30,6 +31,16 @@ scans_state s opening ws h region n rows ordered has =
     let m = state_at opening ws n in
     same_state rows (rows_in region m) ordered (IsTableState-rows_in region m (state_in_order opening (take n ws) h.ordered))
     (λ c. has c ∙ ap (λ v. cond (is_in region c) v None) (reads_state s opening ws h n c) ∙ sym (row_at-where (is_in region) m c))
+
+-- the rows of a region but for own cells are what is seen of the chains but for them
+pub sees_left :
+    (s : StoreView) (opening : TableState) (ws : List ChangeSet) → StandsFor s opening ws → (region : Region) (own : List Cell) (n : ℕ) →
+    IsSeen (seen_left region own n) s.chains (rows_left region own (state_at opening ws n))
+sees_left s opening ws h region own n =
+    let m = state_at opening ws n in (
+      IsTableState-rows_left region own m (state_in_order opening (take n ws) h.ordered),
+      λ c. row_at-rows_left region own m c ∙ ap (λ v. cond (not (is_cell_among own c)) (cond (is_in region c) v None) None) (sym (reads_state s opening ws h n c)),
+    )
 
 -- rows in order that have all that the chains have are the state
 pub gives_state :

@@ -1,11 +1,11 @@
 -- Corners of regions, and their rows.
-use Rattle.std.specs.Prelude.{◌≡◌, ℕ, ℤ, Bool, true, false, ◌&&◌, not, Option, Some, None, if◌then◌else◌}
+use Rattle.std.specs.Prelude.{◌≡◌, ℕ, ℤ, Bool, true, false, ◌&&◌, not, List, [], ◌∷◌, ◌++◌, Option, Some, None, if◌then◌else◌}
 use Rattle.std.specs.Ordering.{is_gt, is_le, is_lt}
 use Rattle.prog_tree.specs.declared.cell.Cell.{Cell}
 use Rattle.prog_tree.specs.declared.cell.Region.{Region}
-use Rattle.prog_tree.specs.Table.{cell_cmp, is_in, TableState, with_row}
+use Rattle.prog_tree.specs.Table.{cell_cmp, is_in, is_cell_among, Cells, TableState, IsTableState, row_at, with_row}
 use Rattle.version_store.specs.StandsFor.{Chain}
-use Rattle.version_store.specs.Reading.{value_at}
+use Rattle.version_store.specs.Reading.{chain_at, value_at}
 
 -- a cell lies between two others in the order of cells, or is one of them
 abbrev pub is_between : Cell → Cell → Cell → Bool
@@ -22,6 +22,10 @@ AreCorners region (Some corners) =
 abbrev pub seen_in : Region → (n : ℕ) → Cell → Chain → Option ℤ
 seen_in region n c chain = if is_in region c then value_at n chain else None
 
+-- the same but for some own cells
+abbrev pub seen_left : Region → List Cell → (n : ℕ) → Cell → Chain → Option ℤ
+seen_left region own n c chain = if not (is_cell_among own c) then seen_in region n c chain else None
+
 -- the same without a region
 abbrev pub seen_anywhere : (n : ℕ) → Cell → Chain → Option ℤ
 seen_anywhere n c chain = value_at n chain
@@ -30,3 +34,17 @@ seen_anywhere n c chain = value_at n chain
 abbrev pub with_found : TableState → Cell → Option ℤ → TableState
 with_found rows c None = rows
 with_found rows c (Some value) = with_row rows c value
+
+-- the row of a cell, where something is found of it
+abbrev pub found_row : Cell → Option ℤ → TableState
+found_row c None = []
+found_row c (Some value) = (c, value) ∷ []
+
+-- the rows of what is seen of chains, in their order
+abbrev pub found_rows : (Cell → Chain → Option ℤ) → Cells Chain → TableState
+found_rows seen [] = []
+found_rows seen (entry ∷ entries) = found_row entry.0 (seen entry.0 entry.1) ++ found_rows seen entries
+
+-- a table state has of each cell what is seen of its chain
+abbrev pub IsSeen : (Cell → Chain → Option ℤ) → Cells Chain → TableState → Type 0
+IsSeen seen chains m = IsTableState m × ((c : Cell) → row_at m c ≡ seen c (chain_at chains c))

@@ -48,6 +48,9 @@ fn count_within(versions: &[Version], number: u64) -> usize
     ensures bound { result ≤ length versions.now }
     ensures cut { RisesFrom 0 versions.now → IsCutAt number versions.now result }
 {
+    if last_version(versions) <= number {
+        return versions.len();
+    }
     versions.partition_point(|version| version.number <= number)
 }
 

@@ -1,16 +1,17 @@
 //! The chains of all cells.
-ghost use Rattle.std.specs.Prelude.{◌≡◌, [], IfOk, OnOk, OnErr};
+ghost use Rattle.std.specs.Prelude.{◌≡◌, ◌↔◌, [], ◌++◌, Some, IfOk, IsTrue, OnOk, OnErr, option_copied};
 ghost use Rattle.prog_tree.specs.declared.cell.Cell.{Cell};
 ghost use Rattle.prog_tree.specs.ChangeSet.{change_at};
-ghost use Rattle.prog_tree.specs.Table.{cells_of, IsTableState, row_at};
+ghost use Rattle.prog_tree.specs.Table.{cells_of, TableState, IsTableState, row_at};
 ghost use Rattle.version_store.specs.Reading.{RisesFrom, AllRise, chain_at, value_at, number_at};
 ghost use Rattle.version_store.specs.Reading.{with_version, with_mark, with_row_of, with_change_by};
 ghost use Rattle.version_store.specs.Reading.{with_commit, cut_from, IsGrown};
 ghost use Rattle.version_store.specs.Reading.{MakesAt, MakesAmong, MakesEach, KeepsBelow};
-ghost use Rattle.version_store.specs.Regions.{AreCorners, seen_in, with_found};
+ghost use Rattle.version_store.specs.Regions.{AreCorners, seen_in, seen_left, with_found};
+ghost use Rattle.version_store.specs.Regions.{found_row, IsSeen};
 
 use crate::chain::Chain;
-use prog_tree::{Cell, Changes, Region, Rows};
+use prog_tree::{Cell, Changes, Region, Rows, Sequence, is_among};
 use std::alloc::{AllocError, Global};
 use std::collections::BTreeMap;
 use std::marker::Model;
@@ -63,21 +64,54 @@ fn add_found(rows: &mut Rows, start: u64, cell: &Cell, chain: &Chain) -> Result<
     Ok(())
 }
 
-// Adds it where it lies in the region.
-fn add_row(
-    rows: &mut Rows,
-    region: &Region,
-    start: u64,
-    cell: &Cell,
-    chain: &Chain,
-) -> Result<(), AllocError>
-    ensures { OnOk result (RisesFrom 0 chain.now.versions →
-        rows.new ≡ with_found rows.old cell.now (seen_in region.now start cell.now chain.now)) }
+// What is seen in a region of a cell.
+fn seen_in(region: &Region, start: u64, cell: &Cell, chain: &Chain) -> Option<i64>
+    ensures { RisesFrom 0 chain.now.versions →
+        result ≡ seen_in region.now start cell.now chain.now }
 {
-    if region.contains(cell) {
-        add_found(rows, start, cell, chain)?;
+    if !region.contains(cell) {
+        return None;
+    }
+    chain.value_at(start)
+}
+
+// The same but for some `own` cells.
+fn seen_left(region: &Region, own: &[Cell], start: u64, cell: &Cell, chain: &Chain) -> Option<i64>
+    ensures { RisesFrom 0 chain.now.versions →
+        result ≡ seen_left region.now own.now start cell.now chain.now }
+{
+    if is_among(own, cell) {
+        return None;
+    }
+    seen_in(region, start, cell, chain)
+}
+
+// Adds the row of a cell behind the others, where something is found of it.
+fn push_row(rows: &mut Vec<(Cell, i64)>, cell: &Cell, found: Option<i64>) -> Result<(), AllocError>
+    ensures { OnOk result (rows.new.items ≡ rows.old.items ++ found_row cell.now found) }
+{
+    if let Some(value) = found {
+        rows.push((*cell, value))?;
     }
     Ok(())
+}
+
+// The rows behind that of a cell, where the first is that.
+fn behind<'r>(rows: &'r [(Cell, i64)], cell: &Cell, found: Option<i64>) -> Option<&'r [(Cell, i64)]>
+    ensures { (rest : TableState) →
+        (option_copied result ≡ Some rest) ↔ (found_row cell.now found ++ rest ≡ rows.now) }
+{
+    let Some(value) = found else {
+        return Some(rows);
+    };
+    let Some(((first, held), rest)) = rows.split_first() else {
+        return None;
+    };
+    if *held == value && cell.cmp(first).is_eq() {
+        Some(rest)
+    } else {
+        None
+    }
 }
 
 impl Chains {
@@ -101,19 +135,40 @@ impl Chains {
     }
 
     /// The rows of a region after the first `start` commits.
-    pub fn scan(&self, start: u64, region: &Region) -> Result<Rows, AllocError>
-        ensures ordered { IfOk result (λ rows. AllRise self.now → IsTableState rows) }
-        ensures rows { IfOk result (λ rows. AllRise self.now → (c : Cell) →
-            row_at rows c ≡ seen_in region.now start c (chain_at self.now c)) }
+    pub fn scan(&self, start: u64, region: &Region) -> Result<Sequence<(Cell, i64)>, AllocError>
+        ensures { IfOk result (λ rows. AllRise self.now →
+            IsSeen (seen_in region.now start) self.now rows) }
     {
-        let mut rows = Rows::new(self.alloc);
+        let mut rows = Vec::new(self.alloc);
         let Some((low, high)) = corners(*region) else {
-            return Ok(rows);
+            return Ok(Sequence::from_vec(rows));
         };
         for (cell, chain) in self.chains.range(low..=high) {
-            add_row(&mut rows, region, start, cell, chain)?;
+            let found = seen_in(region, start, cell, chain);
+            push_row(&mut rows, cell, found)?;
         }
-        Ok(rows)
+        Ok(Sequence::from_vec(rows))
+    }
+
+    /// Whether some rows are those of a region after the first `start` commits, but for those of
+    /// some `own` cells.
+    pub fn are_held(&self, start: u64, region: &Region, own: &[Cell], rows: &[(Cell, i64)]) -> bool
+        ensures { AllRise self.now → (m : TableState) →
+            IsSeen (seen_left region.now own.now start) self.now m →
+            IsTrue result ↔ (m ≡ rows.now) }
+    {
+        let Some((low, high)) = corners(*region) else {
+            return rows.is_empty();
+        };
+        let mut rest = rows;
+        for (cell, chain) in self.chains.range(low..=high) {
+            let found = seen_left(region, own, start, cell, chain);
+            let Some(after) = behind(rest, cell, found) else {
+                return false;
+            };
+            rest = after;
+        }
+        rest.is_empty()
     }
 
     /// The rows of all tables after the first `start` commits.

@@ -1,6 +1,7 @@
 ghost use Rattle.std.specs.Prelude.{◌≡◌, ◌+◌, ◌-◌, ◌<◌, ◌≤◌, ◌^◌, List, [], ◌∷◌, ◌++◌, length, min};
-ghost use Rattle.std.specs.Prelude.{option_map, IfOk, OnErr};
+ghost use Rattle.std.specs.Prelude.{◌↔◌, option_map, IfOk, IsTrue, OnErr};
 ghost use Rattle.prog_tree.specs.ChangeSet.{ChangeSet};
+ghost use Rattle.prog_tree.specs.Evaluation.{rows_left};
 ghost use Rattle.prog_tree.specs.Table.{TableState, rows_in, row_at};
 ghost use Rattle.version_store.specs.Clash.{IsClash};
 ghost use Rattle.version_store.specs.Commits.{state_at};
@@ -9,7 +10,7 @@ ghost use Rattle.version_store.specs.Versions.{versions_of};
 
 use crate::chains::Chains;
 use crate::clash::{Clash, first_clash};
-use prog_tree::{Cell, Changes, Region, Rows};
+use prog_tree::{Cell, Changes, Region, Rows, Sequence};
 use std::alloc::{AllocError, Global};
 use std::marker::Model;
 
@@ -73,8 +74,8 @@ impl Store {
         self.chains.get(start, cell)
     }
 
-    /// The rows of a region after the first `start` commits.
-    pub fn scan(&self, start: u64, region: &Region) -> Result<Rows, AllocError>
+    /// The rows of a region after the first `start` commits, in the order of their cells.
+    pub fn scan(&self, start: u64, region: &Region) -> Result<Sequence<(Cell, i64)>, AllocError>
         requires above { self.now.floor ≤ start }
         requires within { start ≤ self.now.commits }
         ensures { IfOk result (λ rows. (opening : TableState) → (ws : List ChangeSet) →
@@ -83,6 +84,18 @@ impl Store {
     {
         let rows = self.chains.scan(start, region)?;
         Ok(rows)
+    }
+
+    /// Whether some rows are those of a region after the first `start` commits, but for those of
+    /// some `own` cells.
+    pub fn are_held(&self, start: u64, region: &Region, own: &[Cell], rows: &[(Cell, i64)]) -> bool
+        requires above { self.now.floor ≤ start }
+        requires within { start ≤ self.now.commits }
+        ensures { (opening : TableState) → (ws : List ChangeSet) →
+            StandsFor self.now opening ws →
+            IsTrue result ↔ (rows_left region.now own.now (state_at opening ws start) ≡ rows.now) }
+    {
+        self.chains.are_held(start, region, own, rows)
     }
 
     /// The rows of all tables after the first `start` commits.

@@ -3,5 +3,5 @@ use Rattle.version_store.proofs.store.Store.scan.Goals as goal
 
 pub returns : goal.returns
 returns c = rw (← c.self.view_is) (λ opening ws stands.
-    let rise = all_rise _ opening ws stands in
-    scans_state _ opening ws stands c.args.region.now c.args.start c.in_ok-rows.rows (c.in_ok-rows.ensures.ordered rise) (c.in_ok-rows.ensures.rows rise))
+    let seen = c.in_ok-rows.ensures (all_rise _ opening ws stands) in
+    scans_state _ opening ws stands c.args.region.now c.args.start c.in_ok-rows.rows seen.0 seen.1)

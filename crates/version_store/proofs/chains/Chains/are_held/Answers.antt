@@ -1,0 +1,44 @@
+use Rattle.std.proofs.Common.{◌≡◌, ◌∙◌, subst}
+use Rattle.std.specs.Prelude.{filter}
+use Rattle.std.specs.List.Sorted.{IsStrictlySortedBy}
+use Rattle.prog_tree.specs.declared.cell.Cell.{Cell}
+use Rattle.prog_tree.specs.Table.{cell_cmp, Cells, cells_of}
+use Rattle.version_store.specs.Regions.{is_between, seen_left, found_rows}
+use Rattle.version_store.specs.StandsFor.{Chain}
+use Rattle.version_store.proofs.FoundLaws.{matches_first, matches_more, mismatch, matched, unmatched, empty_is, left_is, left_nothing}
+use Rattle.version_store.proofs.chains.Chains.are_held.Goals as goal
+
+pub returns-in_default : goal.returns-in_default
+returns-in_default c = λ rise m h.
+    empty_is c.args.rows.now m c.is_empty.result c.is_empty.ensures (left_nothing c.args.region.now c.args.own.now c.args.start c.args.self.now c.in_default.ensures m h)
+
+pub loop-cell-init : goal.loop-cell-init
+loop-cell-init c =
+    let chains = c.self.inside.chains.entries in
+    let ends = c.new.ensures in
+    let between : c.into_iter-cell-iterator.result ≡ filter (λ (e : Cell × Chain). is_between c.in-Some.low c.in-Some.high e.0) chains =
+    c.into_iter-cell-iterator.ensures.into_iter_gives ∙ c.range-cell-items.ensures.between ends.exhausted
+    ∙ (λ i. filter (λ (e : Cell × Chain). is_between (ends.start i) (ends.end i) e.0) chains) in
+    rw (← c.self.view_is)
+    (λ rise. matches_first c.args.region.now c.args.own.now c.args.start c.in-Some.low c.in-Some.high chains c.into_iter-cell-iterator.result c.args.rows.now
+    c.range-cell-items.ensures.ordered rise c.in-Some.ensures between)
+
+pub loop-cell-preserved : goal.loop-cell-preserved
+loop-cell-preserved c = λ rise.
+    matches_more (seen_left c.args.region.now c.args.own.now c.args.start) c.args.self.now c.loop-cell.cell-iterator c.next.new.self c.in-Some-2.cell.now c.in-Some-2.chain.now
+    c.seen_left-found.result c.loop-cell.rest.now c.in-Some-behind.after.now c.args.rows.now
+    c.in-Some-2.ensures.steps (c.loop-cell.invariant rise) c.seen_left-found.ensures c.in-Some-behind.ensures
+
+pub returns-in_default-behind : goal.returns-in_default-behind
+returns-in_default-behind c = λ rise m h.
+    let seen = seen_left c.args.region.now c.args.own.now c.args.start in
+    let sorted = subst (λ (es : Cells Chain). IsStrictlySortedBy cell_cmp (cells_of es)) c.self.view_is c.range-cell-items.ensures.ordered in
+    unmatched c.args.rows.now (found_rows seen c.args.self.now) m (left_is c.args.region.now c.args.own.now c.args.start c.args.self.now sorted m h)
+    (mismatch seen c.args.self.now c.loop-cell.cell-iterator c.next.new.self c.in-Some-2.cell.now c.in-Some-2.chain.now
+    c.seen_left-found.result c.loop-cell.rest.now c.args.rows.now c.in-Some-2.ensures.steps (c.loop-cell.invariant rise) c.seen_left-found.ensures c.in_default-behind.ensures)
+
+pub returns : goal.returns
+returns c = λ rise m h.
+    let sorted = subst (λ (es : Cells Chain). IsStrictlySortedBy cell_cmp (cells_of es)) c.self.view_is c.range-cell-items.ensures.ordered in
+    matched (seen_left c.args.region.now c.args.own.now c.args.start) c.args.self.now c.loop-cell.cell-iterator c.loop-cell.rest.now c.args.rows.now m c.is_empty-2.result
+    c.in-None.ensures.steps.0 (c.loop-cell.invariant rise) (left_is c.args.region.now c.args.own.now c.args.start c.args.self.now sorted m h) c.is_empty-2.ensures
