@@ -2,7 +2,7 @@
 
 use example_sets::{SMALL_BANK, set_of};
 use prog_run::{AnswerFault, Look, Next, Run};
-use prog_tree::{Cell, Rows};
+use prog_tree::Cell;
 use std::alloc::{AllocError, Global};
 use std::process::Abort;
 use std::test::Fail;
@@ -73,7 +73,12 @@ fn shown_answer(alloc: Global, answer: Result<Next, AnswerFault>) -> Result<Stri
 }
 
 /// One call: `advance`, `rows` to answer with these rows, `none` or a number to answer what a cell holds, or a reader.
-fn call(alloc: Global, run: &mut Run<'_>, rows: &Rows, word: &str) -> Result<String, AllocError> {
+fn call(
+    alloc: Global,
+    run: &mut Run<'_>,
+    rows: &[(Cell, i64)],
+    word: &str,
+) -> Result<String, AllocError> {
     match word {
         "advance" => format!(in alloc; "{:?}", run.advance()?),
         "rows" => shown_answer(alloc, run.answer_scan(rows)),
@@ -85,15 +90,15 @@ fn call(alloc: Global, run: &mut Run<'_>, rows: &Rows, word: &str) -> Result<Str
     }
 }
 
-fn rows_of(alloc: Global, entries: &[(i64, i64, i64)]) -> Result<Rows, AllocError> {
-    let mut rows = Rows::new(alloc);
+fn rows_of(alloc: Global, entries: &[(i64, i64, i64)]) -> Result<Vec<(Cell, i64)>, AllocError> {
+    let mut rows = Vec::new(alloc);
     for &(first, second, value) in entries {
         let cell = Cell {
             table: 0,
             first,
             second,
         };
-        rows.insert(cell, value)?;
+        rows.push((cell, value))?;
     }
     Ok(rows)
 }
@@ -103,7 +108,7 @@ fn play_calls(
     rt: &impl Abort,
     alloc: Global,
     run: &mut Run<'_>,
-    rows: &Rows,
+    rows: &[(Cell, i64)],
     calls: &str,
 ) -> Result<(), Fail> {
     for line in calls.lines() {

@@ -70,14 +70,6 @@ pub rows_without-nil : (m : TableState) → rows_without [] m ≡ m
 rows_without-nil [] = refl
 rows_without-nil (row ∷ m) = ap (λ rows. row ∷ rows) (rows_without-nil m)
 
-pub remove_more : (cells : List Cell) (i : ℕ) (d : Cell) (rows new : TableState) → i < length cells → new ≡ without_row rows (get_or cells i d) →
-    rows_without (drop (i + 1) cells) new ≡ rows_without (drop i cells) rows
-remove_more cells i d rows new lt e =
-    let split : drop i cells ≡ get_or cells i d ∷ drop (i + 1) cells = rw add-one (drop-cons cells i d lt) in
-    ap (rows_without (drop (i + 1) cells)) e
-    ∙ sym (rows_without-cons (get_or cells i d) (drop (i + 1) cells) rows)
-    ∙ ap (λ l. rows_without l rows) (sym split)
-
 -- none of the changed cells has a row
 abbrev AreAbsent : TableState → ChangedCells → Type 0
 AreAbsent m [] = Unit {0}
@@ -178,3 +170,10 @@ pub set_more : (own : ChangedCells) (i : ℕ) (d : Cell × Option ℤ) (v : ℤ)
 set_more own i d v lt e =
     let split : drop i own ≡ get_or own i d ∷ drop (i + 1) own = rw add-one (drop-cons own i d lt) in
     ap set_total split ∙ added_is (get_or own i d).1 (set_total (drop (i + 1) own)) ∙ ap (λ z. z +ℤ set_total (drop (i + 1) own)) (sym e)
+
+-- the values from one row on
+pub total_more : (rows : TableState) (i : ℕ) (d : Cell × ℤ) (v : ℤ) → i < length rows → v ≡ (get_or rows i d).1 →
+    total_of (drop i rows) ≡ v +ℤ total_of (drop (i + 1) rows)
+total_more rows i d v lt e =
+    let split : drop i rows ≡ get_or rows i d ∷ drop (i + 1) rows = rw add-one (drop-cons rows i d lt) in
+    ap total_of split ∙ ap (λ z. z +ℤ total_of (drop (i + 1) rows)) (sym e)

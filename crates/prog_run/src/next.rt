@@ -1,7 +1,7 @@
 ghost use Rattle.std.specs.Prelude.{◌≡◌};
 ghost use Rattle.prog_run.specs.Step.{next_of, question_after, end_after};
 
-use prog_tree::{Cause, Cell, Deed, End, Region, Rows};
+use prog_tree::{Cause, Cell, Deed, End, Region, Sequence};
 
 /// What a step of a run comes to.
 #[derive(Clone, Copy, Debug, PartialEq, Eq)]
@@ -31,7 +31,7 @@ pub enum Answer {
     /// What a cell holds.
     One(Option<i64>),
     /// The rows of a region.
-    Range(Rows),
+    Range(Sequence<(Cell, i64)>),
 }
 
 /// What one store statement comes to.

@@ -1,5 +1,5 @@
 //! What a run sees in a region.
-ghost use Rattle.std.specs.Prelude.{◌≡◌, ◌+◌, ◌^◌, ◌<◌, pos, ◌+ℤ◌, length, IfOk, OnOk, OnErr};
+ghost use Rattle.std.specs.Prelude.{◌≡◌, ◌+◌, pos, ◌+ℤ◌, length, IfOk, OnOk, OnErr};
 ghost use Rattle.std.specs.List.{list_all};
 ghost use Rattle.std.specs.List.Sorted.{IsStrictlySortedBy};
 ghost use Rattle.prog_tree.specs.Table.{cell_cmp, is_in, cells_of};
@@ -10,7 +10,7 @@ ghost use Rattle.prog_tree.specs.Value.{exact};
 ghost use Rattle.prog_run.specs.Looks.{rows_without, region_look};
 ghost use Rattle.prog_run.specs.Seen.{set_count, set_total, IsSight};
 
-use prog_tree::{Cell, Changes, Look, Progress, Region, Rows, Sequence};
+use prog_tree::{Cell, Changes, Look, Progress, Region, Sequence, is_among};
 use std::alloc::{AllocError, Global};
 
 /// The number of the rows that a run sees in a region, and their total: each `None` outside i64.
@@ -21,7 +21,7 @@ pub struct Seen {
 }
 
 /// Whether all rows lie in a region.
-pub fn are_in(region: &Region, rows: &Rows) -> bool
+pub fn are_in(region: &Region, rows: &[(Cell, i64)]) -> bool
     ensures { result ≡ list_all (λ row. is_in region.now row.0) rows.now }
 {
     rows.iter().all(|(cell, _)| region.contains(cell))
@@ -56,13 +56,14 @@ pub fn cells(alloc: Global, own: &[(Cell, Option<i64>)]) -> Result<Sequence<Cell
     Ok(cells)
 }
 
-/// Takes away the rows of some cells.
-pub fn remove_all(rows: &mut Rows, cells: &[Cell])
-    ensures { rows.new ≡ rows_without cells.now rows.old }
+// Takes away the rows of some cells.
+fn remove_all(rows: &mut Vec<(Cell, i64)>, cells: &[Cell])
+    ensures { rows.new.items ≡ rows_without cells.now rows.old.items }
 {
-    for cell in cells {
-        rows.remove(cell);
+    if cells.is_empty() {
+        return;
     }
+    rows.retain(|(cell, _)| !is_among(cells, cell));
 }
 
 fn count_set(own: &[(Cell, Option<i64>)]) -> usize
@@ -87,13 +88,19 @@ fn add_set(own: &[(Cell, Option<i64>)]) -> i128
     total
 }
 
-fn add_rows(rows: &Rows) -> i128
-    requires { length rows.now < 2 ^ 64 }
+// The value of a row, which so is known to be an i64.
+fn row_value(row: &(Cell, i64)) -> i64
+    ensures { result ≡ row.now.1 }
+{
+    row.1
+}
+
+fn add_rows(rows: &[(Cell, i64)]) -> i128
     ensures { result ≡ total_of rows.now }
 {
     let mut total = 0;
-    for (_, value) in rows.iter() {
-        total += i128::from(*value);
+    for row in rows {
+        total += i128::from(row_value(row));
     }
     total
 }
@@ -110,7 +117,7 @@ pub fn look_at_region(
     alloc: Global,
     progress: &mut Progress<'_>,
     region: Region,
-    mut rows: Rows,
+    rows: Sequence<(Cell, i64)>,
 ) -> Result<Seen, AllocError>
     ensures look { OnOk result (progress.new ≡ looked (region_look progress.old.changes region rows) progress.old) }
     ensures seen { IfOk result (IsSight region progress.old.changes.cells (rows_without (own_cells region progress.old.changes.cells) rows)) }
@@ -118,14 +125,16 @@ pub fn look_at_region(
 {
     let changes = own_changes(alloc, &progress.changes, &region)?;
     let own = cells(alloc, &changes)?;
+    let mut rows = rows.into_vec();
     remove_all(&mut rows, own.as_slice());
     let seen = seen_by(&rows, &changes);
+    let rows = Sequence::from_vec(rows);
     progress.looks.push(Look::Range { region, own, rows })?;
     Ok(seen)
 }
 
 // The number and the total of rows, and of what own changes set in other cells.
-fn seen_by(rows: &Rows, own: &[(Cell, Option<i64>)]) -> Seen
+fn seen_by(rows: &[(Cell, i64)], own: &[(Cell, Option<i64>)]) -> Seen
     ensures count { result.count ≡ exact (pos (length rows.now + set_count own.now)) }
     ensures total { result.total ≡ exact (total_of rows.now +ℤ set_total own.now) }
 {

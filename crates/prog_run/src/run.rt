@@ -10,7 +10,7 @@ use crate::fault::{AnswerFault, RunFault};
 use crate::next::{Answer, Next, Question};
 use crate::region::are_in;
 use prog_check::ProgramSet;
-use prog_tree::{Changes, End, Env, Look, Name, Program, Progress, Rows, Sequence, TableDecl};
+use prog_tree::{Cell, Changes, End, Env, Look, Name, Program, Progress, Sequence, TableDecl};
 use std::alloc::{AllocError, Global};
 use std::marker::Model;
 
@@ -141,7 +141,7 @@ impl<'a> Run<'a> {
     }
 
     /// Answers the question for a region with its rows in the snapshot, and finishes the statement.
-    pub fn answer_scan(&mut self, rows: &Rows) -> Result<Next, AnswerFault>
+    pub fn answer_scan(&mut self, rows: &[(Cell, i64)]) -> Result<Next, AnswerFault>
         ensures refused { IsRefusedBy (scan_fault (asked_region self.old.asked) rows.now) result }
         ensures answered { IfOk result (λ next. IfSome (asked_region self.old.asked) (λ region. IsAnswered (region_look self.old.changes region rows.now) next self.old self.new)) }
         ensures true_run { IsTrueRun self.new }
@@ -154,7 +154,8 @@ impl<'a> Run<'a> {
         if !are_in(&region, rows) {
             return Err(AnswerFault::BadRows);
         }
-        let next = self.answer(Answer::Range(rows.copy()?))?;
+        let rows = Vec::from_slice(self.alloc, rows)?;
+        let next = self.answer(Answer::Range(Sequence::from_vec(rows)))?;
         Ok(next)
     }
 

@@ -1,15 +1,16 @@
-use Rattle.std.proofs.Common.{◌≡◌, List, [], drop, sym, ap, ◌∙◌}
+use Rattle.std.proofs.Common.{◌≡◌, ◌∙◌, List, [], ap, arith, sym, ℤ, not, rules}
+use Rattle.std.proofs.lemmas.Fn.{filter_same}
 use Rattle.std.proofs.lemmas.Grind.{common_steps}
-use Rattle.std.proofs.Common.{arith}
 use Rattle.prog_tree.specs.declared.cell.Cell.{Cell}
+use Rattle.prog_tree.specs.Table.{is_cell_among}
 use Rattle.prog_run.specs.Looks.{rows_without}
-use Rattle.prog_run.proofs.SeenLemmas.{rows_without-nil, remove_more}
+use Rattle.prog_run.proofs.SeenLemmas.{rows_without-nil}
 use Rattle.prog_run.proofs.region.remove_all.Goals as goal
 
-pub loop-cell-preserved : goal.loop-cell-preserved
-loop-cell-preserved c = remove_more c.args.cells.now c.loop-cell.cell-index _ c.loop-cell.rows c.remove.new.self c.loop-cell-test.true c.remove.ensures.gone ∙ c.loop-cell.invariant
+pub returns-then-is_empty : goal.returns-then-is_empty
+returns-then-is_empty c =
+    let none : c.args.cells.now ≡ [] = grind (arith, common_steps) in
+    sym (rows_without-nil c.args.rows.now.items) ∙ ap (λ (cells : List Cell). rows_without cells c.args.rows.now.items) (sym none)
 
 pub returns : goal.returns
-returns c =
-    let done : drop c.loop-cell.cell-index c.args.cells.now ≡ [] = grind (arith, common_steps) in
-    sym (rows_without-nil c.loop-cell.rows) ∙ ap (λ (l : List Cell). rows_without l c.loop-cell.rows) (sym done) ∙ c.loop-cell.invariant
+returns c = filter_same _ (λ (row : Cell × ℤ). not (is_cell_among c.args.cells.now row.0)) _ (λ row b f k. search rules) _ _ c.retain.ensures.filtered

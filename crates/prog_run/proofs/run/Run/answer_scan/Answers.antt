@@ -14,7 +14,7 @@ returns-then-not-are_in-clause-true_run c =
     let r = c.self.inside in
     subst IsTrueRun c.self.view_is (true_at _ (cursor_tree r.cursor) r.progress refl refl refl refl c.self.invariant.0)
 
-pub returns-in_err-copy-clause-true_run : goal.returns-in_err-copy-clause-true_run
-returns-in_err-copy-clause-true_run c =
+pub returns-in_err-rows-clause-true_run : goal.returns-in_err-rows-clause-true_run
+returns-in_err-rows-clause-true_run c =
     let r = c.self.inside in
     subst IsTrueRun c.self.view_is (true_at _ (cursor_tree r.cursor) r.progress refl refl refl refl c.self.invariant.0)
