@@ -292,8 +292,8 @@ impl<'a> Book<'a> {
         Ok(self.held(active.start, cell))
     }
 
-    /// The rows of a region for a ticket's instance, its own changes aside.
-    pub fn scan(&self, ticket: &Ticket, region: &Region) -> Result<Rows, ScanFault>
+    /// The rows of a region for a ticket's instance, in the order of their cells, its own changes aside.
+    pub fn scan(&self, ticket: &Ticket, region: &Region) -> Result<Sequence<(Cell, i64)>, ScanFault>
         ensures { IsRegionRead (rows_for self.now ticket.now region.now) result }
     {
         let Some(active) = self.active_instance(ticket) else {

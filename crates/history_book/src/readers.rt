@@ -1,7 +1,6 @@
 //! Which commits have to stand before which, in few pairs.
 
 ghost use Rattle.std.specs.Prelude.{◌≡◌, length, IfOk, OnOk, IfSome};
-ghost use Rattle.prog_tree.specs.Table.{is_cell_among};
 ghost use Rattle.history_book.specs.Orders.{IsReduced, IsUpTo};
 ghost use Rattle.history_book.specs.Traces.{trace_depends, takes_in, SeesEarlier};
 ghost use Rattle.history_book.specs.Reduced.{Adds, RiseFrom, AreWithin, AllRiseWithin, numbers_at};
@@ -13,7 +12,7 @@ ghost use Rattle.history_book.specs.Precedence.{precedes};
 use crate::precedence::Precedence;
 use crate::trace::{Sight, Trace};
 use crate::writers::{Writers, first_missed, last_seen};
-use prog_tree::{Cell, Region};
+use prog_tree::{Cell, Region, is_among};
 use std::alloc::{AllocError, Global};
 use version_store::corners;
 
@@ -128,18 +127,6 @@ fn add_cell(
         add_reader(precedence, reader, start, numbers.as_slice())?;
     }
     Ok(())
-}
-
-// Whether cells have a cell among them.
-fn is_among(cells: &[Cell], cell: &Cell) -> bool
-    ensures { result ≡ is_cell_among cells.now cell.now }
-{
-    for other in cells {
-        if cell.cmp(other).is_eq() {
-            return true;
-        }
-    }
-    false
 }
 
 // Whether a region has a cell that is not one of the reader's own.

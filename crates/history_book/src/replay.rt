@@ -52,7 +52,7 @@ impl<'a> Book<'a> {
             }
             Next::Scan(region) => {
                 let rows = self.rows_in(start, &region)?;
-                let next = taken(run.answer_scan(&rows))?;
+                let next = taken(run.answer_scan(rows.as_slice()))?;
                 Ok(next)
             }
             next => Ok(next),

@@ -1,8 +1,9 @@
 //! What active instances see, and whether runs are theirs.
 
 ghost use Rattle.std.specs.Prelude.{◌≡◌, ◌≤◌, ◌↔◌, length, true, IfOk, IfErr, IfSome, IsTrue, option_copied, option_map, MatchOption};
+ghost use Rattle.prog_tree.specs.Evaluation.{rows_left};
 ghost use Rattle.prog_tree.specs.Table.{row_at, rows_in};
-ghost use Rattle.prog_run.specs.Looks.{IsFound, AreFound, rows_without};
+ghost use Rattle.prog_run.specs.Looks.{IsFound, AreFound};
 ghost use Rattle.version_store.specs.Clash.{IsClash};
 ghost use Rattle.prog_tree.specs.Tree.{draft_tree};
 ghost use Rattle.history_book.specs.History.{IsCalled};
@@ -16,18 +17,9 @@ use crate::fault::{Place, Refusal};
 use crate::row::HistoryRow;
 use crate::ticket::Ticket;
 use prog_run::Run;
-use prog_tree::{Cell, Changes, Look, Region, Rows, Sequence, same_tables};
+use prog_tree::{Cell, Changes, Look, Region, Sequence, same_tables};
 use std::alloc::{AllocError, Global};
 use version_store::Clash;
-
-// Takes away the rows of some cells.
-fn remove_all(rows: &mut Rows, cells: &[Cell])
-    ensures { rows.new ≡ rows_without cells.now rows.old }
-{
-    for cell in cells {
-        rows.remove(cell);
-    }
-}
 
 pub(crate) fn same_numbers(numbers: &[i64], others: &[i64]) -> bool
     ensures { IsTrue result ↔ (numbers.now ≡ others.now) }
@@ -61,7 +53,11 @@ impl<'a> Book<'a> {
     }
 
     /// The rows of a region after the first `start` commits.
-    pub(crate) fn rows_in(&self, start: u64, region: &Region) -> Result<Rows, AllocError>
+    pub(crate) fn rows_in(
+        &self,
+        start: u64,
+        region: &Region,
+    ) -> Result<Sequence<(Cell, i64)>, AllocError>
         requires above { self.now.floor ≤ start }
         requires within { start ≤ length self.now.rows }
         ensures { IfOk result (λ rows. rows ≡ rows_in region.now (state_in self.now start)) }
@@ -78,36 +74,45 @@ impl<'a> Book<'a> {
         self.store.clash(start, changes)
     }
 
-    /// Whether a look found what is held after the first `start` commits.
-    fn is_found(&self, start: u64, look: &Look) -> Result<bool, AllocError>
+    // Whether some rows are those of a region after the first `start` commits, but for those of
+    // some `own` cells.
+    fn are_held(&self, start: u64, region: &Region, own: &[Cell], rows: &[(Cell, i64)]) -> bool
         requires above { self.now.floor ≤ start }
         requires within { start ≤ length self.now.rows }
-        ensures { IfOk result (λ found. IsTrue found ↔ IsFound (state_in self.now start) look.now) }
+        ensures { IsTrue result
+            ↔ (rows_left region.now own.now (state_in self.now start) ≡ rows.now) }
+    {
+        self.store.are_held(start, region, own, rows)
+    }
+
+    // Whether a look found what is held after the first `start` commits.
+    fn is_found(&self, start: u64, look: &Look) -> bool
+        requires above { self.now.floor ≤ start }
+        requires within { start ≤ length self.now.rows }
+        ensures { IsTrue result ↔ IsFound (state_in self.now start) look.now }
     {
         match look {
-            Look::One(cell, held) => Ok(self.held(start, cell) == *held),
+            Look::One(cell, held) => self.held(start, cell) == *held,
             Look::Range { region, own, rows } => {
-                let mut found = self.rows_in(start, region)?;
-                remove_all(&mut found, own.as_slice());
-                Ok(found.is_same(rows))
+                self.are_held(start, region, own.as_slice(), rows.as_slice())
             }
         }
     }
 
-    /// The first look that did not find what is held after the first `start` commits.
-    fn foreign_look(&self, start: u64, looks: &[Look]) -> Result<Option<usize>, AllocError>
+    // The first look that did not find what is held after the first `start` commits.
+    fn foreign_look(&self, start: u64, looks: &[Look]) -> Option<usize>
         requires above { self.now.floor ≤ start }
         requires within { start ≤ length self.now.rows }
-        ensures { IfOk result (λ foreign. MatchOption foreign
+        ensures { MatchOption result
             (AreFound (state_in self.now start) looks.now)
-            (λ number. IsFirstForeign (state_in self.now start) looks.now number)) }
+            (λ number. IsFirstForeign (state_in self.now start) looks.now number) }
     {
         for (number, look) in looks.iter().enumerate() {
-            if !self.is_found(start, look)? {
-                return Ok(Some(number));
+            if !self.is_found(start, look) {
+                return Some(number);
             }
         }
-        Ok(None)
+        None
     }
 
     /// Whether a run has the program and the arguments of an instance, and the tables of the set.
@@ -151,7 +156,7 @@ impl<'a> Book<'a> {
         if !self.has_program(active, run) {
             return Err(Refusal::ForeignRun(Place::Program));
         }
-        if let Some(number) = self.foreign_look(active.start, run.looks())? {
+        if let Some(number) = self.foreign_look(active.start, run.looks()) {
             return Err(Refusal::ForeignRun(Place::Look(number)));
         }
         let row = self.row(active, run)?;

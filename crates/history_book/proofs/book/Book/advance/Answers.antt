@@ -10,7 +10,7 @@ use Rattle.history_book.proofs.book.Book.advance.Goals as goal
 pub taken-requires-in-Scan : goal.taken-requires-in-Scan
 taken-requires-in-Scan c =
     let asked = c.in_ok-next.ensures.advance.asked ∙ ap question_after c.in-Scan.is in
-    memory_alone c.answer_scan.result _ (no_scan_fault (state_in c.args.self.now c.args.start) c.advance.new.self.asked c.in-Scan.region _ asked c.in_ok-rows-in-Scan.ensures) c.answer_scan.ensures.refused
+    memory_alone c.answer_scan.result _ (no_scan_fault (state_in c.args.self.now c.args.start) c.advance.new.self.asked c.in-Scan.region _ asked (c.as_slice.ensures ∙ c.in_ok-rows-in-Scan.ensures)) c.answer_scan.ensures.refused
 
 pub returns-in_ok-next-in-Get-clause-found : goal.returns-in_ok-next-in-Get-clause-found
 returns-in_ok-next-in-Get-clause-found c =
@@ -28,8 +28,8 @@ returns-in_ok-next-in-Scan-clause-found c =
     let m = state_in c.args.self.now c.args.start in
     let old = c.advance.new.self in
     let new = c.answer_scan.new.self in
-    let rows = c.in_ok-rows-in-Scan.rows in
+    let rows = c.as_slice.result.now in
     let asked = c.in_ok-next.ensures.advance.asked ∙ ap question_after c.in-Scan.is in
     let before = subst (AreFound m) (sym c.in_ok-next.ensures.advance.looks) c.requires.found in
     let answered = subst (λ r. IfOk r (λ next. IfSome (asked_region old.asked) (λ region. IsAnswered (region_look old.changes region rows) next old new))) c.in_ok-next-in-Scan.ensures.ok c.answer_scan.ensures.answered in
-    found_region m old new c.in-Scan.region rows c.in_ok-next-in-Scan.next asked c.in_ok-rows-in-Scan.ensures before answered
+    found_region m old new c.in-Scan.region rows c.in_ok-next-in-Scan.next asked (c.as_slice.ensures ∙ c.in_ok-rows-in-Scan.ensures) before answered
