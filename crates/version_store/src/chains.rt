@@ -96,7 +96,7 @@ fn push_row(rows: &mut Vec<(Cell, i64)>, cell: &Cell, found: Option<i64>) -> Res
     Ok(())
 }
 
-// The rows behind that of a cell, where the first is that.
+// The rows behind that of a cell, if any is found of it; none where the first row is another.
 fn behind<'r>(rows: &'r [(Cell, i64)], cell: &Cell, found: Option<i64>) -> Option<&'r [(Cell, i64)]>
     ensures { (rest : TableState) →
         (option_copied result ≡ Some rest) ↔ (found_row cell.now found ++ rest ≡ rows.now) }
