@@ -56,7 +56,7 @@ fn advance(book: &Book<'_>, ticket: &Ticket, run: &mut Run<'_>) -> Result<Next, 
                 Err(ScanFault::Memory) => return Err(AllocError),
                 Err(ScanFault::NoSuchTicket) => unreachable!(),
             };
-            let next = taken(run.answer_scan(&rows))?;
+            let next = taken(run.answer_scan(rows.as_slice()))?;
             Ok(next)
         }
         next => Ok(next),

@@ -14,7 +14,7 @@ taken-requires-in-Scan c =
     let t = c.args.ticket.now in
     let asked = c.in_ok-next.ensures.advance.asked ∙ ap question_after c.in-Scan.is in
     let rows = rows_are v t c.in-Scan.region c.in-Ok-scan.rows c.in-Ok-scan.ensures in
-    memory_alone c.answer_scan.result _ (no_scan_fault (state_in v t.start) c.advance.new.self.asked c.in-Scan.region _ asked rows) c.answer_scan.ensures.refused
+    memory_alone c.answer_scan.result _ (no_scan_fault (state_in v t.start) c.advance.new.self.asked c.in-Scan.region _ asked (c.as_slice.ensures ∙ rows)) c.answer_scan.ensures.refused
 
 pub returns-in_ok-next-in-Get-clause-found : goal.returns-in_ok-next-in-Get-clause-found
 returns-in_ok-next-in-Get-clause-found c =
@@ -36,8 +36,8 @@ returns-in_ok-next-in-Scan-clause-found c =
     let m = state_in v t.start in
     let old = c.advance.new.self in
     let new = c.answer_scan.new.self in
-    let rows = c.in-Ok-scan.rows in
+    let rows = c.as_slice.result.now in
     let asked = c.in_ok-next.ensures.advance.asked ∙ ap question_after c.in-Scan.is in
     let before = subst (AreFound m) (sym c.in_ok-next.ensures.advance.looks) c.requires.found in
     let answered = subst (λ r. IfOk r (λ next. IfSome (asked_region old.asked) (λ region. IsAnswered (region_look old.changes region rows) next old new))) c.in_ok-next-in-Scan.ensures.ok c.answer_scan.ensures.answered in
-    found_region m old new c.in-Scan.region rows c.in_ok-next-in-Scan.next asked (rows_are v t c.in-Scan.region rows c.in-Ok-scan.ensures) before answered
+    found_region m old new c.in-Scan.region rows c.in_ok-next-in-Scan.next asked (c.as_slice.ensures ∙ rows_are v t c.in-Scan.region c.in-Ok-scan.rows c.in-Ok-scan.ensures) before answered
