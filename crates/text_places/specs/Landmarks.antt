@@ -1,0 +1,68 @@
+-- Where the tables, programs and statements of a set's text begin.
+use Rattle.std.specs.Prelude.{ℕ, zero, suc, ◌≡◌, ◌+◌, ◌==◌, Bool, true, false, not, ◌&&◌, ◌||◌, List, [], ◌∷◌, codes, bytes_eq, drop, nat_le, take, if◌then◌else◌}
+use Rattle.std.specs.List.{prefix_len, suffix_len}
+use Rattle.text_places.specs.Places.{is_feed}
+use Rattle.text_places.specs.declared.landmark.Landmark.{Landmark}
+use Rattle.text_places.specs.declared.landmark.Landmark.TheVariants.{Table, Program, Statement}
+
+-- a letter, a digit or `_`
+abbrev pub is_word_byte : ℕ → Bool
+is_word_byte b = ((nat_le 65 b && nat_le b 90) || (nat_le 97 b && nat_le b 122)) || ((nat_le 48 b && nat_le b 57) || b == 95)
+
+-- a byte belongs to a comment: one is open, or the byte begins one, and no line feed ends it
+abbrev pub is_in_comment : (is_open : Bool) → ℕ → Bool
+is_in_comment is_open byte = not (is_feed byte) && (is_open || byte == 35)
+
+-- the bytes with a space for each one of a comment
+abbrev pub blank_from : (is_open : Bool) → List ℕ → List ℕ
+blank_from is_open [] = []
+blank_from is_open (byte ∷ bytes) =
+    (if is_in_comment is_open byte then 32 else byte) ∷ blank_from (is_in_comment is_open byte) bytes
+
+abbrev pub without_comments : List ℕ → List ℕ
+without_comments text = blank_from false text
+
+-- the word begins a statement
+abbrev pub begins_statement : List ℕ → Bool
+begins_statement word =
+    (bytes_eq word (codes "let") || (bytes_eq word (codes "lacks") || bytes_eq word (codes "put")))
+    || ((bytes_eq word (codes "insert") || (bytes_eq word (codes "delete") || bytes_eq word (codes "keep")))
+    || (bytes_eq word (codes "if") || (bytes_eq word (codes "reply") || bytes_eq word (codes "abort"))))
+
+abbrev pub is_sign_of : Landmark → List ℕ → Bool
+is_sign_of Table word = bytes_eq word (codes "table")
+is_sign_of Program word = bytes_eq word (codes "program")
+is_sign_of Statement word = begins_statement word
+
+-- the word at the front, of which eight bytes tell whether it is one of these
+abbrev pub first_word : List ℕ → List ℕ
+first_word bytes = take (prefix_len is_word_byte (take 8 bytes)) (take 8 bytes)
+
+-- no word goes on at the place
+abbrev pub stands_free : (text : List ℕ) → (place : ℕ) → Bool
+stands_free text place = suffix_len is_word_byte (take place text) == 0
+
+abbrev pub is_landmark : Landmark → (text : List ℕ) → (place : ℕ) → Bool
+is_landmark kind text place = is_sign_of kind (first_word (drop place text)) && stands_free text place
+
+-- how many of a kind begin before a place
+abbrev pub landmarks_before : Landmark → (text : List ℕ) → (place : ℕ) → ℕ
+landmarks_before kind text zero = 0
+landmarks_before kind text (suc place) =
+    if is_landmark kind text place then suc (landmarks_before kind text place) else landmarks_before kind text place
+
+-- the one of this number begins at the place; they are counted from 0, and from some place on
+pub record IsNumbered (kind : Landmark) (text : List ℕ) (start : ℕ) (number : ℕ) (place : ℕ) : Type 0 where
+  pub begins : is_landmark kind text place ≡ true
+  pub numbered : landmarks_before kind text place ≡ landmarks_before kind text start + number
+
+abbrev pub IsTablePlace : (text : List ℕ) → (table : ℕ) → (place : ℕ) → Type 0
+IsTablePlace text table place = IsNumbered Table (without_comments text) 0 table place
+
+abbrev pub IsProgramPlace : (text : List ℕ) → (program : ℕ) → (place : ℕ) → Type 0
+IsProgramPlace text program place = IsNumbered Program (without_comments text) 0 program place
+
+-- statements are counted from where their program begins
+abbrev pub IsStatementPlace : (text : List ℕ) → (program statement : ℕ) → (place : ℕ) → Type 0
+IsStatementPlace text program statement place =
+    (start : ℕ) × IsProgramPlace text program start × IsNumbered Statement (without_comments text) start statement place

@@ -1,0 +1,3 @@
+pub mod Landmarks
+pub mod Places
+pub mod Quotes

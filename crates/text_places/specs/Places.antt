@@ -1,0 +1,30 @@
+-- Where a byte of a text stands: its line, its column, and the line as people see it.
+use Rattle.std.specs.Prelude.{ℕ, ◌+◌, ◌-◌, ◌==◌, Bool, not, List, count_by, drop, length, take}
+use Rattle.std.specs.List.{before_first, suffix_len}
+
+abbrev pub is_feed : ℕ → Bool
+is_feed byte = byte == 10
+
+-- the bytes of a line
+abbrev pub is_inline : ℕ → Bool
+is_inline byte = not (is_feed byte)
+
+-- lines are counted from 1: one more than the line feeds before the place
+abbrev pub line_number : (text : List ℕ) → (place : ℕ) → ℕ
+line_number text place = count_by is_feed (take place text) + 1
+
+-- how many bytes of its line stand before the place
+abbrev pub inset : (text : List ℕ) → (place : ℕ) → ℕ
+inset text place = suffix_len is_inline (take place text)
+
+-- columns are counted from 1, a byte each
+abbrev pub column : (text : List ℕ) → (place : ℕ) → ℕ
+column text place = inset text place + 1
+
+-- where the line of the place begins; a place behind the end stands for the end
+abbrev pub line_start : (text : List ℕ) → (place : ℕ) → ℕ
+line_start text place = length (take place text) - inset text place
+
+-- the line of the place, without its line feed
+abbrev pub line_at : (text : List ℕ) → (place : ℕ) → List ℕ
+line_at text place = before_first is_feed (drop (line_start text place) text)

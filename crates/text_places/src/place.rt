@@ -1,0 +1,90 @@
+//! The line and the column of a place. A place behind the end of a text stands for its end.
+ghost use Rattle.std.specs.Prelude.{◌≡◌, ◌≤◌, drop, length, take};
+ghost use Rattle.std.specs.List.{before_first, prefix_len};
+ghost use Rattle.text_places.specs.Places.{column, inset, is_feed, is_inline, line_at, line_number, line_start};
+
+/// The bytes before a place.
+pub fn before(text: &[u8], place: usize) -> &[u8]
+    ensures { result.now ≡ take place text.now }
+{
+    if place < text.len() {
+        &text[..place]
+    } else {
+        text
+    }
+}
+
+/// The bytes from a place on.
+pub fn behind(text: &[u8], place: usize) -> &[u8]
+    ensures { result.now ≡ drop place text.now }
+{
+    if place < text.len() {
+        &text[place..]
+    } else {
+        &[]
+    }
+}
+
+fn is_feed(byte: u8) -> bool
+    ensures { result ≡ is_feed byte }
+{
+    byte == b'\n'
+}
+
+/// The line of a place, from 1.
+pub fn line_number(text: &[u8], place: usize) -> usize
+    ensures { result ≡ line_number text.now place }
+{
+    let feeds = before(text, place)
+        .iter()
+        .filter(|byte| is_feed(**byte))
+        .count();
+    feeds + 1
+}
+
+/// How many bytes of its line stand before a place.
+pub fn inset(text: &[u8], place: usize) -> usize
+    ensures value { result ≡ inset text.now place }
+    ensures within { result ≤ length (take place text.now) }
+{
+    before(text, place)
+        .iter()
+        .rev()
+        .take_while(|byte| !is_feed(**byte))
+        .count()
+}
+
+/// The column of a place, from 1. Each byte counts, since those before a fault's place are ASCII.
+pub fn column(text: &[u8], place: usize) -> usize
+    ensures { result ≡ column text.now place }
+{
+    inset(text, place) + 1
+}
+
+// Where the line of a place begins.
+fn line_start(text: &[u8], place: usize) -> usize
+    ensures { result ≡ line_start text.now place }
+{
+    before(text, place).len() - inset(text, place)
+}
+
+// How many bytes stand before the first line feed.
+fn first_len(text: &[u8]) -> usize
+    ensures { result ≡ prefix_len is_inline text.now }
+{
+    text.iter().take_while(|byte| !is_feed(**byte)).count()
+}
+
+// The bytes before the first line feed.
+fn first_line(text: &[u8]) -> &[u8]
+    ensures { result.now ≡ before_first is_feed text.now }
+{
+    before(text, first_len(text))
+}
+
+/// The line in which a place stands, without its line feed.
+pub fn line_at(text: &[u8], place: usize) -> &[u8]
+    ensures { result.now ≡ line_at text.now place }
+{
+    first_line(behind(text, line_start(text, place)))
+}
