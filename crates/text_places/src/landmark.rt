@@ -26,8 +26,8 @@ fn is_in_comment(is_open: bool, byte: u8) -> bool
     byte != b'\n' && (is_open || byte == b'#')
 }
 
-// The text with spaces for its comments.
-fn without_comments(alloc: Global, text: &[u8]) -> Result<Vec<u8>, AllocError>
+/// The text with spaces for its comments.
+pub fn without_comments(alloc: Global, text: &[u8]) -> Result<Vec<u8>, AllocError>
     ensures { IfOk result (λ blanked. blanked.items ≡ without_comments text.now) }
 {
     let mut blanked = Vec::with_capacity(alloc, text.len())?;

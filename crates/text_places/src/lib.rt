@@ -6,6 +6,6 @@ mod landmark;
 mod place;
 mod quote;
 
-pub use landmark::{program_place, statement_place, table_place};
+pub use landmark::{program_place, statement_place, table_place, without_comments};
 pub use place::{column, line_at, line_number};
 pub use quote::point_out;
