@@ -18,6 +18,7 @@ mod run_command;
 mod run_fault;
 mod status;
 mod verify;
+mod words;
 
 use crate::program::carry_out;
 use si_engine::Port;

@@ -48,7 +48,7 @@ fn follow<S: Source, K: Sink>(
     ensures reads { S.pulls source.new ≤ S.pulls source.old + MOST_READS }
 {
     match read_words(rt.alloc(), words) {
-        Ok(mode) => run_command(rt.alloc(), mode, source, sink),
+        Ok(mode) => run_command(rt, mode, source, sink),
         Err(error) => refuse_words(rt, &error, sink),
     }
 }

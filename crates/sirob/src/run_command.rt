@@ -15,6 +15,7 @@ use crate::run::{run_part, run_robust_part};
 use crate::run_fault::{RunFault, fault_line};
 use crate::status::Status;
 use crate::verify::verify_part;
+use crate::words::explain;
 use si_engine::{MOST_READS, Sink, Source, read_whole, write_whole};
 use std::alloc::Global;
 
@@ -63,12 +64,13 @@ fn answer_input<K: Sink>(
     }
 }
 
-// Reads all of a source, and does with it what the mode asks for.
+// Reads all of a source, keeps it, and does with it what the mode asks for.
 fn answer_source<S: Source, K: Sink>(
     alloc: Global,
     mode: Mode,
     source: &mut S,
     sink: &mut K,
+    kept: &mut Vec<u8>,
 ) -> Result<Status, RunFault>
     requires { K.has_failed sink.old ≡ false }
     ensures done { WritesOr (Err write_lost)
@@ -77,7 +79,9 @@ fn answer_source<S: Source, K: Sink>(
     ensures reads { S.pulls source.new ≤ S.pulls source.old + MOST_READS }
 {
     let input = read_whole(alloc, source)?;
-    answer_input(alloc, mode, &input, sink)
+    let ended = answer_input(alloc, mode, &input, sink);
+    *kept = input;
+    ended
 }
 
 /// Writes the last bytes; the status is the one given, or that of a failed write.
@@ -118,9 +122,10 @@ fn write_end<K: Sink>(alloc: Global, sink: &mut K, ended: Result<Status, RunFaul
 }
 
 /// Reads all of a source, does what the mode asks for, and writes the answer to a sink. A source that failed is a fault
-/// of the input; of a sink that failed, the status is that of a fault.
+/// of the input; of a sink that failed, the status is that of a fault. What is wrong goes to the standard error in
+/// words, behind the answer.
 pub fn run_command<S: Source, K: Sink>(
-    alloc: Global,
+    rt: &(impl AllocGlobal + Eprint),
     mode: Mode,
     source: &mut S,
     sink: &mut K,
@@ -132,9 +137,13 @@ pub fn run_command<S: Source, K: Sink>(
     if sink.failed() {
         return Status::Faulty;
     }
-    let ended = answer_source(alloc, mode, source, sink);
+    let alloc = rt.alloc();
+    let mut input = Vec::new(alloc);
+    let ended = answer_source(alloc, mode, source, sink, &mut input);
     if sink.failed() {
         return Status::Faulty;
     }
-    write_end(alloc, sink, ended)
+    let status = write_end(alloc, sink, ended);
+    explain(rt, &input, ended);
+    status
 }

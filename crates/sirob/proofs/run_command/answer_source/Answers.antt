@@ -18,4 +18,4 @@ pub returns-clause-done : goal.returns-clause-done
 returns-clause-done g c =
     let read = c.in_ok-input.ensures in
     done_of_source c.args.mode (g.S.Source.left c.args.source.now) (g.S.Source.has_failed c.read_whole.new.source) c.in_ok-input.input.items c.deref.result.now _ _ _ _
-    c.deref.ensures.value read.whole (λ e. let told = read.fault.1 e in absurd (cc)) c.answer_input.ensures
+    c.deref.ensures.value read.whole (λ e. let told = read.fault.1 e in absurd (cc)) c.answer_input-ended.ensures

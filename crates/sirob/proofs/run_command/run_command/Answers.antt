@@ -13,5 +13,5 @@ returns-then-failed-2-clause-reply g c =
 
 pub returns-clause-reply : goal.returns-clause-reply
 returns-clause-reply g c =
-    whole c.args.mode (g.S.Source.left c.args.source.now) (g.S.Source.has_failed c.answer_source-ended.new.source) _ _ _ _ _ c.answer_source-ended.result c.write_end.result
-    (sym c.failed-2.ensures ∙ c.if-failed-2.false) c.answer_source-ended.ensures.done c.write_end.ensures
+    whole c.args.mode (g.S.Source.left c.args.source.now) (g.S.Source.has_failed c.answer_source-ended.new.source) _ _ _ _ _ c.answer_source-ended.result c.write_end-status.result
+    (sym c.failed-2.ensures ∙ c.if-failed-2.false) c.answer_source-ended.ensures.done c.write_end-status.ensures

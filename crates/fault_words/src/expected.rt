@@ -1,0 +1,53 @@
+//! What could stand at a place of a text: each word and sign is tried there.
+
+use prog_text::{TextFault, parse};
+use std::alloc::{AllocError, Global};
+
+// Of a longer text no words are tried.
+const MOST_TRIED: usize = 65_536;
+
+// A name, a number, and each word and sign of the language.
+const TRIED: [&str; 44] = [
+    "NAME", "1", "(", ")", "[", "]", "{", "}", ",", ";", "=", "+", "-", "*", "..", "<", "<=", ">",
+    ">=", "==", "!=", "table", "grow", "program", "let", "get", "need", "count", "sum", "lacks",
+    "put", "insert", "delete", "keep", "if", "else", "reply", "abort", "or", "and", "not", "least",
+    "greatest", "in",
+];
+
+// Whether a word goes on what stands before it.
+fn goes_on(alloc: Global, before: &[u8], word: &str) -> Result<bool, AllocError> {
+    let mut text = Vec::new(alloc);
+    text.extend_from_slice(before)?;
+    text.push(b' ')?;
+    text.extend_from_slice(word.as_bytes())?;
+    match parse(alloc, &text) {
+        Ok(_) | Err(TextFault::UnexpectedEnd { .. }) => Ok(true),
+        Err(TextFault::Memory) => Err(AllocError),
+        Err(_) => Ok(false),
+    }
+}
+
+// A tried word as people are told of it.
+fn shown(alloc: Global, word: &str) -> Result<String, AllocError> {
+    match word {
+        "NAME" => format!(in alloc; "a name"),
+        "1" => format!(in alloc; "a number"),
+        _ => format!(in alloc; "`{word}`"),
+    }
+}
+
+/// With what a text could go on, in words: nothing where it is not known.
+pub fn expected(alloc: Global, before: &[u8]) -> Result<String, AllocError> {
+    let mut list = String::new(alloc);
+    if before.len() > MOST_TRIED {
+        return Ok(list);
+    }
+    for word in TRIED {
+        if goes_on(alloc, before, word)? {
+            let shown = shown(alloc, word)?;
+            list.push_str(if list.is_empty() { "" } else { ", " })?;
+            list.push_str(&shown)?;
+        }
+    }
+    Ok(list)
+}

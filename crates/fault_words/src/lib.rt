@@ -1,0 +1,14 @@
+//! Faults in words, for people: what a fault means, where it stands, and what to write instead.
+//! Each kind of fault has a function, with an arm for each fault.
+#![tactic(auto)]
+
+mod expected;
+mod nearest;
+mod pointing;
+mod reading;
+mod scope;
+mod set_faults;
+mod text_faults;
+
+pub use set_faults::check_words;
+pub use text_faults::text_words;

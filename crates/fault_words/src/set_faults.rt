@@ -1,0 +1,244 @@
+//! The faults of a set in words.
+ghost use Rattle.std.specs.Prelude.{◌≡◌, IfOk, IfSome, string_bytes};
+ghost use Rattle.fault_words.specs.Pointing.{place_of, IsPlaceOf, PointsAtPlace};
+
+use crate::nearest::nearest;
+use crate::pointing::point_at;
+use crate::reading::{behind_word, first_word, from_place, listed, table_name};
+use crate::scope::{tokens_of, unknown_name, visible_names};
+use prog_check::{CheckFault, Place};
+use prog_text::parse;
+use prog_tree::{Arity, Draft, Name};
+use std::alloc::{AllocError, Global};
+use text_places::{program_place, statement_place, table_place, without_comments};
+
+// Where a table, a program or a statement begins in a text.
+fn find_place(alloc: Global, text: &[u8], place: Place) -> Result<Option<usize>, AllocError>
+    ensures { IfOk result (λ found. IfSome found (IsPlaceOf text.now place)) }
+{
+    match place {
+        Place::Table { table } => table_place(alloc, text, table),
+        Place::Program { program } => program_place(alloc, text, program),
+        Place::Statement { program, statement } => statement_place(alloc, text, program, statement),
+    }
+}
+
+// The set that a text spells, where no fault of the text stands before it.
+fn draft_of(alloc: Global, text: &[u8]) -> Option<Draft> {
+    parse(alloc, text).ok()
+}
+
+// A name that is not known, and the nearest one or all of those that are.
+fn unknown(alloc: Global, name: &str, names: &[&str]) -> Result<String, AllocError> {
+    if let Some(near) = nearest(alloc, name, names)? {
+        return format!(in alloc; "the nearest name is `{near}`");
+    }
+    if names.is_empty() {
+        return format!(in alloc; "there is none");
+    }
+    let known = listed(alloc, names)?;
+    format!(in alloc; "known are {known}")
+}
+
+fn unknown_table(alloc: Global, text: &[u8], statement: &[u8]) -> Result<String, AllocError> {
+    let name = table_name(statement);
+    let Some(draft) = draft_of(alloc, text) else {
+        return format!(in alloc; "no table is called `{name}`");
+    };
+    let mut names = Vec::new(alloc);
+    for table in &draft.tables {
+        names.push(table.name.as_str())?;
+    }
+    let near = unknown(alloc, name, &names)?;
+    format!(in alloc; "no table is called `{name}`; {near}")
+}
+
+// The statement's name that is not bound. Names are bound by parameters and by `let`.
+fn unbound_name(alloc: Global, text: &[u8], place: Place, at: usize) -> Result<String, AllocError> {
+    let Place::Statement { program, .. } = place else {
+        return format!(in alloc; "a name is not bound");
+    };
+    let plain = without_comments(alloc, text)?;
+    let start = program_place(alloc, text, program)?.unwrap_or(0);
+    let before = tokens_of(alloc, plain.get(start..at).unwrap_or(&[]))?;
+    let visible = visible_names(alloc, &before)?;
+    let statement = tokens_of(alloc, from_place(&plain, at))?;
+    let Some(name) = unknown_name(&statement, &visible) else {
+        return format!(in alloc; "a name of this statement is not bound");
+    };
+    let near = unknown(alloc, name, &visible)?;
+    format!(in alloc; "`{name}` is no parameter and no `let` before binds it; {near}")
+}
+
+fn arity_of(draft: &Draft, name: &str) -> Option<Arity> {
+    for table in &draft.tables {
+        if table.name.as_str() == name {
+            return Some(table.arity);
+        }
+    }
+    None
+}
+
+fn wrong_columns(alloc: Global, text: &[u8], statement: &[u8]) -> Result<String, AllocError> {
+    let name = table_name(statement);
+    let arity = match draft_of(alloc, text) {
+        Some(draft) => arity_of(&draft, name),
+        None => None,
+    };
+    match arity {
+        Some(Arity::One) => {
+            format!(in alloc; "`{name}` has one key column, and here it is given two")
+        }
+        Some(Arity::Two) => {
+            format!(in alloc; "`{name}` has two key columns, and here it is given one")
+        }
+        None => format!(in alloc; "`{name}` has another number of key columns"),
+    }
+}
+
+// The first name that stands twice.
+fn repeated(names: &[Name]) -> Option<&Name> {
+    for (index, name) in names.iter().enumerate() {
+        let earlier = names.get(..index).unwrap_or(&[]);
+        if earlier.iter().any(|other| other.is_same(name)) {
+            return Some(name);
+        }
+    }
+    None
+}
+
+fn repeated_parameter(alloc: Global, text: &[u8], place: Place) -> Result<String, AllocError> {
+    let (Place::Program { program }, Some(draft)) = (place, draft_of(alloc, text)) else {
+        return format!(in alloc; "two parameters have one name");
+    };
+    let name = match draft.programs.get(program) {
+        Some(program) => repeated(&program.params),
+        None => None,
+    };
+    match name {
+        Some(name) => {
+            let name = name.as_str();
+            format!(in alloc; "two parameters are called `{name}`")
+        }
+        None => format!(in alloc; "two parameters have one name"),
+    }
+}
+
+// How many parameters a program has.
+fn parameter_count(draft: &Draft, program: usize) -> usize {
+    match draft.programs.get(program) {
+        Some(program) => program.params.len(),
+        None => 0,
+    }
+}
+
+fn too_much_in_program(alloc: Global, text: &[u8], program: usize) -> Result<String, AllocError> {
+    if program > 15 {
+        return format!(in alloc; "this is the 17th program, and a set has at most 16");
+    }
+    let count = match draft_of(alloc, text) {
+        Some(draft) => parameter_count(&draft, program),
+        None => 0,
+    };
+    if count > 8 {
+        return format!(in alloc; "this program has {count} parameters, and at most 8 are allowed");
+    }
+    format!(in alloc; "a way through this program makes more than 24 accesses, the most allowed")
+}
+
+fn too_many(alloc: Global, text: &[u8], place: Place) -> Result<String, AllocError> {
+    match place {
+        Place::Table { .. } => {
+            format!(in alloc; "this is the 65th table, and a set has at most 64")
+        }
+        Place::Program { program } => too_much_in_program(alloc, text, program),
+        Place::Statement { .. } => {
+            format!(in alloc; "this is the 257th statement, and a program has at most 256")
+        }
+    }
+}
+
+// What the fault is, of what begins at a place.
+fn sentence(
+    alloc: Global,
+    text: &[u8],
+    fault: CheckFault,
+    at: usize,
+) -> Result<String, AllocError> {
+    let begun = from_place(text, at);
+    let name = first_word(behind_word(begun));
+    match fault {
+        CheckFault::DuplicateTable { .. } => {
+            format!(in alloc; "an earlier table is called `{name}` too")
+        }
+        CheckFault::DuplicateProgram { .. } => {
+            format!(in alloc; "an earlier program is called `{name}` too")
+        }
+        CheckFault::DuplicateParameter { place } => repeated_parameter(alloc, text, place),
+        CheckFault::UnknownTable { .. } => unknown_table(alloc, text, begun),
+        CheckFault::UnknownName { place } => unbound_name(alloc, text, place, at),
+        CheckFault::NameTaken { .. } => {
+            format!(in alloc;
+                "`{name}` is a parameter or bound by a `let` before; bind another name"
+            )
+        }
+        CheckFault::WrongArity { .. } => wrong_columns(alloc, text, begun),
+        CheckFault::GrowTableChanged { .. } => {
+            let table = table_name(begun);
+            format!(in alloc;
+                "`{table}` is a grow table, whose rows are only ever added, by `insert`"
+            )
+        }
+        CheckFault::AfterAbort { .. } => {
+            format!(in alloc; "never reached: the `abort;` before it ends this block")
+        }
+        CheckFault::TooMany { place } => too_many(alloc, text, place),
+        CheckFault::TooManyPaths { .. } => {
+            format!(in alloc;
+                "more than 32 ways through `{name}` commit; each further `if` doubles them"
+            )
+        }
+        CheckFault::Memory => format!(in alloc; "memory ran out"),
+    }
+}
+
+// Where the fault lies.
+fn place_of(fault: CheckFault) -> Option<Place>
+    ensures { result ≡ place_of fault }
+{
+    match fault {
+        CheckFault::DuplicateTable { place }
+        | CheckFault::DuplicateProgram { place }
+        | CheckFault::DuplicateParameter { place }
+        | CheckFault::UnknownTable { place }
+        | CheckFault::UnknownName { place }
+        | CheckFault::NameTaken { place }
+        | CheckFault::WrongArity { place }
+        | CheckFault::GrowTableChanged { place }
+        | CheckFault::AfterAbort { place }
+        | CheckFault::TooMany { place }
+        | CheckFault::TooManyPaths { place } => Some(place),
+        CheckFault::Memory => None,
+    }
+}
+
+/// What a fault of a set means, and where it stands in the set's text; nothing where it is not
+/// found.
+pub fn check_words(
+    alloc: Global,
+    text: &[u8],
+    fault: CheckFault,
+) -> Result<Option<String>, AllocError>
+    ensures { IfOk result (λ said. IfSome said (λ words.
+        PointsAtPlace text.now (place_of fault) (string_bytes words))) }
+{
+    let Some(place) = place_of(fault) else {
+        return Ok(None);
+    };
+    let Some(at) = find_place(alloc, text, place)? else {
+        return Ok(None);
+    };
+    let sentence = sentence(alloc, text, fault, at)?;
+    let words = point_at(alloc, text, at, &sentence)?;
+    Ok(Some(words))
+}
