@@ -13,9 +13,10 @@ use Rattle.prog_text.specs.declared.blocks.Open.TheVariants.{First, Second}
 use Rattle.prog_text.specs.declared.read_error.ReadError.{ReadError}
 use Rattle.prog_text.specs.declared.read_error.ReadError.TheVariants as errors
 use Rattle.prog_text.specs.declared.token.Token.{Token}
-use Rattle.prog_text.specs.Reading.{Stop, Unexpected, Reading, ◌>>=◌, Fails, after_close_block, after_if, after_else, behind_sign, open_block_at, test_at, statement_at, block_at, second_at, behind_second, behind_first, branch_at, more_at, body_at, as_plain, unexpected}
+use Rattle.prog_text.specs.Reading.{Stop, Unexpected, Reading, ◌>>=◌, Fails, after_sign, behind_sign, expect, test_at, statement_at, block_at, second_at, behind_second, behind_first, branch_at, more_at, body_at, as_plain, unexpected}
 use Rattle.prog_text.specs.OpenBlocks.{in_front, outward, unread, unread_behind_end, unread_behind_if, unread_from_statement}
 use Rattle.prog_text.proofs.Enough.{body_is}
+use Rattle.prog_text.specs.declared.token.Sign.TheVariants as sign
 
 in_front-nil : (read : Reading BlockTree) → in_front [] read ≡ read
 unfolding in_front
@@ -49,13 +50,13 @@ pub unread_begins : (ts : List Token) → unread [] [] ts ≡ body_at ts
 unfolding unread outward
 unread_begins ts = in_front-nil (body_at ts)
 
-pub block_begins : (ts us : List Token) → open_block_at ts ≡ Ok (tt, us) → unread [] [] us ≡ block_at body_at ts
+pub block_begins : (ts us : List Token) → expect sign.OpenBlock ts ≡ Ok (tt, us) → unread [] [] us ≡ block_at body_at ts
 unfolding block_at
 block_begins ts us e = unread_begins us ∙ ap (λ (r : Reading (Unit {0})). r >>= λ begun. body_at begun.1) (sym e)
 
-pub block_fails : (k : ReadError) (ts : List Token) → Fails k (open_block_at ts) → Fails k (block_at body_at ts)
+pub block_fails : (k : ReadError) (ts : List Token) → Fails k (expect sign.OpenBlock ts) → Fails k (block_at body_at ts)
 unfolding block_at
-block_fails k ts h = then_fails k (open_block_at ts) _ h
+block_fails k ts h = then_fails k (expect sign.OpenBlock ts) _ h
 
 -- what comes next: the end of the block, a branch, or a statement without blocks
 next_by : (opened : List Open) (done : List Stmt) (ts : List Token) (ends branches : Option (List Token))
@@ -67,17 +68,17 @@ next_by opened done ts None (Some us) = refl
 next_by opened done ts None None = refl
 
 pub unread_next : (stack : List Open) (done : List Stmt) (ts : List Token)
-    → unread stack done ts ≡ behind_sign (after_close_block ts) (unread_behind_end stack done) (behind_sign (after_if ts) (unread_behind_if stack done) (unread_from_statement stack done ts))
+    → unread stack done ts ≡ behind_sign (after_sign sign.CloseBlock ts) (unread_behind_end stack done) (behind_sign (after_sign sign.If ts) (unread_behind_if stack done) (unread_from_statement stack done ts))
 unfolding unread unread_behind_end unread_behind_if unread_from_statement
-unread_next stack done ts = ap (λ (r : Reading BlockTree). outward (reverse stack) (in_front done r)) (body_is ts) ∙ next_by (reverse stack) done ts (after_close_block ts) (after_if ts)
+unread_next stack done ts = ap (λ (r : Reading BlockTree). outward (reverse stack) (in_front done r)) (body_is ts) ∙ next_by (reverse stack) done ts (after_sign sign.CloseBlock ts) (after_sign sign.If ts)
 
-pub next_ends : (stack : List Open) (done : List Stmt) (ts us : List Token) → after_close_block ts ≡ Some us → unread stack done ts ≡ unread_behind_end stack done us
+pub next_ends : (stack : List Open) (done : List Stmt) (ts us : List Token) → after_sign sign.CloseBlock ts ≡ Some us → unread stack done ts ≡ unread_behind_end stack done us
 next_ends stack done ts us e = unread_next stack done ts ∙ (rw e refl)
 
-pub next_branches : (stack : List Open) (done : List Stmt) (ts us : List Token) → after_close_block ts ≡ None → after_if ts ≡ Some us → unread stack done ts ≡ unread_behind_if stack done us
+pub next_branches : (stack : List Open) (done : List Stmt) (ts us : List Token) → after_sign sign.CloseBlock ts ≡ None → after_sign sign.If ts ≡ Some us → unread stack done ts ≡ unread_behind_if stack done us
 next_branches stack done ts us e f = unread_next stack done ts ∙ (rw (e, f) refl)
 
-pub next_goes_on : (stack : List Open) (done : List Stmt) (ts : List Token) → after_close_block ts ≡ None → after_if ts ≡ None → unread stack done ts ≡ unread_from_statement stack done ts
+pub next_goes_on : (stack : List Open) (done : List Stmt) (ts : List Token) → after_sign sign.CloseBlock ts ≡ None → after_sign sign.If ts ≡ None → unread stack done ts ≡ unread_from_statement stack done ts
 next_goes_on stack done ts e f = unread_next stack done ts ∙ (rw (e, f) refl)
 
 -- the outermost block ends
@@ -92,20 +93,20 @@ innermost stack last read = ap (λ (opened : List Open). outward opened read) (r
 
 -- ---- the end of a first block
 
-with_second : (x : TestTree) (first : BlockTree) (ts us vs : List Token) → after_else ts ≡ Some us → open_block_at us ≡ Ok (tt, vs)
+with_second : (x : TestTree) (first : BlockTree) (ts us vs : List Token) → after_sign sign.Else ts ≡ Some us → expect sign.OpenBlock us ≡ Ok (tt, vs)
     → behind_first body_at x first ts ≡ (body_at vs >>= λ second. behind_second body_at x first second.0 second.1)
 unfolding behind_first second_at block_at
 with_second x first ts us vs e f = rw (e, f) refl
 
-without_second : (x : TestTree) (first : BlockTree) (ts : List Token) → after_else ts ≡ None → behind_first body_at x first ts ≡ (body_at ts >>= λ rest. Ok (Branch x first BlockEnd rest.0, rest.1))
+without_second : (x : TestTree) (first : BlockTree) (ts : List Token) → after_sign sign.Else ts ≡ None → behind_first body_at x first ts ≡ (body_at ts >>= λ rest. Ok (Branch x first BlockEnd rest.0, rest.1))
 unfolding behind_first behind_second second_at
 without_second x first ts e = rw e refl
 
-no_second : (k : ReadError) (x : TestTree) (first : BlockTree) (ts us : List Token) → after_else ts ≡ Some us → Fails k (open_block_at us) → Fails k (behind_first body_at x first ts)
+no_second : (k : ReadError) (x : TestTree) (first : BlockTree) (ts us : List Token) → after_sign sign.Else ts ≡ Some us → Fails k (expect sign.OpenBlock us) → Fails k (behind_first body_at x first ts)
 unfolding behind_first second_at block_at
-no_second k x first ts us e h = rw e (then_fails k _ _ (then_fails k (open_block_at us) _ h))
+no_second k x first ts us e h = rw e (then_fails k _ _ (then_fails k (expect sign.OpenBlock us) _ h))
 
-pub second_opens : (stack : List Open) (test : Test) (done before : Vec Stmt Global) (ts us vs : List Token) → after_else ts ≡ Some us → open_block_at us ≡ Ok (tt, vs)
+pub second_opens : (stack : List Open) (test : Test) (done before : Vec Stmt Global) (ts us vs : List Token) → after_sign sign.Else ts ≡ Some us → expect sign.OpenBlock us ≡ Ok (tt, vs)
     → unread (stack ++ Second test done before ∷ []) [] vs ≡ unread_behind_end (stack ++ First test before ∷ []) done.items ts
 unfolding unread unread_behind_end outward
 second_opens stack test done before ts us vs e f =
@@ -113,14 +114,14 @@ second_opens stack test done before ts us vs e f =
     ∙ ap (λ (r : Reading BlockTree). outward (reverse stack) (in_front before.items r)) (sym (with_second (test_tree test) (stmts_tree done.items) ts us vs e f))
     ∙ sym (innermost stack (First test before) (Ok (stmts_tree done.items, ts)))
 
-pub second_fails : (k : ReadError) (stack : List Open) (test : Test) (done : List Stmt) (before : Vec Stmt Global) (ts us : List Token) → after_else ts ≡ Some us → Fails k (open_block_at us)
+pub second_fails : (k : ReadError) (stack : List Open) (test : Test) (done : List Stmt) (before : Vec Stmt Global) (ts us : List Token) → after_sign sign.Else ts ≡ Some us → Fails k (expect sign.OpenBlock us)
     → Fails k (unread_behind_end (stack ++ First test before ∷ []) done ts)
 unfolding unread_behind_end outward
 second_fails k stack test done before ts us e h =
     subst (Fails k) (sym (innermost stack (First test before) (Ok (stmts_tree done, ts))))
     (reading_fails k (reverse stack) before.items (behind_first body_at (test_tree test) (stmts_tree done) ts) (no_second k (test_tree test) (stmts_tree done) ts us e h))
 
-pub first_ends : (stack : List Open) (test : Test) (done : List Stmt) (before : Vec Stmt Global) (s : Stmt) (ts : List Token) → after_else ts ≡ None → with_stmt s ≡ (λ rest. Branch (test_tree test) (stmts_tree done) BlockEnd rest)
+pub first_ends : (stack : List Open) (test : Test) (done : List Stmt) (before : Vec Stmt Global) (s : Stmt) (ts : List Token) → after_sign sign.Else ts ≡ None → with_stmt s ≡ (λ rest. Branch (test_tree test) (stmts_tree done) BlockEnd rest)
     → unread stack (before.items ++ s ∷ []) ts ≡ unread_behind_end (stack ++ First test before ∷ []) done ts
 unfolding unread unread_behind_end outward
 first_ends stack test done before s ts e is =
@@ -148,19 +149,19 @@ pub test_fails : (k : ReadError) (stack : List Open) (done : List Stmt) (ts : Li
 unfolding unread_behind_if branch_at
 test_fails k stack done ts h = reading_fails k (reverse stack) done _ (then_fails k (test_at ts) _ h)
 
-with_first : (x : TestTree) (ts us vs : List Token) → test_at ts ≡ Ok (x, us) → open_block_at us ≡ Ok (tt, vs) → branch_at body_at ts ≡ (body_at vs >>= λ first. behind_first body_at x first.0 first.1)
+with_first : (x : TestTree) (ts us vs : List Token) → test_at ts ≡ Ok (x, us) → expect sign.OpenBlock us ≡ Ok (tt, vs) → branch_at body_at ts ≡ (body_at vs >>= λ first. behind_first body_at x first.0 first.1)
 unfolding branch_at block_at
 with_first x ts us vs e f = rw (e, f) refl
 
-no_first : (k : ReadError) (x : TestTree) (ts us : List Token) → test_at ts ≡ Ok (x, us) → Fails k (open_block_at us) → Fails k (branch_at body_at ts)
+no_first : (k : ReadError) (x : TestTree) (ts us : List Token) → test_at ts ≡ Ok (x, us) → Fails k (expect sign.OpenBlock us) → Fails k (branch_at body_at ts)
 unfolding branch_at block_at
-no_first k x ts us e h = rw e (then_fails k _ _ (then_fails k (open_block_at us) _ h))
+no_first k x ts us e h = rw e (then_fails k _ _ (then_fails k (expect sign.OpenBlock us) _ h))
 
-pub first_fails : (k : ReadError) (stack : List Open) (done : List Stmt) (ts us : List Token) (x : TestTree) → test_at ts ≡ Ok (x, us) → Fails k (open_block_at us) → Fails k (unread_behind_if stack done ts)
+pub first_fails : (k : ReadError) (stack : List Open) (done : List Stmt) (ts us : List Token) (x : TestTree) → test_at ts ≡ Ok (x, us) → Fails k (expect sign.OpenBlock us) → Fails k (unread_behind_if stack done ts)
 unfolding unread_behind_if
 first_fails k stack done ts us x e h = reading_fails k (reverse stack) done (branch_at body_at ts) (no_first k x ts us e h)
 
-pub first_opens : (stack : List Open) (test : Test) (before : Vec Stmt Global) (ts us vs : List Token) → test_at ts ≡ Ok (test_tree test, us) → open_block_at us ≡ Ok (tt, vs)
+pub first_opens : (stack : List Open) (test : Test) (before : Vec Stmt Global) (ts us vs : List Token) → test_at ts ≡ Ok (test_tree test, us) → expect sign.OpenBlock us ≡ Ok (tt, vs)
     → unread (stack ++ First test before ∷ []) [] vs ≡ unread_behind_if stack before.items ts
 unfolding unread unread_behind_if outward
 first_opens stack test before ts us vs e f =

@@ -9,6 +9,7 @@ use Rattle.std.proofs.lemmas.Grind.{common_steps}
 use Rattle.std.proofs.lemmas.List.Folds.{list_all-append}
 use Rattle.std.proofs.lemmas.List.Sums.{fold-append}
 use Rattle.prog_text.specs.declared.token.Token.{Token}
+use Rattle.prog_text.specs.declared.token.Sign.TheVariants as sign
 use Rattle.prog_text.specs.declared.token.Token.TheVariants as t
 use Rattle.prog_text.specs.Cut.{IsName, IsNumber}
 use Rattle.prog_text.specs.Lexing.{is_letter, is_digit, is_word_byte, is_space, digits_value, word_token, piece_at, sign_at}
@@ -103,17 +104,17 @@ number_piece n rest small breaks = number_piece_of n (decimal n) rest (decimal_i
 
 -- ---- signs that another sign begins with
 
-less_piece : (rest : List ℕ) → Breaks rest → piece_at (60 ∷ rest) ≡ Ok (Some t.Less, rest)
+less_piece : (rest : List ℕ) → Breaks rest → piece_at (60 ∷ rest) ≡ Ok (Some (t.Sign sign.Less), rest)
 unfolding piece_at sign_at
 less_piece [] breaks = refl
 less_piece (b ∷ rest) breaks = rw (no_equals b breaks) refl
 
-greater_piece : (rest : List ℕ) → Breaks rest → piece_at (62 ∷ rest) ≡ Ok (Some t.Greater, rest)
+greater_piece : (rest : List ℕ) → Breaks rest → piece_at (62 ∷ rest) ≡ Ok (Some (t.Sign sign.Greater), rest)
 unfolding piece_at sign_at
 greater_piece [] breaks = refl
 greater_piece (b ∷ rest) breaks = rw (no_equals b breaks) refl
 
-equals_piece : (rest : List ℕ) → Breaks rest → piece_at (61 ∷ rest) ≡ Ok (Some t.Equals, rest)
+equals_piece : (rest : List ℕ) → Breaks rest → piece_at (61 ∷ rest) ≡ Ok (Some (t.Sign sign.Equals), rest)
 unfolding piece_at sign_at
 equals_piece [] breaks = refl
 equals_piece (b ∷ rest) breaks = rw (no_equals b breaks) refl
@@ -124,33 +125,33 @@ pub broken_piece : (u : Token) (rest : List ℕ) → IsLexed u → Breaks rest �
 unfolding piece_at sign_at
 broken_piece (t.Name x) rest lexed breaks = name_piece x rest lexed.0 lexed.1 breaks
 broken_piece (t.Number n) rest lexed breaks = number_piece n rest lexed breaks
-broken_piece t.Table rest lexed breaks = reserved_piece t.Table rest refl refl refl refl breaks
-broken_piece t.Grow rest lexed breaks = reserved_piece t.Grow rest refl refl refl refl breaks
-broken_piece t.Program rest lexed breaks = reserved_piece t.Program rest refl refl refl refl breaks
-broken_piece t.Let rest lexed breaks = reserved_piece t.Let rest refl refl refl refl breaks
-broken_piece t.Get rest lexed breaks = reserved_piece t.Get rest refl refl refl refl breaks
-broken_piece t.Need rest lexed breaks = reserved_piece t.Need rest refl refl refl refl breaks
-broken_piece t.Count rest lexed breaks = reserved_piece t.Count rest refl refl refl refl breaks
-broken_piece t.Sum rest lexed breaks = reserved_piece t.Sum rest refl refl refl refl breaks
-broken_piece t.Lacks rest lexed breaks = reserved_piece t.Lacks rest refl refl refl refl breaks
-broken_piece t.Put rest lexed breaks = reserved_piece t.Put rest refl refl refl refl breaks
-broken_piece t.Insert rest lexed breaks = reserved_piece t.Insert rest refl refl refl refl breaks
-broken_piece t.Delete rest lexed breaks = reserved_piece t.Delete rest refl refl refl refl breaks
-broken_piece t.Keep rest lexed breaks = reserved_piece t.Keep rest refl refl refl refl breaks
-broken_piece t.If rest lexed breaks = reserved_piece t.If rest refl refl refl refl breaks
-broken_piece t.Else rest lexed breaks = reserved_piece t.Else rest refl refl refl refl breaks
-broken_piece t.Reply rest lexed breaks = reserved_piece t.Reply rest refl refl refl refl breaks
-broken_piece t.Abort rest lexed breaks = reserved_piece t.Abort rest refl refl refl refl breaks
-broken_piece t.Or rest lexed breaks = reserved_piece t.Or rest refl refl refl refl breaks
-broken_piece t.And rest lexed breaks = reserved_piece t.And rest refl refl refl refl breaks
-broken_piece t.Not rest lexed breaks = reserved_piece t.Not rest refl refl refl refl breaks
-broken_piece t.Least rest lexed breaks = reserved_piece t.Least rest refl refl refl refl breaks
-broken_piece t.Greatest rest lexed breaks = reserved_piece t.Greatest rest refl refl refl refl breaks
-broken_piece t.Each rest lexed breaks = reserved_piece t.Each rest refl refl refl refl breaks
-broken_piece t.In rest lexed breaks = reserved_piece t.In rest refl refl refl refl breaks
-broken_piece t.Less rest lexed breaks = less_piece rest breaks
-broken_piece t.Greater rest lexed breaks = greater_piece rest breaks
-broken_piece t.Equals rest lexed breaks = equals_piece rest breaks
+broken_piece (t.Sign sign.Table) rest lexed breaks = reserved_piece (t.Sign sign.Table) rest refl refl refl refl breaks
+broken_piece (t.Sign sign.Grow) rest lexed breaks = reserved_piece (t.Sign sign.Grow) rest refl refl refl refl breaks
+broken_piece (t.Sign sign.Program) rest lexed breaks = reserved_piece (t.Sign sign.Program) rest refl refl refl refl breaks
+broken_piece (t.Sign sign.Let) rest lexed breaks = reserved_piece (t.Sign sign.Let) rest refl refl refl refl breaks
+broken_piece (t.Sign sign.Get) rest lexed breaks = reserved_piece (t.Sign sign.Get) rest refl refl refl refl breaks
+broken_piece (t.Sign sign.Need) rest lexed breaks = reserved_piece (t.Sign sign.Need) rest refl refl refl refl breaks
+broken_piece (t.Sign sign.Count) rest lexed breaks = reserved_piece (t.Sign sign.Count) rest refl refl refl refl breaks
+broken_piece (t.Sign sign.Sum) rest lexed breaks = reserved_piece (t.Sign sign.Sum) rest refl refl refl refl breaks
+broken_piece (t.Sign sign.Lacks) rest lexed breaks = reserved_piece (t.Sign sign.Lacks) rest refl refl refl refl breaks
+broken_piece (t.Sign sign.Put) rest lexed breaks = reserved_piece (t.Sign sign.Put) rest refl refl refl refl breaks
+broken_piece (t.Sign sign.Insert) rest lexed breaks = reserved_piece (t.Sign sign.Insert) rest refl refl refl refl breaks
+broken_piece (t.Sign sign.Delete) rest lexed breaks = reserved_piece (t.Sign sign.Delete) rest refl refl refl refl breaks
+broken_piece (t.Sign sign.Keep) rest lexed breaks = reserved_piece (t.Sign sign.Keep) rest refl refl refl refl breaks
+broken_piece (t.Sign sign.If) rest lexed breaks = reserved_piece (t.Sign sign.If) rest refl refl refl refl breaks
+broken_piece (t.Sign sign.Else) rest lexed breaks = reserved_piece (t.Sign sign.Else) rest refl refl refl refl breaks
+broken_piece (t.Sign sign.Reply) rest lexed breaks = reserved_piece (t.Sign sign.Reply) rest refl refl refl refl breaks
+broken_piece (t.Sign sign.Abort) rest lexed breaks = reserved_piece (t.Sign sign.Abort) rest refl refl refl refl breaks
+broken_piece (t.Sign sign.Or) rest lexed breaks = reserved_piece (t.Sign sign.Or) rest refl refl refl refl breaks
+broken_piece (t.Sign sign.And) rest lexed breaks = reserved_piece (t.Sign sign.And) rest refl refl refl refl breaks
+broken_piece (t.Sign sign.Not) rest lexed breaks = reserved_piece (t.Sign sign.Not) rest refl refl refl refl breaks
+broken_piece (t.Sign sign.Least) rest lexed breaks = reserved_piece (t.Sign sign.Least) rest refl refl refl refl breaks
+broken_piece (t.Sign sign.Greatest) rest lexed breaks = reserved_piece (t.Sign sign.Greatest) rest refl refl refl refl breaks
+broken_piece (t.Sign sign.Each) rest lexed breaks = reserved_piece (t.Sign sign.Each) rest refl refl refl refl breaks
+broken_piece (t.Sign sign.In) rest lexed breaks = reserved_piece (t.Sign sign.In) rest refl refl refl refl breaks
+broken_piece (t.Sign sign.Less) rest lexed breaks = less_piece rest breaks
+broken_piece (t.Sign sign.Greater) rest lexed breaks = greater_piece rest breaks
+broken_piece (t.Sign sign.Equals) rest lexed breaks = equals_piece rest breaks
 broken_piece u rest lexed breaks = refl
 
 -- what is found at the front of the bytes stands there

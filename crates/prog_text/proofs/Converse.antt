@@ -9,6 +9,7 @@ use Rattle.std.proofs.lemmas.List.{length-append}
 use Rattle.std.proofs.lemmas.List.Folds.{list_all-append}
 use Rattle.std.proofs.lemmas.Result.{IfOk-at_ok}
 use Rattle.prog_text.specs.declared.token.Token.{Token}
+use Rattle.prog_text.specs.declared.token.Sign.TheVariants as sign
 use Rattle.prog_text.specs.declared.token.Token.TheVariants as t
 use Rattle.prog_text.specs.Spelling.{spelling}
 use Rattle.prog_text.specs.Lexing.{is_letter, is_digit, is_word_byte, is_space, is_comment_byte, digits_value, word_token, Placed, before, piece_at, word_at, number_at, sign_at, tokens_from, tokens_of}
@@ -94,25 +95,25 @@ digits_piece n (c ∷ front) rest h within longest =
 
 -- ---- signs that another sign begins with
 
-less_piece : (rest : List ℕ) → IsLongest (codes "<") rest → piece_at (60 ∷ rest) ≡ Ok (Some t.Less, rest)
+less_piece : (rest : List ℕ) → IsLongest (codes "<") rest → piece_at (60 ∷ rest) ≡ Ok (Some (t.Sign sign.Less), rest)
 unfolding piece_at sign_at
 less_piece [] longest = refl
 less_piece (b ∷ rest) longest =
-    let other : (61 == b) ≡ false = false_from_ne_true _ (λ e. longest t.LessEqual b [] rest refl (ap (λ x. 60 ∷ x ∷ []) (sym ((Decides-eqb 61 b).0 e)))) in
+    let other : (61 == b) ≡ false = false_from_ne_true _ (λ e. longest (t.Sign sign.LessEqual) b [] rest refl (ap (λ x. 60 ∷ x ∷ []) (sym ((Decides-eqb 61 b).0 e)))) in
     rw other refl
 
-greater_piece : (rest : List ℕ) → IsLongest (codes ">") rest → piece_at (62 ∷ rest) ≡ Ok (Some t.Greater, rest)
+greater_piece : (rest : List ℕ) → IsLongest (codes ">") rest → piece_at (62 ∷ rest) ≡ Ok (Some (t.Sign sign.Greater), rest)
 unfolding piece_at sign_at
 greater_piece [] longest = refl
 greater_piece (b ∷ rest) longest =
-    let other : (61 == b) ≡ false = false_from_ne_true _ (λ e. longest t.GreaterEqual b [] rest refl (ap (λ x. 62 ∷ x ∷ []) (sym ((Decides-eqb 61 b).0 e)))) in
+    let other : (61 == b) ≡ false = false_from_ne_true _ (λ e. longest (t.Sign sign.GreaterEqual) b [] rest refl (ap (λ x. 62 ∷ x ∷ []) (sym ((Decides-eqb 61 b).0 e)))) in
     rw other refl
 
-equals_piece : (rest : List ℕ) → IsLongest (codes "=") rest → piece_at (61 ∷ rest) ≡ Ok (Some t.Equals, rest)
+equals_piece : (rest : List ℕ) → IsLongest (codes "=") rest → piece_at (61 ∷ rest) ≡ Ok (Some (t.Sign sign.Equals), rest)
 unfolding piece_at sign_at
 equals_piece [] longest = refl
 equals_piece (b ∷ rest) longest =
-    let other : (61 == b) ≡ false = false_from_ne_true _ (λ e. longest t.EqualEqual b [] rest refl (ap (λ x. 61 ∷ x ∷ []) (sym ((Decides-eqb 61 b).0 e)))) in
+    let other : (61 == b) ≡ false = false_from_ne_true _ (λ e. longest (t.Sign sign.EqualEqual) b [] rest refl (ap (λ x. 61 ∷ x ∷ []) (sym ((Decides-eqb 61 b).0 e)))) in
     rw other refl
 
 -- ---- each token
@@ -122,33 +123,33 @@ unfolding piece_at sign_at
 token_piece (t.Name x) word rest h within longest =
     letters_piece (t.Name x) word rest h.1.begins h.1.goes_on (rw h.1.free (ap t.Name h.0)) (rw h.0 within) longest
 token_piece (t.Number n) word rest h within longest = digits_piece n word rest h within longest
-token_piece t.Table word rest h within longest = reserved_piece t.Table word rest h refl refl refl refl longest
-token_piece t.Grow word rest h within longest = reserved_piece t.Grow word rest h refl refl refl refl longest
-token_piece t.Program word rest h within longest = reserved_piece t.Program word rest h refl refl refl refl longest
-token_piece t.Let word rest h within longest = reserved_piece t.Let word rest h refl refl refl refl longest
-token_piece t.Get word rest h within longest = reserved_piece t.Get word rest h refl refl refl refl longest
-token_piece t.Need word rest h within longest = reserved_piece t.Need word rest h refl refl refl refl longest
-token_piece t.Count word rest h within longest = reserved_piece t.Count word rest h refl refl refl refl longest
-token_piece t.Sum word rest h within longest = reserved_piece t.Sum word rest h refl refl refl refl longest
-token_piece t.Lacks word rest h within longest = reserved_piece t.Lacks word rest h refl refl refl refl longest
-token_piece t.Put word rest h within longest = reserved_piece t.Put word rest h refl refl refl refl longest
-token_piece t.Insert word rest h within longest = reserved_piece t.Insert word rest h refl refl refl refl longest
-token_piece t.Delete word rest h within longest = reserved_piece t.Delete word rest h refl refl refl refl longest
-token_piece t.Keep word rest h within longest = reserved_piece t.Keep word rest h refl refl refl refl longest
-token_piece t.If word rest h within longest = reserved_piece t.If word rest h refl refl refl refl longest
-token_piece t.Else word rest h within longest = reserved_piece t.Else word rest h refl refl refl refl longest
-token_piece t.Reply word rest h within longest = reserved_piece t.Reply word rest h refl refl refl refl longest
-token_piece t.Abort word rest h within longest = reserved_piece t.Abort word rest h refl refl refl refl longest
-token_piece t.Or word rest h within longest = reserved_piece t.Or word rest h refl refl refl refl longest
-token_piece t.And word rest h within longest = reserved_piece t.And word rest h refl refl refl refl longest
-token_piece t.Not word rest h within longest = reserved_piece t.Not word rest h refl refl refl refl longest
-token_piece t.Least word rest h within longest = reserved_piece t.Least word rest h refl refl refl refl longest
-token_piece t.Greatest word rest h within longest = reserved_piece t.Greatest word rest h refl refl refl refl longest
-token_piece t.Each word rest h within longest = reserved_piece t.Each word rest h refl refl refl refl longest
-token_piece t.In word rest h within longest = reserved_piece t.In word rest h refl refl refl refl longest
-token_piece t.Less word rest h within longest = rw h (less_piece rest (subst (λ w. IsLongest w rest) h longest))
-token_piece t.Greater word rest h within longest = rw h (greater_piece rest (subst (λ w. IsLongest w rest) h longest))
-token_piece t.Equals word rest h within longest = rw h (equals_piece rest (subst (λ w. IsLongest w rest) h longest))
+token_piece (t.Sign sign.Table) word rest h within longest = reserved_piece (t.Sign sign.Table) word rest h refl refl refl refl longest
+token_piece (t.Sign sign.Grow) word rest h within longest = reserved_piece (t.Sign sign.Grow) word rest h refl refl refl refl longest
+token_piece (t.Sign sign.Program) word rest h within longest = reserved_piece (t.Sign sign.Program) word rest h refl refl refl refl longest
+token_piece (t.Sign sign.Let) word rest h within longest = reserved_piece (t.Sign sign.Let) word rest h refl refl refl refl longest
+token_piece (t.Sign sign.Get) word rest h within longest = reserved_piece (t.Sign sign.Get) word rest h refl refl refl refl longest
+token_piece (t.Sign sign.Need) word rest h within longest = reserved_piece (t.Sign sign.Need) word rest h refl refl refl refl longest
+token_piece (t.Sign sign.Count) word rest h within longest = reserved_piece (t.Sign sign.Count) word rest h refl refl refl refl longest
+token_piece (t.Sign sign.Sum) word rest h within longest = reserved_piece (t.Sign sign.Sum) word rest h refl refl refl refl longest
+token_piece (t.Sign sign.Lacks) word rest h within longest = reserved_piece (t.Sign sign.Lacks) word rest h refl refl refl refl longest
+token_piece (t.Sign sign.Put) word rest h within longest = reserved_piece (t.Sign sign.Put) word rest h refl refl refl refl longest
+token_piece (t.Sign sign.Insert) word rest h within longest = reserved_piece (t.Sign sign.Insert) word rest h refl refl refl refl longest
+token_piece (t.Sign sign.Delete) word rest h within longest = reserved_piece (t.Sign sign.Delete) word rest h refl refl refl refl longest
+token_piece (t.Sign sign.Keep) word rest h within longest = reserved_piece (t.Sign sign.Keep) word rest h refl refl refl refl longest
+token_piece (t.Sign sign.If) word rest h within longest = reserved_piece (t.Sign sign.If) word rest h refl refl refl refl longest
+token_piece (t.Sign sign.Else) word rest h within longest = reserved_piece (t.Sign sign.Else) word rest h refl refl refl refl longest
+token_piece (t.Sign sign.Reply) word rest h within longest = reserved_piece (t.Sign sign.Reply) word rest h refl refl refl refl longest
+token_piece (t.Sign sign.Abort) word rest h within longest = reserved_piece (t.Sign sign.Abort) word rest h refl refl refl refl longest
+token_piece (t.Sign sign.Or) word rest h within longest = reserved_piece (t.Sign sign.Or) word rest h refl refl refl refl longest
+token_piece (t.Sign sign.And) word rest h within longest = reserved_piece (t.Sign sign.And) word rest h refl refl refl refl longest
+token_piece (t.Sign sign.Not) word rest h within longest = reserved_piece (t.Sign sign.Not) word rest h refl refl refl refl longest
+token_piece (t.Sign sign.Least) word rest h within longest = reserved_piece (t.Sign sign.Least) word rest h refl refl refl refl longest
+token_piece (t.Sign sign.Greatest) word rest h within longest = reserved_piece (t.Sign sign.Greatest) word rest h refl refl refl refl longest
+token_piece (t.Sign sign.Each) word rest h within longest = reserved_piece (t.Sign sign.Each) word rest h refl refl refl refl longest
+token_piece (t.Sign sign.In) word rest h within longest = reserved_piece (t.Sign sign.In) word rest h refl refl refl refl longest
+token_piece (t.Sign sign.Less) word rest h within longest = rw h (less_piece rest (subst (λ w. IsLongest w rest) h longest))
+token_piece (t.Sign sign.Greater) word rest h within longest = rw h (greater_piece rest (subst (λ w. IsLongest w rest) h longest))
+token_piece (t.Sign sign.Equals) word rest h within longest = rw h (equals_piece rest (subst (λ w. IsLongest w rest) h longest))
 token_piece u word rest h within longest = rw h refl
 
 -- ---- the whole text
@@ -182,6 +183,7 @@ step (b ∷ bytes) behind found placed (suc n) is shorter next enough = let read
 pub is_begun : (u : Token) (word : List ℕ) → Spells u word → 0 < length word
 is_begun (t.Name x) [] h = absurd (true≢false (sym h.1.begins))
 is_begun (t.Number n) [] h = absurd (true≢false (sym h.begins))
+is_begun (t.Sign sign.Table) [] h = absurd (true≢false (ap (λ w. nat_eq (length w) 0) h))
 is_begun u [] h = absurd (true≢false (ap (λ w. nat_eq (length w) 0) h))
 is_begun u (b ∷ word) h = omega arith
 

@@ -3,6 +3,7 @@ use Rattle.std.proofs.Common.{◌≡◌, ℕ, zero, suc, ◌*◌, List, [], ◌�
 use Rattle.std.proofs.lemmas.Grind.{flat_map-append}
 use Rattle.std.proofs.lemmas.List.Elements.{filter_map-append}
 use Rattle.prog_text.specs.declared.token.Token.{Token}
+use Rattle.prog_text.specs.declared.token.Sign.TheVariants as sign
 use Rattle.prog_text.specs.declared.token.Token.TheVariants as t
 use Rattle.prog_text.specs.Spelling.{spelling}
 use Rattle.prog_text.specs.Lexing.{is_space, Placed, kinds, piece_at, sign_at}
@@ -98,41 +99,41 @@ Stands u = (rest : List ℕ) → piece_at (spelling u ++ rest) ≡ Ok (Some u, r
 pub sign_closed : (u : Token) → Stands u → Closed (Word u ∷ [])
 sign_closed u stands = record { cuts = λ rest ts h. rw (append_assoc (spelling u) [] rest) (word_cut u (spelling u ++ rest) rest ts (stands rest) h) }
 
-pub open_bracket : Closed (Word t.Open ∷ [])
+pub open_bracket : Closed (Word (t.Sign sign.Open) ∷ [])
 unfolding piece_at sign_at
-open_bracket = sign_closed t.Open (λ rest. refl)
+open_bracket = sign_closed (t.Sign sign.Open) (λ rest. refl)
 
-pub close_bracket : Closed (Word t.Close ∷ [])
+pub close_bracket : Closed (Word (t.Sign sign.Close) ∷ [])
 unfolding piece_at sign_at
-close_bracket = sign_closed t.Close (λ rest. refl)
+close_bracket = sign_closed (t.Sign sign.Close) (λ rest. refl)
 
-pub open_key : Closed (Word t.OpenKey ∷ [])
+pub open_key : Closed (Word (t.Sign sign.OpenKey) ∷ [])
 unfolding piece_at sign_at
-open_key = sign_closed t.OpenKey (λ rest. refl)
+open_key = sign_closed (t.Sign sign.OpenKey) (λ rest. refl)
 
-pub close_key : Closed (Word t.CloseKey ∷ [])
+pub close_key : Closed (Word (t.Sign sign.CloseKey) ∷ [])
 unfolding piece_at sign_at
-close_key = sign_closed t.CloseKey (λ rest. refl)
+close_key = sign_closed (t.Sign sign.CloseKey) (λ rest. refl)
 
-pub open_block : Closed (Word t.OpenBlock ∷ [])
+pub open_block : Closed (Word (t.Sign sign.OpenBlock) ∷ [])
 unfolding piece_at sign_at
-open_block = sign_closed t.OpenBlock (λ rest. refl)
+open_block = sign_closed (t.Sign sign.OpenBlock) (λ rest. refl)
 
-pub close_block : Closed (Word t.CloseBlock ∷ [])
+pub close_block : Closed (Word (t.Sign sign.CloseBlock) ∷ [])
 unfolding piece_at sign_at
-close_block = sign_closed t.CloseBlock (λ rest. refl)
+close_block = sign_closed (t.Sign sign.CloseBlock) (λ rest. refl)
 
-pub semicolon : Closed (Word t.Semicolon ∷ [])
+pub semicolon : Closed (Word (t.Sign sign.Semicolon) ∷ [])
 unfolding piece_at sign_at
-semicolon = sign_closed t.Semicolon (λ rest. refl)
+semicolon = sign_closed (t.Sign sign.Semicolon) (λ rest. refl)
 
-pub minus : Closed (Word t.Minus ∷ [])
+pub minus : Closed (Word (t.Sign sign.Minus) ∷ [])
 unfolding piece_at sign_at
-minus = sign_closed t.Minus (λ rest. refl)
+minus = sign_closed (t.Sign sign.Minus) (λ rest. refl)
 
-pub dots : Closed (Word t.Dots ∷ [])
+pub dots : Closed (Word (t.Sign sign.Dots) ∷ [])
 unfolding piece_at sign_at
-dots = sign_closed t.Dots (λ rest. refl)
+dots = sign_closed (t.Sign sign.Dots) (λ rest. refl)
 
 -- a sign that goes on with nothing
 abbrev IsApart : Token → Type 0
@@ -149,4 +150,4 @@ open_if false xs ys first second = second
 
 pub in_brackets : (b : Bool) (marks : List Mark) → Open marks → Open (in_brackets_if b marks)
 in_brackets false marks h = h
-in_brackets true marks h = closed_then_open open_bracket (closed_open (open_closed h (sign_begins t.Close [] (λ rest. refl)) close_bracket))
+in_brackets true marks h = closed_then_open open_bracket (closed_open (open_closed h (sign_begins (t.Sign sign.Close) [] (λ rest. refl)) close_bracket))

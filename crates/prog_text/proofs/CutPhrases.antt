@@ -7,6 +7,7 @@ use Rattle.prog_tree.specs.Syntax as s
 use Rattle.prog_tree.specs.Syntax.{Name, ExprTree, RelationSign, ComparisonTree, TestTree, KeyTree, RangeTree, StatementTree, BlockTree, BlockEnd, Then, Branch, ProgramTree, DraftTree}
 use Rattle.prog_tree.specs.declared.table.TableDecl.{TableDecl}
 use Rattle.prog_text.specs.declared.token.Token.{Token}
+use Rattle.prog_text.specs.declared.token.Sign.TheVariants as sign
 use Rattle.prog_text.specs.declared.token.Token.TheVariants as t
 use Rattle.prog_text.specs.Grammar.{Many, none, more, Led, led, Separated, separated, least_number, greatest_number, IsFactor, number, negative, least, greatest, name, bracketed, IsProduct, factor, times, IsExpr, product, plus, minus, IsRelation, IsComparison, plain, negated, IsConjunction, IsTest, IsKey, IsRange, IsStatement, bind, get, need, count, sum, lacks, put, insert, delete, keep, reply, abort, IsStatements, nothing, branch, IsBlock, block, IsElse, missing, present, IsArity, IsTable, grows, IsName, IsParams, some, IsProgram, program, IsSet, set}
 use Rattle.prog_text.specs.Grammar as g
@@ -30,35 +31,35 @@ sides_open a b u lexed left right = open_then_open left (space_begins (Word u �
 
 -- a number below 2^63, and its opposite
 number_open : (n : ℕ) → IsLexed (t.Number n) → Open (number_marks (pos n))
-number_open n h = open_if (int_eq (pos n) greatest_number) _ _ (word_open t.Greatest tt) (word_open (t.Number n) h)
+number_open n h = open_if (int_eq (pos n) greatest_number) _ _ (word_open (t.Sign sign.Greatest) tt) (word_open (t.Number n) h)
 
 negative_open : (n : ℕ) → IsLexed (t.Number (suc n)) → Open (number_marks (negsuc n))
-negative_open n h = open_if (int_eq (negsuc n) least_number) _ _ (word_open t.Least tt) (closed_then_open minus_closed (word_open (t.Number (suc n)) h))
+negative_open n h = open_if (int_eq (negsuc n) least_number) _ _ (word_open (t.Sign sign.Least) tt) (closed_then_open minus_closed (word_open (t.Number (suc n)) h))
 
 mutual
   factor_open : (ts : List Token) (e : ExprTree) → IsFactor ts e → AreLexed ts → Open (expr_marks e)
   factor_open _ _ (number n) h = number_open n h.0
   factor_open _ _ (negative zero) h = number_open 0 h.1.0
   factor_open _ _ (negative (suc n)) h = negative_open n h.1.0
-  factor_open _ _ least h = word_open t.Least tt
-  factor_open _ _ greatest h = word_open t.Greatest tt
+  factor_open _ _ least h = word_open (t.Sign sign.Least) tt
+  factor_open _ _ greatest h = word_open (t.Sign sign.Greatest) tt
   factor_open _ _ (name x) h = word_open (t.Name x) h.0
-  factor_open _ _ (bracketed ts e d) h = expr_open ts e d (lexed_parts ts (t.Close ∷ []) h.1).0
+  factor_open _ _ (bracketed ts e d) h = expr_open ts e d (lexed_parts ts (t.Sign sign.Close ∷ []) h.1).0
 
   product_open : (ts : List Token) (e : ExprTree) → IsProduct ts e → AreLexed ts → Open (expr_marks e)
   product_open _ _ (factor ts e d) h = factor_open ts e d h
   product_open _ _ (times ts us a b left right) h =
-      let both : AreLexed ts × AreLexed (t.Times ∷ us) = lexed_parts ts (t.Times ∷ us) h in
-      sides_open _ _ t.Times tt (in_brackets (is_sum a) (expr_marks a) (product_open ts a left both.0)) (in_brackets _ (expr_marks b) (factor_open us b right both.1.1))
+      let both : AreLexed ts × AreLexed (t.Sign sign.Times ∷ us) = lexed_parts ts (t.Sign sign.Times ∷ us) h in
+      sides_open _ _ (t.Sign sign.Times) tt (in_brackets (is_sum a) (expr_marks a) (product_open ts a left both.0)) (in_brackets _ (expr_marks b) (factor_open us b right both.1.1))
 
   expr_open : (ts : List Token) (e : ExprTree) → IsExpr ts e → AreLexed ts → Open (expr_marks e)
   expr_open _ _ (product ts e d) h = product_open ts e d h
   expr_open _ _ (plus ts us a b left right) h =
-      let both : AreLexed ts × AreLexed (t.Plus ∷ us) = lexed_parts ts (t.Plus ∷ us) h in
-      sides_open _ _ t.Plus tt (expr_open ts a left both.0) (in_brackets (is_sum b) (expr_marks b) (product_open us b right both.1.1))
+      let both : AreLexed ts × AreLexed (t.Sign sign.Plus ∷ us) = lexed_parts ts (t.Sign sign.Plus ∷ us) h in
+      sides_open _ _ (t.Sign sign.Plus) tt (expr_open ts a left both.0) (in_brackets (is_sum b) (expr_marks b) (product_open us b right both.1.1))
   expr_open _ _ (minus ts us a b left right) h =
-      let both : AreLexed ts × AreLexed (t.Minus ∷ us) = lexed_parts ts (t.Minus ∷ us) h in
-      sides_open _ _ t.Minus tt (expr_open ts a left both.0) (in_brackets (is_sum b) (expr_marks b) (product_open us b right both.1.1))
+      let both : AreLexed ts × AreLexed (t.Sign sign.Minus ∷ us) = lexed_parts ts (t.Sign sign.Minus ∷ us) h in
+      sides_open _ _ (t.Sign sign.Minus) tt (expr_open ts a left both.0) (in_brackets (is_sum b) (expr_marks b) (product_open us b right both.1.1))
 
 -- ---- lists with a separator
 
@@ -81,12 +82,12 @@ joined_open P u separator marks each closed begins _ _ (separated ts us x xs d o
 -- ---- tests
 
 relation_lexed : (r : RelationSign) → Closed (spaced (relation_token r))
-relation_lexed s.Less = spaced_closed t.Less tt
-relation_lexed s.LessEqual = spaced_closed t.LessEqual tt
-relation_lexed s.Greater = spaced_closed t.Greater tt
-relation_lexed s.GreaterEqual = spaced_closed t.GreaterEqual tt
-relation_lexed s.Equal = spaced_closed t.EqualEqual tt
-relation_lexed s.NotEqual = spaced_closed t.NotEqual tt
+relation_lexed s.Less = spaced_closed (t.Sign sign.Less) tt
+relation_lexed s.LessEqual = spaced_closed (t.Sign sign.LessEqual) tt
+relation_lexed s.Greater = spaced_closed (t.Sign sign.Greater) tt
+relation_lexed s.GreaterEqual = spaced_closed (t.Sign sign.GreaterEqual) tt
+relation_lexed s.Equal = spaced_closed (t.Sign sign.EqualEqual) tt
+relation_lexed s.NotEqual = spaced_closed (t.Sign sign.NotEqual) tt
 
 compared_open : (ts us : List Token) (u : Token) (a b : ExprTree) (r : RelationSign) → IsExpr ts a → IsExpr us b → AreLexed (ts ++ u ∷ us) → Open (expr_marks a ++ (spaced (relation_token r) ++ expr_marks b))
 compared_open ts us u a b r left right h =
@@ -94,93 +95,93 @@ compared_open ts us u a b r left right h =
     open_then_open (expr_open ts a left both.0) (space_begins (Word (relation_token r) ∷ Space ∷ expr_marks b)) (closed_then_open (relation_lexed r) (expr_open us b right both.1.1))
 
 comparison_open : (ts : List Token) (c : ComparisonTree) → IsComparison ts c → AreLexed ts → Open (comparison_marks c)
-comparison_open _ _ (g.IsComparison.plain ts us u a b r left sign right) h = compared_open ts us u a b r left right h
-comparison_open _ _ (negated ts us u a b r left sign right) h = closed_then_open (leading_closed t.Not tt) (compared_open ts us u a b r left right h.1)
+comparison_open _ _ (g.IsComparison.plain ts us u a b r left compares right) h = compared_open ts us u a b r left right h
+comparison_open _ _ (negated ts us u a b r left compares right) h = closed_then_open (leading_closed (t.Sign sign.Not) tt) (compared_open ts us u a b r left right h.1)
 
 conjunction_open : (ts : List Token) (cs : List ComparisonTree) → IsConjunction ts cs → AreLexed ts → Open (conjunction_marks cs)
-conjunction_open = joined_open IsComparison t.And (spaced t.And) comparison_marks comparison_open (spaced_closed t.And tt) (λ others. space_begins (Word t.And ∷ Space ∷ others))
+conjunction_open = joined_open IsComparison (t.Sign sign.And) (spaced (t.Sign sign.And)) comparison_marks comparison_open (spaced_closed (t.Sign sign.And) tt) (λ others. space_begins (Word (t.Sign sign.And) ∷ Space ∷ others))
 
 test_open : (ts : List Token) (test : TestTree) → IsTest ts test → AreLexed ts → Open (test_marks test)
-test_open = joined_open IsConjunction t.Or (spaced t.Or) conjunction_marks conjunction_open (spaced_closed t.Or tt) (λ others. space_begins (Word t.Or ∷ Space ∷ others))
+test_open = joined_open IsConjunction (t.Sign sign.Or) (spaced (t.Sign sign.Or)) conjunction_marks conjunction_open (spaced_closed (t.Sign sign.Or) tt) (λ others. space_begins (Word (t.Sign sign.Or) ∷ Space ∷ others))
 
 -- ---- keys and ranges
 
 comma_begins : (others : List Mark) → Begins (comma ++ others)
-comma_begins others = sign_begins t.Comma (Space ∷ others) (λ rest. refl)
+comma_begins others = sign_begins (t.Sign sign.Comma) (Space ∷ others) (λ rest. refl)
 
 comma_open : (a b : List Mark) → Open a → Open b → Open (a ++ (comma ++ b))
-comma_open a b first second = open_then_open first (comma_begins b) (closed_then_open (leading_closed t.Comma tt) second)
+comma_open a b first second = open_then_open first (comma_begins b) (closed_then_open (leading_closed (t.Sign sign.Comma) tt) second)
 
 key_closed : (table : Name) (marks : List Mark) → IsLexed (t.Name table) → Open marks → Closed (inside_key table marks)
 key_closed table marks lexed h =
-    open_closed (word_open (t.Name table) lexed) (sign_begins t.OpenKey (marks ++ Word t.CloseKey ∷ []) (λ rest. refl))
-    (closed_closed open_key (open_closed h (sign_begins t.CloseKey [] (λ rest. refl)) close_key))
+    open_closed (word_open (t.Name table) lexed) (sign_begins (t.Sign sign.OpenKey) (marks ++ Word (t.Sign sign.CloseKey) ∷ []) (λ rest. refl))
+    (closed_closed open_key (open_closed h (sign_begins (t.Sign sign.CloseKey) [] (λ rest. refl)) close_key))
 
 key_of : (ts : List Token) (table : Name) (k : KeyTree) → IsKey ts table k → AreLexed ts → Closed (key_marks table k)
-key_of _ _ _ (g.IsKey.one table ts a d) h = key_closed table _ h.0 (expr_open ts a d (lexed_parts ts (t.CloseKey ∷ []) h.1.1).0)
+key_of _ _ _ (g.IsKey.one table ts a d) h = key_closed table _ h.0 (expr_open ts a d (lexed_parts ts (t.Sign sign.CloseKey ∷ []) h.1.1).0)
 key_of _ _ _ (g.IsKey.two table ts us a b first second) h =
-    let both : AreLexed ts × AreLexed (t.Comma ∷ (us ++ t.CloseKey ∷ [])) = lexed_parts ts _ h.1.1 in
-    key_closed table _ h.0 (comma_open (expr_marks a) (expr_marks b) (expr_open ts a first both.0) (expr_open us b second (lexed_parts us (t.CloseKey ∷ []) both.1.1).0))
+    let both : AreLexed ts × AreLexed (t.Sign sign.Comma ∷ (us ++ t.Sign sign.CloseKey ∷ [])) = lexed_parts ts _ h.1.1 in
+    key_closed table _ h.0 (comma_open (expr_marks a) (expr_marks b) (expr_open ts a first both.0) (expr_open us b second (lexed_parts us (t.Sign sign.CloseKey ∷ []) both.1.1).0))
 
-ends_open : (ts us : List Token) (low high : ExprTree) → IsExpr ts low → IsExpr us high → AreLexed (ts ++ t.Dots ∷ (us ++ t.CloseKey ∷ [])) → Open (ends_marks low high)
+ends_open : (ts us : List Token) (low high : ExprTree) → IsExpr ts low → IsExpr us high → AreLexed (ts ++ t.Sign sign.Dots ∷ (us ++ t.Sign sign.CloseKey ∷ [])) → Open (ends_marks low high)
 ends_open ts us low high first second h =
-    let both : AreLexed ts × AreLexed (t.Dots ∷ (us ++ t.CloseKey ∷ [])) = lexed_parts ts _ h in
-    open_then_open (expr_open ts low first both.0) (sign_begins t.Dots (expr_marks high) (λ rest. refl))
-    (closed_then_open dots (expr_open us high second (lexed_parts us (t.CloseKey ∷ []) both.1.1).0))
+    let both : AreLexed ts × AreLexed (t.Sign sign.Dots ∷ (us ++ t.Sign sign.CloseKey ∷ [])) = lexed_parts ts _ h in
+    open_then_open (expr_open ts low first both.0) (sign_begins (t.Sign sign.Dots) (expr_marks high) (λ rest. refl))
+    (closed_then_open dots (expr_open us high second (lexed_parts us (t.Sign sign.CloseKey ∷ []) both.1.1).0))
 
 range_of : (ts : List Token) (table : Name) (r : RangeTree) → IsRange ts table r → AreLexed ts → Closed (range_marks table r)
 range_of _ _ _ (g.IsRange.one table ts us low high first second) h = key_closed table _ h.0 (ends_open ts us low high first second h.1.1)
 range_of _ _ _ (g.IsRange.two table ts us vs a low high whole first second) h =
-    let both : AreLexed ts × AreLexed (t.Comma ∷ (us ++ t.Dots ∷ (vs ++ t.CloseKey ∷ []))) = lexed_parts ts _ h.1.1 in
+    let both : AreLexed ts × AreLexed (t.Sign sign.Comma ∷ (us ++ t.Sign sign.Dots ∷ (vs ++ t.Sign sign.CloseKey ∷ []))) = lexed_parts ts _ h.1.1 in
     key_closed table _ h.0 (comma_open (expr_marks a) (ends_marks low high) (expr_open ts a whole both.0) (ends_open us vs low high first second both.1.1))
 
 -- ---- statements
 
 let_closed : (x : Name) → IsLexed (t.Name x) → Closed (let_marks x)
-let_closed x lexed = closed_closed (leading_closed t.Let tt) (open_closed (word_open (t.Name x) lexed) (space_begins (Word t.Equals ∷ Space ∷ [])) (spaced_closed t.Equals tt))
+let_closed x lexed = closed_closed (leading_closed (t.Sign sign.Let) tt) (open_closed (word_open (t.Name x) lexed) (space_begins (Word (t.Sign sign.Equals) ∷ Space ∷ [])) (spaced_closed (t.Sign sign.Equals) tt))
 
-assigned_open : (ts us : List Token) (table : Name) (k : KeyTree) (e : ExprTree) → IsKey ts table k → IsExpr us e → AreLexed (ts ++ t.Equals ∷ (us ++ t.Semicolon ∷ [])) → Open (assigned_marks table k e)
+assigned_open : (ts us : List Token) (table : Name) (k : KeyTree) (e : ExprTree) → IsKey ts table k → IsExpr us e → AreLexed (ts ++ t.Sign sign.Equals ∷ (us ++ t.Sign sign.Semicolon ∷ [])) → Open (assigned_marks table k e)
 assigned_open ts us table k e is_key is_expr h =
-    let both : AreLexed ts × AreLexed (t.Equals ∷ (us ++ t.Semicolon ∷ [])) = lexed_parts ts _ h in
-    closed_then_open (key_of ts table k is_key both.0) (closed_then_open (spaced_closed t.Equals tt) (expr_open us e is_expr (lexed_parts us (t.Semicolon ∷ []) both.1.1).0))
+    let both : AreLexed ts × AreLexed (t.Sign sign.Equals ∷ (us ++ t.Sign sign.Semicolon ∷ [])) = lexed_parts ts _ h in
+    closed_then_open (key_of ts table k is_key both.0) (closed_then_open (spaced_closed (t.Sign sign.Equals) tt) (expr_open us e is_expr (lexed_parts us (t.Sign sign.Semicolon ∷ []) both.1.1).0))
 
 statement_open : (ts : List Token) (s : StatementTree) → IsStatement ts s → AreLexed ts → Open (statement_marks s)
-statement_open _ _ (bind x ts e d) h = closed_then_open (let_closed x h.1.0) (expr_open ts e d (lexed_parts ts (t.Semicolon ∷ []) h.1.1.1).0)
+statement_open _ _ (bind x ts e d) h = closed_then_open (let_closed x h.1.0) (expr_open ts e d (lexed_parts ts (t.Sign sign.Semicolon ∷ []) h.1.1.1).0)
 statement_open _ _ (get x table ks ts k e is_key is_expr) h =
-    let both : AreLexed ks × AreLexed (t.Else ∷ (ts ++ t.Semicolon ∷ [])) = lexed_parts ks _ h.1.1.1.1 in
-    closed_then_open (let_closed x h.1.0) (closed_then_open (leading_closed t.Get tt) (closed_then_open (key_of ks table k is_key both.0)
-    (closed_then_open (spaced_closed t.Else tt) (expr_open ts e is_expr (lexed_parts ts (t.Semicolon ∷ []) both.1.1).0))))
+    let both : AreLexed ks × AreLexed (t.Sign sign.Else ∷ (ts ++ t.Sign sign.Semicolon ∷ [])) = lexed_parts ks _ h.1.1.1.1 in
+    closed_then_open (let_closed x h.1.0) (closed_then_open (leading_closed (t.Sign sign.Get) tt) (closed_then_open (key_of ks table k is_key both.0)
+    (closed_then_open (spaced_closed (t.Sign sign.Else) tt) (expr_open ts e is_expr (lexed_parts ts (t.Sign sign.Semicolon ∷ []) both.1.1).0))))
 statement_open _ _ (need x table ks k d) h =
-    closed_open (closed_closed (let_closed x h.1.0) (closed_closed (leading_closed t.Need tt) (key_of ks table k d (lexed_parts ks (t.Semicolon ∷ []) h.1.1.1.1).0)))
+    closed_open (closed_closed (let_closed x h.1.0) (closed_closed (leading_closed (t.Sign sign.Need) tt) (key_of ks table k d (lexed_parts ks (t.Sign sign.Semicolon ∷ []) h.1.1.1.1).0)))
 statement_open _ _ (count x table rs r d) h =
-    closed_open (closed_closed (let_closed x h.1.0) (closed_closed (leading_closed t.Count tt) (range_of rs table r d (lexed_parts rs (t.Semicolon ∷ []) h.1.1.1.1).0)))
+    closed_open (closed_closed (let_closed x h.1.0) (closed_closed (leading_closed (t.Sign sign.Count) tt) (range_of rs table r d (lexed_parts rs (t.Sign sign.Semicolon ∷ []) h.1.1.1.1).0)))
 statement_open _ _ (sum x table rs r d) h =
-    closed_open (closed_closed (let_closed x h.1.0) (closed_closed (leading_closed t.Sum tt) (range_of rs table r d (lexed_parts rs (t.Semicolon ∷ []) h.1.1.1.1).0)))
-statement_open _ _ (lacks table ks k d) h = closed_open (closed_closed (leading_closed t.Lacks tt) (key_of ks table k d (lexed_parts ks (t.Semicolon ∷ []) h.1).0))
-statement_open _ _ (put table ks ts k e is_key is_expr) h = closed_then_open (leading_closed t.Put tt) (assigned_open ks ts table k e is_key is_expr h.1)
-statement_open _ _ (insert table ks ts k e is_key is_expr) h = closed_then_open (leading_closed t.Insert tt) (assigned_open ks ts table k e is_key is_expr h.1)
-statement_open _ _ (delete table ks k d) h = closed_open (closed_closed (leading_closed t.Delete tt) (key_of ks table k d (lexed_parts ks (t.Semicolon ∷ []) h.1).0))
-statement_open _ _ (keep table ks k d) h = closed_open (closed_closed (leading_closed t.Keep tt) (key_of ks table k d (lexed_parts ks (t.Semicolon ∷ []) h.1).0))
-statement_open _ _ (reply ts e d) h = closed_then_open (leading_closed t.Reply tt) (expr_open ts e d (lexed_parts ts (t.Semicolon ∷ []) h.1).0)
-statement_open _ _ abort h = word_open t.Abort tt
+    closed_open (closed_closed (let_closed x h.1.0) (closed_closed (leading_closed (t.Sign sign.Sum) tt) (range_of rs table r d (lexed_parts rs (t.Sign sign.Semicolon ∷ []) h.1.1.1.1).0)))
+statement_open _ _ (lacks table ks k d) h = closed_open (closed_closed (leading_closed (t.Sign sign.Lacks) tt) (key_of ks table k d (lexed_parts ks (t.Sign sign.Semicolon ∷ []) h.1).0))
+statement_open _ _ (put table ks ts k e is_key is_expr) h = closed_then_open (leading_closed (t.Sign sign.Put) tt) (assigned_open ks ts table k e is_key is_expr h.1)
+statement_open _ _ (insert table ks ts k e is_key is_expr) h = closed_then_open (leading_closed (t.Sign sign.Insert) tt) (assigned_open ks ts table k e is_key is_expr h.1)
+statement_open _ _ (delete table ks k d) h = closed_open (closed_closed (leading_closed (t.Sign sign.Delete) tt) (key_of ks table k d (lexed_parts ks (t.Sign sign.Semicolon ∷ []) h.1).0))
+statement_open _ _ (keep table ks k d) h = closed_open (closed_closed (leading_closed (t.Sign sign.Keep) tt) (key_of ks table k d (lexed_parts ks (t.Sign sign.Semicolon ∷ []) h.1).0))
+statement_open _ _ (reply ts e d) h = closed_then_open (leading_closed (t.Sign sign.Reply) tt) (expr_open ts e d (lexed_parts ts (t.Sign sign.Semicolon ∷ []) h.1).0)
+statement_open _ _ abort h = word_open (t.Sign sign.Abort) tt
 
 -- ---- blocks
 
 ended_closed : (marks : List Mark) → Open marks → Closed (with_semicolon marks)
-ended_closed marks h = open_closed h (sign_begins t.Semicolon (LineEnd ∷ []) (λ rest. refl)) (closed_closed semicolon line_end_closed)
+ended_closed marks h = open_closed h (sign_begins (t.Sign sign.Semicolon) (LineEnd ∷ []) (λ rest. refl)) (closed_closed semicolon line_end_closed)
 
 line_closed : (depth : ℕ) (marks : List Mark) → Closed marks → Closed (line depth marks)
 line_closed depth marks h = closed_closed (indent_closed depth) (closed_closed h line_end_closed)
 
 -- ` {`
-begun : Closed (Space ∷ Word t.OpenBlock ∷ [])
+begun : Closed (Space ∷ Word (t.Sign sign.OpenBlock) ∷ [])
 begun = closed_closed space_closed open_block
 
 close_line_closed : (depth : ℕ) → Closed (close_line depth)
-close_line_closed depth = line_closed depth (Word t.CloseBlock ∷ []) close_block
+close_line_closed depth = line_closed depth (Word (t.Sign sign.CloseBlock) ∷ []) close_block
 
 else_line_closed : (depth : ℕ) → Closed (else_line depth)
-else_line_closed depth = line_closed depth _ (closed_closed close_block (closed_closed (spaced_closed t.Else tt) open_block))
+else_line_closed depth = line_closed depth _ (closed_closed close_block (closed_closed (spaced_closed (t.Sign sign.Else) tt) open_block))
 
 else_closed : (depth : ℕ) (marks : List Mark) → Closed marks → Closed (else_marks depth marks)
 else_closed depth [] h = nothing_closed
@@ -196,13 +197,13 @@ mutual
       let a : AreLexed xs × AreLexed (ts ++ (es ++ us)) = lexed_parts xs _ h.1 in
       let b : AreLexed ts × AreLexed (es ++ us) = lexed_parts ts _ a.1 in
       let c : AreLexed es × AreLexed us = lexed_parts es us b.1 in
-      closed_closed (line_closed depth _ (closed_closed (leading_closed t.If tt) (open_closed (test_open xs test is_test a.0) (space_begins (Word t.OpenBlock ∷ [])) begun)))
+      closed_closed (line_closed depth _ (closed_closed (leading_closed (t.Sign sign.If) tt) (open_closed (test_open xs test is_test a.0) (space_begins (Word (t.Sign sign.OpenBlock) ∷ [])) begun)))
       (closed_closed (block_closed (suc depth) ts first is_first b.0)
       (closed_closed (else_closed depth _ (second_closed (suc depth) es second is_second c.0))
       (closed_closed (close_line_closed depth) (statements_closed depth us rest others c.1))))
 
   block_closed : (depth : ℕ) (ts : List Token) (b : BlockTree) → IsBlock ts b → AreLexed ts → Closed (block_marks depth b)
-  block_closed depth _ _ (block ts b d) h = statements_closed depth ts b d (lexed_parts ts (t.CloseBlock ∷ []) h.1).0
+  block_closed depth _ _ (block ts b d) h = statements_closed depth ts b d (lexed_parts ts (t.Sign sign.CloseBlock ∷ []) h.1).0
 
   second_closed : (depth : ℕ) (ts : List Token) (b : BlockTree) → IsElse ts b → AreLexed ts → Closed (block_marks depth b)
   second_closed depth _ _ missing h = nothing_closed
@@ -210,9 +211,9 @@ mutual
 
 -- ---- tables and programs
 
-table_head : (x : Name) (n : ℕ) → IsLexed (t.Name x) → IsLexed (t.Number n) → Open (leading t.Table ++ Word (t.Name x) ∷ Space ∷ Word (t.Number n) ∷ [])
+table_head : (x : Name) (n : ℕ) → IsLexed (t.Name x) → IsLexed (t.Number n) → Open (leading (t.Sign sign.Table) ++ Word (t.Name x) ∷ Space ∷ Word (t.Number n) ∷ [])
 table_head x n is_name is_number =
-    closed_then_open (leading_closed t.Table tt) (open_then_open (word_open (t.Name x) is_name) (space_begins (Word (t.Number n) ∷ [])) (closed_then_open space_closed (word_open (t.Number n) is_number)))
+    closed_then_open (leading_closed (t.Sign sign.Table) tt) (open_then_open (word_open (t.Name x) is_name) (space_begins (Word (t.Number n) ∷ [])) (closed_then_open space_closed (word_open (t.Number n) is_number)))
 
 arity_lexed : (n : ℕ) (a : _) → IsArity n a → AreLexed (t.Number (arity_number a) ∷ [])
 arity_lexed _ _ g.IsArity.one = (omega arith, tt)
@@ -221,24 +222,24 @@ arity_lexed _ _ g.IsArity.two = (omega arith, tt)
 table_closed : (ts : List Token) (d : TableDecl) → IsTable ts d → AreLexed ts → Closed (table_marks d)
 table_closed _ _ (g.IsTable.plain x n a is) h = ended_closed _ (table_head x (arity_number a) h.1.0 (arity_lexed n a is).0)
 table_closed _ _ (grows x n a is) h =
-    ended_closed _ (open_then_open (table_head x (arity_number a) h.1.0 (arity_lexed n a is).0) (space_begins (Word t.Grow ∷ [])) (closed_then_open space_closed (word_open t.Grow tt)))
+    ended_closed _ (open_then_open (table_head x (arity_number a) h.1.0 (arity_lexed n a is).0) (space_begins (Word (t.Sign sign.Grow) ∷ [])) (closed_then_open space_closed (word_open (t.Sign sign.Grow) tt)))
 
 name_open : (ts : List Token) (x : Name) → IsName ts x → AreLexed ts → Open (name_marks x)
 name_open _ _ (g.IsName.name x) h = word_open (t.Name x) h.0
 
 -- `) {`
-opened : Closed (Word t.Close ∷ Space ∷ Word t.OpenBlock ∷ [])
+opened : Closed (Word (t.Sign sign.Close) ∷ Space ∷ Word (t.Sign sign.OpenBlock) ∷ [])
 opened = closed_closed close_bracket begun
 
-params_closed : (ts : List Token) (xs : List Name) → IsParams ts xs → AreLexed ts → Closed (joined_by comma name_marks xs ++ Word t.Close ∷ Space ∷ Word t.OpenBlock ∷ [])
+params_closed : (ts : List Token) (xs : List Name) → IsParams ts xs → AreLexed ts → Closed (joined_by comma name_marks xs ++ Word (t.Sign sign.Close) ∷ Space ∷ Word (t.Sign sign.OpenBlock) ∷ [])
 params_closed _ _ g.IsParams.none h = opened
 params_closed _ _ (some ts xs d) h =
-    open_closed (joined_open IsName t.Comma comma name_marks name_open (leading_closed t.Comma tt) comma_begins ts xs d h) (sign_begins t.Close (Space ∷ Word t.OpenBlock ∷ []) (λ rest. refl)) opened
+    open_closed (joined_open IsName (t.Sign sign.Comma) comma name_marks name_open (leading_closed (t.Sign sign.Comma) tt) comma_begins ts xs d h) (sign_begins (t.Sign sign.Close) (Space ∷ Word (t.Sign sign.OpenBlock) ∷ []) (λ rest. refl)) opened
 
 program_closed : (ts : List Token) (p : ProgramTree) → IsProgram ts p → AreLexed ts → Closed (program_marks p)
 program_closed _ _ (program x ps ts params body is_params is_block) h =
-    let both : AreLexed ps × AreLexed (t.Close ∷ ts) = lexed_parts ps _ h.1.1.1 in
-    closed_closed (line_closed 0 _ (closed_closed (leading_closed t.Program tt) (open_closed (word_open (t.Name x) h.1.0) (sign_begins t.Open _ (λ rest. refl)) (closed_closed open_bracket (params_closed ps params is_params both.0)))))
+    let both : AreLexed ps × AreLexed (t.Sign sign.Close ∷ ts) = lexed_parts ps _ h.1.1.1 in
+    closed_closed (line_closed 0 _ (closed_closed (leading_closed (t.Sign sign.Program) tt) (open_closed (word_open (t.Name x) h.1.0) (sign_begins (t.Sign sign.Open) _ (λ rest. refl)) (closed_closed open_bracket (params_closed ps params is_params both.0)))))
     (closed_closed (block_closed 1 ts body is_block both.1.1) (close_line_closed 0))
 
 each_closed : {A : Type 0} (P : List Token → A → Type 0) (marks : A → List Mark) → ((ts : List Token) (x : A) → P ts x → AreLexed ts → Closed (marks x))

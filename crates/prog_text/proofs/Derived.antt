@@ -7,12 +7,13 @@ use Rattle.prog_tree.specs.declared.table.TableDecl.{TableDecl}
 use Rattle.prog_tree.specs.declared.table.Arity.{Arity}
 use Rattle.prog_tree.specs.declared.table.Arity.TheVariants as arity
 use Rattle.prog_text.specs.declared.token.Token.{Token}
+use Rattle.prog_text.specs.declared.token.Sign.TheVariants as sign
 use Rattle.prog_text.specs.declared.token.Token.TheVariants as t
 use Rattle.prog_text.specs.Grammar.{Many, Separated, IsBlock, IsTable, IsName, IsParams, some, IsProgram, program, IsSet, set}
 use Rattle.prog_text.specs.Grammar as g
-use Rattle.prog_text.specs.Reading.{◌>>=◌, unexpected, after_table, after_program, after_comma, after_close_bracket, open_bracket_at, close_bracket_at, semicolon_at, end_at, name_at, block_at, body_at, arity_at, grow_at, table_at, tables_at, names_at, params_at, program_at, programs_at, set_at}
+use Rattle.prog_text.specs.Reading.{◌>>=◌, unexpected, after_sign, expect, end_at, name_at, block_at, body_at, arity_at, grow_at, table_at, tables_at, names_at, params_at, program_at, programs_at, set_at}
 use Rattle.prog_text.proofs.Sound.{Phrase, behind, Sound, then_sound, IsOne, one_sound, done_sound, fault_sound, sound_map, mapped_sound, behind_sign_sound, IsMore, many_sound}
-use Rattle.prog_text.proofs.OneToken.{finds_table, finds_program, finds_comma, finds_close_bracket, sign, one_open_bracket, one_close_bracket, one_semicolon, one_name, a_name}
+use Rattle.prog_text.proofs.OneToken.{finds_sign, alone, one_sign, one_name, a_name}
 use Rattle.prog_text.proofs.DerivedExprs.{many_push, separated_sound}
 use Rattle.prog_text.proofs.DerivedStatements.{body_sound, block_sound}
 
@@ -35,36 +36,36 @@ one_arity ts = refl
 
 -- the tokens of `grow`, or none
 abbrev grow_tokens : Bool → List Token
-grow_tokens true = t.Grow ∷ []
+grow_tokens true = t.Sign sign.Grow ∷ []
 grow_tokens false = []
 
 data IsGrow : List Token → Bool → Type 0 where
   grow : (grows : Bool) → IsGrow (grow_tokens grows) grows
 
 grow_sound : (ts : List Token) → Sound IsGrow ts (grow_at ts)
-grow_sound (t.Grow ∷ ts) = record { front = t.Grow ∷ []; parts = refl; phrase = grow true }
+grow_sound (t.Sign sign.Grow ∷ ts) = record { front = t.Sign sign.Grow ∷ []; parts = refl; phrase = grow true }
 grow_sound ts = done_sound IsGrow false ts (grow false)
 
-table_of : (x : Name) (a : Arity) (us : List Token) (grows : Bool) → IsGrow us grows → IsTable (t.Table ∷ t.Name x ∷ arity_token a ∷ (us ++ t.Semicolon ∷ [])) (record { name = x; arity = a; grow = grows })
+table_of : (x : Name) (a : Arity) (us : List Token) (grows : Bool) → IsGrow us grows → IsTable (t.Sign sign.Table ∷ t.Name x ∷ arity_token a ∷ (us ++ t.Sign sign.Semicolon ∷ [])) (record { name = x; arity = a; grow = grows })
 table_of x arity.One _ _ (grow true) = g.grows x 1 arity.One g.IsArity.one
 table_of x arity.One _ _ (grow false) = g.IsTable.plain x 1 arity.One g.IsArity.one
 table_of x arity.Two _ _ (grow true) = g.grows x 2 arity.Two g.IsArity.two
 table_of x arity.Two _ _ (grow false) = g.IsTable.plain x 2 arity.Two g.IsArity.two
 
-pub table_sound : (ts : List Token) → Sound (behind (t.Table ∷ []) IsTable) ts (table_at ts)
+pub table_sound : (ts : List Token) → Sound (behind (t.Sign sign.Table ∷ []) IsTable) ts (table_at ts)
 unfolding table_at
 table_sound ts =
-    let E = behind (t.Table ∷ []) IsTable in
+    let E = behind (t.Sign sign.Table ∷ []) IsTable in
     one_sound E t.Name a_name ts (name_at ts) _ (one_name ts)
     (λ rest x. one_sound (behind (t.Name x ∷ []) E) arity_token arity.One rest (arity_at rest) _ (one_arity rest)
     (λ rest a. then_sound IsGrow (behind (arity_token a ∷ []) (behind (t.Name x ∷ []) E)) rest (grow_at rest) _ (grow_sound rest)
-    (λ us rest grows d. one_sound (behind us (behind (arity_token a ∷ []) (behind (t.Name x ∷ []) E))) (sign t.Semicolon) tt rest (semicolon_at rest) _ (one_semicolon rest)
-    (λ rest u. done_sound (behind (t.Semicolon ∷ []) (behind us (behind (arity_token a ∷ []) (behind (t.Name x ∷ []) E)))) _ rest (table_of x a us grows d)))))
+    (λ us rest grows d. one_sound (behind us (behind (arity_token a ∷ []) (behind (t.Name x ∷ []) E))) (alone (t.Sign sign.Semicolon)) tt rest (expect sign.Semicolon rest) _ (one_sign sign.Semicolon rest)
+    (λ rest u. done_sound (behind (t.Sign sign.Semicolon ∷ []) (behind us (behind (arity_token a ∷ []) (behind (t.Name x ∷ []) E)))) _ rest (table_of x a us grows d)))))
 
 pub tables_sound : (ts : List Token) → Sound (Many IsTable) ts (tables_at ts)
 tables_sound ts =
     sound_map (IsMore (Many IsTable) []) (Many IsTable) ts (tables_at ts) (λ us xs goes_on. goes_on [] g.Many.none)
-    (many_sound (Many IsTable) IsTable t.Table after_table table_at (many_push IsTable) finds_table table_sound (length ts) [] ts)
+    (many_sound (Many IsTable) IsTable (t.Sign sign.Table) (after_sign sign.Table) table_at (many_push IsTable) (finds_sign sign.Table) table_sound (length ts) [] ts)
 
 pub name_sound : (ts : List Token) → Sound IsName ts (name_at ts)
 name_sound (t.Name x ∷ ts) = record { front = t.Name x ∷ []; parts = refl; phrase = g.IsName.name x }
@@ -72,44 +73,44 @@ name_sound ts = fault_sound IsName ts (t.Name a_name ∷ []) a_name (g.IsName.na
 
 -- such names with commas between them
 abbrev AreNames : Phrase (List Name)
-AreNames = Separated t.Comma IsName
+AreNames = Separated (t.Sign sign.Comma) IsName
 
 names_sound : (ts : List Token) → Sound AreNames ts (names_at ts)
-names_sound = separated_sound IsName t.Comma after_comma name_at finds_comma name_sound
+names_sound = separated_sound IsName (t.Sign sign.Comma) (after_sign sign.Comma) name_at (finds_sign sign.Comma) name_sound
 
 -- parameters and the closing bracket
 pub data IsListed : List Token → List Name → Type 0 where
-  listed : (ps : List Token) (xs : List Name) → IsParams ps xs → IsListed (ps ++ t.Close ∷ []) xs
+  listed : (ps : List Token) (xs : List Name) → IsParams ps xs → IsListed (ps ++ t.Sign sign.Close ∷ []) xs
 
 params_sound : (ts : List Token) → Sound IsListed ts (params_at ts)
 unfolding params_at
 params_sound ts =
-    behind_sign_sound IsListed t.Close ts (after_close_bracket ts) _ _ (finds_close_bracket ts)
-    (λ us. done_sound (behind (t.Close ∷ []) IsListed) [] us (listed [] [] g.IsParams.none))
+    behind_sign_sound IsListed (t.Sign sign.Close) ts (after_sign sign.Close ts) _ _ (finds_sign sign.Close ts)
+    (λ us. done_sound (behind (t.Sign sign.Close ∷ []) IsListed) [] us (listed [] [] g.IsParams.none))
     (then_sound AreNames IsListed ts (names_at ts) _ (names_sound ts)
-    (λ ps rest xs d. one_sound (behind ps IsListed) (sign t.Close) tt rest (close_bracket_at rest) _ (one_close_bracket rest)
-    (λ rest u. done_sound (behind (t.Close ∷ []) (behind ps IsListed)) xs rest (listed ps xs (some ps xs d)))))
+    (λ ps rest xs d. one_sound (behind ps IsListed) (alone (t.Sign sign.Close)) tt rest (expect sign.Close rest) _ (one_sign sign.Close rest)
+    (λ rest u. done_sound (behind (t.Sign sign.Close ∷ []) (behind ps IsListed)) xs rest (listed ps xs (some ps xs d)))))
 
 program_of : (x : Name) (fs us : List Token) (params : List Name) (body : BlockTree) → IsListed fs params → IsBlock us body
-    → IsProgram (t.Program ∷ t.Name x ∷ t.Open ∷ (fs ++ us)) (record { name = x; params = params; body = body })
+    → IsProgram (t.Sign sign.Program ∷ t.Name x ∷ t.Sign sign.Open ∷ (fs ++ us)) (record { name = x; params = params; body = body })
 program_of x _ us _ body (listed ps params d) e =
-    subst (λ (vs : List Token). IsProgram (t.Program ∷ t.Name x ∷ t.Open ∷ vs) (record { name = x; params = params; body = body })) (sym (append_assoc ps (t.Close ∷ []) us))
+    subst (λ (vs : List Token). IsProgram (t.Sign sign.Program ∷ t.Name x ∷ t.Sign sign.Open ∷ vs) (record { name = x; params = params; body = body })) (sym (append_assoc ps (t.Sign sign.Close ∷ []) us))
     (program x ps us params body d e)
 
-pub program_sound : (ts : List Token) → Sound (behind (t.Program ∷ []) IsProgram) ts (program_at ts)
+pub program_sound : (ts : List Token) → Sound (behind (t.Sign sign.Program ∷ []) IsProgram) ts (program_at ts)
 unfolding program_at
 program_sound ts =
-    let E = behind (t.Program ∷ []) IsProgram in
+    let E = behind (t.Sign sign.Program ∷ []) IsProgram in
     one_sound E t.Name a_name ts (name_at ts) _ (one_name ts)
-    (λ rest x. one_sound (behind (t.Name x ∷ []) E) (sign t.Open) tt rest (open_bracket_at rest) _ (one_open_bracket rest)
-    (λ rest u. then_sound IsListed (behind (t.Open ∷ []) (behind (t.Name x ∷ []) E)) rest (params_at rest) _ (params_sound rest)
-    (λ fs rest params d. mapped_sound IsBlock (behind fs (behind (t.Open ∷ []) (behind (t.Name x ∷ []) E))) rest (block_at body_at rest) (λ body. record { name = x; params = params; body = body })
+    (λ rest x. one_sound (behind (t.Name x ∷ []) E) (alone (t.Sign sign.Open)) tt rest (expect sign.Open rest) _ (one_sign sign.Open rest)
+    (λ rest u. then_sound IsListed (behind (t.Sign sign.Open ∷ []) (behind (t.Name x ∷ []) E)) rest (params_at rest) _ (params_sound rest)
+    (λ fs rest params d. mapped_sound IsBlock (behind fs (behind (t.Sign sign.Open ∷ []) (behind (t.Name x ∷ []) E))) rest (block_at body_at rest) (λ body. record { name = x; params = params; body = body })
     (λ us body e. program_of x fs us params body d e) (block_sound body_at body_sound rest))))
 
 programs_sound : (ts : List Token) → Sound (Many IsProgram) ts (programs_at ts)
 programs_sound ts =
     sound_map (IsMore (Many IsProgram) []) (Many IsProgram) ts (programs_at ts) (λ us xs goes_on. goes_on [] g.Many.none)
-    (many_sound (Many IsProgram) IsProgram t.Program after_program program_at (many_push IsProgram) finds_program program_sound (length ts) [] ts)
+    (many_sound (Many IsProgram) IsProgram (t.Sign sign.Program) (after_sign sign.Program) program_at (many_push IsProgram) (finds_sign sign.Program) program_sound (length ts) [] ts)
 
 -- ---- sets
 

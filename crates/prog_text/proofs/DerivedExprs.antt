@@ -3,12 +3,13 @@ use Rattle.std.proofs.Common.{ℕ, zero, suc, List, [], ◌∷◌, ◌++◌, len
 use Rattle.std.proofs.lemmas.List.{append-nil}
 use Rattle.prog_tree.specs.Syntax.{Name, ExprTree, Plus, Minus, Times, RelationSign, Less, LessEqual, Greater, GreaterEqual, Equal, NotEqual, ComparisonTree, KeyTree, One, Two, RangeTree, OneRange, TwoRange}
 use Rattle.prog_text.specs.declared.token.Token.{Token}
+use Rattle.prog_text.specs.declared.token.Sign.TheVariants as sign
 use Rattle.prog_text.specs.declared.token.Token.TheVariants as t
 use Rattle.prog_text.specs.Grammar.{Many, Led, led, Separated, separated, IsFactor, IsProduct, IsExpr, number, negative, least, greatest, bracketed, factor, times, product, plus, minus, IsRelation, IsComparison, IsConjunction, IsTest, IsKey, IsRange}
 use Rattle.prog_text.specs.Grammar as g
-use Rattle.prog_text.specs.Reading.{Reading, after_times, after_plus, after_minus, after_not, after_and, after_or, after_comma, close_bracket_at, close_key_at, open_key_at, dots_at, name_at, separated_at, negative_at, factor_at, product_from, product_at, sum_from, sum_at, expr_within, expr_at, relation_at, compared_at, comparison_at, conjunction_at, test_at, key_from, key_at, high_at, range_from, range_at}
+use Rattle.prog_text.specs.Reading.{Reading, after_sign, expect, name_at, separated_at, negative_at, factor_at, product_from, product_at, sum_from, sum_at, expr_within, expr_at, relation_at, compared_at, comparison_at, conjunction_at, test_at, key_from, key_at, high_at, range_from, range_at}
 use Rattle.prog_text.proofs.Sound.{Phrase, behind, Sound, then_sound, token_sound, one_sound, done_sound, fault_sound, sound_map, mapped_sound, IsBehind, behind_sign_sound, IsMore, many_sound}
-use Rattle.prog_text.proofs.OneToken.{finds_times, finds_plus, finds_minus, finds_not, finds_and, finds_or, finds_comma, sign, one_close_bracket, one_open_key, one_close_key, one_dots, one_name, relation_token, one_relation, a_name, an_expr}
+use Rattle.prog_text.proofs.OneToken.{finds_sign, alone, one_sign, one_name, relation_token, one_relation, a_name, an_expr}
 
 -- ---- lists
 
@@ -35,9 +36,9 @@ separated_sound P u after read finds item ts =
 
 -- ---- expressions
 
-negative_sound : (ts : List Token) → Sound (behind (t.Minus ∷ []) IsFactor) ts (negative_at ts)
+negative_sound : (ts : List Token) → Sound (behind (t.Sign sign.Minus ∷ []) IsFactor) ts (negative_at ts)
 negative_sound (t.Number n ∷ ts) = record { front = t.Number n ∷ []; parts = refl; phrase = negative n }
-negative_sound ts = fault_sound (behind (t.Minus ∷ []) IsFactor) ts (t.Number 0 ∷ []) _ (negative 0)
+negative_sound ts = fault_sound (behind (t.Sign sign.Minus ∷ []) IsFactor) ts (t.Number 0 ∷ []) _ (negative 0)
 
 -- what follows a product so that both are one
 abbrev IsMoreProduct : ExprTree → Phrase ExprTree
@@ -51,17 +52,17 @@ module _ (inner : List Token → Reading ExprTree) (inner_sound : (ts : List Tok
   pub factor_sound : (ts : List Token) → Sound IsFactor ts (factor_at inner ts)
   unfolding factor_at
   factor_sound (t.Number n ∷ ts) = record { front = t.Number n ∷ []; parts = refl; phrase = number n }
-  factor_sound (t.Minus ∷ ts) = token_sound IsFactor t.Minus ts _ (negative_sound ts)
-  factor_sound (t.Least ∷ ts) = record { front = t.Least ∷ []; parts = refl; phrase = least }
-  factor_sound (t.Greatest ∷ ts) = record { front = t.Greatest ∷ []; parts = refl; phrase = greatest }
+  factor_sound (t.Sign sign.Minus ∷ ts) = token_sound IsFactor (t.Sign sign.Minus) ts _ (negative_sound ts)
+  factor_sound (t.Sign sign.Least ∷ ts) = record { front = t.Sign sign.Least ∷ []; parts = refl; phrase = least }
+  factor_sound (t.Sign sign.Greatest ∷ ts) = record { front = t.Sign sign.Greatest ∷ []; parts = refl; phrase = greatest }
   factor_sound (t.Name x ∷ ts) = record { front = t.Name x ∷ []; parts = refl; phrase = g.IsFactor.name x }
-  factor_sound (t.Open ∷ ts) =
-      let E = behind (t.Open ∷ []) IsFactor in
-      token_sound IsFactor t.Open ts _
+  factor_sound (t.Sign sign.Open ∷ ts) =
+      let E = behind (t.Sign sign.Open ∷ []) IsFactor in
+      token_sound IsFactor (t.Sign sign.Open) ts _
       (then_sound IsExpr E ts (inner ts) _ (inner_sound ts)
-      (λ us rest e d. one_sound (behind us E) (sign t.Close) tt rest (close_bracket_at rest) _ (one_close_bracket rest)
-      (λ rest u. done_sound (behind (t.Close ∷ []) (behind us E)) e rest (bracketed us e d))))
-  factor_sound ts = fault_sound IsFactor ts (t.Least ∷ []) an_expr least
+      (λ us rest e d. one_sound (behind us E) (alone (t.Sign sign.Close)) tt rest (expect sign.Close rest) _ (one_sign sign.Close rest)
+      (λ rest u. done_sound (behind (t.Sign sign.Close ∷ []) (behind us E)) e rest (bracketed us e d))))
+  factor_sound ts = fault_sound IsFactor ts (t.Sign sign.Least ∷ []) an_expr least
 
   product_ends : (left : ExprTree) (ts : List Token) → Sound (IsMoreProduct left) ts (Ok (left, ts))
   product_ends left ts = done_sound (IsMoreProduct left) left ts (λ us d. subst (λ (vs : List Token). IsProduct vs left) (sym (append-nil us)) d)
@@ -70,11 +71,11 @@ module _ (inner : List Token → Reading ExprTree) (inner_sound : (ts : List Tok
   unfolding product_from
   product_from_sound zero left ts = product_ends left ts
   product_from_sound (suc n) left ts =
-      let E = behind (t.Times ∷ []) (IsMoreProduct left) in
-      behind_sign_sound (IsMoreProduct left) t.Times ts (after_times ts) _ (Ok (left, ts)) (finds_times ts)
+      let E = behind (t.Sign sign.Times ∷ []) (IsMoreProduct left) in
+      behind_sign_sound (IsMoreProduct left) (t.Sign sign.Times) ts (after_sign sign.Times ts) _ (Ok (left, ts)) (finds_sign sign.Times ts)
       (λ us. then_sound IsFactor E us (factor_at inner us) (λ right. product_from inner n (Times left right.0) right.1) (factor_sound us)
       (λ front rest right d. sound_map (IsMoreProduct (Times left right)) (behind front E) rest (product_from inner n (Times left right) rest)
-      (λ vs e goes_on ts p. subst (λ (ws : List Token). IsProduct ws e) (append_assoc ts (t.Times ∷ front) vs) (goes_on (ts ++ t.Times ∷ front) (times ts front left right p d)))
+      (λ vs e goes_on ts p. subst (λ (ws : List Token). IsProduct ws e) (append_assoc ts (t.Sign sign.Times ∷ front) vs) (goes_on (ts ++ t.Sign sign.Times ∷ front) (times ts front left right p d)))
       (product_from_sound n (Times left right) rest)))
       (product_ends left ts)
 
@@ -91,17 +92,17 @@ module _ (inner : List Token → Reading ExprTree) (inner_sound : (ts : List Tok
   unfolding sum_from
   sum_from_sound zero left ts = sum_ends left ts
   sum_from_sound (suc n) left ts =
-      let P = behind (t.Plus ∷ []) (IsMoreSum left) in
-      let M = behind (t.Minus ∷ []) (IsMoreSum left) in
-      behind_sign_sound (IsMoreSum left) t.Plus ts (after_plus ts) _ _ (finds_plus ts)
+      let P = behind (t.Sign sign.Plus ∷ []) (IsMoreSum left) in
+      let M = behind (t.Sign sign.Minus ∷ []) (IsMoreSum left) in
+      behind_sign_sound (IsMoreSum left) (t.Sign sign.Plus) ts (after_sign sign.Plus ts) _ _ (finds_sign sign.Plus ts)
       (λ us. then_sound IsProduct P us (product_at inner us) (λ right. sum_from inner n (Plus left right.0) right.1) (product_sound us)
       (λ front rest right d. sound_map (IsMoreSum (Plus left right)) (behind front P) rest (sum_from inner n (Plus left right) rest)
-      (λ vs e goes_on ts p. subst (λ (ws : List Token). IsExpr ws e) (append_assoc ts (t.Plus ∷ front) vs) (goes_on (ts ++ t.Plus ∷ front) (plus ts front left right p d)))
+      (λ vs e goes_on ts p. subst (λ (ws : List Token). IsExpr ws e) (append_assoc ts (t.Sign sign.Plus ∷ front) vs) (goes_on (ts ++ t.Sign sign.Plus ∷ front) (plus ts front left right p d)))
       (sum_from_sound n (Plus left right) rest)))
-      (behind_sign_sound (IsMoreSum left) t.Minus ts (after_minus ts) _ (Ok (left, ts)) (finds_minus ts)
+      (behind_sign_sound (IsMoreSum left) (t.Sign sign.Minus) ts (after_sign sign.Minus ts) _ (Ok (left, ts)) (finds_sign sign.Minus ts)
       (λ us. then_sound IsProduct M us (product_at inner us) (λ right. sum_from inner n (Minus left right.0) right.1) (product_sound us)
       (λ front rest right d. sound_map (IsMoreSum (Minus left right)) (behind front M) rest (sum_from inner n (Minus left right) rest)
-      (λ vs e goes_on ts p. subst (λ (ws : List Token). IsExpr ws e) (append_assoc ts (t.Minus ∷ front) vs) (goes_on (ts ++ t.Minus ∷ front) (minus ts front left right p d)))
+      (λ vs e goes_on ts p. subst (λ (ws : List Token). IsExpr ws e) (append_assoc ts (t.Sign sign.Minus ∷ front) vs) (goes_on (ts ++ t.Sign sign.Minus ∷ front) (minus ts front left right p d)))
       (sum_from_sound n (Minus left right) rest)))
       (sum_ends left ts))
 
@@ -111,12 +112,12 @@ module _ (inner : List Token → Reading ExprTree) (inner_sound : (ts : List Tok
       then_sound IsProduct IsExpr ts (product_at inner ts) _ (product_sound ts)
       (λ front rest e d. sound_map (IsMoreSum e) (behind front IsExpr) rest (sum_from inner (length rest) e rest) (λ us x goes_on. goes_on front (product front e d)) (sum_from_sound (length rest) e rest))
 
-pub is_expr : IsExpr (t.Least ∷ []) an_expr
-is_expr = product (t.Least ∷ []) an_expr (factor (t.Least ∷ []) an_expr least)
+pub is_expr : IsExpr (t.Sign sign.Least ∷ []) an_expr
+is_expr = product (t.Sign sign.Least ∷ []) an_expr (factor (t.Sign sign.Least ∷ []) an_expr least)
 
 pub expr_within_sound : (n : ℕ) (ts : List Token) → Sound IsExpr ts (expr_within n ts)
 unfolding expr_within
-expr_within_sound zero ts = fault_sound IsExpr ts (t.Least ∷ []) an_expr is_expr
+expr_within_sound zero ts = fault_sound IsExpr ts (t.Sign sign.Least ∷ []) an_expr is_expr
 expr_within_sound (suc n) ts = sum_sound (expr_within n) (expr_within_sound n) ts
 
 pub expr_sound : (ts : List Token) → Sound IsExpr ts (expr_at ts)
@@ -135,7 +136,7 @@ is_relation NotEqual = g.not_equal
 
 -- a comparison behind its `not`, or one without it
 abbrev Compares : Bool → Phrase ComparisonTree
-Compares true = behind (t.Not ∷ []) IsComparison
+Compares true = behind (t.Sign sign.Not ∷ []) IsComparison
 Compares false = IsComparison
 
 compares : (negated : Bool) (ts us : List Token) (a b : ExprTree) (r : RelationSign) → IsExpr ts a → IsExpr us b
@@ -153,13 +154,13 @@ compared_sound negated ts =
 
 pub comparison_sound : (ts : List Token) → Sound IsComparison ts (comparison_at ts)
 unfolding comparison_at
-comparison_sound ts = behind_sign_sound IsComparison t.Not ts (after_not ts) (compared_at true) (compared_at false ts) (finds_not ts) (compared_sound true) (compared_sound false ts)
+comparison_sound ts = behind_sign_sound IsComparison (t.Sign sign.Not) ts (after_sign sign.Not ts) (compared_at true) (compared_at false ts) (finds_sign sign.Not ts) (compared_sound true) (compared_sound false ts)
 
 pub conjunction_sound : (ts : List Token) → Sound IsConjunction ts (conjunction_at ts)
-conjunction_sound = separated_sound IsComparison t.And after_and comparison_at finds_and comparison_sound
+conjunction_sound = separated_sound IsComparison (t.Sign sign.And) (after_sign sign.And) comparison_at (finds_sign sign.And) comparison_sound
 
 pub test_sound : (ts : List Token) → Sound IsTest ts (test_at ts)
-test_sound = separated_sound IsConjunction t.Or after_or conjunction_at finds_or conjunction_sound
+test_sound = separated_sound IsConjunction (t.Sign sign.Or) (after_sign sign.Or) conjunction_at (finds_sign sign.Or) conjunction_sound
 
 -- ---- keys
 
@@ -167,62 +168,62 @@ test_sound = separated_sound IsConjunction t.Or after_or conjunction_at finds_or
 abbrev pub IsKeyOf : Phrase (Name × KeyTree)
 IsKeyOf ts x = IsKey ts x.0 x.1
 
-key_from_sound : (table : Name) (fs : List Token) (a : ExprTree) → IsExpr fs a → (ts : List Token) → Sound (λ us k. IsKey (t.Name table ∷ t.OpenKey ∷ (fs ++ us)) table k) ts (key_from a ts)
+key_from_sound : (table : Name) (fs : List Token) (a : ExprTree) → IsExpr fs a → (ts : List Token) → Sound (λ us k. IsKey (t.Name table ∷ t.Sign sign.OpenKey ∷ (fs ++ us)) table k) ts (key_from a ts)
 unfolding key_from
 key_from_sound table fs a da ts =
-    let E : Phrase KeyTree = λ us k. IsKey (t.Name table ∷ t.OpenKey ∷ (fs ++ us)) table k in
-    behind_sign_sound E t.Comma ts (after_comma ts) _ _ (finds_comma ts)
-    (λ us. then_sound IsExpr (behind (t.Comma ∷ []) E) us (expr_at us) _ (expr_sound us)
-    (λ gs rest b db. one_sound (behind gs (behind (t.Comma ∷ []) E)) (sign t.CloseKey) tt rest (close_key_at rest) _ (one_close_key rest)
-    (λ rest u. done_sound (behind (t.CloseKey ∷ []) (behind gs (behind (t.Comma ∷ []) E))) (Two a b) rest (g.IsKey.two table fs gs a b da db))))
-    (one_sound E (sign t.CloseKey) tt ts (close_key_at ts) _ (one_close_key ts)
-    (λ rest u. done_sound (behind (t.CloseKey ∷ []) E) (One a) rest (g.IsKey.one table fs a da)))
+    let E : Phrase KeyTree = λ us k. IsKey (t.Name table ∷ t.Sign sign.OpenKey ∷ (fs ++ us)) table k in
+    behind_sign_sound E (t.Sign sign.Comma) ts (after_sign sign.Comma ts) _ _ (finds_sign sign.Comma ts)
+    (λ us. then_sound IsExpr (behind (t.Sign sign.Comma ∷ []) E) us (expr_at us) _ (expr_sound us)
+    (λ gs rest b db. one_sound (behind gs (behind (t.Sign sign.Comma ∷ []) E)) (alone (t.Sign sign.CloseKey)) tt rest (expect sign.CloseKey rest) _ (one_sign sign.CloseKey rest)
+    (λ rest u. done_sound (behind (t.Sign sign.CloseKey ∷ []) (behind gs (behind (t.Sign sign.Comma ∷ []) E))) (Two a b) rest (g.IsKey.two table fs gs a b da db))))
+    (one_sound E (alone (t.Sign sign.CloseKey)) tt ts (expect sign.CloseKey ts) _ (one_sign sign.CloseKey ts)
+    (λ rest u. done_sound (behind (t.Sign sign.CloseKey ∷ []) E) (One a) rest (g.IsKey.one table fs a da)))
 
 pub key_sound : (ts : List Token) → Sound IsKeyOf ts (key_at ts)
 unfolding key_at
 key_sound ts =
     one_sound IsKeyOf t.Name a_name ts (name_at ts) _ (one_name ts)
-    (λ rest table. one_sound (behind (t.Name table ∷ []) IsKeyOf) (sign t.OpenKey) tt rest (open_key_at rest) _ (one_open_key rest)
-    (λ rest u. then_sound IsExpr (behind (t.OpenKey ∷ []) (behind (t.Name table ∷ []) IsKeyOf)) rest (expr_at rest) _ (expr_sound rest)
-    (λ fs rest a da. mapped_sound (λ us k. IsKey (t.Name table ∷ t.OpenKey ∷ (fs ++ us)) table k) (behind fs (behind (t.OpenKey ∷ []) (behind (t.Name table ∷ []) IsKeyOf))) rest (key_from a rest) (λ k. (table, k)) (λ us k d. d) (key_from_sound table fs a da rest))))
+    (λ rest table. one_sound (behind (t.Name table ∷ []) IsKeyOf) (alone (t.Sign sign.OpenKey)) tt rest (expect sign.OpenKey rest) _ (one_sign sign.OpenKey rest)
+    (λ rest u. then_sound IsExpr (behind (t.Sign sign.OpenKey ∷ []) (behind (t.Name table ∷ []) IsKeyOf)) rest (expr_at rest) _ (expr_sound rest)
+    (λ fs rest a da. mapped_sound (λ us k. IsKey (t.Name table ∷ t.Sign sign.OpenKey ∷ (fs ++ us)) table k) (behind fs (behind (t.Sign sign.OpenKey ∷ []) (behind (t.Name table ∷ []) IsKeyOf))) rest (key_from a rest) (λ k. (table, k)) (λ us k d. d) (key_from_sound table fs a da rest))))
 
 -- ---- ranges
 
 -- `..`, the high end and the closing bracket
 data IsHigh : List Token → ExprTree → Type 0 where
-  high : (ts : List Token) (e : ExprTree) → IsExpr ts e → IsHigh (t.Dots ∷ (ts ++ t.CloseKey ∷ [])) e
+  high : (ts : List Token) (e : ExprTree) → IsExpr ts e → IsHigh (t.Sign sign.Dots ∷ (ts ++ t.Sign sign.CloseKey ∷ [])) e
 
 high_sound : (ts : List Token) → Sound IsHigh ts (high_at ts)
 unfolding high_at
 high_sound ts =
-    one_sound IsHigh (sign t.Dots) tt ts (dots_at ts) _ (one_dots ts)
-    (λ rest u. then_sound IsExpr (behind (t.Dots ∷ []) IsHigh) rest (expr_at rest) _ (expr_sound rest)
-    (λ us rest e d. one_sound (behind us (behind (t.Dots ∷ []) IsHigh)) (sign t.CloseKey) tt rest (close_key_at rest) _ (one_close_key rest)
-    (λ rest u. done_sound (behind (t.CloseKey ∷ []) (behind us (behind (t.Dots ∷ []) IsHigh))) e rest (high us e d))))
+    one_sound IsHigh (alone (t.Sign sign.Dots)) tt ts (expect sign.Dots ts) _ (one_sign sign.Dots ts)
+    (λ rest u. then_sound IsExpr (behind (t.Sign sign.Dots ∷ []) IsHigh) rest (expr_at rest) _ (expr_sound rest)
+    (λ us rest e d. one_sound (behind us (behind (t.Sign sign.Dots ∷ []) IsHigh)) (alone (t.Sign sign.CloseKey)) tt rest (expect sign.CloseKey rest) _ (one_sign sign.CloseKey rest)
+    (λ rest u. done_sound (behind (t.Sign sign.CloseKey ∷ []) (behind us (behind (t.Sign sign.Dots ∷ []) IsHigh))) e rest (high us e d))))
 
 -- a range with its table's name
 abbrev pub IsRangeOf : Phrase (Name × RangeTree)
 IsRangeOf ts x = IsRange ts x.0 x.1
 
-one_range : (table : Name) (fs us : List Token) (low top : ExprTree) → IsExpr fs low → IsHigh us top → IsRange (t.Name table ∷ t.OpenKey ∷ (fs ++ us)) table (OneRange low top)
+one_range : (table : Name) (fs us : List Token) (low top : ExprTree) → IsExpr fs low → IsHigh us top → IsRange (t.Name table ∷ t.Sign sign.OpenKey ∷ (fs ++ us)) table (OneRange low top)
 one_range table fs _ low _ d (high us top e) = g.IsRange.one table fs us low top d e
 
-two_range : (table : Name) (fs gs us : List Token) (a low top : ExprTree) → IsExpr fs a → IsExpr gs low → IsHigh us top → IsRange (t.Name table ∷ t.OpenKey ∷ (fs ++ t.Comma ∷ (gs ++ us))) table (TwoRange a low top)
+two_range : (table : Name) (fs gs us : List Token) (a low top : ExprTree) → IsExpr fs a → IsExpr gs low → IsHigh us top → IsRange (t.Name table ∷ t.Sign sign.OpenKey ∷ (fs ++ t.Sign sign.Comma ∷ (gs ++ us))) table (TwoRange a low top)
 two_range table fs gs _ a low _ d e (high us top f) = g.IsRange.two table fs gs us a low top d e f
 
-range_from_sound : (table : Name) (fs : List Token) (a : ExprTree) → IsExpr fs a → (ts : List Token) → Sound (λ us r. IsRange (t.Name table ∷ t.OpenKey ∷ (fs ++ us)) table r) ts (range_from a ts)
+range_from_sound : (table : Name) (fs : List Token) (a : ExprTree) → IsExpr fs a → (ts : List Token) → Sound (λ us r. IsRange (t.Name table ∷ t.Sign sign.OpenKey ∷ (fs ++ us)) table r) ts (range_from a ts)
 unfolding range_from
 range_from_sound table fs a da ts =
-    let E : Phrase RangeTree = λ us r. IsRange (t.Name table ∷ t.OpenKey ∷ (fs ++ us)) table r in
-    behind_sign_sound E t.Comma ts (after_comma ts) _ _ (finds_comma ts)
-    (λ us. then_sound IsExpr (behind (t.Comma ∷ []) E) us (expr_at us) _ (expr_sound us)
-    (λ gs rest low dl. mapped_sound IsHigh (behind gs (behind (t.Comma ∷ []) E)) rest (high_at rest) (TwoRange a low) (λ us top d. two_range table fs gs us a low top da dl d) (high_sound rest)))
+    let E : Phrase RangeTree = λ us r. IsRange (t.Name table ∷ t.Sign sign.OpenKey ∷ (fs ++ us)) table r in
+    behind_sign_sound E (t.Sign sign.Comma) ts (after_sign sign.Comma ts) _ _ (finds_sign sign.Comma ts)
+    (λ us. then_sound IsExpr (behind (t.Sign sign.Comma ∷ []) E) us (expr_at us) _ (expr_sound us)
+    (λ gs rest low dl. mapped_sound IsHigh (behind gs (behind (t.Sign sign.Comma ∷ []) E)) rest (high_at rest) (TwoRange a low) (λ us top d. two_range table fs gs us a low top da dl d) (high_sound rest)))
     (mapped_sound IsHigh E ts (high_at ts) (OneRange a) (λ us top d. one_range table fs us a top da d) (high_sound ts))
 
 pub range_sound : (ts : List Token) → Sound IsRangeOf ts (range_at ts)
 unfolding range_at
 range_sound ts =
     one_sound IsRangeOf t.Name a_name ts (name_at ts) _ (one_name ts)
-    (λ rest table. one_sound (behind (t.Name table ∷ []) IsRangeOf) (sign t.OpenKey) tt rest (open_key_at rest) _ (one_open_key rest)
-    (λ rest u. then_sound IsExpr (behind (t.OpenKey ∷ []) (behind (t.Name table ∷ []) IsRangeOf)) rest (expr_at rest) _ (expr_sound rest)
-    (λ fs rest a da. mapped_sound (λ us r. IsRange (t.Name table ∷ t.OpenKey ∷ (fs ++ us)) table r) (behind fs (behind (t.OpenKey ∷ []) (behind (t.Name table ∷ []) IsRangeOf))) rest (range_from a rest) (λ r. (table, r)) (λ us r d. d) (range_from_sound table fs a da rest))))
+    (λ rest table. one_sound (behind (t.Name table ∷ []) IsRangeOf) (alone (t.Sign sign.OpenKey)) tt rest (expect sign.OpenKey rest) _ (one_sign sign.OpenKey rest)
+    (λ rest u. then_sound IsExpr (behind (t.Sign sign.OpenKey ∷ []) (behind (t.Name table ∷ []) IsRangeOf)) rest (expr_at rest) _ (expr_sound rest)
+    (λ fs rest a da. mapped_sound (λ us r. IsRange (t.Name table ∷ t.Sign sign.OpenKey ∷ (fs ++ us)) table r) (behind fs (behind (t.Sign sign.OpenKey ∷ []) (behind (t.Name table ∷ []) IsRangeOf))) rest (range_from a rest) (λ r. (table, r)) (λ us r d. d) (range_from_sound table fs a da rest))))

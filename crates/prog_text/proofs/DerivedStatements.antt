@@ -2,26 +2,27 @@
 use Rattle.std.proofs.Common.{◌≡◌, ℕ, zero, suc, ◌<◌, List, [], ◌∷◌, ◌++◌, length, None, Ok, refl, subst, append_assoc, arith}
 use Rattle.prog_tree.specs.Syntax.{Name, ExprTree, TestTree, KeyTree, StatementTree, Bind, Get, Need, Count, Sum, Lacks, Put, Insert, Delete, Keep, Reply, Abort, BlockTree, BlockEnd, Then, Branch}
 use Rattle.prog_text.specs.declared.token.Token.{Token}
+use Rattle.prog_text.specs.declared.token.Sign.TheVariants as sign
 use Rattle.prog_text.specs.declared.token.Token.TheVariants as t
 use Rattle.prog_text.specs.Grammar.{IsExpr, IsTest, IsKey, IsRange, IsStatement, bind, get, need, count, sum, lacks, put, insert, delete, keep, reply, abort, IsStatements, nothing, IsBlock, block, IsElse, missing, present}
 use Rattle.prog_text.specs.Grammar as g
-use Rattle.prog_text.specs.Reading.{Reading, ◌>>=◌, after_close_block, after_if, after_else, open_block_at, semicolon_at, equals_at, else_word_at, name_at, expr_at, test_at, key_at, range_at, last_expr_at, last_key_at, last_range_at, assigned_at, bind_at, get_at, need_at, count_at, summed_at, bound_at, let_at, lacks_at, put_at, insert_at, delete_at, keep_at, reply_at, abort_at, statement_at, block_at, second_at, behind_second, behind_first, branch_at, more_at, body_within, body_at}
+use Rattle.prog_text.specs.Reading.{Reading, ◌>>=◌, after_sign, expect, name_at, expr_at, test_at, key_at, range_at, last_expr_at, last_key_at, last_range_at, assigned_at, bind_at, get_at, need_at, count_at, summed_at, bound_at, let_at, lacks_at, put_at, insert_at, delete_at, keep_at, reply_at, abort_at, statement_at, block_at, second_at, behind_second, behind_first, branch_at, more_at, body_within, body_at}
 use Rattle.prog_text.proofs.Sound.{Phrase, behind, Sound, then_sound, token_sound, one_sound, done_sound, fault_sound, sound_map, mapped_sound, behind_sign_sound}
-use Rattle.prog_text.proofs.OneToken.{finds_close_block, finds_if, finds_else, sign, one_open_block, one_semicolon, one_equals, one_else_word, one_name, a_name}
+use Rattle.prog_text.proofs.OneToken.{finds_sign, alone, one_sign, one_name, a_name}
 use Rattle.prog_text.proofs.DerivedExprs.{expr_sound, test_sound, IsKeyOf, key_sound, IsRangeOf, range_sound}
 
 -- ---- what stands before the end of a statement
 
 -- such a phrase and `;`
 pub data Last {A : Type 0} (P : Phrase A) : List Token → A → Type 0 where
-  last : (ts : List Token) (x : A) → P ts x → Last P (ts ++ t.Semicolon ∷ []) x
+  last : (ts : List Token) (x : A) → P ts x → Last P (ts ++ t.Sign sign.Semicolon ∷ []) x
 
 last_sound : {A : Type 0} (P : Phrase A) (read : List Token → Reading A) → ((ts : List Token) → Sound P ts (read ts))
-    → (ts : List Token) → Sound (Last P) ts (read ts >>= λ x. semicolon_at x.1 >>= λ ended. Ok (x.0, ended.1))
+    → (ts : List Token) → Sound (Last P) ts (read ts >>= λ x. expect sign.Semicolon x.1 >>= λ ended. Ok (x.0, ended.1))
 last_sound P read item ts =
-    then_sound P (Last P) ts (read ts) (λ x. semicolon_at x.1 >>= λ ended. Ok (x.0, ended.1)) (item ts)
-    (λ us rest x d. one_sound (behind us (Last P)) (sign t.Semicolon) tt rest (semicolon_at rest) (λ ended. Ok (x, ended.1)) (one_semicolon rest)
-    (λ rest u. done_sound (behind (t.Semicolon ∷ []) (behind us (Last P))) x rest (last us x d)))
+    then_sound P (Last P) ts (read ts) (λ x. expect sign.Semicolon x.1 >>= λ ended. Ok (x.0, ended.1)) (item ts)
+    (λ us rest x d. one_sound (behind us (Last P)) (alone (t.Sign sign.Semicolon)) tt rest (expect sign.Semicolon rest) (λ ended. Ok (x, ended.1)) (one_sign sign.Semicolon rest)
+    (λ rest u. done_sound (behind (t.Sign sign.Semicolon ∷ []) (behind us (Last P))) x rest (last us x d)))
 
 last_expr_sound : (ts : List Token) → Sound (Last IsExpr) ts (last_expr_at ts)
 unfolding last_expr_at
@@ -37,23 +38,23 @@ last_range_sound = last_sound IsRangeOf range_at range_sound
 
 -- a key, `=`, an expression and `;`
 pub data IsAssigned : List Token → (Name × KeyTree) × ExprTree → Type 0 where
-  assigned : (ks ts : List Token) (k : Name × KeyTree) (e : ExprTree) → IsKeyOf ks k → IsExpr ts e → IsAssigned (ks ++ t.Equals ∷ (ts ++ t.Semicolon ∷ [])) (k, e)
+  assigned : (ks ts : List Token) (k : Name × KeyTree) (e : ExprTree) → IsKeyOf ks k → IsExpr ts e → IsAssigned (ks ++ t.Sign sign.Equals ∷ (ts ++ t.Sign sign.Semicolon ∷ [])) (k, e)
 
-assigns : (ks us : List Token) (k : Name × KeyTree) (e : ExprTree) → IsKeyOf ks k → Last IsExpr us e → IsAssigned (ks ++ t.Equals ∷ us) (k, e)
+assigns : (ks us : List Token) (k : Name × KeyTree) (e : ExprTree) → IsKeyOf ks k → Last IsExpr us e → IsAssigned (ks ++ t.Sign sign.Equals ∷ us) (k, e)
 assigns ks _ k _ dk (last ts e d) = assigned ks ts k e dk d
 
 assigned_sound : (ts : List Token) → Sound IsAssigned ts (assigned_at ts)
 unfolding assigned_at
 assigned_sound ts =
     then_sound IsKeyOf IsAssigned ts (key_at ts) _ (key_sound ts)
-    (λ ks rest k dk. one_sound (behind ks IsAssigned) (sign t.Equals) tt rest (equals_at rest) _ (one_equals rest)
-    (λ rest u. mapped_sound (Last IsExpr) (behind (t.Equals ∷ []) (behind ks IsAssigned)) rest (last_expr_at rest) (λ e. (k, e)) (λ us e d. assigns ks us k e dk d) (last_expr_sound rest)))
+    (λ ks rest k dk. one_sound (behind ks IsAssigned) (alone (t.Sign sign.Equals)) tt rest (expect sign.Equals rest) _ (one_sign sign.Equals rest)
+    (λ rest u. mapped_sound (Last IsExpr) (behind (t.Sign sign.Equals ∷ []) (behind ks IsAssigned)) rest (last_expr_at rest) (λ e. (k, e)) (λ us e d. assigns ks us k e dk d) (last_expr_sound rest)))
 
 -- ---- `let`
 
 -- behind `let NAME =`
 abbrev IsBound : Name → Phrase StatementTree
-IsBound x = behind (t.Let ∷ t.Name x ∷ t.Equals ∷ []) IsStatement
+IsBound x = behind (t.Sign sign.Let ∷ t.Name x ∷ t.Sign sign.Equals ∷ []) IsStatement
 
 binds : (x : Name) (us : List Token) (e : ExprTree) → Last IsExpr us e → IsBound x us (Bind x e)
 binds x _ _ (last ts e d) = bind x ts e d
@@ -62,151 +63,151 @@ bind_sound : (x : Name) (ts : List Token) → Sound (IsBound x) ts (bind_at x ts
 unfolding bind_at
 bind_sound x ts = mapped_sound (Last IsExpr) (IsBound x) ts (last_expr_at ts) (Bind x) (binds x) (last_expr_sound ts)
 
-gets : (x : Name) (ks us : List Token) (k : Name × KeyTree) (e : ExprTree) → IsKeyOf ks k → Last IsExpr us e → IsBound x (t.Get ∷ (ks ++ t.Else ∷ us)) (Get x k.0 k.1 e)
+gets : (x : Name) (ks us : List Token) (k : Name × KeyTree) (e : ExprTree) → IsKeyOf ks k → Last IsExpr us e → IsBound x (t.Sign sign.Get ∷ (ks ++ t.Sign sign.Else ∷ us)) (Get x k.0 k.1 e)
 gets x ks _ k _ dk (last ts e d) = get x k.0 ks ts k.1 e dk d
 
-get_sound : (x : Name) (ts : List Token) → Sound (behind (t.Get ∷ []) (IsBound x)) ts (get_at x ts)
+get_sound : (x : Name) (ts : List Token) → Sound (behind (t.Sign sign.Get ∷ []) (IsBound x)) ts (get_at x ts)
 unfolding get_at
 get_sound x ts =
-    let E = behind (t.Get ∷ []) (IsBound x) in
+    let E = behind (t.Sign sign.Get ∷ []) (IsBound x) in
     then_sound IsKeyOf E ts (key_at ts) _ (key_sound ts)
-    (λ ks rest k dk. one_sound (behind ks E) (sign t.Else) tt rest (else_word_at rest) _ (one_else_word rest)
-    (λ rest u. mapped_sound (Last IsExpr) (behind (t.Else ∷ []) (behind ks E)) rest (last_expr_at rest) (Get x k.0 k.1) (λ us e d. gets x ks us k e dk d) (last_expr_sound rest)))
+    (λ ks rest k dk. one_sound (behind ks E) (alone (t.Sign sign.Else)) tt rest (expect sign.Else rest) _ (one_sign sign.Else rest)
+    (λ rest u. mapped_sound (Last IsExpr) (behind (t.Sign sign.Else ∷ []) (behind ks E)) rest (last_expr_at rest) (Get x k.0 k.1) (λ us e d. gets x ks us k e dk d) (last_expr_sound rest)))
 
-needs : (x : Name) (us : List Token) (k : Name × KeyTree) → Last IsKeyOf us k → IsBound x (t.Need ∷ us) (Need x k.0 k.1)
+needs : (x : Name) (us : List Token) (k : Name × KeyTree) → Last IsKeyOf us k → IsBound x (t.Sign sign.Need ∷ us) (Need x k.0 k.1)
 needs x _ _ (last ks k d) = need x k.0 ks k.1 d
 
-need_sound : (x : Name) (ts : List Token) → Sound (behind (t.Need ∷ []) (IsBound x)) ts (need_at x ts)
+need_sound : (x : Name) (ts : List Token) → Sound (behind (t.Sign sign.Need ∷ []) (IsBound x)) ts (need_at x ts)
 unfolding need_at
-need_sound x ts = mapped_sound (Last IsKeyOf) (behind (t.Need ∷ []) (IsBound x)) ts (last_key_at ts) (λ k. Need x k.0 k.1) (needs x) (last_key_sound ts)
+need_sound x ts = mapped_sound (Last IsKeyOf) (behind (t.Sign sign.Need ∷ []) (IsBound x)) ts (last_key_at ts) (λ k. Need x k.0 k.1) (needs x) (last_key_sound ts)
 
-counts : (x : Name) (us : List Token) (r : _) → Last IsRangeOf us r → IsBound x (t.Count ∷ us) (Count x r.0 r.1)
+counts : (x : Name) (us : List Token) (r : _) → Last IsRangeOf us r → IsBound x (t.Sign sign.Count ∷ us) (Count x r.0 r.1)
 counts x _ _ (last rs r d) = count x r.0 rs r.1 d
 
-count_sound : (x : Name) (ts : List Token) → Sound (behind (t.Count ∷ []) (IsBound x)) ts (count_at x ts)
+count_sound : (x : Name) (ts : List Token) → Sound (behind (t.Sign sign.Count ∷ []) (IsBound x)) ts (count_at x ts)
 unfolding count_at
-count_sound x ts = mapped_sound (Last IsRangeOf) (behind (t.Count ∷ []) (IsBound x)) ts (last_range_at ts) (λ r. Count x r.0 r.1) (counts x) (last_range_sound ts)
+count_sound x ts = mapped_sound (Last IsRangeOf) (behind (t.Sign sign.Count ∷ []) (IsBound x)) ts (last_range_at ts) (λ r. Count x r.0 r.1) (counts x) (last_range_sound ts)
 
-sums : (x : Name) (us : List Token) (r : _) → Last IsRangeOf us r → IsBound x (t.Sum ∷ us) (Sum x r.0 r.1)
+sums : (x : Name) (us : List Token) (r : _) → Last IsRangeOf us r → IsBound x (t.Sign sign.Sum ∷ us) (Sum x r.0 r.1)
 sums x _ _ (last rs r d) = sum x r.0 rs r.1 d
 
-summed_sound : (x : Name) (ts : List Token) → Sound (behind (t.Sum ∷ []) (IsBound x)) ts (summed_at x ts)
+summed_sound : (x : Name) (ts : List Token) → Sound (behind (t.Sign sign.Sum ∷ []) (IsBound x)) ts (summed_at x ts)
 unfolding summed_at
-summed_sound x ts = mapped_sound (Last IsRangeOf) (behind (t.Sum ∷ []) (IsBound x)) ts (last_range_at ts) (λ r. Sum x r.0 r.1) (sums x) (last_range_sound ts)
+summed_sound x ts = mapped_sound (Last IsRangeOf) (behind (t.Sign sign.Sum ∷ []) (IsBound x)) ts (last_range_at ts) (λ r. Sum x r.0 r.1) (sums x) (last_range_sound ts)
 
 bound_sound : (x : Name) (ts : List Token) → Sound (IsBound x) ts (bound_at x ts)
 unfolding bound_at
-bound_sound x (t.Get ∷ ts) = token_sound (IsBound x) t.Get ts _ (get_sound x ts)
-bound_sound x (t.Need ∷ ts) = token_sound (IsBound x) t.Need ts _ (need_sound x ts)
-bound_sound x (t.Count ∷ ts) = token_sound (IsBound x) t.Count ts _ (count_sound x ts)
-bound_sound x (t.Sum ∷ ts) = token_sound (IsBound x) t.Sum ts _ (summed_sound x ts)
+bound_sound x (t.Sign sign.Get ∷ ts) = token_sound (IsBound x) (t.Sign sign.Get) ts _ (get_sound x ts)
+bound_sound x (t.Sign sign.Need ∷ ts) = token_sound (IsBound x) (t.Sign sign.Need) ts _ (need_sound x ts)
+bound_sound x (t.Sign sign.Count ∷ ts) = token_sound (IsBound x) (t.Sign sign.Count) ts _ (count_sound x ts)
+bound_sound x (t.Sign sign.Sum ∷ ts) = token_sound (IsBound x) (t.Sign sign.Sum) ts _ (summed_sound x ts)
 bound_sound x ts = bind_sound x ts
 
-let_sound : (ts : List Token) → Sound (behind (t.Let ∷ []) IsStatement) ts (let_at ts)
+let_sound : (ts : List Token) → Sound (behind (t.Sign sign.Let ∷ []) IsStatement) ts (let_at ts)
 unfolding let_at
 let_sound ts =
-    let E = behind (t.Let ∷ []) IsStatement in
+    let E = behind (t.Sign sign.Let ∷ []) IsStatement in
     one_sound E t.Name a_name ts (name_at ts) _ (one_name ts)
-    (λ rest x. one_sound (behind (t.Name x ∷ []) E) (sign t.Equals) tt rest (equals_at rest) _ (one_equals rest)
+    (λ rest x. one_sound (behind (t.Name x ∷ []) E) (alone (t.Sign sign.Equals)) tt rest (expect sign.Equals rest) _ (one_sign sign.Equals rest)
     (λ rest u. bound_sound x rest))
 
 -- ---- the other statements
 
-lacking : (us : List Token) (k : Name × KeyTree) → Last IsKeyOf us k → IsStatement (t.Lacks ∷ us) (Lacks k.0 k.1)
+lacking : (us : List Token) (k : Name × KeyTree) → Last IsKeyOf us k → IsStatement (t.Sign sign.Lacks ∷ us) (Lacks k.0 k.1)
 lacking _ _ (last ks k d) = lacks k.0 ks k.1 d
 
-lacks_sound : (ts : List Token) → Sound (behind (t.Lacks ∷ []) IsStatement) ts (lacks_at ts)
+lacks_sound : (ts : List Token) → Sound (behind (t.Sign sign.Lacks ∷ []) IsStatement) ts (lacks_at ts)
 unfolding lacks_at
-lacks_sound ts = mapped_sound (Last IsKeyOf) (behind (t.Lacks ∷ []) IsStatement) ts (last_key_at ts) (λ k. Lacks k.0 k.1) lacking (last_key_sound ts)
+lacks_sound ts = mapped_sound (Last IsKeyOf) (behind (t.Sign sign.Lacks ∷ []) IsStatement) ts (last_key_at ts) (λ k. Lacks k.0 k.1) lacking (last_key_sound ts)
 
-puts : (us : List Token) (x : (Name × KeyTree) × ExprTree) → IsAssigned us x → IsStatement (t.Put ∷ us) (Put x.0.0 x.0.1 x.1)
+puts : (us : List Token) (x : (Name × KeyTree) × ExprTree) → IsAssigned us x → IsStatement (t.Sign sign.Put ∷ us) (Put x.0.0 x.0.1 x.1)
 puts _ _ (assigned ks ts k e dk d) = put k.0 ks ts k.1 e dk d
 
-put_sound : (ts : List Token) → Sound (behind (t.Put ∷ []) IsStatement) ts (put_at ts)
+put_sound : (ts : List Token) → Sound (behind (t.Sign sign.Put ∷ []) IsStatement) ts (put_at ts)
 unfolding put_at
-put_sound ts = mapped_sound IsAssigned (behind (t.Put ∷ []) IsStatement) ts (assigned_at ts) (λ x. Put x.0.0 x.0.1 x.1) puts (assigned_sound ts)
+put_sound ts = mapped_sound IsAssigned (behind (t.Sign sign.Put ∷ []) IsStatement) ts (assigned_at ts) (λ x. Put x.0.0 x.0.1 x.1) puts (assigned_sound ts)
 
-inserts : (us : List Token) (x : (Name × KeyTree) × ExprTree) → IsAssigned us x → IsStatement (t.Insert ∷ us) (Insert x.0.0 x.0.1 x.1)
+inserts : (us : List Token) (x : (Name × KeyTree) × ExprTree) → IsAssigned us x → IsStatement (t.Sign sign.Insert ∷ us) (Insert x.0.0 x.0.1 x.1)
 inserts _ _ (assigned ks ts k e dk d) = insert k.0 ks ts k.1 e dk d
 
-insert_sound : (ts : List Token) → Sound (behind (t.Insert ∷ []) IsStatement) ts (insert_at ts)
+insert_sound : (ts : List Token) → Sound (behind (t.Sign sign.Insert ∷ []) IsStatement) ts (insert_at ts)
 unfolding insert_at
-insert_sound ts = mapped_sound IsAssigned (behind (t.Insert ∷ []) IsStatement) ts (assigned_at ts) (λ x. Insert x.0.0 x.0.1 x.1) inserts (assigned_sound ts)
+insert_sound ts = mapped_sound IsAssigned (behind (t.Sign sign.Insert ∷ []) IsStatement) ts (assigned_at ts) (λ x. Insert x.0.0 x.0.1 x.1) inserts (assigned_sound ts)
 
-deletes : (us : List Token) (k : Name × KeyTree) → Last IsKeyOf us k → IsStatement (t.Delete ∷ us) (Delete k.0 k.1)
+deletes : (us : List Token) (k : Name × KeyTree) → Last IsKeyOf us k → IsStatement (t.Sign sign.Delete ∷ us) (Delete k.0 k.1)
 deletes _ _ (last ks k d) = delete k.0 ks k.1 d
 
-delete_sound : (ts : List Token) → Sound (behind (t.Delete ∷ []) IsStatement) ts (delete_at ts)
+delete_sound : (ts : List Token) → Sound (behind (t.Sign sign.Delete ∷ []) IsStatement) ts (delete_at ts)
 unfolding delete_at
-delete_sound ts = mapped_sound (Last IsKeyOf) (behind (t.Delete ∷ []) IsStatement) ts (last_key_at ts) (λ k. Delete k.0 k.1) deletes (last_key_sound ts)
+delete_sound ts = mapped_sound (Last IsKeyOf) (behind (t.Sign sign.Delete ∷ []) IsStatement) ts (last_key_at ts) (λ k. Delete k.0 k.1) deletes (last_key_sound ts)
 
-keeps : (us : List Token) (k : Name × KeyTree) → Last IsKeyOf us k → IsStatement (t.Keep ∷ us) (Keep k.0 k.1)
+keeps : (us : List Token) (k : Name × KeyTree) → Last IsKeyOf us k → IsStatement (t.Sign sign.Keep ∷ us) (Keep k.0 k.1)
 keeps _ _ (last ks k d) = keep k.0 ks k.1 d
 
-keep_sound : (ts : List Token) → Sound (behind (t.Keep ∷ []) IsStatement) ts (keep_at ts)
+keep_sound : (ts : List Token) → Sound (behind (t.Sign sign.Keep ∷ []) IsStatement) ts (keep_at ts)
 unfolding keep_at
-keep_sound ts = mapped_sound (Last IsKeyOf) (behind (t.Keep ∷ []) IsStatement) ts (last_key_at ts) (λ k. Keep k.0 k.1) keeps (last_key_sound ts)
+keep_sound ts = mapped_sound (Last IsKeyOf) (behind (t.Sign sign.Keep ∷ []) IsStatement) ts (last_key_at ts) (λ k. Keep k.0 k.1) keeps (last_key_sound ts)
 
-replies : (us : List Token) (e : ExprTree) → Last IsExpr us e → IsStatement (t.Reply ∷ us) (Reply e)
+replies : (us : List Token) (e : ExprTree) → Last IsExpr us e → IsStatement (t.Sign sign.Reply ∷ us) (Reply e)
 replies _ _ (last ts e d) = reply ts e d
 
-reply_sound : (ts : List Token) → Sound (behind (t.Reply ∷ []) IsStatement) ts (reply_at ts)
+reply_sound : (ts : List Token) → Sound (behind (t.Sign sign.Reply ∷ []) IsStatement) ts (reply_at ts)
 unfolding reply_at
-reply_sound ts = mapped_sound (Last IsExpr) (behind (t.Reply ∷ []) IsStatement) ts (last_expr_at ts) Reply replies (last_expr_sound ts)
+reply_sound ts = mapped_sound (Last IsExpr) (behind (t.Sign sign.Reply ∷ []) IsStatement) ts (last_expr_at ts) Reply replies (last_expr_sound ts)
 
-abort_sound : (ts : List Token) → Sound (behind (t.Abort ∷ []) IsStatement) ts (abort_at ts)
+abort_sound : (ts : List Token) → Sound (behind (t.Sign sign.Abort ∷ []) IsStatement) ts (abort_at ts)
 unfolding abort_at
 abort_sound ts =
-    let E = behind (t.Abort ∷ []) IsStatement in
-    one_sound E (sign t.Semicolon) tt ts (semicolon_at ts) _ (one_semicolon ts) (λ rest u. done_sound (behind (t.Semicolon ∷ []) E) Abort rest abort)
+    let E = behind (t.Sign sign.Abort ∷ []) IsStatement in
+    one_sound E (alone (t.Sign sign.Semicolon)) tt ts (expect sign.Semicolon ts) _ (one_sign sign.Semicolon ts) (λ rest u. done_sound (behind (t.Sign sign.Semicolon ∷ []) E) Abort rest abort)
 
 pub statement_sound : (ts : List Token) → Sound IsStatement ts (statement_at ts)
 unfolding statement_at
-statement_sound (t.Let ∷ ts) = token_sound IsStatement t.Let ts _ (let_sound ts)
-statement_sound (t.Lacks ∷ ts) = token_sound IsStatement t.Lacks ts _ (lacks_sound ts)
-statement_sound (t.Put ∷ ts) = token_sound IsStatement t.Put ts _ (put_sound ts)
-statement_sound (t.Insert ∷ ts) = token_sound IsStatement t.Insert ts _ (insert_sound ts)
-statement_sound (t.Delete ∷ ts) = token_sound IsStatement t.Delete ts _ (delete_sound ts)
-statement_sound (t.Keep ∷ ts) = token_sound IsStatement t.Keep ts _ (keep_sound ts)
-statement_sound (t.Reply ∷ ts) = token_sound IsStatement t.Reply ts _ (reply_sound ts)
-statement_sound (t.Abort ∷ ts) = token_sound IsStatement t.Abort ts _ (abort_sound ts)
-statement_sound ts = fault_sound IsStatement ts (t.Abort ∷ t.Semicolon ∷ []) Abort abort
+statement_sound (t.Sign sign.Let ∷ ts) = token_sound IsStatement (t.Sign sign.Let) ts _ (let_sound ts)
+statement_sound (t.Sign sign.Lacks ∷ ts) = token_sound IsStatement (t.Sign sign.Lacks) ts _ (lacks_sound ts)
+statement_sound (t.Sign sign.Put ∷ ts) = token_sound IsStatement (t.Sign sign.Put) ts _ (put_sound ts)
+statement_sound (t.Sign sign.Insert ∷ ts) = token_sound IsStatement (t.Sign sign.Insert) ts _ (insert_sound ts)
+statement_sound (t.Sign sign.Delete ∷ ts) = token_sound IsStatement (t.Sign sign.Delete) ts _ (delete_sound ts)
+statement_sound (t.Sign sign.Keep ∷ ts) = token_sound IsStatement (t.Sign sign.Keep) ts _ (keep_sound ts)
+statement_sound (t.Sign sign.Reply ∷ ts) = token_sound IsStatement (t.Sign sign.Reply) ts _ (reply_sound ts)
+statement_sound (t.Sign sign.Abort ∷ ts) = token_sound IsStatement (t.Sign sign.Abort) ts _ (abort_sound ts)
+statement_sound ts = fault_sound IsStatement ts (t.Sign sign.Abort ∷ t.Sign sign.Semicolon ∷ []) Abort abort
 
 -- ---- blocks
 
 -- what stands behind the opening sign of a block
 abbrev pub IsBody : Phrase BlockTree
-IsBody us b = IsBlock (t.OpenBlock ∷ us) b
+IsBody us b = IsBlock (t.Sign sign.OpenBlock ∷ us) b
 
-body_end : IsBody (t.CloseBlock ∷ []) BlockEnd
+body_end : IsBody (t.Sign sign.CloseBlock ∷ []) BlockEnd
 body_end = block [] BlockEnd nothing
 
 body_more : (ts us : List Token) (s : StatementTree) (rest : BlockTree) → IsStatement ts s → IsBody us rest → IsBody (ts ++ us) (Then s rest)
-body_more ts _ s _ d (block us rest e) = subst (λ (vs : List Token). IsBody vs (Then s rest)) (append_assoc ts us (t.CloseBlock ∷ [])) (block (ts ++ us) (Then s rest) (g.IsStatements.more ts us s rest d e))
+body_more ts _ s _ d (block us rest e) = subst (λ (vs : List Token). IsBody vs (Then s rest)) (append_assoc ts us (t.Sign sign.CloseBlock ∷ [])) (block (ts ++ us) (Then s rest) (g.IsStatements.more ts us s rest d e))
 
 body_branch : (xs ts es us : List Token) (test : TestTree) (a b rest : BlockTree) → IsTest xs test → IsBlock ts a → IsElse es b → IsBody us rest
-    → IsBody (t.If ∷ (xs ++ (ts ++ (es ++ us)))) (Branch test a b rest)
+    → IsBody (t.Sign sign.If ∷ (xs ++ (ts ++ (es ++ us)))) (Branch test a b rest)
 body_branch xs ts es _ test a b _ dx da db (block us rest d) =
-    let whole : (xs ++ (ts ++ (es ++ us))) ++ t.CloseBlock ∷ [] ≡ xs ++ (ts ++ (es ++ (us ++ t.CloseBlock ∷ []))) = simp append_assoc in
-    subst (λ (vs : List Token). IsBody (t.If ∷ vs) (Branch test a b rest)) whole
-    (block (t.If ∷ (xs ++ (ts ++ (es ++ us)))) (Branch test a b rest) (g.IsStatements.branch xs ts es us test a b rest dx da db d))
+    let whole : (xs ++ (ts ++ (es ++ us))) ++ t.Sign sign.CloseBlock ∷ [] ≡ xs ++ (ts ++ (es ++ (us ++ t.Sign sign.CloseBlock ∷ []))) = simp append_assoc in
+    subst (λ (vs : List Token). IsBody (t.Sign sign.If ∷ vs) (Branch test a b rest)) whole
+    (block (t.Sign sign.If ∷ (xs ++ (ts ++ (es ++ us)))) (Branch test a b rest) (g.IsStatements.branch xs ts es us test a b rest dx da db d))
 
 module _ (body : List Token → Reading BlockTree) (body_sound : (ts : List Token) → Sound IsBody ts (body ts)) where
   pub block_sound : (ts : List Token) → Sound IsBlock ts (block_at body ts)
   unfolding block_at
-  block_sound ts = one_sound IsBlock (sign t.OpenBlock) tt ts (open_block_at ts) _ (one_open_block ts) (λ rest u. body_sound rest)
+  block_sound ts = one_sound IsBlock (alone (t.Sign sign.OpenBlock)) tt ts (expect sign.OpenBlock ts) _ (one_sign sign.OpenBlock ts) (λ rest u. body_sound rest)
 
   pub second_sound : (ts : List Token) → Sound IsElse ts (second_at body ts)
   unfolding second_at
   second_sound ts =
-      behind_sign_sound IsElse t.Else ts (after_else ts) (block_at body) (Ok (BlockEnd, ts)) (finds_else ts)
-      (λ us. sound_map IsBlock (behind (t.Else ∷ []) IsElse) us (block_at body us) present (block_sound us))
+      behind_sign_sound IsElse (t.Sign sign.Else) ts (after_sign sign.Else ts) (block_at body) (Ok (BlockEnd, ts)) (finds_sign sign.Else ts)
+      (λ us. sound_map IsBlock (behind (t.Sign sign.Else ∷ []) IsElse) us (block_at body us) present (block_sound us))
       (done_sound IsElse BlockEnd ts missing)
 
-  branch_sound : (ts : List Token) → Sound (behind (t.If ∷ []) IsBody) ts (branch_at body ts)
+  branch_sound : (ts : List Token) → Sound (behind (t.Sign sign.If ∷ []) IsBody) ts (branch_at body ts)
   unfolding branch_at behind_first behind_second
   branch_sound ts =
-      let E = behind (t.If ∷ []) IsBody in
+      let E = behind (t.Sign sign.If ∷ []) IsBody in
       then_sound IsTest E ts (test_at ts) _ (test_sound ts)
       (λ xs rest test dx. then_sound IsBlock (behind xs E) rest (block_at body rest) _ (block_sound rest)
       (λ fs rest a da. then_sound IsElse (behind fs (behind xs E)) rest (second_at body rest) _ (second_sound rest)
@@ -220,11 +221,11 @@ module _ (body : List Token → Reading BlockTree) (body_sound : (ts : List Toke
 
 pub body_within_sound : (n : ℕ) (ts : List Token) → Sound IsBody ts (body_within n ts)
 unfolding body_within
-body_within_sound zero ts = fault_sound IsBody ts (t.CloseBlock ∷ []) BlockEnd body_end
+body_within_sound zero ts = fault_sound IsBody ts (t.Sign sign.CloseBlock ∷ []) BlockEnd body_end
 body_within_sound (suc n) ts =
-    behind_sign_sound IsBody t.CloseBlock ts (after_close_block ts) _ _ (finds_close_block ts)
-    (λ us. done_sound (behind (t.CloseBlock ∷ []) IsBody) BlockEnd us body_end)
-    (behind_sign_sound IsBody t.If ts (after_if ts) (branch_at (body_within n)) (more_at (body_within n) ts) (finds_if ts)
+    behind_sign_sound IsBody (t.Sign sign.CloseBlock) ts (after_sign sign.CloseBlock ts) _ _ (finds_sign sign.CloseBlock ts)
+    (λ us. done_sound (behind (t.Sign sign.CloseBlock ∷ []) IsBody) BlockEnd us body_end)
+    (behind_sign_sound IsBody (t.Sign sign.If) ts (after_sign sign.If ts) (branch_at (body_within n)) (more_at (body_within n) ts) (finds_sign sign.If ts)
     (branch_sound (body_within n) (body_within_sound n)) (more_sound (body_within n) (body_within_sound n) ts))
 
 pub body_sound : (ts : List Token) → Sound IsBody ts (body_at ts)
@@ -236,9 +237,9 @@ body_sound ts = body_within_sound (length ts) ts
 -- a statement has a token, and begins with no sign that ends a block or begins another
 pub record BeginsStatement (ts : List Token) : Type 0 where
   pub some : 0 < length ts
-  pub no_end : (rest : List Token) → after_close_block (ts ++ rest) ≡ None
-  pub no_branch : (rest : List Token) → after_if (ts ++ rest) ≡ None
-  pub no_else : (rest : List Token) → after_else (ts ++ rest) ≡ None
+  pub no_end : (rest : List Token) → after_sign sign.CloseBlock (ts ++ rest) ≡ None
+  pub no_branch : (rest : List Token) → after_sign sign.If (ts ++ rest) ≡ None
+  pub no_else : (rest : List Token) → after_sign sign.Else (ts ++ rest) ≡ None
 
 pub begins_statement : (ts : List Token) (s : StatementTree) → IsStatement ts s → BeginsStatement ts
 begins_statement _ _ (bind x ts e d) = record { some = omega arith; no_end = λ rest. refl; no_branch = λ rest. refl; no_else = λ rest. refl }

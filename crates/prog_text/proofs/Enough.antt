@@ -3,11 +3,12 @@ use Rattle.std.proofs.Common.{◌≡◌, ◌∙◌, ℕ, zero, suc, ◌<◌, ◌
 use Rattle.prog_tree.specs.Syntax.{Name, ExprTree, Plus, Minus, Times, ComparisonTree, TestTree, StatementTree, BlockTree, BlockEnd, Then, Branch, ProgramTree}
 use Rattle.prog_tree.specs.declared.table.TableDecl.{TableDecl}
 use Rattle.prog_text.specs.declared.token.Token.{Token}
+use Rattle.prog_text.specs.declared.token.Sign.TheVariants as sign
 use Rattle.prog_text.specs.declared.token.Token.TheVariants as t
 use Rattle.prog_text.specs.Grammar.{IsFactor, IsProduct, IsExpr, IsComparison, IsConjunction, IsTest, IsTable, IsName, IsStatement, IsBlock, IsElse, IsProgram}
-use Rattle.prog_text.specs.Reading.{Reading, ◌>>=◌, after_table, after_program, after_comma, after_close_block, after_times, after_plus, after_minus, after_and, after_or, after_if, after_else, close_bracket_at, behind_sign, name_at, many_from, factor_at, product_from, product_at, sum_from, sum_at, expr_within, expr_at, comparison_at, conjunction_at, test_at, table_at, program_at, statement_at, block_at, second_at, behind_second, behind_first, branch_at, more_at, body_within, body_at}
+use Rattle.prog_text.specs.Reading.{Reading, ◌>>=◌, after_sign, expect, behind_sign, name_at, many_from, factor_at, product_from, product_at, sum_from, sum_at, expr_within, expr_at, comparison_at, conjunction_at, test_at, table_at, program_at, statement_at, block_at, second_at, behind_second, behind_first, branch_at, more_at, body_within, body_at}
 use Rattle.prog_text.proofs.Sound.{Sound, behind, IsBehind, IsShorter, sound_shorter}
-use Rattle.prog_text.proofs.OneToken.{finds_table, finds_program, finds_comma, finds_times, finds_plus, finds_minus, finds_and, finds_or, finds_if, finds_else}
+use Rattle.prog_text.proofs.OneToken.{finds_sign}
 use Rattle.prog_text.proofs.DerivedExprs.{factor_sound, product_sound, expr_within_sound, comparison_sound, conjunction_sound, test_sound}
 use Rattle.prog_text.proofs.DerivedStatements.{statement_sound, IsBody, block_sound, second_sound, body_within_sound, begins_statement}
 use Rattle.prog_text.proofs.Derived.{table_sound, program_sound, name_sound}
@@ -41,20 +42,20 @@ many_enough u after read e finds short done (suc n) (suc m) ts le ge =
     then_same us (read us) (read us) _ _ refl (short us)
     (λ x rest fewer. many_enough u after read e finds short (done ++ x ∷ []) n m rest (omega (arith, less, fewer, le)) (omega (arith, less, fewer, ge)))) refl
 
-pub tables_enough : (done : List TableDecl) (n m : ℕ) (ts : List Token) → length ts ≤ n → length ts ≤ m → many_from after_table table_at n done ts ≡ many_from after_table table_at m done ts
-tables_enough = many_enough t.Table after_table table_at refl finds_table (λ us. sound_shorter (behind (t.Table ∷ []) IsTable) us (table_at us) (table_sound us))
+pub tables_enough : (done : List TableDecl) (n m : ℕ) (ts : List Token) → length ts ≤ n → length ts ≤ m → many_from (after_sign sign.Table) table_at n done ts ≡ many_from (after_sign sign.Table) table_at m done ts
+tables_enough = many_enough (t.Sign sign.Table) (after_sign sign.Table) table_at refl (finds_sign sign.Table) (λ us. sound_shorter (behind (t.Sign sign.Table ∷ []) IsTable) us (table_at us) (table_sound us))
 
-pub names_enough : (done : List Name) (n m : ℕ) (ts : List Token) → length ts ≤ n → length ts ≤ m → many_from after_comma name_at n done ts ≡ many_from after_comma name_at m done ts
-names_enough = many_enough t.Comma after_comma name_at refl finds_comma (λ us. sound_shorter IsName us (name_at us) (name_sound us))
+pub names_enough : (done : List Name) (n m : ℕ) (ts : List Token) → length ts ≤ n → length ts ≤ m → many_from (after_sign sign.Comma) name_at n done ts ≡ many_from (after_sign sign.Comma) name_at m done ts
+names_enough = many_enough (t.Sign sign.Comma) (after_sign sign.Comma) name_at refl (finds_sign sign.Comma) (λ us. sound_shorter IsName us (name_at us) (name_sound us))
 
-pub programs_enough : (done : List ProgramTree) (n m : ℕ) (ts : List Token) → length ts ≤ n → length ts ≤ m → many_from after_program program_at n done ts ≡ many_from after_program program_at m done ts
-programs_enough = many_enough t.Program after_program program_at refl finds_program (λ us. sound_shorter (behind (t.Program ∷ []) IsProgram) us (program_at us) (program_sound us))
+pub programs_enough : (done : List ProgramTree) (n m : ℕ) (ts : List Token) → length ts ≤ n → length ts ≤ m → many_from (after_sign sign.Program) program_at n done ts ≡ many_from (after_sign sign.Program) program_at m done ts
+programs_enough = many_enough (t.Sign sign.Program) (after_sign sign.Program) program_at refl (finds_sign sign.Program) (λ us. sound_shorter (behind (t.Sign sign.Program ∷ []) IsProgram) us (program_at us) (program_sound us))
 
-pub comparisons_enough : (done : List ComparisonTree) (n m : ℕ) (ts : List Token) → length ts ≤ n → length ts ≤ m → many_from after_and comparison_at n done ts ≡ many_from after_and comparison_at m done ts
-comparisons_enough = many_enough t.And after_and comparison_at refl finds_and (λ us. sound_shorter IsComparison us (comparison_at us) (comparison_sound us))
+pub comparisons_enough : (done : List ComparisonTree) (n m : ℕ) (ts : List Token) → length ts ≤ n → length ts ≤ m → many_from (after_sign sign.And) comparison_at n done ts ≡ many_from (after_sign sign.And) comparison_at m done ts
+comparisons_enough = many_enough (t.Sign sign.And) (after_sign sign.And) comparison_at refl (finds_sign sign.And) (λ us. sound_shorter IsComparison us (comparison_at us) (comparison_sound us))
 
-pub conjunctions_enough : (done : TestTree) (n m : ℕ) (ts : List Token) → length ts ≤ n → length ts ≤ m → many_from after_or conjunction_at n done ts ≡ many_from after_or conjunction_at m done ts
-conjunctions_enough = many_enough t.Or after_or conjunction_at refl finds_or (λ us. sound_shorter IsConjunction us (conjunction_at us) (conjunction_sound us))
+pub conjunctions_enough : (done : TestTree) (n m : ℕ) (ts : List Token) → length ts ≤ n → length ts ≤ m → many_from (after_sign sign.Or) conjunction_at n done ts ≡ many_from (after_sign sign.Or) conjunction_at m done ts
+conjunctions_enough = many_enough (t.Sign sign.Or) (after_sign sign.Or) conjunction_at refl (finds_sign sign.Or) (λ us. sound_shorter IsConjunction us (conjunction_at us) (conjunction_sound us))
 
 -- ---- products and sums
 
@@ -73,8 +74,8 @@ module _ (inner : List Token → Reading ExprTree) (inner_sound : (ts : List Tok
   product_enough left (suc n) zero [] le ge = refl
   product_enough left (suc n) zero (v ∷ ts) le ge = absurd (omega (arith, ge))
   product_enough left (suc n) (suc m) ts le ge =
-      behind_sign_same (after_times ts) _ _ (Ok (left, ts)) (Ok (left, ts))
-      (λ us found. let less : length us < length ts = behind_shorter t.Times ts us (after_times ts) (finds_times ts) found in
+      behind_sign_same (after_sign sign.Times ts) _ _ (Ok (left, ts)) (Ok (left, ts))
+      (λ us found. let less : length us < length ts = behind_shorter (t.Sign sign.Times) ts us (after_sign sign.Times ts) (finds_sign sign.Times ts) found in
       then_same us (factor_at inner us) (factor_at inner us) _ _ refl (factor_shorter us)
       (λ x rest fewer. product_enough (Times left x) n m rest (omega (arith, less, fewer, le)) (omega (arith, less, fewer, ge)))) refl
 
@@ -86,12 +87,12 @@ module _ (inner : List Token → Reading ExprTree) (inner_sound : (ts : List Tok
   sum_enough left (suc n) zero [] le ge = refl
   sum_enough left (suc n) zero (v ∷ ts) le ge = absurd (omega (arith, ge))
   sum_enough left (suc n) (suc m) ts le ge =
-      behind_sign_same (after_plus ts) _ _ _ _
-      (λ us found. let less : length us < length ts = behind_shorter t.Plus ts us (after_plus ts) (finds_plus ts) found in
+      behind_sign_same (after_sign sign.Plus ts) _ _ _ _
+      (λ us found. let less : length us < length ts = behind_shorter (t.Sign sign.Plus) ts us (after_sign sign.Plus ts) (finds_sign sign.Plus ts) found in
       then_same us (product_at inner us) (product_at inner us) _ _ refl (product_shorter us)
       (λ x rest fewer. sum_enough (Plus left x) n m rest (omega (arith, less, fewer, le)) (omega (arith, less, fewer, ge))))
-      (behind_sign_same (after_minus ts) _ _ (Ok (left, ts)) (Ok (left, ts))
-      (λ us found. let less : length us < length ts = behind_shorter t.Minus ts us (after_minus ts) (finds_minus ts) found in
+      (behind_sign_same (after_sign sign.Minus ts) _ _ (Ok (left, ts)) (Ok (left, ts))
+      (λ us found. let less : length us < length ts = behind_shorter (t.Sign sign.Minus) ts us (after_sign sign.Minus ts) (finds_sign sign.Minus ts) found in
       then_same us (product_at inner us) (product_at inner us) _ _ refl (product_shorter us)
       (λ x rest fewer. sum_enough (Minus left x) n m rest (omega (arith, less, fewer, le)) (omega (arith, less, fewer, ge)))) refl)
 
@@ -101,15 +102,15 @@ module _ (inner : List Token → Reading ExprTree) (inner_sound : (ts : List Tok
 module _ (p q : List Token → Reading ExprTree) (p_sound : (ts : List Token) → Sound IsExpr ts (p ts)) (len : ℕ) (same : (ts : List Token) → length ts ≤ len → p ts ≡ q ts) where
   factor_same : (ts : List Token) → length ts ≤ suc len → factor_at p ts ≡ factor_at q ts
   unfolding factor_at
-  factor_same (t.Open ∷ ts) le = ap (λ (r : Reading ExprTree). r >>= λ e. close_bracket_at e.1 >>= λ closed. Ok (e.0, closed.1)) (same ts (omega (arith, le)))
+  factor_same (t.Sign sign.Open ∷ ts) le = ap (λ (r : Reading ExprTree). r >>= λ e. expect sign.Close e.1 >>= λ closed. Ok (e.0, closed.1)) (same ts (omega (arith, le)))
   factor_same ts le = refl
 
   product_from_same : (n : ℕ) (left : ExprTree) (ts : List Token) → length ts ≤ suc len → product_from p n left ts ≡ product_from q n left ts
   unfolding product_from
   product_from_same zero left ts le = refl
   product_from_same (suc n) left ts le =
-      behind_sign_same (after_times ts) _ _ (Ok (left, ts)) (Ok (left, ts))
-      (λ us found. let less : length us < length ts = behind_shorter t.Times ts us (after_times ts) (finds_times ts) found in
+      behind_sign_same (after_sign sign.Times ts) _ _ (Ok (left, ts)) (Ok (left, ts))
+      (λ us found. let less : length us < length ts = behind_shorter (t.Sign sign.Times) ts us (after_sign sign.Times ts) (finds_sign sign.Times ts) found in
       then_same us (factor_at p us) (factor_at q us) _ _ (factor_same us (omega (arith, less, le))) (factor_shorter p p_sound us)
       (λ x rest fewer. product_from_same n (Times left x) rest (omega (arith, less, fewer, le)))) refl
 
@@ -123,12 +124,12 @@ module _ (p q : List Token → Reading ExprTree) (p_sound : (ts : List Token) �
   unfolding sum_from
   sum_from_same zero left ts le = refl
   sum_from_same (suc n) left ts le =
-      behind_sign_same (after_plus ts) _ _ _ _
-      (λ us found. let less : length us < length ts = behind_shorter t.Plus ts us (after_plus ts) (finds_plus ts) found in
+      behind_sign_same (after_sign sign.Plus ts) _ _ _ _
+      (λ us found. let less : length us < length ts = behind_shorter (t.Sign sign.Plus) ts us (after_sign sign.Plus ts) (finds_sign sign.Plus ts) found in
       then_same us (product_at p us) (product_at q us) _ _ (product_same us (omega (arith, less, le))) (product_shorter p p_sound us)
       (λ x rest fewer. sum_from_same n (Plus left x) rest (omega (arith, less, fewer, le))))
-      (behind_sign_same (after_minus ts) _ _ (Ok (left, ts)) (Ok (left, ts))
-      (λ us found. let less : length us < length ts = behind_shorter t.Minus ts us (after_minus ts) (finds_minus ts) found in
+      (behind_sign_same (after_sign sign.Minus ts) _ _ (Ok (left, ts)) (Ok (left, ts))
+      (λ us found. let less : length us < length ts = behind_shorter (t.Sign sign.Minus) ts us (after_sign sign.Minus ts) (finds_sign sign.Minus ts) found in
       then_same us (product_at p us) (product_at q us) _ _ (product_same us (omega (arith, less, le))) (product_shorter p p_sound us)
       (λ x rest fewer. sum_from_same n (Minus left x) rest (omega (arith, less, fewer, le)))) refl)
 
@@ -176,14 +177,14 @@ statement_same ts (Err e) f g found h = refl
 module _ (p q : List Token → Reading BlockTree) (p_sound : (ts : List Token) → Sound IsBody ts (p ts)) (len : ℕ) (same : (ts : List Token) → length ts ≤ len → p ts ≡ q ts) where
   block_same : (ts : List Token) → length ts ≤ suc len → block_at p ts ≡ block_at q ts
   unfolding block_at
-  block_same (t.OpenBlock ∷ ts) le = same ts (omega (arith, le))
+  block_same (t.Sign sign.OpenBlock ∷ ts) le = same ts (omega (arith, le))
   block_same ts le = refl
 
   second_same : (ts : List Token) → length ts ≤ suc len → second_at p ts ≡ second_at q ts
   unfolding second_at
   second_same ts le =
-      behind_sign_same (after_else ts) (block_at p) (block_at q) _ _
-      (λ us found. block_same us (let less : length us < length ts = behind_shorter t.Else ts us (after_else ts) (finds_else ts) found in omega (arith, less, le))) refl
+      behind_sign_same (after_sign sign.Else ts) (block_at p) (block_at q) _ _
+      (λ us found. block_same us (let less : length us < length ts = behind_shorter (t.Sign sign.Else) ts us (after_sign sign.Else ts) (finds_sign sign.Else ts) found in omega (arith, less, le))) refl
 
   branch_same : (ts : List Token) → length ts ≤ len → branch_at p ts ≡ branch_at q ts
   unfolding branch_at behind_first behind_second
@@ -209,10 +210,10 @@ body_enough (suc n) zero (v ∷ ts) le ge = absurd (omega (arith, ge))
 body_enough (suc n) (suc m) [] le ge = refl
 body_enough (suc n) (suc m) (v ∷ ts) le ge =
     let same = λ (us : List Token) (short : length us ≤ length ts). body_enough n m us (omega (arith, short, le)) (omega (arith, short, ge)) in
-    behind_sign_same (after_close_block (v ∷ ts)) _ _ _ _ (λ us found. refl)
-    (behind_sign_same (after_if (v ∷ ts)) (branch_at (body_within n)) (branch_at (body_within m)) _ _
+    behind_sign_same (after_sign sign.CloseBlock (v ∷ ts)) _ _ _ _ (λ us found. refl)
+    (behind_sign_same (after_sign sign.If (v ∷ ts)) (branch_at (body_within n)) (branch_at (body_within m)) _ _
     (λ us found. branch_same (body_within n) (body_within m) (body_within_sound n) (length ts) same us
-    (let less : length us < length (v ∷ ts) = behind_shorter t.If (v ∷ ts) us (after_if (v ∷ ts)) (finds_if (v ∷ ts)) found in omega (arith, less)))
+    (let less : length us < length (v ∷ ts) = behind_shorter (t.Sign sign.If) (v ∷ ts) us (after_sign sign.If (v ∷ ts)) (finds_sign sign.If (v ∷ ts)) found in omega (arith, less)))
     (more_same (body_within n) (body_within m) (body_within_sound n) (length ts) same (v ∷ ts) (omega arith)))
 
 pub body_further : (n : ℕ) (ts : List Token) → length ts ≤ n → body_at ts ≡ body_within n ts
@@ -220,13 +221,13 @@ unfolding body_at
 body_further n ts le = body_enough (length ts) n ts (omega arith) le
 
 -- what is left of a block: its closing sign, a branch and more, or a statement and more
-pub body_is : (ts : List Token) → body_at ts ≡ behind_sign (after_close_block ts) (λ ts. Ok (BlockEnd, ts)) (behind_sign (after_if ts) (branch_at body_at) (more_at body_at ts))
+pub body_is : (ts : List Token) → body_at ts ≡ behind_sign (after_sign sign.CloseBlock ts) (λ ts. Ok (BlockEnd, ts)) (behind_sign (after_sign sign.If ts) (branch_at body_at) (more_at body_at ts))
 unfolding body_at body_within more_at statement_at
 body_is [] = refl
 body_is (v ∷ ts) =
     let same = λ (us : List Token) (short : length us ≤ length ts). body_enough (length ts) (length us) us short (omega arith) in
-    behind_sign_same (after_close_block (v ∷ ts)) _ _ _ _ (λ us found. refl)
-    (behind_sign_same (after_if (v ∷ ts)) (branch_at (body_within (length ts))) (branch_at body_at) _ _
+    behind_sign_same (after_sign sign.CloseBlock (v ∷ ts)) _ _ _ _ (λ us found. refl)
+    (behind_sign_same (after_sign sign.If (v ∷ ts)) (branch_at (body_within (length ts))) (branch_at body_at) _ _
     (λ us found. branch_same (body_within (length ts)) body_at (body_within_sound (length ts)) (length ts) same us
-    (let less : length us < length (v ∷ ts) = behind_shorter t.If (v ∷ ts) us (after_if (v ∷ ts)) (finds_if (v ∷ ts)) found in omega (arith, less)))
+    (let less : length us < length (v ∷ ts) = behind_shorter (t.Sign sign.If) (v ∷ ts) us (after_sign sign.If (v ∷ ts)) (finds_sign sign.If (v ∷ ts)) found in omega (arith, less)))
     (more_same (body_within (length ts)) body_at (body_within_sound (length ts)) (length ts) same (v ∷ ts) (omega arith)))

@@ -7,6 +7,7 @@ use Rattle.prog_tree.specs.Syntax.{ExprTree, Literal, Named, Plus, Minus, Times,
 use Rattle.prog_tree.specs.declared.table.Arity.TheVariants as arity
 use Rattle.prog_text.specs.declared.fault.TextFault.TheVariants as f
 use Rattle.prog_text.specs.declared.token.Token.{Token}
+use Rattle.prog_text.specs.declared.token.Sign.TheVariants as sign
 use Rattle.prog_text.specs.declared.token.Token.TheVariants as t
 use Rattle.prog_text.specs.Answer.{text_limit, HasTokens, Accepts, Refuses}
 use Rattle.prog_text.specs.Grammar.{IsFactor, IsProduct, IsExpr, IsSet}
@@ -19,9 +20,9 @@ use Rattle.prog_text.proofs.Refusals.{set_found, set_misfit, set_unfinished}
 
 abbrev placed : Placed
 placed =
-    (t.Table, 33) ∷ (t.Name (codes "t"), 27) ∷ (t.Number 1, 25) ∷ (t.Semicolon, 24) ∷
-    (t.Program, 23) ∷ (t.Name (codes "P"), 15) ∷ (t.Open, 14) ∷ (t.Name (codes "a"), 13) ∷ (t.Close, 12) ∷
-    (t.OpenBlock, 11) ∷ (t.Reply, 10) ∷ (t.Name (codes "a"), 4) ∷ (t.Semicolon, 3) ∷ (t.CloseBlock, 1) ∷ []
+    (t.Sign sign.Table, 33) ∷ (t.Name (codes "t"), 27) ∷ (t.Number 1, 25) ∷ (t.Sign sign.Semicolon, 24) ∷
+    (t.Sign sign.Program, 23) ∷ (t.Name (codes "P"), 15) ∷ (t.Sign sign.Open, 14) ∷ (t.Name (codes "a"), 13) ∷ (t.Sign sign.Close, 12) ∷
+    (t.Sign sign.OpenBlock, 11) ∷ (t.Sign sign.Reply, 10) ∷ (t.Name (codes "a"), 4) ∷ (t.Sign sign.Semicolon, 3) ∷ (t.Sign sign.CloseBlock, 1) ∷ []
 
 abbrev draft : DraftTree
 draft = record {
@@ -33,16 +34,16 @@ abbrev a : List ℕ
 a = codes "a"
 
 abbrev table_tokens : List Token
-table_tokens = t.Table ∷ t.Name (codes "t") ∷ t.Number 1 ∷ t.Semicolon ∷ []
+table_tokens = t.Sign sign.Table ∷ t.Name (codes "t") ∷ t.Number 1 ∷ t.Sign sign.Semicolon ∷ []
 
 abbrev reply_tokens : List Token
-reply_tokens = t.Reply ∷ t.Name a ∷ t.Semicolon ∷ []
+reply_tokens = t.Sign sign.Reply ∷ t.Name a ∷ t.Sign sign.Semicolon ∷ []
 
 abbrev block_tokens : List Token
-block_tokens = t.OpenBlock ∷ (reply_tokens ++ t.CloseBlock ∷ [])
+block_tokens = t.Sign sign.OpenBlock ∷ (reply_tokens ++ t.Sign sign.CloseBlock ∷ [])
 
 abbrev program_tokens : List Token
-program_tokens = t.Program ∷ t.Name (codes "P") ∷ t.Open ∷ t.Name a ∷ t.Close ∷ block_tokens
+program_tokens = t.Sign sign.Program ∷ t.Name (codes "P") ∷ t.Sign sign.Open ∷ t.Name a ∷ t.Sign sign.Close ∷ block_tokens
 
 -- an expression of one factor
 lone : (ts : List Token) (e : ExprTree) → IsFactor ts e → IsExpr ts e
@@ -73,13 +74,13 @@ read_as_printed = read_again (codes "table t 1;program P(a){reply a; }") draft r
 cut_short : Refuses (codes "table t") (f.UnexpectedEnd 7)
 unfolding tokens_from piece_at word_at number_at sign_at set_at many_from table_at arity_at
 cut_short =
-    let tokens : Placed = (t.Table, 7) ∷ (t.Name (codes "t"), 1) ∷ [] in
+    let tokens : Placed = (t.Sign sign.Table, 7) ∷ (t.Name (codes "t"), 1) ∷ [] in
     (tokens, record { tokens = record { short = omega arith; cut = (tokens_exactly _ tokens).0 refl }; shallow = refl }, set_unfinished _ refl, refl)
 
 misfit : Refuses (codes "program P( {") (f.UnexpectedToken 11)
 unfolding tokens_from piece_at word_at number_at sign_at set_at many_from program_at params_at separated_at
 misfit =
-    let tokens : Placed = (t.Program, 12) ∷ (t.Name (codes "P"), 4) ∷ (t.Open, 3) ∷ (t.OpenBlock, 1) ∷ [] in
+    let tokens : Placed = (t.Sign sign.Program, 12) ∷ (t.Name (codes "P"), 4) ∷ (t.Sign sign.Open, 3) ∷ (t.Sign sign.OpenBlock, 1) ∷ [] in
     (tokens, 3, record { tokens = record { short = omega arith; cut = (tokens_exactly _ tokens).0 refl }; shallow = refl }, set_misfit _ 1 (λ e. cc) refl, refl)
 
 -- ---- operators
@@ -94,16 +95,16 @@ abbrev right : IsProduct (t.Name b ∷ []) (Named b)
 right = g.factor (t.Name b ∷ []) (Named b) (g.IsFactor.name b)
 
 -- a - b - 2 * (a + b): operators of one level group to the left, and brackets leave no trace
-grouped : IsExpr (t.Name a ∷ t.Minus ∷ t.Name b ∷ t.Minus ∷ t.Number 2 ∷ t.Times ∷ t.Open ∷ t.Name a ∷ t.Plus ∷ t.Name b ∷ t.Close ∷ [])
+grouped : IsExpr (t.Name a ∷ t.Sign sign.Minus ∷ t.Name b ∷ t.Sign sign.Minus ∷ t.Number 2 ∷ t.Sign sign.Times ∷ t.Sign sign.Open ∷ t.Name a ∷ t.Sign sign.Plus ∷ t.Name b ∷ t.Sign sign.Close ∷ [])
     (Minus (Minus (Named a) (Named b)) (Times (Literal (pos 2)) (Plus (Named a) (Named b))))
 grouped =
     let added = g.plus (t.Name a ∷ []) (t.Name b ∷ []) (Named a) (Named b) (g.product _ _ left) right in
     let two = g.factor (t.Number 2 ∷ []) (Literal (pos 2)) (g.number 2) in
     let less = g.minus (t.Name a ∷ []) (t.Name b ∷ []) (Named a) (Named b) (g.product _ _ left) right in
-    g.minus (t.Name a ∷ t.Minus ∷ t.Name b ∷ []) _ _ _ less (g.times (t.Number 2 ∷ []) _ _ _ two (g.bracketed _ _ added))
+    g.minus (t.Name a ∷ t.Sign sign.Minus ∷ t.Name b ∷ []) _ _ _ less (g.times (t.Number 2 ∷ []) _ _ _ two (g.bracketed _ _ added))
 
 -- a < b or not a == b and b >= 0: `and` binds tighter than `or`
-tested : test_at (t.Name a ∷ t.Less ∷ t.Name b ∷ t.Or ∷ t.Not ∷ t.Name a ∷ t.EqualEqual ∷ t.Name b ∷ t.And ∷ t.Name b ∷ t.GreaterEqual ∷ t.Number 0 ∷ [])
+tested : test_at (t.Name a ∷ t.Sign sign.Less ∷ t.Name b ∷ t.Sign sign.Or ∷ t.Sign sign.Not ∷ t.Name a ∷ t.Sign sign.EqualEqual ∷ t.Name b ∷ t.Sign sign.And ∷ t.Name b ∷ t.Sign sign.GreaterEqual ∷ t.Number 0 ∷ [])
     ≡ Ok (
       (record { negated = false; left = Named a; relation = Less; right = Named b } ∷ [])
           ∷ (record { negated = true; left = Named a; relation = Equal; right = Named b } ∷ record { negated = false; left = Named b; relation = GreaterEqual; right = Literal (pos 0) } ∷ [])

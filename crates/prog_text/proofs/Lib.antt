@@ -31,6 +31,7 @@ pub mod Lighter
 pub mod PhrasesAgain
 pub mod PrintedBlocks
 pub mod Refusals
+pub mod Reserved
 pub mod RoundTrip
 mod RefusedExamples
 mod SmallBank

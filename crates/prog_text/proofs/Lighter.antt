@@ -2,6 +2,7 @@
 use Rattle.std.proofs.Common.{◌≡◌, ◌∙◌, ℕ, suc, ◌≤◌, nat_lt, List, [], ◌∷◌, ◌++◌, Bool, true, false, ◌||◌, if◌then◌else◌, Option, Some, None, option_map, refl, ap, arith}
 use Rattle.std.proofs.lemmas.Bool.{ltb-false, le-ltb}
 use Rattle.prog_text.specs.declared.token.Token.{Token}
+use Rattle.prog_text.specs.declared.token.Sign.TheVariants as sign
 use Rattle.prog_text.specs.declared.token.Token.TheVariants as t
 use Rattle.prog_text.specs.Limits.{brackets_after, operators_after, too_deep_from, too_deep}
 
@@ -58,21 +59,21 @@ fits_append b o (u ∷ ts) us first second = (first.0, first.1, fits_append (bra
 -- ---- fewer brackets and operators before a token, fewer behind it
 
 brackets_rise : (u : Token) (m n : ℕ) → m ≤ n → brackets_after u m ≤ brackets_after u n
-brackets_rise t.Open m n h = omega arith
-brackets_rise t.OpenKey m n h = omega arith
-brackets_rise t.OpenBlock m n h = omega arith
-brackets_rise t.Close m n h = omega arith
-brackets_rise t.CloseKey m n h = omega arith
-brackets_rise t.CloseBlock m n h = omega arith
+brackets_rise (t.Sign sign.Open) m n h = omega arith
+brackets_rise (t.Sign sign.OpenKey) m n h = omega arith
+brackets_rise (t.Sign sign.OpenBlock) m n h = omega arith
+brackets_rise (t.Sign sign.Close) m n h = omega arith
+brackets_rise (t.Sign sign.CloseKey) m n h = omega arith
+brackets_rise (t.Sign sign.CloseBlock) m n h = omega arith
 brackets_rise u m n h = h
 
 operators_rise : (u : Token) (m n : ℕ) → m ≤ n → operators_after u m ≤ operators_after u n
-operators_rise t.Plus m n h = omega arith
-operators_rise t.Minus m n h = omega arith
-operators_rise t.Times m n h = omega arith
-operators_rise t.Semicolon m n h = omega arith
-operators_rise t.OpenBlock m n h = omega arith
-operators_rise t.CloseBlock m n h = omega arith
+operators_rise (t.Sign sign.Plus) m n h = omega arith
+operators_rise (t.Sign sign.Minus) m n h = omega arith
+operators_rise (t.Sign sign.Times) m n h = omega arith
+operators_rise (t.Sign sign.Semicolon) m n h = omega arith
+operators_rise (t.Sign sign.OpenBlock) m n h = omega arith
+operators_rise (t.Sign sign.CloseBlock) m n h = omega arith
 operators_rise u m n h = h
 
 -- the tokens are nowhere deeper than the others, and leave no more open, also where fewer stand before them
@@ -132,14 +133,14 @@ pub record Balanced (ts : List Token) : Type 0 where
 pub balanced_append : {ts us : List Token} → Balanced ts → Balanced us → Balanced (ts ++ us)
 balanced_append {ts = ts} {us = us} first second = record { same = λ n. brackets_append n ts us ∙ ap (λ m. brackets_behind m us) (first.same n) ∙ second.same n }
 
-pub balanced_brackets : (ts : List Token) → Balanced ts → Balanced (t.Open ∷ (ts ++ t.Close ∷ []))
-balanced_brackets ts h = record { same = λ n. rw (brackets_append (suc n) ts (t.Close ∷ []), h.same (suc n)) (omega arith) }
+pub balanced_brackets : (ts : List Token) → Balanced ts → Balanced (t.Sign sign.Open ∷ (ts ++ t.Sign sign.Close ∷ []))
+balanced_brackets ts h = record { same = λ n. rw (brackets_append (suc n) ts (t.Sign sign.Close ∷ []), h.same (suc n)) (omega arith) }
 
-pub bare_lighter : (ts : List Token) → Balanced ts → Lighter ts (t.Open ∷ (ts ++ t.Close ∷ []))
+pub bare_lighter : (ts : List Token) → Balanced ts → Lighter ts (t.Sign sign.Open ∷ (ts ++ t.Sign sign.Close ∷ []))
 bare_lighter ts h = record {
-  fits = λ m n j k a b fits. (same_lighter ts).fits m (suc n) j k (omega arith) b (fits_parts (suc n) k ts (t.Close ∷ []) fits.2).0;
+  fits = λ m n j k a b fits. (same_lighter ts).fits m (suc n) j k (omega arith) b (fits_parts (suc n) k ts (t.Sign sign.Close ∷ []) fits.2).0;
   brackets = λ m n a. rw ((balanced_brackets ts h).same n, h.same m) a;
-  operators = λ j k a. rw (operators_append k ts (t.Close ∷ [])) ((same_lighter ts).operators j k a);
+  operators = λ j k a. rw (operators_append k ts (t.Sign sign.Close ∷ [])) ((same_lighter ts).operators j k a);
 }
 
 -- tokens of which none is too deep

@@ -2,21 +2,22 @@
 use Rattle.std.proofs.Common.{◌≡◌, ℕ, zero, suc, ◌+◌, List, ◌∷◌, length, Ok, refl, arith}
 use Rattle.prog_tree.specs.Syntax.{Name, StatementTree, Bind, Get, Need, Count, Sum, Lacks, Put, Insert, Delete, Keep, Reply, Abort, BlockTree, BlockEnd, Then, Branch}
 use Rattle.prog_text.specs.declared.token.Token.{Token}
+use Rattle.prog_text.specs.declared.token.Sign.TheVariants as sign
 use Rattle.prog_text.specs.declared.token.Token.TheVariants as t
-use Rattle.prog_text.specs.Reading.{Reading, ◌>>=◌, after_close_block, after_if, after_else, behind_sign, open_block_at, semicolon_at, equals_at, else_word_at, name_at, expr_within, expr_at, test_at, key_at, range_at, last_expr_at, last_key_at, last_range_at, assigned_at, bind_at, get_at, need_at, count_at, summed_at, bound_at, let_at, lacks_at, put_at, insert_at, delete_at, keep_at, reply_at, abort_at, statement_at, block_at, second_at, behind_second, behind_first, branch_at, more_at, body_within, body_at}
+use Rattle.prog_text.specs.Reading.{Reading, ◌>>=◌, after_sign, behind_sign, expect, name_at, expr_within, expr_at, test_at, key_at, range_at, last_expr_at, last_key_at, last_range_at, assigned_at, bind_at, get_at, need_at, count_at, summed_at, bound_at, let_at, lacks_at, put_at, insert_at, delete_at, keep_at, reply_at, abort_at, statement_at, block_at, second_at, behind_second, behind_first, branch_at, more_at, body_within, body_at}
 use Rattle.prog_text.proofs.Alike.{AreAlike, AreAlikeAt, then_alike, done_alike, fault_alike, token_alike, by_first, behind_sign_alike}
 use Rattle.prog_text.proofs.Enough.{body_further}
-use Rattle.prog_text.proofs.LocalTokens.{seek_close_block, seek_if, seek_else, open_block_alike, semicolon_alike, equals_alike, else_word_alike, name_alike}
+use Rattle.prog_text.proofs.LocalTokens.{seek_sign, sign_alike, name_alike}
 use Rattle.prog_text.proofs.LocalExprs.{expr_alike, test_alike, key_alike, range_alike}
 
 module _ (shared : Token) (rest other : List Token) where
   -- ---- what stands before the end of a statement
 
   -- such a reading and `;`
-  last_alike : {A : Type 0} (read : List Token → Reading A) → AreAlike shared rest other read read → AreAlike shared rest other (λ a. read a >>= λ x. semicolon_at x.1 >>= λ ended. Ok (x.0, ended.1)) (λ b. read b >>= λ x. semicolon_at x.1 >>= λ ended. Ok (x.0, ended.1))
+  last_alike : {A : Type 0} (read : List Token → Reading A) → AreAlike shared rest other read read → AreAlike shared rest other (λ a. read a >>= λ x. expect sign.Semicolon x.1 >>= λ ended. Ok (x.0, ended.1)) (λ b. read b >>= λ x. expect sign.Semicolon x.1 >>= λ ended. Ok (x.0, ended.1))
   last_alike read h a b w =
       then_alike shared rest other w (read a) (read b) _ _ (h a b w)
-      (λ x a b w. then_alike shared rest other w (semicolon_at a) (semicolon_at b) _ _ (semicolon_alike shared rest other a b w)
+      (λ x a b w. then_alike shared rest other w (expect sign.Semicolon a) (expect sign.Semicolon b) _ _ (sign_alike shared rest other sign.Semicolon a b w)
       (λ c a b w. done_alike shared rest other x a b w))
 
   last_expr_alike : AreAlike shared rest other last_expr_at last_expr_at
@@ -35,7 +36,7 @@ module _ (shared : Token) (rest other : List Token) where
   unfolding assigned_at
   assigned_alike a b w =
       then_alike shared rest other w (key_at a) (key_at b) _ _ (key_alike shared rest other a b w)
-      (λ k a b w. then_alike shared rest other w (equals_at a) (equals_at b) _ _ (equals_alike shared rest other a b w)
+      (λ k a b w. then_alike shared rest other w (expect sign.Equals a) (expect sign.Equals b) _ _ (sign_alike shared rest other sign.Equals a b w)
       (λ o a b w. then_alike shared rest other w (last_expr_at a) (last_expr_at b) _ _ (last_expr_alike a b w)
       (λ e a b w. done_alike shared rest other (k, e) a b w)))
 
@@ -49,7 +50,7 @@ module _ (shared : Token) (rest other : List Token) where
   unfolding get_at
   get_alike x a b w =
       then_alike shared rest other w (key_at a) (key_at b) _ _ (key_alike shared rest other a b w)
-      (λ k a b w. then_alike shared rest other w (else_word_at a) (else_word_at b) _ _ (else_word_alike shared rest other a b w)
+      (λ k a b w. then_alike shared rest other w (expect sign.Else a) (expect sign.Else b) _ _ (sign_alike shared rest other sign.Else a b w)
       (λ o a b w. then_alike shared rest other w (last_expr_at a) (last_expr_at b) _ _ (last_expr_alike a b w)
       (λ e a b w. done_alike shared rest other (Get x k.0 k.1 e) a b w)))
 
@@ -67,10 +68,10 @@ module _ (shared : Token) (rest other : List Token) where
 
   bound_first : (x : Name) → AreAlikeAt shared rest other (bound_at x) (bound_at x)
   unfolding bound_at
-  bound_first x t.Get a b w = token_alike shared rest other t.Get a b w _ _ (get_alike x a b)
-  bound_first x t.Need a b w = token_alike shared rest other t.Need a b w _ _ (need_alike x a b)
-  bound_first x t.Count a b w = token_alike shared rest other t.Count a b w _ _ (count_alike x a b)
-  bound_first x t.Sum a b w = token_alike shared rest other t.Sum a b w _ _ (summed_alike x a b)
+  bound_first x (t.Sign sign.Get) a b w = token_alike shared rest other (t.Sign sign.Get) a b w _ _ (get_alike x a b)
+  bound_first x (t.Sign sign.Need) a b w = token_alike shared rest other (t.Sign sign.Need) a b w _ _ (need_alike x a b)
+  bound_first x (t.Sign sign.Count) a b w = token_alike shared rest other (t.Sign sign.Count) a b w _ _ (count_alike x a b)
+  bound_first x (t.Sign sign.Sum) a b w = token_alike shared rest other (t.Sign sign.Sum) a b w _ _ (summed_alike x a b)
   bound_first x u a b w = bind_alike x (u ∷ a) (u ∷ b) w
 
   bound_alike : (x : Name) → AreAlike shared rest other (bound_at x) (bound_at x)
@@ -81,7 +82,7 @@ module _ (shared : Token) (rest other : List Token) where
   unfolding let_at
   let_alike a b w =
       then_alike shared rest other w (name_at a) (name_at b) _ _ (name_alike shared rest other a b w)
-      (λ x a b w. then_alike shared rest other w (equals_at a) (equals_at b) _ _ (equals_alike shared rest other a b w)
+      (λ x a b w. then_alike shared rest other w (expect sign.Equals a) (expect sign.Equals b) _ _ (sign_alike shared rest other sign.Equals a b w)
       (λ o a b w. bound_alike x a b w))
 
   lacks_alike : AreAlike shared rest other lacks_at lacks_at
@@ -110,18 +111,18 @@ module _ (shared : Token) (rest other : List Token) where
 
   abort_alike : AreAlike shared rest other abort_at abort_at
   unfolding abort_at
-  abort_alike a b w = then_alike shared rest other w (semicolon_at a) (semicolon_at b) _ _ (semicolon_alike shared rest other a b w) (λ c a b w. done_alike shared rest other Abort a b w)
+  abort_alike a b w = then_alike shared rest other w (expect sign.Semicolon a) (expect sign.Semicolon b) _ _ (sign_alike shared rest other sign.Semicolon a b w) (λ c a b w. done_alike shared rest other Abort a b w)
 
   statement_first : AreAlikeAt shared rest other statement_at statement_at
   unfolding statement_at
-  statement_first t.Let a b w = token_alike shared rest other t.Let a b w _ _ (let_alike a b)
-  statement_first t.Lacks a b w = token_alike shared rest other t.Lacks a b w _ _ (lacks_alike a b)
-  statement_first t.Put a b w = token_alike shared rest other t.Put a b w _ _ (put_alike a b)
-  statement_first t.Insert a b w = token_alike shared rest other t.Insert a b w _ _ (insert_alike a b)
-  statement_first t.Delete a b w = token_alike shared rest other t.Delete a b w _ _ (delete_alike a b)
-  statement_first t.Keep a b w = token_alike shared rest other t.Keep a b w _ _ (keep_alike a b)
-  statement_first t.Reply a b w = token_alike shared rest other t.Reply a b w _ _ (reply_alike a b)
-  statement_first t.Abort a b w = token_alike shared rest other t.Abort a b w _ _ (abort_alike a b)
+  statement_first (t.Sign sign.Let) a b w = token_alike shared rest other (t.Sign sign.Let) a b w _ _ (let_alike a b)
+  statement_first (t.Sign sign.Lacks) a b w = token_alike shared rest other (t.Sign sign.Lacks) a b w _ _ (lacks_alike a b)
+  statement_first (t.Sign sign.Put) a b w = token_alike shared rest other (t.Sign sign.Put) a b w _ _ (put_alike a b)
+  statement_first (t.Sign sign.Insert) a b w = token_alike shared rest other (t.Sign sign.Insert) a b w _ _ (insert_alike a b)
+  statement_first (t.Sign sign.Delete) a b w = token_alike shared rest other (t.Sign sign.Delete) a b w _ _ (delete_alike a b)
+  statement_first (t.Sign sign.Keep) a b w = token_alike shared rest other (t.Sign sign.Keep) a b w _ _ (keep_alike a b)
+  statement_first (t.Sign sign.Reply) a b w = token_alike shared rest other (t.Sign sign.Reply) a b w _ _ (reply_alike a b)
+  statement_first (t.Sign sign.Abort) a b w = token_alike shared rest other (t.Sign sign.Abort) a b w _ _ (abort_alike a b)
   statement_first u a b w = fault_alike shared rest other StatementTree (u ∷ a) (u ∷ b) w
 
   statement_alike : AreAlike shared rest other statement_at statement_at
@@ -134,14 +135,14 @@ module _ (shared : Token) (rest other : List Token) where
     inner_block_alike : AreAlike shared rest other (block_at body) (block_at body)
     unfolding block_at
     inner_block_alike a b w =
-        then_alike shared rest other w (open_block_at a) (open_block_at b) _ _ (open_block_alike shared rest other a b w)
+        then_alike shared rest other w (expect sign.OpenBlock a) (expect sign.OpenBlock b) _ _ (sign_alike shared rest other sign.OpenBlock a b w)
         (λ o a b w. body_alike a b w)
 
     second_alike : AreAlike shared rest other (second_at body) (second_at body)
     unfolding second_at
     second_alike =
         let none = λ (ts : List Token). Ok (BlockEnd, ts) in
-        behind_sign_alike shared rest other after_else (block_at body) (block_at body) none none refl seek_else inner_block_alike (done_alike shared rest other BlockEnd)
+        behind_sign_alike shared rest other (after_sign sign.Else) (block_at body) (block_at body) none none refl (seek_sign sign.Else) inner_block_alike (done_alike shared rest other BlockEnd)
 
     branch_alike : AreAlike shared rest other (branch_at body) (branch_at body)
     unfolding branch_at behind_first behind_second
@@ -165,9 +166,9 @@ module _ (shared : Token) (rest other : List Token) where
   body_within_alike (suc n) =
       let body = body_within n in
       let ends = λ (ts : List Token). Ok (BlockEnd, ts) in
-      let goes_on = λ (ts : List Token). behind_sign (after_if ts) (branch_at body) (more_at body ts) in
-      behind_sign_alike shared rest other after_close_block ends ends goes_on goes_on refl seek_close_block (done_alike shared rest other BlockEnd)
-      (behind_sign_alike shared rest other after_if (branch_at body) (branch_at body) (more_at body) (more_at body) refl seek_if (branch_alike body (body_within_alike n)) (more_alike body (body_within_alike n)))
+      let goes_on = λ (ts : List Token). behind_sign (after_sign sign.If ts) (branch_at body) (more_at body ts) in
+      behind_sign_alike shared rest other (after_sign sign.CloseBlock) ends ends goes_on goes_on refl (seek_sign sign.CloseBlock) (done_alike shared rest other BlockEnd)
+      (behind_sign_alike shared rest other (after_sign sign.If) (branch_at body) (branch_at body) (more_at body) (more_at body) refl (seek_sign sign.If) (branch_alike body (body_within_alike n)) (more_alike body (body_within_alike n)))
 
   body_alike : AreAlike shared rest other body_at body_at
   body_alike a b w =

@@ -2,10 +2,11 @@
 use Rattle.std.proofs.Common.{◌≡◌, ℕ, zero, suc, ◌≤◌, List, [], ◌∷◌, ◌++◌, length, length-append, None, Bool, true, false, Ok, refl, ap, sym, ◌∙◌, subst, append_assoc, arith}
 use Rattle.prog_tree.specs.Syntax.{Name, ExprTree, Plus, Minus, Times, RelationSign, ComparisonTree, TestTree, KeyTree, One, Two, RangeTree, OneRange, TwoRange}
 use Rattle.prog_text.specs.declared.token.Token.{Token}
+use Rattle.prog_text.specs.declared.token.Sign.TheVariants as sign
 use Rattle.prog_text.specs.declared.token.Token.TheVariants as t
 use Rattle.prog_text.specs.Grammar.{IsFactor, IsProduct, IsExpr, number, negative, least, greatest, bracketed, factor, times, product, plus, minus, IsRelation, IsComparison, IsConjunction, IsTest, IsKey, IsRange}
 use Rattle.prog_text.specs.Grammar as g
-use Rattle.prog_text.specs.Reading.{Reading, ◌>>=◌, after_times, after_plus, after_minus, after_not, after_and, after_or, close_bracket_at, close_key_at, factor_at, product_from, product_at, sum_from, sum_at, expr_at, relation_at, compared_at, comparison_at, conjunction_at, test_at, key_from, key_at, high_at, range_from, range_at}
+use Rattle.prog_text.specs.Reading.{Reading, ◌>>=◌, after_sign, expect, factor_at, product_from, product_at, sum_from, sum_at, expr_at, relation_at, compared_at, comparison_at, conjunction_at, test_at, key_from, key_at, high_at, range_from, range_at}
 use Rattle.prog_text.proofs.Only.{Reads, then_reads, mapped_reads, regrouped, separated_only}
 use Rattle.prog_text.proofs.Enough.{expr_is}
 
@@ -13,14 +14,14 @@ use Rattle.prog_text.proofs.Enough.{expr_is}
 
 -- no operator follows
 pub record EndsExpr (rest : List Token) : Type 0 where
-  pub no_times : after_times rest ≡ None
-  pub no_plus : after_plus rest ≡ None
-  pub no_minus : after_minus rest ≡ None
+  pub no_times : after_sign sign.Times rest ≡ None
+  pub no_plus : after_sign sign.Plus rest ≡ None
+  pub no_minus : after_sign sign.Minus rest ≡ None
 
-abbrev pub no_operator : {rest : List Token} → after_times rest ≡ None → after_plus rest ≡ None → after_minus rest ≡ None → EndsExpr rest
+abbrev pub no_operator : {rest : List Token} → after_sign sign.Times rest ≡ None → after_sign sign.Plus rest ≡ None → after_sign sign.Minus rest ≡ None → EndsExpr rest
 no_operator a b c = record { no_times = a; no_plus = b; no_minus = c }
 
-product_stops : (n : ℕ) (e : ExprTree) (rest : List Token) → after_times rest ≡ None → Reads (e, rest) (product_from expr_at n e rest)
+product_stops : (n : ℕ) (e : ExprTree) (rest : List Token) → after_sign sign.Times rest ≡ None → Reads (e, rest) (product_from expr_at n e rest)
 unfolding product_from
 product_stops zero e rest h = refl
 product_stops (suc n) e rest h = rw h refl
@@ -34,19 +35,19 @@ sum_stops (suc n) e rest h = rw (h.no_plus, h.no_minus) refl
 abbrev GoesOn : (ℕ → ExprTree → List Token → Reading ExprTree) → ExprTree → List Token → ExprTree × List Token → Type 0
 GoesOn from e rest y = (n : ℕ) → length rest ≤ n → Reads y (from n e rest)
 
-times_goes_on : (us rest : List Token) (a b : ExprTree) (y : ExprTree × List Token) → Reads (b, rest) (factor_at expr_at (us ++ rest)) → GoesOn (product_from expr_at) (Times a b) rest y → GoesOn (product_from expr_at) a (t.Times ∷ (us ++ rest)) y
+times_goes_on : (us rest : List Token) (a b : ExprTree) (y : ExprTree × List Token) → Reads (b, rest) (factor_at expr_at (us ++ rest)) → GoesOn (product_from expr_at) (Times a b) rest y → GoesOn (product_from expr_at) a (t.Sign sign.Times ∷ (us ++ rest)) y
 unfolding product_from
 times_goes_on us rest a b y h k zero le = absurd (omega (arith, le))
 times_goes_on us rest a b y h k (suc n) le =
     then_reads (b, rest) y (factor_at expr_at (us ++ rest)) (λ right. product_from expr_at n (Times a right.0) right.1) h (k n (omega (arith, le, length-append us rest)))
 
-plus_goes_on : (us rest : List Token) (a b : ExprTree) (y : ExprTree × List Token) → Reads (b, rest) (product_at expr_at (us ++ rest)) → GoesOn (sum_from expr_at) (Plus a b) rest y → GoesOn (sum_from expr_at) a (t.Plus ∷ (us ++ rest)) y
+plus_goes_on : (us rest : List Token) (a b : ExprTree) (y : ExprTree × List Token) → Reads (b, rest) (product_at expr_at (us ++ rest)) → GoesOn (sum_from expr_at) (Plus a b) rest y → GoesOn (sum_from expr_at) a (t.Sign sign.Plus ∷ (us ++ rest)) y
 unfolding sum_from
 plus_goes_on us rest a b y h k zero le = absurd (omega (arith, le))
 plus_goes_on us rest a b y h k (suc n) le =
     then_reads (b, rest) y (product_at expr_at (us ++ rest)) (λ right. sum_from expr_at n (Plus a right.0) right.1) h (k n (omega (arith, le, length-append us rest)))
 
-minus_goes_on : (us rest : List Token) (a b : ExprTree) (y : ExprTree × List Token) → Reads (b, rest) (product_at expr_at (us ++ rest)) → GoesOn (sum_from expr_at) (Minus a b) rest y → GoesOn (sum_from expr_at) a (t.Minus ∷ (us ++ rest)) y
+minus_goes_on : (us rest : List Token) (a b : ExprTree) (y : ExprTree × List Token) → Reads (b, rest) (product_at expr_at (us ++ rest)) → GoesOn (sum_from expr_at) (Minus a b) rest y → GoesOn (sum_from expr_at) a (t.Sign sign.Minus ∷ (us ++ rest)) y
 unfolding sum_from
 minus_goes_on us rest a b y h k zero le = absurd (omega (arith, le))
 minus_goes_on us rest a b y h k (suc n) le =
@@ -60,11 +61,11 @@ sum_begins : (ts rest : List Token) (e : ExprTree) (y : ExprTree × List Token) 
 unfolding sum_at
 sum_begins ts rest e y h k = then_reads (e, rest) y (product_at expr_at (ts ++ rest)) (λ first. sum_from expr_at (length first.1) first.0 first.1) h (k (length rest) (omega arith))
 
-bracket_reads : (ts rest : List Token) (e : ExprTree) → Reads (e, t.Close ∷ rest) (sum_at expr_at (ts ++ t.Close ∷ rest)) → Reads (e, rest) (factor_at expr_at ((t.Open ∷ (ts ++ t.Close ∷ [])) ++ rest))
+bracket_reads : (ts rest : List Token) (e : ExprTree) → Reads (e, t.Sign sign.Close ∷ rest) (sum_at expr_at (ts ++ t.Sign sign.Close ∷ rest)) → Reads (e, rest) (factor_at expr_at ((t.Sign sign.Open ∷ (ts ++ t.Sign sign.Close ∷ [])) ++ rest))
 unfolding factor_at
 bracket_reads ts rest e h =
-    then_reads (e, t.Close ∷ rest) (e, rest) (expr_at ((ts ++ t.Close ∷ []) ++ rest)) (λ e. close_bracket_at e.1 >>= λ closed. Ok (e.0, closed.1))
-    (regrouped (e, t.Close ∷ rest) expr_at ts (t.Close ∷ []) rest (subst (Reads (e, t.Close ∷ rest)) (sym (expr_is (ts ++ t.Close ∷ rest))) h)) refl
+    then_reads (e, t.Sign sign.Close ∷ rest) (e, rest) (expr_at ((ts ++ t.Sign sign.Close ∷ []) ++ rest)) (λ e. expect sign.Close e.1 >>= λ closed. Ok (e.0, closed.1))
+    (regrouped (e, t.Sign sign.Close ∷ rest) expr_at ts (t.Sign sign.Close ∷ []) rest (subst (Reads (e, t.Sign sign.Close ∷ rest)) (sym (expr_is (ts ++ t.Sign sign.Close ∷ rest))) h)) refl
 
 mutual
   unfolding factor_at
@@ -76,21 +77,21 @@ mutual
   factor_only _ _ greatest rest = refl
   factor_only _ _ (g.IsFactor.name x) rest = refl
   factor_only _ _ (bracketed ts e d) rest =
-      bracket_reads ts rest e (sum_only ts e d (t.Close ∷ rest) (e, t.Close ∷ rest) refl (λ n le. sum_stops n e (t.Close ∷ rest) (no_operator refl refl refl)))
+      bracket_reads ts rest e (sum_only ts e d (t.Sign sign.Close ∷ rest) (e, t.Sign sign.Close ∷ rest) refl (λ n le. sum_stops n e (t.Sign sign.Close ∷ rest) (no_operator refl refl refl)))
 
   product_only : (ts : List Token) (e : ExprTree) → IsProduct ts e → (rest : List Token) (y : ExprTree × List Token) → GoesOn (product_from expr_at) e rest y → Reads y (product_at expr_at (ts ++ rest))
   product_only _ _ (factor ts e d) rest y k = product_begins ts rest e y (factor_only ts e d rest) k
   product_only _ _ (times ts us a b d f) rest y k =
-      regrouped y (product_at expr_at) ts (t.Times ∷ us) rest (product_only ts a d (t.Times ∷ (us ++ rest)) y (times_goes_on us rest a b y (factor_only us b f rest) k))
+      regrouped y (product_at expr_at) ts (t.Sign sign.Times ∷ us) rest (product_only ts a d (t.Sign sign.Times ∷ (us ++ rest)) y (times_goes_on us rest a b y (factor_only us b f rest) k))
 
-  sum_only : (ts : List Token) (e : ExprTree) → IsExpr ts e → (rest : List Token) (y : ExprTree × List Token) → after_times rest ≡ None → GoesOn (sum_from expr_at) e rest y → Reads y (sum_at expr_at (ts ++ rest))
+  sum_only : (ts : List Token) (e : ExprTree) → IsExpr ts e → (rest : List Token) (y : ExprTree × List Token) → after_sign sign.Times rest ≡ None → GoesOn (sum_from expr_at) e rest y → Reads y (sum_at expr_at (ts ++ rest))
   sum_only _ _ (product ts e d) rest y alone k = sum_begins ts rest e y (product_only ts e d rest (e, rest) (λ n le. product_stops n e rest alone)) k
   sum_only _ _ (plus ts us a b d f) rest y alone k =
-      regrouped y (sum_at expr_at) ts (t.Plus ∷ us) rest
-      (sum_only ts a d (t.Plus ∷ (us ++ rest)) y refl (plus_goes_on us rest a b y (product_only us b f rest (b, rest) (λ n le. product_stops n b rest alone)) k))
+      regrouped y (sum_at expr_at) ts (t.Sign sign.Plus ∷ us) rest
+      (sum_only ts a d (t.Sign sign.Plus ∷ (us ++ rest)) y refl (plus_goes_on us rest a b y (product_only us b f rest (b, rest) (λ n le. product_stops n b rest alone)) k))
   sum_only _ _ (minus ts us a b d f) rest y alone k =
-      regrouped y (sum_at expr_at) ts (t.Minus ∷ us) rest
-      (sum_only ts a d (t.Minus ∷ (us ++ rest)) y refl (minus_goes_on us rest a b y (product_only us b f rest (b, rest) (λ n le. product_stops n b rest alone)) k))
+      regrouped y (sum_at expr_at) ts (t.Sign sign.Minus ∷ us) rest
+      (sum_only ts a d (t.Sign sign.Minus ∷ (us ++ rest)) y refl (minus_goes_on us rest a b y (product_only us b f rest (b, rest) (λ n le. product_stops n b rest alone)) k))
 
 -- what is spelled so is read so, where no operator follows
 pub expr_only : (ts : List Token) (e : ExprTree) → IsExpr ts e → (rest : List Token) → EndsExpr rest → Reads (e, rest) (expr_at (ts ++ rest))
@@ -130,91 +131,91 @@ compared_only negated ts us u a b r d s e rest h =
     (mapped_reads b rest (expr_at (us ++ rest)) (λ right. record { negated = negated; left = a; relation = r; right = right }) (expr_only us b e rest h)))
 
 -- what holds of each list that begins with a token of a factor, holds of each that begins with an expression
-module _ (Q : List Token → Type 0) (at_number : (n : ℕ) (ts : List Token) → Q (t.Number n ∷ ts)) (at_minus : (ts : List Token) → Q (t.Minus ∷ ts)) (at_least : (ts : List Token) → Q (t.Least ∷ ts))
-    (at_greatest : (ts : List Token) → Q (t.Greatest ∷ ts)) (at_name : (x : Name) (ts : List Token) → Q (t.Name x ∷ ts)) (at_bracket : (ts : List Token) → Q (t.Open ∷ ts)) where
+module _ (Q : List Token → Type 0) (at_number : (n : ℕ) (ts : List Token) → Q (t.Number n ∷ ts)) (at_minus : (ts : List Token) → Q (t.Sign sign.Minus ∷ ts)) (at_least : (ts : List Token) → Q (t.Sign sign.Least ∷ ts))
+    (at_greatest : (ts : List Token) → Q (t.Sign sign.Greatest ∷ ts)) (at_name : (x : Name) (ts : List Token) → Q (t.Name x ∷ ts)) (at_bracket : (ts : List Token) → Q (t.Sign sign.Open ∷ ts)) where
   factor_begins : (ts : List Token) (e : ExprTree) → IsFactor ts e → (rest : List Token) → Q (ts ++ rest)
   factor_begins _ _ (number n) rest = at_number n rest
   factor_begins _ _ (negative n) rest = at_minus (t.Number n ∷ rest)
   factor_begins _ _ least rest = at_least rest
   factor_begins _ _ greatest rest = at_greatest rest
   factor_begins _ _ (g.IsFactor.name x) rest = at_name x rest
-  factor_begins _ _ (bracketed ts e d) rest = at_bracket ((ts ++ t.Close ∷ []) ++ rest)
+  factor_begins _ _ (bracketed ts e d) rest = at_bracket ((ts ++ t.Sign sign.Close ∷ []) ++ rest)
 
   product_begins_so : (ts : List Token) (e : ExprTree) → IsProduct ts e → (rest : List Token) → Q (ts ++ rest)
   product_begins_so _ _ (factor ts e d) rest = factor_begins ts e d rest
-  product_begins_so _ _ (times ts us a b d f) rest = subst Q (sym (append_assoc ts (t.Times ∷ us) rest)) (product_begins_so ts a d (t.Times ∷ (us ++ rest)))
+  product_begins_so _ _ (times ts us a b d f) rest = subst Q (sym (append_assoc ts (t.Sign sign.Times ∷ us) rest)) (product_begins_so ts a d (t.Sign sign.Times ∷ (us ++ rest)))
 
   pub expr_begins : (ts : List Token) (e : ExprTree) → IsExpr ts e → (rest : List Token) → Q (ts ++ rest)
   expr_begins _ _ (product ts e d) rest = product_begins_so ts e d rest
-  expr_begins _ _ (plus ts us a b d f) rest = subst Q (sym (append_assoc ts (t.Plus ∷ us) rest)) (expr_begins ts a d (t.Plus ∷ (us ++ rest)))
-  expr_begins _ _ (minus ts us a b d f) rest = subst Q (sym (append_assoc ts (t.Minus ∷ us) rest)) (expr_begins ts a d (t.Minus ∷ (us ++ rest)))
+  expr_begins _ _ (plus ts us a b d f) rest = subst Q (sym (append_assoc ts (t.Sign sign.Plus ∷ us) rest)) (expr_begins ts a d (t.Sign sign.Plus ∷ (us ++ rest)))
+  expr_begins _ _ (minus ts us a b d f) rest = subst Q (sym (append_assoc ts (t.Sign sign.Minus ∷ us) rest)) (expr_begins ts a d (t.Sign sign.Minus ∷ (us ++ rest)))
 
-no_not : (ts : List Token) (e : ExprTree) → IsExpr ts e → (rest : List Token) → after_not (ts ++ rest) ≡ None
-no_not = expr_begins (λ ts. after_not ts ≡ None) (λ n ts. refl) (λ ts. refl) (λ ts. refl) (λ ts. refl) (λ x ts. refl) (λ ts. refl)
+no_not : (ts : List Token) (e : ExprTree) → IsExpr ts e → (rest : List Token) → after_sign sign.Not (ts ++ rest) ≡ None
+no_not = expr_begins (λ ts. after_sign sign.Not ts ≡ None) (λ n ts. refl) (λ ts. refl) (λ ts. refl) (λ ts. refl) (λ x ts. refl) (λ ts. refl)
 
 comparison_only : (ts : List Token) (c : ComparisonTree) → IsComparison ts c → (rest : List Token) → EndsExpr rest → Reads (c, rest) (comparison_at (ts ++ rest))
 unfolding comparison_at
 comparison_only _ _ (g.IsComparison.plain ts us u a b r d s e) rest h =
-    let first : after_not ((ts ++ u ∷ us) ++ rest) ≡ None = ap after_not (append_assoc ts (u ∷ us) rest) ∙ no_not ts a d (u ∷ (us ++ rest)) in
+    let first : after_sign sign.Not ((ts ++ u ∷ us) ++ rest) ≡ None = ap (after_sign sign.Not) (append_assoc ts (u ∷ us) rest) ∙ no_not ts a d (u ∷ (us ++ rest)) in
     rw first (compared_only false ts us u a b r d s e rest h)
 comparison_only _ _ (g.negated ts us u a b r d s e) rest h = compared_only true ts us u a b r d s e rest h
 
 -- neither an operator follows nor `and`
 pub record EndsConjunction (rest : List Token) : Type 0 where
   pub expr : EndsExpr rest
-  pub no_and : after_and rest ≡ None
+  pub no_and : after_sign sign.And rest ≡ None
 
 conjunction_only : (ts : List Token) (cs : List ComparisonTree) → IsConjunction ts cs → (rest : List Token) → EndsConjunction rest → Reads (cs, rest) (conjunction_at (ts ++ rest))
-conjunction_only ts cs d rest h = separated_only IsComparison t.And EndsExpr after_and comparison_at (λ ts. refl) (λ ts. no_operator refl refl refl) comparison_only ts cs d rest h.expr h.no_and
+conjunction_only ts cs d rest h = separated_only IsComparison (t.Sign sign.And) EndsExpr (after_sign sign.And) comparison_at (λ ts. refl) (λ ts. no_operator refl refl refl) comparison_only ts cs d rest h.expr h.no_and
 
-pub test_only : (ts : List Token) (x : TestTree) → IsTest ts x → (rest : List Token) → EndsConjunction rest → after_or rest ≡ None → Reads (x, rest) (test_at (ts ++ rest))
-test_only = separated_only IsConjunction t.Or EndsConjunction after_or conjunction_at (λ ts. refl) (λ ts. record { expr = no_operator refl refl refl; no_and = refl }) conjunction_only
+pub test_only : (ts : List Token) (x : TestTree) → IsTest ts x → (rest : List Token) → EndsConjunction rest → after_sign sign.Or rest ≡ None → Reads (x, rest) (test_at (ts ++ rest))
+test_only = separated_only IsConjunction (t.Sign sign.Or) EndsConjunction (after_sign sign.Or) conjunction_at (λ ts. refl) (λ ts. record { expr = no_operator refl refl refl; no_and = refl }) conjunction_only
 
 -- ---- keys
 
-key_ends : (a : ExprTree) (rest : List Token) → Reads (One a, rest) (key_from a (t.CloseKey ∷ rest))
+key_ends : (a : ExprTree) (rest : List Token) → Reads (One a, rest) (key_from a (t.Sign sign.CloseKey ∷ rest))
 unfolding key_from
 key_ends a rest = refl
 
-key_goes_on : (us : List Token) (a b : ExprTree) → IsExpr us b → (rest : List Token) → Reads (Two a b, rest) (key_from a (t.Comma ∷ ((us ++ t.CloseKey ∷ []) ++ rest)))
+key_goes_on : (us : List Token) (a b : ExprTree) → IsExpr us b → (rest : List Token) → Reads (Two a b, rest) (key_from a (t.Sign sign.Comma ∷ ((us ++ t.Sign sign.CloseKey ∷ []) ++ rest)))
 unfolding key_from
 key_goes_on us a b d rest =
-    then_reads (b, t.CloseKey ∷ rest) (Two a b, rest) (expr_at ((us ++ t.CloseKey ∷ []) ++ rest)) (λ second. close_key_at second.1 >>= λ closed. Ok (Two a second.0, closed.1)) (expr_reads us (t.CloseKey ∷ []) rest b d (no_operator refl refl refl)) refl
+    then_reads (b, t.Sign sign.CloseKey ∷ rest) (Two a b, rest) (expr_at ((us ++ t.Sign sign.CloseKey ∷ []) ++ rest)) (λ second. expect sign.CloseKey second.1 >>= λ closed. Ok (Two a second.0, closed.1)) (expr_reads us (t.Sign sign.CloseKey ∷ []) rest b d (no_operator refl refl refl)) refl
 
-key_behind : (table : Name) (ts after rest : List Token) (a : ExprTree) (k : KeyTree) → IsExpr ts a → EndsExpr (after ++ rest) → Reads (k, rest) (key_from a (after ++ rest)) → Reads ((table, k), rest) (key_at ((t.Name table ∷ t.OpenKey ∷ (ts ++ after)) ++ rest))
+key_behind : (table : Name) (ts after rest : List Token) (a : ExprTree) (k : KeyTree) → IsExpr ts a → EndsExpr (after ++ rest) → Reads (k, rest) (key_from a (after ++ rest)) → Reads ((table, k), rest) (key_at ((t.Name table ∷ t.Sign sign.OpenKey ∷ (ts ++ after)) ++ rest))
 unfolding key_at
 key_behind table ts after rest a k d ends h =
     then_reads (a, after ++ rest) ((table, k), rest) (expr_at ((ts ++ after) ++ rest)) (λ first. key_from first.0 first.1 >>= λ key. Ok ((table, key.0), key.1)) (expr_reads ts after rest a d ends)
     (mapped_reads k rest (key_from a (after ++ rest)) (λ k. (table, k)) h)
 
 pub key_only : (ts : List Token) (table : Name) (k : KeyTree) → IsKey ts table k → (rest : List Token) → Reads ((table, k), rest) (key_at (ts ++ rest))
-key_only _ _ _ (g.IsKey.one table ts a d) rest = key_behind table ts (t.CloseKey ∷ []) rest a (One a) d (no_operator refl refl refl) (key_ends a rest)
-key_only _ _ _ (g.IsKey.two table ts us a b d e) rest = key_behind table ts (t.Comma ∷ (us ++ t.CloseKey ∷ [])) rest a (Two a b) d (no_operator refl refl refl) (key_goes_on us a b e rest)
+key_only _ _ _ (g.IsKey.one table ts a d) rest = key_behind table ts (t.Sign sign.CloseKey ∷ []) rest a (One a) d (no_operator refl refl refl) (key_ends a rest)
+key_only _ _ _ (g.IsKey.two table ts us a b d e) rest = key_behind table ts (t.Sign sign.Comma ∷ (us ++ t.Sign sign.CloseKey ∷ [])) rest a (Two a b) d (no_operator refl refl refl) (key_goes_on us a b e rest)
 
 pub key_reads : (ks after rest : List Token) (table : Name) (k : KeyTree) → IsKey ks table k → Reads ((table, k), after ++ rest) (key_at ((ks ++ after) ++ rest))
 key_reads ks after rest table k d = regrouped ((table, k), after ++ rest) key_at ks after rest (key_only ks table k d (after ++ rest))
 
 -- ---- ranges
 
-high_only : (us : List Token) (e : ExprTree) → IsExpr us e → (rest : List Token) → Reads (e, rest) (high_at (t.Dots ∷ ((us ++ t.CloseKey ∷ []) ++ rest)))
+high_only : (us : List Token) (e : ExprTree) → IsExpr us e → (rest : List Token) → Reads (e, rest) (high_at (t.Sign sign.Dots ∷ ((us ++ t.Sign sign.CloseKey ∷ []) ++ rest)))
 unfolding high_at
 high_only us e d rest =
-    then_reads (e, t.CloseKey ∷ rest) (e, rest) (expr_at ((us ++ t.CloseKey ∷ []) ++ rest)) (λ high. close_key_at high.1 >>= λ closed. Ok (high.0, closed.1)) (expr_reads us (t.CloseKey ∷ []) rest e d (no_operator refl refl refl)) refl
+    then_reads (e, t.Sign sign.CloseKey ∷ rest) (e, rest) (expr_at ((us ++ t.Sign sign.CloseKey ∷ []) ++ rest)) (λ high. expect sign.CloseKey high.1 >>= λ closed. Ok (high.0, closed.1)) (expr_reads us (t.Sign sign.CloseKey ∷ []) rest e d (no_operator refl refl refl)) refl
 
-range_ends : (us : List Token) (low top : ExprTree) → IsExpr us top → (rest : List Token) → Reads (OneRange low top, rest) (range_from low (t.Dots ∷ ((us ++ t.CloseKey ∷ []) ++ rest)))
+range_ends : (us : List Token) (low top : ExprTree) → IsExpr us top → (rest : List Token) → Reads (OneRange low top, rest) (range_from low (t.Sign sign.Dots ∷ ((us ++ t.Sign sign.CloseKey ∷ []) ++ rest)))
 unfolding range_from
-range_ends us low top d rest = mapped_reads top rest (high_at (t.Dots ∷ ((us ++ t.CloseKey ∷ []) ++ rest))) (OneRange low) (high_only us top d rest)
+range_ends us low top d rest = mapped_reads top rest (high_at (t.Sign sign.Dots ∷ ((us ++ t.Sign sign.CloseKey ∷ []) ++ rest))) (OneRange low) (high_only us top d rest)
 
 range_goes_on : (us vs : List Token) (a low top : ExprTree) → IsExpr us low → IsExpr vs top → (rest : List Token)
-    → Reads (TwoRange a low top, rest) (range_from a (t.Comma ∷ ((us ++ t.Dots ∷ (vs ++ t.CloseKey ∷ [])) ++ rest)))
+    → Reads (TwoRange a low top, rest) (range_from a (t.Sign sign.Comma ∷ ((us ++ t.Sign sign.Dots ∷ (vs ++ t.Sign sign.CloseKey ∷ [])) ++ rest)))
 unfolding range_from
 range_goes_on us vs a low top d e rest =
-    let behind : List Token = vs ++ t.CloseKey ∷ [] in
-    then_reads (low, t.Dots ∷ (behind ++ rest)) (TwoRange a low top, rest) (expr_at ((us ++ t.Dots ∷ behind) ++ rest)) (λ low. high_at low.1 >>= λ high. Ok (TwoRange a low.0 high.0, high.1))
-    (expr_reads us (t.Dots ∷ behind) rest low d (no_operator refl refl refl))
-    (mapped_reads top rest (high_at (t.Dots ∷ (behind ++ rest))) (TwoRange a low) (high_only vs top e rest))
+    let behind : List Token = vs ++ t.Sign sign.CloseKey ∷ [] in
+    then_reads (low, t.Sign sign.Dots ∷ (behind ++ rest)) (TwoRange a low top, rest) (expr_at ((us ++ t.Sign sign.Dots ∷ behind) ++ rest)) (λ low. high_at low.1 >>= λ high. Ok (TwoRange a low.0 high.0, high.1))
+    (expr_reads us (t.Sign sign.Dots ∷ behind) rest low d (no_operator refl refl refl))
+    (mapped_reads top rest (high_at (t.Sign sign.Dots ∷ (behind ++ rest))) (TwoRange a low) (high_only vs top e rest))
 
-range_behind : (table : Name) (ts after rest : List Token) (a : ExprTree) (r : RangeTree) → IsExpr ts a → EndsExpr (after ++ rest) → Reads (r, rest) (range_from a (after ++ rest)) → Reads ((table, r), rest) (range_at ((t.Name table ∷ t.OpenKey ∷ (ts ++ after)) ++ rest))
+range_behind : (table : Name) (ts after rest : List Token) (a : ExprTree) (r : RangeTree) → IsExpr ts a → EndsExpr (after ++ rest) → Reads (r, rest) (range_from a (after ++ rest)) → Reads ((table, r), rest) (range_at ((t.Name table ∷ t.Sign sign.OpenKey ∷ (ts ++ after)) ++ rest))
 unfolding range_at
 range_behind table ts after rest a r d ends h =
     then_reads (a, after ++ rest) ((table, r), rest) (expr_at ((ts ++ after) ++ rest)) (λ first. range_from first.0 first.1 >>= λ range. Ok ((table, range.0), range.1)) (expr_reads ts after rest a d ends)
@@ -222,6 +223,6 @@ range_behind table ts after rest a r d ends h =
 
 pub range_only : (ts : List Token) (table : Name) (r : RangeTree) → IsRange ts table r → (rest : List Token) → Reads ((table, r), rest) (range_at (ts ++ rest))
 range_only _ _ _ (g.IsRange.one table ts us low top d e) rest =
-    range_behind table ts (t.Dots ∷ (us ++ t.CloseKey ∷ [])) rest low (OneRange low top) d (no_operator refl refl refl) (range_ends us low top e rest)
+    range_behind table ts (t.Sign sign.Dots ∷ (us ++ t.Sign sign.CloseKey ∷ [])) rest low (OneRange low top) d (no_operator refl refl refl) (range_ends us low top e rest)
 range_only _ _ _ (g.IsRange.two table ts us vs a low top d e f) rest =
-    range_behind table ts (t.Comma ∷ (us ++ t.Dots ∷ (vs ++ t.CloseKey ∷ []))) rest a (TwoRange a low top) d (no_operator refl refl refl) (range_goes_on us vs a low top e f rest)
+    range_behind table ts (t.Sign sign.Comma ∷ (us ++ t.Sign sign.Dots ∷ (vs ++ t.Sign sign.CloseKey ∷ []))) rest a (TwoRange a low top) d (no_operator refl refl refl) (range_goes_on us vs a low top e f rest)

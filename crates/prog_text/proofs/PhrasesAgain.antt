@@ -4,6 +4,7 @@ use Rattle.std.specs.List.{flat_map}
 use Rattle.std.proofs.lemmas.List.Elements.{filter_map-append}
 use Rattle.prog_tree.specs.Syntax.{Name, ExprTree, RelationSign, TestTree, KeyTree, RangeTree, StatementTree, BlockTree, BlockEnd, Then, Branch}
 use Rattle.prog_text.specs.declared.token.Token.{Token}
+use Rattle.prog_text.specs.declared.token.Sign.TheVariants as sign
 use Rattle.prog_text.specs.declared.token.Token.TheVariants as t
 use Rattle.prog_text.specs.Grammar.{Many, none, more, Led, led, Separated, separated, IsExpr, IsRelation, IsComparison, plain, negated, IsConjunction, IsTest, IsKey, IsRange, IsStatement, bind, get, need, count, sum, lacks, put, insert, delete, keep, reply, abort, IsStatements, nothing, branch, IsBlock, block, IsElse, missing, present, IsTable, grows, IsName, IsParams, some, IsProgram, program, IsSet, set}
 use Rattle.prog_text.specs.Grammar as g
@@ -62,66 +63,66 @@ relation_is _ _ g.equal = refl
 relation_is _ _ g.not_equal = refl
 
 comparison_again : AreAgain IsComparison comparison_marks
-comparison_again _ c (g.IsComparison.plain ts us u a b r left sign right) =
+comparison_again _ c (g.IsComparison.plain ts us u a b r left compares right) =
     let first : Again IsExpr (words_of (expr_marks a)) ts a = expr_again ts a left in
     let second : Again IsExpr (words_of (expr_marks b)) us b = expr_again us b right in
-    let same : u ≡ relation_token r = relation_is u r sign in
-    let shown : IsRelation (relation_token r) r = subst (λ (v : Token). IsRelation v r) same sign in
+    let same : u ≡ relation_token r = relation_is u r compares in
+    let shown : IsRelation (relation_token r) r = subst (λ (v : Token). IsRelation v r) same compares in
     again_by IsComparison _ _ (ts ++ u ∷ us) c (side_words (expr_marks a) (expr_marks b) (relation_token r)) (record {
       spelled = g.IsComparison.plain _ _ (relation_token r) a b r first.spelled shown second.spelled;
       lighter = rw same (sides_lighter (relation_token r) first.lighter second.lighter);
     })
-comparison_again _ c (negated ts us u a b r left sign right) =
+comparison_again _ c (negated ts us u a b r left compares right) =
     let first : Again IsExpr (words_of (expr_marks a)) ts a = expr_again ts a left in
     let second : Again IsExpr (words_of (expr_marks b)) us b = expr_again us b right in
-    let same : u ≡ relation_token r = relation_is u r sign in
-    let shown : IsRelation (relation_token r) r = subst (λ (v : Token). IsRelation v r) same sign in
-    again_by IsComparison _ _ (t.Not ∷ (ts ++ u ∷ us)) c (ap (λ (ws : List Token). t.Not ∷ ws) (side_words (expr_marks a) (expr_marks b) (relation_token r))) (record {
+    let same : u ≡ relation_token r = relation_is u r compares in
+    let shown : IsRelation (relation_token r) r = subst (λ (v : Token). IsRelation v r) same compares in
+    again_by IsComparison _ _ (t.Sign sign.Not ∷ (ts ++ u ∷ us)) c (ap (λ (ws : List Token). t.Sign sign.Not ∷ ws) (side_words (expr_marks a) (expr_marks b) (relation_token r))) (record {
       spelled = negated _ _ (relation_token r) a b r first.spelled shown second.spelled;
-      lighter = rw same (behind_lighter t.Not (sides_lighter (relation_token r) first.lighter second.lighter));
+      lighter = rw same (behind_lighter (t.Sign sign.Not) (sides_lighter (relation_token r) first.lighter second.lighter));
     })
 
 conjunction_again : AreAgain IsConjunction conjunction_marks
-conjunction_again = joined_again IsComparison t.And (spaced t.And) comparison_marks (λ others. refl) comparison_again
+conjunction_again = joined_again IsComparison (t.Sign sign.And) (spaced (t.Sign sign.And)) comparison_marks (λ others. refl) comparison_again
 
 test_again : AreAgain IsTest test_marks
-test_again = joined_again IsConjunction t.Or (spaced t.Or) conjunction_marks (λ others. refl) conjunction_again
+test_again = joined_again IsConjunction (t.Sign sign.Or) (spaced (t.Sign sign.Or)) conjunction_marks (λ others. refl) conjunction_again
 
 -- ---- keys and ranges
 
 abbrev key_end : List Token
-key_end = t.CloseKey ∷ []
+key_end = t.Sign sign.CloseKey ∷ []
 
 -- two parts with a comma between them, and the closing sign
-two_words : (a b : List Mark) → words_of ((a ++ (comma ++ b)) ++ Word t.CloseKey ∷ []) ≡ words_of a ++ t.Comma ∷ (words_of b ++ key_end)
+two_words : (a b : List Mark) → words_of ((a ++ (comma ++ b)) ++ Word (t.Sign sign.CloseKey) ∷ []) ≡ words_of a ++ t.Sign sign.Comma ∷ (words_of b ++ key_end)
 two_words a b = simp (filter_map-append, append_assoc)
 
-ends_words : (low high : List Mark) → words_of ((low ++ Word t.Dots ∷ high) ++ Word t.CloseKey ∷ []) ≡ words_of low ++ t.Dots ∷ (words_of high ++ key_end)
+ends_words : (low high : List Mark) → words_of ((low ++ Word (t.Sign sign.Dots) ∷ high) ++ Word (t.Sign sign.CloseKey) ∷ []) ≡ words_of low ++ t.Sign sign.Dots ∷ (words_of high ++ key_end)
 ends_words low high = simp (filter_map-append, append_assoc)
 
-three_words : (a low high : List Mark) → words_of ((a ++ (comma ++ (low ++ Word t.Dots ∷ high))) ++ Word t.CloseKey ∷ []) ≡ words_of a ++ t.Comma ∷ (words_of low ++ t.Dots ∷ (words_of high ++ key_end))
+three_words : (a low high : List Mark) → words_of ((a ++ (comma ++ (low ++ Word (t.Sign sign.Dots) ∷ high))) ++ Word (t.Sign sign.CloseKey) ∷ []) ≡ words_of a ++ t.Sign sign.Comma ∷ (words_of low ++ t.Sign sign.Dots ∷ (words_of high ++ key_end))
 three_words a low high = simp (filter_map-append, append_assoc)
 
 -- the name of a table and what stands inside its key
 abbrev keyed : Name → List Token → List Token
-keyed table ts = t.Name table ∷ t.OpenKey ∷ ts
+keyed table ts = t.Name table ∷ t.Sign sign.OpenKey ∷ ts
 
 keyed_lighter : (table : Name) (us ts : List Token) → Lighter us ts → Lighter (keyed table us) (keyed table ts)
-keyed_lighter table us ts h = behind_lighter (t.Name table) (behind_lighter t.OpenKey h)
+keyed_lighter table us ts h = behind_lighter (t.Name table) (behind_lighter (t.Sign sign.OpenKey) h)
 
 key_again : (ts : List Token) (table : Name) (k : KeyTree) → IsKey ts table k → Again (λ us k. IsKey us table k) (words_of (key_marks table k)) ts k
 key_again _ _ k (g.IsKey.one table ts a d) =
     let first : Again IsExpr (words_of (expr_marks a)) ts a = expr_again ts a d in
-    again_by (λ us k. IsKey us table k) _ _ _ k (ap (keyed table) (words_append (expr_marks a) (Word t.CloseKey ∷ []))) (record {
+    again_by (λ us k. IsKey us table k) _ _ _ k (ap (keyed table) (words_append (expr_marks a) (Word (t.Sign sign.CloseKey) ∷ []))) (record {
       spelled = g.IsKey.one table _ a first.spelled;
-      lighter = keyed_lighter table _ _ (ended_lighter t.CloseKey first.lighter);
+      lighter = keyed_lighter table _ _ (ended_lighter (t.Sign sign.CloseKey) first.lighter);
     })
 key_again _ _ k (g.IsKey.two table ts us a b d e) =
     let first : Again IsExpr (words_of (expr_marks a)) ts a = expr_again ts a d in
     let second : Again IsExpr (words_of (expr_marks b)) us b = expr_again us b e in
     again_by (λ us k. IsKey us table k) _ _ _ k (ap (keyed table) (two_words (expr_marks a) (expr_marks b))) (record {
       spelled = g.IsKey.two table _ _ a b first.spelled second.spelled;
-      lighter = keyed_lighter table _ _ (sides_lighter t.Comma first.lighter (ended_lighter t.CloseKey second.lighter));
+      lighter = keyed_lighter table _ _ (sides_lighter (t.Sign sign.Comma) first.lighter (ended_lighter (t.Sign sign.CloseKey) second.lighter));
     })
 
 range_again : (ts : List Token) (table : Name) (r : RangeTree) → IsRange ts table r → Again (λ us r. IsRange us table r) (words_of (range_marks table r)) ts r
@@ -130,7 +131,7 @@ range_again _ _ r (g.IsRange.one table ts us low high d e) =
     let second : Again IsExpr (words_of (expr_marks high)) us high = expr_again us high e in
     again_by (λ us r. IsRange us table r) _ _ _ r (ap (keyed table) (ends_words (expr_marks low) (expr_marks high))) (record {
       spelled = g.IsRange.one table _ _ low high first.spelled second.spelled;
-      lighter = keyed_lighter table _ _ (sides_lighter t.Dots first.lighter (ended_lighter t.CloseKey second.lighter));
+      lighter = keyed_lighter table _ _ (sides_lighter (t.Sign sign.Dots) first.lighter (ended_lighter (t.Sign sign.CloseKey) second.lighter));
     })
 range_again _ _ r (g.IsRange.two table ts us vs a low high c d e) =
     let whole : Again IsExpr (words_of (expr_marks a)) ts a = expr_again ts a c in
@@ -138,118 +139,118 @@ range_again _ _ r (g.IsRange.two table ts us vs a low high c d e) =
     let second : Again IsExpr (words_of (expr_marks high)) vs high = expr_again vs high e in
     again_by (λ us r. IsRange us table r) _ _ _ r (ap (keyed table) (three_words (expr_marks a) (expr_marks low) (expr_marks high))) (record {
       spelled = g.IsRange.two table _ _ _ a low high whole.spelled first.spelled second.spelled;
-      lighter = keyed_lighter table _ _ (sides_lighter t.Comma whole.lighter (sides_lighter t.Dots first.lighter (ended_lighter t.CloseKey second.lighter)));
+      lighter = keyed_lighter table _ _ (sides_lighter (t.Sign sign.Comma) whole.lighter (sides_lighter (t.Sign sign.Dots) first.lighter (ended_lighter (t.Sign sign.CloseKey) second.lighter)));
     })
 
 -- ---- statements
 
 abbrev statement_end : List Token
-statement_end = t.Semicolon ∷ []
+statement_end = t.Sign sign.Semicolon ∷ []
 
 abbrev line_rest : List Mark
-line_rest = Word t.Semicolon ∷ LineEnd ∷ []
+line_rest = Word (t.Sign sign.Semicolon) ∷ LineEnd ∷ []
 
 -- two parts with a token between them, to the end of the line
 last_words : (a b : List Mark) (u : Token) → words_of ((a ++ (spaced u ++ b)) ++ line_rest) ≡ words_of a ++ u ∷ (words_of b ++ statement_end)
 last_words a b u = simp (filter_map-append, append_assoc)
 
 abbrev bound : Name → List Token → List Token
-bound x ts = t.Let ∷ t.Name x ∷ t.Equals ∷ ts
+bound x ts = t.Sign sign.Let ∷ t.Name x ∷ t.Sign sign.Equals ∷ ts
 
 bound_lighter : (x : Name) (us ts : List Token) → Lighter us ts → Lighter (bound x us) (bound x ts)
-bound_lighter x us ts h = behind_lighter t.Let (behind_lighter (t.Name x) (behind_lighter t.Equals h))
+bound_lighter x us ts h = behind_lighter (t.Sign sign.Let) (behind_lighter (t.Name x) (behind_lighter (t.Sign sign.Equals) h))
 
 statement_again : AreAgain IsStatement (λ s. with_semicolon (statement_marks s))
 statement_again _ s (bind x ts e d) =
     let value : Again IsExpr (words_of (expr_marks e)) ts e = expr_again ts e d in
     again_by IsStatement _ _ _ s (ap (bound x) (words_append (expr_marks e) line_rest)) (record {
       spelled = bind x _ e value.spelled;
-      lighter = bound_lighter x _ _ (ended_lighter t.Semicolon value.lighter);
+      lighter = bound_lighter x _ _ (ended_lighter (t.Sign sign.Semicolon) value.lighter);
     })
 statement_again _ s (get x table ks ts k e is_key d) =
     let key : Again (λ us k. IsKey us table k) (words_of (key_marks table k)) ks k = key_again ks table k is_key in
     let value : Again IsExpr (words_of (expr_marks e)) ts e = expr_again ts e d in
-    again_by IsStatement _ _ _ s (ap (λ (us : List Token). bound x (t.Get ∷ us)) (last_words (key_marks table k) (expr_marks e) t.Else)) (record {
+    again_by IsStatement _ _ _ s (ap (λ (us : List Token). bound x (t.Sign sign.Get ∷ us)) (last_words (key_marks table k) (expr_marks e) (t.Sign sign.Else))) (record {
       spelled = get x table _ _ k e key.spelled value.spelled;
-      lighter = bound_lighter x _ _ (behind_lighter t.Get (sides_lighter t.Else key.lighter (ended_lighter t.Semicolon value.lighter)));
+      lighter = bound_lighter x _ _ (behind_lighter (t.Sign sign.Get) (sides_lighter (t.Sign sign.Else) key.lighter (ended_lighter (t.Sign sign.Semicolon) value.lighter)));
     })
 statement_again _ s (need x table ks k d) =
     let key : Again (λ us k. IsKey us table k) (words_of (key_marks table k)) ks k = key_again ks table k d in
-    again_by IsStatement _ _ _ s (ap (λ (us : List Token). bound x (t.Need ∷ us)) (words_append (key_marks table k) line_rest)) (record {
+    again_by IsStatement _ _ _ s (ap (λ (us : List Token). bound x (t.Sign sign.Need ∷ us)) (words_append (key_marks table k) line_rest)) (record {
       spelled = need x table _ k key.spelled;
-      lighter = bound_lighter x _ _ (behind_lighter t.Need (ended_lighter t.Semicolon key.lighter));
+      lighter = bound_lighter x _ _ (behind_lighter (t.Sign sign.Need) (ended_lighter (t.Sign sign.Semicolon) key.lighter));
     })
 statement_again _ s (count x table rs r d) =
     let range : Again (λ us r. IsRange us table r) (words_of (range_marks table r)) rs r = range_again rs table r d in
-    again_by IsStatement _ _ _ s (ap (λ (us : List Token). bound x (t.Count ∷ us)) (words_append (range_marks table r) line_rest)) (record {
+    again_by IsStatement _ _ _ s (ap (λ (us : List Token). bound x (t.Sign sign.Count ∷ us)) (words_append (range_marks table r) line_rest)) (record {
       spelled = count x table _ r range.spelled;
-      lighter = bound_lighter x _ _ (behind_lighter t.Count (ended_lighter t.Semicolon range.lighter));
+      lighter = bound_lighter x _ _ (behind_lighter (t.Sign sign.Count) (ended_lighter (t.Sign sign.Semicolon) range.lighter));
     })
 statement_again _ s (sum x table rs r d) =
     let range : Again (λ us r. IsRange us table r) (words_of (range_marks table r)) rs r = range_again rs table r d in
-    again_by IsStatement _ _ _ s (ap (λ (us : List Token). bound x (t.Sum ∷ us)) (words_append (range_marks table r) line_rest)) (record {
+    again_by IsStatement _ _ _ s (ap (λ (us : List Token). bound x (t.Sign sign.Sum ∷ us)) (words_append (range_marks table r) line_rest)) (record {
       spelled = sum x table _ r range.spelled;
-      lighter = bound_lighter x _ _ (behind_lighter t.Sum (ended_lighter t.Semicolon range.lighter));
+      lighter = bound_lighter x _ _ (behind_lighter (t.Sign sign.Sum) (ended_lighter (t.Sign sign.Semicolon) range.lighter));
     })
 statement_again _ s (lacks table ks k d) =
     let key : Again (λ us k. IsKey us table k) (words_of (key_marks table k)) ks k = key_again ks table k d in
-    again_by IsStatement _ _ _ s (ap (λ (us : List Token). t.Lacks ∷ us) (words_append (key_marks table k) line_rest)) (record {
+    again_by IsStatement _ _ _ s (ap (λ (us : List Token). t.Sign sign.Lacks ∷ us) (words_append (key_marks table k) line_rest)) (record {
       spelled = lacks table _ k key.spelled;
-      lighter = behind_lighter t.Lacks (ended_lighter t.Semicolon key.lighter);
+      lighter = behind_lighter (t.Sign sign.Lacks) (ended_lighter (t.Sign sign.Semicolon) key.lighter);
     })
 statement_again _ s (put table ks ts k e is_key d) =
     let key : Again (λ us k. IsKey us table k) (words_of (key_marks table k)) ks k = key_again ks table k is_key in
     let value : Again IsExpr (words_of (expr_marks e)) ts e = expr_again ts e d in
-    again_by IsStatement _ _ _ s (ap (λ (us : List Token). t.Put ∷ us) (last_words (key_marks table k) (expr_marks e) t.Equals)) (record {
+    again_by IsStatement _ _ _ s (ap (λ (us : List Token). t.Sign sign.Put ∷ us) (last_words (key_marks table k) (expr_marks e) (t.Sign sign.Equals))) (record {
       spelled = put table _ _ k e key.spelled value.spelled;
-      lighter = behind_lighter t.Put (sides_lighter t.Equals key.lighter (ended_lighter t.Semicolon value.lighter));
+      lighter = behind_lighter (t.Sign sign.Put) (sides_lighter (t.Sign sign.Equals) key.lighter (ended_lighter (t.Sign sign.Semicolon) value.lighter));
     })
 statement_again _ s (insert table ks ts k e is_key d) =
     let key : Again (λ us k. IsKey us table k) (words_of (key_marks table k)) ks k = key_again ks table k is_key in
     let value : Again IsExpr (words_of (expr_marks e)) ts e = expr_again ts e d in
-    again_by IsStatement _ _ _ s (ap (λ (us : List Token). t.Insert ∷ us) (last_words (key_marks table k) (expr_marks e) t.Equals)) (record {
+    again_by IsStatement _ _ _ s (ap (λ (us : List Token). t.Sign sign.Insert ∷ us) (last_words (key_marks table k) (expr_marks e) (t.Sign sign.Equals))) (record {
       spelled = insert table _ _ k e key.spelled value.spelled;
-      lighter = behind_lighter t.Insert (sides_lighter t.Equals key.lighter (ended_lighter t.Semicolon value.lighter));
+      lighter = behind_lighter (t.Sign sign.Insert) (sides_lighter (t.Sign sign.Equals) key.lighter (ended_lighter (t.Sign sign.Semicolon) value.lighter));
     })
 statement_again _ s (delete table ks k d) =
     let key : Again (λ us k. IsKey us table k) (words_of (key_marks table k)) ks k = key_again ks table k d in
-    again_by IsStatement _ _ _ s (ap (λ (us : List Token). t.Delete ∷ us) (words_append (key_marks table k) line_rest)) (record {
+    again_by IsStatement _ _ _ s (ap (λ (us : List Token). t.Sign sign.Delete ∷ us) (words_append (key_marks table k) line_rest)) (record {
       spelled = delete table _ k key.spelled;
-      lighter = behind_lighter t.Delete (ended_lighter t.Semicolon key.lighter);
+      lighter = behind_lighter (t.Sign sign.Delete) (ended_lighter (t.Sign sign.Semicolon) key.lighter);
     })
 statement_again _ s (keep table ks k d) =
     let key : Again (λ us k. IsKey us table k) (words_of (key_marks table k)) ks k = key_again ks table k d in
-    again_by IsStatement _ _ _ s (ap (λ (us : List Token). t.Keep ∷ us) (words_append (key_marks table k) line_rest)) (record {
+    again_by IsStatement _ _ _ s (ap (λ (us : List Token). t.Sign sign.Keep ∷ us) (words_append (key_marks table k) line_rest)) (record {
       spelled = keep table _ k key.spelled;
-      lighter = behind_lighter t.Keep (ended_lighter t.Semicolon key.lighter);
+      lighter = behind_lighter (t.Sign sign.Keep) (ended_lighter (t.Sign sign.Semicolon) key.lighter);
     })
 statement_again _ s (reply ts e d) =
     let value : Again IsExpr (words_of (expr_marks e)) ts e = expr_again ts e d in
-    again_by IsStatement _ _ _ s (ap (λ (us : List Token). t.Reply ∷ us) (words_append (expr_marks e) line_rest)) (record {
+    again_by IsStatement _ _ _ s (ap (λ (us : List Token). t.Sign sign.Reply ∷ us) (words_append (expr_marks e) line_rest)) (record {
       spelled = reply _ e value.spelled;
-      lighter = behind_lighter t.Reply (ended_lighter t.Semicolon value.lighter);
+      lighter = behind_lighter (t.Sign sign.Reply) (ended_lighter (t.Sign sign.Semicolon) value.lighter);
     })
-statement_again _ _ abort = record { spelled = abort; lighter = same_lighter (t.Abort ∷ statement_end) }
+statement_again _ _ abort = record { spelled = abort; lighter = same_lighter (t.Sign sign.Abort ∷ statement_end) }
 
 -- ---- blocks
 
 -- the tokens of a second block behind the closing sign of the first
 abbrev second_words : ℕ → BlockTree → List Token
 second_words depth BlockEnd = []
-second_words depth b = t.Else ∷ t.OpenBlock ∷ (words_of (block_marks (suc depth) b) ++ t.CloseBlock ∷ [])
+second_words depth b = t.Sign sign.Else ∷ t.Sign sign.OpenBlock ∷ (words_of (block_marks (suc depth) b) ++ t.Sign sign.CloseBlock ∷ [])
 
 record SecondAgain (depth : ℕ) (ts : List Token) (b : BlockTree) : Type 0 where
   spelled : IsElse (second_words depth b) b
-  lighter : Lighter (t.CloseBlock ∷ second_words depth b) (t.CloseBlock ∷ ts)
+  lighter : Lighter (t.Sign sign.CloseBlock ∷ second_words depth b) (t.Sign sign.CloseBlock ∷ ts)
 
 nothing_is : (ts : List Token) → IsStatements ts BlockEnd → ts ≡ []
 nothing_is _ nothing = refl
 
 -- an empty second block is left out
 abbrev left_out : List Token → List Token
-left_out ts = t.Else ∷ t.OpenBlock ∷ (ts ++ t.CloseBlock ∷ [])
+left_out ts = t.Sign sign.Else ∷ t.Sign sign.OpenBlock ∷ (ts ++ t.Sign sign.CloseBlock ∷ [])
 
-no_second : Lighter (t.CloseBlock ∷ []) (t.CloseBlock ∷ left_out [])
+no_second : Lighter (t.Sign sign.CloseBlock ∷ []) (t.Sign sign.CloseBlock ∷ left_out [])
 no_second = record {
   fits = λ m n j k a b h. (omega (arith, h.0), omega arith, tt);
   brackets = λ m n a. omega arith;
@@ -259,50 +260,50 @@ no_second = record {
 second_again : (depth : ℕ) (ts : List Token) (b : BlockTree) → IsStatements ts b → Again IsStatements (words_of (block_marks (suc depth) b)) ts b → SecondAgain depth (left_out ts) b
 second_again depth ts BlockEnd d h = record {
   spelled = missing;
-  lighter = subst (λ (us : List Token). Lighter (t.CloseBlock ∷ []) (t.CloseBlock ∷ left_out us)) (sym (nothing_is ts d)) no_second;
+  lighter = subst (λ (us : List Token). Lighter (t.Sign sign.CloseBlock ∷ []) (t.Sign sign.CloseBlock ∷ left_out us)) (sym (nothing_is ts d)) no_second;
 }
 second_again depth ts (Then s rest) d h = record {
   spelled = present _ (Then s rest) (block _ (Then s rest) h.spelled);
-  lighter = behind_lighter t.CloseBlock (behind_lighter t.Else (behind_lighter t.OpenBlock (ended_lighter t.CloseBlock h.lighter)));
+  lighter = behind_lighter (t.Sign sign.CloseBlock) (behind_lighter (t.Sign sign.Else) (behind_lighter (t.Sign sign.OpenBlock) (ended_lighter (t.Sign sign.CloseBlock) h.lighter)));
 }
 second_again depth ts (Branch test first second rest) d h = record {
   spelled = present _ (Branch test first second rest) (block _ (Branch test first second rest) h.spelled);
-  lighter = behind_lighter t.CloseBlock (behind_lighter t.Else (behind_lighter t.OpenBlock (ended_lighter t.CloseBlock h.lighter)));
+  lighter = behind_lighter (t.Sign sign.CloseBlock) (behind_lighter (t.Sign sign.Else) (behind_lighter (t.Sign sign.OpenBlock) (ended_lighter (t.Sign sign.CloseBlock) h.lighter)));
 }
 
 -- what stands behind the first block, from its closing sign on
-behind_words : (depth : ℕ) (b : BlockTree) (rest : List Mark) → words_of (else_marks depth (block_marks (suc depth) b) ++ (close_line depth ++ rest)) ≡ t.CloseBlock ∷ (second_words depth b ++ words_of rest)
+behind_words : (depth : ℕ) (b : BlockTree) (rest : List Mark) → words_of (else_marks depth (block_marks (suc depth) b) ++ (close_line depth ++ rest)) ≡ t.Sign sign.CloseBlock ∷ (second_words depth b ++ words_of rest)
 behind_words depth BlockEnd rest = refl
 behind_words depth (Then s others) rest = simp (filter_map-append, append_assoc)
 behind_words depth (Branch test a b others) rest = simp (filter_map-append, append_assoc)
 
-if_words : (depth : ℕ) (test : TestTree) (rest : List Mark) → words_of (if_line depth test ++ rest) ≡ t.If ∷ (words_of (test_marks test) ++ t.OpenBlock ∷ words_of rest)
+if_words : (depth : ℕ) (test : TestTree) (rest : List Mark) → words_of (if_line depth test ++ rest) ≡ t.Sign sign.If ∷ (words_of (test_marks test) ++ t.Sign sign.OpenBlock ∷ words_of rest)
 if_words depth test rest = simp (filter_map-append, append_assoc)
 
 branch_words : (depth : ℕ) (test : TestTree) (a b rest : BlockTree)
-    → words_of (block_marks depth (Branch test a b rest)) ≡ t.If ∷ (words_of (test_marks test) ++ ((t.OpenBlock ∷ (words_of (block_marks (suc depth) a) ++ t.CloseBlock ∷ [])) ++ (second_words depth b ++ words_of (block_marks depth rest))))
+    → words_of (block_marks depth (Branch test a b rest)) ≡ t.Sign sign.If ∷ (words_of (test_marks test) ++ ((t.Sign sign.OpenBlock ∷ (words_of (block_marks (suc depth) a) ++ t.Sign sign.CloseBlock ∷ [])) ++ (second_words depth b ++ words_of (block_marks depth rest))))
 branch_words depth test a b rest =
     let others : List Mark = else_marks depth (block_marks (suc depth) b) ++ (close_line depth ++ block_marks depth rest) in
     let first : List Token = words_of (block_marks (suc depth) a) in
     let second : List Token = second_words depth b ++ words_of (block_marks depth rest) in
-    let behind : words_of others ≡ t.CloseBlock ∷ second = behind_words depth b (block_marks depth rest) in
+    let behind : words_of others ≡ t.Sign sign.CloseBlock ∷ second = behind_words depth b (block_marks depth rest) in
     if_words depth test (block_marks (suc depth) a ++ others)
-    ∙ ap (λ (ts : List Token). t.If ∷ (words_of (test_marks test) ++ t.OpenBlock ∷ ts))
-    (words_append (block_marks (suc depth) a) others ∙ ap (λ (ts : List Token). first ++ ts) behind ∙ sym (append_assoc first (t.CloseBlock ∷ []) second))
+    ∙ ap (λ (ts : List Token). t.Sign sign.If ∷ (words_of (test_marks test) ++ t.Sign sign.OpenBlock ∷ ts))
+    (words_append (block_marks (suc depth) a) others ∙ ap (λ (ts : List Token). first ++ ts) behind ∙ sym (append_assoc first (t.Sign sign.CloseBlock ∷ []) second))
 
-both_blocks : (ws vs ts es : List Token) → Lighter ws ts → Lighter (t.CloseBlock ∷ vs) (t.CloseBlock ∷ es) → Lighter ((t.OpenBlock ∷ (ws ++ t.CloseBlock ∷ [])) ++ vs) ((t.OpenBlock ∷ (ts ++ t.CloseBlock ∷ [])) ++ es)
-both_blocks ws vs ts es first second = rw (append_assoc ws (t.CloseBlock ∷ []) vs, append_assoc ts (t.CloseBlock ∷ []) es) (behind_lighter t.OpenBlock (lighter_append first second))
+both_blocks : (ws vs ts es : List Token) → Lighter ws ts → Lighter (t.Sign sign.CloseBlock ∷ vs) (t.Sign sign.CloseBlock ∷ es) → Lighter ((t.Sign sign.OpenBlock ∷ (ws ++ t.Sign sign.CloseBlock ∷ [])) ++ vs) ((t.Sign sign.OpenBlock ∷ (ts ++ t.Sign sign.CloseBlock ∷ [])) ++ es)
+both_blocks ws vs ts es first second = rw (append_assoc ws (t.Sign sign.CloseBlock ∷ []) vs, append_assoc ts (t.Sign sign.CloseBlock ∷ []) es) (behind_lighter (t.Sign sign.OpenBlock) (lighter_append first second))
 
 -- a part behind two others
-in_line : (xs ws vs us xt wt vt ut : List Token) → Lighter xs xt → Lighter (ws ++ vs) (wt ++ vt) → Lighter us ut → Lighter (t.If ∷ (xs ++ (ws ++ (vs ++ us)))) (t.If ∷ (xt ++ (wt ++ (vt ++ ut))))
-in_line xs ws vs us xt wt vt ut first blocks rest = rw (← append_assoc ws vs us, ← append_assoc wt vt ut) (behind_lighter t.If (lighter_append first (lighter_append blocks rest)))
+in_line : (xs ws vs us xt wt vt ut : List Token) → Lighter xs xt → Lighter (ws ++ vs) (wt ++ vt) → Lighter us ut → Lighter (t.Sign sign.If ∷ (xs ++ (ws ++ (vs ++ us)))) (t.Sign sign.If ∷ (xt ++ (wt ++ (vt ++ ut))))
+in_line xs ws vs us xt wt vt ut first blocks rest = rw (← append_assoc ws vs us, ← append_assoc wt vt ut) (behind_lighter (t.Sign sign.If) (lighter_append first (lighter_append blocks rest)))
 
 branch_again : (depth : ℕ) (xs ts es us : List Token) (test : TestTree) (first second rest : BlockTree) → Again IsTest (words_of (test_marks test)) xs test → Again IsStatements (words_of (block_marks (suc depth) first)) ts first → SecondAgain depth es second
-    → Again IsStatements (words_of (block_marks depth rest)) us rest → Again IsStatements (words_of (block_marks depth (Branch test first second rest))) (t.If ∷ (xs ++ ((t.OpenBlock ∷ (ts ++ t.CloseBlock ∷ [])) ++ (es ++ us)))) (Branch test first second rest)
+    → Again IsStatements (words_of (block_marks depth rest)) us rest → Again IsStatements (words_of (block_marks depth (Branch test first second rest))) (t.Sign sign.If ∷ (xs ++ ((t.Sign sign.OpenBlock ∷ (ts ++ t.Sign sign.CloseBlock ∷ [])) ++ (es ++ us)))) (Branch test first second rest)
 branch_again depth xs ts es us test first second rest a b c d =
     again_by IsStatements _ _ _ _ (branch_words depth test first second rest) (record {
       spelled = branch _ _ _ _ test first second rest a.spelled (block _ first b.spelled) c.spelled d.spelled;
-      lighter = in_line _ (t.OpenBlock ∷ (words_of (block_marks (suc depth) first) ++ t.CloseBlock ∷ [])) (second_words depth second) _ xs (t.OpenBlock ∷ (ts ++ t.CloseBlock ∷ [])) es us a.lighter (both_blocks _ _ ts es b.lighter c.lighter) d.lighter;
+      lighter = in_line _ (t.Sign sign.OpenBlock ∷ (words_of (block_marks (suc depth) first) ++ t.Sign sign.CloseBlock ∷ [])) (second_words depth second) _ xs (t.Sign sign.OpenBlock ∷ (ts ++ t.Sign sign.CloseBlock ∷ [])) es us a.lighter (both_blocks _ _ ts es b.lighter c.lighter) d.lighter;
     })
 
 line_words : (depth : ℕ) (s : StatementTree) (rest : List Mark) → words_of (statement_line depth s ++ rest) ≡ words_of (with_semicolon (statement_marks s)) ++ words_of rest
@@ -319,23 +320,23 @@ statements_again depth _ _ (g.IsStatements.more ts us s rest here others) =
     })
 statements_again depth _ _ (branch xs _ _ us test _ _ rest is_test (block ts first is_first) missing others) =
     branch_again depth xs ts [] us test first BlockEnd rest (test_again xs test is_test) (statements_again (suc depth) ts first is_first)
-    (record { spelled = missing; lighter = same_lighter (t.CloseBlock ∷ []) }) (statements_again depth us rest others)
+    (record { spelled = missing; lighter = same_lighter (t.Sign sign.CloseBlock ∷ []) }) (statements_again depth us rest others)
 statements_again depth _ _ (branch xs _ _ us test _ _ rest is_test (block ts first is_first) (present _ _ (block vs second is_second)) others) =
     branch_again depth xs ts (left_out vs) us test first second rest (test_again xs test is_test) (statements_again (suc depth) ts first is_first)
     (second_again depth vs second is_second (statements_again (suc depth) vs second is_second)) (statements_again depth us rest others)
 
-block_again : (depth : ℕ) (ts : List Token) (b : BlockTree) → IsBlock ts b → Again IsBlock (t.OpenBlock ∷ (words_of (block_marks depth b) ++ t.CloseBlock ∷ [])) ts b
+block_again : (depth : ℕ) (ts : List Token) (b : BlockTree) → IsBlock ts b → Again IsBlock (t.Sign sign.OpenBlock ∷ (words_of (block_marks depth b) ++ t.Sign sign.CloseBlock ∷ [])) ts b
 block_again depth _ _ (block ts b d) =
     let inside : Again IsStatements (words_of (block_marks depth b)) ts b = statements_again depth ts b d in
-    record { spelled = block _ b inside.spelled; lighter = behind_lighter t.OpenBlock (ended_lighter t.CloseBlock inside.lighter) }
+    record { spelled = block _ b inside.spelled; lighter = behind_lighter (t.Sign sign.OpenBlock) (ended_lighter (t.Sign sign.CloseBlock) inside.lighter) }
 
 -- ---- tables and programs
 
 table_again : AreAgain IsTable table_marks
-table_again _ _ (g.IsTable.plain x _ _ g.IsArity.one) = record { spelled = g.IsTable.plain x 1 _ g.IsArity.one; lighter = same_lighter (t.Table ∷ t.Name x ∷ t.Number 1 ∷ t.Semicolon ∷ []) }
-table_again _ _ (g.IsTable.plain x _ _ g.IsArity.two) = record { spelled = g.IsTable.plain x 2 _ g.IsArity.two; lighter = same_lighter (t.Table ∷ t.Name x ∷ t.Number 2 ∷ t.Semicolon ∷ []) }
-table_again _ _ (grows x _ _ g.IsArity.one) = record { spelled = grows x 1 _ g.IsArity.one; lighter = same_lighter (t.Table ∷ t.Name x ∷ t.Number 1 ∷ t.Grow ∷ t.Semicolon ∷ []) }
-table_again _ _ (grows x _ _ g.IsArity.two) = record { spelled = grows x 2 _ g.IsArity.two; lighter = same_lighter (t.Table ∷ t.Name x ∷ t.Number 2 ∷ t.Grow ∷ t.Semicolon ∷ []) }
+table_again _ _ (g.IsTable.plain x _ _ g.IsArity.one) = record { spelled = g.IsTable.plain x 1 _ g.IsArity.one; lighter = same_lighter (t.Sign sign.Table ∷ t.Name x ∷ t.Number 1 ∷ t.Sign sign.Semicolon ∷ []) }
+table_again _ _ (g.IsTable.plain x _ _ g.IsArity.two) = record { spelled = g.IsTable.plain x 2 _ g.IsArity.two; lighter = same_lighter (t.Sign sign.Table ∷ t.Name x ∷ t.Number 2 ∷ t.Sign sign.Semicolon ∷ []) }
+table_again _ _ (grows x _ _ g.IsArity.one) = record { spelled = grows x 1 _ g.IsArity.one; lighter = same_lighter (t.Sign sign.Table ∷ t.Name x ∷ t.Number 1 ∷ t.Sign sign.Grow ∷ t.Sign sign.Semicolon ∷ []) }
+table_again _ _ (grows x _ _ g.IsArity.two) = record { spelled = grows x 2 _ g.IsArity.two; lighter = same_lighter (t.Sign sign.Table ∷ t.Name x ∷ t.Number 2 ∷ t.Sign sign.Grow ∷ t.Sign sign.Semicolon ∷ []) }
 
 name_again : AreAgain IsName name_marks
 name_again _ _ (g.IsName.name x) = record { spelled = g.IsName.name x; lighter = same_lighter (t.Name x ∷ []) }
@@ -343,22 +344,22 @@ name_again _ _ (g.IsName.name x) = record { spelled = g.IsName.name x; lighter =
 params_again : AreAgain IsParams (joined_by comma name_marks)
 params_again _ _ g.IsParams.none = record { spelled = g.IsParams.none; lighter = nothing_lighter }
 params_again _ _ (some ts xs d) =
-    let names : Again (Separated t.Comma IsName) (words_of (joined_by comma name_marks xs)) ts xs = joined_again IsName t.Comma comma name_marks (λ others. refl) name_again ts xs d in
+    let names : Again (Separated (t.Sign sign.Comma) IsName) (words_of (joined_by comma name_marks xs)) ts xs = joined_again IsName (t.Sign sign.Comma) comma name_marks (λ others. refl) name_again ts xs d in
     record { spelled = some _ xs names.spelled; lighter = names.lighter }
 
 abbrev headed : Name → List Token → List Token
-headed x ts = t.Program ∷ t.Name x ∷ t.Open ∷ ts
+headed x ts = t.Sign sign.Program ∷ t.Name x ∷ t.Sign sign.Open ∷ ts
 
-program_words : (params body : List Mark) → words_of ((params ++ Word t.Close ∷ Space ∷ Word t.OpenBlock ∷ []) ++ LineEnd ∷ [] ++ (body ++ close_line 0)) ≡ words_of params ++ t.Close ∷ t.OpenBlock ∷ (words_of body ++ t.CloseBlock ∷ [])
+program_words : (params body : List Mark) → words_of ((params ++ Word (t.Sign sign.Close) ∷ Space ∷ Word (t.Sign sign.OpenBlock) ∷ []) ++ LineEnd ∷ [] ++ (body ++ close_line 0)) ≡ words_of params ++ t.Sign sign.Close ∷ t.Sign sign.OpenBlock ∷ (words_of body ++ t.Sign sign.CloseBlock ∷ [])
 program_words params body = simp (filter_map-append, append_assoc)
 
 program_again : AreAgain IsProgram program_marks
 program_again _ p (program x ps ts params body is_params is_block) =
     let a : Again IsParams (words_of (joined_by comma name_marks params)) ps params = params_again ps params is_params in
-    let b : Again IsBlock (t.OpenBlock ∷ (words_of (block_marks 1 body) ++ t.CloseBlock ∷ [])) ts body = block_again 1 ts body is_block in
+    let b : Again IsBlock (t.Sign sign.OpenBlock ∷ (words_of (block_marks 1 body) ++ t.Sign sign.CloseBlock ∷ [])) ts body = block_again 1 ts body is_block in
     again_by IsProgram _ _ _ p (ap (headed x) (program_words (joined_by comma name_marks params) (block_marks 1 body))) (record {
       spelled = program x _ _ params body a.spelled b.spelled;
-      lighter = behind_lighter t.Program (behind_lighter (t.Name x) (behind_lighter t.Open (sides_lighter t.Close a.lighter b.lighter)));
+      lighter = behind_lighter (t.Sign sign.Program) (behind_lighter (t.Name x) (behind_lighter (t.Sign sign.Open) (sides_lighter (t.Sign sign.Close) a.lighter b.lighter)));
     })
 
 -- the canonical tokens of a draft spell it, and are no deeper than any that do

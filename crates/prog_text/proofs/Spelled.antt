@@ -4,6 +4,7 @@ use Rattle.std.specs.List.{list_all}
 use Rattle.std.proofs.lemmas.Bool.{and_parts}
 use Rattle.std.proofs.lemmas.Slice.Eq.{bytes_eq-Decides}
 use Rattle.prog_text.specs.declared.token.Token.{Token}
+use Rattle.prog_text.specs.declared.token.Sign.TheVariants.{Table}
 use Rattle.prog_text.specs.declared.token.Token.TheVariants as t
 use Rattle.prog_text.specs.Spelling.{spelling, signs}
 use Rattle.prog_text.specs.Lexing.{is_letter, is_digit, is_word_byte}
@@ -40,6 +41,7 @@ kind_tested word h = elim (or_parts _ _ h) [ inl e ↦ let both : (is_letter (sl
 pub kind : (u : Token) (word : List ℕ) → Spells u word → Kind word
 kind (t.Name x) word h = letters h.1.begins h.1.goes_on
 kind (t.Number n) word h = digits h.begins h.goes_on
+kind (t.Sign Table) word h = subst Kind (sym h) (kind_tested (spelling (t.Sign Table)) refl)
 kind u word h = subst Kind (sym h) (kind_tested (spelling u) refl)
 
 -- ---- and of no other

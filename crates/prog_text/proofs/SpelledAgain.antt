@@ -5,6 +5,7 @@ use Rattle.std.proofs.lemmas.Bool.Decides.{Decides-int_eq}
 use Rattle.std.proofs.lemmas.List.Elements.{filter_map-append}
 use Rattle.prog_tree.specs.Syntax.{ExprTree, Literal, Named, Plus, Minus, Times}
 use Rattle.prog_text.specs.declared.token.Token.{Token}
+use Rattle.prog_text.specs.declared.token.Sign.TheVariants as sign
 use Rattle.prog_text.specs.declared.token.Token.TheVariants as t
 use Rattle.prog_text.specs.Grammar.{least_number, greatest_number, IsFactor, number, negative, least, greatest, name, bracketed, IsProduct, factor, times, IsExpr, product, plus, minus}
 use Rattle.prog_text.specs.Limits.{brackets_after}
@@ -16,8 +17,8 @@ use Rattle.prog_text.proofs.Lighter.{brackets_behind, Lighter, same_lighter, beh
 pub words_append : (xs ys : List Mark) → words_of (xs ++ ys) ≡ words_of xs ++ words_of ys
 words_append xs ys = filter_map-append mark_token xs ys
 
-bracket_words : (marks : List Mark) → words_of (in_brackets_if true marks) ≡ t.Open ∷ (words_of marks ++ t.Close ∷ [])
-bracket_words marks = ap (λ (ts : List Token). t.Open ∷ ts) (words_append marks (Word t.Close ∷ []))
+bracket_words : (marks : List Mark) → words_of (in_brackets_if true marks) ≡ t.Sign sign.Open ∷ (words_of marks ++ t.Sign sign.Close ∷ [])
+bracket_words marks = ap (λ (ts : List Token). t.Sign sign.Open ∷ ts) (words_append marks (Word (t.Sign sign.Close) ∷ []))
 
 -- two sides and the sign between them
 pub side_words : (a b : List Mark) (u : Token) → words_of (a ++ (spaced u ++ b)) ≡ words_of a ++ u ∷ words_of b
@@ -34,12 +35,12 @@ record IsSpelled (ts : List Token) (e : ExprTree) : Type 0 where
 factor_spelled : (ts : List Token) (e : ExprTree) → IsFactor ts e → IsSpelled ts e
 factor_spelled ts e d = record { whole = product ts e (factor ts e d); as_product = λ h. factor ts e d; as_factor = λ h. d }
 
-pos_spelled : (n : ℕ) (b : Bool) → int_eq (pos n) greatest_number ≡ b → IsFactor (words_of (if b then Word t.Greatest ∷ [] else Word (t.Number n) ∷ [])) (Literal (pos n))
-pos_spelled n true h = subst (λ (z : ℤ). IsFactor (t.Greatest ∷ []) (Literal z)) (sym ((Decides-int_eq (pos n) greatest_number).0 h)) greatest
+pos_spelled : (n : ℕ) (b : Bool) → int_eq (pos n) greatest_number ≡ b → IsFactor (words_of (if b then Word (t.Sign sign.Greatest) ∷ [] else Word (t.Number n) ∷ [])) (Literal (pos n))
+pos_spelled n true h = subst (λ (z : ℤ). IsFactor (t.Sign sign.Greatest ∷ []) (Literal z)) (sym ((Decides-int_eq (pos n) greatest_number).0 h)) greatest
 pos_spelled n false h = number n
 
-negsuc_spelled : (n : ℕ) (b : Bool) → int_eq (negsuc n) least_number ≡ b → IsFactor (words_of (if b then Word t.Least ∷ [] else Word t.Minus ∷ Word (t.Number (suc n)) ∷ [])) (Literal (negsuc n))
-negsuc_spelled n true h = subst (λ (z : ℤ). IsFactor (t.Least ∷ []) (Literal z)) (sym ((Decides-int_eq (negsuc n) least_number).0 h)) least
+negsuc_spelled : (n : ℕ) (b : Bool) → int_eq (negsuc n) least_number ≡ b → IsFactor (words_of (if b then Word (t.Sign sign.Least) ∷ [] else Word (t.Sign sign.Minus) ∷ Word (t.Number (suc n)) ∷ [])) (Literal (negsuc n))
+negsuc_spelled n true h = subst (λ (z : ℤ). IsFactor (t.Sign sign.Least ∷ []) (Literal z)) (sym ((Decides-int_eq (negsuc n) least_number).0 h)) least
 negsuc_spelled n false h = negative (suc n)
 
 bracket_spelled : (marks : List Mark) (e : ExprTree) → IsExpr (words_of marks) e → IsFactor (words_of (in_brackets_if true marks)) e
@@ -59,18 +60,18 @@ spelled (Literal (negsuc n)) = factor_spelled _ _ (negsuc_spelled n (int_eq (neg
 spelled (Named x) = factor_spelled _ _ (name x)
 spelled (Plus a b) =
     let right : List Mark = in_brackets_if (is_sum b) (expr_marks b) in
-    let d : IsExpr (words_of (expr_marks a) ++ t.Plus ∷ words_of right) (Plus a b) = plus _ _ a b (spelled a).whole (product_spelled (is_sum b) (expr_marks b) b refl (spelled b)) in
-    record { whole = subst (λ (ts : List Token). IsExpr ts (Plus a b)) (sym (side_words (expr_marks a) right t.Plus)) d; as_product = λ h. absurd (true≢false h); as_factor = λ h. absurd (true≢false h) }
+    let d : IsExpr (words_of (expr_marks a) ++ t.Sign sign.Plus ∷ words_of right) (Plus a b) = plus _ _ a b (spelled a).whole (product_spelled (is_sum b) (expr_marks b) b refl (spelled b)) in
+    record { whole = subst (λ (ts : List Token). IsExpr ts (Plus a b)) (sym (side_words (expr_marks a) right (t.Sign sign.Plus))) d; as_product = λ h. absurd (true≢false h); as_factor = λ h. absurd (true≢false h) }
 spelled (Minus a b) =
     let right : List Mark = in_brackets_if (is_sum b) (expr_marks b) in
-    let d : IsExpr (words_of (expr_marks a) ++ t.Minus ∷ words_of right) (Minus a b) = minus _ _ a b (spelled a).whole (product_spelled (is_sum b) (expr_marks b) b refl (spelled b)) in
-    record { whole = subst (λ (ts : List Token). IsExpr ts (Minus a b)) (sym (side_words (expr_marks a) right t.Minus)) d; as_product = λ h. absurd (true≢false h); as_factor = λ h. absurd (true≢false h) }
+    let d : IsExpr (words_of (expr_marks a) ++ t.Sign sign.Minus ∷ words_of right) (Minus a b) = minus _ _ a b (spelled a).whole (product_spelled (is_sum b) (expr_marks b) b refl (spelled b)) in
+    record { whole = subst (λ (ts : List Token). IsExpr ts (Minus a b)) (sym (side_words (expr_marks a) right (t.Sign sign.Minus))) d; as_product = λ h. absurd (true≢false h); as_factor = λ h. absurd (true≢false h) }
 spelled (Times a b) =
     let left : List Mark = in_brackets_if (is_sum a) (expr_marks a) in
     let right : List Mark = in_brackets_if (is_sum b || is_product b) (expr_marks b) in
-    let d : IsProduct (words_of left ++ t.Times ∷ words_of right) (Times a b) =
+    let d : IsProduct (words_of left ++ t.Sign sign.Times ∷ words_of right) (Times a b) =
     times _ _ a b (product_spelled (is_sum a) (expr_marks a) a refl (spelled a)) (operand_spelled (is_sum b || is_product b) (expr_marks b) b refl (spelled b)) in
-    let e : IsProduct (words_of (expr_marks (Times a b))) (Times a b) = subst (λ (ts : List Token). IsProduct ts (Times a b)) (sym (side_words left right t.Times)) d in
+    let e : IsProduct (words_of (expr_marks (Times a b))) (Times a b) = subst (λ (ts : List Token). IsProduct ts (Times a b)) (sym (side_words left right (t.Sign sign.Times))) d in
     record { whole = product _ (Times a b) e; as_product = λ h. e; as_factor = λ h. absurd (true≢false h) }
 
 -- the canonical tokens spell the expression
@@ -88,20 +89,20 @@ nothing_balanced = record { same = λ n. refl }
 mutual
   factor_balanced : (ts : List Token) (e : ExprTree) → IsFactor ts e → Balanced ts
   factor_balanced _ _ (number n) = flat (t.Number n) (λ m. refl) nothing_balanced
-  factor_balanced _ _ (negative n) = flat t.Minus (λ m. refl) (flat (t.Number n) (λ m. refl) nothing_balanced)
-  factor_balanced _ _ least = flat t.Least (λ m. refl) nothing_balanced
-  factor_balanced _ _ greatest = flat t.Greatest (λ m. refl) nothing_balanced
+  factor_balanced _ _ (negative n) = flat (t.Sign sign.Minus) (λ m. refl) (flat (t.Number n) (λ m. refl) nothing_balanced)
+  factor_balanced _ _ least = flat (t.Sign sign.Least) (λ m. refl) nothing_balanced
+  factor_balanced _ _ greatest = flat (t.Sign sign.Greatest) (λ m. refl) nothing_balanced
   factor_balanced _ _ (name x) = flat (t.Name x) (λ m. refl) nothing_balanced
   factor_balanced _ _ (bracketed ts e d) = balanced_brackets ts (expr_balanced ts e d)
 
   product_balanced : (ts : List Token) (e : ExprTree) → IsProduct ts e → Balanced ts
   product_balanced _ _ (factor ts e d) = factor_balanced ts e d
-  product_balanced _ _ (times ts us a b left right) = balanced_append (product_balanced ts a left) (flat t.Times (λ m. refl) (factor_balanced us b right))
+  product_balanced _ _ (times ts us a b left right) = balanced_append (product_balanced ts a left) (flat (t.Sign sign.Times) (λ m. refl) (factor_balanced us b right))
 
   expr_balanced : (ts : List Token) (e : ExprTree) → IsExpr ts e → Balanced ts
   expr_balanced _ _ (product ts e d) = product_balanced ts e d
-  expr_balanced _ _ (plus ts us a b left right) = balanced_append (expr_balanced ts a left) (flat t.Plus (λ m. refl) (product_balanced us b right))
-  expr_balanced _ _ (minus ts us a b left right) = balanced_append (expr_balanced ts a left) (flat t.Minus (λ m. refl) (product_balanced us b right))
+  expr_balanced _ _ (plus ts us a b left right) = balanced_append (expr_balanced ts a left) (flat (t.Sign sign.Plus) (λ m. refl) (product_balanced us b right))
+  expr_balanced _ _ (minus ts us a b left right) = balanced_append (expr_balanced ts a left) (flat (t.Sign sign.Minus) (λ m. refl) (product_balanced us b right))
 
 printed_balanced : (e : ExprTree) → Balanced (words_of (expr_marks e))
 printed_balanced e = expr_balanced _ e (expr_spelled e)
@@ -115,23 +116,23 @@ fewer false true marks ts even h = lighter_trans (bare_lighter (words_of marks) 
 fewer false false marks ts even h = h
 
 -- brackets that stood before
-kept : (x : Bool) (marks : List Mark) (ts : List Token) → Balanced ts → Lighter (words_of marks) ts → Lighter (words_of (in_brackets_if x marks)) (t.Open ∷ (ts ++ t.Close ∷ []))
-kept true marks ts even h = subst (λ (us : List Token). Lighter us (t.Open ∷ (ts ++ t.Close ∷ []))) (sym (bracket_words marks)) (behind_lighter t.Open (ended_lighter t.Close h))
+kept : (x : Bool) (marks : List Mark) (ts : List Token) → Balanced ts → Lighter (words_of marks) ts → Lighter (words_of (in_brackets_if x marks)) (t.Sign sign.Open ∷ (ts ++ t.Sign sign.Close ∷ []))
+kept true marks ts even h = subst (λ (us : List Token). Lighter us (t.Sign sign.Open ∷ (ts ++ t.Sign sign.Close ∷ []))) (sym (bracket_words marks)) (behind_lighter (t.Sign sign.Open) (ended_lighter (t.Sign sign.Close) h))
 kept false marks ts even h = lighter_trans h (bare_lighter ts even)
 
 both_sides : (a b : List Mark) (u : Token) (ts us : List Token) → Lighter (words_of a) ts → Lighter (words_of b) us → Lighter (words_of (a ++ (spaced u ++ b))) (ts ++ u ∷ us)
 both_sides a b u ts us first second = subst (λ (vs : List Token). Lighter vs (ts ++ u ∷ us)) (sym (side_words a b u)) (sides_lighter u first second)
 
-greatest_lighter : (n : ℕ) (b : Bool) → Lighter (words_of (if b then Word t.Greatest ∷ [] else Word (t.Number n) ∷ [])) (t.Number n ∷ [])
+greatest_lighter : (n : ℕ) (b : Bool) → Lighter (words_of (if b then Word (t.Sign sign.Greatest) ∷ [] else Word (t.Number n) ∷ [])) (t.Number n ∷ [])
 greatest_lighter n true = record { fits = λ m n j k a b h. (omega (arith, h.0), omega (arith, h.1), tt); brackets = λ m n a. a; operators = λ j k a. a }
 greatest_lighter n false = same_lighter (t.Number n ∷ [])
 
-least_lighter : (n : ℕ) (b : Bool) → Lighter (words_of (if b then Word t.Least ∷ [] else Word t.Minus ∷ Word (t.Number n) ∷ [])) (t.Minus ∷ t.Number n ∷ [])
+least_lighter : (n : ℕ) (b : Bool) → Lighter (words_of (if b then Word (t.Sign sign.Least) ∷ [] else Word (t.Sign sign.Minus) ∷ Word (t.Number n) ∷ [])) (t.Sign sign.Minus ∷ t.Number n ∷ [])
 least_lighter n true = record { fits = λ m n j k a b h. (omega (arith, h.0), omega (arith, h.1), tt); brackets = λ m n a. a; operators = λ j k a. omega arith }
-least_lighter n false = same_lighter (t.Minus ∷ t.Number n ∷ [])
+least_lighter n false = same_lighter (t.Sign sign.Minus ∷ t.Number n ∷ [])
 
 -- `0` for `-0`
-nought_lighter : Lighter (t.Number 0 ∷ []) (t.Minus ∷ t.Number 0 ∷ [])
+nought_lighter : Lighter (t.Number 0 ∷ []) (t.Sign sign.Minus ∷ t.Number 0 ∷ [])
 nought_lighter = record { fits = λ m n j k a b h. (omega (arith, h.0), omega (arith, h.1), tt); brackets = λ m n a. a; operators = λ j k a. omega arith }
 
 mutual
@@ -139,17 +140,17 @@ mutual
   factor_lighter _ _ (number n) = greatest_lighter n (int_eq (pos n) greatest_number)
   factor_lighter _ _ (negative zero) = nought_lighter
   factor_lighter _ _ (negative (suc n)) = least_lighter (suc n) (int_eq (negsuc n) least_number)
-  factor_lighter _ _ least = same_lighter (t.Least ∷ [])
-  factor_lighter _ _ greatest = same_lighter (t.Greatest ∷ [])
+  factor_lighter _ _ least = same_lighter (t.Sign sign.Least ∷ [])
+  factor_lighter _ _ greatest = same_lighter (t.Sign sign.Greatest ∷ [])
   factor_lighter _ _ (name x) = same_lighter (t.Name x ∷ [])
   factor_lighter _ _ (bracketed ts e d) = kept (is_sum e || is_product e) (expr_marks e) ts (expr_balanced ts e d) (expr_lighter ts e d)
 
   product_lighter : (ts : List Token) (e : ExprTree) → IsProduct ts e → Lighter (words_of (in_brackets_if (is_sum e) (expr_marks e))) ts
   product_lighter _ _ (factor ts e d) = fewer (is_sum e) (is_product e) (expr_marks e) ts (printed_balanced e) (factor_lighter ts e d)
-  product_lighter _ _ (times ts us a b left right) = both_sides (in_brackets_if (is_sum a) (expr_marks a)) (in_brackets_if (is_sum b || is_product b) (expr_marks b)) t.Times ts us (product_lighter ts a left) (factor_lighter us b right)
+  product_lighter _ _ (times ts us a b left right) = both_sides (in_brackets_if (is_sum a) (expr_marks a)) (in_brackets_if (is_sum b || is_product b) (expr_marks b)) (t.Sign sign.Times) ts us (product_lighter ts a left) (factor_lighter us b right)
 
   -- the canonical tokens are no deeper than any that spell the expression
   pub expr_lighter : (ts : List Token) (e : ExprTree) → IsExpr ts e → Lighter (words_of (expr_marks e)) ts
   expr_lighter _ _ (product ts e d) = fewer false (is_sum e) (expr_marks e) ts (printed_balanced e) (product_lighter ts e d)
-  expr_lighter _ _ (plus ts us a b left right) = both_sides (expr_marks a) (in_brackets_if (is_sum b) (expr_marks b)) t.Plus ts us (expr_lighter ts a left) (product_lighter us b right)
-  expr_lighter _ _ (minus ts us a b left right) = both_sides (expr_marks a) (in_brackets_if (is_sum b) (expr_marks b)) t.Minus ts us (expr_lighter ts a left) (product_lighter us b right)
+  expr_lighter _ _ (plus ts us a b left right) = both_sides (expr_marks a) (in_brackets_if (is_sum b) (expr_marks b)) (t.Sign sign.Plus) ts us (expr_lighter ts a left) (product_lighter us b right)
+  expr_lighter _ _ (minus ts us a b left right) = both_sides (expr_marks a) (in_brackets_if (is_sum b) (expr_marks b)) (t.Sign sign.Minus) ts us (expr_lighter ts a left) (product_lighter us b right)

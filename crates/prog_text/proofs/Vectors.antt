@@ -1,11 +1,12 @@
 -- Short texts and their tokens, and token lists at the limits.
 use Rattle.std.proofs.Common.{◌≡◌, [], ◌∷◌, ◌++◌, Some, None, Ok, Err, refl, codes, replicate}
 use Rattle.prog_text.specs.declared.lex_error.Flaw.TheVariants.{NotAscii, UnknownByte, NumberOutOfRange, NameTooLong}
+use Rattle.prog_text.specs.declared.token.Sign.TheVariants as sign
 use Rattle.prog_text.specs.declared.token.Token.TheVariants as t
 use Rattle.prog_text.specs.Lexing.{tokens_of, tokens_from, piece_at, word_at, number_at, sign_at}
 use Rattle.prog_text.specs.Limits.{too_deep}
 
-cut : tokens_of (codes "let x<=07 # a\nin..") ≡ Ok ((t.Let, 18) ∷ (t.Name (codes "x"), 14) ∷ (t.LessEqual, 13) ∷ (t.Number 7, 11) ∷ (t.In, 4) ∷ (t.Dots, 2) ∷ [])
+cut : tokens_of (codes "let x<=07 # a\nin..") ≡ Ok ((t.Sign sign.Let, 18) ∷ (t.Name (codes "x"), 14) ∷ (t.Sign sign.LessEqual, 13) ∷ (t.Number 7, 11) ∷ (t.Sign sign.In, 4) ∷ (t.Sign sign.Dots, 2) ∷ [])
 unfolding tokens_from piece_at word_at number_at sign_at
 cut = refl
 
@@ -33,14 +34,14 @@ past_ascii : tokens_of (35 ∷ 65 ∷ 200 ∷ []) ≡ Err (NotAscii, 1)
 unfolding tokens_from piece_at word_at number_at sign_at
 past_ascii = refl
 
-sixteen_open : too_deep (replicate 16 t.Open) ≡ None
+sixteen_open : too_deep (replicate 16 (t.Sign sign.Open)) ≡ None
 sixteen_open = refl
 
-seventeen_open : too_deep (replicate 17 t.Open) ≡ Some 16
+seventeen_open : too_deep (replicate 17 (t.Sign sign.Open)) ≡ Some 16
 seventeen_open = refl
 
-thirty_two : too_deep (replicate 32 t.Plus) ≡ None
+thirty_two : too_deep (replicate 32 (t.Sign sign.Plus)) ≡ None
 thirty_two = refl
 
-thirty_three : too_deep (replicate 32 t.Plus ++ t.Semicolon ∷ replicate 33 t.Minus) ≡ Some 65
+thirty_three : too_deep (replicate 32 (t.Sign sign.Plus) ++ t.Sign sign.Semicolon ∷ replicate 33 (t.Sign sign.Minus)) ≡ Some 65
 thirty_three = refl

@@ -7,6 +7,7 @@ use Rattle.prog_tree.specs.declared.table.TableDecl.{TableDecl}
 use Rattle.prog_tree.specs.declared.table.Arity.{Arity}
 use Rattle.prog_tree.specs.declared.table.Arity.TheVariants as arity
 use Rattle.prog_text.specs.declared.token.Token.{Token}
+use Rattle.prog_text.specs.declared.token.Sign.TheVariants as sign
 use Rattle.prog_text.specs.declared.token.Token.TheVariants as t
 
 -- ---- lists
@@ -43,13 +44,13 @@ mutual
   -- factor = NUMBER | "-" NUMBER | "least" | "greatest" | NAME | "(" expr ")"
   pub data IsFactor : List Token → ExprTree → Type 0 where
     number : (n : ℕ) → IsFactor (t.Number n ∷ []) (Literal (pos n))
-    negative : (n : ℕ) → IsFactor (t.Minus ∷ t.Number n ∷ []) (Literal (neg_ℤ (pos n)))
-    least : IsFactor (t.Least ∷ []) (Literal least_number)
-    greatest : IsFactor (t.Greatest ∷ []) (Literal greatest_number)
+    negative : (n : ℕ) → IsFactor (t.Sign sign.Minus ∷ t.Number n ∷ []) (Literal (neg_ℤ (pos n)))
+    least : IsFactor (t.Sign sign.Least ∷ []) (Literal least_number)
+    greatest : IsFactor (t.Sign sign.Greatest ∷ []) (Literal greatest_number)
     name : (x : Name) → IsFactor (t.Name x ∷ []) (Named x)
     bracketed : (ts : List Token) (e : ExprTree)
         → IsExpr ts e
-        → IsFactor (t.Open ∷ (ts ++ t.Close ∷ [])) e
+        → IsFactor (t.Sign sign.Open ∷ (ts ++ t.Sign sign.Close ∷ [])) e
 
   -- prod = factor { "*" factor }, grouped to the left
   pub data IsProduct : List Token → ExprTree → Type 0 where
@@ -58,7 +59,7 @@ mutual
         → IsProduct ts e
     times : (ts us : List Token) (a b : ExprTree)
         → IsProduct ts a → IsFactor us b
-        → IsProduct (ts ++ t.Times ∷ us) (Times a b)
+        → IsProduct (ts ++ t.Sign sign.Times ∷ us) (Times a b)
 
   -- expr = prod { ( "+" | "-" ) prod }, grouped to the left
   pub data IsExpr : List Token → ExprTree → Type 0 where
@@ -67,21 +68,21 @@ mutual
         → IsExpr ts e
     plus : (ts us : List Token) (a b : ExprTree)
         → IsExpr ts a → IsProduct us b
-        → IsExpr (ts ++ t.Plus ∷ us) (Plus a b)
+        → IsExpr (ts ++ t.Sign sign.Plus ∷ us) (Plus a b)
     minus : (ts us : List Token) (a b : ExprTree)
         → IsExpr ts a → IsProduct us b
-        → IsExpr (ts ++ t.Minus ∷ us) (Minus a b)
+        → IsExpr (ts ++ t.Sign sign.Minus ∷ us) (Minus a b)
 
 -- ---- tests
 
 -- "<" | "<=" | ">" | ">=" | "==" | "!="
 pub data IsRelation : Token → RelationSign → Type 0 where
-  less : IsRelation t.Less Less
-  less_equal : IsRelation t.LessEqual LessEqual
-  greater : IsRelation t.Greater Greater
-  greater_equal : IsRelation t.GreaterEqual GreaterEqual
-  equal : IsRelation t.EqualEqual Equal
-  not_equal : IsRelation t.NotEqual NotEqual
+  less : IsRelation (t.Sign sign.Less) Less
+  less_equal : IsRelation (t.Sign sign.LessEqual) LessEqual
+  greater : IsRelation (t.Sign sign.Greater) Greater
+  greater_equal : IsRelation (t.Sign sign.GreaterEqual) GreaterEqual
+  equal : IsRelation (t.Sign sign.EqualEqual) Equal
+  not_equal : IsRelation (t.Sign sign.NotEqual) NotEqual
 
 -- comp = [ "not" ] expr ( "<" | "<=" | ">" | ">=" | "==" | "!=" ) expr
 pub data IsComparison : List Token → ComparisonTree → Type 0 where
@@ -90,15 +91,15 @@ pub data IsComparison : List Token → ComparisonTree → Type 0 where
       → IsComparison (ts ++ u ∷ us) (record { negated = false; left = a; relation = r; right = b })
   negated : (ts us : List Token) (u : Token) (a b : ExprTree) (r : RelationSign)
       → IsExpr ts a → IsRelation u r → IsExpr us b
-      → IsComparison (t.Not ∷ (ts ++ u ∷ us)) (record { negated = true; left = a; relation = r; right = b })
+      → IsComparison (t.Sign sign.Not ∷ (ts ++ u ∷ us)) (record { negated = true; left = a; relation = r; right = b })
 
 -- conj = comp { "and" comp }
 abbrev pub IsConjunction : List Token → List ComparisonTree → Type 0
-IsConjunction = Separated t.And IsComparison
+IsConjunction = Separated (t.Sign sign.And) IsComparison
 
 -- test = conj { "or" conj }
 abbrev pub IsTest : List Token → TestTree → Type 0
-IsTest = Separated t.Or IsConjunction
+IsTest = Separated (t.Sign sign.Or) IsConjunction
 
 -- ---- keys and ranges, behind the name of their table
 
@@ -106,19 +107,19 @@ IsTest = Separated t.Or IsConjunction
 pub data IsKey : List Token → Name → KeyTree → Type 0 where
   one : (table : Name) (ts : List Token) (a : ExprTree)
       → IsExpr ts a
-      → IsKey (t.Name table ∷ t.OpenKey ∷ (ts ++ t.CloseKey ∷ [])) table (One a)
+      → IsKey (t.Name table ∷ t.Sign sign.OpenKey ∷ (ts ++ t.Sign sign.CloseKey ∷ [])) table (One a)
   two : (table : Name) (ts us : List Token) (a b : ExprTree)
       → IsExpr ts a → IsExpr us b
-      → IsKey (t.Name table ∷ t.OpenKey ∷ (ts ++ t.Comma ∷ (us ++ t.CloseKey ∷ []))) table (Two a b)
+      → IsKey (t.Name table ∷ t.Sign sign.OpenKey ∷ (ts ++ t.Sign sign.Comma ∷ (us ++ t.Sign sign.CloseKey ∷ []))) table (Two a b)
 
 -- range = NAME "[" [ expr "," ] expr ".." expr "]"
 pub data IsRange : List Token → Name → RangeTree → Type 0 where
   one : (table : Name) (ts us : List Token) (low high : ExprTree)
       → IsExpr ts low → IsExpr us high
-      → IsRange (t.Name table ∷ t.OpenKey ∷ (ts ++ t.Dots ∷ (us ++ t.CloseKey ∷ []))) table (OneRange low high)
+      → IsRange (t.Name table ∷ t.Sign sign.OpenKey ∷ (ts ++ t.Sign sign.Dots ∷ (us ++ t.Sign sign.CloseKey ∷ []))) table (OneRange low high)
   two : (table : Name) (ts us vs : List Token) (a low high : ExprTree)
       → IsExpr ts a → IsExpr us low → IsExpr vs high
-      → IsRange (t.Name table ∷ t.OpenKey ∷ (ts ++ t.Comma ∷ (us ++ t.Dots ∷ (vs ++ t.CloseKey ∷ [])))) table (TwoRange a low high)
+      → IsRange (t.Name table ∷ t.Sign sign.OpenKey ∷ (ts ++ t.Sign sign.Comma ∷ (us ++ t.Sign sign.Dots ∷ (vs ++ t.Sign sign.CloseKey ∷ [])))) table (TwoRange a low high)
 
 -- ---- statements
 
@@ -127,49 +128,49 @@ pub data IsStatement : List Token → StatementTree → Type 0 where
   -- "let" NAME "=" expr ";"
   bind : (x : Name) (ts : List Token) (e : ExprTree)
       → IsExpr ts e
-      → IsStatement (t.Let ∷ t.Name x ∷ t.Equals ∷ (ts ++ t.Semicolon ∷ [])) (Bind x e)
+      → IsStatement (t.Sign sign.Let ∷ t.Name x ∷ t.Sign sign.Equals ∷ (ts ++ t.Sign sign.Semicolon ∷ [])) (Bind x e)
   -- "let" NAME "=" "get" key "else" expr ";"
   get : (x table : Name) (ks ts : List Token) (k : KeyTree) (e : ExprTree)
       → IsKey ks table k → IsExpr ts e
-      → IsStatement (t.Let ∷ t.Name x ∷ t.Equals ∷ t.Get ∷ (ks ++ t.Else ∷ (ts ++ t.Semicolon ∷ []))) (Get x table k e)
+      → IsStatement (t.Sign sign.Let ∷ t.Name x ∷ t.Sign sign.Equals ∷ t.Sign sign.Get ∷ (ks ++ t.Sign sign.Else ∷ (ts ++ t.Sign sign.Semicolon ∷ []))) (Get x table k e)
   -- "let" NAME "=" "need" key ";"
   need : (x table : Name) (ks : List Token) (k : KeyTree)
       → IsKey ks table k
-      → IsStatement (t.Let ∷ t.Name x ∷ t.Equals ∷ t.Need ∷ (ks ++ t.Semicolon ∷ [])) (Need x table k)
+      → IsStatement (t.Sign sign.Let ∷ t.Name x ∷ t.Sign sign.Equals ∷ t.Sign sign.Need ∷ (ks ++ t.Sign sign.Semicolon ∷ [])) (Need x table k)
   -- "let" NAME "=" "count" range ";"
   count : (x table : Name) (rs : List Token) (r : RangeTree)
       → IsRange rs table r
-      → IsStatement (t.Let ∷ t.Name x ∷ t.Equals ∷ t.Count ∷ (rs ++ t.Semicolon ∷ [])) (Count x table r)
+      → IsStatement (t.Sign sign.Let ∷ t.Name x ∷ t.Sign sign.Equals ∷ t.Sign sign.Count ∷ (rs ++ t.Sign sign.Semicolon ∷ [])) (Count x table r)
   -- "let" NAME "=" "sum" range ";"
   sum : (x table : Name) (rs : List Token) (r : RangeTree)
       → IsRange rs table r
-      → IsStatement (t.Let ∷ t.Name x ∷ t.Equals ∷ t.Sum ∷ (rs ++ t.Semicolon ∷ [])) (Sum x table r)
+      → IsStatement (t.Sign sign.Let ∷ t.Name x ∷ t.Sign sign.Equals ∷ t.Sign sign.Sum ∷ (rs ++ t.Sign sign.Semicolon ∷ [])) (Sum x table r)
   -- "lacks" key ";"
   lacks : (table : Name) (ks : List Token) (k : KeyTree)
       → IsKey ks table k
-      → IsStatement (t.Lacks ∷ (ks ++ t.Semicolon ∷ [])) (Lacks table k)
+      → IsStatement (t.Sign sign.Lacks ∷ (ks ++ t.Sign sign.Semicolon ∷ [])) (Lacks table k)
   -- "put" key "=" expr ";"
   put : (table : Name) (ks ts : List Token) (k : KeyTree) (e : ExprTree)
       → IsKey ks table k → IsExpr ts e
-      → IsStatement (t.Put ∷ (ks ++ t.Equals ∷ (ts ++ t.Semicolon ∷ []))) (Put table k e)
+      → IsStatement (t.Sign sign.Put ∷ (ks ++ t.Sign sign.Equals ∷ (ts ++ t.Sign sign.Semicolon ∷ []))) (Put table k e)
   -- "insert" key "=" expr ";"
   insert : (table : Name) (ks ts : List Token) (k : KeyTree) (e : ExprTree)
       → IsKey ks table k → IsExpr ts e
-      → IsStatement (t.Insert ∷ (ks ++ t.Equals ∷ (ts ++ t.Semicolon ∷ []))) (Insert table k e)
+      → IsStatement (t.Sign sign.Insert ∷ (ks ++ t.Sign sign.Equals ∷ (ts ++ t.Sign sign.Semicolon ∷ []))) (Insert table k e)
   -- "delete" key ";"
   delete : (table : Name) (ks : List Token) (k : KeyTree)
       → IsKey ks table k
-      → IsStatement (t.Delete ∷ (ks ++ t.Semicolon ∷ [])) (Delete table k)
+      → IsStatement (t.Sign sign.Delete ∷ (ks ++ t.Sign sign.Semicolon ∷ [])) (Delete table k)
   -- "keep" key ";"
   keep : (table : Name) (ks : List Token) (k : KeyTree)
       → IsKey ks table k
-      → IsStatement (t.Keep ∷ (ks ++ t.Semicolon ∷ [])) (Keep table k)
+      → IsStatement (t.Sign sign.Keep ∷ (ks ++ t.Sign sign.Semicolon ∷ [])) (Keep table k)
   -- "reply" expr ";"
   reply : (ts : List Token) (e : ExprTree)
       → IsExpr ts e
-      → IsStatement (t.Reply ∷ (ts ++ t.Semicolon ∷ [])) (Reply e)
+      → IsStatement (t.Sign sign.Reply ∷ (ts ++ t.Sign sign.Semicolon ∷ [])) (Reply e)
   -- "abort" ";"
-  abort : IsStatement (t.Abort ∷ t.Semicolon ∷ []) Abort
+  abort : IsStatement (t.Sign sign.Abort ∷ t.Sign sign.Semicolon ∷ []) Abort
 
 mutual
   -- { stmt }: nothing; a statement and more; or "if" test block [ "else" block ] and more
@@ -180,20 +181,20 @@ mutual
         → IsStatements (ts ++ us) (Then s rest)
     branch : (xs ts es us : List Token) (test : TestTree) (first second rest : BlockTree)
         → IsTest xs test → IsBlock ts first → IsElse es second → IsStatements us rest
-        → IsStatements (t.If ∷ (xs ++ (ts ++ (es ++ us)))) (Branch test first second rest)
+        → IsStatements (t.Sign sign.If ∷ (xs ++ (ts ++ (es ++ us)))) (Branch test first second rest)
 
   -- block = "{" { stmt } "}"
   pub data IsBlock : List Token → BlockTree → Type 0 where
     block : (ts : List Token) (b : BlockTree)
         → IsStatements ts b
-        → IsBlock (t.OpenBlock ∷ (ts ++ t.CloseBlock ∷ [])) b
+        → IsBlock (t.Sign sign.OpenBlock ∷ (ts ++ t.Sign sign.CloseBlock ∷ [])) b
 
   -- [ "else" block ]; a missing one is an empty block
   pub data IsElse : List Token → BlockTree → Type 0 where
     missing : IsElse [] BlockEnd
     present : (ts : List Token) (b : BlockTree)
         → IsBlock ts b
-        → IsElse (t.Else ∷ ts) b
+        → IsElse (t.Sign sign.Else ∷ ts) b
 
 -- ---- tables and programs
 
@@ -206,10 +207,10 @@ pub data IsArity : ℕ → Arity → Type 0 where
 pub data IsTable : List Token → TableDecl → Type 0 where
   plain : (x : Name) (n : ℕ) (a : Arity)
       → IsArity n a
-      → IsTable (t.Table ∷ t.Name x ∷ t.Number n ∷ t.Semicolon ∷ []) (record { name = x; arity = a; grow = false })
+      → IsTable (t.Sign sign.Table ∷ t.Name x ∷ t.Number n ∷ t.Sign sign.Semicolon ∷ []) (record { name = x; arity = a; grow = false })
   grows : (x : Name) (n : ℕ) (a : Arity)
       → IsArity n a
-      → IsTable (t.Table ∷ t.Name x ∷ t.Number n ∷ t.Grow ∷ t.Semicolon ∷ []) (record { name = x; arity = a; grow = true })
+      → IsTable (t.Sign sign.Table ∷ t.Name x ∷ t.Number n ∷ t.Sign sign.Grow ∷ t.Sign sign.Semicolon ∷ []) (record { name = x; arity = a; grow = true })
 
 -- NAME
 pub data IsName : List Token → Name → Type 0 where
@@ -219,14 +220,14 @@ pub data IsName : List Token → Name → Type 0 where
 pub data IsParams : List Token → List Name → Type 0 where
   none : IsParams [] []
   some : (ts : List Token) (xs : List Name)
-      → Separated t.Comma IsName ts xs
+      → Separated (t.Sign sign.Comma) IsName ts xs
       → IsParams ts xs
 
 -- program = "program" NAME "(" [ NAME { "," NAME } ] ")" block
 pub data IsProgram : List Token → ProgramTree → Type 0 where
   program : (x : Name) (ps ts : List Token) (params : List Name) (body : BlockTree)
       → IsParams ps params → IsBlock ts body
-      → IsProgram (t.Program ∷ t.Name x ∷ t.Open ∷ (ps ++ t.Close ∷ ts)) (record { name = x; params = params; body = body })
+      → IsProgram (t.Sign sign.Program ∷ t.Name x ∷ t.Sign sign.Open ∷ (ps ++ t.Sign sign.Close ∷ ts)) (record { name = x; params = params; body = body })
 
 -- set = { table } { program }
 pub data IsSet : List Token → DraftTree → Type 0 where

@@ -1,6 +1,7 @@
 -- How many brackets are open, and how many operators stand in one statement.
 use Rattle.std.specs.Prelude.{ℕ, suc, ◌-◌, List, [], ◌∷◌, Option, Some, None, nat_lt, ◌||◌, if◌then◌else◌, option_map}
 use Rattle.prog_text.specs.declared.token.Token.{Token}
+use Rattle.prog_text.specs.declared.token.Sign.TheVariants as sign
 use Rattle.prog_text.specs.declared.token.Token.TheVariants as t
 
 -- the most brackets that may be open
@@ -17,22 +18,22 @@ name_limit = 32
 
 -- the brackets that are open behind a token, where n are open before it; never below zero
 abbrev pub brackets_after : Token → ℕ → ℕ
-brackets_after t.Open n = suc n
-brackets_after t.OpenKey n = suc n
-brackets_after t.OpenBlock n = suc n
-brackets_after t.Close n = n - 1
-brackets_after t.CloseKey n = n - 1
-brackets_after t.CloseBlock n = n - 1
+brackets_after (t.Sign sign.Open) n = suc n
+brackets_after (t.Sign sign.OpenKey) n = suc n
+brackets_after (t.Sign sign.OpenBlock) n = suc n
+brackets_after (t.Sign sign.Close) n = n - 1
+brackets_after (t.Sign sign.CloseKey) n = n - 1
+brackets_after (t.Sign sign.CloseBlock) n = n - 1
 brackets_after u n = n
 
 -- the operators up to and with a token, since the last `;`, `{` or `}`
 abbrev pub operators_after : Token → ℕ → ℕ
-operators_after t.Plus n = suc n
-operators_after t.Minus n = suc n
-operators_after t.Times n = suc n
-operators_after t.Semicolon n = 0
-operators_after t.OpenBlock n = 0
-operators_after t.CloseBlock n = 0
+operators_after (t.Sign sign.Plus) n = suc n
+operators_after (t.Sign sign.Minus) n = suc n
+operators_after (t.Sign sign.Times) n = suc n
+operators_after (t.Sign sign.Semicolon) n = 0
+operators_after (t.Sign sign.OpenBlock) n = 0
+operators_after (t.Sign sign.CloseBlock) n = 0
 operators_after u n = n
 
 -- how many tokens stand before the first that is too deep: it opens the 17th bracket, or is the 33rd operator

@@ -1,76 +1,75 @@
 -- How each token is spelled.
-use Rattle.std.specs.Prelude.{ℕ, List, [], ◌∷◌, ◌++◌, codes}
+use Rattle.std.specs.Prelude.{ℕ, List, [], ◌∷◌, map, Option, Some, None, bytes_eq, if◌then◌else◌, codes}
 use Rattle.std.specs.Fmt.{decimal}
 use Rattle.prog_text.specs.declared.token.Token.{Token}
+use Rattle.prog_text.specs.declared.token.Sign.{Sign}
+use Rattle.prog_text.specs.declared.token.Sign.TheVariants as sign
 use Rattle.prog_text.specs.declared.token.Token.TheVariants as t
 
 -- the bytes of a token as the canonical text has them; a number may be read with zeros before it
 abbrev pub spelling : Token → List ℕ
 spelling (t.Name x) = x
 spelling (t.Number n) = decimal n
-spelling t.Table = codes "table"
-spelling t.Grow = codes "grow"
-spelling t.Program = codes "program"
-spelling t.Let = codes "let"
-spelling t.Get = codes "get"
-spelling t.Need = codes "need"
-spelling t.Count = codes "count"
-spelling t.Sum = codes "sum"
-spelling t.Lacks = codes "lacks"
-spelling t.Put = codes "put"
-spelling t.Insert = codes "insert"
-spelling t.Delete = codes "delete"
-spelling t.Keep = codes "keep"
-spelling t.If = codes "if"
-spelling t.Else = codes "else"
-spelling t.Reply = codes "reply"
-spelling t.Abort = codes "abort"
-spelling t.Or = codes "or"
-spelling t.And = codes "and"
-spelling t.Not = codes "not"
-spelling t.Least = codes "least"
-spelling t.Greatest = codes "greatest"
-spelling t.Each = codes "each"
-spelling t.In = codes "in"
-spelling t.Open = codes "("
-spelling t.Close = codes ")"
-spelling t.OpenKey = codes "["
-spelling t.CloseKey = codes "]"
-spelling t.OpenBlock = codes "{"
-spelling t.CloseBlock = codes "}"
-spelling t.Comma = codes ","
-spelling t.Semicolon = codes ";"
-spelling t.Equals = codes "="
-spelling t.Plus = codes "+"
-spelling t.Minus = codes "-"
-spelling t.Times = codes "*"
-spelling t.Dots = codes ".."
-spelling t.Less = codes "<"
-spelling t.LessEqual = codes "<="
-spelling t.Greater = codes ">"
-spelling t.GreaterEqual = codes ">="
-spelling t.EqualEqual = codes "=="
-spelling t.NotEqual = codes "!="
+spelling (t.Sign sign.Table) = codes "table"
+spelling (t.Sign sign.Grow) = codes "grow"
+spelling (t.Sign sign.Program) = codes "program"
+spelling (t.Sign sign.Let) = codes "let"
+spelling (t.Sign sign.Get) = codes "get"
+spelling (t.Sign sign.Need) = codes "need"
+spelling (t.Sign sign.Count) = codes "count"
+spelling (t.Sign sign.Sum) = codes "sum"
+spelling (t.Sign sign.Lacks) = codes "lacks"
+spelling (t.Sign sign.Put) = codes "put"
+spelling (t.Sign sign.Insert) = codes "insert"
+spelling (t.Sign sign.Delete) = codes "delete"
+spelling (t.Sign sign.Keep) = codes "keep"
+spelling (t.Sign sign.If) = codes "if"
+spelling (t.Sign sign.Else) = codes "else"
+spelling (t.Sign sign.Reply) = codes "reply"
+spelling (t.Sign sign.Abort) = codes "abort"
+spelling (t.Sign sign.Or) = codes "or"
+spelling (t.Sign sign.And) = codes "and"
+spelling (t.Sign sign.Not) = codes "not"
+spelling (t.Sign sign.Least) = codes "least"
+spelling (t.Sign sign.Greatest) = codes "greatest"
+spelling (t.Sign sign.Each) = codes "each"
+spelling (t.Sign sign.In) = codes "in"
+spelling (t.Sign sign.Open) = codes "("
+spelling (t.Sign sign.Close) = codes ")"
+spelling (t.Sign sign.OpenKey) = codes "["
+spelling (t.Sign sign.CloseKey) = codes "]"
+spelling (t.Sign sign.OpenBlock) = codes "{"
+spelling (t.Sign sign.CloseBlock) = codes "}"
+spelling (t.Sign sign.Comma) = codes ","
+spelling (t.Sign sign.Semicolon) = codes ";"
+spelling (t.Sign sign.Equals) = codes "="
+spelling (t.Sign sign.Plus) = codes "+"
+spelling (t.Sign sign.Minus) = codes "-"
+spelling (t.Sign sign.Times) = codes "*"
+spelling (t.Sign sign.Dots) = codes ".."
+spelling (t.Sign sign.Less) = codes "<"
+spelling (t.Sign sign.LessEqual) = codes "<="
+spelling (t.Sign sign.Greater) = codes ">"
+spelling (t.Sign sign.GreaterEqual) = codes ">="
+spelling (t.Sign sign.EqualEqual) = codes "=="
+spelling (t.Sign sign.NotEqual) = codes "!="
 
--- the words that begin what is named: a table, a program, or a value that is read
-abbrev pub naming_words : List Token
-naming_words = t.Table ∷ t.Grow ∷ t.Program ∷ t.Let ∷ t.Get ∷ t.Need ∷ t.Count ∷ t.Sum ∷ []
-
--- the words of the other statements
-abbrev pub statement_words : List Token
-statement_words = t.Lacks ∷ t.Put ∷ t.Insert ∷ t.Delete ∷ t.Keep ∷ t.If ∷ t.Else ∷ t.Reply ∷ t.Abort ∷ []
-
--- the words inside a statement; `each` and `in` stand in none yet
-abbrev pub inner_words : List Token
-inner_words = t.Or ∷ t.And ∷ t.Not ∷ t.Least ∷ t.Greatest ∷ t.Each ∷ t.In ∷ []
-
--- the words that are no names
+-- the words that are no names; `each` and `in` stand in no statement yet
 abbrev pub reserved_words : List Token
-reserved_words = naming_words ++ (statement_words ++ inner_words)
+reserved_words =
+    map t.Sign (
+    sign.Table ∷ sign.Grow ∷ sign.Program ∷ sign.Let ∷ sign.Get ∷ sign.Need ∷ sign.Count ∷ sign.Sum ∷
+    sign.Lacks ∷ sign.Put ∷ sign.Insert ∷ sign.Delete ∷ sign.Keep ∷ sign.If ∷ sign.Else ∷ sign.Reply ∷ sign.Abort ∷
+    sign.Or ∷ sign.And ∷ sign.Not ∷ sign.Least ∷ sign.Greatest ∷ sign.Each ∷ sign.In ∷ [])
 
 -- the signs, those of two bytes first
 abbrev pub signs : List Token
 signs =
-    t.Dots ∷ t.LessEqual ∷ t.GreaterEqual ∷ t.EqualEqual ∷ t.NotEqual ∷
-    t.Open ∷ t.Close ∷ t.OpenKey ∷ t.CloseKey ∷ t.OpenBlock ∷ t.CloseBlock ∷ t.Comma ∷ t.Semicolon ∷ t.Equals ∷
-    t.Plus ∷ t.Minus ∷ t.Times ∷ t.Less ∷ t.Greater ∷ []
+    t.Sign sign.Dots ∷ t.Sign sign.LessEqual ∷ t.Sign sign.GreaterEqual ∷ t.Sign sign.EqualEqual ∷ t.Sign sign.NotEqual ∷
+    t.Sign sign.Open ∷ t.Sign sign.Close ∷ t.Sign sign.OpenKey ∷ t.Sign sign.CloseKey ∷ t.Sign sign.OpenBlock ∷ t.Sign sign.CloseBlock ∷ t.Sign sign.Comma ∷ t.Sign sign.Semicolon ∷ t.Sign sign.Equals ∷
+    t.Sign sign.Plus ∷ t.Sign sign.Minus ∷ t.Sign sign.Times ∷ t.Sign sign.Less ∷ t.Sign sign.Greater ∷ []
+
+-- the sign that a table has for a word, by the first entry of it
+abbrev pub sign_in : List (List ℕ × Sign) → List ℕ → Option Sign
+sign_in [] word = None
+sign_in (entry ∷ table) word = if bytes_eq word entry.0 then Some entry.1 else sign_in table word

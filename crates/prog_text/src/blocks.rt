@@ -7,9 +7,9 @@ ghost use Rattle.prog_text.specs.OpenBlocks.{unread, unread_behind_end, unread_b
 use crate::conditions::test;
 use crate::limits::MOST_BRACKETS;
 use crate::read_error::ReadError;
-use crate::signs::{after_close_block, after_else, after_if, open_block};
+use crate::signs::{after_sign, expect};
 use crate::statements::statement;
-use crate::token::Token;
+use crate::token::{Sign, Token};
 use prog_tree::{Block, Stmt, Test};
 use smallvec::SmallVec;
 use std::alloc::Global;
@@ -67,8 +67,8 @@ fn end_first<'s, 'a>(
         (unread_behind_end (stack.items ++ Open.First test before ∷ []) done.items tokens.now) }
     ensures shorter { IfOk result (λ body. length body.rest.now ≤ length tokens.now) }
 {
-    if let Some(rest) = after_else(tokens) {
-        let rest = open_block(rest)?;
+    if let Some(rest) = after_sign(tokens, Sign::Else) {
+        let rest = expect(rest, Sign::OpenBlock)?;
         stack.push(Open::Second {
             test,
             first: done,
@@ -168,7 +168,7 @@ fn begin_branch<'s, 'a>(
     ensures shorter { IfOk result (λ body. length body.rest.now < length tokens.now) }
 {
     let (test, rest) = test(alloc, tokens)?;
-    let rest = open_block(rest)?;
+    let rest = expect(rest, Sign::OpenBlock)?;
     stack.push(Open::First { test, before: done })?;
     Ok(Body {
         stack,
@@ -211,10 +211,10 @@ fn next<'s, 'a>(alloc: Global, body: Body<'s, 'a>) -> Result<Body<'s, 'a>, ReadE
         rest,
         ended: _,
     } = body;
-    if let Some(after) = after_close_block(rest) {
+    if let Some(after) = after_sign(rest, Sign::CloseBlock) {
         return end_block(alloc, stack, done, after);
     }
-    if let Some(after) = after_if(rest) {
+    if let Some(after) = after_sign(rest, Sign::If) {
         return begin_branch(alloc, stack, done, after);
     }
     one_more(alloc, stack, done, rest)
@@ -228,7 +228,7 @@ pub fn block<'s, 'a>(
     ensures reads { Gives (λ x. (block_tree x.0, x.1.now)) result (block_at body_at tokens.now) }
     ensures shorter { IfOk result (λ x. length x.1.now < length tokens.now) }
 {
-    let rest = open_block(tokens)?;
+    let rest = expect(tokens, Sign::OpenBlock)?;
     let mut body = Body {
         stack: SmallVec::new(alloc),
         done: Vec::new(alloc),

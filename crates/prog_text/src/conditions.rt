@@ -4,8 +4,8 @@ ghost use Rattle.prog_text.specs.Reading.{Gives, relation_at, compared_at, compa
 
 use crate::expressions::expr;
 use crate::read_error::{ReadError, unexpected};
-use crate::signs::{after_and, after_not, after_or};
-use crate::token::Token;
+use crate::signs::after_sign;
+use crate::token::{Sign, Token};
 use prog_tree::{Clause, Comparison, Relation, Test};
 use std::alloc::Global;
 
@@ -18,12 +18,12 @@ fn relation<'s, 'a>(tokens: &'s [Token<'a>]) -> Result<(Relation, &'s [Token<'a>
         return Err(unexpected(tokens));
     };
     match first {
-        Token::Less => Ok((Relation::Less, rest)),
-        Token::LessEqual => Ok((Relation::LessEqual, rest)),
-        Token::Greater => Ok((Relation::Greater, rest)),
-        Token::GreaterEqual => Ok((Relation::GreaterEqual, rest)),
-        Token::EqualEqual => Ok((Relation::Equal, rest)),
-        Token::NotEqual => Ok((Relation::NotEqual, rest)),
+        Token::Sign(Sign::Less) => Ok((Relation::Less, rest)),
+        Token::Sign(Sign::LessEqual) => Ok((Relation::LessEqual, rest)),
+        Token::Sign(Sign::Greater) => Ok((Relation::Greater, rest)),
+        Token::Sign(Sign::GreaterEqual) => Ok((Relation::GreaterEqual, rest)),
+        Token::Sign(Sign::EqualEqual) => Ok((Relation::Equal, rest)),
+        Token::Sign(Sign::NotEqual) => Ok((Relation::NotEqual, rest)),
         _ => Err(unexpected(tokens)),
     }
 }
@@ -60,7 +60,7 @@ fn comparison<'s, 'a>(
     ensures reads { Gives (λ x. (comparison_tree x.0, x.1.now)) result (comparison_at tokens.now) }
     ensures shorter { IfOk result (λ x. length x.1.now < length tokens.now) }
 {
-    match after_not(tokens) {
+    match after_sign(tokens, Sign::Not) {
         Some(rest) => compared(alloc, true, rest),
         None => compared(alloc, false, tokens),
     }
@@ -78,7 +78,7 @@ fn conjunction<'s, 'a>(
     let mut all = Vec::new(alloc);
     let (first, mut rest) = comparison(alloc, tokens)?;
     all.push(first)?;
-    while let Some(after) = after_and(rest) {
+    while let Some(after) = after_sign(rest, Sign::And) {
         let (next, after) = comparison(alloc, after)?;
         all.push(next)?;
         rest = after;
@@ -98,7 +98,7 @@ pub fn test<'s, 'a>(
     let mut any = Vec::new(alloc);
     let (first, mut rest) = conjunction(alloc, tokens)?;
     any.push(first)?;
-    while let Some(after) = after_or(rest) {
+    while let Some(after) = after_sign(rest, Sign::Or) {
         let (next, after) = conjunction(alloc, after)?;
         any.push(next)?;
         rest = after;

@@ -4,8 +4,8 @@ ghost use Rattle.prog_tree.specs.Tree.{expr_tree};
 ghost use Rattle.prog_text.specs.Reading.{Gives, negative_at, factor_at, product_at, expr_at};
 
 use crate::read_error::{ReadError, unexpected};
-use crate::signs::{after_minus, after_plus, after_times, close_bracket};
-use crate::token::Token;
+use crate::signs::{after_sign, expect};
+use crate::token::{Sign, Token};
 use prog_tree::{Expr, Name};
 use std::alloc::{AllocError, Global};
 
@@ -55,16 +55,16 @@ fn factor<'s, 'a>(
     };
     match first {
         Token::Number(number) => Ok((Expr::Literal(number.literal()), rest)),
-        Token::Minus => negative(rest),
-        Token::Least => Ok((Expr::Literal(i64::MIN), rest)),
-        Token::Greatest => Ok((Expr::Literal(i64::MAX), rest)),
+        Token::Sign(Sign::Minus) => negative(rest),
+        Token::Sign(Sign::Least) => Ok((Expr::Literal(i64::MIN), rest)),
+        Token::Sign(Sign::Greatest) => Ok((Expr::Literal(i64::MAX), rest)),
         Token::Name(word) => {
             let name = Name::new(alloc, word.as_str())?;
             Ok((Expr::Name(name), rest))
         }
-        Token::Open => {
+        Token::Sign(Sign::Open) => {
             let (inner, rest) = expr(alloc, rest)?;
-            let rest = close_bracket(rest)?;
+            let rest = expect(rest, Sign::Close)?;
             Ok((inner, rest))
         }
         _ => Err(unexpected(tokens)),
@@ -82,7 +82,7 @@ fn product<'s, 'a>(
     ensures shorter { IfOk result (λ x. length x.1.now < length tokens.now) }
 {
     let (mut left, mut rest) = factor(alloc, tokens)?;
-    while let Some(after) = after_times(rest) {
+    while let Some(after) = after_sign(rest, Sign::Times) {
         let (right, after) = factor(alloc, after)?;
         left = times(alloc, left, right)?;
         rest = after;
@@ -102,11 +102,11 @@ pub fn expr<'s, 'a>(
 {
     let (mut left, mut rest) = product(alloc, tokens)?;
     loop {
-        if let Some(after) = after_plus(rest) {
+        if let Some(after) = after_sign(rest, Sign::Plus) {
             let (right, after) = product(alloc, after)?;
             left = plus(alloc, left, right)?;
             rest = after;
-        } else if let Some(after) = after_minus(rest) {
+        } else if let Some(after) = after_sign(rest, Sign::Minus) {
             let (right, after) = product(alloc, after)?;
             left = minus(alloc, left, right)?;
             rest = after;

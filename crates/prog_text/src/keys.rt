@@ -5,8 +5,8 @@ ghost use Rattle.prog_text.specs.Reading.{Gives, key_from, key_at, high_at, rang
 
 use crate::expressions::expr;
 use crate::read_error::ReadError;
-use crate::signs::{after_comma, close_key, dots, name, open_key};
-use crate::token::Token;
+use crate::signs::{after_sign, expect, name};
+use crate::token::{Sign, Token};
 use prog_tree::{Expr, Key, Name, Range};
 use std::alloc::Global;
 
@@ -21,12 +21,12 @@ fn key_behind<'s, 'a>(
         (key_from (expr_tree first) tokens.now) }
     ensures shorter { IfOk result (λ x. length x.1.now < length tokens.now) }
 {
-    if let Some(rest) = after_comma(tokens) {
+    if let Some(rest) = after_sign(tokens, Sign::Comma) {
         let (second, rest) = expr(alloc, rest)?;
-        let rest = close_key(rest)?;
+        let rest = expect(rest, Sign::CloseKey)?;
         return Ok((Key::Two(first, second), rest));
     }
-    let rest = close_key(tokens)?;
+    let rest = expect(tokens, Sign::CloseKey)?;
     Ok((Key::One(first), rest))
 }
 
@@ -40,7 +40,7 @@ pub fn key<'s, 'a>(
     ensures shorter { IfOk result (λ x. length x.2.now < length tokens.now) }
 {
     let (table, rest) = name(alloc, tokens)?;
-    let rest = open_key(rest)?;
+    let rest = expect(rest, Sign::OpenKey)?;
     let (first, rest) = expr(alloc, rest)?;
     let (key, rest) = key_behind(alloc, first, rest)?;
     Ok((table, key, rest))
@@ -55,9 +55,9 @@ fn high<'s, 'a>(
     ensures reads { Gives (λ x. (expr_tree x.0, x.1.now)) result (high_at tokens.now) }
     ensures shorter { IfOk result (λ x. length x.1.now < length tokens.now) }
 {
-    let rest = dots(tokens)?;
+    let rest = expect(tokens, Sign::Dots)?;
     let (high, rest) = expr(alloc, rest)?;
-    let rest = close_key(rest)?;
+    let rest = expect(rest, Sign::CloseKey)?;
     Ok((high, rest))
 }
 
@@ -72,7 +72,7 @@ fn range_behind<'s, 'a>(
         (range_from (expr_tree first) tokens.now) }
     ensures shorter { IfOk result (λ x. length x.1.now < length tokens.now) }
 {
-    if let Some(rest) = after_comma(tokens) {
+    if let Some(rest) = after_sign(tokens, Sign::Comma) {
         let (low, rest) = expr(alloc, rest)?;
         let (high, rest) = high(alloc, rest)?;
         return Ok((Range::Two { first, low, high }, rest));
@@ -91,7 +91,7 @@ pub fn range<'s, 'a>(
     ensures shorter { IfOk result (λ x. length x.2.now < length tokens.now) }
 {
     let (table, rest) = name(alloc, tokens)?;
-    let rest = open_key(rest)?;
+    let rest = expect(rest, Sign::OpenKey)?;
     let (first, rest) = expr(alloc, rest)?;
     let (range, rest) = range_behind(alloc, first, rest)?;
     Ok((table, range, rest))

@@ -3,7 +3,7 @@ ghost use Rattle.std.specs.Prelude.{◌≡◌};
 use std::alloc::{AllocError, AllocFailed};
 
 /// What is wrong with the bytes at one place.
-#[derive(Clone, Copy, Debug, PartialEq, Eq)]
+#[derive(Clone, Copy)]
 pub enum Flaw {
     /// A byte of 128 or more.
     NotAscii,
@@ -16,7 +16,7 @@ pub enum Flaw {
 }
 
 /// Why a text has no tokens.
-#[derive(Debug, Drop)]
+#[derive(Drop)]
 pub enum LexError {
     Memory,
     /// The first flaw, with how many bytes are left from there on.

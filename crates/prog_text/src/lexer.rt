@@ -7,7 +7,7 @@ ghost use Rattle.prog_text.specs.Lexing.{is_letter, is_digit, is_word_byte, is_s
 use crate::lex_error::{Flaw, LexError};
 use crate::limits::MOST_NAME_BYTES;
 use crate::placed_tokens::PlacedTokens;
-use crate::token::{Magnitude, Token};
+use crate::token::{Magnitude, Sign, Token};
 use crate::words::word_token;
 use std::alloc::Global;
 
@@ -91,30 +91,30 @@ fn sign_piece(bytes: &[u8]) -> Result<Piece<'_>, LexError>
     ensures shorter { IfOk result (λ p. length p.rest.now < length bytes.now) }
 {
     let (sign, rest) = match bytes {
-        [b'.', b'.', rest @ ..] => (Token::Dots, rest),
-        [b'<', b'=', rest @ ..] => (Token::LessEqual, rest),
-        [b'>', b'=', rest @ ..] => (Token::GreaterEqual, rest),
-        [b'=', b'=', rest @ ..] => (Token::EqualEqual, rest),
-        [b'!', b'=', rest @ ..] => (Token::NotEqual, rest),
-        [b'(', rest @ ..] => (Token::Open, rest),
-        [b')', rest @ ..] => (Token::Close, rest),
-        [b'[', rest @ ..] => (Token::OpenKey, rest),
-        [b']', rest @ ..] => (Token::CloseKey, rest),
-        [b'{', rest @ ..] => (Token::OpenBlock, rest),
-        [b'}', rest @ ..] => (Token::CloseBlock, rest),
-        [b',', rest @ ..] => (Token::Comma, rest),
-        [b';', rest @ ..] => (Token::Semicolon, rest),
-        [b'=', rest @ ..] => (Token::Equals, rest),
-        [b'+', rest @ ..] => (Token::Plus, rest),
-        [b'-', rest @ ..] => (Token::Minus, rest),
-        [b'*', rest @ ..] => (Token::Times, rest),
-        [b'<', rest @ ..] => (Token::Less, rest),
-        [b'>', rest @ ..] => (Token::Greater, rest),
+        [b'.', b'.', rest @ ..] => (Sign::Dots, rest),
+        [b'<', b'=', rest @ ..] => (Sign::LessEqual, rest),
+        [b'>', b'=', rest @ ..] => (Sign::GreaterEqual, rest),
+        [b'=', b'=', rest @ ..] => (Sign::EqualEqual, rest),
+        [b'!', b'=', rest @ ..] => (Sign::NotEqual, rest),
+        [b'(', rest @ ..] => (Sign::Open, rest),
+        [b')', rest @ ..] => (Sign::Close, rest),
+        [b'[', rest @ ..] => (Sign::OpenKey, rest),
+        [b']', rest @ ..] => (Sign::CloseKey, rest),
+        [b'{', rest @ ..] => (Sign::OpenBlock, rest),
+        [b'}', rest @ ..] => (Sign::CloseBlock, rest),
+        [b',', rest @ ..] => (Sign::Comma, rest),
+        [b';', rest @ ..] => (Sign::Semicolon, rest),
+        [b'=', rest @ ..] => (Sign::Equals, rest),
+        [b'+', rest @ ..] => (Sign::Plus, rest),
+        [b'-', rest @ ..] => (Sign::Minus, rest),
+        [b'*', rest @ ..] => (Sign::Times, rest),
+        [b'<', rest @ ..] => (Sign::Less, rest),
+        [b'>', rest @ ..] => (Sign::Greater, rest),
         [byte, ..] if *byte >= 128 => return Err(at(Flaw::NotAscii, bytes)),
         _ => return Err(at(Flaw::UnknownByte, bytes)),
     };
     Ok(Piece {
-        token: Some(sign),
+        token: Some(Token::Sign(sign)),
         rest,
     })
 }

@@ -1,7 +1,7 @@
 ghost use Rattle.std.specs.Prelude.{◌≡◌, ℕ, ◌+◌, ◌<◌, ◌≤◌};
 ghost use Rattle.prog_text.specs.Limits.{bracket_limit, operator_limit, brackets_after, operators_after, too_deep};
 
-use crate::token::Token;
+use crate::token::{Sign, Token};
 
 /// The most brackets that may be open.
 pub const MOST_BRACKETS: usize = 16;
@@ -17,8 +17,8 @@ fn brackets_after(token: &Token<'_>, brackets: usize) -> usize
     ensures { result ≡ brackets_after token.now brackets }
 {
     match token {
-        Token::Open | Token::OpenKey | Token::OpenBlock => brackets + 1,
-        Token::Close | Token::CloseKey | Token::CloseBlock => brackets.saturating_sub(1),
+        Token::Sign(Sign::Open | Sign::OpenKey | Sign::OpenBlock) => brackets + 1,
+        Token::Sign(Sign::Close | Sign::CloseKey | Sign::CloseBlock) => brackets.saturating_sub(1),
         _ => brackets,
     }
 }
@@ -28,8 +28,8 @@ fn operators_after(token: &Token<'_>, operators: usize) -> usize
     ensures { result ≡ operators_after token.now operators }
 {
     match token {
-        Token::Plus | Token::Minus | Token::Times => operators + 1,
-        Token::Semicolon | Token::OpenBlock | Token::CloseBlock => 0,
+        Token::Sign(Sign::Plus | Sign::Minus | Sign::Times) => operators + 1,
+        Token::Sign(Sign::Semicolon | Sign::OpenBlock | Sign::CloseBlock) => 0,
         _ => operators,
     }
 }

@@ -4,11 +4,8 @@ ghost use Rattle.prog_text.specs.Reading.{Gives, arity_at, grow_at, table_at, ta
 
 use crate::blocks::block;
 use crate::read_error::{ReadError, unexpected};
-use crate::signs::{
-    after_close_bracket, after_comma, after_program, after_table, close_bracket, end, name,
-    open_bracket, semicolon,
-};
-use crate::token::Token;
+use crate::signs::{after_sign, end, expect, name};
+use crate::token::{Sign, Token};
 use prog_tree::{Arity, Draft, Name, Program, TableDecl};
 use std::alloc::Global;
 
@@ -36,9 +33,9 @@ fn grow<'s, 'a>(tokens: &'s [Token<'a>]) -> (bool, &'s [Token<'a>])
     ensures reads { grow_at tokens.now ≡ Ok (result.0, result.1.now) }
     ensures shorter { length result.1.now ≤ length tokens.now }
 {
-    match tokens {
-        [Token::Grow, rest @ ..] => (true, rest),
-        _ => (false, tokens),
+    match after_sign(tokens, Sign::Grow) {
+        Some(rest) => (true, rest),
+        None => (false, tokens),
     }
 }
 
@@ -54,7 +51,7 @@ fn table<'s, 'a>(
     let (name, rest) = name(alloc, tokens)?;
     let (arity, rest) = arity(rest)?;
     let (grow, rest) = grow(rest);
-    let rest = semicolon(rest)?;
+    let rest = expect(rest, Sign::Semicolon)?;
     Ok((TableDecl { name, arity, grow }, rest))
 }
 
@@ -74,7 +71,7 @@ fn read_tables<'s, 'a>(alloc: Global, tokens: &'s [Token<'a>]) -> Result<Tables<
         done: Vec::new(alloc),
         rest: tokens,
     };
-    while let Some(rest) = after_table(tables.rest) {
+    while let Some(rest) = after_sign(tables.rest, Sign::Table) {
         let (table, rest) = table(alloc, rest)?;
         tables.done.push(table)?;
         tables.rest = rest;
@@ -94,7 +91,7 @@ fn names<'s, 'a>(
     let mut names = Vec::new(alloc);
     let (first, mut rest) = name(alloc, tokens)?;
     names.push(first)?;
-    while let Some(after) = after_comma(rest) {
+    while let Some(after) = after_sign(rest, Sign::Comma) {
         let (next, after) = name(alloc, after)?;
         names.push(next)?;
         rest = after;
@@ -111,11 +108,11 @@ fn params<'s, 'a>(
     ensures reads { Gives (λ x. (x.0.items, x.1.now)) result (params_at tokens.now) }
     ensures shorter { IfOk result (λ x. length x.1.now < length tokens.now) }
 {
-    if let Some(rest) = after_close_bracket(tokens) {
+    if let Some(rest) = after_sign(tokens, Sign::Close) {
         return Ok((Vec::new(alloc), rest));
     }
     let (names, rest) = names(alloc, tokens)?;
-    let rest = close_bracket(rest)?;
+    let rest = expect(rest, Sign::Close)?;
     Ok((names, rest))
 }
 
@@ -129,7 +126,7 @@ fn program<'s, 'a>(
     ensures shorter { IfOk result (λ x. length x.1.now < length tokens.now) }
 {
     let (name, rest) = name(alloc, tokens)?;
-    let rest = open_bracket(rest)?;
+    let rest = expect(rest, Sign::Open)?;
     let (params, rest) = params(alloc, rest)?;
     let (body, rest) = block(alloc, rest)?;
     Ok((Program { name, params, body }, rest))
@@ -145,7 +142,7 @@ pub fn set(alloc: Global, tokens: &[Token<'_>]) -> Result<Draft, ReadError>
         mut rest,
     } = read_tables(alloc, tokens)?;
     let mut programs = Vec::new(alloc);
-    while let Some(after) = after_program(rest) {
+    while let Some(after) = after_sign(rest, Sign::Program) {
         let (program, after) = program(alloc, after)?;
         programs.push(program)?;
         rest = after;

@@ -6,8 +6,8 @@ ghost use Rattle.prog_text.specs.Reading.{Gives, last_expr_at, last_key_at, last
 use crate::expressions::expr;
 use crate::keys::{key, range};
 use crate::read_error::{ReadError, unexpected};
-use crate::signs::{else_word, equals, name, semicolon};
-use crate::token::Token;
+use crate::signs::{expect, name};
+use crate::token::{Sign, Token};
 use prog_tree::{Expr, Key, Name, Range, Stmt};
 use std::alloc::Global;
 
@@ -21,7 +21,7 @@ fn last_expr<'s, 'a>(
     ensures shorter { IfOk result (λ x. length x.1.now < length tokens.now) }
 {
     let (value, rest) = expr(alloc, tokens)?;
-    let rest = semicolon(rest)?;
+    let rest = expect(rest, Sign::Semicolon)?;
     Ok((value, rest))
 }
 
@@ -35,7 +35,7 @@ fn last_key<'s, 'a>(
     ensures shorter { IfOk result (λ x. length x.2.now < length tokens.now) }
 {
     let (table, key, rest) = key(alloc, tokens)?;
-    let rest = semicolon(rest)?;
+    let rest = expect(rest, Sign::Semicolon)?;
     Ok((table, key, rest))
 }
 
@@ -50,7 +50,7 @@ fn last_range<'s, 'a>(
     ensures shorter { IfOk result (λ x. length x.2.now < length tokens.now) }
 {
     let (table, range, rest) = range(alloc, tokens)?;
-    let rest = semicolon(rest)?;
+    let rest = expect(rest, Sign::Semicolon)?;
     Ok((table, range, rest))
 }
 
@@ -65,7 +65,7 @@ fn assigned<'s, 'a>(
     ensures shorter { IfOk result (λ x. length x.3.now < length tokens.now) }
 {
     let (table, key, rest) = key(alloc, tokens)?;
-    let rest = equals(rest)?;
+    let rest = expect(rest, Sign::Equals)?;
     let (value, rest) = last_expr(alloc, rest)?;
     Ok((table, key, value, rest))
 }
@@ -97,7 +97,7 @@ fn get<'s, 'a>(
     ensures shorter { IfOk result (λ x. length x.1.now < length tokens.now) }
 {
     let (table, key, rest) = key(alloc, tokens)?;
-    let rest = else_word(rest)?;
+    let rest = expect(rest, Sign::Else)?;
     let (otherwise, rest) = last_expr(alloc, rest)?;
     let stmt = Stmt::Get {
         name,
@@ -164,11 +164,14 @@ fn bound<'s, 'a>(
         (as_plain (bound_at name tokens.now)) }
     ensures shorter { IfOk result (λ x. length x.1.now < length tokens.now) }
 {
-    match tokens {
-        [Token::Get, rest @ ..] => get(alloc, name, rest),
-        [Token::Need, rest @ ..] => need(alloc, name, rest),
-        [Token::Count, rest @ ..] => count(alloc, name, rest),
-        [Token::Sum, rest @ ..] => summed(alloc, name, rest),
+    let [first, rest @ ..] = tokens else {
+        return bind(alloc, name, tokens);
+    };
+    match first {
+        Token::Sign(Sign::Get) => get(alloc, name, rest),
+        Token::Sign(Sign::Need) => need(alloc, name, rest),
+        Token::Sign(Sign::Count) => count(alloc, name, rest),
+        Token::Sign(Sign::Sum) => summed(alloc, name, rest),
         _ => bind(alloc, name, tokens),
     }
 }
@@ -183,7 +186,7 @@ fn let_binding<'s, 'a>(
     ensures shorter { IfOk result (λ x. length x.1.now < length tokens.now) }
 {
     let (name, rest) = name(alloc, tokens)?;
-    let rest = equals(rest)?;
+    let rest = expect(rest, Sign::Equals)?;
     bound(alloc, name, rest)
 }
 
@@ -270,7 +273,7 @@ fn abort<'s, 'a>(tokens: &'s [Token<'a>]) -> Result<(Stmt, &'s [Token<'a>]), Rea
     ensures reads { Gives (λ x. (stmt_tree x.0, x.1.now)) result (as_plain (abort_at tokens.now)) }
     ensures shorter { IfOk result (λ x. length x.1.now < length tokens.now) }
 {
-    let rest = semicolon(tokens)?;
+    let rest = expect(tokens, Sign::Semicolon)?;
     Ok((Stmt::Abort, rest))
 }
 
@@ -284,15 +287,18 @@ pub fn statement<'s, 'a>(
         (as_plain (statement_at tokens.now)) }
     ensures shorter { IfOk result (λ x. length x.1.now < length tokens.now) }
 {
-    match tokens {
-        [Token::Let, rest @ ..] => let_binding(alloc, rest),
-        [Token::Lacks, rest @ ..] => lacks(alloc, rest),
-        [Token::Put, rest @ ..] => put(alloc, rest),
-        [Token::Insert, rest @ ..] => insert(alloc, rest),
-        [Token::Delete, rest @ ..] => delete(alloc, rest),
-        [Token::Keep, rest @ ..] => keep(alloc, rest),
-        [Token::Reply, rest @ ..] => reply(alloc, rest),
-        [Token::Abort, rest @ ..] => abort(rest),
+    let [first, rest @ ..] = tokens else {
+        return Err(unexpected(tokens));
+    };
+    match first {
+        Token::Sign(Sign::Let) => let_binding(alloc, rest),
+        Token::Sign(Sign::Lacks) => lacks(alloc, rest),
+        Token::Sign(Sign::Put) => put(alloc, rest),
+        Token::Sign(Sign::Insert) => insert(alloc, rest),
+        Token::Sign(Sign::Delete) => delete(alloc, rest),
+        Token::Sign(Sign::Keep) => keep(alloc, rest),
+        Token::Sign(Sign::Reply) => reply(alloc, rest),
+        Token::Sign(Sign::Abort) => abort(rest),
         _ => Err(unexpected(tokens)),
     }
 }

@@ -79,6 +79,12 @@ impl Magnitude {
 pub enum Token<'a> {
     Name(Word<'a>),
     Number(Magnitude),
+    Sign(Sign),
+}
+
+/// A reserved word, or what is neither a word nor a number.
+#[derive(Clone, Copy, Debug, PartialEq, Eq)]
+pub enum Sign {
     /// `table`
     Table,
     /// `grow`

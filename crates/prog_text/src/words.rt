@@ -1,9 +1,38 @@
-ghost use Rattle.std.specs.Prelude.{◌≡◌, true, find, bytes_eq};
+ghost use Rattle.std.specs.Prelude.{◌≡◌, true, map};
 ghost use Rattle.std.specs.List.{list_all};
 ghost use Rattle.prog_text.specs.Lexing.{is_word_byte, word_token};
-ghost use Rattle.prog_text.specs.Spelling.{spelling, naming_words, statement_words, inner_words, reserved_words};
+ghost use Rattle.prog_text.specs.Spelling.{sign_in};
+ghost use Rattle.prog_text.specs.declared.words.TheConstants.{RESERVED};
 
-use crate::token::{Token, Word};
+use crate::token::{Sign, Token, Word};
+
+// The words that are no names.
+const RESERVED: [(&[u8], Sign); 24] = [
+    (b"table", Sign::Table),
+    (b"grow", Sign::Grow),
+    (b"program", Sign::Program),
+    (b"let", Sign::Let),
+    (b"get", Sign::Get),
+    (b"need", Sign::Need),
+    (b"count", Sign::Count),
+    (b"sum", Sign::Sum),
+    (b"lacks", Sign::Lacks),
+    (b"put", Sign::Put),
+    (b"insert", Sign::Insert),
+    (b"delete", Sign::Delete),
+    (b"keep", Sign::Keep),
+    (b"if", Sign::If),
+    (b"else", Sign::Else),
+    (b"reply", Sign::Reply),
+    (b"abort", Sign::Abort),
+    (b"or", Sign::Or),
+    (b"and", Sign::And),
+    (b"not", Sign::Not),
+    (b"least", Sign::Least),
+    (b"greatest", Sign::Greatest),
+    (b"each", Sign::Each),
+    (b"in", Sign::In),
+];
 
 // Bytes of a word are ASCII, so they are text as they stand.
 fn word(bytes: &[u8]) -> Word<'_>
@@ -13,92 +42,24 @@ fn word(bytes: &[u8]) -> Word<'_>
     Word::new(unsafe { str::from_utf8_unchecked(bytes) })
 }
 
-// A word that begins what is named, or None.
-fn naming_word(bytes: &[u8]) -> Option<Token<'_>>
-    ensures { result ≡ find (λ u. bytes_eq bytes.now (spelling u)) naming_words }
+// The sign that a table has for a word, by its first entry.
+fn lookup(mut table: &[(&[u8], Sign)], bytes: &[u8]) -> Option<Sign>
+    ensures { result ≡ sign_in (map (λ entry. (entry.0.now, entry.1)) table.entry.now) bytes.now }
 {
-    if bytes == b"table".as_slice() {
-        Some(Token::Table)
-    } else if bytes == b"grow".as_slice() {
-        Some(Token::Grow)
-    } else if bytes == b"program".as_slice() {
-        Some(Token::Program)
-    } else if bytes == b"let".as_slice() {
-        Some(Token::Let)
-    } else if bytes == b"get".as_slice() {
-        Some(Token::Get)
-    } else if bytes == b"need".as_slice() {
-        Some(Token::Need)
-    } else if bytes == b"count".as_slice() {
-        Some(Token::Count)
-    } else if bytes == b"sum".as_slice() {
-        Some(Token::Sum)
-    } else {
-        None
+    while let [entry, rest @ ..] = table {
+        if bytes == entry.0 {
+            return Some(entry.1);
+        }
+        table = rest;
     }
-}
-
-// A word of another statement, or None.
-fn statement_word(bytes: &[u8]) -> Option<Token<'_>>
-    ensures { result ≡ find (λ u. bytes_eq bytes.now (spelling u)) statement_words }
-{
-    if bytes == b"lacks".as_slice() {
-        Some(Token::Lacks)
-    } else if bytes == b"put".as_slice() {
-        Some(Token::Put)
-    } else if bytes == b"insert".as_slice() {
-        Some(Token::Insert)
-    } else if bytes == b"delete".as_slice() {
-        Some(Token::Delete)
-    } else if bytes == b"keep".as_slice() {
-        Some(Token::Keep)
-    } else if bytes == b"if".as_slice() {
-        Some(Token::If)
-    } else if bytes == b"else".as_slice() {
-        Some(Token::Else)
-    } else if bytes == b"reply".as_slice() {
-        Some(Token::Reply)
-    } else if bytes == b"abort".as_slice() {
-        Some(Token::Abort)
-    } else {
-        None
-    }
-}
-
-// A word inside a statement, or None.
-fn inner_word(bytes: &[u8]) -> Option<Token<'_>>
-    ensures { result ≡ find (λ u. bytes_eq bytes.now (spelling u)) inner_words }
-{
-    if bytes == b"or".as_slice() {
-        Some(Token::Or)
-    } else if bytes == b"and".as_slice() {
-        Some(Token::And)
-    } else if bytes == b"not".as_slice() {
-        Some(Token::Not)
-    } else if bytes == b"least".as_slice() {
-        Some(Token::Least)
-    } else if bytes == b"greatest".as_slice() {
-        Some(Token::Greatest)
-    } else if bytes == b"each".as_slice() {
-        Some(Token::Each)
-    } else if bytes == b"in".as_slice() {
-        Some(Token::In)
-    } else {
-        None
-    }
+    None
 }
 
 // The reserved word that is spelled so, or None.
-fn reserved_word(bytes: &[u8]) -> Option<Token<'_>>
-    ensures { result ≡ find (λ u. bytes_eq bytes.now (spelling u)) reserved_words }
+fn reserved_word(bytes: &[u8]) -> Option<Sign>
+    ensures { result ≡ sign_in (map (λ entry. (entry.0.now, entry.1)) RESERVED) bytes.now }
 {
-    if let Some(token) = naming_word(bytes) {
-        return Some(token);
-    }
-    if let Some(token) = statement_word(bytes) {
-        return Some(token);
-    }
-    inner_word(bytes)
+    lookup(&RESERVED, bytes)
 }
 
 /// The token of a word: a reserved one, or a name.
@@ -107,7 +68,7 @@ pub fn word_token(bytes: &[u8]) -> Token<'_>
     ensures { result ≡ word_token bytes.now }
 {
     match reserved_word(bytes) {
-        Some(token) => token,
+        Some(sign) => Token::Sign(sign),
         None => Token::Name(word(bytes)),
     }
 }

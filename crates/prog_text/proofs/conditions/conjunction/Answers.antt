@@ -1,8 +1,9 @@
 use Rattle.std.proofs.Common.{◌∙◌, ◌-◌, sym, arith}
 use Rattle.prog_tree.specs.Tree.{comparison_tree}
-use Rattle.prog_text.specs.Reading.{after_and, comparison_at}
+use Rattle.prog_text.specs.Reading.{after_sign, comparison_at}
 use Rattle.prog_text.proofs.Viewed.{one_further}
 use Rattle.prog_text.proofs.conditions.conjunction.Goals as goal
+use Rattle.prog_text.specs.declared.token.Sign.TheVariants as sign
 
 pub loop-after-preserved : goal.loop-after-preserved
 loop-after-preserved c =
@@ -11,5 +12,5 @@ loop-after-preserved c =
       n = inv.n - 1;
       enough = omega (arith, c.in-Some.ensures.shorter, c.in_ok-next.ensures.shorter, inv.enough);
       shorter = omega (arith, c.in-Some.ensures.shorter, c.in_ok-next.ensures.shorter, inv.shorter);
-      same = rw c.in_ok-push-2.ensures.items (one_further comparison_tree after_and comparison_at inv.n _ _ _ _ _ (omega (arith, c.in-Some.ensures.shorter, inv.enough)) (sym c.in-Some.ensures.reads) c.in_ok-next.ensures.reads ∙ inv.same);
+      same = rw c.in_ok-push-2.ensures.items (one_further comparison_tree (after_sign sign.And) comparison_at inv.n _ _ _ _ _ (omega (arith, c.in-Some.ensures.shorter, inv.enough)) (sym c.in-Some.ensures.reads) c.in_ok-next.ensures.reads ∙ inv.same);
     }

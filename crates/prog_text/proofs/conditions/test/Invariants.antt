@@ -1,7 +1,8 @@
 use Rattle.std.proofs.Common.{◌≡◌, ◌<◌, ◌≤◌, length, map, ℕ}
 use Rattle.prog_tree.specs.Tree.{clause_tree}
-use Rattle.prog_text.specs.Reading.{after_or, conjunction_at, many_from, test_at}
+use Rattle.prog_text.specs.Reading.{after_sign, conjunction_at, many_from, test_at}
 use Rattle.prog_text.proofs.conditions.test.Given as goal
+use Rattle.prog_text.specs.declared.token.Sign.TheVariants as sign
 
 -- reading on from here gives what reading the whole gives
 abbrev pub invariant-loop-after : goal.invariant-loop-after
@@ -9,7 +10,7 @@ invariant-loop-after l = record {
   n : ℕ;
   enough : length l.rest ≤ n;
   shorter : length l.rest < length l.tokens;
-  same : many_from after_or conjunction_at n (map clause_tree l.any.items) l.rest ≡ test_at l.tokens;
+  same : many_from (after_sign sign.Or) conjunction_at n (map clause_tree l.any.items) l.rest ≡ test_at l.tokens;
 }
 
 abbrev pub decreases-loop-after : goal.decreases-loop-after

@@ -6,12 +6,13 @@ use Rattle.prog_tree.specs.declared.table.TableDecl.{TableDecl}
 use Rattle.prog_text.specs.declared.read_error.ReadError.{ReadError}
 use Rattle.prog_text.specs.declared.read_error.ReadError.TheVariants as errors
 use Rattle.prog_text.specs.declared.token.Token.{Token}
-use Rattle.prog_text.specs.Reading.{Fails, after_program, end_at, program_at, many_from, tables_at, programs_at, set_at}
+use Rattle.prog_text.specs.Reading.{Fails, after_sign, end_at, program_at, many_from, tables_at, programs_at, set_at}
 use Rattle.prog_text.proofs.Viewed.{one_further}
 use Rattle.prog_text.proofs.sets.set.Goals as goal
+use Rattle.prog_text.specs.declared.token.Sign.TheVariants as sign
 
 -- no more programs
-ended : (n : ℕ) (done : List ProgramTree) (ts : List Token) → after_program ts ≡ None → many_from after_program program_at n done ts ≡ Ok (done, ts)
+ended : (n : ℕ) (done : List ProgramTree) (ts : List Token) → after_sign sign.Program ts ≡ None → many_from (after_sign sign.Program) program_at n done ts ≡ Ok (done, ts)
 unfolding many_from
 ended zero done ts none = refl
 ended (suc n) done ts none = rw none refl
@@ -28,7 +29,7 @@ loop-after-preserved c =
     record {
       n = inv.n - 1;
       enough = omega (arith, c.in-Some.ensures.shorter, c.in_ok-program.ensures.shorter, inv.enough);
-      same = rw c.in_ok-push.ensures.items (one_further program_tree after_program program_at inv.n _ _ _ _ _ (omega (arith, c.in-Some.ensures.shorter, inv.enough)) (sym c.in-Some.ensures.reads) c.in_ok-program.ensures.reads ∙ inv.same);
+      same = rw c.in_ok-push.ensures.items (one_further program_tree (after_sign sign.Program) program_at inv.n _ _ _ _ _ (omega (arith, c.in-Some.ensures.shorter, inv.enough)) (sym c.in-Some.ensures.reads) c.in_ok-program.ensures.reads ∙ inv.same);
     }
 
 pub returns-in_err-end : goal.returns-in_err-end

@@ -3,24 +3,25 @@ use Rattle.std.proofs.lemmas.Result.{err_from_is_err_and}
 use Rattle.prog_tree.specs.Syntax.{Name, ExprTree, KeyTree, Plain, Get}
 use Rattle.prog_text.specs.declared.read_error.ReadError.{ReadError}
 use Rattle.prog_text.specs.declared.token.Token.{Token}
-use Rattle.prog_text.specs.Reading.{Fails, key_at, else_word_at, last_expr_at, get_at, as_plain}
+use Rattle.prog_text.specs.Reading.{Fails, key_at, expect, last_expr_at, get_at, as_plain}
 use Rattle.prog_text.proofs.BlockSteps.{then_fails}
 use Rattle.prog_text.proofs.statements.get.Goals as goal
+use Rattle.prog_text.specs.declared.token.Sign.TheVariants as sign
 
 no_key : (e : ReadError) (x : Name) (ts : List Token) → Fails e (key_at ts) → Fails e (as_plain (get_at x ts))
 unfolding get_at
 no_key e x ts h = then_fails e _ _ (then_fails e (key_at ts) _ h)
 
 module _ (x : Name) (ts us : List Token) (k : Name × KeyTree) (keyed : key_at ts ≡ Ok (k, us)) where
-  no_else : (e : ReadError) → Fails e (else_word_at us) → Fails e (as_plain (get_at x ts))
+  no_else : (e : ReadError) → Fails e (expect sign.Else us) → Fails e (as_plain (get_at x ts))
   unfolding get_at
-  no_else e h = rw keyed (then_fails e _ _ (then_fails e (else_word_at us) _ h))
+  no_else e h = rw keyed (then_fails e _ _ (then_fails e (expect sign.Else us) _ h))
 
-  no_value : (e : ReadError) (vs : List Token) → else_word_at us ≡ Ok (tt, vs) → Fails e (last_expr_at vs) → Fails e (as_plain (get_at x ts))
+  no_value : (e : ReadError) (vs : List Token) → expect sign.Else us ≡ Ok (tt, vs) → Fails e (last_expr_at vs) → Fails e (as_plain (get_at x ts))
   unfolding get_at
   no_value e vs worded h = rw (keyed, worded) (then_fails e _ _ (then_fails e (last_expr_at vs) _ h))
 
-  whole : (v : ExprTree) (vs ws : List Token) → else_word_at us ≡ Ok (tt, vs) → last_expr_at vs ≡ Ok (v, ws) → as_plain (get_at x ts) ≡ Ok (Plain (Get x k.0 k.1 v), ws)
+  whole : (v : ExprTree) (vs ws : List Token) → expect sign.Else us ≡ Ok (tt, vs) → last_expr_at vs ≡ Ok (v, ws) → as_plain (get_at x ts) ≡ Ok (Plain (Get x k.0 k.1 v), ws)
   unfolding get_at
   whole v vs ws worded valued = rw (keyed, worded, valued) refl
 

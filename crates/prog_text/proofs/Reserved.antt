@@ -1,0 +1,24 @@
+-- The table of reserved words, beside their definition.
+use Rattle.std.proofs.Common.{◌≡◌, ◌∙◌, ℕ, List, [], ◌∷◌, Bool, true, false, Option, Some, find, map, option_map, unwrap_or, bytes_eq, refl, ap, if◌then◌else◌}
+use Rattle.prog_text.specs.declared.token.Sign.{Sign}
+use Rattle.prog_text.specs.declared.token.Token.{Token}
+use Rattle.prog_text.specs.declared.token.Token.TheVariants as t
+use Rattle.prog_text.specs.declared.words.TheConstants.{RESERVED}
+use Rattle.prog_text.specs.Spelling.{spelling, reserved_words, sign_in}
+use Rattle.prog_text.specs.Lexing.{word_token}
+
+-- this sign, or what is found behind it
+first_or : (b : Bool) (u : Sign) (others : Option Sign) (found : Option Token) → option_map t.Sign others ≡ found → option_map t.Sign (if b then Some u else others) ≡ (if b then Some (t.Sign u) else found)
+first_or true u others found h = refl
+first_or false u others found h = h
+
+first_sign : (word : List ℕ) (signs : List Sign) → option_map t.Sign (sign_in (map (λ u. (spelling (t.Sign u), u)) signs) word) ≡ find (λ u. bytes_eq word (spelling u)) (map t.Sign signs)
+first_sign word [] = refl
+first_sign word (u ∷ signs) = first_or (bytes_eq word (spelling (t.Sign u))) u _ _ (first_sign word signs)
+
+reserved_sign : (word : List ℕ) → option_map t.Sign (sign_in (map (λ e. (e.0.now, e.1)) RESERVED) word) ≡ find (λ u. bytes_eq word (spelling u)) reserved_words
+reserved_sign word = first_sign word (map (λ e. e.1) RESERVED)
+
+-- a word is the sign that the table has for it, or else a name
+pub token_of_word : (word : List ℕ) (found : Option Sign) → found ≡ sign_in (map (λ e. (e.0.now, e.1)) RESERVED) word → unwrap_or (option_map t.Sign found) (t.Name word) ≡ word_token word
+token_of_word word found is = ap (λ o. unwrap_or (option_map t.Sign o) (t.Name word)) is ∙ ap (λ o. unwrap_or o (t.Name word)) (reserved_sign word)
