@@ -18,7 +18,10 @@ use Rattle.prog_tree.specs.Evaluation.{total_of}
 use Rattle.prog_tree.proofs.TableLemmas.{cell_total, find_is}
 use Rattle.prog_tree.proofs.ChangedLemmas.{row_at-changed}
 use Rattle.prog_run.specs.Looks.{rows_without}
-use Rattle.prog_run.specs.Seen.{counted, set_count, added, set_total}
+use Rattle.prog_run.specs.Seen.{counted, set_count, added, set_total, tally_with}
+use Rattle.prog_run.specs.Task.{tally_of}
+use Rattle.prog_run.specs.declared.task.Tally.{Tally}
+use Rattle.prog_run.specs.declared.task.Tally.TheVariants.{Count, Sum}
 
 -- ---- a row of a cell that had none
 
@@ -152,13 +155,18 @@ ordered_in r es h = subst (IsStrictlySortedBy cell_cmp) (sym (cells_of-in r es))
 
 -- ---- what a run sees: the rows of a look without its own cells, and its own changes
 
-pub length-seen : (m : TableState) (own : ChangedCells) → IsStrictlySortedBy cell_cmp (cells_of own) →
+length-seen : (m : TableState) (own : ChangedCells) → IsStrictlySortedBy cell_cmp (cells_of own) →
     length (changed (rows_without (cells_of own) m) own) ≡ length (rows_without (cells_of own) m) + set_count own
 length-seen m own ordered = length-changed (rows_without (cells_of own) m) own ordered (are_absent (cells_of own) m own (all_among own))
 
-pub total-seen : (m : TableState) (own : ChangedCells) → IsStrictlySortedBy cell_cmp (cells_of own) →
+total-seen : (m : TableState) (own : ChangedCells) → IsStrictlySortedBy cell_cmp (cells_of own) →
     total_of (changed (rows_without (cells_of own) m) own) ≡ total_of (rows_without (cells_of own) m) +ℤ set_total own
 total-seen m own ordered = total-changed (rows_without (cells_of own) m) own ordered (are_absent (cells_of own) m own (all_among own))
+
+pub tally-seen : (tally : Tally) (m : TableState) (own : ChangedCells) → IsStrictlySortedBy cell_cmp (cells_of own) →
+    tally_of tally (changed (rows_without (cells_of own) m) own) ≡ tally_with tally (rows_without (cells_of own) m) own
+tally-seen Count m own ordered = ap pos (length-seen m own ordered)
+tally-seen Sum m own ordered = total-seen m own ordered
 
 added_is : (w : Option ℤ) (z : ℤ) → added w z ≡ unwrap_or w (pos 0) +ℤ z
 added_is (Some v) z = refl

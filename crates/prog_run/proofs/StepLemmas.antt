@@ -1,98 +1,185 @@
 -- Laws of the steps of a run.
 use Rattle.std.proofs.Common.{◌≡◌, List, [], ◌∷◌, ◌++◌, refl, ap, sym, subst, ◌∙◌, true}
-use Rattle.std.specs.Prelude.{ℤ, Some, None}
+use Rattle.std.specs.Prelude.{ℤ, Option, Some, None, IfSome}
 use Rattle.prog_tree.specs.declared.cell.Cell.{Cell}
+use Rattle.prog_tree.specs.declared.cell.Region.{Region}
+use Rattle.prog_tree.specs.declared.deed.Cause.TheVariants.{Overflow}
 use Rattle.prog_tree.specs.declared.deed.End.{End}
+use Rattle.prog_tree.specs.declared.deed.End.TheVariants.{Ready, Aborted}
+use Rattle.prog_tree.specs.declared.deed.Look.{Look}
+use Rattle.prog_tree.specs.declared.deed.Look.TheVariants as look
 use Rattle.prog_tree.specs.declared.progress.Progress.{Progress}
 use Rattle.prog_tree.specs.declared.table.TableDecl.{TableDecl}
-use Rattle.prog_tree.specs.Syntax.{StatementTree, BlockTree, Then, StmtTree, Plain, Fork, block_from, ProgramTree}
+use Rattle.prog_tree.specs.Syntax.{Name, StatementTree, BlockTree, Then, StmtTree, Plain, Fork, block_from, ProgramTree}
 use Rattle.prog_tree.specs.ChangeSet.{change_at}
-use Rattle.prog_tree.specs.Evaluation.{and_then, ended}
+use Rattle.prog_tree.specs.Steps.{looked}
+use Rattle.prog_tree.specs.Table.{TableState}
+use Rattle.prog_tree.specs.Evaluation.{Flow, with_value, and_then, ended, own_cells, rows_seen, run_statement}
 use Rattle.prog_run.specs.Todo.{CursorTree, with_rest, todo}
-use Rattle.prog_run.specs.Cursor.{needs_store, is_store_stmt, is_store, SameTodo, KeepsStore, IsOver}
-use Rattle.prog_run.specs.Looks.{asked_next}
-use Rattle.prog_run.specs.Statement.{IsDone, IsStmtDone}
-use Rattle.prog_run.specs.Step.{next_of, question_after, end_after, cursor_after, IsAsking, IsStep}
-use Rattle.prog_run.specs.View.{IsTrueTo, IsWaiting}
-use Rattle.prog_run.specs.declared.next.Next.{Next}
-use Rattle.prog_run.specs.declared.next.Next.TheVariants.{Get, Scan, Did, Done}
+use Rattle.prog_run.specs.Cursor.{is_store_stmt, is_store, SameTodo, KeepsStore, IsOver}
+use Rattle.prog_run.specs.Task.{UseTree, AskedTree, OfCell, OfRegion, TaskTree, asked_tree, use_tree, task_of, task_of_stmt, next_task, use_flow, rows_flow, task_flow}
+use Rattle.prog_run.specs.Task as task
+use Rattle.prog_run.specs.Looks.{asked_by, rows_without, region_look}
+use Rattle.prog_run.specs.Statement.{IsFlow, IsBegun}
+use Rattle.prog_run.specs.Step.{next_of, asked_after, question_after, end_after, deeds_after, rest_after, cursor_after, IsAt, IsStep}
+use Rattle.prog_run.specs.View.{IsTrueTo, IsWaiting, asked_region, question_in}
+use Rattle.prog_run.specs.declared.next.Next.TheVariants.{Get}
 use Rattle.prog_run.specs.declared.next.Question.{Question}
-use Rattle.prog_run.specs.declared.next.Question.TheVariants.{One, Range}
-use Rattle.prog_run.specs.declared.next.Outcome.{Outcome}
-use Rattle.prog_run.specs.declared.next.Outcome.TheVariants as outcome
+use Rattle.prog_run.specs.declared.next.Question.TheVariants.{Range}
+use Rattle.prog_run.specs.declared.next.Step.{Step}
+use Rattle.prog_run.specs.declared.next.Step.TheVariants.{Asks, Did, Over}
+use Rattle.prog_run.specs.declared.task.Asked.{Asked}
+use Rattle.prog_run.specs.declared.task.Asked.TheVariants as asked
+use Rattle.prog_run.specs.declared.task.Tally.{Tally}
 use Rattle.prog_run.proofs.LookLemmas.{found_same, asked_unchanged}
+use Rattle.prog_run.proofs.StatementLemmas.{IsDoneBy, task_law, task_store, first_statement, begun_done, cell_done, rows_done}
 use Rattle.prog_run.proofs.TodoLemmas.{todo_then}
 
-module _ (tables : List TableDecl) (statement : StatementTree) (rest : BlockTree) (c d : CursorTree) (p q : Progress) (is : c.here.rest ≡ Then statement rest) (store : needs_store statement ≡ true) where
-  asking : (question : Question) → d ≡ c → (q ≡ p) × (asked_next tables (Then statement rest) p ≡ Some question) → IsAsking tables question c p d q
-  asking question at h = (
-    λ m f i. todo tables m (at i) (h.0 i),
-    found_same p q (ap (λ (r : Progress). r.looks) h.0),
-    record { deeds = ap (λ (r : Progress). r.deeds) h.0; changes = ap (λ (r : Progress). r.changes) h.0; looks = ap (λ (r : Progress). r.looks) h.0 },
-    (ap (λ (k : CursorTree). is_store k.here.rest) at ∙ ap is_store is ∙ store, (λ i. asked_next tables (at i).here.rest (h.0 i)) ∙ ap (λ b. asked_next tables b p) is ∙ h.1),
-  )
+-- a statement that is done is a step of the cursor
+module _ (tables : List TableDecl) (statement : StatementTree) (rest : BlockTree) (c d : CursorTree) (p q : Progress) (is : c.here.rest ≡ Then statement rest) where
+  done : (n : Step) → d ≡ cursor_after n c → (flow : TableState → Flow) → ((m : TableState) → run_statement tables m statement p ≡ flow m) → IsDoneBy flow n p q → IsStep tables n c p d q
+  done (Asks a) at flow same h = absurd h
+  done (Did deed) at flow same h =
+      (λ m f. ap (λ k. todo tables m k q) (at ∙ ap (λ b. with_rest (rest_after b) c) is) ∙ sym (todo_then tables m statement rest c p is ∙ ap (λ r. and_then r (todo tables m (with_rest rest c))) (same m ∙ h.0 m f)), h.1, h.2)
+  done (Over (Aborted cause)) at flow same h =
+      (λ m f. ap ended (todo_then tables m statement rest c p is ∙ ap (λ r. and_then r (todo tables m (with_rest rest c))) (same m ∙ h.0 m f)), h.1, h.2)
+  done (Over Ready) at flow same h = absurd h
 
-  -- a statement that is done is a step of the cursor
-  pub step_of : (n : Outcome) → d ≡ cursor_after n rest c → IsDone tables statement n p q → IsStep tables (next_of n) c p d q
-  step_of (outcome.Asks (One cell)) at h = asking (One cell) at h
-  step_of (outcome.Asks (Range region)) at h = asking (Range region) at h
-  step_of (outcome.Did deed) at h =
-      (λ m f. ap (λ k. todo tables m k q) at ∙ sym (todo_then tables m statement rest c p is ∙ ap (λ r. and_then r (todo tables m (with_rest rest c))) (h.0 m f)), h.1, h.2)
-  step_of (outcome.Aborts cause) at h =
-      (λ m f. ap ended (todo_then tables m statement rest c p is ∙ ap (λ r. and_then r (todo tables m (with_rest rest c))) (h.0 m f)), h.1, h.2)
+  module _ (t : TaskTree) (has : task_of tables statement p.env ≡ Some t) where
+    by_task : (m : TableState) → run_statement tables m statement p ≡ task_flow m t p
+    by_task m = task_law tables m statement p (task_store tables statement p.env t has) ∙ ap (λ o. with_value o p (λ u. task_flow m u p)) has
 
--- so is any statement that is done
-pub step_of_stmt : (tables : List TableDecl) (x : StmtTree) (rest : BlockTree) (c d : CursorTree) (p q : Progress) → c.here.rest ≡ block_from x rest → is_store_stmt x ≡ true
-    → (n : Outcome) → d ≡ cursor_after n rest c → IsStmtDone tables x n p q → IsStep tables (next_of n) c p d q
-step_of_stmt tables (Plain statement) rest c d p q is store n at h = step_of tables statement rest c d p q is store n at h
-step_of_stmt tables (Fork test a b) rest c d p q is store n at h = absurd h
+    -- so is one whose look is answered
+    pub finished : (n : Step) → d ≡ cursor_after n c → IsDoneBy (λ m. task_flow m t p) n p q → IsStep tables n c p d q
+    finished n at h = done n at (λ m. task_flow m t p) by_task h
+
+    -- and one that is begun
+    pub step_of : (n : Step) → d ≡ cursor_after n c → IsBegun t n p q → IsStep tables n c p d q
+    step_of (Asks a) at h = (
+      λ m f i. todo tables m (at i) (h.0 i),
+      found_same p q (ap (λ (r : Progress). r.looks) h.0),
+      record { deeds = ap (λ (r : Progress). r.deeds) h.0; changes = ap (λ (r : Progress). r.changes) h.0; looks = ap (λ (r : Progress). r.looks) h.0 },
+      (
+        (λ i. next_task tables (at i).here.rest (h.0 i).env) ∙ ap (λ b. next_task tables b p.env) is ∙ has ∙ ap Some h.1,
+        ap (λ (r : Progress). asked_by r.changes (task.Look (asked_tree a))) h.0 ∙ ap (asked_by p.changes) (sym h.1) ∙ h.2,
+      ),
+    )
+    step_of (Did deed) at h = finished (Did deed) at (begun_done t (Did deed) p q h)
+    step_of (Over end) at h = finished (Over end) at (begun_done t (Over end) p q h)
+
+-- a statement without a task ends the run
+pub step_without : (tables : List TableDecl) (x : StmtTree) (rest : BlockTree) (c d : CursorTree) (p : Progress) → c.here.rest ≡ block_from x rest → is_store_stmt x ≡ true →
+    task_of_stmt tables x p.env ≡ None → IsStep tables (Over (Aborted Overflow)) c p d p
+step_without tables (Plain statement) rest c d p is store none =
+    let flow = λ (m : TableState). task_law tables m statement p store ∙ ap (λ o. with_value o p (λ t. task_flow m t p)) none in
+    (λ m f. ap ended (todo_then tables m statement rest c p is ∙ ap (λ r. and_then r (todo tables m (with_rest rest c))) (flow m)), λ m f. f, refl)
+step_without tables (Fork test a b) rest c d p is store none = absurd (cc)
+
+-- any statement of the store that is begun
+pub step_of_stmt : (tables : List TableDecl) (x : StmtTree) (rest : BlockTree) (c d : CursorTree) (p q : Progress) → c.here.rest ≡ block_from x rest →
+    (t : TaskTree) → task_of_stmt tables x p.env ≡ Some t → (n : Step) → d ≡ cursor_after n c → IsBegun t n p q → IsStep tables n c p d q
+step_of_stmt tables (Plain statement) rest c d p q is t has n at h = step_of tables statement rest c d p q is t has n at h
+step_of_stmt tables (Fork test a b) rest c d p q is t has n at h = absurd (cc)
 
 -- a statement in front of the rest of its block
 pub store_first : (x : StmtTree) (rest : BlockTree) → is_store (block_from x rest) ≡ is_store_stmt x
 store_first (Plain statement) rest = refl
 store_first (Fork test a b) rest = refl
 
--- steps without the store and then a step at the store are a step
+-- ---- answers
+
+module _ (tables : List TableDecl) (c d : CursorTree) (p q : Progress) where
+  pub cell_step : (cell : Cell) (usage : UseTree) (held : Option ℤ) → IsAt tables (OfCell cell usage) c p → (n : Step) → d ≡ cursor_after n c →
+      IsFlow (use_flow usage cell held (looked (look.One cell held) p)) n (looked (look.One cell held) p) q → IsStep tables n c p d q
+  cell_step cell usage held h n at done =
+      let first = first_statement tables c.here.rest p.env (task.Look (OfCell cell usage)) h.0 in
+      finished tables first.0 first.1 c d p q first.2 (task.Look (OfCell cell usage)) (ap (λ b. next_task tables b p.env) (sym first.2) ∙ h.0) n at
+      (cell_done cell usage held p (asked_unchanged p.changes cell usage h.1) n q done)
+
+  pub rows_step : (region : Region) (tally : Tally) (name : Name) (rows : TableState) → IsAt tables (OfRegion region tally name) c p → (n : Step) → d ≡ cursor_after n c →
+      IsFlow (rows_flow tally name region (rows_seen region p.changes.cells (rows_without (own_cells region p.changes.cells) rows)) (looked (region_look p.changes region rows) p)) n (looked (region_look p.changes region rows) p) q →
+      IsStep tables n c p d q
+  rows_step region tally name rows h n at done =
+      let first = first_statement tables c.here.rest p.env (task.Look (OfRegion region tally name)) h.0 in
+      finished tables first.0 first.1 c d p q first.2 (task.Look (OfRegion region tally name)) (ap (λ b. next_task tables b p.env) (sym first.2) ∙ h.0) n at
+      (rows_done region tally name rows p n q done)
+
+-- what an answer adds, and that it asks nothing
+pub answer_adds : (l : Look) (f : Flow) (n : Step) (p q : Progress) → IsFlow f n (looked l p) q →
+    (q.deeds ≡ deeds_after (next_of n) p.deeds) × (q.looks ≡ p.looks ++ l ∷ []) × (question_after (next_of n) ≡ None)
+answer_adds l f (Asks a) p q h = absurd h
+answer_adds l f (Did deed) p q h = (h.1, h.2, refl)
+answer_adds l f (Over (Aborted cause)) p q h = (h.1, h.2, refl)
+answer_adds l f (Over Ready) p q h = absurd h
+
+-- what is so of the region that a run asks for
+pub asked_for_rows : (waits : Option Question) (region : Region) (P : Region → Type 0) → waits ≡ Some (Range region) → P region → IfSome (asked_region waits) P
+asked_for_rows waits region P is holds = subst (λ o. IfSome (asked_region o) P) (sym is) holds
+
+-- ---- steps without the store and then a step at the store are a step
+
 module _ (tables : List TableDecl) (c b d : CursorTree) (p r q : Progress) (same : SameTodo c p b r) (k : KeepsStore p r) where
-  asking_then : (question : Question) → IsAsking tables question b r d q → IsAsking tables question c p d q
-  asking_then question h = (
+  pub settled_then : (n : Step) → IsStep tables n b r d q → IsStep tables n c p d q
+  settled_then (Asks a) h = (
     λ m f. h.0 m f ∙ same tables m,
     λ m f. found_same p r k.looks m (h.1 m f),
     record { deeds = h.2.deeds ∙ k.deeds; changes = h.2.changes ∙ k.changes; looks = h.2.looks ∙ k.looks },
     h.3,
   )
-
-  pub settled_then : (n : Next) → IsStep tables n b r d q → IsStep tables n c p d q
-  settled_then (Get cell) h = asking_then (One cell) h
-  settled_then (Scan region) h = asking_then (Range region) h
   settled_then (Did deed) h = (λ m f. h.0 m f ∙ same tables m, λ m f. found_same p r k.looks m (h.1 m f), h.2 ∙ ap (λ ds. ds ++ deed ∷ []) k.deeds)
-  settled_then (Done end) h = (λ m f. ap ended (sym (same tables m)) ∙ h.0 m f, λ m f. found_same p r k.looks m (h.1 m f), h.2 ∙ k.deeds)
+  settled_then (Over end) h = (λ m f. ap ended (sym (same tables m)) ∙ h.0 m f, λ m f. found_same p r k.looks m (h.1 m f), h.2 ∙ k.deeds)
 
 pub settled_over : (tables : List TableDecl) (end : End) (c d : CursorTree) (p q : Progress) →
-    IsOver end c p q → KeepsStore p q → IsStep tables (Done end) c p d q
+    IsOver end c p q → KeepsStore p q → IsStep tables (Over end) c p d q
 settled_over tables end c d p q over k = (λ m f. over tables m, found_same p q k.looks, k.deeds)
+
+-- ---- a run after a step
 
 -- a run that was true to its program is so after a step
 module _ (tables : List TableDecl) (program : ProgramTree) (args : List ℤ) (c d : CursorTree) (p q : Progress) (t : IsTrueTo tables program args None c p) where
-  pub true_after : (n : Next) → IsStep tables n c p d q → IsTrueTo tables program args (end_after n) d q
-  true_after (Get cell) h m f = ap ended (h.0 m f) ∙ t m (h.1 m f)
-  true_after (Scan region) h m f = ap ended (h.0 m f) ∙ t m (h.1 m f)
+  pub true_after : (n : Step) → IsStep tables n c p d q → IsTrueTo tables program args (end_after (next_of n)) d q
+  true_after (Asks (asked.OfCell cell usage)) h m f = ap ended (h.0 m f) ∙ t m (h.1 m f)
+  true_after (Asks (asked.OfRegion region tally name)) h m f = ap ended (h.0 m f) ∙ t m (h.1 m f)
   true_after (Did deed) h m f = ap ended (h.0 m f) ∙ t m (h.1 m f)
-  true_after (Done end) h m f = sym (h.0 m f) ∙ t m (h.1 m f)
+  true_after (Over end) h m f = sym (h.0 m f) ∙ t m (h.1 m f)
 
   pub true_still : SameTodo c p d q → KeepsStore p q → IsTrueTo tables program args None d q
   true_still same k m f = ap ended (same tables m) ∙ t m (found_same p q k.looks m f)
 
+-- so is a run whose question was answered
+pub true_answered : (tables : List TableDecl) (program : ProgramTree) (args : List ℤ) (before after : Option End) (c d : CursorTree) (p q : Progress) (n : Step) →
+    before ≡ None → after ≡ end_after (next_of n) → IsTrueTo tables program args before c p → IsStep tables n c p d q → IsTrueTo tables program args after d q
+true_answered tables program args before after c d p q n goes_on ends t step =
+    subst (λ o. IsTrueTo tables program args o d q) (sym ends)
+    (true_after tables program args c d p q (subst (λ o. IsTrueTo tables program args o c p) goes_on t) n step)
+
 -- after a step the run waits for what the next statement asks
-pub waits_after : (tables : List TableDecl) (c d : CursorTree) (p q : Progress) (n : Next) → IsStep tables n c p d q → IsWaiting tables (question_after n) (end_after n) d q
-waits_after tables c d p q (Get cell) h question e = (refl, (h.3.0, h.3.1 ∙ e))
-waits_after tables c d p q (Scan region) h question e = (refl, (h.3.0, h.3.1 ∙ e))
-waits_after tables c d p q (Did deed) h question e = absurd (cc)
-waits_after tables c d p q (Done end) h question e = absurd (cc)
+pub waits_after : (tables : List TableDecl) (c d : CursorTree) (p q : Progress) (n : Step) → IsStep tables n c p d q → IsWaiting tables (asked_after n) (end_after (next_of n)) d q
+waits_after tables c d p q (Asks (asked.OfCell cell usage)) h a e =
+    let same : asked.OfCell cell usage ≡ a = cc in (refl, subst (λ (x : Asked). IsAt tables (asked_tree x) d q) same h.3)
+waits_after tables c d p q (Asks (asked.OfRegion region tally name)) h a e =
+    let same : asked.OfRegion region tally name ≡ a = cc in (refl, subst (λ (x : Asked). IsAt tables (asked_tree x) d q) same h.3)
+waits_after tables c d p q (Did deed) h a e = absurd (cc)
+waits_after tables c d p q (Over end) h a e = absurd (cc)
+
+-- what a step adds to the deeds
+pub step_deeds : (tables : List TableDecl) (c d : CursorTree) (p q : Progress) (n : Step) → IsStep tables n c p d q → q.deeds ≡ deeds_after (next_of n) p.deeds
+step_deeds tables c d p q (Asks (asked.OfCell cell usage)) h = h.2.deeds
+step_deeds tables c d p q (Asks (asked.OfRegion region tally name)) h = h.2.deeds
+step_deeds tables c d p q (Did deed) h = h.2
+step_deeds tables c d p q (Over end) h = h.2
+
+-- the question that a caller sees
+pub step_question : (n : Step) → question_in (asked_after n) ≡ question_after (next_of n)
+step_question (Asks (asked.OfCell cell usage)) = refl
+step_question (Asks (asked.OfRegion region tally name)) = refl
+step_question (Did deed) = refl
+step_question (Over end) = refl
 
 -- after a step the run asks for no cell that it has changed
-pub step_unchanged : (tables : List TableDecl) (c d : CursorTree) (p q : Progress) (n : Next) → IsStep tables n c p d q → (cell : Cell) → n ≡ Get cell → change_at q.changes cell ≡ None
-step_unchanged tables c d p q (Get k) h cell e = let same : k ≡ cell = cc in subst (λ (x : Cell). change_at q.changes x ≡ None) same (asked_unchanged tables d.here.rest q k h.3.1)
-step_unchanged tables c d p q (Scan region) h cell e = absurd (cc)
+pub step_unchanged : (tables : List TableDecl) (c d : CursorTree) (p q : Progress) (n : Step) → IsStep tables n c p d q → (cell : Cell) → next_of n ≡ Get cell → change_at q.changes cell ≡ None
+step_unchanged tables c d p q (Asks (asked.OfCell k usage)) h cell e =
+    let same : k ≡ cell = cc in subst (λ (x : Cell). change_at q.changes x ≡ None) same (asked_unchanged q.changes k (use_tree usage) h.3.1)
+step_unchanged tables c d p q (Asks (asked.OfRegion region tally name)) h cell e = absurd (cc)
 step_unchanged tables c d p q (Did deed) h cell e = absurd (cc)
-step_unchanged tables c d p q (Done end) h cell e = absurd (cc)
+step_unchanged tables c d p q (Over end) h cell e = absurd (cc)

@@ -1,6 +1,6 @@
 -- Worked examples of what a run asks, of the looks that answers make, and of refusals, computed from the definitions.
 use Rattle.std.proofs.Common.{◌≡◌, [], ◌∷◌, refl, false}
-use Rattle.std.specs.Prelude.{ℤ, pos, codes, ◌-◌, ◌^◌, List, Some, None, length}
+use Rattle.std.specs.Prelude.{ℤ, pos, codes, ◌-◌, ◌^◌, List, Option, Some, None, option_and_then}
 use Rattle.prog_tree.specs.declared.cell.Cell.{Cell}
 use Rattle.prog_tree.specs.declared.cell.Region.{Region}
 use Rattle.prog_tree.specs.declared.deed.Cause.TheVariants.{Overflow}
@@ -11,21 +11,23 @@ use Rattle.prog_tree.specs.declared.deed.Look.TheVariants as look
 use Rattle.prog_tree.specs.declared.table.Arity.TheVariants as arity
 use Rattle.prog_tree.specs.declared.table.TableDecl.{TableDecl}
 use Rattle.prog_tree.specs.declared.progress.Progress.{Progress}
-use Rattle.prog_tree.specs.Syntax.{ExprTree, Literal, Named, Plus, Less, KeyTree, BlockTree, BlockEnd, Then, Branch}
+use Rattle.prog_tree.specs.Syntax.{ExprTree, Literal, Named, Plus, Less, KeyTree, StatementTree, BlockTree, BlockEnd, Then, Branch}
 use Rattle.prog_tree.specs.Syntax as s
 use Rattle.prog_tree.specs.Steps.{started_with, wrote}
 use Rattle.prog_tree.specs.Table.{TableState}
-use Rattle.prog_tree.specs.Evaluation.{total_of, rows_seen}
-use Rattle.prog_run.specs.Looks.{AreFound, asked_by, look_of}
+use Rattle.prog_tree.specs.Evaluation.{rows_seen}
+use Rattle.prog_run.specs.Looks.{AreFound, asked_by, region_look}
+use Rattle.prog_run.specs.Task.{task_of, tally_of}
+use Rattle.prog_run.specs.declared.task.Tally.TheVariants.{Count, Sum}
 use Rattle.prog_run.specs.Seen.{set_count, set_total}
 use Rattle.prog_run.specs.Step.{next_of, end_after, deeds_after}
 use Rattle.prog_run.specs.Todo.{weight}
 use Rattle.prog_run.specs.View.{get_fault, scan_fault, begin_fault}
 use Rattle.prog_run.specs.declared.fault.AnswerFault.TheVariants.{NotAsked, BadRows}
 use Rattle.prog_run.specs.declared.fault.RunFault.TheVariants.{NoSuchProgram}
-use Rattle.prog_run.specs.declared.next.Answer.TheVariants as answer
 use Rattle.prog_run.specs.declared.next.Next.TheVariants as next
-use Rattle.prog_run.specs.declared.next.Outcome.TheVariants as outcome
+use Rattle.prog_run.specs.declared.next.Step.TheVariants as step
+use Rattle.prog_run.specs.declared.next.Question.{Question}
 use Rattle.prog_run.specs.declared.next.Question.TheVariants.{One, Range}
 
 -- ---- in short
@@ -64,27 +66,30 @@ answered = (cell_2 (pos 7) (pos 1), pos 9) ∷ (cell_2 (pos 7) (pos 3), pos 4) �
 
 -- ---- questions
 
+abbrev asked_of : StatementTree → Progress → Option Question
+asked_of st p = option_and_then (asked_by p.changes) (task_of tables st p.env)
+
 -- let x = get t[d] else 0;
-pub get_asks : asked_by tables (s.Get (codes "x") (codes "t") (s.One (Named (codes "d"))) (number (pos 0))) nothing_yet ≡ Some (One (cell (pos 7)))
+pub get_asks : asked_of (s.Get (codes "x") (codes "t") (s.One (Named (codes "d"))) (number (pos 0))) nothing_yet ≡ Some (One (cell (pos 7)))
 get_asks = refl
 
 -- let x = need e[d, 2]; of a cell that the run has set, and of one that it has removed
-pub own_is_not_asked : asked_by tables (s.Need (codes "x") (codes "e") (s.Two (Named (codes "d")) (number (pos 2)))) own ≡ None
+pub own_is_not_asked : asked_of (s.Need (codes "x") (codes "e") (s.Two (Named (codes "d")) (number (pos 2)))) own ≡ None
 own_is_not_asked = refl
 
-pub removed_is_not_asked : asked_by tables (s.Lacks (codes "e") (s.Two (Named (codes "d")) (number (pos 1)))) own ≡ None
+pub removed_is_not_asked : asked_of (s.Lacks (codes "e") (s.Two (Named (codes "d")) (number (pos 1)))) own ≡ None
 removed_is_not_asked = refl
 
 -- insert t[1] = greatest + 1; the value comes before the look
-pub overflow_asks_nothing : asked_by tables (s.Insert (codes "t") (s.One (number (pos 1))) too_large) nothing_yet ≡ None
+pub overflow_asks_nothing : asked_of (s.Insert (codes "t") (s.One (number (pos 1))) too_large) nothing_yet ≡ None
 overflow_asks_nothing = refl
 
 -- let x = get t[1] else greatest + 1; the other value comes after the look
-pub else_comes_later : asked_by tables (s.Get (codes "x") (codes "t") (s.One (number (pos 1))) too_large) nothing_yet ≡ Some (One (cell (pos 1)))
+pub else_comes_later : asked_of (s.Get (codes "x") (codes "t") (s.One (number (pos 1))) too_large) nothing_yet ≡ Some (One (cell (pos 1)))
 else_comes_later = refl
 
 -- let n = count e[d, 1..3]; own changes don't answer it
-pub count_asks : asked_by tables (s.Count (codes "n") (codes "e") (s.TwoRange (Named (codes "d")) (number (pos 1)) (number (pos 3)))) own ≡ Some (Range region)
+pub count_asks : asked_of (s.Count (codes "n") (codes "e") (s.TwoRange (Named (codes "d")) (number (pos 1)) (number (pos 3)))) own ≡ Some (Range region)
 count_asks = refl
 
 -- ---- looks
@@ -92,20 +97,17 @@ count_asks = refl
 abbrev own_look : Look
 own_look = look.Range region (cell_2 (pos 7) (pos 1) ∷ cell_2 (pos 7) (pos 2) ∷ []) ((cell_2 (pos 7) (pos 3), pos 4) ∷ [])
 
-pub look_leaves_out_own : look_of own.changes (Range region) (answer.Range answered) ≡ Some own_look
+pub look_leaves_out_own : region_look own.changes region answered ≡ own_look
 look_leaves_out_own = refl
 
 pub look_is_found : AreFound opening (own_look ∷ look.One (cell_2 (pos 8) (pos 2)) (Some (pos 1)) ∷ [])
 look_is_found = (refl, (refl, tt))
 
-pub answer_of_another_kind : look_of own.changes (Range region) (answer.One (Some (pos 3))) ≡ None
-answer_of_another_kind = refl
-
 -- two rows seen: that of the look, and the one that the run has set
-pub seen_count : length (rows_seen region own.changes.cells ((cell_2 (pos 7) (pos 3), pos 4) ∷ [])) ≡ 2
+pub seen_count : tally_of Count (rows_seen region own.changes.cells ((cell_2 (pos 7) (pos 3), pos 4) ∷ [])) ≡ pos 2
 seen_count = refl
 
-pub seen_total : total_of (rows_seen region own.changes.cells ((cell_2 (pos 7) (pos 3), pos 4) ∷ [])) ≡ pos 9
+pub seen_total : tally_of Sum (rows_seen region own.changes.cells ((cell_2 (pos 7) (pos 3), pos 4) ∷ [])) ≡ pos 9
 seen_total = refl
 
 pub own_count : set_count own.changes.cells ≡ 1
@@ -130,7 +132,7 @@ no_such_program = refl
 
 -- ---- steps
 
-pub ends_overflow : end_after (next_of (outcome.Aborts Overflow)) ≡ Some (Aborted Overflow)
+pub ends_overflow : end_after (next_of (step.Over (Aborted Overflow))) ≡ Some (Aborted Overflow)
 ends_overflow = refl
 
 pub deed_counts : deeds_after (next.Did (Put (cell (pos 1)) (pos 5))) (Read (cell (pos 1)) None ∷ []) ≡ Read (cell (pos 1)) None ∷ Put (cell (pos 1)) (pos 5) ∷ []

@@ -48,26 +48,6 @@ abbrev pub is_store_stmt : StmtTree → Bool
 is_store_stmt (Plain statement) = needs_store statement
 is_store_stmt (Fork test a b) = false
 
--- whether a statement changes a cell without a look
-abbrev pub is_change : StatementTree → Bool
-is_change (s.Bind name value) = false
-is_change (s.Get name table key otherwise) = false
-is_change (s.Need name table key) = false
-is_change (s.Count name table range) = false
-is_change (s.Sum name table range) = false
-is_change (s.Lacks table key) = false
-is_change (s.Put table key value) = true
-is_change (s.Insert table key value) = false
-is_change (s.Delete table key) = true
-is_change (s.Keep table key) = true
-is_change (s.Reply value) = false
-is_change s.Abort = false
-
--- the same of any statement
-abbrev pub is_change_stmt : StmtTree → Bool
-is_change_stmt (Plain statement) = is_change statement
-is_change_stmt (Fork test a b) = false
-
 -- whether a block begins with a statement of the store
 abbrev pub is_store : BlockTree → Bool
 is_store BlockEnd = false

@@ -3,6 +3,7 @@ pub mod Looks
 pub mod Seen
 pub mod Statement
 pub mod Step
+pub mod Task
 pub mod Texts
 pub mod Todo
 pub mod View

@@ -1,11 +1,10 @@
 -- What a run sees in a region: the rows of a look, and its own changes.
-use Rattle.std.specs.Prelude.{◌≡◌, ℕ, ◌+◌, ℤ, pos, ◌+ℤ◌, [], ◌∷◌, length, Option, Some, None}
-use Rattle.prog_tree.specs.declared.cell.Region.{Region}
+use Rattle.std.specs.Prelude.{ℕ, ◌+◌, ℤ, pos, ◌+ℤ◌, [], ◌∷◌, length, Option, Some, None}
 use Rattle.prog_tree.specs.Table.{TableState}
 use Rattle.prog_tree.specs.ChangeSet.{ChangedCells}
-use Rattle.prog_tree.specs.Evaluation.{total_of, rows_seen}
-use Rattle.prog_tree.specs.Value.{exact}
-use Rattle.prog_run.specs.declared.region.Seen.{Seen}
+use Rattle.prog_tree.specs.Evaluation.{total_of}
+use Rattle.prog_run.specs.declared.task.Tally.{Tally}
+use Rattle.prog_run.specs.declared.task.Tally.TheVariants.{Count, Sum}
 
 -- one more where a change sets its cell
 abbrev pub counted : Option ℤ → ℕ → ℕ
@@ -27,7 +26,7 @@ abbrev pub set_total : ChangedCells → ℤ
 set_total [] = pos 0
 set_total (entry ∷ entries) = added entry.1 (set_total entries)
 
--- the number of the rows seen, and their total, each none outside i64
-pub record IsSight (region : Region) (changes : ChangedCells) (rows : TableState) (seen : Seen) : Type 0 where
-  pub count : seen.count ≡ exact (pos (length (rows_seen region changes rows)))
-  pub total : seen.total ≡ exact (total_of (rows_seen region changes rows))
+-- the number of rows and of what own changes set in other cells, or their total
+abbrev pub tally_with : Tally → TableState → ChangedCells → ℤ
+tally_with Count rows own = pos (length rows + set_count own)
+tally_with Sum rows own = total_of rows +ℤ set_total own

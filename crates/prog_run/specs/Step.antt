@@ -1,29 +1,40 @@
 -- A step of a run at the store.
-use Rattle.std.specs.Prelude.{◌≡◌, List, [], ◌∷◌, ◌++◌, Option, Some, None, true}
+use Rattle.std.specs.Prelude.{◌≡◌, List, [], ◌∷◌, ◌++◌, Option, Some, None}
 use Rattle.prog_tree.specs.declared.deed.Deed.{Deed}
 use Rattle.prog_tree.specs.declared.deed.End.{End}
-use Rattle.prog_tree.specs.declared.deed.End.TheVariants.{Aborted}
 use Rattle.prog_tree.specs.declared.progress.Progress.{Progress}
 use Rattle.prog_tree.specs.declared.table.TableDecl.{TableDecl}
-use Rattle.prog_tree.specs.Syntax.{BlockTree}
+use Rattle.prog_tree.specs.Syntax.{BlockTree, BlockEnd, Then, Branch}
 use Rattle.prog_tree.specs.Table.{TableState}
 use Rattle.prog_tree.specs.Evaluation.{as_evaluation, ended}
 use Rattle.prog_run.specs.Todo.{CursorTree, with_rest, todo}
-use Rattle.prog_run.specs.Cursor.{KeepsStore, is_store}
-use Rattle.prog_run.specs.Looks.{AreFound, FoundBefore, asked_next}
+use Rattle.prog_run.specs.Cursor.{KeepsStore}
+use Rattle.prog_run.specs.Task.{AskedTree, Look, asked_tree, next_task}
+use Rattle.prog_run.specs.Looks.{AreFound, FoundBefore, asked_by, question_of}
 use Rattle.prog_run.specs.declared.next.Next.{Next}
 use Rattle.prog_run.specs.declared.next.Next.TheVariants.{Get, Scan, Did, Done}
 use Rattle.prog_run.specs.declared.next.Question.{Question}
 use Rattle.prog_run.specs.declared.next.Question.TheVariants.{One, Range}
-use Rattle.prog_run.specs.declared.next.Outcome.{Outcome}
-use Rattle.prog_run.specs.declared.next.Outcome.TheVariants as outcome
+use Rattle.prog_run.specs.declared.next.Step.{Step}
+use Rattle.prog_run.specs.declared.next.Step.TheVariants as step
+use Rattle.prog_run.specs.declared.task.Asked.{Asked}
+use Rattle.prog_run.specs.declared.task.Asked.TheVariants as asked
 
--- what a run answers to its caller where one statement comes to this
-abbrev pub next_of : Outcome → Next
-next_of (outcome.Asks (One cell)) = Get cell
-next_of (outcome.Asks (Range region)) = Scan region
-next_of (outcome.Did deed) = Did deed
-next_of (outcome.Aborts cause) = Done (Aborted cause)
+-- what a run answers to its caller where it asks
+abbrev pub next_asking : Asked → Next
+next_asking (asked.OfCell cell usage) = Get cell
+next_asking (asked.OfRegion region tally name) = Scan region
+
+-- what a run answers to its caller where a step comes to this
+abbrev pub next_of : Step → Next
+next_of (step.Asks asked) = next_asking asked
+next_of (step.Did deed) = Did deed
+next_of (step.Over end) = Done end
+
+-- what waits for an answer after a step
+abbrev pub asked_after : Step → Option Asked
+asked_after (step.Asks asked) = Some asked
+asked_after _ = None
 
 -- the question that waits after a step
 abbrev pub question_after : Next → Option Question
@@ -41,10 +52,16 @@ abbrev pub end_after : Next → Option End
 end_after (Done end) = Some end
 end_after _ = None
 
+-- the rest of a block behind its first statement
+abbrev pub rest_after : BlockTree → BlockTree
+rest_after BlockEnd = BlockEnd
+rest_after (Then statement rest) = rest
+rest_after (Branch test a b rest) = rest
+
 -- the cursor goes on after a statement that is done
-abbrev pub cursor_after : Outcome → BlockTree → CursorTree → CursorTree
-cursor_after (outcome.Did deed) rest c = with_rest rest c
-cursor_after _ rest c = c
+abbrev pub cursor_after : Step → CursorTree → CursorTree
+cursor_after (step.Did deed) c = with_rest (rest_after c.here.rest) c
+cursor_after _ c = c
 
 -- what is left is the same, on each table state that holds what the looks found
 abbrev pub GoesTo : List TableDecl → CursorTree → Progress → CursorTree → Progress → Type 0
@@ -54,17 +71,13 @@ GoesTo tables c p d q = (m : TableState) → AreFound m q.looks → todo tables 
 abbrev pub EndsAs : List TableDecl → End → CursorTree → Progress → Progress → Type 0
 EndsAs tables end c p q = (m : TableState) → AreFound m q.looks → ended (todo tables m c p) ≡ as_evaluation end q
 
--- the run stands before a statement of the store that asks this
-abbrev pub IsAt : List TableDecl → Question → CursorTree → Progress → Type 0
-IsAt tables question c p = (is_store c.here.rest ≡ true) × (asked_next tables c.here.rest p ≡ Some question)
-
--- a step that comes to this question: nothing is done at the store
-abbrev pub IsAsking : List TableDecl → Question → CursorTree → Progress → CursorTree → Progress → Type 0
-IsAsking tables question c p d q = GoesTo tables c p d q × FoundBefore p q × KeepsStore p q × IsAt tables question d q
+-- the run stands before a statement whose task is this look, at nothing that it has changed
+abbrev pub IsAt : List TableDecl → AskedTree → CursorTree → Progress → Type 0
+IsAt tables asked c p = (next_task tables c.here.rest p.env ≡ Some (Look asked)) × (asked_by p.changes (Look asked) ≡ Some (question_of asked))
 
 -- a step that comes to a question, a deed or the end
-abbrev pub IsStep : List TableDecl → Next → CursorTree → Progress → CursorTree → Progress → Type 0
-IsStep tables (Get cell) c p d q = IsAsking tables (One cell) c p d q
-IsStep tables (Scan region) c p d q = IsAsking tables (Range region) c p d q
-IsStep tables (Did deed) c p d q = GoesTo tables c p d q × FoundBefore p q × (q.deeds ≡ p.deeds ++ deed ∷ [])
-IsStep tables (Done end) c p d q = EndsAs tables end c p q × FoundBefore p q × (q.deeds ≡ p.deeds)
+abbrev pub IsStep : List TableDecl → Step → CursorTree → Progress → CursorTree → Progress → Type 0
+-- nothing is done at the store
+IsStep tables (step.Asks asked) c p d q = GoesTo tables c p d q × FoundBefore p q × KeepsStore p q × IsAt tables (asked_tree asked) d q
+IsStep tables (step.Did deed) c p d q = GoesTo tables c p d q × FoundBefore p q × (q.deeds ≡ p.deeds ++ deed ∷ [])
+IsStep tables (step.Over end) c p d q = EndsAs tables end c p q × FoundBefore p q × (q.deeds ≡ p.deeds)

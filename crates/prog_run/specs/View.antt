@@ -1,5 +1,5 @@
 -- What contracts see of a run.
-use Rattle.std.specs.Prelude.{◌≡◌, ℤ, ◌==◌, List, [], ◌∷◌, ◌++◌, Option, Some, None, Result, Ok, Err, take, length, if◌then◌else◌}
+use Rattle.std.specs.Prelude.{◌≡◌, ℤ, ◌==◌, List, [], ◌∷◌, ◌++◌, Option, Some, None, Result, Ok, Err, option_map, take, length, if◌then◌else◌}
 use Rattle.std.specs.List.{list_all}
 use Rattle.prog_tree.specs.declared.cell.Cell.{Cell}
 use Rattle.prog_tree.specs.declared.cell.Region.{Region}
@@ -15,7 +15,8 @@ use Rattle.prog_tree.specs.Table.{is_in, TableState}
 use Rattle.prog_tree.specs.Evaluation.{Evaluation, as_evaluation, ended, eval}
 use Rattle.prog_tree.specs.Tree.{program_tree}
 use Rattle.prog_run.specs.Todo.{CursorTree, todo}
-use Rattle.prog_run.specs.Looks.{AreFound}
+use Rattle.prog_run.specs.Task.{asked_tree}
+use Rattle.prog_run.specs.Looks.{AreFound, question_of}
 use Rattle.prog_run.specs.Step.{IsAt, deeds_after, question_after, end_after}
 use Rattle.prog_run.specs.declared.fault.AnswerFault.{AnswerFault}
 use Rattle.prog_run.specs.declared.fault.AnswerFault.TheVariants.{NotAsked, BadRows, Memory}
@@ -25,6 +26,7 @@ use Rattle.prog_run.specs.declared.fault.RunFault.TheVariants as b
 use Rattle.prog_run.specs.declared.next.Next.{Next}
 use Rattle.prog_run.specs.declared.next.Next.TheVariants.{Get, Scan, Done}
 use Rattle.prog_run.specs.declared.next.Question.{Question}
+use Rattle.prog_run.specs.declared.task.Asked.{Asked}
 use Rattle.prog_run.specs.declared.next.Question.TheVariants.{One, Range}
 
 -- a run: what it was begun with, what it has done, what it waits for, and how it ended
@@ -141,6 +143,10 @@ comes_to tables m None c p = ended (todo tables m c p)
 abbrev pub IsTrueTo : List TableDecl → ProgramTree → List ℤ → Option End → CursorTree → Progress → Type 0
 IsTrueTo tables program args over c p = (m : TableState) → AreFound m p.looks → comes_to tables m over c p ≡ eval tables program args m
 
--- a question that waits is the one that the next statement asks, and the run is not over
-abbrev pub IsWaiting : List TableDecl → Option Question → Option End → CursorTree → Progress → Type 0
-IsWaiting tables asked over c p = (question : Question) → asked ≡ Some question → (over ≡ None) × IsAt tables question c p
+-- the question that waits, as a caller sees it
+abbrev pub question_in : Option Asked → Option Question
+question_in = option_map (λ asked. question_of (asked_tree asked))
+
+-- a look that waits is that of the next statement, and the run is not over
+abbrev pub IsWaiting : List TableDecl → Option Asked → Option End → CursorTree → Progress → Type 0
+IsWaiting tables waits over c p = (asked : Asked) → waits ≡ Some asked → (over ≡ None) × IsAt tables (asked_tree asked) c p

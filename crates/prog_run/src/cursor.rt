@@ -3,11 +3,11 @@ ghost use Rattle.std.specs.Prelude.{◌≡◌, true, [], IfOk, OnOk, OnErr, if�
 ghost use Rattle.prog_tree.specs.Tree.{block_tree, stmts_tree};
 ghost use Rattle.prog_run.specs.Todo.{entered};
 ghost use Rattle.prog_run.specs.Cursor.{cursor_tree, is_store, KeepsStore, SameTodo, IsLocalStep, IsSettled};
-ghost use Rattle.prog_run.specs.Looks.{asked_next, looks_with};
 ghost use Rattle.prog_run.specs.Step.{cursor_after, IsStep};
 
-use crate::next::{Answer, Next, Outcome};
-use crate::statement::run_statement;
+use crate::next::Step;
+use crate::statement::begin;
+use crate::task::task_of;
 use prog_tree::{Block, Cause, End, Progress, Stmt, TableDecl};
 use std::alloc::{AllocError, Global};
 
@@ -123,34 +123,38 @@ impl<'a> Cursor<'a> {
         }
     }
 
-    /// Does the statement of the store at which the run stands, with the answer to its question if there is one.
-    pub fn store_step(
+    /// Does the statement of the store at which the run stands, or asks what it has to know.
+    fn store_step(
         &mut self,
         alloc: Global,
         tables: &[TableDecl],
         progress: &mut Progress<'a>,
-        answer: Option<Answer>,
-    ) -> Result<Next, AllocError>
+    ) -> Result<Step<'a>, AllocError>
         requires { is_store (cursor_tree self.old).here.rest ≡ true }
-        ensures step { IfOk result (λ n. IsStep tables.now n (cursor_tree self.old) progress.old (cursor_tree self.new) progress.new) }
-        ensures looks { IfOk result (λ n. progress.new.looks ≡ looks_with progress.old (asked_next tables.now (cursor_tree self.old).here.rest progress.old) answer) }
+        ensures step { IfOk result (λ s. IsStep tables.now s (cursor_tree self.old) progress.old (cursor_tree self.new) progress.new) }
+        ensures looks { progress.new.looks ≡ progress.old.looks }
         ensures err { OnErr result ((cursor_tree self.new ≡ cursor_tree self.old) × (progress.new ≡ progress.old)) }
     {
         let Some((stmt, rest)) = self.rest.split_first() else {
             unreachable!()
         };
-        let outcome = run_statement(alloc, tables, stmt, progress, answer)?;
-        self.go_on(outcome, rest);
-        Ok(outcome.next())
+        let Some(task) = task_of(tables, stmt, &progress.env) else {
+            return Ok(Step::Over(End::Aborted(Cause::Overflow)));
+        };
+        let step = begin(alloc, progress, task)?;
+        self.go_on(step);
+        Ok(step)
     }
 
-    // Goes on behind a statement that is done.
-    fn go_on(&mut self, outcome: Outcome, rest: &'a [Stmt])
-        ensures { cursor_tree self.new ≡ cursor_after outcome (stmts_tree rest.now) (cursor_tree self.old) }
+    /// Goes on behind a statement that is done.
+    pub fn go_on(&mut self, step: Step<'a>)
+        ensures { cursor_tree self.new ≡ cursor_after step.entry (cursor_tree self.old) }
     {
-        if let Outcome::Did(_) = outcome {
-            self.rest = rest;
-        }
+        let Step::Did(_) = step else { return };
+        let Some((_, rest)) = self.rest.split_first() else {
+            return;
+        };
+        self.rest = rest;
     }
 
     /// Goes on to the next statement of the store, and does it or asks for what it needs.
@@ -159,16 +163,16 @@ impl<'a> Cursor<'a> {
         alloc: Global,
         tables: &[TableDecl],
         progress: &mut Progress<'a>,
-    ) -> Result<Next, AllocError>
-        ensures step { IfOk result (λ n. IsStep tables.now n (cursor_tree self.old) progress.old (cursor_tree self.new) progress.new) }
+    ) -> Result<Step<'a>, AllocError>
+        ensures step { IfOk result (λ s. IsStep tables.now s (cursor_tree self.old) progress.old (cursor_tree self.new) progress.new) }
         ensures looks { progress.new.looks ≡ progress.old.looks }
         ensures err { OnErr result (SameTodo (cursor_tree self.old) progress.old (cursor_tree self.new) progress.new × KeepsStore progress.old progress.new) }
     {
         if let Some(end) = self.settle(progress)? {
-            return Ok(Next::Done(end));
+            return Ok(Step::Over(end));
         }
-        let next = self.store_step(alloc, tables, progress, None)?;
-        Ok(next)
+        let step = self.store_step(alloc, tables, progress)?;
+        Ok(step)
     }
 }
 

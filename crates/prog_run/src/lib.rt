@@ -8,6 +8,7 @@ mod notes;
 mod region;
 mod run;
 mod statement;
+mod task;
 
 pub use fault::{AnswerFault, RunFault};
 pub use next::{Next, Question};

@@ -1,7 +1,8 @@
 ghost use Rattle.std.specs.Prelude.{◌≡◌};
-ghost use Rattle.prog_run.specs.Step.{next_of, question_after, end_after};
+ghost use Rattle.prog_run.specs.Step.{next_of, asked_after, end_after};
 
-use prog_tree::{Cause, Cell, Deed, End, Region, Sequence};
+use crate::task::Asked;
+use prog_tree::{Cell, Deed, End, Region};
 
 /// What a step of a run comes to.
 #[derive(Clone, Copy, Debug, PartialEq, Eq)]
@@ -25,58 +26,45 @@ pub enum Question {
     Range(Region),
 }
 
-/// What the snapshot answers.
-#[derive(Debug, Drop)]
-pub enum Answer {
-    /// What a cell holds.
-    One(Option<i64>),
-    /// The rows of a region.
-    Range(Sequence<(Cell, i64)>),
-}
-
-/// What one store statement comes to.
-#[derive(Clone, Copy, Debug, PartialEq, Eq)]
-pub enum Outcome {
+/// What one store statement comes to, as the run keeps it.
+#[derive(Clone, Copy, Debug)]
+pub enum Step<'a> {
     /// It has to know this first.
-    Asks(Question),
+    Asks(Asked<'a>),
     /// It is finished.
     Did(Deed),
-    /// It ends the run.
-    Aborts(Cause),
+    /// It ends the run, or none was left.
+    Over(End),
 }
 
-impl Outcome {
+impl<'a> Step<'a> {
     /// What the run answers to its caller.
     pub fn next(self) -> Next
-        ensures { result ≡ next_of self }
+        ensures { result ≡ next_of self.entry }
     {
         match self {
-            Outcome::Asks(Question::One(cell)) => Next::Get(cell),
-            Outcome::Asks(Question::Range(region)) => Next::Scan(region),
-            Outcome::Did(deed) => Next::Did(deed),
-            Outcome::Aborts(cause) => Next::Done(End::Aborted(cause)),
+            Step::Asks(asked) => asked.next(),
+            Step::Did(deed) => Next::Did(deed),
+            Step::Over(end) => Next::Done(end),
         }
     }
-}
 
-impl Next {
-    /// The question that waits after this step.
-    pub(crate) fn question(self) -> Option<Question>
-        ensures { result ≡ question_after self }
+    /// What waits for an answer after this step.
+    pub fn asked(self) -> Option<Asked<'a>>
+        ensures { result ≡ asked_after self.entry }
     {
         match self {
-            Next::Get(cell) => Some(Question::One(cell)),
-            Next::Scan(region) => Some(Question::Range(region)),
+            Step::Asks(asked) => Some(asked),
             _ => None,
         }
     }
 
     /// The end, if this step was the last.
-    pub(crate) fn end(self) -> Option<End>
-        ensures { result ≡ end_after self }
+    pub fn end(self) -> Option<End>
+        ensures { result ≡ end_after (next_of self.entry) }
     {
         match self {
-            Next::Done(end) => Some(end),
+            Step::Over(end) => Some(end),
             _ => None,
         }
     }

@@ -1,24 +1,19 @@
 //! What a run sees in a region.
-ghost use Rattle.std.specs.Prelude.{◌≡◌, ◌+◌, pos, ◌+ℤ◌, length, IfOk, OnOk, OnErr};
+ghost use Rattle.std.specs.Prelude.{◌≡◌, IfOk, OnOk, OnErr};
 ghost use Rattle.std.specs.List.{list_all};
 ghost use Rattle.std.specs.List.Sorted.{IsStrictlySortedBy};
 ghost use Rattle.prog_tree.specs.Table.{cell_cmp, is_in, cells_of};
 ghost use Rattle.prog_tree.specs.ChangeSet.{changes_in};
-ghost use Rattle.prog_tree.specs.Evaluation.{total_of, own_cells};
+ghost use Rattle.prog_tree.specs.Evaluation.{total_of, own_cells, rows_seen};
 ghost use Rattle.prog_tree.specs.Steps.{looked};
 ghost use Rattle.prog_tree.specs.Value.{exact};
+ghost use Rattle.prog_run.specs.Task.{tally_of};
 ghost use Rattle.prog_run.specs.Looks.{rows_without, region_look};
-ghost use Rattle.prog_run.specs.Seen.{set_count, set_total, IsSight};
+ghost use Rattle.prog_run.specs.Seen.{set_count, set_total, tally_with};
 
+use crate::task::Tally;
 use prog_tree::{Cell, Changes, Look, Progress, Region, Sequence, is_among};
 use std::alloc::{AllocError, Global};
-
-/// The number of the rows that a run sees in a region, and their total: each `None` outside i64.
-#[derive(Clone, Copy, Debug, PartialEq, Eq)]
-pub struct Seen {
-    pub count: Option<i64>,
-    pub total: Option<i64>,
-}
 
 /// Whether all rows lie in a region.
 pub fn are_in(region: &Region, rows: &[(Cell, i64)]) -> bool
@@ -111,37 +106,35 @@ fn exact_i64(number: i128) -> Option<i64>
     i64::try_from(number).ok()
 }
 
-/// Looks at a region: notes the look, whose rows are those of the snapshot but for the run's own cells, and tells what
-/// the run sees there.
+/// Looks at a region: notes the look, whose rows are those of the snapshot but for the run's own cells, and gives the
+/// number or the total of the rows that the run sees there, or nothing outside i64.
 pub fn look_at_region(
     alloc: Global,
     progress: &mut Progress<'_>,
     region: Region,
-    rows: Sequence<(Cell, i64)>,
-) -> Result<Seen, AllocError>
-    ensures look { OnOk result (progress.new ≡ looked (region_look progress.old.changes region rows) progress.old) }
-    ensures seen { IfOk result (IsSight region progress.old.changes.cells (rows_without (own_cells region progress.old.changes.cells) rows)) }
+    tally: Tally,
+    rows: &[(Cell, i64)],
+) -> Result<Option<i64>, AllocError>
+    ensures look { OnOk result (progress.new ≡ looked (region_look progress.old.changes region rows.now) progress.old) }
+    ensures value { IfOk result (λ v. let changes = progress.old.changes.cells in v ≡ exact (tally_of tally (rows_seen region changes (rows_without (own_cells region changes) rows.now)))) }
     ensures err { OnErr result (progress.new ≡ progress.old) }
 {
     let changes = own_changes(alloc, &progress.changes, &region)?;
     let own = cells(alloc, &changes)?;
-    let mut rows = rows.into_vec();
+    let mut rows = Vec::from_slice(alloc, rows)?;
     remove_all(&mut rows, own.as_slice());
-    let seen = seen_by(&rows, &changes);
+    let value = tallied(tally, &rows, &changes);
     let rows = Sequence::from_vec(rows);
     progress.looks.push(Look::Range { region, own, rows })?;
-    Ok(seen)
+    Ok(value)
 }
 
-// The number and the total of rows, and of what own changes set in other cells.
-fn seen_by(rows: &[(Cell, i64)], own: &[(Cell, Option<i64>)]) -> Seen
-    ensures count { result.count ≡ exact (pos (length rows.now + set_count own.now)) }
-    ensures total { result.total ≡ exact (total_of rows.now +ℤ set_total own.now) }
+// The number or the total of rows, and of what own changes set in other cells.
+fn tallied(tally: Tally, rows: &[(Cell, i64)], own: &[(Cell, Option<i64>)]) -> Option<i64>
+    ensures { result ≡ exact (tally_with tally rows.now own.now) }
 {
-    let count = rows.len() as i128 + count_set(own) as i128;
-    let total = add_rows(rows).checked_add(add_set(own));
-    Seen {
-        count: exact_i64(count),
-        total: total.and_then(exact_i64),
+    match tally {
+        Tally::Count => exact_i64(rows.len() as i128 + count_set(own) as i128),
+        Tally::Sum => exact_i64(add_rows(rows).checked_add(add_set(own))?),
     }
 }

@@ -1,14 +1,16 @@
 //! Runs of programs.
-ghost use Rattle.std.specs.Prelude.{◌≡◌, ◌<◌, Some, None, IfOk, IfSome, OnErr, IsSome, length, zip, slice_get, option_copied};
+ghost use Rattle.std.specs.Prelude.{◌≡◌, ◌<◌, Some, None, IfOk, IfSome, OnErr, length, zip, slice_get, option_copied};
 ghost use Rattle.prog_tree.specs.ChangeSet.{change_at};
 ghost use Rattle.prog_tree.specs.declared.cell.Cell.{Cell};
-ghost use Rattle.prog_run.specs.Looks.{look_made, region_look};
+ghost use Rattle.prog_run.specs.Looks.{region_look};
 ghost use Rattle.prog_run.specs.View.{IsTrueRun, IsAdvance, IsAnswered, SameBegin, IsRefusedBy, IsBeginRefusedBy, begin_fault, get_fault, scan_fault, asked_cell, asked_region, standing_next, begun};
 
 use crate::cursor::Cursor;
 use crate::fault::{AnswerFault, RunFault};
-use crate::next::{Answer, Next, Question};
+use crate::next::Next;
 use crate::region::are_in;
+use crate::statement::{answer_cell, answer_region};
+use crate::task::Asked;
 use prog_check::ProgramSet;
 use prog_tree::{Cell, Changes, End, Env, Look, Name, Program, Progress, Sequence, TableDecl};
 use std::alloc::{AllocError, Global};
@@ -23,12 +25,12 @@ pub struct Run<'a> {
     args: Sequence<i64>,
     cursor: Cursor<'a>,
     progress: Progress<'a>,
-    asked: Option<Question>,
+    asked: Option<Asked<'a>>,
     end: Option<End>,
 }
 
 impl<'a> Model for Run<'a> {
-    ghost use Rattle.prog_run.specs.View.{RunView, IsTrueTo, IsWaiting};
+    ghost use Rattle.prog_run.specs.View.{RunView, question_in, IsTrueTo, IsWaiting};
     ghost use Rattle.prog_run.specs.Cursor.{cursor_tree};
     ghost use Rattle.prog_tree.specs.Tree.{program_tree};
     ghost use Rattle.prog_tree.specs.contracts.stmt.Stmt as stmt;
@@ -38,7 +40,7 @@ impl<'a> Model for Run<'a> {
 
     ghost coded = { Prim.hlevel (codes, stmt.the_row.coded) };
 
-    ghost view = { λ r. record { tables = r.tables.now; program = r.program.now; args = r.args; deeds = r.progress.deeds; replies = r.progress.replies; changes = r.progress.changes; looks = r.progress.looks; asked = r.asked; end = r.end } };
+    ghost view = { λ r. record { tables = r.tables.now; program = r.program.now; args = r.args; deeds = r.progress.deeds; replies = r.progress.replies; changes = r.progress.changes; looks = r.progress.looks; asked = question_in r.asked; end = r.end } };
 
     ghost invariant = { λ r. IsTrueTo r.tables.now (program_tree r.program.now) r.args r.end (cursor_tree r.cursor) r.progress × IsWaiting r.tables.now r.asked r.end (cursor_tree r.cursor) r.progress };
 }
@@ -108,21 +110,18 @@ impl<'a> Run<'a> {
         ensures same { SameBegin self.old self.new }
         ensures err { OnErr result (self.new ≡ record self.old { replies = self.new.replies }) }
     {
-        match self.asked {
-            Some(Question::One(cell)) => return Ok(Next::Get(cell)),
-            Some(Question::Range(region)) => return Ok(Next::Scan(region)),
-            None => {}
+        if let Some(asked) = self.asked {
+            return Ok(asked.next());
         }
-        match self.end {
-            Some(end) => return Ok(Next::Done(end)),
-            None => {}
+        if let Some(end) = self.end {
+            return Ok(Next::Done(end));
         }
-        let next = self
+        let step = self
             .cursor
             .step(self.alloc, self.tables, &mut self.progress)?;
-        self.asked = next.question();
-        self.end = next.end();
-        Ok(next)
+        self.asked = step.asked();
+        self.end = step.end();
+        Ok(step.next())
     }
 
     /// Answers the question for a cell with what it holds in the snapshot, and finishes the statement.
@@ -133,11 +132,14 @@ impl<'a> Run<'a> {
         ensures same { SameBegin self.old self.new }
         ensures err { OnErr result (self.new ≡ self.old) }
     {
-        let Some(Question::One(_)) = self.asked else {
+        let Some(Asked::OfCell { cell, usage }) = self.asked else {
             return Err(AnswerFault::NotAsked);
         };
-        let next = self.answer(Answer::One(held))?;
-        Ok(next)
+        let step = answer_cell(self.alloc, &mut self.progress, cell, usage, held)?;
+        self.cursor.go_on(step);
+        self.asked = None;
+        self.end = step.end();
+        Ok(step.next())
     }
 
     /// Answers the question for a region with its rows in the snapshot, and finishes the statement.
@@ -148,31 +150,24 @@ impl<'a> Run<'a> {
         ensures same { SameBegin self.old self.new }
         ensures err { OnErr result (self.new ≡ self.old) }
     {
-        let Some(Question::Range(region)) = self.asked else {
+        let Some(
+            Asked::OfRegion {
+                region,
+                tally,
+                name,
+            },
+        ) = self.asked
+        else {
             return Err(AnswerFault::NotAsked);
         };
         if !are_in(&region, rows) {
             return Err(AnswerFault::BadRows);
         }
-        let rows = Vec::from_slice(self.alloc, rows)?;
-        let next = self.answer(Answer::Range(Sequence::from_vec(rows)))?;
-        Ok(next)
-    }
-
-    // Finishes the statement that has asked, with an answer to its question.
-    fn answer(&mut self, answer: Answer) -> Result<Next, AllocError>
-        requires { IsSome (look_made self.old.changes self.old.asked (Some answer)) }
-        ensures answered { IfOk result (λ next. IfSome (look_made self.old.changes self.old.asked (Some answer)) (λ look. IsAnswered look next self.old self.new)) }
-        ensures true_run { IsTrueRun self.new }
-        ensures same { SameBegin self.old self.new }
-        ensures err { OnErr result (self.new ≡ self.old) }
-    {
-        let next = self
-            .cursor
-            .store_step(self.alloc, self.tables, &mut self.progress, Some(answer))?;
-        self.asked = next.question();
-        self.end = next.end();
-        Ok(next)
+        let step = answer_region(self.alloc, &mut self.progress, region, tally, name, rows)?;
+        self.cursor.go_on(step);
+        self.asked = None;
+        self.end = step.end();
+        Ok(step.next())
     }
 
     /// The program that it runs.

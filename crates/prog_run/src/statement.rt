@@ -1,459 +1,214 @@
-//! The statements of the store.
-ghost use Rattle.std.specs.Prelude.{◌≡◌, true, None, IfOk, OnErr, option_and_then, option_map};
-ghost use Rattle.prog_tree.specs.Numbering.{number_of};
-ghost use Rattle.prog_tree.specs.Value.{value_of};
-ghost use Rattle.prog_tree.specs.Evaluation.{cell_of, region_of};
-ghost use Rattle.prog_tree.specs.Tree.{expr_tree, key_tree, range_tree, stmt_tree};
-ghost use Rattle.prog_run.specs.Cursor.{is_store_stmt, is_change_stmt};
-ghost use Rattle.prog_run.specs.Looks.{asked_for, asked_by_stmt, looks_with};
-ghost use Rattle.prog_run.specs.Statement.{IsStmtDone, IsDoneBy, IsFlow, IsUnfinished, IsSeen, from_cell, from_insert, from_region, get_flow, need_flow, lacks_flow, insert_flow, found_flow, count_flow, sum_flow, put_flow, delete_flow, keep_flow};
+//! What the statements of the store do. Where memory ends the progress is as it was.
+ghost use Rattle.std.specs.Prelude.{◌≡◌, IfOk, OnErr};
+ghost use Rattle.prog_tree.specs.Steps.{looked};
+ghost use Rattle.prog_tree.specs.Evaluation.{own_cells, rows_seen};
+ghost use Rattle.prog_tree.specs.Tree.{expr_tree};
+ghost use Rattle.prog_run.specs.Looks.{rows_without, region_look};
+ghost use Rattle.prog_run.specs.Task.{use_tree, task_tree, get_flow, need_flow, lacks_flow, insert_flow, use_flow, found_flow, rows_flow, tally_deed};
+ghost use Rattle.prog_run.specs.Statement.{IsFlow, IsBegun};
 
-use crate::next::{Answer, Outcome, Question};
+use crate::next::Step;
 use crate::notes::{cut, note_found, note_kept, note_put, note_removed};
 use crate::region::look_at_region;
-use prog_tree::{
-    Cause, Cell, Deed, Env, Expr, Key, Look, Name, Progress, Range, Region, Stmt, TableDecl,
-};
+use crate::task::{Asked, CellUse, Tally, Task};
+use prog_tree::{Cause, Cell, Deed, End, Expr, Look, Name, Progress, Region};
 use std::alloc::{AllocError, Global};
 
-/// The number of the first table of a name, or how many tables there are.
-fn table_number(tables: &[TableDecl], name: &Name) -> usize
-    ensures { result ≡ number_of tables.now name.now }
+const OVERFLOW: End = End::Aborted(Cause::Overflow);
+
+/// Does a task, or says what it asks: a cell that the run has changed is not asked.
+pub fn begin<'a>(
+    alloc: Global,
+    progress: &mut Progress<'a>,
+    task: Task<'a>,
+) -> Result<Step<'a>, AllocError>
+    ensures begun { IfOk result (λ s. IsBegun (task_tree task.entry) s progress.old progress.new) }
+    ensures err { OnErr result (progress.new ≡ progress.old) }
 {
-    for (number, table) in tables.iter().enumerate() {
-        if table.name.as_str() == name.as_str() {
-            return number;
+    match task {
+        Task::Look(Asked::OfCell { cell, usage }) => {
+            let Some(own) = progress.changes.get(&cell) else {
+                return Ok(Step::Asks(Asked::OfCell { cell, usage }));
+            };
+            let step = use_cell(alloc, progress, cell, usage, own)?;
+            Ok(step)
+        }
+        Task::Look(asked) => Ok(Step::Asks(asked)),
+        Task::Put { cell, value } => {
+            note_put(alloc, progress, cell, value)?;
+            Ok(Step::Did(Deed::Put(cell, value)))
+        }
+        Task::Remove { cell } => {
+            note_removed(alloc, progress, cell)?;
+            Ok(Step::Did(Deed::Removed(cell)))
+        }
+        Task::Keep { cell } => {
+            note_kept(alloc, progress, cell)?;
+            Ok(Step::Did(Deed::Kept(cell)))
         }
     }
-    tables.len()
 }
 
-fn cell_at(tables: &[TableDecl], table: &Name, key: &Key, env: &Env) -> Option<Cell>
-    ensures { result ≡ cell_of (number_of tables.now table.now) (key_tree key.now) env.now }
-{
-    key.cell(table_number(tables, table), env)
-}
-
-fn region_at(tables: &[TableDecl], table: &Name, range: &Range, env: &Env) -> Option<Region>
-    ensures { result ≡ region_of (number_of tables.now table.now) (range_tree range.now) env.now }
-{
-    range.region(table_number(tables, table), env)
-}
-
-/// Does one statement of the store, or says what it asks.
-pub fn run_statement<'a>(
+/// Finishes a statement that has asked for a cell.
+pub fn answer_cell<'a>(
     alloc: Global,
-    tables: &[TableDecl],
-    stmt: &'a Stmt,
     progress: &mut Progress<'a>,
-    answer: Option<Answer>,
-) -> Result<Outcome, AllocError>
-    requires { is_store_stmt (stmt_tree stmt.now) ≡ true }
-    ensures done { IfOk result (λ n. IsStmtDone tables.now (stmt_tree stmt.now) n progress.old progress.new) }
-    ensures looks { IfOk result (λ n. progress.new.looks ≡ looks_with progress.old (asked_by_stmt tables.now (stmt_tree stmt.now) progress.old) answer) }
+    cell: Cell,
+    usage: CellUse<'a>,
+    held: Option<i64>,
+) -> Result<Step<'a>, AllocError>
+    ensures flow { IfOk result (λ s. let found = looked (Look.One cell held) progress.old in IsFlow (use_flow (use_tree usage.entry) cell held found) s found progress.new) }
     ensures err { OnErr result (progress.new ≡ progress.old) }
 {
     let looks = progress.looks.len();
-    match try_statement(alloc, tables, stmt, progress, answer) {
-        Ok(outcome) => Ok(outcome),
-        Err(error) => {
-            cut(alloc, &mut progress.looks, looks);
-            Err(error)
-        }
-    }
-}
-
-// As `run_statement`, but where memory ends a look may be left.
-fn try_statement<'a>(
-    alloc: Global,
-    tables: &[TableDecl],
-    stmt: &'a Stmt,
-    progress: &mut Progress<'a>,
-    answer: Option<Answer>,
-) -> Result<Outcome, AllocError>
-    requires { is_store_stmt (stmt_tree stmt.now) ≡ true }
-    ensures done { IfOk result (λ n. IsStmtDone tables.now (stmt_tree stmt.now) n progress.old progress.new) }
-    ensures looks { IfOk result (λ n. progress.new.looks ≡ looks_with progress.old (asked_by_stmt tables.now (stmt_tree stmt.now) progress.old) answer) }
-    ensures err { OnErr result (IsUnfinished progress.old progress.new) }
-{
-    match stmt {
-        Stmt::Get {
-            name,
-            table,
-            key,
-            otherwise,
-        } => {
-            let cell = cell_at(tables, table, key, &progress.env);
-            let outcome = get(progress, cell, answer, name, otherwise)?;
-            Ok(outcome)
-        }
-        Stmt::Need { name, table, key } => {
-            let cell = cell_at(tables, table, key, &progress.env);
-            let outcome = need(progress, cell, answer, name)?;
-            Ok(outcome)
-        }
-        Stmt::Count { name, table, range } => {
-            let region = region_at(tables, table, range, &progress.env);
-            let outcome = count(alloc, progress, region, answer, name)?;
-            Ok(outcome)
-        }
-        Stmt::Sum { name, table, range } => {
-            let region = region_at(tables, table, range, &progress.env);
-            let outcome = sum(alloc, progress, region, answer, name)?;
-            Ok(outcome)
-        }
-        Stmt::Lacks { table, key } => {
-            let cell = cell_at(tables, table, key, &progress.env);
-            let outcome = lacks(progress, cell, answer)?;
-            Ok(outcome)
-        }
-        Stmt::Insert { table, key, value } => {
-            let cell = cell_at(tables, table, key, &progress.env);
-            let outcome = insert(alloc, progress, cell, answer, value)?;
-            Ok(outcome)
-        }
-        _ => {
-            let outcome = try_change(alloc, tables, stmt, progress)?;
-            Ok(outcome)
-        }
-    }
-}
-
-// A statement that changes a cell and asks nothing.
-fn try_change<'a>(
-    alloc: Global,
-    tables: &[TableDecl],
-    stmt: &'a Stmt,
-    progress: &mut Progress<'a>,
-) -> Result<Outcome, AllocError>
-    requires { is_change_stmt (stmt_tree stmt.now) ≡ true }
-    ensures done { IfOk result (λ n. IsStmtDone tables.now (stmt_tree stmt.now) n progress.old progress.new) }
-    ensures looks { IfOk result (λ n. progress.new.looks ≡ progress.old.looks) }
-    ensures err { OnErr result (progress.new ≡ progress.old) }
-{
-    match stmt {
-        Stmt::Put { table, key, value } => {
-            let cell = cell_at(tables, table, key, &progress.env);
-            let outcome = put(alloc, progress, cell, value)?;
-            Ok(outcome)
-        }
-        Stmt::Delete { table, key } => {
-            let cell = cell_at(tables, table, key, &progress.env);
-            let outcome = delete(alloc, progress, cell)?;
-            Ok(outcome)
-        }
-        Stmt::Keep { table, key } => {
-            let cell = cell_at(tables, table, key, &progress.env);
-            let outcome = keep(alloc, progress, cell)?;
-            Ok(outcome)
-        }
-        _ => unreachable!(),
-    }
-}
-
-// What a cell holds for the run, if that is known: its own change, or the answer to a look, which is noted.
-fn see(
-    progress: &mut Progress<'_>,
-    cell: Cell,
-    answer: Option<Answer>,
-) -> Result<Option<Option<i64>>, AllocError>
-    ensures seen { IfOk result (λ o. IsSeen o cell progress.old progress.new) }
-    ensures looks { IfOk result (λ o. progress.new.looks ≡ looks_with progress.old (asked_for progress.old.changes cell) answer) }
-    ensures unfinished { IsUnfinished progress.old progress.new }
-    ensures err { OnErr result (progress.new ≡ progress.old) }
-{
-    if let Some(own) = progress.changes.get(&cell) {
-        return Ok(Some(own));
-    }
-    let Some(Answer::One(held)) = answer else {
-        return Ok(None);
-    };
     progress.looks.push(Look::One(cell, held))?;
-    Ok(Some(held))
+    let Ok(step) = use_cell(alloc, progress, cell, usage, held) else {
+        cut(alloc, &mut progress.looks, looks);
+        return Err(AllocError);
+    };
+    Ok(step)
+}
+
+/// Finishes a statement that has asked for a region's rows.
+pub fn answer_region<'a>(
+    alloc: Global,
+    progress: &mut Progress<'a>,
+    region: Region,
+    tally: Tally,
+    name: &'a Name,
+    rows: &[(Cell, i64)],
+) -> Result<Step<'a>, AllocError>
+    ensures flow { IfOk result (λ s. let changes = progress.old.changes in let found = looked (region_look changes region rows.now) progress.old in
+        IsFlow (rows_flow tally name.now region (rows_seen region changes.cells (rows_without (own_cells region changes.cells) rows.now)) found) s found progress.new) }
+    ensures err { OnErr result (progress.new ≡ progress.old) }
+{
+    let looks = progress.looks.len();
+    let value = look_at_region(alloc, progress, region, tally, rows)?;
+    let Ok(step) = bind_tally(progress, region, tally, name, value) else {
+        cut(alloc, &mut progress.looks, looks);
+        return Err(AllocError);
+    };
+    Ok(step)
+}
+
+// Goes on with what is known of a cell.
+fn use_cell<'a>(
+    alloc: Global,
+    progress: &mut Progress<'a>,
+    cell: Cell,
+    usage: CellUse<'a>,
+    held: Option<i64>,
+) -> Result<Step<'a>, AllocError>
+    ensures flow { IfOk result (λ s. IsFlow (use_flow (use_tree usage.entry) cell held progress.old) s progress.old progress.new) }
+    ensures err { OnErr result (progress.new ≡ progress.old) }
+{
+    match usage {
+        CellUse::Get { name, otherwise } => {
+            let step = get(progress, cell, held, name, otherwise)?;
+            Ok(step)
+        }
+        CellUse::Need { name } => {
+            let step = need(progress, cell, held, name)?;
+            Ok(step)
+        }
+        CellUse::Lacks => {
+            let step = lacks(progress, cell, held)?;
+            Ok(step)
+        }
+        CellUse::Insert { value } => {
+            let step = insert(alloc, progress, cell, held, value)?;
+            Ok(step)
+        }
+    }
 }
 
 fn get<'a>(
     progress: &mut Progress<'a>,
-    cell: Option<Cell>,
-    answer: Option<Answer>,
-    name: &'a Name,
-    otherwise: &Expr,
-) -> Result<Outcome, AllocError>
-    ensures done { IfOk result (λ n. IsDoneBy (from_cell cell progress.old (get_flow name.now (expr_tree otherwise.now))) (option_and_then (asked_for progress.old.changes) cell) n progress.old progress.new) }
-    ensures looks { IfOk result (λ n. progress.new.looks ≡ looks_with progress.old (option_and_then (asked_for progress.old.changes) cell) answer) }
-    ensures err { OnErr result (IsUnfinished progress.old progress.new) }
-{
-    let Some(cell) = cell else {
-        return Ok(Outcome::Aborts(Cause::Overflow));
-    };
-    let Some(seen) = see(progress, cell, answer)? else {
-        return Ok(Outcome::Asks(Question::One(cell)));
-    };
-    let outcome = get_seen(progress, cell, seen, name, otherwise)?;
-    Ok(outcome)
-}
-
-fn get_seen<'a>(
-    progress: &mut Progress<'a>,
     cell: Cell,
-    seen: Option<i64>,
+    held: Option<i64>,
     name: &'a Name,
     otherwise: &Expr,
-) -> Result<Outcome, AllocError>
-    ensures flow { IfOk result (λ n. IsFlow (get_flow name.now (expr_tree otherwise.now) cell seen progress.old) n progress.old progress.new) }
+) -> Result<Step<'a>, AllocError>
+    ensures flow { IfOk result (λ s. IsFlow (get_flow name.now (expr_tree otherwise.now) cell held progress.old) s progress.old progress.new) }
     ensures err { OnErr result (progress.new ≡ progress.old) }
 {
-    let value = match seen {
+    let value = match held {
         Some(value) => Some(value),
         None => otherwise.value(&progress.env),
     };
     let Some(value) = value else {
-        return Ok(Outcome::Aborts(Cause::Overflow));
+        return Ok(Step::Over(OVERFLOW));
     };
-    let deed = Deed::Read(cell, seen);
+    let deed = Deed::Read(cell, held);
     note_found(progress, name, value, deed)?;
-    Ok(Outcome::Did(deed))
+    Ok(Step::Did(deed))
 }
 
 fn need<'a>(
     progress: &mut Progress<'a>,
-    cell: Option<Cell>,
-    answer: Option<Answer>,
+    cell: Cell,
+    held: Option<i64>,
     name: &'a Name,
-) -> Result<Outcome, AllocError>
-    ensures done { IfOk result (λ n. IsDoneBy (from_cell cell progress.old (need_flow name.now)) (option_and_then (asked_for progress.old.changes) cell) n progress.old progress.new) }
-    ensures looks { IfOk result (λ n. progress.new.looks ≡ looks_with progress.old (option_and_then (asked_for progress.old.changes) cell) answer) }
-    ensures err { OnErr result (IsUnfinished progress.old progress.new) }
+) -> Result<Step<'a>, AllocError>
+    ensures flow { IfOk result (λ s. IsFlow (need_flow name.now cell held progress.old) s progress.old progress.new) }
+    ensures err { OnErr result (progress.new ≡ progress.old) }
 {
-    let Some(cell) = cell else {
-        return Ok(Outcome::Aborts(Cause::Overflow));
+    let Some(value) = held else {
+        return Ok(Step::Over(End::Aborted(Cause::Missing(cell))));
     };
-    let Some(seen) = see(progress, cell, answer)? else {
-        return Ok(Outcome::Asks(Question::One(cell)));
-    };
-    let outcome = need_seen(progress, cell, seen, name)?;
-    Ok(outcome)
+    let deed = Deed::Read(cell, held);
+    note_found(progress, name, value, deed)?;
+    Ok(Step::Did(deed))
 }
 
-fn need_seen<'a>(
+fn lacks<'a>(
     progress: &mut Progress<'a>,
     cell: Cell,
-    seen: Option<i64>,
-    name: &'a Name,
-) -> Result<Outcome, AllocError>
-    ensures flow { IfOk result (λ n. IsFlow (need_flow name.now cell seen progress.old) n progress.old progress.new) }
+    held: Option<i64>,
+) -> Result<Step<'a>, AllocError>
+    ensures flow { IfOk result (λ s. IsFlow (lacks_flow cell held progress.old) s progress.old progress.new) }
     ensures err { OnErr result (progress.new ≡ progress.old) }
 {
-    let Some(value) = seen else {
-        return Ok(Outcome::Aborts(Cause::Missing(cell)));
-    };
-    let deed = Deed::Read(cell, seen);
-    note_found(progress, name, value, deed)?;
-    Ok(Outcome::Did(deed))
-}
-
-fn lacks(
-    progress: &mut Progress<'_>,
-    cell: Option<Cell>,
-    answer: Option<Answer>,
-) -> Result<Outcome, AllocError>
-    ensures done { IfOk result (λ n. IsDoneBy (from_cell cell progress.old lacks_flow) (option_and_then (asked_for progress.old.changes) cell) n progress.old progress.new) }
-    ensures looks { IfOk result (λ n. progress.new.looks ≡ looks_with progress.old (option_and_then (asked_for progress.old.changes) cell) answer) }
-    ensures err { OnErr result (IsUnfinished progress.old progress.new) }
-{
-    let Some(cell) = cell else {
-        return Ok(Outcome::Aborts(Cause::Overflow));
-    };
-    let Some(seen) = see(progress, cell, answer)? else {
-        return Ok(Outcome::Asks(Question::One(cell)));
-    };
-    let outcome = lacks_seen(progress, cell, seen)?;
-    Ok(outcome)
-}
-
-fn lacks_seen(
-    progress: &mut Progress<'_>,
-    cell: Cell,
-    seen: Option<i64>,
-) -> Result<Outcome, AllocError>
-    ensures flow { IfOk result (λ n. IsFlow (lacks_flow cell seen progress.old) n progress.old progress.new) }
-    ensures err { OnErr result (progress.new ≡ progress.old) }
-{
-    if seen.is_some() {
-        return Ok(Outcome::Aborts(Cause::Present(cell)));
+    if held.is_some() {
+        return Ok(Step::Over(End::Aborted(Cause::Present(cell))));
     }
-    let deed = Deed::Read(cell, seen);
+    let deed = Deed::Read(cell, held);
     progress.deeds.push(deed)?;
-    Ok(Outcome::Did(deed))
+    Ok(Step::Did(deed))
 }
 
-fn insert(
+fn insert<'a>(
     alloc: Global,
-    progress: &mut Progress<'_>,
-    cell: Option<Cell>,
-    answer: Option<Answer>,
-    value: &Expr,
-) -> Result<Outcome, AllocError>
-    ensures done { IfOk result (λ n. IsDoneBy (from_insert cell (value_of (expr_tree value.now) progress.old.env) progress.old) (option_and_then (λ v. option_and_then (asked_for progress.old.changes) cell) (value_of (expr_tree value.now) progress.old.env)) n progress.old progress.new) }
-    ensures looks { IfOk result (λ n. progress.new.looks ≡ looks_with progress.old (option_and_then (λ v. option_and_then (asked_for progress.old.changes) cell) (value_of (expr_tree value.now) progress.old.env)) answer) }
-    ensures err { OnErr result (IsUnfinished progress.old progress.new) }
-{
-    let Some(cell) = cell else {
-        return Ok(Outcome::Aborts(Cause::Overflow));
-    };
-    let Some(value) = value.value(&progress.env) else {
-        return Ok(Outcome::Aborts(Cause::Overflow));
-    };
-    let Some(seen) = see(progress, cell, answer)? else {
-        return Ok(Outcome::Asks(Question::One(cell)));
-    };
-    let outcome = insert_seen(alloc, progress, cell, seen, value)?;
-    Ok(outcome)
-}
-
-fn insert_seen(
-    alloc: Global,
-    progress: &mut Progress<'_>,
+    progress: &mut Progress<'a>,
     cell: Cell,
-    seen: Option<i64>,
+    held: Option<i64>,
     value: i64,
-) -> Result<Outcome, AllocError>
-    ensures flow { IfOk result (λ n. IsFlow (insert_flow value cell seen progress.old) n progress.old progress.new) }
+) -> Result<Step<'a>, AllocError>
+    ensures flow { IfOk result (λ s. IsFlow (insert_flow value cell held progress.old) s progress.old progress.new) }
     ensures err { OnErr result (progress.new ≡ progress.old) }
 {
-    let None = seen else {
-        return Ok(Outcome::Aborts(Cause::Present(cell)));
+    let None = held else {
+        return Ok(Step::Over(End::Aborted(Cause::Present(cell))));
     };
     note_put(alloc, progress, cell, value)?;
-    Ok(Outcome::Did(Deed::Put(cell, value)))
+    Ok(Step::Did(Deed::Put(cell, value)))
 }
 
-fn put(
-    alloc: Global,
-    progress: &mut Progress<'_>,
-    cell: Option<Cell>,
-    value: &Expr,
-) -> Result<Outcome, AllocError>
-    ensures done { IfOk result (λ n. IsDoneBy (λ m. put_flow cell (value_of (expr_tree value.now) progress.old.env) progress.old) None n progress.old progress.new) }
-    ensures looks { IfOk result (λ n. progress.new.looks ≡ progress.old.looks) }
-    ensures err { OnErr result (progress.new ≡ progress.old) }
-{
-    let Some(cell) = cell else {
-        return Ok(Outcome::Aborts(Cause::Overflow));
-    };
-    let Some(value) = value.value(&progress.env) else {
-        return Ok(Outcome::Aborts(Cause::Overflow));
-    };
-    note_put(alloc, progress, cell, value)?;
-    Ok(Outcome::Did(Deed::Put(cell, value)))
-}
-
-fn delete(
-    alloc: Global,
-    progress: &mut Progress<'_>,
-    cell: Option<Cell>,
-) -> Result<Outcome, AllocError>
-    ensures done { IfOk result (λ n. IsDoneBy (λ m. delete_flow cell progress.old) None n progress.old progress.new) }
-    ensures looks { IfOk result (λ n. progress.new.looks ≡ progress.old.looks) }
-    ensures err { OnErr result (progress.new ≡ progress.old) }
-{
-    let Some(cell) = cell else {
-        return Ok(Outcome::Aborts(Cause::Overflow));
-    };
-    note_removed(alloc, progress, cell)?;
-    Ok(Outcome::Did(Deed::Removed(cell)))
-}
-
-fn keep(
-    alloc: Global,
-    progress: &mut Progress<'_>,
-    cell: Option<Cell>,
-) -> Result<Outcome, AllocError>
-    ensures done { IfOk result (λ n. IsDoneBy (λ m. keep_flow cell progress.old) None n progress.old progress.new) }
-    ensures looks { IfOk result (λ n. progress.new.looks ≡ progress.old.looks) }
-    ensures err { OnErr result (progress.new ≡ progress.old) }
-{
-    let Some(cell) = cell else {
-        return Ok(Outcome::Aborts(Cause::Overflow));
-    };
-    note_kept(alloc, progress, cell)?;
-    Ok(Outcome::Did(Deed::Kept(cell)))
-}
-
-fn count<'a>(
-    alloc: Global,
-    progress: &mut Progress<'a>,
-    region: Option<Region>,
-    answer: Option<Answer>,
-    name: &'a Name,
-) -> Result<Outcome, AllocError>
-    ensures done { IfOk result (λ n. IsDoneBy (from_region region progress.old (count_flow name.now)) (option_map Question.Range region) n progress.old progress.new) }
-    ensures looks { IfOk result (λ n. progress.new.looks ≡ looks_with progress.old (option_map Question.Range region) answer) }
-    ensures err { OnErr result (IsUnfinished progress.old progress.new) }
-{
-    let Some(region) = region else {
-        return Ok(Outcome::Aborts(Cause::Overflow));
-    };
-    let Some(Answer::Range(rows)) = answer else {
-        return Ok(Outcome::Asks(Question::Range(region)));
-    };
-    let seen = look_at_region(alloc, progress, region, rows)?;
-    let outcome = count_seen(progress, region, seen.count, name)?;
-    Ok(outcome)
-}
-
-fn count_seen<'a>(
+// Binds the number or the total of the rows that the run sees.
+fn bind_tally<'a>(
     progress: &mut Progress<'a>,
     region: Region,
-    value: Option<i64>,
+    tally: Tally,
     name: &'a Name,
-) -> Result<Outcome, AllocError>
-    ensures flow { IfOk result (λ n. IsFlow (found_flow name.now (Deed.Counted region) value progress.old) n progress.old progress.new) }
+    value: Option<i64>,
+) -> Result<Step<'a>, AllocError>
+    ensures flow { IfOk result (λ s. IsFlow (found_flow name.now (tally_deed tally region) value progress.old) s progress.old progress.new) }
     ensures err { OnErr result (progress.new ≡ progress.old) }
 {
     let Some(value) = value else {
-        return Ok(Outcome::Aborts(Cause::Overflow));
+        return Ok(Step::Over(OVERFLOW));
     };
-    let deed = Deed::Counted(region, value);
+    let deed = tally.deed(region, value);
     note_found(progress, name, value, deed)?;
-    Ok(Outcome::Did(deed))
-}
-
-fn sum<'a>(
-    alloc: Global,
-    progress: &mut Progress<'a>,
-    region: Option<Region>,
-    answer: Option<Answer>,
-    name: &'a Name,
-) -> Result<Outcome, AllocError>
-    ensures done { IfOk result (λ n. IsDoneBy (from_region region progress.old (sum_flow name.now)) (option_map Question.Range region) n progress.old progress.new) }
-    ensures looks { IfOk result (λ n. progress.new.looks ≡ looks_with progress.old (option_map Question.Range region) answer) }
-    ensures err { OnErr result (IsUnfinished progress.old progress.new) }
-{
-    let Some(region) = region else {
-        return Ok(Outcome::Aborts(Cause::Overflow));
-    };
-    let Some(Answer::Range(rows)) = answer else {
-        return Ok(Outcome::Asks(Question::Range(region)));
-    };
-    let seen = look_at_region(alloc, progress, region, rows)?;
-    let outcome = sum_seen(progress, region, seen.total, name)?;
-    Ok(outcome)
-}
-
-fn sum_seen<'a>(
-    progress: &mut Progress<'a>,
-    region: Region,
-    value: Option<i64>,
-    name: &'a Name,
-) -> Result<Outcome, AllocError>
-    ensures flow { IfOk result (λ n. IsFlow (found_flow name.now (Deed.Summed region) value progress.old) n progress.old progress.new) }
-    ensures err { OnErr result (progress.new ≡ progress.old) }
-{
-    let Some(value) = value else {
-        return Ok(Outcome::Aborts(Cause::Overflow));
-    };
-    let deed = Deed::Summed(region, value);
-    note_found(progress, name, value, deed)?;
-    Ok(Outcome::Did(deed))
+    Ok(Step::Did(deed))
 }

@@ -1,12 +1,13 @@
-use Rattle.std.proofs.Common.{ap, sym, subst, ◌∙◌}
+use Rattle.std.proofs.Common.{ap, sym, ◌∙◌}
 use Rattle.prog_tree.specs.Tree.{stmt_tree, stmts_tree}
 use Rattle.prog_run.specs.Cursor.{cursor_tree, is_store}
-use Rattle.prog_run.specs.Step.{IsStep}
+use Rattle.prog_run.specs.Task.{task_tree}
+use Rattle.prog_run.proofs.StatementLemmas.{begun_looks}
 use Rattle.prog_run.proofs.StepLemmas.{step_of_stmt, store_first}
 use Rattle.prog_run.proofs.cursor.Cursor.store_step.Goals as goal
 
-pub run_statement-requires : goal.run_statement-requires
-run_statement-requires c =
+pub task_of-requires : goal.task_of-requires
+task_of-requires c =
     let at = ap stmts_tree c.in-Some.ensures.cases.0 in
     sym (store_first (stmt_tree c.in-Some.stmt.now) (stmts_tree c.in-Some.rest.now)) ∙ ap is_store (sym at) ∙ c.requires
 
@@ -18,8 +19,8 @@ returns-clause-step c =
     let stmt = stmt_tree c.in-Some.stmt.now in
     let rest = stmts_tree c.in-Some.rest.now in
     let at = ap stmts_tree c.in-Some.ensures.cases.0 in
-    let store = sym (store_first stmt rest) ∙ ap is_store (sym at) ∙ c.requires in
-    let n = c.in_ok-outcome.outcome in
-    let q = c.run_statement.new.progress in
-    subst (λ x. IsStep c.args.tables.now x old p new q) (sym c.next.ensures)
-    (step_of_stmt c.args.tables.now stmt rest old new p q at store n c.go_on.ensures c.in_ok-outcome.ensures.done)
+    let task = task_tree c.in-Some-task_of.task in
+    step_of_stmt c.args.tables.now stmt rest old new p c.begin.new.progress at task (sym c.in-Some-task_of.ensures) c.in_ok-step.step c.go_on.ensures c.in_ok-step.ensures.begun
+
+pub returns-clause-looks : goal.returns-clause-looks
+returns-clause-looks c = begun_looks (task_tree c.in-Some-task_of.task) c.in_ok-step.step c.args.progress.now c.begin.new.progress c.in_ok-step.ensures.begun

@@ -1,0 +1,146 @@
+-- What a statement of the store is to do, once all is evaluated that comes before its look.
+use Rattle.std.specs.Prelude.{ℤ, pos, List, [], length, Option, Some, None, option_and_then, option_map}
+use Rattle.prog_tree.specs.declared.cell.Cell.{Cell}
+use Rattle.prog_tree.specs.declared.cell.Region.{Region}
+use Rattle.prog_tree.specs.declared.deed.Cause.TheVariants.{Missing, Present}
+use Rattle.prog_tree.specs.declared.deed.Deed.{Deed}
+use Rattle.prog_tree.specs.declared.deed.Deed.TheVariants as deed
+use Rattle.prog_tree.specs.declared.progress.Progress.{Progress}
+use Rattle.prog_tree.specs.declared.table.TableDecl.{TableDecl}
+use Rattle.prog_tree.specs.Syntax.{Name, ExprTree, StatementTree, BlockTree, BlockEnd, Then, Branch, StmtTree, Plain, Fork}
+use Rattle.prog_tree.specs.Syntax as s
+use Rattle.prog_tree.specs.Tree.{expr_tree}
+use Rattle.prog_tree.specs.Numbering.{number_of}
+use Rattle.prog_tree.specs.Value.{Bindings, or_else, value_of, exact}
+use Rattle.prog_tree.specs.Table.{TableState}
+use Rattle.prog_tree.specs.Steps.{bound, did, wrote, keeps}
+use Rattle.prog_tree.specs.Evaluation.{Flow, GoesOn, Stops, with_value, if_present, with_seen, with_rows, cell_of, region_of, total_of}
+use Rattle.prog_run.specs.declared.task.CellUse.{CellUse}
+use Rattle.prog_run.specs.declared.task.CellUse.TheVariants as of_cell
+use Rattle.prog_run.specs.declared.task.Tally.{Tally}
+use Rattle.prog_run.specs.declared.task.Tally.TheVariants.{Count, Sum}
+use Rattle.prog_run.specs.declared.task.Asked.{Asked}
+use Rattle.prog_run.specs.declared.task.Asked.TheVariants as asked
+use Rattle.prog_run.specs.declared.task.Task.{Task}
+use Rattle.prog_run.specs.declared.task.Task.TheVariants as task
+
+-- what a statement does with what its cell holds; an insert has its value
+pub data UseTree : Type 0 where
+  Get : (name : Name) (otherwise : ExprTree) → UseTree
+  Need : (name : Name) → UseTree
+  Lacks : UseTree
+  Insert : (value : ℤ) → UseTree
+
+-- a look, and what its statement does with what it finds
+pub data AskedTree : Type 0 where
+  OfCell : (cell : Cell) (usage : UseTree) → AskedTree
+  OfRegion : (region : Region) (tally : Tally) (name : Name) → AskedTree
+
+pub data TaskTree : Type 0 where
+  Look : (asked : AskedTree) → TaskTree
+  Put : (cell : Cell) (value : ℤ) → TaskTree
+  Remove : (cell : Cell) → TaskTree
+  Keep : (cell : Cell) → TaskTree
+
+-- ---- those of the code, as plain values
+
+abbrev pub use_tree : CellUse → UseTree
+use_tree (of_cell.Get name otherwise) = Get name.now (expr_tree otherwise.now)
+use_tree (of_cell.Need name) = Need name.now
+use_tree of_cell.Lacks = Lacks
+use_tree (of_cell.Insert value) = Insert value
+
+abbrev pub asked_tree : Asked → AskedTree
+asked_tree (asked.OfCell cell usage) = OfCell cell (use_tree usage)
+asked_tree (asked.OfRegion region tally name) = OfRegion region tally name.now
+
+abbrev pub task_tree : Task → TaskTree
+task_tree (task.Look look) = Look (asked_tree look)
+task_tree (task.Put cell value) = Put cell value
+task_tree (task.Remove cell) = Remove cell
+task_tree (task.Keep cell) = Keep cell
+
+-- ---- the task of a statement
+
+-- the task at the cell of a key; none where the key overflows
+abbrev pub task_at : List TableDecl → Name → s.KeyTree → Bindings → (Cell → Option TaskTree) → Option TaskTree
+task_at tables table key env make = option_and_then make (cell_of (number_of tables table) key env)
+
+-- the task at the rows of a range, likewise
+abbrev pub task_in : List TableDecl → Name → s.RangeTree → Bindings → (Region → Option TaskTree) → Option TaskTree
+task_in tables table range env make = option_and_then make (region_of (number_of tables table) range env)
+
+-- what a statement without blocks is to do at the store; none where a result lies outside i64, or where it needs no store
+abbrev pub task_of : List TableDecl → StatementTree → Bindings → Option TaskTree
+task_of tables (s.Bind name value) env = None
+task_of tables (s.Get name table key otherwise) env = task_at tables table key env (λ cell. Some (Look (OfCell cell (Get name otherwise))))
+task_of tables (s.Need name table key) env = task_at tables table key env (λ cell. Some (Look (OfCell cell (Need name))))
+task_of tables (s.Count name table range) env = task_in tables table range env (λ region. Some (Look (OfRegion region Count name)))
+task_of tables (s.Sum name table range) env = task_in tables table range env (λ region. Some (Look (OfRegion region Sum name)))
+task_of tables (s.Lacks table key) env = task_at tables table key env (λ cell. Some (Look (OfCell cell Lacks)))
+task_of tables (s.Put table key value) env = task_at tables table key env (λ cell. option_map (λ v. Put cell v) (value_of value env))
+task_of tables (s.Insert table key value) env = task_at tables table key env (λ cell. option_map (λ v. Look (OfCell cell (Insert v))) (value_of value env))
+task_of tables (s.Delete table key) env = task_at tables table key env (λ cell. Some (Remove cell))
+task_of tables (s.Keep table key) env = task_at tables table key env (λ cell. Some (Keep cell))
+task_of tables (s.Reply value) env = None
+task_of tables s.Abort env = None
+
+-- a branch has none
+abbrev pub task_of_stmt : List TableDecl → StmtTree → Bindings → Option TaskTree
+task_of_stmt tables (Plain statement) env = task_of tables statement env
+task_of_stmt tables (Fork test a b) env = None
+
+-- the task of the first statement of a block
+abbrev pub next_task : List TableDecl → BlockTree → Bindings → Option TaskTree
+next_task tables BlockEnd env = None
+next_task tables (Then statement rest) env = task_of tables statement env
+next_task tables (Branch test a b rest) env = None
+
+-- ---- what a task does
+
+-- the rest of a get, once it is known what its cell holds
+abbrev pub get_flow : Name → ExprTree → Cell → Option ℤ → Progress → Flow
+get_flow name otherwise cell seen p = with_value (or_else seen (value_of otherwise p.env)) p (λ v. GoesOn (bound name v (did (deed.Read cell seen) p)))
+
+-- the rest of a need, likewise
+abbrev pub need_flow : Name → Cell → Option ℤ → Progress → Flow
+need_flow name cell seen p = if_present seen (λ v. GoesOn (bound name v (did (deed.Read cell seen) p))) (Stops (Missing cell) p)
+
+-- the rest of a lacks, likewise
+abbrev pub lacks_flow : Cell → Option ℤ → Progress → Flow
+lacks_flow cell seen p = if_present seen (λ v. Stops (Present cell) p) (GoesOn (did (deed.Read cell seen) p))
+
+-- the rest of an insert of a value, likewise
+abbrev pub insert_flow : ℤ → Cell → Option ℤ → Progress → Flow
+insert_flow v cell seen p = if_present seen (λ w. Stops (Present cell) p) (GoesOn (did (deed.Put cell v) (wrote cell (Some v) p)))
+
+abbrev pub use_flow : UseTree → Cell → Option ℤ → Progress → Flow
+use_flow (Get name otherwise) cell = get_flow name otherwise cell
+use_flow (Need name) cell = need_flow name cell
+use_flow Lacks cell = lacks_flow cell
+use_flow (Insert value) cell = insert_flow value cell
+
+-- the number of rows, or their total
+abbrev pub tally_of : Tally → TableState → ℤ
+tally_of Count rows = pos (length rows)
+tally_of Sum rows = total_of rows
+
+abbrev pub tally_deed : Tally → Region → ℤ → Deed
+tally_deed Count region v = deed.Counted region v
+tally_deed Sum region v = deed.Summed region v
+
+-- the rest of a count or a sum, once its value is known
+abbrev pub found_flow : Name → (ℤ → Deed) → Option ℤ → Progress → Flow
+found_flow name made value p = with_value value p (λ v. GoesOn (bound name v (did (made v) p)))
+
+-- the same, once the rows are known that the run sees
+abbrev pub rows_flow : Tally → Name → Region → TableState → Progress → Flow
+rows_flow tally name region rows p = found_flow name (tally_deed tally region) (exact (tally_of tally rows)) p
+
+-- what a task does on a table state
+abbrev pub task_flow : TableState → TaskTree → Progress → Flow
+task_flow m (Look (OfCell cell usage)) p = with_seen [] m cell p (use_flow usage cell)
+task_flow m (Look (OfRegion region tally name)) p = with_rows [] m region p (rows_flow tally name region)
+task_flow m (Put cell v) p = GoesOn (did (deed.Put cell v) (wrote cell (Some v) p))
+task_flow m (Remove cell) p = GoesOn (did (deed.Removed cell) (wrote cell None p))
+task_flow m (Keep cell) p = GoesOn (did (deed.Kept cell) (keeps cell p))
