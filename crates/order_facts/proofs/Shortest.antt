@@ -4,7 +4,7 @@ use Rattle.std.proofs.lemmas.Int.{ints}
 use Rattle.std.proofs.lemmas.Bool.{cases_lt, cases_Bool}
 use Rattle.order_facts.specs.declared.steps.Node.{Node}
 use Rattle.order_facts.specs.declared.steps.Fact.{Fact}
-use Rattle.order_facts.specs.Chain.{IsPlainStep, IsStep, IsChainFrom, IsChain, RunsBetween, last_of}
+use Rattle.order_facts.specs.Chain.{IsPlainStep, IsStep, IsChainFrom, IsChain, IsTight, RunsBetween, last_of}
 use Rattle.order_facts.specs.Reaches.{reaches}
 use Rattle.order_facts.specs.Search.{IsEnd}
 use Rattle.order_facts.proofs.Reach.{floor-ceiling}
@@ -65,3 +65,18 @@ module _ (facts : List Fact) (y : Node) where
 
 abbrev pub rank_of : List Fact → Node → Node → ℕ
 rank_of facts x y = rank facts y x (cases_Bool (reaches facts x y))
+
+-- ---- chains with the fewest nodes
+
+module _ (facts : List Fact) (y : Node) where
+  tight-from : (a : Node) (rest : List Node) → IsChainFrom facts a rest → last_of a rest ≡ y → ((other : List Node) → IsChainFrom facts a other → last_of a other ≡ y → length rest ≤ length other) → IsTight (a ∷ rest)
+  tight-from a [] c e few = tt
+  tight-from a (b ∷ []) c e few = tt
+  tight-from a (b ∷ d ∷ rest) c e few = (
+    λ p. let shorter = few (d ∷ rest) (inr (plain_trans a b d p.0 p.1), c.1.1) e in absurd (omega (arith, shorter)),
+    tight-from b (d ∷ rest) c.1 e (λ other o l. let longer = few (b ∷ other) (c.0, o) l in omega (arith, longer)),
+  )
+
+pub IsTight-from_fewest : (facts : List Fact) (x y : Node) (chain : List Node) → IsChain facts chain → RunsBetween x y chain → ((other : List Node) → IsChain facts other → RunsBetween x y other → length chain ≤ length other) → IsTight chain
+IsTight-from_fewest facts x y [] c r few = absurd c
+IsTight-from_fewest facts x y (a ∷ rest) c r few = tight-from facts y a rest c r.1 (λ other o l. let longer = few (a ∷ other) o (r.0, l) in omega (arith, longer))

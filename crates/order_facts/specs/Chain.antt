@@ -81,6 +81,11 @@ abbrev pub RunsBetween : Node → Node → List Node → Type 0
 RunsBetween x y [] = ⊥
 RunsBetween x y (a ∷ rest) = (a ≡ x) × (last_of a rest ≡ y)
 
+-- of two steps in a row one at least is by a given fact: else the node between them could be left out
+abbrev pub IsTight : List Node → Type 0
+IsTight (a ∷ b ∷ c ∷ rest) = ¬ (IsPlainStep a b × IsPlainStep b c) × IsTight (b ∷ c ∷ rest)
+IsTight _ = Unit {0}
+
 -- a chain runs from a number of the facts to a smaller number of them: one is a fact's lower node, the other a fact's upper one
 pub record HasContradiction (facts : List Fact) : Type 0 where
   pub greater : ℤ

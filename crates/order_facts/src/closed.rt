@@ -2,7 +2,7 @@
 
 ghost use Rattle.std.specs.Prelude.{◌≡◌, ◌↔◌, ◌≤◌, List, false, length, IfOk, IfSome, IfNone, IsSome, IsNone, IsTrue};
 ghost use Rattle.order_facts.specs.declared.steps.Node.{Node};
-ghost use Rattle.order_facts.specs.Chain.{Entails, IsConsistent, IsOfI64, Meets, HasContradiction, IsChain, RunsBetween};
+ghost use Rattle.order_facts.specs.Chain.{Entails, IsConsistent, IsOfI64, Meets, HasContradiction, IsChain, IsTight, RunsBetween};
 ghost use Rattle.order_facts.specs.Sample.{sample_number, assignment_of, IsSampled};
 
 use crate::matrix::Matrix;
@@ -75,6 +75,7 @@ impl Closed {
         ensures fewest { IfOk result (λ found. IfSome found
             (λ chain. (other : List Node) → IsChain self.now other → RunsBetween x y other
             → length chain.items ≤ length other)) }
+        ensures tight { IfOk result (λ found. IfSome found (λ chain. IsTight chain.items)) }
         ensures none { IfOk result (λ found. IfNone found
             ((other : List Node) → IsChain self.now other → ¬ RunsBetween x y other)) }
 
