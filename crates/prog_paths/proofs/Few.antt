@@ -11,10 +11,14 @@ use Rattle.prog_tree.specs.Syntax.{ProgramTree, DraftTree}
 use Rattle.prog_check.specs.declared.path.Path.{Path}
 use Rattle.prog_check.specs.Paths.{program_paths, paths_from, paths_of}
 use Rattle.prog_check.specs.Sound.{IsSoundProgram, IsSound}
-use Rattle.prog_paths.specs.Few.{AreFew}
+use Rattle.prog_paths.specs.Few.{IsAccessBelow, AreFew}
+use Rattle.prog_paths.proofs.Numbered.{program_below}
 
 abbrev FewAccesses : Path → Type 0
 FewAccesses path = length path.accesses ≤ 24
+
+abbrev LowTerms : Path → Type 0
+LowTerms path = All (IsAccessBelow 768) path.accesses
 
 -- the programs of a list, numbered from here on, are sound
 abbrev AreSound : List TableDecl → ℕ → List ProgramTree → Type 0
@@ -34,17 +38,22 @@ few_paths tables n (p ∷ ps) h =
     let all = length-append (program_paths tables n p) (paths_from tables (n + 1) ps) in
     omega (arith, own, rest, all)
 
-few_accesses : (tables : List TableDecl) (n : ℕ) (ps : List ProgramTree) → AreSound tables n ps → All FewAccesses (paths_from tables n ps)
-few_accesses tables n [] h = All-nil FewAccesses
-few_accesses tables n (p ∷ ps) h =
-    All-append FewAccesses (program_paths tables n p) (paths_from tables (n + 1) ps)
-    (first_is_sound tables n p ps h).few_accesses (few_accesses tables (n + 1) ps (rest_is_sound tables n p ps h))
+-- what is so of each path of a sound program is so of the paths of all
+of_all : (P : Path → Type 0) (tables : List TableDecl) → ((n : ℕ) (p : ProgramTree) → IsSoundProgram tables n p → All P (program_paths tables n p)) → (n : ℕ) (ps : List ProgramTree) → AreSound tables n ps → All P (paths_from tables n ps)
+of_all P tables own n [] h = All-nil P
+of_all P tables own n (p ∷ ps) h =
+    All-append P (program_paths tables n p) (paths_from tables (n + 1) ps)
+    (own n p (first_is_sound tables n p ps h)) (of_all P tables own (n + 1) ps (rest_is_sound tables n p ps h))
 
 few-from_sound : (draft : DraftTree) → IsSound draft → AreFew (paths_of draft)
 few-from_sound draft sound =
     let paths = few_paths draft.tables 0 draft.programs all in
     let programs = sound.few_programs in
-    record { paths = omega (arith, paths, programs); accesses = few_accesses draft.tables 0 draft.programs all }
+    record {
+      paths = omega (arith, paths, programs);
+      accesses = of_all FewAccesses draft.tables (λ n p s. s.few_accesses) 0 draft.programs all;
+      terms = of_all LowTerms draft.tables (program_below draft.tables) 0 draft.programs all;
+    }
   where
     all : AreSound draft.tables 0 draft.programs
     all k p at = let e : k ≡ 0 + k = omega arith in subst (λ (m : ℕ). IsSoundProgram draft.tables m p) e (sound.programs k p at)

@@ -24,6 +24,7 @@ pub mod Shown
 pub mod Asked
 pub mod Membership
 pub mod Order
+pub mod Numbered
 pub mod Few
 pub mod Edges
 pub mod Elements

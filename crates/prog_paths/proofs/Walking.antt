@@ -207,7 +207,7 @@ module _ (tables : List TableDecl) (params : List Name) where
 
   -- ---- unknowns
 
-  next_low : (u : ℕ) (e : ExprTree) → next_behind params u e ≤ u + 1
+  pub next_low : (u : ℕ) (e : ExprTree) → next_behind params u e ≤ u + 1
   next_low u e = go (is_unknown (term_of params u e))
     where
       go : (w : Bool) → (if w then u + 1 else u) ≤ u + 1
@@ -226,7 +226,7 @@ module _ (tables : List TableDecl) (params : List Name) where
       let l = next_low (next_behind params (next_behind params u a) low) high in
       omega (arith, h, k, l)
 
-  statement_low : (u : ℕ) (st : StatementTree) → next_unknown u (columns_of params u st) ≤ u + 3
+  pub statement_low : (u : ℕ) (st : StatementTree) → next_unknown u (columns_of params u st) ≤ u + 3
   statement_low u (s.Get x table key e) = key_low u key
   statement_low u (s.Need x table key) = key_low u key
   statement_low u (s.Count x table range) = range_low u range
@@ -251,7 +251,7 @@ module _ (tables : List TableDecl) (params : List Name) where
   low_along n k t r h short = let g = behind_low t.unknown r.passed in omega (arith, h, short, g)
 
 -- routes that pass at most so many statements
-abbrev AreShort : ℕ → List Route → Type 0
+abbrev pub AreShort : ℕ → List Route → Type 0
 AreShort k rs = AllByRecursion (λ (r : Route). length r.passed ≤ k) rs
 
 short_append : (k : ℕ) (rs qs : List Route) → AreShort k rs → AreShort k qs → AreShort k (rs ++ qs)
@@ -269,7 +269,7 @@ short_followed j k (f ∷ fs) rs h g =
     (short_map k (j + k) (joined f) (λ r short. let e = length-append f.passed r.passed in let own = h.0 in omega (arith, e, own, short)) rs g)
     (short_followed j k fs rs h.1 g)
 
-short_routes : (n : ℕ) (b : BlockTree) → AreShort (statement_count b) (routes n b)
+pub short_routes : (n : ℕ) (b : BlockTree) → AreShort (statement_count b) (routes n b)
 short_routes n BlockEnd = (omega arith, tt)
 short_routes n (Then st rest) = go (is_abort st) (short_routes (n + 1) rest)
   where

@@ -1,8 +1,30 @@
--- How many committing paths a checked set has, and how many accesses they have.
-use Rattle.std.specs.Prelude.{◌≤◌, List, length, All}
+-- How many committing paths a checked set has, how many accesses they have, and how high their terms are numbered.
+use Rattle.std.specs.Prelude.{ℕ, ◌<◌, ◌≤◌, List, length, All, IfSome}
+use Rattle.prog_check.specs.declared.path.Term.{Term}
+use Rattle.prog_check.specs.declared.path.Term.TheVariants.{Param, Literal, Unknown}
+use Rattle.prog_check.specs.declared.path.Column.{Column}
+use Rattle.prog_check.specs.declared.path.Access.{Access}
 use Rattle.prog_check.specs.declared.path.Path.{Path}
 
--- 16 programs have at most 32 paths each, and a path at most 24 accesses
+-- ---- terms
+
+-- a parameter or an unknown has a number below a bound
+abbrev pub IsTermBelow : ℕ → Term → Type 0
+IsTermBelow bound (Param i) = i < bound
+IsTermBelow bound (Literal k) = Unit {0}
+IsTermBelow bound (Unknown i) = i < bound
+
+abbrev pub IsColumnBelow : ℕ → Column → Type 0
+IsColumnBelow bound column = IsTermBelow bound column.low × IsTermBelow bound column.high
+
+abbrev pub IsAccessBelow : ℕ → Access → Type 0
+IsAccessBelow bound access = IsColumnBelow bound access.first × IfSome access.second (IsColumnBelow bound)
+
+-- ---- paths
+
+-- 16 programs have at most 32 paths each, a path at most 24 accesses, and a program at most 8 parameters and 256 statements,
+-- each with at most three unknowns
 pub record AreFew (nodes : List Path) : Type 0 where
   pub paths : length nodes ≤ 512
   pub accesses : All (λ path. length path.accesses ≤ 24) nodes
+  pub terms : All (λ path. All (IsAccessBelow 768) path.accesses) nodes
