@@ -70,25 +70,28 @@ pub fn number_fall(mine: &Access, theirs: &Access) -> Option<Chain>
 }
 
 /// A chain from a node to one, where they are numbers that fall.
-fn falling_chain(closed: &Closed, from: Node, to: Node) -> Result<Option<Vec<Node>>, AllocError>
-    ensures some { IfOk result (λ found. IfSome found (λ chain. Falls closed.now chain.items)) }
+fn falling_chain(closed: &Closed, from: Node, to: Node) -> Result<Option<Chain>, AllocError>
+    ensures some { IfOk result (λ found. IfSome found (λ chain. Falls closed.now chain)) }
     ensures all { IfOk result (λ found. FallsBetween closed.now from to → IsSome found) }
 {
     if !is_fall(from, to) {
         return Ok(None);
     }
-    closed.chain(from, to)
+    match closed.chain(from, to)? {
+        Some(nodes) => Ok(Some(Chain::from_vec(nodes))),
+        None => Ok(None),
+    }
 }
 
 /// The shorter of two chains, the first where they are as long.
-fn shorter(one: Option<Vec<Node>>, other: Option<Vec<Node>>) -> Option<Vec<Node>>
+fn shorter(one: Option<Chain>, other: Option<Chain>) -> Option<Chain>
     ensures either { (result ≡ one) ⊎ (result ≡ other) }
     ensures one { IsSome one → IsSome result }
     ensures other { IsSome other → IsSome result }
 {
     match (one, other) {
         (Some(one), Some(other)) => {
-            if other.len() < one.len() {
+            if other.as_slice().len() < one.as_slice().len() {
                 Some(other)
             } else {
                 Some(one)
@@ -100,8 +103,8 @@ fn shorter(one: Option<Vec<Node>>, other: Option<Vec<Node>>) -> Option<Vec<Node>
 }
 
 /// A chain from a node to one of some nodes, where they are numbers that fall.
-fn falling_from(closed: &Closed, from: Node, ends: &[Node]) -> Result<Option<Vec<Node>>, AllocError>
-    ensures some { IfOk result (λ found. IfSome found (λ chain. Falls closed.now chain.items)) }
+fn falling_from(closed: &Closed, from: Node, ends: &[Node]) -> Result<Option<Chain>, AllocError>
+    ensures some { IfOk result (λ found. IfSome found (λ chain. Falls closed.now chain)) }
     ensures all { IfOk result (λ found. (k : ℕ) (to : Node) → slice_get ends.now k ≡ Some to
         → FallsBetween closed.now from to → IsSome found) }
 {
@@ -117,8 +120,8 @@ fn falling_between(
     closed: &Closed,
     starts: &[Node],
     ends: &[Node],
-) -> Result<Option<Vec<Node>>, AllocError>
-    ensures some { IfOk result (λ found. IfSome found (λ chain. Falls closed.now chain.items)) }
+) -> Result<Option<Chain>, AllocError>
+    ensures some { IfOk result (λ found. IfSome found (λ chain. Falls closed.now chain)) }
     ensures all { IfOk result (λ found. (i k : ℕ) (from to : Node)
         → slice_get starts.now i ≡ Some from → slice_get ends.now k ≡ Some to
         → FallsBetween closed.now from to → IsSome found) }
@@ -152,7 +155,7 @@ pub fn contradiction(closed: &Closed, mine: &Access, theirs: &Access) -> Result<
         mine_node(my_second.high),
     ];
     match falling_between(closed, &starts, &ends)? {
-        Some(nodes) => Ok(Chain::from_vec(nodes)),
+        Some(chain) => Ok(chain),
         None => unreachable!(),
     }
 }

@@ -1,5 +1,6 @@
 //! Chains that answers hold.
 ghost use Rattle.std.specs.Prelude.{◌≡◌, [], ◌∷◌};
+ghost use Rattle.order_facts.specs.Chain.{IsTight};
 
 use order_facts::Node;
 use std::marker::Model;
@@ -11,7 +12,8 @@ enum Nodes {
     Listed(Vec<Node>),
 }
 
-/// Nodes of which each is at most the next. A chain of two nodes takes no memory.
+/// Nodes of which each is at most the next, and none could be left out. A chain of two nodes takes
+/// no memory.
 #[derive(Debug, Drop)]
 pub struct Chain {
     nodes: Nodes,
@@ -20,11 +22,14 @@ pub struct Chain {
 impl Model for Chain {
     ghost use Rattle.std.specs.Prelude.{List};
     ghost use Rattle.order_facts.specs.declared.steps.Node.{Node};
+    ghost use Rattle.order_facts.specs.Chain.{IsTight};
     ghost use Rattle.conflict_pairs.specs.Chain.{nodes_of};
 
     ghost Value = { List Node };
 
     ghost view = { λ c. nodes_of c.nodes };
+
+    ghost invariant = { λ c. IsTight (nodes_of c.nodes) };
 }
 
 impl Chain {
@@ -38,6 +43,7 @@ impl Chain {
     }
 
     pub(crate) fn from_vec(nodes: Vec<Node>) -> Self
+        requires { IsTight nodes.items }
         ensures { result ≡ nodes.items }
     {
         Chain {
@@ -46,7 +52,8 @@ impl Chain {
     }
 
     pub fn as_slice(&self) -> &[Node]
-        ensures { result.now ≡ self.now }
+        ensures nodes { result.now ≡ self.now }
+        ensures tight { IsTight result.now }
     {
         match &self.nodes {
             Nodes::Two(nodes) => nodes.as_slice(),

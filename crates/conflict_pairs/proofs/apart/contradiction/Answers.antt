@@ -24,7 +24,7 @@ unreachable-requires c =
     (λ i. c.mine_node.ensures i ∷ c.their_node-first.ensures i ∷ my_low i ∷ their_low i ∷ []) in
     let uppers : c.their_node-first.result ∷ c.mine_node-3.result ∷ c.their_node-second.result ∷ c.mine_node-4.result ∷ [] ≡ upper_nodes mine theirs =
     (λ i. c.their_node-first.ensures i ∷ c.mine_node-3.ensures i ∷ their_low i ∷ my_high i ∷ []) in
-    let some = c.in_ok-nodes.ensures.all low.0 high.0 h.first.lo h.last.hi
+    let some = c.in_ok-chain.ensures.all low.0 high.0 h.first.lo h.last.hi
     (subst (λ (ns : List Node). slice_get ns low.0 ≡ Some h.first.lo) (sym lowers) low.1)
     (subst (λ (ns : List Node). slice_get ns high.0 ≡ Some h.last.hi) (sym uppers) high.1)
     (FallsBetween-contradiction facts h) in

@@ -7,6 +7,6 @@ use Rattle.conflict_pairs.proofs.apart.falling_between.Given as goal
 -- the best so far falls, and there is one where some start so far has one
 abbrev pub invariant-loop-from : goal.invariant-loop-from
 invariant-loop-from l = record {
-  some : IfSome l.best (λ chain. Falls l.closed chain.items);
+  some : IfSome l.best (λ chain. Falls l.closed chain);
   all : (i k : ℕ) (from to : Node) → i < l.from-index → slice_get l.starts i ≡ Some from → slice_get l.ends k ≡ Some to → FallsBetween l.closed from to → IsSome l.best;
 }

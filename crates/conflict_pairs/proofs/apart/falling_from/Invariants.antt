@@ -7,6 +7,6 @@ use Rattle.conflict_pairs.proofs.apart.falling_from.Given as goal
 -- the best so far falls, and there is one where some end so far has one
 abbrev pub invariant-loop-to : goal.invariant-loop-to
 invariant-loop-to l = record {
-  some : IfSome l.best (λ chain. Falls l.closed chain.items);
+  some : IfSome l.best (λ chain. Falls l.closed chain);
   all : (k : ℕ) (to : Node) → k < l.to-index → slice_get l.ends k ≡ Some to → FallsBetween l.closed l.from to → IsSome l.best;
 }
