@@ -11,6 +11,7 @@ pub mod HeadlineLaws
 mod HeadlineVectors
 pub mod HeldLaws
 pub mod InsertLaws
+pub mod KeepLaws
 pub mod KindLaws
 mod LineLemmas
 mod MachineVectors
@@ -24,6 +25,7 @@ pub mod RowLaws
 pub mod RunLaws
 mod SayingLemmas
 mod ScriptVectors
+pub mod SeamLaws
 pub mod SkewVectors
 mod TextLemmas
 pub mod ToldLaws

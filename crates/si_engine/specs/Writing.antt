@@ -1,5 +1,5 @@
 -- What a write that fails leaves behind.
-use Rattle.std.specs.Prelude.{◌≡◌, ℕ, Bool, true, false, List, Option, take}
+use Rattle.std.specs.Prelude.{◌≡◌, ℕ, Bool, true, false, List, ◌++◌, Option, take}
 use Rattle.std.specs.Io.KnownBytes.{Appends}
 
 -- known bytes grow by some first bytes of bs
@@ -15,3 +15,7 @@ WritesOr {E = E} lost P true old new ended = (ended ≡ lost) × (written : List
 -- these bytes and this end
 abbrev pub IsJust : {E : Type 0} → List ℕ → E → List ℕ → E → Type 0
 IsJust bytes end written ended = (written ≡ bytes) × (ended ≡ end)
+
+-- a text still begins as it did
+unfoldable pub Keeps : List ℕ → List ℕ → Type 0
+Keeps before after = (rest : List ℕ) × (after ≡ before ++ rest)
