@@ -11,6 +11,7 @@ use Rattle.prog_check.specs.declared.path.Path.{Path}
 use Rattle.prog_check.specs.Paths.{paths_of}
 use Rattle.prog_paths.specs.Meeting.{Assignment, MeetsUnder, CanMeet}
 use Rattle.prog_paths.specs.StaticGraph.{Question, HasQuestion, StaticEdge, Leads, here, onward, IsDangerous}
+use Rattle.prog_paths.proofs.Edges.{HasQuestion-weaker}
 use Rattle.history_book.specs.Dependencies.{start_at, depends}
 use Rattle.history_book.specs.History.{Instance}
 use Rattle.history_book.specs.Orders.{LeadsTo}
@@ -26,16 +27,9 @@ use Rattle.si_engine.proofs.VulnerableLaws.{vulnerable_of}
 
 can_meet : (asks : Question → Kind → Kind → Type 0) (v w : Assignment) (nodes : List Path) (x y : ℕ) →
     HasQuestion asks (λ q a b. MeetsUnder v w a b) nodes x y → HasQuestion asks (λ q a b. CanMeet a b) nodes x y
-can_meet asks v w nodes x y q = record {
-  question = q.question;
-  from = q.from;
-  to = q.to;
-  mine = q.mine;
-  theirs = q.theirs;
-  asked = q.asked;
-  kinds = q.kinds;
-  holds = (v, w, q.holds);
-}
+can_meet asks v w nodes x y q =
+    HasQuestion-weaker asks (λ question a b. MeetsUnder v w a b) (λ question a b. CanMeet a b) nodes
+    (λ question mine theirs asked kinds meets. (v, w, meets)) x y q
 
 -- an edge under some assignments is an edge
 pub static_edge : (v w : Assignment) (nodes : List Path) (x y : ℕ) → EdgeUnder v w nodes x y → StaticEdge nodes x y
