@@ -1,9 +1,9 @@
--- Where the tables, programs and statements of a set's text begin.
+-- Where the tables, programs and statements of a set's text begin, and the records of a list.
 use Rattle.std.specs.Prelude.{ℕ, zero, suc, ◌≡◌, ◌+◌, ◌==◌, Bool, true, false, not, ◌&&◌, ◌||◌, List, [], ◌∷◌, codes, bytes_eq, drop, nat_le, take, if◌then◌else◌}
 use Rattle.std.specs.List.{prefix_len, suffix_len}
-use Rattle.text_places.specs.Places.{is_feed}
+use Rattle.text_places.specs.Places.{inset, is_feed}
 use Rattle.text_places.specs.declared.landmark.Landmark.{Landmark}
-use Rattle.text_places.specs.declared.landmark.Landmark.TheVariants.{Table, Program, Statement}
+use Rattle.text_places.specs.declared.landmark.Landmark.TheVariants.{Table, Program, Statement, Record}
 
 -- a letter, a digit or `_`
 abbrev pub is_word_byte : ℕ → Bool
@@ -33,6 +33,7 @@ abbrev pub is_sign_of : Landmark → List ℕ → Bool
 is_sign_of Table word = bytes_eq word (codes "table")
 is_sign_of Program word = bytes_eq word (codes "program")
 is_sign_of Statement word = begins_statement word
+is_sign_of Record word = bytes_eq word (codes "record")
 
 -- the word at the front, of which eight bytes tell whether it is one of these
 abbrev pub first_word : List ℕ → List ℕ
@@ -42,8 +43,22 @@ first_word bytes = take (prefix_len is_word_byte (take 8 bytes)) (take 8 bytes)
 abbrev pub stands_free : (text : List ℕ) → (place : ℕ) → Bool
 stands_free text place = suffix_len is_word_byte (take place text) == 0
 
+abbrev pub is_space : ℕ → Bool
+is_space byte = byte == 32
+
+-- in its line only spaces stand before the place
+abbrev pub begins_line : (text : List ℕ) → (place : ℕ) → Bool
+begins_line text place = suffix_len is_space (take place text) == inset text place
+
+-- a record is a line, and what else there is may stand anywhere in one
+abbrev pub begins_here : Landmark → (text : List ℕ) → (place : ℕ) → Bool
+begins_here Table text place = stands_free text place
+begins_here Program text place = stands_free text place
+begins_here Statement text place = stands_free text place
+begins_here Record text place = begins_line text place
+
 abbrev pub is_landmark : Landmark → (text : List ℕ) → (place : ℕ) → Bool
-is_landmark kind text place = is_sign_of kind (first_word (drop place text)) && stands_free text place
+is_landmark kind text place = is_sign_of kind (first_word (drop place text)) && begins_here kind text place
 
 -- how many of a kind begin before a place
 abbrev pub landmarks_before : Landmark → (text : List ℕ) → (place : ℕ) → ℕ
@@ -66,3 +81,6 @@ IsProgramPlace text program place = IsNumbered Program (without_comments text) 0
 abbrev pub IsStatementPlace : (text : List ℕ) → (program statement : ℕ) → (place : ℕ) → Type 0
 IsStatementPlace text program statement place =
     (start : ℕ) × IsProgramPlace text program start × IsNumbered Statement (without_comments text) start statement place
+
+abbrev pub IsRecordPlace : (list : List ℕ) → (number : ℕ) → (place : ℕ) → Type 0
+IsRecordPlace list number place = IsNumbered Record list 0 number place

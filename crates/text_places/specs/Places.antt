@@ -1,5 +1,5 @@
 -- Where a byte of a text stands: its line, its column, and the line as people see it.
-use Rattle.std.specs.Prelude.{ℕ, ◌+◌, ◌-◌, ◌==◌, Bool, not, List, count_by, drop, length, take}
+use Rattle.std.specs.Prelude.{ℕ, ◌≡◌, ◌<◌, ◌+◌, ◌-◌, ◌==◌, Bool, not, List, count_by, drop, length, take}
 use Rattle.std.specs.List.{before_first, suffix_len}
 
 abbrev pub is_feed : ℕ → Bool
@@ -28,3 +28,12 @@ line_start text place = length (take place text) - inset text place
 -- the line of the place, without its line feed
 abbrev pub line_at : (text : List ℕ) → (place : ℕ) → List ℕ
 line_at text place = before_first is_feed (drop (line_start text place) text)
+
+-- the first byte of the line of this number stands at the place, or would if the line had one
+pub record IsLineFront (text : List ℕ) (line : ℕ) (place : ℕ) : Type 0 where
+  pub numbered : line_number text place ≡ line
+  pub front : column text place ≡ 1
+
+-- each line feed ends a line, and one more line stands behind the last
+abbrev pub HasNoLine : (text : List ℕ) → (line : ℕ) → Type 0
+HasNoLine text line = 0 < line → count_by is_feed text + 1 < line

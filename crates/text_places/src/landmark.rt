@@ -1,9 +1,10 @@
-//! Where the tables, programs and statements of a set's text begin. A statement's first word stands nowhere else.
+//! Where the tables, programs and statements of a set's text begin, and the records of a list. A statement's first word
+//! stands nowhere else.
 ghost use Rattle.std.specs.Prelude.{◌≡◌, ◌≤◌, ◌+◌, take, IfOk, IfSome};
 ghost use Rattle.std.specs.List.{prefix_len, suffix_len};
-ghost use Rattle.text_places.specs.Landmarks.{begins_statement, first_word, is_in_comment, is_landmark, is_sign_of, is_word_byte, landmarks_before, stands_free, without_comments, IsNumbered, IsProgramPlace, IsStatementPlace, IsTablePlace};
+ghost use Rattle.text_places.specs.Landmarks.{begins_here, begins_line, begins_statement, first_word, is_in_comment, is_landmark, is_sign_of, is_space, is_word_byte, landmarks_before, stands_free, without_comments, IsNumbered, IsProgramPlace, IsRecordPlace, IsStatementPlace, IsTablePlace};
 
-use crate::place::{before, behind};
+use crate::place::{before, behind, inset};
 use std::alloc::{AllocError, Global};
 
 /// What has a word of its own at its front.
@@ -12,6 +13,7 @@ pub enum Landmark {
     Table,
     Program,
     Statement,
+    Record,
 }
 
 fn is_word_byte(byte: u8) -> bool
@@ -56,6 +58,7 @@ fn is_sign_of(kind: Landmark, word: &[u8]) -> bool
         Landmark::Table => word == b"table".as_slice(),
         Landmark::Program => word == b"program".as_slice(),
         Landmark::Statement => begins_statement(word),
+        Landmark::Record => word == b"record".as_slice(),
     }
 }
 
@@ -90,10 +93,42 @@ fn stands_free(text: &[u8], place: usize) -> bool
     last_len(before(text, place)) == 0
 }
 
+fn is_space(byte: u8) -> bool
+    ensures { result ≡ is_space byte }
+{
+    byte == b' '
+}
+
+// How many spaces stand at the end.
+fn last_spaces(bytes: &[u8]) -> usize
+    ensures { result ≡ suffix_len is_space bytes.now }
+{
+    bytes
+        .iter()
+        .rev()
+        .take_while(|byte| is_space(**byte))
+        .count()
+}
+
+fn begins_line(text: &[u8], place: usize) -> bool
+    ensures { result ≡ begins_line text.now place }
+{
+    last_spaces(before(text, place)) == inset(text, place)
+}
+
+fn begins_here(kind: Landmark, text: &[u8], place: usize) -> bool
+    ensures { result ≡ begins_here kind text.now place }
+{
+    match kind {
+        Landmark::Table | Landmark::Program | Landmark::Statement => stands_free(text, place),
+        Landmark::Record => begins_line(text, place),
+    }
+}
+
 fn is_landmark(kind: Landmark, text: &[u8], place: usize) -> bool
     ensures { result ≡ is_landmark kind text.now place }
 {
-    is_sign_of(kind, first_word(behind(text, place))) && stands_free(text, place)
+    is_sign_of(kind, first_word(behind(text, place))) && begins_here(kind, text, place)
 }
 
 // Where the one of this number begins, counted from a place on.
@@ -147,4 +182,11 @@ pub fn statement_place(
         return Ok(None);
     };
     Ok(numbered(Landmark::Statement, &blanked, start, statement))
+}
+
+/// Where a record of a list begins.
+pub fn record_place(list: &[u8], number: usize) -> Option<usize>
+    ensures { IfSome result (IsRecordPlace list.now number) }
+{
+    numbered(Landmark::Record, list, 0, number)
 }

@@ -1,11 +1,11 @@
-//! Where things stand in the text of a set, for people: lines and columns, a line with a mark under a
-//! place, and where tables, programs and statements begin.
+//! Where things stand in a text, for people: lines and columns, a line with a mark under a place, and where
+//! tables, programs, statements and records begin.
 #![tactic(auto)]
 
 mod landmark;
 mod place;
 mod quote;
 
-pub use landmark::{program_place, statement_place, table_place, without_comments};
-pub use place::{column, line_at, line_number};
+pub use landmark::{program_place, record_place, statement_place, table_place, without_comments};
+pub use place::{column, line_at, line_front, line_number};
 pub use quote::point_out;

@@ -1,7 +1,7 @@
 //! The line and the column of a place. A place behind the end of a text stands for its end.
-ghost use Rattle.std.specs.Prelude.{◌≡◌, ◌≤◌, drop, length, take};
+ghost use Rattle.std.specs.Prelude.{◌≡◌, ◌≤◌, drop, length, take, IfNone, IfSome};
 ghost use Rattle.std.specs.List.{before_first, prefix_len};
-ghost use Rattle.text_places.specs.Places.{column, inset, is_feed, is_inline, line_at, line_number, line_start};
+ghost use Rattle.text_places.specs.Places.{column, inset, is_feed, is_inline, line_at, line_number, line_start, HasNoLine, IsLineFront};
 
 /// The bytes before a place.
 pub fn before(text: &[u8], place: usize) -> &[u8]
@@ -87,4 +87,25 @@ pub fn line_at(text: &[u8], place: usize) -> &[u8]
     ensures { result.now ≡ line_at text.now place }
 {
     first_line(behind(text, line_start(text, place)))
+}
+
+/// Where the line of a number begins, from 1; nothing where the text has fewer.
+pub fn line_front(text: &[u8], line: usize) -> Option<usize>
+    ensures front { IfSome result (IsLineFront text.now line) }
+    ensures none { IfNone result (HasNoLine text.now line) }
+{
+    let mut left = line.checked_sub(1)?;
+    if left == 0 {
+        return Some(0);
+    }
+    for place in 0..text.len() {
+        if !is_feed(text[place]) {
+            continue;
+        }
+        left -= 1;
+        if left == 0 {
+            return Some(place + 1);
+        }
+    }
+    None
 }
