@@ -1,7 +1,7 @@
 -- Where the tables, programs and statements of a set's text begin, and the records of a list.
-use Rattle.std.specs.Prelude.{ℕ, zero, suc, ◌≡◌, ◌+◌, ◌==◌, Bool, true, false, not, ◌&&◌, ◌||◌, List, [], ◌∷◌, codes, bytes_eq, drop, nat_le, take, if◌then◌else◌}
-use Rattle.std.specs.List.{prefix_len, suffix_len}
-use Rattle.text_places.specs.Places.{inset, is_feed}
+use Rattle.std.specs.Prelude.{ℕ, zero, suc, ◌≡◌, ◌+◌, ◌-◌, ◌==◌, Bool, true, false, not, ◌&&◌, ◌||◌, List, [], ◌∷◌, codes, bytes_eq, drop, length, nat_le, take, if◌then◌else◌}
+use Rattle.std.specs.List.{list_all, prefix_len, suffix_len}
+use Rattle.text_places.specs.Places.{is_feed}
 use Rattle.text_places.specs.declared.landmark.Landmark.{Landmark}
 use Rattle.text_places.specs.declared.landmark.Landmark.TheVariants.{Table, Program, Statement, Record}
 
@@ -46,9 +46,14 @@ stands_free text place = suffix_len is_word_byte (take place text) == 0
 abbrev pub is_space : ℕ → Bool
 is_space byte = byte == 32
 
+-- there are no bytes, or a line feed is the last
+abbrev pub ends_line : List ℕ → Bool
+ends_line bytes = list_all is_feed (drop (length bytes - 1) bytes)
+
 -- in its line only spaces stand before the place
 abbrev pub begins_line : (text : List ℕ) → (place : ℕ) → Bool
-begins_line text place = suffix_len is_space (take place text) == inset text place
+begins_line text place =
+    ends_line (take (length (take place text) - suffix_len is_space (take place text)) (take place text))
 
 -- a record is a line, and what else there is may stand anywhere in one
 abbrev pub begins_here : Landmark → (text : List ℕ) → (place : ℕ) → Bool

@@ -1,10 +1,10 @@
 //! Where the tables, programs and statements of a set's text begin, and the records of a list. A statement's first word
 //! stands nowhere else.
-ghost use Rattle.std.specs.Prelude.{◌≡◌, ◌≤◌, ◌+◌, take, IfOk, IfSome};
+ghost use Rattle.std.specs.Prelude.{◌≡◌, ◌≤◌, ◌+◌, length, take, IfOk, IfSome};
 ghost use Rattle.std.specs.List.{prefix_len, suffix_len};
-ghost use Rattle.text_places.specs.Landmarks.{begins_here, begins_line, begins_statement, first_word, is_in_comment, is_landmark, is_sign_of, is_space, is_word_byte, landmarks_before, stands_free, without_comments, IsNumbered, IsProgramPlace, IsRecordPlace, IsStatementPlace, IsTablePlace};
+ghost use Rattle.text_places.specs.Landmarks.{begins_here, begins_line, begins_statement, ends_line, first_word, is_in_comment, is_landmark, is_sign_of, is_space, is_word_byte, landmarks_before, stands_free, without_comments, IsNumbered, IsProgramPlace, IsRecordPlace, IsStatementPlace, IsTablePlace};
 
-use crate::place::{before, behind, inset};
+use crate::place::{before, behind, is_feed};
 use std::alloc::{AllocError, Global};
 
 /// What has a word of its own at its front.
@@ -101,7 +101,8 @@ fn is_space(byte: u8) -> bool
 
 // How many spaces stand at the end.
 fn last_spaces(bytes: &[u8]) -> usize
-    ensures { result ≡ suffix_len is_space bytes.now }
+    ensures value { result ≡ suffix_len is_space bytes.now }
+    ensures within { result ≤ length bytes.now }
 {
     bytes
         .iter()
@@ -110,10 +111,20 @@ fn last_spaces(bytes: &[u8]) -> usize
         .count()
 }
 
+fn ends_line(bytes: &[u8]) -> bool
+    ensures { result ≡ ends_line bytes.now }
+{
+    match bytes {
+        [] => true,
+        [.., last] => is_feed(*last),
+    }
+}
+
 fn begins_line(text: &[u8], place: usize) -> bool
     ensures { result ≡ begins_line text.now place }
 {
-    last_spaces(before(text, place)) == inset(text, place)
+    let front = before(text, place);
+    ends_line(before(front, front.len() - last_spaces(front)))
 }
 
 fn begins_here(kind: Landmark, text: &[u8], place: usize) -> bool

@@ -25,7 +25,7 @@ pub fn behind(text: &[u8], place: usize) -> &[u8]
     }
 }
 
-fn is_feed(byte: u8) -> bool
+pub fn is_feed(byte: u8) -> bool
     ensures { result ≡ is_feed byte }
 {
     byte == b'\n'
