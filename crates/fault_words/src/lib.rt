@@ -10,5 +10,7 @@ mod scope;
 mod set_faults;
 mod text_faults;
 
+pub use nearest::nearest_name;
+pub use pointing::point_at;
 pub use set_faults::check_words;
 pub use text_faults::text_words;

@@ -1,4 +1,5 @@
 //! The name that was meant.
+ghost use Rattle.std.specs.Prelude.{Contains, IfOk, IfSome};
 
 use std::alloc::{AllocError, Global};
 use strsim::levenshtein;
@@ -6,11 +7,13 @@ use strsim::levenshtein;
 const MOST_EDITS: usize = 3;
 
 /// The first of the names with the fewest edits from a word, where these are few.
-pub fn nearest<'a>(
+pub fn nearest_name<'a>(
     alloc: Global,
     word: &str,
     names: &[&'a str],
-) -> Result<Option<&'a str>, AllocError> {
+) -> Result<Option<&'a str>, AllocError>
+    ensures { IfOk result (λ found. IfSome found (Contains names.now)) }
+{
     let mut best = None;
     let mut fewest = MOST_EDITS.min(word.len());
     for name in names {

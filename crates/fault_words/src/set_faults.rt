@@ -2,7 +2,7 @@
 ghost use Rattle.std.specs.Prelude.{◌≡◌, IfOk, IfSome, string_bytes};
 ghost use Rattle.fault_words.specs.Pointing.{place_of, IsPlaceOf, PointsAtPlace};
 
-use crate::nearest::nearest;
+use crate::nearest::nearest_name;
 use crate::pointing::point_at;
 use crate::reading::{behind_word, first_word, from_place, listed, table_name};
 use crate::scope::{tokens_of, unknown_name, visible_names};
@@ -30,7 +30,7 @@ fn draft_of(alloc: Global, text: &[u8]) -> Option<Draft> {
 
 // A name that is not known, and the nearest one or all of those that are.
 fn unknown(alloc: Global, name: &str, names: &[&str]) -> Result<String, AllocError> {
-    if let Some(near) = nearest(alloc, name, names)? {
+    if let Some(near) = nearest_name(alloc, name, names)? {
         return format!(in alloc; "the nearest name is `{near}`");
     }
     if names.is_empty() {

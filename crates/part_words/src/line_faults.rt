@@ -1,0 +1,152 @@
+//! The faults of a line of a script or of a list of records in words.
+ghost use Rattle.std.specs.Prelude.{◌≡◌, IfOk, IfSome, string_bytes};
+ghost use Rattle.part_words.specs.PartPointing.{line_of_fault, PointsAtLineOf};
+
+pub use crate::forms::PartKind;
+use crate::forms::{first_words, form_of, no_number};
+use crate::line_reading::{known, line_of, shown, words_of};
+use fault_words::point_at;
+use prog_check::ProgramSet;
+use si_engine::LineFault;
+use std::alloc::{AllocError, Global};
+use text_places::line_front;
+
+fn is_among(names: &[&str], word: &str) -> bool {
+    for name in names {
+        if *name == word {
+            return true;
+        }
+    }
+    false
+}
+
+fn bad_line(alloc: Global, kind: PartKind, words: &[&str]) -> Result<String, AllocError> {
+    let [first, ..] = words else {
+        return format!(in alloc; "only spaces; a line without words has no spaces either");
+    };
+    let first: &str = *first;
+    let begins = first_words(kind);
+    if !is_among(begins, first) {
+        let known = known(alloc, first, begins)?;
+        let first = shown(first);
+        return format!(in alloc; "no line begins with `{first}`; {known}");
+    }
+    let form = form_of(first);
+    let start = if first == "row" || (first == "begin" || first == "record") {
+        2
+    } else {
+        1
+    };
+    match no_number(words, start) {
+        Some(word) => {
+            let word = shown(word);
+            format!(in alloc; "`{word}` is no number that can stand here; the form is {form}")
+        }
+        None => format!(in alloc; "this is not of the form {form}"),
+    }
+}
+
+fn unknown_table(alloc: Global, set: &ProgramSet, name: &str) -> Result<String, AllocError> {
+    let mut names = Vec::new(alloc);
+    for table in &set.draft().tables {
+        names.push(table.name.as_str())?;
+    }
+    let known = known(alloc, name, &names)?;
+    let name = shown(name);
+    format!(in alloc; "no table is called `{name}`; {known}")
+}
+
+fn unknown_program(alloc: Global, set: &ProgramSet, name: &str) -> Result<String, AllocError> {
+    let mut names = Vec::new(alloc);
+    for program in &set.draft().programs {
+        names.push(program.name.as_str())?;
+    }
+    let known = known(alloc, name, &names)?;
+    let name = shown(name);
+    format!(in alloc; "no program is called `{name}`; {known}")
+}
+
+fn unknown_name(alloc: Global, set: &ProgramSet, words: &[&str]) -> Result<String, AllocError> {
+    match words {
+        ["row", name, ..] => unknown_table(alloc, set, name),
+        [_, name, ..] => unknown_program(alloc, set, name),
+        _ => format!(in alloc; "the name is not known"),
+    }
+}
+
+fn wrong_keys(alloc: Global, words: &[&str]) -> Result<String, AllocError> {
+    let table = match words {
+        [_, table, ..] => *table,
+        _ => "",
+    };
+    if words.len() < 6 {
+        return format!(in alloc; "`{table}` has two key columns, and here it is given one key");
+    }
+    format!(in alloc; "`{table}` has one key column, and here it is given two keys")
+}
+
+fn late_row(alloc: Global, kind: PartKind) -> Result<String, AllocError> {
+    match kind {
+        PartKind::Script => format!(in alloc; "a row behind an event; all rows stand before"),
+        PartKind::Records => format!(in alloc; "a row behind a record; all rows stand before"),
+    }
+}
+
+// What is wrong with a line.
+fn sentence(
+    alloc: Global,
+    kind: PartKind,
+    set: &ProgramSet,
+    line: &[u8],
+    fault: LineFault,
+) -> Result<String, AllocError> {
+    let words = words_of(alloc, line)?;
+    match fault {
+        LineFault::BadLine { .. } => bad_line(alloc, kind, &words),
+        LineFault::UnknownName { .. } => unknown_name(alloc, set, &words),
+        LineFault::WrongKeys { .. } => wrong_keys(alloc, &words),
+        LineFault::LateRow { .. } => late_row(alloc, kind),
+        LineFault::RepeatedRow { .. } => format!(in alloc; "an earlier row is of this cell too"),
+        LineFault::TooManyEvents { .. } => format!(in alloc;
+            "with this line the script has more than 1000000 events, the most it may have"
+        ),
+        LineFault::Memory => format!(in alloc; "memory ran out"),
+    }
+}
+
+// The line that the line of a fault names.
+fn line_of_fault(fault: LineFault) -> Option<usize>
+    ensures { result ≡ line_of_fault fault }
+{
+    match fault {
+        LineFault::BadLine { line }
+        | LineFault::UnknownName { line }
+        | LineFault::WrongKeys { line }
+        | LineFault::LateRow { line }
+        | LineFault::RepeatedRow { line }
+        | LineFault::TooManyEvents { line } => Some(line),
+        LineFault::Memory => None,
+    }
+}
+
+/// What a fault of a line means, and the line in its part; nothing where it is not found.
+pub fn line_words(
+    alloc: Global,
+    kind: PartKind,
+    set: &ProgramSet,
+    part: &[u8],
+    fault: LineFault,
+) -> Result<Option<String>, AllocError>
+    ensures { IfOk result (λ said. IfSome said (λ words.
+        PointsAtLineOf part.now (line_of_fault fault) (string_bytes words))) }
+{
+    let Some(line) = line_of_fault(fault) else {
+        return Ok(None);
+    };
+    let Some(front) = line_front(part, line) else {
+        return Ok(None);
+    };
+    let sentence = sentence(alloc, kind, set, line_of(part, line), fault)?;
+    let words = point_at(alloc, part, front, &sentence)?;
+    Ok(Some(words))
+}

@@ -1,0 +1,60 @@
+//! Words of a line, read just far enough to name them.
+
+use fault_words::nearest_name;
+use std::alloc::{AllocError, Global};
+use text_places::{line_at, line_front};
+
+fn as_text(bytes: &[u8]) -> &str {
+    str::from_utf8(bytes).unwrap_or("")
+}
+
+fn begins_word(line: &[u8], place: usize) -> bool {
+    let before = line.get(..place).unwrap_or(&[]);
+    line.get(place) != Some(&b' ') && !matches!(before, [.., last] if *last != b' ')
+}
+
+fn word_at(line: &[u8], place: usize) -> &str {
+    let rest = line.get(place..).unwrap_or(&[]);
+    let len = rest.iter().take_while(|byte| **byte != b' ').count();
+    as_text(rest.get(..len).unwrap_or(&[]))
+}
+
+/// The words of a line, which spaces part.
+pub fn words_of(alloc: Global, line: &[u8]) -> Result<Vec<&str>, AllocError> {
+    let mut words = Vec::new(alloc);
+    for place in 0..line.len() {
+        if begins_word(line, place) {
+            words.push(word_at(line, place))?;
+        }
+    }
+    Ok(words)
+}
+
+/// The line of a number, without what ends it; empty where there is none.
+pub fn line_of(part: &[u8], line: usize) -> &[u8] {
+    let Some(front) = line_front(part, line) else {
+        return &[];
+    };
+    match line_at(part, front) {
+        [rest @ .., b'\r'] => rest,
+        bytes => bytes,
+    }
+}
+
+/// A word as people are told of it.
+pub fn shown(word: &str) -> &str {
+    let end = word.len().min(40);
+    word.get(..end).unwrap_or(word)
+}
+
+/// The nearest of the names that are known, or all of them.
+pub fn known(alloc: Global, word: &str, names: &[&str]) -> Result<String, AllocError> {
+    if let Some(near) = nearest_name(alloc, word, names)? {
+        return format!(in alloc; "the nearest name is `{near}`");
+    }
+    if names.is_empty() {
+        return format!(in alloc; "there is none");
+    }
+    let names = names.join(alloc, "`, `")?;
+    format!(in alloc; "known are `{names}`")
+}

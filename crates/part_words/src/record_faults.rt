@@ -1,0 +1,234 @@
+//! The faults of a record in words.
+ghost use Rattle.std.specs.Prelude.{◌≡◌, IfOk, IfSome, string_bytes};
+ghost use Rattle.part_words.specs.PartPointing.{record_of_fault, PointsAtRecord};
+
+use crate::replay::ending;
+use fault_words::point_at;
+use history_book::{AuditFault, HistoryRow, RowFault};
+use prog_check::ProgramSet;
+use prog_tree::{Arity, Cause, Cell};
+use si_engine::{Bytes, Records, Reply, read_records};
+use std::alloc::{AllocError, Global};
+use text_places::{line_number, record_place};
+use version_store::Clash;
+
+// The records of a part, cut before one of them, and this one.
+#[derive(Drop)]
+struct Cut {
+    records: Records,
+    row: HistoryRow,
+}
+
+fn cut_at(alloc: Global, set: &ProgramSet, part: &[u8], number: usize) -> Option<Cut> {
+    let Records { rows, records } = read_records(alloc, set, &mut Bytes::new(part)).ok()?;
+    let mut records = records.into_vec();
+    records.truncate(number.saturating_add(1));
+    let row = records.pop()?;
+    Some(Cut {
+        records: Records {
+            rows,
+            records: prog_tree::Sequence::from_vec(records),
+        },
+        row,
+    })
+}
+
+fn program_name(set: &ProgramSet, program: usize) -> &str {
+    match set.draft().programs.get(program) {
+        Some(program) => program.name.as_str(),
+        None => "",
+    }
+}
+
+fn parameters(set: &ProgramSet, program: usize) -> usize {
+    match set.draft().programs.get(program) {
+        Some(program) => program.params.len(),
+        None => 0,
+    }
+}
+
+fn cell_text(alloc: Global, set: &ProgramSet, cell: Cell) -> Result<String, AllocError> {
+    let Cell {
+        table,
+        first,
+        second,
+    } = cell;
+    let Some(table) = set.draft().tables.get(table) else {
+        return format!(in alloc; "a cell");
+    };
+    let name = table.name.as_str();
+    match table.arity {
+        Arity::One => format!(in alloc; "`{name}[{first}]`"),
+        Arity::Two => format!(in alloc; "`{name}[{first}, {second}]`"),
+    }
+}
+
+fn numbers_text(alloc: Global, numbers: &[i64]) -> Result<String, AllocError> {
+    let mut text = String::new(alloc);
+    for number in numbers {
+        write!(text, " {number}")?;
+    }
+    if text.is_empty() {
+        return format!(in alloc; " nothing");
+    }
+    Ok(text)
+}
+
+fn cause_text(alloc: Global, set: &ProgramSet, cause: Cause) -> Result<String, AllocError> {
+    match cause {
+        Cause::Asked => format!(in alloc; "by an `abort;`"),
+        Cause::Missing(cell) => {
+            let cell = cell_text(alloc, set, cell)?;
+            format!(in alloc; "since {cell} is absent there")
+        }
+        Cause::Present(cell) => {
+            let cell = cell_text(alloc, set, cell)?;
+            format!(in alloc; "since {cell} is there already")
+        }
+        Cause::Overflow => format!(in alloc; "since a result is outside the numbers there are"),
+    }
+}
+
+// How the instance of a record ends, in words.
+fn ending_text(
+    alloc: Global,
+    set: &ProgramSet,
+    part: &[u8],
+    number: usize,
+) -> Result<String, AllocError> {
+    let Some(Cut { records, row }) = cut_at(alloc, set, part, number) else {
+        return format!(in alloc; "the instance does something else");
+    };
+    let name = program_name(set, row.program);
+    let start = usize::try_from(row.start).unwrap_or(number);
+    let mut seen = records.records.into_vec();
+    seen.truncate(start);
+    let ending = ending(alloc, set, records.rows, seen, &row)?;
+    let start = row.start;
+    match ending {
+        Some(Reply::Ready(replies)) => {
+            let would = numbers_text(alloc, replies.as_slice())?;
+            let did = numbers_text(alloc, row.replies.as_slice())?;
+            format!(in alloc;
+                "on the first {start} commits `{name}` replies{would}, and here it gives{did}"
+            )
+        }
+        Some(Reply::Aborted(cause)) => {
+            let cause = cause_text(alloc, set, cause)?;
+            format!(in alloc; "on the first {start} commits `{name}` aborts, {cause}")
+        }
+        _ => format!(in alloc; "on the first {start} commits `{name}` does something else"),
+    }
+}
+
+fn argument_count(
+    alloc: Global,
+    set: &ProgramSet,
+    part: &[u8],
+    number: usize,
+) -> Result<String, AllocError> {
+    let Some(Cut { row, .. }) = cut_at(alloc, set, part, number) else {
+        return format!(in alloc; "another number of arguments than the program has parameters");
+    };
+    let name = program_name(set, row.program);
+    let wanted = parameters(set, row.program);
+    let given = row.args.len();
+    format!(in alloc; "`{name}` has {wanted} parameters, and {given} arguments are given")
+}
+
+fn late_start(
+    alloc: Global,
+    set: &ProgramSet,
+    part: &[u8],
+    number: usize,
+) -> Result<String, AllocError> {
+    let Some(Cut { row, .. }) = cut_at(alloc, set, part, number) else {
+        return format!(in alloc; "it saw more commits than there are records before it");
+    };
+    let start = row.start;
+    format!(in alloc; "it saw {start} commits, and only {number} records stand before it")
+}
+
+fn clash_text(
+    alloc: Global,
+    set: &ProgramSet,
+    part: &[u8],
+    clash: Clash,
+) -> Result<String, AllocError> {
+    let cell = cell_text(alloc, set, clash.cell)?;
+    let commit = clash.number;
+    let record = usize::try_from(commit).unwrap_or(0).saturating_sub(1);
+    match record_place(part, record) {
+        Some(place) => {
+            let line = line_number(part, place);
+            format!(in alloc;
+                "commit {commit} in line {line} changed or kept {cell} too, unseen by this one"
+            )
+        }
+        None => format!(in alloc; "commit {commit} changed or kept {cell} too, unseen by this one"),
+    }
+}
+
+// What is wrong with a record.
+fn row_sentence(
+    alloc: Global,
+    set: &ProgramSet,
+    part: &[u8],
+    number: usize,
+    fault: RowFault,
+) -> Result<String, AllocError> {
+    match fault {
+        RowFault::NoSuchProgram => format!(in alloc; "the set has no such program"),
+        RowFault::WrongArguments => argument_count(alloc, set, part, number),
+        RowFault::StartTooLate => late_start(alloc, set, part, number),
+        RowFault::NotReady | RowFault::WrongReplies => ending_text(alloc, set, part, number),
+        RowFault::Clashed(clash) => clash_text(alloc, set, part, clash),
+    }
+}
+
+fn sentence(
+    alloc: Global,
+    set: &ProgramSet,
+    part: &[u8],
+    fault: AuditFault,
+) -> Result<String, AllocError> {
+    match fault {
+        AuditFault::Full => format!(in alloc;
+            "this is the 100001st record, and a list has at most 100000"
+        ),
+        AuditFault::Row { number, fault } => row_sentence(alloc, set, part, number, fault),
+        AuditFault::Memory => format!(in alloc; "memory ran out"),
+    }
+}
+
+// The record that the line of a fault names.
+fn record_of_fault(fault: AuditFault) -> Option<usize>
+    ensures { result ≡ record_of_fault fault }
+{
+    match fault {
+        AuditFault::Full => Some(100_000),
+        AuditFault::Row { number, .. } => Some(number),
+        AuditFault::Memory => None,
+    }
+}
+
+/// What a fault of a record means, and the record in its part; nothing where it is not found.
+pub fn record_words(
+    alloc: Global,
+    set: &ProgramSet,
+    part: &[u8],
+    fault: AuditFault,
+) -> Result<Option<String>, AllocError>
+    ensures { IfOk result (λ said. IfSome said (λ words.
+        PointsAtRecord part.now (record_of_fault fault) (string_bytes words))) }
+{
+    let Some(number) = record_of_fault(fault) else {
+        return Ok(None);
+    };
+    let Some(place) = record_place(part, number) else {
+        return Ok(None);
+    };
+    let sentence = sentence(alloc, set, part, fault)?;
+    let words = point_at(alloc, part, place, &sentence)?;
+    Ok(Some(words))
+}
