@@ -6,7 +6,7 @@ use crate::replay::ending;
 use fault_words::point_at;
 use history_book::{AuditFault, HistoryRow, RowFault};
 use prog_check::ProgramSet;
-use prog_tree::{Arity, Cause, Cell};
+use prog_tree::{Arity, Cause, Cell, Sequence};
 use si_engine::{Bytes, Records, Reply, read_records};
 use std::alloc::{AllocError, Global};
 use text_places::{line_number, record_place};
@@ -27,7 +27,7 @@ fn cut_at(alloc: Global, set: &ProgramSet, part: &[u8], number: usize) -> Option
     Some(Cut {
         records: Records {
             rows,
-            records: prog_tree::Sequence::from_vec(records),
+            records: Sequence::from_vec(records),
         },
         row,
     })
@@ -104,21 +104,26 @@ fn ending_text(
     let mut seen = records.records.into_vec();
     seen.truncate(start);
     let ending = ending(alloc, set, records.rows, seen, &row)?;
-    let start = row.start;
     match ending {
         Some(Reply::Ready(replies)) => {
             let would = numbers_text(alloc, replies.as_slice())?;
             let did = numbers_text(alloc, row.replies.as_slice())?;
             format!(in alloc;
-                "on the first {start} commits `{name}` replies{would}, and here it gives{did}"
+                "on the rows that it saw `{name}` replies{would}, and here it gives{did}"
             )
         }
         Some(Reply::Aborted(cause)) => {
             let cause = cause_text(alloc, set, cause)?;
-            format!(in alloc; "on the first {start} commits `{name}` aborts, {cause}")
+            format!(in alloc; "on the rows that it saw `{name}` aborts, {cause}")
         }
-        _ => format!(in alloc; "on the first {start} commits `{name}` does something else"),
+        _ => format!(in alloc; "on the rows that it saw `{name}` does something else"),
     }
+}
+
+// So many of something.
+fn counted(alloc: Global, count: usize, what: &str) -> Result<String, AllocError> {
+    let ending = if count == 1 { "" } else { "s" };
+    format!(in alloc; "{count} {what}{ending}")
 }
 
 fn argument_count(
@@ -131,9 +136,9 @@ fn argument_count(
         return format!(in alloc; "another number of arguments than the program has parameters");
     };
     let name = program_name(set, row.program);
-    let wanted = parameters(set, row.program);
-    let given = row.args.len();
-    format!(in alloc; "`{name}` has {wanted} parameters, and {given} arguments are given")
+    let wanted = counted(alloc, parameters(set, row.program), "parameter")?;
+    let given = counted(alloc, row.args.len(), "argument")?;
+    format!(in alloc; "`{name}` has {wanted}, and here it is given {given}")
 }
 
 fn late_start(
@@ -145,8 +150,9 @@ fn late_start(
     let Some(Cut { row, .. }) = cut_at(alloc, set, part, number) else {
         return format!(in alloc; "it saw more commits than there are records before it");
     };
+    let before = counted(alloc, number, "record")?;
     let start = row.start;
-    format!(in alloc; "it saw {start} commits, and only {number} records stand before it")
+    format!(in alloc; "behind `at` stands {start}, and only {before} stand before it")
 }
 
 fn clash_text(
@@ -194,7 +200,7 @@ fn sentence(
 ) -> Result<String, AllocError> {
     match fault {
         AuditFault::Full => format!(in alloc;
-            "this is the 100001st record, and a list has at most 100000"
+            "this is the 100001st record, and there may be at most 100000"
         ),
         AuditFault::Row { number, fault } => row_sentence(alloc, set, part, number, fault),
         AuditFault::Memory => format!(in alloc; "memory ran out"),

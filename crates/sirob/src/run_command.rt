@@ -144,6 +144,6 @@ pub fn run_command<S: Source, K: Sink>(
         return Status::Faulty;
     }
     let status = write_end(alloc, sink, ended);
-    explain(rt, &input, ended);
+    explain(rt, mode, &input, ended);
     status
 }
