@@ -1,0 +1,9 @@
+use Rattle.std.proofs.Common.{◌≡◌, ◌∙◌, sym}
+use Rattle.prog_tree.specs.Tree.{draft_tree}
+use Rattle.prog_check.specs.Paths.{paths_of}
+use Rattle.analysis_words.proofs.refusal.refusal_words.Goals as goal
+
+pub returns : goal.returns
+returns c =
+    let same : c.deref.result.now ≡ paths_of (draft_tree c.args.set.now) = c.deref.ensures.value ∙ c.in_ok-paths.ensures.exact in
+    rw (sym same) c.in_ok-words.ensures

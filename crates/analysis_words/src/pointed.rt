@@ -1,0 +1,33 @@
+//! Accesses pointed at in the text of a set.
+ghost use Rattle.std.specs.Prelude.{IfOk, IfSome, string_bytes};
+ghost use Rattle.analysis_words.specs.Refusing.{PointsAtAccess};
+
+use crate::shown::Shown;
+use fault_words::point_at;
+use std::alloc::{AllocError, Global};
+use text_places::statement_place;
+
+/// Says a sentence of an access of a node, where its statement begins; nothing where it is not
+/// found.
+pub fn point_at_access(
+    alloc: Global,
+    shown: Shown<'_>,
+    node: usize,
+    access: usize,
+    sentence: &str,
+) -> Result<Option<String>, AllocError>
+    ensures { IfOk result (λ said. IfSome said (λ words.
+        PointsAtAccess shown.entry.text.now shown.entry.paths.now node access (string_bytes words))) }
+{
+    let Some(path) = shown.paths.get(node) else {
+        return Ok(None);
+    };
+    let Some(access) = path.accesses.as_slice().get(access) else {
+        return Ok(None);
+    };
+    let Some(at) = statement_place(alloc, shown.text, path.program, access.place)? else {
+        return Ok(None);
+    };
+    let words = point_at(alloc, shown.text, at, sentence)?;
+    Ok(Some(words))
+}

@@ -1,0 +1,85 @@
+//! Nodes and their accesses, as they stand in the text of a set.
+
+use prog_check::{Path, ProgramSet};
+use std::alloc::{AllocError, Global};
+use text_places::{line_number, statement_place};
+
+const MOST_SHOWN: usize = 60;
+
+/// A set with its text and its paths, which are the nodes.
+#[derive(Clone, Copy)]
+pub struct Shown<'a> {
+    pub text: &'a [u8],
+    pub set: &'a ProgramSet,
+    pub paths: &'a [Path],
+}
+
+fn as_text(bytes: &[u8]) -> &str {
+    str::from_utf8(bytes).unwrap_or("")
+}
+
+// The statement at a place, to its `;` or to the end of its line.
+fn statement_at(text: &[u8], place: usize) -> &str {
+    let rest = text.get(place..).unwrap_or(&[]);
+    let len = rest
+        .iter()
+        .take_while(|byte| **byte != b';' && **byte != b'\n')
+        .count();
+    as_text(rest.get(..len.min(MOST_SHOWN)).unwrap_or(&[]))
+}
+
+fn letters(alloc: Global, choices: &[bool]) -> Result<String, AllocError> {
+    let mut text = String::new(alloc);
+    for choice in choices {
+        text.push_str(if text.is_empty() { ":" } else { "" })?;
+        text.push_str(if *choice { "t" } else { "e" })?;
+    }
+    Ok(text)
+}
+
+/// The name of a node: its program's, with a letter for each branch of the path.
+pub fn node_name(alloc: Global, shown: Shown<'_>, node: usize) -> Result<String, AllocError> {
+    let Some(path) = shown.paths.get(node) else {
+        return format!(in alloc; "node {node}");
+    };
+    let letters = letters(alloc, path.choices.as_slice())?;
+    let name = match shown.set.draft().programs.get(path.program) {
+        Some(program) => program.name.as_str(),
+        None => "",
+    };
+    format!(in alloc; "`{name}{letters}`")
+}
+
+// Where the statement of an access stands.
+fn access_place(
+    alloc: Global,
+    shown: Shown<'_>,
+    node: usize,
+    access: usize,
+) -> Result<Option<usize>, AllocError> {
+    let Some(path) = shown.paths.get(node) else {
+        return Ok(None);
+    };
+    match path.accesses.as_slice().get(access) {
+        Some(access) => statement_place(alloc, shown.text, path.program, access.place),
+        None => Ok(None),
+    }
+}
+
+/// An access of a node, with its statement and the line of that.
+pub fn access_text(
+    alloc: Global,
+    shown: Shown<'_>,
+    node: usize,
+    access: usize,
+) -> Result<String, AllocError> {
+    let name = node_name(alloc, shown, node)?;
+    match access_place(alloc, shown, node, access)? {
+        Some(place) => {
+            let statement = statement_at(shown.text, place);
+            let line = line_number(shown.text, place);
+            format!(in alloc; "`{statement}` of {name} in line {line}")
+        }
+        None => format!(in alloc; "access {access} of {name}, which it has not"),
+    }
+}
