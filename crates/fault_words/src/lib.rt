@@ -3,6 +3,7 @@
 #![tactic(auto)]
 
 mod expected;
+mod naming;
 mod nearest;
 mod pointing;
 mod reading;
@@ -10,7 +11,9 @@ mod scope;
 mod set_faults;
 mod text_faults;
 
-pub use nearest::nearest_name;
+pub use naming::{cell_text, parameter_count, program_name, table_names};
+pub use nearest::{known_names, nearest_name};
 pub use pointing::point_at;
+pub use reading::{as_text, table_name};
 pub use set_faults::check_words;
 pub use text_faults::text_words;

@@ -1,6 +1,7 @@
 //! The name that was meant.
 ghost use Rattle.std.specs.Prelude.{Contains, IfOk, IfSome};
 
+use crate::reading::listed;
 use std::alloc::{AllocError, Global};
 use strsim::levenshtein;
 
@@ -24,4 +25,16 @@ pub fn nearest_name<'a>(
         }
     }
     Ok(best)
+}
+
+/// The nearest of the names to a word that is none of them, or all of the names.
+pub fn known_names(alloc: Global, word: &str, names: &[&str]) -> Result<String, AllocError> {
+    if let Some(near) = nearest_name(alloc, word, names)? {
+        return format!(in alloc; "the nearest name is `{near}`");
+    }
+    if names.is_empty() {
+        return format!(in alloc; "there is none");
+    }
+    let known = listed(alloc, names)?;
+    format!(in alloc; "known are {known}")
 }

@@ -55,16 +55,7 @@ pub fn visible_names<'a>(alloc: Global, tokens: &[&'a str]) -> Result<Vec<&'a st
 
 fn is_name(token: &str) -> bool {
     let begins = token.starts_with(|c: char| c.is_ascii_alphabetic() || c == '_');
-    begins && !is_among(&RESERVED, token)
-}
-
-fn is_among(names: &[&str], word: &str) -> bool {
-    for name in names {
-        if *name == word {
-            return true;
-        }
-    }
-    false
+    begins && !RESERVED.contains(&token)
 }
 
 // Whether the token at an index is followed by `[`, as the name of a table is.
@@ -85,7 +76,7 @@ pub fn unknown_name<'a>(statement: &[&'a str], visible: &[&str]) -> Option<&'a s
         }
         let is_known = before == "let"
             || is_table(&*statement, index)
-            || is_among(&*visible, token);
+            || (&*visible).contains(&token);
         if is_name(token) && !is_known {
             return Some(token);
         }

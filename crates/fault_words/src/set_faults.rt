@@ -2,9 +2,10 @@
 ghost use Rattle.std.specs.Prelude.{◌≡◌, IfOk, IfSome, string_bytes};
 ghost use Rattle.fault_words.specs.Pointing.{place_of, IsPlaceOf, PointsAtPlace};
 
-use crate::nearest::nearest_name;
+use crate::naming::{parameter_count, table_names};
+use crate::nearest::known_names;
 use crate::pointing::point_at;
-use crate::reading::{behind_word, first_word, from_place, listed, table_name};
+use crate::reading::{behind_word, first_word, from_place, table_name};
 use crate::scope::{tokens_of, unknown_name, visible_names};
 use prog_check::{CheckFault, Place};
 use prog_text::parse;
@@ -28,29 +29,14 @@ fn draft_of(alloc: Global, text: &[u8]) -> Option<Draft> {
     parse(alloc, text).ok()
 }
 
-// A name that is not known, and the nearest one or all of those that are.
-fn unknown(alloc: Global, name: &str, names: &[&str]) -> Result<String, AllocError> {
-    if let Some(near) = nearest_name(alloc, name, names)? {
-        return format!(in alloc; "the nearest name is `{near}`");
-    }
-    if names.is_empty() {
-        return format!(in alloc; "there is none");
-    }
-    let known = listed(alloc, names)?;
-    format!(in alloc; "known are {known}")
-}
-
 fn unknown_table(alloc: Global, text: &[u8], statement: &[u8]) -> Result<String, AllocError> {
     let name = table_name(statement);
     let Some(draft) = draft_of(alloc, text) else {
         return format!(in alloc; "no table is called `{name}`");
     };
-    let mut names = Vec::new(alloc);
-    for table in &draft.tables {
-        names.push(table.name.as_str())?;
-    }
-    let near = unknown(alloc, name, &names)?;
-    format!(in alloc; "no table is called `{name}`; {near}")
+    let names = table_names(alloc, &draft)?;
+    let known = known_names(alloc, name, &names)?;
+    format!(in alloc; "no table is called `{name}`; {known}")
 }
 
 // The statement's name that is not bound. Names are bound by parameters and by `let`.
@@ -66,8 +52,8 @@ fn unbound_name(alloc: Global, text: &[u8], place: Place, at: usize) -> Result<S
     let Some(name) = unknown_name(&statement, &visible) else {
         return format!(in alloc; "a name of this statement is not bound");
     };
-    let near = unknown(alloc, name, &visible)?;
-    format!(in alloc; "`{name}` is no parameter and no `let` before binds it; {near}")
+    let known = known_names(alloc, name, &visible)?;
+    format!(in alloc; "`{name}` is no parameter and no `let` before binds it; {known}")
 }
 
 fn arity_of(draft: &Draft, name: &str) -> Option<Arity> {
@@ -121,14 +107,6 @@ fn repeated_parameter(alloc: Global, text: &[u8], place: Place) -> Result<String
             format!(in alloc; "two parameters are called `{name}`")
         }
         None => format!(in alloc; "two parameters have one name"),
-    }
-}
-
-// How many parameters a program has.
-fn parameter_count(draft: &Draft, program: usize) -> usize {
-    match draft.programs.get(program) {
-        Some(program) => program.params.len(),
-        None => 0,
     }
 }
 

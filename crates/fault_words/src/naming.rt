@@ -1,0 +1,47 @@
+//! What the tables, programs and cells of a set are called.
+
+use prog_check::ProgramSet;
+use prog_tree::{Arity, Cell, Draft};
+use std::alloc::{AllocError, Global};
+
+/// The names of the tables.
+pub fn table_names(alloc: Global, draft: &Draft) -> Result<Vec<&str>, AllocError> {
+    let mut names = Vec::new(alloc);
+    for table in &draft.tables {
+        names.push(table.name.as_str())?;
+    }
+    Ok(names)
+}
+
+/// The name of the program of a number; empty where there is none.
+pub fn program_name(set: &ProgramSet, program: usize) -> &str {
+    match set.draft().programs.get(program) {
+        Some(program) => program.name.as_str(),
+        None => "",
+    }
+}
+
+/// How many parameters a program has.
+pub fn parameter_count(draft: &Draft, program: usize) -> usize {
+    match draft.programs.get(program) {
+        Some(program) => program.params.len(),
+        None => 0,
+    }
+}
+
+/// A cell as a statement names it.
+pub fn cell_text(alloc: Global, set: &ProgramSet, cell: Cell) -> Result<String, AllocError> {
+    let Cell {
+        table,
+        first,
+        second,
+    } = cell;
+    let Some(table) = set.draft().tables.get(table) else {
+        return format!(in alloc; "a cell");
+    };
+    let name = table.name.as_str();
+    match table.arity {
+        Arity::One => format!(in alloc; "`{name}[{first}]`"),
+        Arity::Two => format!(in alloc; "`{name}[{first}, {second}]`"),
+    }
+}
