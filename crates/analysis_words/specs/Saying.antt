@@ -1,5 +1,5 @@
 -- What the words of a fault of a certificate have to say.
-use Rattle.std.specs.Prelude.{ℕ, ◌≡◌, ⊤, List, ◌++◌, codes}
+use Rattle.std.specs.Prelude.{ℕ, ◌≡◌, ⊤, List, ◌++◌, Option, Some, None, codes}
 use Rattle.std.specs.Fmt.{decimal}
 use Rattle.robust_cert.specs.declared.fault.CertFault.{CertFault}
 use Rattle.robust_cert.specs.declared.fault.CertFault.TheVariants as c
@@ -11,17 +11,22 @@ abbrev pub BeginsWithEntry : (entry : ℕ) → (words : List ℕ) → Type 0
 BeginsWithEntry entry words =
     (sentence : List ℕ) × (words ≡ codes "entry " ++ (decimal entry ++ (codes ": " ++ (sentence ++ codes "\n"))))
 
--- the words of a fault of an entry begin with it
-abbrev pub IsOfFault : CertFault → (words : List ℕ) → Type 0
-IsOfFault (c.NoSuchEntry entry) words = BeginsWithEntry entry words
-IsOfFault (c.EntryOrder entry) words = BeginsWithEntry entry words
-IsOfFault (c.BadCover entry) words = BeginsWithEntry entry words
-IsOfFault (c.BadChain entry) words = BeginsWithEntry entry words
-IsOfFault (c.LevelFalls x y) words = ⊤
-IsOfFault (c.Dangerous x y z) words = ⊤
-IsOfFault c.PathCount words = ⊤
-IsOfFault c.TooLarge words = ⊤
-IsOfFault c.Memory words = ⊤
+-- the entry that the line of a fault names
+abbrev pub entry_of : CertFault → Option ℕ
+entry_of (c.NoSuchEntry entry) = Some entry
+entry_of (c.EntryOrder entry) = Some entry
+entry_of (c.BadCover entry) = Some entry
+entry_of (c.BadChain entry) = Some entry
+entry_of (c.LevelFalls x y) = None
+entry_of (c.Dangerous x y z) = None
+entry_of c.PathCount = None
+entry_of c.TooLarge = None
+entry_of c.Memory = None
+
+-- the words begin with the entry, where there is one
+abbrev pub IsOfEntry : Option ℕ → (words : List ℕ) → Type 0
+IsOfEntry (Some entry) words = BeginsWithEntry entry words
+IsOfEntry None words = ⊤
 
 -- why bytes are no certificate
 abbrev pub json_words : JsonFault → List ℕ

@@ -1,6 +1,6 @@
 //! The faults of a certificate in words.
 ghost use Rattle.std.specs.Prelude.{◌≡◌, IfOk, IfSome, string_bytes};
-ghost use Rattle.analysis_words.specs.Saying.{json_words, BeginsWithEntry, IsOfFault};
+ghost use Rattle.analysis_words.specs.Saying.{entry_of, json_words, BeginsWithEntry, IsOfEntry};
 
 use crate::shown::{Shown, access_text, node_name};
 use prog_check::ProgramSet;
@@ -42,16 +42,21 @@ fn level_of(certificate: &Certificate, node: usize) -> u32 {
     }
 }
 
-// A node with its level.
-fn level_text(
+// Nodes with their levels.
+fn levels_text(
     alloc: Global,
     shown: Shown<'_>,
     certificate: &Certificate,
-    node: usize,
+    nodes: &[usize],
 ) -> Result<String, AllocError> {
-    let name = node_name(alloc, shown, node)?;
-    let level = level_of(certificate, node);
-    format!(in alloc; "{level} of {name}")
+    let mut text = String::new(alloc);
+    for node in nodes {
+        let name = node_name(alloc, shown, *node)?;
+        let level = level_of(certificate, *node);
+        let comma = if text.is_empty() { "" } else { ", " };
+        write!(text, "{comma}{level} of {name}")?;
+    }
+    Ok(text)
 }
 
 // What is said of an entry.
@@ -61,58 +66,65 @@ fn of_entry(alloc: Global, entry: usize, sentence: &str) -> Result<String, Alloc
     format!(in alloc; "entry {entry}: {sentence}\n")
 }
 
-// An entry's question, and what does not hold of it.
-fn entry_words(
-    alloc: Global,
-    shown: Shown<'_>,
-    certificate: &Certificate,
-    entry: usize,
-    fault: &str,
-) -> Result<String, AllocError>
-    ensures { IfOk result (λ words. BeginsWithEntry entry (string_bytes words)) }
+// The entry that the line of a fault names.
+fn entry_of(fault: CertFault) -> Option<usize>
+    ensures { result ≡ entry_of fault }
 {
-    let question = question_text(alloc, shown, certificate, entry)?;
-    let sentence = format!(in alloc; "{question}: {fault}")?;
-    of_entry(alloc, entry, &sentence)
+    match fault {
+        CertFault::NoSuchEntry(entry)
+        | CertFault::EntryOrder(entry)
+        | CertFault::BadCover(entry)
+        | CertFault::BadChain(entry) => Some(entry),
+        CertFault::TooLarge
+        | CertFault::PathCount
+        | CertFault::LevelFalls(..)
+        | CertFault::Dangerous(..)
+        | CertFault::Memory => None,
+    }
 }
 
-fn path_count(
+// What does not hold.
+fn broken_rule(fault: CertFault) -> &'static str {
+    match fault {
+        CertFault::TooLarge => "more than 1000000 pairs of accesses would have to be compared",
+        CertFault::PathCount => {
+            "a certificate has a level for each node, which is a way through a program that commits"
+        }
+        CertFault::NoSuchEntry(_) => "these two ask nothing of one another",
+        CertFault::EntryOrder(_) => {
+            "entries stand in the order of their nodes and accesses, and this one does not"
+        }
+        CertFault::BadCover(_) => {
+            "a cover is of a read that may miss a write, by two changes of one table, with two chains a key column"
+        }
+        CertFault::BadChain(_) => {
+            "a chain is none, or runs elsewhere; each step has to follow from where the two meet"
+        }
+        CertFault::LevelFalls(..) =>
+            "along an edge that no entry takes away the level may not fall",
+        CertFault::Dangerous(..) => "over two vulnerable edges in a row the level has to rise",
+        CertFault::Memory => "memory ran out",
+    }
+}
+
+// What the certificate has in place of what a fault of no entry asks for.
+fn found(
     alloc: Global,
     shown: Shown<'_>,
     certificate: &Certificate,
+    fault: CertFault,
 ) -> Result<String, AllocError> {
-    let levels = certificate.levels.len();
-    let nodes = shown.paths.len();
-    format!(in alloc; "there are {levels} levels, and the set has {nodes} nodes\n")
-}
-
-fn falling(
-    alloc: Global,
-    shown: Shown<'_>,
-    certificate: &Certificate,
-    x: usize,
-    y: usize,
-) -> Result<String, AllocError> {
-    let from = level_text(alloc, shown, certificate, x)?;
-    let to = level_text(alloc, shown, certificate, y)?;
-    format!(in alloc;
-        "the level falls from {from} to {to}, along an edge that no entry takes away\n"
-    )
-}
-
-fn flat(
-    alloc: Global,
-    shown: Shown<'_>,
-    certificate: &Certificate,
-    nodes: [usize; 3],
-) -> Result<String, AllocError> {
-    let [x, y, z] = nodes;
-    let first = level_text(alloc, shown, certificate, x)?;
-    let second = level_text(alloc, shown, certificate, y)?;
-    let third = level_text(alloc, shown, certificate, z)?;
-    format!(in alloc;
-        "the levels {first}, {second} and {third} do not rise; over two vulnerable edges in a row they have to\n"
-    )
+    let nodes = match fault {
+        CertFault::PathCount => {
+            let levels = certificate.levels.len();
+            let nodes = shown.paths.len();
+            return format!(in alloc; "levels: {levels}, nodes: {nodes}; ");
+        }
+        CertFault::LevelFalls(x, y) => levels_text(alloc, shown, certificate, &[x, y])?,
+        CertFault::Dangerous(x, y, z) => levels_text(alloc, shown, certificate, &[x, y, z])?,
+        _ => return Ok(String::new(alloc)),
+    };
+    format!(in alloc; "levels {nodes}: ")
 }
 
 // A fault of a certificate of a set whose nodes are these.
@@ -122,45 +134,16 @@ fn sentence(
     certificate: &Certificate,
     fault: CertFault,
 ) -> Result<String, AllocError>
-    ensures { IfOk result (λ words. IsOfFault fault (string_bytes words)) }
+    ensures { IfOk result (λ words. IsOfEntry (entry_of fault) (string_bytes words)) }
 {
-    match fault {
-        CertFault::TooLarge => format!(in alloc;
-            "more than 1000000 pairs of accesses would have to be compared\n"
-        ),
-        CertFault::PathCount => path_count(alloc, shown, certificate),
-        CertFault::NoSuchEntry(entry) => entry_words(
-            alloc,
-            shown,
-            certificate,
-            entry,
-            "these two ask nothing of one another",
-        ),
-        CertFault::EntryOrder(entry) => entry_words(
-            alloc,
-            shown,
-            certificate,
-            entry,
-            "entries stand in the order of their nodes and accesses, and this one does not",
-        ),
-        CertFault::BadCover(entry) => entry_words(
-            alloc,
-            shown,
-            certificate,
-            entry,
-            "a cover is of a read that may miss a write, by two changes of one table, with two chains a key column",
-        ),
-        CertFault::BadChain(entry) => entry_words(
-            alloc,
-            shown,
-            certificate,
-            entry,
-            "a chain is none, or runs elsewhere; each step has to follow from where the two meet",
-        ),
-        CertFault::LevelFalls(x, y) => falling(alloc, shown, certificate, x, y),
-        CertFault::Dangerous(x, y, z) => flat(alloc, shown, certificate, [x, y, z]),
-        CertFault::Memory => format!(in alloc; "memory ran out\n"),
-    }
+    let rule = broken_rule(fault);
+    let Some(entry) = entry_of(fault) else {
+        let found = found(alloc, shown, certificate, fault)?;
+        return format!(in alloc; "{found}{rule}\n");
+    };
+    let question = question_text(alloc, shown, certificate, entry)?;
+    let sentence = format!(in alloc; "{question}: {rule}")?;
+    of_entry(alloc, entry, &sentence)
 }
 
 /// What a fault of the certificate in a part means, of a set and its text; nothing where the part
@@ -172,7 +155,8 @@ pub fn certificate_words(
     part: &[u8],
     fault: CertFault,
 ) -> Result<Option<String>, AllocError>
-    ensures { IfOk result (λ said. IfSome said (λ words. IsOfFault fault (string_bytes words))) }
+    ensures { IfOk result (λ said. IfSome said (λ words.
+        IsOfEntry (entry_of fault) (string_bytes words))) }
 {
     let Some(certificate) = from_json(alloc, part).ok() else {
         return Ok(None);

@@ -5,19 +5,18 @@ ghost use Rattle.prog_check.specs.Paths.{paths_of};
 ghost use Rattle.analysis_words.specs.Refusing.{ShowsDanger, ShowsQuestion};
 
 use crate::pointed::point_at_access;
-use crate::shown::{Shown, node_name};
+use crate::shown::{Shown, access_place, cells_at, node_name};
 use dep_graph::{Danger, Exposure};
+use fault_words::parameter_count;
 use order_facts::{Node, Sample};
 use prog_check::ProgramSet;
 use prog_paths::{Question, paths};
 use std::alloc::{AllocError, Global};
+use text_places::line_number;
 
 fn parameters(shown: Shown<'_>, node: usize) -> usize {
-    let Some(path) = shown.paths.get(node) else {
-        return 0;
-    };
-    match shown.set.draft().programs.get(path.program) {
-        Some(program) => program.params.len(),
+    match shown.paths.get(node) {
+        Some(path) => parameter_count(shown.set.draft(), path.program),
         None => 0,
     }
 }
@@ -80,40 +79,44 @@ fn question_words(
     Ok(Some(words))
 }
 
-// The nodes of the way back, with arrows between them.
-fn way_text(alloc: Global, shown: Shown<'_>, nodes: &[usize]) -> Result<String, AllocError> {
-    let mut text = String::new(alloc);
-    for node in nodes {
-        let name = node_name(alloc, shown, *node)?;
-        let arrow = if text.is_empty() { "" } else { " -> " };
-        write!(text, "{arrow}{name}")?;
+// The circle along both edges and the way back.
+fn circle_text(alloc: Global, shown: Shown<'_>, danger: &Danger) -> Result<String, AllocError> {
+    let first = node_name(alloc, shown, danger.x)?;
+    let middle = node_name(alloc, shown, danger.y)?;
+    let mut text = format!(in alloc; "{first} would have to stand before {middle}")?;
+    for node in danger.back.as_slice() {
+        let next = node_name(alloc, shown, *node)?;
+        write!(text, ", that before {next}")?;
     }
     Ok(text)
 }
 
-// How the way back closes the circle.
-fn back_text(alloc: Global, shown: Shown<'_>, danger: &Danger) -> Result<String, AllocError> {
-    if danger.x == danger.z {
-        let first = node_name(alloc, shown, danger.x)?;
+// What makes the two of a question clash: the first keeps the cell that it looks at, or where it
+// looks at a range, both keep one cell.
+fn repair(alloc: Global, shown: Shown<'_>, question: Question) -> Result<String, AllocError> {
+    let reader = node_name(alloc, shown, question.x)?;
+    let writer = node_name(alloc, shown, question.y)?;
+    let Some(place) = access_place(alloc, shown, question.x, question.a)? else {
+        return format!(in alloc; "a cell that both {reader} and {writer} `keep`");
+    };
+    let cells = cells_at(shown.text, place);
+    if cells.contains("..") {
         return format!(in alloc;
-            "the last is {first} again, so each has to stand before the other"
+            "one cell that stands for `{cells}`, which both {reader} and {writer} `keep`"
         );
     }
-    let way = way_text(alloc, shown, danger.back.as_slice())?;
-    format!(in alloc; "back to the first, each of {way} may have to stand before the next")
+    let line = line_number(shown.text, place);
+    format!(in alloc; "`keep {cells};` behind line {line}, so that {reader} clashes with {writer}")
 }
 
-// How the circle closes, and what to do about it.
+// Why nothing hinders both edges, how the circle closes, and what to do about it.
 fn advice(alloc: Global, shown: Shown<'_>, danger: &Danger) -> Result<String, AllocError> {
-    let back = back_text(alloc, shown, danger)?;
-    let first = node_name(alloc, shown, danger.x)?;
-    let middle = node_name(alloc, shown, danger.y)?;
-    let last = node_name(alloc, shown, danger.z)?;
+    let circle = circle_text(alloc, shown, danger)?;
+    let first = repair(alloc, shown, danger.first.question)?;
+    let second = repair(alloc, shown, danger.second.question)?;
     let both = "the two of each pair can be under way at once: \
         no cell is sure to be changed or kept by both, so neither has to clash";
-    format!(in alloc;
-        "{both}\n{back}\ntwo repairs: let {first} `keep` what it looks at, so that it clashes with {middle}; or let {middle} do so against {last}\n"
-    )
+    format!(in alloc; "{both}\nin a serial order {circle}\nwhat helps: {first}; or {second}\n")
 }
 
 // Both edges of a danger, and what follows.

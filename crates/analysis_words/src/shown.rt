@@ -1,5 +1,6 @@
 //! Nodes and their accesses, as they stand in the text of a set.
 
+use fault_words::{as_text, program_name, table_name};
 use prog_check::{Path, ProgramSet};
 use std::alloc::{AllocError, Global};
 use text_places::{line_number, statement_place};
@@ -14,10 +15,6 @@ pub struct Shown<'a> {
     pub paths: &'a [Path],
 }
 
-fn as_text(bytes: &[u8]) -> &str {
-    str::from_utf8(bytes).unwrap_or("")
-}
-
 // The statement at a place, to its `;` or to the end of its line.
 fn statement_at(text: &[u8], place: usize) -> &str {
     let rest = text.get(place..).unwrap_or(&[]);
@@ -26,6 +23,16 @@ fn statement_at(text: &[u8], place: usize) -> &str {
         .take_while(|byte| **byte != b';' && **byte != b'\n')
         .count();
     as_text(rest.get(..len.min(MOST_SHOWN)).unwrap_or(&[]))
+}
+
+/// The cell or the range that the statement at a place names, with its table.
+pub fn cells_at(text: &[u8], place: usize) -> &str {
+    let rest = text.get(place..).unwrap_or(&[]);
+    let len = rest.iter().take_while(|byte| **byte != b']').count();
+    let front = rest.get(..len.saturating_add(1)).unwrap_or(rest);
+    let before = front.iter().take_while(|byte| **byte != b'[').count();
+    let start = before.saturating_sub(table_name(front).len());
+    as_text(front.get(start..).unwrap_or(&[]))
 }
 
 fn letters(alloc: Global, choices: &[bool]) -> Result<String, AllocError> {
@@ -43,15 +50,12 @@ pub fn node_name(alloc: Global, shown: Shown<'_>, node: usize) -> Result<String,
         return format!(in alloc; "node {node}");
     };
     let letters = letters(alloc, path.choices.as_slice())?;
-    let name = match shown.set.draft().programs.get(path.program) {
-        Some(program) => program.name.as_str(),
-        None => "",
-    };
+    let name = program_name(shown.set, path.program);
     format!(in alloc; "`{name}{letters}`")
 }
 
-// Where the statement of an access stands.
-fn access_place(
+/// Where the statement of an access stands.
+pub fn access_place(
     alloc: Global,
     shown: Shown<'_>,
     node: usize,
