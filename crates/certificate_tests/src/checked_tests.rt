@@ -93,47 +93,28 @@ fn fault_of(alloc: Global, entry: Entry, levels: [u32; 2]) -> Result<Option<Cert
 }
 
 #[test]
-fn numbers_that_fall_are_apart(rt: HostRuntime) -> Result<(), Fail> {
+fn apart_needs_a_chain_that_falls(rt: HostRuntime) -> Result<(), Fail> {
     let alloc = rt.alloc();
-    let entry = apart(alloc, LOOK_AND_PUT, &[2, 1])?;
-    assert_eq!(rt; fault_of(alloc, entry, [1, 1])?, None);
-    Ok(())
-}
-
-#[test]
-fn numbers_that_rise_are_no_reason(rt: HostRuntime) -> Result<(), Fail> {
-    let alloc = rt.alloc();
-    let entry = apart(alloc, LOOK_AND_PUT, &[1, 2])?;
-    assert_eq!(rt;
-        fault_of(alloc, entry, [1, 1])?,
-        Some(CertFault::BadChain(0))
-    );
-    Ok(())
-}
-
-#[test]
-fn a_chain_goes_by_facts_alone(rt: HostRuntime) -> Result<(), Fail> {
-    let alloc = rt.alloc();
-    let entry = apart(alloc, LOOK_AND_PUT, &[2, 0, 1])?;
-    assert_eq!(rt;
-        fault_of(alloc, entry, [1, 1])?,
-        Some(CertFault::BadChain(0))
-    );
-    Ok(())
-}
-
-#[test]
-fn a_look_asks_nothing_of_itself(rt: HostRuntime) -> Result<(), Fail> {
-    let alloc = rt.alloc();
-    let question = Question {
+    let of_itself = Question {
         y: 0,
         ..LOOK_AND_PUT
     };
-    let entry = apart(alloc, question, &[2, 1])?;
-    assert_eq!(rt;
-        fault_of(alloc, entry, [1, 1])?,
-        Some(CertFault::NoSuchEntry(0))
-    );
+    let falls = [2, 1];
+    let rises = [1, 2];
+    let goes_by_more_than_facts = [2, 0, 1];
+    for (question, numbers, want) in [
+        (LOOK_AND_PUT, falls.as_slice(), None),
+        (LOOK_AND_PUT, rises.as_slice(), Some(CertFault::BadChain(0))),
+        (
+            LOOK_AND_PUT,
+            goes_by_more_than_facts.as_slice(),
+            Some(CertFault::BadChain(0)),
+        ),
+        (of_itself, falls.as_slice(), Some(CertFault::NoSuchEntry(0))),
+    ] {
+        let got = fault_of(alloc, apart(alloc, question, numbers)?, [1, 1])?;
+        assert_eq!(rt; got, want, "by {:?}", numbers);
+    }
     Ok(())
 }
 

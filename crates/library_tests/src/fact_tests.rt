@@ -1,6 +1,6 @@
 //! Worked facts, with what they entail told by hand.
 
-use order_facts::{Facts, Node, check_chain};
+use order_facts::{Facts, Node, check_chain, is_plain_step};
 use std::alloc::{AllocError, Global};
 use std::test::Fail;
 
@@ -101,5 +101,16 @@ fn chains_are_checked(rt: HostRuntime) -> Result<(), Fail> {
     assert!(rt; check_chain(&facts, &[KEY, ONE, FIVE, C]));
     assert!(rt; !check_chain(&facts, &[KEY, C]));
     assert!(rt; !check_chain(&facts, &[]));
+    Ok(())
+}
+
+#[test]
+fn some_steps_need_no_fact(rt: HostRuntime) -> Result<(), Fail> {
+    assert!(rt; is_plain_step(ONE, TWO));
+    assert!(rt; is_plain_step(TWO, TWO));
+    assert!(rt; is_plain_step(LEAST, KEY));
+    assert!(rt; is_plain_step(KEY, GREATEST));
+    assert!(rt; !is_plain_step(TWO, ONE));
+    assert!(rt; !is_plain_step(KEY, KEY));
     Ok(())
 }

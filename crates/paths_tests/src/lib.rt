@@ -9,3 +9,5 @@ mod question_tests;
 mod sets;
 #[cfg(test)]
 mod shown;
+#[cfg(test)]
+mod square_tests;
