@@ -359,14 +359,12 @@ fn certificate_of(keys: &str) -> Certificate {
 fn main() {
     let keys = std::env::args().nth(1).unwrap();
     let certificate = certificate_of(&keys);
-    let covers = certificate.entries.iter().filter(|entry| matches!(entry.reason, Reason::Cover { .. })).count();
-    println!("answer {} {covers}", certificate.entries.len());
     let start = Instant::now();
     let verdict = verify(&keys, &certificate);
-    println!("verify {}", start.elapsed().as_nanos());
-    println!("accepted {}", verdict.is_ok());
+    let took = start.elapsed().as_nanos();
+    println!("{} {took} {}", certificate.entries.len(), verdict.is_ok());
     if let Err(fault) = verdict {
-        println!("fault {fault:?}");
+        eprintln!("fault {fault:?}");
     }
     std::mem::forget(certificate);
 }
