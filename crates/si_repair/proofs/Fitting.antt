@@ -41,13 +41,13 @@ access_small paths x a access few at =
     let own : length at.0.accesses ≤ 24 = subst (λ (p : Path). length p.accesses ≤ 24) (get_or_from_slice_get paths x at.0 at.0 at.1) (few.accesses x at.0 inside) in
     (small_from x (omega (arith, inside, nodes)), small_from a (omega (arith, below, own)))
 
-question_fits : (paths : List Path) (q : Asked) → AreFew paths → IsAskedOf paths q → AskedFits q
+pub question_fits : (paths : List Path) (q : Asked) → AreFew paths → IsAskedOf paths q → AskedFits q
 question_fits paths q few asked =
     let first = access_small paths q.x q.a asked.mine few asked.asked.at_mine in
     let second = access_small paths q.y q.b asked.theirs few asked.asked.at_theirs in
     (first.0, first.1, second.0, second.1)
 
-verdict_fits : (paths : List Path) (q : Asked) (v : Verdict) → AreFew paths → IsAskedOf paths q → IsRight paths (numbers_of q) v → VerdictFits v
+pub verdict_fits : (paths : List Path) (q : Asked) (v : Verdict) → AreFew paths → IsAskedOf paths q → IsRight paths (numbers_of q) v → VerdictFits v
 verdict_fits paths q (Apart chain) few asked right = tt
 verdict_fits paths q (Covered m t chains) few asked right =
     let least = (right asked.mine asked.theirs asked.asked).least in

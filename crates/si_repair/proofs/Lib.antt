@@ -3,3 +3,4 @@ pub mod Telling
 pub mod Leaving
 pub mod Accepting
 pub mod Fitting
+pub mod Printing

@@ -133,15 +133,13 @@ module _ (paths : List Path) (q : Asked) (asked : IsAskedOf paths q) where
 -- ---- all entries
 
 -- what is so of all that is told of each entry is so of all that is told
-told_all : (P : Entry → Type 0) (paths : List Path) → ((q : Asked) → IsAskedOf paths q → (v : Verdict) → IsRight paths (numbers_of q) v → All P (told_by q v)) → (es : List Judged) → All (λ e. IsEntryOf paths e) es → All P (told_of es)
-told_all P paths by [] h = All-nil P
-told_all P paths by (e ∷ es) h =
-    let first = All-head (λ d. IsEntryOf paths d) e es h in
-    All-append P (told_by e.question e.verdict) (told_of es) (by e.question first.asked e.verdict first.right)
-    (told_all P paths by es (All-tail (λ d. IsEntryOf paths d) e es h))
+pub told_all : (P : Entry → Type 0) (Of : Judged → Type 0) → ((e : Judged) → Of e → All P (told_by e.question e.verdict)) → (es : List Judged) → All Of es → All P (told_of es)
+told_all P Of by [] h = All-nil P
+told_all P Of by (e ∷ es) h =
+    All-append P (told_by e.question e.verdict) (told_of es) (by e (All-head Of e es h)) (told_all P Of by es (All-tail Of e es h))
 
 pub told_holds : (t : Table) (paths : List Path) → StandsFor t paths → All (Holds paths) (told_of t.entries)
-told_holds t paths s = told_all (Holds paths) paths (holds-by paths) t.entries (entries_stand t paths s)
+told_holds t paths s = told_all (Holds paths) (IsEntryOf paths) (λ e h. holds-by paths e.question h.asked e.verdict h.right) t.entries (entries_stand t paths s)
 
 pub told_own : (t : Table) (paths : List Path) → StandsFor t paths → All (IsOwnEntry paths) (told_of t.entries)
-told_own t paths s = told_all (IsOwnEntry paths) paths (own-by paths) t.entries (entries_stand t paths s)
+told_own t paths s = told_all (IsOwnEntry paths) (IsEntryOf paths) (λ e h. own-by paths e.question h.asked e.verdict h.right) t.entries (entries_stand t paths s)

@@ -13,6 +13,7 @@ use Rattle.robust_cert.specs.declared.certificate.Entry.{Entry}
 use Rattle.robust_cert.specs.declared.certificate.Entry.TheVariants.{Apart, Cover}
 use Rattle.robust_cert.specs.declared.certificate.Certificate.{Certificate}
 use Rattle.robust_cert.specs.Accepted.{numbers_told, IsTold, level_of, IsAccepted}
+use Rattle.robust_cert.specs.Json.{CertificateFits}
 use Rattle.si_repair.specs.declared.finding.Finding.{Finding}
 use Rattle.si_repair.specs.declared.finding.Finding.TheVariants.{Robust, Refused}
 
@@ -41,6 +42,11 @@ pub record IsCertificateOf (nodes : List Path) (c : Certificate) : Type 0 where
   pub own : All (IsOwnEntry nodes) c.entries
   pub each : TellsEach nodes c.entries
   pub levels : (x : ℕ) → x < length nodes → IsCountOf (λ u. Leads (StaticEdge nodes) u x) (length nodes) (level_of c x)
+
+-- the numbers of a certificate are in the ranges that a text may have, so that it can be printed and read again
+abbrev pub Fits : Finding → Type 0
+Fits (Robust c) = CertificateFits c
+Fits (Refused d) = Unit {0}
 
 -- the checker accepts the certificate, which is that of the paths; or the structure is the least dangerous one
 abbrev pub IsRightFinding : List Path → Finding → Type 0
