@@ -12,3 +12,4 @@ mod replay;
 pub use line_faults::{PartKind, line_words};
 pub use part_faults::{extra_part_words, missing_part_words};
 pub use record_faults::record_words;
+pub use replay::{Ended, begin_of, run_to_end};

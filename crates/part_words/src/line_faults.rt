@@ -4,21 +4,13 @@ ghost use Rattle.part_words.specs.PartPointing.{line_of_fault, PointsAtLineOf};
 
 pub use crate::forms::PartKind;
 use crate::forms::{first_words, form_of, no_number};
-use crate::line_reading::{known, line_of, shown, words_of};
-use fault_words::point_at;
+use crate::line_reading::{line_of, shown, words_of};
+use fault_words::{known_names, point_at, table_names};
 use prog_check::ProgramSet;
+use prog_tree::Draft;
 use si_engine::LineFault;
 use std::alloc::{AllocError, Global};
 use text_places::line_front;
-
-fn is_among(names: &[&str], word: &str) -> bool {
-    for name in names {
-        if *name == word {
-            return true;
-        }
-    }
-    false
-}
 
 fn bad_line(alloc: Global, kind: PartKind, words: &[&str]) -> Result<String, AllocError> {
     let [first, ..] = words else {
@@ -26,8 +18,8 @@ fn bad_line(alloc: Global, kind: PartKind, words: &[&str]) -> Result<String, All
     };
     let first: &str = *first;
     let begins = first_words(kind);
-    if !is_among(begins, first) {
-        let known = known(alloc, first, begins)?;
+    if !(&*begins).contains(&first) {
+        let known = known_names(alloc, first, begins)?;
         let first = shown(first);
         return format!(in alloc; "no line begins with `{first}`; {known}");
     }
@@ -46,32 +38,23 @@ fn bad_line(alloc: Global, kind: PartKind, words: &[&str]) -> Result<String, All
     }
 }
 
-fn unknown_table(alloc: Global, set: &ProgramSet, name: &str) -> Result<String, AllocError> {
+fn program_names(alloc: Global, draft: &Draft) -> Result<Vec<&str>, AllocError> {
     let mut names = Vec::new(alloc);
-    for table in &set.draft().tables {
-        names.push(table.name.as_str())?;
-    }
-    let known = known(alloc, name, &names)?;
-    let name = shown(name);
-    format!(in alloc; "no table is called `{name}`; {known}")
-}
-
-fn unknown_program(alloc: Global, set: &ProgramSet, name: &str) -> Result<String, AllocError> {
-    let mut names = Vec::new(alloc);
-    for program in &set.draft().programs {
+    for program in &draft.programs {
         names.push(program.name.as_str())?;
     }
-    let known = known(alloc, name, &names)?;
-    let name = shown(name);
-    format!(in alloc; "no program is called `{name}`; {known}")
+    Ok(names)
 }
 
 fn unknown_name(alloc: Global, set: &ProgramSet, words: &[&str]) -> Result<String, AllocError> {
-    match words {
-        ["row", name, ..] => unknown_table(alloc, set, name),
-        [_, name, ..] => unknown_program(alloc, set, name),
-        _ => format!(in alloc; "the name is not known"),
-    }
+    let (what, name, names) = match words {
+        ["row", name, ..] => ("table", *name, table_names(alloc, set.draft())?),
+        [_, name, ..] => ("program", *name, program_names(alloc, set.draft())?),
+        _ => return format!(in alloc; "the name is not known"),
+    };
+    let known = known_names(alloc, name, &names)?;
+    let name = shown(name);
+    format!(in alloc; "no {what} is called `{name}`; {known}")
 }
 
 fn wrong_keys(alloc: Global, words: &[&str]) -> Result<String, AllocError> {

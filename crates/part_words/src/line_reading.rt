@@ -1,12 +1,8 @@
 //! Words of a line, read just far enough to name them.
 
-use fault_words::nearest_name;
+use fault_words::as_text;
 use std::alloc::{AllocError, Global};
 use text_places::{line_at, line_front};
-
-fn as_text(bytes: &[u8]) -> &str {
-    str::from_utf8(bytes).unwrap_or("")
-}
 
 fn begins_word(line: &[u8], place: usize) -> bool {
     let before = line.get(..place).unwrap_or(&[]);
@@ -45,16 +41,4 @@ pub fn line_of(part: &[u8], line: usize) -> &[u8] {
 pub fn shown(word: &str) -> &str {
     let end = word.len().min(40);
     word.get(..end).unwrap_or(word)
-}
-
-/// The nearest of the names that are known, or all of them.
-pub fn known(alloc: Global, word: &str, names: &[&str]) -> Result<String, AllocError> {
-    if let Some(near) = nearest_name(alloc, word, names)? {
-        return format!(in alloc; "the nearest name is `{near}`");
-    }
-    if names.is_empty() {
-        return format!(in alloc; "there is none");
-    }
-    let names = names.join(alloc, "`, `")?;
-    format!(in alloc; "known are `{names}`")
 }

@@ -3,10 +3,10 @@ ghost use Rattle.std.specs.Prelude.{◌≡◌, IfOk, IfSome, string_bytes};
 ghost use Rattle.part_words.specs.PartPointing.{record_of_fault, PointsAtRecord};
 
 use crate::replay::ending;
-use fault_words::point_at;
+use fault_words::{cell_text, parameter_count, point_at, program_name};
 use history_book::{AuditFault, HistoryRow, RowFault};
 use prog_check::ProgramSet;
-use prog_tree::{Arity, Cause, Cell, Sequence};
+use prog_tree::{Cause, Sequence};
 use si_engine::{Bytes, Records, Reply, read_records};
 use std::alloc::{AllocError, Global};
 use text_places::{line_number, record_place};
@@ -31,36 +31,6 @@ fn cut_at(alloc: Global, set: &ProgramSet, part: &[u8], number: usize) -> Option
         },
         row,
     })
-}
-
-fn program_name(set: &ProgramSet, program: usize) -> &str {
-    match set.draft().programs.get(program) {
-        Some(program) => program.name.as_str(),
-        None => "",
-    }
-}
-
-fn parameters(set: &ProgramSet, program: usize) -> usize {
-    match set.draft().programs.get(program) {
-        Some(program) => program.params.len(),
-        None => 0,
-    }
-}
-
-fn cell_text(alloc: Global, set: &ProgramSet, cell: Cell) -> Result<String, AllocError> {
-    let Cell {
-        table,
-        first,
-        second,
-    } = cell;
-    let Some(table) = set.draft().tables.get(table) else {
-        return format!(in alloc; "a cell");
-    };
-    let name = table.name.as_str();
-    match table.arity {
-        Arity::One => format!(in alloc; "`{name}[{first}]`"),
-        Arity::Two => format!(in alloc; "`{name}[{first}, {second}]`"),
-    }
 }
 
 fn numbers_text(alloc: Global, numbers: &[i64]) -> Result<String, AllocError> {
@@ -90,17 +60,10 @@ fn cause_text(alloc: Global, set: &ProgramSet, cause: Cause) -> Result<String, A
 }
 
 // How the instance of a record ends, in words.
-fn ending_text(
-    alloc: Global,
-    set: &ProgramSet,
-    part: &[u8],
-    number: usize,
-) -> Result<String, AllocError> {
-    let Some(Cut { records, row }) = cut_at(alloc, set, part, number) else {
-        return format!(in alloc; "the instance does something else");
-    };
+fn ending_text(alloc: Global, set: &ProgramSet, cut: Cut) -> Result<String, AllocError> {
+    let Cut { records, row } = cut;
     let name = program_name(set, row.program);
-    let start = usize::try_from(row.start).unwrap_or(number);
+    let start = usize::try_from(row.start).unwrap_or(usize::MAX);
     let mut seen = records.records.into_vec();
     seen.truncate(start);
     let ending = ending(alloc, set, records.rows, seen, &row)?;
@@ -126,32 +89,16 @@ fn counted(alloc: Global, count: usize, what: &str) -> Result<String, AllocError
     format!(in alloc; "{count} {what}{ending}")
 }
 
-fn argument_count(
-    alloc: Global,
-    set: &ProgramSet,
-    part: &[u8],
-    number: usize,
-) -> Result<String, AllocError> {
-    let Some(Cut { row, .. }) = cut_at(alloc, set, part, number) else {
-        return format!(in alloc; "another number of arguments than the program has parameters");
-    };
+fn argument_count(alloc: Global, set: &ProgramSet, row: &HistoryRow) -> Result<String, AllocError> {
     let name = program_name(set, row.program);
-    let wanted = counted(alloc, parameters(set, row.program), "parameter")?;
+    let count = parameter_count(set.draft(), row.program);
+    let wanted = counted(alloc, count, "parameter")?;
     let given = counted(alloc, row.args.len(), "argument")?;
     format!(in alloc; "`{name}` has {wanted}, and here it is given {given}")
 }
 
-fn late_start(
-    alloc: Global,
-    set: &ProgramSet,
-    part: &[u8],
-    number: usize,
-) -> Result<String, AllocError> {
-    let Some(Cut { row, .. }) = cut_at(alloc, set, part, number) else {
-        return format!(in alloc; "it saw more commits than there are records before it");
-    };
+fn late_start(alloc: Global, number: usize, start: u64) -> Result<String, AllocError> {
     let before = counted(alloc, number, "record")?;
-    let start = row.start;
     format!(in alloc; "behind `at` stands {start}, and only {before} stand before it")
 }
 
@@ -183,11 +130,14 @@ fn row_sentence(
     number: usize,
     fault: RowFault,
 ) -> Result<String, AllocError> {
+    let Some(cut) = cut_at(alloc, set, part, number) else {
+        return format!(in alloc; "no instance of the set has done this");
+    };
     match fault {
         RowFault::NoSuchProgram => format!(in alloc; "the set has no such program"),
-        RowFault::WrongArguments => argument_count(alloc, set, part, number),
-        RowFault::StartTooLate => late_start(alloc, set, part, number),
-        RowFault::NotReady | RowFault::WrongReplies => ending_text(alloc, set, part, number),
+        RowFault::WrongArguments => argument_count(alloc, set, &cut.row),
+        RowFault::StartTooLate => late_start(alloc, number, cut.row.start),
+        RowFault::NotReady | RowFault::WrongReplies => ending_text(alloc, set, cut),
         RowFault::Clashed(clash) => clash_text(alloc, set, part, clash),
     }
 }

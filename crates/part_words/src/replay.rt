@@ -1,16 +1,16 @@
-//! What an instance of a program does on the rows that the first commits of a list leave.
+//! Instances of a history run once more.
 
 use history_book::{Book, HistoryRow};
 use prog_check::ProgramSet;
-use prog_tree::{Rows, Sequence};
+use prog_tree::{Deed, Rows, Sequence};
 use si_engine::{Engine, Event, Reply};
 use std::alloc::{AllocError, Global};
 
 // A program has at most 256 statements.
 const MOST_STEPS: usize = 300;
 
-// A call of a program.
-fn call(alloc: Global, row: &HistoryRow) -> Result<Event, AllocError> {
+/// The begin of a row's instance.
+pub fn begin_of(alloc: Global, row: &HistoryRow) -> Result<Event, AllocError> {
     let mut args = Sequence::new(alloc);
     for argument in row.args.as_slice() {
         args.push(*argument)?;
@@ -37,15 +37,35 @@ fn rows_behind(
     }
 }
 
-// How the first instance of an engine ends.
-fn last_reply(engine: &mut Engine<'_>) -> Result<Option<Reply>, AllocError> {
+/// What an instance did, and how it ended.
+#[derive(Drop)]
+pub struct Ended {
+    pub deeds: Vec<Deed>,
+    pub ending: Option<Reply>,
+}
+
+/// Steps an instance of an engine to its end.
+pub fn run_to_end(
+    alloc: Global,
+    engine: &mut Engine<'_>,
+    instance: usize,
+) -> Result<Ended, AllocError> {
+    let mut deeds = Vec::new(alloc);
     for _turn in 0..MOST_STEPS {
-        match engine.apply(&Event::Step(0))? {
-            Reply::Did(_) => {}
-            reply => return Ok(Some(reply)),
+        match engine.apply(&Event::Step(instance))? {
+            Reply::Did(deed) => deeds.push(deed)?,
+            reply => {
+                return Ok(Ended {
+                    deeds,
+                    ending: Some(reply),
+                });
+            }
         }
     }
-    Ok(None)
+    Ok(Ended {
+        deeds,
+        ending: None,
+    })
 }
 
 /// How the instance of a record ends on the rows that the records which it saw leave; nothing where
@@ -61,8 +81,8 @@ pub fn ending(
         return Ok(None);
     };
     let mut engine = Engine::open(alloc, set, rows)?;
-    let call = call(alloc, row)?;
-    engine.apply(&call)?;
-    let reply = last_reply(&mut engine)?;
-    Ok(reply)
+    let begin = begin_of(alloc, row)?;
+    engine.apply(&begin)?;
+    let ended = run_to_end(alloc, &mut engine, 0)?;
+    Ok(ended.ending)
 }
