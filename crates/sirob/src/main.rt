@@ -3,11 +3,14 @@
 #![tactic(auto)]
 
 mod analysis_fault;
+mod analysis_sentences;
 mod audit;
 mod certify;
 mod check;
 mod command_line;
+mod cycle_sentences;
 mod input;
+mod kept_input;
 mod lines;
 mod parts;
 mod program;

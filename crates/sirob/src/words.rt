@@ -1,57 +1,34 @@
 //! What is said to people on the standard error.
 
+use crate::analysis_sentences::{analysis_sentence, certificate_sentence, refusal_sentence};
 use crate::command_line::Mode;
-use crate::parts::{PartFault, two_parts};
+use crate::cycle_sentences::{audit_cycle_sentence, run_cycle_sentence};
+use crate::kept_input::{second_part, set_of, set_text};
+use crate::parts::PartFault;
 use crate::run_fault::RunFault;
 use crate::status::Status;
+use analysis_words::json_words;
 use fault_words::{check_words, text_words};
 use history_book::AuditFault;
 use part_words::{PartKind, extra_part_words, line_words, missing_part_words, record_words};
-use prog_check::{ProgramSet, check};
-use prog_text::parse;
 use si_engine::{InputFault, LineFault, ScriptFault};
-use si_repair::AnalyseFault;
 use std::alloc::{AllocError, Global};
 
-// The text of the set in an input.
-fn set_text(input: &[u8]) -> &[u8] {
-    match two_parts(input) {
-        Ok(parts) => parts.text,
-        Err(_) => input,
+// What stands in the second part of a command's input, where it has one.
+fn second_wanted(mode: Mode) -> Option<&'static str> {
+    match mode {
+        Mode::Check | Mode::Certify => None,
+        Mode::Verify => Some("a certificate"),
+        Mode::Run { .. } => Some("a script"),
+        Mode::Audit => Some("records"),
     }
-}
-
-// What stands behind the line `%%`.
-fn second_part(input: &[u8]) -> &[u8] {
-    match two_parts(input) {
-        Ok(parts) => parts.rest,
-        Err(_) => &[],
-    }
-}
-
-// The set of an input whose set has no fault.
-fn set_of(alloc: Global, input: &[u8]) -> Option<ProgramSet> {
-    let draft = parse(alloc, set_text(input)).ok()?;
-    check(alloc, draft).ok()
 }
 
 // What the input of a command has.
-fn wanted_parts(mode: Mode) -> &'static str {
-    match mode {
-        Mode::Check | Mode::Certify => "a set alone",
-        Mode::Verify => "a set, one such line, and a certificate",
-        Mode::Run { .. } => "a set, one such line, and a script",
-        Mode::Audit => "a set, one such line, and records",
-    }
-}
-
-// What stands in the second part of a command's input.
-fn second_wanted(mode: Mode) -> &'static str {
-    match mode {
-        Mode::Check | Mode::Certify => "nothing",
-        Mode::Verify => "a certificate",
-        Mode::Run { .. } => "a script",
-        Mode::Audit => "records",
+fn wanted_parts(alloc: Global, mode: Mode) -> Result<String, AllocError> {
+    match second_wanted(mode) {
+        None => format!(in alloc; "a set alone"),
+        Some(second) => format!(in alloc; "a set, one such line, and {second}"),
     }
 }
 
@@ -62,18 +39,21 @@ fn kind_of(mode: Mode) -> PartKind {
     }
 }
 
-fn input_sentence(alloc: Global, fault: InputFault) -> Result<Option<String>, AllocError> {
+fn input_sentence(fault: InputFault) -> Option<&'static str> {
     match fault {
-        InputFault::TooLong => {
-            let words = format!(in alloc; "the input has more than 16777216 bytes, the most\n")?;
-            Ok(Some(words))
-        }
-        InputFault::ReadFault => {
-            let words = format!(in alloc; "the standard input could not be read to its end\n")?;
-            Ok(Some(words))
-        }
-        InputFault::Memory => Ok(None),
+        InputFault::TooLong => Some("the input has more than 16777216 bytes, the most\n"),
+        InputFault::ReadFault => Some("the standard input could not be read to its end\n"),
+        InputFault::Memory => None,
     }
+}
+
+// A sentence that points nowhere.
+fn plain(alloc: Global, sentence: Option<&str>) -> Result<Option<String>, AllocError> {
+    let Some(sentence) = sentence else {
+        return Ok(None);
+    };
+    let words = format!(in alloc; "{sentence}")?;
+    Ok(Some(words))
 }
 
 fn part_sentence(
@@ -84,22 +64,14 @@ fn part_sentence(
 ) -> Result<Option<String>, AllocError> {
     match fault {
         PartFault::MissingPart => {
-            let words = missing_part_words(alloc, input, second_wanted(mode))?;
+            let second = second_wanted(mode).unwrap_or("nothing");
+            let words = missing_part_words(alloc, input, second)?;
             Ok(Some(words))
         }
-        PartFault::ExtraPart => extra_part_words(alloc, input, wanted_parts(mode)),
-    }
-}
-
-fn analysis_sentence(alloc: Global, fault: AnalyseFault) -> Result<Option<String>, AllocError> {
-    match fault {
-        AnalyseFault::TooLarge => {
-            let words = format!(in alloc;
-                "more than 1000000 pairs of accesses would have to be compared: fewer programs, or fewer ways through them\n"
-            )?;
-            Ok(Some(words))
+        PartFault::ExtraPart => {
+            let wanted = wanted_parts(alloc, mode)?;
+            extra_part_words(alloc, input, &wanted)
         }
-        AnalyseFault::Memory => Ok(None),
     }
 }
 
@@ -122,7 +94,7 @@ fn script_sentence(
     fault: ScriptFault,
 ) -> Result<Option<String>, AllocError> {
     match fault {
-        ScriptFault::Input(fault) => input_sentence(alloc, fault),
+        ScriptFault::Input(fault) => plain(alloc, input_sentence(fault)),
         ScriptFault::Line(fault) => line_sentence(alloc, mode, input, fault),
         ScriptFault::WriteFault => Ok(None),
     }
@@ -139,7 +111,7 @@ fn record_sentence(
     record_words(alloc, &set, second_part(input), fault)
 }
 
-// A fault in words. There are none for those that are not explained.
+// A fault in words.
 fn words_of(
     alloc: Global,
     mode: Mode,
@@ -152,26 +124,53 @@ fn words_of(
             Ok(Some(words))
         }
         RunFault::Check(fault) => check_words(alloc, set_text(input), fault),
-        RunFault::Input(fault) => input_sentence(alloc, fault),
+        RunFault::Input(fault) => plain(alloc, input_sentence(fault)),
         RunFault::Parts(fault) => part_sentence(alloc, mode, input, fault),
-        RunFault::Analysis(fault) => analysis_sentence(alloc, fault),
+        RunFault::Analysis(fault) => plain(alloc, analysis_sentence(fault)),
         RunFault::Script(fault) => script_sentence(alloc, mode, input, fault),
         RunFault::Audit(fault) => record_sentence(alloc, input, fault),
-        RunFault::Json(_) | RunFault::Certificate(_) => Ok(None),
+        RunFault::Json(fault) => plain(alloc, Some(json_words(fault))),
+        RunFault::Certificate(fault) => certificate_sentence(alloc, input, fault),
     }
 }
 
-/// Says on the standard error what is wrong with an input, unless memory runs out for it.
+// Why no serial order is sure, or why there is none.
+fn unserializable_sentence(
+    alloc: Global,
+    mode: Mode,
+    input: &[u8],
+) -> Result<Option<String>, AllocError> {
+    match mode {
+        Mode::Check | Mode::Verify => Ok(None),
+        Mode::Certify | Mode::Run { robust: true } => refusal_sentence(alloc, input),
+        Mode::Run { robust: false } => run_cycle_sentence(alloc, input),
+        Mode::Audit => audit_cycle_sentence(alloc, input),
+    }
+}
+
+// What is to be said of how a command ended.
+fn ending_words(
+    alloc: Global,
+    mode: Mode,
+    input: &[u8],
+    ended: Result<Status, RunFault>,
+) -> Result<Option<String>, AllocError> {
+    match ended {
+        Ok(Status::Unserializable) => unserializable_sentence(alloc, mode, input),
+        Ok(Status::Done | Status::Faulty | Status::Memory) => Ok(None),
+        Err(fault) => words_of(alloc, mode, input, fault),
+    }
+}
+
+/// Says on the standard error what is wrong with an input, or why its set is refused, unless memory
+/// runs out for it.
 pub fn explain(
     rt: &(impl AllocGlobal + Eprint),
     mode: Mode,
     input: &[u8],
     ended: Result<Status, RunFault>,
 ) {
-    let Err(fault) = ended else {
-        return;
-    };
-    if let Ok(Some(words)) = words_of(rt.alloc(), mode, input, fault) {
+    if let Ok(Some(words)) = ending_words(rt.alloc(), mode, input, ended) {
         let _ = rt.eprint(&words);
     }
 }
