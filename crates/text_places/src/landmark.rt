@@ -159,12 +159,25 @@ fn numbered(kind: Landmark, text: &[u8], start: usize, number: usize) -> Option<
     None
 }
 
+// Where the one of this number begins in a text.
+fn place_in_text(
+    alloc: Global,
+    kind: Landmark,
+    text: &[u8],
+    number: usize,
+) -> Result<Option<usize>, AllocError>
+    ensures { IfOk result (λ place. IfSome place
+        (IsNumbered kind (without_comments text.now) 0 number)) }
+{
+    let blanked = without_comments(alloc, text)?;
+    Ok(numbered(kind, &blanked, 0, number))
+}
+
 /// Where a table is declared.
 pub fn table_place(alloc: Global, text: &[u8], table: usize) -> Result<Option<usize>, AllocError>
     ensures { IfOk result (λ place. IfSome place (IsTablePlace text.now table)) }
 {
-    let blanked = without_comments(alloc, text)?;
-    Ok(numbered(Landmark::Table, &blanked, 0, table))
+    place_in_text(alloc, Landmark::Table, text, table)
 }
 
 /// Where a program begins.
@@ -175,8 +188,7 @@ pub fn program_place(
 ) -> Result<Option<usize>, AllocError>
     ensures { IfOk result (λ place. IfSome place (IsProgramPlace text.now program)) }
 {
-    let blanked = without_comments(alloc, text)?;
-    Ok(numbered(Landmark::Program, &blanked, 0, program))
+    place_in_text(alloc, Landmark::Program, text, program)
 }
 
 /// Where a statement of a program begins.

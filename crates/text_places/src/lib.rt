@@ -3,6 +3,7 @@
 #![tactic(auto)]
 
 mod landmark;
+mod limits;
 mod place;
 mod quote;
 

@@ -2,12 +2,9 @@
 ghost use Rattle.std.specs.Prelude.{◌≡◌, ◌<◌, ◌++◌, IfOk, OnOk, map, replicate, string_bytes};
 ghost use Rattle.text_places.specs.Quotes.{left_out, mark, pointed_out, position, quote, shown_line, visible};
 
+use crate::limits::{MAX_BEFORE, MAX_SHOWN};
 use crate::place::{before, behind, column, inset, line_at, line_number};
 use std::alloc::{AllocError, Global};
-
-const MOST_BEFORE: usize = 60;
-
-const MOST_SHOWN: usize = 100;
 
 // A byte as a terminal may show it.
 fn visible(byte: u8) -> u8
@@ -56,8 +53,8 @@ fn push_quote(out: &mut String, text: &[u8], place: usize) -> Result<(), AllocEr
     ensures { OnOk result (string_bytes out.new ≡ string_bytes out.old ++ quote text.now place) }
 {
     let inset = inset(text, place);
-    let left_out = inset.saturating_sub(MOST_BEFORE);
-    let shown = before(behind(line_at(text, place), left_out), MOST_SHOWN);
+    let left_out = inset.saturating_sub(MAX_BEFORE);
+    let shown = before(behind(line_at(text, place), left_out), MAX_SHOWN);
     out.push_str("  ")?;
     push_visible(out, shown)?;
     out.push_str("\n  ")?;
