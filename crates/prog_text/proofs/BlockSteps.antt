@@ -3,7 +3,7 @@ use Rattle.std.proofs.Common.{◌≡◌, List, [], ◌∷◌, ◌++◌, length, 
 use Rattle.std.proofs.lemmas.List.{reverse-append}
 use Rattle.std.specs.declared.vec.Vec.{Vec}
 use Rattle.std.specs.declared.alloc.Global.{Global}
-use Rattle.prog_tree.specs.Syntax.{TestTree, StatementTree, BlockTree, BlockEnd, Then, Branch, StmtTree, block_from}
+use Rattle.prog_tree.specs.Syntax.{TestTree, StatementTree, BlockTree, BlockEnd, Then, Branch, StmtTree, Fork, block_from}
 use Rattle.prog_tree.specs.Tree.{test_tree, stmt_tree, with_stmt, with_stmts, stmts_tree}
 use Rattle.prog_tree.specs.declared.expr.Test.{Test}
 use Rattle.prog_tree.specs.declared.stmt.Stmt.{Stmt}
@@ -121,11 +121,11 @@ second_fails k stack test done before ts us e h =
     subst (Fails k) (sym (innermost stack (First test before) (Ok (stmts_tree done, ts))))
     (reading_fails k (reverse stack) before.items (behind_first body_at (test_tree test) (stmts_tree done) ts) (no_second k (test_tree test) (stmts_tree done) ts us e h))
 
-pub first_ends : (stack : List Open) (test : Test) (done : List Stmt) (before : Vec Stmt Global) (s : Stmt) (ts : List Token) → after_sign sign.Else ts ≡ None → with_stmt s ≡ (λ rest. Branch (test_tree test) (stmts_tree done) BlockEnd rest)
+pub first_ends : (stack : List Open) (test : Test) (done : List Stmt) (before : Vec Stmt Global) (s : Stmt) (ts : List Token) → after_sign sign.Else ts ≡ None → stmt_tree s ≡ Fork (test_tree test) (stmts_tree done) BlockEnd
     → unread stack (before.items ++ s ∷ []) ts ≡ unread_behind_end (stack ++ First test before ∷ []) done ts
 unfolding unread unread_behind_end outward
 first_ends stack test done before s ts e is =
-    ap (outward (reverse stack)) (in_front-push before.items s (λ rest. Branch (test_tree test) (stmts_tree done) BlockEnd rest) (body_at ts) is)
+    ap (outward (reverse stack)) (in_front-push before.items s (λ rest. Branch (test_tree test) (stmts_tree done) BlockEnd rest) (body_at ts) (ap block_from is))
     ∙ ap (λ (r : Reading BlockTree). outward (reverse stack) (in_front before.items r)) (sym (without_second (test_tree test) (stmts_tree done) ts e))
     ∙ sym (innermost stack (First test before) (Ok (stmts_tree done, ts)))
 
@@ -135,11 +135,11 @@ with_rest : (x : TestTree) (first second : BlockTree) (ts : List Token) → behi
 unfolding behind_second
 with_rest x first second ts = refl
 
-pub second_ends : (stack : List Open) (test : Test) (first : Vec Stmt Global) (done : List Stmt) (before : Vec Stmt Global) (s : Stmt) (ts : List Token) → with_stmt s ≡ (λ rest. Branch (test_tree test) (stmts_tree first.items) (stmts_tree done) rest)
+pub second_ends : (stack : List Open) (test : Test) (first : Vec Stmt Global) (done : List Stmt) (before : Vec Stmt Global) (s : Stmt) (ts : List Token) → stmt_tree s ≡ Fork (test_tree test) (stmts_tree first.items) (stmts_tree done)
     → unread stack (before.items ++ s ∷ []) ts ≡ unread_behind_end (stack ++ Second test first before ∷ []) done ts
 unfolding unread unread_behind_end outward
 second_ends stack test first done before s ts is =
-    ap (outward (reverse stack)) (in_front-push before.items s (λ rest. Branch (test_tree test) (stmts_tree first.items) (stmts_tree done) rest) (body_at ts) is)
+    ap (outward (reverse stack)) (in_front-push before.items s (λ rest. Branch (test_tree test) (stmts_tree first.items) (stmts_tree done) rest) (body_at ts) (ap block_from is))
     ∙ ap (λ (r : Reading BlockTree). outward (reverse stack) (in_front before.items r)) (sym (with_rest (test_tree test) (stmts_tree first.items) (stmts_tree done) ts))
     ∙ sym (innermost stack (Second test first before) (Ok (stmts_tree done, ts)))
 

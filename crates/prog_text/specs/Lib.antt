@@ -1,5 +1,6 @@
 pub mod Answer
 pub mod Canonical
+pub mod Cursor
 pub mod Cut
 pub mod Grammar
 pub mod Lexing

@@ -1,13 +1,15 @@
 -- What is still to be read of a block, from inside the blocks that are open in it.
-use Rattle.std.specs.Prelude.{List, [], ◌∷◌, Bool, true, false, Ok, reverse}
+use Rattle.std.specs.Prelude.{◌≡◌, ◌<◌, ◌≤◌, List, [], ◌∷◌, ◌++◌, length, Bool, true, false, Result, Ok, Err, reverse}
 use Rattle.prog_tree.specs.Syntax.{BlockTree}
 use Rattle.prog_tree.specs.Tree.{test_tree, with_stmts, stmts_tree}
 use Rattle.prog_tree.specs.declared.stmt.Stmt.{Stmt}
 use Rattle.prog_text.specs.declared.blocks.Body.{Body}
 use Rattle.prog_text.specs.declared.blocks.Open.{Open}
 use Rattle.prog_text.specs.declared.blocks.Open.TheVariants.{First, Second}
+use Rattle.prog_text.specs.declared.cursor.Cursor.{Cursor}
+use Rattle.prog_text.specs.declared.read_error.ReadError.{ReadError}
 use Rattle.prog_text.specs.declared.token.Token.{Token}
-use Rattle.prog_text.specs.Reading.{Reading, ◌>>=◌, behind_first, behind_second, branch_at, more_at, body_at}
+use Rattle.prog_text.specs.Reading.{Reading, ◌>>=◌, Fails, behind_first, behind_second, branch_at, more_at, body_at}
 
 -- statements that were read, in front of what is read of their block
 unfoldable pub in_front : List Stmt → Reading BlockTree → Reading BlockTree
@@ -43,11 +45,29 @@ unread_behind_if stack done ts = outward (reverse stack) (in_front done (branch_
 unfoldable pub unread_from_statement : List Open → List Stmt → List Token → Reading BlockTree
 unread_from_statement stack done ts = outward (reverse stack) (in_front done (more_at body_at ts))
 
--- what is still to be read of a block: nothing where it has ended
-abbrev pub state_of : (ended : Bool) → List Open → List Stmt → List Token → Reading BlockTree
-state_of true stack done ts = Ok (stmts_tree done, ts)
-state_of false stack done ts = unread stack done ts
+-- what is still to be read of a block
+abbrev pub unread_of : Body → Cursor → Reading BlockTree
+unread_of body cursor = unread body.stack.items body.done.items cursor.tokens.now
 
--- what is still to be read of the block that this is
-abbrev pub unread_of : Body → Reading BlockTree
-unread_of body = state_of body.ended body.stack.items body.done.items body.rest.now
+-- the same behind the closing sign of a block that is open in it
+abbrev pub behind_end : Open → Body → Cursor → Reading BlockTree
+behind_end last body cursor = unread_behind_end (body.stack.items ++ last ∷ []) body.done.items cursor.tokens.now
+
+-- the same behind the word `if`
+abbrev pub behind_if : Body → Cursor → Reading BlockTree
+behind_if body cursor = unread_behind_if body.stack.items body.done.items cursor.tokens.now
+
+-- the same where the whole block has ended, and where it hasn't
+abbrev pub state_of : (ended : Bool) → Body → Cursor → Reading BlockTree
+state_of true body cursor = Ok (stmts_tree body.done.items, cursor.tokens.now)
+state_of false body cursor = unread_of body cursor
+
+-- What is still to be read gives what the reading gives, and no more tokens are left, unless memory runs out.
+abbrev pub GoesOn : Reading BlockTree → Result (Unit {0}) ReadError → (body : Body) → (before after : Cursor) → Type 0
+GoesOn read (Ok done) body before after = (unread_of body after ≡ read) × (length after.tokens.now ≤ length before.tokens.now)
+GoesOn read (Err e) body before after = Fails e read
+
+-- The same, with fewer tokens left; `true` where the whole block has ended.
+abbrev pub Steps : Reading BlockTree → Result Bool ReadError → (body : Body) → (before after : Cursor) → Type 0
+Steps read (Ok ended) body before after = (state_of ended body after ≡ read) × (length after.tokens.now < length before.tokens.now)
+Steps read (Err e) body before after = Fails e read

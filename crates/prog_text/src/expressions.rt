@@ -1,10 +1,11 @@
-ghost use Rattle.std.specs.Prelude.{◌≡◌, ◌<◌, length, IfOk};
+ghost use Rattle.std.specs.Prelude.{◌≡◌, IfOk};
 ghost use Rattle.prog_tree.specs.Syntax.{Plus, Minus, Times};
 ghost use Rattle.prog_tree.specs.Tree.{expr_tree};
-ghost use Rattle.prog_text.specs.Reading.{Gives, negative_at, factor_at, product_at, expr_at};
+ghost use Rattle.prog_text.specs.Cursor.{Reads};
+ghost use Rattle.prog_text.specs.Reading.{negative_at, factor_at, product_at, expr_at};
 
+use crate::cursor::Cursor;
 use crate::read_error::{ReadError, unexpected};
-use crate::signs::{after_sign, expect};
 use crate::token::{Sign, Token};
 use prog_tree::{Expr, Name};
 use std::alloc::{AllocError, Global};
@@ -28,44 +29,40 @@ fn minus(alloc: Global, left: Expr, right: Expr) -> Result<Expr, AllocError>
 }
 
 // The number after a minus sign.
-fn negative<'s, 'a>(tokens: &'s [Token<'a>]) -> Result<(Expr, &'s [Token<'a>]), ReadError>
-    ensures reads { Gives (λ x. (expr_tree x.0, x.1.now)) result (negative_at tokens.now) }
-    ensures shorter { IfOk result (λ x. length x.1.now < length tokens.now) }
+fn negative(cursor: &mut Cursor<'_>) -> Result<Expr, ReadError>
+    ensures { Reads expr_tree negative_at result cursor.old cursor.new }
 {
+    let tokens = cursor.tokens;
     let [first, rest @ ..] = tokens else {
         return Err(unexpected(tokens));
     };
+    cursor.tokens = rest;
     match first {
-        Token::Number(number) => Ok((Expr::Literal(number.negated()), rest)),
+        Token::Number(number) => Ok(Expr::Literal(number.negated())),
         _ => Err(unexpected(tokens)),
     }
 }
 
 #[cycle(expr)]
 #[tactic(auto, unfolding(crate::specs::Reading::factor_at))]
-fn factor<'s, 'a>(
-    alloc: Global,
-    tokens: &'s [Token<'a>],
-) -> Result<(Expr, &'s [Token<'a>]), ReadError>
-    ensures reads { Gives (λ x. (expr_tree x.0, x.1.now)) result (factor_at expr_at tokens.now) }
-    ensures shorter { IfOk result (λ x. length x.1.now < length tokens.now) }
+fn factor(cursor: &mut Cursor<'_>) -> Result<Expr, ReadError>
+    ensures { Reads expr_tree (factor_at expr_at) result cursor.old cursor.new }
 {
+    let tokens = cursor.tokens;
     let [first, rest @ ..] = tokens else {
         return Err(unexpected(tokens));
     };
+    cursor.tokens = rest;
     match first {
-        Token::Number(number) => Ok((Expr::Literal(number.literal()), rest)),
-        Token::Sign(Sign::Minus) => negative(rest),
-        Token::Sign(Sign::Least) => Ok((Expr::Literal(i64::MIN), rest)),
-        Token::Sign(Sign::Greatest) => Ok((Expr::Literal(i64::MAX), rest)),
-        Token::Name(word) => {
-            let name = Name::new(alloc, word.as_str())?;
-            Ok((Expr::Name(name), rest))
-        }
+        Token::Number(number) => Ok(Expr::Literal(number.literal())),
+        Token::Sign(Sign::Minus) => negative(cursor),
+        Token::Sign(Sign::Least) => Ok(Expr::Literal(i64::MIN)),
+        Token::Sign(Sign::Greatest) => Ok(Expr::Literal(i64::MAX)),
+        Token::Name(word) => Ok(Expr::Name(Name::new(cursor.alloc, word.as_str())?)),
         Token::Sign(Sign::Open) => {
-            let (inner, rest) = expr(alloc, rest)?;
-            let rest = expect(rest, Sign::Close)?;
-            Ok((inner, rest))
+            let inner = expr(cursor)?;
+            cursor.expect(Sign::Close)?;
+            Ok(inner)
         }
         _ => Err(unexpected(tokens)),
     }
@@ -74,44 +71,33 @@ fn factor<'s, 'a>(
 // Factors with `*` between them.
 #[cycle(expr)]
 #[tactic(auto, unfolding(crate::specs::Reading::product_at, crate::specs::Reading::product_from))]
-fn product<'s, 'a>(
-    alloc: Global,
-    tokens: &'s [Token<'a>],
-) -> Result<(Expr, &'s [Token<'a>]), ReadError>
-    ensures reads { Gives (λ x. (expr_tree x.0, x.1.now)) result (product_at expr_at tokens.now) }
-    ensures shorter { IfOk result (λ x. length x.1.now < length tokens.now) }
+fn product(cursor: &mut Cursor<'_>) -> Result<Expr, ReadError>
+    ensures { Reads expr_tree (product_at expr_at) result cursor.old cursor.new }
 {
-    let (mut left, mut rest) = factor(alloc, tokens)?;
-    while let Some(after) = after_sign(rest, Sign::Times) {
-        let (right, after) = factor(alloc, after)?;
-        left = times(alloc, left, right)?;
-        rest = after;
+    let mut left = factor(cursor)?;
+    while cursor.eat(Sign::Times) {
+        let right = factor(cursor)?;
+        left = times(cursor.alloc, left, right)?;
     }
-    Ok((left, rest))
+    Ok(left)
 }
 
-/// An expression. Each bracket in it is one call deeper; `too_deep` lets `MOST_BRACKETS` through.
+/// An expression. Each bracket in it is one call deeper; `too_deep` lets `MAX_BRACKETS` through.
 #[cycle(expr)]
 #[tactic(auto, unfolding(crate::specs::Reading::sum_at, crate::specs::Reading::sum_from))]
-pub fn expr<'s, 'a>(
-    alloc: Global,
-    tokens: &'s [Token<'a>],
-) -> Result<(Expr, &'s [Token<'a>]), ReadError>
-    ensures reads { Gives (λ x. (expr_tree x.0, x.1.now)) result (expr_at tokens.now) }
-    ensures shorter { IfOk result (λ x. length x.1.now < length tokens.now) }
+pub fn expr(cursor: &mut Cursor<'_>) -> Result<Expr, ReadError>
+    ensures { Reads expr_tree expr_at result cursor.old cursor.new }
 {
-    let (mut left, mut rest) = product(alloc, tokens)?;
+    let mut left = product(cursor)?;
     loop {
-        if let Some(after) = after_sign(rest, Sign::Plus) {
-            let (right, after) = product(alloc, after)?;
-            left = plus(alloc, left, right)?;
-            rest = after;
-        } else if let Some(after) = after_sign(rest, Sign::Minus) {
-            let (right, after) = product(alloc, after)?;
-            left = minus(alloc, left, right)?;
-            rest = after;
+        if cursor.eat(Sign::Plus) {
+            let right = product(cursor)?;
+            left = plus(cursor.alloc, left, right)?;
+        } else if cursor.eat(Sign::Minus) {
+            let right = product(cursor)?;
+            left = minus(cursor.alloc, left, right)?;
         } else {
-            return Ok((left, rest));
+            return Ok(left);
         }
     }
 }

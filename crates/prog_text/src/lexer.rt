@@ -5,7 +5,7 @@ ghost use Rattle.prog_text.specs.declared.lex_error.Flaw.{Flaw};
 ghost use Rattle.prog_text.specs.Lexing.{is_letter, is_digit, is_word_byte, is_space, is_comment_byte, value_within, Gives, piece_at, word_at, number_at, sign_at, tokens_of, Placed};
 
 use crate::lex_error::{Flaw, LexError};
-use crate::limits::MOST_NAME_BYTES;
+use crate::limits::MAX_NAME_BYTES;
 use crate::placed_tokens::PlacedTokens;
 use crate::token::{Magnitude, Sign, Token};
 use crate::words::word_token;
@@ -137,7 +137,7 @@ fn word_piece(bytes: &[u8]) -> Result<Piece<'_>, LexError>
     ensures shorter { IfOk result (λ p. length p.rest.now < length bytes.now) }
 {
     let len = word_len(&bytes[1..]) + 1;
-    if len > MOST_NAME_BYTES {
+    if len > MAX_NAME_BYTES {
         return Err(at(Flaw::NameTooLong, bytes));
     }
     let (word, rest) = bytes.split_at(len);

@@ -3,6 +3,7 @@
 
 mod blocks;
 mod conditions;
+mod cursor;
 mod expressions;
 mod fault;
 mod keys;
@@ -16,7 +17,6 @@ mod printer;
 mod printing;
 mod read_error;
 mod sets;
-mod signs;
 mod statements;
 mod token;
 mod words;

@@ -3,14 +3,17 @@ ghost use Rattle.prog_text.specs.Limits.{bracket_limit, operator_limit, brackets
 
 use crate::token::{Sign, Token};
 
+/// The most bytes of a text.
+pub const MAX_BYTES: usize = 1_048_576;
+
 /// The most brackets that may be open.
-pub const MOST_BRACKETS: usize = 16;
+pub const MAX_BRACKETS: usize = 16;
 
 // The most operators of a statement.
-const MOST_OPERATORS: usize = 32;
+const MAX_OPERATORS: usize = 32;
 
 /// The most bytes of a name.
-pub const MOST_NAME_BYTES: usize = 32;
+pub const MAX_NAME_BYTES: usize = 32;
 
 fn brackets_after(token: &Token<'_>, brackets: usize) -> usize
     requires { brackets ≤ bracket_limit }
@@ -43,7 +46,7 @@ pub fn too_deep(tokens: &[Token<'_>]) -> Option<usize>
     for (index, token) in tokens.iter().enumerate() {
         brackets = brackets_after(token, brackets);
         operators = operators_after(token, operators);
-        if brackets > MOST_BRACKETS || operators > MOST_OPERATORS {
+        if brackets > MAX_BRACKETS || operators > MAX_OPERATORS {
             return Some(index);
         }
     }

@@ -9,14 +9,12 @@ ghost use Rattle.prog_text.specs.Reading.{Unexpected, set_at};
 use crate::fault::TextFault;
 use crate::lex_error::{Flaw, LexError};
 use crate::lexer::tokens;
-use crate::limits::too_deep;
+use crate::limits::{MAX_BYTES, too_deep};
 use crate::placed_tokens::PlacedTokens;
 use crate::read_error::ReadError;
 use crate::sets::set;
 use prog_tree::Draft;
 use std::alloc::Global;
-
-const MOST_BYTES: usize = 1_048_576;
 
 fn flaw_fault(flaw: Flaw, place: usize) -> TextFault
     ensures { (bytes : List ℕ) → IsFlawed bytes flaw place → Refuses bytes result }
@@ -91,8 +89,8 @@ pub fn parse(alloc: Global, text: &[u8]) -> Result<Draft, TextFault>
     // A refusal is the first that applies.
     ensures refused { IfErr result (Refuses text.now) }
 {
-    if text.len() > MOST_BYTES {
-        return Err(TextFault::TooLong { place: MOST_BYTES });
+    if text.len() > MAX_BYTES {
+        return Err(TextFault::TooLong { place: MAX_BYTES });
     }
     let placed = cut(alloc, text)?;
     if let Some(index) = too_deep(placed.tokens()) {

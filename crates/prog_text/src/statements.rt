@@ -1,304 +1,208 @@
 // Statements without blocks.
-ghost use Rattle.std.specs.Prelude.{◌<◌, length, IfOk};
-ghost use Rattle.prog_tree.specs.Tree.{expr_tree, key_tree, range_tree, stmt_tree};
-ghost use Rattle.prog_text.specs.Reading.{Gives, last_expr_at, last_key_at, last_range_at, assigned_at, bind_at, get_at, need_at, count_at, summed_at, bound_at, let_at, lacks_at, put_at, insert_at, delete_at, keep_at, reply_at, abort_at, statement_at, as_plain};
+ghost use Rattle.prog_tree.specs.Tree.{expr_tree};
+ghost use Rattle.prog_text.specs.Cursor.{Reads, ReadsPlain, assigned_tree, keyed_tree, ranged_tree};
+ghost use Rattle.prog_text.specs.Reading.{last_expr_at, last_key_at, last_range_at, assigned_at, get_at, bound_at, let_at, lacks_at, put_at, insert_at, delete_at, keep_at, reply_at, abort_at, statement_at};
 
+use crate::cursor::Cursor;
 use crate::expressions::expr;
-use crate::keys::{key, range};
+use crate::keys::{Keyed, Ranged, key, range};
 use crate::read_error::{ReadError, unexpected};
-use crate::signs::{expect, name};
 use crate::token::{Sign, Token};
-use prog_tree::{Expr, Key, Name, Range, Stmt};
-use std::alloc::Global;
+use prog_tree::{Expr, Key, Name, Stmt};
+
+/// A row and its new value.
+#[derive(Drop)]
+pub struct Assigned {
+    pub table: Name,
+    pub key: Key,
+    pub value: Expr,
+}
 
 // An expression and `;`.
 #[tactic(auto, unfolding(crate::specs::Reading::last_expr_at))]
-fn last_expr<'s, 'a>(
-    alloc: Global,
-    tokens: &'s [Token<'a>],
-) -> Result<(Expr, &'s [Token<'a>]), ReadError>
-    ensures reads { Gives (λ x. (expr_tree x.0, x.1.now)) result (last_expr_at tokens.now) }
-    ensures shorter { IfOk result (λ x. length x.1.now < length tokens.now) }
+fn last_expr(cursor: &mut Cursor<'_>) -> Result<Expr, ReadError>
+    ensures { Reads expr_tree last_expr_at result cursor.old cursor.new }
 {
-    let (value, rest) = expr(alloc, tokens)?;
-    let rest = expect(rest, Sign::Semicolon)?;
-    Ok((value, rest))
+    let value = expr(cursor)?;
+    cursor.expect(Sign::Semicolon)?;
+    Ok(value)
 }
 
 // A key and `;`.
 #[tactic(auto, unfolding(crate::specs::Reading::last_key_at))]
-fn last_key<'s, 'a>(
-    alloc: Global,
-    tokens: &'s [Token<'a>],
-) -> Result<(Name, Key, &'s [Token<'a>]), ReadError>
-    ensures reads { Gives (λ x. ((x.0, key_tree x.1), x.2.now)) result (last_key_at tokens.now) }
-    ensures shorter { IfOk result (λ x. length x.2.now < length tokens.now) }
+fn last_key(cursor: &mut Cursor<'_>) -> Result<Keyed, ReadError>
+    ensures { Reads keyed_tree last_key_at result cursor.old cursor.new }
 {
-    let (table, key, rest) = key(alloc, tokens)?;
-    let rest = expect(rest, Sign::Semicolon)?;
-    Ok((table, key, rest))
+    let keyed = key(cursor)?;
+    cursor.expect(Sign::Semicolon)?;
+    Ok(keyed)
 }
 
 // A range and `;`.
 #[tactic(auto, unfolding(crate::specs::Reading::last_range_at))]
-fn last_range<'s, 'a>(
-    alloc: Global,
-    tokens: &'s [Token<'a>],
-) -> Result<(Name, Range, &'s [Token<'a>]), ReadError>
-    ensures reads { Gives (λ x. ((x.0, range_tree x.1), x.2.now)) result
-        (last_range_at tokens.now) }
-    ensures shorter { IfOk result (λ x. length x.2.now < length tokens.now) }
+fn last_range(cursor: &mut Cursor<'_>) -> Result<Ranged, ReadError>
+    ensures { Reads ranged_tree last_range_at result cursor.old cursor.new }
 {
-    let (table, range, rest) = range(alloc, tokens)?;
-    let rest = expect(rest, Sign::Semicolon)?;
-    Ok((table, range, rest))
+    let ranged = range(cursor)?;
+    cursor.expect(Sign::Semicolon)?;
+    Ok(ranged)
 }
 
 // A key, `=`, an expression and `;`.
 #[tactic(auto, unfolding(crate::specs::Reading::assigned_at))]
-fn assigned<'s, 'a>(
-    alloc: Global,
-    tokens: &'s [Token<'a>],
-) -> Result<(Name, Key, Expr, &'s [Token<'a>]), ReadError>
-    ensures reads { Gives (λ x. (((x.0, key_tree x.1), expr_tree x.2), x.3.now)) result
-        (assigned_at tokens.now) }
-    ensures shorter { IfOk result (λ x. length x.3.now < length tokens.now) }
+fn assignment(cursor: &mut Cursor<'_>) -> Result<Assigned, ReadError>
+    ensures { Reads assigned_tree assigned_at result cursor.old cursor.new }
 {
-    let (table, key, rest) = key(alloc, tokens)?;
-    let rest = expect(rest, Sign::Equals)?;
-    let (value, rest) = last_expr(alloc, rest)?;
-    Ok((table, key, value, rest))
-}
-
-// Behind `let NAME =`.
-#[tactic(auto, unfolding(crate::specs::Reading::bind_at))]
-fn bind<'s, 'a>(
-    alloc: Global,
-    name: Name,
-    tokens: &'s [Token<'a>],
-) -> Result<(Stmt, &'s [Token<'a>]), ReadError>
-    ensures reads { Gives (λ x. (stmt_tree x.0, x.1.now)) result
-        (as_plain (bind_at name tokens.now)) }
-    ensures shorter { IfOk result (λ x. length x.1.now < length tokens.now) }
-{
-    let (value, rest) = last_expr(alloc, tokens)?;
-    Ok((Stmt::Bind { name, value }, rest))
+    let Keyed { table, key } = key(cursor)?;
+    cursor.expect(Sign::Equals)?;
+    let value = last_expr(cursor)?;
+    Ok(Assigned { table, key, value })
 }
 
 // Behind `let NAME = get`.
 #[tactic(auto, unfolding(crate::specs::Reading::get_at))]
-fn get<'s, 'a>(
-    alloc: Global,
-    name: Name,
-    tokens: &'s [Token<'a>],
-) -> Result<(Stmt, &'s [Token<'a>]), ReadError>
-    ensures reads { Gives (λ x. (stmt_tree x.0, x.1.now)) result
-        (as_plain (get_at name tokens.now)) }
-    ensures shorter { IfOk result (λ x. length x.1.now < length tokens.now) }
+fn get(cursor: &mut Cursor<'_>, name: Name) -> Result<Stmt, ReadError>
+    ensures { ReadsPlain (get_at name) result cursor.old cursor.new }
 {
-    let (table, key, rest) = key(alloc, tokens)?;
-    let rest = expect(rest, Sign::Else)?;
-    let (otherwise, rest) = last_expr(alloc, rest)?;
-    let stmt = Stmt::Get {
+    let Keyed { table, key } = key(cursor)?;
+    cursor.expect(Sign::Else)?;
+    let otherwise = last_expr(cursor)?;
+    Ok(Stmt::Get {
         name,
         table,
         key,
         otherwise,
-    };
-    Ok((stmt, rest))
+    })
 }
 
-// Behind `let NAME = need`.
-#[tactic(auto, unfolding(crate::specs::Reading::need_at))]
-fn need<'s, 'a>(
-    alloc: Global,
-    name: Name,
-    tokens: &'s [Token<'a>],
-) -> Result<(Stmt, &'s [Token<'a>]), ReadError>
-    ensures reads { Gives (λ x. (stmt_tree x.0, x.1.now)) result
-        (as_plain (need_at name tokens.now)) }
-    ensures shorter { IfOk result (λ x. length x.1.now < length tokens.now) }
+// Behind `let NAME =`, by the first token.
+#[tactic(auto, unfolding(crate::specs::Reading::bound_at, crate::specs::Reading::bind_at, crate::specs::Reading::need_at, crate::specs::Reading::count_at, crate::specs::Reading::summed_at))]
+fn bound(cursor: &mut Cursor<'_>, name: Name) -> Result<Stmt, ReadError>
+    ensures { ReadsPlain (bound_at name) result cursor.old cursor.new }
 {
-    let (table, key, rest) = last_key(alloc, tokens)?;
-    Ok((Stmt::Need { name, table, key }, rest))
-}
-
-// Behind `let NAME = count`.
-#[tactic(auto, unfolding(crate::specs::Reading::count_at))]
-fn count<'s, 'a>(
-    alloc: Global,
-    name: Name,
-    tokens: &'s [Token<'a>],
-) -> Result<(Stmt, &'s [Token<'a>]), ReadError>
-    ensures reads { Gives (λ x. (stmt_tree x.0, x.1.now)) result
-        (as_plain (count_at name tokens.now)) }
-    ensures shorter { IfOk result (λ x. length x.1.now < length tokens.now) }
-{
-    let (table, range, rest) = last_range(alloc, tokens)?;
-    Ok((Stmt::Count { name, table, range }, rest))
-}
-
-// Behind `let NAME = sum`.
-#[tactic(auto, unfolding(crate::specs::Reading::summed_at))]
-fn summed<'s, 'a>(
-    alloc: Global,
-    name: Name,
-    tokens: &'s [Token<'a>],
-) -> Result<(Stmt, &'s [Token<'a>]), ReadError>
-    ensures reads { Gives (λ x. (stmt_tree x.0, x.1.now)) result
-        (as_plain (summed_at name tokens.now)) }
-    ensures shorter { IfOk result (λ x. length x.1.now < length tokens.now) }
-{
-    let (table, range, rest) = last_range(alloc, tokens)?;
-    Ok((Stmt::Sum { name, table, range }, rest))
-}
-
-// Behind `let NAME =`: one of these, by its first token.
-#[tactic(auto, unfolding(crate::specs::Reading::bound_at))]
-fn bound<'s, 'a>(
-    alloc: Global,
-    name: Name,
-    tokens: &'s [Token<'a>],
-) -> Result<(Stmt, &'s [Token<'a>]), ReadError>
-    ensures reads { Gives (λ x. (stmt_tree x.0, x.1.now)) result
-        (as_plain (bound_at name tokens.now)) }
-    ensures shorter { IfOk result (λ x. length x.1.now < length tokens.now) }
-{
-    let [first, rest @ ..] = tokens else {
-        return bind(alloc, name, tokens);
+    let [first, rest @ ..] = cursor.tokens else {
+        let value = last_expr(cursor)?;
+        return Ok(Stmt::Bind { name, value });
     };
     match first {
-        Token::Sign(Sign::Get) => get(alloc, name, rest),
-        Token::Sign(Sign::Need) => need(alloc, name, rest),
-        Token::Sign(Sign::Count) => count(alloc, name, rest),
-        Token::Sign(Sign::Sum) => summed(alloc, name, rest),
-        _ => bind(alloc, name, tokens),
+        Token::Sign(Sign::Get) => {
+            cursor.tokens = rest;
+            get(cursor, name)
+        }
+        Token::Sign(Sign::Need) => {
+            cursor.tokens = rest;
+            let Keyed { table, key } = last_key(cursor)?;
+            Ok(Stmt::Need { name, table, key })
+        }
+        Token::Sign(Sign::Count) => {
+            cursor.tokens = rest;
+            let Ranged { table, range } = last_range(cursor)?;
+            Ok(Stmt::Count { name, table, range })
+        }
+        Token::Sign(Sign::Sum) => {
+            cursor.tokens = rest;
+            let Ranged { table, range } = last_range(cursor)?;
+            Ok(Stmt::Sum { name, table, range })
+        }
+        _ => {
+            let value = last_expr(cursor)?;
+            Ok(Stmt::Bind { name, value })
+        }
     }
 }
 
 // Behind the word `let`.
 #[tactic(auto, unfolding(crate::specs::Reading::let_at))]
-fn let_binding<'s, 'a>(
-    alloc: Global,
-    tokens: &'s [Token<'a>],
-) -> Result<(Stmt, &'s [Token<'a>]), ReadError>
-    ensures reads { Gives (λ x. (stmt_tree x.0, x.1.now)) result (as_plain (let_at tokens.now)) }
-    ensures shorter { IfOk result (λ x. length x.1.now < length tokens.now) }
+fn let_binding(cursor: &mut Cursor<'_>) -> Result<Stmt, ReadError>
+    ensures { ReadsPlain let_at result cursor.old cursor.new }
 {
-    let (name, rest) = name(alloc, tokens)?;
-    let rest = expect(rest, Sign::Equals)?;
-    bound(alloc, name, rest)
+    let name = cursor.name()?;
+    cursor.expect(Sign::Equals)?;
+    bound(cursor, name)
 }
 
 // Behind the word `lacks`.
 #[tactic(auto, unfolding(crate::specs::Reading::lacks_at))]
-fn lacks<'s, 'a>(
-    alloc: Global,
-    tokens: &'s [Token<'a>],
-) -> Result<(Stmt, &'s [Token<'a>]), ReadError>
-    ensures reads { Gives (λ x. (stmt_tree x.0, x.1.now)) result (as_plain (lacks_at tokens.now)) }
-    ensures shorter { IfOk result (λ x. length x.1.now < length tokens.now) }
+fn lacks(cursor: &mut Cursor<'_>) -> Result<Stmt, ReadError>
+    ensures { ReadsPlain lacks_at result cursor.old cursor.new }
 {
-    let (table, key, rest) = last_key(alloc, tokens)?;
-    Ok((Stmt::Lacks { table, key }, rest))
-}
-
-// Behind the word `delete`.
-#[tactic(auto, unfolding(crate::specs::Reading::delete_at))]
-fn delete<'s, 'a>(
-    alloc: Global,
-    tokens: &'s [Token<'a>],
-) -> Result<(Stmt, &'s [Token<'a>]), ReadError>
-    ensures reads { Gives (λ x. (stmt_tree x.0, x.1.now)) result
-        (as_plain (delete_at tokens.now)) }
-    ensures shorter { IfOk result (λ x. length x.1.now < length tokens.now) }
-{
-    let (table, key, rest) = last_key(alloc, tokens)?;
-    Ok((Stmt::Delete { table, key }, rest))
-}
-
-// Behind the word `keep`.
-#[tactic(auto, unfolding(crate::specs::Reading::keep_at))]
-fn keep<'s, 'a>(
-    alloc: Global,
-    tokens: &'s [Token<'a>],
-) -> Result<(Stmt, &'s [Token<'a>]), ReadError>
-    ensures reads { Gives (λ x. (stmt_tree x.0, x.1.now)) result (as_plain (keep_at tokens.now)) }
-    ensures shorter { IfOk result (λ x. length x.1.now < length tokens.now) }
-{
-    let (table, key, rest) = last_key(alloc, tokens)?;
-    Ok((Stmt::Keep { table, key }, rest))
+    let Keyed { table, key } = last_key(cursor)?;
+    Ok(Stmt::Lacks { table, key })
 }
 
 // Behind the word `put`.
 #[tactic(auto, unfolding(crate::specs::Reading::put_at))]
-fn put<'s, 'a>(alloc: Global, tokens: &'s [Token<'a>]) -> Result<(Stmt, &'s [Token<'a>]), ReadError>
-    ensures reads { Gives (λ x. (stmt_tree x.0, x.1.now)) result (as_plain (put_at tokens.now)) }
-    ensures shorter { IfOk result (λ x. length x.1.now < length tokens.now) }
+fn put(cursor: &mut Cursor<'_>) -> Result<Stmt, ReadError>
+    ensures { ReadsPlain put_at result cursor.old cursor.new }
 {
-    let (table, key, value, rest) = assigned(alloc, tokens)?;
-    Ok((Stmt::Put { table, key, value }, rest))
+    let Assigned { table, key, value } = assignment(cursor)?;
+    Ok(Stmt::Put { table, key, value })
 }
 
 // Behind the word `insert`.
 #[tactic(auto, unfolding(crate::specs::Reading::insert_at))]
-fn insert<'s, 'a>(
-    alloc: Global,
-    tokens: &'s [Token<'a>],
-) -> Result<(Stmt, &'s [Token<'a>]), ReadError>
-    ensures reads { Gives (λ x. (stmt_tree x.0, x.1.now)) result
-        (as_plain (insert_at tokens.now)) }
-    ensures shorter { IfOk result (λ x. length x.1.now < length tokens.now) }
+fn insert(cursor: &mut Cursor<'_>) -> Result<Stmt, ReadError>
+    ensures { ReadsPlain insert_at result cursor.old cursor.new }
 {
-    let (table, key, value, rest) = assigned(alloc, tokens)?;
-    Ok((Stmt::Insert { table, key, value }, rest))
+    let Assigned { table, key, value } = assignment(cursor)?;
+    Ok(Stmt::Insert { table, key, value })
+}
+
+// Behind the word `delete`.
+#[tactic(auto, unfolding(crate::specs::Reading::delete_at))]
+fn delete(cursor: &mut Cursor<'_>) -> Result<Stmt, ReadError>
+    ensures { ReadsPlain delete_at result cursor.old cursor.new }
+{
+    let Keyed { table, key } = last_key(cursor)?;
+    Ok(Stmt::Delete { table, key })
+}
+
+// Behind the word `keep`.
+#[tactic(auto, unfolding(crate::specs::Reading::keep_at))]
+fn keep(cursor: &mut Cursor<'_>) -> Result<Stmt, ReadError>
+    ensures { ReadsPlain keep_at result cursor.old cursor.new }
+{
+    let Keyed { table, key } = last_key(cursor)?;
+    Ok(Stmt::Keep { table, key })
 }
 
 // Behind the word `reply`.
 #[tactic(auto, unfolding(crate::specs::Reading::reply_at))]
-fn reply<'s, 'a>(
-    alloc: Global,
-    tokens: &'s [Token<'a>],
-) -> Result<(Stmt, &'s [Token<'a>]), ReadError>
-    ensures reads { Gives (λ x. (stmt_tree x.0, x.1.now)) result (as_plain (reply_at tokens.now)) }
-    ensures shorter { IfOk result (λ x. length x.1.now < length tokens.now) }
+fn reply(cursor: &mut Cursor<'_>) -> Result<Stmt, ReadError>
+    ensures { ReadsPlain reply_at result cursor.old cursor.new }
 {
-    let (value, rest) = last_expr(alloc, tokens)?;
-    Ok((Stmt::Reply { value }, rest))
+    let value = last_expr(cursor)?;
+    Ok(Stmt::Reply { value })
 }
 
 // Behind the word `abort`.
 #[tactic(auto, unfolding(crate::specs::Reading::abort_at))]
-fn abort<'s, 'a>(tokens: &'s [Token<'a>]) -> Result<(Stmt, &'s [Token<'a>]), ReadError>
-    ensures reads { Gives (λ x. (stmt_tree x.0, x.1.now)) result (as_plain (abort_at tokens.now)) }
-    ensures shorter { IfOk result (λ x. length x.1.now < length tokens.now) }
+fn abort(cursor: &mut Cursor<'_>) -> Result<Stmt, ReadError>
+    ensures { ReadsPlain abort_at result cursor.old cursor.new }
 {
-    let rest = expect(tokens, Sign::Semicolon)?;
-    Ok((Stmt::Abort, rest))
+    cursor.expect(Sign::Semicolon)?;
+    Ok(Stmt::Abort)
 }
 
 /// A statement without blocks.
 #[tactic(auto, unfolding(crate::specs::Reading::statement_at))]
-pub fn statement<'s, 'a>(
-    alloc: Global,
-    tokens: &'s [Token<'a>],
-) -> Result<(Stmt, &'s [Token<'a>]), ReadError>
-    ensures reads { Gives (λ x. (stmt_tree x.0, x.1.now)) result
-        (as_plain (statement_at tokens.now)) }
-    ensures shorter { IfOk result (λ x. length x.1.now < length tokens.now) }
+pub fn statement(cursor: &mut Cursor<'_>) -> Result<Stmt, ReadError>
+    ensures { ReadsPlain statement_at result cursor.old cursor.new }
 {
+    let tokens = cursor.tokens;
     let [first, rest @ ..] = tokens else {
         return Err(unexpected(tokens));
     };
+    cursor.tokens = rest;
     match first {
-        Token::Sign(Sign::Let) => let_binding(alloc, rest),
-        Token::Sign(Sign::Lacks) => lacks(alloc, rest),
-        Token::Sign(Sign::Put) => put(alloc, rest),
-        Token::Sign(Sign::Insert) => insert(alloc, rest),
-        Token::Sign(Sign::Delete) => delete(alloc, rest),
-        Token::Sign(Sign::Keep) => keep(alloc, rest),
-        Token::Sign(Sign::Reply) => reply(alloc, rest),
-        Token::Sign(Sign::Abort) => abort(rest),
+        Token::Sign(Sign::Let) => let_binding(cursor),
+        Token::Sign(Sign::Lacks) => lacks(cursor),
+        Token::Sign(Sign::Put) => put(cursor),
+        Token::Sign(Sign::Insert) => insert(cursor),
+        Token::Sign(Sign::Delete) => delete(cursor),
+        Token::Sign(Sign::Keep) => keep(cursor),
+        Token::Sign(Sign::Reply) => reply(cursor),
+        Token::Sign(Sign::Abort) => abort(cursor),
         _ => Err(unexpected(tokens)),
     }
 }

@@ -4,33 +4,33 @@ use Rattle.prog_text.specs.Reading.{product_from, product_at, sum_from, expr_at}
 use Rattle.prog_text.proofs.expressions.+expr.Given as goal
 
 abbrev pub decreases-expr : goal.decreases-expr
-decreases-expr l = 3 * length l.tokens.now + 2
+decreases-expr l = 3 * length l.cursor.now.tokens.now + 2
 
 abbrev pub decreases-product : goal.decreases-product
-decreases-product l = 3 * length l.tokens.now + 1
+decreases-product l = 3 * length l.cursor.now.tokens.now + 1
 
 abbrev pub decreases-factor : goal.decreases-factor
-decreases-factor l = 3 * length l.tokens.now
+decreases-factor l = 3 * length l.cursor.now.tokens.now
 
 -- reading on from here gives what reading the whole gives
-abbrev pub invariant-expr-loop-after : goal.invariant-expr-loop-after
-invariant-expr-loop-after l = record {
+abbrev pub invariant-expr-loop-cursor : goal.invariant-expr-loop-cursor
+invariant-expr-loop-cursor l = record {
   n : ℕ;
-  enough : length l.rest ≤ n;
-  shorter : length l.rest < length l.tokens;
-  same : sum_from expr_at n (expr_tree l.left) l.rest ≡ expr_at l.tokens;
+  enough : length l.cursor.tokens.now ≤ n;
+  shorter : length l.cursor.tokens.now < length l.fn.cursor.tokens.now;
+  same : sum_from expr_at n (expr_tree l.left) l.cursor.tokens.now ≡ expr_at l.fn.cursor.tokens.now;
 }
 
-abbrev pub decreases-expr-loop-after : goal.decreases-expr-loop-after
-decreases-expr-loop-after l = length l.rest
+abbrev pub decreases-expr-loop-cursor : goal.decreases-expr-loop-cursor
+decreases-expr-loop-cursor l = length l.cursor.tokens.now
 
-abbrev pub invariant-product-loop-after : goal.invariant-product-loop-after
-invariant-product-loop-after l = record {
+abbrev pub invariant-product-loop-cursor : goal.invariant-product-loop-cursor
+invariant-product-loop-cursor l = record {
   n : ℕ;
-  enough : length l.rest ≤ n;
-  shorter : length l.rest < length l.tokens;
-  same : product_from expr_at n (expr_tree l.left) l.rest ≡ product_at expr_at l.tokens;
+  enough : length l.cursor.tokens.now ≤ n;
+  shorter : length l.cursor.tokens.now < length l.fn.cursor.tokens.now;
+  same : product_from expr_at n (expr_tree l.left) l.cursor.tokens.now ≡ product_at expr_at l.fn.cursor.tokens.now;
 }
 
-abbrev pub decreases-product-loop-after : goal.decreases-product-loop-after
-decreases-product-loop-after l = length l.rest
+abbrev pub decreases-product-loop-cursor : goal.decreases-product-loop-cursor
+decreases-product-loop-cursor l = length l.cursor.tokens.now

@@ -4,13 +4,13 @@ use Rattle.prog_text.proofs.sets.names.Given as goal
 use Rattle.prog_text.specs.declared.token.Sign.TheVariants as sign
 
 -- reading on from here gives what reading the whole gives
-abbrev pub invariant-loop-after : goal.invariant-loop-after
-invariant-loop-after l = record {
+abbrev pub invariant-loop-names : goal.invariant-loop-names
+invariant-loop-names l = record {
   n : ℕ;
-  enough : length l.rest ≤ n;
-  shorter : length l.rest < length l.tokens;
-  same : many_from (after_sign sign.Comma) name_at n l.names.items l.rest ≡ names_at l.tokens;
+  enough : length l.cursor.tokens.now ≤ n;
+  shorter : length l.cursor.tokens.now < length l.fn.cursor.tokens.now;
+  same : many_from (after_sign sign.Comma) name_at n l.names.items l.cursor.tokens.now ≡ names_at l.fn.cursor.tokens.now;
 }
 
-abbrev pub decreases-loop-after : goal.decreases-loop-after
-decreases-loop-after l = length l.rest
+abbrev pub decreases-loop-names : goal.decreases-loop-names
+decreases-loop-names l = length l.cursor.tokens.now

@@ -4,12 +4,12 @@ use Rattle.prog_text.proofs.sets.read_tables.Given as goal
 use Rattle.prog_text.specs.declared.token.Sign.TheVariants as sign
 
 -- reading on from here gives what reading the whole gives
-abbrev pub invariant-loop-rest : goal.invariant-loop-rest
-invariant-loop-rest l = record {
+abbrev pub invariant-loop-tables : goal.invariant-loop-tables
+invariant-loop-tables l = record {
   n : ℕ;
-  enough : length l.tables.rest.now ≤ n;
-  same : many_from (after_sign sign.Table) table_at n l.tables.done.items l.tables.rest.now ≡ tables_at l.tokens;
+  enough : length l.cursor.tokens.now ≤ n;
+  same : many_from (after_sign sign.Table) table_at n l.tables.items l.cursor.tokens.now ≡ tables_at l.fn.cursor.tokens.now;
 }
 
-abbrev pub decreases-loop-rest : goal.decreases-loop-rest
-decreases-loop-rest l = length l.tables.rest.now
+abbrev pub decreases-loop-tables : goal.decreases-loop-tables
+decreases-loop-tables l = length l.cursor.tokens.now
