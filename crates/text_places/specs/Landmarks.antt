@@ -1,5 +1,5 @@
 -- Where the tables, programs and statements of a set's text begin, and the records of a list.
-use Rattle.std.specs.Prelude.{ℕ, zero, suc, ◌≡◌, ◌+◌, ◌-◌, ◌==◌, Bool, true, false, not, ◌&&◌, ◌||◌, List, [], ◌∷◌, codes, bytes_eq, drop, length, nat_le, take, if◌then◌else◌}
+use Rattle.std.specs.Prelude.{ℕ, zero, suc, ◌≡◌, ◌≤◌, ◌+◌, ◌-◌, ◌==◌, Bool, true, false, not, ◌&&◌, ◌||◌, List, [], ◌∷◌, codes, bytes_eq, drop, length, nat_le, take, if◌then◌else◌}
 use Rattle.std.specs.List.{list_all, prefix_len, suffix_len}
 use Rattle.text_places.specs.Places.{is_feed}
 use Rattle.text_places.specs.declared.landmark.Landmark.{Landmark}
@@ -76,16 +76,35 @@ pub record IsNumbered (kind : Landmark) (text : List ℕ) (start : ℕ) (number 
   pub begins : is_landmark kind text place ≡ true
   pub numbered : landmarks_before kind text place ≡ landmarks_before kind text start + number
 
+-- too few of a kind begin from the start on for one of this number
+abbrev pub HasFewer : Landmark → (text : List ℕ) → (start : ℕ) → (number : ℕ) → Type 0
+HasFewer kind text start number = landmarks_before kind text (length text) ≤ landmarks_before kind text start + number
+
 abbrev pub IsTablePlace : (text : List ℕ) → (table : ℕ) → (place : ℕ) → Type 0
 IsTablePlace text table place = IsNumbered Table (without_comments text) 0 table place
 
+abbrev pub HasNoTable : (text : List ℕ) → (table : ℕ) → Type 0
+HasNoTable text table = HasFewer Table (without_comments text) 0 table
+
 abbrev pub IsProgramPlace : (text : List ℕ) → (program : ℕ) → (place : ℕ) → Type 0
 IsProgramPlace text program place = IsNumbered Program (without_comments text) 0 program place
+
+abbrev pub HasNoProgram : (text : List ℕ) → (program : ℕ) → Type 0
+HasNoProgram text program = HasFewer Program (without_comments text) 0 program
 
 -- statements are counted from where their program begins
 abbrev pub IsStatementPlace : (text : List ℕ) → (program statement : ℕ) → (place : ℕ) → Type 0
 IsStatementPlace text program statement place =
     (start : ℕ) × IsProgramPlace text program start × IsNumbered Statement (without_comments text) start statement place
 
+-- there is no such program, or too few statements begin behind its beginning
+pub data HasNoStatement (text : List ℕ) (program statement : ℕ) : Type 0 where
+  NoProgram : HasNoProgram text program → HasNoStatement text program statement
+  FewBehind : (start : ℕ) → IsProgramPlace text program start → HasFewer Statement (without_comments text) start statement
+      → HasNoStatement text program statement
+
 abbrev pub IsRecordPlace : (list : List ℕ) → (number : ℕ) → (place : ℕ) → Type 0
 IsRecordPlace list number place = IsNumbered Record list 0 number place
+
+abbrev pub HasNoRecord : (list : List ℕ) → (number : ℕ) → Type 0
+HasNoRecord list number = HasFewer Record list 0 number

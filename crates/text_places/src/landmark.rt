@@ -1,8 +1,8 @@
 //! Where the tables, programs and statements of a set's text begin, and the records of a list. A statement's first word
 //! stands nowhere else.
-ghost use Rattle.std.specs.Prelude.{◌≡◌, ◌≤◌, ◌+◌, length, take, IfOk, IfSome};
+ghost use Rattle.std.specs.Prelude.{◌≡◌, ◌<◌, ◌≤◌, ◌+◌, length, take, IfNone, IfOk, IfSome};
 ghost use Rattle.std.specs.List.{prefix_len, suffix_len};
-ghost use Rattle.text_places.specs.Landmarks.{begins_here, begins_line, begins_statement, ends_line, first_word, is_in_comment, is_landmark, is_sign_of, is_space, is_word_byte, landmarks_before, stands_free, without_comments, IsNumbered, IsProgramPlace, IsRecordPlace, IsStatementPlace, IsTablePlace};
+ghost use Rattle.text_places.specs.Landmarks.{begins_here, begins_line, begins_statement, ends_line, first_word, is_in_comment, is_landmark, is_sign_of, is_space, is_word_byte, landmarks_before, stands_free, without_comments, HasFewer, HasNoProgram, HasNoRecord, HasNoStatement, HasNoTable, IsNumbered, IsProgramPlace, IsRecordPlace, IsStatementPlace, IsTablePlace};
 
 use crate::place::{before, behind, is_feed};
 use std::alloc::{AllocError, Global};
@@ -144,7 +144,10 @@ fn is_landmark(kind: Landmark, text: &[u8], place: usize) -> bool
 
 // Where the one of this number begins, counted from a place on.
 fn numbered(kind: Landmark, text: &[u8], start: usize, number: usize) -> Option<usize>
-    ensures { IfSome result (IsNumbered kind text.now start number) }
+    requires { start ≤ length text.now }
+    ensures found { IfSome result (IsNumbered kind text.now start number) }
+    ensures within { IfSome result (λ place. place < length text.now) }
+    ensures none { IfNone result (HasFewer kind text.now start number) }
 {
     let mut left = number;
     for place in start..text.len() {
@@ -166,8 +169,10 @@ fn place_in_text(
     text: &[u8],
     number: usize,
 ) -> Result<Option<usize>, AllocError>
-    ensures { IfOk result (λ place. IfSome place
+    ensures found { IfOk result (λ place. IfSome place
         (IsNumbered kind (without_comments text.now) 0 number)) }
+    ensures none { IfOk result (λ place. IfNone place
+        (HasFewer kind (without_comments text.now) 0 number)) }
 {
     let blanked = without_comments(alloc, text)?;
     Ok(numbered(kind, &blanked, 0, number))
@@ -175,7 +180,8 @@ fn place_in_text(
 
 /// Where a table is declared.
 pub fn table_place(alloc: Global, text: &[u8], table: usize) -> Result<Option<usize>, AllocError>
-    ensures { IfOk result (λ place. IfSome place (IsTablePlace text.now table)) }
+    ensures found { IfOk result (λ place. IfSome place (IsTablePlace text.now table)) }
+    ensures none { IfOk result (λ place. IfNone place (HasNoTable text.now table)) }
 {
     place_in_text(alloc, Landmark::Table, text, table)
 }
@@ -186,7 +192,8 @@ pub fn program_place(
     text: &[u8],
     program: usize,
 ) -> Result<Option<usize>, AllocError>
-    ensures { IfOk result (λ place. IfSome place (IsProgramPlace text.now program)) }
+    ensures found { IfOk result (λ place. IfSome place (IsProgramPlace text.now program)) }
+    ensures none { IfOk result (λ place. IfNone place (HasNoProgram text.now program)) }
 {
     place_in_text(alloc, Landmark::Program, text, program)
 }
@@ -198,7 +205,10 @@ pub fn statement_place(
     program: usize,
     statement: usize,
 ) -> Result<Option<usize>, AllocError>
-    ensures { IfOk result (λ place. IfSome place (IsStatementPlace text.now program statement)) }
+    ensures found { IfOk result (λ place. IfSome place
+        (IsStatementPlace text.now program statement)) }
+    ensures none { IfOk result (λ place. IfNone place
+        (HasNoStatement text.now program statement)) }
 {
     let blanked = without_comments(alloc, text)?;
     let Some(start) = numbered(Landmark::Program, &blanked, 0, program) else {
@@ -209,7 +219,8 @@ pub fn statement_place(
 
 /// Where a record of a list begins.
 pub fn record_place(list: &[u8], number: usize) -> Option<usize>
-    ensures { IfSome result (IsRecordPlace list.now number) }
+    ensures found { IfSome result (IsRecordPlace list.now number) }
+    ensures none { IfNone result (HasNoRecord list.now number) }
 {
     numbered(Landmark::Record, list, 0, number)
 }
