@@ -31,6 +31,7 @@ pub mod RiseLaws
 pub mod RunsInOrder
 pub mod SerialBooks
 pub mod SerialLaws
+pub mod SightPairs
 pub mod StateLaws
 pub mod TestLaws
 pub mod TraceLaws

@@ -8,6 +8,10 @@ or_assoc : (a b c : Bool) → ((a || b) || c) ≡ (a || (b || c))
 or_assoc true b c = refl
 or_assoc false b c = refl
 
+or_again : (a b : Bool) → (a || b) ≡ (a || (a || b))
+or_again true b = refl
+or_again false b = refl
+
 pub or_false : (a : Bool) → (a || false) ≡ a
 or_false true = refl
 or_false false = refl
@@ -41,6 +45,16 @@ walk_on left ps rest all old now next is walk adds = record {
       ∙ ap (λ (qs : Pairs). precedes now i j || is_pair_among qs i j) (sym is)
       ∙ walk.towards i j;
   commits = adds.commits ∙ walk.commits;
+}
+
+-- pairs that stand among those that are left behind them need not be added
+pub walk_skips : (ps rest all : Pairs) (old now : List (List ℕ)) → Walk (ps ++ (ps ++ rest)) all old now → Walk (ps ++ rest) all old now
+walk_skips ps rest all old now walk = record {
+  towards = λ i j.
+      ap (λ b. precedes now i j || b)
+      (among-append ps rest i j ∙ or_again (is_pair_among ps i j) (is_pair_among rest i j) ∙ ap (λ b. is_pair_among ps i j || b) (sym (among-append ps rest i j)) ∙ sym (among-append ps (ps ++ rest) i j))
+      ∙ walk.towards i j;
+  commits = walk.commits;
 }
 
 -- one pair was added

@@ -1,6 +1,6 @@
 //! Which commits have to stand before which, in few pairs.
 
-ghost use Rattle.std.specs.Prelude.{◌≡◌, length, IfOk, OnOk, IfSome};
+ghost use Rattle.std.specs.Prelude.{◌≡◌, ◌↔◌, length, slice_get, Some, IfOk, IsTrue, OnOk, IfSome};
 ghost use Rattle.history_book.specs.Orders.{IsReduced, IsUpTo};
 ghost use Rattle.history_book.specs.Traces.{trace_depends, takes_in, SeesEarlier};
 ghost use Rattle.history_book.specs.Reduced.{Adds, RiseFrom, AreWithin, AllRiseWithin, numbers_at};
@@ -186,7 +186,17 @@ fn add_sight(
     Ok(())
 }
 
-// Adds what the looks of a commit say of it.
+// Whether the first of some sights is this one.
+fn begins_with(sights: &[Sight], sight: &Sight) -> bool
+    ensures { IsTrue result ↔ (slice_get sights.now 0 ≡ Some sight.now) }
+{
+    match sights.first() {
+        Some(first) => first.is_same(sight),
+        None => false,
+    }
+}
+
+// Adds what the looks of a commit say of it. A look that is at once repeated says nothing more.
 fn add_sights(
     precedence: &mut Precedence,
     reader: usize,
@@ -199,8 +209,10 @@ fn add_sights(
     ensures { OnOk result
         (Adds (sights_pairs reader start writers.now sights.now) precedence.old precedence.new) }
 {
-    for sight in sights {
-        add_sight(precedence, reader, start, sight, writers)?;
+    for (index, sight) in sights.iter().enumerate() {
+        if !begins_with(&sights[index + 1..], sight) {
+            add_sight(precedence, reader, start, sight, writers)?;
+        }
     }
     Ok(())
 }

@@ -1,6 +1,6 @@
 //! What commits looked at and changed.
 
-ghost use Rattle.std.specs.Prelude.{◌≡◌, map, IfOk};
+ghost use Rattle.std.specs.Prelude.{◌≡◌, ◌↔◌, map, IfOk, IsTrue};
 ghost use Rattle.std.specs.List.Sorted.{IsStrictlySortedBy};
 ghost use Rattle.prog_tree.specs.Table.{cell_cmp, cells_of};
 ghost use Rattle.history_book.specs.Traces.{sight_of, trace_of};
@@ -16,6 +16,21 @@ pub enum Sight {
     One(Cell),
     /// A region, but for its `own` cells: the ones that the instance had changed.
     Range { region: Region, own: Sequence<Cell> },
+}
+
+impl Sight {
+    /// Whether both look at the same.
+    pub(crate) fn is_same(&self, other: &Sight) -> bool
+        ensures { IsTrue result ↔ (self.now ≡ other.now) }
+    {
+        match (self, other) {
+            (Sight::One(cell), Sight::One(c)) => cell == c,
+            (Sight::Range { region, own }, Sight::Range { region: r, own: o }) => {
+                region == r && own.as_slice() == o.as_slice()
+            }
+            _ => false,
+        }
+    }
 }
 
 /// How many commits an instance saw, the cells that it changed, in their order, and what it

@@ -3,5 +3,5 @@ use Rattle.history_book.specs.Reduced.{sights_pairs}
 use Rattle.history_book.proofs.PairLaws.{Walk}
 use Rattle.history_book.proofs.readers.add_sights.Given as goal
 
-abbrev pub invariant-loop-sight : goal.invariant-loop-sight
-invariant-loop-sight l = Walk (sights_pairs l.reader l.start l.writers (drop l.sight-index l.sights)) (sights_pairs l.reader l.start l.writers l.sights) l.fn.precedence l.precedence
+abbrev pub invariant-loop-index : goal.invariant-loop-index
+invariant-loop-index l = Walk (sights_pairs l.reader l.start l.writers (drop l.index l.sights)) (sights_pairs l.reader l.start l.writers l.sights) l.fn.precedence l.precedence
