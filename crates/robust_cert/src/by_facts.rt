@@ -1,27 +1,53 @@
 //! Chains by the facts of a question, which are tried one by one, so that no list of them is made.
 ghost use Rattle.std.specs.Prelude.{◌≡◌, ◌↔◌, length, IsTrue, IfSome, IfNone, Contains};
 ghost use Rattle.order_facts.specs.Chain.{IsStep, IsChain, RunsBetween};
-ghost use Rattle.prog_paths.specs.Questions.{column_facts, second_facts, question_facts};
+ghost use Rattle.prog_paths.specs.Questions.{mine_node, their_node, column_facts, second_facts, question_facts};
 ghost use Rattle.prog_paths.specs.Shown.{Falls, Runs};
 ghost use Rattle.robust_cert.specs.Flaws.{facts_between, RunsDown};
 
 use order_facts::{Node, is_plain_step};
 use prog_check::{Access, Column, Term};
-use prog_paths::{mine_node, their_node};
 
 fn is_node(a: Node, b: Node) -> bool
     ensures { IsTrue result ↔ (a ≡ b) }
 {
-    a == b
+    match (a, b) {
+        (Node::Mine(a), Node::Mine(b)) | (Node::Theirs(a), Node::Theirs(b)) => a == b,
+        (Node::MineUnknown(a), Node::MineUnknown(b)) => a == b,
+        (Node::TheirsUnknown(a), Node::TheirsUnknown(b)) => a == b,
+        (Node::Number(a), Node::Number(b)) => a == b,
+        _ => false,
+    }
+}
+
+/// Whether facts call a term of the first access so.
+fn is_mine(term: Term, node: Node) -> bool
+    ensures { IsTrue result ↔ (mine_node term ≡ node) }
+{
+    match (term, node) {
+        (Term::Param(a), Node::Mine(b)) | (Term::Unknown(a), Node::MineUnknown(b)) => a == b,
+        (Term::Literal(a), Node::Number(b)) => a == b,
+        _ => false,
+    }
+}
+
+/// Whether facts call a term of the second access so.
+fn is_theirs(term: Term, node: Node) -> bool
+    ensures { IsTrue result ↔ (their_node term ≡ node) }
+{
+    match (term, node) {
+        (Term::Param(a), Node::Theirs(b)) | (Term::Unknown(a), Node::TheirsUnknown(b)) => a == b,
+        (Term::Literal(a), Node::Number(b)) => a == b,
+        _ => false,
+    }
 }
 
 /// Whether a pair of nodes is a fact of one column.
 fn is_column_fact(mine: Column, theirs: Column, lo: Node, hi: Node) -> bool
     ensures { IsTrue result ↔ Contains (column_facts mine theirs) record { lo = lo; hi = hi } }
 {
-    let low = is_node(mine_node(mine.low), lo) && is_node(their_node(theirs.low), hi);
-    let high = is_node(their_node(theirs.low), lo) && is_node(mine_node(mine.high), hi);
-    low || high
+    (is_mine(mine.low, lo) && is_theirs(theirs.low, hi))
+        || (is_theirs(theirs.low, lo) && is_mine(mine.high, hi))
 }
 
 /// Whether it is one of the second columns, where their table has one.
