@@ -3,6 +3,7 @@ pub mod BeginLaws
 pub mod ClashLaws
 pub mod CommitLaws
 pub mod CycleLaws
+pub mod CycleSteps
 pub mod EdgeLaws
 pub mod EngineLaws
 pub mod EvaluateLaws
