@@ -144,9 +144,7 @@ fn is_landmark(kind: Landmark, text: &[u8], place: usize) -> bool
 
 // Where the one of this number begins, counted from a place on.
 fn numbered(kind: Landmark, text: &[u8], start: usize, number: usize) -> Option<usize>
-    requires { start ≤ length text.now }
     ensures found { IfSome result (IsNumbered kind text.now start number) }
-    ensures within { IfSome result (λ place. place < length text.now) }
     ensures none { IfNone result (HasFewer kind text.now start number) }
 {
     let mut left = number;
