@@ -1,7 +1,7 @@
 // Statements without blocks.
 ghost use Rattle.prog_tree.specs.Tree.{expr_tree};
 ghost use Rattle.prog_text.specs.Cursor.{Reads, ReadsPlain, assigned_tree, keyed_tree, ranged_tree};
-ghost use Rattle.prog_text.specs.Reading.{last_expr_at, last_key_at, last_range_at, assigned_at, get_at, bound_at, let_at, lacks_at, put_at, insert_at, delete_at, keep_at, reply_at, abort_at, statement_at};
+ghost use Rattle.prog_text.specs.Reading.{last_expr_at, last_key_at, last_range_at, assigned_at, get_at, bound_at, let_at, statement_at};
 
 use crate::cursor::Cursor;
 use crate::expressions::expr;
@@ -121,71 +121,8 @@ fn let_binding(cursor: &mut Cursor<'_>) -> Result<Stmt, ReadError>
     bound(cursor, name)
 }
 
-// Behind the word `lacks`.
-#[tactic(auto, unfolding(crate::specs::Reading::lacks_at))]
-fn lacks(cursor: &mut Cursor<'_>) -> Result<Stmt, ReadError>
-    ensures { ReadsPlain lacks_at result cursor.old cursor.new }
-{
-    let Keyed { table, key } = last_key(cursor)?;
-    Ok(Stmt::Lacks { table, key })
-}
-
-// Behind the word `put`.
-#[tactic(auto, unfolding(crate::specs::Reading::put_at))]
-fn put(cursor: &mut Cursor<'_>) -> Result<Stmt, ReadError>
-    ensures { ReadsPlain put_at result cursor.old cursor.new }
-{
-    let Assigned { table, key, value } = assignment(cursor)?;
-    Ok(Stmt::Put { table, key, value })
-}
-
-// Behind the word `insert`.
-#[tactic(auto, unfolding(crate::specs::Reading::insert_at))]
-fn insert(cursor: &mut Cursor<'_>) -> Result<Stmt, ReadError>
-    ensures { ReadsPlain insert_at result cursor.old cursor.new }
-{
-    let Assigned { table, key, value } = assignment(cursor)?;
-    Ok(Stmt::Insert { table, key, value })
-}
-
-// Behind the word `delete`.
-#[tactic(auto, unfolding(crate::specs::Reading::delete_at))]
-fn delete(cursor: &mut Cursor<'_>) -> Result<Stmt, ReadError>
-    ensures { ReadsPlain delete_at result cursor.old cursor.new }
-{
-    let Keyed { table, key } = last_key(cursor)?;
-    Ok(Stmt::Delete { table, key })
-}
-
-// Behind the word `keep`.
-#[tactic(auto, unfolding(crate::specs::Reading::keep_at))]
-fn keep(cursor: &mut Cursor<'_>) -> Result<Stmt, ReadError>
-    ensures { ReadsPlain keep_at result cursor.old cursor.new }
-{
-    let Keyed { table, key } = last_key(cursor)?;
-    Ok(Stmt::Keep { table, key })
-}
-
-// Behind the word `reply`.
-#[tactic(auto, unfolding(crate::specs::Reading::reply_at))]
-fn reply(cursor: &mut Cursor<'_>) -> Result<Stmt, ReadError>
-    ensures { ReadsPlain reply_at result cursor.old cursor.new }
-{
-    let value = last_expr(cursor)?;
-    Ok(Stmt::Reply { value })
-}
-
-// Behind the word `abort`.
-#[tactic(auto, unfolding(crate::specs::Reading::abort_at))]
-fn abort(cursor: &mut Cursor<'_>) -> Result<Stmt, ReadError>
-    ensures { ReadsPlain abort_at result cursor.old cursor.new }
-{
-    cursor.expect(Sign::Semicolon)?;
-    Ok(Stmt::Abort)
-}
-
 /// A statement without blocks.
-#[tactic(auto, unfolding(crate::specs::Reading::statement_at))]
+#[tactic(auto, unfolding(crate::specs::Reading::statement_at, crate::specs::Reading::lacks_at, crate::specs::Reading::put_at, crate::specs::Reading::insert_at, crate::specs::Reading::delete_at, crate::specs::Reading::keep_at, crate::specs::Reading::reply_at, crate::specs::Reading::abort_at))]
 pub fn statement(cursor: &mut Cursor<'_>) -> Result<Stmt, ReadError>
     ensures { ReadsPlain statement_at result cursor.old cursor.new }
 {
@@ -196,13 +133,34 @@ pub fn statement(cursor: &mut Cursor<'_>) -> Result<Stmt, ReadError>
     cursor.tokens = rest;
     match first {
         Token::Sign(Sign::Let) => let_binding(cursor),
-        Token::Sign(Sign::Lacks) => lacks(cursor),
-        Token::Sign(Sign::Put) => put(cursor),
-        Token::Sign(Sign::Insert) => insert(cursor),
-        Token::Sign(Sign::Delete) => delete(cursor),
-        Token::Sign(Sign::Keep) => keep(cursor),
-        Token::Sign(Sign::Reply) => reply(cursor),
-        Token::Sign(Sign::Abort) => abort(cursor),
+        Token::Sign(Sign::Lacks) => {
+            let Keyed { table, key } = last_key(cursor)?;
+            Ok(Stmt::Lacks { table, key })
+        }
+        Token::Sign(Sign::Put) => {
+            let Assigned { table, key, value } = assignment(cursor)?;
+            Ok(Stmt::Put { table, key, value })
+        }
+        Token::Sign(Sign::Insert) => {
+            let Assigned { table, key, value } = assignment(cursor)?;
+            Ok(Stmt::Insert { table, key, value })
+        }
+        Token::Sign(Sign::Delete) => {
+            let Keyed { table, key } = last_key(cursor)?;
+            Ok(Stmt::Delete { table, key })
+        }
+        Token::Sign(Sign::Keep) => {
+            let Keyed { table, key } = last_key(cursor)?;
+            Ok(Stmt::Keep { table, key })
+        }
+        Token::Sign(Sign::Reply) => {
+            let value = last_expr(cursor)?;
+            Ok(Stmt::Reply { value })
+        }
+        Token::Sign(Sign::Abort) => {
+            cursor.expect(Sign::Semicolon)?;
+            Ok(Stmt::Abort)
+        }
         _ => Err(unexpected(tokens)),
     }
 }
