@@ -17,7 +17,8 @@ pub fn point_at_access(
     sentence: &str,
 ) -> Result<Option<String>, AllocError>
     ensures { IfOk result (λ said. IfSome said (λ words.
-        PointsAtAccess shown.entry.text.now shown.entry.paths.now node access (string_bytes words))) }
+        PointsAtAccess shown.entry.text.now shown.entry.paths.now node access
+        (string_bytes words))) }
 {
     let Some(path) = shown.paths.get(node) else {
         return Ok(None);

@@ -5,7 +5,7 @@ use prog_check::{Path, ProgramSet};
 use std::alloc::{AllocError, Global};
 use text_places::{line_number, statement_place};
 
-const MOST_SHOWN: usize = 60;
+const MAX_SHOWN: usize = 60;
 
 /// A set with its text and its paths, which are the nodes.
 #[derive(Clone, Copy)]
@@ -22,7 +22,7 @@ fn statement_at(text: &[u8], place: usize) -> &str {
         .iter()
         .take_while(|byte| **byte != b';' && **byte != b'\n')
         .count();
-    as_text(rest.get(..len.min(MOST_SHOWN)).unwrap_or(&[]))
+    as_text(rest.get(..len.min(MAX_SHOWN)).unwrap_or(&[]))
 }
 
 /// The cell or the range that the statement at a place names, with its table.

@@ -1,10 +1,8 @@
 //! What could stand at a place of a text: each word and sign is tried there.
 
+use crate::limits::MAX_TRIED;
 use prog_text::{TextFault, parse};
 use std::alloc::{AllocError, Global};
-
-// Of a longer text no words are tried.
-const MOST_TRIED: usize = 65_536;
 
 // A name, a number, and each word and sign of the language.
 const TRIED: [&str; 44] = [
@@ -39,7 +37,7 @@ fn shown(alloc: Global, word: &str) -> Result<String, AllocError> {
 /// With what a text could go on, in words: nothing where it is not known.
 pub fn expected(alloc: Global, before: &[u8]) -> Result<String, AllocError> {
     let mut list = String::new(alloc);
-    if before.len() > MOST_TRIED {
+    if before.len() > MAX_TRIED {
         return Ok(list);
     }
     for word in TRIED {

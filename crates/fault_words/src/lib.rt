@@ -3,6 +3,7 @@
 #![tactic(auto)]
 
 mod expected;
+mod limits;
 mod naming;
 mod nearest;
 mod pointing;

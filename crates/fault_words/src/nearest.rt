@@ -1,11 +1,10 @@
 //! The name that was meant.
 ghost use Rattle.std.specs.Prelude.{Contains, IfOk, IfSome};
 
+use crate::limits::MAX_EDITS;
 use crate::reading::listed;
 use std::alloc::{AllocError, Global};
 use strsim::levenshtein;
-
-const MOST_EDITS: usize = 3;
 
 /// The first of the names with the fewest edits from a word, where these are few.
 pub fn nearest_name<'a>(
@@ -16,7 +15,7 @@ pub fn nearest_name<'a>(
     ensures { IfOk result (λ found. IfSome found (Contains names.now)) }
 {
     let mut best = None;
-    let mut fewest = MOST_EDITS.min(word.len());
+    let mut fewest = MAX_EDITS.min(word.len());
     for name in names {
         let edits = levenshtein(alloc, word, name)?;
         if edits < fewest {

@@ -9,7 +9,8 @@ ghost use Rattle.history_book.specs.History.{IsLawful};
 ghost use Rattle.history_book.specs.TrueBook.{IsTrueRow};
 ghost use Rattle.history_book.specs.View.{done_in, history_of, instance_of, most_endings, most_begins};
 
-use crate::book::{Book, MOST_ENDINGS, is_ready, read_numbers};
+use crate::book::{Book, is_ready, read_numbers};
+use crate::limits::MAX_ENDINGS;
 use crate::row::HistoryRow;
 use crate::snapshot::same_numbers;
 use prog_check::ProgramSet;
@@ -62,7 +63,8 @@ impl<'a> Book<'a> {
     fn call_fault(&self, row: &HistoryRow) -> Option<RowFault>
         ensures { MatchOption result
             (IsBegun (draft_tree self.now.set) self.now.opening (history_of self.now.rows) row.now)
-            (IsRowFault (draft_tree self.now.set) self.now.opening (history_of self.now.rows) row.now) }
+            (IsRowFault (draft_tree self.now.set) self.now.opening
+            (history_of self.now.rows) row.now) }
     {
         read_numbers(row.args.as_slice());
         let Some(program) = self.set.draft().programs.get(row.program) else {
@@ -84,8 +86,10 @@ impl<'a> Book<'a> {
         requires above { self.now.floor ≤ row.now.start }
         requires came { CameTo run.now (done_in self.now (instance_of row.now)) }
         ensures { MatchOption result
-            (IsRightRow (draft_tree self.now.set) self.now.opening (history_of self.now.rows) row.now)
-            (IsRowFault (draft_tree self.now.set) self.now.opening (history_of self.now.rows) row.now) }
+            (IsRightRow (draft_tree self.now.set) self.now.opening
+            (history_of self.now.rows) row.now)
+            (IsRowFault (draft_tree self.now.set) self.now.opening
+            (history_of self.now.rows) row.now) }
     {
         if !is_ready(run) {
             return Some(RowFault::NotReady);
@@ -135,7 +139,7 @@ impl<'a> Book<'a> {
         ensures refused { IfErr result (λ fault.
             IsAuditFault (draft_tree set.now) opening rows.items fault) }
     {
-        if rows.len() > MOST_ENDINGS {
+        if rows.len() > MAX_ENDINGS {
             return Err(AuditFault::Full);
         }
         let mut book = Book::open(alloc, set, opening)?;

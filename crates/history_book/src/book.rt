@@ -15,6 +15,7 @@ ghost use Rattle.history_book.specs.View.{state_in, new_book, nth_row, held_for,
 
 use crate::active::Active;
 use crate::fault::{BeginFault, CommitFault, EndFault, NoSuchTicket, ScanFault, Unused};
+use crate::limits::MAX_ENDINGS;
 use crate::order::OrderFault;
 use crate::precedence::Precedence;
 use crate::readers::reduced;
@@ -28,9 +29,6 @@ use std::alloc::{AllocError, Global};
 use std::collections::BTreeMap;
 use std::marker::Model;
 use version_store::Store;
-
-/// No begin succeeds where there are so many endings and active instances.
-pub(crate) const MOST_ENDINGS: usize = 100_000;
 
 /// What was begun, committed and ended over a set of programs.
 #[derive(Debug, Drop)]
@@ -201,7 +199,7 @@ impl<'a> Book<'a> {
     pub fn is_full(&self) -> bool
         ensures { result ≡ is_full self.now }
     {
-        self.endings.len() + self.active.len() >= MOST_ENDINGS || self.begun == u64::MAX
+        self.endings.len() + self.active.len() >= MAX_ENDINGS || self.begun == u64::MAX
     }
 
     // What is wrong with a begin.

@@ -63,7 +63,8 @@ impl<'a> Book<'a> {
     pub(crate) fn conclude(&mut self, number: u64, ending: Ending) -> Result<(), AllocError>
         requires active { IsSome (lookup (is_at (nat_cmp number)) self.old.active) }
         requires no_commit { committed (ending ∷ []) ≡ [] }
-        requires is_true { IsTrueEnding (draft_tree self.old.set) self.old.opening (history_of self.old.rows) ending }
+        requires is_true { IsTrueEnding (draft_tree self.old.set) self.old.opening
+            (history_of self.old.rows) ending }
         ensures ok { OnOk result (self.new ≡ ended_in self.old number ending) }
         ensures err { OnErr result (self.new ≡ self.old) }
     {

@@ -13,13 +13,11 @@ ghost use Rattle.history_book.specs.TrueBook.{IsTrueRow};
 ghost use Rattle.history_book.specs.View.{history_of, instance_of, most_endings, most_begins};
 
 use crate::book::{Book, is_ready};
+use crate::limits::MAX_ORDERED;
 use crate::row::HistoryRow;
 use crate::snapshot::same_numbers;
 use prog_tree::Sequence;
 use std::alloc::{AllocError, Global};
-
-/// Of more commits no order is looked for.
-const MOST_ORDERED: usize = 6;
 
 /// Why no equivalent serial order was looked for.
 #[derive(Clone, Copy, Debug, PartialEq, Eq)]
@@ -147,7 +145,8 @@ impl<'a> Book<'a> {
     /// Whether a list of commit numbers is an equivalent serial order; any list may be asked for.
     pub fn fits(&self, order: &[usize]) -> Result<bool, AllocError>
         ensures { IfOk result (λ fits. IsTrue fits
-            ↔ Fits (draft_tree self.now.set) self.now.opening (history_of self.now.rows) order.now) }
+            ↔ Fits (draft_tree self.now.set) self.now.opening
+            (history_of self.now.rows) order.now) }
     {
         if !is_each_once(self.alloc, self.rows.len(), order)? {
             return Ok(false);
@@ -223,7 +222,7 @@ impl<'a> Book<'a> {
             (history_of self.now.rows) order.items)) }
         ensures refused { IfErr result (IsAnyFitFault (length self.now.rows)) }
     {
-        if self.rows.len() > MOST_ORDERED {
+        if self.rows.len() > MAX_ORDERED {
             return Err(AnyFitFault::TooMany);
         }
         let mut placed = Vec::new(self.alloc);

@@ -15,7 +15,8 @@ ghost use Rattle.history_book.specs.Serial.{is_each_once, Fits, RunsTheSame};
 /// that they see, and each commit leads to the next state.
 pub fn commits_are_what_the_instances_write()
     ensures commits { (set : DraftTree) → (opening : TableState) → (h : List Instance) →
-        StartsBelow h → commits_of set opening h ≡ map (λ i. (evaluation set opening h i).changes) h }
+        StartsBelow h
+        → commits_of set opening h ≡ map (λ i. (evaluation set opening h i).changes) h }
     ensures next { (set : DraftTree) → (opening : TableState) → (h : List Instance) →
         StartsBelow h → (n : ℕ) → (i : Instance) → nth_instance h (n + 1) ≡ Some i →
         state_after set opening h (n + 1)

@@ -8,6 +8,7 @@ mod fault;
 mod finish;
 mod fits;
 mod laws;
+mod limits;
 mod order;
 mod precedence;
 mod readers;

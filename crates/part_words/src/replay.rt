@@ -7,7 +7,7 @@ use si_engine::{Engine, Event, Reply};
 use std::alloc::{AllocError, Global};
 
 // A program has at most 256 statements.
-const MOST_STEPS: usize = 300;
+const MAX_STEPS: usize = 300;
 
 /// The begin of a row's instance.
 pub fn begin_of(alloc: Global, row: &HistoryRow) -> Result<Event, AllocError> {
@@ -51,7 +51,7 @@ pub fn run_to_end(
     instance: usize,
 ) -> Result<Ended, AllocError> {
     let mut deeds = Vec::new(alloc);
-    for _turn in 0..MOST_STEPS {
+    for _turn in 0..MAX_STEPS {
         match engine.apply(&Event::Step(instance))? {
             Reply::Did(deed) => deeds.push(deed)?,
             reply => {

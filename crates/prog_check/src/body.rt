@@ -9,13 +9,11 @@ ghost use Rattle.prog_check.specs.Sets.{Finds, GoesOn};
 ghost use Rattle.prog_check.specs.Uses.{used_table_by, overwrites_by, used_names_by, new_name_by, with_new};
 
 use crate::fault::{CheckFault, Place};
+use crate::limits::MAX_STATEMENTS;
 use crate::names::Names;
 use crate::tables::Tables;
 use crate::uses::{bound_name, is_overwriting, knows_values, table_use};
 use prog_tree::{Block, Stmt};
-
-/// The statements of a program have the numbers below this.
-const MAX_STATEMENTS: usize = 256;
 
 /// Where the check stands in a program: before the statement of this number, with these names visible.
 #[derive(Drop)]
@@ -25,7 +23,7 @@ pub struct Position {
 }
 
 fn check_place(place: Place, number: usize, aborted: bool) -> Result<(), CheckFault>
-    ensures { Finds (λ _. number < 256) result (first_broken (place_rules place number aborted)) }
+    ensures { Finds (λ _. number < MAX_STATEMENTS) result (first_broken (place_rules place number aborted)) }
 {
     if aborted {
         return Err(CheckFault::AfterAbort { place });
@@ -37,7 +35,9 @@ fn check_place(place: Place, number: usize, aborted: bool) -> Result<(), CheckFa
 }
 
 fn check_table(tables: &Tables<'_>, place: Place, stmt: &Stmt) -> Result<(), CheckFault>
-    ensures { Finds (λ _. Unit {0}) result (first_broken (table_use_rules tables.now place (overwrites_by (stmt_tree stmt.now)) (used_table_by (stmt_tree stmt.now)))) }
+    ensures { Finds (λ _. Unit {0}) result
+        (first_broken (table_use_rules tables.now place (overwrites_by (stmt_tree stmt.now))
+        (used_table_by (stmt_tree stmt.now)))) }
 {
     let Some((name, arity)) = table_use(stmt) else {
         return Ok(());
@@ -55,7 +55,8 @@ fn check_table(tables: &Tables<'_>, place: Place, stmt: &Stmt) -> Result<(), Che
 }
 
 fn check_values(visible: &Names, place: Place, stmt: &Stmt) -> Result<(), CheckFault>
-    ensures { Finds (λ _. Unit {0}) result (first_broken (value_use_rules place visible.now (used_names_by (stmt_tree stmt.now)))) }
+    ensures { Finds (λ _. Unit {0}) result
+        (first_broken (value_use_rules place visible.now (used_names_by (stmt_tree stmt.now)))) }
 {
     if !knows_values(visible, stmt) {
         return Err(CheckFault::UnknownName { place });
@@ -65,8 +66,10 @@ fn check_values(visible: &Names, place: Place, stmt: &Stmt) -> Result<(), CheckF
 
 /// Makes the name that a statement gives to a value visible.
 fn declare(visible: &mut Names, place: Place, stmt: &Stmt) -> Result<(), CheckFault>
-    ensures found { Finds (λ _. Unit {0}) result (first_broken (new_name_rules place visible.old (new_name_by (stmt_tree stmt.now)))) }
-    ensures visible { OnOk result (visible.new ≡ with_new visible.old (new_name_by (stmt_tree stmt.now))) }
+    ensures found { Finds (λ _. Unit {0}) result
+        (first_broken (new_name_rules place visible.old (new_name_by (stmt_tree stmt.now)))) }
+    ensures visible { OnOk result
+        (visible.new ≡ with_new visible.old (new_name_by (stmt_tree stmt.now))) }
 {
     if let Some(name) = bound_name(stmt) {
         if !visible.insert(name)? {
@@ -84,9 +87,12 @@ fn check_own(
     aborted: bool,
     stmt: &Stmt,
 ) -> Result<(), CheckFault>
-    ensures found { Finds (λ _. Unit {0}) result (first_broken (statement_rules tables.now program at.old.number aborted at.old.visible (stmt_tree stmt.now))) }
+    ensures found { Finds (λ _. Unit {0}) result
+        (first_broken (statement_rules tables.now program at.old.number aborted at.old.visible
+        (stmt_tree stmt.now))) }
     ensures number { OnOk result (at.new.number ≡ at.old.number + 1) }
-    ensures visible { OnOk result (at.new.visible ≡ with_new at.old.visible (new_name_by (stmt_tree stmt.now))) }
+    ensures visible { OnOk result
+        (at.new.visible ≡ with_new at.old.visible (new_name_by (stmt_tree stmt.now))) }
 {
     let place = Place::Statement {
         program,
@@ -135,8 +141,10 @@ pub fn check_block(
     at: &mut Position,
     block: &Block,
 ) -> Result<(), CheckFault>
-    ensures found { Finds (λ _. Unit {0}) result (block_fault tables.now program at.old.number false at.old.visible (block_tree block.now)) }
-    ensures number { OnOk result (at.new.number ≡ at.old.number + statement_count (block_tree block.now)) }
+    ensures found { Finds (λ _. Unit {0}) result
+        (block_fault tables.now program at.old.number false at.old.visible (block_tree block.now)) }
+    ensures number { OnOk result
+        (at.new.number ≡ at.old.number + statement_count (block_tree block.now)) }
     ensures visible { OnOk result (at.new.visible ≡ at.old.visible) }
 {
     let outer = at.visible.len();

@@ -1,6 +1,6 @@
 //! The check of a program's committing paths. They and the accesses on them are counted without going along each path, since
 //! there may be a great many.
-ghost use Rattle.std.specs.Prelude.{◌≡◌, ◌*◌, ◌≤◌, min, IfSome};
+ghost use Rattle.std.specs.Prelude.{◌≡◌, ◌+◌, ◌*◌, ◌≤◌, min, IfSome};
 ghost use Rattle.prog_tree.specs.Syntax.{BlockTree};
 ghost use Rattle.prog_tree.specs.Tree.{stmt_tree, with_stmt, block_tree, program_tree};
 ghost use Rattle.prog_check.specs.Counts.{path_count, access_count_by, larger, added, heaviest, up_to, is_above};
@@ -10,18 +10,17 @@ ghost use Rattle.prog_check.specs.Sets.{Finds};
 ghost use Rattle.prog_check.specs.Tables.{declaration, grows};
 
 use crate::fault::{CheckFault, Place};
+use crate::limits::{MAX_ACCESSES, MAX_PATHS};
 use crate::tables::Tables;
 use prog_tree::{Block, Name, Program, Stmt};
-
-const MAX_PATHS: usize = 32;
-
-const MAX_ACCESSES: usize = 24;
 
 /// How many ways lead on behind a statement.
 #[cycle(paths)]
 fn count_ways(stmt: &Stmt) -> usize
-    ensures few { result ≤ 33 }
-    ensures ways { (rest : BlockTree) → min (path_count (with_stmt stmt.now rest)) 33 ≡ min (result * path_count rest) 33 }
+    ensures few { result ≤ MAX_PATHS + 1 }
+    ensures ways { (rest : BlockTree)
+        → min (path_count (with_stmt stmt.now rest)) (MAX_PATHS + 1)
+        ≡ min (result * path_count rest) (MAX_PATHS + 1) }
 {
     match stmt {
         Stmt::Branch {
@@ -37,7 +36,7 @@ fn count_ways(stmt: &Stmt) -> usize
 /// The committing paths of a block, up to 33.
 #[cycle(paths)]
 fn count_paths(block: &Block) -> usize
-    ensures { result ≡ min (path_count (block_tree block.now)) 33 }
+    ensures { result ≡ min (path_count (block_tree block.now)) (MAX_PATHS + 1) }
 {
     let mut count = 1;
     for stmt in &block.stmts {
@@ -78,8 +77,10 @@ fn larger(first: Option<usize>, second: Option<usize>) -> Option<usize>
 /// The accesses on the heaviest way through a statement, or none where no way leads on behind it.
 #[cycle(weights)]
 fn heaviest_way(tables: &Tables<'_>, stmt: &Stmt) -> Option<usize>
-    ensures few { IfSome result (λ n. n ≤ 25) }
-    ensures heaviest { (rest : BlockTree) → up_to 25 (heaviest tables.now (with_stmt stmt.now rest)) ≡ up_to 25 (added result (heaviest tables.now rest)) }
+    ensures few { IfSome result (λ n. n ≤ MAX_ACCESSES + 1) }
+    ensures heaviest { (rest : BlockTree)
+        → up_to (MAX_ACCESSES + 1) (heaviest tables.now (with_stmt stmt.now rest))
+        ≡ up_to (MAX_ACCESSES + 1) (added result (heaviest tables.now rest)) }
 {
     match stmt {
         Stmt::Branch {
@@ -98,7 +99,7 @@ fn heaviest_way(tables: &Tables<'_>, stmt: &Stmt) -> Option<usize>
 /// The accesses on the heaviest committing path of a block, up to 25, or none where it has no committing path.
 #[cycle(weights)]
 fn heaviest_path(tables: &Tables<'_>, block: &Block) -> Option<usize>
-    ensures { result ≡ up_to 25 (heaviest tables.now (block_tree block.now)) }
+    ensures { result ≡ up_to (MAX_ACCESSES + 1) (heaviest tables.now (block_tree block.now)) }
 {
     let mut weight: usize = 0;
     for stmt in &block.stmts {
@@ -118,7 +119,9 @@ fn is_above(most: usize, count: Option<usize>) -> bool
 
 /// Checks the committing paths of a program of this number.
 pub fn check_paths(tables: &Tables<'_>, number: usize, program: &Program) -> Result<(), CheckFault>
-    ensures { Finds (λ _. Unit {0}) result (first_broken (path_rules (Place.Program number) (program_paths tables.now number (program_tree program.now)))) }
+    ensures { Finds (λ _. Unit {0}) result
+        (first_broken (path_rules (Place.Program number)
+        (program_paths tables.now number (program_tree program.now)))) }
 {
     let place = Place::Program { program: number };
     if count_paths(&program.body) > MAX_PATHS {

@@ -9,20 +9,16 @@ ghost use Rattle.prog_check.specs.Sets.{Finds};
 use crate::body::{Position, check_block};
 use crate::counts::check_paths;
 use crate::fault::{CheckFault, Place};
+use crate::limits::{MAX_PARAMETERS, MAX_PROGRAMS, MAX_TABLES};
 use crate::names::Names;
 use crate::tables::Tables;
 use prog_tree::{Name, Program, TableDecl};
 use std::alloc::Global;
 
-const MAX_TABLES: usize = 64;
-
-const MAX_PROGRAMS: usize = 16;
-
-const MAX_PARAMETERS: usize = 8;
-
 /// Checks the names of tables, and gives them with their numbers.
 pub fn check_tables(alloc: Global, tables: &[TableDecl]) -> Result<Names, CheckFault>
-    ensures { Finds (λ names. names ≡ map (λ d. d.name) tables.now) result (tables_fault [] (map (λ d. d.name) tables.now)) }
+    ensures { Finds (λ names. names ≡ map (λ d. d.name) tables.now) result
+        (tables_fault [] (map (λ d. d.name) tables.now)) }
 {
     let mut names = Names::new(alloc);
     for table in tables {
@@ -39,7 +35,8 @@ pub fn check_tables(alloc: Global, tables: &[TableDecl]) -> Result<Names, CheckF
 
 /// Checks that no parameter is repeated, and gives them as visible names.
 fn check_params(alloc: Global, place: Place, params: &[Name]) -> Result<Names, CheckFault>
-    ensures { Finds (λ names. names ≡ params.now) result (first_broken ((has_twice params.now, DuplicateParameter place) ∷ [])) }
+    ensures { Finds (λ names. names ≡ params.now) result
+        (first_broken ((has_twice params.now, DuplicateParameter place) ∷ [])) }
 {
     let mut visible = Names::new(alloc);
     for param in params {
@@ -52,7 +49,8 @@ fn check_params(alloc: Global, place: Place, params: &[Name]) -> Result<Names, C
 
 /// Checks a program's name and parameters behind the programs of these names, and gives its parameters as visible names.
 fn check_head(alloc: Global, earlier: &mut Names, program: &Program) -> Result<Names, CheckFault>
-    ensures found { Finds (λ names. names ≡ program.now.params.items) result (first_broken (program_rules earlier.old (program_tree program.now))) }
+    ensures found { Finds (λ names. names ≡ program.now.params.items) result
+        (first_broken (program_rules earlier.old (program_tree program.now))) }
     ensures named { OnOk result (earlier.new ≡ earlier.old ++ program.now.name ∷ []) }
 {
     let place = Place::Program {
@@ -78,7 +76,8 @@ fn check_program(
     earlier: &mut Names,
     program: &Program,
 ) -> Result<(), CheckFault>
-    ensures found { Finds (λ _. Unit {0}) result (program_fault tables.now earlier.old (program_tree program.now)) }
+    ensures found { Finds (λ _. Unit {0}) result
+        (program_fault tables.now earlier.old (program_tree program.now)) }
     ensures named { OnOk result (earlier.new ≡ earlier.old ++ program.now.name ∷ []) }
 {
     let number = earlier.len();
@@ -95,7 +94,8 @@ pub fn check_programs(
     tables: &Tables<'_>,
     programs: &[Program],
 ) -> Result<Names, CheckFault>
-    ensures { Finds (λ names. names ≡ map (λ p. p.name) programs.now) result (programs_fault tables.now [] (map program_tree programs.now)) }
+    ensures { Finds (λ names. names ≡ map (λ p. p.name) programs.now) result
+        (programs_fault tables.now [] (map program_tree programs.now)) }
 {
     let mut earlier = Names::new(alloc);
     for program in programs {

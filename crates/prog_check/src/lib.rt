@@ -6,6 +6,7 @@ mod counts;
 mod fault;
 mod heads;
 mod laws;
+mod limits;
 mod literals;
 mod names;
 mod path;

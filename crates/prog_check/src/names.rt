@@ -51,7 +51,8 @@ impl Names {
     /// Adds a name behind the others, and tells whether it is new.
     pub fn insert(&mut self, name: &Name) -> Result<bool, AllocError>
         ensures new { IfOk result (λ new. new ≡ not (is_among self.old name.now)) }
-        ensures names { IfOk result (λ new. self.new ≡ (if new then self.old ++ name.now ∷ [] else self.old)) }
+        ensures names { IfOk result
+            (λ new. self.new ≡ (if new then self.old ++ name.now ∷ [] else self.old)) }
     {
         let text = String::from_str(*self.texts.allocator(), name.as_str())?;
         let new = self.texts.insert(text)?;

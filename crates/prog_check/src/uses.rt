@@ -23,7 +23,8 @@ pub fn knows_expr(known: &Names, expr: &Expr) -> bool
 }
 
 fn knows_comparison(known: &Names, comparison: &Comparison) -> bool
-    ensures { result ≡ list_all (is_among known.now) (comparison_names (comparison_tree comparison.now)) }
+    ensures { result ≡ list_all (is_among known.now)
+        (comparison_names (comparison_tree comparison.now)) }
 {
     knows_expr(known, &comparison.left) && knows_expr(known, &comparison.right)
 }
@@ -125,7 +126,8 @@ fn columns_of_range(range: &Range) -> Arity
 
 /// The table that a statement uses, and for how many columns.
 pub fn table_use(stmt: &Stmt) -> Option<(&Name, Arity)>
-    ensures { option_map (λ used. (used.0.now, used.1)) result ≡ used_table_by (stmt_tree stmt.now) }
+    ensures { option_map (λ used. (used.0.now, used.1)) result
+        ≡ used_table_by (stmt_tree stmt.now) }
 {
     match stmt {
         Stmt::Get { table, key, .. }

@@ -2,11 +2,9 @@
 ghost use Rattle.std.specs.Prelude.{◌≡◌, ◌↔◌, ◌+◌, ◌<◌, ◌≤◌, min, length, IsTrue};
 ghost use Rattle.prog_paths.specs.Asked.{placed_from, all_from, asked_by, asked_among, questions_of, limit};
 
+use crate::limits::MAX_QUESTIONS;
 use crate::places::{Placed, asks};
 use prog_check::{Access, Path};
-
-/// As many questions as a table may have.
-const LIMIT: usize = 1_000_000;
 
 /// The count, with what one access asks of those of a node.
 fn count_node(first: Placed, node: usize, accesses: &[Access], before: usize) -> usize
@@ -21,7 +19,7 @@ fn count_node(first: Placed, node: usize, accesses: &[Access], before: usize) ->
             number,
             access: *access,
         };
-        if count <= LIMIT && asks(first, second) {
+        if count <= MAX_QUESTIONS && asks(first, second) {
             count += 1;
         }
     }
@@ -74,5 +72,5 @@ fn count(paths: &[Path]) -> usize
 pub fn is_too_large(paths: &[Path]) -> bool
     ensures { IsTrue result ↔ (limit < length (questions_of paths.now)) }
 {
-    count(paths) > LIMIT
+    count(paths) > MAX_QUESTIONS
 }

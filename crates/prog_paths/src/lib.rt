@@ -7,6 +7,7 @@ mod columns;
 mod count;
 mod kinds;
 mod law;
+mod limits;
 mod listing;
 mod mark;
 mod places;

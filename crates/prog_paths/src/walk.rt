@@ -5,26 +5,24 @@ ghost use Rattle.prog_tree.specs.Tree.{stmt_tree, block_tree};
 ghost use Rattle.prog_check.specs.Paths.{statement_count, routes};
 ghost use Rattle.prog_paths.specs.Trails.{IsLow, AreLow, alone, passes, commits, along, all_along};
 
+use crate::limits::MAX_COUNTED;
 use crate::trail::{Trail, pass};
 use prog_check::ProgramSet;
 use prog_tree::{Block, Name, Stmt};
 use std::alloc::{AllocError, Global};
 
-/// One more than a program of a set has.
-const MORE_STATEMENTS: usize = 257;
-
 /// How many statements a statement is, with those of its blocks, up to 257.
 #[cycle(sizes)]
 fn count_own(stmt: &Stmt) -> usize
-    ensures few { result ≤ 257 }
-    ensures counted { result ≡ min (statement_count (alone (stmt_tree stmt.now))) 257 }
+    ensures few { result ≤ MAX_COUNTED }
+    ensures counted { result ≡ min (statement_count (alone (stmt_tree stmt.now))) MAX_COUNTED }
 {
     match stmt {
         Stmt::Branch {
             then,
             otherwise,
             ..
-        } => (1 + count_all(then) + count_all(otherwise)).min(MORE_STATEMENTS),
+        } => (1 + count_all(then) + count_all(otherwise)).min(MAX_COUNTED),
         _ => 1,
     }
 }
@@ -32,12 +30,12 @@ fn count_own(stmt: &Stmt) -> usize
 /// How many statements a block has, with those of its blocks, up to 257.
 #[cycle(sizes)]
 fn count_all(block: &Block) -> usize
-    ensures few { result ≤ 257 }
-    ensures counted { result ≡ min (statement_count (block_tree block.now)) 257 }
+    ensures few { result ≤ MAX_COUNTED }
+    ensures counted { result ≡ min (statement_count (block_tree block.now)) MAX_COUNTED }
 {
     let mut count = 0;
     for stmt in &block.stmts {
-        count = (count + count_own(stmt)).min(MORE_STATEMENTS);
+        count = (count + count_own(stmt)).min(MAX_COUNTED);
     }
     count
 }

@@ -4,6 +4,7 @@ ghost use Rattle.prog_tree.specs.Tree.{draft_tree};
 ghost use Rattle.si_engine.specs.Commands.{row_command, instance_of, steps_of, begin_command, step_command, commit_command, abort_command, vacuum_command, command_of, line_command};
 ghost use Rattle.si_engine.specs.RowLines.{Reads};
 
+use crate::limits::{MAX_INSTANCE, MAX_STEPS};
 use crate::line_words::{Word, line_words};
 use crate::lines::is_skipped;
 use crate::names::program_number;
@@ -13,10 +14,6 @@ use crate::script_fault::LineFault;
 use prog_check::ProgramSet;
 use prog_tree::Sequence;
 use std::alloc::Global;
-
-const GREATEST_INSTANCE: usize = 4_294_967_295;
-
-const MOST_STEPS: usize = 1000;
 
 /// What a line says.
 #[derive(Drop)]
@@ -48,7 +45,8 @@ fn begin(
     line: usize,
     words: &[Word<'_>],
 ) -> Result<Command, LineFault>
-    ensures { Reads (λ command. command) result (begin_command (draft_tree set.now) line words.now) }
+    ensures { Reads (λ command. command) result
+        (begin_command (draft_tree set.now) line words.now) }
 {
     let [name, args @ ..] = words else {
         return Err(LineFault::BadLine { line });
@@ -62,14 +60,14 @@ fn begin(
 fn instance(word: &Word<'_>) -> Option<usize>
     ensures { result ≡ instance_of word.now }
 {
-    number_between(0, GREATEST_INSTANCE, word.as_bytes())
+    number_between(0, MAX_INSTANCE, word.as_bytes())
 }
 
 fn steps(instance: &Word<'_>, times: &Word<'_>) -> Option<Command>
     ensures { result ≡ steps_of instance.now times.now }
 {
     let instance = self::instance(instance)?;
-    let times = number_between(1, MOST_STEPS, times.as_bytes())?;
+    let times = number_between(1, MAX_STEPS, times.as_bytes())?;
     Some(Command::Step { instance, times })
 }
 

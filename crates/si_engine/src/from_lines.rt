@@ -6,9 +6,10 @@ ghost use Rattle.si_engine.specs.Reading.{ForInput};
 ghost use Rattle.si_engine.specs.RowLines.{Reads};
 ghost use Rattle.si_engine.specs.Sayings.{made_of, Grows, IsMisplaced, IsPart, IsPartFault};
 
+use crate::limits::MAX_READS;
 use crate::lines::{cut, without_return};
 use crate::script_fault::{LineFault, ScriptFault};
-use crate::source::{InputFault, MOST_READS, Source, read_whole};
+use crate::source::{InputFault, Source, read_whole};
 use prog_check::ProgramSet;
 use std::alloc::Global;
 
@@ -77,7 +78,7 @@ pub fn read_part<W: FromLines, S: Source>(
         IsPartFault (made_of (W.says (draft_tree set.now)) W.wrong W.whole part) part fault)) }
     ensures unread { S.has_failed source.new ≡ true
         ↔ IsErrOf result (ScriptFault.Input InputFault.ReadFault) }
-    ensures reads { S.pulls source.new ≤ S.pulls source.old + MOST_READS }
+    ensures reads { S.pulls source.new ≤ S.pulls source.old + MAX_READS }
 {
     let part = read_whole(alloc, source)?;
     let whole = read_lines(alloc, set, &part)?;

@@ -6,10 +6,11 @@ ghost use Rattle.si_engine.specs.RowLines.{IsFault};
 ghost use Rattle.si_engine.specs.Records.{with_row_in, record_in, record_fault, IsRecords, IsRecordsFault};
 
 use crate::from_lines::{FromLines, read_part};
+use crate::limits::MAX_READS;
 use crate::record_line::{RecordLine, record_line};
 use crate::row_line::add_row;
 use crate::script_fault::{LineFault, ScriptFault};
-use crate::source::{InputFault, MOST_READS, Source};
+use crate::source::{InputFault, Source};
 use history_book::HistoryRow;
 use prog_check::ProgramSet;
 use prog_tree::{Rows, Sequence};
@@ -87,7 +88,7 @@ pub fn read_records<S: Source>(
         IsRecordsFault (draft_tree set.now) part fault)) }
     ensures unread { S.has_failed source.new ≡ true
         ↔ IsErrOf result (ScriptFault.Input InputFault.ReadFault) }
-    ensures reads { S.pulls source.new ≤ S.pulls source.old + MOST_READS }
+    ensures reads { S.pulls source.new ≤ S.pulls source.old + MAX_READS }
 {
     read_part(alloc, set, source)
 }

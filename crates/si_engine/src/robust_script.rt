@@ -9,13 +9,14 @@ ghost use Rattle.si_engine.specs.Writing.{WritesOr};
 
 use crate::event::{Event, Reply};
 use crate::finding::{Finding, list_rows};
+use crate::limits::MAX_READS;
 use crate::printed::{push_last_line, push_reply_line};
 use crate::robust_run::{Outcome, run_robust};
 use crate::run::write_end;
 use crate::script::{Script, read_script};
 use crate::script_fault::ScriptFault;
 use crate::sink::Sink;
-use crate::source::{MOST_READS, Source};
+use crate::source::Source;
 use prog_tree::{Draft, TableDecl};
 use robust_cert::RobustSet;
 use std::alloc::{AllocError, Global};
@@ -88,7 +89,7 @@ fn run_source<S: Source>(
         → ForInput (S.left source.old) (λ part.
         IsRunOf (draft_tree set.now) part (string_bytes out.new) result) }
     ensures unread { S.has_failed source.new ≡ true → IsUnreadRun (string_bytes out.new) result }
-    ensures reads { S.pulls source.new ≤ S.pulls source.old + MOST_READS }
+    ensures reads { S.pulls source.new ≤ S.pulls source.old + MAX_READS }
     ensures order { IfOk result (λ finding. finding ≡ Finding.Order) }
 {
     let script = read_script(alloc, set.set(), source)?;
@@ -106,7 +107,7 @@ pub fn run_robust_script<S: Source, K: Sink>(
     ensures run { WritesOr (Err ScriptFault.WriteFault)
         (IsOrderedReply (draft_tree set.now) (S.left source.old) (S.has_failed source.new))
         (K.has_failed sink.new) (K.taken sink.old) (K.taken sink.new) result }
-    ensures reads { S.pulls source.new ≤ S.pulls source.old + MOST_READS }
+    ensures reads { S.pulls source.new ≤ S.pulls source.old + MAX_READS }
     ensures order { IfOk result (λ finding. finding ≡ Finding.Order) }
 {
     let mut lines = String::new(alloc);

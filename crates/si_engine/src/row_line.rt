@@ -115,7 +115,8 @@ pub fn row_line(set: &ProgramSet, line: usize, words: &[Word<'_>]) -> Result<Row
 pub fn add_row(rows: &mut Rows, line: usize, late: bool, row: RowLine) -> Result<(), LineFault>
     ensures placed { OnOk result (row_fault line late (row_at rows.old row.cell) ≡ None) }
     ensures rows { OnOk result (rows.new ≡ with_row rows.old row.cell row.value) }
-    ensures fault { IfErr result (λ fault. IsFault fault (row_fault line late (row_at rows.old row.cell))) }
+    ensures fault { IfErr result
+        (λ fault. IsFault fault (row_fault line late (row_at rows.old row.cell))) }
 {
     if late {
         return Err(LineFault::LateRow { line });

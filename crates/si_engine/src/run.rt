@@ -9,11 +9,12 @@ ghost use Rattle.si_engine.specs.Writing.{IsJust, WritesOr};
 use crate::engine::Engine;
 use crate::event::Event;
 use crate::finding::{Finding, push_findings};
+use crate::limits::MAX_READS;
 use crate::printed::push_reply_line;
 use crate::script::{Script, read_script};
 use crate::script_fault::ScriptFault;
 use crate::sink::{Sink, write_whole};
-use crate::source::{MOST_READS, Source};
+use crate::source::Source;
 use prog_check::ProgramSet;
 use prog_tree::Draft;
 use std::alloc::{AllocError, Global};
@@ -76,7 +77,7 @@ fn run_source<S: Source>(
         → ForInput (S.left source.old) (λ part.
         IsRunOf (draft_tree set.now) part (string_bytes out.new) result) }
     ensures unread { S.has_failed source.new ≡ true → IsUnreadRun (string_bytes out.new) result }
-    ensures reads { S.pulls source.new ≤ S.pulls source.old + MOST_READS }
+    ensures reads { S.pulls source.new ≤ S.pulls source.old + MAX_READS }
 {
     let script = read_script(alloc, set, source)?;
     let finding = push_lines(alloc, set, script, out)?;
@@ -110,7 +111,7 @@ pub fn run_script<S: Source, K: Sink>(
     ensures run { WritesOr (Err ScriptFault.WriteFault)
         (IsRunReply (draft_tree set.now) (S.left source.old) (S.has_failed source.new))
         (K.has_failed sink.new) (K.taken sink.old) (K.taken sink.new) result }
-    ensures reads { S.pulls source.new ≤ S.pulls source.old + MOST_READS }
+    ensures reads { S.pulls source.new ≤ S.pulls source.old + MAX_READS }
 {
     let mut lines = String::new(alloc);
     let ended = run_source(alloc, set, source, &mut lines);

@@ -8,14 +8,13 @@ ghost use Rattle.si_engine.specs.Script.{room_fault, order_fault, with_row_of, e
 use crate::command::{Command, line_command};
 use crate::event::Event;
 use crate::from_lines::{FromLines, read_part};
+use crate::limits::{MAX_EVENTS, MAX_READS};
 use crate::row_line::add_row;
 use crate::script_fault::{LineFault, ScriptFault};
-use crate::source::{InputFault, MOST_READS, Source};
+use crate::source::{InputFault, Source};
 use prog_check::ProgramSet;
 use prog_tree::{Rows, Sequence};
 use std::alloc::{AllocError, Global};
-
-const MOST_EVENTS: usize = 1_000_000;
 
 /// The opening rows and the events of a script.
 #[derive(Drop)]
@@ -30,7 +29,7 @@ impl Script {
         ensures placed { OnOk result (room_fault line self.now.events more ≡ None) }
         ensures fault { IfErr result (λ fault. room_fault line self.now.events more ≡ Some fault) }
     {
-        if self.events.len().saturating_add(more) > MOST_EVENTS {
+        if self.events.len().saturating_add(more) > MAX_EVENTS {
             return Err(LineFault::TooManyEvents { line });
         }
         Ok(())
@@ -49,7 +48,8 @@ impl Script {
 
     fn push_steps(&mut self, instance: usize, times: usize) -> Result<(), AllocError>
         ensures rows { OnOk result (self.new.rows ≡ self.old.rows) }
-        ensures events { OnOk result (self.new.events ≡ self.old.events ++ replicate times (Event.Step instance)) }
+        ensures events { OnOk result
+            (self.new.events ≡ self.old.events ++ replicate times (Event.Step instance)) }
     {
         for _turn in 0..times {
             self.events.push(Event::Step(instance))?;
@@ -60,8 +60,10 @@ impl Script {
     fn add_steps(&mut self, line: usize, instance: usize, times: usize) -> Result<(), LineFault>
         ensures placed { OnOk result (room_fault line self.old.events times ≡ None) }
         ensures rows { OnOk result (self.new.rows ≡ self.old.rows) }
-        ensures events { OnOk result (self.new.events ≡ self.old.events ++ replicate times (Event.Step instance)) }
-        ensures fault { IfErr result (λ fault. IsFault fault (room_fault line self.old.events times)) }
+        ensures events { OnOk result
+            (self.new.events ≡ self.old.events ++ replicate times (Event.Step instance)) }
+        ensures fault { IfErr result
+            (λ fault. IsFault fault (room_fault line self.old.events times)) }
     {
         self.check_room(line, times)?;
         self.push_steps(instance, times)?;
@@ -70,10 +72,12 @@ impl Script {
 
     // Behind an error the script is of no use.
     fn add_command(&mut self, line: usize, command: Command) -> Result<(), LineFault>
-        ensures placed { OnOk result (order_fault line self.old.rows self.old.events command ≡ None) }
+        ensures placed { OnOk result
+            (order_fault line self.old.rows self.old.events command ≡ None) }
         ensures rows { OnOk result (self.new.rows ≡ with_row_of self.old.rows command) }
         ensures events { OnOk result (self.new.events ≡ self.old.events ++ events_in command) }
-        ensures fault { IfErr result (λ fault. IsFault fault (order_fault line self.old.rows self.old.events command)) }
+        ensures fault { IfErr result
+            (λ fault. IsFault fault (order_fault line self.old.rows self.old.events command)) }
     {
         match command {
             Command::Skip => {}
@@ -134,8 +138,9 @@ pub fn read_script<S: Source>(
         ForInput (S.left source.old) (λ part. IsScript (draft_tree set.now) part script)) }
     ensures fault { IfErr result (λ fault. S.has_failed source.new ≡ false
         → ForInput (S.left source.old) (λ part. IsScriptFault (draft_tree set.now) part fault)) }
-    ensures unread { S.has_failed source.new ≡ true ↔ IsErrOf result (ScriptFault.Input InputFault.ReadFault) }
-    ensures reads { S.pulls source.new ≤ S.pulls source.old + MOST_READS }
+    ensures unread { S.has_failed source.new ≡ true
+        ↔ IsErrOf result (ScriptFault.Input InputFault.ReadFault) }
+    ensures reads { S.pulls source.new ≤ S.pulls source.old + MAX_READS }
 {
     read_part(alloc, set, source)
 }

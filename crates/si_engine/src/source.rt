@@ -3,6 +3,7 @@ ghost use Rattle.std.specs.Prelude.{◌≡◌, ◌<◌, ◌≤◌, ◌+◌, ◌�
 ghost use Rattle.std.specs.Io.KnownBytes.{ReadConsumes, IsAtEnd};
 ghost use Rattle.si_engine.specs.Reading.{CanGive};
 
+use crate::limits::{MAX_BYTES, MAX_READS};
 use std::alloc::{AllocError, AllocFailed, Global};
 
 /// A source or a sink has failed.
@@ -30,10 +31,6 @@ pub trait Source {
     fn failed(&self) -> bool
         ensures { result ≡ has_failed self.now };
 }
-
-pub const MOST_BYTES: usize = 16_777_216;
-
-pub const MOST_READS: usize = 16_777_217;
 
 const PIECE: usize = 65_536;
 
@@ -74,27 +71,27 @@ fn zeros(alloc: Global, count: usize) -> Result<Vec<u8>, AllocError>
 
 /// All bytes of a source. At `TooLong` and `Memory` some of them may have been read.
 pub fn read_whole<S: Source>(alloc: Global, source: &mut S) -> Result<Vec<u8>, InputFault>
-    ensures short { IfOk result (λ v. vec_len v ≤ MOST_BYTES) }
+    ensures short { IfOk result (λ v. vec_len v ≤ MAX_BYTES) }
     ensures whole { IfOk result (λ v. CanGive (S.left source.old) v.items) }
     ensures end { OnOk result (IsAtEnd (S.left source.new)) }
     ensures long { IsErrOf result InputFault.TooLong
-        → IfSome (S.left source.old) (λ all. MOST_BYTES < length all) }
+        → IfSome (S.left source.old) (λ all. MAX_BYTES < length all) }
     ensures fault { IsErrOf result InputFault.ReadFault ↔ (S.has_failed source.new ≡ true) }
-    ensures reads { S.pulls source.new ≤ S.pulls source.old + MOST_READS }
+    ensures reads { S.pulls source.new ≤ S.pulls source.old + MAX_READS }
 {
     if source.failed() {
         return Err(InputFault::ReadFault);
     }
     let mut all = Vec::new(alloc);
     let mut piece = zeros(alloc, PIECE)?;
-    for _turn in 0..MOST_READS {
+    for _turn in 0..MAX_READS {
         let Ok(count) = source.pull(&mut piece) else {
             return Err(InputFault::ReadFault);
         };
         if count == 0 {
             return Ok(all);
         }
-        if count > MOST_BYTES - all.len() {
+        if count > MAX_BYTES - all.len() {
             return Err(InputFault::TooLong);
         }
         all.extend_from_slice(&piece[..count])?;

@@ -11,7 +11,7 @@ use crate::run_command::{MEMORY_LINE, run_command, write_last};
 use crate::status::Status;
 use clap::Error;
 use clap::error::ErrorKind;
-use si_engine::{MOST_READS, Sink, Source};
+use si_engine::{MAX_READS, Sink, Source};
 use std::alloc::Global;
 use std::io;
 
@@ -28,7 +28,7 @@ pub fn carry_out<S: Source, K: Sink>(
         (K.has_failed sink.new) (K.taken sink.old) (K.taken sink.new) result) }
     ensures none { IfErr arguments.now (λ error. Writes (IsWordless (error_kind error))
         (K.has_failed sink.new) (K.taken sink.old) (K.taken sink.new) result) }
-    ensures reads { S.pulls source.new ≤ S.pulls source.old + MOST_READS }
+    ensures reads { S.pulls source.new ≤ S.pulls source.old + MAX_READS }
 {
     match arguments {
         Ok(words) => follow(rt, words.as_slice(), source, sink),
@@ -43,9 +43,10 @@ fn follow<S: Source, K: Sink>(
     source: &mut S,
     sink: &mut K,
 ) -> Status
-    ensures end { Writes (IsEnd (map string_bytes words.now) (S.left source.old) (S.has_failed source.new))
+    ensures end { Writes (IsEnd (map string_bytes words.now) (S.left source.old)
+        (S.has_failed source.new))
         (K.has_failed sink.new) (K.taken sink.old) (K.taken sink.new) result }
-    ensures reads { S.pulls source.new ≤ S.pulls source.old + MOST_READS }
+    ensures reads { S.pulls source.new ≤ S.pulls source.old + MAX_READS }
 {
     match read_words(rt.alloc(), words) {
         Ok(mode) => run_command(rt, mode, source, sink),

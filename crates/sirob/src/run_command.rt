@@ -16,7 +16,7 @@ use crate::run_fault::{RunFault, fault_line};
 use crate::status::Status;
 use crate::verify::verify_part;
 use crate::words::explain;
-use si_engine::{MOST_READS, Sink, Source, read_whole, write_whole};
+use si_engine::{MAX_READS, Sink, Source, read_whole, write_whole};
 use std::alloc::Global;
 
 /// The line of want of memory.
@@ -76,7 +76,7 @@ fn answer_source<S: Source, K: Sink>(
     ensures done { WritesOr (Err write_lost)
         (IsSourceDone mode (S.left source.old) (S.has_failed source.new))
         (K.has_failed sink.new) (K.taken sink.old) (K.taken sink.new) result }
-    ensures reads { S.pulls source.new ≤ S.pulls source.old + MOST_READS }
+    ensures reads { S.pulls source.new ≤ S.pulls source.old + MAX_READS }
 {
     let input = read_whole(alloc, source)?;
     let ended = answer_input(alloc, mode, &input, sink);
@@ -132,7 +132,7 @@ pub fn run_command<S: Source, K: Sink>(
 ) -> Status
     ensures reply { Writes (IsReply mode (S.left source.old) (S.has_failed source.new))
         (K.has_failed sink.new) (K.taken sink.old) (K.taken sink.new) result }
-    ensures reads { S.pulls source.new ≤ S.pulls source.old + MOST_READS }
+    ensures reads { S.pulls source.new ≤ S.pulls source.old + MAX_READS }
 {
     if sink.failed() {
         return Status::Faulty;

@@ -1,0 +1,16 @@
+//! How much of the input is taken.
+
+/// The most bytes of a part of the input.
+pub const MAX_BYTES: usize = 16_777_216;
+
+/// The most reads that a part takes: one for each byte, and one that tells its end.
+pub const MAX_READS: usize = 16_777_217;
+
+/// The most events of a script.
+pub const MAX_EVENTS: usize = 1_000_000;
+
+/// The greatest number of an instance.
+pub const MAX_INSTANCE: usize = 4_294_967_295;
+
+/// The most steps that a line asks for.
+pub const MAX_STEPS: usize = 1000;
