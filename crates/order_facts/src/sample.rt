@@ -94,7 +94,8 @@ fn choose(
     requires matrix { IsMatrixOf matrix.now facts.now facts.now }
     requires consistent { IsConsistent facts.now }
     requires sampled { All (λ c. IsSampled facts.now c.node c.number) choices.old.items }
-    ensures sampled { OnOk result (All (λ c. IsSampled facts.now c.node c.number) choices.new.items) }
+    ensures sampled { OnOk result
+        (All (λ c. IsSampled facts.now c.node c.number) choices.new.items) }
     ensures has { OnOk result (HasChoice choices.new.items node) }
     ensures keeps { OnOk result
         ((n : Node) → HasChoice choices.old.items n → HasChoice choices.new.items n) }
@@ -111,7 +112,8 @@ impl Sample {
     pub(crate) fn of(alloc: Global, facts: &[Fact], matrix: &Matrix) -> Result<Sample, AllocError>
         requires matrix { IsMatrixOf matrix.now facts.now facts.now }
         requires consistent { IsConsistent facts.now }
-        ensures nearest { IfOk result (λ s. (n : Node) → IsSampled facts.now n (sample_number s n)) }
+        ensures nearest { IfOk result
+            (λ s. (n : Node) → IsSampled facts.now n (sample_number s n)) }
         ensures meets { IfOk result
             (λ s. IsOfI64 (assignment_of s) × Meets (assignment_of s) facts.now) }
     {

@@ -23,7 +23,8 @@ fn step_from(facts: &[Fact], reached: &[Reached], node: Node) -> Option<usize>
     ensures found { IfSome result
         (λ k. (k < length reached.now) × IsStep facts.now node (reached_at reached.now k).node) }
     ensures none { IfNone result
-        ((k : ℕ) → k < length reached.now → ¬ IsStep facts.now node (reached_at reached.now k).node) }
+        ((k : ℕ) → k < length reached.now
+        → ¬ IsStep facts.now node (reached_at reached.now k).node) }
 {
     for (k, r) in reached.iter().enumerate() {
         if is_step(facts, node, r.node) {
@@ -82,7 +83,8 @@ fn walk(alloc: Global, reached: &[Reached], x: Node, first: usize) -> Result<Vec
     requires descending { IsDescending reached.now }
     ensures length { IfOk result
         (λ chain. length chain.items ≤ (reached_at reached.now first).steps + 2) }
-    ensures chain { IfOk result (λ chain. (facts : List Fact) (y : Node) → IsTrail facts y reached.now
+    ensures chain { IfOk result (λ chain. (facts : List Fact) (y : Node)
+        → IsTrail facts y reached.now
         → IsStep facts x (reached_at reached.now first).node
         → IsChain facts chain.items × RunsBetween x y chain.items) }
 {

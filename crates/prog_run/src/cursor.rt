@@ -41,7 +41,8 @@ impl<'a> Cursor<'a> {
     /// Leaves the innermost block at its end.
     fn leave(&mut self, progress: &mut Progress<'a>) -> Standing
         requires { self.old.rest.now ≡ [] }
-        ensures { IsLocalStep result (cursor_tree self.old) progress.old (cursor_tree self.new) progress.new }
+        ensures { IsLocalStep result (cursor_tree self.old) progress.old
+            (cursor_tree self.new) progress.new }
     {
         let Some(outer) = self.outer.pop() else {
             return Standing::Over(End::Ready);
@@ -54,7 +55,8 @@ impl<'a> Cursor<'a> {
 
     /// Enters a block, behind which the run goes on with `rest`.
     fn enter(&mut self, block: &'a Block, rest: &'a [Stmt], names: usize) -> Result<(), AllocError>
-        ensures ok { OnOk result (cursor_tree self.new ≡ entered (block_tree block.now) names (stmts_tree rest.now) (cursor_tree self.old)) }
+        ensures ok { OnOk result (cursor_tree self.new ≡ entered (block_tree block.now) names
+            (stmts_tree rest.now) (cursor_tree self.old)) }
         ensures err { OnErr result (cursor_tree self.new ≡ cursor_tree self.old) }
     {
         self.outer.push(OpenBlock {
@@ -68,8 +70,11 @@ impl<'a> Cursor<'a> {
 
     /// Does a statement without the store, or leaves a block.
     fn local_step(&mut self, progress: &mut Progress<'a>) -> Result<Standing, AllocError>
-        ensures step { IfOk result (λ s. IsLocalStep s (cursor_tree self.old) progress.old (cursor_tree self.new) progress.new) }
-        ensures err { OnErr result ((cursor_tree self.new ≡ cursor_tree self.old) × (progress.new ≡ progress.old)) }
+        ensures step { IfOk result
+            (λ s. IsLocalStep s (cursor_tree self.old) progress.old
+            (cursor_tree self.new) progress.new) }
+        ensures err { OnErr result ((cursor_tree self.new ≡ cursor_tree self.old)
+            × (progress.new ≡ progress.old)) }
     {
         let Some((stmt, rest)) = self.rest.split_first() else {
             return Ok(self.leave(progress));
@@ -110,9 +115,12 @@ impl<'a> Cursor<'a> {
 
     /// Goes on to the next statement of the store, or to the end.
     fn settle(&mut self, progress: &mut Progress<'a>) -> Result<Option<End>, AllocError>
-        ensures settled { IfOk result (λ end. IsSettled end (cursor_tree self.old) progress.old (cursor_tree self.new) progress.new) }
+        ensures settled { IfOk result
+            (λ end. IsSettled end (cursor_tree self.old) progress.old
+            (cursor_tree self.new) progress.new) }
         ensures keeps { KeepsStore progress.old progress.new }
-        ensures err { OnErr result (SameTodo (cursor_tree self.old) progress.old (cursor_tree self.new) progress.new) }
+        ensures err { OnErr result
+            (SameTodo (cursor_tree self.old) progress.old (cursor_tree self.new) progress.new) }
     {
         'steps: loop {
             match self.local_step(progress)? {
@@ -131,9 +139,12 @@ impl<'a> Cursor<'a> {
         progress: &mut Progress<'a>,
     ) -> Result<Step<'a>, AllocError>
         requires { is_store (cursor_tree self.old).here.rest ≡ true }
-        ensures step { IfOk result (λ s. IsStep tables.now s (cursor_tree self.old) progress.old (cursor_tree self.new) progress.new) }
+        ensures step { IfOk result
+            (λ s. IsStep tables.now s (cursor_tree self.old) progress.old
+            (cursor_tree self.new) progress.new) }
         ensures looks { progress.new.looks ≡ progress.old.looks }
-        ensures err { OnErr result ((cursor_tree self.new ≡ cursor_tree self.old) × (progress.new ≡ progress.old)) }
+        ensures err { OnErr result ((cursor_tree self.new ≡ cursor_tree self.old)
+            × (progress.new ≡ progress.old)) }
     {
         let Some((stmt, rest)) = self.rest.split_first() else {
             unreachable!()
@@ -164,9 +175,13 @@ impl<'a> Cursor<'a> {
         tables: &[TableDecl],
         progress: &mut Progress<'a>,
     ) -> Result<Step<'a>, AllocError>
-        ensures step { IfOk result (λ s. IsStep tables.now s (cursor_tree self.old) progress.old (cursor_tree self.new) progress.new) }
+        ensures step { IfOk result
+            (λ s. IsStep tables.now s (cursor_tree self.old) progress.old
+            (cursor_tree self.new) progress.new) }
         ensures looks { progress.new.looks ≡ progress.old.looks }
-        ensures err { OnErr result (SameTodo (cursor_tree self.old) progress.old (cursor_tree self.new) progress.new × KeepsStore progress.old progress.new) }
+        ensures err { OnErr result
+            (SameTodo (cursor_tree self.old) progress.old (cursor_tree self.new) progress.new
+            × KeepsStore progress.old progress.new) }
     {
         if let Some(end) = self.settle(progress)? {
             return Ok(Step::Over(end));

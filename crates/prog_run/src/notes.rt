@@ -41,7 +41,8 @@ pub fn note_put(
     cell: Cell,
     value: i64,
 ) -> Result<(), AllocError>
-    ensures ok { OnOk result (progress.new ≡ did (Deed.Put cell value) (wrote cell (Some value) progress.old)) }
+    ensures ok { OnOk result (progress.new ≡ did (Deed.Put cell value)
+        (wrote cell (Some value) progress.old)) }
     ensures err { OnErr result (progress.new ≡ progress.old) }
 {
     let deeds = progress.deeds.len();
@@ -59,7 +60,8 @@ pub fn note_removed(
     progress: &mut Progress<'_>,
     cell: Cell,
 ) -> Result<(), AllocError>
-    ensures ok { OnOk result (progress.new ≡ did (Deed.Removed cell) (wrote cell None progress.old)) }
+    ensures ok { OnOk result (progress.new ≡ did (Deed.Removed cell)
+        (wrote cell None progress.old)) }
     ensures err { OnErr result (progress.new ≡ progress.old) }
 {
     let deeds = progress.deeds.len();

@@ -115,8 +115,11 @@ pub fn look_at_region(
     tally: Tally,
     rows: &[(Cell, i64)],
 ) -> Result<Option<i64>, AllocError>
-    ensures look { OnOk result (progress.new ≡ looked (region_look progress.old.changes region rows.now) progress.old) }
-    ensures value { IfOk result (λ v. let changes = progress.old.changes.cells in v ≡ exact (tally_of tally (rows_seen region changes (rows_without (own_cells region changes) rows.now)))) }
+    ensures look { OnOk result
+        (progress.new ≡ looked (region_look progress.old.changes region rows.now) progress.old) }
+    ensures value { IfOk result (λ v. let changes = progress.old.changes.cells in
+        v ≡ exact (tally_of tally
+        (rows_seen region changes (rows_without (own_cells region changes) rows.now)))) }
     ensures err { OnErr result (progress.new ≡ progress.old) }
 {
     let changes = own_changes(alloc, &progress.changes, &region)?;

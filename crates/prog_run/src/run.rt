@@ -40,9 +40,21 @@ impl<'a> Model for Run<'a> {
 
     ghost coded = { Prim.hlevel (codes, stmt.the_row.coded) };
 
-    ghost view = { λ r. record { tables = r.tables.now; program = r.program.now; args = r.args; deeds = r.progress.deeds; replies = r.progress.replies; changes = r.progress.changes; looks = r.progress.looks; asked = question_in r.asked; end = r.end } };
+    ghost view = { λ r. record {
+      tables = r.tables.now;
+      program = r.program.now;
+      args = r.args;
+      deeds = r.progress.deeds;
+      replies = r.progress.replies;
+      changes = r.progress.changes;
+      looks = r.progress.looks;
+      asked = question_in r.asked;
+      end = r.end;
+    } };
 
-    ghost invariant = { λ r. IsTrueTo r.tables.now (program_tree r.program.now) r.args r.end (cursor_tree r.cursor) r.progress × IsWaiting r.tables.now r.asked r.end (cursor_tree r.cursor) r.progress };
+    ghost invariant = { λ r. IsTrueTo r.tables.now (program_tree r.program.now) r.args r.end
+        (cursor_tree r.cursor) r.progress
+        × IsWaiting r.tables.now r.asked r.end (cursor_tree r.cursor) r.progress };
 }
 
 /// The parameters with their arguments.
@@ -72,9 +84,11 @@ impl<'a> Run<'a> {
         program: usize,
         args: &[i64],
     ) -> Result<Self, RunFault>
-        ensures refused { IsBeginRefusedBy (begin_fault (slice_get set.now.programs.items program) args.now) result }
+        ensures refused { IsBeginRefusedBy
+            (begin_fault (slice_get set.now.programs.items program) args.now) result }
         ensures begun { IfOk result (λ run. run ≡ begun set.now.tables.items run.program args.now) }
-        ensures program { IfOk result (λ run. slice_get set.now.programs.items program ≡ Some run.program) }
+        ensures program { IfOk result
+            (λ run. slice_get set.now.programs.items program ≡ Some run.program) }
     {
         let draft = set.draft();
         let Some(program) = draft.programs.get(program) else {
@@ -104,8 +118,10 @@ impl<'a> Run<'a> {
     /// it repeats the question, and after the end the end. After want of memory it can be called again.
     pub fn advance(&mut self) -> Result<Next, AllocError>
         ensures advance { IfOk result (λ next. IsAdvance next self.old self.new) }
-        ensures unchanged { IfOk result (λ next. (cell : Cell) → next ≡ Next.Get cell → change_at self.new.changes cell ≡ None) }
-        ensures repeats { IfSome (standing_next self.old) (λ next. (result ≡ Ok next) × (self.new ≡ self.old)) }
+        ensures unchanged { IfOk result (λ next. (cell : Cell) → next ≡ Next.Get cell
+            → change_at self.new.changes cell ≡ None) }
+        ensures repeats { IfSome (standing_next self.old)
+            (λ next. (result ≡ Ok next) × (self.new ≡ self.old)) }
         ensures true_run { IsTrueRun self.new }
         ensures same { SameBegin self.old self.new }
         ensures err { OnErr result (self.new ≡ record self.old { replies = self.new.replies }) }
@@ -127,7 +143,9 @@ impl<'a> Run<'a> {
     /// Answers the question for a cell with what it holds in the snapshot, and finishes the statement.
     pub fn answer_get(&mut self, held: Option<i64>) -> Result<Next, AnswerFault>
         ensures refused { IsRefusedBy (get_fault (asked_cell self.old.asked)) result }
-        ensures answered { IfOk result (λ next. IfSome (asked_cell self.old.asked) (λ cell. IsAnswered (Look.One cell held) next self.old self.new)) }
+        ensures answered { IfOk result
+            (λ next. IfSome (asked_cell self.old.asked)
+            (λ cell. IsAnswered (Look.One cell held) next self.old self.new)) }
         ensures true_run { IsTrueRun self.new }
         ensures same { SameBegin self.old self.new }
         ensures err { OnErr result (self.new ≡ self.old) }
@@ -145,7 +163,10 @@ impl<'a> Run<'a> {
     /// Answers the question for a region with its rows in the snapshot, and finishes the statement.
     pub fn answer_scan(&mut self, rows: &[(Cell, i64)]) -> Result<Next, AnswerFault>
         ensures refused { IsRefusedBy (scan_fault (asked_region self.old.asked) rows.now) result }
-        ensures answered { IfOk result (λ next. IfSome (asked_region self.old.asked) (λ region. IsAnswered (region_look self.old.changes region rows.now) next self.old self.new)) }
+        ensures answered { IfOk result
+            (λ next. IfSome (asked_region self.old.asked)
+            (λ region. IsAnswered (region_look self.old.changes region rows.now) next self.old
+            self.new)) }
         ensures true_run { IsTrueRun self.new }
         ensures same { SameBegin self.old self.new }
         ensures err { OnErr result (self.new ≡ self.old) }

@@ -57,7 +57,8 @@ pub fn answer_cell<'a>(
     usage: CellUse<'a>,
     held: Option<i64>,
 ) -> Result<Step<'a>, AllocError>
-    ensures flow { IfOk result (λ s. let found = looked (Look.One cell held) progress.old in IsFlow (use_flow (use_tree usage.entry) cell held found) s found progress.new) }
+    ensures flow { IfOk result (λ s. let found = looked (Look.One cell held) progress.old in
+        IsFlow (use_flow (use_tree usage.entry) cell held found) s found progress.new) }
     ensures err { OnErr result (progress.new ≡ progress.old) }
 {
     let looks = progress.looks.len();
@@ -78,8 +79,11 @@ pub fn answer_region<'a>(
     name: &'a Name,
     rows: &[(Cell, i64)],
 ) -> Result<Step<'a>, AllocError>
-    ensures flow { IfOk result (λ s. let changes = progress.old.changes in let found = looked (region_look changes region rows.now) progress.old in
-        IsFlow (rows_flow tally name.now region (rows_seen region changes.cells (rows_without (own_cells region changes.cells) rows.now)) found) s found progress.new) }
+    ensures flow { IfOk result (λ s. let changes = progress.old.changes in
+        let found = looked (region_look changes region rows.now) progress.old in
+        let outside = rows_without (own_cells region changes.cells) rows.now in
+        IsFlow (rows_flow tally name.now region (rows_seen region changes.cells outside) found)
+        s found progress.new) }
     ensures err { OnErr result (progress.new ≡ progress.old) }
 {
     let looks = progress.looks.len();
@@ -99,7 +103,9 @@ fn use_cell<'a>(
     usage: CellUse<'a>,
     held: Option<i64>,
 ) -> Result<Step<'a>, AllocError>
-    ensures flow { IfOk result (λ s. IsFlow (use_flow (use_tree usage.entry) cell held progress.old) s progress.old progress.new) }
+    ensures flow { IfOk result
+        (λ s. IsFlow (use_flow (use_tree usage.entry) cell held progress.old) s progress.old
+        progress.new) }
     ensures err { OnErr result (progress.new ≡ progress.old) }
 {
     match usage {
@@ -129,7 +135,9 @@ fn get<'a>(
     name: &'a Name,
     otherwise: &Expr,
 ) -> Result<Step<'a>, AllocError>
-    ensures flow { IfOk result (λ s. IsFlow (get_flow name.now (expr_tree otherwise.now) cell held progress.old) s progress.old progress.new) }
+    ensures flow { IfOk result
+        (λ s. IsFlow (get_flow name.now (expr_tree otherwise.now) cell held progress.old) s
+        progress.old progress.new) }
     ensures err { OnErr result (progress.new ≡ progress.old) }
 {
     let value = match held {
@@ -150,7 +158,8 @@ fn need<'a>(
     held: Option<i64>,
     name: &'a Name,
 ) -> Result<Step<'a>, AllocError>
-    ensures flow { IfOk result (λ s. IsFlow (need_flow name.now cell held progress.old) s progress.old progress.new) }
+    ensures flow { IfOk result
+        (λ s. IsFlow (need_flow name.now cell held progress.old) s progress.old progress.new) }
     ensures err { OnErr result (progress.new ≡ progress.old) }
 {
     let Some(value) = held else {
@@ -166,7 +175,8 @@ fn lacks<'a>(
     cell: Cell,
     held: Option<i64>,
 ) -> Result<Step<'a>, AllocError>
-    ensures flow { IfOk result (λ s. IsFlow (lacks_flow cell held progress.old) s progress.old progress.new) }
+    ensures flow { IfOk result
+        (λ s. IsFlow (lacks_flow cell held progress.old) s progress.old progress.new) }
     ensures err { OnErr result (progress.new ≡ progress.old) }
 {
     if held.is_some() {
@@ -184,7 +194,8 @@ fn insert<'a>(
     held: Option<i64>,
     value: i64,
 ) -> Result<Step<'a>, AllocError>
-    ensures flow { IfOk result (λ s. IsFlow (insert_flow value cell held progress.old) s progress.old progress.new) }
+    ensures flow { IfOk result
+        (λ s. IsFlow (insert_flow value cell held progress.old) s progress.old progress.new) }
     ensures err { OnErr result (progress.new ≡ progress.old) }
 {
     let None = held else {
@@ -202,7 +213,9 @@ fn bind_tally<'a>(
     name: &'a Name,
     value: Option<i64>,
 ) -> Result<Step<'a>, AllocError>
-    ensures flow { IfOk result (λ s. IsFlow (found_flow name.now (tally_deed tally region) value progress.old) s progress.old progress.new) }
+    ensures flow { IfOk result
+        (λ s. IsFlow (found_flow name.now (tally_deed tally region) value progress.old) s
+        progress.old progress.new) }
     ensures err { OnErr result (progress.new ≡ progress.old) }
 {
     let Some(value) = value else {

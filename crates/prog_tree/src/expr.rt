@@ -120,7 +120,8 @@ impl Comparison {
     }
 
     pub(crate) fn copy(&self, alloc: Global) -> Result<Self, AllocError>
-        ensures { IfOk result (λ comparison. comparison_tree comparison ≡ comparison_tree self.now) }
+        ensures { IfOk result (λ comparison.
+            comparison_tree comparison ≡ comparison_tree self.now) }
     {
         Ok(Comparison {
             negated: self.negated,

@@ -77,7 +77,8 @@ fn copy_tables(tables: &Vec<TableDecl>) -> Result<Vec<TableDecl>, AllocError>
 }
 
 fn copy_programs(programs: &Vec<Program>) -> Result<Vec<Program>, AllocError>
-    ensures { IfOk result (λ copies. map program_tree copies.items ≡ map program_tree programs.now.items) }
+    ensures { IfOk result (λ copies.
+        map program_tree copies.items ≡ map program_tree programs.now.items) }
 {
     let mut copies = Vec::with_capacity(*programs.allocator(), programs.len())?;
     for program in programs {

@@ -32,7 +32,8 @@ fn certificate_line(alloc: Global, certificate: &Certificate) -> Result<String, 
 
 // What an analysis finds of a set, as a text with the status behind it.
 fn finding_text(alloc: Global, set: &ProgramSet) -> Result<(String, Status), RunFault>
-    ensures ok { IfOk result (λ told. GivesFinding (draft_tree set.now) (string_bytes told.0) told.1) }
+    ensures ok { IfOk result (λ told. GivesFinding (draft_tree set.now)
+        (string_bytes told.0) told.1) }
     ensures err { IfErr result (λ fault. is_memory fault ≡ false
         → IsUnanalysedBy (draft_tree set.now) fault) }
 {

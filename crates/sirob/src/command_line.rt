@@ -68,7 +68,8 @@ fn top<'a>(alloc: Global) -> Result<Command<'a>, AllocError>
 
 fn add<'a>(above: Command<'a>, sub: Command<'a>) -> Result<Command<'a>, AllocError>
     requires { (fields_of sub).has_globals ≡ false }
-    ensures { IfOk result (λ c. app_of c ≡ with_subcommand (app_of above.entry) (shape_of sub.entry)) }
+    ensures { IfOk result (λ c. app_of c ≡ with_subcommand (app_of above.entry)
+        (shape_of sub.entry)) }
 {
     above.subcommand(sub)
 }
@@ -108,7 +109,8 @@ fn command<'a>(alloc: Global) -> Result<Command<'a>, AllocError>
 
 /// What the words ask for. The first is the program's name.
 pub fn read_words<'a>(alloc: Global, words: &'a [String]) -> Result<Mode, Error>
-    ensures meaning { IfOk result (λ m. IsNamedBy m (subcommand_of sirob_app (map string_bytes words.entry.now))) }
+    ensures meaning { IfOk result
+        (λ m. IsNamedBy m (subcommand_of sirob_app (map string_bytes words.entry.now))) }
     ensures fault { FailsBy (fault_of sirob_app (map string_bytes words.entry.now)) result }
 {
     let command = command(alloc)?;

@@ -89,7 +89,8 @@ fn first_line(bytes: &[u8]) -> &[u8]
     ensures some { 0 < length result.now }
     ensures within { length result.now ≤ length bytes.now }
     ensures front { result.now ≡ take (length result.now) bytes.now }
-    ensures first { full_lines_of bytes.now ≡ result.now ∷ full_lines_of (drop (length result.now) bytes.now) }
+    ensures first { full_lines_of bytes.now ≡ result.now ∷ full_lines_of
+        (drop (length result.now) bytes.now) }
 {
     match first_feed(bytes) {
         Some(at) => &bytes[..at + 1],
