@@ -25,7 +25,7 @@ pub fn is_question(x: &Path, a: usize, y: &Path, b: usize) -> bool
         number: b,
         access: ys[b],
     };
-    asks(first, second)
+    asks(&first, &second)
 }
 
 fn is_same(one: Term, other: Term) -> bool

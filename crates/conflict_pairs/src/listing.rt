@@ -13,12 +13,12 @@ use prog_paths::{Placed, all_places, asks, is_too_large, question_between};
 use std::alloc::{AllocError, Global};
 
 /// The entry of the question of an access against another.
-fn entry(alloc: Global, paths: &[Path], first: Placed, second: Placed) -> Result<Entry, AllocError>
+fn entry(alloc: Global, paths: &[Path], first: &Placed, second: &Placed) -> Result<Entry, AllocError>
     requires single { All ChangesSingleCells paths.now }
-    requires first { IsAt paths.now first }
-    requires second { IsAt paths.now second }
-    requires asks { asks first second ≡ true }
-    ensures question { IfOk result (λ e. e.question ≡ question_between first second) }
+    requires first { IsAt paths.now first.now }
+    requires second { IsAt paths.now second.now }
+    requires asks { asks first.now second.now ≡ true }
+    ensures question { IfOk result (λ e. e.question ≡ question_between first.now second.now) }
     ensures right { IfOk result (λ e. IsRightEntry paths.now e) }
 {
     let x = &paths[first.node];
@@ -34,16 +34,16 @@ fn entry(alloc: Global, paths: &[Path], first: Placed, second: Placed) -> Result
 fn push_question(
     alloc: Global,
     paths: &[Path],
-    first: Placed,
-    second: Placed,
+    first: &Placed,
+    second: &Placed,
     entries: &mut Vec<Entry>,
 ) -> Result<(), AllocError>
     requires single { All ChangesSingleCells paths.now }
-    requires first { IsAt paths.now first }
-    requires second { IsAt paths.now second }
+    requires first { IsAt paths.now first.now }
+    requires second { IsAt paths.now second.now }
     requires right { All (λ e. IsRightEntry paths.now e) entries.old.items }
     ensures questions { OnOk result (map (λ e. e.question) entries.new.items
-        ≡ map (λ e. e.question) entries.old.items ++ asked_by first (second ∷ [])) }
+        ≡ map (λ e. e.question) entries.old.items ++ asked_by first.now (second.now ∷ [])) }
     ensures right { OnOk result (All (λ e. IsRightEntry paths.now e) entries.new.items) }
 {
     if !asks(first, second) {
@@ -58,20 +58,20 @@ fn push_question(
 fn push_asked(
     alloc: Global,
     paths: &[Path],
-    first: Placed,
+    first: &Placed,
     places: &[Placed],
     entries: &mut Vec<Entry>,
 ) -> Result<(), AllocError>
     requires single { All ChangesSingleCells paths.now }
-    requires first { IsAt paths.now first }
+    requires first { IsAt paths.now first.now }
     requires places { All (λ p. IsAt paths.now p) places.now }
     requires right { All (λ e. IsRightEntry paths.now e) entries.old.items }
     ensures questions { OnOk result (map (λ e. e.question) entries.new.items
-        ≡ map (λ e. e.question) entries.old.items ++ asked_by first places.now) }
+        ≡ map (λ e. e.question) entries.old.items ++ asked_by first.now places.now) }
     ensures right { OnOk result (All (λ e. IsRightEntry paths.now e) entries.new.items) }
 {
     for second in places {
-        push_question(alloc, paths, first, *second, entries)?;
+        push_question(alloc, paths, first, second, entries)?;
     }
     Ok(())
 }
@@ -86,7 +86,7 @@ fn all_entries(alloc: Global, paths: &[Path], places: &[Placed]) -> Result<Vec<E
 {
     let mut entries = Vec::new(alloc);
     for first in places {
-        push_asked(alloc, paths, *first, places, &mut entries)?;
+        push_asked(alloc, paths, first, places, &mut entries)?;
     }
     Ok(entries)
 }

@@ -7,10 +7,10 @@ use crate::places::{Placed, asks};
 use prog_check::{Access, Path};
 
 /// The count, with what one access asks of those of a node.
-fn count_node(first: Placed, node: usize, accesses: &[Access], before: usize) -> usize
+fn count_node(first: &Placed, node: usize, accesses: &[Access], before: usize) -> usize
     requires { before ≤ limit + 1 }
     ensures { result
-        ≡ min (before + length (asked_by first (placed_from node 0 accesses.now))) (limit + 1) }
+        ≡ min (before + length (asked_by first.now (placed_from node 0 accesses.now))) (limit + 1) }
 {
     let mut count = before;
     for (number, access) in accesses.iter().enumerate() {
@@ -19,7 +19,7 @@ fn count_node(first: Placed, node: usize, accesses: &[Access], before: usize) ->
             number,
             access: *access,
         };
-        if count <= MAX_QUESTIONS && asks(first, second) {
+        if count <= MAX_QUESTIONS && asks(first, &second) {
             count += 1;
         }
     }
@@ -27,9 +27,9 @@ fn count_node(first: Placed, node: usize, accesses: &[Access], before: usize) ->
 }
 
 /// The count, with what one access asks of those of all nodes.
-fn count_by(first: Placed, paths: &[Path], before: usize) -> usize
+fn count_by(first: &Placed, paths: &[Path], before: usize) -> usize
     requires { before ≤ limit + 1 }
-    ensures { result ≡ min (before + length (asked_by first (all_from 0 paths.now))) (limit + 1) }
+    ensures { result ≡ min (before + length (asked_by first.now (all_from 0 paths.now))) (limit + 1) }
 {
     let mut count = before;
     for (node, path) in paths.iter().enumerate() {
@@ -52,7 +52,7 @@ fn count_of(node: usize, accesses: &[Access], paths: &[Path], before: usize) -> 
             number,
             access: *access,
         };
-        count = count_by(first, paths, count);
+        count = count_by(&first, paths, count);
     }
     count
 }

@@ -32,15 +32,15 @@ fn kinds_depend(mine: Kind, theirs: Kind) -> bool
     asks_read_write(mine, theirs) || asks_write_read(mine, theirs)
 }
 
-fn is_in_order(first: Placed, second: Placed) -> bool
-    ensures { result ≡ is_in_order first second }
+fn is_in_order(first: &Placed, second: &Placed) -> bool
+    ensures { result ≡ is_in_order first.now second.now }
 {
     first.node < second.node || (first.node == second.node && first.number <= second.number)
 }
 
 /// Whether an access asks something of another.
-pub fn asks(first: Placed, second: Placed) -> bool
-    ensures { result ≡ asks first second }
+pub fn asks(first: &Placed, second: &Placed) -> bool
+    ensures { result ≡ asks first.now second.now }
 {
     let mine = first.access.kind;
     let theirs = second.access.kind;
@@ -49,8 +49,8 @@ pub fn asks(first: Placed, second: Placed) -> bool
 }
 
 /// The question of an access against another.
-pub fn question_between(first: Placed, second: Placed) -> Question
-    ensures { result ≡ question_between first second }
+pub fn question_between(first: &Placed, second: &Placed) -> Question
+    ensures { result ≡ question_between first.now second.now }
 {
     Question {
         x: first.node,

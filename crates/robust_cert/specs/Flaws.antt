@@ -1,5 +1,6 @@
 -- What is wrong with one entry.
 use Rattle.std.specs.Prelude.{◌≡◌, ℕ, ℤ, ◌<ℤ◌, ◌*◌, List, length, Some, slice_get}
+use Rattle.std.specs.Borrow.{Bor}
 use Rattle.order_facts.specs.declared.steps.Node.{Node}
 use Rattle.order_facts.specs.declared.steps.Node.TheVariants.{Number}
 use Rattle.order_facts.specs.declared.steps.Fact.{Fact}
@@ -24,8 +25,8 @@ pub record IsAskedPair (nodes : List Path) (q : Question) (mine theirs : Access)
   pub asks : Asks q mine.kind theirs.kind
 
 -- the facts of the question between two accesses
-abbrev pub facts_between : Access × Access → List Fact
-facts_between asked = question_facts asked.0 asked.1
+abbrev pub facts_between : Bor Access × Bor Access → List Fact
+facts_between asked = question_facts asked.0.now asked.1.now
 
 -- the nodes begin with a number and end with a smaller one
 pub record RunsDown (chain : List Node) : Type 0 where

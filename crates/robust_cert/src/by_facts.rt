@@ -76,15 +76,15 @@ fn is_fact(mine: &Access, theirs: &Access, lo: Node, hi: Node) -> bool
 }
 
 /// Whether `b` may stand behind `a` in a chain.
-fn is_step(asked: &(Access, Access), a: Node, b: Node) -> bool
-    ensures { IsTrue result ↔ IsStep (facts_between asked.now) a b }
+fn is_step(asked: (&Access, &Access), a: Node, b: Node) -> bool
+    ensures { IsTrue result ↔ IsStep (facts_between asked.entry) a b }
 {
-    is_fact(&asked.0, &asked.1, a, b) || is_plain_step(a, b)
+    is_fact(asked.0, asked.1, a, b) || is_plain_step(a, b)
 }
 
 /// Whether each node is a step from the one before, and there is one.
-fn is_chain(asked: &(Access, Access), chain: &[Node]) -> bool
-    ensures { IsTrue result ↔ IsChain (facts_between asked.now) chain.now }
+fn is_chain(asked: (&Access, &Access), chain: &[Node]) -> bool
+    ensures { IsTrue result ↔ IsChain (facts_between asked.entry) chain.now }
 {
     if chain.is_empty() {
         return false;
@@ -124,15 +124,15 @@ fn runs_between(from: Node, to: Node, chain: &[Node]) -> bool
 }
 
 /// Whether a chain runs from a number to a smaller one.
-pub fn falls(asked: &(Access, Access), chain: &[Node]) -> bool
-    ensures { IsTrue result ↔ Falls (facts_between asked.now) chain.now }
+pub fn falls(asked: (&Access, &Access), chain: &[Node]) -> bool
+    ensures { IsTrue result ↔ Falls (facts_between asked.entry) chain.now }
 {
     runs_down(chain) && is_chain(asked, chain)
 }
 
 /// Whether a chain runs from one node to another.
-pub fn runs(asked: &(Access, Access), from: Node, to: Node, chain: &[Node]) -> bool
-    ensures { IsTrue result ↔ Runs (facts_between asked.now) from to chain.now }
+pub fn runs(asked: (&Access, &Access), from: Node, to: Node, chain: &[Node]) -> bool
+    ensures { IsTrue result ↔ Runs (facts_between asked.entry) from to chain.now }
 {
     runs_between(from, to, chain) && is_chain(asked, chain)
 }

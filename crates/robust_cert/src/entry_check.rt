@@ -33,7 +33,7 @@ fn check_entry(paths: &[Path], entries: &[Entry], k: usize) -> Result<(), CertFa
     if !is_behind_last(entries, k) {
         return Err(CertFault::EntryOrder(k));
     }
-    match check_reason(paths, &asked, entry) {
+    match check_reason(paths, asked, entry) {
         Ok(()) => Ok(()),
         Err(Flaw::Cover) => Err(CertFault::BadCover(k)),
         Err(Flaw::Chain) => Err(CertFault::BadChain(k)),

@@ -32,24 +32,24 @@ fn access_at(paths: &[Path], node: usize, number: usize) -> Option<&Access>
 }
 
 /// The two accesses of a question, if the paths ask it.
-pub fn asked_pair(paths: &[Path], question: Numbers) -> Option<(Access, Access)>
+pub fn asked_pair(paths: &[Path], question: Numbers) -> Option<(&Access, &Access)>
     ensures some { IfSome result (λ pair.
-        IsAskedPair paths.now (question_with question) pair.0 pair.1) }
+        IsAskedPair paths.now (question_with question) pair.0.now pair.1.now) }
     ensures none { IfNone result (¬ IsQuestion paths.now (question_with question)) }
 {
-    let mine = *access_at(paths, question.x, question.a)?;
-    let theirs = *access_at(paths, question.y, question.b)?;
+    let mine = access_at(paths, question.x, question.a)?;
+    let theirs = access_at(paths, question.y, question.b)?;
     let first = Placed {
         node: question.x,
         number: question.a,
-        access: mine,
+        access: *mine,
     };
     let second = Placed {
         node: question.y,
         number: question.b,
-        access: theirs,
+        access: *theirs,
     };
-    if asks(first, second) {
+    if asks(&first, &second) {
         Some((mine, theirs))
     } else {
         None
@@ -58,23 +58,23 @@ pub fn asked_pair(paths: &[Path], question: Numbers) -> Option<(Access, Access)>
 
 /// Whether a chain runs from a term of the first access to one of the second, and another back.
 fn run_both(
-    asked: &(Access, Access),
+    asked: (&Access, &Access),
     mine: Term,
     theirs: Term,
     there: &[Node],
     back: &[Node],
 ) -> bool
     ensures { IsTrue result
-        ↔ (Runs (facts_between asked.now) (mine_node mine) (their_node theirs) there.now
-        × Runs (facts_between asked.now) (their_node theirs) (mine_node mine) back.now) }
+        ↔ (Runs (facts_between asked.entry) (mine_node mine) (their_node theirs) there.now
+        × Runs (facts_between asked.entry) (their_node theirs) (mine_node mine) back.now) }
 {
     let mine = mine_node(mine);
     let theirs = their_node(theirs);
     runs(asked, mine, theirs, there) && runs(asked, theirs, mine, back)
 }
 
-fn show_second(asked: &(Access, Access), terms: Option<(Term, Term)>, chains: &[Chain]) -> bool
-    ensures { IsTrue result ↔ ShowEqual (facts_between asked.now) (items_of terms) chains.now }
+fn show_second(asked: (&Access, &Access), terms: Option<(Term, Term)>, chains: &[Chain]) -> bool
+    ensures { IsTrue result ↔ ShowEqual (facts_between asked.entry) (items_of terms) chains.now }
 {
     match (terms, chains) {
         (None, []) => true,
@@ -86,9 +86,9 @@ fn show_second(asked: &(Access, Access), terms: Option<(Term, Term)>, chains: &[
 }
 
 /// Whether the chains show the two cells equal, column by column.
-fn show_equal(asked: &(Access, Access), mine: &Access, theirs: &Access, chains: &[Chain]) -> bool
+fn show_equal(asked: (&Access, &Access), mine: &Access, theirs: &Access, chains: &[Chain]) -> bool
     ensures { IsTrue result
-        ↔ ShowEqual (facts_between asked.now) (key_pairs mine.now theirs.now) chains.now }
+        ↔ ShowEqual (facts_between asked.entry) (key_pairs mine.now theirs.now) chains.now }
 {
     let [there, back, others @ ..] = chains else {
         return false;
@@ -113,26 +113,26 @@ fn column_count(mine: &Access, theirs: &Access) -> usize
 }
 
 /// The two accesses that a cover names, if they may cover the question and have so many chains.
-fn covers_with(
-    paths: &[Path],
+fn covers_with<'a>(
+    paths: &'a [Path],
     question: Numbers,
-    asked: &(Access, Access),
+    asked: (&Access, &Access),
     cover: (usize, usize),
     count: usize,
-) -> Option<(Access, Access)>
-    requires { IsAskedPair paths.now (question_with question) asked.now.0 asked.now.1 }
+) -> Option<(&'a Access, &'a Access)>
+    requires { IsAskedPair paths.now (question_with question) asked.0.now asked.1.now }
     ensures some { IfSome result (λ pair. CoversWith paths.now (question_with question)
-        cover.0 cover.1 count pair.0 pair.1) }
+        cover.0 cover.1 count pair.0.now pair.1.now) }
     ensures none { IfNone result ((of_mine of_theirs : Access) → ¬ CoversWith paths.now
         (question_with question) cover.0 cover.1 count of_mine of_theirs) }
 {
-    let mine = *access_at(paths, question.x, cover.0)?;
-    let theirs = *access_at(paths, question.y, cover.1)?;
+    let mine = access_at(paths, question.x, cover.0)?;
+    let theirs = access_at(paths, question.y, cover.1)?;
     if asks_read_write(asked.0.kind, asked.1.kind)
-        && may_cover(&mine)
-        && may_cover(&theirs)
+        && may_cover(mine)
+        && may_cover(theirs)
         && mine.table == theirs.table
-        && count == 2 * column_count(&mine, &theirs)
+        && count == 2 * column_count(mine, theirs)
     {
         Some((mine, theirs))
     } else {
@@ -141,8 +141,8 @@ fn covers_with(
 }
 
 /// Whether an entry, whose question asks of two accesses, says what holds.
-pub fn check_reason(paths: &[Path], asked: &(Access, Access), entry: &Entry) -> Result<(), Flaw>
-    requires { IsAskedPair paths.now (question_of entry.now) asked.now.0 asked.now.1 }
+pub fn check_reason(paths: &[Path], asked: (&Access, &Access), entry: &Entry) -> Result<(), Flaw>
+    requires { IsAskedPair paths.now (question_of entry.now) asked.0.now asked.1.now }
     ensures fitting { OnOk result (IsFitting paths.now entry.now) }
     ensures chains { OnOk result (ChainsHold paths.now entry.now) }
     ensures flaw { IfErr result (λ flaw. IsFlawOf paths.now entry.now flaw) }
@@ -167,7 +167,7 @@ pub fn check_reason(paths: &[Path], asked: &(Access, Access), entry: &Entry) -> 
             else {
                 return Err(Flaw::Cover);
             };
-            if show_equal(asked, &mine, &theirs, chains.as_slice()) {
+            if show_equal(asked, mine, theirs, chains.as_slice()) {
                 Ok(())
             } else {
                 Err(Flaw::Chain)

@@ -34,11 +34,11 @@ fn enter_question(
     left: &mut Left,
     entries: &[Entry],
     cursor: usize,
-    first: Placed,
-    second: Placed,
+    first: &Placed,
+    second: &Placed,
 ) -> usize
-    requires { IsReady entries.now (asked_by first (second ∷ [])) cursor }
-    ensures { Passes entries.now (asked_by first (second ∷ [])) cursor result left.old left.new }
+    requires { IsReady entries.now (asked_by first.now (second.now ∷ [])) cursor }
+    ensures { Passes entries.now (asked_by first.now (second.now ∷ [])) cursor result left.old left.new }
 {
     if !asks(first, second) {
         return cursor;
@@ -54,15 +54,15 @@ fn enter_asked(
     left: &mut Left,
     entries: &[Entry],
     cursor: usize,
-    first: Placed,
+    first: &Placed,
     places: &[Placed],
 ) -> usize
-    requires { IsReady entries.now (asked_by first places.now) cursor }
-    ensures { Passes entries.now (asked_by first places.now) cursor result left.old left.new }
+    requires { IsReady entries.now (asked_by first.now places.now) cursor }
+    ensures { Passes entries.now (asked_by first.now places.now) cursor result left.old left.new }
 {
     let mut at = cursor;
     for second in places {
-        at = enter_question(left, entries, at, first, *second);
+        at = enter_question(left, entries, at, first, second);
     }
     at
 }
@@ -77,7 +77,7 @@ fn enter_all(left: &mut Left, entries: &[Entry], places: &[Placed])
 {
     let mut at = 0;
     for first in places {
-        at = enter_asked(left, entries, at, *first, places);
+        at = enter_asked(left, entries, at, first, places);
     }
 }
 

@@ -6,7 +6,7 @@ use Rattle.conflict_pairs.proofs.Entries.{asked-none}
 use Rattle.conflict_pairs.proofs.listing.push_question.Goals as goal
 
 pub returns-then-not-asks-clause-questions : goal.returns-then-not-asks-clause-questions
-returns-then-not-asks-clause-questions c = asked-none c.args.entries.now.items c.args.first c.args.second (sym c.asks.ensures ∙ c.if-not-asks.true)
+returns-then-not-asks-clause-questions c = asked-none c.args.entries.now.items c.args.first.now c.args.second.now (sym c.asks.ensures ∙ c.if-not-asks.true)
 
 pub returns-clause-right : goal.returns-clause-right
 returns-clause-right c =

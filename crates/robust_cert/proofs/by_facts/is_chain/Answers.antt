@@ -7,14 +7,14 @@ use Rattle.robust_cert.proofs.by_facts.is_chain.Goals as goal
 pub returns-then-not-is_step : goal.returns-then-not-is_step
 returns-then-not-is_step c =
     let i = c.loop-i.i in
-    let s = step_at (facts_between c.args.asked.now) c.args.chain.now i _ _ c.is_step.result (omega arith) (omega arith) c.is_step.ensures in
-    (λ t. absurd (false≢true t), λ h. absurd (iff_false s c.if-not-is_step.true (at-from_IsChain (facts_between c.args.asked.now) c.args.chain.now h (i - 1) (omega arith))))
+    let s = step_at (facts_between c.args.asked) c.args.chain.now i _ _ c.is_step.result (omega arith) (omega arith) c.is_step.ensures in
+    (λ t. absurd (false≢true t), λ h. absurd (iff_false s c.if-not-is_step.true (at-from_IsChain (facts_between c.args.asked) c.args.chain.now h (i - 1) (omega arith))))
 
 pub loop-i-preserved : goal.loop-i-preserved
 loop-i-preserved c =
     let i = c.loop-i.i in
-    let s = step_at (facts_between c.args.asked.now) c.args.chain.now i _ _ c.is_step.result (omega arith) (omega arith) c.is_step.ensures in
-    λ k h. step_more (facts_between c.args.asked.now) c.args.chain.now i k (omega arith) h c.loop-i.invariant (s.0 c.if-not-is_step.false)
+    let s = step_at (facts_between c.args.asked) c.args.chain.now i _ _ c.is_step.result (omega arith) (omega arith) c.is_step.ensures in
+    λ k h. step_more (facts_between c.args.asked) c.args.chain.now i k (omega arith) h c.loop-i.invariant (s.0 c.if-not-is_step.false)
 
 pub returns : goal.returns
-returns c = (λ _. IsChain-from_at (facts_between c.args.asked.now) c.args.chain.now (let ne = eqb-false (length c.args.chain.now) 0 (sym c.is_empty.ensures ∙ c.if-is_empty.false) in omega arith) (λ k h. c.loop-i.invariant k (omega arith)), λ _. refl)
+returns c = (λ _. IsChain-from_at (facts_between c.args.asked) c.args.chain.now (let ne = eqb-false (length c.args.chain.now) 0 (sym c.is_empty.ensures ∙ c.if-is_empty.false) in omega arith) (λ k h. c.loop-i.invariant k (omega arith)), λ _. refl)
