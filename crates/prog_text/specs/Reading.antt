@@ -55,6 +55,11 @@ unexpected ts = Err (Unexpected (length ts))
 abbrev pub same_sign : Sign → Sign → Bool
 same_sign = sameb the_type
 
+-- any token
+abbrev pub next_at : List Token → Reading Token
+next_at (u ∷ ts) = Ok (u, ts)
+next_at [] = unexpected []
+
 -- the tokens behind a sign or word, where it comes next
 abbrev pub after_sign : Sign → List Token → Option (List Token)
 after_sign u (t.Sign v ∷ ts) = if same_sign v u then Some ts else None

@@ -1,6 +1,6 @@
 ghost use Rattle.prog_tree.specs.Tree.{relation_sign, comparison_tree, clause_tree, test_tree};
 ghost use Rattle.prog_text.specs.Cursor.{Reads};
-ghost use Rattle.prog_text.specs.Reading.{relation_at, compared_at, comparison_at, conjunction_at, test_at};
+ghost use Rattle.prog_text.specs.Reading.{relation_at, comparison_at, conjunction_at, test_at};
 
 use crate::cursor::Cursor;
 use crate::expressions::expr;
@@ -13,11 +13,7 @@ fn relation(cursor: &mut Cursor<'_>) -> Result<Relation, ReadError>
     ensures { Reads relation_sign relation_at result cursor.old cursor.new }
 {
     let tokens = cursor.tokens;
-    let [first, rest @ ..] = tokens else {
-        return Err(unexpected(tokens));
-    };
-    cursor.tokens = rest;
-    match first {
+    match cursor.next()? {
         Token::Sign(Sign::Less) => Ok(Relation::Less),
         Token::Sign(Sign::LessEqual) => Ok(Relation::LessEqual),
         Token::Sign(Sign::Greater) => Ok(Relation::Greater),
@@ -28,11 +24,12 @@ fn relation(cursor: &mut Cursor<'_>) -> Result<Relation, ReadError>
     }
 }
 
-// Two expressions with a sign between them that compares.
-#[tactic(auto, unfolding(crate::specs::Reading::compared_at))]
-fn compared(cursor: &mut Cursor<'_>, negated: bool) -> Result<Comparison, ReadError>
-    ensures { Reads comparison_tree (compared_at negated) result cursor.old cursor.new }
+// Two expressions with a sign between them that compares; a `not` in front negates it.
+#[tactic(auto, unfolding(crate::specs::Reading::comparison_at, crate::specs::Reading::compared_at))]
+fn comparison(cursor: &mut Cursor<'_>) -> Result<Comparison, ReadError>
+    ensures { Reads comparison_tree comparison_at result cursor.old cursor.new }
 {
+    let negated = cursor.eat(Sign::Not);
     let left = expr(cursor)?;
     let relation = relation(cursor)?;
     let right = expr(cursor)?;
@@ -42,18 +39,6 @@ fn compared(cursor: &mut Cursor<'_>, negated: bool) -> Result<Comparison, ReadEr
         relation,
         right,
     })
-}
-
-// A comparison, which a `not` negates.
-#[tactic(auto, unfolding(crate::specs::Reading::comparison_at))]
-fn comparison(cursor: &mut Cursor<'_>) -> Result<Comparison, ReadError>
-    ensures { Reads comparison_tree comparison_at result cursor.old cursor.new }
-{
-    if cursor.eat(Sign::Not) {
-        compared(cursor, true)
-    } else {
-        compared(cursor, false)
-    }
 }
 
 // Comparisons with `and` between them.

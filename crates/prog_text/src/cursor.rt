@@ -1,7 +1,7 @@
 //! The parser's place among the tokens.
 ghost use Rattle.std.specs.Prelude.{◌≡◌, [], Result, Ok, Err};
 ghost use Rattle.prog_text.specs.Cursor.{Reads, Eats, itself};
-ghost use Rattle.prog_text.specs.Reading.{Gives, expect, end_at, name_at};
+ghost use Rattle.prog_text.specs.Reading.{Gives, expect, end_at, name_at, next_at};
 
 use crate::read_error::{ReadError, unexpected};
 use crate::token::{Sign, Token};
@@ -17,6 +17,17 @@ pub struct Cursor<'a> {
 }
 
 impl<'a> Cursor<'a> {
+    /// Reads a token, whichever it is.
+    pub fn next(&mut self) -> Result<&'a Token<'a>, ReadError>
+        ensures { Reads (λ token. token.now) next_at result self.old self.new }
+    {
+        let [first, rest @ ..] = self.tokens else {
+            return Err(unexpected(self.tokens));
+        };
+        self.tokens = rest;
+        Ok(first)
+    }
+
     /// Reads a sign or word, where it comes next.
     pub fn eat(&mut self, sign: Sign) -> bool
         ensures { Eats sign result self.old self.new }
@@ -48,15 +59,10 @@ impl<'a> Cursor<'a> {
     pub fn name(&mut self) -> Result<Name, ReadError>
         ensures { Reads itself name_at result self.old self.new }
     {
-        let [first, rest @ ..] = self.tokens else {
-            return Err(unexpected(self.tokens));
-        };
-        match first {
-            Token::Name(word) => {
-                self.tokens = rest;
-                Ok(Name::new(self.alloc, word.as_str())?)
-            }
-            _ => Err(unexpected(self.tokens)),
+        let tokens = self.tokens;
+        match self.next()? {
+            Token::Name(word) => Ok(Name::new(self.alloc, word.as_str())?),
+            _ => Err(unexpected(tokens)),
         }
     }
 

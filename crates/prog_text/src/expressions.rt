@@ -33,11 +33,7 @@ fn negative(cursor: &mut Cursor<'_>) -> Result<Expr, ReadError>
     ensures { Reads expr_tree negative_at result cursor.old cursor.new }
 {
     let tokens = cursor.tokens;
-    let [first, rest @ ..] = tokens else {
-        return Err(unexpected(tokens));
-    };
-    cursor.tokens = rest;
-    match first {
+    match cursor.next()? {
         Token::Number(number) => Ok(Expr::Literal(number.negated())),
         _ => Err(unexpected(tokens)),
     }
@@ -49,11 +45,7 @@ fn factor(cursor: &mut Cursor<'_>) -> Result<Expr, ReadError>
     ensures { Reads expr_tree (factor_at expr_at) result cursor.old cursor.new }
 {
     let tokens = cursor.tokens;
-    let [first, rest @ ..] = tokens else {
-        return Err(unexpected(tokens));
-    };
-    cursor.tokens = rest;
-    match first {
+    match cursor.next()? {
         Token::Number(number) => Ok(Expr::Literal(number.literal())),
         Token::Sign(Sign::Minus) => negative(cursor),
         Token::Sign(Sign::Least) => Ok(Expr::Literal(i64::MIN)),

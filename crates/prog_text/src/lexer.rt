@@ -164,14 +164,6 @@ fn number_piece(bytes: &[u8]) -> Result<Piece<'_>, LexError>
     }
 }
 
-// The bytes behind a comment, of which the sign is read.
-fn behind_comment(bytes: &[u8]) -> &[u8]
-    ensures { result.now ≡ drop (prefix_len is_comment_byte bytes.now) bytes.now }
-{
-    let len = comment_len(bytes);
-    &bytes[len..]
-}
-
 #[tactic(auto, unfolding(crate::specs::Lexing::piece_at))]
 fn next_piece(bytes: &[u8]) -> Result<Piece<'_>, LexError>
     requires { 0 < length bytes.now }
@@ -185,9 +177,10 @@ fn next_piece(bytes: &[u8]) -> Result<Piece<'_>, LexError>
             rest: &bytes[1..],
         })
     } else if first == b'#' {
+        let comment = &bytes[1..];
         Ok(Piece {
             token: None,
-            rest: behind_comment(&bytes[1..]),
+            rest: &comment[comment_len(comment)..],
         })
     } else if is_letter(first) {
         word_piece(bytes)

@@ -15,19 +15,15 @@ use std::alloc::Global;
 fn arity(cursor: &mut Cursor<'_>) -> Result<Arity, ReadError>
     ensures { Reads itself arity_at result cursor.old cursor.new }
 {
-    let [first, rest @ ..] = cursor.tokens else {
-        return Err(unexpected(cursor.tokens));
+    let tokens = cursor.tokens;
+    let Token::Number(number) = cursor.next()? else {
+        return Err(unexpected(tokens));
     };
-    let Token::Number(number) = first else {
-        return Err(unexpected(cursor.tokens));
-    };
-    let arity = match number.literal() {
-        1 => Arity::One,
-        2 => Arity::Two,
-        _ => return Err(unexpected(cursor.tokens)),
-    };
-    cursor.tokens = rest;
-    Ok(arity)
+    match number.literal() {
+        1 => Ok(Arity::One),
+        2 => Ok(Arity::Two),
+        _ => Err(unexpected(tokens)),
+    }
 }
 
 // Behind the word `table`.

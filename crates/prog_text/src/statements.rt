@@ -127,11 +127,7 @@ pub fn statement(cursor: &mut Cursor<'_>) -> Result<Stmt, ReadError>
     ensures { ReadsPlain statement_at result cursor.old cursor.new }
 {
     let tokens = cursor.tokens;
-    let [first, rest @ ..] = tokens else {
-        return Err(unexpected(tokens));
-    };
-    cursor.tokens = rest;
-    match first {
+    match cursor.next()? {
         Token::Sign(Sign::Let) => let_binding(cursor),
         Token::Sign(Sign::Lacks) => {
             let Keyed { table, key } = last_key(cursor)?;

@@ -85,54 +85,33 @@ pub enum Token<'a> {
 /// A reserved word, or what is neither a word nor a number.
 #[derive(Clone, Copy, Debug, PartialEq, Eq)]
 pub enum Sign {
-    /// `table`
+    // Reserved words, each spelled as its name in small letters.
     Table,
-    /// `grow`
     Grow,
-    /// `program`
     Program,
-    /// `let`
     Let,
-    /// `get`
     Get,
-    /// `need`
     Need,
-    /// `count`
     Count,
-    /// `sum`
     Sum,
-    /// `lacks`
     Lacks,
-    /// `put`
     Put,
-    /// `insert`
     Insert,
-    /// `delete`
     Delete,
-    /// `keep`
     Keep,
-    /// `if`
     If,
-    /// `else`
     Else,
-    /// `reply`
     Reply,
-    /// `abort`
     Abort,
-    /// `or`
     Or,
-    /// `and`
     And,
-    /// `not`
     Not,
-    /// `least`
     Least,
-    /// `greatest`
     Greatest,
-    /// `each`
     Each,
-    /// `in`
     In,
+
+    // Signs, each with its spelling.
     /// `(`
     Open,
     /// `)`

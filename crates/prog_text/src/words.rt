@@ -55,19 +55,12 @@ fn lookup(mut table: &[(&[u8], Sign)], bytes: &[u8]) -> Option<Sign>
     None
 }
 
-// The reserved word that is spelled so, or None.
-fn reserved_word(bytes: &[u8]) -> Option<Sign>
-    ensures { result ≡ sign_in (map (λ entry. (entry.0.now, entry.1)) RESERVED) bytes.now }
-{
-    lookup(&RESERVED, bytes)
-}
-
 /// The token of a word: a reserved one, or a name.
 pub fn word_token(bytes: &[u8]) -> Token<'_>
     requires { list_all is_word_byte bytes.now ≡ true }
     ensures { result ≡ word_token bytes.now }
 {
-    match reserved_word(bytes) {
+    match lookup(&RESERVED, bytes) {
         Some(sign) => Token::Sign(sign),
         None => Token::Name(word(bytes)),
     }
