@@ -13,7 +13,12 @@ use prog_paths::{Placed, all_places, asks, is_too_large, question_between};
 use std::alloc::{AllocError, Global};
 
 /// The entry of the question of an access against another.
-fn entry(alloc: Global, paths: &[Path], first: &Placed, second: &Placed) -> Result<Entry, AllocError>
+fn entry(
+    alloc: Global,
+    paths: &[Path],
+    first: &Placed,
+    second: &Placed,
+) -> Result<Entry, AllocError>
     requires single { All ChangesSingleCells paths.now }
     requires first { IsAt paths.now first.now }
     requires second { IsAt paths.now second.now }

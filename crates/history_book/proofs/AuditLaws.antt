@@ -21,8 +21,8 @@ use Rattle.history_book.specs.TrueBook.{IsTrueActive, IsTrueBook, StartsRise}
 use Rattle.history_book.specs.View.{BookView, instance_of, history_of}
 use Rattle.history_book.specs.declared.audit.AuditFault.{AuditFault}
 use Rattle.history_book.specs.declared.audit.AuditFault.TheVariants as audit
-use Rattle.history_book.specs.declared.row.Ending.TheVariants.{Committed}
-use Rattle.history_book.specs.declared.row.HistoryRow.{HistoryRow}
+use Rattle.history_book.specs.declared.instances.row.Ending.TheVariants.{Committed}
+use Rattle.history_book.specs.declared.instances.row.HistoryRow.{HistoryRow}
 use Rattle.history_book.proofs.ActiveLaws.{Entry}
 
 -- one instance is begun where none is active

@@ -26,9 +26,9 @@ use Rattle.history_book.specs.TrueBook.{IsTrueRow, IsTrueEnding, committed, Star
 use Rattle.history_book.specs.Ticket.{TicketView}
 use Rattle.history_book.specs.View.{BookView, instance_of, history_of, commits_in, done_in, with_start, active_at, without, least_start, most_begins, is_full, fault_by, begin_fault_of, next_instance}
 use Rattle.history_book.specs.declared.fault.BeginFault.TheVariants as begin
-use Rattle.history_book.specs.declared.row.Ending.{Ending}
-use Rattle.history_book.specs.declared.row.Ending.TheVariants as ending
-use Rattle.history_book.specs.declared.row.HistoryRow.{HistoryRow}
+use Rattle.history_book.specs.declared.instances.row.Ending.{Ending}
+use Rattle.history_book.specs.declared.instances.row.Ending.TheVariants as ending
+use Rattle.history_book.specs.declared.instances.row.HistoryRow.{HistoryRow}
 use Rattle.history_book.proofs.ActiveLaws.{Entry, All-removed, StartsRise-removed, length-removed, fewer-removed, All-found, with_start-is, StartsRise-push, insert_last, least-first, least-below, least-within}
 use Rattle.history_book.proofs.EndingLaws.{true_rows-push, true_row-in_longer, true_endings-push, committed-append, range-push}
 use Rattle.history_book.proofs.HistoryLaws.{length-commits_of, commits_of-push, lawful-nil, lawful-push}

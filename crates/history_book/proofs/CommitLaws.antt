@@ -18,8 +18,8 @@ use Rattle.history_book.specs.Runs.{IsOwnRun, IsCommit, IsEndedRow, IsCommitted,
 use Rattle.history_book.specs.Ticket.{TicketView}
 use Rattle.history_book.specs.TrueBook.{IsTrueRow, IsTrueClash, IsTrueAbort}
 use Rattle.history_book.specs.View.{BookView, instance_of, row_of, history_of, commits_in, state_in, done_in}
-use Rattle.history_book.specs.declared.row.Ending.TheVariants as ending
-use Rattle.history_book.specs.declared.row.HistoryRow.{HistoryRow}
+use Rattle.history_book.specs.declared.instances.row.Ending.TheVariants as ending
+use Rattle.history_book.specs.declared.instances.row.HistoryRow.{HistoryRow}
 use Rattle.history_book.proofs.HistoryLaws.{eval_of-found, length-commits_of}
 
 -- what a run of an instance came to is what the instance does

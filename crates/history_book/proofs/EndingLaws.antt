@@ -14,9 +14,9 @@ use Rattle.version_store.specs.declared.clash.Clash.{Clash}
 use Rattle.history_book.specs.History.{Instance, commits_of, evaluation}
 use Rattle.history_book.specs.TrueBook.{IsTrueRow, IsTrueClash, IsTrueEnding, committed}
 use Rattle.history_book.specs.View.{instance_of}
-use Rattle.history_book.specs.declared.row.Ending.{Ending}
-use Rattle.history_book.specs.declared.row.Ending.TheVariants as ending
-use Rattle.history_book.specs.declared.row.HistoryRow.{HistoryRow}
+use Rattle.history_book.specs.declared.instances.row.Ending.{Ending}
+use Rattle.history_book.specs.declared.instances.row.Ending.TheVariants as ending
+use Rattle.history_book.specs.declared.instances.row.HistoryRow.{HistoryRow}
 use Rattle.history_book.proofs.HistoryLaws.{length-commits_of, commits_of-push, evaluation-push}
 
 module _ (set : DraftTree) (opening : TableState) (h : List Instance) (i : Instance) where

@@ -8,7 +8,7 @@ use Rattle.prog_tree.specs.Table.{Cells, is_in, is_cell_among}
 use Rattle.version_store.specs.Regions.{is_between, AreCorners}
 use Rattle.history_book.specs.Reduced.{Pairs, Adds, RiseFrom, AreWithin, AllRiseWithin, steps_of, writers_steps, reader_pairs, region_pairs}
 use Rattle.history_book.specs.Traces.{takes_in}
-use Rattle.history_book.specs.declared.trace.Sight.TheVariants as sight
+use Rattle.history_book.specs.declared.orders.trace.Sight.TheVariants as sight
 use Rattle.history_book.proofs.PairLaws.{Walk, walk_begins, walk_on}
 
 abbrev pub Both : (rest all : Pairs) (old now : List (List ℕ)) (n : ℕ) (left : Cells (List ℕ)) → Type 0

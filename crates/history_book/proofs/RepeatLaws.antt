@@ -15,7 +15,7 @@ use Rattle.history_book.specs.History.{Instance, eval_of, IsCalled}
 use Rattle.history_book.specs.Repeats.{newest_state, done_again, IsSameAgain, begun_again}
 use Rattle.history_book.specs.Runs.{IsCommit}
 use Rattle.history_book.specs.View.{BookView, instance_of, history_of, commits_in, done_in}
-use Rattle.history_book.specs.declared.row.HistoryRow.{HistoryRow}
+use Rattle.history_book.specs.declared.instances.row.HistoryRow.{HistoryRow}
 use Rattle.history_book.proofs.HistoryLaws.{length-commits_of}
 
 -- what an instance does is the same, wherever it was begun

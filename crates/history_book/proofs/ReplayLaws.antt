@@ -24,7 +24,7 @@ use Rattle.prog_tree.specs.Tree.{program_tree}
 use Rattle.history_book.specs.Audit.{CameTo}
 use Rattle.history_book.specs.Runs.{IsOwnRun}
 use Rattle.history_book.specs.View.{BookView, instance_of, state_in, done_in}
-use Rattle.history_book.specs.declared.row.HistoryRow.{HistoryRow}
+use Rattle.history_book.specs.declared.instances.row.HistoryRow.{HistoryRow}
 use Rattle.history_book.proofs.CommitLaws.{own_run}
 
 -- one look more, which found what the state holds

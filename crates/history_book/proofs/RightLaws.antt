@@ -16,7 +16,7 @@ use Rattle.history_book.specs.TrueBook.{IsTrueRow}
 use Rattle.history_book.specs.View.{instance_of, history_of}
 use Rattle.history_book.specs.declared.audit.RowFault.{RowFault}
 use Rattle.history_book.specs.declared.audit.RowFault.TheVariants as row
-use Rattle.history_book.specs.declared.row.HistoryRow.{HistoryRow}
+use Rattle.history_book.specs.declared.instances.row.HistoryRow.{HistoryRow}
 use Rattle.history_book.proofs.ClashLaws.{last_touches}
 use Rattle.history_book.proofs.EndingLaws.{true_rows-push, true_row-in_longer}
 use Rattle.history_book.proofs.HistoryLaws.{lawful-nil, lawful-push, length-commits_of}

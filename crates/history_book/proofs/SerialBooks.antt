@@ -20,8 +20,8 @@ use Rattle.history_book.specs.Repeats.{newest_state, done_again, IsSameAgain, be
 use Rattle.history_book.specs.Serial.{Runs, Fits, is_each_once}
 use Rattle.history_book.specs.TrueBook.{IsTrueBook, IsTrueRow}
 use Rattle.history_book.specs.View.{BookView, new_book, instance_of, history_of}
-use Rattle.history_book.specs.declared.row.Ending.TheVariants.{Committed}
-use Rattle.history_book.specs.declared.row.HistoryRow.{HistoryRow}
+use Rattle.history_book.specs.declared.instances.row.Ending.TheVariants.{Committed}
+use Rattle.history_book.specs.declared.instances.row.HistoryRow.{HistoryRow}
 use Rattle.history_book.proofs.HistoryLaws.{length-commits_of, commits_of-push}
 use Rattle.history_book.proofs.EndingLaws.{few_commits}
 use Rattle.history_book.specs.Orders.{is_one_of}

@@ -5,7 +5,7 @@ use Rattle.std.proofs.lemmas.List.{drop_more}
 use Rattle.std.proofs.lemmas.Option.{none-some, same_Some}
 use Rattle.prog_tree.specs.Table.{Cells}
 use Rattle.history_book.specs.Reduced.{Pairs, Adds, sight_pairs, sights_pairs}
-use Rattle.history_book.specs.declared.trace.Sight.{Sight}
+use Rattle.history_book.specs.declared.orders.trace.Sight.{Sight}
 use Rattle.history_book.proofs.PairLaws.{Walk, walk_on, walk_skips}
 
 module _ (reader start : ℕ) (writers : Cells (List ℕ)) (all : Pairs) (old : List (List ℕ)) where

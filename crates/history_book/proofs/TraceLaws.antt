@@ -22,9 +22,9 @@ use Rattle.history_book.specs.Traces.{sight_of, trace_of, trace_in, traces_of, t
 use Rattle.prog_tree.specs.Tree.{draft_tree}
 use Rattle.history_book.specs.TrueBook.{IsTrueBook}
 use Rattle.history_book.specs.View.{BookView, instance_of, history_of, traces_in, trace_for}
-use Rattle.history_book.specs.declared.row.HistoryRow.{HistoryRow}
-use Rattle.history_book.specs.declared.order.OrderFault.{OrderFault}
-use Rattle.history_book.specs.declared.order.OrderFault.TheVariants as fault
+use Rattle.history_book.specs.declared.instances.row.HistoryRow.{HistoryRow}
+use Rattle.history_book.specs.declared.orders.order.OrderFault.{OrderFault}
+use Rattle.history_book.specs.declared.orders.order.OrderFault.TheVariants as fault
 use Rattle.history_book.proofs.HistoryLaws.{evaluation-push}
 use Rattle.history_book.proofs.ReducedLaws.{cycle_same}
 

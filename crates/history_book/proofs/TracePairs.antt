@@ -15,8 +15,8 @@ use Rattle.history_book.specs.Orders.{is_one_of, IsUpTo}
 use Rattle.history_book.specs.Reduced.{writers_of, numbers_found, HasWriters, RiseFrom, AreWithin, AllRiseWithin, Pairs, is_pair_among, steps_from, steps_of, writers_steps, last_seen, first_missed, seen_pairs, missed_pairs, reader_pairs, region_pairs, sight_pairs, sights_pairs, readers_pairs}
 use Rattle.history_book.specs.TraceView.{TraceView}
 use Rattle.history_book.specs.Traces.{takes_in, looked_at, changed_at, trace_found, trace_at, SeesEarlier, changes_again, sees_change, trace_depends}
-use Rattle.history_book.specs.declared.trace.Sight.{Sight}
-use Rattle.history_book.specs.declared.trace.Sight.TheVariants as sight
+use Rattle.history_book.specs.declared.orders.trace.Sight.{Sight}
+use Rattle.history_book.specs.declared.orders.trace.Sight.TheVariants as sight
 use Rattle.history_book.proofs.RiseLaws.{weaken, writers_rise, IsWriter, writer_changed, writer_upto, seen_is, missed_is}
 use Rattle.history_book.proofs.TestLaws.{lt_tells, le_tells, eq_told, eq_itself, ne_tells, apart_by_lt, same_itself, any_at}
 

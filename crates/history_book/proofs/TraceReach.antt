@@ -12,8 +12,8 @@ use Rattle.history_book.specs.Precedence.{precedes}
 use Rattle.history_book.specs.Reduced.{writers_of, numbers_found, numbers_at, HasWriters, RiseFrom, Pairs, is_pair_among, Adds, steps_from, steps_of, writers_steps, last_seen, first_missed, seen_pairs, missed_pairs, reader_pairs, region_pairs, sight_pairs, sights_pairs, readers_pairs}
 use Rattle.history_book.specs.TraceView.{TraceView}
 use Rattle.history_book.specs.Traces.{takes_in, looked_at, changed_at, trace_found, trace_at, SeesEarlier, changes_again, sees_change, misses_change, trace_depends}
-use Rattle.history_book.specs.declared.trace.Sight.{Sight}
-use Rattle.history_book.specs.declared.trace.Sight.TheVariants as sight
+use Rattle.history_book.specs.declared.orders.trace.Sight.{Sight}
+use Rattle.history_book.specs.declared.orders.trace.Sight.TheVariants as sight
 use Rattle.history_book.proofs.PairLaws.{among-append, both_pairs}
 use Rattle.history_book.proofs.RiseLaws.{at_least, writers_rise, IsWriter, changed_writer, seen_is, missed_is, seen_from, SeenFrom, missed_to, MissedTo}
 use Rattle.history_book.proofs.TracePairs.{OfWriters, Each, each_told, IsTraceOf, trace_of_upto, each_reduced}

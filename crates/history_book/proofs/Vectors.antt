@@ -12,8 +12,8 @@ use Rattle.prog_tree.specs.Table.{TableState}
 use Rattle.history_book.specs.History.{Instance, eval_of, commits_of, evaluation, state_after}
 use Rattle.history_book.specs.TrueBook.{committed}
 use Rattle.history_book.specs.View.{instance_of, row_of, nth_row, with_start, without, least_start}
-use Rattle.history_book.specs.declared.row.Ending.TheVariants as ending
-use Rattle.history_book.specs.declared.row.HistoryRow.{HistoryRow}
+use Rattle.history_book.specs.declared.instances.row.Ending.TheVariants as ending
+use Rattle.history_book.specs.declared.instances.row.HistoryRow.{HistoryRow}
 
 abbrev pub cell : ℤ → Cell
 cell k = record { table = 0; first = k; second = pos 0 }

@@ -1,7 +1,7 @@
 -- Whether any order fits.
 use Rattle.std.specs.Prelude.{ℕ, ◌<◌, ◌≤◌}
-use Rattle.history_book.specs.declared.fits.AnyFitFault.{AnyFitFault}
-use Rattle.history_book.specs.declared.fits.AnyFitFault.TheVariants as any
+use Rattle.history_book.specs.declared.orders.fits.AnyFitFault.{AnyFitFault}
+use Rattle.history_book.specs.declared.orders.fits.AnyFitFault.TheVariants as any
 
 -- of more commits no order is looked for
 abbrev pub most_ordered : ℕ

@@ -17,8 +17,8 @@ use Rattle.history_book.specs.declared.audit.AuditFault.{AuditFault}
 use Rattle.history_book.specs.declared.audit.AuditFault.TheVariants as audit
 use Rattle.history_book.specs.declared.audit.RowFault.{RowFault}
 use Rattle.history_book.specs.declared.audit.RowFault.TheVariants as row
-use Rattle.history_book.specs.declared.row.Ending.TheVariants.{Committed}
-use Rattle.history_book.specs.declared.row.HistoryRow.{HistoryRow}
+use Rattle.history_book.specs.declared.instances.row.Ending.TheVariants.{Committed}
+use Rattle.history_book.specs.declared.instances.row.HistoryRow.{HistoryRow}
 
 -- the run is over, and it came to just this
 pub record CameTo (run : RunView) (e : Evaluation) : Type 0 where

@@ -1,7 +1,7 @@
 -- How an order is found: what each number waits for, and where none is free.
 use Rattle.std.specs.Prelude.{◌≡◌, ◌≢◌, ℕ, ◌+◌, ◌<◌, ◌≤◌, ◌==◌, Bool, true, List, [], ◌∷◌, length, slice_index, codes, if◌then◌else◌}
-use Rattle.history_book.specs.declared.order.OrderFault.{OrderFault}
-use Rattle.history_book.specs.declared.order.OrderFault.TheVariants.{Cycle, Memory}
+use Rattle.history_book.specs.declared.orders.order.OrderFault.{OrderFault}
+use Rattle.history_book.specs.declared.orders.order.OrderFault.TheVariants.{Cycle, Memory}
 use Rattle.history_book.specs.Orders.{is_one_of, LeadsTo, IsCycle}
 use Rattle.history_book.specs.Precedence.{precedes}
 

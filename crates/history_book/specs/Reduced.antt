@@ -9,8 +9,8 @@ use Rattle.history_book.specs.Orders.{IsUpTo}
 use Rattle.history_book.specs.Precedence.{precedes}
 use Rattle.history_book.specs.TraceView.{TraceView}
 use Rattle.history_book.specs.Traces.{changed_at, takes_in}
-use Rattle.history_book.specs.declared.trace.Sight.{Sight}
-use Rattle.history_book.specs.declared.trace.Sight.TheVariants as sight
+use Rattle.history_book.specs.declared.orders.trace.Sight.{Sight}
+use Rattle.history_book.specs.declared.orders.trace.Sight.TheVariants as sight
 
 -- ---- the writers of a cell
 

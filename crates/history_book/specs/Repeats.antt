@@ -6,7 +6,7 @@ use Rattle.prog_tree.specs.Table.{TableState}
 use Rattle.prog_tree.specs.Tree.{draft_tree}
 use Rattle.history_book.specs.History.{eval_of}
 use Rattle.history_book.specs.View.{BookView, instance_of, state_in}
-use Rattle.history_book.specs.declared.row.HistoryRow.{HistoryRow}
+use Rattle.history_book.specs.declared.instances.row.HistoryRow.{HistoryRow}
 
 -- the state after all commits
 abbrev pub newest_state : BookView → TableState

@@ -17,9 +17,9 @@ use Rattle.history_book.specs.TrueBook.{IsTrueRow}
 use Rattle.history_book.specs.View.{BookView, instance_of, history_of, row_of, commits_in, state_in, done_in, active_at, without}
 use Rattle.history_book.specs.declared.fault.Place.{Place}
 use Rattle.history_book.specs.declared.fault.Place.TheVariants as place
-use Rattle.history_book.specs.declared.row.Ending.{Ending}
-use Rattle.history_book.specs.declared.row.Ending.TheVariants as ending
-use Rattle.history_book.specs.declared.row.HistoryRow.{HistoryRow}
+use Rattle.history_book.specs.declared.instances.row.Ending.{Ending}
+use Rattle.history_book.specs.declared.instances.row.Ending.TheVariants as ending
+use Rattle.history_book.specs.declared.instances.row.HistoryRow.{HistoryRow}
 
 -- ---- runs
 

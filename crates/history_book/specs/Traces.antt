@@ -9,8 +9,8 @@ use Rattle.prog_tree.specs.Syntax.{DraftTree}
 use Rattle.prog_tree.specs.Table.{TableState, cells_of, is_same_cell, is_cell_among, is_in}
 use Rattle.history_book.specs.History.{Instance, evaluation}
 use Rattle.history_book.specs.TraceView.{TraceView}
-use Rattle.history_book.specs.declared.trace.Sight.{Sight}
-use Rattle.history_book.specs.declared.trace.Sight.TheVariants as sight
+use Rattle.history_book.specs.declared.orders.trace.Sight.{Sight}
+use Rattle.history_book.specs.declared.orders.trace.Sight.TheVariants as sight
 
 -- a look without what it found
 abbrev pub sight_of : Look → Sight

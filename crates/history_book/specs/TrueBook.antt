@@ -14,9 +14,9 @@ use Rattle.version_store.specs.StandsFor.{StoreView, StandsFor}
 use Rattle.version_store.specs.declared.clash.Clash.{Clash}
 use Rattle.history_book.specs.History.{Instance, commits_of, evaluation, IsCalled, IsLawful}
 use Rattle.history_book.specs.View.{BookView, instance_of, history_of, commits_in, most_endings}
-use Rattle.history_book.specs.declared.row.Ending.{Ending}
-use Rattle.history_book.specs.declared.row.Ending.TheVariants as ending
-use Rattle.history_book.specs.declared.row.HistoryRow.{HistoryRow}
+use Rattle.history_book.specs.declared.instances.row.Ending.{Ending}
+use Rattle.history_book.specs.declared.instances.row.Ending.TheVariants as ending
+use Rattle.history_book.specs.declared.instances.row.HistoryRow.{HistoryRow}
 
 module _ (set : DraftTree) (opening : TableState) (h : List Instance) where
   -- the row is of an instance that sees commits of the history, and has the replies of its evaluation

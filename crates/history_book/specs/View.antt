@@ -19,8 +19,8 @@ use Rattle.history_book.specs.TraceView.{TraceView}
 use Rattle.history_book.specs.Traces.{trace_in, traces_of}
 use Rattle.history_book.specs.declared.fault.BeginFault.{BeginFault}
 use Rattle.history_book.specs.declared.fault.BeginFault.TheVariants.{NoSuchProgram, WrongArguments, Full, Memory}
-use Rattle.history_book.specs.declared.row.Ending.{Ending}
-use Rattle.history_book.specs.declared.row.HistoryRow.{HistoryRow}
+use Rattle.history_book.specs.declared.instances.row.Ending.{Ending}
+use Rattle.history_book.specs.declared.instances.row.HistoryRow.{HistoryRow}
 
 -- a book: its set and opening rows, the instances that committed, how each instance ended, the active
 -- instances by their numbers, how many begins succeeded, and the floor of the last vacuum

@@ -10,9 +10,9 @@ ghost use Rattle.history_book.specs.TrueBook.{IsTrueRow};
 ghost use Rattle.history_book.specs.View.{done_in, history_of, instance_of, most_endings, most_begins};
 
 use crate::book::{Book, is_ready, read_numbers};
+use crate::instances::row::HistoryRow;
+use crate::instances::snapshot::same_numbers;
 use crate::limits::MAX_ENDINGS;
-use crate::row::HistoryRow;
-use crate::snapshot::same_numbers;
 use prog_check::ProgramSet;
 use prog_run::Run;
 use prog_tree::Rows;

@@ -3,7 +3,7 @@
 ghost use Rattle.std.specs.Prelude.{◌≡◌};
 ghost use Rattle.history_book.specs.Refusals.{commit_fault_of, end_fault_of};
 
-use crate::ticket::Ticket;
+use crate::instances::ticket::Ticket;
 use prog_run::Run;
 use std::alloc::{AllocError, AllocFailed};
 use std::error::Error;

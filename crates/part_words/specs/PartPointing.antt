@@ -5,8 +5,8 @@ use Rattle.text_places.specs.Places.{column, line_at, IsLineFront}
 use Rattle.fault_words.specs.Pointing.{PointsAt}
 use Rattle.history_book.specs.declared.audit.AuditFault.{AuditFault}
 use Rattle.history_book.specs.declared.audit.AuditFault.TheVariants as a
-use Rattle.si_engine.specs.declared.script_fault.LineFault.{LineFault}
-use Rattle.si_engine.specs.declared.script_fault.LineFault.TheVariants as l
+use Rattle.si_engine.specs.declared.input.script_fault.LineFault.{LineFault}
+use Rattle.si_engine.specs.declared.input.script_fault.LineFault.TheVariants as l
 
 -- the line that the line of a fault names, which want of memory has not
 abbrev pub line_of_fault : LineFault → Option ℕ

@@ -1,7 +1,7 @@
 -- Reading looks no further than where it stops: of two lists that begin alike up to a token,
 -- one is read as the other, or reading goes past that token.
 use Rattle.std.proofs.Common.{◌≡◌, ℕ, zero, suc, ◌≤◌, List, [], ◌∷◌, ◌++◌, length, ◌⊎◌, inl, inr, Option, Some, None, Ok, Err, refl, ap, arith}
-use Rattle.prog_text.specs.declared.token.Token.{Token}
+use Rattle.prog_text.specs.declared.lexing.token.Token.{Token}
 use Rattle.prog_text.specs.Reading.{Unexpected, Reading, ◌>>=◌, unexpected, behind_sign, many_from}
 
 -- the lists begin alike and are read up to the same place, before the last token that they share

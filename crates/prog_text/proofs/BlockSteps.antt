@@ -8,15 +8,15 @@ use Rattle.prog_tree.specs.Tree.{test_tree, stmt_tree, with_stmt, with_stmts, st
 use Rattle.prog_tree.specs.declared.expr.Test.{Test}
 use Rattle.prog_tree.specs.declared.stmt.Stmt.{Stmt}
 use Rattle.prog_tree.proofs.TreeLemmas.{with_stmts-push}
-use Rattle.prog_text.specs.declared.blocks.Open.{Open}
-use Rattle.prog_text.specs.declared.blocks.Open.TheVariants.{First, Second}
-use Rattle.prog_text.specs.declared.read_error.ReadError.{ReadError}
-use Rattle.prog_text.specs.declared.read_error.ReadError.TheVariants as errors
-use Rattle.prog_text.specs.declared.token.Token.{Token}
+use Rattle.prog_text.specs.declared.reading.blocks.Open.{Open}
+use Rattle.prog_text.specs.declared.reading.blocks.Open.TheVariants.{First, Second}
+use Rattle.prog_text.specs.declared.reading.read_error.ReadError.{ReadError}
+use Rattle.prog_text.specs.declared.reading.read_error.ReadError.TheVariants as errors
+use Rattle.prog_text.specs.declared.lexing.token.Token.{Token}
 use Rattle.prog_text.specs.Reading.{Stop, Unexpected, Reading, ◌>>=◌, Fails, after_sign, behind_sign, expect, test_at, statement_at, block_at, second_at, behind_second, behind_first, branch_at, more_at, body_at, as_plain, unexpected}
 use Rattle.prog_text.specs.OpenBlocks.{in_front, outward, unread, unread_behind_end, unread_behind_if, unread_from_statement}
 use Rattle.prog_text.proofs.Enough.{body_is}
-use Rattle.prog_text.specs.declared.token.Sign.TheVariants as sign
+use Rattle.prog_text.specs.declared.lexing.token.Sign.TheVariants as sign
 
 in_front-nil : (read : Reading BlockTree) → in_front [] read ≡ read
 unfolding in_front

@@ -8,9 +8,9 @@ use Rattle.std.proofs.lemmas.Fmt.{decimal_by_steps}
 use Rattle.std.proofs.lemmas.Grind.{common_steps}
 use Rattle.std.proofs.lemmas.List.Folds.{list_all-append}
 use Rattle.std.proofs.lemmas.List.Sums.{fold-append}
-use Rattle.prog_text.specs.declared.token.Token.{Token}
-use Rattle.prog_text.specs.declared.token.Sign.TheVariants as sign
-use Rattle.prog_text.specs.declared.token.Token.TheVariants as t
+use Rattle.prog_text.specs.declared.lexing.token.Token.{Token}
+use Rattle.prog_text.specs.declared.lexing.token.Sign.TheVariants as sign
+use Rattle.prog_text.specs.declared.lexing.token.Token.TheVariants as t
 use Rattle.prog_text.specs.Cut.{IsName, IsNumber}
 use Rattle.prog_text.specs.Lexing.{is_letter, is_digit, is_word_byte, is_space, digits_value, word_token, piece_at, sign_at}
 use Rattle.prog_text.specs.Spelling.{spelling}

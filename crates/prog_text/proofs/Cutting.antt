@@ -1,7 +1,7 @@
 -- The tokens of a text, as far as they are cut.
 use Rattle.std.proofs.Common.{◌≡◌, ℕ, zero, suc, ◌-◌, ◌<◌, ◌≤◌, List, [], ◌∷◌, ◌++◌, length, zip, Option, Some, None, Result, Ok, Err, refl, ap, sym, arith, append_assoc}
 use Rattle.std.proofs.lemmas.List.{append-nil}
-use Rattle.prog_text.specs.declared.token.Token.{Token}
+use Rattle.prog_text.specs.declared.lexing.token.Token.{Token}
 use Rattle.prog_text.specs.Lexing.{Placed, Spot, before, ◌>>=◌, piece_at, tokens_from}
 
 -- the tokens that are done, and the others behind them

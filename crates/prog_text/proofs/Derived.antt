@@ -6,9 +6,9 @@ use Rattle.prog_tree.specs.Syntax.{Name, BlockTree, ProgramTree}
 use Rattle.prog_tree.specs.declared.table.TableDecl.{TableDecl}
 use Rattle.prog_tree.specs.declared.table.Arity.{Arity}
 use Rattle.prog_tree.specs.declared.table.Arity.TheVariants as arity
-use Rattle.prog_text.specs.declared.token.Token.{Token}
-use Rattle.prog_text.specs.declared.token.Sign.TheVariants as sign
-use Rattle.prog_text.specs.declared.token.Token.TheVariants as t
+use Rattle.prog_text.specs.declared.lexing.token.Token.{Token}
+use Rattle.prog_text.specs.declared.lexing.token.Sign.TheVariants as sign
+use Rattle.prog_text.specs.declared.lexing.token.Token.TheVariants as t
 use Rattle.prog_text.specs.Grammar.{Many, Separated, IsBlock, IsTable, IsName, IsParams, some, IsProgram, program, IsSet, set}
 use Rattle.prog_text.specs.Grammar as g
 use Rattle.prog_text.specs.Reading.{◌>>=◌, unexpected, after_sign, expect, end_at, name_at, block_at, body_at, arity_at, grow_at, table_at, tables_at, names_at, params_at, program_at, programs_at, set_at}

@@ -2,9 +2,9 @@
 use Rattle.std.proofs.Common.{◌≡◌, ◌∙◌, ℕ, zero, suc, ◌<◌, ◌≤◌, List, [], ◌∷◌, ◌++◌, length, length-append, Option, Some, None, Ok, Err, refl, ap, subst, arith}
 use Rattle.prog_tree.specs.Syntax.{Name, ExprTree, Plus, Minus, Times, ComparisonTree, TestTree, StatementTree, BlockTree, BlockEnd, Then, Branch, ProgramTree}
 use Rattle.prog_tree.specs.declared.table.TableDecl.{TableDecl}
-use Rattle.prog_text.specs.declared.token.Token.{Token}
-use Rattle.prog_text.specs.declared.token.Sign.TheVariants as sign
-use Rattle.prog_text.specs.declared.token.Token.TheVariants as t
+use Rattle.prog_text.specs.declared.lexing.token.Token.{Token}
+use Rattle.prog_text.specs.declared.lexing.token.Sign.TheVariants as sign
+use Rattle.prog_text.specs.declared.lexing.token.Token.TheVariants as t
 use Rattle.prog_text.specs.Grammar.{IsFactor, IsProduct, IsExpr, IsComparison, IsConjunction, IsTest, IsTable, IsName, IsStatement, IsBlock, IsElse, IsProgram}
 use Rattle.prog_text.specs.Reading.{Reading, ◌>>=◌, after_sign, expect, behind_sign, name_at, many_from, factor_at, product_from, product_at, sum_from, sum_at, expr_within, expr_at, comparison_at, conjunction_at, test_at, table_at, program_at, statement_at, block_at, second_at, behind_second, behind_first, branch_at, more_at, body_within, body_at}
 use Rattle.prog_text.proofs.Sound.{Sound, behind, IsBehind, IsShorter, sound_shorter}

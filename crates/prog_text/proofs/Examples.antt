@@ -6,9 +6,9 @@ use Rattle.std.specs.Result.{result_unwrap_or}
 use Rattle.prog_tree.specs.Syntax.{ExprTree, Literal, Named, Plus, Minus, Times, Less, Equal, GreaterEqual, One, Get, Put, Reply, BlockEnd, Then, Branch, DraftTree}
 use Rattle.prog_tree.specs.declared.table.Arity.TheVariants as arity
 use Rattle.prog_text.specs.declared.fault.TextFault.TheVariants as f
-use Rattle.prog_text.specs.declared.token.Token.{Token}
-use Rattle.prog_text.specs.declared.token.Sign.TheVariants as sign
-use Rattle.prog_text.specs.declared.token.Token.TheVariants as t
+use Rattle.prog_text.specs.declared.lexing.token.Token.{Token}
+use Rattle.prog_text.specs.declared.lexing.token.Sign.TheVariants as sign
+use Rattle.prog_text.specs.declared.lexing.token.Token.TheVariants as t
 use Rattle.prog_text.specs.Answer.{text_limit, HasTokens, Accepts, Refuses}
 use Rattle.prog_text.specs.Grammar.{IsFactor, IsProduct, IsExpr, IsSet}
 use Rattle.prog_text.specs.Grammar as g

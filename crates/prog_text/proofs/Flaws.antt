@@ -7,10 +7,10 @@ use Rattle.std.proofs.lemmas.Bool.Decides.{Decides-eqb}
 use Rattle.std.proofs.lemmas.Grind.{common_steps}
 use Rattle.std.proofs.lemmas.List.{length-append}
 use Rattle.std.proofs.lemmas.Slice.Eq.{starts_is}
-use Rattle.prog_text.specs.declared.lex_error.Flaw.{Flaw}
-use Rattle.prog_text.specs.declared.lex_error.Flaw.TheVariants.{NumberOutOfRange, NameTooLong}
-use Rattle.prog_text.specs.declared.token.Token.{Token}
-use Rattle.prog_text.specs.declared.token.Token.TheVariants as t
+use Rattle.prog_text.specs.declared.lexing.lex_error.Flaw.{Flaw}
+use Rattle.prog_text.specs.declared.lexing.lex_error.Flaw.TheVariants.{NumberOutOfRange, NameTooLong}
+use Rattle.prog_text.specs.declared.lexing.token.Token.{Token}
+use Rattle.prog_text.specs.declared.lexing.token.Token.TheVariants as t
 use Rattle.prog_text.specs.Spelling.{spelling, signs}
 use Rattle.prog_text.specs.Lexing.{is_letter, is_digit, is_word_byte, is_space, digits_value, Placed, Piece, Spot, before, ◌>>=◌, piece_at, word_at, number_at, sign_at, sign_among, flaw_at, tokens_from, tokens_of}
 use Rattle.prog_text.specs.Cut.{IsName, IsNumber, Spells, IsLongest, IsPiece, ArePieces, no_piece, one_more, HasFlaw, not_ascii, unknown, too_large, too_long, IsFirstFlaw}

@@ -2,9 +2,9 @@
 use Rattle.std.proofs.Common.{ℕ, ◌==◌, List, [], ◌∷◌, Bool, true, false, if◌then◌else◌, Ok, refl, arith}
 use Rattle.prog_tree.specs.declared.table.Arity.{Arity}
 use Rattle.prog_tree.specs.declared.table.Arity.TheVariants as arity
-use Rattle.prog_text.specs.declared.token.Token.{Token}
-use Rattle.prog_text.specs.declared.token.Sign.TheVariants as sign
-use Rattle.prog_text.specs.declared.token.Token.TheVariants as t
+use Rattle.prog_text.specs.declared.lexing.token.Token.{Token}
+use Rattle.prog_text.specs.declared.lexing.token.Sign.TheVariants as sign
+use Rattle.prog_text.specs.declared.lexing.token.Token.TheVariants as t
 use Rattle.prog_text.specs.Reading.{◌>>=◌, unexpected, after_sign, expect, end_at, name_at, many_from, block_at, body_at, arity_at, grow_at, table_at, tables_at, names_at, params_at, program_at, programs_at, set_at}
 use Rattle.prog_text.proofs.Alike.{Near, AlikeFrom, AreAlike, AreAlikeAt, then_alike, done_alike, fault_alike, token_alike, by_first, behind_sign_alike, many_alike}
 use Rattle.prog_text.proofs.Enough.{tables_enough, names_enough, programs_enough}

@@ -1,9 +1,9 @@
 -- Readers of expressions, tests, keys and ranges look no further than where they stop.
 use Rattle.std.proofs.Common.{◌≡◌, ℕ, zero, suc, ◌+◌, ◌≤◌, List, [], ◌∷◌, length, Option, None, Bool, true, false, Ok, refl, arith}
 use Rattle.prog_tree.specs.Syntax.{ExprTree, Literal, Named, Plus, Minus, Times, One, Two, OneRange, TwoRange}
-use Rattle.prog_text.specs.declared.token.Token.{Token}
-use Rattle.prog_text.specs.declared.token.Sign.TheVariants as sign
-use Rattle.prog_text.specs.declared.token.Token.TheVariants as t
+use Rattle.prog_text.specs.declared.lexing.token.Token.{Token}
+use Rattle.prog_text.specs.declared.lexing.token.Sign.TheVariants as sign
+use Rattle.prog_text.specs.declared.lexing.token.Token.TheVariants as t
 use Rattle.prog_text.specs.Grammar.{IsExpr, least_number, greatest_number}
 use Rattle.prog_text.specs.Reading.{Reading, ◌>>=◌, after_sign, behind_sign, expect, name_at, many_from, separated_at, negative_at, factor_at, product_from, product_at, sum_from, sum_at, expr_within, expr_at, relation_at, compared_at, comparison_at, conjunction_at, test_at, key_from, key_at, high_at, range_from, range_at}
 use Rattle.prog_text.proofs.Alike.{AreAlike, AreAlikeAt, IsSought, then_alike, done_alike, fault_alike, token_alike, by_first, behind_sign_alike, many_alike}

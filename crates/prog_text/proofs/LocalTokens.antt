@@ -1,10 +1,10 @@
 -- Readers of single tokens look no further than where they stop.
 use Rattle.std.proofs.Common.{◌≡◌, List, ◌∷◌, ◌⊎◌, inl, inr, Bool, true, false, if◌then◌else◌, Some, None, Ok, refl, arith}
 use Rattle.prog_tree.specs.Syntax.{Name, RelationSign, Less, LessEqual, Greater, GreaterEqual, Equal, NotEqual}
-use Rattle.prog_text.specs.declared.token.Sign.{Sign}
-use Rattle.prog_text.specs.declared.token.Token.{Token}
-use Rattle.prog_text.specs.declared.token.Sign.TheVariants as sign
-use Rattle.prog_text.specs.declared.token.Token.TheVariants as t
+use Rattle.prog_text.specs.declared.lexing.token.Sign.{Sign}
+use Rattle.prog_text.specs.declared.lexing.token.Token.{Token}
+use Rattle.prog_text.specs.declared.lexing.token.Sign.TheVariants as sign
+use Rattle.prog_text.specs.declared.lexing.token.Token.TheVariants as t
 use Rattle.prog_text.specs.Reading.{unexpected, same_sign, after_sign, expect, end_at, name_at, relation_at}
 use Rattle.prog_text.proofs.Alike.{AreAlike, AreAlikeAt, IsSought, done_alike, fault_alike, token_alike, by_first, behind_sign_alike}
 

@@ -9,9 +9,9 @@ use Rattle.std.proofs.lemmas.Grind.{common_steps}
 use Rattle.std.proofs.lemmas.List.{length-append, length-take}
 use Rattle.std.proofs.lemmas.List.Folds.{length-prefix_len}
 use Rattle.std.proofs.lemmas.Slice.Eq.{bytes_eq-Decides, starts_is}
-use Rattle.prog_text.specs.declared.lex_error.Flaw.TheVariants.{NotAscii, UnknownByte, NameTooLong, NumberOutOfRange}
-use Rattle.prog_text.specs.declared.token.Token.{Token}
-use Rattle.prog_text.specs.declared.token.Token.TheVariants as t
+use Rattle.prog_text.specs.declared.lexing.lex_error.Flaw.TheVariants.{NotAscii, UnknownByte, NameTooLong, NumberOutOfRange}
+use Rattle.prog_text.specs.declared.lexing.token.Token.{Token}
+use Rattle.prog_text.specs.declared.lexing.token.Token.TheVariants as t
 use Rattle.prog_text.specs.Spelling.{spelling, reserved_words, signs}
 use Rattle.prog_text.specs.Lexing.{is_letter, is_digit, is_word_byte, is_space, is_comment_byte, digits_value, word_token, Placed, Piece, Spot, before, ◌>>=◌, piece_at, word_at, number_at, sign_at, sign_among, flaw_at, tokens_from, tokens_of}
 use Rattle.prog_text.specs.Cut.{IsName, Spells, IsWithin, IsLongest, EndsComment, IsPiece, space, comment, token, IsCut, end, another, HasFlaw, not_ascii, unknown, too_large, too_long}

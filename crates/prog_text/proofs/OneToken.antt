@@ -2,11 +2,11 @@
 use Rattle.std.proofs.Common.{◌≡◌, List, [], ◌∷◌, Bool, true, false, if◌then◌else◌, Option, Some, None, Ok, ap, refl}
 use denote.Enum.Bare.{same_true}
 use Rattle.prog_tree.specs.Syntax.{Name, ExprTree, Literal, RelationSign, Less, LessEqual, Greater, GreaterEqual, Equal, NotEqual}
-use Rattle.prog_text.specs.contracts.token.Sign.{the_type}
-use Rattle.prog_text.specs.declared.token.Sign.{Sign}
-use Rattle.prog_text.specs.declared.token.Token.{Token}
-use Rattle.prog_text.specs.declared.token.Sign.TheVariants as sign
-use Rattle.prog_text.specs.declared.token.Token.TheVariants as t
+use Rattle.prog_text.specs.contracts.lexing.token.Sign.{the_type}
+use Rattle.prog_text.specs.declared.lexing.token.Sign.{Sign}
+use Rattle.prog_text.specs.declared.lexing.token.Token.{Token}
+use Rattle.prog_text.specs.declared.lexing.token.Sign.TheVariants as sign
+use Rattle.prog_text.specs.declared.lexing.token.Token.TheVariants as t
 use Rattle.prog_text.specs.Grammar.{least_number}
 use Rattle.prog_text.specs.Reading.{same_sign, behind_sign, unexpected, after_sign, expect, name_at, relation_at}
 use Rattle.prog_text.proofs.Sound.{IsOne, IsBehind}

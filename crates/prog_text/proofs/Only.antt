@@ -1,7 +1,7 @@
 -- What is spelled so is read so: how readings are put together.
 use Rattle.std.proofs.Common.{◌≡◌, ℕ, zero, suc, ◌≤◌, List, [], ◌∷◌, ◌++◌, length, length-append, Option, Some, None, Ok, Err, refl, ap, sym, ◌∙◌, subst, append_assoc, arith}
 use Rattle.std.proofs.lemmas.List.{append-nil}
-use Rattle.prog_text.specs.declared.token.Token.{Token}
+use Rattle.prog_text.specs.declared.lexing.token.Token.{Token}
 use Rattle.prog_text.specs.Grammar.{Many, Led, led, Separated, separated}
 use Rattle.prog_text.specs.Grammar as g
 use Rattle.prog_text.specs.Reading.{Unexpected, Reading, ◌>>=◌, many_from, separated_at}

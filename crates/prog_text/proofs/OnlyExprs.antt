@@ -1,9 +1,9 @@
 -- What is spelled so is read so: expressions, tests, keys and ranges.
 use Rattle.std.proofs.Common.{◌≡◌, ℕ, zero, suc, ◌≤◌, List, [], ◌∷◌, ◌++◌, length, length-append, None, Bool, true, false, Ok, refl, ap, sym, ◌∙◌, subst, append_assoc, arith}
 use Rattle.prog_tree.specs.Syntax.{Name, ExprTree, Plus, Minus, Times, RelationSign, ComparisonTree, TestTree, KeyTree, One, Two, RangeTree, OneRange, TwoRange}
-use Rattle.prog_text.specs.declared.token.Token.{Token}
-use Rattle.prog_text.specs.declared.token.Sign.TheVariants as sign
-use Rattle.prog_text.specs.declared.token.Token.TheVariants as t
+use Rattle.prog_text.specs.declared.lexing.token.Token.{Token}
+use Rattle.prog_text.specs.declared.lexing.token.Sign.TheVariants as sign
+use Rattle.prog_text.specs.declared.lexing.token.Token.TheVariants as t
 use Rattle.prog_text.specs.Grammar.{IsFactor, IsProduct, IsExpr, number, negative, least, greatest, bracketed, factor, times, product, plus, minus, IsRelation, IsComparison, IsConjunction, IsTest, IsKey, IsRange}
 use Rattle.prog_text.specs.Grammar as g
 use Rattle.prog_text.specs.Reading.{Reading, ◌>>=◌, after_sign, expect, factor_at, product_from, product_at, sum_from, sum_at, expr_at, relation_at, compared_at, comparison_at, conjunction_at, test_at, key_from, key_at, high_at, range_from, range_at}

@@ -5,8 +5,8 @@ use Rattle.std.proofs.lemmas.List.{append-nil}
 use Rattle.prog_tree.specs.Syntax.{DraftTree}
 use Rattle.prog_text.specs.declared.fault.TextFault.{TextFault}
 use Rattle.prog_text.specs.declared.fault.TextFault.TheVariants as f
-use Rattle.prog_text.specs.declared.lex_error.Flaw.{Flaw}
-use Rattle.prog_text.specs.declared.token.Token.{Token}
+use Rattle.prog_text.specs.declared.lexing.lex_error.Flaw.{Flaw}
+use Rattle.prog_text.specs.declared.lexing.token.Token.{Token}
 use Rattle.prog_text.specs.Answer.{HasTokens, IsShallow, Accepts, IsMisfit, IsUnfinished, IsFlawed, Refuses}
 use Rattle.prog_text.specs.Grammar.{IsSet, BeginsSet}
 use Rattle.prog_text.specs.Lexing.{Placed, kinds}

@@ -1,9 +1,9 @@
 -- The table of reserved words, beside their definition.
 use Rattle.std.proofs.Common.{◌≡◌, ◌∙◌, ℕ, List, [], ◌∷◌, Bool, true, false, Option, Some, find, map, option_map, unwrap_or, bytes_eq, refl, ap, if◌then◌else◌}
-use Rattle.prog_text.specs.declared.token.Sign.{Sign}
-use Rattle.prog_text.specs.declared.token.Token.{Token}
-use Rattle.prog_text.specs.declared.token.Token.TheVariants as t
-use Rattle.prog_text.specs.declared.words.TheConstants.{RESERVED}
+use Rattle.prog_text.specs.declared.lexing.token.Sign.{Sign}
+use Rattle.prog_text.specs.declared.lexing.token.Token.{Token}
+use Rattle.prog_text.specs.declared.lexing.token.Token.TheVariants as t
+use Rattle.prog_text.specs.declared.lexing.words.TheConstants.{RESERVED}
 use Rattle.prog_text.specs.Spelling.{spelling, reserved_words, sign_in}
 use Rattle.prog_text.specs.Lexing.{word_token}
 

@@ -1,7 +1,7 @@
 -- What a reading says: what was read is spelled so, and what stands before a fault can be completed.
 use Rattle.std.proofs.Common.{◌≡◌, ℕ, zero, suc, ◌≤◌, List, [], ◌∷◌, ◌++◌, length, length-append, Option, Some, None, Ok, Err, refl, ap, sym, ◌∙◌, subst, append_assoc, arith}
 use Rattle.std.proofs.lemmas.List.{append-nil}
-use Rattle.prog_text.specs.declared.token.Token.{Token}
+use Rattle.prog_text.specs.declared.lexing.token.Token.{Token}
 use Rattle.prog_text.specs.Reading.{Unexpected, Reading, ◌>>=◌, behind_sign, many_from}
 
 -- a kind of phrase: which tokens stand for which value

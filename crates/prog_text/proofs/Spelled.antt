@@ -3,9 +3,9 @@ use Rattle.std.proofs.Common.{◌≡◌, ◌⊎◌, inl, inr, ℕ, ◌&&◌, ◌
 use Rattle.std.specs.List.{list_all}
 use Rattle.std.proofs.lemmas.Bool.{and_parts}
 use Rattle.std.proofs.lemmas.Slice.Eq.{bytes_eq-Decides}
-use Rattle.prog_text.specs.declared.token.Token.{Token}
-use Rattle.prog_text.specs.declared.token.Sign.TheVariants.{Table}
-use Rattle.prog_text.specs.declared.token.Token.TheVariants as t
+use Rattle.prog_text.specs.declared.lexing.token.Token.{Token}
+use Rattle.prog_text.specs.declared.lexing.token.Sign.TheVariants.{Table}
+use Rattle.prog_text.specs.declared.lexing.token.Token.TheVariants as t
 use Rattle.prog_text.specs.Spelling.{spelling, signs}
 use Rattle.prog_text.specs.Lexing.{is_letter, is_digit, is_word_byte}
 use Rattle.prog_text.specs.Cut.{Spells}

@@ -1,8 +1,8 @@
 -- Short texts and their tokens, and token lists at the limits.
 use Rattle.std.proofs.Common.{◌≡◌, [], ◌∷◌, ◌++◌, Some, None, Ok, Err, refl, codes, replicate}
-use Rattle.prog_text.specs.declared.lex_error.Flaw.TheVariants.{NotAscii, UnknownByte, NumberOutOfRange, NameTooLong}
-use Rattle.prog_text.specs.declared.token.Sign.TheVariants as sign
-use Rattle.prog_text.specs.declared.token.Token.TheVariants as t
+use Rattle.prog_text.specs.declared.lexing.lex_error.Flaw.TheVariants.{NotAscii, UnknownByte, NumberOutOfRange, NameTooLong}
+use Rattle.prog_text.specs.declared.lexing.token.Sign.TheVariants as sign
+use Rattle.prog_text.specs.declared.lexing.token.Token.TheVariants as t
 use Rattle.prog_text.specs.Lexing.{tokens_of, tokens_from, piece_at, word_at, number_at, sign_at}
 use Rattle.prog_text.specs.Limits.{too_deep}
 

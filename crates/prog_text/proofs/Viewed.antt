@@ -1,7 +1,7 @@
 -- Lists that are read item by item, of which a view is what is read.
 use Rattle.std.proofs.Common.{◌≡◌, ℕ, zero, suc, ◌-◌, ◌<◌, List, [], ◌∷◌, ◌++◌, map, Option, Some, None, Ok, refl, arith}
 use Rattle.std.proofs.lemmas.List.{map_push}
-use Rattle.prog_text.specs.declared.token.Token.{Token}
+use Rattle.prog_text.specs.declared.lexing.token.Token.{Token}
 use Rattle.prog_text.specs.Reading.{Reading, many_from}
 
 -- one item further

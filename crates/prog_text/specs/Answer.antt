@@ -3,9 +3,9 @@ use Rattle.std.specs.Prelude.{◌≡◌, ℕ, ◌-◌, ◌<◌, ◌≤◌, List,
 use Rattle.prog_tree.specs.Syntax.{DraftTree}
 use Rattle.prog_text.specs.declared.fault.TextFault.{TextFault}
 use Rattle.prog_text.specs.declared.fault.TextFault.TheVariants as f
-use Rattle.prog_text.specs.declared.lex_error.Flaw.{Flaw}
-use Rattle.prog_text.specs.declared.lex_error.Flaw.TheVariants as w
-use Rattle.prog_text.specs.declared.token.Token.{Token}
+use Rattle.prog_text.specs.declared.lexing.lex_error.Flaw.{Flaw}
+use Rattle.prog_text.specs.declared.lexing.lex_error.Flaw.TheVariants as w
+use Rattle.prog_text.specs.declared.lexing.token.Token.{Token}
 use Rattle.prog_text.specs.Cut.{IsCut, IsFirstFlaw}
 use Rattle.prog_text.specs.Grammar.{IsSet, BeginsSet}
 use Rattle.prog_text.specs.Lexing.{Placed, kinds, lefts}

@@ -3,13 +3,13 @@ use Rattle.std.specs.Prelude.{◌≡◌, ◌<◌, List, length, Bool, true, fals
 use Rattle.prog_tree.specs.Syntax.{Name, ExprTree, KeyTree, RangeTree, StatementTree}
 use Rattle.prog_tree.specs.Tree.{expr_tree, key_tree, range_tree, stmt_tree}
 use Rattle.prog_tree.specs.declared.stmt.Stmt.{Stmt}
-use Rattle.prog_text.specs.declared.cursor.Cursor.{Cursor}
-use Rattle.prog_text.specs.declared.keys.Keyed.{Keyed}
-use Rattle.prog_text.specs.declared.keys.Ranged.{Ranged}
-use Rattle.prog_text.specs.declared.statements.Assigned.{Assigned}
-use Rattle.prog_text.specs.declared.read_error.ReadError.{ReadError}
-use Rattle.prog_text.specs.declared.token.Sign.{Sign}
-use Rattle.prog_text.specs.declared.token.Token.{Token}
+use Rattle.prog_text.specs.declared.reading.cursor.Cursor.{Cursor}
+use Rattle.prog_text.specs.declared.reading.keys.Keyed.{Keyed}
+use Rattle.prog_text.specs.declared.reading.keys.Ranged.{Ranged}
+use Rattle.prog_text.specs.declared.reading.statements.Assigned.{Assigned}
+use Rattle.prog_text.specs.declared.reading.read_error.ReadError.{ReadError}
+use Rattle.prog_text.specs.declared.lexing.token.Sign.{Sign}
+use Rattle.prog_text.specs.declared.lexing.token.Token.{Token}
 use Rattle.prog_text.specs.Reading.{Reading, Fails, after_sign, as_plain}
 
 -- What is read, seen by `view`, is what the reading gives, and fewer tokens are left, unless memory runs out.

@@ -2,10 +2,10 @@
 -- and a text that is so up to its first flaw.
 use Rattle.std.specs.Prelude.{◌≡◌, ℕ, ◌<◌, ◌≤◌, ◌^◌, List, [], ◌∷◌, ◌++◌, length, true, false, Option, Some, None, find, bytes_eq, slice_index, ⊤}
 use Rattle.std.specs.List.{list_all}
-use Rattle.prog_text.specs.declared.lex_error.Flaw.{Flaw}
-use Rattle.prog_text.specs.declared.lex_error.Flaw.TheVariants.{NotAscii, UnknownByte, NumberOutOfRange, NameTooLong}
-use Rattle.prog_text.specs.declared.token.Token.{Token}
-use Rattle.prog_text.specs.declared.token.Token.TheVariants as t
+use Rattle.prog_text.specs.declared.lexing.lex_error.Flaw.{Flaw}
+use Rattle.prog_text.specs.declared.lexing.lex_error.Flaw.TheVariants.{NotAscii, UnknownByte, NumberOutOfRange, NameTooLong}
+use Rattle.prog_text.specs.declared.lexing.token.Token.{Token}
+use Rattle.prog_text.specs.declared.lexing.token.Token.TheVariants as t
 use Rattle.prog_text.specs.Limits.{name_limit}
 use Rattle.prog_text.specs.Spelling.{spelling, reserved_words}
 use Rattle.prog_text.specs.Lexing.{is_letter, is_digit, is_word_byte, is_space, is_comment_byte, digits_value, Placed, before}

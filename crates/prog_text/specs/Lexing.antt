@@ -1,12 +1,12 @@
 -- How bytes are cut into tokens: at each place a space, a comment or the longest token, until the first flaw.
 use Rattle.std.specs.Prelude.{ℕ, zero, suc, ◌+◌, ◌-◌, ◌*◌, ◌^◌, ◌≡◌, ◌==◌, List, [], ◌∷◌, length, take, drop, map, Bool, not, ◌&&◌, ◌||◌, if◌then◌else◌, Option, Some, None, Result, Ok, Err, nat_le, nat_lt, nat_eq, bytes_eq, fold, find, unwrap_or}
 use Rattle.std.specs.List.{prefix_len, starts_with}
-use Rattle.prog_text.specs.declared.lex_error.Flaw.{Flaw}
-use Rattle.prog_text.specs.declared.lex_error.Flaw.TheVariants.{NotAscii, UnknownByte, NumberOutOfRange, NameTooLong}
-use Rattle.prog_text.specs.declared.lex_error.LexError.{LexError}
-use Rattle.prog_text.specs.declared.lex_error.LexError.TheVariants as errors
-use Rattle.prog_text.specs.declared.token.Token.{Token}
-use Rattle.prog_text.specs.declared.token.Token.TheVariants as t
+use Rattle.prog_text.specs.declared.lexing.lex_error.Flaw.{Flaw}
+use Rattle.prog_text.specs.declared.lexing.lex_error.Flaw.TheVariants.{NotAscii, UnknownByte, NumberOutOfRange, NameTooLong}
+use Rattle.prog_text.specs.declared.lexing.lex_error.LexError.{LexError}
+use Rattle.prog_text.specs.declared.lexing.lex_error.LexError.TheVariants as errors
+use Rattle.prog_text.specs.declared.lexing.token.Token.{Token}
+use Rattle.prog_text.specs.declared.lexing.token.Token.TheVariants as t
 use Rattle.prog_text.specs.Limits.{name_limit}
 use Rattle.prog_text.specs.Spelling.{spelling, reserved_words, signs}
 

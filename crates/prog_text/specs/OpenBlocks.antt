@@ -3,12 +3,12 @@ use Rattle.std.specs.Prelude.{◌≡◌, ◌<◌, ◌≤◌, List, [], ◌∷◌
 use Rattle.prog_tree.specs.Syntax.{BlockTree}
 use Rattle.prog_tree.specs.Tree.{test_tree, with_stmts, stmts_tree}
 use Rattle.prog_tree.specs.declared.stmt.Stmt.{Stmt}
-use Rattle.prog_text.specs.declared.blocks.Body.{Body}
-use Rattle.prog_text.specs.declared.blocks.Open.{Open}
-use Rattle.prog_text.specs.declared.blocks.Open.TheVariants.{First, Second}
-use Rattle.prog_text.specs.declared.cursor.Cursor.{Cursor}
-use Rattle.prog_text.specs.declared.read_error.ReadError.{ReadError}
-use Rattle.prog_text.specs.declared.token.Token.{Token}
+use Rattle.prog_text.specs.declared.reading.blocks.Body.{Body}
+use Rattle.prog_text.specs.declared.reading.blocks.Open.{Open}
+use Rattle.prog_text.specs.declared.reading.blocks.Open.TheVariants.{First, Second}
+use Rattle.prog_text.specs.declared.reading.cursor.Cursor.{Cursor}
+use Rattle.prog_text.specs.declared.reading.read_error.ReadError.{ReadError}
+use Rattle.prog_text.specs.declared.lexing.token.Token.{Token}
 use Rattle.prog_text.specs.Reading.{Reading, ◌>>=◌, Fails, behind_first, behind_second, branch_at, more_at, body_at}
 
 -- statements that were read, in front of what is read of their block

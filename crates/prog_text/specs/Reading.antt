@@ -7,13 +7,13 @@ use Rattle.prog_tree.specs.Syntax.{Name, ExprTree, Literal, Named, Plus, Minus, 
 use Rattle.prog_tree.specs.declared.table.TableDecl.{TableDecl}
 use Rattle.prog_tree.specs.declared.table.Arity.{Arity}
 use Rattle.prog_tree.specs.declared.table.Arity.TheVariants as arity
-use Rattle.prog_text.specs.declared.read_error.ReadError.{ReadError}
-use Rattle.prog_text.specs.declared.read_error.ReadError.TheVariants as errors
-use Rattle.prog_text.specs.contracts.token.Sign.{the_type}
-use Rattle.prog_text.specs.declared.token.Sign.{Sign}
-use Rattle.prog_text.specs.declared.token.Token.{Token}
-use Rattle.prog_text.specs.declared.token.Sign.TheVariants as sign
-use Rattle.prog_text.specs.declared.token.Token.TheVariants as t
+use Rattle.prog_text.specs.declared.reading.read_error.ReadError.{ReadError}
+use Rattle.prog_text.specs.declared.reading.read_error.ReadError.TheVariants as errors
+use Rattle.prog_text.specs.contracts.lexing.token.Sign.{the_type}
+use Rattle.prog_text.specs.declared.lexing.token.Sign.{Sign}
+use Rattle.prog_text.specs.declared.lexing.token.Token.{Token}
+use Rattle.prog_text.specs.declared.lexing.token.Sign.TheVariants as sign
+use Rattle.prog_text.specs.declared.lexing.token.Token.TheVariants as t
 use Rattle.prog_text.specs.Grammar.{least_number, greatest_number}
 
 -- where reading stops: how many tokens are left from the first that can't stand where it does

@@ -1,7 +1,7 @@
 ghost use Rattle.std.specs.Prelude.{◌≡◌, ℕ, ◌+◌, ◌<◌, ◌≤◌};
 ghost use Rattle.prog_text.specs.Limits.{bracket_limit, operator_limit, brackets_after, operators_after, too_deep};
 
-use crate::token::{Sign, Token};
+use crate::lexing::token::{Sign, Token};
 
 /// The most bytes of a text.
 pub const MAX_BYTES: usize = 1_048_576;

@@ -7,12 +7,12 @@ ghost use Rattle.prog_text.specs.Lexing.{kinds};
 ghost use Rattle.prog_text.specs.Reading.{Unexpected, set_at};
 
 use crate::fault::TextFault;
-use crate::lex_error::{Flaw, LexError};
-use crate::lexer::tokens;
+use crate::lexing::lex_error::{Flaw, LexError};
+use crate::lexing::lexer::tokens;
+use crate::lexing::placed_tokens::PlacedTokens;
 use crate::limits::{MAX_BYTES, too_deep};
-use crate::placed_tokens::PlacedTokens;
-use crate::read_error::ReadError;
-use crate::sets::set;
+use crate::reading::read_error::ReadError;
+use crate::reading::sets::set;
 use prog_tree::Draft;
 use std::alloc::Global;
 

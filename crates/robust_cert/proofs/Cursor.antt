@@ -8,8 +8,8 @@ use Rattle.prog_paths.specs.StaticGraph.{Question}
 use Rattle.prog_paths.specs.Listing.{IsPlaceBefore, IsBefore, RiseBy}
 use Rattle.prog_paths.proofs.Order.{rise-between}
 use Rattle.robust_cert.specs.declared.certificate.Entry.{Entry}
-use Rattle.robust_cert.specs.declared.telling.Telling.{Telling}
-use Rattle.robust_cert.specs.declared.telling.Telling as telling
+use Rattle.robust_cert.specs.declared.checking.telling.Telling.{Telling}
+use Rattle.robust_cert.specs.declared.checking.telling.Telling as telling
 use Rattle.robust_cert.specs.Accepted.{question_of}
 use Rattle.robust_cert.specs.Telling.{is_same, telling_by, telling_of, IsBehind}
 

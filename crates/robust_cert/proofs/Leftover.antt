@@ -17,9 +17,9 @@ use Rattle.prog_paths.proofs.Grids.{test-from_joined, joined-from_test}
 use Rattle.prog_paths.proofs.Marked.{edge-from_mark, vulnerable-from_mark, mark-from_edge, mark-from_vulnerable}
 use Rattle.robust_cert.specs.declared.certificate.Entry.{Entry}
 use Rattle.robust_cert.specs.declared.certificate.Entry.TheVariants.{Apart, Cover}
-use Rattle.robust_cert.specs.declared.left.Left.{Left}
-use Rattle.robust_cert.specs.declared.telling.Telling.{Telling}
-use Rattle.robust_cert.specs.declared.telling.Telling as telling
+use Rattle.robust_cert.specs.declared.checking.left.Left.{Left}
+use Rattle.robust_cert.specs.declared.checking.telling.Telling.{Telling}
+use Rattle.robust_cert.specs.declared.checking.telling.Telling as telling
 use Rattle.robust_cert.specs.Accepted.{question_of, IsToldApart, IsTold, IsLeft, IsLeftVulnerable}
 use Rattle.robust_cert.specs.Telling.{telling_of, may_meet, may_be_exposed, mark_under}
 use Rattle.robust_cert.specs.Leaving.{some_edge, some_vulnerable, Leaves}

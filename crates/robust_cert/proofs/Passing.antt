@@ -12,9 +12,9 @@ use Rattle.prog_paths.specs.Listing.{IsBefore, RiseBy}
 use Rattle.prog_paths.proofs.Asked.{asked_by-append, asked_among-append}
 use Rattle.prog_paths.proofs.Order.{law_of_order}
 use Rattle.robust_cert.specs.declared.certificate.Entry.{Entry}
-use Rattle.robust_cert.specs.declared.left.Left.{Left}
+use Rattle.robust_cert.specs.declared.checking.left.Left.{Left}
 use Rattle.prog_paths.specs.declared.mark.Mark.{Mark}
-use Rattle.robust_cert.specs.declared.telling.Telling.{Telling}
+use Rattle.robust_cert.specs.declared.checking.telling.Telling.{Telling}
 use Rattle.robust_cert.specs.Accepted.{question_of}
 use Rattle.prog_paths.specs.Square.{Grid, entry, IsEmptySquare, IsSquareOf, Enters}
 use Rattle.prog_paths.specs.Marks.{gives_edge, gives_vulnerable}

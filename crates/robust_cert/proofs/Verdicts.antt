@@ -8,7 +8,7 @@ use Rattle.prog_check.specs.declared.path.Path.{Path}
 use Rattle.prog_paths.specs.Listing.{RiseBy}
 use Rattle.robust_cert.specs.declared.certificate.Entry.{Entry}
 use Rattle.robust_cert.specs.declared.certificate.Certificate.{Certificate}
-use Rattle.robust_cert.specs.declared.left.Left.{Left}
+use Rattle.robust_cert.specs.declared.checking.left.Left.{Left}
 use Rattle.robust_cert.specs.declared.fault.CertFault.{CertFault}
 use Rattle.robust_cert.specs.declared.fault.CertFault.TheVariants.{TooLarge, PathCount, NoSuchEntry, EntryOrder, BadChain, BadCover, LevelFalls, Dangerous, Memory}
 use Rattle.robust_cert.specs.Accepted.{question_of, Holds, IsLeft, IsLeftVulnerable, level_of, IsAccepted}

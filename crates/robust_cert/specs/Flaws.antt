@@ -12,8 +12,8 @@ use Rattle.prog_paths.specs.Asked.{Asks, IsQuestion}
 use Rattle.prog_paths.specs.Questions.{question_facts}
 use Rattle.prog_paths.specs.Shown.{key_pairs}
 use Rattle.robust_cert.specs.declared.certificate.Entry.{Entry}
-use Rattle.robust_cert.specs.declared.flaw.Flaw.{Flaw}
-use Rattle.robust_cert.specs.declared.flaw.Flaw as flaw
+use Rattle.robust_cert.specs.declared.checking.flaw.Flaw.{Flaw}
+use Rattle.robust_cert.specs.declared.checking.flaw.Flaw as flaw
 use Rattle.robust_cert.specs.declared.fault.CertFault.{CertFault}
 use Rattle.robust_cert.specs.declared.fault.CertFault.TheVariants.{NoSuchEntry, EntryOrder, BadChain, BadCover}
 use Rattle.robust_cert.specs.Accepted.{question_of, IsCoverOf, IsFitting, ChainsHold, Holds}

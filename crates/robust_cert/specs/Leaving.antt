@@ -7,7 +7,7 @@ use Rattle.prog_paths.specs.declared.places.Question.{Question as Asked}
 use Rattle.prog_paths.specs.Asked.{numbers_of, questions_of}
 use Rattle.prog_paths.specs.Listing.{IsBefore, RiseBy}
 use Rattle.robust_cert.specs.declared.certificate.Entry.{Entry}
-use Rattle.robust_cert.specs.declared.left.Left.{Left}
+use Rattle.robust_cert.specs.declared.checking.left.Left.{Left}
 use Rattle.prog_paths.specs.declared.mark.Mark.{Mark}
 use Rattle.robust_cert.specs.Accepted.{question_of}
 use Rattle.prog_paths.specs.Square.{IsSquareOf, Enters}

@@ -1,8 +1,8 @@
 -- Levels that fall, or don't rise, in a table of edges.
 use Rattle.std.specs.Prelude.{◌≡◌, ℕ, ◌<◌, ◌≤◌, List, [], ◌∷◌, slice_index_or}
-use Rattle.robust_cert.specs.declared.left.Left.{Left}
-use Rattle.robust_cert.specs.declared.levels.Pair.{Pair}
-use Rattle.robust_cert.specs.declared.levels.Triple.{Triple}
+use Rattle.robust_cert.specs.declared.checking.left.Left.{Left}
+use Rattle.robust_cert.specs.declared.checking.levels.Pair.{Pair}
+use Rattle.robust_cert.specs.declared.checking.levels.Triple.{Triple}
 use Rattle.robust_cert.specs.declared.fault.CertFault.{CertFault}
 use Rattle.robust_cert.specs.declared.fault.CertFault.TheVariants.{LevelFalls, Dangerous}
 use Rattle.prog_paths.specs.Square.{Grid, Joins}

@@ -7,9 +7,9 @@ use Rattle.prog_paths.specs.Listing.{IsBefore}
 use Rattle.prog_paths.specs.Marks.{mark_by}
 use Rattle.robust_cert.specs.declared.certificate.Entry.{Entry}
 use Rattle.robust_cert.specs.declared.certificate.Entry.TheVariants.{Apart, Cover}
-use Rattle.robust_cert.specs.declared.numbers.Numbers.{Numbers}
-use Rattle.robust_cert.specs.declared.telling.Telling.{Telling}
-use Rattle.robust_cert.specs.declared.telling.Telling as telling
+use Rattle.robust_cert.specs.declared.checking.numbers.Numbers.{Numbers}
+use Rattle.robust_cert.specs.declared.checking.telling.Telling.{Telling}
+use Rattle.robust_cert.specs.declared.checking.telling.Telling as telling
 use Rattle.prog_paths.specs.declared.mark.Mark.{Mark}
 use Rattle.robust_cert.specs.Accepted.{question_of}
 

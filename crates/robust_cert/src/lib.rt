@@ -5,27 +5,17 @@
 //! tells its first fault.
 #![tactic(auto)]
 
-mod by_facts;
 mod certificate;
-mod checker;
-mod entry_check;
+mod checking;
 mod fault;
-mod flaw;
 mod law;
-mod left;
-mod levels;
-mod numbers;
-mod reading;
 mod robust;
-mod shape;
-mod telling;
-mod whole;
-mod writing;
+mod text;
 
 pub use certificate::{Certificate, Chain, Entry, Question};
-pub use checker::verify;
+pub use checking::checker::verify;
 pub use fault::{CertFault, JsonFault};
 pub use law::accepted_is_safe;
-pub use reading::from_json;
 pub use robust::RobustSet;
-pub use writing::to_json;
+pub use text::reading::from_json;
+pub use text::writing::to_json;

@@ -8,8 +8,8 @@ use Rattle.version_store.specs.Clash.{clash_of}
 use Rattle.history_book.specs.History.{Instance}
 use Rattle.history_book.specs.Runs.{committed_in, ended_in, row_in}
 use Rattle.history_book.specs.View.{BookView, instance_of, history_of, active_at, commits_in, done_in}
-use Rattle.history_book.specs.declared.row.Ending.{Ending}
-use Rattle.history_book.specs.declared.row.Ending.TheVariants as ending
+use Rattle.history_book.specs.declared.instances.row.Ending.{Ending}
+use Rattle.history_book.specs.declared.instances.row.Ending.TheVariants as ending
 use Rattle.si_engine.specs.Machine.{Machine, with_begun, commit_by, machine_step}
 use Rattle.si_engine.specs.View.{instance_in, machine_of, IsEngine, IsCommitReply}
 use Rattle.si_engine.specs.declared.active.ActiveRun.{ActiveRun}

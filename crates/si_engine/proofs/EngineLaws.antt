@@ -14,8 +14,8 @@ use Rattle.history_book.specs.History.{Instance, evaluation, state_after}
 use Rattle.history_book.specs.Runs.{ended_in, withdrawn_in, committed_in}
 use Rattle.history_book.specs.View as book
 use Rattle.history_book.specs.View.{BookView, instance_of, history_of, active_at, with_start, without, commits_in, state_in, done_in}
-use Rattle.history_book.specs.declared.row.Ending.{Ending}
-use Rattle.history_book.specs.declared.row.HistoryRow.{HistoryRow}
+use Rattle.history_book.specs.declared.instances.row.Ending.{Ending}
+use Rattle.history_book.specs.declared.instances.row.HistoryRow.{HistoryRow}
 use Rattle.history_book.proofs.HistoryLaws.{state_after-push}
 use Rattle.si_engine.specs.Machine.{Active, Machine, least_start, stepped, with_begun, if_active, with_active, machine_step}
 use Rattle.si_engine.specs.View.{EngineView, instance_in, active_in, begun_of, machine_of, IsHeld, IsActive, IsEngine, IsAfterStep, numbered}

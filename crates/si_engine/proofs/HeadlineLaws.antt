@@ -15,7 +15,7 @@ use Rattle.history_book.specs.Serial.{is_each_once, Runs, Fits}
 use Rattle.history_book.specs.View.{BookView, history_of, FitsBook}
 use Rattle.history_book.proofs.OnceLaws.{next_within}
 use Rattle.si_engine.specs.declared.event.Event.{Event}
-use Rattle.si_engine.specs.declared.robust_run.Outcome.{Outcome}
+use Rattle.si_engine.specs.declared.robust.run.Outcome.{Outcome}
 use Rattle.si_engine.specs.Headline.{Exchange, IsReadyWith, IsCommittedAs, committed_at, commits_said, run_of, RunsAlong, rows_of_machine, Headline}
 use Rattle.si_engine.specs.Machine.{Machine, new_machine, replies_of, machine_after}
 use Rattle.si_engine.specs.View.{EngineView}

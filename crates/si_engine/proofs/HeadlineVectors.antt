@@ -11,7 +11,7 @@ use Rattle.history_book.specs.History.{eval_of}
 use Rattle.si_engine.specs.declared.event.Event.TheVariants.{Begin, Step, Commit}
 use Rattle.si_engine.specs.declared.event.Reply.{Reply}
 use Rattle.si_engine.specs.declared.event.Reply.TheVariants as reply
-use Rattle.si_engine.specs.declared.robust_run.Outcome.{Outcome}
+use Rattle.si_engine.specs.declared.robust.run.Outcome.{Outcome}
 use Rattle.si_engine.specs.Headline.{Exchange, Call, IsBegunBy, IsReadyWith, IsCommittedAs, committed_at, run_of, RunsAlong, Headline}
 use Rattle.si_engine.proofs.MachineVectors.{cell, registers, snapshot_events, snapshot, snapshot_rows}
 

@@ -3,9 +3,9 @@ use Rattle.std.proofs.Common.{◌≡◌, pos, neg_ℤ, ◌^◌, ◌-◌, [], ◌
 use Rattle.std.specs.Fmt.{digits}
 use Rattle.prog_tree.specs.declared.table.Arity.TheVariants.{One}
 use Rattle.prog_tree.specs.Syntax.{DraftTree, BlockEnd}
-use Rattle.si_engine.specs.declared.finding.Finding.TheVariants.{Order, Cycle}
-use Rattle.si_engine.specs.declared.record_line.RecordLine.TheVariants.{Skip, Record}
-use Rattle.si_engine.specs.declared.script_fault.LineFault.TheVariants as f
+use Rattle.si_engine.specs.declared.output.finding.Finding.TheVariants.{Order, Cycle}
+use Rattle.si_engine.specs.declared.input.record_line.RecordLine.TheVariants.{Skip, Record}
+use Rattle.si_engine.specs.declared.input.script_fault.LineFault.TheVariants as f
 use Rattle.si_engine.specs.LastLine.{last_line}
 use Rattle.si_engine.specs.Numbers.{u64_of}
 use Rattle.si_engine.specs.Records.{record_line, record_line_of, row_in_records, record_in_records, record_row_of, records_of}

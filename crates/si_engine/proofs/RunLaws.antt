@@ -7,8 +7,8 @@ use Rattle.prog_tree.specs.Syntax.{DraftTree}
 use Rattle.prog_tree.specs.Table.{TableState}
 use Rattle.si_engine.specs.declared.event.Event.{Event}
 use Rattle.si_engine.specs.declared.event.Reply.{Reply}
-use Rattle.si_engine.specs.declared.finding.Finding.{Finding}
-use Rattle.si_engine.specs.declared.script.Script.{Script}
+use Rattle.si_engine.specs.declared.output.finding.Finding.{Finding}
+use Rattle.si_engine.specs.declared.input.script.Script.{Script}
 use Rattle.prog_tree.specs.Tree.{draft_tree}
 use Rattle.prog_tree.specs.declared.program.Draft.{Draft}
 use Rattle.history_book.specs.History.{Instance, state_after}
@@ -21,9 +21,9 @@ use Rattle.si_engine.specs.Printed.{reply_line}
 use Rattle.si_engine.specs.Reading.{ForInput}
 use Rattle.si_engine.specs.Script.{IsScript, IsScriptFault}
 use Rattle.si_engine.specs.Writing.{IsJust, WritesOr}
-use Rattle.si_engine.specs.declared.script_fault.ScriptFault.{ScriptFault}
-use Rattle.si_engine.specs.declared.script_fault.ScriptFault.TheVariants as fault
-use Rattle.si_engine.specs.declared.source.InputFault.TheVariants as input_fault
+use Rattle.si_engine.specs.declared.input.script_fault.ScriptFault.{ScriptFault}
+use Rattle.si_engine.specs.declared.input.script_fault.ScriptFault.TheVariants as fault
+use Rattle.si_engine.specs.declared.input.source.InputFault.TheVariants as input_fault
 
 module _ (set : DraftTree) (opening : TableState) (event : Event) (events : List Event) (m next : Machine) (r : Reply) (step : (r, next) ≡ machine_step set opening event m) where
   pub first_line : event_lines set opening (event ∷ events) m ≡ reply_line set.tables event r ∷ event_lines set opening events next

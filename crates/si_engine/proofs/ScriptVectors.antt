@@ -2,9 +2,9 @@
 use Rattle.std.proofs.Common.{◌≡◌, pos, neg_ℤ, ◌^◌, [], ◌∷◌, ◌++◌, Some, None, Ok, Err, false, refl, codes}
 use Rattle.prog_tree.specs.declared.table.Arity.TheVariants.{One, Two}
 use Rattle.prog_tree.specs.Syntax.{DraftTree, BlockEnd}
-use Rattle.si_engine.specs.declared.command.Command.TheVariants.{Skip, Row, Begin, Step, Commit, Abort, Vacuum}
+use Rattle.si_engine.specs.declared.input.command.Command.TheVariants.{Skip, Row, Begin, Step, Commit, Abort, Vacuum}
 use Rattle.si_engine.specs.declared.event.Event.TheVariants as e
-use Rattle.si_engine.specs.declared.script_fault.LineFault.TheVariants as f
+use Rattle.si_engine.specs.declared.input.script_fault.LineFault.TheVariants as f
 use Rattle.si_engine.specs.Lines.{lines_of, words_of}
 use Rattle.si_engine.specs.Numbers.{i64_of, number_between}
 use Rattle.si_engine.specs.Commands.{line_command, command_of, row_command, begin_command, step_command, commit_command, abort_command, vacuum_command}

@@ -12,7 +12,7 @@ use Rattle.si_engine.specs.declared.event.Event.{Event}
 use Rattle.si_engine.specs.declared.event.Event.TheVariants as event
 use Rattle.si_engine.specs.declared.event.Reply.{Reply}
 use Rattle.si_engine.specs.declared.event.Reply.TheVariants as reply
-use Rattle.si_engine.specs.declared.robust_run.Outcome.{Outcome}
+use Rattle.si_engine.specs.declared.robust.run.Outcome.{Outcome}
 use Rattle.si_engine.specs.Machine.{Machine, new_machine, replies_of, machine_after}
 
 -- ---- what events were answered

@@ -7,8 +7,8 @@ use Rattle.prog_tree.specs.Table.{TableState}
 use Rattle.history_book.specs.Dependencies.{depends}
 use Rattle.history_book.specs.History.{Instance}
 use Rattle.history_book.specs.Orders.{least_order, IsCycle}
-use Rattle.si_engine.specs.declared.finding.Finding.{Finding}
-use Rattle.si_engine.specs.declared.finding.Finding.TheVariants.{Order, Cycle}
+use Rattle.si_engine.specs.declared.output.finding.Finding.{Finding}
+use Rattle.si_engine.specs.declared.output.finding.Finding.TheVariants.{Order, Cycle}
 
 -- commit numbers, each behind a space
 abbrev pub commits_text : List ℕ → List ℕ

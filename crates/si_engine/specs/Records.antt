@@ -5,15 +5,15 @@ use Rattle.std.specs.Option.{ok_or}
 use Rattle.prog_tree.specs.Syntax.{DraftTree}
 use Rattle.prog_tree.specs.Table.{TableState, row_at, with_row}
 use Rattle.prog_check.specs.Faults.{program_names}
-use Rattle.history_book.specs.declared.row.HistoryRow.{HistoryRow}
-use Rattle.si_engine.specs.declared.record_line.Outcome.{Outcome}
-use Rattle.si_engine.specs.declared.record_line.RecordLine.{RecordLine}
-use Rattle.si_engine.specs.declared.record_line.RecordLine.TheVariants.{Skip, Row, Record}
-use Rattle.si_engine.specs.declared.record_line.RecordWords.{RecordWords}
-use Rattle.si_engine.specs.declared.records.Records.{Records}
-use Rattle.si_engine.specs.declared.script_fault.LineFault.{LineFault}
-use Rattle.si_engine.specs.declared.script_fault.LineFault.TheVariants.{BadLine, UnknownName}
-use Rattle.si_engine.specs.declared.script_fault.ScriptFault.{ScriptFault}
+use Rattle.history_book.specs.declared.instances.row.HistoryRow.{HistoryRow}
+use Rattle.si_engine.specs.declared.input.record_line.Outcome.{Outcome}
+use Rattle.si_engine.specs.declared.input.record_line.RecordLine.{RecordLine}
+use Rattle.si_engine.specs.declared.input.record_line.RecordLine.TheVariants.{Skip, Row, Record}
+use Rattle.si_engine.specs.declared.input.record_line.RecordWords.{RecordWords}
+use Rattle.si_engine.specs.declared.input.records.Records.{Records}
+use Rattle.si_engine.specs.declared.input.script_fault.LineFault.{LineFault}
+use Rattle.si_engine.specs.declared.input.script_fault.LineFault.TheVariants.{BadLine, UnknownName}
+use Rattle.si_engine.specs.declared.input.script_fault.ScriptFault.{ScriptFault}
 use Rattle.si_engine.specs.Lines.{is_skipped, words_of}
 use Rattle.si_engine.specs.Names.{number_named}
 use Rattle.si_engine.specs.Numbers.{numbers_of, u64_of}

@@ -6,12 +6,12 @@ use Rattle.prog_tree.specs.declared.table.Arity.{Arity}
 use Rattle.prog_tree.specs.declared.table.Arity.TheVariants as arities
 use Rattle.prog_tree.specs.Syntax.{DraftTree}
 use Rattle.prog_check.specs.Faults.{table_names}
-use Rattle.si_engine.specs.declared.row_line.Keys.{Keys}
-use Rattle.si_engine.specs.declared.row_line.Keys.TheVariants.{One, Two}
-use Rattle.si_engine.specs.declared.row_line.RowLine.{RowLine}
-use Rattle.si_engine.specs.declared.row_line.RowWords.{RowWords}
-use Rattle.si_engine.specs.declared.script_fault.LineFault.{LineFault}
-use Rattle.si_engine.specs.declared.script_fault.LineFault.TheVariants.{BadLine, UnknownName, WrongKeys, LateRow, RepeatedRow, Memory}
+use Rattle.si_engine.specs.declared.input.row_line.Keys.{Keys}
+use Rattle.si_engine.specs.declared.input.row_line.Keys.TheVariants.{One, Two}
+use Rattle.si_engine.specs.declared.input.row_line.RowLine.{RowLine}
+use Rattle.si_engine.specs.declared.input.row_line.RowWords.{RowWords}
+use Rattle.si_engine.specs.declared.input.script_fault.LineFault.{LineFault}
+use Rattle.si_engine.specs.declared.input.script_fault.LineFault.TheVariants.{BadLine, UnknownName, WrongKeys, LateRow, RepeatedRow, Memory}
 use Rattle.si_engine.specs.Names.{number_named}
 use Rattle.si_engine.specs.Numbers.{i64_of}
 

@@ -6,13 +6,13 @@ use Rattle.prog_tree.specs.Syntax.{DraftTree}
 use Rattle.prog_tree.specs.Table.{TableState}
 use Rattle.history_book.specs.History.{Instance, state_after}
 use Rattle.si_engine.specs.declared.event.Event.{Event}
-use Rattle.si_engine.specs.declared.finding.Finding.{Finding}
-use Rattle.si_engine.specs.declared.finding.Finding.TheVariants.{Order}
-use Rattle.si_engine.specs.declared.robust_run.Outcome.{Outcome}
-use Rattle.si_engine.specs.declared.script.Script.{Script}
-use Rattle.si_engine.specs.declared.script_fault.ScriptFault.{ScriptFault}
-use Rattle.si_engine.specs.declared.script_fault.ScriptFault.TheVariants as fault
-use Rattle.si_engine.specs.declared.source.InputFault.TheVariants as input_fault
+use Rattle.si_engine.specs.declared.output.finding.Finding.{Finding}
+use Rattle.si_engine.specs.declared.output.finding.Finding.TheVariants.{Order}
+use Rattle.si_engine.specs.declared.robust.run.Outcome.{Outcome}
+use Rattle.si_engine.specs.declared.input.script.Script.{Script}
+use Rattle.si_engine.specs.declared.input.script_fault.ScriptFault.{ScriptFault}
+use Rattle.si_engine.specs.declared.input.script_fault.ScriptFault.TheVariants as fault
+use Rattle.si_engine.specs.declared.input.source.InputFault.TheVariants as input_fault
 use Rattle.si_engine.specs.Headline.{Exchange}
 use Rattle.si_engine.specs.LastLine.{IsLastLine}
 use Rattle.si_engine.specs.Machine.{Machine, new_machine, machine_step, machine_after}

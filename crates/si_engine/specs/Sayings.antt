@@ -1,9 +1,9 @@
 -- What the lines of a part say, one after another, or the first fault.
 use Rattle.std.specs.Prelude.{◌≡◌, ℕ, ◌+◌, ◌<◌, ◌≤◌, List, [], ◌∷◌, ◌++◌, length, Option, Some, None, Result, Ok, Err}
-use Rattle.si_engine.specs.declared.script_fault.LineFault.{LineFault}
-use Rattle.si_engine.specs.declared.script_fault.ScriptFault.{ScriptFault}
-use Rattle.si_engine.specs.declared.script_fault.ScriptFault.TheVariants as fault
-use Rattle.si_engine.specs.declared.source.InputFault.TheVariants as input_fault
+use Rattle.si_engine.specs.declared.input.script_fault.LineFault.{LineFault}
+use Rattle.si_engine.specs.declared.input.script_fault.ScriptFault.{ScriptFault}
+use Rattle.si_engine.specs.declared.input.script_fault.ScriptFault.TheVariants as fault
+use Rattle.si_engine.specs.declared.input.source.InputFault.TheVariants as input_fault
 use Rattle.si_engine.specs.Lines.{lines_of}
 use Rattle.si_engine.specs.Reading.{input_limit}
 use Rattle.si_engine.specs.RowLines.{◌>>=◌, Fails, IsFault}

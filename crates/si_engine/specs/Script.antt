@@ -3,14 +3,14 @@ use Rattle.std.specs.Prelude.{ℕ, ◌+◌, nat_lt, ◌==◌, not, Bool, List, [
 use Rattle.std.specs.List.{flat_map}
 use Rattle.prog_tree.specs.Syntax.{DraftTree}
 use Rattle.prog_tree.specs.Table.{TableState, row_at, with_row}
-use Rattle.si_engine.specs.declared.command.Command.{Command}
-use Rattle.si_engine.specs.declared.command.Command.TheVariants.{Skip, Row, Begin, Step, Commit, Abort, Vacuum}
+use Rattle.si_engine.specs.declared.input.command.Command.{Command}
+use Rattle.si_engine.specs.declared.input.command.Command.TheVariants.{Skip, Row, Begin, Step, Commit, Abort, Vacuum}
 use Rattle.si_engine.specs.declared.event.Event.{Event}
 use Rattle.si_engine.specs.declared.event.Event.TheVariants as e
-use Rattle.si_engine.specs.declared.script.Script.{Script}
-use Rattle.si_engine.specs.declared.script_fault.LineFault.{LineFault}
-use Rattle.si_engine.specs.declared.script_fault.LineFault.TheVariants.{TooManyEvents}
-use Rattle.si_engine.specs.declared.script_fault.ScriptFault.{ScriptFault}
+use Rattle.si_engine.specs.declared.input.script.Script.{Script}
+use Rattle.si_engine.specs.declared.input.script_fault.LineFault.{LineFault}
+use Rattle.si_engine.specs.declared.input.script_fault.LineFault.TheVariants.{TooManyEvents}
+use Rattle.si_engine.specs.declared.input.script_fault.ScriptFault.{ScriptFault}
 use Rattle.si_engine.specs.Commands.{line_command}
 use Rattle.si_engine.specs.RowLines.{row_fault}
 use Rattle.si_engine.specs.Sayings.{made_of, IsPart, IsPartFault}

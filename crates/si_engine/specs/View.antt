@@ -7,7 +7,7 @@ use Rattle.prog_run.specs.View.{IsTrueRun}
 use Rattle.history_book.specs.History.{Instance}
 use Rattle.history_book.specs.Runs.{IsOwnRun, IsCommitted, IsClashed, ended_in}
 use Rattle.history_book.specs.View.{BookView, history_of, active_at}
-use Rattle.history_book.specs.declared.row.Ending.{Ending}
+use Rattle.history_book.specs.declared.instances.row.Ending.{Ending}
 use Rattle.si_engine.specs.Machine.{Active, Machine}
 use Rattle.si_engine.specs.declared.active.ActiveRun.{ActiveRun}
 use Rattle.si_engine.specs.declared.event.Reply.{Reply}

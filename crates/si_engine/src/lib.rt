@@ -2,47 +2,31 @@
 #![tactic(auto)]
 
 mod active;
-mod bytes;
-mod command;
 mod engine;
 mod event;
-mod finding;
-mod from_lines;
+mod input;
 mod limits;
-mod line_words;
-mod lines;
-mod names;
-mod number;
+mod output;
 mod port;
-mod printed;
-mod record_line;
-mod records;
-mod robust_run;
-mod robust_script;
-mod robustness;
-mod row_line;
+mod robust;
 mod run;
-mod script;
-mod script_fault;
-mod sink;
-mod source;
 
-pub use bytes::Bytes;
 pub use engine::Engine;
 pub use event::{Event, Reply};
-pub use finding::{Finding, push_findings};
+pub use input::bytes::Bytes;
+pub use input::records::{Records, read_records};
+pub use input::script::{Script, read_script};
+pub use input::script_fault::{LineFault, ScriptFault};
+pub use input::source::{DeviceFault, InputFault, Source, read_whole};
 pub use limits::{MAX_BYTES, MAX_READS};
+pub use output::finding::{Finding, push_findings};
+pub use output::sink::{Sink, write_whole};
 pub use port::Port;
-pub use records::{Records, read_records};
-pub use robust_run::{Outcome, run_robust};
-pub use robust_script::run_robust_script;
-pub use robustness::{
+pub use robust::laws::{
     concurrent_dependencies_are_vulnerable, cycles_are_dangerous, dependencies_are_static_edges,
     grow_tables_gain_each_row_once, instances_follow_nodes, safe_sets_have_no_cycle,
     states_have_i64_rows,
 };
+pub use robust::run::{Outcome, run_robust};
+pub use robust::script::run_robust_script;
 pub use run::run_script;
-pub use script::{Script, read_script};
-pub use script_fault::{LineFault, ScriptFault};
-pub use sink::{Sink, write_whole};
-pub use source::{DeviceFault, InputFault, Source, read_whole};

@@ -1,8 +1,8 @@
 //! A reader as a source, and a writer as a sink.
 ghost use Rattle.std.specs.Prelude.{◌≡◌, false};
 
-use crate::sink::Sink;
-use crate::source::{DeviceFault, Source};
+use crate::input::source::{DeviceFault, Source};
+use crate::output::sink::Sink;
 use std::io::{Read, Write};
 
 /// A reader or a writer. After a fault it keeps failing, and so it does where its answered pulls can't be counted on.

@@ -7,19 +7,19 @@ use Rattle.std.specs.Io.KnownBytes.{Appends}
 use Rattle.prog_tree.specs.declared.program.Draft.{Draft}
 use Rattle.prog_tree.specs.Syntax.{DraftTree}
 use Rattle.prog_tree.specs.Tree.{draft_tree}
-use Rattle.history_book.specs.declared.row.Ending.TheVariants as ending
+use Rattle.history_book.specs.declared.instances.row.Ending.TheVariants as ending
 use Rattle.history_book.specs.Audit.{audited}
 use Rattle.history_book.specs.TrueBook.{IsTrueBook}
 use Rattle.history_book.specs.View.{BookView, history_of}
 use Rattle.std.specs.List.{range_with_len}
-use Rattle.si_engine.specs.declared.finding.Finding.{Finding}
-use Rattle.si_engine.specs.declared.records.Records.{Records}
-use Rattle.si_engine.specs.declared.script_fault.LineFault.{LineFault}
-use Rattle.si_engine.specs.declared.script_fault.LineFault.TheVariants as l
-use Rattle.si_engine.specs.declared.script_fault.ScriptFault.{ScriptFault}
-use Rattle.si_engine.specs.declared.script_fault.ScriptFault.TheVariants as s
-use Rattle.si_engine.specs.declared.source.InputFault.{InputFault}
-use Rattle.si_engine.specs.declared.source.InputFault.TheVariants as i
+use Rattle.si_engine.specs.declared.output.finding.Finding.{Finding}
+use Rattle.si_engine.specs.declared.input.records.Records.{Records}
+use Rattle.si_engine.specs.declared.input.script_fault.LineFault.{LineFault}
+use Rattle.si_engine.specs.declared.input.script_fault.LineFault.TheVariants as l
+use Rattle.si_engine.specs.declared.input.script_fault.ScriptFault.{ScriptFault}
+use Rattle.si_engine.specs.declared.input.script_fault.ScriptFault.TheVariants as s
+use Rattle.si_engine.specs.declared.input.source.InputFault.{InputFault}
+use Rattle.si_engine.specs.declared.input.source.InputFault.TheVariants as i
 use Rattle.si_engine.specs.Reading.{CanGive, ForInput}
 use Rattle.si_engine.specs.Records.{records_of, IsRecords, IsRecordsFault}
 use Rattle.si_engine.specs.RowLines.{Fails}

@@ -1,7 +1,7 @@
 -- The faults of the input.
 use Rattle.std.specs.Prelude.{ℕ, List, codes}
-use Rattle.si_engine.specs.declared.source.InputFault.{InputFault}
-use Rattle.si_engine.specs.declared.source.InputFault.TheVariants.{TooLong, ReadFault, Memory}
+use Rattle.si_engine.specs.declared.input.source.InputFault.{InputFault}
+use Rattle.si_engine.specs.declared.input.source.InputFault.TheVariants.{TooLong, ReadFault, Memory}
 use Rattle.sirob.specs.declared.parts.PartFault.{PartFault}
 use Rattle.sirob.specs.declared.parts.PartFault.TheVariants.{MissingPart, ExtraPart}
 

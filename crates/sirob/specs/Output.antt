@@ -21,13 +21,13 @@ use Rattle.history_book.specs.Audit.{IsAuditFault}
 use Rattle.history_book.specs.History.{IsLawful}
 use Rattle.history_book.specs.TrueBook.{IsTrueRow}
 use Rattle.history_book.specs.View.{history_of, most_endings}
-use Rattle.si_engine.specs.declared.finding.Finding.{Finding}
-use Rattle.si_engine.specs.declared.finding.Finding.TheVariants.{Order}
-use Rattle.si_engine.specs.declared.records.Records.{Records}
-use Rattle.si_engine.specs.declared.script.Script.{Script}
-use Rattle.si_engine.specs.declared.script_fault.LineFault.{LineFault}
-use Rattle.si_engine.specs.declared.script_fault.ScriptFault.TheVariants as script_fault
-use Rattle.si_engine.specs.declared.source.InputFault.TheVariants as input_fault
+use Rattle.si_engine.specs.declared.output.finding.Finding.{Finding}
+use Rattle.si_engine.specs.declared.output.finding.Finding.TheVariants.{Order}
+use Rattle.si_engine.specs.declared.input.records.Records.{Records}
+use Rattle.si_engine.specs.declared.input.script.Script.{Script}
+use Rattle.si_engine.specs.declared.input.script_fault.LineFault.{LineFault}
+use Rattle.si_engine.specs.declared.input.script_fault.ScriptFault.TheVariants as script_fault
+use Rattle.si_engine.specs.declared.input.source.InputFault.TheVariants as input_fault
 use Rattle.si_engine.specs.Reading.{ForInput, input_limit}
 use Rattle.si_engine.specs.Records.{records_of}
 use Rattle.si_engine.specs.Runs.{run_lines, end_lines, AddsFirst, AddsEnd, AddsRun}

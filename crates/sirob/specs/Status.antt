@@ -1,7 +1,7 @@
 -- The program's exit statuses.
 use Rattle.std.specs.Prelude.{ℕ}
-use Rattle.si_engine.specs.declared.finding.Finding.{Finding}
-use Rattle.si_engine.specs.declared.finding.Finding.TheVariants.{Order, Cycle}
+use Rattle.si_engine.specs.declared.output.finding.Finding.{Finding}
+use Rattle.si_engine.specs.declared.output.finding.Finding.TheVariants.{Order, Cycle}
 use Rattle.sirob.specs.declared.status.Status.{Status}
 use Rattle.sirob.specs.declared.status.Status.TheVariants.{Done, Unserializable, Faulty, Memory}
 

@@ -3,14 +3,14 @@ use Rattle.std.specs.Prelude.{◌≡◌, ◌⊎◌, ℕ, ◌≤◌, Bool, true, 
 use Rattle.prog_tree.specs.declared.program.Draft.{Draft}
 use Rattle.prog_tree.specs.Syntax.{DraftTree}
 use Rattle.prog_tree.specs.Tree.{draft_tree}
-use Rattle.si_engine.specs.declared.finding.Finding.{Finding}
-use Rattle.si_engine.specs.declared.script_fault.ScriptFault.{ScriptFault}
-use Rattle.si_engine.specs.declared.script_fault.ScriptFault.TheVariants as script_fault
-use Rattle.si_engine.specs.declared.source.InputFault.TheVariants as input_fault
+use Rattle.si_engine.specs.declared.output.finding.Finding.{Finding}
+use Rattle.si_engine.specs.declared.input.script_fault.ScriptFault.{ScriptFault}
+use Rattle.si_engine.specs.declared.input.script_fault.ScriptFault.TheVariants as script_fault
+use Rattle.si_engine.specs.declared.input.source.InputFault.TheVariants as input_fault
 use Rattle.si_engine.specs.Reading.{ForInput, input_limit}
 use Rattle.sirob.specs.declared.command_line.Mode.{Mode}
-use Rattle.sirob.specs.declared.robust.Verified.{Verified}
-use Rattle.sirob.specs.declared.robust.Verified.TheVariants as verified
+use Rattle.sirob.specs.declared.commands.robust.Verified.{Verified}
+use Rattle.sirob.specs.declared.commands.robust.Verified.TheVariants as verified
 use Rattle.sirob.specs.declared.run_fault.RunFault.{RunFault}
 use Rattle.sirob.specs.declared.run_fault.RunFault.TheVariants as fault
 use Rattle.sirob.specs.declared.status.Status.{Status}

@@ -3,25 +3,16 @@
 #![tactic(auto)]
 
 mod analysis_fault;
-mod analysis_sentences;
-mod audit;
-mod certify;
-mod check;
 mod command_line;
-mod cycle_sentences;
+mod commands;
 mod input;
-mod kept_input;
 mod lines;
 mod parts;
 mod program;
-mod refusal;
-mod robust;
-mod run;
 mod run_command;
 mod run_fault;
+mod sentences;
 mod status;
-mod verify;
-mod words;
 
 use crate::program::carry_out;
 use si_engine::Port;

@@ -6,16 +6,16 @@ ghost use Rattle.sirob.specs.FaultLines.{is_memory};
 ghost use Rattle.sirob.specs.Output.{parts_wanted, IsReply, Writes, memory_line};
 ghost use Rattle.sirob.specs.Stops.{IsInputDone, IsSourceDone, Ends, IsJust, write_lost};
 
-use crate::audit::audit_part;
-use crate::certify::certify_input;
-use crate::check::check_input;
 use crate::command_line::Mode;
+use crate::commands::audit::audit_part;
+use crate::commands::certify::certify_input;
+use crate::commands::check::check_input;
+use crate::commands::run::{run_part, run_robust_part};
+use crate::commands::verify::verify_part;
 use crate::input::read_text_and_part;
-use crate::run::{run_part, run_robust_part};
 use crate::run_fault::{RunFault, fault_line};
+use crate::sentences::words::explain;
 use crate::status::Status;
-use crate::verify::verify_part;
-use crate::words::explain;
 use si_engine::{MAX_READS, Sink, Source, read_whole, write_whole};
 use std::alloc::Global;
 

@@ -267,7 +267,7 @@ impl From<AuditFault> for RunFault {
 impl From<AllocError> for RunFault {
     ghost use Rattle.std.specs.Prelude.{◌≡◌};
     ghost use Rattle.sirob.specs.declared.run_fault.RunFault.TheVariants.{Input};
-    ghost use Rattle.si_engine.specs.declared.source.InputFault.TheVariants.{Memory};
+    ghost use Rattle.si_engine.specs.declared.input.source.InputFault.TheVariants.{Memory};
 
     ghost from_gives = { λ _ e. e ≡ Input Memory };
 

@@ -1,6 +1,6 @@
 use Rattle.std.proofs.Common.{◌≡◌, Err, ap}
 use Rattle.std.proofs.lemmas.Result.{err_from_is_err_and}
-use Rattle.si_engine.specs.declared.source.InputFault.TheVariants as i
+use Rattle.si_engine.specs.declared.input.source.InputFault.TheVariants as i
 use Rattle.sirob.proofs.StopLaws.{read_stopped, done_of_source}
 use Rattle.sirob.proofs.run_command.answer_source.Goals as goal
 

@@ -3,7 +3,7 @@ use Rattle.std.specs.Prelude.{IsTrue, ◌↔◌}
 use Rattle.prog_tree.specs.Tree.{draft_tree}
 use Rattle.history_book.specs.History.{IsCalled}
 use Rattle.history_book.specs.View.{instance_of}
-use Rattle.history_book.specs.declared.row.HistoryRow.{HistoryRow}
+use Rattle.history_book.specs.declared.instances.row.HistoryRow.{HistoryRow}
 use Rattle.history_book.proofs.RepeatLaws.{came_again, not_ready_again, other_replies_again, same_again, commits_again}
 use Rattle.history_book.proofs.book.Book.repeat.Goals as goal
 

@@ -1,0 +1,132 @@
+//! Runs that are made again, on what a book holds.
+
+ghost use Rattle.std.specs.Prelude.{◌≡◌, ◌<◌, ◌≤◌, [], Some, None, IsSome, length, IfOk, IfErr, OnOk, OnErr};
+ghost use Rattle.prog_tree.specs.Tree.{draft_tree};
+ghost use Rattle.prog_run.specs.Looks.{AreFound};
+ghost use Rattle.prog_run.specs.Step.{question_after, end_after, deeds_after};
+ghost use Rattle.prog_run.specs.View.{IsTrueRun, SameBegin};
+ghost use Rattle.history_book.specs.Audit.{CameTo, IsBegun, with_active, taken_up};
+ghost use Rattle.history_book.specs.History.{Instance, IsCalled};
+ghost use Rattle.history_book.specs.Runs.{IsCommit};
+ghost use Rattle.history_book.specs.View.{done_in, history_of, instance_of, state_in, most_endings, most_begins};
+
+use crate::book::Book;
+use crate::instances::active::Active;
+use crate::instances::row::HistoryRow;
+use prog_run::{AnswerFault, Next, Run, RunFault};
+use prog_tree::Sequence;
+use std::alloc::AllocError;
+
+/// An answer that fits the question is refused for want of memory alone.
+pub fn taken(answer: Result<Next, AnswerFault>) -> Result<Next, AllocError>
+    requires { IfErr answer (λ fault. fault ≡ AnswerFault.Memory) }
+    ensures ok { IfOk result (λ next. answer ≡ Ok next) }
+    ensures err { OnErr result (answer ≡ Err AnswerFault.Memory) }
+{
+    match answer {
+        Ok(next) => Ok(next),
+        Err(AnswerFault::Memory) => Err(AllocError),
+        Err(_) => unreachable!(),
+    }
+}
+
+impl<'a> Book<'a> {
+    // The next store statement of a run, or its end. What it asks for is read after the first
+    // `start` commits.
+    fn advance(&self, start: u64, run: &mut Run<'_>) -> Result<Next, AllocError>
+        requires above { self.now.floor ≤ start }
+        requires within { start ≤ length self.now.rows }
+        requires found { AreFound (state_in self.now start) run.old.looks }
+        ensures idle { IfOk result (λ next. question_after next ≡ None) }
+        ensures found { OnOk result (AreFound (state_in self.now start) run.new.looks) }
+        ensures deeds { IfOk result (λ next. run.new.deeds ≡ deeds_after next run.old.deeds) }
+        ensures end { IfOk result (λ next. run.new.end ≡ end_after next) }
+        ensures true_run { IsTrueRun run.new }
+        ensures same { SameBegin run.old run.new }
+    {
+        match run.advance()? {
+            Next::Get(cell) => {
+                let held = self.held(start, &cell);
+                let next = taken(run.answer_get(held))?;
+                Ok(next)
+            }
+            Next::Scan(region) => {
+                let rows = self.rows_in(start, &region)?;
+                let next = taken(run.answer_scan(rows.as_slice()))?;
+                Ok(next)
+            }
+            next => Ok(next),
+        }
+    }
+
+    // Goes on with a run to its end.
+    fn finish(&self, start: u64, run: &mut Run<'_>) -> Result<(), AllocError>
+        requires above { self.now.floor ≤ start }
+        requires within { start ≤ length self.now.rows }
+        requires found { AreFound (state_in self.now start) run.old.looks }
+        ensures over { OnOk result (IsSome run.new.end) }
+        ensures found { OnOk result (AreFound (state_in self.now start) run.new.looks) }
+        ensures true_run { OnOk result (IsTrueRun run.new) }
+        ensures same { OnOk result (SameBegin run.old run.new) }
+    {
+        'steps: loop {
+            if let Next::Done(_) = self.advance(start, run)? {
+                return Ok(());
+            }
+        }
+    }
+
+    /// The run of a row's program with its arguments, to its end, on what its instance sees.
+    pub(crate) fn replay(&self, row: &HistoryRow) -> Result<Run<'a>, AllocError>
+        requires called { IsCalled (draft_tree self.now.set) (instance_of row.now) }
+        requires above { self.now.floor ≤ row.now.start }
+        requires within { row.now.start ≤ length self.now.rows }
+        ensures { IfOk result (λ run. CameTo run (done_in self.now (instance_of row.now))) }
+    {
+        let mut run = match Run::new(self.alloc, self.set, row.program, row.args.as_slice()) {
+            Ok(run) => run,
+            Err(RunFault::Memory) => return Err(AllocError),
+            Err(_) => unreachable!(),
+        };
+        self.finish(row.start, &mut run)?;
+        Ok(run)
+    }
+
+    // Begins the instance of a row, which sees as many commits as the row says.
+    fn begin_as(&mut self, row: &HistoryRow) -> Result<u64, AllocError>
+        requires none { self.old.active ≡ [] }
+        requires begun { IsBegun (draft_tree self.old.set) self.old.opening
+            (history_of self.old.rows) row.now }
+        requires above { self.old.floor ≤ row.now.start }
+        requires room { length self.old.endings < most_endings }
+        requires more { self.old.begun < most_begins }
+        ensures number { IfOk result (λ number. number ≡ self.old.begun) }
+        ensures ok { OnOk result (self.new ≡ with_active self.old (instance_of row.now)) }
+    {
+        let number = self.begun;
+        let args = Sequence::from_vec(Vec::from_slice(self.alloc, row.args.as_slice())?);
+        let active = Active {
+            program: row.program,
+            args,
+            start: row.start,
+        };
+        self.active.insert(number, active)?;
+        self.begun += 1;
+        Ok(number)
+    }
+
+    /// Begins the instance of a row, and commits it by its run.
+    pub(crate) fn take_up(&mut self, row: HistoryRow, run: &Run<'_>) -> Result<(), AllocError>
+        requires none { self.old.active ≡ [] }
+        requires commit { IsCommit self.old row run.now.changes }
+        requires looks { run.now.looks ≡ (done_in self.old (instance_of row)).looks }
+        requires above { self.old.floor ≤ row.start }
+        requires room { length self.old.endings < most_endings }
+        requires more { self.old.begun < most_begins }
+        ensures { OnOk result (self.new ≡ taken_up self.old row) }
+    {
+        let number = self.begin_as(&row)?;
+        self.install(number, row, run)?;
+        Ok(())
+    }
+}

@@ -1,0 +1,282 @@
+//! The least order in which each number stands behind those that have to stand before it, or a
+//! cycle that forbids it.
+
+ghost use Rattle.std.specs.Prelude.{nat_lt, ◌≡◌, ◌≢◌, ◌<◌, ◌≤◌, ◌+◌, ◌==◌, ◌&&◌, ◌||◌, ℕ, Bool, true, [], drop, length, slice_index, Some, IfOk, IfErr, OnOk, ◌++◌, if◌then◌else◌};
+ghost use Rattle.std.specs.List.{IsFirstBest};
+ghost use Rattle.history_book.specs.Orders.{is_one_of, least_order, IsCycle};
+ghost use Rattle.history_book.specs.Precedence.{precedes};
+ghost use Rattle.history_book.specs.Placing.{times, AreWaits, IsWaiting, IsStuck, HasLeader, AreLeaders, IsLed, IsWalk, IsOrderFault};
+
+use crate::orders::precedence::Precedence;
+use std::alloc::{AllocError, AllocFailed, Global};
+use std::collections::BTreeSet;
+use std::error::Error;
+use std::{fmt, mem};
+
+/// Why there is no order.
+#[derive(Debug, Drop)]
+pub enum OrderFault {
+    /// Each of these commits has to stand before the next, and the last before the first, the
+    /// least.
+    Cycle(Vec<usize>),
+    /// There was no memory for it.
+    Memory,
+}
+
+impl From<AllocError> for OrderFault {
+    ghost use Rattle.std.specs.Prelude.{◌≡◌};
+    ghost use Rattle.history_book.specs.declared.orders.order.OrderFault.TheVariants.{Memory};
+
+    ghost from_gives = { λ _ e. e ≡ Memory };
+
+    fn from(_: AllocError) -> Self {
+        OrderFault::Memory
+    }
+}
+
+impl<T: Drop> From<AllocFailed<T>> for OrderFault {
+    ghost use Rattle.std.specs.Prelude.{◌≡◌};
+    ghost use Rattle.history_book.specs.declared.orders.order.OrderFault.TheVariants.{Memory};
+
+    ghost from_gives = { λ _ e. e ≡ Memory };
+
+    fn from(_: AllocFailed<T>) -> Self {
+        OrderFault::Memory
+    }
+}
+
+impl fmt::Display for OrderFault {
+    ghost use Rattle.std.specs.Prelude.{Some};
+    ghost use Rattle.history_book.specs.Placing.{order_fault_text};
+
+    ghost output = { λ fault. Some (order_fault_text fault) };
+
+    fn fmt<W: fmt::Write>(&self, f: &mut fmt::Formatter<W>) -> fmt::Result {
+        f.write_str(match self {
+            OrderFault::Cycle(_) => "cycle",
+            OrderFault::Memory => "memory",
+        })
+    }
+}
+
+impl Error for OrderFault {}
+
+// Counts each of some numbers once more; want of memory also where a count would not fit.
+fn count_up(counts: &mut [usize], numbers: &[usize]) -> Result<(), AllocError>
+    requires { (n : ℕ) → is_one_of numbers.now n ≡ true → n < length counts.old }
+    ensures { OnOk result ((n : ℕ) → n < length counts.old
+        → slice_index counts.new n ≡ slice_index counts.old n + times n numbers.now) }
+{
+    for number in numbers {
+        let count = counts[*number].checked_add(1);
+        counts[*number] = count.ok_or(AllocError)?;
+    }
+    Ok(())
+}
+
+// Counts each of some numbers once less.
+fn count_down(counts: &mut [usize], numbers: &[usize])
+    requires within { (n : ℕ) → is_one_of numbers.now n ≡ true → n < length counts.old }
+    requires enough { (n : ℕ) → n < length counts.old
+        → times n numbers.now ≤ slice_index counts.old n }
+    ensures { (n : ℕ) → n < length counts.old
+        → slice_index counts.new n + times n numbers.now ≡ slice_index counts.old n }
+{
+    for number in numbers {
+        counts[*number] -= 1;
+    }
+}
+
+// The numbers that wait for none.
+fn free_numbers(alloc: Global, waits: &[usize]) -> Result<BTreeSet<usize>, AllocError>
+    ensures { IfOk result (λ free. (n : ℕ) → is_one_of free.keys n
+        ≡ (nat_lt 0 n && nat_lt n (length waits.now) && slice_index waits.now n == 0)) }
+{
+    let mut free = BTreeSet::new(alloc);
+    for number in 1..waits.len() {
+        if waits[number] == 0 {
+            free.insert(number)?;
+        }
+    }
+    Ok(free)
+}
+
+// Adds those of some numbers that wait for none.
+fn free_more(
+    free: &mut BTreeSet<usize>,
+    waits: &[usize],
+    numbers: &[usize],
+) -> Result<(), AllocError>
+    requires { (n : ℕ) → is_one_of numbers.now n ≡ true → n < length waits.now }
+    ensures { OnOk result ((n : ℕ) → is_one_of free.new.keys n
+        ≡ (is_one_of free.old.keys n
+        || (is_one_of numbers.now n && slice_index waits.now n == 0))) }
+{
+    for number in numbers {
+        if waits[*number] == 0 {
+            free.insert(*number)?;
+        }
+    }
+    Ok(())
+}
+
+// Writes one number at each of some places.
+fn mark(marks: &mut [usize], places: &[usize], number: usize)
+    requires { (n : ℕ) → is_one_of places.now n ≡ true → n < length marks.old }
+    ensures { (n : ℕ) → slice_index marks.new n
+        ≡ (if is_one_of places.now n then number else slice_index marks.old n) }
+{
+    for place in places {
+        marks[*place] = number;
+    }
+}
+
+// The walk from a number to one that has to stand before it, until it would come to a number
+// again: the numbers, and that one.
+fn walk_back(
+    alloc: Global,
+    mut leaders: Vec<usize>,
+    start: usize,
+) -> Result<(Vec<usize>, usize), AllocError>
+    requires within { (n : ℕ) → slice_index leaders.items n < length leaders.items }
+    requires on { (n : ℕ) → HasLeader leaders.items n
+        → HasLeader leaders.items (slice_index leaders.items n) }
+    requires start { HasLeader leaders.items start }
+    ensures { IfOk result (λ walk. (before : ℕ → ℕ → Bool)
+        → IsLed before leaders.items → IsWalk before walk.0.items walk.1) }
+{
+    let mut walk = Vec::new(alloc);
+    let mut at = start;
+    while leaders[at] > 0 {
+        walk.push(at)?;
+        at = mem::replace(&mut leaders[at], 0);
+    }
+    Ok((walk, at))
+}
+
+// A place of a number.
+fn place_of(numbers: &[usize], number: usize) -> usize
+    requires { is_one_of numbers.now number ≡ true }
+    ensures within { result < length numbers.now }
+    ensures there { slice_index numbers.now result ≡ number }
+{
+    for (place, n) in numbers.iter().enumerate() {
+        if *n == number {
+            return place;
+        }
+    }
+    unreachable!()
+}
+
+// A place whose number is not 0.
+fn place_of_waiting(waits: &[usize]) -> usize
+    requires { (n : ℕ) × (n < length waits.now) × IsWaiting waits.now n }
+    ensures within { result < length waits.now }
+    ensures there { IsWaiting waits.now result }
+{
+    for (place, count) in waits.iter().enumerate() {
+        if *count > 0 {
+            return place;
+        }
+    }
+    unreachable!()
+}
+
+// The place of the least number.
+fn place_of_least(numbers: &[usize]) -> usize
+    requires { 0 < length numbers.now }
+    ensures { IsFirstBest nat_lt numbers.now (length numbers.now) result }
+{
+    let mut best = 0;
+    for place in 1..numbers.len() {
+        if numbers[place] < numbers[best] {
+            best = place;
+        }
+    }
+    best
+}
+
+// The cycle of a walk: from where it came again on, read forward, the least first.
+fn cycle_of(alloc: Global, walk: &[usize], again: usize) -> Result<Vec<usize>, AllocError>
+    requires { is_one_of walk.now again ≡ true }
+    ensures { IfOk result (λ cycle. (before : ℕ → ℕ → Bool)
+        → IsWalk before walk.now again → IsCycle before cycle.items) }
+{
+    let start = place_of(walk, again);
+    let mut cycle = Vec::from_slice(alloc, &walk[start..])?;
+    cycle.reverse();
+    let least = place_of_least(&cycle);
+    cycle.rotate_left(least);
+    Ok(cycle)
+}
+
+impl Precedence {
+    // For each number from 0 on, how many stand before it.
+    fn waits(&self, alloc: Global) -> Result<Vec<usize>, AllocError>
+        ensures { IfOk result (λ waits. AreWaits self.now [] waits.items) }
+    {
+        let mut waits = vec![in alloc; 0; self.len() + 1]?;
+        for place in 0..self.len() {
+            count_up(&mut waits, self.behind(place + 1))?;
+        }
+        Ok(waits)
+    }
+
+    // For each number from 0 on, one that waits and has to stand before it.
+    fn leaders(&self, alloc: Global, waits: &[usize]) -> Result<Vec<usize>, AllocError>
+        requires { length waits.now ≡ length self.now + 1 }
+        ensures { IfOk result (λ leaders. AreLeaders self.now waits.now leaders.items) }
+    {
+        let mut leaders = vec![in alloc; 0; self.len() + 1]?;
+        for place in 0..self.len() {
+            if waits[place + 1] > 0 {
+                mark(&mut leaders, self.behind(place + 1), place + 1);
+            }
+        }
+        Ok(leaders)
+    }
+
+    // A cycle among the numbers that wait.
+    fn cycle(&self, alloc: Global, waits: &[usize]) -> Result<Vec<usize>, AllocError>
+        requires { IsStuck self.now waits.now }
+        ensures { IfOk result (λ cycle. IsCycle (precedes self.now) cycle.items) }
+    {
+        let leaders = self.leaders(alloc, waits)?;
+        let start = place_of_waiting(waits);
+        let (walk, again) = walk_back(alloc, leaders, start)?;
+        cycle_of(alloc, &walk, again)
+    }
+
+    // Why there is no order: a cycle among the numbers that wait, or no memory for it.
+    fn fault(&self, alloc: Global, waits: &[usize]) -> OrderFault
+        requires { IsStuck self.now waits.now }
+        ensures { IsOrderFault (precedes self.now) result }
+    {
+        match self.cycle(alloc, waits) {
+            Ok(cycle) => OrderFault::Cycle(cycle),
+            Err(_) => OrderFault::Memory,
+        }
+    }
+
+    /// The least order of all commits in which each stands behind those that have to stand before
+    /// it.
+    pub fn order(&self, alloc: Global) -> Result<Vec<usize>, OrderFault>
+        ensures order { IfOk result
+            (λ order. least_order (precedes self.now) (length self.now) ≡ Some order.items) }
+        ensures cycle { IfErr result (IsOrderFault (precedes self.now)) }
+    {
+        let mut waits = self.waits(alloc)?;
+        let mut free = free_numbers(alloc, &waits)?;
+        let mut order = Vec::new(alloc);
+        for _place in 0..self.len() {
+            let Some(number) = free.pop_first() else {
+                return Err(self.fault(alloc, &waits));
+            };
+            order.push(number)?;
+            let behind = self.behind(number);
+            count_down(&mut waits, behind);
+            free_more(&mut free, &waits, behind)?;
+        }
+        Ok(order)
+    }
+}

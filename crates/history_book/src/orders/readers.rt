@@ -1,0 +1,256 @@
+//! Which commits have to stand before which, in few pairs.
+
+ghost use Rattle.std.specs.Prelude.{◌≡◌, ◌↔◌, length, slice_get, Some, IfOk, IsTrue, OnOk, IfSome};
+ghost use Rattle.history_book.specs.Orders.{IsReduced, IsUpTo};
+ghost use Rattle.history_book.specs.Traces.{trace_depends, takes_in, SeesEarlier};
+ghost use Rattle.history_book.specs.Reduced.{Adds, RiseFrom, AreWithin, AllRiseWithin, numbers_at};
+ghost use Rattle.history_book.specs.Reduced.{steps_from, steps_of, writers_steps};
+ghost use Rattle.history_book.specs.Reduced.{seen_pairs, missed_pairs, reader_pairs};
+ghost use Rattle.history_book.specs.Reduced.{sight_pairs, region_pairs, sights_pairs, readers_pairs};
+ghost use Rattle.history_book.specs.Precedence.{precedes};
+
+use crate::orders::precedence::Precedence;
+use crate::orders::trace::{Sight, Trace};
+use crate::orders::writers::{Writers, first_missed, last_seen};
+use prog_tree::{Cell, Region, is_among};
+use std::alloc::{AllocError, Global};
+use version_store::corners;
+
+// Puts a number and each of the next before the one behind it.
+fn add_steps_from(
+    precedence: &mut Precedence,
+    first: usize,
+    rest: &[usize],
+) -> Result<(), AllocError>
+    requires first { IsUpTo (length precedence.old) first }
+    requires rest { AreWithin (length precedence.old) rest.now }
+    ensures { OnOk result (Adds (steps_from first rest.now) precedence.old precedence.new) }
+{
+    let mut last = first;
+    for number in rest {
+        precedence.add(last, *number)?;
+        last = *number;
+    }
+    Ok(())
+}
+
+// Puts each number before the next.
+fn add_steps(precedence: &mut Precedence, numbers: &[usize]) -> Result<(), AllocError>
+    requires { AreWithin (length precedence.old) numbers.now }
+    ensures { OnOk result (Adds (steps_of numbers.now) precedence.old precedence.new) }
+{
+    let Some((first, rest)) = numbers.split_first() else {
+        return Ok(());
+    };
+    add_steps_from(precedence, *first, rest)?;
+    Ok(())
+}
+
+// Puts each writer of a cell before the next writer of it.
+fn add_writers(precedence: &mut Precedence, writers: &Writers) -> Result<(), AllocError>
+    requires { AllRiseWithin (length precedence.old) writers.now }
+    ensures { OnOk result (Adds (writers_steps writers.now) precedence.old precedence.new) }
+{
+    for (_, numbers) in writers.cells.iter() {
+        add_steps(precedence, numbers.as_slice())?;
+    }
+    Ok(())
+}
+
+// Puts the last writer that a reader saw, if there is one, before it.
+fn add_seen(
+    precedence: &mut Precedence,
+    reader: usize,
+    writer: Option<usize>,
+) -> Result<(), AllocError>
+    requires reader { IsUpTo (length precedence.old) reader }
+    requires writer { IfSome writer (IsUpTo (length precedence.old)) }
+    ensures { OnOk result (Adds (seen_pairs reader writer) precedence.old precedence.new) }
+{
+    if let Some(writer) = writer {
+        precedence.add(writer, reader)?;
+    }
+    Ok(())
+}
+
+// Puts a reader before the first writer that it missed, if there is one and it is another commit.
+fn add_missed(
+    precedence: &mut Precedence,
+    reader: usize,
+    writer: Option<usize>,
+) -> Result<(), AllocError>
+    requires reader { IsUpTo (length precedence.old) reader }
+    requires writer { IfSome writer (IsUpTo (length precedence.old)) }
+    ensures { OnOk result (Adds (missed_pairs reader writer) precedence.old precedence.new) }
+{
+    let Some(writer) = writer else {
+        return Ok(());
+    };
+    if writer != reader {
+        precedence.add(reader, writer)?;
+    }
+    Ok(())
+}
+
+// Adds what a look at a cell with these writers says of its reader.
+fn add_reader(
+    precedence: &mut Precedence,
+    reader: usize,
+    start: u64,
+    writers: &[usize],
+) -> Result<(), AllocError>
+    requires reader { IsUpTo (length precedence.old) reader }
+    requires rise { RiseFrom 0 writers.now }
+    requires within { AreWithin (length precedence.old) writers.now }
+    ensures { OnOk result
+        (Adds (reader_pairs reader start writers.now) precedence.old precedence.new) }
+{
+    add_seen(precedence, reader, last_seen(writers, start))?;
+    add_missed(precedence, reader, first_missed(writers, start))?;
+    Ok(())
+}
+
+// Adds what a look at a cell says of its reader.
+fn add_cell(
+    precedence: &mut Precedence,
+    reader: usize,
+    start: u64,
+    cell: &Cell,
+    writers: &Writers,
+) -> Result<(), AllocError>
+    requires reader { IsUpTo (length precedence.old) reader }
+    requires within { AllRiseWithin (length precedence.old) writers.now }
+    ensures { OnOk result (Adds (reader_pairs reader start (numbers_at writers.now cell.now))
+        precedence.old precedence.new) }
+{
+    if let Some(numbers) = writers.cells.get(cell) {
+        add_reader(precedence, reader, start, numbers.as_slice())?;
+    }
+    Ok(())
+}
+
+// Whether a region has a cell that is not one of the reader's own.
+fn takes_in(region: &Region, own: &[Cell], cell: &Cell) -> bool
+    ensures { result ≡ takes_in (Sight.Range region.now own.now) cell.now }
+{
+    if !region.contains(cell) {
+        return false;
+    }
+    !is_among(own, cell)
+}
+
+// Adds what a look at a region says of its reader.
+fn add_region(
+    precedence: &mut Precedence,
+    reader: usize,
+    start: u64,
+    region: &Region,
+    own: &[Cell],
+    writers: &Writers,
+) -> Result<(), AllocError>
+    requires reader { IsUpTo (length precedence.old) reader }
+    requires within { AllRiseWithin (length precedence.old) writers.now }
+    ensures { OnOk result (Adds (region_pairs reader start region.now own.now writers.now)
+        precedence.old precedence.new) }
+{
+    let Some((low, high)) = corners(*region) else {
+        return Ok(());
+    };
+    for (cell, numbers) in writers.cells.range(low..=high) {
+        if takes_in(region, own, cell) {
+            add_reader(precedence, reader, start, numbers.as_slice())?;
+        }
+    }
+    Ok(())
+}
+
+// Adds what a look says of its reader.
+fn add_sight(
+    precedence: &mut Precedence,
+    reader: usize,
+    start: u64,
+    sight: &Sight,
+    writers: &Writers,
+) -> Result<(), AllocError>
+    requires reader { IsUpTo (length precedence.old) reader }
+    requires within { AllRiseWithin (length precedence.old) writers.now }
+    ensures { OnOk result
+        (Adds (sight_pairs reader start writers.now sight.now) precedence.old precedence.new) }
+{
+    match sight {
+        Sight::One(cell) => add_cell(precedence, reader, start, cell, writers)?,
+        Sight::Range { region, own } => {
+            add_region(precedence, reader, start, region, own.as_slice(), writers)?
+        }
+    }
+    Ok(())
+}
+
+// Whether the first of some sights is this one.
+fn begins_with(sights: &[Sight], sight: &Sight) -> bool
+    ensures { IsTrue result ↔ (slice_get sights.now 0 ≡ Some sight.now) }
+{
+    match sights.first() {
+        Some(first) => first.is_same(sight),
+        None => false,
+    }
+}
+
+// Adds what the looks of a commit say of it. A look that is at once repeated says nothing more.
+fn add_sights(
+    precedence: &mut Precedence,
+    reader: usize,
+    start: u64,
+    sights: &[Sight],
+    writers: &Writers,
+) -> Result<(), AllocError>
+    requires reader { IsUpTo (length precedence.old) reader }
+    requires within { AllRiseWithin (length precedence.old) writers.now }
+    ensures { OnOk result
+        (Adds (sights_pairs reader start writers.now sights.now) precedence.old precedence.new) }
+{
+    for (index, sight) in sights.iter().enumerate() {
+        if !begins_with(&sights[index + 1..], sight) {
+            add_sight(precedence, reader, start, sight, writers)?;
+        }
+    }
+    Ok(())
+}
+
+// Adds what the looks of all commits say.
+fn add_readers(
+    precedence: &mut Precedence,
+    traces: &[Trace],
+    writers: &Writers,
+) -> Result<(), AllocError>
+    requires commits { length precedence.old ≡ length traces.now }
+    requires within { AllRiseWithin (length precedence.old) writers.now }
+    ensures { OnOk result
+        (Adds (readers_pairs writers.now 1 traces.now) precedence.old precedence.new) }
+{
+    for (index, trace) in traces.iter().enumerate() {
+        add_sights(
+            precedence,
+            index + 1,
+            trace.start,
+            trace.looked.as_slice(),
+            writers,
+        )?;
+    }
+    Ok(())
+}
+
+/// What has to stand before what by what the commits looked at and changed, in few pairs, through which
+/// the others follow.
+pub(crate) fn reduced(alloc: Global, traces: &[Trace]) -> Result<Precedence, AllocError>
+    requires { SeesEarlier traces.now }
+    ensures commits { IfOk result (λ precedence. length precedence ≡ length traces.now) }
+    ensures reduced { IfOk result (λ precedence.
+        IsReduced (length traces.now) (precedes precedence) (trace_depends traces.now)) }
+{
+    let writers = Writers::of(alloc, traces)?;
+    let mut precedence = Precedence::new(alloc, traces.len())?;
+    add_writers(&mut precedence, &writers)?;
+    add_readers(&mut precedence, traces, &writers)?;
+    Ok(precedence)
+}

@@ -1,5 +1,0 @@
-use Rattle.prog_text.proofs.Flaws.{flaws_exactly}
-use Rattle.prog_text.proofs.lexer.flaws_are_the_first.Goals as goal
-
-pub returns : goal.returns
-returns c = flaws_exactly

@@ -1,0 +1,5 @@
+use Rattle.prog_text.proofs.Flaws.{flaws_exactly}
+use Rattle.prog_text.proofs.lexing.lexer.flaws_are_the_first.Goals as goal
+
+pub returns : goal.returns
+returns c = flaws_exactly

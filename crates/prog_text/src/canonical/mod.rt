@@ -1,0 +1,5 @@
+//! The canonical text of a draft.
+
+pub mod margin;
+pub mod printer;
+pub mod printing;

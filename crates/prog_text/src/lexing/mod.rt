@@ -1,0 +1,7 @@
+//! From bytes to tokens.
+
+pub mod lex_error;
+pub mod lexer;
+pub mod placed_tokens;
+pub mod token;
+pub mod words;

@@ -1,0 +1,162 @@
+// Statements without blocks.
+ghost use Rattle.prog_tree.specs.Tree.{expr_tree};
+ghost use Rattle.prog_text.specs.Cursor.{Reads, ReadsPlain, assigned_tree, keyed_tree, ranged_tree};
+ghost use Rattle.prog_text.specs.Reading.{last_expr_at, last_key_at, last_range_at, assigned_at, get_at, bound_at, let_at, statement_at};
+
+use crate::lexing::token::{Sign, Token};
+use crate::reading::cursor::Cursor;
+use crate::reading::expressions::expr;
+use crate::reading::keys::{Keyed, Ranged, key, range};
+use crate::reading::read_error::{ReadError, unexpected};
+use prog_tree::{Expr, Key, Name, Stmt};
+
+/// A row and its new value.
+#[derive(Drop)]
+pub struct Assigned {
+    pub table: Name,
+    pub key: Key,
+    pub value: Expr,
+}
+
+// An expression and `;`.
+#[tactic(auto, unfolding(crate::specs::Reading::last_expr_at))]
+fn last_expr(cursor: &mut Cursor<'_>) -> Result<Expr, ReadError>
+    ensures { Reads expr_tree last_expr_at result cursor.old cursor.new }
+{
+    let value = expr(cursor)?;
+    cursor.expect(Sign::Semicolon)?;
+    Ok(value)
+}
+
+// A key and `;`.
+#[tactic(auto, unfolding(crate::specs::Reading::last_key_at))]
+fn last_key(cursor: &mut Cursor<'_>) -> Result<Keyed, ReadError>
+    ensures { Reads keyed_tree last_key_at result cursor.old cursor.new }
+{
+    let keyed = key(cursor)?;
+    cursor.expect(Sign::Semicolon)?;
+    Ok(keyed)
+}
+
+// A range and `;`.
+#[tactic(auto, unfolding(crate::specs::Reading::last_range_at))]
+fn last_range(cursor: &mut Cursor<'_>) -> Result<Ranged, ReadError>
+    ensures { Reads ranged_tree last_range_at result cursor.old cursor.new }
+{
+    let ranged = range(cursor)?;
+    cursor.expect(Sign::Semicolon)?;
+    Ok(ranged)
+}
+
+// A key, `=`, an expression and `;`.
+#[tactic(auto, unfolding(crate::specs::Reading::assigned_at))]
+fn assignment(cursor: &mut Cursor<'_>) -> Result<Assigned, ReadError>
+    ensures { Reads assigned_tree assigned_at result cursor.old cursor.new }
+{
+    let Keyed { table, key } = key(cursor)?;
+    cursor.expect(Sign::Equals)?;
+    let value = last_expr(cursor)?;
+    Ok(Assigned { table, key, value })
+}
+
+// Behind `let NAME = get`.
+#[tactic(auto, unfolding(crate::specs::Reading::get_at))]
+fn get(cursor: &mut Cursor<'_>, name: Name) -> Result<Stmt, ReadError>
+    ensures { ReadsPlain (get_at name) result cursor.old cursor.new }
+{
+    let Keyed { table, key } = key(cursor)?;
+    cursor.expect(Sign::Else)?;
+    let otherwise = last_expr(cursor)?;
+    Ok(Stmt::Get {
+        name,
+        table,
+        key,
+        otherwise,
+    })
+}
+
+// Behind `let NAME =`, by the first token.
+#[tactic(auto, unfolding(crate::specs::Reading::bound_at, crate::specs::Reading::bind_at, crate::specs::Reading::need_at, crate::specs::Reading::count_at, crate::specs::Reading::summed_at))]
+fn bound(cursor: &mut Cursor<'_>, name: Name) -> Result<Stmt, ReadError>
+    ensures { ReadsPlain (bound_at name) result cursor.old cursor.new }
+{
+    let [first, rest @ ..] = cursor.tokens else {
+        let value = last_expr(cursor)?;
+        return Ok(Stmt::Bind { name, value });
+    };
+    match first {
+        Token::Sign(Sign::Get) => {
+            cursor.tokens = rest;
+            get(cursor, name)
+        }
+        Token::Sign(Sign::Need) => {
+            cursor.tokens = rest;
+            let Keyed { table, key } = last_key(cursor)?;
+            Ok(Stmt::Need { name, table, key })
+        }
+        Token::Sign(Sign::Count) => {
+            cursor.tokens = rest;
+            let Ranged { table, range } = last_range(cursor)?;
+            Ok(Stmt::Count { name, table, range })
+        }
+        Token::Sign(Sign::Sum) => {
+            cursor.tokens = rest;
+            let Ranged { table, range } = last_range(cursor)?;
+            Ok(Stmt::Sum { name, table, range })
+        }
+        _ => {
+            let value = last_expr(cursor)?;
+            Ok(Stmt::Bind { name, value })
+        }
+    }
+}
+
+// Behind the word `let`.
+#[tactic(auto, unfolding(crate::specs::Reading::let_at))]
+fn let_binding(cursor: &mut Cursor<'_>) -> Result<Stmt, ReadError>
+    ensures { ReadsPlain let_at result cursor.old cursor.new }
+{
+    let name = cursor.name()?;
+    cursor.expect(Sign::Equals)?;
+    bound(cursor, name)
+}
+
+/// A statement without blocks.
+#[tactic(auto, unfolding(crate::specs::Reading::statement_at, crate::specs::Reading::lacks_at, crate::specs::Reading::put_at, crate::specs::Reading::insert_at, crate::specs::Reading::delete_at, crate::specs::Reading::keep_at, crate::specs::Reading::reply_at, crate::specs::Reading::abort_at))]
+pub fn statement(cursor: &mut Cursor<'_>) -> Result<Stmt, ReadError>
+    ensures { ReadsPlain statement_at result cursor.old cursor.new }
+{
+    let tokens = cursor.tokens;
+    match cursor.next()? {
+        Token::Sign(Sign::Let) => let_binding(cursor),
+        Token::Sign(Sign::Lacks) => {
+            let Keyed { table, key } = last_key(cursor)?;
+            Ok(Stmt::Lacks { table, key })
+        }
+        Token::Sign(Sign::Put) => {
+            let Assigned { table, key, value } = assignment(cursor)?;
+            Ok(Stmt::Put { table, key, value })
+        }
+        Token::Sign(Sign::Insert) => {
+            let Assigned { table, key, value } = assignment(cursor)?;
+            Ok(Stmt::Insert { table, key, value })
+        }
+        Token::Sign(Sign::Delete) => {
+            let Keyed { table, key } = last_key(cursor)?;
+            Ok(Stmt::Delete { table, key })
+        }
+        Token::Sign(Sign::Keep) => {
+            let Keyed { table, key } = last_key(cursor)?;
+            Ok(Stmt::Keep { table, key })
+        }
+        Token::Sign(Sign::Reply) => {
+            let value = last_expr(cursor)?;
+            Ok(Stmt::Reply { value })
+        }
+        Token::Sign(Sign::Abort) => {
+            cursor.expect(Sign::Semicolon)?;
+            Ok(Stmt::Abort)
+        }
+        _ => Err(unexpected(tokens)),
+    }
+}

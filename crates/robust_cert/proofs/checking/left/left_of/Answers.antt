@@ -1,0 +1,21 @@
+use Rattle.std.proofs.Common.{List, sym, subst, ◌∙◌}
+use Rattle.prog_paths.specs.declared.places.Placed.{Placed}
+use Rattle.prog_paths.specs.Asked.{asked_among}
+use Rattle.prog_paths.specs.Square.{Enters}
+use Rattle.robust_cert.specs.Leaving.{some_edge, some_vulnerable, IsReady}
+use Rattle.robust_cert.proofs.Passing.{all-ready, leaves-from_enters}
+use Rattle.robust_cert.proofs.checking.left.left_of.Goals as goal
+
+pub enter_all-requires : goal.enter_all-requires
+enter_all-requires c =
+    let places = c.deref.ensures.value ∙ c.in_ok-places.ensures in
+    subst (λ (ps : List Placed). IsReady c.args.entries.now (asked_among ps ps) 0) (sym places) (all-ready c.args.entries.now c.args.paths.now c.requires)
+
+pub returns : goal.returns
+returns c =
+    let es = c.args.entries.now in
+    let places = c.deref.ensures.value ∙ c.in_ok-places.ensures in
+    let new = c.enter_all.new.left in
+    leaves-from_enters es c.args.paths.now _ new c.in_ok-new.ensures c.in_ok-new-2.ensures
+    (subst (λ (ps : List Placed). Enters c.in_ok-new.field-0 new.edges (some_edge es (asked_among ps ps))) places c.enter_all.ensures.edges)
+    (subst (λ (ps : List Placed). Enters c.in_ok-new-2.field-0 new.vulnerable (some_vulnerable es (asked_among ps ps))) places c.enter_all.ensures.vulnerable)

@@ -1,6 +1,0 @@
-use Rattle.std.proofs.Common.{ℕ, ◌<◌}
-use Rattle.robust_cert.specs.Levels.{Falls}
-use Rattle.robust_cert.proofs.levels.least_fall.Given as goal
-
-abbrev pub invariant-loop-x : goal.invariant-loop-x
-invariant-loop-x l = (x y : ℕ) → x < l.x → ¬ Falls l.edges l.levels x y

@@ -1,0 +1,12 @@
+use Rattle.std.proofs.Common.{◌≡◌, map, take}
+use Rattle.std.specs.Prelude.{All}
+use Rattle.serde_json.specs.View.{view}
+use Rattle.robust_cert.specs.Json.{node_data, NodeFits}
+use Rattle.robust_cert.proofs.text.shape.chain_of.Given as goal
+
+-- the items so far are taken
+abbrev pub invariant-loop-item : goal.invariant-loop-item
+invariant-loop-item l = record {
+  fits : All NodeFits l.nodes.items;
+  same : map view (take l.item-index l.item-items) ≡ map node_data l.nodes.items;
+}

@@ -1,0 +1,177 @@
+//! Whether an entry says of its question what holds.
+ghost use Rattle.std.specs.Prelude.{◌≡◌, ◌↔◌, ◌*◌, ℕ, length, IsTrue, OnOk, IfErr, IfSome, IfNone};
+ghost use Rattle.prog_check.specs.declared.path.Access.{Access};
+ghost use Rattle.prog_paths.specs.StaticGraph.{IsAccessOf};
+ghost use Rattle.prog_paths.specs.Asked.{IsQuestion};
+ghost use Rattle.prog_paths.specs.Kinds.{items_of};
+ghost use Rattle.prog_paths.specs.Questions.{mine_node, their_node};
+ghost use Rattle.prog_paths.specs.Shown.{Runs, key_pairs, ShowEqual};
+ghost use Rattle.robust_cert.specs.Accepted.{question_of, IsFitting, ChainsHold};
+ghost use Rattle.robust_cert.specs.Telling.{question_with};
+ghost use Rattle.robust_cert.specs.Flaws.{facts_between, IsAskedPair, CoversWith, IsFlawOf};
+
+use crate::certificate::{Chain, Entry};
+use crate::checking::by_facts::{falls, runs};
+use crate::checking::numbers::Numbers;
+use order_facts::Node;
+use prog_check::{Access, Path, Term};
+use prog_paths::{Placed, asks, asks_read_write, may_cover, mine_node, second_terms, their_node};
+
+/// What an entry is wrong in.
+#[derive(Clone, Copy)]
+pub enum Flaw {
+    Cover,
+    Chain,
+}
+
+fn access_at(paths: &[Path], node: usize, number: usize) -> Option<&Access>
+    ensures some { IfSome result (λ access. IsAccessOf paths.now node number access.now) }
+    ensures none { IfNone result ((access : Access) → ¬ IsAccessOf paths.now node number access) }
+{
+    paths.get(node)?.accesses.as_slice().get(number)
+}
+
+/// The two accesses of a question, if the paths ask it.
+pub fn asked_pair(paths: &[Path], question: Numbers) -> Option<(&Access, &Access)>
+    ensures some { IfSome result (λ pair.
+        IsAskedPair paths.now (question_with question) pair.0.now pair.1.now) }
+    ensures none { IfNone result (¬ IsQuestion paths.now (question_with question)) }
+{
+    let mine = access_at(paths, question.x, question.a)?;
+    let theirs = access_at(paths, question.y, question.b)?;
+    let first = Placed {
+        node: question.x,
+        number: question.a,
+        access: *mine,
+    };
+    let second = Placed {
+        node: question.y,
+        number: question.b,
+        access: *theirs,
+    };
+    if asks(&first, &second) {
+        Some((mine, theirs))
+    } else {
+        None
+    }
+}
+
+/// Whether a chain runs from a term of the first access to one of the second, and another back.
+fn run_both(
+    asked: (&Access, &Access),
+    mine: Term,
+    theirs: Term,
+    there: &[Node],
+    back: &[Node],
+) -> bool
+    ensures { IsTrue result
+        ↔ (Runs (facts_between asked.entry) (mine_node mine) (their_node theirs) there.now
+        × Runs (facts_between asked.entry) (their_node theirs) (mine_node mine) back.now) }
+{
+    let mine = mine_node(mine);
+    let theirs = their_node(theirs);
+    runs(asked, mine, theirs, there) && runs(asked, theirs, mine, back)
+}
+
+fn show_second(asked: (&Access, &Access), terms: Option<(Term, Term)>, chains: &[Chain]) -> bool
+    ensures { IsTrue result ↔ ShowEqual (facts_between asked.entry) (items_of terms) chains.now }
+{
+    match (terms, chains) {
+        (None, []) => true,
+        (Some((mine, theirs)), [there, back]) => {
+            run_both(asked, mine, theirs, there.as_slice(), back.as_slice())
+        }
+        _ => false,
+    }
+}
+
+/// Whether the chains show the two cells equal, column by column.
+fn show_equal(asked: (&Access, &Access), mine: &Access, theirs: &Access, chains: &[Chain]) -> bool
+    ensures { IsTrue result
+        ↔ ShowEqual (facts_between asked.entry) (key_pairs mine.now theirs.now) chains.now }
+{
+    let [there, back, others @ ..] = chains else {
+        return false;
+    };
+    run_both(
+        asked,
+        mine.first.low,
+        theirs.first.low,
+        there.as_slice(),
+        back.as_slice(),
+    ) && show_second(asked, second_terms(mine.second, theirs.second), others)
+}
+
+fn column_count(mine: &Access, theirs: &Access) -> usize
+    ensures { result ≡ length (key_pairs mine.now theirs.now) }
+{
+    if mine.second.is_some() || theirs.second.is_some() {
+        2
+    } else {
+        1
+    }
+}
+
+/// The two accesses that a cover names, if they may cover the question and have so many chains.
+fn covers_with<'a>(
+    paths: &'a [Path],
+    question: Numbers,
+    asked: (&Access, &Access),
+    cover: (usize, usize),
+    count: usize,
+) -> Option<(&'a Access, &'a Access)>
+    requires { IsAskedPair paths.now (question_with question) asked.0.now asked.1.now }
+    ensures some { IfSome result (λ pair. CoversWith paths.now (question_with question)
+        cover.0 cover.1 count pair.0.now pair.1.now) }
+    ensures none { IfNone result ((of_mine of_theirs : Access) → ¬ CoversWith paths.now
+        (question_with question) cover.0 cover.1 count of_mine of_theirs) }
+{
+    let mine = access_at(paths, question.x, cover.0)?;
+    let theirs = access_at(paths, question.y, cover.1)?;
+    if asks_read_write(asked.0.kind, asked.1.kind)
+        && may_cover(mine)
+        && may_cover(theirs)
+        && mine.table == theirs.table
+        && count == 2 * column_count(mine, theirs)
+    {
+        Some((mine, theirs))
+    } else {
+        None
+    }
+}
+
+/// Whether an entry, whose question asks of two accesses, says what holds.
+pub fn check_reason(paths: &[Path], asked: (&Access, &Access), entry: &Entry) -> Result<(), Flaw>
+    requires { IsAskedPair paths.now (question_of entry.now) asked.0.now asked.1.now }
+    ensures fitting { OnOk result (IsFitting paths.now entry.now) }
+    ensures chains { OnOk result (ChainsHold paths.now entry.now) }
+    ensures flaw { IfErr result (λ flaw. IsFlawOf paths.now entry.now flaw) }
+{
+    match entry {
+        Entry::Apart { chain, .. } => {
+            if falls(asked, chain.as_slice()) {
+                Ok(())
+            } else {
+                Err(Flaw::Chain)
+            }
+        }
+        Entry::Cover {
+            mine,
+            theirs,
+            chains,
+            ..
+        } => {
+            let question = Numbers::of_entry(entry);
+            let cover = (*mine as usize, *theirs as usize);
+            let Some((mine, theirs)) = covers_with(paths, question, asked, cover, chains.len())
+            else {
+                return Err(Flaw::Cover);
+            };
+            if show_equal(asked, mine, theirs, chains.as_slice()) {
+                Ok(())
+            } else {
+                Err(Flaw::Chain)
+            }
+        }
+    }
+}

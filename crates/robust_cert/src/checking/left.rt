@@ -1,0 +1,96 @@
+//! The edges that the entries leave.
+ghost use Rattle.std.specs.Prelude.{◌≡◌, [], ◌∷◌, IfOk};
+ghost use Rattle.prog_paths.specs.Asked.{asked_by, asked_among};
+ghost use Rattle.prog_paths.specs.Listing.{RiseBy};
+ghost use Rattle.prog_paths.specs.Square.{Enters};
+ghost use Rattle.robust_cert.specs.Accepted.{question_of};
+ghost use Rattle.robust_cert.specs.Leaving.{some_edge, some_vulnerable, Leaves, EntersMark, IsReady, Passes};
+
+use crate::certificate::Entry;
+use crate::checking::numbers::Numbers;
+use crate::checking::telling::{mark_with, told};
+use prog_check::Path;
+use prog_paths::{
+    Mark, Placed, Square, all_places, asks, enter_edges, enter_vulnerable, question_between,
+};
+use std::alloc::{AllocError, Global};
+
+/// Which nodes are joined by an edge that is left, and by a vulnerable one.
+#[derive(Drop)]
+pub struct Left {
+    pub edges: Square,
+    pub vulnerable: Square,
+}
+
+fn enter(left: &mut Left, mark: Mark)
+    ensures { EntersMark left.old left.new mark }
+{
+    enter_edges(&mut left.edges, mark);
+    enter_vulnerable(&mut left.vulnerable, mark);
+}
+
+/// Enters what an access asks of another, where it asks.
+fn enter_question(
+    left: &mut Left,
+    entries: &[Entry],
+    cursor: usize,
+    first: &Placed,
+    second: &Placed,
+) -> usize
+    requires { IsReady entries.now (asked_by first.now (second.now ∷ [])) cursor }
+    ensures { Passes entries.now (asked_by first.now (second.now ∷ [])) cursor result left.old left.new }
+{
+    if !asks(first, second) {
+        return cursor;
+    }
+    let question = question_between(first, second);
+    let (telling, behind) = told(entries, cursor, Numbers::of_question(question));
+    enter(left, mark_with(question, telling));
+    behind
+}
+
+/// Enters what one access asks of each.
+fn enter_asked(
+    left: &mut Left,
+    entries: &[Entry],
+    cursor: usize,
+    first: &Placed,
+    places: &[Placed],
+) -> usize
+    requires { IsReady entries.now (asked_by first.now places.now) cursor }
+    ensures { Passes entries.now (asked_by first.now places.now) cursor result left.old left.new }
+{
+    let mut at = cursor;
+    for second in places {
+        at = enter_question(left, entries, at, first, second);
+    }
+    at
+}
+
+/// Enters what each asks of each.
+fn enter_all(left: &mut Left, entries: &[Entry], places: &[Placed])
+    requires { IsReady entries.now (asked_among places.now places.now) 0 }
+    ensures edges { Enters left.old.edges left.new.edges
+        (some_edge entries.now (asked_among places.now places.now)) }
+    ensures vulnerable { Enters left.old.vulnerable left.new.vulnerable
+        (some_vulnerable entries.now (asked_among places.now places.now)) }
+{
+    let mut at = 0;
+    for first in places {
+        at = enter_asked(left, entries, at, first, places);
+    }
+}
+
+/// What the entries leave of the paths' questions. Both rise, so one pass over both is enough.
+pub fn left_of(alloc: Global, paths: &[Path], entries: &[Entry]) -> Result<Left, AllocError>
+    requires { RiseBy question_of entries.now }
+    ensures { IfOk result (λ left. Leaves paths.now entries.now left) }
+{
+    let places = all_places(alloc, paths)?;
+    let mut left = Left {
+        edges: Square::new(alloc, paths.len())?,
+        vulnerable: Square::new(alloc, paths.len())?,
+    };
+    enter_all(&mut left, entries, &places);
+    Ok(left)
+}

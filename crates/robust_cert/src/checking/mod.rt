@@ -1,0 +1,10 @@
+//! The checker.
+
+pub mod by_facts;
+pub mod checker;
+pub mod entry_check;
+pub mod flaw;
+pub mod left;
+pub mod levels;
+pub mod numbers;
+pub mod telling;

@@ -1,0 +1,76 @@
+//! What the entries tell of a question, and what that leaves.
+ghost use Rattle.std.specs.Prelude.{◌≡◌, Some, slice_get};
+ghost use Rattle.prog_paths.specs.Listing.{IsBefore, RiseBy};
+ghost use Rattle.robust_cert.specs.declared.certificate.Entry.{Entry};
+ghost use Rattle.robust_cert.specs.Accepted.{question_of};
+ghost use Rattle.robust_cert.specs.Telling.{question_with, telling_by, telling_of, IsBehind, may_meet, may_be_exposed, mark_with};
+
+use crate::certificate::Entry;
+use crate::checking::numbers::Numbers;
+use prog_paths::{Mark, Question, mark_by};
+
+/// What is told of a question.
+#[derive(Clone, Copy)]
+pub enum Telling {
+    Nothing,
+    /// Its accesses never meet.
+    Apart,
+    /// Where they meet, two others write one cell.
+    Cover,
+}
+
+fn told_by(entry: &Entry) -> Telling
+    ensures { result ≡ telling_by entry.now }
+{
+    match entry {
+        Entry::Apart { .. } => Telling::Apart,
+        Entry::Cover { .. } => Telling::Cover,
+    }
+}
+
+/// The first entry from the cursor on that stands not before the question.
+fn advanced(entries: &[Entry], cursor: usize, question: Numbers) -> usize
+    requires { IsBehind entries.now cursor (question_with question) }
+    ensures passed { IsBehind entries.now result (question_with question) }
+    ensures stops { (e : Entry) → slice_get entries.now result ≡ Some e
+        → ¬ IsBefore (question_of e) (question_with question) }
+{
+    let mut at = cursor;
+    while at < entries.len() && Numbers::of_entry(&entries[at]).is_before(question) {
+        at += 1;
+    }
+    at
+}
+
+/// What the entries tell of the question, and the cursor for the questions behind it.
+pub fn told(entries: &[Entry], cursor: usize, question: Numbers) -> (Telling, usize)
+    requires rising { RiseBy question_of entries.now }
+    requires behind { IsBehind entries.now cursor (question_with question) }
+    ensures telling { result.0 ≡ telling_of entries.now (question_with question) }
+    ensures behind { IsBehind entries.now result.1 (question_with question) }
+{
+    let at = advanced(entries, cursor, question);
+    match entries.get(at) {
+        Some(entry) if Numbers::of_entry(entry).is_same(question) => (told_by(entry), at),
+        _ => (Telling::Nothing, at),
+    }
+}
+
+fn may_meet(told: Telling) -> bool
+    ensures { result ≡ may_meet told }
+{
+    !matches!(told, Telling::Apart)
+}
+
+fn may_be_exposed(told: Telling) -> bool
+    ensures { result ≡ may_be_exposed told }
+{
+    matches!(told, Telling::Nothing)
+}
+
+/// What a question gives of which this is told.
+pub fn mark_with(question: Question, told: Telling) -> Mark
+    ensures { result ≡ mark_with question told }
+{
+    mark_by(question, may_meet(told), may_be_exposed(told))
+}

@@ -1,0 +1,6 @@
+//! The JSON text of a certificate, in both directions.
+
+pub mod reading;
+pub mod shape;
+pub mod whole;
+pub mod writing;

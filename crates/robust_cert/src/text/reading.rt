@@ -1,0 +1,69 @@
+//! From text to a certificate.
+
+ghost use Rattle.std.specs.Prelude.{◌≡◌, ◌≢◌, Some, IfOk, IfErr, OnOk, Ok, Err};
+ghost use Rattle.serde_json.specs.Data.{unsigned};
+ghost use Rattle.serde_json.specs.View.{view};
+ghost use Rattle.robust_cert.specs.declared.certificate.Certificate.{Certificate};
+ghost use Rattle.robust_cert.specs.declared.fault.JsonFault.{JsonFault};
+ghost use Rattle.robust_cert.specs.Json.{IsValueOf, CertificateFits, certificate_text};
+ghost use Rattle.robust_cert.specs.Reading.{ReadsAs, IsTextOf, IsFaultOf, HasFault, Answers, version_of};
+
+use crate::certificate::Certificate;
+use crate::fault::JsonFault;
+use crate::text::whole::{certificate_of, object_of};
+use serde_json::Value;
+use std::alloc::Global;
+
+fn value_of(alloc: Global, bytes: &[u8]) -> Result<Value, JsonFault>
+    ensures ok { IfOk result (λ value. ReadsAs bytes.now (view value)) }
+    ensures fault { IfErr result (λ fault. fault ≢ JsonFault.Memory → HasFault bytes.now fault) }
+{
+    match Value::from_slice(alloc, bytes) {
+        Ok(value) => Ok(value),
+        Err(error) if error.is_memory() => Err(JsonFault::Memory),
+        Err(_) => Err(JsonFault::NotJson),
+    }
+}
+
+fn check_version(value: &Value) -> Result<(), JsonFault>
+    ensures ok { OnOk result (version_of (view value.now) ≡ Some (unsigned 1)) }
+    ensures fault { IfErr result (IsFaultOf (view value.now)) }
+{
+    let version = value.get("version").ok_or(JsonFault::WrongShape)?;
+    if version.as_u64() == Some(1) {
+        return Ok(());
+    }
+    if version.is_u64() || version.is_i64() {
+        return Err(JsonFault::WrongVersion);
+    }
+    Err(JsonFault::WrongShape)
+}
+
+fn certificate_in(alloc: Global, value: Value) -> Result<Certificate, JsonFault>
+    ensures ok { IfOk result (λ certificate. IsValueOf certificate (view value)) }
+    ensures fault { IfErr result (λ fault. fault ≢ JsonFault.Memory
+        → IsFaultOf (view value) fault) }
+{
+    check_version(&value)?;
+    let Some(members) = object_of(value) else {
+        return Err(JsonFault::WrongShape);
+    };
+    Ok(certificate_of(alloc, members)?)
+}
+
+/// The certificate that the bytes are.
+pub fn from_json(alloc: Global, bytes: &[u8]) -> Result<Certificate, JsonFault>
+    ensures ok { IfOk result (λ certificate. IsTextOf certificate bytes.now) }
+    ensures fault { IfErr result (λ fault. fault ≢ JsonFault.Memory → HasFault bytes.now fault) }
+
+    // Each text of a certificate is taken, and each fault is told, unless memory is wanting.
+    ensures taken { (c : Certificate) → IsTextOf c bytes.now → Answers result (Ok c) }
+    ensures refused { (fault : JsonFault) → HasFault bytes.now fault → Answers result (Err fault) }
+
+    // What `to_json` writes is read as what it was.
+    ensures round_trip { (c : Certificate) → CertificateFits c → bytes.now ≡ certificate_text c
+        → Answers result (Ok c) }
+{
+    let value = value_of(alloc, bytes)?;
+    certificate_in(alloc, value)
+}

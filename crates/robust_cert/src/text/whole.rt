@@ -1,0 +1,86 @@
+//! A whole JSON value as a certificate.
+
+ghost use Rattle.std.specs.Prelude.{◌≡◌, ◌≢◌, IfOk, IfSome, IfNone, Some, Err};
+ghost use Rattle.serde_json.specs.Data.{Data, Items, Members, unsigned, array, object, member};
+ghost use Rattle.serde_json.specs.View.{view, items_view, members_view};
+ghost use Rattle.robust_cert.specs.declared.certificate.Certificate.{Certificate};
+ghost use Rattle.robust_cert.specs.Json.{IsValueOf, members_data};
+ghost use Rattle.robust_cert.specs.Reading.{version_of};
+
+use crate::certificate::Certificate;
+use crate::fault::Untaken;
+use crate::text::shape::{entries_of, levels_of};
+use serde_json::{Map, Value};
+use std::alloc::Global;
+
+// The first of the members, if it has this name.
+fn take_member(members: &mut Map<String, Value>, name: &str) -> Option<Value>
+    ensures some { IfSome result (λ value. members_view members.old.entries
+        ≡ member name.now (view value) (members_view members.new.entries)) }
+    ensures none { IfNone result ((d : Data) (rest : Members)
+        → members_view members.old.entries ≢ member name.now d rest) }
+{
+    let (first, value) = members.pop_first()?;
+    if first.as_str() == name {
+        Some(value)
+    } else {
+        None
+    }
+}
+
+// The values of `entries` and `levels`, if the members are those two and the version, which is known.
+fn parts_of(mut members: Map<String, Value>) -> Option<(Value, Value)>
+    requires { version_of (object (members_view members.entries)) ≡ Some (unsigned 1) }
+    ensures some { IfSome result (λ p. object (members_view members.entries)
+        ≡ members_data (view p.0) (view p.1) (unsigned 1)) }
+    ensures none { IfNone result ((entries levels : Data)
+        → object (members_view members.entries) ≢ members_data entries levels (unsigned 1)) }
+{
+    let entries = take_member(&mut members, "entries")?;
+    let levels = take_member(&mut members, "levels")?;
+    let _version = take_member(&mut members, "version")?;
+    if !members.is_empty() {
+        return None;
+    }
+    Some((entries, levels))
+}
+
+/// The certificate of which these are the members, where the version is known.
+pub fn certificate_of(alloc: Global, members: Map<String, Value>) -> Result<Certificate, Untaken>
+    requires { version_of (object (members_view members.entries)) ≡ Some (unsigned 1) }
+    ensures ok { IfOk result (λ c. IsValueOf c (object (members_view members.entries))) }
+    ensures misshapen { result ≡ Err Untaken.Misshapen
+        → (c : Certificate) → ¬ IsValueOf c (object (members_view members.entries)) }
+{
+    let Some((entries, levels)) = parts_of(members) else {
+        return Err(Untaken::Misshapen);
+    };
+    let Some(entries) = items_of(entries) else {
+        return Err(Untaken::Misshapen);
+    };
+    let entries = entries_of(alloc, entries)?;
+    let levels = levels_of(alloc, &levels)?;
+    Ok(Certificate { entries, levels })
+}
+
+// The items of a list.
+fn items_of(value: Value) -> Option<Vec<Value>>
+    ensures some { IfSome result (λ items. view value ≡ array (items_view items.items)) }
+    ensures none { IfNone result ((ds : Items) → view value ≢ array ds) }
+{
+    match value {
+        Value::Array(items) => Some(items),
+        _other => None,
+    }
+}
+
+/// The members of an object.
+pub fn object_of(value: Value) -> Option<Map<String, Value>>
+    ensures some { IfSome result (λ members. view value ≡ object (members_view members.entries)) }
+    ensures none { IfNone result ((ms : Members) → view value ≢ object ms) }
+{
+    match value {
+        Value::Object(members) => Some(members),
+        _other => None,
+    }
+}

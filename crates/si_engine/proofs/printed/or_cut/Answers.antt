@@ -1,4 +1,0 @@
-use Rattle.si_engine.proofs.printed.or_cut.Goals as goal
-
-pub truncate-requires : goal.truncate-requires
-truncate-requires c = λ _. (c.requires.0, λ _. c.requires.1)

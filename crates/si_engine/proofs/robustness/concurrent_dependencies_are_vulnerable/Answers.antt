@@ -1,5 +1,0 @@
-use Rattle.si_engine.proofs.VulnerableLaws.{law_of_vulnerable_edges}
-use Rattle.si_engine.proofs.robustness.concurrent_dependencies_are_vulnerable.Goals as goal
-
-pub returns : goal.returns
-returns c = law_of_vulnerable_edges

@@ -1,5 +1,0 @@
-use Rattle.si_engine.proofs.EdgeLaws.{law_of_static_edges}
-use Rattle.si_engine.proofs.robustness.dependencies_are_static_edges.Goals as goal
-
-pub returns : goal.returns
-returns c = law_of_static_edges

@@ -1,0 +1,163 @@
+//! Lines of a script as commands.
+ghost use Rattle.std.specs.Prelude.{◌≡◌, Ok};
+ghost use Rattle.prog_tree.specs.Tree.{draft_tree};
+ghost use Rattle.si_engine.specs.Commands.{row_command, instance_of, steps_of, begin_command, step_command, commit_command, abort_command, vacuum_command, command_of, line_command};
+ghost use Rattle.si_engine.specs.RowLines.{Reads};
+
+use crate::input::line_words::{Word, line_words};
+use crate::input::lines::is_skipped;
+use crate::input::names::program_number;
+use crate::input::number::{number_between, numbers};
+use crate::input::row_line::{RowLine, row_line};
+use crate::input::script_fault::LineFault;
+use crate::limits::{MAX_INSTANCE, MAX_STEPS};
+use prog_check::ProgramSet;
+use prog_tree::Sequence;
+use std::alloc::Global;
+
+/// What a line says.
+#[derive(Drop)]
+pub enum Command {
+    /// An empty line or a comment.
+    Skip,
+    /// An opening row.
+    Row(RowLine),
+    Begin { program: usize, args: Sequence<i64> },
+    /// So many steps of an instance.
+    Step { instance: usize, times: usize },
+    Commit(usize),
+    Abort(usize),
+    Vacuum,
+}
+
+#[tactic(auto, unfolding(crate::specs::Commands::row_command))]
+fn row(set: &ProgramSet, line: usize, words: &[Word<'_>]) -> Result<Command, LineFault>
+    ensures { result ≡ row_command (draft_tree set.now) line words.now }
+{
+    let row = row_line(set, line, words)?;
+    Ok(Command::Row(row))
+}
+
+#[tactic(auto, unfolding(crate::specs::Commands::begin_command))]
+fn begin(
+    alloc: Global,
+    set: &ProgramSet,
+    line: usize,
+    words: &[Word<'_>],
+) -> Result<Command, LineFault>
+    ensures { Reads (λ command. command) result
+        (begin_command (draft_tree set.now) line words.now) }
+{
+    let [name, args @ ..] = words else {
+        return Err(LineFault::BadLine { line });
+    };
+    let args = numbers(alloc, args)?.ok_or(LineFault::BadLine { line })?;
+    let program = program_number(set, name.as_bytes()).ok_or(LineFault::UnknownName { line })?;
+    Ok(Command::Begin { program, args })
+}
+
+// The number of an instance.
+fn instance(word: &Word<'_>) -> Option<usize>
+    ensures { result ≡ instance_of word.now }
+{
+    number_between(0, MAX_INSTANCE, word.as_bytes())
+}
+
+fn steps(instance: &Word<'_>, times: &Word<'_>) -> Option<Command>
+    ensures { result ≡ steps_of instance.now times.now }
+{
+    let instance = self::instance(instance)?;
+    let times = number_between(1, MAX_STEPS, times.as_bytes())?;
+    Some(Command::Step { instance, times })
+}
+
+#[tactic(auto, unfolding(crate::specs::Commands::step_command))]
+fn step(line: usize, words: &[Word<'_>]) -> Result<Command, LineFault>
+    ensures { result ≡ step_command line words.now }
+{
+    let step = match words {
+        [word] => instance(word).map(|instance| Command::Step { instance, times: 1 }),
+        [word, times] => steps(word, times),
+        _ => None,
+    };
+    step.ok_or(LineFault::BadLine { line })
+}
+
+#[tactic(auto, unfolding(crate::specs::Commands::commit_command))]
+fn commit(line: usize, words: &[Word<'_>]) -> Result<Command, LineFault>
+    ensures { result ≡ commit_command line words.now }
+{
+    let [word] = words else {
+        return Err(LineFault::BadLine { line });
+    };
+    let instance = instance(word).ok_or(LineFault::BadLine { line })?;
+    Ok(Command::Commit(instance))
+}
+
+#[tactic(auto, unfolding(crate::specs::Commands::abort_command))]
+fn abort(line: usize, words: &[Word<'_>]) -> Result<Command, LineFault>
+    ensures { result ≡ abort_command line words.now }
+{
+    let [word] = words else {
+        return Err(LineFault::BadLine { line });
+    };
+    let instance = instance(word).ok_or(LineFault::BadLine { line })?;
+    Ok(Command::Abort(instance))
+}
+
+#[tactic(auto, unfolding(crate::specs::Commands::vacuum_command))]
+fn vacuum(line: usize, words: &[Word<'_>]) -> Result<Command, LineFault>
+    ensures { result ≡ vacuum_command line words.now }
+{
+    match words {
+        [] => Ok(Command::Vacuum),
+        _ => Err(LineFault::BadLine { line }),
+    }
+}
+
+#[tactic(auto, unfolding(crate::specs::Commands::command_of))]
+fn words_command(
+    alloc: Global,
+    set: &ProgramSet,
+    line: usize,
+    words: &[Word<'_>],
+) -> Result<Command, LineFault>
+    ensures { Reads (λ command. command) result (command_of (draft_tree set.now) line words.now) }
+{
+    let [first, rest @ ..] = words else {
+        return Err(LineFault::BadLine { line });
+    };
+    let first = first.as_bytes();
+    if first == b"row".as_slice() {
+        row(set, line, rest)
+    } else if first == b"begin".as_slice() {
+        begin(alloc, set, line, rest)
+    } else if first == b"step".as_slice() {
+        step(line, rest)
+    } else if first == b"commit".as_slice() {
+        commit(line, rest)
+    } else if first == b"abort".as_slice() {
+        abort(line, rest)
+    } else if first == b"vacuum".as_slice() {
+        vacuum(line, rest)
+    } else {
+        Err(LineFault::BadLine { line })
+    }
+}
+
+/// What the line of this number says, or its fault.
+#[tactic(auto, unfolding(crate::specs::Commands::line_command))]
+pub fn line_command(
+    alloc: Global,
+    set: &ProgramSet,
+    line: usize,
+    bytes: &[u8],
+) -> Result<Command, LineFault>
+    ensures { Reads (λ command. command) result (line_command (draft_tree set.now) line bytes.now) }
+{
+    if is_skipped(bytes) {
+        return Ok(Command::Skip);
+    }
+    let words = line_words(alloc, bytes)?;
+    words_command(alloc, set, line, &words)
+}

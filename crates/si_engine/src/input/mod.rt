@@ -1,0 +1,15 @@
+//! From a source to scripts and lists of records.
+
+pub mod bytes;
+pub mod command;
+pub mod from_lines;
+pub mod line_words;
+pub mod lines;
+pub mod names;
+pub mod number;
+pub mod record_line;
+pub mod records;
+pub mod row_line;
+pub mod script;
+pub mod script_fault;
+pub mod source;

@@ -1,0 +1,100 @@
+//! Where the input comes from, and how it is read whole.
+ghost use Rattle.std.specs.Prelude.{◌≡◌, ◌<◌, ◌≤◌, ◌+◌, ◌↔◌, ℕ, Bool, List, Option, None, true, length, vec_len, IsErr, IfOk, IfSome, OnOk, OnErr, IsErrOf};
+ghost use Rattle.std.specs.Io.KnownBytes.{ReadConsumes, IsAtEnd};
+ghost use Rattle.si_engine.specs.Reading.{CanGive};
+
+use crate::limits::{MAX_BYTES, MAX_READS};
+use std::alloc::{AllocError, AllocFailed, Global};
+
+/// A source or a sink has failed.
+#[derive(Clone, Copy, Debug, PartialEq, Eq)]
+pub struct DeviceFault;
+
+/// What bytes are read from.
+pub trait Source {
+    /// The bytes that pulls give from here on, where the source tells them.
+    ghost left: { Self → Option (List ℕ) } = { λ _. None };
+
+    ghost has_failed: { Self → Bool };
+
+    /// How many pulls were answered.
+    ghost pulls: { Self → ℕ };
+
+    /// Some bytes, at the front of the buffer. None only at the end, or where the buffer is empty.
+    fn pull(&mut self, buffer: &mut [u8]) -> Result<usize, DeviceFault>
+        ensures bound { IfOk result (λ n. n ≤ length buffer.new) }
+        ensures bytes { ReadConsumes (left self.old) (left self.new) result buffer.new }
+        ensures fault { IsErr result ↔ (has_failed self.new ≡ true) }
+        ensures counted { OnOk result (pulls self.new ≡ pulls self.old + 1) }
+        ensures uncounted { OnErr result (pulls self.new ≡ pulls self.old) };
+
+    fn failed(&self) -> bool
+        ensures { result ≡ has_failed self.now };
+}
+
+const PIECE: usize = 65_536;
+
+/// Why the bytes of a source can't be had.
+#[derive(Clone, Copy, Debug, PartialEq, Eq)]
+pub enum InputFault {
+    TooLong,
+    ReadFault,
+    Memory,
+}
+
+impl From<AllocError> for InputFault {
+    ghost use Rattle.si_engine.specs.declared.input.source.InputFault.TheVariants.{Memory};
+
+    ghost from_gives = { λ _ e. e ≡ Memory };
+
+    fn from(_error: AllocError) -> InputFault {
+        InputFault::Memory
+    }
+}
+
+impl<T: Drop> From<AllocFailed<T>> for InputFault {
+    ghost use Rattle.si_engine.specs.declared.input.source.InputFault.TheVariants.{Memory};
+
+    ghost from_gives = { λ _ e. e ≡ Memory };
+
+    fn from(_error: AllocFailed<T>) -> InputFault {
+        InputFault::Memory
+    }
+}
+
+// A buffer. Its length is an argument, so that no proof computes with so many zeros.
+fn zeros(alloc: Global, count: usize) -> Result<Vec<u8>, AllocError>
+    ensures { IfOk result (λ v. vec_len v ≡ count) }
+{
+    vec![in alloc; 0u8; count]
+}
+
+/// All bytes of a source. At `TooLong` and `Memory` some of them may have been read.
+pub fn read_whole<S: Source>(alloc: Global, source: &mut S) -> Result<Vec<u8>, InputFault>
+    ensures short { IfOk result (λ v. vec_len v ≤ MAX_BYTES) }
+    ensures whole { IfOk result (λ v. CanGive (S.left source.old) v.items) }
+    ensures end { OnOk result (IsAtEnd (S.left source.new)) }
+    ensures long { IsErrOf result InputFault.TooLong
+        → IfSome (S.left source.old) (λ all. MAX_BYTES < length all) }
+    ensures fault { IsErrOf result InputFault.ReadFault ↔ (S.has_failed source.new ≡ true) }
+    ensures reads { S.pulls source.new ≤ S.pulls source.old + MAX_READS }
+{
+    if source.failed() {
+        return Err(InputFault::ReadFault);
+    }
+    let mut all = Vec::new(alloc);
+    let mut piece = zeros(alloc, PIECE)?;
+    for _turn in 0..MAX_READS {
+        let Ok(count) = source.pull(&mut piece) else {
+            return Err(InputFault::ReadFault);
+        };
+        if count == 0 {
+            return Ok(all);
+        }
+        if count > MAX_BYTES - all.len() {
+            return Err(InputFault::TooLong);
+        }
+        all.extend_from_slice(&piece[..count])?;
+    }
+    Err(InputFault::TooLong)
+}

@@ -1,0 +1,68 @@
+//! What a book ends with: its rows, and a serial order of its commits or a cycle of them.
+ghost use Rattle.std.specs.Prelude.{◌≡◌, ◌++◌, List, ℕ, string_bytes, IfOk, OnOk, OnErr};
+ghost use Rattle.prog_tree.specs.Tree.{draft_tree};
+ghost use Rattle.history_book.specs.View.{history_of};
+ghost use Rattle.si_engine.specs.LastLine.{IsLastLine};
+ghost use Rattle.si_engine.specs.Runs.{row_lines, end_lines, Adds, AddsFirst, AddsEnd};
+
+use crate::output::printed::{push_last_line, push_row_line};
+use history_book::{Book, OrderFault};
+use prog_tree::{Draft, Rows};
+use std::alloc::AllocError;
+
+/// What the last line says of the commits of a book.
+#[derive(Clone, Copy, Debug, PartialEq, Eq)]
+pub enum Finding {
+    /// They have a serial order.
+    Order,
+    /// Some of them form a cycle of dependencies.
+    Cycle,
+}
+
+/// Adds the line of each row.
+pub(crate) fn list_rows(set: &Draft, rows: &Rows, out: &mut String) -> Result<(), AllocError>
+    ensures ok { OnOk result (Adds (row_lines (draft_tree set.now) rows.now)
+        (string_bytes out.old) (string_bytes out.new)) }
+    ensures err { OnErr result (AddsFirst (row_lines (draft_tree set.now) rows.now)
+        (string_bytes out.old) (string_bytes out.new)) }
+{
+    for (cell, value) in rows.iter() {
+        push_row_line(out, &set.tables, cell, *value)?;
+    }
+    Ok(())
+}
+
+// Adds the last line, or nothing.
+fn push_order(book: &Book<'_>, out: &mut String) -> Result<Finding, AllocError>
+    ensures ok { IfOk result (λ finding. (last : List ℕ)
+        × IsLastLine (draft_tree book.now.set) book.now.opening (history_of book.now.rows)
+        finding last
+        × (string_bytes out.new ≡ string_bytes out.old ++ last)) }
+    ensures err { OnErr result (string_bytes out.new ≡ string_bytes out.old) }
+{
+    match book.serial_order() {
+        Ok(order) => {
+            push_last_line(out, Finding::Order, &order)?;
+            Ok(Finding::Order)
+        }
+        Err(OrderFault::Cycle(cycle)) => {
+            push_last_line(out, Finding::Cycle, &cycle)?;
+            Ok(Finding::Cycle)
+        }
+        Err(OrderFault::Memory) => Err(AllocError),
+    }
+}
+
+/// Adds the line of each row of a book's table, and then the last line. Where memory runs out, some
+/// first lines of rows were added.
+pub fn push_findings(book: &Book<'_>, out: &mut String) -> Result<Finding, AllocError>
+    ensures ok { IfOk result (λ finding. AddsEnd (draft_tree book.now.set) book.now.opening
+        (history_of book.now.rows) finding (string_bytes out.old) (string_bytes out.new)) }
+    ensures err { OnErr result (AddsFirst (end_lines (draft_tree book.now.set) book.now.opening
+        (history_of book.now.rows)) (string_bytes out.old) (string_bytes out.new)) }
+{
+    let table = book.table()?;
+    list_rows(book.set().draft(), &table, out)?;
+    let finding = push_order(book, out)?;
+    Ok(finding)
+}

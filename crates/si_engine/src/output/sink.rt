@@ -1,0 +1,42 @@
+//! Where the output goes, and how it is written whole.
+ghost use Rattle.std.specs.Prelude.{◌≡◌, ◌<◌, ◌≤◌, ◌↔◌, ℕ, Bool, List, Option, None, true, length, IsErr, IfOk, OnOk, OnErr};
+ghost use Rattle.std.specs.Io.KnownBytes.{Appends, WriteAppends};
+ghost use Rattle.si_engine.specs.Writing.{AppendsFront};
+
+use crate::input::source::DeviceFault;
+
+/// What bytes are written to.
+pub trait Sink {
+    /// The bytes that were taken, where the sink tells them.
+    ghost taken: { Self → Option (List ℕ) } = { λ _. None };
+
+    ghost has_failed: { Self → Bool };
+
+    /// Takes some bytes from the front, at least one of them where there is one.
+    fn push(&mut self, bytes: &[u8]) -> Result<usize, DeviceFault>
+        ensures bound { IfOk result (λ n. n ≤ length bytes.now) }
+        ensures some { IfOk result (λ n. 0 < length bytes.now → 0 < n) }
+        ensures bytes { WriteAppends (taken self.old) (taken self.new) result bytes.now }
+        ensures fault { IsErr result ↔ (has_failed self.new ≡ true) };
+
+    fn failed(&self) -> bool
+        ensures { result ≡ has_failed self.now };
+}
+
+/// Writes all the bytes, or some first ones where the sink fails.
+pub fn write_whole<K: Sink>(sink: &mut K, bytes: &[u8]) -> Result<(), DeviceFault>
+    ensures fault { IsErr result ↔ (K.has_failed sink.new ≡ true) }
+    ensures whole { OnOk result (Appends (K.taken sink.old) (K.taken sink.new) bytes.now) }
+    ensures first { OnErr result (AppendsFront (K.taken sink.old) (K.taken sink.new) bytes.now) }
+{
+    if sink.failed() {
+        return Err(DeviceFault);
+    }
+    let mut written = 0;
+    while written < bytes.len() {
+        let rest = &bytes[written..];
+        let count = sink.push(rest)?;
+        written += count;
+    }
+    Ok(())
+}

@@ -1,0 +1,17 @@
+use Rattle.std.proofs.Common.{◌∙◌, ◌++◌, List, [], ◌∷◌, ap, sym, rules, w64, FitsSigned}
+use Rattle.std.proofs.lemmas.Int.{to_z-of_z}
+use Rattle.std.specs.Prelude.{ℤ}
+use Rattle.order_facts.specs.Sample.{sample_number}
+use Rattle.order_facts.specs.declared.steps.Node.TheVariants.{Mine}
+use Rattle.sirob.specs.Refusal.{mine_numbers}
+use Rattle.sirob.proofs.RefusalLemmas.{one_more_number}
+use Rattle.sirob.proofs.commands.refusal.mine_numbers.Goals as goal
+
+pub loop-i-preserved : goal.loop-i-preserved
+loop-i-preserved c =
+    let sample = c.args.sample.now in
+    let i = c.loop-i.i in
+    let fits : FitsSigned w64 c.get.result = search rules in
+    c.in_ok-push.ensures.items ∙ ap (λ (k : ℤ). c.loop-i.numbers.items ++ k ∷ []) (to_z-of_z w64 c.get.result fits)
+    ∙ ap (λ (l : List ℤ). l ++ c.get.result ∷ []) c.loop-i.invariant
+    ∙ ap (λ (k : ℤ). mine_numbers sample i ++ k ∷ []) c.get.ensures ∙ sym (one_more_number (λ i. sample_number sample (Mine i)) i)

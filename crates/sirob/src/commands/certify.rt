@@ -1,0 +1,72 @@
+//! The command `certify`: from the bytes of its input to a certificate or the refusal of their set.
+ghost use Rattle.std.specs.Prelude.{◌≡◌, ◌≤◌, ◌++◌, false, [], ◌∷◌, Err, length, IfOk, IfErr, string_bytes};
+ghost use Rattle.prog_tree.specs.Tree.{draft_tree};
+ghost use Rattle.robust_cert.specs.Json.{certificate_text};
+ghost use Rattle.si_engine.specs.Reading.{input_limit};
+ghost use Rattle.si_engine.specs.Writing.{WritesOr};
+ghost use Rattle.sirob.specs.FaultLines.{is_memory};
+ghost use Rattle.sirob.specs.Output.{Gives, GivesFinding};
+ghost use Rattle.sirob.specs.Stops.{IsStop, IsInputDone, IsUnanalysedBy, write_lost};
+ghost use Rattle.sirob.specs.declared.command_line.Mode.TheVariants as mode;
+
+use crate::commands::refusal::refusal_text;
+use crate::input::read_text;
+use crate::lines::write_lines;
+use crate::run_fault::RunFault;
+use crate::status::Status;
+use prog_check::ProgramSet;
+use robust_cert::{Certificate, to_json};
+use si_engine::Sink;
+use si_repair::{Finding, certify};
+use std::alloc::{AllocError, Global};
+
+// The text of a certificate, and a line feed.
+fn certificate_line(alloc: Global, certificate: &Certificate) -> Result<String, AllocError>
+    ensures { IfOk result (λ line. string_bytes line
+        ≡ certificate_text certificate.now ++ 10 ∷ []) }
+{
+    let mut line = to_json(alloc, certificate)?;
+    line.push_str("\n")?;
+    Ok(line)
+}
+
+// What an analysis finds of a set, as a text with the status behind it.
+fn finding_text(alloc: Global, set: &ProgramSet) -> Result<(String, Status), RunFault>
+    ensures ok { IfOk result (λ told. GivesFinding (draft_tree set.now)
+        (string_bytes told.0) told.1) }
+    ensures err { IfErr result (λ fault. is_memory fault ≡ false
+        → IsUnanalysedBy (draft_tree set.now) fault) }
+{
+    match certify(alloc, set)? {
+        Finding::Robust(certificate) => {
+            let line = certificate_line(alloc, &certificate)?;
+            Ok((line, Status::Done))
+        }
+        Finding::Refused(danger) => {
+            let text = refusal_text(alloc, set, &danger)?;
+            Ok((text, Status::Unserializable))
+        }
+    }
+}
+
+// The same of the set that an input spells.
+fn input_finding(alloc: Global, input: &[u8]) -> Result<(String, Status), RunFault>
+    requires { length input.now ≤ input_limit }
+    ensures ok { IfOk result (λ told. Gives mode.Certify input.now (string_bytes told.0) told.1) }
+    ensures err { IfErr result (λ fault. IsStop mode.Certify input.now fault []) }
+{
+    let set = read_text(alloc, input)?;
+    let told = finding_text(alloc, &set)?;
+    Ok(told)
+}
+
+/// Writes the certificate or the refusal of the set that an input spells.
+pub fn certify_input<K: Sink>(alloc: Global, input: &[u8], sink: &mut K) -> Result<Status, RunFault>
+    requires short { length input.now ≤ input_limit }
+    requires working { K.has_failed sink.old ≡ false }
+    ensures { WritesOr (Err write_lost) (IsInputDone mode.Certify input.now)
+        (K.has_failed sink.new) (K.taken sink.old) (K.taken sink.new) result }
+{
+    let (text, status) = input_finding(alloc, input)?;
+    write_lines(sink, text.as_bytes(), Ok(status))
+}

@@ -1,0 +1,52 @@
+//! Whether a set is robust, by an analysis and the checker of its certificate.
+ghost use Rattle.std.specs.Prelude.{◌≡◌, false, true, IfOk, IfErr};
+ghost use Rattle.prog_tree.specs.Tree.{draft_tree};
+ghost use Rattle.prog_check.specs.Paths.{paths_of};
+ghost use Rattle.robust_cert.specs.Accepted.{IsAccepted};
+ghost use Rattle.sirob.specs.FaultLines.{is_memory};
+ghost use Rattle.sirob.specs.Stops.{IsUnanalysedBy, IsVerified};
+
+use crate::commands::refusal::refusal_text;
+use crate::run_fault::RunFault;
+use prog_check::ProgramSet;
+use robust_cert::{Certificate, RobustSet, verify};
+use si_repair::{Finding, certify};
+use std::alloc::Global;
+
+/// A set with an accepted certificate, or the text that refuses it.
+#[derive(Drop)]
+pub enum Verified {
+    Robust(RobustSet),
+    Refused(String),
+}
+
+// The set as a robust one, by a certificate of its own.
+fn accept(alloc: Global, set: ProgramSet, certificate: &Certificate) -> Result<RobustSet, RunFault>
+    requires { IsAccepted (paths_of (draft_tree set)) certificate.now }
+    ensures same { IfOk result (λ robust. robust ≡ set) }
+    ensures memory { IfErr result (λ fault. is_memory fault ≡ true) }
+{
+    match verify(alloc, set, certificate) {
+        Ok(robust) => Ok(robust),
+        Err((_, fault)) => Err(RunFault::Certificate(fault)),
+    }
+}
+
+/// The set as a robust one, where an analysis finds a certificate and the checker accepts it; else
+/// its refusal.
+pub fn assess(alloc: Global, set: ProgramSet) -> Result<Verified, RunFault>
+    ensures ok { IfOk result (λ verified. IsVerified set verified) }
+    ensures err { IfErr result (λ fault. is_memory fault ≡ false
+        → IsUnanalysedBy (draft_tree set) fault) }
+{
+    match certify(alloc, &set)? {
+        Finding::Robust(certificate) => {
+            let robust = accept(alloc, set, &certificate)?;
+            Ok(Verified::Robust(robust))
+        }
+        Finding::Refused(danger) => {
+            let text = refusal_text(alloc, &set, &danger)?;
+            Ok(Verified::Refused(text))
+        }
+    }
+}

@@ -1,0 +1,73 @@
+//! The command `run`: from the bytes of a script to the lines of its output.
+ghost use Rattle.std.specs.Prelude.{◌≡◌, ◌≤◌, Err, length, false, true};
+ghost use Rattle.prog_tree.specs.Tree.{draft_tree};
+ghost use Rattle.si_engine.specs.Reading.{input_limit};
+ghost use Rattle.si_engine.specs.Writing.{WritesOr};
+ghost use Rattle.sirob.specs.Output.{IsRobust};
+ghost use Rattle.sirob.specs.Stops.{IsPartDone, write_lost};
+ghost use Rattle.sirob.specs.declared.command_line.Mode.TheVariants as mode;
+
+use crate::commands::robust::{Verified, assess};
+use crate::lines::write_lines;
+use crate::run_fault::RunFault;
+use crate::status::Status;
+use prog_check::ProgramSet;
+use robust_cert::RobustSet;
+use si_engine::{Bytes, Sink, run_robust_script, run_script};
+use std::alloc::Global;
+
+/// Runs the script that the bytes of a part are. Each event writes a line, then each row, and last
+/// the order or the cycle; where memory runs out, some first lines were written.
+pub fn run_part<K: Sink>(
+    alloc: Global,
+    set: &ProgramSet,
+    part: &[u8],
+    sink: &mut K,
+) -> Result<Status, RunFault>
+    requires { length part.now ≤ input_limit }
+    ensures { WritesOr (Err write_lost) (IsPartDone (mode.Run false) (draft_tree set.now) part.now)
+        (K.has_failed sink.new) (K.taken sink.old) (K.taken sink.new) result }
+{
+    match run_script(alloc, set, &mut Bytes::new(part), sink) {
+        Ok(finding) => Ok(Status::of(finding)),
+        Err(fault) => Err(RunFault::Script(fault)),
+    }
+}
+
+// Runs the script on a set that was found robust.
+fn run_verified<K: Sink>(
+    alloc: Global,
+    set: &RobustSet,
+    part: &[u8],
+    sink: &mut K,
+) -> Result<Status, RunFault>
+    requires short { length part.now ≤ input_limit }
+    requires robust { IsRobust (draft_tree set.now) }
+    ensures { WritesOr (Err write_lost) (IsPartDone (mode.Run true) (draft_tree set.now) part.now)
+        (K.has_failed sink.new) (K.taken sink.old) (K.taken sink.new) result }
+{
+    match run_robust_script(alloc, set, &mut Bytes::new(part), sink) {
+        Ok(finding) => Ok(Status::of(finding)),
+        Err(fault) => Err(RunFault::Script(fault)),
+    }
+}
+
+/// As `run_part`, where the set is robust; else writes its refusal.
+pub fn run_robust_part<K: Sink>(
+    alloc: Global,
+    set: ProgramSet,
+    part: &[u8],
+    sink: &mut K,
+) -> Result<Status, RunFault>
+    requires short { length part.now ≤ input_limit }
+    requires working { K.has_failed sink.old ≡ false }
+    ensures { WritesOr (Err write_lost) (IsPartDone (mode.Run true) (draft_tree set) part.now)
+        (K.has_failed sink.new) (K.taken sink.old) (K.taken sink.new) result }
+{
+    match assess(alloc, set)? {
+        Verified::Robust(set) => run_verified(alloc, &set, part, sink),
+        Verified::Refused(text) => {
+            write_lines(sink, text.as_bytes(), Ok(Status::Unserializable))
+        }
+    }
+}

@@ -1,0 +1,6 @@
+//! What is said to people on the standard error, behind the answer.
+
+pub mod analysis;
+pub mod cycle;
+pub mod kept_input;
+pub mod words;

@@ -1,0 +1,176 @@
+//! What is said to people on the standard error.
+
+use crate::command_line::Mode;
+use crate::parts::PartFault;
+use crate::run_fault::RunFault;
+use crate::sentences::analysis::{analysis_sentence, certificate_sentence, refusal_sentence};
+use crate::sentences::cycle::{audit_cycle_sentence, run_cycle_sentence};
+use crate::sentences::kept_input::{second_part, set_of, set_text};
+use crate::status::Status;
+use analysis_words::json_words;
+use fault_words::{check_words, text_words};
+use history_book::AuditFault;
+use part_words::{PartKind, extra_part_words, line_words, missing_part_words, record_words};
+use si_engine::{InputFault, LineFault, ScriptFault};
+use std::alloc::{AllocError, Global};
+
+// What stands in the second part of a command's input, where it has one.
+fn second_wanted(mode: Mode) -> Option<&'static str> {
+    match mode {
+        Mode::Check | Mode::Certify => None,
+        Mode::Verify => Some("a certificate"),
+        Mode::Run { .. } => Some("a script"),
+        Mode::Audit => Some("records"),
+    }
+}
+
+// What the input of a command has.
+fn wanted_parts(alloc: Global, mode: Mode) -> Result<String, AllocError> {
+    match second_wanted(mode) {
+        None => format!(in alloc; "a set alone"),
+        Some(second) => format!(in alloc; "a set, one such line, and {second}"),
+    }
+}
+
+fn kind_of(mode: Mode) -> PartKind {
+    match mode {
+        Mode::Audit => PartKind::Records,
+        Mode::Check | Mode::Certify | Mode::Verify | Mode::Run { .. } => PartKind::Script,
+    }
+}
+
+fn input_sentence(fault: InputFault) -> Option<&'static str> {
+    match fault {
+        InputFault::TooLong => Some("the input has more than 16777216 bytes, the most\n"),
+        InputFault::ReadFault => Some("the standard input could not be read to its end\n"),
+        InputFault::Memory => None,
+    }
+}
+
+// A sentence that points nowhere.
+fn plain(alloc: Global, sentence: Option<&str>) -> Result<Option<String>, AllocError> {
+    let Some(sentence) = sentence else {
+        return Ok(None);
+    };
+    let words = format!(in alloc; "{sentence}")?;
+    Ok(Some(words))
+}
+
+fn part_sentence(
+    alloc: Global,
+    mode: Mode,
+    input: &[u8],
+    fault: PartFault,
+) -> Result<Option<String>, AllocError> {
+    match fault {
+        PartFault::MissingPart => {
+            let second = second_wanted(mode).unwrap_or("nothing");
+            let words = missing_part_words(alloc, input, second)?;
+            Ok(Some(words))
+        }
+        PartFault::ExtraPart => {
+            let wanted = wanted_parts(alloc, mode)?;
+            extra_part_words(alloc, input, &wanted)
+        }
+    }
+}
+
+fn line_sentence(
+    alloc: Global,
+    mode: Mode,
+    input: &[u8],
+    fault: LineFault,
+) -> Result<Option<String>, AllocError> {
+    let Some(set) = set_of(alloc, input) else {
+        return Ok(None);
+    };
+    line_words(alloc, kind_of(mode), &set, second_part(input), fault)
+}
+
+fn script_sentence(
+    alloc: Global,
+    mode: Mode,
+    input: &[u8],
+    fault: ScriptFault,
+) -> Result<Option<String>, AllocError> {
+    match fault {
+        ScriptFault::Input(fault) => plain(alloc, input_sentence(fault)),
+        ScriptFault::Line(fault) => line_sentence(alloc, mode, input, fault),
+        ScriptFault::WriteFault => Ok(None),
+    }
+}
+
+fn record_sentence(
+    alloc: Global,
+    input: &[u8],
+    fault: AuditFault,
+) -> Result<Option<String>, AllocError> {
+    let Some(set) = set_of(alloc, input) else {
+        return Ok(None);
+    };
+    record_words(alloc, &set, second_part(input), fault)
+}
+
+// A fault in words.
+fn words_of(
+    alloc: Global,
+    mode: Mode,
+    input: &[u8],
+    fault: RunFault,
+) -> Result<Option<String>, AllocError> {
+    match fault {
+        RunFault::Text(fault) => {
+            let words = text_words(alloc, set_text(input), fault)?;
+            Ok(Some(words))
+        }
+        RunFault::Check(fault) => check_words(alloc, set_text(input), fault),
+        RunFault::Input(fault) => plain(alloc, input_sentence(fault)),
+        RunFault::Parts(fault) => part_sentence(alloc, mode, input, fault),
+        RunFault::Analysis(fault) => plain(alloc, analysis_sentence(fault)),
+        RunFault::Script(fault) => script_sentence(alloc, mode, input, fault),
+        RunFault::Audit(fault) => record_sentence(alloc, input, fault),
+        RunFault::Json(fault) => plain(alloc, Some(json_words(fault))),
+        RunFault::Certificate(fault) => certificate_sentence(alloc, input, fault),
+    }
+}
+
+// Why no serial order is sure, or why there is none.
+fn unserializable_sentence(
+    alloc: Global,
+    mode: Mode,
+    input: &[u8],
+) -> Result<Option<String>, AllocError> {
+    match mode {
+        Mode::Check | Mode::Verify => Ok(None),
+        Mode::Certify | Mode::Run { robust: true } => refusal_sentence(alloc, input),
+        Mode::Run { robust: false } => run_cycle_sentence(alloc, input),
+        Mode::Audit => audit_cycle_sentence(alloc, input),
+    }
+}
+
+// What is to be said of how a command ended.
+fn ending_words(
+    alloc: Global,
+    mode: Mode,
+    input: &[u8],
+    ended: Result<Status, RunFault>,
+) -> Result<Option<String>, AllocError> {
+    match ended {
+        Ok(Status::Unserializable) => unserializable_sentence(alloc, mode, input),
+        Ok(Status::Done | Status::Faulty | Status::Memory) => Ok(None),
+        Err(fault) => words_of(alloc, mode, input, fault),
+    }
+}
+
+/// Says on the standard error what is wrong with an input, or why its set is refused, unless memory
+/// runs out for it.
+pub fn explain(
+    rt: &(impl AllocGlobal + Eprint),
+    mode: Mode,
+    input: &[u8],
+    ended: Result<Status, RunFault>,
+) {
+    if let Ok(Some(words)) = ending_words(rt.alloc(), mode, input, ended) {
+        let _ = rt.eprint(&words);
+    }
+}
