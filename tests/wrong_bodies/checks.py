@@ -9,6 +9,7 @@ import re
 import shutil
 import subprocess
 import tempfile
+import time
 from dataclasses import dataclass, field
 
 from batches import all_functions
@@ -26,6 +27,14 @@ class Crate:
     folder: str
     words: list  # those of a check
     in_cycles: set = field(default_factory=set)  # paths of functions that share a proof with others, as far as known
+
+
+@dataclass
+class Said:
+    """What a check says, and how many seconds it had each function in hand."""
+
+    text: str
+    seconds: dict
 
 
 def crates_of(root):
@@ -84,16 +93,23 @@ def check_of(crate, texts, functions, kept):
             with open(f"{room}/{path}", "w", encoding="utf-8") as it:
                 it.write(text)
         only = [word for it in functions for word in ("--only", it.name)]
-        words = [f"{KIT}/bin/rattle", "check", *crate.words, *only, "--incremental", kept]
+        words = [f"{KIT}/bin/rattle", "check", *crate.words, *only, "--incremental", kept, "--progress"]
         how = {"cwd": room, "stdin": subprocess.DEVNULL, "stdout": subprocess.PIPE, "stderr": subprocess.STDOUT}
-        return subprocess.run(words, **how, errors="replace").stdout
+        lines, seconds, since = [], {}, time.monotonic()
+        with subprocess.Popen(words, **how, text=True, errors="replace") as check:
+            for line in check.stdout:
+                lines.append(line)
+                if ended := re.match(r"checked (\S+), \d+ of \d+$", line):
+                    now = time.monotonic()
+                    seconds[ended[1]], since = now - since, now
+        return Said("".join(lines), seconds)
 
 
 def said_of(crate, texts, functions, kept):
     """Returns what a check says of these functions, over the contracts of the others."""
     said = check_of(crate, with_holes(crate, texts, functions), functions, kept)
     # a function that calls itself, as others in a cycle, has no proof file of its own: it keeps its proof
-    in_cycles = set(re.findall(r"(proofs/\S+)/Proof\.antt: error\[reserved-name\]", said))
+    in_cycles = set(re.findall(r"(proofs/\S+)/Proof\.antt: error\[reserved-name\]", said.text))
     if in_cycles:
         crate.in_cycles |= in_cycles
         said = check_of(crate, with_holes(crate, texts, functions), functions, kept)
@@ -102,22 +118,22 @@ def said_of(crate, texts, functions, kept):
 
 def was_read(said):
     """Whether the crate was read, so that antt was asked of its functions."""
-    return re.search(r"^only=\d+ ", said, re.M) is not None
+    return re.search(r"^only=\d+ ", said.text, re.M) is not None
 
 
 def errors_in(said, function):
     """Returns the errors that the front end has on the lines of a function."""
-    found = re.findall(rf"^\S*{re.escape(function.file)}:(\d+):\d+: (.*)", said, re.M)
+    found = re.findall(rf"^\S*{re.escape(function.file)}:(\d+):\d+: (.*)", said.text, re.M)
     return [text for line, text in found if function.first <= int(line) <= function.last]
 
 
 def refusal(crate, said, function):
     """Returns why the prover refuses the function on its own account, or else None, and what it says of it."""
-    told = re.search(rf"^fn {re.escape(crate.name)}::{re.escape(function.name)}: (.*)", said, re.M)
+    told = re.search(rf"^fn {re.escape(crate.name)}::{re.escape(function.name)}: (.*)", said.text, re.M)
     status = told[1] if told else "nothing is said of it"
     if not status.startswith(("not proved", "no proof")):
         return None, status
-    places = re.findall(r"^note: (\S+?):(\d+):\d+: (it is not proved that .*|`search` found no proof .*)", said, re.M)
+    places = re.findall(r"^note: (\S+?):(\d+):\d+: (it is not proved that .*|`search` found no proof .*)", said.text, re.M)
     own = [
         text
         for file, line, text in places
@@ -125,6 +141,6 @@ def refusal(crate, said, function):
     ]
     room = "/".join(function.path) if function.is_plain else rf"(?:{'/'.join(function.path[:-1])}/\+?\w+|{'/'.join(function.path)})"
     files = rf"^(?:\./)?proofs/{room}/\w+\.antt:\d+:\d+: error: (.*)"
-    own += [text for text in re.findall(files, said, re.M) if not OF_NAMES.search(text)]
+    own += [text for text in re.findall(files, said.text, re.M) if not OF_NAMES.search(text)]
     own += re.findall(r"`search` (did not prove .*)", status)
     return (own[0] if own else None), status
