@@ -1,9 +1,9 @@
 //! The cycle in which the commits of a run or an audit end, as it is said to people.
 
 use crate::sentences::kept_input::{second_part, set_of};
-use cycle_words::cycle_words;
 use history_book::Book;
 use prog_check::ProgramSet;
+use run_words::cycle_words;
 use si_engine::{Bytes, Engine, Records, Script, read_records, read_script};
 use std::alloc::{AllocError, Global};
 

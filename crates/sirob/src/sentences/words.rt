@@ -10,7 +10,7 @@ use crate::status::Status;
 use analysis_words::json_words;
 use fault_words::{check_words, text_words};
 use history_book::AuditFault;
-use part_words::{PartKind, extra_part_words, line_words, missing_part_words, record_words};
+use run_words::{PartKind, extra_part_words, line_words, missing_part_words, record_words};
 use si_engine::{InputFault, LineFault, ScriptFault};
 use std::alloc::{AllocError, Global};
 

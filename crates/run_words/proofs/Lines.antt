@@ -1,7 +1,7 @@
 -- One more line behind others.
 use Rattle.std.proofs.Common.{ℕ, List, [], ◌∷◌, ◌++◌, refl, sym, ap, ◌∙◌, append_assoc}
 use Rattle.std.proofs.lemmas.List.{append-nil}
-use Rattle.cycle_words.specs.Cycles.{BeginsWithCommit, HasLines}
+use Rattle.run_words.specs.Cycles.{BeginsWithCommit, HasLines}
 
 pub HasLines-append : (numbers : List ℕ) (number : ℕ) (lines line : List ℕ) → HasLines numbers lines → BeginsWithCommit number line → HasLines (numbers ++ number ∷ []) (lines ++ line)
 HasLines-append [] number lines line none begins =

@@ -1,7 +1,7 @@
 use Rattle.std.proofs.Common.{◌++◌, ◌∙◌, ap, append_assoc}
 use Rattle.std.proofs.lemmas.List.{take_more}
-use Rattle.cycle_words.proofs.Lines.{HasLines-append}
-use Rattle.cycle_words.proofs.cycle.push_lines.Goals as goal
+use Rattle.run_words.proofs.Lines.{HasLines-append}
+use Rattle.run_words.proofs.cycle.push_lines.Goals as goal
 
 pub loop-index-preserved : goal.loop-index-preserved
 loop-index-preserved c =

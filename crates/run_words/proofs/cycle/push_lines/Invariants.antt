@@ -1,6 +1,6 @@
 use Rattle.std.proofs.Common.{ℕ, ◌≡◌, ◌++◌, List, string_bytes, take}
-use Rattle.cycle_words.specs.Cycles.{HasLines}
-use Rattle.cycle_words.proofs.cycle.push_lines.Given as goal
+use Rattle.run_words.specs.Cycles.{HasLines}
+use Rattle.run_words.proofs.cycle.push_lines.Given as goal
 
 -- the lines so far are added
 abbrev pub invariant-loop-index : goal.invariant-loop-index

@@ -1,7 +1,7 @@
 //! The cycle that the commits of a book form, in words.
 ghost use Rattle.std.specs.Prelude.{◌≡◌, ◌++◌, List, ℕ, IfOk, IfSome, OnOk, string_bytes};
 ghost use Rattle.history_book.specs.View.{depends_in};
-ghost use Rattle.cycle_words.specs.Cycles.{BeginsWithCommit, HasLines, ShowsCycle};
+ghost use Rattle.run_words.specs.Cycles.{BeginsWithCommit, HasLines, ShowsCycle};
 
 use crate::reasons::{Reason, reason_between};
 use crate::walk::{Doings, doings_of};

@@ -1,6 +1,6 @@
 //! The faults of a record in words.
 ghost use Rattle.std.specs.Prelude.{◌≡◌, IfOk, IfSome, string_bytes};
-ghost use Rattle.part_words.specs.PartPointing.{record_of_fault, PointsAtRecord};
+ghost use Rattle.run_words.specs.PartPointing.{record_of_fault, PointsAtRecord};
 
 use crate::replay::ending;
 use fault_words::{cell_text, parameter_count, point_at, program_name};

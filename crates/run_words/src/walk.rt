@@ -1,7 +1,7 @@
 //! The commits of a book once more, on an engine, to tell what some of them did.
 
+use crate::replay::{Ended, begin_of, run_to_end};
 use history_book::Book;
-use part_words::{Ended, begin_of, run_to_end};
 use prog_tree::{Deed, Rows};
 use si_engine::{Engine, Event};
 use std::alloc::{AllocError, Global};

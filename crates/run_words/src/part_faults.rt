@@ -1,7 +1,7 @@
 //! What is wrong with the parts of an input, in words.
 ghost use Rattle.std.specs.Prelude.{IfOk, IfSome, length, string_bytes};
 ghost use Rattle.fault_words.specs.Pointing.{PointsAt};
-ghost use Rattle.part_words.specs.PartPointing.{IsSeparatorPlace, PointsAtSeparator};
+ghost use Rattle.run_words.specs.PartPointing.{IsSeparatorPlace, PointsAtSeparator};
 
 use fault_words::point_at;
 use std::alloc::{AllocError, Global};

@@ -1,6 +1,6 @@
 //! The faults of a line of a script or of a list of records in words.
 ghost use Rattle.std.specs.Prelude.{◌≡◌, IfOk, IfSome, string_bytes};
-ghost use Rattle.part_words.specs.PartPointing.{line_of_fault, PointsAtLineOf};
+ghost use Rattle.run_words.specs.PartPointing.{line_of_fault, PointsAtLineOf};
 
 pub use crate::forms::PartKind;
 use crate::forms::{first_words, form_of, no_number};
