@@ -1,11 +1,9 @@
-//! Tests of scripts over devices that are slow, and that fail at each of their calls, of records and of events.
+//! Worked examples of the calls of the store, the book and the engine, told by hand.
 #![tactic(auto)]
 
 #[cfg(test)]
-mod device_tests;
+mod book;
 #[cfg(test)]
-mod event_tests;
+mod engine;
 #[cfg(test)]
-mod fakes;
-#[cfg(test)]
-mod record_tests;
+mod store;

@@ -1,0 +1,4 @@
+//! Certificates as text, and what the checker says of some.
+
+mod checked_tests;
+mod text_tests;

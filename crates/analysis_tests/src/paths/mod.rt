@@ -1,0 +1,7 @@
+//! The committing paths of sets, and the questions between their accesses.
+
+mod path_tests;
+mod question_tests;
+mod sets;
+mod shown;
+mod square_tests;

@@ -1,0 +1,54 @@
+//! Commits and ends of a book, with plain answers and the ticket that comes back.
+
+use crate::book::answer::Answer;
+use history_book::{Book, CommitFault, EndFault, Ending, Ticket, Unused};
+use prog_run::Run;
+
+fn ticket_of(unused: Unused<'_>) -> Option<Ticket> {
+    Some(unused.ticket)
+}
+
+fn commit_refused(fault: CommitFault<'_>) -> (Answer, Option<Ticket>) {
+    match fault {
+        CommitFault::NoSuchTicket(unused) => (Answer::NoSuchTicket, ticket_of(unused)),
+        CommitFault::NotReady(unused) => (Answer::WrongEnd, ticket_of(unused)),
+        CommitFault::ForeignRun(place, unused) => (Answer::ForeignRun(place), ticket_of(unused)),
+        CommitFault::Memory(unused) => (Answer::Memory, ticket_of(unused)),
+        CommitFault::Clashed(clash) => (Answer::Clashed(clash.number), None),
+    }
+}
+
+/// Commits a run.
+pub fn commit<'a>(book: &mut Book<'a>, ticket: Ticket, run: Run<'a>) -> (Answer, Option<Ticket>) {
+    match book.commit(ticket, run) {
+        Ok(receipt) => (Answer::Committed(receipt.number()), None),
+        Err(fault) => commit_refused(fault),
+    }
+}
+
+fn end_refused(fault: EndFault<'_>) -> (Answer, Option<Ticket>) {
+    match fault {
+        EndFault::NoSuchTicket(unused) => (Answer::NoSuchTicket, ticket_of(unused)),
+        EndFault::NotAborted(unused) => (Answer::WrongEnd, ticket_of(unused)),
+        EndFault::ForeignRun(place, unused) => (Answer::ForeignRun(place), ticket_of(unused)),
+        EndFault::Memory(unused) => (Answer::Memory, ticket_of(unused)),
+    }
+}
+
+/// Ends an instance by a run that has aborted.
+pub fn end<'a>(book: &mut Book<'a>, ticket: Ticket, run: Run<'a>) -> (Answer, Option<Ticket>) {
+    match book.end(ticket, run) {
+        Ok(()) => (Answer::Aborted, None),
+        Err(fault) => end_refused(fault),
+    }
+}
+
+/// How the instance ended that was the nth to end, from 0.
+pub fn ending(book: &Book<'_>, number: usize) -> Answer {
+    match book.endings().get(number) {
+        Some(Ending::Committed(commit)) => Answer::Committed(*commit),
+        Some(Ending::Clashed { clash, .. }) => Answer::Clashed(clash.number),
+        Some(Ending::Aborted { .. }) => Answer::Aborted,
+        None => Answer::Nothing,
+    }
+}

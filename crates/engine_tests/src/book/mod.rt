@@ -1,0 +1,11 @@
+//! The history book, as tables of calls and answers; orders and audits of given rows.
+
+mod answer;
+mod audit_tests;
+mod audits;
+mod book_tests;
+mod desk;
+mod endings;
+mod order_tests;
+mod runs;
+mod sets;

@@ -1,0 +1,6 @@
+//! Scripts over devices that are slow, and that fail at each of their calls; records and events.
+
+mod device_tests;
+mod event_tests;
+mod fakes;
+mod record_tests;
