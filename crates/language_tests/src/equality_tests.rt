@@ -1,30 +1,29 @@
 //! When programs, tables and looks are the same, and the laws that stand as functions.
 
 use example_sets::set_of;
-use prog_check::soundness;
+use prog_check::{ProgramSet, soundness};
 use prog_tree::{
     Cell, Look, evaluations_depend_on_looks, evaluations_write_i64, i64_is_tested, same_looks,
     same_tables, table_states_stay_i64, table_states_stay_in_order,
 };
-use std::alloc::Global;
 use std::test::Fail;
 
 const SET: &str = "table t 1; program P(k, v) { put t[k] = v; reply v; }";
 
-// Whether a set has the tables of `SET`, and whether it has its program.
-fn is_same_as_set(alloc: Global, text: &str) -> Result<(bool, bool), Fail> {
-    let (set, other) = (set_of(alloc, SET)?, set_of(alloc, text)?);
+// Whether two sets have the same tables, and whether they have the same first program.
+fn are_same(set: &ProgramSet, other: &ProgramSet) -> (bool, bool) {
     let (draft, other) = (set.draft(), other.draft());
     let tables = same_tables(&draft.tables, &other.tables);
     let program = match (draft.programs.first(), other.programs.first()) {
         (Some(program), Some(second)) => program.is_same(second),
         _ => false,
     };
-    Ok((tables, program))
+    (tables, program)
 }
 
 #[test]
 fn sets_are_the_same_by_their_trees(rt: HostRuntime) -> Result<(), Fail> {
+    let set = set_of(rt.alloc(), SET)?;
     for (text, same) in [
         (
             "table t 1;\nprogram P(k, v) {\n  put t[k] = v;\n  reply v;\n}\n",
@@ -39,7 +38,8 @@ fn sets_are_the_same_by_their_trees(rt: HostRuntime) -> Result<(), Fail> {
             (false, false),
         ),
     ] {
-        assert_eq!(rt; is_same_as_set(rt.alloc(), text)?, same, "{text}");
+        let other = set_of(rt.alloc(), text)?;
+        assert_eq!(rt; are_same(&set, &other), same, "{text}");
     }
     Ok(())
 }

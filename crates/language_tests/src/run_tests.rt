@@ -13,8 +13,7 @@ struct Example {
     text: &'static str,
     program: usize,
     args: &'static [i64],
-    /// Rows of the first table: both key columns and the value.
-    rows: &'static [(i64, i64, i64)],
+    rows: &'static [(Cell, i64)],
     calls: &'static str,
 }
 
@@ -90,30 +89,16 @@ fn call(
     }
 }
 
-fn rows_of(alloc: Global, entries: &[(i64, i64, i64)]) -> Result<Vec<(Cell, i64)>, AllocError> {
-    let mut rows = Vec::new(alloc);
-    for &(first, second, value) in entries {
-        let cell = Cell {
-            table: 0,
-            first,
-            second,
-        };
-        rows.push((cell, value))?;
-    }
-    Ok(rows)
-}
-
 /// Makes the calls of an example.
 fn play_calls(
     rt: &impl Abort,
     alloc: Global,
     run: &mut Run<'_>,
-    rows: &[(Cell, i64)],
-    calls: &str,
+    example: &Example,
 ) -> Result<(), Fail> {
-    for line in calls.lines() {
+    for line in example.calls.lines() {
         let (word, want) = line.split_once(": ").ok_or("no answer")?;
-        let answer = call(alloc, run, rows, word)?;
+        let answer = call(alloc, run, example.rows, word)?;
         assert!(rt; answer.as_str() == want, "{word}: {answer}");
     }
     Ok(())
@@ -122,8 +107,7 @@ fn play_calls(
 fn play(rt: &impl Abort, alloc: Global, example: &Example) -> Result<(), Fail> {
     let set = set_of(alloc, example.text)?;
     let mut run = Run::new(alloc, &set, example.program, example.args)?;
-    let rows = rows_of(alloc, example.rows)?;
-    play_calls(rt, alloc, &mut run, &rows, example.calls)
+    play_calls(rt, alloc, &mut run, example)
 }
 
 const AMALGAMATE: Example = Example {
@@ -172,7 +156,24 @@ const OWN_CHANGES: Example = Example {
     text: OWN,
     program: 0,
     args: &[7],
-    rows: &[(7, 1, 9), (7, 3, 4)],
+    rows: &[
+        (
+            Cell {
+                table: 0,
+                first: 7,
+                second: 1,
+            },
+            9,
+        ),
+        (
+            Cell {
+                table: 0,
+                first: 7,
+                second: 3,
+            },
+            4,
+        ),
+    ],
     calls: "\
 advance: Did(Put(Cell { table: 0, first: 7, second: 2 }, 5))
 advance: Did(Removed(Cell { table: 0, first: 7, second: 1 }))
@@ -197,7 +198,24 @@ const ROWS_FROM_ELSEWHERE: Example = Example {
     text: OWN,
     program: 0,
     args: &[7],
-    rows: &[(7, 1, 9), (7, 4, 1)],
+    rows: &[
+        (
+            Cell {
+                table: 0,
+                first: 7,
+                second: 1,
+            },
+            9,
+        ),
+        (
+            Cell {
+                table: 0,
+                first: 7,
+                second: 4,
+            },
+            1,
+        ),
+    ],
     calls: "\
 advance: Did(Put(Cell { table: 0, first: 7, second: 2 }, 5))
 advance: Did(Removed(Cell { table: 0, first: 7, second: 1 }))
@@ -254,7 +272,24 @@ const ENDS: [Example; 6] = [
         text: TOTALS,
         program: 0,
         args: &[],
-        rows: &[(1, 0, 9223372036854775807), (2, 0, 1)],
+        rows: &[
+            (
+                Cell {
+                    table: 0,
+                    first: 1,
+                    second: 0,
+                },
+                i64::MAX,
+            ),
+            (
+                Cell {
+                    table: 0,
+                    first: 2,
+                    second: 0,
+                },
+                1,
+            ),
+        ],
         calls: "\
 advance: Scan(Region { table: 0, first_low: 1, first_high: 2, second_low: 0, second_high: 0 })
 rows: Done(Aborted(Overflow))

@@ -8,7 +8,7 @@ use Rattle.std.proofs.lemmas.Option.{slice_get_within, slice_get-get_or, get_or_
 use Rattle.order_facts.specs.declared.steps.Node.{Node}
 use Rattle.order_facts.specs.declared.steps.Node.TheVariants.{Mine, MineUnknown, Theirs, TheirsUnknown, Number}
 use Rattle.order_facts.specs.declared.steps.Fact.{Fact}
-use Rattle.order_facts.specs.Chain.{IsPlainStep, IsStep, IsChainFrom, IsTight, last_of}
+use Rattle.order_facts.specs.Chain.{IsStep, IsChainFrom, IsTight, last_of}
 use Rattle.prog_check.specs.declared.path.Term.{Term}
 use Rattle.prog_check.specs.declared.path.Term.TheVariants.{Param, Literal, Unknown}
 use Rattle.prog_check.specs.declared.path.Column.{Column}
@@ -26,7 +26,6 @@ use Rattle.conflict_pairs.specs.declared.outcome.Verdict.TheVariants.{Apart, Cov
 use Rattle.conflict_pairs.specs.declared.table.Entry.{Entry as Judged}
 use Rattle.conflict_pairs.specs.Table.{Table, StandsFor}
 use Rattle.conflict_pairs.specs.Verdicts.{IsRight}
-use Rattle.dep_graph.specs.Counting.{IsCountOf}
 use Rattle.robust_cert.specs.declared.certificate.Entry.{Entry}
 use Rattle.robust_cert.specs.declared.certificate.Entry as told
 use Rattle.robust_cert.specs.declared.certificate.Certificate.{Certificate}
