@@ -2,10 +2,10 @@
 use Rattle.std.proofs.Common.{◌≡◌, pos, negsuc, List, ℕ, [], ◌∷◌, refl, codes}
 use Rattle.std.specs.Prelude.{true, false}
 use Rattle.std.specs.Fmt.{digits}
-use Rattle.prog_tree.specs.Syntax.{Name, ExprTree, Literal, Named, Plus, Minus, Times, Less, Equal, TestTree, One, TwoRange, Get, Put, Count, Reply, Abort, BlockTree, BlockEnd, Then, Branch, ProgramTree}
+use Rattle.prog_tree.specs.Syntax.{ExprTree, Literal, Named, Plus, Minus, Times, Less, Equal, TestTree, TwoRange, Count, Reply, Abort, BlockTree, BlockEnd, Then, Branch}
 use Rattle.prog_tree.specs.declared.table.Arity.TheVariants as arity
 use Rattle.prog_text.specs.Grammar.{least_number, greatest_number}
-use Rattle.prog_text.specs.Canonical.{bytes_of, expr_marks, test_marks, block_marks, program_marks, canonical}
+use Rattle.prog_text.specs.Canonical.{bytes_of, expr_marks, test_marks, block_marks, canonical}
 
 abbrev expr_text : ExprTree → List ℕ
 expr_text e = bytes_of (expr_marks e)
@@ -85,43 +85,7 @@ ranged : lines (Then (Count (codes "n") (codes "t") (TwoRange a (Literal (pos 0)
 unfolding digits
 ranged = refl
 
--- ---- SmallBank
-
-abbrev n : Name
-n = codes "n"
-
-abbrev v : Name
-v = codes "v"
-
-abbrev checking : Name
-checking = codes "checking"
-
-abbrev write_check : ProgramTree
-write_check = record {
-  name = codes "WriteCheck";
-  params = n ∷ v ∷ [];
-  body = Then (Get (codes "a") (codes "savings") (One (Named n)) (Literal (pos 0)))
-      (Then (Get (codes "b") checking (One (Named n)) (Literal (pos 0)))
-      (Branch (below (Plus a b) (Named v))
-      (Then (Put checking (One (Named n)) (Minus (Minus b (Named v)) (Literal (pos 1)))) BlockEnd)
-      (Then (Put checking (One (Named n)) (Minus b (Named v))) BlockEnd)
-      BlockEnd));
-}
-
-write_check_is : canonical (record { tables = record { name = codes "savings"; arity = arity.One; grow = false } ∷ record { name = checking; arity = arity.One; grow = false } ∷ []; programs = write_check ∷ [] })
-    ≡ codes "table savings 1;\ntable checking 1;\nprogram WriteCheck(n, v) {\n  let a = get savings[n] else 0;\n  let b = get checking[n] else 0;\n  if a + b < v {\n    put checking[n] = b - v - 1;\n  } else {\n    put checking[n] = b - v;\n  }\n}\n"
-unfolding digits
-write_check_is = refl
-
-deposit_is : bytes_of (program_marks (record {
-  name = codes "DepositChecking";
-  params = n ∷ v ∷ [];
-  body = Branch (below (Named v) (Literal (pos 0))) (Then Abort BlockEnd) BlockEnd
-      (Then (Get (codes "b") checking (One (Named n)) (Literal (pos 0))) (Then (Put checking (One (Named n)) (Plus b (Named v))) BlockEnd));
-}))
-    ≡ codes "program DepositChecking(n, v) {\n  if v < 0 {\n    abort;\n  }\n  let b = get checking[n] else 0;\n  put checking[n] = b + v;\n}\n"
-unfolding digits
-deposit_is = refl
+-- ---- tables and programs
 
 grown : canonical (record { tables = record { name = codes "entry"; arity = arity.Two; grow = true } ∷ []; programs = record { name = codes "P"; params = []; body = BlockEnd } ∷ [] })
     ≡ codes "table entry 2 grow;\nprogram P() {\n}\n"

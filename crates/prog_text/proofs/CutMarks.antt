@@ -57,9 +57,6 @@ open_then_open {xs = xs} {ys = ys} first begins second = record { cuts = λ rest
 pub space_begins : (marks : List Mark) → Begins (Space ∷ marks)
 space_begins marks = record { breaks = λ rest. refl }
 
-pub line_end_begins : (marks : List Mark) → Begins (LineEnd ∷ marks)
-line_end_begins marks = record { breaks = λ rest. refl }
-
 -- ---- single marks
 
 space_cut : (b : ℕ) (rest : List ℕ) (ts : List Token) → IsCutInto rest ts → is_space b ≡ true → IsCutInto (b ∷ rest) ts

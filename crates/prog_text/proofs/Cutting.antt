@@ -9,10 +9,6 @@ abbrev pub joined : Placed → Result Placed Spot → Result Placed Spot
 joined done (Ok others) = Ok (done ++ others)
 joined done (Err e) = Err e
 
-pub joined_nil : (read : Result Placed Spot) → joined [] read ≡ read
-joined_nil (Ok others) = refl
-joined_nil (Err e) = refl
-
 joined_before : (done : Placed) (token : Option Token) (left : ℕ) (read : Result Placed Spot) → joined done (read >>= (λ others. Ok (before token left others))) ≡ joined (done ++ before token left []) read
 joined_before done None left (Ok others) = ap (λ front. Ok (front ++ others)) (sym (append-nil done))
 joined_before done (Some u) left (Ok others) = ap Ok (sym (append_assoc done ((u, left) ∷ []) others))
@@ -24,13 +20,6 @@ unfolding tokens_from
 joined_further done n [] behind token begins enough is = absurd (omega (arith, begins))
 joined_further done zero (b ∷ rest) behind token begins enough is = absurd (omega (arith, enough))
 joined_further done (suc n) (b ∷ rest) behind token begins enough is = let e : suc n - 1 ≡ n = omega arith in rw (is, e) (joined_before done token _ (tokens_from n behind))
-
--- a flaw ends it
-pub joined_flaw : (done : Placed) (n : ℕ) (rest : List ℕ) (e : Spot) → 0 < length rest → length rest ≤ n → piece_at rest ≡ Err e → joined done (tokens_from n rest) ≡ Err e
-unfolding tokens_from
-joined_flaw done n [] e begins enough is = absurd (omega (arith, begins))
-joined_flaw done zero (b ∷ rest) e begins enough is = absurd (omega (arith, enough))
-joined_flaw done (suc n) (b ∷ rest) e begins enough is = rw is refl
 
 -- two columns, one row longer
 pub zip_push : {A B : Type 0} (xs : List A) (ys : List B) (x : A) (y : B) → length xs ≡ length ys → zip (xs ++ x ∷ []) (ys ++ y ∷ []) ≡ zip xs ys ++ (x, y) ∷ []

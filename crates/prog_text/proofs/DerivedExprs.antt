@@ -5,11 +5,12 @@ use Rattle.prog_tree.specs.Syntax.{Name, ExprTree, Plus, Minus, Times, RelationS
 use Rattle.prog_text.specs.declared.lexing.token.Token.{Token}
 use Rattle.prog_text.specs.declared.lexing.token.Sign.TheVariants as sign
 use Rattle.prog_text.specs.declared.lexing.token.Token.TheVariants as t
+use Rattle.prog_text.specs.Canonical.{relation_token}
 use Rattle.prog_text.specs.Grammar.{Many, Led, led, Separated, separated, IsFactor, IsProduct, IsExpr, number, negative, least, greatest, bracketed, factor, times, product, plus, minus, IsRelation, IsComparison, IsConjunction, IsTest, IsKey, IsRange}
 use Rattle.prog_text.specs.Grammar as g
 use Rattle.prog_text.specs.Reading.{Reading, after_sign, expect, name_at, separated_at, negative_at, factor_at, product_from, product_at, sum_from, sum_at, expr_within, expr_at, relation_at, compared_at, comparison_at, conjunction_at, test_at, key_from, key_at, high_at, range_from, range_at}
 use Rattle.prog_text.proofs.Sound.{Phrase, behind, Sound, then_sound, token_sound, one_sound, done_sound, fault_sound, sound_map, mapped_sound, IsBehind, behind_sign_sound, IsMore, many_sound}
-use Rattle.prog_text.proofs.OneToken.{finds_sign, alone, one_sign, one_name, relation_token, one_relation, a_name, an_expr}
+use Rattle.prog_text.proofs.OneToken.{finds_sign, alone, one_sign, one_name, one_relation, a_name, an_expr}
 
 -- ---- lists
 

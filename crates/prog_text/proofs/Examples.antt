@@ -3,7 +3,7 @@ use Rattle.std.proofs.Common.{◌≡◌, ℕ, pos, ◌≤◌, List, [], ◌∷�
 use Rattle.std.specs.Prelude.{true, false}
 use Rattle.std.specs.Fmt.{digits}
 use Rattle.std.specs.Result.{result_unwrap_or}
-use Rattle.prog_tree.specs.Syntax.{ExprTree, Literal, Named, Plus, Minus, Times, Less, Equal, GreaterEqual, One, Get, Put, Reply, BlockEnd, Then, Branch, DraftTree}
+use Rattle.prog_tree.specs.Syntax.{ExprTree, Literal, Named, Plus, Minus, Times, Less, Equal, GreaterEqual, Reply, BlockEnd, Then, DraftTree}
 use Rattle.prog_tree.specs.declared.table.Arity.TheVariants as arity
 use Rattle.prog_text.specs.declared.fault.TextFault.TheVariants as f
 use Rattle.prog_text.specs.declared.lexing.token.Token.{Token}
@@ -12,11 +12,11 @@ use Rattle.prog_text.specs.declared.lexing.token.Token.TheVariants as t
 use Rattle.prog_text.specs.Answer.{text_limit, HasTokens, Accepts, Refuses}
 use Rattle.prog_text.specs.Grammar.{IsFactor, IsProduct, IsExpr, IsSet}
 use Rattle.prog_text.specs.Grammar as g
-use Rattle.prog_text.specs.Lexing.{Placed, kinds, tokens_of, tokens_from, piece_at, word_at, number_at, sign_at}
-use Rattle.prog_text.specs.Reading.{many_from, separated_at, factor_at, product_from, product_at, sum_from, sum_at, expr_within, expr_at, compared_at, comparison_at, test_at, key_from, key_at, last_expr_at, assigned_at, get_at, bound_at, let_at, put_at, statement_at, block_at, second_at, behind_second, behind_first, branch_at, more_at, body_within, body_at, table_at, arity_at, params_at, program_at, set_at}
+use Rattle.prog_text.specs.Lexing.{Placed, tokens_of, tokens_from, piece_at, word_at, number_at, sign_at}
+use Rattle.prog_text.specs.Reading.{many_from, separated_at, factor_at, product_from, product_at, sum_from, sum_at, expr_within, expr_at, compared_at, comparison_at, test_at, key_from, key_at, get_at, bound_at, let_at, statement_at, block_at, second_at, behind_second, behind_first, branch_at, more_at, body_within, body_at, table_at, arity_at, params_at, program_at, set_at}
 use Rattle.prog_text.proofs.Converse.{tokens_exactly}
 use Rattle.prog_text.proofs.RoundTrip.{read_again}
-use Rattle.prog_text.proofs.Refusals.{set_found, set_misfit, set_unfinished}
+use Rattle.prog_text.proofs.Refusals.{set_misfit, set_unfinished}
 
 abbrev placed : Placed
 placed =
@@ -114,51 +114,14 @@ tested : test_at (t.Name a ∷ t.Sign sign.Less ∷ t.Name b ∷ t.Sign sign.Or 
 unfolding separated_at many_from comparison_at compared_at expr_at expr_within sum_at sum_from product_at product_from factor_at
 tested = refl
 
--- ---- pieces of SmallBank
+-- ---- blocks
 
 -- the tokens of a text that has some
-abbrev cut_of : List ℕ → Placed
+abbrev pub cut_of : List ℕ → Placed
 cut_of bytes = result_unwrap_or (tokens_of bytes) []
 
-abbrev balance : List ℕ
-balance = codes "balance"
-
-abbrev checking : List ℕ
-checking = codes "checking"
-
-abbrev write_check : List ℕ
-write_check = codes "table checking 1;\nprogram WriteCheck(n, v) {\n  let b = get checking[n] else 0;\n  if b < v {\n    put checking[n] = b - v - 1;\n  } else {\n    put checking[n] = b - v;\n  }\n}\n"
-
-abbrev n : List ℕ
-n = codes "n"
-
-abbrev v : List ℕ
-v = codes "v"
-
-abbrev write_check_draft : DraftTree
-write_check_draft = record {
-  tables = record { name = checking; arity = arity.One; grow = false } ∷ [];
-  programs = record {
-    name = codes "WriteCheck";
-    params = n ∷ v ∷ [];
-    body = Then (Get b checking (One (Named n)) (Literal (pos 0)))
-        (Branch ((record { negated = false; left = Named b; relation = Less; right = Named v } ∷ []) ∷ [])
-        (Then (Put checking (One (Named n)) (Minus (Minus (Named b) (Named v)) (Literal (pos 1)))) BlockEnd)
-        (Then (Put checking (One (Named n)) (Minus (Named b) (Named v))) BlockEnd)
-        BlockEnd);
-  } ∷ [];
-}
-
-abbrev has_tokens : (bytes : List ℕ) (placed : Placed) → length bytes ≤ text_limit → tokens_of bytes ≡ Ok placed → HasTokens bytes placed
+abbrev pub has_tokens : (bytes : List ℕ) (placed : Placed) → length bytes ≤ text_limit → tokens_of bytes ≡ Ok placed → HasTokens bytes placed
 has_tokens bytes placed short e = record { short = short; cut = (tokens_exactly bytes placed).0 e }
-
-check_is_read : Accepts write_check write_check_draft
-unfolding tokens_from piece_at word_at number_at sign_at set_at many_from separated_at table_at arity_at program_at params_at block_at body_at body_within branch_at behind_first behind_second second_at more_at statement_at let_at bound_at get_at put_at assigned_at last_expr_at key_at key_from comparison_at compared_at expr_at expr_within sum_at sum_from product_at product_from factor_at
-check_is_read = record {
-  placed = cut_of write_check;
-  shallow = record { tokens = has_tokens write_check (cut_of write_check) (omega arith) refl; shallow = refl };
-  spelled = set_found (kinds (cut_of write_check)) [] write_check_draft refl;
-}
 
 -- cut in the word `else`: what is left of it is a name, which can't stand there
 cut_in_else : Refuses (codes "program P(n) { let a = get t[n] el") (f.UnexpectedToken 32)

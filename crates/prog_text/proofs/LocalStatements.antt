@@ -1,11 +1,12 @@
 -- Readers of statements and blocks look no further than where they stop.
 use Rattle.std.proofs.Common.{◌≡◌, ℕ, zero, suc, ◌+◌, List, ◌∷◌, length, Ok, refl, arith}
 use Rattle.prog_tree.specs.Syntax.{Name, StatementTree, Bind, Get, Need, Count, Sum, Lacks, Put, Insert, Delete, Keep, Reply, Abort, BlockTree, BlockEnd, Then, Branch}
+use Rattle.prog_text.specs.declared.lexing.token.Sign.{Sign}
 use Rattle.prog_text.specs.declared.lexing.token.Token.{Token}
 use Rattle.prog_text.specs.declared.lexing.token.Sign.TheVariants as sign
 use Rattle.prog_text.specs.declared.lexing.token.Token.TheVariants as t
 use Rattle.prog_text.specs.Reading.{Reading, ◌>>=◌, after_sign, behind_sign, expect, name_at, expr_within, expr_at, test_at, key_at, range_at, last_expr_at, last_key_at, last_range_at, assigned_at, bind_at, get_at, need_at, count_at, summed_at, bound_at, let_at, lacks_at, put_at, insert_at, delete_at, keep_at, reply_at, abort_at, statement_at, block_at, second_at, behind_second, behind_first, branch_at, more_at, body_within, body_at}
-use Rattle.prog_text.proofs.Alike.{AreAlike, AreAlikeAt, then_alike, done_alike, fault_alike, token_alike, by_first, behind_sign_alike}
+use Rattle.prog_text.proofs.Alike.{Near, AlikeFrom, AreAlike, AreAlikeAt, then_alike, done_alike, fault_alike, token_alike, by_first, behind_sign_alike}
 use Rattle.prog_text.proofs.Enough.{body_further}
 use Rattle.prog_text.proofs.LocalTokens.{seek_sign, sign_alike, name_alike}
 use Rattle.prog_text.proofs.LocalExprs.{expr_alike, test_alike, key_alike, range_alike}
@@ -42,6 +43,16 @@ module _ (shared : Token) (rest other : List Token) where
 
   -- ---- statements
 
+  -- a statement of what is read behind a sign
+  led_alike : {A : Type 0} (u : Sign) (read : List Token → Reading A) (f : A → StatementTree)
+      → AreAlike shared rest other read read
+      → (a b : List Token) (w : Near shared rest other (t.Sign u ∷ a) (t.Sign u ∷ b))
+      → AlikeFrom shared rest other w (read a >>= λ x. Ok (f x.0, x.1)) (read b >>= λ x. Ok (f x.0, x.1))
+  led_alike u read f h a b w =
+      token_alike shared rest other (t.Sign u) a b w _ _
+      (λ w. then_alike shared rest other w (read a) (read b) _ _ (h a b w)
+      (λ x a b w. done_alike shared rest other (f x) a b w))
+
   bind_alike : (x : Name) → AreAlike shared rest other (bind_at x) (bind_at x)
   unfolding bind_at
   bind_alike x a b w = then_alike shared rest other w (last_expr_at a) (last_expr_at b) _ _ (last_expr_alike a b w) (λ e a b w. done_alike shared rest other (Bind x e) a b w)
@@ -54,24 +65,15 @@ module _ (shared : Token) (rest other : List Token) where
       (λ o a b w. then_alike shared rest other w (last_expr_at a) (last_expr_at b) _ _ (last_expr_alike a b w)
       (λ e a b w. done_alike shared rest other (Get x k.0 k.1 e) a b w)))
 
-  need_alike : (x : Name) → AreAlike shared rest other (need_at x) (need_at x)
-  unfolding need_at
-  need_alike x a b w = then_alike shared rest other w (last_key_at a) (last_key_at b) _ _ (last_key_alike a b w) (λ k a b w. done_alike shared rest other (Need x k.0 k.1) a b w)
-
-  count_alike : (x : Name) → AreAlike shared rest other (count_at x) (count_at x)
-  unfolding count_at
-  count_alike x a b w = then_alike shared rest other w (last_range_at a) (last_range_at b) _ _ (last_range_alike a b w) (λ r a b w. done_alike shared rest other (Count x r.0 r.1) a b w)
-
-  summed_alike : (x : Name) → AreAlike shared rest other (summed_at x) (summed_at x)
-  unfolding summed_at
-  summed_alike x a b w = then_alike shared rest other w (last_range_at a) (last_range_at b) _ _ (last_range_alike a b w) (λ r a b w. done_alike shared rest other (Sum x r.0 r.1) a b w)
-
   bound_first : (x : Name) → AreAlikeAt shared rest other (bound_at x) (bound_at x)
-  unfolding bound_at
+  unfolding bound_at need_at count_at summed_at
   bound_first x (t.Sign sign.Get) a b w = token_alike shared rest other (t.Sign sign.Get) a b w _ _ (get_alike x a b)
-  bound_first x (t.Sign sign.Need) a b w = token_alike shared rest other (t.Sign sign.Need) a b w _ _ (need_alike x a b)
-  bound_first x (t.Sign sign.Count) a b w = token_alike shared rest other (t.Sign sign.Count) a b w _ _ (count_alike x a b)
-  bound_first x (t.Sign sign.Sum) a b w = token_alike shared rest other (t.Sign sign.Sum) a b w _ _ (summed_alike x a b)
+  bound_first x (t.Sign sign.Need) a b w =
+      led_alike sign.Need last_key_at (λ k. Need x k.0 k.1) last_key_alike a b w
+  bound_first x (t.Sign sign.Count) a b w =
+      led_alike sign.Count last_range_at (λ r. Count x r.0 r.1) last_range_alike a b w
+  bound_first x (t.Sign sign.Sum) a b w =
+      led_alike sign.Sum last_range_at (λ r. Sum x r.0 r.1) last_range_alike a b w
   bound_first x u a b w = bind_alike x (u ∷ a) (u ∷ b) w
 
   bound_alike : (x : Name) → AreAlike shared rest other (bound_at x) (bound_at x)
@@ -85,43 +87,25 @@ module _ (shared : Token) (rest other : List Token) where
       (λ x a b w. then_alike shared rest other w (expect sign.Equals a) (expect sign.Equals b) _ _ (sign_alike shared rest other sign.Equals a b w)
       (λ o a b w. bound_alike x a b w))
 
-  lacks_alike : AreAlike shared rest other lacks_at lacks_at
-  unfolding lacks_at
-  lacks_alike a b w = then_alike shared rest other w (last_key_at a) (last_key_at b) _ _ (last_key_alike a b w) (λ k a b w. done_alike shared rest other (Lacks k.0 k.1) a b w)
-
-  put_alike : AreAlike shared rest other put_at put_at
-  unfolding put_at
-  put_alike a b w = then_alike shared rest other w (assigned_at a) (assigned_at b) _ _ (assigned_alike a b w) (λ x a b w. done_alike shared rest other (Put x.0.0 x.0.1 x.1) a b w)
-
-  insert_alike : AreAlike shared rest other insert_at insert_at
-  unfolding insert_at
-  insert_alike a b w = then_alike shared rest other w (assigned_at a) (assigned_at b) _ _ (assigned_alike a b w) (λ x a b w. done_alike shared rest other (Insert x.0.0 x.0.1 x.1) a b w)
-
-  delete_alike : AreAlike shared rest other delete_at delete_at
-  unfolding delete_at
-  delete_alike a b w = then_alike shared rest other w (last_key_at a) (last_key_at b) _ _ (last_key_alike a b w) (λ k a b w. done_alike shared rest other (Delete k.0 k.1) a b w)
-
-  keep_alike : AreAlike shared rest other keep_at keep_at
-  unfolding keep_at
-  keep_alike a b w = then_alike shared rest other w (last_key_at a) (last_key_at b) _ _ (last_key_alike a b w) (λ k a b w. done_alike shared rest other (Keep k.0 k.1) a b w)
-
-  reply_alike : AreAlike shared rest other reply_at reply_at
-  unfolding reply_at
-  reply_alike a b w = then_alike shared rest other w (last_expr_at a) (last_expr_at b) _ _ (last_expr_alike a b w) (λ e a b w. done_alike shared rest other (Reply e) a b w)
-
   abort_alike : AreAlike shared rest other abort_at abort_at
   unfolding abort_at
   abort_alike a b w = then_alike shared rest other w (expect sign.Semicolon a) (expect sign.Semicolon b) _ _ (sign_alike shared rest other sign.Semicolon a b w) (λ c a b w. done_alike shared rest other Abort a b w)
 
   statement_first : AreAlikeAt shared rest other statement_at statement_at
-  unfolding statement_at
+  unfolding statement_at lacks_at put_at insert_at delete_at keep_at reply_at
   statement_first (t.Sign sign.Let) a b w = token_alike shared rest other (t.Sign sign.Let) a b w _ _ (let_alike a b)
-  statement_first (t.Sign sign.Lacks) a b w = token_alike shared rest other (t.Sign sign.Lacks) a b w _ _ (lacks_alike a b)
-  statement_first (t.Sign sign.Put) a b w = token_alike shared rest other (t.Sign sign.Put) a b w _ _ (put_alike a b)
-  statement_first (t.Sign sign.Insert) a b w = token_alike shared rest other (t.Sign sign.Insert) a b w _ _ (insert_alike a b)
-  statement_first (t.Sign sign.Delete) a b w = token_alike shared rest other (t.Sign sign.Delete) a b w _ _ (delete_alike a b)
-  statement_first (t.Sign sign.Keep) a b w = token_alike shared rest other (t.Sign sign.Keep) a b w _ _ (keep_alike a b)
-  statement_first (t.Sign sign.Reply) a b w = token_alike shared rest other (t.Sign sign.Reply) a b w _ _ (reply_alike a b)
+  statement_first (t.Sign sign.Lacks) a b w =
+      led_alike sign.Lacks last_key_at (λ k. Lacks k.0 k.1) last_key_alike a b w
+  statement_first (t.Sign sign.Put) a b w =
+      led_alike sign.Put assigned_at (λ x. Put x.0.0 x.0.1 x.1) assigned_alike a b w
+  statement_first (t.Sign sign.Insert) a b w =
+      led_alike sign.Insert assigned_at (λ x. Insert x.0.0 x.0.1 x.1) assigned_alike a b w
+  statement_first (t.Sign sign.Delete) a b w =
+      led_alike sign.Delete last_key_at (λ k. Delete k.0 k.1) last_key_alike a b w
+  statement_first (t.Sign sign.Keep) a b w =
+      led_alike sign.Keep last_key_at (λ k. Keep k.0 k.1) last_key_alike a b w
+  statement_first (t.Sign sign.Reply) a b w =
+      led_alike sign.Reply last_expr_at (Reply) last_expr_alike a b w
   statement_first (t.Sign sign.Abort) a b w = token_alike shared rest other (t.Sign sign.Abort) a b w _ _ (abort_alike a b)
   statement_first u a b w = fault_alike shared rest other StatementTree (u ∷ a) (u ∷ b) w
 

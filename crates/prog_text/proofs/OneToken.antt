@@ -1,12 +1,13 @@
 -- Single tokens: what is found and read of them.
 use Rattle.std.proofs.Common.{◌≡◌, List, [], ◌∷◌, Bool, true, false, if◌then◌else◌, Option, Some, None, Ok, ap, refl}
 use denote.Enum.Bare.{same_true}
-use Rattle.prog_tree.specs.Syntax.{Name, ExprTree, Literal, RelationSign, Less, LessEqual, Greater, GreaterEqual, Equal, NotEqual}
+use Rattle.prog_tree.specs.Syntax.{Name, ExprTree, Literal}
 use Rattle.prog_text.specs.contracts.lexing.token.Sign.{the_type}
 use Rattle.prog_text.specs.declared.lexing.token.Sign.{Sign}
 use Rattle.prog_text.specs.declared.lexing.token.Token.{Token}
 use Rattle.prog_text.specs.declared.lexing.token.Sign.TheVariants as sign
 use Rattle.prog_text.specs.declared.lexing.token.Token.TheVariants as t
+use Rattle.prog_text.specs.Canonical.{relation_token}
 use Rattle.prog_text.specs.Grammar.{least_number}
 use Rattle.prog_text.specs.Reading.{same_sign, behind_sign, unexpected, after_sign, expect, name_at, relation_at}
 use Rattle.prog_text.proofs.Sound.{IsOne, IsBehind}
@@ -36,15 +37,6 @@ one_sign u ts = one_if u ts (after_sign u ts) (finds_sign u ts)
 pub one_name : (ts : List Token) → IsOne t.Name ts (name_at ts)
 one_name (t.Name x ∷ ts) = refl
 one_name ts = refl
-
--- the token of a sign that compares
-abbrev pub relation_token : RelationSign → Token
-relation_token Less = t.Sign sign.Less
-relation_token LessEqual = t.Sign sign.LessEqual
-relation_token Greater = t.Sign sign.Greater
-relation_token GreaterEqual = t.Sign sign.GreaterEqual
-relation_token Equal = t.Sign sign.EqualEqual
-relation_token NotEqual = t.Sign sign.NotEqual
 
 pub one_relation : (ts : List Token) → IsOne relation_token ts (relation_at ts)
 one_relation (t.Sign sign.Less ∷ ts) = refl

