@@ -4,6 +4,8 @@
 #[cfg(test)]
 mod certificates;
 #[cfg(test)]
+mod dangers;
+#[cfg(test)]
 mod pairs;
 #[cfg(test)]
 mod paths;

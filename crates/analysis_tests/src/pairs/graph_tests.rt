@@ -1,5 +1,6 @@
 //! The least dangerous structures of sets, and their levels.
 
+use crate::dangers::{push_back, push_question};
 use crate::pairs::sets::{ledger, report, small_bank, table_of, transfer, write_skew};
 use conflict_pairs::PairFault;
 use dep_graph::{Danger, Exposure, Graph};
@@ -20,13 +21,8 @@ fn levels(alloc: Global, graph: &Graph) -> Result<String, AllocError> {
 }
 
 /// A question, and the numbers of its sample for two parameters of each of its nodes.
-fn write_exposure(text: &mut String, exposure: &Exposure) -> Result<(), AllocError> {
-    let question = exposure.question;
-    write!(
-        text,
-        "{} {}, {} {}",
-        question.x, question.a, question.y, question.b
-    )?;
+fn push_exposure(text: &mut String, exposure: &Exposure) -> Result<(), AllocError> {
+    push_question(text, &exposure.question)?;
     for i in 0..2 {
         let mine = exposure.sample.get(Node::Mine(i));
         let theirs = exposure.sample.get(Node::Theirs(i));
@@ -38,13 +34,11 @@ fn write_exposure(text: &mut String, exposure: &Exposure) -> Result<(), AllocErr
 /// The two questions and the way back of a danger.
 fn shown(alloc: Global, danger: &Danger) -> Result<String, AllocError> {
     let mut text = String::new(alloc);
-    write_exposure(&mut text, &danger.first)?;
+    push_exposure(&mut text, &danger.first)?;
     text.push_str(" / ")?;
-    write_exposure(&mut text, &danger.second)?;
-    text.push_str(" / back")?;
-    for node in danger.back.as_slice() {
-        write!(text, " {node}")?;
-    }
+    push_exposure(&mut text, &danger.second)?;
+    text.push_str(" / ")?;
+    push_back(&mut text, danger)?;
     Ok(text)
 }
 

@@ -4,11 +4,9 @@ use std::alloc::{AllocError, Global};
 
 /// Five branches and twelve pairs of a read and a write.
 fn push_wide_body(text: &mut String) -> Result<(), AllocError> {
-    for _ in 0..5 {
-        text.push_str("if v < 0 { } ")?;
-    }
+    text.push_str("if v < 0 { } if v < 0 { } if v < 0 { } if v < 0 { } if v < 0 { } ")?;
     for pair in 0..12 {
-        write!(text, "let a{pair} = get t[v] else 0; put t[v] = a{pair}; ")?;
+        write!(text, "let a{pair} = get t[v] else 0; put t[v] = v; ")?;
     }
     Ok(())
 }

@@ -1,7 +1,8 @@
 //! What the analysis of sets finds: the text of a certificate, or the least dangerous structure.
 
+use crate::dangers::{push_back, push_question};
 use crate::repairs::sets::{APART, COLUMNS, KEPT_REPORT, SKEW};
-use dep_graph::{Danger, Exposure};
+use dep_graph::Danger;
 use example_sets::{LEDGER, REPORT, SMALL_BANK, TRANSFER, set_of};
 use robust_cert::to_json;
 use si_repair::{AnalyseFault, Finding, certify};
@@ -10,25 +11,14 @@ use std::process::Abort;
 use std::string::String;
 use std::test::Fail;
 
-fn write_exposure(text: &mut String, exposure: &Exposure) -> Result<(), AllocError> {
-    let question = exposure.question;
-    write!(
-        text,
-        "{} {}, {} {} / ",
-        question.x, question.a, question.y, question.b
-    )?;
-    Ok(())
-}
-
 /// The two questions and the way back of a danger.
 fn refusal(alloc: Global, danger: &Danger) -> Result<String, AllocError> {
     let mut text = String::new(alloc);
-    write_exposure(&mut text, &danger.first)?;
-    write_exposure(&mut text, &danger.second)?;
-    text.push_str("back")?;
-    for node in danger.back.as_slice() {
-        write!(text, " {node}")?;
-    }
+    push_question(&mut text, &danger.first.question)?;
+    text.push_str(" / ")?;
+    push_question(&mut text, &danger.second.question)?;
+    text.push_str(" / ")?;
+    push_back(&mut text, danger)?;
     Ok(text)
 }
 
