@@ -23,7 +23,8 @@ pub struct Position {
 }
 
 fn check_place(place: Place, number: usize, aborted: bool) -> Result<(), CheckFault>
-    ensures { Finds (λ _. number < MAX_STATEMENTS) result (first_broken (place_rules place number aborted)) }
+    ensures { Finds (λ _. number < MAX_STATEMENTS) result
+        (first_broken (place_rules place number aborted)) }
 {
     if aborted {
         return Err(CheckFault::AfterAbort { place });

@@ -29,7 +29,8 @@ fn count_node(first: &Placed, node: usize, accesses: &[Access], before: usize) -
 /// The count, with what one access asks of those of all nodes.
 fn count_by(first: &Placed, paths: &[Path], before: usize) -> usize
     requires { before ≤ limit + 1 }
-    ensures { result ≡ min (before + length (asked_by first.now (all_from 0 paths.now))) (limit + 1) }
+    ensures { result ≡ min
+        (before + length (asked_by first.now (all_from 0 paths.now))) (limit + 1) }
 {
     let mut count = before;
     for (node, path) in paths.iter().enumerate() {

@@ -38,7 +38,8 @@ fn enter_question(
     second: &Placed,
 ) -> usize
     requires { IsReady entries.now (asked_by first.now (second.now ∷ [])) cursor }
-    ensures { Passes entries.now (asked_by first.now (second.now ∷ [])) cursor result left.old left.new }
+    ensures { Passes entries.now (asked_by first.now (second.now ∷ [])) cursor result
+        left.old left.new }
 {
     if !asks(first, second) {
         return cursor;
