@@ -2,8 +2,8 @@
 ghost use Rattle.std.specs.Prelude.{◌≡◌, [], ◌∷◌, ◌++◌, ◌||◌, suc, map};
 ghost use Rattle.std.specs.List.{flat_map};
 ghost use Rattle.prog_tree.specs.Syntax.{BlockEnd};
-ghost use Rattle.prog_tree.specs.Tree.{expr_tree, key_tree, range_tree, relation_sign, comparison_tree, clause_tree, test_tree, with_stmt, block_tree, program_tree};
-ghost use Rattle.prog_text.specs.Canonical.{Indent, bytes_of, spaced, is_sum, is_product, in_brackets_if, number_marks, expr_marks, key_marks, ends_marks, range_marks, relation_token, comparison_marks, conjunction_marks, test_marks, let_marks, assigned_marks, with_semicolon, block_marks, if_line, close_line, else_marks, joined_by, comma, name_marks, arity_number, table_marks, program_marks};
+ghost use Rattle.prog_tree.specs.Tree.{expr_tree, key_tree, range_tree, relation_sign, comparison_tree, clause_tree, test_tree, stmt_tree, with_stmt, block_tree, program_tree};
+ghost use Rattle.prog_text.specs.Canonical.{Indent, bytes_of, spaced, is_sum, is_product, in_brackets_if, number_marks, expr_marks, key_marks, ends_marks, range_marks, relation_token, comparison_marks, conjunction_marks, test_marks, assigned_marks, plain_marks, with_semicolon, block_marks, if_line, close_line, else_marks, joined_by, comma, name_marks, arity_number, table_marks, program_marks};
 ghost use Rattle.prog_text.specs.Printed.{Adds, Writes};
 
 use crate::canonical::margin::Margin;
@@ -237,50 +237,86 @@ impl Printer {
         self.push(word)
     }
 
-    // Begins the line of a statement that binds a name.
-    fn begin_let(&mut self, name: &Name) -> Result<(), AllocError>
-        ensures { Writes (Indent self.old.depth ∷ let_marks name.now) self.old result self.new }
+    // A word and a key.
+    fn keyed(&mut self, word: &str, table: &Name, key: &Key) -> Result<(), AllocError>
+        ensures { Adds (word.now ++ bytes_of (key_marks table.now (key_tree key.now)))
+            self.old result self.new }
+    {
+        self.push(word)?;
+        self.key(table, key)
+    }
+
+    // A word, a key, `=` and an expression.
+    fn assigned(
+        &mut self,
+        word: &str,
+        table: &Name,
+        key: &Key,
+        value: &Expr,
+    ) -> Result<(), AllocError>
+        ensures { Adds (word.now
+            ++ bytes_of (assigned_marks table.now (key_tree key.now) (expr_tree value.now)))
+            self.old result self.new }
+    {
+        self.keyed(word, table, key)?;
+        self.push(" = ")?;
+        self.expr(value)
+    }
+
+    // A statement up to its `;`. A branch has lines of its own.
+    fn plain(&mut self, stmt: &Stmt) -> Result<(), AllocError>
+        ensures { Writes (plain_marks (stmt_tree stmt.now)) self.old result self.new }
+    {
+        match stmt {
+            Stmt::Bind { name, value } => {
+                write!(self.text, "let {name} = ")?;
+                self.expr(value)
+            }
+            Stmt::Get {
+                name,
+                table,
+                key,
+                otherwise,
+            } => {
+                write!(self.text, "let {name} = get ")?;
+                self.key(table, key)?;
+                self.push(" else ")?;
+                self.expr(otherwise)
+            }
+            Stmt::Need { name, table, key } => {
+                write!(self.text, "let {name} = need ")?;
+                self.key(table, key)
+            }
+            Stmt::Count { name, table, range } => {
+                write!(self.text, "let {name} = count ")?;
+                self.range(table, range)
+            }
+            Stmt::Sum { name, table, range } => {
+                write!(self.text, "let {name} = sum ")?;
+                self.range(table, range)
+            }
+            Stmt::Lacks { table, key } => self.keyed("lacks ", table, key),
+            Stmt::Put { table, key, value } => self.assigned("put ", table, key, value),
+            Stmt::Insert { table, key, value } => self.assigned("insert ", table, key, value),
+            Stmt::Delete { table, key } => self.keyed("delete ", table, key),
+            Stmt::Keep { table, key } => self.keyed("keep ", table, key),
+            Stmt::Reply { value } => {
+                self.push("reply ")?;
+                self.expr(value)
+            }
+            Stmt::Abort => self.push("abort"),
+            Stmt::Branch { .. } => Ok(()),
+        }
+    }
+
+    // The line of a statement without blocks.
+    fn line(&mut self, stmt: &Stmt) -> Result<(), AllocError>
+        ensures { Writes (Indent self.old.depth ∷ with_semicolon (plain_marks (stmt_tree stmt.now)))
+            self.old result self.new }
     {
         self.indent()?;
-        write!(self.text, "let {name} = ")
-    }
-
-    // Ends a line with an expression.
-    fn end_expr(&mut self, expr: &Expr) -> Result<(), AllocError>
-        ensures { Writes (with_semicolon (expr_marks (expr_tree expr.now)))
-            self.old result self.new }
-    {
-        self.expr(expr)?;
+        self.plain(stmt)?;
         self.push(";\n")
-    }
-
-    // Ends a line with a key.
-    fn end_key(&mut self, table: &Name, key: &Key) -> Result<(), AllocError>
-        ensures { Writes (with_semicolon (key_marks table.now (key_tree key.now)))
-            self.old result self.new }
-    {
-        self.key(table, key)?;
-        self.push(";\n")
-    }
-
-    // Ends a line with a range.
-    fn end_range(&mut self, table: &Name, range: &Range) -> Result<(), AllocError>
-        ensures { Writes (with_semicolon (range_marks table.now (range_tree range.now)))
-            self.old result self.new }
-    {
-        self.range(table, range)?;
-        self.push(";\n")
-    }
-
-    // Ends a line with a key, `=` and an expression.
-    fn end_assigned(&mut self, table: &Name, key: &Key, value: &Expr) -> Result<(), AllocError>
-        ensures { Writes (with_semicolon
-            (assigned_marks table.now (key_tree key.now) (expr_tree value.now)))
-            self.old result self.new }
-    {
-        self.key(table, key)?;
-        self.push(" = ")?;
-        self.end_expr(value)
     }
 
     // The line that begins a branch.
@@ -332,57 +368,6 @@ impl Printer {
             self.old result self.new }
     {
         match stmt {
-            Stmt::Bind { name, value } => {
-                self.begin_let(name)?;
-                self.end_expr(value)
-            }
-            Stmt::Get {
-                name,
-                table,
-                key,
-                otherwise,
-            } => {
-                self.begin_let(name)?;
-                self.push("get ")?;
-                self.key(table, key)?;
-                self.push(" else ")?;
-                self.end_expr(otherwise)
-            }
-            Stmt::Need { name, table, key } => {
-                self.begin_let(name)?;
-                self.push("need ")?;
-                self.end_key(table, key)
-            }
-            Stmt::Count { name, table, range } => {
-                self.begin_let(name)?;
-                self.push("count ")?;
-                self.end_range(table, range)
-            }
-            Stmt::Sum { name, table, range } => {
-                self.begin_let(name)?;
-                self.push("sum ")?;
-                self.end_range(table, range)
-            }
-            Stmt::Lacks { table, key } => {
-                self.begin("lacks ")?;
-                self.end_key(table, key)
-            }
-            Stmt::Put { table, key, value } => {
-                self.begin("put ")?;
-                self.end_assigned(table, key, value)
-            }
-            Stmt::Insert { table, key, value } => {
-                self.begin("insert ")?;
-                self.end_assigned(table, key, value)
-            }
-            Stmt::Delete { table, key } => {
-                self.begin("delete ")?;
-                self.end_key(table, key)
-            }
-            Stmt::Keep { table, key } => {
-                self.begin("keep ")?;
-                self.end_key(table, key)
-            }
             Stmt::Branch {
                 test,
                 then,
@@ -393,11 +378,7 @@ impl Printer {
                 self.otherwise(otherwise)?;
                 self.close()
             }
-            Stmt::Reply { value } => {
-                self.begin("reply ")?;
-                self.end_expr(value)
-            }
-            Stmt::Abort => self.begin("abort;\n"),
+            _ => self.line(stmt),
         }
     }
 
