@@ -7,13 +7,14 @@ use std::alloc::{AllocError, Global};
 use std::process::Abort;
 use std::test::Fail;
 
-/// A run of a set's program, with the rows that it is answered, and its calls: each line a call and what it gives.
+/// A run of a set's program, with the rows of the first table that it is answered (both columns and the value), and its
+/// calls: each line a call and what it gives.
 #[derive(Clone, Copy)]
 struct Example {
     text: &'static str,
     program: usize,
     args: &'static [i64],
-    rows: &'static [(Cell, i64)],
+    rows: &'static [(i64, i64, i64)],
     calls: &'static str,
 }
 
@@ -89,6 +90,20 @@ fn call(
     }
 }
 
+fn rows_of(alloc: Global, example: &Example) -> Result<Vec<(Cell, i64)>, AllocError> {
+    let table = 0;
+    let mut rows = Vec::new(alloc);
+    for &(first, second, value) in example.rows {
+        let cell = Cell {
+            table,
+            first,
+            second,
+        };
+        rows.push((cell, value))?;
+    }
+    Ok(rows)
+}
+
 /// Makes the calls of an example.
 fn play_calls(
     rt: &impl Abort,
@@ -96,9 +111,10 @@ fn play_calls(
     run: &mut Run<'_>,
     example: &Example,
 ) -> Result<(), Fail> {
+    let rows = rows_of(alloc, example)?;
     for line in example.calls.lines() {
         let (word, want) = line.split_once(": ").ok_or("no answer")?;
-        let answer = call(alloc, run, example.rows, word)?;
+        let answer = call(alloc, run, &rows, word)?;
         assert!(rt; answer.as_str() == want, "{word}: {answer}");
     }
     Ok(())
@@ -156,24 +172,7 @@ const OWN_CHANGES: Example = Example {
     text: OWN,
     program: 0,
     args: &[7],
-    rows: &[
-        (
-            Cell {
-                table: 0,
-                first: 7,
-                second: 1,
-            },
-            9,
-        ),
-        (
-            Cell {
-                table: 0,
-                first: 7,
-                second: 3,
-            },
-            4,
-        ),
-    ],
+    rows: &[(7, 1, 9), (7, 3, 4)],
     calls: "\
 advance: Did(Put(Cell { table: 0, first: 7, second: 2 }, 5))
 advance: Did(Removed(Cell { table: 0, first: 7, second: 1 }))
@@ -198,24 +197,7 @@ const ROWS_FROM_ELSEWHERE: Example = Example {
     text: OWN,
     program: 0,
     args: &[7],
-    rows: &[
-        (
-            Cell {
-                table: 0,
-                first: 7,
-                second: 1,
-            },
-            9,
-        ),
-        (
-            Cell {
-                table: 0,
-                first: 7,
-                second: 4,
-            },
-            1,
-        ),
-    ],
+    rows: &[(7, 1, 9), (7, 4, 1)],
     calls: "\
 advance: Did(Put(Cell { table: 0, first: 7, second: 2 }, 5))
 advance: Did(Removed(Cell { table: 0, first: 7, second: 1 }))
@@ -272,24 +254,7 @@ const ENDS: [Example; 6] = [
         text: TOTALS,
         program: 0,
         args: &[],
-        rows: &[
-            (
-                Cell {
-                    table: 0,
-                    first: 1,
-                    second: 0,
-                },
-                i64::MAX,
-            ),
-            (
-                Cell {
-                    table: 0,
-                    first: 2,
-                    second: 0,
-                },
-                1,
-            ),
-        ],
+        rows: &[(1, 0, i64::MAX), (2, 0, 1)],
         calls: "\
 advance: Scan(Region { table: 0, first_low: 1, first_high: 2, second_low: 0, second_high: 0 })
 rows: Done(Aborted(Overflow))

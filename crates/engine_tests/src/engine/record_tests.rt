@@ -2,7 +2,7 @@
 
 use prog_check::{ProgramSet, check};
 use prog_text::parse;
-use si_engine::{Bytes, LineFault, ScriptFault, read_records};
+use si_engine::{Bytes, ScriptFault, read_records};
 use std::alloc::Global;
 use std::test::Fail;
 
@@ -45,55 +45,28 @@ fn records_are_read(rt: HostRuntime) -> Result<(), Fail> {
     Ok(())
 }
 
+const FAULTS: [(&str, &str); 10] = [
+    ("record Look 1 at 18446744073709551616 gives", "S1 line 1"),
+    ("record at 0 gives", "S1 line 1"),
+    ("record Look 1 at 0", "S1 line 1"),
+    ("record Look 1 gives -1", "S1 line 1"),
+    ("record Look 1 at -1 gives", "S1 line 1"),
+    ("#\nbegin Look 1", "S1 line 2"),
+    ("record Nope 1 at 0 gives", "S2 line 1"),
+    ("row t 1 2 = 2", "S3 line 1"),
+    ("row t 1 = 2\nrow t 1 = 2", "S5 line 2"),
+    ("record Look 1 at 0 gives 2\nrow t 1 = 2", "S4 line 2"),
+];
+
 #[test]
 fn faults_of_records_are_told(rt: HostRuntime) -> Result<(), Fail> {
     let set = set(rt.alloc())?;
-    for (part, fault) in [
-        (
-            b"record Look 1 at 18446744073709551616 gives".as_slice(),
-            LineFault::BadLine { line: 1 },
-        ),
-        (
-            b"record at 0 gives".as_slice(),
-            LineFault::BadLine { line: 1 },
-        ),
-        (
-            b"record Look 1 at 0".as_slice(),
-            LineFault::BadLine { line: 1 },
-        ),
-        (
-            b"record Look 1 gives -1".as_slice(),
-            LineFault::BadLine { line: 1 },
-        ),
-        (
-            b"record Look 1 at -1 gives".as_slice(),
-            LineFault::BadLine { line: 1 },
-        ),
-        (
-            b"#\nbegin Look 1".as_slice(),
-            LineFault::BadLine { line: 2 },
-        ),
-        (
-            b"record Nope 1 at 0 gives".as_slice(),
-            LineFault::UnknownName { line: 1 },
-        ),
-        (
-            b"row t 1 2 = 2".as_slice(),
-            LineFault::WrongKeys { line: 1 },
-        ),
-        (
-            b"row t 1 = 2\nrow t 1 = 2".as_slice(),
-            LineFault::RepeatedRow { line: 2 },
-        ),
-        (
-            b"record Look 1 at 0 gives 2\nrow t 1 = 2".as_slice(),
-            LineFault::LateRow { line: 2 },
-        ),
-    ] {
-        let Err(found) = read_records(rt.alloc(), &set, &mut Bytes::new(part)) else {
+    for (part, want) in FAULTS {
+        let records = read_records(rt.alloc(), &set, &mut Bytes::new(part.as_bytes()));
+        let Err(ScriptFault::Line(fault)) = records else {
             return Err(Fail::new("no fault"));
         };
-        assert_eq!(rt; found, ScriptFault::Line(fault));
+        assert_eq!(rt; fault.to_string(rt.alloc())?.as_str(), want);
     }
     Ok(())
 }
