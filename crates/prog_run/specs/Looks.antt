@@ -7,7 +7,7 @@ use Rattle.prog_tree.specs.declared.deed.Look.TheVariants as look
 use Rattle.prog_tree.specs.declared.progress.Progress.{Progress}
 use Rattle.prog_tree.specs.Table.{is_cell_among, TableState, row_at}
 use Rattle.prog_tree.specs.ChangeSet.{ChangeSet, change_at}
-use Rattle.prog_tree.specs.Evaluation.{rows_left, own_cells}
+use Rattle.prog_tree.specs.Evaluation.{rows_left, own_cells, rows_seen}
 use Rattle.prog_run.specs.declared.next.Question.{Question}
 use Rattle.prog_run.specs.declared.next.Question.TheVariants.{One, Range}
 use Rattle.prog_run.specs.Task.{AskedTree, OfCell, OfRegion, TaskTree}
@@ -49,3 +49,7 @@ rows_without own rows = filter (λ row. not (is_cell_among own row.0)) rows
 -- a look at a region, of a run with these changes, that found these rows; those of the cells that it had changed are left out
 abbrev pub region_look : ChangeSet → Region → TableState → Look
 region_look changes region rows = let own = own_cells region changes.cells in look.Range region own (rows_without own rows)
+
+-- the rows that such a run sees there, by its own changes
+abbrev pub seen_rows : ChangeSet → Region → TableState → TableState
+seen_rows changes region rows = rows_seen region changes.cells (rows_without (own_cells region changes.cells) rows)

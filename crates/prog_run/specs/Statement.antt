@@ -1,13 +1,21 @@
 -- What one statement of the store does.
-use Rattle.std.specs.Prelude.{◌≡◌, [], ◌∷◌, ◌++◌, Some}
+use Rattle.std.specs.Prelude.{◌≡◌, ℤ, [], ◌∷◌, ◌++◌, Option, Some}
+use Rattle.prog_tree.specs.declared.cell.Cell.{Cell}
+use Rattle.prog_tree.specs.declared.cell.Region.{Region}
 use Rattle.prog_tree.specs.declared.deed.End.TheVariants.{Ready, Aborted}
+use Rattle.prog_tree.specs.declared.deed.Look.{Look}
+use Rattle.prog_tree.specs.declared.deed.Look.TheVariants as look
 use Rattle.prog_tree.specs.declared.progress.Progress.{Progress}
+use Rattle.prog_tree.specs.Steps.{looked}
+use Rattle.prog_tree.specs.Syntax.{Name}
 use Rattle.prog_tree.specs.Table.{TableState}
 use Rattle.prog_tree.specs.Evaluation.{Flow, GoesOn, Stops}
-use Rattle.prog_run.specs.Task.{TaskTree, Look, asked_tree, task_flow}
-use Rattle.prog_run.specs.Looks.{asked_by, question_of}
+use Rattle.prog_run.specs.Task.{UseTree, TaskTree, asked_tree, use_flow, rows_flow, task_flow}
+use Rattle.prog_run.specs.Task as task
+use Rattle.prog_run.specs.Looks.{asked_by, question_of, region_look, seen_rows}
 use Rattle.prog_run.specs.declared.next.Step.{Step}
 use Rattle.prog_run.specs.declared.next.Step.TheVariants.{Asks, Did, Over}
+use Rattle.prog_run.specs.declared.task.Tally.{Tally}
 
 -- what was to be done was done, without a further look
 abbrev pub IsFlow : Flow → Step → Progress → Progress → Type 0
@@ -16,8 +24,21 @@ IsFlow f (Did deed) p q = (f ≡ GoesOn q) × (q.deeds ≡ p.deeds ++ deed ∷ [
 IsFlow f (Over (Aborted cause)) p q = (f ≡ Stops cause q) × (q.deeds ≡ p.deeds) × (q.looks ≡ p.looks)
 IsFlow f (Over Ready) p q = ⊥
 
+-- a look was noted, and then this was done
+abbrev pub IsFlowBehind : Look → (Progress → Flow) → Step → Progress → Progress → Type 0
+IsFlowBehind l go n p q = IsFlow (go (looked l p)) n (looked l p) q
+
+-- a statement that asked for a cell was finished with what the cell held
+abbrev pub IsCellAnswered : UseTree → Cell → Option ℤ → Step → Progress → Progress → Type 0
+IsCellAnswered usage cell held n p q = IsFlowBehind (look.One cell held) (use_flow usage cell held) n p q
+
+-- a statement that asked for a region was finished with these rows of the snapshot
+abbrev pub IsRegionAnswered : Tally → Name → Region → TableState → Step → Progress → Progress → Type 0
+IsRegionAnswered tally name region rows n p q =
+    IsFlowBehind (region_look p.changes region rows) (rows_flow tally name region (seen_rows p.changes region rows)) n p q
+
 -- a task was begun: it asks and nothing is done, or on every table state it does this
 abbrev pub IsBegun : TaskTree → Step → Progress → Progress → Type 0
-IsBegun task (Asks asked) p q = (q ≡ p) × (task ≡ Look (asked_tree asked)) × (asked_by p.changes task ≡ Some (question_of (asked_tree asked)))
-IsBegun task (Did deed) p q = (m : TableState) → IsFlow (task_flow m task p) (Did deed) p q
-IsBegun task (Over end) p q = (m : TableState) → IsFlow (task_flow m task p) (Over end) p q
+IsBegun t (Asks asked) p q = (q ≡ p) × (t ≡ task.Look (asked_tree asked)) × (asked_by p.changes t ≡ Some (question_of (asked_tree asked)))
+IsBegun t (Did deed) p q = (m : TableState) → IsFlow (task_flow m t p) (Did deed) p q
+IsBegun t (Over end) p q = (m : TableState) → IsFlow (task_flow m t p) (Over end) p q

@@ -2,13 +2,15 @@
 ghost use Rattle.std.specs.Prelude.{◌≡◌, true, [], IfOk, OnOk, OnErr, if◌then◌else◌};
 ghost use Rattle.prog_tree.specs.Tree.{block_tree, stmts_tree};
 ghost use Rattle.prog_run.specs.Todo.{entered};
-ghost use Rattle.prog_run.specs.Cursor.{cursor_tree, is_store, KeepsStore, SameTodo, IsLocalStep, IsSettled};
+ghost use Rattle.prog_run.specs.Cursor.{cursor_tree, is_store, KeepsStore, SameTodo};
+ghost use Rattle.prog_run.specs.Cursor.{IsLocalStep, IsSettled};
 ghost use Rattle.prog_run.specs.Step.{cursor_after, IsStep};
 
 use crate::next::Step;
 use crate::statement::begin;
 use crate::task::task_of;
-use prog_tree::{Block, Cause, End, Progress, Stmt, TableDecl};
+use prog_check::ProgramSet;
+use prog_tree::{Block, Cause, End, Progress, Stmt};
 use std::alloc::{AllocError, Global};
 
 /// What is left of a block that the run will come back to, and how many names were bound before the block.
@@ -73,8 +75,8 @@ impl<'a> Cursor<'a> {
         ensures step { IfOk result
             (λ s. IsLocalStep s (cursor_tree self.old) progress.old
             (cursor_tree self.new) progress.new) }
-        ensures err { OnErr result ((cursor_tree self.new ≡ cursor_tree self.old)
-            × (progress.new ≡ progress.old)) }
+        ensures err { OnErr result (cursor_tree self.new ≡ cursor_tree self.old) }
+        ensures err_progress { OnErr result (progress.new ≡ progress.old) }
     {
         let Some((stmt, rest)) = self.rest.split_first() else {
             return Ok(self.leave(progress));
@@ -109,7 +111,15 @@ impl<'a> Cursor<'a> {
                 self.enter(block, rest, progress.env.len())?;
                 Ok(Standing::Moved)
             }
-            _ => Ok(Standing::AtStore),
+            Stmt::Get { .. }
+            | Stmt::Need { .. }
+            | Stmt::Count { .. }
+            | Stmt::Sum { .. }
+            | Stmt::Lacks { .. }
+            | Stmt::Put { .. }
+            | Stmt::Insert { .. }
+            | Stmt::Delete { .. }
+            | Stmt::Keep { .. } => Ok(Standing::AtStore),
         }
     }
 
@@ -135,21 +145,21 @@ impl<'a> Cursor<'a> {
     fn store_step(
         &mut self,
         alloc: Global,
-        tables: &[TableDecl],
+        set: &ProgramSet,
         progress: &mut Progress<'a>,
     ) -> Result<Step<'a>, AllocError>
         requires { is_store (cursor_tree self.old).here.rest ≡ true }
         ensures step { IfOk result
-            (λ s. IsStep tables.now s (cursor_tree self.old) progress.old
+            (λ s. IsStep set.now.tables.items s (cursor_tree self.old) progress.old
             (cursor_tree self.new) progress.new) }
         ensures looks { progress.new.looks ≡ progress.old.looks }
-        ensures err { OnErr result ((cursor_tree self.new ≡ cursor_tree self.old)
-            × (progress.new ≡ progress.old)) }
+        ensures err { OnErr result (cursor_tree self.new ≡ cursor_tree self.old) }
+        ensures err_progress { OnErr result (progress.new ≡ progress.old) }
     {
         let Some((stmt, rest)) = self.rest.split_first() else {
             unreachable!()
         };
-        let Some(task) = task_of(tables, stmt, &progress.env) else {
+        let Some(task) = task_of(set, stmt, &progress.env) else {
             return Ok(Step::Over(End::Aborted(Cause::Overflow)));
         };
         let step = begin(alloc, progress, task)?;
@@ -172,22 +182,21 @@ impl<'a> Cursor<'a> {
     pub fn step(
         &mut self,
         alloc: Global,
-        tables: &[TableDecl],
+        set: &ProgramSet,
         progress: &mut Progress<'a>,
     ) -> Result<Step<'a>, AllocError>
         ensures step { IfOk result
-            (λ s. IsStep tables.now s (cursor_tree self.old) progress.old
+            (λ s. IsStep set.now.tables.items s (cursor_tree self.old) progress.old
             (cursor_tree self.new) progress.new) }
         ensures looks { progress.new.looks ≡ progress.old.looks }
         ensures err { OnErr result
-            (SameTodo (cursor_tree self.old) progress.old (cursor_tree self.new) progress.new
-            × KeepsStore progress.old progress.new) }
+            (SameTodo (cursor_tree self.old) progress.old (cursor_tree self.new) progress.new) }
+        ensures err_store { OnErr result (KeepsStore progress.old progress.new) }
     {
         if let Some(end) = self.settle(progress)? {
             return Ok(Step::Over(end));
         }
-        let step = self.store_step(alloc, tables, progress)?;
-        Ok(step)
+        self.store_step(alloc, set, progress)
     }
 }
 

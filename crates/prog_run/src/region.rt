@@ -4,11 +4,11 @@ ghost use Rattle.std.specs.List.{list_all};
 ghost use Rattle.std.specs.List.Sorted.{IsStrictlySortedBy};
 ghost use Rattle.prog_tree.specs.Table.{cell_cmp, is_in, cells_of};
 ghost use Rattle.prog_tree.specs.ChangeSet.{changes_in};
-ghost use Rattle.prog_tree.specs.Evaluation.{total_of, own_cells, rows_seen};
+ghost use Rattle.prog_tree.specs.Evaluation.{total_of};
 ghost use Rattle.prog_tree.specs.Steps.{looked};
 ghost use Rattle.prog_tree.specs.Value.{exact};
 ghost use Rattle.prog_run.specs.Task.{tally_of};
-ghost use Rattle.prog_run.specs.Looks.{rows_without, region_look};
+ghost use Rattle.prog_run.specs.Looks.{rows_without, region_look, seen_rows};
 ghost use Rattle.prog_run.specs.Seen.{set_count, set_total, tally_with};
 
 use crate::task::Tally;
@@ -117,9 +117,8 @@ pub fn look_at_region(
 ) -> Result<Option<i64>, AllocError>
     ensures look { OnOk result
         (progress.new ≡ looked (region_look progress.old.changes region rows.now) progress.old) }
-    ensures value { IfOk result (λ v. let changes = progress.old.changes.cells in
-        v ≡ exact (tally_of tally
-        (rows_seen region changes (rows_without (own_cells region changes) rows.now)))) }
+    ensures value { IfOk result
+        (λ v. v ≡ exact (tally_of tally (seen_rows progress.old.changes region rows.now))) }
     ensures err { OnErr result (progress.new ≡ progress.old) }
 {
     let changes = own_changes(alloc, &progress.changes, &region)?;

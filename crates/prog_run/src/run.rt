@@ -1,9 +1,13 @@
 //! Runs of programs.
-ghost use Rattle.std.specs.Prelude.{◌≡◌, ◌<◌, Some, None, IfOk, IfSome, OnErr, length, zip, slice_get, option_copied};
+ghost use Rattle.std.specs.Prelude.{◌≡◌, ◌<◌, Some, None, IfOk, IfSome, OnErr};
+ghost use Rattle.std.specs.Prelude.{length, zip, slice_get, option_copied};
 ghost use Rattle.prog_tree.specs.ChangeSet.{change_at};
 ghost use Rattle.prog_tree.specs.declared.cell.Cell.{Cell};
 ghost use Rattle.prog_run.specs.Looks.{region_look};
-ghost use Rattle.prog_run.specs.View.{IsTrueRun, IsAdvance, IsAnswered, SameBegin, IsRefusedBy, IsBeginRefusedBy, begin_fault, get_fault, scan_fault, asked_cell, asked_region, standing_next, begun};
+ghost use Rattle.prog_run.specs.View.{IsTrueRun, IsAdvance, IsAnswered, SameBegin, begun};
+ghost use Rattle.prog_run.specs.View.{IsRefusedBy, IsBeginRefusedBy};
+ghost use Rattle.prog_run.specs.View.{begin_fault, get_fault, scan_fault};
+ghost use Rattle.prog_run.specs.View.{asked_cell, asked_region, standing_next};
 
 use crate::cursor::Cursor;
 use crate::fault::{AnswerFault, RunFault};
@@ -20,7 +24,7 @@ use std::marker::Model;
 #[derive(Debug, Drop)]
 pub struct Run<'a> {
     alloc: Global,
-    tables: &'a [TableDecl],
+    set: &'a ProgramSet,
     program: &'a Program,
     args: Sequence<i64>,
     cursor: Cursor<'a>,
@@ -41,7 +45,7 @@ impl<'a> Model for Run<'a> {
     ghost coded = { Prim.hlevel (codes, stmt.the_row.coded) };
 
     ghost view = { λ r. record {
-      tables = r.tables.now;
+      tables = r.set.now.tables.items;
       program = r.program.now;
       args = r.args;
       deeds = r.progress.deeds;
@@ -52,9 +56,9 @@ impl<'a> Model for Run<'a> {
       end = r.end;
     } };
 
-    ghost invariant = { λ r. IsTrueTo r.tables.now (program_tree r.program.now) r.args r.end
+    ghost invariant = { λ r. IsTrueTo r.set.now.tables.items (program_tree r.program.now) r.args r.end
         (cursor_tree r.cursor) r.progress
-        × IsWaiting r.tables.now r.asked r.end (cursor_tree r.cursor) r.progress };
+        × IsWaiting r.set.now.tables.items r.asked r.end (cursor_tree r.cursor) r.progress };
 }
 
 /// The parameters with their arguments.
@@ -90,8 +94,7 @@ impl<'a> Run<'a> {
         ensures program { IfOk result
             (λ run. slice_get set.now.programs.items program ≡ Some run.program) }
     {
-        let draft = set.draft();
-        let Some(program) = draft.programs.get(program) else {
+        let Some(program) = set.draft().programs.get(program) else {
             return Err(RunFault::NoSuchProgram);
         };
         if program.params.len() != args.len() {
@@ -100,7 +103,7 @@ impl<'a> Run<'a> {
         let env = bind_all(alloc, &program.params, args)?;
         Ok(Run {
             alloc,
-            tables: draft.tables.as_slice(),
+            set,
             program,
             args: copy_args(alloc, args)?,
             cursor: Cursor {
@@ -132,9 +135,7 @@ impl<'a> Run<'a> {
         if let Some(end) = self.end {
             return Ok(Next::Done(end));
         }
-        let step = self
-            .cursor
-            .step(self.alloc, self.tables, &mut self.progress)?;
+        let step = self.cursor.step(self.alloc, self.set, &mut self.progress)?;
         self.asked = step.asked();
         self.end = step.end();
         Ok(step.next())
@@ -202,7 +203,7 @@ impl<'a> Run<'a> {
     pub fn tables(&self) -> &'a [TableDecl]
         ensures { result.now ≡ self.now.tables }
     {
-        self.tables
+        &self.set.draft().tables
     }
 
     /// The arguments that it was begun with.

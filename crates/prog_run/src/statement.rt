@@ -1,11 +1,10 @@
 //! What the statements of the store do. Where memory ends the progress is as it was.
 ghost use Rattle.std.specs.Prelude.{◌≡◌, IfOk, OnErr};
-ghost use Rattle.prog_tree.specs.Steps.{looked};
-ghost use Rattle.prog_tree.specs.Evaluation.{own_cells, rows_seen};
 ghost use Rattle.prog_tree.specs.Tree.{expr_tree};
-ghost use Rattle.prog_run.specs.Looks.{rows_without, region_look};
-ghost use Rattle.prog_run.specs.Task.{use_tree, task_tree, get_flow, need_flow, lacks_flow, insert_flow, use_flow, found_flow, rows_flow, tally_deed};
-ghost use Rattle.prog_run.specs.Statement.{IsFlow, IsBegun};
+ghost use Rattle.prog_run.specs.Task.{use_tree, task_tree, tally_deed};
+ghost use Rattle.prog_run.specs.Task.{get_flow, need_flow, lacks_flow, insert_flow};
+ghost use Rattle.prog_run.specs.Task.{use_flow, found_flow};
+ghost use Rattle.prog_run.specs.Statement.{IsFlow, IsBegun, IsCellAnswered, IsRegionAnswered};
 
 use crate::next::Step;
 use crate::notes::{cut, note_found, note_kept, note_put, note_removed};
@@ -30,8 +29,7 @@ pub fn begin<'a>(
             let Some(own) = progress.changes.get(&cell) else {
                 return Ok(Step::Asks(Asked::OfCell { cell, usage }));
             };
-            let step = use_cell(alloc, progress, cell, usage, own)?;
-            Ok(step)
+            use_cell(alloc, progress, cell, usage, own)
         }
         Task::Look(asked) => Ok(Step::Asks(asked)),
         Task::Put { cell, value } => {
@@ -57,8 +55,8 @@ pub fn answer_cell<'a>(
     usage: CellUse<'a>,
     held: Option<i64>,
 ) -> Result<Step<'a>, AllocError>
-    ensures flow { IfOk result (λ s. let found = looked (Look.One cell held) progress.old in
-        IsFlow (use_flow (use_tree usage.entry) cell held found) s found progress.new) }
+    ensures flow { IfOk result
+        (λ s. IsCellAnswered (use_tree usage.entry) cell held s progress.old progress.new) }
     ensures err { OnErr result (progress.new ≡ progress.old) }
 {
     let looks = progress.looks.len();
@@ -79,11 +77,8 @@ pub fn answer_region<'a>(
     name: &'a Name,
     rows: &[(Cell, i64)],
 ) -> Result<Step<'a>, AllocError>
-    ensures flow { IfOk result (λ s. let changes = progress.old.changes in
-        let found = looked (region_look changes region rows.now) progress.old in
-        let outside = rows_without (own_cells region changes.cells) rows.now in
-        IsFlow (rows_flow tally name.now region (rows_seen region changes.cells outside) found)
-        s found progress.new) }
+    ensures flow { IfOk result
+        (λ s. IsRegionAnswered tally name.now region rows.now s progress.old progress.new) }
     ensures err { OnErr result (progress.new ≡ progress.old) }
 {
     let looks = progress.looks.len();
@@ -109,22 +104,10 @@ fn use_cell<'a>(
     ensures err { OnErr result (progress.new ≡ progress.old) }
 {
     match usage {
-        CellUse::Get { name, otherwise } => {
-            let step = get(progress, cell, held, name, otherwise)?;
-            Ok(step)
-        }
-        CellUse::Need { name } => {
-            let step = need(progress, cell, held, name)?;
-            Ok(step)
-        }
-        CellUse::Lacks => {
-            let step = lacks(progress, cell, held)?;
-            Ok(step)
-        }
-        CellUse::Insert { value } => {
-            let step = insert(alloc, progress, cell, held, value)?;
-            Ok(step)
-        }
+        CellUse::Get { name, otherwise } => get(progress, cell, held, name, otherwise),
+        CellUse::Need { name } => need(progress, cell, held, name),
+        CellUse::Lacks => lacks(progress, cell, held),
+        CellUse::Insert { value } => insert(alloc, progress, cell, held, value),
     }
 }
 

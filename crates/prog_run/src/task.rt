@@ -1,14 +1,16 @@
 //! The statements of the store, with all evaluated that comes before their looks.
-ghost use Rattle.std.specs.Prelude.{◌≡◌, true, option_map};
+ghost use Rattle.std.specs.Prelude.{◌≡◌, true, Some, option_map};
 ghost use Rattle.prog_tree.specs.Numbering.{number_of};
-ghost use Rattle.prog_tree.specs.Evaluation.{cell_of, region_of};
+ghost use Rattle.prog_tree.specs.Evaluation.{cell_of};
 ghost use Rattle.prog_tree.specs.Tree.{key_tree, range_tree, stmt_tree};
 ghost use Rattle.prog_run.specs.Cursor.{is_store_stmt};
-ghost use Rattle.prog_run.specs.Task.{tally_deed, task_tree, task_of_stmt};
+ghost use Rattle.prog_run.specs.Task.{AskedTree, TaskTree, tally_deed, use_tree, task_tree};
+ghost use Rattle.prog_run.specs.Task.{task_at, task_in, task_of_stmt};
 ghost use Rattle.prog_run.specs.Step.{next_asking};
 
 use crate::next::Next;
-use prog_tree::{Cell, Deed, Env, Expr, Key, Name, Range, Region, Stmt, TableDecl};
+use prog_check::ProgramSet;
+use prog_tree::{Cell, Deed, Env, Expr, Key, Name, Range, Region, Stmt};
 
 /// What a statement does with what its cell holds.
 #[derive(Clone, Copy, Debug)]
@@ -76,100 +78,98 @@ impl Asked<'_> {
     }
 }
 
-/// The number of the first table of a name, or how many tables there are.
-fn table_number(tables: &[TableDecl], name: &Name) -> usize
-    ensures { result ≡ number_of tables.now name.now }
+/// The number of the table of a name, or how many tables there are.
+fn table_number(set: &ProgramSet, name: &Name) -> usize
+    ensures { result ≡ number_of set.now.tables.items name.now }
 {
-    for (number, table) in tables.iter().enumerate() {
-        if table.name.as_str() == name.as_str() {
-            return number;
-        }
+    match set.table_number(name.as_str()) {
+        Some(number) => number,
+        None => set.draft().tables.len(),
     }
-    tables.len()
 }
 
-fn cell_at(tables: &[TableDecl], table: &Name, key: &Key, env: &Env) -> Option<Cell>
-    ensures { result ≡ cell_of (number_of tables.now table.now) (key_tree key.now) env.now }
+fn cell_at(set: &ProgramSet, table: &Name, key: &Key, env: &Env) -> Option<Cell>
+    ensures { result
+        ≡ cell_of (number_of set.now.tables.items table.now) (key_tree key.now) env.now }
 {
-    key.cell(table_number(tables, table), env)
+    key.cell(table_number(set, table), env)
 }
 
-fn region_at(tables: &[TableDecl], table: &Name, range: &Range, env: &Env) -> Option<Region>
-    ensures { result ≡ region_of (number_of tables.now table.now) (range_tree range.now) env.now }
+// A look at the cell of a key.
+fn look_at<'a>(
+    set: &ProgramSet,
+    table: &Name,
+    key: &Key,
+    env: &Env,
+    usage: CellUse<'a>,
+) -> Option<Task<'a>>
+    ensures { option_map task_tree result
+        ≡ task_at set.now.tables.items table.now (key_tree key.now) env.now
+        (λ cell. Some (TaskTree.Look (AskedTree.OfCell cell (use_tree usage.entry)))) }
 {
-    range.region(table_number(tables, table), env)
+    let cell = cell_at(set, table, key, env)?;
+    Some(Task::Look(Asked::OfCell { cell, usage }))
+}
+
+// A look at the rows of a range.
+fn look_in<'a>(
+    set: &ProgramSet,
+    table: &Name,
+    range: &Range,
+    env: &Env,
+    tally: Tally,
+    name: &'a Name,
+) -> Option<Task<'a>>
+    ensures { option_map task_tree result
+        ≡ task_in set.now.tables.items table.now (range_tree range.now) env.now
+        (λ region. Some (TaskTree.Look (AskedTree.OfRegion region tally name.now))) }
+{
+    let region = range.region(table_number(set, table), env)?;
+    Some(Task::Look(Asked::OfRegion {
+        region,
+        tally,
+        name,
+    }))
 }
 
 /// What a statement of the store is to do, or nothing where a result lies outside i64.
-pub fn task_of<'a>(tables: &[TableDecl], stmt: &'a Stmt, env: &Env) -> Option<Task<'a>>
+pub fn task_of<'a>(set: &ProgramSet, stmt: &'a Stmt, env: &Env) -> Option<Task<'a>>
     requires { is_store_stmt (stmt_tree stmt.now) ≡ true }
-    ensures { option_map task_tree result ≡ task_of_stmt tables.now (stmt_tree stmt.now) env.now }
+    ensures { option_map task_tree result
+        ≡ task_of_stmt set.now.tables.items (stmt_tree stmt.now) env.now }
 {
-    let task = match stmt {
+    match stmt {
         Stmt::Get {
             name,
             table,
             key,
             otherwise,
-        } => {
-            let cell = cell_at(tables, table, key, env)?;
-            Task::Look(Asked::OfCell {
-                cell,
-                usage: CellUse::Get { name, otherwise },
-            })
-        }
-        Stmt::Need { name, table, key } => {
-            let cell = cell_at(tables, table, key, env)?;
-            Task::Look(Asked::OfCell {
-                cell,
-                usage: CellUse::Need { name },
-            })
-        }
-        Stmt::Lacks { table, key } => {
-            let cell = cell_at(tables, table, key, env)?;
-            Task::Look(Asked::OfCell {
-                cell,
-                usage: CellUse::Lacks,
-            })
-        }
+        } => look_at(set, table, key, env, CellUse::Get { name, otherwise }),
+        Stmt::Need { name, table, key } => look_at(set, table, key, env, CellUse::Need { name }),
+        Stmt::Lacks { table, key } => look_at(set, table, key, env, CellUse::Lacks),
         Stmt::Insert { table, key, value } => {
-            let cell = cell_at(tables, table, key, env)?;
             let value = value.value(env)?;
-            Task::Look(Asked::OfCell {
-                cell,
-                usage: CellUse::Insert { value },
-            })
+            look_at(set, table, key, env, CellUse::Insert { value })
         }
         Stmt::Count { name, table, range } => {
-            let region = region_at(tables, table, range, env)?;
-            Task::Look(Asked::OfRegion {
-                region,
-                tally: Tally::Count,
-                name,
-            })
+            look_in(set, table, range, env, Tally::Count, name)
         }
-        Stmt::Sum { name, table, range } => {
-            let region = region_at(tables, table, range, env)?;
-            Task::Look(Asked::OfRegion {
-                region,
-                tally: Tally::Sum,
-                name,
-            })
-        }
+        Stmt::Sum { name, table, range } => look_in(set, table, range, env, Tally::Sum, name),
         Stmt::Put { table, key, value } => {
-            let cell = cell_at(tables, table, key, env)?;
+            let cell = cell_at(set, table, key, env)?;
             let value = value.value(env)?;
-            Task::Put { cell, value }
+            Some(Task::Put { cell, value })
         }
         Stmt::Delete { table, key } => {
-            let cell = cell_at(tables, table, key, env)?;
-            Task::Remove { cell }
+            let cell = cell_at(set, table, key, env)?;
+            Some(Task::Remove { cell })
         }
         Stmt::Keep { table, key } => {
-            let cell = cell_at(tables, table, key, env)?;
-            Task::Keep { cell }
+            let cell = cell_at(set, table, key, env)?;
+            Some(Task::Keep { cell })
         }
-        _ => unreachable!(),
-    };
-    Some(task)
+        Stmt::Bind { .. } | Stmt::Branch { .. } | Stmt::Reply { .. } | Stmt::Abort => {
+            unreachable!()
+        }
+    }
 }

@@ -20,7 +20,7 @@ returns-clause-step c =
     let rest = stmts_tree c.in-Some.rest.now in
     let at = ap stmts_tree c.in-Some.ensures.cases.0 in
     let task = task_tree c.in-Some-task_of.task in
-    step_of_stmt c.args.tables.now stmt rest old new p c.begin.new.progress at task (sym c.in-Some-task_of.ensures) c.in_ok-step.step c.go_on.ensures c.in_ok-step.ensures.begun
+    step_of_stmt c.args.set.now.tables.items stmt rest old new p c.begin.new.progress at task (sym c.in-Some-task_of.ensures) c.in_ok-step.step c.go_on.ensures c.in_ok-step.ensures.begun
 
 pub returns-clause-looks : goal.returns-clause-looks
 returns-clause-looks c = begun_looks (task_tree c.in-Some-task_of.task) c.in_ok-step.step c.args.progress.now c.begin.new.progress c.in_ok-step.ensures.begun

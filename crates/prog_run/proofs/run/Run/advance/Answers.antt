@@ -20,17 +20,16 @@ returns-in_err-step-clause-true_run c =
     let new = cursor_tree c.step.new.self in
     let q = c.step.new.progress in
     let over : r.end ≡ None = search rules in
-    let t = subst (λ o. IsTrueTo r.tables.now (program_tree r.program.now) r.args o old r.progress) over c.self.invariant.0 in
-    let err = c.in_err-step.ensures.err in
-    let still = true_still r.tables.now (program_tree r.program.now) r.args old new r.progress q t err.0 err.1 in
-    true_at _ new q refl refl refl refl (subst (λ o. IsTrueTo r.tables.now (program_tree r.program.now) r.args o new q) (sym over) still)
+    let t = subst (λ o. IsTrueTo r.set.now.tables.items (program_tree r.program.now) r.args o old r.progress) over c.self.invariant.0 in
+    let still = true_still r.set.now.tables.items (program_tree r.program.now) r.args old new r.progress q t c.in_err-step.ensures.err c.in_err-step.ensures.err_store in
+    true_at _ new q refl refl refl refl (subst (λ o. IsTrueTo r.set.now.tables.items (program_tree r.program.now) r.args o new q) (sym over) still)
 
 pub returns-clause-advance : goal.returns-clause-advance
 returns-clause-advance c =
     let r = c.self.inside in
     let n = c.in_ok-step.step in
     record {
-      deeds = step_deeds r.tables.now (cursor_tree r.cursor) (cursor_tree c.step.new.self) r.progress c.step.new.progress n c.in_ok-step.ensures.step ∙ (λ i. deeds_after (sym c.next-2.ensures i) (c.self.view_is i).deeds);
+      deeds = step_deeds r.set.now.tables.items (cursor_tree r.cursor) (cursor_tree c.step.new.self) r.progress c.step.new.progress n c.in_ok-step.ensures.step ∙ (λ i. deeds_after (sym c.next-2.ensures i) (c.self.view_is i).deeds);
       looks = c.in_ok-step.ensures.looks ∙ ap (λ (v : RunView). v.looks) c.self.view_is;
       asked = ap question_in c.asked-self-inside.ensures ∙ step_question n ∙ ap question_after (sym c.next-2.ensures);
       end = c.end-self-inside.ensures ∙ ap end_after (sym c.next-2.ensures);
@@ -43,4 +42,4 @@ returns-clause-true_run c =
     let q = c.step.new.progress in
     let over : r.end ≡ None = search rules in
     true_at _ new q refl refl refl refl
-    (true_answered r.tables.now (program_tree r.program.now) r.args r.end c.end-self-inside.result (cursor_tree r.cursor) new r.progress q c.in_ok-step.step over c.end-self-inside.ensures c.self.invariant.0 c.in_ok-step.ensures.step)
+    (true_answered r.set.now.tables.items (program_tree r.program.now) r.args r.end c.end-self-inside.result (cursor_tree r.cursor) new r.progress q c.in_ok-step.step over c.end-self-inside.ensures c.self.invariant.0 c.in_ok-step.ensures.step)

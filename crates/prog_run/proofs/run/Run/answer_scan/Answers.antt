@@ -26,11 +26,11 @@ returns-then-not-are_in-clause-true_run c =
 pub returns-in_err-step-clause-true_run : goal.returns-in_err-step-clause-true_run
 returns-in_err-step-clause-true_run c =
     let r = c.self.inside in
-    let same = subst (λ (x : Progress). IsTrueTo r.tables.now (program_tree r.program.now) r.args r.end (cursor_tree r.cursor) x) (sym c.in_err-step.ensures.err) c.self.invariant.0 in
+    let same = subst (λ (x : Progress). IsTrueTo r.set.now.tables.items (program_tree r.program.now) r.args r.end (cursor_tree r.cursor) x) (sym c.in_err-step.ensures.err) c.self.invariant.0 in
     true_at _ (cursor_tree r.cursor) c.answer_region.new.progress refl refl refl refl same
 
 -- the run is true to its program after the step too
-still_true : (c : goal.After-next) → IsTrueTo c.self.inside.tables.now (program_tree c.self.inside.program.now) c.self.inside.args c.end-self-inside.result (cursor_tree c.go_on.new.self) c.answer_region.new.progress
+still_true : (c : goal.After-next) → IsTrueTo c.self.inside.set.now.tables.items (program_tree c.self.inside.program.now) c.self.inside.args c.end-self-inside.result (cursor_tree c.go_on.new.self) c.answer_region.new.progress
 still_true c =
     let r = c.self.inside in
     let s = c.in-Some-OfRegion in
@@ -40,8 +40,8 @@ still_true c =
     let n = c.in_ok-step.step in
     let waits : r.asked ≡ Some (asked.OfRegion s.region s.tally s.name) = first_of (search rules, cc) in
     let at = c.self.invariant.1 (asked.OfRegion s.region s.tally s.name) waits in
-    let step = rows_step r.tables.now old new r.progress q s.region s.tally s.name.now c.args.rows.now at.1 n c.go_on.ensures c.in_ok-step.ensures.flow in
-    true_answered r.tables.now (program_tree r.program.now) r.args r.end c.end-self-inside.result old new r.progress q n at.0 c.end-self-inside.ensures c.self.invariant.0 step
+    let step = rows_step r.set.now.tables.items old new r.progress q s.region s.tally s.name.now c.args.rows.now at.1 n c.go_on.ensures c.in_ok-step.ensures.flow in
+    true_answered r.set.now.tables.items (program_tree r.program.now) r.args r.end c.end-self-inside.result old new r.progress q n at.0 c.end-self-inside.ensures c.self.invariant.0 step
 
 pub invariant_of-self-2 : goal.invariant_of-self-2
 invariant_of-self-2 c = (still_true c, λ a e. absurd (cc))
