@@ -1,48 +1,34 @@
 -- Readers of single tokens look no further than where they stop.
-use Rattle.std.proofs.Common.{◌≡◌, List, ◌∷◌, ◌⊎◌, inl, inr, Bool, true, false, if◌then◌else◌, Some, None, Ok, refl, arith}
-use Rattle.prog_tree.specs.Syntax.{Name, RelationSign, Less, LessEqual, Greater, GreaterEqual, Equal, NotEqual}
+use Rattle.std.proofs.Common.{◌∷◌, Ok, arith}
+use Rattle.prog_tree.specs.Syntax.{Less, LessEqual, Greater, GreaterEqual, Equal, NotEqual}
 use Rattle.prog_text.specs.declared.lexing.token.Sign.{Sign}
 use Rattle.prog_text.specs.declared.lexing.token.Token.{Token}
 use Rattle.prog_text.specs.declared.lexing.token.Sign.TheVariants as sign
 use Rattle.prog_text.specs.declared.lexing.token.Token.TheVariants as t
-use Rattle.prog_text.specs.Reading.{unexpected, same_sign, after_sign, expect, end_at, name_at, relation_at}
-use Rattle.prog_text.proofs.Alike.{AreAlike, AreAlikeAt, IsSought, done_alike, fault_alike, token_alike, by_first, behind_sign_alike}
+use Rattle.prog_text.specs.Reading.{unexpected, expect, end_at, name_at, relation_at}
+use Rattle.prog_text.proofs.Alike.{Local, LocalAt, done_local, fault_local, matched, unfit, by_first, behind_sign_local}
 
-seek_if : (b : Bool) → ((ts : List Token) → (if b then Some ts else None) ≡ Some ts) ⊎ ((ts : List Token) → (if b then Some ts else None) ≡ None)
-seek_if true = inl (λ ts. refl)
-seek_if false = inr (λ ts. refl)
+pub sign_local : (v : Sign) → Local (expect v)
+sign_local v = behind_sign_local v (λ rest. Ok (tt, rest)) unexpected (done_local tt) fault_local
 
-pub seek_sign : (u : Sign) (v : Token) → IsSought (after_sign u) v
-seek_sign u (t.Sign v) = seek_if (same_sign v u)
-seek_sign u v = inr (λ ts. refl)
+name_first : (u : Token) → LocalAt u (λ ts. name_at (u ∷ ts))
+name_first (t.Name x) = matched (done_local x)
+name_first u = unfit
 
-module _ (shared : Token) (rest other : List Token) where
-  pub sign_alike : (u : Sign) → AreAlike shared rest other (expect u) (expect u)
-  sign_alike u =
-      behind_sign_alike shared rest other (after_sign u) (λ rest. Ok (tt, rest)) (λ rest. Ok (tt, rest)) unexpected unexpected refl (seek_sign u)
-      (done_alike shared rest other tt) (fault_alike shared rest other (Unit {0}))
+pub name_local : Local name_at
+name_local = by_first name_at (λ shared rest other. omega arith) name_first
 
-  name_first : AreAlikeAt shared rest other name_at name_at
-  name_first (t.Name x) a b w = token_alike shared rest other (t.Name x) a b w _ _ (done_alike shared rest other x a b)
-  name_first u a b w = fault_alike shared rest other Name (u ∷ a) (u ∷ b) w
+pub end_local : Local end_at
+end_local = by_first end_at (λ shared rest other. omega arith) (λ u. unfit)
 
-  pub name_alike : AreAlike shared rest other name_at name_at
-  name_alike = by_first shared rest other name_at name_at (omega arith) name_first
+relation_first : (u : Token) → LocalAt u (λ ts. relation_at (u ∷ ts))
+relation_first (t.Sign sign.Less) = matched (done_local Less)
+relation_first (t.Sign sign.LessEqual) = matched (done_local LessEqual)
+relation_first (t.Sign sign.Greater) = matched (done_local Greater)
+relation_first (t.Sign sign.GreaterEqual) = matched (done_local GreaterEqual)
+relation_first (t.Sign sign.EqualEqual) = matched (done_local Equal)
+relation_first (t.Sign sign.NotEqual) = matched (done_local NotEqual)
+relation_first u = unfit
 
-  end_first : AreAlikeAt shared rest other end_at end_at
-  end_first u a b w = fault_alike shared rest other (Unit {0}) (u ∷ a) (u ∷ b) w
-
-  pub end_alike : AreAlike shared rest other end_at end_at
-  end_alike = by_first shared rest other end_at end_at (omega arith) end_first
-
-  relation_first : AreAlikeAt shared rest other relation_at relation_at
-  relation_first (t.Sign sign.Less) a b w = token_alike shared rest other (t.Sign sign.Less) a b w _ _ (done_alike shared rest other Less a b)
-  relation_first (t.Sign sign.LessEqual) a b w = token_alike shared rest other (t.Sign sign.LessEqual) a b w _ _ (done_alike shared rest other LessEqual a b)
-  relation_first (t.Sign sign.Greater) a b w = token_alike shared rest other (t.Sign sign.Greater) a b w _ _ (done_alike shared rest other Greater a b)
-  relation_first (t.Sign sign.GreaterEqual) a b w = token_alike shared rest other (t.Sign sign.GreaterEqual) a b w _ _ (done_alike shared rest other GreaterEqual a b)
-  relation_first (t.Sign sign.EqualEqual) a b w = token_alike shared rest other (t.Sign sign.EqualEqual) a b w _ _ (done_alike shared rest other Equal a b)
-  relation_first (t.Sign sign.NotEqual) a b w = token_alike shared rest other (t.Sign sign.NotEqual) a b w _ _ (done_alike shared rest other NotEqual a b)
-  relation_first u a b w = fault_alike shared rest other RelationSign (u ∷ a) (u ∷ b) w
-
-  pub relation_alike : AreAlike shared rest other relation_at relation_at
-  relation_alike = by_first shared rest other relation_at relation_at (omega arith) relation_first
+pub relation_local : Local relation_at
+relation_local = by_first relation_at (λ shared rest other. omega arith) relation_first
