@@ -1,6 +1,7 @@
 -- Sound, for the readers of statements and blocks.
 use Rattle.std.proofs.Common.{◌≡◌, ℕ, zero, suc, ◌<◌, List, [], ◌∷◌, ◌++◌, length, None, Ok, refl, subst, append_assoc, arith}
 use Rattle.prog_tree.specs.Syntax.{Name, ExprTree, TestTree, KeyTree, StatementTree, Bind, Get, Need, Count, Sum, Lacks, Put, Insert, Delete, Keep, Reply, Abort, BlockTree, BlockEnd, Then, Branch}
+use Rattle.prog_text.specs.declared.lexing.token.Sign.{Sign}
 use Rattle.prog_text.specs.declared.lexing.token.Token.{Token}
 use Rattle.prog_text.specs.declared.lexing.token.Sign.TheVariants as sign
 use Rattle.prog_text.specs.declared.lexing.token.Token.TheVariants as t
@@ -14,7 +15,7 @@ use Rattle.prog_text.proofs.DerivedExprs.{expr_sound, test_sound, IsKeyOf, key_s
 -- ---- what stands before the end of a statement
 
 -- such a phrase and `;`
-pub data Last {A : Type 0} (P : Phrase A) : List Token → A → Type 0 where
+data Last {A : Type 0} (P : Phrase A) : List Token → A → Type 0 where
   last : (ts : List Token) (x : A) → P ts x → Last P (ts ++ t.Sign sign.Semicolon ∷ []) x
 
 last_sound : {A : Type 0} (P : Phrase A) (read : List Token → Reading A) → ((ts : List Token) → Sound P ts (read ts))
@@ -36,71 +37,61 @@ last_range_sound : (ts : List Token) → Sound (Last IsRangeOf) ts (last_range_a
 unfolding last_range_at
 last_range_sound = last_sound IsRangeOf range_at range_sound
 
--- a key, `=`, an expression and `;`
-pub data IsAssigned : List Token → (Name × KeyTree) × ExprTree → Type 0 where
-  assigned : (ks ts : List Token) (k : Name × KeyTree) (e : ExprTree) → IsKeyOf ks k → IsExpr ts e → IsAssigned (ks ++ t.Sign sign.Equals ∷ (ts ++ t.Sign sign.Semicolon ∷ [])) (k, e)
+-- what follows from a phrase and its `;`
+last_as : {A : Type 0} (P : Phrase A) (Q : Phrase A) → ((ts : List Token) (x : A) → P ts x → Q (ts ++ t.Sign sign.Semicolon ∷ []) x) → (us : List Token) (x : A) → Last P us x → Q us x
+last_as P Q k _ _ (last ts x d) = k ts x d
 
-assigns : (ks us : List Token) (k : Name × KeyTree) (e : ExprTree) → IsKeyOf ks k → Last IsExpr us e → IsAssigned (ks ++ t.Sign sign.Equals ∷ us) (k, e)
-assigns ks _ k _ dk (last ts e d) = assigned ks ts k e dk d
+-- a key, a sign, an expression and `;`, built into a value
+keyed_sound : {B : Type 0} (E : Phrase B) (v : Sign) (g : Name × KeyTree → ExprTree → B)
+    → ((ks ts : List Token) (k : Name × KeyTree) (e : ExprTree) → IsKeyOf ks k → IsExpr ts e → E (ks ++ t.Sign v ∷ (ts ++ t.Sign sign.Semicolon ∷ [])) (g k e))
+    → (ts : List Token) → Sound E ts (key_at ts >>= λ key. expect v key.1 >>= λ found. last_expr_at found.1 >>= λ e. Ok (g key.0 e.0, e.1))
+keyed_sound E v g builds ts =
+    then_sound IsKeyOf E ts (key_at ts) (λ key. expect v key.1 >>= λ found. last_expr_at found.1 >>= λ e. Ok (g key.0 e.0, e.1)) (key_sound ts)
+    (λ ks rest k dk. one_sound (behind ks E) (alone (t.Sign v)) tt rest (expect v rest) (λ found. last_expr_at found.1 >>= λ e. Ok (g k e.0, e.1)) (one_sign v rest)
+    (λ rest u. mapped_sound (Last IsExpr) (behind (t.Sign v ∷ []) (behind ks E)) rest (last_expr_at rest) (g k) (last_as IsExpr (λ us e. E (ks ++ t.Sign v ∷ us) (g k e)) (λ us e. builds ks us k e dk)) (last_expr_sound rest)))
+
+-- a key, `=`, an expression and `;`
+data IsAssigned : List Token → (Name × KeyTree) × ExprTree → Type 0 where
+  assigned : (ks ts : List Token) (k : Name × KeyTree) (e : ExprTree) → IsKeyOf ks k → IsExpr ts e → IsAssigned (ks ++ t.Sign sign.Equals ∷ (ts ++ t.Sign sign.Semicolon ∷ [])) (k, e)
 
 assigned_sound : (ts : List Token) → Sound IsAssigned ts (assigned_at ts)
 unfolding assigned_at
-assigned_sound ts =
-    then_sound IsKeyOf IsAssigned ts (key_at ts) _ (key_sound ts)
-    (λ ks rest k dk. one_sound (behind ks IsAssigned) (alone (t.Sign sign.Equals)) tt rest (expect sign.Equals rest) _ (one_sign sign.Equals rest)
-    (λ rest u. mapped_sound (Last IsExpr) (behind (t.Sign sign.Equals ∷ []) (behind ks IsAssigned)) rest (last_expr_at rest) (λ e. (k, e)) (λ us e d. assigns ks us k e dk d) (last_expr_sound rest)))
+assigned_sound = keyed_sound IsAssigned sign.Equals (λ k e. (k, e)) assigned
 
--- ---- `let`
+-- ---- statements
 
--- behind `let NAME =`
+-- a statement of what is read between the token u and `;`, behind the tokens of `front`
+of_last : {A : Type 0} (P : Phrase A) (front : List Token) (u : Token) (g : A → StatementTree)
+    → ((ts : List Token) (x : A) → P ts x → IsStatement (front ++ u ∷ (ts ++ t.Sign sign.Semicolon ∷ [])) (g x))
+    → (ts : List Token) (r : Reading A) → Sound (Last P) ts r → Sound (behind front IsStatement) (u ∷ ts) (r >>= λ x. Ok (g x.0, x.1))
+of_last P front u g builds ts r h =
+    let E = behind front IsStatement in
+    token_sound E u ts (r >>= λ x. Ok (g x.0, x.1)) (mapped_sound (Last P) (behind (u ∷ []) E) ts r g (last_as P (λ us x. IsStatement (front ++ u ∷ us) (g x)) builds) h)
+
+-- what stands before a value that `let` binds, and behind it
+abbrev let_front : Name → List Token
+let_front x = t.Sign sign.Let ∷ t.Name x ∷ t.Sign sign.Equals ∷ []
+
 abbrev IsBound : Name → Phrase StatementTree
-IsBound x = behind (t.Sign sign.Let ∷ t.Name x ∷ t.Sign sign.Equals ∷ []) IsStatement
-
-binds : (x : Name) (us : List Token) (e : ExprTree) → Last IsExpr us e → IsBound x us (Bind x e)
-binds x _ _ (last ts e d) = bind x ts e d
+IsBound x = behind (let_front x) IsStatement
 
 bind_sound : (x : Name) (ts : List Token) → Sound (IsBound x) ts (bind_at x ts)
 unfolding bind_at
-bind_sound x ts = mapped_sound (Last IsExpr) (IsBound x) ts (last_expr_at ts) (Bind x) (binds x) (last_expr_sound ts)
-
-gets : (x : Name) (ks us : List Token) (k : Name × KeyTree) (e : ExprTree) → IsKeyOf ks k → Last IsExpr us e → IsBound x (t.Sign sign.Get ∷ (ks ++ t.Sign sign.Else ∷ us)) (Get x k.0 k.1 e)
-gets x ks _ k _ dk (last ts e d) = get x k.0 ks ts k.1 e dk d
+bind_sound x ts = mapped_sound (Last IsExpr) (IsBound x) ts (last_expr_at ts) (Bind x) (last_as IsExpr (λ us e. IsBound x us (Bind x e)) (bind x)) (last_expr_sound ts)
 
 get_sound : (x : Name) (ts : List Token) → Sound (behind (t.Sign sign.Get ∷ []) (IsBound x)) ts (get_at x ts)
 unfolding get_at
-get_sound x ts =
-    let E = behind (t.Sign sign.Get ∷ []) (IsBound x) in
-    then_sound IsKeyOf E ts (key_at ts) _ (key_sound ts)
-    (λ ks rest k dk. one_sound (behind ks E) (alone (t.Sign sign.Else)) tt rest (expect sign.Else rest) _ (one_sign sign.Else rest)
-    (λ rest u. mapped_sound (Last IsExpr) (behind (t.Sign sign.Else ∷ []) (behind ks E)) rest (last_expr_at rest) (Get x k.0 k.1) (λ us e d. gets x ks us k e dk d) (last_expr_sound rest)))
-
-needs : (x : Name) (us : List Token) (k : Name × KeyTree) → Last IsKeyOf us k → IsBound x (t.Sign sign.Need ∷ us) (Need x k.0 k.1)
-needs x _ _ (last ks k d) = need x k.0 ks k.1 d
-
-need_sound : (x : Name) (ts : List Token) → Sound (behind (t.Sign sign.Need ∷ []) (IsBound x)) ts (need_at x ts)
-unfolding need_at
-need_sound x ts = mapped_sound (Last IsKeyOf) (behind (t.Sign sign.Need ∷ []) (IsBound x)) ts (last_key_at ts) (λ k. Need x k.0 k.1) (needs x) (last_key_sound ts)
-
-counts : (x : Name) (us : List Token) (r : _) → Last IsRangeOf us r → IsBound x (t.Sign sign.Count ∷ us) (Count x r.0 r.1)
-counts x _ _ (last rs r d) = count x r.0 rs r.1 d
-
-count_sound : (x : Name) (ts : List Token) → Sound (behind (t.Sign sign.Count ∷ []) (IsBound x)) ts (count_at x ts)
-unfolding count_at
-count_sound x ts = mapped_sound (Last IsRangeOf) (behind (t.Sign sign.Count ∷ []) (IsBound x)) ts (last_range_at ts) (λ r. Count x r.0 r.1) (counts x) (last_range_sound ts)
-
-sums : (x : Name) (us : List Token) (r : _) → Last IsRangeOf us r → IsBound x (t.Sign sign.Sum ∷ us) (Sum x r.0 r.1)
-sums x _ _ (last rs r d) = sum x r.0 rs r.1 d
-
-summed_sound : (x : Name) (ts : List Token) → Sound (behind (t.Sign sign.Sum ∷ []) (IsBound x)) ts (summed_at x ts)
-unfolding summed_at
-summed_sound x ts = mapped_sound (Last IsRangeOf) (behind (t.Sign sign.Sum ∷ []) (IsBound x)) ts (last_range_at ts) (λ r. Sum x r.0 r.1) (sums x) (last_range_sound ts)
+get_sound x = keyed_sound (behind (t.Sign sign.Get ∷ []) (IsBound x)) sign.Else (λ k e. Get x k.0 k.1 e) (λ ks ts k e dk d. get x k.0 ks ts k.1 e dk d)
 
 bound_sound : (x : Name) (ts : List Token) → Sound (IsBound x) ts (bound_at x ts)
-unfolding bound_at
+unfolding bound_at need_at count_at summed_at
 bound_sound x (t.Sign sign.Get ∷ ts) = token_sound (IsBound x) (t.Sign sign.Get) ts _ (get_sound x ts)
-bound_sound x (t.Sign sign.Need ∷ ts) = token_sound (IsBound x) (t.Sign sign.Need) ts _ (need_sound x ts)
-bound_sound x (t.Sign sign.Count ∷ ts) = token_sound (IsBound x) (t.Sign sign.Count) ts _ (count_sound x ts)
-bound_sound x (t.Sign sign.Sum ∷ ts) = token_sound (IsBound x) (t.Sign sign.Sum) ts _ (summed_sound x ts)
+bound_sound x (t.Sign sign.Need ∷ ts) =
+    of_last IsKeyOf (let_front x) (t.Sign sign.Need) (λ k. Need x k.0 k.1) (λ ks k d. need x k.0 ks k.1 d) ts (last_key_at ts) (last_key_sound ts)
+bound_sound x (t.Sign sign.Count ∷ ts) =
+    of_last IsRangeOf (let_front x) (t.Sign sign.Count) (λ r. Count x r.0 r.1) (λ rs r d. count x r.0 rs r.1 d) ts (last_range_at ts) (last_range_sound ts)
+bound_sound x (t.Sign sign.Sum ∷ ts) =
+    of_last IsRangeOf (let_front x) (t.Sign sign.Sum) (λ r. Sum x r.0 r.1) (λ rs r d. sum x r.0 rs r.1 d) ts (last_range_at ts) (last_range_sound ts)
 bound_sound x ts = bind_sound x ts
 
 let_sound : (ts : List Token) → Sound (behind (t.Sign sign.Let ∷ []) IsStatement) ts (let_at ts)
@@ -111,49 +102,11 @@ let_sound ts =
     (λ rest x. one_sound (behind (t.Name x ∷ []) E) (alone (t.Sign sign.Equals)) tt rest (expect sign.Equals rest) _ (one_sign sign.Equals rest)
     (λ rest u. bound_sound x rest))
 
--- ---- the other statements
-
-lacking : (us : List Token) (k : Name × KeyTree) → Last IsKeyOf us k → IsStatement (t.Sign sign.Lacks ∷ us) (Lacks k.0 k.1)
-lacking _ _ (last ks k d) = lacks k.0 ks k.1 d
-
-lacks_sound : (ts : List Token) → Sound (behind (t.Sign sign.Lacks ∷ []) IsStatement) ts (lacks_at ts)
-unfolding lacks_at
-lacks_sound ts = mapped_sound (Last IsKeyOf) (behind (t.Sign sign.Lacks ∷ []) IsStatement) ts (last_key_at ts) (λ k. Lacks k.0 k.1) lacking (last_key_sound ts)
-
 puts : (us : List Token) (x : (Name × KeyTree) × ExprTree) → IsAssigned us x → IsStatement (t.Sign sign.Put ∷ us) (Put x.0.0 x.0.1 x.1)
 puts _ _ (assigned ks ts k e dk d) = put k.0 ks ts k.1 e dk d
 
-put_sound : (ts : List Token) → Sound (behind (t.Sign sign.Put ∷ []) IsStatement) ts (put_at ts)
-unfolding put_at
-put_sound ts = mapped_sound IsAssigned (behind (t.Sign sign.Put ∷ []) IsStatement) ts (assigned_at ts) (λ x. Put x.0.0 x.0.1 x.1) puts (assigned_sound ts)
-
 inserts : (us : List Token) (x : (Name × KeyTree) × ExprTree) → IsAssigned us x → IsStatement (t.Sign sign.Insert ∷ us) (Insert x.0.0 x.0.1 x.1)
 inserts _ _ (assigned ks ts k e dk d) = insert k.0 ks ts k.1 e dk d
-
-insert_sound : (ts : List Token) → Sound (behind (t.Sign sign.Insert ∷ []) IsStatement) ts (insert_at ts)
-unfolding insert_at
-insert_sound ts = mapped_sound IsAssigned (behind (t.Sign sign.Insert ∷ []) IsStatement) ts (assigned_at ts) (λ x. Insert x.0.0 x.0.1 x.1) inserts (assigned_sound ts)
-
-deletes : (us : List Token) (k : Name × KeyTree) → Last IsKeyOf us k → IsStatement (t.Sign sign.Delete ∷ us) (Delete k.0 k.1)
-deletes _ _ (last ks k d) = delete k.0 ks k.1 d
-
-delete_sound : (ts : List Token) → Sound (behind (t.Sign sign.Delete ∷ []) IsStatement) ts (delete_at ts)
-unfolding delete_at
-delete_sound ts = mapped_sound (Last IsKeyOf) (behind (t.Sign sign.Delete ∷ []) IsStatement) ts (last_key_at ts) (λ k. Delete k.0 k.1) deletes (last_key_sound ts)
-
-keeps : (us : List Token) (k : Name × KeyTree) → Last IsKeyOf us k → IsStatement (t.Sign sign.Keep ∷ us) (Keep k.0 k.1)
-keeps _ _ (last ks k d) = keep k.0 ks k.1 d
-
-keep_sound : (ts : List Token) → Sound (behind (t.Sign sign.Keep ∷ []) IsStatement) ts (keep_at ts)
-unfolding keep_at
-keep_sound ts = mapped_sound (Last IsKeyOf) (behind (t.Sign sign.Keep ∷ []) IsStatement) ts (last_key_at ts) (λ k. Keep k.0 k.1) keeps (last_key_sound ts)
-
-replies : (us : List Token) (e : ExprTree) → Last IsExpr us e → IsStatement (t.Sign sign.Reply ∷ us) (Reply e)
-replies _ _ (last ts e d) = reply ts e d
-
-reply_sound : (ts : List Token) → Sound (behind (t.Sign sign.Reply ∷ []) IsStatement) ts (reply_at ts)
-unfolding reply_at
-reply_sound ts = mapped_sound (Last IsExpr) (behind (t.Sign sign.Reply ∷ []) IsStatement) ts (last_expr_at ts) Reply replies (last_expr_sound ts)
 
 abort_sound : (ts : List Token) → Sound (behind (t.Sign sign.Abort ∷ []) IsStatement) ts (abort_at ts)
 unfolding abort_at
@@ -162,14 +115,19 @@ abort_sound ts =
     one_sound E (alone (t.Sign sign.Semicolon)) tt ts (expect sign.Semicolon ts) _ (one_sign sign.Semicolon ts) (λ rest u. done_sound (behind (t.Sign sign.Semicolon ∷ []) E) Abort rest abort)
 
 pub statement_sound : (ts : List Token) → Sound IsStatement ts (statement_at ts)
-unfolding statement_at
+unfolding statement_at lacks_at put_at insert_at delete_at keep_at reply_at
 statement_sound (t.Sign sign.Let ∷ ts) = token_sound IsStatement (t.Sign sign.Let) ts _ (let_sound ts)
-statement_sound (t.Sign sign.Lacks ∷ ts) = token_sound IsStatement (t.Sign sign.Lacks) ts _ (lacks_sound ts)
-statement_sound (t.Sign sign.Put ∷ ts) = token_sound IsStatement (t.Sign sign.Put) ts _ (put_sound ts)
-statement_sound (t.Sign sign.Insert ∷ ts) = token_sound IsStatement (t.Sign sign.Insert) ts _ (insert_sound ts)
-statement_sound (t.Sign sign.Delete ∷ ts) = token_sound IsStatement (t.Sign sign.Delete) ts _ (delete_sound ts)
-statement_sound (t.Sign sign.Keep ∷ ts) = token_sound IsStatement (t.Sign sign.Keep) ts _ (keep_sound ts)
-statement_sound (t.Sign sign.Reply ∷ ts) = token_sound IsStatement (t.Sign sign.Reply) ts _ (reply_sound ts)
+statement_sound (t.Sign sign.Lacks ∷ ts) =
+    of_last IsKeyOf [] (t.Sign sign.Lacks) (λ k. Lacks k.0 k.1) (λ ks k d. lacks k.0 ks k.1 d) ts (last_key_at ts) (last_key_sound ts)
+statement_sound (t.Sign sign.Put ∷ ts) =
+    token_sound IsStatement (t.Sign sign.Put) ts _ (mapped_sound IsAssigned (behind (t.Sign sign.Put ∷ []) IsStatement) ts (assigned_at ts) (λ x. Put x.0.0 x.0.1 x.1) puts (assigned_sound ts))
+statement_sound (t.Sign sign.Insert ∷ ts) =
+    token_sound IsStatement (t.Sign sign.Insert) ts _ (mapped_sound IsAssigned (behind (t.Sign sign.Insert ∷ []) IsStatement) ts (assigned_at ts) (λ x. Insert x.0.0 x.0.1 x.1) inserts (assigned_sound ts))
+statement_sound (t.Sign sign.Delete ∷ ts) =
+    of_last IsKeyOf [] (t.Sign sign.Delete) (λ k. Delete k.0 k.1) (λ ks k d. delete k.0 ks k.1 d) ts (last_key_at ts) (last_key_sound ts)
+statement_sound (t.Sign sign.Keep ∷ ts) =
+    of_last IsKeyOf [] (t.Sign sign.Keep) (λ k. Keep k.0 k.1) (λ ks k d. keep k.0 ks k.1 d) ts (last_key_at ts) (last_key_sound ts)
+statement_sound (t.Sign sign.Reply ∷ ts) = of_last IsExpr [] (t.Sign sign.Reply) Reply reply ts (last_expr_at ts) (last_expr_sound ts)
 statement_sound (t.Sign sign.Abort ∷ ts) = token_sound IsStatement (t.Sign sign.Abort) ts _ (abort_sound ts)
 statement_sound ts = fault_sound IsStatement ts (t.Sign sign.Abort ∷ t.Sign sign.Semicolon ∷ []) Abort abort
 
@@ -243,14 +201,4 @@ pub record BeginsStatement (ts : List Token) : Type 0 where
 
 pub begins_statement : (ts : List Token) (s : StatementTree) → IsStatement ts s → BeginsStatement ts
 begins_statement _ _ (bind x ts e d) = record { some = omega arith; no_end = λ rest. refl; no_branch = λ rest. refl; no_else = λ rest. refl }
-begins_statement _ _ (get x table ks ts k e dk d) = record { some = omega arith; no_end = λ rest. refl; no_branch = λ rest. refl; no_else = λ rest. refl }
-begins_statement _ _ (need x table ks k dk) = record { some = omega arith; no_end = λ rest. refl; no_branch = λ rest. refl; no_else = λ rest. refl }
-begins_statement _ _ (count x table rs r d) = record { some = omega arith; no_end = λ rest. refl; no_branch = λ rest. refl; no_else = λ rest. refl }
-begins_statement _ _ (sum x table rs r d) = record { some = omega arith; no_end = λ rest. refl; no_branch = λ rest. refl; no_else = λ rest. refl }
-begins_statement _ _ (lacks table ks k d) = record { some = omega arith; no_end = λ rest. refl; no_branch = λ rest. refl; no_else = λ rest. refl }
-begins_statement _ _ (put table ks ts k e dk d) = record { some = omega arith; no_end = λ rest. refl; no_branch = λ rest. refl; no_else = λ rest. refl }
-begins_statement _ _ (insert table ks ts k e dk d) = record { some = omega arith; no_end = λ rest. refl; no_branch = λ rest. refl; no_else = λ rest. refl }
-begins_statement _ _ (delete table ks k d) = record { some = omega arith; no_end = λ rest. refl; no_branch = λ rest. refl; no_else = λ rest. refl }
-begins_statement _ _ (keep table ks k d) = record { some = omega arith; no_end = λ rest. refl; no_branch = λ rest. refl; no_else = λ rest. refl }
-begins_statement _ _ (reply ts e d) = record { some = omega arith; no_end = λ rest. refl; no_branch = λ rest. refl; no_else = λ rest. refl }
-begins_statement _ _ abort = record { some = omega arith; no_end = λ rest. refl; no_branch = λ rest. refl; no_else = λ rest. refl }
+begins_statement _ _ d = record { some = omega arith; no_end = λ rest. refl; no_branch = λ rest. refl; no_else = λ rest. refl }
