@@ -8,7 +8,7 @@ use Rattle.prog_text.specs.declared.lexing.token.Token.TheVariants as t
 use Rattle.prog_text.specs.Canonical.{relation_token}
 use Rattle.prog_text.specs.Grammar.{Many, Led, led, Separated, separated, IsFactor, IsProduct, IsExpr, number, negative, least, greatest, bracketed, factor, times, product, plus, minus, IsRelation, IsComparison, IsConjunction, IsTest, IsKey, IsRange}
 use Rattle.prog_text.specs.Grammar as g
-use Rattle.prog_text.specs.Reading.{Reading, after_sign, expect, name_at, separated_at, negative_at, factor_at, product_from, product_at, sum_from, sum_at, expr_within, expr_at, relation_at, compared_at, comparison_at, conjunction_at, test_at, key_from, key_at, high_at, range_from, range_at}
+use Rattle.prog_text.specs.Reading.{Reading, ◌>>=◌, after_sign, expect, name_at, separated_at, negative_at, factor_at, product_from, product_at, sum_from, sum_at, expr_within, expr_at, relation_at, compared_at, comparison_at, conjunction_at, test_at, key_from, key_at, high_at, range_from, range_at}
 use Rattle.prog_text.proofs.Sound.{Phrase, behind, Sound, then_sound, token_sound, one_sound, done_sound, fault_sound, sound_map, mapped_sound, IsBehind, behind_sign_sound, IsMore, many_sound}
 use Rattle.prog_text.proofs.OneToken.{finds_sign, alone, one_sign, one_name, one_relation, a_name, an_expr}
 
@@ -180,13 +180,19 @@ key_from_sound table fs a da ts =
     (one_sound E (alone (t.Sign sign.CloseKey)) tt ts (expect sign.CloseKey ts) _ (one_sign sign.CloseKey ts)
     (λ rest u. done_sound (behind (t.Sign sign.CloseKey ∷ []) E) (One a) rest (g.IsKey.one table fs a da)))
 
+-- a table's name, the first expression between the brackets, and what is read behind it
+named_sound : {B : Type 0} (W : Phrase (Name × B)) (from : ExprTree → List Token → Reading B)
+    → ((table : Name) (fs : List Token) (a : ExprTree) → IsExpr fs a → (ts : List Token) → Sound (λ us x. W (t.Name table ∷ t.Sign sign.OpenKey ∷ (fs ++ us)) (table, x)) ts (from a ts))
+    → (ts : List Token) → Sound W ts (name_at ts >>= λ table. expect sign.OpenKey table.1 >>= λ opened. expr_at opened.1 >>= λ first. from first.0 first.1 >>= λ x. Ok ((table.0, x.0), x.1))
+named_sound W from from_sound ts =
+    one_sound W t.Name a_name ts (name_at ts) (λ table. expect sign.OpenKey table.1 >>= λ opened. expr_at opened.1 >>= λ first. from first.0 first.1 >>= λ x. Ok ((table.0, x.0), x.1)) (one_name ts)
+    (λ rest table. one_sound (behind (t.Name table ∷ []) W) (alone (t.Sign sign.OpenKey)) tt rest (expect sign.OpenKey rest) (λ opened. expr_at opened.1 >>= λ first. from first.0 first.1 >>= λ x. Ok ((table, x.0), x.1)) (one_sign sign.OpenKey rest)
+    (λ rest u. then_sound IsExpr (behind (t.Sign sign.OpenKey ∷ []) (behind (t.Name table ∷ []) W)) rest (expr_at rest) (λ first. from first.0 first.1 >>= λ x. Ok ((table, x.0), x.1)) (expr_sound rest)
+    (λ fs rest a da. mapped_sound (λ us x. W (t.Name table ∷ t.Sign sign.OpenKey ∷ (fs ++ us)) (table, x)) (behind fs (behind (t.Sign sign.OpenKey ∷ []) (behind (t.Name table ∷ []) W))) rest (from a rest) (λ x. (table, x)) (λ us x d. d) (from_sound table fs a da rest))))
+
 pub key_sound : (ts : List Token) → Sound IsKeyOf ts (key_at ts)
 unfolding key_at
-key_sound ts =
-    one_sound IsKeyOf t.Name a_name ts (name_at ts) _ (one_name ts)
-    (λ rest table. one_sound (behind (t.Name table ∷ []) IsKeyOf) (alone (t.Sign sign.OpenKey)) tt rest (expect sign.OpenKey rest) _ (one_sign sign.OpenKey rest)
-    (λ rest u. then_sound IsExpr (behind (t.Sign sign.OpenKey ∷ []) (behind (t.Name table ∷ []) IsKeyOf)) rest (expr_at rest) _ (expr_sound rest)
-    (λ fs rest a da. mapped_sound (λ us k. IsKey (t.Name table ∷ t.Sign sign.OpenKey ∷ (fs ++ us)) table k) (behind fs (behind (t.Sign sign.OpenKey ∷ []) (behind (t.Name table ∷ []) IsKeyOf))) rest (key_from a rest) (λ k. (table, k)) (λ us k d. d) (key_from_sound table fs a da rest))))
+key_sound = named_sound IsKeyOf key_from key_from_sound
 
 -- ---- ranges
 
@@ -223,8 +229,4 @@ range_from_sound table fs a da ts =
 
 pub range_sound : (ts : List Token) → Sound IsRangeOf ts (range_at ts)
 unfolding range_at
-range_sound ts =
-    one_sound IsRangeOf t.Name a_name ts (name_at ts) _ (one_name ts)
-    (λ rest table. one_sound (behind (t.Name table ∷ []) IsRangeOf) (alone (t.Sign sign.OpenKey)) tt rest (expect sign.OpenKey rest) _ (one_sign sign.OpenKey rest)
-    (λ rest u. then_sound IsExpr (behind (t.Sign sign.OpenKey ∷ []) (behind (t.Name table ∷ []) IsRangeOf)) rest (expr_at rest) _ (expr_sound rest)
-    (λ fs rest a da. mapped_sound (λ us r. IsRange (t.Name table ∷ t.Sign sign.OpenKey ∷ (fs ++ us)) table r) (behind fs (behind (t.Sign sign.OpenKey ∷ []) (behind (t.Name table ∷ []) IsRangeOf))) rest (range_from a rest) (λ r. (table, r)) (λ us r d. d) (range_from_sound table fs a da rest))))
+range_sound = named_sound IsRangeOf range_from range_from_sound

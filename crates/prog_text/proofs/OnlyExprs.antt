@@ -1,6 +1,7 @@
 -- What is spelled so is read so: expressions, tests, keys and ranges.
 use Rattle.std.proofs.Common.{◌≡◌, ℕ, zero, suc, ◌≤◌, List, [], ◌∷◌, ◌++◌, length, length-append, None, Bool, true, false, Ok, refl, ap, sym, ◌∙◌, subst, append_assoc, arith}
 use Rattle.prog_tree.specs.Syntax.{Name, ExprTree, Plus, Minus, Times, RelationSign, ComparisonTree, TestTree, KeyTree, One, Two, RangeTree, OneRange, TwoRange}
+use Rattle.prog_text.specs.declared.lexing.token.Sign.{Sign}
 use Rattle.prog_text.specs.declared.lexing.token.Token.{Token}
 use Rattle.prog_text.specs.declared.lexing.token.Sign.TheVariants as sign
 use Rattle.prog_text.specs.declared.lexing.token.Token.TheVariants as t
@@ -35,31 +36,18 @@ sum_stops (suc n) e rest h = rw (h.no_plus, h.no_minus) refl
 abbrev GoesOn : (ℕ → ExprTree → List Token → Reading ExprTree) → ExprTree → List Token → ExprTree × List Token → Type 0
 GoesOn from e rest y = (n : ℕ) → length rest ≤ n → Reads y (from n e rest)
 
-times_goes_on : (us rest : List Token) (a b : ExprTree) (y : ExprTree × List Token) → Reads (b, rest) (factor_at expr_at (us ++ rest)) → GoesOn (product_from expr_at) (Times a b) rest y → GoesOn (product_from expr_at) a (t.Sign sign.Times ∷ (us ++ rest)) y
-unfolding product_from
-times_goes_on us rest a b y h k zero le = absurd (omega (arith, le))
-times_goes_on us rest a b y h k (suc n) le =
-    then_reads (b, rest) y (factor_at expr_at (us ++ rest)) (λ right. product_from expr_at n (Times a right.0) right.1) h (k n (omega (arith, le, length-append us rest)))
+-- Of operands that `read` reads, one more behind its sign, where the reading goes on so.
+operand_goes_on : (read : List Token → Reading ExprTree) (from : ℕ → ExprTree → List Token → Reading ExprTree) (v : Sign) (f : ExprTree → ExprTree) (us rest : List Token) (a b : ExprTree) (y : ExprTree × List Token)
+    → ((n : ℕ) (ts : List Token) → from (suc n) a (t.Sign v ∷ ts) ≡ (read ts >>= λ right. from n (f right.0) right.1))
+    → Reads (b, rest) (read (us ++ rest)) → GoesOn from (f b) rest y → GoesOn from a (t.Sign v ∷ (us ++ rest)) y
+operand_goes_on read from v f us rest a b y is h k zero le = absurd (omega (arith, le))
+operand_goes_on read from v f us rest a b y is h k (suc n) le =
+    rw (is n (us ++ rest)) (then_reads (b, rest) y (read (us ++ rest)) (λ right. from n (f right.0) right.1) h (k n (omega (arith, le, length-append us rest))))
 
-plus_goes_on : (us rest : List Token) (a b : ExprTree) (y : ExprTree × List Token) → Reads (b, rest) (product_at expr_at (us ++ rest)) → GoesOn (sum_from expr_at) (Plus a b) rest y → GoesOn (sum_from expr_at) a (t.Sign sign.Plus ∷ (us ++ rest)) y
-unfolding sum_from
-plus_goes_on us rest a b y h k zero le = absurd (omega (arith, le))
-plus_goes_on us rest a b y h k (suc n) le =
-    then_reads (b, rest) y (product_at expr_at (us ++ rest)) (λ right. sum_from expr_at n (Plus a right.0) right.1) h (k n (omega (arith, le, length-append us rest)))
-
-minus_goes_on : (us rest : List Token) (a b : ExprTree) (y : ExprTree × List Token) → Reads (b, rest) (product_at expr_at (us ++ rest)) → GoesOn (sum_from expr_at) (Minus a b) rest y → GoesOn (sum_from expr_at) a (t.Sign sign.Minus ∷ (us ++ rest)) y
-unfolding sum_from
-minus_goes_on us rest a b y h k zero le = absurd (omega (arith, le))
-minus_goes_on us rest a b y h k (suc n) le =
-    then_reads (b, rest) y (product_at expr_at (us ++ rest)) (λ right. sum_from expr_at n (Minus a right.0) right.1) h (k n (omega (arith, le, length-append us rest)))
-
-product_begins : (ts rest : List Token) (e : ExprTree) (y : ExprTree × List Token) → Reads (e, rest) (factor_at expr_at (ts ++ rest)) → GoesOn (product_from expr_at) e rest y → Reads y (product_at expr_at (ts ++ rest))
-unfolding product_at
-product_begins ts rest e y h k = then_reads (e, rest) y (factor_at expr_at (ts ++ rest)) (λ first. product_from expr_at (length first.1) first.0 first.1) h (k (length rest) (omega arith))
-
-sum_begins : (ts rest : List Token) (e : ExprTree) (y : ExprTree × List Token) → Reads (e, rest) (product_at expr_at (ts ++ rest)) → GoesOn (sum_from expr_at) e rest y → Reads y (sum_at expr_at (ts ++ rest))
-unfolding sum_at
-sum_begins ts rest e y h k = then_reads (e, rest) y (product_at expr_at (ts ++ rest)) (λ first. sum_from expr_at (length first.1) first.0 first.1) h (k (length rest) (omega arith))
+-- the first operand, and what goes on behind it
+operand_begins : (read : List Token → Reading ExprTree) (from : ℕ → ExprTree → List Token → Reading ExprTree) (ts rest : List Token) (e : ExprTree) (y : ExprTree × List Token)
+    → Reads (e, rest) (read (ts ++ rest)) → GoesOn from e rest y → Reads y (read (ts ++ rest) >>= λ first. from (length first.1) first.0 first.1)
+operand_begins read from ts rest e y h k = then_reads (e, rest) y (read (ts ++ rest)) (λ first. from (length first.1) first.0 first.1) h (k (length rest) (omega arith))
 
 bracket_reads : (ts rest : List Token) (e : ExprTree) → Reads (e, t.Sign sign.Close ∷ rest) (sum_at expr_at (ts ++ t.Sign sign.Close ∷ rest)) → Reads (e, rest) (factor_at expr_at ((t.Sign sign.Open ∷ (ts ++ t.Sign sign.Close ∷ [])) ++ rest))
 unfolding factor_at
@@ -68,7 +56,7 @@ bracket_reads ts rest e h =
     (regrouped (e, t.Sign sign.Close ∷ rest) expr_at ts (t.Sign sign.Close ∷ []) rest (subst (Reads (e, t.Sign sign.Close ∷ rest)) (sym (expr_is (ts ++ t.Sign sign.Close ∷ rest))) h)) refl
 
 mutual
-  unfolding factor_at
+  unfolding factor_at product_from product_at sum_from sum_at
 
   factor_only : (ts : List Token) (e : ExprTree) → IsFactor ts e → (rest : List Token) → Reads (e, rest) (factor_at expr_at (ts ++ rest))
   factor_only _ _ (number n) rest = refl
@@ -80,18 +68,22 @@ mutual
       bracket_reads ts rest e (sum_only ts e d (t.Sign sign.Close ∷ rest) (e, t.Sign sign.Close ∷ rest) refl (λ n le. sum_stops n e (t.Sign sign.Close ∷ rest) (no_operator refl refl refl)))
 
   product_only : (ts : List Token) (e : ExprTree) → IsProduct ts e → (rest : List Token) (y : ExprTree × List Token) → GoesOn (product_from expr_at) e rest y → Reads y (product_at expr_at (ts ++ rest))
-  product_only _ _ (factor ts e d) rest y k = product_begins ts rest e y (factor_only ts e d rest) k
+  product_only _ _ (factor ts e d) rest y k = operand_begins (factor_at expr_at) (product_from expr_at) ts rest e y (factor_only ts e d rest) k
   product_only _ _ (times ts us a b d f) rest y k =
-      regrouped y (product_at expr_at) ts (t.Sign sign.Times ∷ us) rest (product_only ts a d (t.Sign sign.Times ∷ (us ++ rest)) y (times_goes_on us rest a b y (factor_only us b f rest) k))
+      regrouped y (product_at expr_at) ts (t.Sign sign.Times ∷ us) rest
+      (product_only ts a d (t.Sign sign.Times ∷ (us ++ rest)) y
+      (operand_goes_on (factor_at expr_at) (product_from expr_at) sign.Times (Times a) us rest a b y (λ n ts. refl) (factor_only us b f rest) k))
 
   sum_only : (ts : List Token) (e : ExprTree) → IsExpr ts e → (rest : List Token) (y : ExprTree × List Token) → after_sign sign.Times rest ≡ None → GoesOn (sum_from expr_at) e rest y → Reads y (sum_at expr_at (ts ++ rest))
-  sum_only _ _ (product ts e d) rest y alone k = sum_begins ts rest e y (product_only ts e d rest (e, rest) (λ n le. product_stops n e rest alone)) k
+  sum_only _ _ (product ts e d) rest y alone k = operand_begins (product_at expr_at) (sum_from expr_at) ts rest e y (product_only ts e d rest (e, rest) (λ n le. product_stops n e rest alone)) k
   sum_only _ _ (plus ts us a b d f) rest y alone k =
       regrouped y (sum_at expr_at) ts (t.Sign sign.Plus ∷ us) rest
-      (sum_only ts a d (t.Sign sign.Plus ∷ (us ++ rest)) y refl (plus_goes_on us rest a b y (product_only us b f rest (b, rest) (λ n le. product_stops n b rest alone)) k))
+      (sum_only ts a d (t.Sign sign.Plus ∷ (us ++ rest)) y refl
+      (operand_goes_on (product_at expr_at) (sum_from expr_at) sign.Plus (Plus a) us rest a b y (λ n ts. refl) (product_only us b f rest (b, rest) (λ n le. product_stops n b rest alone)) k))
   sum_only _ _ (minus ts us a b d f) rest y alone k =
       regrouped y (sum_at expr_at) ts (t.Sign sign.Minus ∷ us) rest
-      (sum_only ts a d (t.Sign sign.Minus ∷ (us ++ rest)) y refl (minus_goes_on us rest a b y (product_only us b f rest (b, rest) (λ n le. product_stops n b rest alone)) k))
+      (sum_only ts a d (t.Sign sign.Minus ∷ (us ++ rest)) y refl
+      (operand_goes_on (product_at expr_at) (sum_from expr_at) sign.Minus (Minus a) us rest a b y (λ n ts. refl) (product_only us b f rest (b, rest) (λ n le. product_stops n b rest alone)) k))
 
 -- what is spelled so is read so, where no operator follows
 pub expr_only : (ts : List Token) (e : ExprTree) → IsExpr ts e → (rest : List Token) → EndsExpr rest → Reads (e, rest) (expr_at (ts ++ rest))
@@ -104,19 +96,11 @@ expr_reads ts after rest e d h = regrouped (e, after ++ rest) expr_at ts after r
 
 relation_ends : (u : Token) (r : RelationSign) → IsRelation u r → (rest : List Token) → EndsExpr (u ∷ rest)
 relation_ends _ _ g.less rest = no_operator refl refl refl
-relation_ends _ _ g.less_equal rest = no_operator refl refl refl
-relation_ends _ _ g.greater rest = no_operator refl refl refl
-relation_ends _ _ g.greater_equal rest = no_operator refl refl refl
-relation_ends _ _ g.equal rest = no_operator refl refl refl
-relation_ends _ _ g.not_equal rest = no_operator refl refl refl
+relation_ends _ _ other rest = no_operator refl refl refl
 
 relation_only : (u : Token) (r : RelationSign) → IsRelation u r → (rest : List Token) → Reads (r, rest) (relation_at (u ∷ rest))
 relation_only _ _ g.less rest = refl
-relation_only _ _ g.less_equal rest = refl
-relation_only _ _ g.greater rest = refl
-relation_only _ _ g.greater_equal rest = refl
-relation_only _ _ g.equal rest = refl
-relation_only _ _ g.not_equal rest = refl
+relation_only _ _ other rest = refl
 
 compared_only : (negated : Bool) (ts us : List Token) (u : Token) (a b : ExprTree) (r : RelationSign) → IsExpr ts a → IsRelation u r → IsExpr us b → (rest : List Token) → EndsExpr rest
     → Reads (record { negated = negated; left = a; relation = r; right = b }, rest) (compared_at negated ((ts ++ u ∷ us) ++ rest))
@@ -173,6 +157,13 @@ test_only = separated_only IsConjunction (t.Sign sign.Or) EndsConjunction (after
 
 -- ---- keys
 
+-- a table's name, the first expression between the brackets, and what is read behind it
+table_reads : {B : Type 0} (from : ExprTree → List Token → Reading B) (table : Name) (ts after rest : List Token) (a : ExprTree) (x : B) → IsExpr ts a → EndsExpr (after ++ rest) → Reads (x, rest) (from a (after ++ rest))
+    → Reads {A = Name × B} ((table, x), rest) (expr_at ((ts ++ after) ++ rest) >>= λ first. from first.0 first.1 >>= λ x. Ok ((table, x.0), x.1))
+table_reads from table ts after rest a x d ends h =
+    then_reads (a, after ++ rest) ((table, x), rest) (expr_at ((ts ++ after) ++ rest)) (λ first. from first.0 first.1 >>= λ x. Ok ((table, x.0), x.1)) (expr_reads ts after rest a d ends)
+    (mapped_reads x rest (from a (after ++ rest)) (λ x. (table, x)) h)
+
 key_ends : (a : ExprTree) (rest : List Token) → Reads (One a, rest) (key_from a (t.Sign sign.CloseKey ∷ rest))
 unfolding key_from
 key_ends a rest = refl
@@ -182,15 +173,10 @@ unfolding key_from
 key_goes_on us a b d rest =
     then_reads (b, t.Sign sign.CloseKey ∷ rest) (Two a b, rest) (expr_at ((us ++ t.Sign sign.CloseKey ∷ []) ++ rest)) (λ second. expect sign.CloseKey second.1 >>= λ closed. Ok (Two a second.0, closed.1)) (expr_reads us (t.Sign sign.CloseKey ∷ []) rest b d (no_operator refl refl refl)) refl
 
-key_behind : (table : Name) (ts after rest : List Token) (a : ExprTree) (k : KeyTree) → IsExpr ts a → EndsExpr (after ++ rest) → Reads (k, rest) (key_from a (after ++ rest)) → Reads ((table, k), rest) (key_at ((t.Name table ∷ t.Sign sign.OpenKey ∷ (ts ++ after)) ++ rest))
-unfolding key_at
-key_behind table ts after rest a k d ends h =
-    then_reads (a, after ++ rest) ((table, k), rest) (expr_at ((ts ++ after) ++ rest)) (λ first. key_from first.0 first.1 >>= λ key. Ok ((table, key.0), key.1)) (expr_reads ts after rest a d ends)
-    (mapped_reads k rest (key_from a (after ++ rest)) (λ k. (table, k)) h)
-
 pub key_only : (ts : List Token) (table : Name) (k : KeyTree) → IsKey ts table k → (rest : List Token) → Reads ((table, k), rest) (key_at (ts ++ rest))
-key_only _ _ _ (g.IsKey.one table ts a d) rest = key_behind table ts (t.Sign sign.CloseKey ∷ []) rest a (One a) d (no_operator refl refl refl) (key_ends a rest)
-key_only _ _ _ (g.IsKey.two table ts us a b d e) rest = key_behind table ts (t.Sign sign.Comma ∷ (us ++ t.Sign sign.CloseKey ∷ [])) rest a (Two a b) d (no_operator refl refl refl) (key_goes_on us a b e rest)
+unfolding key_at
+key_only _ _ _ (g.IsKey.one table ts a d) rest = table_reads key_from table ts (t.Sign sign.CloseKey ∷ []) rest a (One a) d (no_operator refl refl refl) (key_ends a rest)
+key_only _ _ _ (g.IsKey.two table ts us a b d e) rest = table_reads key_from table ts (t.Sign sign.Comma ∷ (us ++ t.Sign sign.CloseKey ∷ [])) rest a (Two a b) d (no_operator refl refl refl) (key_goes_on us a b e rest)
 
 pub key_reads : (ks after rest : List Token) (table : Name) (k : KeyTree) → IsKey ks table k → Reads ((table, k), after ++ rest) (key_at ((ks ++ after) ++ rest))
 key_reads ks after rest table k d = regrouped ((table, k), after ++ rest) key_at ks after rest (key_only ks table k d (after ++ rest))
@@ -215,14 +201,9 @@ range_goes_on us vs a low top d e rest =
     (expr_reads us (t.Sign sign.Dots ∷ behind) rest low d (no_operator refl refl refl))
     (mapped_reads top rest (high_at (t.Sign sign.Dots ∷ (behind ++ rest))) (TwoRange a low) (high_only vs top e rest))
 
-range_behind : (table : Name) (ts after rest : List Token) (a : ExprTree) (r : RangeTree) → IsExpr ts a → EndsExpr (after ++ rest) → Reads (r, rest) (range_from a (after ++ rest)) → Reads ((table, r), rest) (range_at ((t.Name table ∷ t.Sign sign.OpenKey ∷ (ts ++ after)) ++ rest))
-unfolding range_at
-range_behind table ts after rest a r d ends h =
-    then_reads (a, after ++ rest) ((table, r), rest) (expr_at ((ts ++ after) ++ rest)) (λ first. range_from first.0 first.1 >>= λ range. Ok ((table, range.0), range.1)) (expr_reads ts after rest a d ends)
-    (mapped_reads r rest (range_from a (after ++ rest)) (λ r. (table, r)) h)
-
 pub range_only : (ts : List Token) (table : Name) (r : RangeTree) → IsRange ts table r → (rest : List Token) → Reads ((table, r), rest) (range_at (ts ++ rest))
+unfolding range_at
 range_only _ _ _ (g.IsRange.one table ts us low top d e) rest =
-    range_behind table ts (t.Sign sign.Dots ∷ (us ++ t.Sign sign.CloseKey ∷ [])) rest low (OneRange low top) d (no_operator refl refl refl) (range_ends us low top e rest)
+    table_reads range_from table ts (t.Sign sign.Dots ∷ (us ++ t.Sign sign.CloseKey ∷ [])) rest low (OneRange low top) d (no_operator refl refl refl) (range_ends us low top e rest)
 range_only _ _ _ (g.IsRange.two table ts us vs a low top d e f) rest =
-    range_behind table ts (t.Sign sign.Comma ∷ (us ++ t.Sign sign.Dots ∷ (vs ++ t.Sign sign.CloseKey ∷ []))) rest a (TwoRange a low top) d (no_operator refl refl refl) (range_goes_on us vs a low top e f rest)
+    table_reads range_from table ts (t.Sign sign.Comma ∷ (us ++ t.Sign sign.Dots ∷ (vs ++ t.Sign sign.CloseKey ∷ []))) rest a (TwoRange a low top) d (no_operator refl refl refl) (range_goes_on us vs a low top e f rest)
