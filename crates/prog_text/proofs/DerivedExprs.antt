@@ -9,7 +9,7 @@ use Rattle.prog_text.specs.Canonical.{relation_token}
 use Rattle.prog_text.specs.Grammar.{Many, Led, led, Separated, separated, IsFactor, IsProduct, IsExpr, number, negative, least, greatest, bracketed, factor, times, product, plus, minus, IsRelation, IsComparison, IsConjunction, IsTest, IsKey, IsRange}
 use Rattle.prog_text.specs.Grammar as g
 use Rattle.prog_text.specs.Reading.{Reading, ◌>>=◌, after_sign, expect, name_at, separated_at, negative_at, factor_at, product_from, product_at, sum_from, sum_at, expr_within, expr_at, relation_at, compared_at, comparison_at, conjunction_at, test_at, key_from, key_at, high_at, range_from, range_at}
-use Rattle.prog_text.proofs.Sound.{Phrase, behind, Sound, then_sound, token_sound, one_sound, done_sound, fault_sound, sound_map, mapped_sound, IsBehind, behind_sign_sound, IsMore, many_sound}
+use Rattle.prog_text.proofs.Sound.{Phrase, behind, Sound, then_sound, token_sound, one_sound, done_sound, fault_sound, sound_map, mapped_sound, IsBehind, behind_sign_sound, IsMore, many_sound, more_ends, more_follows}
 use Rattle.prog_text.proofs.OneToken.{finds_sign, alone, one_sign, one_name, one_relation, a_name, an_expr}
 
 -- ---- lists
@@ -41,14 +41,6 @@ negative_sound : (ts : List Token) → Sound (behind (t.Sign sign.Minus ∷ []) 
 negative_sound (t.Number n ∷ ts) = record { front = t.Number n ∷ []; parts = refl; phrase = negative n }
 negative_sound ts = fault_sound (behind (t.Sign sign.Minus ∷ []) IsFactor) ts (t.Number 0 ∷ []) _ (negative 0)
 
--- what follows a product so that both are one
-abbrev IsMoreProduct : ExprTree → Phrase ExprTree
-IsMoreProduct left us e = (ts : List Token) → IsProduct ts left → IsProduct (ts ++ us) e
-
--- what follows an expression so that both are one
-abbrev IsMoreSum : ExprTree → Phrase ExprTree
-IsMoreSum left us e = (ts : List Token) → IsExpr ts left → IsExpr (ts ++ us) e
-
 module _ (inner : List Token → Reading ExprTree) (inner_sound : (ts : List Token) → Sound IsExpr ts (inner ts)) where
   pub factor_sound : (ts : List Token) → Sound IsFactor ts (factor_at inner ts)
   unfolding factor_at
@@ -65,53 +57,38 @@ module _ (inner : List Token → Reading ExprTree) (inner_sound : (ts : List Tok
       (λ rest u. done_sound (behind (t.Sign sign.Close ∷ []) (behind us E)) e rest (bracketed us e d))))
   factor_sound ts = fault_sound IsFactor ts (t.Sign sign.Least ∷ []) an_expr least
 
-  product_ends : (left : ExprTree) (ts : List Token) → Sound (IsMoreProduct left) ts (Ok (left, ts))
-  product_ends left ts = done_sound (IsMoreProduct left) left ts (λ us d. subst (λ (vs : List Token). IsProduct vs left) (sym (append-nil us)) d)
-
-  product_from_sound : (n : ℕ) (left : ExprTree) (ts : List Token) → Sound (IsMoreProduct left) ts (product_from inner n left ts)
+  product_from_sound : (n : ℕ) (left : ExprTree) (ts : List Token) → Sound (IsMore IsProduct left) ts (product_from inner n left ts)
   unfolding product_from
-  product_from_sound zero left ts = product_ends left ts
+  product_from_sound zero left ts = more_ends IsProduct left ts
   product_from_sound (suc n) left ts =
-      let E = behind (t.Sign sign.Times ∷ []) (IsMoreProduct left) in
-      behind_sign_sound (IsMoreProduct left) (t.Sign sign.Times) ts (after_sign sign.Times ts) _ (Ok (left, ts)) (finds_sign sign.Times ts)
-      (λ us. then_sound IsFactor E us (factor_at inner us) (λ right. product_from inner n (Times left right.0) right.1) (factor_sound us)
-      (λ front rest right d. sound_map (IsMoreProduct (Times left right)) (behind front E) rest (product_from inner n (Times left right) rest)
-      (λ vs e goes_on ts p. subst (λ (ws : List Token). IsProduct ws e) (append_assoc ts (t.Sign sign.Times ∷ front) vs) (goes_on (ts ++ t.Sign sign.Times ∷ front) (times ts front left right p d)))
-      (product_from_sound n (Times left right) rest)))
-      (product_ends left ts)
+      behind_sign_sound (IsMore IsProduct left) (t.Sign sign.Times) ts (after_sign sign.Times ts) _ (Ok (left, ts)) (finds_sign sign.Times ts)
+      (λ us. more_follows IsProduct IsFactor (t.Sign sign.Times) left (Times left) us (factor_at inner us) (product_from inner n) (λ ts us right p d. times ts us left right p d) (factor_sound us)
+      (λ right. product_from_sound n (Times left right)))
+      (more_ends IsProduct left ts)
 
   pub product_sound : (ts : List Token) → Sound IsProduct ts (product_at inner ts)
   unfolding product_at
   product_sound ts =
       then_sound IsFactor IsProduct ts (factor_at inner ts) _ (factor_sound ts)
-      (λ front rest e d. sound_map (IsMoreProduct e) (behind front IsProduct) rest (product_from inner (length rest) e rest) (λ us x goes_on. goes_on front (factor front e d)) (product_from_sound (length rest) e rest))
+      (λ front rest e d. sound_map (IsMore IsProduct e) (behind front IsProduct) rest (product_from inner (length rest) e rest) (λ us x goes_on. goes_on front (factor front e d)) (product_from_sound (length rest) e rest))
 
-  sum_ends : (left : ExprTree) (ts : List Token) → Sound (IsMoreSum left) ts (Ok (left, ts))
-  sum_ends left ts = done_sound (IsMoreSum left) left ts (λ us d. subst (λ (vs : List Token). IsExpr vs left) (sym (append-nil us)) d)
-
-  sum_from_sound : (n : ℕ) (left : ExprTree) (ts : List Token) → Sound (IsMoreSum left) ts (sum_from inner n left ts)
+  sum_from_sound : (n : ℕ) (left : ExprTree) (ts : List Token) → Sound (IsMore IsExpr left) ts (sum_from inner n left ts)
   unfolding sum_from
-  sum_from_sound zero left ts = sum_ends left ts
+  sum_from_sound zero left ts = more_ends IsExpr left ts
   sum_from_sound (suc n) left ts =
-      let P = behind (t.Sign sign.Plus ∷ []) (IsMoreSum left) in
-      let M = behind (t.Sign sign.Minus ∷ []) (IsMoreSum left) in
-      behind_sign_sound (IsMoreSum left) (t.Sign sign.Plus) ts (after_sign sign.Plus ts) _ _ (finds_sign sign.Plus ts)
-      (λ us. then_sound IsProduct P us (product_at inner us) (λ right. sum_from inner n (Plus left right.0) right.1) (product_sound us)
-      (λ front rest right d. sound_map (IsMoreSum (Plus left right)) (behind front P) rest (sum_from inner n (Plus left right) rest)
-      (λ vs e goes_on ts p. subst (λ (ws : List Token). IsExpr ws e) (append_assoc ts (t.Sign sign.Plus ∷ front) vs) (goes_on (ts ++ t.Sign sign.Plus ∷ front) (plus ts front left right p d)))
-      (sum_from_sound n (Plus left right) rest)))
-      (behind_sign_sound (IsMoreSum left) (t.Sign sign.Minus) ts (after_sign sign.Minus ts) _ (Ok (left, ts)) (finds_sign sign.Minus ts)
-      (λ us. then_sound IsProduct M us (product_at inner us) (λ right. sum_from inner n (Minus left right.0) right.1) (product_sound us)
-      (λ front rest right d. sound_map (IsMoreSum (Minus left right)) (behind front M) rest (sum_from inner n (Minus left right) rest)
-      (λ vs e goes_on ts p. subst (λ (ws : List Token). IsExpr ws e) (append_assoc ts (t.Sign sign.Minus ∷ front) vs) (goes_on (ts ++ t.Sign sign.Minus ∷ front) (minus ts front left right p d)))
-      (sum_from_sound n (Minus left right) rest)))
-      (sum_ends left ts))
+      behind_sign_sound (IsMore IsExpr left) (t.Sign sign.Plus) ts (after_sign sign.Plus ts) _ _ (finds_sign sign.Plus ts)
+      (λ us. more_follows IsExpr IsProduct (t.Sign sign.Plus) left (Plus left) us (product_at inner us) (sum_from inner n) (λ ts us right p d. plus ts us left right p d) (product_sound us)
+      (λ right. sum_from_sound n (Plus left right)))
+      (behind_sign_sound (IsMore IsExpr left) (t.Sign sign.Minus) ts (after_sign sign.Minus ts) _ (Ok (left, ts)) (finds_sign sign.Minus ts)
+      (λ us. more_follows IsExpr IsProduct (t.Sign sign.Minus) left (Minus left) us (product_at inner us) (sum_from inner n) (λ ts us right p d. minus ts us left right p d) (product_sound us)
+      (λ right. sum_from_sound n (Minus left right)))
+      (more_ends IsExpr left ts))
 
   sum_sound : (ts : List Token) → Sound IsExpr ts (sum_at inner ts)
   unfolding sum_at
   sum_sound ts =
       then_sound IsProduct IsExpr ts (product_at inner ts) _ (product_sound ts)
-      (λ front rest e d. sound_map (IsMoreSum e) (behind front IsExpr) rest (sum_from inner (length rest) e rest) (λ us x goes_on. goes_on front (product front e d)) (sum_from_sound (length rest) e rest))
+      (λ front rest e d. sound_map (IsMore IsExpr e) (behind front IsExpr) rest (sum_from inner (length rest) e rest) (λ us x goes_on. goes_on front (product front e d)) (sum_from_sound (length rest) e rest))
 
 pub is_expr : IsExpr (t.Sign sign.Least ∷ []) an_expr
 is_expr = product (t.Sign sign.Least ∷ []) an_expr (factor (t.Sign sign.Least ∷ []) an_expr least)

@@ -1,11 +1,11 @@
 -- Readers of expressions, tests, keys and ranges look no further than where they stop.
 use Rattle.std.proofs.Common.{ℕ, zero, suc, List, ◌∷◌, Bool, true, false, Ok, sym, ◌∙◌, arith}
-use Rattle.prog_tree.specs.Syntax.{ExprTree, Literal, Named, Plus, Minus, Times, One, Two, OneRange, TwoRange}
+use Rattle.prog_tree.specs.Syntax.{Name, ExprTree, Literal, Named, Plus, Minus, Times, One, Two, OneRange, TwoRange}
 use Rattle.prog_text.specs.declared.lexing.token.Token.{Token}
 use Rattle.prog_text.specs.declared.lexing.token.Sign.TheVariants as sign
 use Rattle.prog_text.specs.declared.lexing.token.Token.TheVariants as t
 use Rattle.prog_text.specs.Grammar.{IsExpr, least_number, greatest_number}
-use Rattle.prog_text.specs.Reading.{Reading, ◌>>=◌, after_sign, behind_sign, expect, negative_at, factor_at, product_from, product_at, sum_from, sum_at, expr_within, expr_at, compared_at, comparison_at, conjunction_at, test_at, key_from, key_at, high_at, range_from, range_at}
+use Rattle.prog_text.specs.Reading.{Reading, ◌>>=◌, after_sign, behind_sign, expect, name_at, negative_at, factor_at, product_from, product_at, sum_from, sum_at, expr_within, expr_at, compared_at, comparison_at, conjunction_at, test_at, key_from, key_at, high_at, range_from, range_at}
 use Rattle.prog_text.proofs.Alike.{Local, LocalAt, then_local, done_local, fault_local, matched, unfit, by_first, behind_sign_local, turns_local, separated_local}
 use Rattle.prog_text.proofs.Sound.{Sound}
 use Rattle.prog_text.proofs.DerivedExprs.{expr_within_sound}
@@ -91,14 +91,19 @@ key_from_local x =
     (then_local _ expr_local (λ y. then_local _ (sign_local sign.CloseKey) (λ c. done_local (Two x y))))
     (then_local _ (sign_local sign.CloseKey) (λ c. done_local (One x)))
 
-pub key_local : Local key_at
-unfolding key_at
-key_local =
+-- a table's name, the first expression between the brackets, and what is read behind it
+named_local : {B : Type 0} (from : ExprTree → List Token → Reading B) → ((x : ExprTree) → Local (from x))
+    → Local {A = Name × B} (λ ts. name_at ts >>= λ table. expect sign.OpenKey table.1 >>= λ opened. expr_at opened.1 >>= λ first. from first.0 first.1 >>= λ x. Ok ((table.0, x.0), x.1))
+named_local from h =
     then_local _ name_local
     (λ table. then_local _ (sign_local sign.OpenKey)
     (λ o. then_local _ expr_local
-    (λ x. then_local _ (key_from_local x)
+    (λ x. then_local _ (h x)
     (λ k. done_local (table, k)))))
+
+pub key_local : Local key_at
+unfolding key_at
+key_local = named_local key_from key_from_local
 
 -- ---- ranges
 
@@ -117,9 +122,4 @@ range_from_local x =
 
 pub range_local : Local range_at
 unfolding range_at
-range_local =
-    then_local _ name_local
-    (λ table. then_local _ (sign_local sign.OpenKey)
-    (λ o. then_local _ expr_local
-    (λ x. then_local _ (range_from_local x)
-    (λ r. done_local (table, r)))))
+range_local = named_local range_from range_from_local

@@ -133,9 +133,25 @@ pub behind_sign_sound : {A : Type 0} (E : Phrase A) (u : Token) (ts : List Token
 behind_sign_sound E u ts (Some us) read other e h k = moved E (u ∷ []) ts us (read us) e (h us)
 behind_sign_sound E u ts None read other e h k = k
 
--- what follows the items that are done, so that all are one list
-abbrev pub IsMore : {A : Type 0} → Phrase (List A) → List A → Phrase (List A)
-IsMore W done us xs = (ts : List Token) → W ts done → W (ts ++ us) xs
+-- what follows a phrase for `done`, so that all is one phrase
+abbrev pub IsMore : {A : Type 0} → Phrase A → A → Phrase A
+IsMore W done us x = (ts : List Token) → W ts done → W (ts ++ us) x
+
+-- nothing follows
+pub more_ends : {A : Type 0} (W : Phrase A) (done : A) (ts : List Token) → Sound (IsMore W done) ts (Ok (done, ts))
+more_ends W done ts = done_sound (IsMore W done) done ts (λ us w. subst (λ (vs : List Token). W vs done) (sym (append-nil us)) w)
+
+-- an item follows behind the token u, and more behind it
+pub more_follows : {A B : Type 0} (W : Phrase A) (Item : Phrase B) (u : Token) (done : A) (f : B → A) (us : List Token) (r : Reading B) (from : A → List Token → Reading A)
+    → ((ts us : List Token) (x : B) → W ts done → Item us x → W (ts ++ u ∷ us) (f x))
+    → Sound Item us r
+    → ((x : B) (rest : List Token) → Sound (IsMore W (f x)) rest (from (f x) rest))
+    → Sound (behind (u ∷ []) (IsMore W done)) us (r >>= λ x. from (f x.0) x.1)
+more_follows W Item u done f us r from push item others =
+    then_sound Item (behind (u ∷ []) (IsMore W done)) us r (λ x. from (f x.0) x.1) item
+    (λ front rest x d. sound_map (IsMore W (f x)) (behind front (behind (u ∷ []) (IsMore W done))) rest (from (f x) rest)
+    (λ vs y goes_on ts w. subst (λ (ws : List Token). W ws y) (append_assoc ts (u ∷ front) vs) (goes_on (ts ++ u ∷ front) (push ts front x w d)))
+    (others x rest))
 
 -- Items that each stand behind a sign, where the list may go on with one.
 pub many_sound : {A : Type 0} (W : Phrase (List A)) (Item : Phrase A) (u : Token) (after : List Token → Option (List Token)) (read : List Token → Reading A)
@@ -144,14 +160,12 @@ pub many_sound : {A : Type 0} (W : Phrase (List A)) (Item : Phrase A) (u : Token
     → ((us : List Token) → Sound (behind (u ∷ []) Item) us (read us))
     → (n : ℕ) (done : List A) (ts : List Token) → Sound (IsMore W done) ts (many_from after read n done ts)
 unfolding many_from
-many_sound W Item u after read push finds item zero done ts = done_sound (IsMore W done) done ts (λ us w. subst (λ (vs : List Token). W vs done) (sym (append-nil us)) w)
+many_sound W Item u after read push finds item zero done ts = more_ends W done ts
 many_sound W Item u after read push finds item (suc n) done ts =
     behind_sign_sound (IsMore W done) u ts (after ts) (λ us. read us >>= λ x. many_from after read n (done ++ x.0 ∷ []) x.1) (Ok (done, ts)) (finds ts)
-    (λ us. then_sound (behind (u ∷ []) Item) (behind (u ∷ []) (IsMore W done)) us (read us) (λ x. many_from after read n (done ++ x.0 ∷ []) x.1) (item us)
-    (λ front rest x d. sound_map (IsMore W (done ++ x ∷ [])) (behind front (behind (u ∷ []) (IsMore W done))) rest (many_from after read n (done ++ x ∷ []) rest)
-    (λ vs xs goes_on ts w. subst (λ (ws : List Token). W ws xs) (append_assoc ts (u ∷ front) vs) (goes_on (ts ++ u ∷ front) (push ts (u ∷ front) done x w d)))
-    (many_sound W Item u after read push finds item n (done ++ x ∷ []) rest)))
-    (done_sound (IsMore W done) done ts (λ us w. subst (λ (vs : List Token). W vs done) (sym (append-nil us)) w))
+    (λ us. more_follows W (behind (u ∷ []) Item) u done (λ x. done ++ x ∷ []) us (read us) (many_from after read n) (λ ts us x w d. push ts (u ∷ us) done x w d) (item us)
+    (λ x rest. many_sound W Item u after read push finds item n (done ++ x ∷ []) rest))
+    (more_ends W done ts)
 
 -- ---- lengths
 
