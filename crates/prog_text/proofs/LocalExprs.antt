@@ -71,7 +71,11 @@ expr_local = turns_local expr_within (λ n m ts h k. sym (expr_further n ts h) �
 
 compared_local : (negated : Bool) → Local (compared_at negated)
 unfolding compared_at
-compared_local negated = then_local _ expr_local (λ x. then_local _ relation_local (λ r. then_local _ expr_local (λ y. done_local (record { negated = negated; left = x; relation = r; right = y }))))
+compared_local negated =
+    then_local _ expr_local
+    (λ x. then_local _ relation_local
+    (λ r. then_local _ expr_local
+    (λ y. done_local (record { negated = negated; left = x; relation = r; right = y }))))
 
 comparison_local : Local comparison_at
 unfolding comparison_at
@@ -109,7 +113,11 @@ key_local = named_local key_from key_from_local
 
 high_local : Local high_at
 unfolding high_at
-high_local = then_local _ (sign_local sign.Dots) (λ o. then_local _ expr_local (λ x. then_local _ (sign_local sign.CloseKey) (λ c. done_local x)))
+high_local =
+    then_local _ (sign_local sign.Dots)
+    (λ o. then_local _ expr_local
+    (λ x. then_local _ (sign_local sign.CloseKey)
+    (λ c. done_local x)))
 
 range_from_local : (x : ExprTree) → Local (range_from x)
 unfolding range_from

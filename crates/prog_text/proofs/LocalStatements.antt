@@ -30,7 +30,11 @@ last_range_local = last_local range_local
 
 assigned_local : Local assigned_at
 unfolding assigned_at
-assigned_local = then_local _ key_local (λ k. then_local _ (sign_local sign.Equals) (λ o. then_local _ last_expr_local (λ e. done_local (k, e))))
+assigned_local =
+    then_local _ key_local
+    (λ k. then_local _ (sign_local sign.Equals)
+    (λ o. then_local _ last_expr_local
+    (λ e. done_local (k, e))))
 
 -- ---- statements
 
@@ -40,7 +44,11 @@ bind_local x = then_local _ last_expr_local (λ e. done_local (Bind x e))
 
 get_local : (x : Name) → Local (get_at x)
 unfolding get_at
-get_local x = then_local _ key_local (λ k. then_local _ (sign_local sign.Else) (λ o. then_local _ last_expr_local (λ e. done_local (Get x k.0 k.1 e))))
+get_local x =
+    then_local _ key_local
+    (λ k. then_local _ (sign_local sign.Else)
+    (λ o. then_local _ last_expr_local
+    (λ e. done_local (Get x k.0 k.1 e))))
 
 bound_first : (x : Name) (u : Token) → LocalAt u (λ ts. bound_at x (u ∷ ts))
 unfolding bound_at need_at count_at summed_at
