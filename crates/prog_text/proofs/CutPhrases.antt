@@ -13,7 +13,7 @@ use Rattle.prog_text.specs.Grammar.{Many, none, more, Led, led, Separated, separ
 use Rattle.prog_text.specs.Grammar as g
 use Rattle.prog_text.specs.Canonical.{Mark, Word, Space, LineEnd, spaced, leading, is_sum, number_marks, expr_marks, relation_token, comparison_marks, each_behind, joined_by, conjunction_marks, test_marks, comma, inside_key, key_marks, ends_marks, range_marks, let_marks, assigned_marks, statement_marks, line, with_semicolon, else_line, close_line, else_marks, block_marks, arity_number, table_marks, name_marks, program_marks, draft_marks}
 use Rattle.prog_text.proofs.Breaks.{IsLexed}
-use Rattle.prog_text.proofs.CutMarks.{Closed, Open, Begins, nothing_closed, closed_open, closed_closed, closed_then_open, open_closed, open_then_open, space_begins, space_closed, line_end_closed, indent_closed, word_open, leading_closed, spaced_closed, open_bracket, close_bracket, open_key, close_key, open_block, close_block, semicolon, minus as minus_closed, dots, sign_begins, open_if, in_brackets}
+use Rattle.prog_text.proofs.CutMarks.{Closed, Open, Begins, nothing_closed, closed_open, after_closed, after_open, space_begins, space_closed, line_end_closed, indent_closed, word_open, leading_closed, spaced_closed, sign_closed, sign_begins, open_if, in_brackets}
 
 -- tokens that a text can have
 abbrev pub AreLexed : List Token → Type 0
@@ -27,14 +27,14 @@ lexed_parts (u ∷ ts) us h = let others : AreLexed ts × AreLexed us = lexed_pa
 -- ---- expressions
 
 sides_open : (a b : List Mark) (u : Token) → IsLexed u → Open a → Open b → Open (a ++ (spaced u ++ b))
-sides_open a b u lexed left right = open_then_open left (space_begins (Word u ∷ Space ∷ b)) (closed_then_open (spaced_closed u lexed) right)
+sides_open a b u lexed left right = after_open left (space_begins (Word u ∷ Space ∷ b)) (after_closed (spaced_closed u lexed) right)
 
 -- a number below 2^63, and its opposite
 number_open : (n : ℕ) → IsLexed (t.Number n) → Open (number_marks (pos n))
 number_open n h = open_if (int_eq (pos n) greatest_number) _ _ (word_open (t.Sign sign.Greatest) tt) (word_open (t.Number n) h)
 
 negative_open : (n : ℕ) → IsLexed (t.Number (suc n)) → Open (number_marks (negsuc n))
-negative_open n h = open_if (int_eq (negsuc n) least_number) _ _ (word_open (t.Sign sign.Least) tt) (closed_then_open minus_closed (word_open (t.Number (suc n)) h))
+negative_open n h = open_if (int_eq (negsuc n) least_number) _ _ (word_open (t.Sign sign.Least) tt) (after_closed (sign_closed sign.Minus refl) (word_open (t.Number (suc n)) h))
 
 mutual
   factor_open : (ts : List Token) (e : ExprTree) → IsFactor ts e → AreLexed ts → Open (expr_marks e)
@@ -69,7 +69,7 @@ more_open : {A : Type 0} (P : List Token → A → Type 0) (u : Token) (separato
 more_open P u separator marks each closed begins front h _ _ none lexed = subst Open (sym (append-nil front)) h
 more_open P u separator marks each closed begins front h _ _ (more _ us _ xs (led ts x d) others) lexed =
     let both : AreLexed (u ∷ ts) × AreLexed us = lexed_parts (u ∷ ts) us lexed in
-    let longer : Open (front ++ (separator ++ marks x)) = open_then_open h (begins (marks x)) (closed_then_open closed (each ts x d both.0.1)) in
+    let longer : Open (front ++ (separator ++ marks x)) = after_open h (begins (marks x)) (after_closed closed (each ts x d both.0.1)) in
     subst Open (append_assoc front (separator ++ marks x) (each_behind separator marks xs)) (more_open P u separator marks each closed begins _ longer us xs others both.1)
 
 joined_open : {A : Type 0} (P : List Token → A → Type 0) (u : Token) (separator : List Mark) (marks : A → List Mark)
@@ -92,11 +92,11 @@ relation_lexed s.NotEqual = spaced_closed (t.Sign sign.NotEqual) tt
 compared_open : (ts us : List Token) (u : Token) (a b : ExprTree) (r : RelationSign) → IsExpr ts a → IsExpr us b → AreLexed (ts ++ u ∷ us) → Open (expr_marks a ++ (spaced (relation_token r) ++ expr_marks b))
 compared_open ts us u a b r left right h =
     let both : AreLexed ts × AreLexed (u ∷ us) = lexed_parts ts (u ∷ us) h in
-    open_then_open (expr_open ts a left both.0) (space_begins (Word (relation_token r) ∷ Space ∷ expr_marks b)) (closed_then_open (relation_lexed r) (expr_open us b right both.1.1))
+    after_open (expr_open ts a left both.0) (space_begins (Word (relation_token r) ∷ Space ∷ expr_marks b)) (after_closed (relation_lexed r) (expr_open us b right both.1.1))
 
 comparison_open : (ts : List Token) (c : ComparisonTree) → IsComparison ts c → AreLexed ts → Open (comparison_marks c)
 comparison_open _ _ (g.IsComparison.plain ts us u a b r left compares right) h = compared_open ts us u a b r left right h
-comparison_open _ _ (negated ts us u a b r left compares right) h = closed_then_open (leading_closed (t.Sign sign.Not) tt) (compared_open ts us u a b r left right h.1)
+comparison_open _ _ (negated ts us u a b r left compares right) h = after_closed (leading_closed (t.Sign sign.Not) tt) (compared_open ts us u a b r left right h.1)
 
 conjunction_open : (ts : List Token) (cs : List ComparisonTree) → IsConjunction ts cs → AreLexed ts → Open (conjunction_marks cs)
 conjunction_open = joined_open IsComparison (t.Sign sign.And) (spaced (t.Sign sign.And)) comparison_marks comparison_open (spaced_closed (t.Sign sign.And) tt) (λ others. space_begins (Word (t.Sign sign.And) ∷ Space ∷ others))
@@ -110,12 +110,12 @@ comma_begins : (others : List Mark) → Begins (comma ++ others)
 comma_begins others = sign_begins (t.Sign sign.Comma) (Space ∷ others) (λ rest. refl)
 
 comma_open : (a b : List Mark) → Open a → Open b → Open (a ++ (comma ++ b))
-comma_open a b first second = open_then_open first (comma_begins b) (closed_then_open (leading_closed (t.Sign sign.Comma) tt) second)
+comma_open a b first second = after_open first (comma_begins b) (after_closed (leading_closed (t.Sign sign.Comma) tt) second)
 
 key_closed : (table : Name) (marks : List Mark) → IsLexed (t.Name table) → Open marks → Closed (inside_key table marks)
 key_closed table marks lexed h =
-    open_closed (word_open (t.Name table) lexed) (sign_begins (t.Sign sign.OpenKey) (marks ++ Word (t.Sign sign.CloseKey) ∷ []) (λ rest. refl))
-    (closed_closed open_key (open_closed h (sign_begins (t.Sign sign.CloseKey) [] (λ rest. refl)) close_key))
+    after_open (word_open (t.Name table) lexed) (sign_begins (t.Sign sign.OpenKey) (marks ++ Word (t.Sign sign.CloseKey) ∷ []) (λ rest. refl))
+    (after_closed (sign_closed sign.OpenKey refl) (after_open h (sign_begins (t.Sign sign.CloseKey) [] (λ rest. refl)) (sign_closed sign.CloseKey refl)))
 
 key_of : (ts : List Token) (table : Name) (k : KeyTree) → IsKey ts table k → AreLexed ts → Closed (key_marks table k)
 key_of _ _ _ (g.IsKey.one table ts a d) h = key_closed table _ h.0 (expr_open ts a d (lexed_parts ts (t.Sign sign.CloseKey ∷ []) h.1.1).0)
@@ -126,8 +126,8 @@ key_of _ _ _ (g.IsKey.two table ts us a b first second) h =
 ends_open : (ts us : List Token) (low high : ExprTree) → IsExpr ts low → IsExpr us high → AreLexed (ts ++ t.Sign sign.Dots ∷ (us ++ t.Sign sign.CloseKey ∷ [])) → Open (ends_marks low high)
 ends_open ts us low high first second h =
     let both : AreLexed ts × AreLexed (t.Sign sign.Dots ∷ (us ++ t.Sign sign.CloseKey ∷ [])) = lexed_parts ts _ h in
-    open_then_open (expr_open ts low first both.0) (sign_begins (t.Sign sign.Dots) (expr_marks high) (λ rest. refl))
-    (closed_then_open dots (expr_open us high second (lexed_parts us (t.Sign sign.CloseKey ∷ []) both.1.1).0))
+    after_open (expr_open ts low first both.0) (sign_begins (t.Sign sign.Dots) (expr_marks high) (λ rest. refl))
+    (after_closed (sign_closed sign.Dots refl) (expr_open us high second (lexed_parts us (t.Sign sign.CloseKey ∷ []) both.1.1).0))
 
 range_of : (ts : List Token) (table : Name) (r : RangeTree) → IsRange ts table r → AreLexed ts → Closed (range_marks table r)
 range_of _ _ _ (g.IsRange.one table ts us low high first second) h = key_closed table _ h.0 (ends_open ts us low high first second h.1.1)
@@ -138,69 +138,69 @@ range_of _ _ _ (g.IsRange.two table ts us vs a low high whole first second) h =
 -- ---- statements
 
 let_closed : (x : Name) → IsLexed (t.Name x) → Closed (let_marks x)
-let_closed x lexed = closed_closed (leading_closed (t.Sign sign.Let) tt) (open_closed (word_open (t.Name x) lexed) (space_begins (Word (t.Sign sign.Equals) ∷ Space ∷ [])) (spaced_closed (t.Sign sign.Equals) tt))
+let_closed x lexed = after_closed (leading_closed (t.Sign sign.Let) tt) (after_open (word_open (t.Name x) lexed) (space_begins (Word (t.Sign sign.Equals) ∷ Space ∷ [])) (spaced_closed (t.Sign sign.Equals) tt))
 
 assigned_open : (ts us : List Token) (table : Name) (k : KeyTree) (e : ExprTree) → IsKey ts table k → IsExpr us e → AreLexed (ts ++ t.Sign sign.Equals ∷ (us ++ t.Sign sign.Semicolon ∷ [])) → Open (assigned_marks table k e)
 assigned_open ts us table k e is_key is_expr h =
     let both : AreLexed ts × AreLexed (t.Sign sign.Equals ∷ (us ++ t.Sign sign.Semicolon ∷ [])) = lexed_parts ts _ h in
-    closed_then_open (key_of ts table k is_key both.0) (closed_then_open (spaced_closed (t.Sign sign.Equals) tt) (expr_open us e is_expr (lexed_parts us (t.Sign sign.Semicolon ∷ []) both.1.1).0))
+    after_closed (key_of ts table k is_key both.0) (after_closed (spaced_closed (t.Sign sign.Equals) tt) (expr_open us e is_expr (lexed_parts us (t.Sign sign.Semicolon ∷ []) both.1.1).0))
 
 statement_open : (ts : List Token) (s : StatementTree) → IsStatement ts s → AreLexed ts → Open (statement_marks s)
-statement_open _ _ (bind x ts e d) h = closed_then_open (let_closed x h.1.0) (expr_open ts e d (lexed_parts ts (t.Sign sign.Semicolon ∷ []) h.1.1.1).0)
+statement_open _ _ (bind x ts e d) h = after_closed (let_closed x h.1.0) (expr_open ts e d (lexed_parts ts (t.Sign sign.Semicolon ∷ []) h.1.1.1).0)
 statement_open _ _ (get x table ks ts k e is_key is_expr) h =
     let both : AreLexed ks × AreLexed (t.Sign sign.Else ∷ (ts ++ t.Sign sign.Semicolon ∷ [])) = lexed_parts ks _ h.1.1.1.1 in
-    closed_then_open (let_closed x h.1.0) (closed_then_open (leading_closed (t.Sign sign.Get) tt) (closed_then_open (key_of ks table k is_key both.0)
-    (closed_then_open (spaced_closed (t.Sign sign.Else) tt) (expr_open ts e is_expr (lexed_parts ts (t.Sign sign.Semicolon ∷ []) both.1.1).0))))
+    after_closed (let_closed x h.1.0) (after_closed (leading_closed (t.Sign sign.Get) tt) (after_closed (key_of ks table k is_key both.0)
+    (after_closed (spaced_closed (t.Sign sign.Else) tt) (expr_open ts e is_expr (lexed_parts ts (t.Sign sign.Semicolon ∷ []) both.1.1).0))))
 statement_open _ _ (need x table ks k d) h =
-    closed_open (closed_closed (let_closed x h.1.0) (closed_closed (leading_closed (t.Sign sign.Need) tt) (key_of ks table k d (lexed_parts ks (t.Sign sign.Semicolon ∷ []) h.1.1.1.1).0)))
+    closed_open (after_closed (let_closed x h.1.0) (after_closed (leading_closed (t.Sign sign.Need) tt) (key_of ks table k d (lexed_parts ks (t.Sign sign.Semicolon ∷ []) h.1.1.1.1).0)))
 statement_open _ _ (count x table rs r d) h =
-    closed_open (closed_closed (let_closed x h.1.0) (closed_closed (leading_closed (t.Sign sign.Count) tt) (range_of rs table r d (lexed_parts rs (t.Sign sign.Semicolon ∷ []) h.1.1.1.1).0)))
+    closed_open (after_closed (let_closed x h.1.0) (after_closed (leading_closed (t.Sign sign.Count) tt) (range_of rs table r d (lexed_parts rs (t.Sign sign.Semicolon ∷ []) h.1.1.1.1).0)))
 statement_open _ _ (sum x table rs r d) h =
-    closed_open (closed_closed (let_closed x h.1.0) (closed_closed (leading_closed (t.Sign sign.Sum) tt) (range_of rs table r d (lexed_parts rs (t.Sign sign.Semicolon ∷ []) h.1.1.1.1).0)))
-statement_open _ _ (lacks table ks k d) h = closed_open (closed_closed (leading_closed (t.Sign sign.Lacks) tt) (key_of ks table k d (lexed_parts ks (t.Sign sign.Semicolon ∷ []) h.1).0))
-statement_open _ _ (put table ks ts k e is_key is_expr) h = closed_then_open (leading_closed (t.Sign sign.Put) tt) (assigned_open ks ts table k e is_key is_expr h.1)
-statement_open _ _ (insert table ks ts k e is_key is_expr) h = closed_then_open (leading_closed (t.Sign sign.Insert) tt) (assigned_open ks ts table k e is_key is_expr h.1)
-statement_open _ _ (delete table ks k d) h = closed_open (closed_closed (leading_closed (t.Sign sign.Delete) tt) (key_of ks table k d (lexed_parts ks (t.Sign sign.Semicolon ∷ []) h.1).0))
-statement_open _ _ (keep table ks k d) h = closed_open (closed_closed (leading_closed (t.Sign sign.Keep) tt) (key_of ks table k d (lexed_parts ks (t.Sign sign.Semicolon ∷ []) h.1).0))
-statement_open _ _ (reply ts e d) h = closed_then_open (leading_closed (t.Sign sign.Reply) tt) (expr_open ts e d (lexed_parts ts (t.Sign sign.Semicolon ∷ []) h.1).0)
+    closed_open (after_closed (let_closed x h.1.0) (after_closed (leading_closed (t.Sign sign.Sum) tt) (range_of rs table r d (lexed_parts rs (t.Sign sign.Semicolon ∷ []) h.1.1.1.1).0)))
+statement_open _ _ (lacks table ks k d) h = closed_open (after_closed (leading_closed (t.Sign sign.Lacks) tt) (key_of ks table k d (lexed_parts ks (t.Sign sign.Semicolon ∷ []) h.1).0))
+statement_open _ _ (put table ks ts k e is_key is_expr) h = after_closed (leading_closed (t.Sign sign.Put) tt) (assigned_open ks ts table k e is_key is_expr h.1)
+statement_open _ _ (insert table ks ts k e is_key is_expr) h = after_closed (leading_closed (t.Sign sign.Insert) tt) (assigned_open ks ts table k e is_key is_expr h.1)
+statement_open _ _ (delete table ks k d) h = closed_open (after_closed (leading_closed (t.Sign sign.Delete) tt) (key_of ks table k d (lexed_parts ks (t.Sign sign.Semicolon ∷ []) h.1).0))
+statement_open _ _ (keep table ks k d) h = closed_open (after_closed (leading_closed (t.Sign sign.Keep) tt) (key_of ks table k d (lexed_parts ks (t.Sign sign.Semicolon ∷ []) h.1).0))
+statement_open _ _ (reply ts e d) h = after_closed (leading_closed (t.Sign sign.Reply) tt) (expr_open ts e d (lexed_parts ts (t.Sign sign.Semicolon ∷ []) h.1).0)
 statement_open _ _ abort h = word_open (t.Sign sign.Abort) tt
 
 -- ---- blocks
 
 ended_closed : (marks : List Mark) → Open marks → Closed (with_semicolon marks)
-ended_closed marks h = open_closed h (sign_begins (t.Sign sign.Semicolon) (LineEnd ∷ []) (λ rest. refl)) (closed_closed semicolon line_end_closed)
+ended_closed marks h = after_open h (sign_begins (t.Sign sign.Semicolon) (LineEnd ∷ []) (λ rest. refl)) (after_closed (sign_closed sign.Semicolon refl) line_end_closed)
 
 line_closed : (depth : ℕ) (marks : List Mark) → Closed marks → Closed (line depth marks)
-line_closed depth marks h = closed_closed (indent_closed depth) (closed_closed h line_end_closed)
+line_closed depth marks h = after_closed (indent_closed depth) (after_closed h line_end_closed)
 
 -- ` {`
 begun : Closed (Space ∷ Word (t.Sign sign.OpenBlock) ∷ [])
-begun = closed_closed space_closed open_block
+begun = after_closed space_closed (sign_closed sign.OpenBlock refl)
 
 close_line_closed : (depth : ℕ) → Closed (close_line depth)
-close_line_closed depth = line_closed depth (Word (t.Sign sign.CloseBlock) ∷ []) close_block
+close_line_closed depth = line_closed depth _ (sign_closed sign.CloseBlock refl)
 
 else_line_closed : (depth : ℕ) → Closed (else_line depth)
-else_line_closed depth = line_closed depth _ (closed_closed close_block (closed_closed (spaced_closed (t.Sign sign.Else) tt) open_block))
+else_line_closed depth = line_closed depth _ (after_closed (sign_closed sign.CloseBlock refl) (after_closed (spaced_closed (t.Sign sign.Else) tt) (sign_closed sign.OpenBlock refl)))
 
 else_closed : (depth : ℕ) (marks : List Mark) → Closed marks → Closed (else_marks depth marks)
 else_closed depth [] h = nothing_closed
-else_closed depth (mark ∷ marks) h = closed_closed (else_line_closed depth) h
+else_closed depth (mark ∷ marks) h = after_closed (else_line_closed depth) h
 
 mutual
   statements_closed : (depth : ℕ) (ts : List Token) (b : BlockTree) → IsStatements ts b → AreLexed ts → Closed (block_marks depth b)
   statements_closed depth _ _ nothing h = nothing_closed
   statements_closed depth _ _ (g.IsStatements.more ts us s rest here others) h =
       let both : AreLexed ts × AreLexed us = lexed_parts ts us h in
-      closed_closed (closed_closed (indent_closed depth) (ended_closed (statement_marks s) (statement_open ts s here both.0))) (statements_closed depth us rest others both.1)
+      after_closed (after_closed (indent_closed depth) (ended_closed (statement_marks s) (statement_open ts s here both.0))) (statements_closed depth us rest others both.1)
   statements_closed depth _ _ (branch xs ts es us test first second rest is_test is_first is_second others) h =
       let a : AreLexed xs × AreLexed (ts ++ (es ++ us)) = lexed_parts xs _ h.1 in
       let b : AreLexed ts × AreLexed (es ++ us) = lexed_parts ts _ a.1 in
       let c : AreLexed es × AreLexed us = lexed_parts es us b.1 in
-      closed_closed (line_closed depth _ (closed_closed (leading_closed (t.Sign sign.If) tt) (open_closed (test_open xs test is_test a.0) (space_begins (Word (t.Sign sign.OpenBlock) ∷ [])) begun)))
-      (closed_closed (block_closed (suc depth) ts first is_first b.0)
-      (closed_closed (else_closed depth _ (second_closed (suc depth) es second is_second c.0))
-      (closed_closed (close_line_closed depth) (statements_closed depth us rest others c.1))))
+      after_closed (line_closed depth _ (after_closed (leading_closed (t.Sign sign.If) tt) (after_open (test_open xs test is_test a.0) (space_begins (Word (t.Sign sign.OpenBlock) ∷ [])) begun)))
+      (after_closed (block_closed (suc depth) ts first is_first b.0)
+      (after_closed (else_closed depth _ (second_closed (suc depth) es second is_second c.0))
+      (after_closed (close_line_closed depth) (statements_closed depth us rest others c.1))))
 
   block_closed : (depth : ℕ) (ts : List Token) (b : BlockTree) → IsBlock ts b → AreLexed ts → Closed (block_marks depth b)
   block_closed depth _ _ (block ts b d) h = statements_closed depth ts b d (lexed_parts ts (t.Sign sign.CloseBlock ∷ []) h.1).0
@@ -213,7 +213,7 @@ mutual
 
 table_head : (x : Name) (n : ℕ) → IsLexed (t.Name x) → IsLexed (t.Number n) → Open (leading (t.Sign sign.Table) ++ Word (t.Name x) ∷ Space ∷ Word (t.Number n) ∷ [])
 table_head x n is_name is_number =
-    closed_then_open (leading_closed (t.Sign sign.Table) tt) (open_then_open (word_open (t.Name x) is_name) (space_begins (Word (t.Number n) ∷ [])) (closed_then_open space_closed (word_open (t.Number n) is_number)))
+    after_closed (leading_closed (t.Sign sign.Table) tt) (after_open (word_open (t.Name x) is_name) (space_begins (Word (t.Number n) ∷ [])) (after_closed space_closed (word_open (t.Number n) is_number)))
 
 arity_lexed : (n : ℕ) (a : _) → IsArity n a → AreLexed (t.Number (arity_number a) ∷ [])
 arity_lexed _ _ g.IsArity.one = (omega arith, tt)
@@ -222,35 +222,35 @@ arity_lexed _ _ g.IsArity.two = (omega arith, tt)
 table_closed : (ts : List Token) (d : TableDecl) → IsTable ts d → AreLexed ts → Closed (table_marks d)
 table_closed _ _ (g.IsTable.plain x n a is) h = ended_closed _ (table_head x (arity_number a) h.1.0 (arity_lexed n a is).0)
 table_closed _ _ (grows x n a is) h =
-    ended_closed _ (open_then_open (table_head x (arity_number a) h.1.0 (arity_lexed n a is).0) (space_begins (Word (t.Sign sign.Grow) ∷ [])) (closed_then_open space_closed (word_open (t.Sign sign.Grow) tt)))
+    ended_closed _ (after_open (table_head x (arity_number a) h.1.0 (arity_lexed n a is).0) (space_begins (Word (t.Sign sign.Grow) ∷ [])) (after_closed space_closed (word_open (t.Sign sign.Grow) tt)))
 
 name_open : (ts : List Token) (x : Name) → IsName ts x → AreLexed ts → Open (name_marks x)
 name_open _ _ (g.IsName.name x) h = word_open (t.Name x) h.0
 
 -- `) {`
 opened : Closed (Word (t.Sign sign.Close) ∷ Space ∷ Word (t.Sign sign.OpenBlock) ∷ [])
-opened = closed_closed close_bracket begun
+opened = after_closed (sign_closed sign.Close refl) begun
 
 params_closed : (ts : List Token) (xs : List Name) → IsParams ts xs → AreLexed ts → Closed (joined_by comma name_marks xs ++ Word (t.Sign sign.Close) ∷ Space ∷ Word (t.Sign sign.OpenBlock) ∷ [])
 params_closed _ _ g.IsParams.none h = opened
 params_closed _ _ (some ts xs d) h =
-    open_closed (joined_open IsName (t.Sign sign.Comma) comma name_marks name_open (leading_closed (t.Sign sign.Comma) tt) comma_begins ts xs d h) (sign_begins (t.Sign sign.Close) (Space ∷ Word (t.Sign sign.OpenBlock) ∷ []) (λ rest. refl)) opened
+    after_open (joined_open IsName (t.Sign sign.Comma) comma name_marks name_open (leading_closed (t.Sign sign.Comma) tt) comma_begins ts xs d h) (sign_begins (t.Sign sign.Close) (Space ∷ Word (t.Sign sign.OpenBlock) ∷ []) (λ rest. refl)) opened
 
 program_closed : (ts : List Token) (p : ProgramTree) → IsProgram ts p → AreLexed ts → Closed (program_marks p)
 program_closed _ _ (program x ps ts params body is_params is_block) h =
     let both : AreLexed ps × AreLexed (t.Sign sign.Close ∷ ts) = lexed_parts ps _ h.1.1.1 in
-    closed_closed (line_closed 0 _ (closed_closed (leading_closed (t.Sign sign.Program) tt) (open_closed (word_open (t.Name x) h.1.0) (sign_begins (t.Sign sign.Open) _ (λ rest. refl)) (closed_closed open_bracket (params_closed ps params is_params both.0)))))
-    (closed_closed (block_closed 1 ts body is_block both.1.1) (close_line_closed 0))
+    after_closed (line_closed 0 _ (after_closed (leading_closed (t.Sign sign.Program) tt) (after_open (word_open (t.Name x) h.1.0) (sign_begins (t.Sign sign.Open) _ (λ rest. refl)) (after_closed (sign_closed sign.Open refl) (params_closed ps params is_params both.0)))))
+    (after_closed (block_closed 1 ts body is_block both.1.1) (close_line_closed 0))
 
 each_closed : {A : Type 0} (P : List Token → A → Type 0) (marks : A → List Mark) → ((ts : List Token) (x : A) → P ts x → AreLexed ts → Closed (marks x))
     → (ts : List Token) (xs : List A) → Many P ts xs → AreLexed ts → Closed (flat_map marks xs)
 each_closed P marks each _ _ none h = nothing_closed
 each_closed P marks each _ _ (more ts us x xs d others) h =
     let both : AreLexed ts × AreLexed us = lexed_parts ts us h in
-    closed_closed (each ts x d both.0) (each_closed P marks each us xs others both.1)
+    after_closed (each ts x d both.0) (each_closed P marks each us xs others both.1)
 
 -- what is printed of a draft that a text has
 pub draft_closed : (ts : List Token) (d : DraftTree) → IsSet ts d → AreLexed ts → Closed (draft_marks d)
 draft_closed _ _ (set ts us tables programs are_tables are_programs) h =
     let both : AreLexed ts × AreLexed us = lexed_parts ts us h in
-    closed_closed (each_closed IsTable table_marks table_closed ts tables are_tables both.0) (each_closed IsProgram program_marks program_closed us programs are_programs both.1)
+    after_closed (each_closed IsTable table_marks table_closed ts tables are_tables both.0) (each_closed IsProgram program_marks program_closed us programs are_programs both.1)

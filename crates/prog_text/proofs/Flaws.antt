@@ -1,5 +1,5 @@
 -- The first flaw of a text, by the relation and by the function.
-use Rattle.std.proofs.Common.{◌≡◌, ◌↔◌, ◌∙◌, inl, inr, ℕ, zero, suc, ◌+◌, ◌<◌, ◌≤◌, ◌^◌, ◌==◌, nat_lt, List, [], ◌∷◌, ◌++◌, length, true, false, Option, Result, Ok, Err, refl, sym, ap, subst, slice_index, append_assoc, arith, true≢false}
+use Rattle.std.proofs.Common.{◌≡◌, ◌↔◌, ◌∙◌, ℕ, zero, suc, ◌+◌, ◌-◌, ◌<◌, ◌≤◌, ◌^◌, ◌==◌, ◌&&◌, nat_lt, List, [], ◌∷◌, ◌++◌, length, true, false, Option, Result, Ok, Err, refl, sym, ap, subst, slice_index, append_assoc, arith, true≢false}
 use Rattle.std.specs.List.{list_all, prefix_len}
 use Rattle.std.proofs.Math.Seq.{take-append_seam}
 use Rattle.std.proofs.lemmas.Bool.{and_parts, ltb-true, lt-ltb, le-ltb, false_from_ne_true}
@@ -14,8 +14,9 @@ use Rattle.prog_text.specs.declared.lexing.token.Token.TheVariants as t
 use Rattle.prog_text.specs.Spelling.{spelling, signs}
 use Rattle.prog_text.specs.Lexing.{is_letter, is_digit, is_word_byte, is_space, digits_value, Placed, Piece, Spot, before, ◌>>=◌, piece_at, word_at, number_at, sign_at, sign_among, flaw_at, tokens_from, tokens_of}
 use Rattle.prog_text.specs.Cut.{IsName, IsNumber, Spells, IsLongest, IsPiece, ArePieces, no_piece, one_more, HasFlaw, not_ascii, unknown, too_large, too_long, IsFirstFlaw}
-use Rattle.prog_text.proofs.Spelled.{IsAmong, letters, digits, sign, kind}
-use Rattle.prog_text.proofs.Longest.{IsFront, Goes, goes, BeginsNoneOf, AreSpelled, signs_spelled, spelled_alone, word_spelled}
+use Rattle.prog_text.proofs.Spelled.{IsAmong, among_passes, begins_sign}
+use Rattle.prog_text.proofs.Cutting.{one_piece}
+use Rattle.prog_text.proofs.Longest.{IsFront, Goes, goes, is_sign, sign_fits, BeginsNoneOf, front_other, word_spelled}
 use Rattle.prog_text.proofs.Converse.{Stops, prefix_run, letter_begins, digit_begins, letters_stop, digits_stop, is_begun, behind_is_shorter, piece_begun, piece_is}
 
 -- ---- what the function finds is the first flaw
@@ -59,12 +60,13 @@ flawed_from (suc n) (b ∷ rest) enough =
 -- ---- the function finds each flaw
 
 -- where no token begins, no sign does
-no_sign : (us : List Token) (bytes : List ℕ) → AreSpelled Spells us → ((u : Token) (word behind : List ℕ) → Spells u word → bytes ≡ word ++ behind → ⊥) → BeginsNoneOf us bytes
-no_sign [] bytes spelled none = tt
-no_sign (u ∷ us) bytes spelled none = (
-  false_from_ne_true _ (λ e. none u (spelling u) _ spelled.0 ((starts_is Decides-eqb bytes (spelling u) true (sym e)).0 refl)),
-  no_sign us bytes spelled.1 none,
-)
+no_sign : (us : List Token) (bytes : List ℕ) → list_all is_sign us ≡ true → ((u : Token) (word behind : List ℕ) → Spells u word → bytes ≡ word ++ behind → ⊥) → BeginsNoneOf us bytes
+no_sign [] bytes signed none = tt
+no_sign (u ∷ us) bytes signed none =
+    let both : (is_sign u ≡ true) × (list_all is_sign us ≡ true) = and_parts _ _ signed in (
+      false_from_ne_true _ (λ e. none u (spelling u) _ (sign_fits u both.0).0 ((starts_is Decides-eqb bytes (spelling u) true (sym e)).0 refl)),
+      no_sign us bytes both.1 none,
+    )
 
 no_sign_there : (us : List Token) (bytes : List ℕ) → BeginsNoneOf us bytes → sign_among us bytes ≡ flaw_at bytes
 no_sign_there [] bytes none = refl
@@ -77,50 +79,21 @@ lone_flaw b rest no_space no_comment none =
     let comment : (b == 35) ≡ false = false_from_ne_true _ (λ e. no_comment ((Decides-eqb b 35).0 e)) in
     let letter : is_letter b ≡ false = false_from_ne_true _ (λ e. none _ (b ∷ []) rest (word_spelled (b ∷ []) e (rw e refl)) refl) in
     let digit : is_digit b ≡ false = false_from_ne_true _ (λ e. none (t.Number (digits_value (b ∷ []))) (b ∷ []) rest (record { begins = e; goes_on = rw e refl; value = refl }) refl) in
-    rw (no_space, comment, letter, digit) (no_sign_there signs (b ∷ rest) (no_sign signs (b ∷ rest) (spelled_alone signs signs_spelled) none))
+    rw (no_space, comment, letter, digit) (no_sign_there signs (b ∷ rest) (no_sign signs (b ∷ rest) refl none))
 
--- a sign begins with a byte below 128
-among_small : (us : List Token) (word : List ℕ) → list_all (λ u. nat_lt (slice_index (spelling u) 0) 128) us ≡ true → IsAmong us word → slice_index word 0 < 128
-among_small [] word small there = absurd there
-among_small (u ∷ us) word small (inl e) = rw e (ltb-true _ _ (and_parts _ _ small).0)
-among_small (u ∷ us) word small (inr e) = among_small us word (and_parts _ _ small).1 e
-
-letter_small : (b : ℕ) → is_letter b ≡ true → b < 128
-letter_small b h = grind (arith, common_steps, h)
-
-digit_small : (b : ℕ) → is_digit b ≡ true → b < 128
-digit_small b h = grind (arith, common_steps, h)
-
-space_small : (b : ℕ) → is_space b ≡ true → b < 128
-space_small b h = grind (arith, common_steps, h)
-
--- and so does each token
-first_small : (u : Token) (word : List ℕ) → Spells u word → slice_index word 0 < 128
-first_small u word spells =
-    elim (kind u word spells) [
-      | letters begins all ↦ letter_small _ begins
-      | digits begins all ↦ digit_small _ begins
-      | sign there ↦ among_small signs word refl there
-    ]
-
-no_empty : (us : List Token) → list_all (λ u. nat_lt 0 (length (spelling u))) us ≡ true → IsAmong us [] → ⊥
-no_empty [] some there = there
-no_empty (u ∷ us) some (inl e) =
-    let begun : 0 < length (spelling u) = ltb-true _ _ (and_parts _ _ some).0 in
-    omega (arith, ap length e, begun)
-no_empty (u ∷ us) some (inr e) = no_empty us (and_parts _ _ some).1 e
+-- a token begins with a byte below 128
+begins_past : (b : ℕ) (rest word behind : List ℕ) → 128 ≤ b → b ∷ rest ≡ word ++ behind → (nat_lt 0 (length word) && nat_lt (slice_index word 0) 128) ≡ true → ⊥
+begins_past b rest [] behind large parts h = true≢false (sym h)
+begins_past b rest (x ∷ word) behind large parts h =
+    let first : b ≡ x = ap (λ xs. slice_index xs 0) parts in
+    let small : x < 128 = ltb-true _ _ (and_parts _ _ h).1 in
+    omega (arith, first, small, large)
 
 none_past : (b : ℕ) (rest : List ℕ) → 128 ≤ b → (u : Token) (word behind : List ℕ) → Spells u word → b ∷ rest ≡ word ++ behind → ⊥
-none_past b rest large u [] behind spells parts =
-    elim (kind u [] spells) [
-      | letters begins all ↦ true≢false (sym begins)
-      | digits begins all ↦ true≢false (sym begins)
-      | sign there ↦ no_empty signs refl there
-    ]
-none_past b rest large u (x ∷ word) behind spells parts =
-    let first : b ≡ x = ap (λ xs. slice_index xs 0) parts in
-    let small : x < 128 = first_small u (x ∷ word) spells in
-    omega (arith, first, small, large)
+none_past b rest large u word behind spells parts =
+    let other : is_word_byte b ≡ false = false_from_ne_true _ (λ e. grind (arith, common_steps, e, large)) in
+    let there : IsAmong signs word = begins_sign u word spells (front_other b rest word behind other parts) in
+    begins_past b rest word behind large parts (among_passes (λ w. nat_lt 0 (length w) && nat_lt (slice_index w 0) 128) signs word refl there)
 
 long_word : (c : ℕ) (front behind : List ℕ) → list_all is_word_byte (c ∷ front) ≡ true → 32 < length (c ∷ front) → Stops is_word_byte behind → word_at (c ∷ (front ++ behind)) ≡ Err (NameTooLong, length (c ∷ (front ++ behind)))
 unfolding word_at
@@ -155,7 +128,7 @@ large_piece n (c ∷ front) behind h large longest =
 
 flaw_piece : (flaw : Flaw) (bytes : List ℕ) → HasFlaw flaw bytes → piece_at bytes ≡ Err (flaw, length bytes)
 flaw_piece _ _ (not_ascii b rest large) =
-    let space : is_space b ≡ false = false_from_ne_true _ (λ e. let small : b < 128 = space_small b e in omega (arith, small, large)) in
+    let space : is_space b ≡ false = false_from_ne_true _ (λ e. grind (arith, common_steps, e, large)) in
     let big : nat_lt b 128 ≡ false = le-ltb _ _ large in
     lone_flaw b rest space (λ e. omega (arith, e, large)) (none_past b rest large) ∙ rw big refl
 flaw_piece _ _ (unknown b rest small no_space no_comment none) =
@@ -171,25 +144,14 @@ flaw_begun _ _ (unknown b rest small no_space no_comment none) = omega arith
 flaw_begun _ _ (too_large n word behind h large longest) = omega (arith, length-append word behind, is_begun (t.Number n) word h)
 flaw_begun _ _ (too_long word behind h long longest) = omega (arith, length-append word behind, long)
 
-flaw_now : (flaw : Flaw) (bytes : List ℕ) (n : ℕ) → 0 < length bytes → length bytes ≤ n → piece_at bytes ≡ Err (flaw, length bytes) → tokens_from n bytes ≡ Err (flaw, length bytes)
-unfolding tokens_from
-flaw_now flaw [] n begun enough is = absurd (omega (arith, begun))
-flaw_now flaw (b ∷ rest) zero begun enough is = absurd (omega (arith, enough))
-flaw_now flaw (b ∷ rest) (suc n) begun enough is = rw is refl
-
-flaw_later : (flaw : Flaw) (left : ℕ) (bytes behind : List ℕ) (found : Option Token) (n : ℕ) → piece_at bytes ≡ Ok (found, behind) → length behind < length bytes
-    → ((m : ℕ) → length behind ≤ m → tokens_from m behind ≡ Err (flaw, left)) → length bytes ≤ n → tokens_from n bytes ≡ Err (flaw, left)
-unfolding tokens_from
-flaw_later flaw left [] behind found n is shorter next enough = absurd (omega (arith, shorter))
-flaw_later flaw left (b ∷ bytes) behind found zero is shorter next enough = absurd (omega (arith, enough))
-flaw_later flaw left (b ∷ bytes) behind found (suc n) is shorter next enough = let read : tokens_from n behind ≡ Err (flaw, left) = next n (omega (arith, shorter, enough)) in rw (is, read) refl
-
 flaw_behind : (front rest : List ℕ) → ArePieces front rest → (flaw : Flaw) → HasFlaw flaw rest → (n : ℕ) → length (front ++ rest) ≤ n → tokens_from n (front ++ rest) ≡ Err (flaw, length rest)
-flaw_behind _ _ (no_piece rest) flaw h n enough = flaw_now flaw rest n (flaw_begun flaw rest h) enough (flaw_piece flaw rest h)
+flaw_behind _ _ (no_piece rest) flaw h n enough = one_piece rest n (flaw_begun flaw rest h) enough ∙ rw (flaw_piece flaw rest h) refl
 flaw_behind _ _ (one_more found piece front rest is pieces) flaw h n enough =
     let parts = append_assoc piece front rest in
     let shorter = behind_is_shorter piece (front ++ rest) (piece_begun found piece (front ++ rest) is) in
-    rw parts (flaw_later flaw (length rest) (piece ++ (front ++ rest)) (front ++ rest) found n (piece_is found piece (front ++ rest) is) shorter (flaw_behind front rest pieces flaw h) (subst (λ (xs : List ℕ). length xs ≤ n) parts enough))
+    let enough_here : length (piece ++ (front ++ rest)) ≤ n = subst (λ (xs : List ℕ). length xs ≤ n) parts enough in
+    let read : tokens_from (n - 1) (front ++ rest) ≡ Err (flaw, length rest) = flaw_behind front rest pieces flaw h (n - 1) (omega (arith, shorter, enough_here)) in
+    rw parts (one_piece (piece ++ (front ++ rest)) n (omega (arith, shorter)) enough_here ∙ rw (piece_is found piece (front ++ rest) is, read) refl)
 
 first_flaw_found : (bytes : List ℕ) (flaw : Flaw) (left place : ℕ) → IsFirstFlaw bytes flaw place → length bytes ≡ place + left → tokens_of bytes ≡ Err (flaw, left)
 first_flaw_found bytes flaw left place h parts =

@@ -36,7 +36,7 @@ nothing_cut = record { placed = []; cut = end; same = refl }
 canonical_cut : (d : DraftTree) → Closed (draft_marks d) → IsCutInto (canonical d) (words_of (draft_marks d))
 canonical_cut d closed =
     subst (λ (bytes : List ℕ). IsCutInto bytes (words_of (draft_marks d))) (append-nil (canonical d))
-    (subst (λ (ts : List Token). IsCutInto (canonical d ++ []) ts) (append-nil (words_of (draft_marks d))) (closed.cuts [] [] nothing_cut))
+    (subst (λ (ts : List Token). IsCutInto (canonical d ++ []) ts) (append-nil (words_of (draft_marks d))) (closed.cuts [] [] tt nothing_cut))
 
 accepted : (d : DraftTree) → length (canonical d) ≤ text_limit → IsCutInto (canonical d) (words_of (draft_marks d)) → too_deep (words_of (draft_marks d)) ≡ None → IsSet (words_of (draft_marks d)) d → Accepts (canonical d) d
 accepted d short into shallow spelled = record {

@@ -1,7 +1,8 @@
 -- What bytes that spell a token are made of.
-use Rattle.std.proofs.Common.{◌≡◌, ◌⊎◌, inl, inr, ℕ, ◌&&◌, ◌||◌, not, List, [], ◌∷◌, ◌++◌, Bool, true, false, refl, sym, subst, slice_index, bytes_eq, arith, true≢false}
+use Rattle.std.proofs.Common.{◌≡◌, ◌∙◌, ◌⊎◌, inl, inr, ℕ, ◌&&◌, ◌||◌, not, List, [], ◌∷◌, ◌++◌, Bool, true, false, refl, sym, ap, subst, slice_index, bytes_eq, arith, true≢false}
 use Rattle.std.specs.List.{list_all}
 use Rattle.std.proofs.lemmas.Bool.{and_parts}
+use Rattle.std.proofs.lemmas.Grind.{common_steps}
 use Rattle.std.proofs.lemmas.Slice.Eq.{bytes_eq-Decides}
 use Rattle.prog_text.specs.declared.lexing.token.Token.{Token}
 use Rattle.prog_text.specs.declared.lexing.token.Sign.TheVariants.{Table}
@@ -9,6 +10,7 @@ use Rattle.prog_text.specs.declared.lexing.token.Token.TheVariants as t
 use Rattle.prog_text.specs.Spelling.{spelling, signs}
 use Rattle.prog_text.specs.Lexing.{is_letter, is_digit, is_word_byte}
 use Rattle.prog_text.specs.Cut.{Spells}
+use Rattle.prog_text.proofs.WordBytes.{letter_passes}
 
 -- the bytes are the spelling of one of these tokens
 abbrev pub IsAmong : List Token → List ℕ → Type 0
@@ -46,6 +48,13 @@ kind u word h = subst Kind (sym h) (kind_tested (spelling u) refl)
 
 -- ---- and of no other
 
+pub clash : {b : Bool} → b ≡ true → b ≡ false → ⊥
+clash yes_it no_it = true≢false (sym yes_it ∙ no_it)
+
+pub not_is : (b : Bool) → not b ≡ true → b ≡ false
+not_is true h = sym h
+not_is false h = refl
+
 -- a byte inside passes too
 pub passes_inside : (p : ℕ → Bool) (front more : List ℕ) (b : ℕ) → list_all p (front ++ b ∷ more) ≡ true → p b ≡ true
 passes_inside p [] more b h = (and_parts _ _ h).0
@@ -54,18 +63,33 @@ passes_inside p (x ∷ front) more b h = passes_inside p front more b (and_parts
 pub letter_is_no_digit : (b : ℕ) → is_letter b ≡ true → is_digit b ≡ true → ⊥
 letter_is_no_digit b letter digit = grind (arith, letter, digit)
 
--- each of these tokens begins with a byte of no word
-abbrev begin_no_word : List Token → Bool
-begin_no_word us = list_all (λ u. not (is_word_byte (slice_index (spelling u) 0))) us
+pub digit_passes : (b : ℕ) → is_digit b ≡ true → is_word_byte b ≡ true
+digit_passes b h = grind (arith, common_steps, h)
 
-pub not_true : (b : Bool) → not b ≡ true → b ≡ true → ⊥
-not_true true h e = true≢false (sym h)
-not_true false h e = true≢false (sym e)
+-- what a test says of the spelling of each of these tokens, it says of the bytes
+pub among_passes : (p : List ℕ → Bool) (us : List Token) (word : List ℕ) → list_all (λ u. p (spelling u)) us ≡ true → IsAmong us word → p word ≡ true
+among_passes p [] word all there = absurd there
+among_passes p (u ∷ us) word all (inl e) = ap p e ∙ (and_parts _ _ all).0
+among_passes p (u ∷ us) word all (inr e) = among_passes p us word (and_parts _ _ all).1 e
 
-among_begins : (us : List Token) (word : List ℕ) → begin_no_word us ≡ true → IsAmong us word → is_word_byte (slice_index word 0) ≡ true → ⊥
-among_begins [] word free there first = there
-among_begins (u ∷ us) word free (inl e) first = not_true _ (and_parts _ _ free).0 (subst (λ w. is_word_byte (slice_index w 0) ≡ true) e first)
-among_begins (u ∷ us) word free (inr e) first = among_begins us word (and_parts _ _ free).1 e first
+-- a sign begins with a byte of no word
+pub sign_begins : (word : List ℕ) → IsAmong signs word → is_word_byte (slice_index word 0) ≡ false
+sign_begins word there = not_is _ (among_passes (λ w. not (is_word_byte (slice_index w 0))) signs word refl there)
 
-pub sign_begins : (word : List ℕ) → IsAmong signs word → is_word_byte (slice_index word 0) ≡ true → ⊥
-sign_begins word there first = among_begins signs word refl there first
+-- what begins with a byte of no word is a sign
+pub begins_sign : (u : Token) (word : List ℕ) → Spells u word → is_word_byte (slice_index word 0) ≡ false → IsAmong signs word
+begins_sign u word spells other =
+    elim (kind u word spells) [
+      | letters first all ↦ absurd (clash (letter_passes (slice_index word 0) first) other)
+      | digits first all ↦ absurd (clash (digit_passes (slice_index word 0) first) other)
+      | sign there ↦ there
+    ]
+
+-- and so is what has such a byte inside
+pub goes_on_sign : (u : Token) (word : List ℕ) (b : ℕ) (more : List ℕ) → Spells u (word ++ b ∷ more) → is_word_byte b ≡ false → IsAmong signs (word ++ b ∷ more)
+goes_on_sign u word b more spells other =
+    elim (kind u (word ++ b ∷ more) spells) [
+      | letters first all ↦ absurd (clash (passes_inside is_word_byte word more b all) other)
+      | digits first all ↦ absurd (clash (digit_passes b (passes_inside is_digit word more b all)) other)
+      | sign there ↦ there
+    ]
