@@ -1,14 +1,15 @@
 -- What is printed of a phrase spells it, and is no deeper than what was read.
-use Rattle.std.proofs.Common.{◌≡◌, ◌∙◌, ℕ, suc, List, [], ◌∷◌, ◌++◌, refl, sym, ap, subst, arith, append_assoc}
+use Rattle.std.proofs.Common.{◌≡◌, ◌∙◌, ℕ, suc, List, [], ◌∷◌, ◌++◌, Bool, true, false, refl, sym, ap, subst, arith, append_assoc}
 use Rattle.std.specs.List.{flat_map}
 use Rattle.std.proofs.lemmas.List.Elements.{filter_map-append}
 use Rattle.prog_tree.specs.Syntax.{Name, ExprTree, RelationSign, TestTree, KeyTree, RangeTree, StatementTree, BlockTree, BlockEnd, Then, Branch}
+use Rattle.prog_tree.specs.declared.table.Arity.{Arity}
 use Rattle.prog_text.specs.declared.lexing.token.Token.{Token}
 use Rattle.prog_text.specs.declared.lexing.token.Sign.TheVariants as sign
 use Rattle.prog_text.specs.declared.lexing.token.Token.TheVariants as t
-use Rattle.prog_text.specs.Grammar.{Many, none, more, Led, led, Separated, separated, IsExpr, IsRelation, IsComparison, plain, negated, IsConjunction, IsTest, IsKey, IsRange, IsStatement, bind, get, need, count, sum, lacks, put, insert, delete, keep, reply, abort, IsStatements, nothing, branch, IsBlock, block, IsElse, missing, present, IsTable, grows, IsName, IsParams, some, IsProgram, program, IsSet, set}
+use Rattle.prog_text.specs.Grammar.{Many, none, more, Led, led, Separated, separated, IsExpr, IsRelation, IsComparison, plain, negated, IsConjunction, IsTest, IsKey, IsRange, IsStatement, bind, get, need, count, sum, lacks, put, insert, delete, keep, reply, abort, IsStatements, nothing, branch, IsBlock, block, IsElse, missing, present, IsArity, IsTable, grows, IsName, IsParams, some, IsProgram, program, IsSet, set}
 use Rattle.prog_text.specs.Grammar as g
-use Rattle.prog_text.specs.Canonical.{Mark, Word, Space, LineEnd, words_of, spaced, expr_marks, relation_token, comparison_marks, each_behind, joined_by, conjunction_marks, test_marks, comma, key_marks, range_marks, statement_marks, with_semicolon, statement_line, if_line, close_line, else_marks, block_marks, table_marks, name_marks, program_marks, draft_marks}
+use Rattle.prog_text.specs.Canonical.{Mark, Word, Space, LineEnd, words_of, spaced, expr_marks, relation_token, comparison_marks, each_behind, joined_by, conjunction_marks, test_marks, comma, key_marks, range_marks, statement_marks, with_semicolon, statement_line, if_line, close_line, else_marks, block_marks, arity_number, table_marks, name_marks, program_marks, draft_marks}
 use Rattle.prog_text.proofs.Lighter.{Lighter, nothing_lighter, same_lighter, behind_lighter, lighter_append, sides_lighter, ended_lighter}
 use Rattle.prog_text.proofs.SpelledAgain.{words_append, side_words, expr_spelled, expr_lighter}
 
@@ -62,25 +63,23 @@ relation_is _ _ g.greater_equal = refl
 relation_is _ _ g.equal = refl
 relation_is _ _ g.not_equal = refl
 
+-- two sides with a sign between them that compares, also behind a `not`
+compared_again : (n : Bool) (front : List Token) → ((ts us : List Token) (u : Token) (a b : ExprTree) (r : RelationSign) → IsExpr ts a → IsRelation u r → IsExpr us b → IsComparison (front ++ (ts ++ u ∷ us)) (record { negated = n; left = a; relation = r; right = b }))
+    → (ts us : List Token) (u : Token) (a b : ExprTree) (r : RelationSign) → IsExpr ts a → IsRelation u r → IsExpr us b
+    → Again IsComparison (front ++ words_of (expr_marks a ++ (spaced (relation_token r) ++ expr_marks b))) (front ++ (ts ++ u ∷ us)) (record { negated = n; left = a; relation = r; right = b })
+compared_again n front form ts us u a b r left compares right =
+    let first : Again IsExpr (words_of (expr_marks a)) ts a = expr_again ts a left in
+    let second : Again IsExpr (words_of (expr_marks b)) us b = expr_again us b right in
+    let same : u ≡ relation_token r = relation_is u r compares in
+    let shown : IsRelation (relation_token r) r = subst (λ (v : Token). IsRelation v r) same compares in
+    again_by IsComparison _ _ _ _ (ap (λ (ws : List Token). front ++ ws) (side_words (expr_marks a) (expr_marks b) (relation_token r))) (record {
+      spelled = form _ _ (relation_token r) a b r first.spelled shown second.spelled;
+      lighter = rw same (lighter_append (same_lighter front) (sides_lighter (relation_token r) first.lighter second.lighter));
+    })
+
 comparison_again : AreAgain IsComparison comparison_marks
-comparison_again _ c (g.IsComparison.plain ts us u a b r left compares right) =
-    let first : Again IsExpr (words_of (expr_marks a)) ts a = expr_again ts a left in
-    let second : Again IsExpr (words_of (expr_marks b)) us b = expr_again us b right in
-    let same : u ≡ relation_token r = relation_is u r compares in
-    let shown : IsRelation (relation_token r) r = subst (λ (v : Token). IsRelation v r) same compares in
-    again_by IsComparison _ _ (ts ++ u ∷ us) c (side_words (expr_marks a) (expr_marks b) (relation_token r)) (record {
-      spelled = g.IsComparison.plain _ _ (relation_token r) a b r first.spelled shown second.spelled;
-      lighter = rw same (sides_lighter (relation_token r) first.lighter second.lighter);
-    })
-comparison_again _ c (negated ts us u a b r left compares right) =
-    let first : Again IsExpr (words_of (expr_marks a)) ts a = expr_again ts a left in
-    let second : Again IsExpr (words_of (expr_marks b)) us b = expr_again us b right in
-    let same : u ≡ relation_token r = relation_is u r compares in
-    let shown : IsRelation (relation_token r) r = subst (λ (v : Token). IsRelation v r) same compares in
-    again_by IsComparison _ _ (t.Sign sign.Not ∷ (ts ++ u ∷ us)) c (ap (λ (ws : List Token). t.Sign sign.Not ∷ ws) (side_words (expr_marks a) (expr_marks b) (relation_token r))) (record {
-      spelled = negated _ _ (relation_token r) a b r first.spelled shown second.spelled;
-      lighter = rw same (behind_lighter (t.Sign sign.Not) (sides_lighter (relation_token r) first.lighter second.lighter));
-    })
+comparison_again _ _ (g.IsComparison.plain ts us u a b r left compares right) = compared_again false [] g.IsComparison.plain ts us u a b r left compares right
+comparison_again _ _ (negated ts us u a b r left compares right) = compared_again true (t.Sign sign.Not ∷ []) negated ts us u a b r left compares right
 
 conjunction_again : AreAgain IsConjunction conjunction_marks
 conjunction_again = joined_again IsComparison (t.Sign sign.And) (spaced (t.Sign sign.And)) comparison_marks (λ others. refl) comparison_again
@@ -154,83 +153,57 @@ line_rest = Word (t.Sign sign.Semicolon) ∷ LineEnd ∷ []
 last_words : (a b : List Mark) (u : Token) → words_of ((a ++ (spaced u ++ b)) ++ line_rest) ≡ words_of a ++ u ∷ (words_of b ++ statement_end)
 last_words a b u = simp (filter_map-append, append_assoc)
 
+-- A phrase behind some words, to the end of the line.
+ended_again : {A : Type 0} (P : List Token → A → Type 0) (front : List Token) (marks : List Mark) (ts : List Token) (x : A) (s : StatementTree)
+    → Again P (words_of marks) ts x → ((us : List Token) → P us x → IsStatement (front ++ (us ++ statement_end)) s)
+    → Again IsStatement (front ++ words_of (with_semicolon marks)) (front ++ (ts ++ statement_end)) s
+ended_again P front marks ts x s here form =
+    again_by IsStatement _ _ _ s (ap (λ (us : List Token). front ++ us) (words_append marks line_rest)) (record {
+      spelled = form _ here.spelled;
+      lighter = lighter_append (same_lighter front) (ended_lighter (t.Sign sign.Semicolon) here.lighter);
+    })
+
+-- A key, a token and an expression behind some words, to the end of the line.
+key_and_again : (front : List Token) (u : Token) (table : Name) (ks ts : List Token) (k : KeyTree) (e : ExprTree) (s : StatementTree)
+    → IsKey ks table k → IsExpr ts e → ((ks ts : List Token) → IsKey ks table k → IsExpr ts e → IsStatement (front ++ (ks ++ u ∷ (ts ++ statement_end))) s)
+    → Again IsStatement (front ++ words_of (with_semicolon (key_marks table k ++ (spaced u ++ expr_marks e)))) (front ++ (ks ++ u ∷ (ts ++ statement_end))) s
+key_and_again front u table ks ts k e s is_key d form =
+    let key : Again (λ us k. IsKey us table k) (words_of (key_marks table k)) ks k = key_again ks table k is_key in
+    let value : Again IsExpr (words_of (expr_marks e)) ts e = expr_again ts e d in
+    again_by IsStatement _ _ _ s (ap (λ (us : List Token). front ++ us) (last_words (key_marks table k) (expr_marks e) u)) (record {
+      spelled = form _ _ key.spelled value.spelled;
+      lighter = lighter_append (same_lighter front) (sides_lighter u key.lighter (ended_lighter (t.Sign sign.Semicolon) value.lighter));
+    })
+
+-- such statements with a key, a range or an expression alone
+key_line : (front : List Token) (table : Name) (ks : List Token) (k : KeyTree) (s : StatementTree) → IsKey ks table k → ((us : List Token) → IsKey us table k → IsStatement (front ++ (us ++ statement_end)) s)
+    → Again IsStatement (front ++ words_of (with_semicolon (key_marks table k))) (front ++ (ks ++ statement_end)) s
+key_line front table ks k s d form = ended_again (λ us k. IsKey us table k) front (key_marks table k) ks k s (key_again ks table k d) form
+
+range_line : (front : List Token) (table : Name) (rs : List Token) (r : RangeTree) (s : StatementTree) → IsRange rs table r → ((us : List Token) → IsRange us table r → IsStatement (front ++ (us ++ statement_end)) s)
+    → Again IsStatement (front ++ words_of (with_semicolon (range_marks table r))) (front ++ (rs ++ statement_end)) s
+range_line front table rs r s d form = ended_again (λ us r. IsRange us table r) front (range_marks table r) rs r s (range_again rs table r d) form
+
+expr_line : (front ts : List Token) (e : ExprTree) (s : StatementTree) → IsExpr ts e → ((us : List Token) → IsExpr us e → IsStatement (front ++ (us ++ statement_end)) s)
+    → Again IsStatement (front ++ words_of (with_semicolon (expr_marks e))) (front ++ (ts ++ statement_end)) s
+expr_line front ts e s d form = ended_again IsExpr front (expr_marks e) ts e s (expr_again ts e d) form
+
+-- the words before what is bound to a name
 abbrev bound : Name → List Token → List Token
 bound x ts = t.Sign sign.Let ∷ t.Name x ∷ t.Sign sign.Equals ∷ ts
 
-bound_lighter : (x : Name) (us ts : List Token) → Lighter us ts → Lighter (bound x us) (bound x ts)
-bound_lighter x us ts h = behind_lighter (t.Sign sign.Let) (behind_lighter (t.Name x) (behind_lighter (t.Sign sign.Equals) h))
-
--- a word, a key and the end of the line
-key_line_again : (u : Token) (table : Name) (ks : List Token) (k : KeyTree) (s : StatementTree)
-    → IsKey ks table k → ((us : List Token) → IsKey us table k → IsStatement (u ∷ (us ++ statement_end)) s)
-    → Again IsStatement (u ∷ words_of (with_semicolon (key_marks table k))) (u ∷ (ks ++ statement_end)) s
-key_line_again u table ks k s d line =
-    let key : Again (λ us k. IsKey us table k) (words_of (key_marks table k)) ks k = key_again ks table k d in
-    again_by IsStatement _ _ _ s
-    (ap (λ (us : List Token). u ∷ us) (words_append (key_marks table k) line_rest))
-    (record {
-      spelled = line _ key.spelled;
-      lighter = behind_lighter u (ended_lighter (t.Sign sign.Semicolon) key.lighter);
-    })
-
 statement_again : AreAgain IsStatement (λ s. with_semicolon (statement_marks s))
-statement_again _ s (bind x ts e d) =
-    let value : Again IsExpr (words_of (expr_marks e)) ts e = expr_again ts e d in
-    again_by IsStatement _ _ _ s (ap (bound x) (words_append (expr_marks e) line_rest)) (record {
-      spelled = bind x _ e value.spelled;
-      lighter = bound_lighter x _ _ (ended_lighter (t.Sign sign.Semicolon) value.lighter);
-    })
-statement_again _ s (get x table ks ts k e is_key d) =
-    let key : Again (λ us k. IsKey us table k) (words_of (key_marks table k)) ks k = key_again ks table k is_key in
-    let value : Again IsExpr (words_of (expr_marks e)) ts e = expr_again ts e d in
-    again_by IsStatement _ _ _ s (ap (λ (us : List Token). bound x (t.Sign sign.Get ∷ us)) (last_words (key_marks table k) (expr_marks e) (t.Sign sign.Else))) (record {
-      spelled = get x table _ _ k e key.spelled value.spelled;
-      lighter = bound_lighter x _ _ (behind_lighter (t.Sign sign.Get) (sides_lighter (t.Sign sign.Else) key.lighter (ended_lighter (t.Sign sign.Semicolon) value.lighter)));
-    })
-statement_again _ s (need x table ks k d) =
-    let key : Again (λ us k. IsKey us table k) (words_of (key_marks table k)) ks k = key_again ks table k d in
-    again_by IsStatement _ _ _ s (ap (λ (us : List Token). bound x (t.Sign sign.Need ∷ us)) (words_append (key_marks table k) line_rest)) (record {
-      spelled = need x table _ k key.spelled;
-      lighter = bound_lighter x _ _ (behind_lighter (t.Sign sign.Need) (ended_lighter (t.Sign sign.Semicolon) key.lighter));
-    })
-statement_again _ s (count x table rs r d) =
-    let range : Again (λ us r. IsRange us table r) (words_of (range_marks table r)) rs r = range_again rs table r d in
-    again_by IsStatement _ _ _ s (ap (λ (us : List Token). bound x (t.Sign sign.Count ∷ us)) (words_append (range_marks table r) line_rest)) (record {
-      spelled = count x table _ r range.spelled;
-      lighter = bound_lighter x _ _ (behind_lighter (t.Sign sign.Count) (ended_lighter (t.Sign sign.Semicolon) range.lighter));
-    })
-statement_again _ s (sum x table rs r d) =
-    let range : Again (λ us r. IsRange us table r) (words_of (range_marks table r)) rs r = range_again rs table r d in
-    again_by IsStatement _ _ _ s (ap (λ (us : List Token). bound x (t.Sign sign.Sum ∷ us)) (words_append (range_marks table r) line_rest)) (record {
-      spelled = sum x table _ r range.spelled;
-      lighter = bound_lighter x _ _ (behind_lighter (t.Sign sign.Sum) (ended_lighter (t.Sign sign.Semicolon) range.lighter));
-    })
-statement_again _ s (lacks table ks k d) =
-    key_line_again (t.Sign sign.Lacks) table ks k s d (λ us. lacks table us k)
-statement_again _ s (put table ks ts k e is_key d) =
-    let key : Again (λ us k. IsKey us table k) (words_of (key_marks table k)) ks k = key_again ks table k is_key in
-    let value : Again IsExpr (words_of (expr_marks e)) ts e = expr_again ts e d in
-    again_by IsStatement _ _ _ s (ap (λ (us : List Token). t.Sign sign.Put ∷ us) (last_words (key_marks table k) (expr_marks e) (t.Sign sign.Equals))) (record {
-      spelled = put table _ _ k e key.spelled value.spelled;
-      lighter = behind_lighter (t.Sign sign.Put) (sides_lighter (t.Sign sign.Equals) key.lighter (ended_lighter (t.Sign sign.Semicolon) value.lighter));
-    })
-statement_again _ s (insert table ks ts k e is_key d) =
-    let key : Again (λ us k. IsKey us table k) (words_of (key_marks table k)) ks k = key_again ks table k is_key in
-    let value : Again IsExpr (words_of (expr_marks e)) ts e = expr_again ts e d in
-    again_by IsStatement _ _ _ s (ap (λ (us : List Token). t.Sign sign.Insert ∷ us) (last_words (key_marks table k) (expr_marks e) (t.Sign sign.Equals))) (record {
-      spelled = insert table _ _ k e key.spelled value.spelled;
-      lighter = behind_lighter (t.Sign sign.Insert) (sides_lighter (t.Sign sign.Equals) key.lighter (ended_lighter (t.Sign sign.Semicolon) value.lighter));
-    })
-statement_again _ s (delete table ks k d) =
-    key_line_again (t.Sign sign.Delete) table ks k s d (λ us. delete table us k)
-statement_again _ s (keep table ks k d) =
-    key_line_again (t.Sign sign.Keep) table ks k s d (λ us. keep table us k)
-statement_again _ s (reply ts e d) =
-    let value : Again IsExpr (words_of (expr_marks e)) ts e = expr_again ts e d in
-    again_by IsStatement _ _ _ s (ap (λ (us : List Token). t.Sign sign.Reply ∷ us) (words_append (expr_marks e) line_rest)) (record {
-      spelled = reply _ e value.spelled;
-      lighter = behind_lighter (t.Sign sign.Reply) (ended_lighter (t.Sign sign.Semicolon) value.lighter);
-    })
+statement_again _ s (bind x ts e d) = expr_line (bound x []) ts e s d (λ us. bind x us e)
+statement_again _ s (get x table ks ts k e is_key d) = key_and_again (bound x (t.Sign sign.Get ∷ [])) (t.Sign sign.Else) table ks ts k e s is_key d (λ us vs. get x table us vs k e)
+statement_again _ s (need x table ks k d) = key_line (bound x (t.Sign sign.Need ∷ [])) table ks k s d (λ us. need x table us k)
+statement_again _ s (count x table rs r d) = range_line (bound x (t.Sign sign.Count ∷ [])) table rs r s d (λ us. count x table us r)
+statement_again _ s (sum x table rs r d) = range_line (bound x (t.Sign sign.Sum ∷ [])) table rs r s d (λ us. sum x table us r)
+statement_again _ s (lacks table ks k d) = key_line (t.Sign sign.Lacks ∷ []) table ks k s d (λ us. lacks table us k)
+statement_again _ s (put table ks ts k e is_key d) = key_and_again (t.Sign sign.Put ∷ []) (t.Sign sign.Equals) table ks ts k e s is_key d (λ us vs. put table us vs k e)
+statement_again _ s (insert table ks ts k e is_key d) = key_and_again (t.Sign sign.Insert ∷ []) (t.Sign sign.Equals) table ks ts k e s is_key d (λ us vs. insert table us vs k e)
+statement_again _ s (delete table ks k d) = key_line (t.Sign sign.Delete ∷ []) table ks k s d (λ us. delete table us k)
+statement_again _ s (keep table ks k d) = key_line (t.Sign sign.Keep ∷ []) table ks k s d (λ us. keep table us k)
+statement_again _ s (reply ts e d) = expr_line (t.Sign sign.Reply ∷ []) ts e s d (λ us. reply us e)
 statement_again _ _ abort = record { spelled = abort; lighter = same_lighter (t.Sign sign.Abort ∷ statement_end) }
 
 -- ---- blocks
@@ -258,19 +231,19 @@ no_second = record {
   operators = λ j k a. omega arith;
 }
 
+present_again : (depth : ℕ) (ts : List Token) (b : BlockTree) → second_words depth b ≡ left_out (words_of (block_marks (suc depth) b)) → Again IsStatements (words_of (block_marks (suc depth) b)) ts b → SecondAgain depth (left_out ts) b
+present_again depth ts b is h = record {
+  spelled = rw is (present _ b (block _ b h.spelled));
+  lighter = rw is (behind_lighter (t.Sign sign.CloseBlock) (behind_lighter (t.Sign sign.Else) (behind_lighter (t.Sign sign.OpenBlock) (ended_lighter (t.Sign sign.CloseBlock) h.lighter))));
+}
+
 second_again : (depth : ℕ) (ts : List Token) (b : BlockTree) → IsStatements ts b → Again IsStatements (words_of (block_marks (suc depth) b)) ts b → SecondAgain depth (left_out ts) b
 second_again depth ts BlockEnd d h = record {
   spelled = missing;
   lighter = subst (λ (us : List Token). Lighter (t.Sign sign.CloseBlock ∷ []) (t.Sign sign.CloseBlock ∷ left_out us)) (sym (nothing_is ts d)) no_second;
 }
-second_again depth ts (Then s rest) d h = record {
-  spelled = present _ (Then s rest) (block _ (Then s rest) h.spelled);
-  lighter = behind_lighter (t.Sign sign.CloseBlock) (behind_lighter (t.Sign sign.Else) (behind_lighter (t.Sign sign.OpenBlock) (ended_lighter (t.Sign sign.CloseBlock) h.lighter)));
-}
-second_again depth ts (Branch test first second rest) d h = record {
-  spelled = present _ (Branch test first second rest) (block _ (Branch test first second rest) h.spelled);
-  lighter = behind_lighter (t.Sign sign.CloseBlock) (behind_lighter (t.Sign sign.Else) (behind_lighter (t.Sign sign.OpenBlock) (ended_lighter (t.Sign sign.CloseBlock) h.lighter)));
-}
+second_again depth ts (Then s rest) d h = present_again depth ts (Then s rest) refl h
+second_again depth ts (Branch test first second rest) d h = present_again depth ts (Branch test first second rest) refl h
 
 -- what stands behind the first block, from its closing sign on
 behind_words : (depth : ℕ) (b : BlockTree) (rest : List Mark) → words_of (else_marks depth (block_marks (suc depth) b) ++ (close_line depth ++ rest)) ≡ t.Sign sign.CloseBlock ∷ (second_words depth b ++ words_of rest)
@@ -333,14 +306,20 @@ block_again depth _ _ (block ts b d) =
 
 -- ---- tables and programs
 
+arity_is : (n : ℕ) (a : Arity) → IsArity n a → n ≡ arity_number a
+arity_is _ _ g.IsArity.one = refl
+arity_is _ _ g.IsArity.two = refl
+
+-- tokens that are printed as they were read
+read_again : {A : Type 0} (P : List Token → A → Type 0) (us ts : List Token) (x : A) → us ≡ ts → P ts x → Again P us ts x
+read_again P us ts x e d = again_by P us ts ts x e (record { spelled = d; lighter = same_lighter ts })
+
 table_again : AreAgain IsTable table_marks
-table_again _ _ (g.IsTable.plain x _ _ g.IsArity.one) = record { spelled = g.IsTable.plain x 1 _ g.IsArity.one; lighter = same_lighter (t.Sign sign.Table ∷ t.Name x ∷ t.Number 1 ∷ t.Sign sign.Semicolon ∷ []) }
-table_again _ _ (g.IsTable.plain x _ _ g.IsArity.two) = record { spelled = g.IsTable.plain x 2 _ g.IsArity.two; lighter = same_lighter (t.Sign sign.Table ∷ t.Name x ∷ t.Number 2 ∷ t.Sign sign.Semicolon ∷ []) }
-table_again _ _ (grows x _ _ g.IsArity.one) = record { spelled = grows x 1 _ g.IsArity.one; lighter = same_lighter (t.Sign sign.Table ∷ t.Name x ∷ t.Number 1 ∷ t.Sign sign.Grow ∷ t.Sign sign.Semicolon ∷ []) }
-table_again _ _ (grows x _ _ g.IsArity.two) = record { spelled = grows x 2 _ g.IsArity.two; lighter = same_lighter (t.Sign sign.Table ∷ t.Name x ∷ t.Number 2 ∷ t.Sign sign.Grow ∷ t.Sign sign.Semicolon ∷ []) }
+table_again _ d (g.IsTable.plain x n a is) = read_again IsTable _ _ d (ap (λ (m : ℕ). t.Sign sign.Table ∷ t.Name x ∷ t.Number m ∷ t.Sign sign.Semicolon ∷ []) (sym (arity_is n a is))) (g.IsTable.plain x n a is)
+table_again _ d (grows x n a is) = read_again IsTable _ _ d (ap (λ (m : ℕ). t.Sign sign.Table ∷ t.Name x ∷ t.Number m ∷ t.Sign sign.Grow ∷ t.Sign sign.Semicolon ∷ []) (sym (arity_is n a is))) (grows x n a is)
 
 name_again : AreAgain IsName name_marks
-name_again _ _ (g.IsName.name x) = record { spelled = g.IsName.name x; lighter = same_lighter (t.Name x ∷ []) }
+name_again _ _ (g.IsName.name x) = read_again IsName _ _ x refl (g.IsName.name x)
 
 params_again : AreAgain IsParams (joined_by comma name_marks)
 params_again _ _ g.IsParams.none = record { spelled = g.IsParams.none; lighter = nothing_lighter }
