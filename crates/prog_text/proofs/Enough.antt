@@ -1,5 +1,5 @@
 -- Loops and nesting take no more turns than there are tokens: any number of turns that is enough gives the same.
-use Rattle.std.proofs.Common.{◌≡◌, ◌∙◌, ℕ, zero, suc, ◌<◌, ◌≤◌, List, [], ◌∷◌, ◌++◌, length, length-append, Option, Some, None, Ok, Err, refl, ap, subst, arith}
+use Rattle.std.proofs.Common.{◌≡◌, ◌∙◌, ℕ, zero, suc, ◌<◌, ◌≤◌, List, [], ◌∷◌, ◌++◌, length, length-append, Option, Some, None, Ok, Err, refl, ap, sym, arith}
 use Rattle.prog_tree.specs.Syntax.{Name, ExprTree, Plus, Minus, Times, ComparisonTree, TestTree, StatementTree, BlockTree, BlockEnd, Then, Branch, ProgramTree}
 use Rattle.prog_tree.specs.declared.table.TableDecl.{TableDecl}
 use Rattle.prog_text.specs.declared.lexing.token.Token.{Token}
@@ -13,34 +13,51 @@ use Rattle.prog_text.proofs.DerivedExprs.{factor_sound, product_sound, expr_with
 use Rattle.prog_text.proofs.DerivedStatements.{statement_sound, IsBody, block_sound, second_sound, body_within_sound, begins_statement}
 use Rattle.prog_text.proofs.Derived.{table_sound, program_sound, name_sound}
 
--- what is read behind a sign matters only where the sign is found, and the rest only where it isn't
-behind_sign_same : {A : Type 0} (o : Option (List Token)) (p q : List Token → Reading A) (r s : Reading A) → ((us : List Token) → o ≡ Some us → p us ≡ q us) → r ≡ s → behind_sign o p r ≡ behind_sign o q s
-behind_sign_same (Some us) p q r s h k = h us refl
-behind_sign_same None p q r s h k = k
-
 -- what goes on behind a reading matters only where no more is left than there was
 then_same : {A B : Type 0} (us : List Token) (r s : Reading A) (f g : A × List Token → Reading B) → r ≡ s → IsShorter us r → ((x : A) (rest : List Token) → length rest ≤ length us → f (x, rest) ≡ g (x, rest)) → (r >>= f) ≡ (s >>= g)
 then_same us (Ok x) s f g e short h = h x.0 x.1 short ∙ ap (λ r. r >>= g) e
 then_same us (Err k) s f g e short h = ap (λ r. r >>= g) e
 
-behind_shorter : (u : Token) (ts us : List Token) (o : Option (List Token)) → IsBehind u ts o → o ≡ Some us → length us < length ts
-behind_shorter u ts us o h e = let parts : ts ≡ u ∷ us = subst (IsBehind u ts) e h in omega (arith, ap length parts)
+-- What is read behind a sign matters only for lists that are shorter.
+behind_sought_same : {A : Type 0} (u : Token) (ts : List Token) (o : Option (List Token)) (p q : List Token → Reading A) (r s : Reading A) → IsBehind u ts o → ((us : List Token) → length us < length ts → p us ≡ q us) → r ≡ s → behind_sign o p r ≡ behind_sign o q s
+behind_sought_same u ts (Some us) p q r s parts h k = h us (omega (arith, ap length parts))
+behind_sought_same u ts None p q r s parts h k = k
+
+-- the same of a phrase behind a sign, and what goes on behind it
+item_same : {A B : Type 0} (u : Token) (ts : List Token) (o : Option (List Token)) (p q : List Token → Reading A) (f g : A × List Token → Reading B) (r s : Reading B) → IsBehind u ts o → ((us : List Token) → IsShorter us (p us))
+    → ((us : List Token) → length us < length ts → p us ≡ q us) → ((x : A) (rest : List Token) → length rest < length ts → f (x, rest) ≡ g (x, rest)) → r ≡ s → behind_sign o (λ us. p us >>= f) r ≡ behind_sign o (λ us. q us >>= g) s
+item_same u ts o p q f g r s finds short same h k =
+    behind_sought_same u ts o _ _ r s finds (λ us less. then_same us (p us) (q us) f g (same us less) (short us) (λ x rest fewer. h x rest (omega (arith, less, fewer)))) k
+
+-- ---- turns
+
+-- at the end of the tokens each number of turns gives what none gives
+abbrev EndsAlike : {A B : Type 0} → (ℕ → A → List Token → Reading B) → Type 0
+EndsAlike {A = A} read = (n : ℕ) (x : A) → read (suc n) x [] ≡ read 0 x []
+
+at_end : {A B : Type 0} (read : ℕ → A → List Token → Reading B) → EndsAlike read → (n : ℕ) (x : A) → read n x [] ≡ read 0 x []
+at_end read ends zero x = refl
+at_end read ends (suc n) x = ends n x
+
+-- A reader that takes n turns, from a value on: where each turn leaves fewer tokens, all numbers of turns that are enough give the same.
+enough_by : {A B : Type 0} (read : ℕ → A → List Token → Reading B) → EndsAlike read
+    → ((n m len : ℕ) → ((x : A) (ts : List Token) → length ts ≤ len → read n x ts ≡ read m x ts) → (x : A) (ts : List Token) → length ts ≡ suc len → read (suc n) x ts ≡ read (suc m) x ts)
+    → (x : A) (n m : ℕ) (ts : List Token) → length ts ≤ n → length ts ≤ m → read n x ts ≡ read m x ts
+enough_by read ends turn x n m [] le ge = at_end read ends n x ∙ sym (at_end read ends m x)
+enough_by read ends turn x zero m (v ∷ ts) le ge = absurd (omega (arith, le))
+enough_by read ends turn x (suc n) zero (v ∷ ts) le ge = absurd (omega (arith, ge))
+enough_by read ends turn x (suc n) (suc m) (v ∷ ts) le ge =
+    turn n m (length ts) (λ y us short. enough_by read ends turn y n m us (omega (arith, short, le)) (omega (arith, short, ge))) x (v ∷ ts) (omega arith)
 
 -- ---- lists
 
 many_enough : {A : Type 0} (u : Token) (after : List Token → Option (List Token)) (read : List Token → Reading A) → after [] ≡ None → ((ts : List Token) → IsBehind u ts (after ts)) → ((us : List Token) → IsShorter us (read us))
     → (done : List A) (n m : ℕ) (ts : List Token) → length ts ≤ n → length ts ≤ m → many_from after read n done ts ≡ many_from after read m done ts
 unfolding many_from
-many_enough u after read e finds short done zero zero ts le ge = refl
-many_enough u after read e finds short done zero (suc m) [] le ge = rw e refl
-many_enough u after read e finds short done zero (suc m) (v ∷ ts) le ge = absurd (omega (arith, le))
-many_enough u after read e finds short done (suc n) zero [] le ge = rw e refl
-many_enough u after read e finds short done (suc n) zero (v ∷ ts) le ge = absurd (omega (arith, ge))
-many_enough u after read e finds short done (suc n) (suc m) ts le ge =
-    behind_sign_same (after ts) _ _ (Ok (done, ts)) (Ok (done, ts))
-    (λ us found. let less : length us < length ts = behind_shorter u ts us (after ts) (finds ts) found in
-    then_same us (read us) (read us) _ _ refl (short us)
-    (λ x rest fewer. many_enough u after read e finds short (done ++ x ∷ []) n m rest (omega (arith, less, fewer, le)) (omega (arith, less, fewer, ge)))) refl
+many_enough u after read e finds short =
+    enough_by (λ n done ts. many_from after read n done ts) (λ n done. rw e refl)
+    (λ n m len same done ts is. item_same u ts (after ts) read read _ _ (Ok (done, ts)) (Ok (done, ts)) (finds ts) short (λ us less. refl)
+    (λ x rest less. same (done ++ x ∷ []) rest (omega (arith, less, is))) refl)
 
 pub tables_enough : (done : List TableDecl) (n m : ℕ) (ts : List Token) → length ts ≤ n → length ts ≤ m → many_from (after_sign sign.Table) table_at n done ts ≡ many_from (after_sign sign.Table) table_at m done ts
 tables_enough = many_enough (t.Sign sign.Table) (after_sign sign.Table) table_at refl (finds_sign sign.Table) (λ us. sound_shorter (behind (t.Sign sign.Table ∷ []) IsTable) us (table_at us) (table_sound us))
@@ -68,33 +85,18 @@ module _ (inner : List Token → Reading ExprTree) (inner_sound : (ts : List Tok
 
   pub product_enough : (left : ExprTree) (n m : ℕ) (ts : List Token) → length ts ≤ n → length ts ≤ m → product_from inner n left ts ≡ product_from inner m left ts
   unfolding product_from
-  product_enough left zero zero ts le ge = refl
-  product_enough left zero (suc m) [] le ge = refl
-  product_enough left zero (suc m) (v ∷ ts) le ge = absurd (omega (arith, le))
-  product_enough left (suc n) zero [] le ge = refl
-  product_enough left (suc n) zero (v ∷ ts) le ge = absurd (omega (arith, ge))
-  product_enough left (suc n) (suc m) ts le ge =
-      behind_sign_same (after_sign sign.Times ts) _ _ (Ok (left, ts)) (Ok (left, ts))
-      (λ us found. let less : length us < length ts = behind_shorter (t.Sign sign.Times) ts us (after_sign sign.Times ts) (finds_sign sign.Times ts) found in
-      then_same us (factor_at inner us) (factor_at inner us) _ _ refl (factor_shorter us)
-      (λ x rest fewer. product_enough (Times left x) n m rest (omega (arith, less, fewer, le)) (omega (arith, less, fewer, ge)))) refl
+  product_enough =
+      enough_by (λ n left ts. product_from inner n left ts) (λ n left. refl)
+      (λ n m len same left ts is. item_same (t.Sign sign.Times) ts (after_sign sign.Times ts) (factor_at inner) (factor_at inner) _ _ (Ok (left, ts)) (Ok (left, ts)) (finds_sign sign.Times ts) factor_shorter (λ us less. refl)
+      (λ x rest less. same (Times left x) rest (omega (arith, less, is))) refl)
 
   pub sum_enough : (left : ExprTree) (n m : ℕ) (ts : List Token) → length ts ≤ n → length ts ≤ m → sum_from inner n left ts ≡ sum_from inner m left ts
   unfolding sum_from
-  sum_enough left zero zero ts le ge = refl
-  sum_enough left zero (suc m) [] le ge = refl
-  sum_enough left zero (suc m) (v ∷ ts) le ge = absurd (omega (arith, le))
-  sum_enough left (suc n) zero [] le ge = refl
-  sum_enough left (suc n) zero (v ∷ ts) le ge = absurd (omega (arith, ge))
-  sum_enough left (suc n) (suc m) ts le ge =
-      behind_sign_same (after_sign sign.Plus ts) _ _ _ _
-      (λ us found. let less : length us < length ts = behind_shorter (t.Sign sign.Plus) ts us (after_sign sign.Plus ts) (finds_sign sign.Plus ts) found in
-      then_same us (product_at inner us) (product_at inner us) _ _ refl (product_shorter us)
-      (λ x rest fewer. sum_enough (Plus left x) n m rest (omega (arith, less, fewer, le)) (omega (arith, less, fewer, ge))))
-      (behind_sign_same (after_sign sign.Minus ts) _ _ (Ok (left, ts)) (Ok (left, ts))
-      (λ us found. let less : length us < length ts = behind_shorter (t.Sign sign.Minus) ts us (after_sign sign.Minus ts) (finds_sign sign.Minus ts) found in
-      then_same us (product_at inner us) (product_at inner us) _ _ refl (product_shorter us)
-      (λ x rest fewer. sum_enough (Minus left x) n m rest (omega (arith, less, fewer, le)) (omega (arith, less, fewer, ge)))) refl)
+  sum_enough =
+      enough_by (λ n left ts. sum_from inner n left ts) (λ n left. refl)
+      (λ n m len same left ts is.
+      item_same (t.Sign sign.Plus) ts (after_sign sign.Plus ts) (product_at inner) (product_at inner) _ _ _ _ (finds_sign sign.Plus ts) product_shorter (λ us less. refl) (λ x rest less. same (Plus left x) rest (omega (arith, less, is)))
+      (item_same (t.Sign sign.Minus) ts (after_sign sign.Minus ts) (product_at inner) (product_at inner) _ _ (Ok (left, ts)) (Ok (left, ts)) (finds_sign sign.Minus ts) product_shorter (λ us less. refl) (λ x rest less. same (Minus left x) rest (omega (arith, less, is))) refl))
 
 -- ---- brackets
 
@@ -109,10 +111,8 @@ module _ (p q : List Token → Reading ExprTree) (p_sound : (ts : List Token) �
   unfolding product_from
   product_from_same zero left ts le = refl
   product_from_same (suc n) left ts le =
-      behind_sign_same (after_sign sign.Times ts) _ _ (Ok (left, ts)) (Ok (left, ts))
-      (λ us found. let less : length us < length ts = behind_shorter (t.Sign sign.Times) ts us (after_sign sign.Times ts) (finds_sign sign.Times ts) found in
-      then_same us (factor_at p us) (factor_at q us) _ _ (factor_same us (omega (arith, less, le))) (factor_shorter p p_sound us)
-      (λ x rest fewer. product_from_same n (Times left x) rest (omega (arith, less, fewer, le)))) refl
+      item_same (t.Sign sign.Times) ts (after_sign sign.Times ts) (factor_at p) (factor_at q) _ _ (Ok (left, ts)) (Ok (left, ts)) (finds_sign sign.Times ts) (factor_shorter p p_sound) (λ us less. factor_same us (omega (arith, less, le)))
+      (λ x rest less. product_from_same n (Times left x) rest (omega (arith, less, le))) refl
 
   product_same : (ts : List Token) → length ts ≤ suc len → product_at p ts ≡ product_at q ts
   unfolding product_at
@@ -124,14 +124,9 @@ module _ (p q : List Token → Reading ExprTree) (p_sound : (ts : List Token) �
   unfolding sum_from
   sum_from_same zero left ts le = refl
   sum_from_same (suc n) left ts le =
-      behind_sign_same (after_sign sign.Plus ts) _ _ _ _
-      (λ us found. let less : length us < length ts = behind_shorter (t.Sign sign.Plus) ts us (after_sign sign.Plus ts) (finds_sign sign.Plus ts) found in
-      then_same us (product_at p us) (product_at q us) _ _ (product_same us (omega (arith, less, le))) (product_shorter p p_sound us)
-      (λ x rest fewer. sum_from_same n (Plus left x) rest (omega (arith, less, fewer, le))))
-      (behind_sign_same (after_sign sign.Minus ts) _ _ (Ok (left, ts)) (Ok (left, ts))
-      (λ us found. let less : length us < length ts = behind_shorter (t.Sign sign.Minus) ts us (after_sign sign.Minus ts) (finds_sign sign.Minus ts) found in
-      then_same us (product_at p us) (product_at q us) _ _ (product_same us (omega (arith, less, le))) (product_shorter p p_sound us)
-      (λ x rest fewer. sum_from_same n (Minus left x) rest (omega (arith, less, fewer, le)))) refl)
+      let side = λ (us : List Token) (less : length us < length ts). product_same us (omega (arith, less, le)) in
+      item_same (t.Sign sign.Plus) ts (after_sign sign.Plus ts) (product_at p) (product_at q) _ _ _ _ (finds_sign sign.Plus ts) (product_shorter p p_sound) side (λ x rest less. sum_from_same n (Plus left x) rest (omega (arith, less, le)))
+      (item_same (t.Sign sign.Minus) ts (after_sign sign.Minus ts) (product_at p) (product_at q) _ _ (Ok (left, ts)) (Ok (left, ts)) (finds_sign sign.Minus ts) (product_shorter p p_sound) side (λ x rest less. sum_from_same n (Minus left x) rest (omega (arith, less, le))) refl)
 
   sum_same : (ts : List Token) → length ts ≤ suc len → sum_at p ts ≡ sum_at q ts
   unfolding sum_at
@@ -141,15 +136,9 @@ module _ (p q : List Token → Reading ExprTree) (p_sound : (ts : List Token) �
 
 expr_enough : (n m : ℕ) (ts : List Token) → length ts ≤ n → length ts ≤ m → expr_within n ts ≡ expr_within m ts
 unfolding expr_within sum_at product_at factor_at
-expr_enough zero zero ts le ge = refl
-expr_enough zero (suc m) [] le ge = refl
-expr_enough zero (suc m) (v ∷ ts) le ge = absurd (omega (arith, le))
-expr_enough (suc n) zero [] le ge = refl
-expr_enough (suc n) zero (v ∷ ts) le ge = absurd (omega (arith, ge))
-expr_enough (suc n) (suc m) [] le ge = refl
-expr_enough (suc n) (suc m) (v ∷ ts) le ge =
-    sum_same (expr_within n) (expr_within m) (expr_within_sound n) (length ts)
-    (λ us short. expr_enough n m us (omega (arith, short, le)) (omega (arith, short, ge))) (v ∷ ts) (omega arith)
+expr_enough =
+    enough_by (λ n (x : Unit {0}) ts. expr_within n ts) (λ n x. refl)
+    (λ n m len same x ts is. sum_same (expr_within n) (expr_within m) (expr_within_sound n) len (λ us short. same tt us short) ts (omega (arith, is))) tt
 
 -- an expression is a sum, in whose brackets expressions stand
 pub expr_is : (ts : List Token) → expr_at ts ≡ sum_at expr_at ts
@@ -183,8 +172,7 @@ module _ (p q : List Token → Reading BlockTree) (p_sound : (ts : List Token) �
   second_same : (ts : List Token) → length ts ≤ suc len → second_at p ts ≡ second_at q ts
   unfolding second_at
   second_same ts le =
-      behind_sign_same (after_sign sign.Else ts) (block_at p) (block_at q) _ _
-      (λ us found. block_same us (let less : length us < length ts = behind_shorter (t.Sign sign.Else) ts us (after_sign sign.Else ts) (finds_sign sign.Else ts) found in omega (arith, less, le))) refl
+      behind_sought_same (t.Sign sign.Else) ts (after_sign sign.Else ts) (block_at p) (block_at q) _ _ (finds_sign sign.Else ts) (λ us less. block_same us (omega (arith, less, le))) refl
 
   branch_same : (ts : List Token) → length ts ≤ len → branch_at p ts ≡ branch_at q ts
   unfolding branch_at behind_first behind_second
@@ -200,21 +188,17 @@ module _ (p q : List Token → Reading BlockTree) (p_sound : (ts : List Token) �
       statement_same ts (statement_at ts) _ _ (statement_sound ts)
       (λ s rest less. ap (λ (r : Reading BlockTree). r >>= λ rest. Ok (Then s rest.0, rest.1)) (same rest (omega (arith, less, le))))
 
+  body_same : (ts : List Token) → length ts ≤ suc len
+      → behind_sign (after_sign sign.CloseBlock ts) (λ ts. Ok (BlockEnd, ts)) (behind_sign (after_sign sign.If ts) (branch_at p) (more_at p ts)) ≡ behind_sign (after_sign sign.CloseBlock ts) (λ ts. Ok (BlockEnd, ts)) (behind_sign (after_sign sign.If ts) (branch_at q) (more_at q ts))
+  body_same ts le =
+      behind_sought_same (t.Sign sign.CloseBlock) ts (after_sign sign.CloseBlock ts) _ _ _ _ (finds_sign sign.CloseBlock ts) (λ us less. refl)
+      (behind_sought_same (t.Sign sign.If) ts (after_sign sign.If ts) (branch_at p) (branch_at q) _ _ (finds_sign sign.If ts) (λ us less. branch_same us (omega (arith, less, le))) (more_same ts le))
+
 body_enough : (n m : ℕ) (ts : List Token) → length ts ≤ n → length ts ≤ m → body_within n ts ≡ body_within m ts
 unfolding body_within more_at statement_at
-body_enough zero zero ts le ge = refl
-body_enough zero (suc m) [] le ge = refl
-body_enough zero (suc m) (v ∷ ts) le ge = absurd (omega (arith, le))
-body_enough (suc n) zero [] le ge = refl
-body_enough (suc n) zero (v ∷ ts) le ge = absurd (omega (arith, ge))
-body_enough (suc n) (suc m) [] le ge = refl
-body_enough (suc n) (suc m) (v ∷ ts) le ge =
-    let same = λ (us : List Token) (short : length us ≤ length ts). body_enough n m us (omega (arith, short, le)) (omega (arith, short, ge)) in
-    behind_sign_same (after_sign sign.CloseBlock (v ∷ ts)) _ _ _ _ (λ us found. refl)
-    (behind_sign_same (after_sign sign.If (v ∷ ts)) (branch_at (body_within n)) (branch_at (body_within m)) _ _
-    (λ us found. branch_same (body_within n) (body_within m) (body_within_sound n) (length ts) same us
-    (let less : length us < length (v ∷ ts) = behind_shorter (t.Sign sign.If) (v ∷ ts) us (after_sign sign.If (v ∷ ts)) (finds_sign sign.If (v ∷ ts)) found in omega (arith, less)))
-    (more_same (body_within n) (body_within m) (body_within_sound n) (length ts) same (v ∷ ts) (omega arith)))
+body_enough =
+    enough_by (λ n (x : Unit {0}) ts. body_within n ts) (λ n x. refl)
+    (λ n m len same x ts is. body_same (body_within n) (body_within m) (body_within_sound n) len (λ us short. same tt us short) ts (omega (arith, is))) tt
 
 pub body_further : (n : ℕ) (ts : List Token) → length ts ≤ n → body_at ts ≡ body_within n ts
 unfolding body_at
@@ -225,9 +209,4 @@ pub body_is : (ts : List Token) → body_at ts ≡ behind_sign (after_sign sign.
 unfolding body_at body_within more_at statement_at
 body_is [] = refl
 body_is (v ∷ ts) =
-    let same = λ (us : List Token) (short : length us ≤ length ts). body_enough (length ts) (length us) us short (omega arith) in
-    behind_sign_same (after_sign sign.CloseBlock (v ∷ ts)) _ _ _ _ (λ us found. refl)
-    (behind_sign_same (after_sign sign.If (v ∷ ts)) (branch_at (body_within (length ts))) (branch_at body_at) _ _
-    (λ us found. branch_same (body_within (length ts)) body_at (body_within_sound (length ts)) (length ts) same us
-    (let less : length us < length (v ∷ ts) = behind_shorter (t.Sign sign.If) (v ∷ ts) us (after_sign sign.If (v ∷ ts)) (finds_sign sign.If (v ∷ ts)) found in omega (arith, less)))
-    (more_same (body_within (length ts)) body_at (body_within_sound (length ts)) (length ts) same (v ∷ ts) (omega arith)))
+    body_same (body_within (length ts)) body_at (body_within_sound (length ts)) (length ts) (λ us short. body_enough (length ts) (length us) us short (omega arith)) (v ∷ ts) (omega arith)
