@@ -11,7 +11,7 @@ use Rattle.prog_text.specs.declared.lexing.token.Sign.TheVariants as sign
 use Rattle.prog_text.specs.declared.lexing.token.Token.TheVariants as t
 use Rattle.prog_text.specs.Grammar.{Many, none, more, Led, led, Separated, separated, least_number, greatest_number, IsFactor, number, negative, least, greatest, name, bracketed, IsProduct, factor, times, IsExpr, product, plus, minus, IsRelation, IsComparison, plain, negated, IsConjunction, IsTest, IsKey, IsRange, IsStatement, bind, get, need, count, sum, lacks, put, insert, delete, keep, reply, abort, IsStatements, nothing, branch, IsBlock, block, IsElse, missing, present, IsArity, IsTable, grows, IsName, IsParams, some, IsProgram, program, IsSet, set}
 use Rattle.prog_text.specs.Grammar as g
-use Rattle.prog_text.specs.Canonical.{Mark, Word, Space, LineEnd, spaced, leading, is_sum, number_marks, expr_marks, relation_token, comparison_marks, each_behind, joined_by, conjunction_marks, test_marks, comma, inside_key, key_marks, ends_marks, range_marks, let_marks, assigned_marks, statement_marks, line, with_semicolon, else_line, close_line, else_marks, block_marks, arity_number, table_marks, name_marks, program_marks, draft_marks}
+use Rattle.prog_text.specs.Canonical.{Mark, Word, Space, LineEnd, spaced, leading, is_sum, expr_marks, relation_token, comparison_marks, each_behind, joined_by, conjunction_marks, test_marks, comma, inside_key, key_marks, ends_marks, range_marks, let_marks, statement_marks, line, with_semicolon, else_line, close_line, else_marks, block_marks, arity_number, table_marks, name_marks, program_marks, draft_marks}
 use Rattle.prog_text.proofs.Breaks.{IsLexed}
 use Rattle.prog_text.proofs.CutMarks.{Closed, Open, Begins, nothing_closed, closed_open, after_closed, after_open, space_begins, space_closed, line_end_closed, indent_closed, word_open, leading_closed, spaced_closed, sign_closed, sign_begins, open_if, in_brackets}
 
@@ -26,21 +26,18 @@ lexed_parts (u ∷ ts) us h = let others : AreLexed ts × AreLexed us = lexed_pa
 
 -- ---- expressions
 
-sides_open : (a b : List Mark) (u : Token) → IsLexed u → Open a → Open b → Open (a ++ (spaced u ++ b))
-sides_open a b u lexed left right = after_open left (space_begins (Word u ∷ Space ∷ b)) (after_closed (spaced_closed u lexed) right)
-
--- a number below 2^63, and its opposite
-number_open : (n : ℕ) → IsLexed (t.Number n) → Open (number_marks (pos n))
-number_open n h = open_if (int_eq (pos n) greatest_number) _ _ (word_open (t.Sign sign.Greatest) tt) (word_open (t.Number n) h)
-
-negative_open : (n : ℕ) → IsLexed (t.Number (suc n)) → Open (number_marks (negsuc n))
-negative_open n h = open_if (int_eq (negsuc n) least_number) _ _ (word_open (t.Sign sign.Least) tt) (after_closed (sign_closed sign.Minus refl) (word_open (t.Number (suc n)) h))
+-- two sides with the token u between them, which were read with the token v there
+sides_open : (u v : Token) → IsLexed u → (ts us : List Token) (a b : List Mark) → (AreLexed ts → Open a) → (AreLexed us → Open b) → AreLexed (ts ++ v ∷ us) → Open (a ++ (spaced u ++ b))
+sides_open u v lexed ts us a b left right h =
+    let both : AreLexed ts × AreLexed (v ∷ us) = lexed_parts ts (v ∷ us) h in
+    after_open (left both.0) (space_begins (Word u ∷ Space ∷ b)) (after_closed (spaced_closed u lexed) (right both.1.1))
 
 mutual
   factor_open : (ts : List Token) (e : ExprTree) → IsFactor ts e → AreLexed ts → Open (expr_marks e)
-  factor_open _ _ (number n) h = number_open n h.0
-  factor_open _ _ (negative zero) h = number_open 0 h.1.0
-  factor_open _ _ (negative (suc n)) h = negative_open n h.1.0
+  factor_open _ _ (number n) h = open_if (int_eq (pos n) greatest_number) _ _ (word_open (t.Sign sign.Greatest) tt) (word_open (t.Number n) h.0)
+  factor_open _ _ (negative zero) h = word_open (t.Number 0) h.1.0
+  factor_open _ _ (negative (suc n)) h =
+      open_if (int_eq (negsuc n) least_number) _ _ (word_open (t.Sign sign.Least) tt) (after_closed (sign_closed sign.Minus refl) (word_open (t.Number (suc n)) h.1.0))
   factor_open _ _ least h = word_open (t.Sign sign.Least) tt
   factor_open _ _ greatest h = word_open (t.Sign sign.Greatest) tt
   factor_open _ _ (name x) h = word_open (t.Name x) h.0
@@ -49,17 +46,18 @@ mutual
   product_open : (ts : List Token) (e : ExprTree) → IsProduct ts e → AreLexed ts → Open (expr_marks e)
   product_open _ _ (factor ts e d) h = factor_open ts e d h
   product_open _ _ (times ts us a b left right) h =
-      let both : AreLexed ts × AreLexed (t.Sign sign.Times ∷ us) = lexed_parts ts (t.Sign sign.Times ∷ us) h in
-      sides_open _ _ (t.Sign sign.Times) tt (in_brackets (is_sum a) (expr_marks a) (product_open ts a left both.0)) (in_brackets _ (expr_marks b) (factor_open us b right both.1.1))
+      sides_open (t.Sign sign.Times) (t.Sign sign.Times) tt ts us _ _ (λ h. in_brackets (is_sum a) (expr_marks a) (product_open ts a left h)) (λ h. in_brackets _ (expr_marks b) (factor_open us b right h)) h
 
   expr_open : (ts : List Token) (e : ExprTree) → IsExpr ts e → AreLexed ts → Open (expr_marks e)
   expr_open _ _ (product ts e d) h = product_open ts e d h
   expr_open _ _ (plus ts us a b left right) h =
-      let both : AreLexed ts × AreLexed (t.Sign sign.Plus ∷ us) = lexed_parts ts (t.Sign sign.Plus ∷ us) h in
-      sides_open _ _ (t.Sign sign.Plus) tt (expr_open ts a left both.0) (in_brackets (is_sum b) (expr_marks b) (product_open us b right both.1.1))
+      sides_open (t.Sign sign.Plus) (t.Sign sign.Plus) tt ts us _ _ (λ h. expr_open ts a left h) (λ h. in_brackets (is_sum b) (expr_marks b) (product_open us b right h)) h
   expr_open _ _ (minus ts us a b left right) h =
-      let both : AreLexed ts × AreLexed (t.Sign sign.Minus ∷ us) = lexed_parts ts (t.Sign sign.Minus ∷ us) h in
-      sides_open _ _ (t.Sign sign.Minus) tt (expr_open ts a left both.0) (in_brackets (is_sum b) (expr_marks b) (product_open us b right both.1.1))
+      sides_open (t.Sign sign.Minus) (t.Sign sign.Minus) tt ts us _ _ (λ h. expr_open ts a left h) (λ h. in_brackets (is_sum b) (expr_marks b) (product_open us b right h)) h
+
+-- before a last token
+last_open : (u : Token) (ts : List Token) (e : ExprTree) → IsExpr ts e → AreLexed (ts ++ u ∷ []) → Open (expr_marks e)
+last_open u ts e d h = expr_open ts e d (lexed_parts ts (u ∷ []) h).0
 
 -- ---- lists with a separator
 
@@ -81,18 +79,12 @@ joined_open P u separator marks each closed begins _ _ (separated ts us x xs d o
 
 -- ---- tests
 
-relation_lexed : (r : RelationSign) → Closed (spaced (relation_token r))
-relation_lexed s.Less = spaced_closed (t.Sign sign.Less) tt
-relation_lexed s.LessEqual = spaced_closed (t.Sign sign.LessEqual) tt
-relation_lexed s.Greater = spaced_closed (t.Sign sign.Greater) tt
-relation_lexed s.GreaterEqual = spaced_closed (t.Sign sign.GreaterEqual) tt
-relation_lexed s.Equal = spaced_closed (t.Sign sign.EqualEqual) tt
-relation_lexed s.NotEqual = spaced_closed (t.Sign sign.NotEqual) tt
+relation_lexed : (r : RelationSign) → IsLexed (relation_token r)
+relation_lexed s.Less = tt
+relation_lexed r = tt
 
 compared_open : (ts us : List Token) (u : Token) (a b : ExprTree) (r : RelationSign) → IsExpr ts a → IsExpr us b → AreLexed (ts ++ u ∷ us) → Open (expr_marks a ++ (spaced (relation_token r) ++ expr_marks b))
-compared_open ts us u a b r left right h =
-    let both : AreLexed ts × AreLexed (u ∷ us) = lexed_parts ts (u ∷ us) h in
-    after_open (expr_open ts a left both.0) (space_begins (Word (relation_token r) ∷ Space ∷ expr_marks b)) (after_closed (relation_lexed r) (expr_open us b right both.1.1))
+compared_open ts us u a b r left right h = sides_open (relation_token r) u (relation_lexed r) ts us _ _ (λ h. expr_open ts a left h) (λ h. expr_open us b right h) h
 
 comparison_open : (ts : List Token) (c : ComparisonTree) → IsComparison ts c → AreLexed ts → Open (comparison_marks c)
 comparison_open _ _ (g.IsComparison.plain ts us u a b r left compares right) h = compared_open ts us u a b r left right h
@@ -118,16 +110,16 @@ key_closed table marks lexed h =
     (after_closed (sign_closed sign.OpenKey refl) (after_open h (sign_begins (t.Sign sign.CloseKey) [] (λ rest. refl)) (sign_closed sign.CloseKey refl)))
 
 key_of : (ts : List Token) (table : Name) (k : KeyTree) → IsKey ts table k → AreLexed ts → Closed (key_marks table k)
-key_of _ _ _ (g.IsKey.one table ts a d) h = key_closed table _ h.0 (expr_open ts a d (lexed_parts ts (t.Sign sign.CloseKey ∷ []) h.1.1).0)
+key_of _ _ _ (g.IsKey.one table ts a d) h = key_closed table _ h.0 (last_open (t.Sign sign.CloseKey) ts a d h.1.1)
 key_of _ _ _ (g.IsKey.two table ts us a b first second) h =
     let both : AreLexed ts × AreLexed (t.Sign sign.Comma ∷ (us ++ t.Sign sign.CloseKey ∷ [])) = lexed_parts ts _ h.1.1 in
-    key_closed table _ h.0 (comma_open (expr_marks a) (expr_marks b) (expr_open ts a first both.0) (expr_open us b second (lexed_parts us (t.Sign sign.CloseKey ∷ []) both.1.1).0))
+    key_closed table _ h.0 (comma_open (expr_marks a) (expr_marks b) (expr_open ts a first both.0) (last_open (t.Sign sign.CloseKey) us b second both.1.1))
 
 ends_open : (ts us : List Token) (low high : ExprTree) → IsExpr ts low → IsExpr us high → AreLexed (ts ++ t.Sign sign.Dots ∷ (us ++ t.Sign sign.CloseKey ∷ [])) → Open (ends_marks low high)
 ends_open ts us low high first second h =
     let both : AreLexed ts × AreLexed (t.Sign sign.Dots ∷ (us ++ t.Sign sign.CloseKey ∷ [])) = lexed_parts ts _ h in
     after_open (expr_open ts low first both.0) (sign_begins (t.Sign sign.Dots) (expr_marks high) (λ rest. refl))
-    (after_closed (sign_closed sign.Dots refl) (expr_open us high second (lexed_parts us (t.Sign sign.CloseKey ∷ []) both.1.1).0))
+    (after_closed (sign_closed sign.Dots refl) (last_open (t.Sign sign.CloseKey) us high second both.1.1))
 
 range_of : (ts : List Token) (table : Name) (r : RangeTree) → IsRange ts table r → AreLexed ts → Closed (range_marks table r)
 range_of _ _ _ (g.IsRange.one table ts us low high first second) h = key_closed table _ h.0 (ends_open ts us low high first second h.1.1)
@@ -140,29 +132,31 @@ range_of _ _ _ (g.IsRange.two table ts us vs a low high whole first second) h =
 let_closed : (x : Name) → IsLexed (t.Name x) → Closed (let_marks x)
 let_closed x lexed = after_closed (leading_closed (t.Sign sign.Let) tt) (after_open (word_open (t.Name x) lexed) (space_begins (Word (t.Sign sign.Equals) ∷ Space ∷ [])) (spaced_closed (t.Sign sign.Equals) tt))
 
-assigned_open : (ts us : List Token) (table : Name) (k : KeyTree) (e : ExprTree) → IsKey ts table k → IsExpr us e → AreLexed (ts ++ t.Sign sign.Equals ∷ (us ++ t.Sign sign.Semicolon ∷ [])) → Open (assigned_marks table k e)
-assigned_open ts us table k e is_key is_expr h =
-    let both : AreLexed ts × AreLexed (t.Sign sign.Equals ∷ (us ++ t.Sign sign.Semicolon ∷ [])) = lexed_parts ts _ h in
-    after_closed (key_of ts table k is_key both.0) (after_closed (spaced_closed (t.Sign sign.Equals) tt) (expr_open us e is_expr (lexed_parts us (t.Sign sign.Semicolon ∷ []) both.1.1).0))
+-- behind a word: a key, a token and an expression; a key alone; a range alone
+key_and_open : (word : Token) → IsLexed word → (u : Token) → IsLexed u → (ks ts : List Token) (table : Name) (k : KeyTree) (e : ExprTree) → IsKey ks table k → IsExpr ts e → AreLexed (ks ++ u ∷ (ts ++ t.Sign sign.Semicolon ∷ []))
+    → Open (leading word ++ (key_marks table k ++ (spaced u ++ expr_marks e)))
+key_and_open word first u lexed ks ts table k e is_key is_expr h =
+    let both : AreLexed ks × AreLexed (u ∷ (ts ++ t.Sign sign.Semicolon ∷ [])) = lexed_parts ks _ h in
+    after_closed (leading_closed word first) (after_closed (key_of ks table k is_key both.0) (after_closed (spaced_closed u lexed) (last_open (t.Sign sign.Semicolon) ts e is_expr both.1.1)))
+
+key_line : (word : Token) → IsLexed word → (ks : List Token) (table : Name) (k : KeyTree) → IsKey ks table k → AreLexed (ks ++ t.Sign sign.Semicolon ∷ []) → Open (leading word ++ key_marks table k)
+key_line word first ks table k d h = closed_open (after_closed (leading_closed word first) (key_of ks table k d (lexed_parts ks (t.Sign sign.Semicolon ∷ []) h).0))
+
+range_line : (word : Token) → IsLexed word → (rs : List Token) (table : Name) (r : RangeTree) → IsRange rs table r → AreLexed (rs ++ t.Sign sign.Semicolon ∷ []) → Open (leading word ++ range_marks table r)
+range_line word first rs table r d h = closed_open (after_closed (leading_closed word first) (range_of rs table r d (lexed_parts rs (t.Sign sign.Semicolon ∷ []) h).0))
 
 statement_open : (ts : List Token) (s : StatementTree) → IsStatement ts s → AreLexed ts → Open (statement_marks s)
-statement_open _ _ (bind x ts e d) h = after_closed (let_closed x h.1.0) (expr_open ts e d (lexed_parts ts (t.Sign sign.Semicolon ∷ []) h.1.1.1).0)
-statement_open _ _ (get x table ks ts k e is_key is_expr) h =
-    let both : AreLexed ks × AreLexed (t.Sign sign.Else ∷ (ts ++ t.Sign sign.Semicolon ∷ [])) = lexed_parts ks _ h.1.1.1.1 in
-    after_closed (let_closed x h.1.0) (after_closed (leading_closed (t.Sign sign.Get) tt) (after_closed (key_of ks table k is_key both.0)
-    (after_closed (spaced_closed (t.Sign sign.Else) tt) (expr_open ts e is_expr (lexed_parts ts (t.Sign sign.Semicolon ∷ []) both.1.1).0))))
-statement_open _ _ (need x table ks k d) h =
-    closed_open (after_closed (let_closed x h.1.0) (after_closed (leading_closed (t.Sign sign.Need) tt) (key_of ks table k d (lexed_parts ks (t.Sign sign.Semicolon ∷ []) h.1.1.1.1).0)))
-statement_open _ _ (count x table rs r d) h =
-    closed_open (after_closed (let_closed x h.1.0) (after_closed (leading_closed (t.Sign sign.Count) tt) (range_of rs table r d (lexed_parts rs (t.Sign sign.Semicolon ∷ []) h.1.1.1.1).0)))
-statement_open _ _ (sum x table rs r d) h =
-    closed_open (after_closed (let_closed x h.1.0) (after_closed (leading_closed (t.Sign sign.Sum) tt) (range_of rs table r d (lexed_parts rs (t.Sign sign.Semicolon ∷ []) h.1.1.1.1).0)))
-statement_open _ _ (lacks table ks k d) h = closed_open (after_closed (leading_closed (t.Sign sign.Lacks) tt) (key_of ks table k d (lexed_parts ks (t.Sign sign.Semicolon ∷ []) h.1).0))
-statement_open _ _ (put table ks ts k e is_key is_expr) h = after_closed (leading_closed (t.Sign sign.Put) tt) (assigned_open ks ts table k e is_key is_expr h.1)
-statement_open _ _ (insert table ks ts k e is_key is_expr) h = after_closed (leading_closed (t.Sign sign.Insert) tt) (assigned_open ks ts table k e is_key is_expr h.1)
-statement_open _ _ (delete table ks k d) h = closed_open (after_closed (leading_closed (t.Sign sign.Delete) tt) (key_of ks table k d (lexed_parts ks (t.Sign sign.Semicolon ∷ []) h.1).0))
-statement_open _ _ (keep table ks k d) h = closed_open (after_closed (leading_closed (t.Sign sign.Keep) tt) (key_of ks table k d (lexed_parts ks (t.Sign sign.Semicolon ∷ []) h.1).0))
-statement_open _ _ (reply ts e d) h = after_closed (leading_closed (t.Sign sign.Reply) tt) (expr_open ts e d (lexed_parts ts (t.Sign sign.Semicolon ∷ []) h.1).0)
+statement_open _ _ (bind x ts e d) h = after_closed (let_closed x h.1.0) (last_open (t.Sign sign.Semicolon) ts e d h.1.1.1)
+statement_open _ _ (get x table ks ts k e is_key is_expr) h = after_closed (let_closed x h.1.0) (key_and_open (t.Sign sign.Get) tt (t.Sign sign.Else) tt ks ts table k e is_key is_expr h.1.1.1.1)
+statement_open _ _ (need x table ks k d) h = after_closed (let_closed x h.1.0) (key_line (t.Sign sign.Need) tt ks table k d h.1.1.1.1)
+statement_open _ _ (count x table rs r d) h = after_closed (let_closed x h.1.0) (range_line (t.Sign sign.Count) tt rs table r d h.1.1.1.1)
+statement_open _ _ (sum x table rs r d) h = after_closed (let_closed x h.1.0) (range_line (t.Sign sign.Sum) tt rs table r d h.1.1.1.1)
+statement_open _ _ (lacks table ks k d) h = key_line (t.Sign sign.Lacks) tt ks table k d h.1
+statement_open _ _ (put table ks ts k e is_key is_expr) h = key_and_open (t.Sign sign.Put) tt (t.Sign sign.Equals) tt ks ts table k e is_key is_expr h.1
+statement_open _ _ (insert table ks ts k e is_key is_expr) h = key_and_open (t.Sign sign.Insert) tt (t.Sign sign.Equals) tt ks ts table k e is_key is_expr h.1
+statement_open _ _ (delete table ks k d) h = key_line (t.Sign sign.Delete) tt ks table k d h.1
+statement_open _ _ (keep table ks k d) h = key_line (t.Sign sign.Keep) tt ks table k d h.1
+statement_open _ _ (reply ts e d) h = after_closed (leading_closed (t.Sign sign.Reply) tt) (last_open (t.Sign sign.Semicolon) ts e d h.1)
 statement_open _ _ abort h = word_open (t.Sign sign.Abort) tt
 
 -- ---- blocks

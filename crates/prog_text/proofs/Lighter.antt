@@ -8,15 +8,10 @@ use Rattle.prog_text.specs.Limits.{brackets_after, operators_after, too_deep_fro
 
 -- ---- brackets and operators
 
--- the open brackets behind tokens, where n are open before them
-abbrev pub brackets_behind : ℕ → List Token → ℕ
-brackets_behind n [] = n
-brackets_behind n (u ∷ ts) = brackets_behind (brackets_after u n) ts
-
--- the same of operators
-abbrev pub operators_behind : ℕ → List Token → ℕ
-operators_behind n [] = n
-operators_behind n (u ∷ ts) = operators_behind (operators_after u n) ts
+-- how many brackets are open or operators counted behind tokens, where there are n before them
+abbrev pub behind_by : (after : Token → ℕ → ℕ) → ℕ → List Token → ℕ
+behind_by after n [] = n
+behind_by after n (u ∷ ts) = behind_by after (after u n) ts
 
 -- no token is too deep, where so many brackets and operators stand before it
 abbrev pub Fits : (brackets operators : ℕ) → List Token → Type 0
@@ -40,19 +35,15 @@ none_deep : (b o : ℕ) (ts : List Token) → Fits b o ts → too_deep_from b o 
 none_deep b o [] h = refl
 none_deep b o (u ∷ ts) h = rw (le-ltb _ _ h.0, le-ltb _ _ h.1, none_deep (brackets_after u b) (operators_after u o) ts h.2) refl
 
-brackets_append : (n : ℕ) (ts us : List Token) → brackets_behind n (ts ++ us) ≡ brackets_behind (brackets_behind n ts) us
-brackets_append n [] us = refl
-brackets_append n (u ∷ ts) us = brackets_append (brackets_after u n) ts us
+behind_append : (after : Token → ℕ → ℕ) (n : ℕ) (ts us : List Token) → behind_by after n (ts ++ us) ≡ behind_by after (behind_by after n ts) us
+behind_append after n [] us = refl
+behind_append after n (u ∷ ts) us = behind_append after (after u n) ts us
 
-operators_append : (n : ℕ) (ts us : List Token) → operators_behind n (ts ++ us) ≡ operators_behind (operators_behind n ts) us
-operators_append n [] us = refl
-operators_append n (u ∷ ts) us = operators_append (operators_after u n) ts us
-
-fits_parts : (b o : ℕ) (ts us : List Token) → Fits b o (ts ++ us) → Fits b o ts × Fits (brackets_behind b ts) (operators_behind o ts) us
+fits_parts : (b o : ℕ) (ts us : List Token) → Fits b o (ts ++ us) → Fits b o ts × Fits (behind_by brackets_after b ts) (behind_by operators_after o ts) us
 fits_parts b o [] us h = (tt, h)
 fits_parts b o (u ∷ ts) us h = let others : Fits _ _ ts × Fits _ _ us = fits_parts (brackets_after u b) (operators_after u o) ts us h.2 in ((h.0, h.1, others.0), others.1)
 
-fits_append : (b o : ℕ) (ts us : List Token) → Fits b o ts → Fits (brackets_behind b ts) (operators_behind o ts) us → Fits b o (ts ++ us)
+fits_append : (b o : ℕ) (ts us : List Token) → Fits b o ts → Fits (behind_by brackets_after b ts) (behind_by operators_after o ts) us → Fits b o (ts ++ us)
 fits_append b o [] us first second = second
 fits_append b o (u ∷ ts) us first second = (first.0, first.1, fits_append (brackets_after u b) (operators_after u o) ts us first.2 second)
 
@@ -60,27 +51,17 @@ fits_append b o (u ∷ ts) us first second = (first.0, first.1, fits_append (bra
 
 brackets_rise : (u : Token) (m n : ℕ) → m ≤ n → brackets_after u m ≤ brackets_after u n
 brackets_rise (t.Sign sign.Open) m n h = omega arith
-brackets_rise (t.Sign sign.OpenKey) m n h = omega arith
-brackets_rise (t.Sign sign.OpenBlock) m n h = omega arith
-brackets_rise (t.Sign sign.Close) m n h = omega arith
-brackets_rise (t.Sign sign.CloseKey) m n h = omega arith
-brackets_rise (t.Sign sign.CloseBlock) m n h = omega arith
-brackets_rise u m n h = h
+brackets_rise u m n h = omega arith
 
 operators_rise : (u : Token) (m n : ℕ) → m ≤ n → operators_after u m ≤ operators_after u n
 operators_rise (t.Sign sign.Plus) m n h = omega arith
-operators_rise (t.Sign sign.Minus) m n h = omega arith
-operators_rise (t.Sign sign.Times) m n h = omega arith
-operators_rise (t.Sign sign.Semicolon) m n h = omega arith
-operators_rise (t.Sign sign.OpenBlock) m n h = omega arith
-operators_rise (t.Sign sign.CloseBlock) m n h = omega arith
-operators_rise u m n h = h
+operators_rise u m n h = omega arith
 
 -- the tokens are nowhere deeper than the others, and leave no more open, also where fewer stand before them
 pub record Lighter (us ts : List Token) : Type 0 where
   pub fits : (m n j k : ℕ) → m ≤ n → j ≤ k → Fits n k ts → Fits m j us
-  pub brackets : (m n : ℕ) → m ≤ n → brackets_behind m us ≤ brackets_behind n ts
-  pub operators : (j k : ℕ) → j ≤ k → operators_behind j us ≤ operators_behind k ts
+  pub brackets : (m n : ℕ) → m ≤ n → behind_by brackets_after m us ≤ behind_by brackets_after n ts
+  pub operators : (j k : ℕ) → j ≤ k → behind_by operators_after j us ≤ behind_by operators_after k ts
 
 pub nothing_lighter : Lighter [] []
 nothing_lighter = record { fits = λ m n j k a b h. tt; brackets = λ m n a. a; operators = λ j k a. a }
@@ -110,10 +91,10 @@ lighter_trans first second = record {
 pub lighter_append : {us vs ts ws : List Token} → Lighter us ts → Lighter vs ws → Lighter (us ++ vs) (ts ++ ws)
 lighter_append {us = us} {vs = vs} {ts = ts} {ws = ws} first second = record {
   fits = λ m n j k a b h.
-      let both : Fits n k ts × Fits (brackets_behind n ts) (operators_behind k ts) ws = fits_parts n k ts ws h in
+      let both : Fits n k ts × Fits (behind_by brackets_after n ts) (behind_by operators_after k ts) ws = fits_parts n k ts ws h in
       fits_append m j us vs (first.fits m n j k a b both.0) (second.fits _ _ _ _ (first.brackets m n a) (first.operators j k b) both.1);
-  brackets = λ m n a. rw (brackets_append m us vs, brackets_append n ts ws) (second.brackets _ _ (first.brackets m n a));
-  operators = λ j k a. rw (operators_append j us vs, operators_append k ts ws) (second.operators _ _ (first.operators j k a));
+  brackets = λ m n a. rw (behind_append brackets_after m us vs, behind_append brackets_after n ts ws) (second.brackets _ _ (first.brackets m n a));
+  operators = λ j k a. rw (behind_append operators_after j us vs, behind_append operators_after k ts ws) (second.operators _ _ (first.operators j k a));
 }
 
 -- with the same token between two parts
@@ -128,19 +109,19 @@ ended_lighter u h = sides_lighter u h nothing_lighter
 
 -- as many are open behind the tokens as before them
 pub record Balanced (ts : List Token) : Type 0 where
-  pub same : (n : ℕ) → brackets_behind n ts ≡ n
+  pub same : (n : ℕ) → behind_by brackets_after n ts ≡ n
 
 pub balanced_append : {ts us : List Token} → Balanced ts → Balanced us → Balanced (ts ++ us)
-balanced_append {ts = ts} {us = us} first second = record { same = λ n. brackets_append n ts us ∙ ap (λ m. brackets_behind m us) (first.same n) ∙ second.same n }
+balanced_append {ts = ts} {us = us} first second = record { same = λ n. behind_append brackets_after n ts us ∙ ap (λ m. behind_by brackets_after m us) (first.same n) ∙ second.same n }
 
 pub balanced_brackets : (ts : List Token) → Balanced ts → Balanced (t.Sign sign.Open ∷ (ts ++ t.Sign sign.Close ∷ []))
-balanced_brackets ts h = record { same = λ n. rw (brackets_append (suc n) ts (t.Sign sign.Close ∷ []), h.same (suc n)) (omega arith) }
+balanced_brackets ts h = record { same = λ n. rw (behind_append brackets_after (suc n) ts (t.Sign sign.Close ∷ []), h.same (suc n)) (omega arith) }
 
 pub bare_lighter : (ts : List Token) → Balanced ts → Lighter ts (t.Sign sign.Open ∷ (ts ++ t.Sign sign.Close ∷ []))
 bare_lighter ts h = record {
   fits = λ m n j k a b fits. (same_lighter ts).fits m (suc n) j k (omega arith) b (fits_parts (suc n) k ts (t.Sign sign.Close ∷ []) fits.2).0;
   brackets = λ m n a. rw ((balanced_brackets ts h).same n, h.same m) a;
-  operators = λ j k a. rw (operators_append k ts (t.Sign sign.Close ∷ [])) ((same_lighter ts).operators j k a);
+  operators = λ j k a. rw (behind_append operators_after k ts (t.Sign sign.Close ∷ [])) ((same_lighter ts).operators j k a);
 }
 
 -- tokens of which none is too deep

@@ -40,11 +40,6 @@ one_name ts = refl
 
 pub one_relation : (ts : List Token) → IsOne relation_token ts (relation_at ts)
 one_relation (t.Sign sign.Less ∷ ts) = refl
-one_relation (t.Sign sign.LessEqual ∷ ts) = refl
-one_relation (t.Sign sign.Greater ∷ ts) = refl
-one_relation (t.Sign sign.GreaterEqual ∷ ts) = refl
-one_relation (t.Sign sign.EqualEqual ∷ ts) = refl
-one_relation (t.Sign sign.NotEqual ∷ ts) = refl
 one_relation ts = refl
 
 -- some name and some expression, to complete with

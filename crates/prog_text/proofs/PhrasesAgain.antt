@@ -57,11 +57,7 @@ joined_again P u separator marks shows each _ _ (separated ts us x xs d others) 
 
 relation_is : (u : Token) (r : RelationSign) → IsRelation u r → u ≡ relation_token r
 relation_is _ _ g.less = refl
-relation_is _ _ g.less_equal = refl
-relation_is _ _ g.greater = refl
-relation_is _ _ g.greater_equal = refl
-relation_is _ _ g.equal = refl
-relation_is _ _ g.not_equal = refl
+relation_is _ _ is = refl
 
 -- two sides with a sign between them that compares, also behind a `not`
 compared_again : (n : Bool) (front : List Token) → ((ts us : List Token) (u : Token) (a b : ExprTree) (r : RelationSign) → IsExpr ts a → IsRelation u r → IsExpr us b → IsComparison (front ++ (ts ++ u ∷ us)) (record { negated = n; left = a; relation = r; right = b }))

@@ -10,7 +10,7 @@ use Rattle.prog_text.specs.declared.lexing.token.Token.TheVariants as t
 use Rattle.prog_text.specs.Grammar.{least_number, greatest_number, IsFactor, number, negative, least, greatest, name, bracketed, IsProduct, factor, times, IsExpr, product, plus, minus}
 use Rattle.prog_text.specs.Limits.{brackets_after}
 use Rattle.prog_text.specs.Canonical.{Mark, Word, mark_token, words_of, spaced, is_sum, is_product, in_brackets_if, expr_marks}
-use Rattle.prog_text.proofs.Lighter.{brackets_behind, Lighter, same_lighter, behind_lighter, lighter_trans, sides_lighter, ended_lighter, Balanced, balanced_append, balanced_brackets, bare_lighter}
+use Rattle.prog_text.proofs.Lighter.{behind_by, Lighter, same_lighter, behind_lighter, lighter_trans, sides_lighter, ended_lighter, Balanced, balanced_append, balanced_brackets, bare_lighter}
 
 -- ---- tokens of marks
 
@@ -35,13 +35,10 @@ record IsSpelled (ts : List Token) (e : ExprTree) : Type 0 where
 factor_spelled : (ts : List Token) (e : ExprTree) → IsFactor ts e → IsSpelled ts e
 factor_spelled ts e d = record { whole = product ts e (factor ts e d); as_product = λ h. factor ts e d; as_factor = λ h. d }
 
-pos_spelled : (n : ℕ) (b : Bool) → int_eq (pos n) greatest_number ≡ b → IsFactor (words_of (if b then Word (t.Sign sign.Greatest) ∷ [] else Word (t.Number n) ∷ [])) (Literal (pos n))
-pos_spelled n true h = subst (λ (z : ℤ). IsFactor (t.Sign sign.Greatest ∷ []) (Literal z)) (sym ((Decides-int_eq (pos n) greatest_number).0 h)) greatest
-pos_spelled n false h = number n
-
-negsuc_spelled : (n : ℕ) (b : Bool) → int_eq (negsuc n) least_number ≡ b → IsFactor (words_of (if b then Word (t.Sign sign.Least) ∷ [] else Word (t.Sign sign.Minus) ∷ Word (t.Number (suc n)) ∷ [])) (Literal (negsuc n))
-negsuc_spelled n true h = subst (λ (z : ℤ). IsFactor (t.Sign sign.Least ∷ []) (Literal z)) (sym ((Decides-int_eq (negsuc n) least_number).0 h)) least
-negsuc_spelled n false h = negative (suc n)
+-- one factor or the other, by a test
+either_spelled : (z end : ℤ) (special plain : List Mark) (b : Bool) → int_eq z end ≡ b → IsFactor (words_of special) (Literal end) → IsFactor (words_of plain) (Literal z) → IsFactor (words_of (if b then special else plain)) (Literal z)
+either_spelled z end special plain true h first second = subst (λ (y : ℤ). IsFactor (words_of special) (Literal y)) (sym ((Decides-int_eq z end).0 h)) first
+either_spelled z end special plain false h first second = second
 
 bracket_spelled : (marks : List Mark) (e : ExprTree) → IsExpr (words_of marks) e → IsFactor (words_of (in_brackets_if true marks)) e
 bracket_spelled marks e d = subst (λ (ts : List Token). IsFactor ts e) (sym (bracket_words marks)) (bracketed (words_of marks) e d)
@@ -54,18 +51,24 @@ operand_spelled : (b : Bool) (marks : List Mark) (e : ExprTree) → (is_sum e ||
 operand_spelled true marks e h s = bracket_spelled marks e s.whole
 operand_spelled false marks e h s = s.as_factor h
 
+-- two sides with a sign of a sum between them
+sum_spelled : (u : Token) (a b e : ExprTree) → is_sum e ≡ true → IsSpelled (words_of (expr_marks a)) a → IsSpelled (words_of (expr_marks b)) b → ((ts us : List Token) → IsExpr ts a → IsProduct us b → IsExpr (ts ++ u ∷ us) e)
+    → IsSpelled (words_of (expr_marks a ++ (spaced u ++ in_brackets_if (is_sum b) (expr_marks b)))) e
+sum_spelled u a b e sums left right form =
+    let side : List Mark = in_brackets_if (is_sum b) (expr_marks b) in
+    record {
+      whole = subst (λ (ts : List Token). IsExpr ts e) (sym (side_words (expr_marks a) side u)) (form _ _ left.whole (product_spelled (is_sum b) (expr_marks b) b refl right));
+      as_product = λ h. absurd (true≢false (sym sums ∙ h));
+      as_factor = λ h. absurd (true≢false (ap (λ x. x || is_product e) (sym sums) ∙ h));
+    }
+
 spelled : (e : ExprTree) → IsSpelled (words_of (expr_marks e)) e
-spelled (Literal (pos n)) = factor_spelled _ _ (pos_spelled n (int_eq (pos n) greatest_number) refl)
-spelled (Literal (negsuc n)) = factor_spelled _ _ (negsuc_spelled n (int_eq (negsuc n) least_number) refl)
+spelled (Literal (pos n)) = factor_spelled _ _ (either_spelled (pos n) greatest_number (Word (t.Sign sign.Greatest) ∷ []) (Word (t.Number n) ∷ []) _ refl greatest (number n))
+spelled (Literal (negsuc n)) =
+    factor_spelled _ _ (either_spelled (negsuc n) least_number (Word (t.Sign sign.Least) ∷ []) (Word (t.Sign sign.Minus) ∷ Word (t.Number (suc n)) ∷ []) _ refl least (negative (suc n)))
 spelled (Named x) = factor_spelled _ _ (name x)
-spelled (Plus a b) =
-    let right : List Mark = in_brackets_if (is_sum b) (expr_marks b) in
-    let d : IsExpr (words_of (expr_marks a) ++ t.Sign sign.Plus ∷ words_of right) (Plus a b) = plus _ _ a b (spelled a).whole (product_spelled (is_sum b) (expr_marks b) b refl (spelled b)) in
-    record { whole = subst (λ (ts : List Token). IsExpr ts (Plus a b)) (sym (side_words (expr_marks a) right (t.Sign sign.Plus))) d; as_product = λ h. absurd (true≢false h); as_factor = λ h. absurd (true≢false h) }
-spelled (Minus a b) =
-    let right : List Mark = in_brackets_if (is_sum b) (expr_marks b) in
-    let d : IsExpr (words_of (expr_marks a) ++ t.Sign sign.Minus ∷ words_of right) (Minus a b) = minus _ _ a b (spelled a).whole (product_spelled (is_sum b) (expr_marks b) b refl (spelled b)) in
-    record { whole = subst (λ (ts : List Token). IsExpr ts (Minus a b)) (sym (side_words (expr_marks a) right (t.Sign sign.Minus))) d; as_product = λ h. absurd (true≢false h); as_factor = λ h. absurd (true≢false h) }
+spelled (Plus a b) = sum_spelled (t.Sign sign.Plus) a b (Plus a b) refl (spelled a) (spelled b) (λ ts us. plus ts us a b)
+spelled (Minus a b) = sum_spelled (t.Sign sign.Minus) a b (Minus a b) refl (spelled a) (spelled b) (λ ts us. minus ts us a b)
 spelled (Times a b) =
     let left : List Mark = in_brackets_if (is_sum a) (expr_marks a) in
     let right : List Mark = in_brackets_if (is_sum b || is_product b) (expr_marks b) in
@@ -81,7 +84,7 @@ expr_spelled e = (spelled e).whole
 -- ---- brackets of an expression
 
 flat : (u : Token) → ((n : ℕ) → brackets_after u n ≡ n) → {ts : List Token} → Balanced ts → Balanced (u ∷ ts)
-flat u stays {ts = ts} h = record { same = λ n. ap (λ m. brackets_behind m ts) (stays n) ∙ h.same n }
+flat u stays {ts = ts} h = record { same = λ n. ap (λ m. behind_by brackets_after m ts) (stays n) ∙ h.same n }
 
 nothing_balanced : Balanced []
 nothing_balanced = record { same = λ n. refl }
