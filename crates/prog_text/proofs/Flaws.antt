@@ -1,5 +1,5 @@
 -- The first flaw of a text, by the relation and by the function.
-use Rattle.std.proofs.Common.{◌≡◌, ◌↔◌, ◌∙◌, ℕ, zero, suc, ◌+◌, ◌-◌, ◌<◌, ◌≤◌, ◌^◌, ◌==◌, ◌&&◌, nat_lt, List, [], ◌∷◌, ◌++◌, length, true, false, Option, Result, Ok, Err, refl, sym, ap, subst, slice_index, append_assoc, arith, true≢false}
+use Rattle.std.proofs.Common.{◌≡◌, ◌↔◌, ◌∙◌, ℕ, suc, ◌+◌, ◌-◌, ◌<◌, ◌≤◌, ◌^◌, ◌==◌, ◌&&◌, nat_lt, List, [], ◌∷◌, ◌++◌, length, true, false, Err, refl, sym, ap, subst, slice_index, append_assoc, arith, true≢false}
 use Rattle.std.specs.List.{list_all, prefix_len}
 use Rattle.std.proofs.Math.Seq.{take-append_seam}
 use Rattle.std.proofs.lemmas.Bool.{and_parts, ltb-true, lt-ltb, le-ltb, false_from_ne_true}
@@ -12,50 +12,12 @@ use Rattle.prog_text.specs.declared.lexing.lex_error.Flaw.TheVariants.{NumberOut
 use Rattle.prog_text.specs.declared.lexing.token.Token.{Token}
 use Rattle.prog_text.specs.declared.lexing.token.Token.TheVariants as t
 use Rattle.prog_text.specs.Spelling.{spelling, signs}
-use Rattle.prog_text.specs.Lexing.{is_letter, is_digit, is_word_byte, is_space, digits_value, Placed, Piece, Spot, before, ◌>>=◌, piece_at, word_at, number_at, sign_at, sign_among, flaw_at, tokens_from, tokens_of}
-use Rattle.prog_text.specs.Cut.{IsName, IsNumber, Spells, IsLongest, IsPiece, ArePieces, no_piece, one_more, HasFlaw, not_ascii, unknown, too_large, too_long, IsFirstFlaw}
+use Rattle.prog_text.specs.Lexing.{is_letter, is_digit, is_word_byte, is_space, digits_value, piece_at, word_at, number_at, sign_at, sign_among, flaw_at, tokens_from, tokens_of}
+use Rattle.prog_text.specs.Cut.{IsName, IsNumber, Spells, IsLongest, ArePieces, no_piece, one_more, HasFlaw, not_ascii, unknown, too_large, too_long, IsFirstFlaw}
 use Rattle.prog_text.proofs.Spelled.{IsAmong, among_passes, begins_sign}
 use Rattle.prog_text.proofs.Cutting.{one_piece}
-use Rattle.prog_text.proofs.Longest.{IsFront, Goes, goes, is_sign, sign_fits, BeginsNoneOf, front_other, word_spelled}
+use Rattle.prog_text.proofs.Longest.{Told, told, is_sign, sign_fits, BeginsNoneOf, front_other, word_spelled}
 use Rattle.prog_text.proofs.Converse.{Stops, prefix_run, letter_begins, digit_begins, letters_stop, digits_stop, is_begun, behind_is_shorter, piece_begun, piece_is}
-
--- ---- what the function finds is the first flaw
-
--- a text that has a flaw by the function has it first
-abbrev Flawed : List ℕ → Result Placed Spot → Type 0
-Flawed bytes (Ok placed) = Unit {0}
-Flawed bytes (Err spot) = (place : ℕ) × IsFirstFlaw bytes spot.0 place × (length bytes ≡ place + spot.1)
-
-one_further : (bytes behind : List ℕ) (found : Option Token) (flaw : Flaw) (place : ℕ) → (h : IsFront bytes found behind) → IsFirstFlaw behind flaw place → IsFirstFlaw bytes flaw (length h.word + place)
-one_further bytes behind found flaw place h first = record {
-  front = h.word ++ first.front;
-  rest = first.rest;
-  parts = h.parts ∙ ap (λ xs. h.word ++ xs) first.parts ∙ sym (append_assoc h.word first.front first.rest);
-  pieces = one_more found h.word first.front first.rest (subst (IsPiece found h.word) first.parts h.is_piece) first.pieces;
-  flawed = first.flawed;
-  at_place = length-append h.word first.front ∙ ap (λ n. length h.word + n) first.at_place;
-}
-
-front_shorter : (bytes behind : List ℕ) (found : Option Token) → IsFront bytes found behind → length behind < length bytes
-front_shorter bytes behind found h = rw h.parts (behind_is_shorter h.word behind (piece_begun found h.word behind h.is_piece))
-
-behind_flawed : (bytes behind : List ℕ) (found : Option Token) → IsFront bytes found behind → (read : Result Placed Spot) → Flawed behind read → Flawed bytes (read >>= (λ others. Ok (before found (length bytes) others)))
-behind_flawed bytes behind found h (Ok others) later = tt
-behind_flawed bytes behind found h (Err spot) later =
-    (length h.word + later.0, one_further bytes behind found spot.0 later.0 h later.1, omega (arith, ap length h.parts, length-append h.word behind, later.2))
-
-piece_flawed : (n : ℕ) (bytes : List ℕ) (piece : Piece) → Goes bytes piece → ((behind : List ℕ) → length behind < length bytes → Flawed behind (tokens_from n behind))
-    → Flawed bytes (piece >>= (λ p. tokens_from n p.1 >>= (λ others. Ok (before p.0 (length bytes) others))))
-piece_flawed n bytes (Ok piece) h later = behind_flawed bytes piece.1 piece.0 h (tokens_from n piece.1) (later piece.1 (front_shorter bytes piece.1 piece.0 h))
-piece_flawed n bytes (Err spot) h later =
-    (0, record { front = []; rest = bytes; parts = refl; pieces = no_piece bytes; flawed = h.0; at_place = refl }, omega (arith, h.1))
-
-flawed_from : (n : ℕ) (bytes : List ℕ) → length bytes ≤ n → Flawed bytes (tokens_from n bytes)
-unfolding tokens_from
-flawed_from n [] enough = tt
-flawed_from zero (b ∷ rest) enough = absurd (omega (arith, enough))
-flawed_from (suc n) (b ∷ rest) enough =
-    piece_flawed n (b ∷ rest) (piece_at (b ∷ rest)) (goes b rest) (λ behind shorter. flawed_from n behind (omega (arith, shorter, enough)))
 
 -- ---- the function finds each flaw
 
@@ -161,6 +123,6 @@ first_flaw_found bytes flaw left place h parts =
 -- a text has exactly the first flaw that it is found to have
 pub flaws_exactly : (bytes : List ℕ) (flaw : Flaw) (left : ℕ) → (tokens_of bytes ≡ Err (flaw, left)) ↔ ((place : ℕ) × IsFirstFlaw bytes flaw place × (length bytes ≡ place + left))
 flaws_exactly bytes flaw left = (
-  λ h. subst (Flawed bytes) h (flawed_from (length bytes) bytes (omega arith)),
+  λ h. subst (Told bytes) h (told bytes),
   λ h. first_flaw_found bytes flaw left h.0 h.1 h.2,
 )

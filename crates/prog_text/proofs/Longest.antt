@@ -9,6 +9,7 @@ use Rattle.std.proofs.lemmas.Grind.{common_steps}
 use Rattle.std.proofs.lemmas.List.{length-append, length-take}
 use Rattle.std.proofs.lemmas.List.Folds.{length-prefix_len}
 use Rattle.std.proofs.lemmas.Slice.Eq.{bytes_eq-Decides, starts_is}
+use Rattle.prog_text.specs.declared.lexing.lex_error.Flaw.{Flaw}
 use Rattle.prog_text.specs.declared.lexing.lex_error.Flaw.TheVariants.{NotAscii, UnknownByte, NameTooLong, NumberOutOfRange}
 use Rattle.prog_text.specs.declared.lexing.token.Sign.{Sign}
 use Rattle.prog_text.specs.declared.lexing.token.Sign.TheVariants.{Table}
@@ -16,7 +17,7 @@ use Rattle.prog_text.specs.declared.lexing.token.Token.{Token}
 use Rattle.prog_text.specs.declared.lexing.token.Token.TheVariants as t
 use Rattle.prog_text.specs.Spelling.{spelling, reserved_words, signs}
 use Rattle.prog_text.specs.Lexing.{is_letter, is_digit, is_word_byte, is_space, is_comment_byte, digits_value, word_token, Placed, Piece, Spot, before, ◌>>=◌, piece_at, word_at, number_at, sign_at, sign_among, flaw_at, tokens_from, tokens_of}
-use Rattle.prog_text.specs.Cut.{IsName, IsNumber, Spells, IsWithin, IsLongest, EndsComment, IsPiece, space, comment, token, IsCut, end, another, HasFlaw, not_ascii, unknown, too_large, too_long}
+use Rattle.prog_text.specs.Cut.{IsName, IsNumber, Spells, IsWithin, IsLongest, EndsComment, IsPiece, space, comment, token, IsCut, end, another, HasFlaw, not_ascii, unknown, too_large, too_long, no_piece, one_more, IsFirstFlaw}
 use Rattle.prog_text.proofs.Spelled.{IsAmong, letters, digits, sign, kind, clash, passes_inside, letter_is_no_digit, digit_passes, among_passes, sign_begins, begins_sign, goes_on_sign}
 use Rattle.prog_text.proofs.WordBytes.{front_passes, letter_passes}
 
@@ -53,15 +54,12 @@ pub record IsFront (bytes : List ℕ) (found : Option Token) (behind : List ℕ)
   pub word : List ℕ
   pub parts : bytes ≡ word ++ behind
   pub is_piece : IsPiece found word behind
+  pub begun : 0 < length word
 
 -- what is found at the front of the bytes is a piece, or a flaw
 abbrev pub Goes : List ℕ → Piece → Type 0
 Goes bytes (Ok piece) = IsFront bytes piece.0 piece.1
 Goes bytes (Err spot) = HasFlaw spot.0 bytes × (spot.1 ≡ length bytes)
-
--- one piece more is cut
-pub cut_front : (bytes behind : List ℕ) (found : Option Token) (placed : Placed) → IsFront bytes found behind → IsCut behind placed → IsCut bytes (before found (length bytes) placed)
-cut_front bytes behind found placed h cut = subst (λ xs. IsCut xs (before found (length xs) placed)) (sym h.parts) (another found h.word behind placed h.is_piece cut)
 
 -- the bytes spell a token that is within the limits
 abbrev Fits : Token → List ℕ → Type 0
@@ -72,6 +70,7 @@ token_goes c rest k u spells longest = record {
   word = c ∷ take k rest;
   parts = ap (λ bytes. c ∷ bytes) (sym (take-append-drop k rest));
   is_piece = token u (c ∷ take k rest) (drop k rest) spells.0 spells.1 longest;
+  begun = omega arith;
 }
 
 abbrev pub is_sign : Token → Bool
@@ -83,9 +82,13 @@ pub sign_fits : (u : Token) → is_sign u ≡ true → Fits u (spelling u)
 sign_fits (t.Sign s) h = (refl, tt)
 sign_fits u h = absurd (true≢false (sym h))
 
-sign_short : (s : Sign) → nat_lt (length (spelling (t.Sign s))) 33 ≡ true
-sign_short Table = refl
-sign_short s = refl
+sign_length : (s : Sign) → (nat_lt 0 (length (spelling (t.Sign s))) && nat_lt (length (spelling (t.Sign s))) 33) ≡ true
+sign_length Table = refl
+sign_length s = refl
+
+sign_begun : (u : Token) → is_sign u ≡ true → 0 < length (spelling u)
+sign_begun (t.Sign s) h = ltb-true _ _ (and_parts _ _ (sign_length s)).0
+sign_begun u h = absurd (true≢false (sym h))
 
 -- what is so of the sign that the bytes spell, and of a name where they spell none, is so of what the search finds
 named_by : (P : Token → Type 0) (u : Token) (word : List ℕ) (same : Bool) → bytes_eq word (spelling u) ≡ same → is_sign u ≡ true → ((s : Sign) → word ≡ spelling (t.Sign s) → P (t.Sign s)) → (other : Option Token)
@@ -109,7 +112,7 @@ word_spelled word letter all = named (λ u. Spells u word) reserved_words word r
 long_name : (word : List ℕ) → is_letter (slice_index word 0) ≡ true → list_all is_word_byte word ≡ true → 32 < length word → IsName word
 long_name word letter all =
     named (λ u. 32 < length word → IsName word) reserved_words word refl
-    (λ s e long. let short : length (spelling (t.Sign s)) < 33 = ltb-true _ _ (sign_short s) in absurd (omega (arith, ap length e, long, short)))
+    (λ s e long. let short : length (spelling (t.Sign s)) < 33 = ltb-true _ _ (and_parts _ _ (sign_length s)).1 in absurd (omega (arith, ap length e, long, short)))
     (λ unreserved long. record { begins = letter; goes_on = all; free = unreserved })
 
 -- a word with k bytes behind its first is a token or too long, where it is the longest
@@ -150,7 +153,7 @@ number_goes c rest digit =
 abbrev FoundToken : List Token → List ℕ → Option Token → List ℕ → Type 0
 FoundToken us bytes None behind = ⊥
 FoundToken us bytes (Some u) behind =
-    (bytes ≡ spelling u ++ behind) × Fits u (spelling u)
+    (bytes ≡ spelling u ++ behind) × Fits u (spelling u) × (0 < length (spelling u))
     × ((word others : List ℕ) → IsAmong us word → bytes ≡ word ++ others → length word ≤ length (spelling u))
 
 -- the bytes begin with none of these
@@ -182,15 +185,16 @@ no_longer u us first word (inr e) =
 found_by : (u : Token) (us : List Token) (bytes : List ℕ) (begins : Bool) → starts_with nat_eq bytes (spelling u) ≡ begins → is_sign u ≡ true → are_no_longer u us ≡ true → (others : Piece) → Found us bytes others
     → Found (u ∷ us) bytes (if begins then Ok (Some u, drop (length (spelling u)) bytes) else others)
 found_by u us bytes true is signed first others h =
-    ((starts_is Decides-eqb bytes (spelling u) true (sym is)).0 refl, sign_fits u signed, λ word others there parts. no_longer u us first word there)
+    ((starts_is Decides-eqb bytes (spelling u) true (sym is)).0 refl, sign_fits u signed, sign_begun u signed, λ word others there parts. no_longer u us first word there)
 found_by u us bytes false is signed first (Ok (None, behind)) h = h
 found_by u us bytes false is signed first (Ok (Some v, behind)) h = (
   h.0,
   h.1,
+  h.2,
   λ word others there parts.
       elim there [
         | inl e ↦ absurd (clash (starts bytes (spelling u) others (parts ∙ ap (λ w. w ++ others) e)) is)
-        | inr e ↦ h.2 word others e parts
+        | inr e ↦ h.3 word others e parts
       ],
 )
 found_by u us bytes false is signed first (Err spot) h = ((is, h.0), h.1)
@@ -236,7 +240,8 @@ sign_goes_piece c rest other (Ok (Some u, behind)) h = record {
   is_piece = token u (spelling u) behind h.1.0 h.1.1 (λ v b more others is spells.
       let parts : c ∷ rest ≡ (spelling u ++ b ∷ more) ++ others = h.0 ∙ ap (λ xs. spelling u ++ xs) is ∙ sym (append_assoc (spelling u) (b ∷ more) others) in
       let there : IsAmong signs (spelling u ++ b ∷ more) = begins_sign v _ spells (front_other c rest _ others other.no_word parts) in
-      omega (arith, length-append (spelling u) (b ∷ more), h.2 _ others there parts));
+      omega (arith, length-append (spelling u) (b ∷ more), h.3 _ others there parts));
+  begun = h.2;
 }
 sign_goes_piece c rest other (Err spot) h =
     subst (Goes (c ∷ rest)) (sym h.1) (sign_flaw c rest (nat_lt c 128) refl other h.0, refl)
@@ -258,13 +263,14 @@ comment_goes c rest is =
       word = 35 ∷ take k rest;
       parts = ap (λ b. b ∷ rest) is ∙ ap (λ bytes. 35 ∷ bytes) (sym (take-append-drop k rest));
       is_piece = comment (take k rest) (drop k rest) (front_passes is_comment_byte rest) (ends_by _ (stops is_comment_byte rest));
+      begun = omega arith;
     }
 
 -- ---- the whole text
 
 goes_by : (c : ℕ) (rest : List ℕ) (spaces comments letter digit : Bool) → is_space c ≡ spaces → (c == 35) ≡ comments → is_letter c ≡ letter → is_digit c ≡ digit
     → Goes (c ∷ rest) (if spaces then Ok (None, rest) else if comments then Ok (None, drop (prefix_len is_comment_byte rest) rest) else if letter then word_at (c ∷ rest) else if digit then number_at (c ∷ rest) else sign_at (c ∷ rest))
-goes_by c rest true comments letter digit s k l d = record { word = c ∷ []; parts = refl; is_piece = space c rest s }
+goes_by c rest true comments letter digit s k l d = record { word = c ∷ []; parts = refl; is_piece = space c rest s; begun = omega arith }
 goes_by c rest false true letter digit s k l d = comment_goes c rest ((Decides-eqb c 35).0 k)
 goes_by c rest false false true digit s k l d = word_goes c rest l
 goes_by c rest false false false true s k l d = number_goes c rest d
@@ -274,24 +280,46 @@ pub goes : (c : ℕ) (rest : List ℕ) → Goes (c ∷ rest) (piece_at (c ∷ re
 unfolding piece_at
 goes c rest = goes_by c rest (is_space c) (c == 35) (is_letter c) (is_digit c) refl refl refl refl
 
-abbrev Cuts : List ℕ → Result Placed Spot → Type 0
-Cuts bytes read = IfOk read (λ placed. IsCut bytes placed)
+-- what is told of bytes are their tokens, or their first flaw and how many bytes are left there
+abbrev pub Told : List ℕ → Result Placed Spot → Type 0
+Told bytes (Ok placed) = IsCut bytes placed
+Told bytes (Err spot) = (place : ℕ) × IsFirstFlaw bytes spot.0 place × (length bytes ≡ place + spot.1)
 
-behind_goes : (bytes : List ℕ) (first : Option Token) (rest : List ℕ) → Goes bytes (Ok (first, rest)) → (read : Result Placed Spot) → Cuts rest read → Cuts bytes (read >>= (λ others. Ok (before first (length bytes) others)))
-behind_goes bytes first rest adds (Ok others) cut = cut_front bytes rest first others adds cut
-behind_goes bytes first rest adds (Err spot) cut = tt
+one_further : (bytes behind : List ℕ) (found : Option Token) (flaw : Flaw) (place : ℕ) → (h : IsFront bytes found behind) → IsFirstFlaw behind flaw place → IsFirstFlaw bytes flaw (length h.word + place)
+one_further bytes behind found flaw place h first = record {
+  front = h.word ++ first.front;
+  rest = first.rest;
+  parts = h.parts ∙ ap (λ xs. h.word ++ xs) first.parts ∙ sym (append_assoc h.word first.front first.rest);
+  pieces = one_more found h.word first.front first.rest (subst (IsPiece found h.word) first.parts h.is_piece) first.pieces;
+  flawed = first.flawed;
+  at_place = length-append h.word first.front ∙ ap (λ n. length h.word + n) first.at_place;
+}
 
-piece_goes : (n : ℕ) (bytes : List ℕ) (piece : Piece) → Goes bytes piece → ((rest : List ℕ) → Cuts rest (tokens_from n rest))
-    → Cuts bytes (piece >>= (λ p. tokens_from n p.1 >>= (λ others. Ok (before p.0 (length bytes) others))))
-piece_goes n bytes (Ok piece) adds cuts = behind_goes bytes piece.0 piece.1 adds (tokens_from n piece.1) (cuts piece.1)
-piece_goes n bytes (Err spot) adds cuts = tt
+behind_told : (bytes behind : List ℕ) (found : Option Token) → IsFront bytes found behind → (read : Result Placed Spot) → Told behind read → Told bytes (read >>= (λ others. Ok (before found (length bytes) others)))
+behind_told bytes behind found h (Ok others) cut = subst (λ xs. IsCut xs (before found (length xs) others)) (sym h.parts) (another found h.word behind others h.is_piece cut)
+behind_told bytes behind found h (Err spot) later =
+    (length h.word + later.0, one_further bytes behind found spot.0 later.0 h later.1, omega (arith, ap length h.parts, length-append h.word behind, later.2))
 
-cuts_from : (n : ℕ) (bytes : List ℕ) → Cuts bytes (tokens_from n bytes)
+piece_told : (n : ℕ) (bytes : List ℕ) (piece : Piece) → Goes bytes piece → ((behind : List ℕ) → length behind < length bytes → Told behind (tokens_from n behind))
+    → Told bytes (piece >>= (λ p. tokens_from n p.1 >>= (λ others. Ok (before p.0 (length bytes) others))))
+piece_told n bytes (Ok piece) h later = behind_told bytes piece.1 piece.0 h (tokens_from n piece.1) (later piece.1 (omega (arith, ap length h.parts, length-append h.word piece.1, h.begun)))
+piece_told n bytes (Err spot) h later =
+    (0, record { front = []; rest = bytes; parts = refl; pieces = no_piece bytes; flawed = h.0; at_place = refl }, omega (arith, h.1))
+
+told_from : (n : ℕ) (bytes : List ℕ) → length bytes ≤ n → Told bytes (tokens_from n bytes)
 unfolding tokens_from
-cuts_from n [] = end
-cuts_from zero (b ∷ rest) = tt
-cuts_from (suc n) (b ∷ rest) = piece_goes n (b ∷ rest) (piece_at (b ∷ rest)) (goes b rest) (cuts_from n)
+told_from n [] enough = end
+told_from zero (b ∷ rest) enough = absurd (omega (arith, enough))
+told_from (suc n) (b ∷ rest) enough =
+    piece_told n (b ∷ rest) (piece_at (b ∷ rest)) (goes b rest) (λ behind shorter. told_from n behind (omega (arith, shorter, enough)))
+
+pub told : (bytes : List ℕ) → Told bytes (tokens_of bytes)
+told bytes = told_from (length bytes) bytes (omega arith)
+
+cut_if : (bytes : List ℕ) (read : Result Placed Spot) → Told bytes read → IfOk read (λ placed. IsCut bytes placed)
+cut_if bytes (Ok placed) h = h
+cut_if bytes (Err spot) h = tt
 
 -- a text that has tokens is cut into them
 pub cut_of_tokens : (bytes : List ℕ) → IfOk (tokens_of bytes) (λ placed. IsCut bytes placed)
-cut_of_tokens bytes = cuts_from (length bytes) bytes
+cut_of_tokens bytes = cut_if bytes (tokens_of bytes) (told bytes)
