@@ -56,7 +56,8 @@ last_digit n front large h =
 
 own_spelling : (u : Token) → IsLexed u → Spells u (spelling u)
 own_spelling (t.Name x) lexed = (refl, lexed.0)
-own_spelling (t.Number n) lexed = decimal_by_steps (λ n word. IsNumber word n) one_digit last_digit n (omega (arith, lexed))
+own_spelling (t.Number n) lexed =
+    decimal_by_steps (λ n word. IsNumber word n) one_digit last_digit n (omega (arith, lexed))
 own_spelling (t.Sign s) lexed = refl
 
 within : (u : Token) → IsLexed u → IsWithin u
@@ -97,7 +98,8 @@ broken_longest u lexed (c ∷ rest) breaks v b more others is spells =
 
 -- a token that a text can have is a piece before a break
 pub broken_piece : (u : Token) (rest : List ℕ) → IsLexed u → Breaks rest → IsPiece (Some u) (spelling u) rest
-broken_piece u rest lexed breaks = token u (spelling u) rest (own_spelling u lexed) (within u lexed) (broken_longest u lexed rest breaks)
+broken_piece u rest lexed breaks =
+    token u (spelling u) rest (own_spelling u lexed) (within u lexed) (broken_longest u lexed rest breaks)
 
 -- ---- before any bytes
 
@@ -106,7 +108,8 @@ goes_on_from front word = starts_with nat_eq word front && nat_lt (length front)
 
 -- a token that begins with a byte of no word, and that no sign goes on with
 abbrev pub stands_alone : Token → Bool
-stands_alone u = not (is_word_byte (slice_index (spelling u) 0)) && list_all (λ v. not (goes_on_from (spelling u) (spelling v))) signs
+stands_alone u =
+    not (is_word_byte (slice_index (spelling u) 0)) && list_all (λ v. not (goes_on_from (spelling u) (spelling v))) signs
 
 -- such a token is a piece before any bytes
 pub alone_piece : (u : Token) (rest : List ℕ) → IsLexed u → stands_alone u ≡ true → IsPiece (Some u) (spelling u) rest

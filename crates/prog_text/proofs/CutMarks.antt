@@ -84,7 +84,8 @@ word_open u lexed = record { cuts = λ rest ts breaks h. piece_cut u rest ts (br
 
 -- a sign that stands alone
 pub sign_closed : (s : Sign) → stands_alone (t.Sign s) ≡ true → Closed (Word (t.Sign s) ∷ [])
-sign_closed s alone = record { cuts = λ rest ts any h. piece_cut (t.Sign s) rest ts (alone_piece (t.Sign s) rest tt alone) h }
+sign_closed s alone =
+    record { cuts = λ rest ts any h. piece_cut (t.Sign s) rest ts (alone_piece (t.Sign s) rest tt alone) h }
 
 pub leading_closed : (u : Token) → IsLexed u → Closed (leading u)
 leading_closed u lexed = after_open (word_open u lexed) (space_begins []) space_closed

@@ -34,7 +34,8 @@ sides_open u v lexed ts us a b left right h =
 
 mutual
   factor_open : (ts : List Token) (e : ExprTree) → IsFactor ts e → AreLexed ts → Open (expr_marks e)
-  factor_open _ _ (number n) h = open_if (int_eq (pos n) greatest_number) _ _ (word_open (t.Sign sign.Greatest) tt) (word_open (t.Number n) h.0)
+  factor_open _ _ (number n) h =
+      open_if (int_eq (pos n) greatest_number) _ _ (word_open (t.Sign sign.Greatest) tt) (word_open (t.Number n) h.0)
   factor_open _ _ (negative zero) h = word_open (t.Number 0) h.1.0
   factor_open _ _ (negative (suc n)) h =
       open_if (int_eq (negsuc n) least_number) _ _ (word_open (t.Sign sign.Least) tt) (after_closed (sign_closed sign.Minus refl) (word_open (t.Number (suc n)) h.1.0))
@@ -84,7 +85,8 @@ relation_lexed s.Less = tt
 relation_lexed r = tt
 
 compared_open : (ts us : List Token) (u : Token) (a b : ExprTree) (r : RelationSign) → IsExpr ts a → IsExpr us b → AreLexed (ts ++ u ∷ us) → Open (expr_marks a ++ (spaced (relation_token r) ++ expr_marks b))
-compared_open ts us u a b r left right h = sides_open (relation_token r) u (relation_lexed r) ts us _ _ (λ h. expr_open ts a left h) (λ h. expr_open us b right h) h
+compared_open ts us u a b r left right h =
+    sides_open (relation_token r) u (relation_lexed r) ts us _ _ (λ h. expr_open ts a left h) (λ h. expr_open us b right h) h
 
 comparison_open : (ts : List Token) (c : ComparisonTree) → IsComparison ts c → AreLexed ts → Open (comparison_marks c)
 comparison_open _ _ (g.IsComparison.plain ts us u a b r left compares right) h = compared_open ts us u a b r left right h
@@ -140,17 +142,23 @@ key_and_open word first u lexed ks ts table k e is_key is_expr h =
     after_closed (leading_closed word first) (after_closed (key_of ks table k is_key both.0) (after_closed (spaced_closed u lexed) (last_open (t.Sign sign.Semicolon) ts e is_expr both.1.1)))
 
 key_line : (word : Token) → IsLexed word → (ks : List Token) (table : Name) (k : KeyTree) → IsKey ks table k → AreLexed (ks ++ t.Sign sign.Semicolon ∷ []) → Open (leading word ++ key_marks table k)
-key_line word first ks table k d h = closed_open (after_closed (leading_closed word first) (key_of ks table k d (lexed_parts ks (t.Sign sign.Semicolon ∷ []) h).0))
+key_line word first ks table k d h =
+    closed_open (after_closed (leading_closed word first) (key_of ks table k d (lexed_parts ks (t.Sign sign.Semicolon ∷ []) h).0))
 
 range_line : (word : Token) → IsLexed word → (rs : List Token) (table : Name) (r : RangeTree) → IsRange rs table r → AreLexed (rs ++ t.Sign sign.Semicolon ∷ []) → Open (leading word ++ range_marks table r)
-range_line word first rs table r d h = closed_open (after_closed (leading_closed word first) (range_of rs table r d (lexed_parts rs (t.Sign sign.Semicolon ∷ []) h).0))
+range_line word first rs table r d h =
+    closed_open (after_closed (leading_closed word first) (range_of rs table r d (lexed_parts rs (t.Sign sign.Semicolon ∷ []) h).0))
 
 statement_open : (ts : List Token) (s : StatementTree) → IsStatement ts s → AreLexed ts → Open (statement_marks s)
 statement_open _ _ (bind x ts e d) h = after_closed (let_closed x h.1.0) (last_open (t.Sign sign.Semicolon) ts e d h.1.1.1)
-statement_open _ _ (get x table ks ts k e is_key is_expr) h = after_closed (let_closed x h.1.0) (key_and_open (t.Sign sign.Get) tt (t.Sign sign.Else) tt ks ts table k e is_key is_expr h.1.1.1.1)
-statement_open _ _ (need x table ks k d) h = after_closed (let_closed x h.1.0) (key_line (t.Sign sign.Need) tt ks table k d h.1.1.1.1)
-statement_open _ _ (count x table rs r d) h = after_closed (let_closed x h.1.0) (range_line (t.Sign sign.Count) tt rs table r d h.1.1.1.1)
-statement_open _ _ (sum x table rs r d) h = after_closed (let_closed x h.1.0) (range_line (t.Sign sign.Sum) tt rs table r d h.1.1.1.1)
+statement_open _ _ (get x table ks ts k e is_key is_expr) h =
+    after_closed (let_closed x h.1.0) (key_and_open (t.Sign sign.Get) tt (t.Sign sign.Else) tt ks ts table k e is_key is_expr h.1.1.1.1)
+statement_open _ _ (need x table ks k d) h =
+    after_closed (let_closed x h.1.0) (key_line (t.Sign sign.Need) tt ks table k d h.1.1.1.1)
+statement_open _ _ (count x table rs r d) h =
+    after_closed (let_closed x h.1.0) (range_line (t.Sign sign.Count) tt rs table r d h.1.1.1.1)
+statement_open _ _ (sum x table rs r d) h =
+    after_closed (let_closed x h.1.0) (range_line (t.Sign sign.Sum) tt rs table r d h.1.1.1.1)
 statement_open _ _ (lacks table ks k d) h = key_line (t.Sign sign.Lacks) tt ks table k d h.1
 statement_open _ _ (put table ks ts k e is_key is_expr) h = key_and_open (t.Sign sign.Put) tt (t.Sign sign.Equals) tt ks ts table k e is_key is_expr h.1
 statement_open _ _ (insert table ks ts k e is_key is_expr) h = key_and_open (t.Sign sign.Insert) tt (t.Sign sign.Equals) tt ks ts table k e is_key is_expr h.1

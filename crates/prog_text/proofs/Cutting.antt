@@ -23,7 +23,8 @@ joined_before done token left (Err e) = refl
 
 -- one piece further
 pub joined_further : (done : Placed) (n : ℕ) (rest behind : List ℕ) (token : Option Token) → 0 < length rest → length rest ≤ n → piece_at rest ≡ Ok (token, behind) → joined done (tokens_from n rest) ≡ joined (done ++ before token (length rest) []) (tokens_from (n - 1) behind)
-joined_further done n rest behind token begins enough is = rw (one_piece rest n begins enough, is) (joined_before done token _ (tokens_from (n - 1) behind))
+joined_further done n rest behind token begins enough is =
+    rw (one_piece rest n begins enough, is) (joined_before done token _ (tokens_from (n - 1) behind))
 
 -- two columns, one row longer
 pub zip_push : {A B : Type 0} (xs : List A) (ys : List B) (x : A) (y : B) → length xs ≡ length ys → zip (xs ++ x ∷ []) (ys ++ y ∷ []) ≡ zip xs ys ++ (x, y) ∷ []

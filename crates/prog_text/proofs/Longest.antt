@@ -93,7 +93,8 @@ sign_begun u h = absurd (true≢false (sym h))
 -- what is so of the sign that the bytes spell, and of a name where they spell none, is so of what the search finds
 named_by : (P : Token → Type 0) (u : Token) (word : List ℕ) (same : Bool) → bytes_eq word (spelling u) ≡ same → is_sign u ≡ true → ((s : Sign) → word ≡ spelling (t.Sign s) → P (t.Sign s)) → (other : Option Token)
     → (same ≡ false → P (unwrap_or other (t.Name word))) → P (unwrap_or (cond same (Some u) other) (t.Name word))
-named_by P (t.Sign s) word true is signed each other next = each s ((bytes_eq-Decides word (spelling (t.Sign s))).0 is)
+named_by P (t.Sign s) word true is signed each other next =
+    each s ((bytes_eq-Decides word (spelling (t.Sign s))).0 is)
 named_by P u word true is signed each other next = absurd (true≢false (sym signed))
 named_by P u word false is signed each other next = next refl
 
@@ -138,7 +139,8 @@ number_goes_by : (c : ℕ) (rest : List ℕ) (k : ℕ) → IsNumber (c ∷ take 
     → Goes (c ∷ rest) (if fits then Ok (Some (t.Number (digits_value (c ∷ take k rest))), drop k rest) else Err (NumberOutOfRange, length (c ∷ rest)))
 number_goes_by c rest k h longest false is =
     (subst (λ bytes. HasFlaw NumberOutOfRange (c ∷ bytes)) (take-append-drop k rest) (too_large _ (c ∷ take k rest) (drop k rest) h (ltb-false _ _ is) longest), refl)
-number_goes_by c rest k h longest true is = token_goes c rest k (t.Number (digits_value (c ∷ take k rest))) (h, ltb-true _ _ is) longest
+number_goes_by c rest k h longest true is =
+    token_goes c rest k (t.Number (digits_value (c ∷ take k rest))) (h, ltb-true _ _ is) longest
 
 number_goes : (c : ℕ) (rest : List ℕ) → is_digit c ≡ true → Goes (c ∷ rest) (number_at (c ∷ rest))
 unfolding number_at
@@ -210,7 +212,8 @@ found (u ∷ us) bytes signed first =
 -- where the bytes begin with one of no word, so does what stands at their front
 pub front_other : (c : ℕ) (rest word behind : List ℕ) → is_word_byte c ≡ false → c ∷ rest ≡ word ++ behind → is_word_byte (slice_index word 0) ≡ false
 front_other c rest [] behind other parts = refl
-front_other c rest (x ∷ word) behind other parts = subst (λ b. is_word_byte b ≡ false) (ap (λ xs. slice_index xs 0) parts) other
+front_other c rest (x ∷ word) behind other parts =
+    subst (λ b. is_word_byte b ≡ false) (ap (λ xs. slice_index xs 0) parts) other
 
 -- where no word byte and no sign begins, no token does
 none_among : (us : List Token) (bytes word behind : List ℕ) → BeginsNoneOf us bytes → IsAmong us word → bytes ≡ word ++ behind → ⊥
@@ -296,13 +299,15 @@ one_further bytes behind found flaw place h first = record {
 }
 
 behind_told : (bytes behind : List ℕ) (found : Option Token) → IsFront bytes found behind → (read : Result Placed Spot) → Told behind read → Told bytes (read >>= (λ others. Ok (before found (length bytes) others)))
-behind_told bytes behind found h (Ok others) cut = subst (λ xs. IsCut xs (before found (length xs) others)) (sym h.parts) (another found h.word behind others h.is_piece cut)
+behind_told bytes behind found h (Ok others) cut =
+    subst (λ xs. IsCut xs (before found (length xs) others)) (sym h.parts) (another found h.word behind others h.is_piece cut)
 behind_told bytes behind found h (Err spot) later =
     (length h.word + later.0, one_further bytes behind found spot.0 later.0 h later.1, omega (arith, ap length h.parts, length-append h.word behind, later.2))
 
 piece_told : (n : ℕ) (bytes : List ℕ) (piece : Piece) → Goes bytes piece → ((behind : List ℕ) → length behind < length bytes → Told behind (tokens_from n behind))
     → Told bytes (piece >>= (λ p. tokens_from n p.1 >>= (λ others. Ok (before p.0 (length bytes) others))))
-piece_told n bytes (Ok piece) h later = behind_told bytes piece.1 piece.0 h (tokens_from n piece.1) (later piece.1 (omega (arith, ap length h.parts, length-append h.word piece.1, h.begun)))
+piece_told n bytes (Ok piece) h later =
+    behind_told bytes piece.1 piece.0 h (tokens_from n piece.1) (later piece.1 (omega (arith, ap length h.parts, length-append h.word piece.1, h.begun)))
 piece_told n bytes (Err spot) h later =
     (0, record { front = []; rest = bytes; parts = refl; pieces = no_piece bytes; flawed = h.0; at_place = refl }, omega (arith, h.1))
 

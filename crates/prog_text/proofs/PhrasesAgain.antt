@@ -74,8 +74,10 @@ compared_again n front form ts us u a b r left compares right =
     })
 
 comparison_again : AreAgain IsComparison comparison_marks
-comparison_again _ _ (g.IsComparison.plain ts us u a b r left compares right) = compared_again false [] g.IsComparison.plain ts us u a b r left compares right
-comparison_again _ _ (negated ts us u a b r left compares right) = compared_again true (t.Sign sign.Not ∷ []) negated ts us u a b r left compares right
+comparison_again _ _ (g.IsComparison.plain ts us u a b r left compares right) =
+    compared_again false [] g.IsComparison.plain ts us u a b r left compares right
+comparison_again _ _ (negated ts us u a b r left compares right) =
+    compared_again true (t.Sign sign.Not ∷ []) negated ts us u a b r left compares right
 
 conjunction_again : AreAgain IsConjunction conjunction_marks
 conjunction_again = joined_again IsComparison (t.Sign sign.And) (spaced (t.Sign sign.And)) comparison_marks (λ others. refl) comparison_again
@@ -174,11 +176,13 @@ key_and_again front u table ks ts k e s is_key d form =
 -- such statements with a key, a range or an expression alone
 key_line : (front : List Token) (table : Name) (ks : List Token) (k : KeyTree) (s : StatementTree) → IsKey ks table k → ((us : List Token) → IsKey us table k → IsStatement (front ++ (us ++ statement_end)) s)
     → Again IsStatement (front ++ words_of (with_semicolon (key_marks table k))) (front ++ (ks ++ statement_end)) s
-key_line front table ks k s d form = ended_again (λ us k. IsKey us table k) front (key_marks table k) ks k s (key_again ks table k d) form
+key_line front table ks k s d form =
+    ended_again (λ us k. IsKey us table k) front (key_marks table k) ks k s (key_again ks table k d) form
 
 range_line : (front : List Token) (table : Name) (rs : List Token) (r : RangeTree) (s : StatementTree) → IsRange rs table r → ((us : List Token) → IsRange us table r → IsStatement (front ++ (us ++ statement_end)) s)
     → Again IsStatement (front ++ words_of (with_semicolon (range_marks table r))) (front ++ (rs ++ statement_end)) s
-range_line front table rs r s d form = ended_again (λ us r. IsRange us table r) front (range_marks table r) rs r s (range_again rs table r d) form
+range_line front table rs r s d form =
+    ended_again (λ us r. IsRange us table r) front (range_marks table r) rs r s (range_again rs table r d) form
 
 expr_line : (front ts : List Token) (e : ExprTree) (s : StatementTree) → IsExpr ts e → ((us : List Token) → IsExpr us e → IsStatement (front ++ (us ++ statement_end)) s)
     → Again IsStatement (front ++ words_of (with_semicolon (expr_marks e))) (front ++ (ts ++ statement_end)) s
@@ -190,15 +194,24 @@ bound x ts = t.Sign sign.Let ∷ t.Name x ∷ t.Sign sign.Equals ∷ ts
 
 statement_again : AreAgain IsStatement (λ s. with_semicolon (statement_marks s))
 statement_again _ s (bind x ts e d) = expr_line (bound x []) ts e s d (λ us. bind x us e)
-statement_again _ s (get x table ks ts k e is_key d) = key_and_again (bound x (t.Sign sign.Get ∷ [])) (t.Sign sign.Else) table ks ts k e s is_key d (λ us vs. get x table us vs k e)
-statement_again _ s (need x table ks k d) = key_line (bound x (t.Sign sign.Need ∷ [])) table ks k s d (λ us. need x table us k)
-statement_again _ s (count x table rs r d) = range_line (bound x (t.Sign sign.Count ∷ [])) table rs r s d (λ us. count x table us r)
-statement_again _ s (sum x table rs r d) = range_line (bound x (t.Sign sign.Sum ∷ [])) table rs r s d (λ us. sum x table us r)
-statement_again _ s (lacks table ks k d) = key_line (t.Sign sign.Lacks ∷ []) table ks k s d (λ us. lacks table us k)
-statement_again _ s (put table ks ts k e is_key d) = key_and_again (t.Sign sign.Put ∷ []) (t.Sign sign.Equals) table ks ts k e s is_key d (λ us vs. put table us vs k e)
-statement_again _ s (insert table ks ts k e is_key d) = key_and_again (t.Sign sign.Insert ∷ []) (t.Sign sign.Equals) table ks ts k e s is_key d (λ us vs. insert table us vs k e)
-statement_again _ s (delete table ks k d) = key_line (t.Sign sign.Delete ∷ []) table ks k s d (λ us. delete table us k)
-statement_again _ s (keep table ks k d) = key_line (t.Sign sign.Keep ∷ []) table ks k s d (λ us. keep table us k)
+statement_again _ s (get x table ks ts k e is_key d) =
+    key_and_again (bound x (t.Sign sign.Get ∷ [])) (t.Sign sign.Else) table ks ts k e s is_key d (λ us vs. get x table us vs k e)
+statement_again _ s (need x table ks k d) =
+    key_line (bound x (t.Sign sign.Need ∷ [])) table ks k s d (λ us. need x table us k)
+statement_again _ s (count x table rs r d) =
+    range_line (bound x (t.Sign sign.Count ∷ [])) table rs r s d (λ us. count x table us r)
+statement_again _ s (sum x table rs r d) =
+    range_line (bound x (t.Sign sign.Sum ∷ [])) table rs r s d (λ us. sum x table us r)
+statement_again _ s (lacks table ks k d) =
+    key_line (t.Sign sign.Lacks ∷ []) table ks k s d (λ us. lacks table us k)
+statement_again _ s (put table ks ts k e is_key d) =
+    key_and_again (t.Sign sign.Put ∷ []) (t.Sign sign.Equals) table ks ts k e s is_key d (λ us vs. put table us vs k e)
+statement_again _ s (insert table ks ts k e is_key d) =
+    key_and_again (t.Sign sign.Insert ∷ []) (t.Sign sign.Equals) table ks ts k e s is_key d (λ us vs. insert table us vs k e)
+statement_again _ s (delete table ks k d) =
+    key_line (t.Sign sign.Delete ∷ []) table ks k s d (λ us. delete table us k)
+statement_again _ s (keep table ks k d) =
+    key_line (t.Sign sign.Keep ∷ []) table ks k s d (λ us. keep table us k)
 statement_again _ s (reply ts e d) = expr_line (t.Sign sign.Reply ∷ []) ts e s d (λ us. reply us e)
 statement_again _ _ abort = record { spelled = abort; lighter = same_lighter (t.Sign sign.Abort ∷ statement_end) }
 
@@ -239,7 +252,8 @@ second_again depth ts BlockEnd d h = record {
   lighter = subst (λ (us : List Token). Lighter (t.Sign sign.CloseBlock ∷ []) (t.Sign sign.CloseBlock ∷ left_out us)) (sym (nothing_is ts d)) no_second;
 }
 second_again depth ts (Then s rest) d h = present_again depth ts (Then s rest) refl h
-second_again depth ts (Branch test first second rest) d h = present_again depth ts (Branch test first second rest) refl h
+second_again depth ts (Branch test first second rest) d h =
+    present_again depth ts (Branch test first second rest) refl h
 
 -- what stands behind the first block, from its closing sign on
 behind_words : (depth : ℕ) (b : BlockTree) (rest : List Mark) → words_of (else_marks depth (block_marks (suc depth) b) ++ (close_line depth ++ rest)) ≡ t.Sign sign.CloseBlock ∷ (second_words depth b ++ words_of rest)
@@ -311,8 +325,10 @@ read_again : {A : Type 0} (P : List Token → A → Type 0) (us ts : List Token)
 read_again P us ts x e d = again_by P us ts ts x e (record { spelled = d; lighter = same_lighter ts })
 
 table_again : AreAgain IsTable table_marks
-table_again _ d (g.IsTable.plain x n a is) = read_again IsTable _ _ d (ap (λ (m : ℕ). t.Sign sign.Table ∷ t.Name x ∷ t.Number m ∷ t.Sign sign.Semicolon ∷ []) (sym (arity_is n a is))) (g.IsTable.plain x n a is)
-table_again _ d (grows x n a is) = read_again IsTable _ _ d (ap (λ (m : ℕ). t.Sign sign.Table ∷ t.Name x ∷ t.Number m ∷ t.Sign sign.Grow ∷ t.Sign sign.Semicolon ∷ []) (sym (arity_is n a is))) (grows x n a is)
+table_again _ d (g.IsTable.plain x n a is) =
+    read_again IsTable _ _ d (ap (λ (m : ℕ). t.Sign sign.Table ∷ t.Name x ∷ t.Number m ∷ t.Sign sign.Semicolon ∷ []) (sym (arity_is n a is))) (g.IsTable.plain x n a is)
+table_again _ d (grows x n a is) =
+    read_again IsTable _ _ d (ap (λ (m : ℕ). t.Sign sign.Table ∷ t.Name x ∷ t.Number m ∷ t.Sign sign.Grow ∷ t.Sign sign.Semicolon ∷ []) (sym (arity_is n a is))) (grows x n a is)
 
 name_again : AreAgain IsName name_marks
 name_again _ _ (g.IsName.name x) = read_again IsName _ _ x refl (g.IsName.name x)

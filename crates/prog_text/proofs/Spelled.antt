@@ -74,7 +74,8 @@ among_passes p (u ∷ us) word all (inr e) = among_passes p us word (and_parts _
 
 -- a sign begins with a byte of no word
 pub sign_begins : (word : List ℕ) → IsAmong signs word → is_word_byte (slice_index word 0) ≡ false
-sign_begins word there = not_is _ (among_passes (λ w. not (is_word_byte (slice_index w 0))) signs word refl there)
+sign_begins word there =
+    not_is _ (among_passes (λ w. not (is_word_byte (slice_index w 0))) signs word refl there)
 
 -- what begins with a byte of no word is a sign
 pub begins_sign : (u : Token) (word : List ℕ) → Spells u word → is_word_byte (slice_index word 0) ≡ false → IsAmong signs word

@@ -37,7 +37,8 @@ factor_spelled ts e d = record { whole = product ts e (factor ts e d); as_produc
 
 -- one factor or the other, by a test
 either_spelled : (z end : ℤ) (special plain : List Mark) (b : Bool) → int_eq z end ≡ b → IsFactor (words_of special) (Literal end) → IsFactor (words_of plain) (Literal z) → IsFactor (words_of (if b then special else plain)) (Literal z)
-either_spelled z end special plain true h first second = subst (λ (y : ℤ). IsFactor (words_of special) (Literal y)) (sym ((Decides-int_eq z end).0 h)) first
+either_spelled z end special plain true h first second =
+    subst (λ (y : ℤ). IsFactor (words_of special) (Literal y)) (sym ((Decides-int_eq z end).0 h)) first
 either_spelled z end special plain false h first second = second
 
 bracket_spelled : (marks : List Mark) (e : ExprTree) → IsExpr (words_of marks) e → IsFactor (words_of (in_brackets_if true marks)) e
@@ -57,18 +58,22 @@ sum_spelled : (u : Token) (a b e : ExprTree) → is_sum e ≡ true → IsSpelled
 sum_spelled u a b e sums left right form =
     let side : List Mark = in_brackets_if (is_sum b) (expr_marks b) in
     record {
-      whole = subst (λ (ts : List Token). IsExpr ts e) (sym (side_words (expr_marks a) side u)) (form _ _ left.whole (product_spelled (is_sum b) (expr_marks b) b refl right));
+      whole =
+          subst (λ (ts : List Token). IsExpr ts e) (sym (side_words (expr_marks a) side u)) (form _ _ left.whole (product_spelled (is_sum b) (expr_marks b) b refl right));
       as_product = λ h. absurd (true≢false (sym sums ∙ h));
       as_factor = λ h. absurd (true≢false (ap (λ x. x || is_product e) (sym sums) ∙ h));
     }
 
 spelled : (e : ExprTree) → IsSpelled (words_of (expr_marks e)) e
-spelled (Literal (pos n)) = factor_spelled _ _ (either_spelled (pos n) greatest_number (Word (t.Sign sign.Greatest) ∷ []) (Word (t.Number n) ∷ []) _ refl greatest (number n))
+spelled (Literal (pos n)) =
+    factor_spelled _ _ (either_spelled (pos n) greatest_number (Word (t.Sign sign.Greatest) ∷ []) (Word (t.Number n) ∷ []) _ refl greatest (number n))
 spelled (Literal (negsuc n)) =
     factor_spelled _ _ (either_spelled (negsuc n) least_number (Word (t.Sign sign.Least) ∷ []) (Word (t.Sign sign.Minus) ∷ Word (t.Number (suc n)) ∷ []) _ refl least (negative (suc n)))
 spelled (Named x) = factor_spelled _ _ (name x)
-spelled (Plus a b) = sum_spelled (t.Sign sign.Plus) a b (Plus a b) refl (spelled a) (spelled b) (λ ts us. plus ts us a b)
-spelled (Minus a b) = sum_spelled (t.Sign sign.Minus) a b (Minus a b) refl (spelled a) (spelled b) (λ ts us. minus ts us a b)
+spelled (Plus a b) =
+    sum_spelled (t.Sign sign.Plus) a b (Plus a b) refl (spelled a) (spelled b) (λ ts us. plus ts us a b)
+spelled (Minus a b) =
+    sum_spelled (t.Sign sign.Minus) a b (Minus a b) refl (spelled a) (spelled b) (λ ts us. minus ts us a b)
 spelled (Times a b) =
     let left : List Mark = in_brackets_if (is_sum a) (expr_marks a) in
     let right : List Mark = in_brackets_if (is_sum b || is_product b) (expr_marks b) in
