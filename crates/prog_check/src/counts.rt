@@ -60,8 +60,16 @@ fn count_accesses(tables: &Tables<'_>, stmt: &Stmt) -> usize
 {
     match stmt {
         Stmt::Insert { table, .. } if !is_grow_table(tables, table) => 2,
-        Stmt::Bind { .. } | Stmt::Reply { .. } | Stmt::Abort | Stmt::Branch { .. } => 0,
-        _ => 1,
+        Stmt::Get { .. }
+        | Stmt::Need { .. }
+        | Stmt::Count { .. }
+        | Stmt::Sum { .. }
+        | Stmt::Lacks { .. }
+        | Stmt::Put { .. }
+        | Stmt::Insert { .. }
+        | Stmt::Delete { .. }
+        | Stmt::Keep { .. } => 1,
+        Stmt::Bind { .. } | Stmt::Branch { .. } | Stmt::Reply { .. } | Stmt::Abort => 0,
     }
 }
 

@@ -102,7 +102,14 @@ pub fn bound_name(stmt: &Stmt) -> Option<&Name>
         | Stmt::Need { name, .. }
         | Stmt::Count { name, .. }
         | Stmt::Sum { name, .. } => Some(name),
-        _ => None,
+        Stmt::Lacks { .. }
+        | Stmt::Put { .. }
+        | Stmt::Insert { .. }
+        | Stmt::Delete { .. }
+        | Stmt::Keep { .. }
+        | Stmt::Branch { .. }
+        | Stmt::Reply { .. }
+        | Stmt::Abort => None,
     }
 }
 
@@ -140,7 +147,7 @@ pub fn table_use(stmt: &Stmt) -> Option<(&Name, Arity)>
         Stmt::Count { table, range, .. } | Stmt::Sum { table, range, .. } => {
             Some((table, columns_of_range(range)))
         }
-        _ => None,
+        Stmt::Bind { .. } | Stmt::Branch { .. } | Stmt::Reply { .. } | Stmt::Abort => None,
     }
 }
 

@@ -132,6 +132,6 @@ pub fn columns_of(params: &[Name], unknown: usize, stmt: &Stmt) -> Option<Column
         Stmt::Count { range, .. } | Stmt::Sum { range, .. } => {
             Some(columns_of_range(params, unknown, range))
         }
-        _ => None,
+        Stmt::Bind { .. } | Stmt::Branch { .. } | Stmt::Reply { .. } | Stmt::Abort => None,
     }
 }

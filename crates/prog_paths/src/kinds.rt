@@ -26,7 +26,7 @@ pub fn kinds(grow: bool, stmt: &Stmt) -> (Option<Kind>, Option<Kind>)
         Stmt::Insert { .. } if grow => (Some(Kind::Adds), None),
         Stmt::Insert { .. } => (Some(Kind::Reads), Some(Kind::Writes)),
         Stmt::Keep { .. } => (Some(Kind::Keeps), None),
-        _ => (None, None),
+        Stmt::Bind { .. } | Stmt::Branch { .. } | Stmt::Reply { .. } | Stmt::Abort => (None, None),
     }
 }
 
@@ -45,7 +45,7 @@ fn table_name(stmt: &Stmt) -> Option<&Name>
         | Stmt::Insert { table, .. }
         | Stmt::Delete { table, .. }
         | Stmt::Keep { table, .. } => Some(table),
-        _ => None,
+        Stmt::Bind { .. } | Stmt::Branch { .. } | Stmt::Reply { .. } | Stmt::Abort => None,
     }
 }
 
