@@ -56,8 +56,8 @@ impl<'a> Model for Run<'a> {
       end = r.end;
     } };
 
-    ghost invariant = { λ r. IsTrueTo r.set.now.tables.items (program_tree r.program.now) r.args r.end
-        (cursor_tree r.cursor) r.progress
+    ghost invariant = { λ r. IsTrueTo r.set.now.tables.items (program_tree r.program.now)
+        r.args r.end (cursor_tree r.cursor) r.progress
         × IsWaiting r.set.now.tables.items r.asked r.end (cursor_tree r.cursor) r.progress };
 }
 
