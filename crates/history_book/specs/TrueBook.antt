@@ -13,7 +13,8 @@ use Rattle.version_store.specs.Clash.{IsClash}
 use Rattle.version_store.specs.StandsFor.{StoreView, StandsFor}
 use Rattle.version_store.specs.declared.clash.Clash.{Clash}
 use Rattle.history_book.specs.History.{Instance, commits_of, evaluation, IsCalled, IsLawful}
-use Rattle.history_book.specs.View.{BookView, instance_of, history_of, commits_in, most_endings}
+use Rattle.history_book.specs.TraceView.{TraceView}
+use Rattle.history_book.specs.View.{BookView, instance_of, history_of, commits_in, traces_in, most_endings}
 use Rattle.history_book.specs.declared.instances.row.Ending.{Ending}
 use Rattle.history_book.specs.declared.instances.row.Ending.TheVariants as ending
 use Rattle.history_book.specs.declared.instances.row.HistoryRow.{HistoryRow}
@@ -81,3 +82,7 @@ pub record IsTrueBook (v : BookView) : Type 0 where
 pub record IsStored (v : BookView) (store : StoreView) : Type 0 where
   pub stands : StandsFor store v.opening (commits_in v)
   pub commits : store.commits ≡ length v.rows
+
+-- a true book, whose store has its commits, and whose traces are those of its commits
+abbrev pub IsWholeBook : BookView → StoreView → List TraceView → Type 0
+IsWholeBook v store traces = IsTrueBook v × IsStored v store × (traces ≡ traces_in v)

@@ -47,9 +47,8 @@ pub struct Book<'a> {
 impl<'a> Model for Book<'a> {
     ghost use Rattle.std.specs.Coded.{codes};
     ghost use Rattle.prog_tree.specs.contracts.stmt.Block as block;
-    ghost use Rattle.history_book.specs.TrueBook.{IsTrueBook, IsStored};
-    ghost use Rattle.std.specs.Prelude.{◌≡◌};
-    ghost use Rattle.history_book.specs.View.{BookView, traces_in};
+    ghost use Rattle.history_book.specs.TrueBook.{IsWholeBook};
+    ghost use Rattle.history_book.specs.View.{BookView};
 
     ghost Value = { BookView };
 
@@ -65,7 +64,7 @@ impl<'a> Model for Book<'a> {
       floor = b.store.floor;
     } };
 
-    ghost invariant = { λ b. IsTrueBook record {
+    ghost invariant = { λ b. IsWholeBook record {
       set = b.set.now;
       opening = b.opening;
       rows = b.rows.items;
@@ -73,25 +72,7 @@ impl<'a> Model for Book<'a> {
       active = b.active.entries;
       begun = b.begun;
       floor = b.store.floor;
-    }
-        × IsStored record {
-          set = b.set.now;
-          opening = b.opening;
-          rows = b.rows.items;
-          endings = b.endings.items;
-          active = b.active.entries;
-          begun = b.begun;
-          floor = b.store.floor;
-        } b.store
-        × (b.traces.items ≡ traces_in record {
-          set = b.set.now;
-          opening = b.opening;
-          rows = b.rows.items;
-          endings = b.endings.items;
-          active = b.active.entries;
-          begun = b.begun;
-          floor = b.store.floor;
-        }) };
+    } b.store b.traces.items };
 }
 
 // Whether a run is over and ready.
