@@ -3,13 +3,15 @@ use Rattle.std.specs.Prelude.{◌≡◌, ℕ, ◌+◌, ◌≤◌, true, List, []
 use Rattle.prog_tree.specs.declared.deed.End.TheVariants.{Ready}
 use Rattle.prog_tree.specs.declared.program.Draft.{Draft}
 use Rattle.prog_tree.specs.Table.{TableState}
+use Rattle.prog_tree.specs.Tree.{draft_tree}
 use Rattle.prog_run.specs.View.{IsTrueRun}
 use Rattle.history_book.specs.History.{Instance}
 use Rattle.history_book.specs.Runs.{IsOwnRun, IsCommitted, IsClashed, ended_in}
 use Rattle.history_book.specs.View.{BookView, history_of, active_at}
 use Rattle.history_book.specs.declared.instances.row.Ending.{Ending}
-use Rattle.si_engine.specs.Machine.{Active, Machine}
+use Rattle.si_engine.specs.Machine.{Active, Machine, machine_step}
 use Rattle.si_engine.specs.declared.active.ActiveRun.{ActiveRun}
+use Rattle.si_engine.specs.declared.event.Event.{Event}
 use Rattle.si_engine.specs.declared.event.Reply.{Reply}
 use Rattle.si_engine.specs.declared.event.Reply.TheVariants as reply
 
@@ -71,6 +73,17 @@ pub record IsEngine (v : BookView) (runs : List (Option ActiveRun)) : Type 0 whe
   pub active : v.active ≡ numbered 0 (begun_of runs)
   pub held :
       (number : ℕ) → (a : ActiveRun) → slice_get runs number ≡ Some (Some a) → IsHeld v number a
+
+-- ---- what an event leaves
+
+-- the set and the opening rows are as before
+abbrev pub StaysOver : (old new : EngineView) → Type 0
+StaysOver old new = (new.set ≡ old.set) × (new.opening ≡ old.opening)
+
+-- the reply and the machine after it are those of the event machine
+abbrev pub IsAnswerTo : Event → (old new : EngineView) → Reply → Type 0
+IsAnswerTo event old new reply =
+    (reply, new.machine) ≡ machine_step (draft_tree old.set) old.opening event old.machine
 
 -- ---- what a call on an active instance leaves
 

@@ -5,7 +5,8 @@ ghost use Rattle.prog_tree.specs.Tree.{draft_tree};
 ghost use Rattle.prog_run.specs.View.{begin_fault, begun};
 ghost use Rattle.history_book.specs.History.{state_after};
 ghost use Rattle.history_book.specs.View.{history_of, begin_fault_of, next_ticket, begun_in};
-ghost use Rattle.si_engine.specs.Machine.{new_machine, begin_by, machine_step};
+ghost use Rattle.si_engine.specs.Machine.{new_machine};
+ghost use Rattle.si_engine.specs.View.{StaysOver, IsAnswerTo};
 
 use crate::active::ActiveRun;
 use crate::event::{Event, Reply};
@@ -113,11 +114,9 @@ impl<'a> Engine<'a> {
     }
 
     fn begin(&mut self, program: usize, args: &[i64]) -> Result<Reply, AllocError>
-        ensures set { self.new.set ≡ self.old.set }
-        ensures opening { self.new.opening ≡ self.old.opening }
-        ensures step { IfOk result (λ r. (r, self.new.machine) ≡ begin_by
-            (slice_get (draft_tree self.old.set).programs program)
-            self.old.machine program args.now) }
+        ensures over { StaysOver self.old self.new }
+        ensures step { IfOk result
+            (IsAnswerTo (event.Begin program args.now) self.old self.new) }
         ensures err { OnErr result (self.new ≡ self.old) }
     {
         let set = self.book.set();
@@ -148,10 +147,8 @@ impl<'a> Engine<'a> {
     }
 
     fn step(&mut self, number: usize) -> Result<Reply, AllocError>
-        ensures set { self.new.set ≡ self.old.set }
-        ensures opening { self.new.opening ≡ self.old.opening }
-        ensures step { IfOk result (λ r. (r, self.new.machine) ≡ machine_step
-            (draft_tree self.old.set) self.old.opening (event.Step number) self.old.machine) }
+        ensures over { StaysOver self.old self.new }
+        ensures step { IfOk result (IsAnswerTo (event.Step number) self.old self.new) }
         ensures err { OnErr result (self.new ≡ self.old) }
     {
         if number >= self.begun.len() {
@@ -168,10 +165,8 @@ impl<'a> Engine<'a> {
     }
 
     fn commit(&mut self, number: usize) -> Result<Reply, AllocError>
-        ensures set { self.new.set ≡ self.old.set }
-        ensures opening { self.new.opening ≡ self.old.opening }
-        ensures step { IfOk result (λ r. (r, self.new.machine) ≡ machine_step
-            (draft_tree self.old.set) self.old.opening (event.Commit number) self.old.machine) }
+        ensures over { StaysOver self.old self.new }
+        ensures step { IfOk result (IsAnswerTo (event.Commit number) self.old self.new) }
         ensures err { OnErr result (self.new ≡ self.old) }
     {
         if number >= self.begun.len() {
@@ -196,10 +191,8 @@ impl<'a> Engine<'a> {
     }
 
     fn abort(&mut self, number: usize) -> Reply
-        ensures set { self.new.set ≡ self.old.set }
-        ensures opening { self.new.opening ≡ self.old.opening }
-        ensures step { (result, self.new.machine) ≡ machine_step
-            (draft_tree self.old.set) self.old.opening (event.Abort number) self.old.machine }
+        ensures over { StaysOver self.old self.new }
+        ensures step { IsAnswerTo (event.Abort number) self.old self.new result }
     {
         if number >= self.begun.len() {
             return Reply::NoSuchInstance;
@@ -212,20 +205,16 @@ impl<'a> Engine<'a> {
     }
 
     fn vacuum(&mut self) -> Reply
-        ensures set { self.new.set ≡ self.old.set }
-        ensures opening { self.new.opening ≡ self.old.opening }
-        ensures step { (result, self.new.machine) ≡ machine_step
-            (draft_tree self.old.set) self.old.opening event.Vacuum self.old.machine }
+        ensures over { StaysOver self.old self.new }
+        ensures step { IsAnswerTo event.Vacuum self.old self.new result }
     {
         Reply::Vacuumed(self.book.vacuum())
     }
 
     /// One event. After want of memory the same event may be sent again.
     pub fn apply(&mut self, event: &Event) -> Result<Reply, AllocError>
-        ensures set { self.new.set ≡ self.old.set }
-        ensures opening { self.new.opening ≡ self.old.opening }
-        ensures step { IfOk result (λ r. (r, self.new.machine) ≡ machine_step
-            (draft_tree self.old.set) self.old.opening event.now self.old.machine) }
+        ensures over { StaysOver self.old self.new }
+        ensures step { IfOk result (IsAnswerTo event.now self.old self.new) }
         ensures err { OnErr result (self.new ≡ self.old) }
     {
         match event {

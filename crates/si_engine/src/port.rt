@@ -5,7 +5,8 @@ use crate::input::source::{DeviceFault, Source};
 use crate::output::sink::Sink;
 use std::io::{Read, Write};
 
-/// A reader or a writer. After a fault it keeps failing, and so it does where its answered pulls can't be counted on.
+/// A reader or a writer. After a fault it keeps failing, and so it does where its answered pulls
+/// can't be counted on.
 #[derive(Drop)]
 pub struct Port<T> {
     inner: T,

@@ -4,6 +4,7 @@ ghost use Rattle.prog_tree.specs.Tree.{draft_tree};
 ghost use Rattle.si_engine.specs.Machine.{machine_after};
 ghost use Rattle.si_engine.specs.Reading.{ForInput};
 ghost use Rattle.si_engine.specs.Runs.{event_lines, run_lines, Adds, AddsFirst, AddsRun, IsRunOf, IsUnreadRun, IsRunReply};
+ghost use Rattle.si_engine.specs.View.{StaysOver};
 ghost use Rattle.si_engine.specs.Writing.{IsJust, WritesOr};
 
 use crate::engine::Engine;
@@ -27,8 +28,7 @@ fn run_events(
     out: &mut String,
 ) -> Result<(), AllocError>
     requires { engine.old.set ≡ set.now }
-    ensures set { engine.new.set ≡ engine.old.set }
-    ensures opening { engine.new.opening ≡ engine.old.opening }
+    ensures over { StaysOver engine.old engine.new }
     ensures after { OnOk result (engine.new.machine ≡ machine_after
         (draft_tree set.now) engine.old.opening events.now engine.old.machine) }
     ensures ok { OnOk result (Adds

@@ -10,6 +10,7 @@ ghost use Rattle.history_book.specs.View.{depends_in, history_of, FitsBook};
 ghost use Rattle.si_engine.specs.Headline.{Headline, commit_in, commits_said};
 ghost use Rattle.si_engine.specs.Machine.{new_machine, machine_after, replies_of};
 ghost use Rattle.si_engine.specs.Robustness.{IsHistory};
+ghost use Rattle.si_engine.specs.View.{StaysOver};
 
 use crate::engine::Engine;
 use crate::event::{Event, Reply};
@@ -48,8 +49,7 @@ fn apply_events(
     engine: &mut Engine<'_>,
     events: &[Event],
 ) -> Result<(Vec<Reply>, Vec<usize>), AllocError>
-    ensures set { engine.new.set ≡ engine.old.set }
-    ensures opening { engine.new.opening ≡ engine.old.opening }
+    ensures over { StaysOver engine.old engine.new }
     ensures after { OnOk result (engine.new.machine ≡ machine_after
         (draft_tree engine.old.set) engine.old.opening events.now engine.old.machine) }
     ensures replies { IfOk result (λ kept. kept.0.items ≡ replies_of

@@ -24,14 +24,14 @@ returns-clause-ok c =
     let machine = ap (λ e. e.machine) c.in_ok-engine.ensures in
     let set = draft_tree c.draft-draft.result.now in
     let book = c.book.result.now in
-    let same = c.book.ensures.set ∙ (ran.set ∙ (ap (λ e. e.set) c.in_ok-engine.ensures ∙ sym c.draft-draft.ensures.same)) in
+    let same = c.book.ensures.set ∙ (ran.over.0 ∙ (ap (λ e. e.set) c.in_ok-engine.ensures ∙ sym c.draft-draft.ensures.same)) in
     let history =
     c.book.ensures.history ∙ ap (λ m. m.history) (ran.after ∙ after_is set c.args.script engine.opening c.as_slice.result.now engine.machine opening c.as_slice.ensures machine) in
     subst (λ d. IfOk c.push_findings.result (λ finding. AddsRun (draft_tree d) c.args.script finding (string_bytes c.args.out.now) (string_bytes c.push_findings.new.out))) c.draft-draft.ensures.same
     (if_ok c.push_findings.result
     (all_lines set c.args.script engine.opening c.as_slice.result.now engine.machine opening c.as_slice.ensures machine
     (string_bytes c.args.out.now) (string_bytes c.run_events.new.out) (string_bytes c.push_findings.new.out)
-    (draft_tree book.set) book.opening (history_of book.rows) (ap draft_tree same) (c.book.ensures.opening ∙ (ran.opening ∙ opening)) history ran.ok)
+    (draft_tree book.set) book.opening (history_of book.rows) (ap draft_tree same) (c.book.ensures.opening ∙ (ran.over.1 ∙ opening)) history ran.ok)
     c.push_findings.ensures.ok)
 
 pub returns-clause-err : goal.returns-clause-err
@@ -42,12 +42,12 @@ returns-clause-err c =
     let machine = ap (λ e. e.machine) c.in_ok-engine.ensures in
     let set = draft_tree c.draft-draft.result.now in
     let book = c.book.result.now in
-    let same = c.book.ensures.set ∙ (ran.set ∙ (ap (λ e. e.set) c.in_ok-engine.ensures ∙ sym c.draft-draft.ensures.same)) in
+    let same = c.book.ensures.set ∙ (ran.over.0 ∙ (ap (λ e. e.set) c.in_ok-engine.ensures ∙ sym c.draft-draft.ensures.same)) in
     let history =
     c.book.ensures.history ∙ ap (λ m. m.history) (ran.after ∙ after_is set c.args.script engine.opening c.as_slice.result.now engine.machine opening c.as_slice.ensures machine) in
     subst (λ d. OnErr c.push_findings.result (AddsFirst (run_lines (draft_tree d) c.args.script) (string_bytes c.args.out.now) (string_bytes c.push_findings.new.out))) c.draft-draft.ensures.same
     (on_err c.push_findings.result
     (first_rows set c.args.script engine.opening c.as_slice.result.now engine.machine opening c.as_slice.ensures machine
     (string_bytes c.args.out.now) (string_bytes c.run_events.new.out) (string_bytes c.push_findings.new.out)
-    (draft_tree book.set) book.opening (history_of book.rows) (ap draft_tree same) (c.book.ensures.opening ∙ (ran.opening ∙ opening)) history ran.ok)
+    (draft_tree book.set) book.opening (history_of book.rows) (ap draft_tree same) (c.book.ensures.opening ∙ (ran.over.1 ∙ opening)) history ran.ok)
     c.push_findings.ensures.err)

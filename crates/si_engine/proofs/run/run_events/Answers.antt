@@ -24,8 +24,8 @@ loop-event-preserved c =
     ∙ ap (λ o. machine_step set o event c.loop-event.engine.machine) before.same_opening) in
     let written = c.in_ok-push_reply_line.ensures.ok ∙ ap (λ tables. string_bytes c.loop-event.out ++ reply_line tables event reply) c.deref.ensures.value in
     record {
-      same_set = c.in_ok-reply.ensures.set ∙ before.same_set;
-      same_opening = c.in_ok-reply.ensures.opening ∙ before.same_opening;
+      same_set = c.in_ok-reply.ensures.over.0 ∙ before.same_set;
+      same_opening = c.in_ok-reply.ensures.over.1 ∙ before.same_opening;
       after =
           sym (first_after set opening event later c.loop-event.engine.machine c.apply.new.self.machine reply step)
           ∙ (ap (λ events. machine_after set opening events c.loop-event.engine.machine) (sym parts) ∙ before.after);

@@ -23,8 +23,8 @@ loop-event-preserved c =
     ∙ (ap (λ d. machine_step (draft_tree d) c.loop-event.engine.opening event machine) before.same_set
     ∙ ap (λ o. machine_step set o event machine) before.same_opening) in
     record {
-      same_set = c.in_ok-reply.ensures.set ∙ before.same_set;
-      same_opening = c.in_ok-reply.ensures.opening ∙ before.same_opening;
+      same_set = c.in_ok-reply.ensures.over.0 ∙ before.same_set;
+      same_opening = c.in_ok-reply.ensures.over.1 ∙ before.same_opening;
       after =
           sym (first_after set opening event later machine next reply step)
           ∙ (ap (λ events. machine_after set opening events machine) (sym parts) ∙ before.after);

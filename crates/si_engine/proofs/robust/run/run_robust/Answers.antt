@@ -12,7 +12,7 @@ use Rattle.si_engine.proofs.robust.run.run_robust.Goals as goal
 
 pub order_of-requires : goal.order_of-requires
 order_of-requires c =
-    let same = c.book.ensures.set ∙ (c.in_ok-replies.ensures.set ∙ (ap (λ e. e.set) c.in_ok-engine.ensures ∙ c.set.ensures.same)) in
+    let same = c.book.ensures.set ∙ (c.in_ok-replies.ensures.over.0 ∙ (ap (λ e. e.set) c.in_ok-engine.ensures ∙ c.set.ensures.same)) in
     record { safe = subst (λ (d : Draft). IsDangerous (paths_of (draft_tree d)) → ⊥) (sym same) c.set.ensures.safe }
 
 pub returns-clause-headline : goal.returns-clause-headline
@@ -26,8 +26,8 @@ returns-clause-headline c =
     let ran = c.in_ok-replies.ensures in
     let now = c.apply_events.new.engine in
     let machine : Machine = machine_after (draft_tree set) rows events new_machine in
-    let set_now : now.set ≡ set = ran.set ∙ (ap (λ e. e.set) opened ∙ c.set.ensures.same) in
-    let rows_now : now.opening ≡ rows = ran.opening ∙ ap (λ e. e.opening) opened in
+    let set_now : now.set ≡ set = ran.over.0 ∙ (ap (λ e. e.set) opened ∙ c.set.ensures.same) in
+    let rows_now : now.opening ≡ rows = ran.over.1 ∙ ap (λ e. e.opening) opened in
     let machine_now : now.machine ≡ machine =
     ran.after ∙ at_start (λ d o m. machine_after (draft_tree d) o events m) engine given set rows opened c.set.ensures.same in
     let replies = c.from_vec.ensures ∙ (ran.replies
