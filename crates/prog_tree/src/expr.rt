@@ -30,7 +30,8 @@ impl Expr {
         }
     }
 
-    pub(crate) fn copy(&self, alloc: Global) -> Result<Self, AllocError>
+    /// Another expression that means the same.
+    pub fn copy(&self, alloc: Global) -> Result<Self, AllocError>
         ensures { IfOk result (λ expr. expr_tree expr ≡ expr_tree self.now) }
     {
         Ok(match self {
@@ -205,7 +206,8 @@ impl Test {
         Some(holds)
     }
 
-    pub(crate) fn copy(&self) -> Result<Self, AllocError>
+    /// Another test that means the same.
+    pub fn copy(&self) -> Result<Self, AllocError>
         ensures { IfOk result (λ test. test_tree test ≡ test_tree self.now) }
     {
         let mut copies = Vec::with_capacity(*self.any.allocator(), self.any.len())?;

@@ -3,7 +3,7 @@ ghost use Rattle.prog_tree.specs.Tree.{program_tree, draft_tree};
 
 use crate::name::Name;
 use crate::stmt::Block;
-use crate::table::TableDecl;
+use crate::table::{TableDecl, same_tables};
 use std::alloc::AllocError;
 
 /// A program: its parameters and its body.
@@ -39,7 +39,8 @@ fn same_names(names: &[Name], others: &[Name]) -> bool
 }
 
 impl Program {
-    pub(crate) fn copy(&self) -> Result<Self, AllocError>
+    /// Another program that means the same.
+    pub fn copy(&self) -> Result<Self, AllocError>
         ensures { IfOk result (λ program. program_tree program ≡ program_tree self.now) }
     {
         Ok(Program {
@@ -87,7 +88,22 @@ fn copy_programs(programs: &Vec<Program>) -> Result<Vec<Program>, AllocError>
     Ok(copies)
 }
 
+fn same_programs(programs: &[Program], others: &[Program]) -> bool
+    ensures { IsTrue result ↔ (map program_tree programs.now ≡ map program_tree others.now) }
+{
+    if programs.len() != others.len() {
+        return false;
+    }
+    for (program, other) in programs.iter().zip(others) {
+        if !program.is_same(other) {
+            return false;
+        }
+    }
+    true
+}
+
 impl Draft {
+    /// Another draft that means the same.
     pub fn copy(&self) -> Result<Self, AllocError>
         ensures { IfOk result (λ draft. draft_tree draft ≡ draft_tree self.now) }
     {
@@ -95,5 +111,12 @@ impl Draft {
             tables: copy_tables(&self.tables)?,
             programs: copy_programs(&self.programs)?,
         })
+    }
+
+    /// Whether both have the same tables and the same programs, in the same order.
+    pub fn is_same(&self, other: &Draft) -> bool
+        ensures { IsTrue result ↔ (draft_tree self.now ≡ draft_tree other.now) }
+    {
+        same_tables(&self.tables, &other.tables) && same_programs(&self.programs, &other.programs)
     }
 }

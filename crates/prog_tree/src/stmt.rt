@@ -39,7 +39,8 @@ impl Key {
         })
     }
 
-    pub(crate) fn copy(&self, alloc: Global) -> Result<Self, AllocError>
+    /// Another key that means the same.
+    pub fn copy(&self, alloc: Global) -> Result<Self, AllocError>
         ensures { IfOk result (λ key. key_tree key ≡ key_tree self.now) }
     {
         Ok(match self {
@@ -206,8 +207,9 @@ pub enum Stmt {
 }
 
 impl Stmt {
+    /// Another statement that means the same.
     #[cycle(copies)]
-    pub(crate) fn copy(&self, alloc: Global) -> Result<Self, AllocError>
+    pub fn copy(&self, alloc: Global) -> Result<Self, AllocError>
         ensures { IfOk result (λ stmt. stmt_tree stmt ≡ stmt_tree self.now) }
     {
         match self {
@@ -293,8 +295,9 @@ pub struct Block {
 }
 
 impl Block {
+    /// Another block that means the same.
     #[cycle(copies)]
-    pub(crate) fn copy(&self) -> Result<Self, AllocError>
+    pub fn copy(&self) -> Result<Self, AllocError>
         ensures { IfOk result (λ block. block_tree block ≡ block_tree self.now) }
     {
         let alloc = *self.stmts.allocator();

@@ -19,7 +19,8 @@ pub struct TableDecl {
 }
 
 impl TableDecl {
-    pub(crate) fn copy(&self) -> Result<Self, AllocError>
+    /// Another declaration of the same.
+    pub fn copy(&self) -> Result<Self, AllocError>
         ensures { IfOk result (λ table. table ≡ self.now) }
     {
         Ok(TableDecl {
