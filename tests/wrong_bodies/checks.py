@@ -18,7 +18,12 @@ from functions import functions_of
 KIT = os.path.dirname(os.path.dirname(os.path.realpath(shutil.which("rt"))))
 
 # an error of a proof file that only misses what the edit took away, which says little of the contract
-OF_NAMES = re.compile(r"has no field|is not in scope|has no `|was not admitted|is not admitted|has no such")
+OF_NAMES = re.compile(
+    r"has no field|projects from a record, but|is not in scope(?! here, so)|has no `|has no such|was not admitted|is not admitted"
+)
+
+# what a goal asks, whatever its function calls a value or a test
+KIND = re.compile(r"^returns|^invariant_of|requires|preserved|init|smaller|result")
 
 
 @dataclass
@@ -33,7 +38,7 @@ class Crate:
 class Said:
     """What a check says, and how many seconds it had each function in hand."""
 
-    text: str
+    text: str  # a line for each message
     seconds: dict
 
 
@@ -102,7 +107,8 @@ def check_of(crate, texts, functions, kept):
                 if ended := re.match(r"checked (\S+), \d+ of \d+$", line):
                     now = time.monotonic()
                     seconds[ended[1]], since = now - since, now
-        return Said("".join(lines), seconds)
+        # a message goes on in lines that are indented
+        return Said(re.sub(r"\n[ \t]+", " ", "".join(lines)), seconds)
 
 
 def said_of(crate, texts, functions, kept):
@@ -127,20 +133,43 @@ def errors_in(said, function):
     return [text for line, text in found if function.first <= int(line) <= function.last]
 
 
+def open_goals(said, function):
+    """Returns what the check says of each goal of a function that no answer and no search proves."""
+    found = re.findall(r"^note: (\S+?):(\d+):\d+: (it is not proved that .*|`search` found no proof .*)", said.text, re.M)
+    return [
+        text
+        for file, line, text in found
+        if file.removeprefix("./") == function.file and function.first <= int(line) <= function.last
+    ]
+
+
+def kinds_in(names, text):
+    """Returns the kinds of the goals that a text names."""
+    return {it[0] for name in re.findall(names, text) if (it := KIND.search(name))}
+
+
+def errors_of_proof(said, function):
+    """Returns the names of a function's proof files that antt refuses, each with an error."""
+    room = "/".join(function.path) if function.is_plain else rf"(?:{'/'.join(function.path[:-1])}/\+?\w+|{'/'.join(function.path)})"
+    return re.findall(rf"^(?:\./)?proofs/{room}/(\w+)\.antt:\d+:\d+: error: (.*)", said.text, re.M)
+
+
 def refusal(crate, said, function):
     """Returns why the prover refuses the function on its own account, or else None, and what it says of it."""
     told = re.search(rf"^fn {re.escape(crate.name)}::{re.escape(function.name)}: (.*)", said.text, re.M)
     status = told[1] if told else "nothing is said of it"
     if not status.startswith(("not proved", "no proof")):
         return None, status
-    places = re.findall(r"^note: (\S+?):(\d+):\d+: (it is not proved that .*|`search` found no proof .*)", said.text, re.M)
-    own = [
-        text
-        for file, line, text in places
-        if file.removeprefix("./") == function.file and function.first <= int(line) <= function.last
-    ]
-    room = "/".join(function.path) if function.is_plain else rf"(?:{'/'.join(function.path[:-1])}/\+?\w+|{'/'.join(function.path)})"
-    files = rf"^(?:\./)?proofs/{room}/\w+\.antt:\d+:\d+: error: (.*)"
-    own += [text for text in re.findall(files, said.text, re.M) if not OF_NAMES.search(text)]
+    errors = errors_of_proof(said, function)
+    missed = [(file, text) for file, text in errors if OF_NAMES.search(text)]
+    # the answer to a goal whose name the edit took away may be wanted where a goal of its kind is open now
+    unanswered = {it for _, text in missed for it in kinds_in(r"has no `([^`]+)`", text)}
+    own = [text for text in open_goals(said, function) if not unanswered & kinds_in(r"\(`([^`]+)`\)", text)]
+    own += [text for file, text in errors if (file, text) not in missed]
     own += re.findall(r"`search` (did not prove .*)", status)
+    # where an invariant is refused each goal of its loop is open
+    if any(file == "Invariants" for file, _ in missed):
+        own = []
+    if missed and not own:
+        status = f"its {missed[0][0]}.antt misses what the edit took away: {missed[0][1]}"
     return (own[0] if own else None), status
