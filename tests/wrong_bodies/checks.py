@@ -64,7 +64,7 @@ def crates_of(root):
         for it in (f"{KIT}/rlibs", *(f"{root}/crates/{dep}/out/rlib" for dep in below(name))):
             found += ["-L", f"dependency={it}"]
         logic = ["--antt-project", f"{KIT}/rattle/logic/antt-project.json", "--logic-built", f"{KIT}/logic_built"]
-        return [*found, *logic, "--allow-holes"]
+        return [*found, *logic]
 
     return [Crate(name, f"{root}/crates/{name}", words(name)) for name in uses]
 
@@ -98,7 +98,7 @@ def check_of(crate, texts, functions, kept):
             with open(f"{room}/{path}", "w", encoding="utf-8") as it:
                 it.write(text)
         only = [word for it in functions for word in ("--only", it.name)]
-        words = [f"{KIT}/bin/rattle", "check", *crate.words, *only, "--incremental", kept, "--progress"]
+        words = [f"{KIT}/bin/rattle", "check", *crate.words, "--allow-holes", *only, "--incremental", kept, "--progress"]
         how = {"cwd": room, "stdin": subprocess.DEVNULL, "stdout": subprocess.PIPE, "stderr": subprocess.STDOUT}
         lines, seconds, since = [], {}, time.monotonic()
         with subprocess.Popen(words, **how, text=True, errors="replace") as check:
