@@ -31,6 +31,7 @@ class Crate:
     name: str
     folder: str
     words: list  # those of a check
+    below: set  # the names of the repository's crates that it stands on
     in_cycles: set = field(default_factory=set)  # paths of functions that share a proof with others, as far as known
 
 
@@ -66,7 +67,7 @@ def crates_of(root):
         logic = ["--antt-project", f"{KIT}/rattle/logic/antt-project.json", "--logic-built", f"{KIT}/logic_built"]
         return [*found, *logic]
 
-    return [Crate(name, f"{root}/crates/{name}", words(name)) for name in uses]
+    return [Crate(name, f"{root}/crates/{name}", words(name), set(below(name))) for name in uses]
 
 
 def with_holes(crate, texts, kept):
