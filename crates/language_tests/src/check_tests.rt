@@ -1,9 +1,10 @@
 //! Checked sets: faults with their places, and the numbers of names.
 
 use example_sets::{LEDGER, set_of};
-use prog_check::{CheckFault, Place, check};
+use prog_check::{CheckFault, Place, ProgramSet, check};
 use prog_text::parse;
 use std::alloc::Global;
+use std::process::Abort;
 use std::test::Fail;
 
 // The first fault of a text that is read.
@@ -12,45 +13,59 @@ fn fault_of(alloc: Global, text: &str) -> Result<Option<CheckFault>, Fail> {
     Ok(check(alloc, draft).err())
 }
 
+const SECOND_TABLE: Place = Place::Table { table: 1 };
+
+const FIRST_STATEMENT: Place = Place::Statement {
+    program: 0,
+    statement: 0,
+};
+
+/// Texts and their first faults.
+const FAULTS: [(&str, CheckFault); 2] = [
+    (
+        "table t 1; table t 2;",
+        CheckFault::DuplicateTable {
+            place: SECOND_TABLE,
+        },
+    ),
+    (
+        "program P() { put u[1] = 2; }",
+        CheckFault::UnknownTable {
+            place: FIRST_STATEMENT,
+        },
+    ),
+];
+
 #[test]
 fn faults_have_their_place(rt: HostRuntime) -> Result<(), Fail> {
-    let second_table = Place::Table { table: 1 };
-    let first_statement = Place::Statement {
-        program: 0,
-        statement: 0,
-    };
-    for (text, fault) in [
-        (
-            "table t 1; table t 2;",
-            CheckFault::DuplicateTable {
-                place: second_table,
-            },
-        ),
-        (
-            "program P() { put u[1] = 2; }",
-            CheckFault::UnknownTable {
-                place: first_statement,
-            },
-        ),
-    ] {
-        assert_eq!(rt; fault_of(rt.alloc(), text)?, Some(fault), "{text}");
+    for (text, fault) in FAULTS {
+        let found = fault_of(rt.alloc(), text)?;
+        assert!(rt; found == Some(fault), "{text}");
     }
     Ok(())
 }
 
+/// Names with the numbers of their tables and of their programs.
+const NUMBERS: [(&str, Option<usize>, Option<usize>); 5] = [
+    ("closed", Some(0), None),
+    ("entry", Some(1), None),
+    ("Post", None, Some(0)),
+    ("Total", None, Some(2)),
+    ("d", None, None),
+];
+
+fn compare(rt: &impl Abort, set: &ProgramSet) {
+    for (name, table, program) in NUMBERS {
+        assert!(rt; set.table_number(name) == table, "{name}");
+        assert!(rt; set.program_number(name) == program, "{name}");
+    }
+    assert!(rt; set.draft().programs.len() == 3);
+}
+
 #[test]
 fn a_set_finds_its_names(rt: HostRuntime) -> Result<(), Fail> {
-    let set = set_of(rt.alloc(), LEDGER)?.copy()?;
-    for (name, table, program) in [
-        ("closed", Some(0), None),
-        ("entry", Some(1), None),
-        ("Post", None, Some(0)),
-        ("Total", None, Some(2)),
-        ("d", None, None),
-    ] {
-        assert_eq!(rt; set.table_number(name), table, "{name}");
-        assert_eq!(rt; set.program_number(name), program, "{name}");
-    }
-    assert_eq!(rt; set.draft().programs.len(), 3);
+    let set = set_of(rt.alloc(), LEDGER)?;
+    let copy = set.copy()?;
+    compare(&rt, &copy);
     Ok(())
 }

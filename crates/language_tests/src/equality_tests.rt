@@ -6,6 +6,7 @@ use prog_tree::{
     Cell, Look, evaluations_depend_on_looks, evaluations_write_i64, i64_is_tested, same_looks,
     same_tables, table_states_stay_i64, table_states_stay_in_order,
 };
+use std::alloc::Global;
 use std::test::Fail;
 
 const SET: &str = "table t 1; program P(k, v) { put t[k] = v; reply v; }";
@@ -21,45 +22,61 @@ fn are_same(set: &ProgramSet, other: &ProgramSet) -> (bool, bool) {
     (tables, program)
 }
 
+/// Texts, whether their sets have the tables of the first text, and whether they have its program.
+const OTHERS: [(&str, (bool, bool)); 3] = [
+    (
+        "table t 1;\nprogram P(k, v) {\n  put t[k] = v;\n  reply v;\n}\n",
+        (true, true),
+    ),
+    (
+        "table t 1; program P(k, v) { put t[k] = v; reply k; }",
+        (true, false),
+    ),
+    (
+        "table t 1 grow; program P(k, v) { insert t[k] = v; reply v; }",
+        (false, false),
+    ),
+];
+
+// Whether the set of another text is the same in tables and program.
+fn is_same_as(alloc: Global, set: &ProgramSet, text: &str) -> Result<(bool, bool), Fail> {
+    let other = set_of(alloc, text)?;
+    Ok(are_same(set, &other))
+}
+
 #[test]
 fn sets_are_the_same_by_their_trees(rt: HostRuntime) -> Result<(), Fail> {
     let set = set_of(rt.alloc(), SET)?;
-    for (text, same) in [
-        (
-            "table t 1;\nprogram P(k, v) {\n  put t[k] = v;\n  reply v;\n}\n",
-            (true, true),
-        ),
-        (
-            "table t 1; program P(k, v) { put t[k] = v; reply k; }",
-            (true, false),
-        ),
-        (
-            "table t 1 grow; program P(k, v) { insert t[k] = v; reply v; }",
-            (false, false),
-        ),
-    ] {
-        let other = set_of(rt.alloc(), text)?;
-        assert_eq!(rt; are_same(&set, &other), same, "{text}");
+    for (text, same) in OTHERS {
+        let found = is_same_as(rt.alloc(), &set, text)?;
+        assert!(rt; found == same, "{text}");
     }
     Ok(())
 }
 
+fn look(first: i64, held: Option<i64>) -> Look {
+    let cell = Cell {
+        table: 0,
+        first,
+        second: 0,
+    };
+    Look::One(cell, held)
+}
+
+// Whether two looks are the same as a look at cell 1, which found 5, and one at cell 2, which found
+// nothing.
+fn are_those_looks(looks: &[Look]) -> bool {
+    let wanted = [look(1, Some(5)), look(2, None)];
+    same_looks(&wanted, looks)
+}
+
 #[test]
 fn looks_are_the_same_by_cell_and_value(rt: HostRuntime) {
-    let look = |first, held| {
-        Look::One(
-            Cell {
-                table: 0,
-                first,
-                second: 0,
-            },
-            held,
-        )
-    };
-    let looks = [look(1, Some(5)), look(2, None)];
-    assert!(rt; same_looks(&looks, &[look(1, Some(5)), look(2, None)]));
-    assert!(rt; !same_looks(&looks, &[look(1, Some(5)), look(2, Some(0))]));
-    assert!(rt; !same_looks(&looks, &looks[..1]));
+    let same = [look(1, Some(5)), look(2, None)];
+    assert!(rt; are_those_looks(&same));
+    assert!(rt; !are_those_looks(&same[..1]));
+    let other = [look(1, Some(5)), look(2, Some(0))];
+    assert!(rt; !are_those_looks(&other));
 }
 
 #[test]

@@ -1,13 +1,15 @@
 //! Runs step by step: the questions that they ask, and what their readers say.
 
 use example_sets::{SMALL_BANK, set_of};
+use prog_check::ProgramSet;
 use prog_run::{AnswerFault, Look, Next, Run};
 use prog_tree::Cell;
 use std::alloc::{AllocError, Global};
 use std::process::Abort;
 use std::test::Fail;
 
-/// A run of a set's program, with the rows of the first table that it is answered (both columns and the value), and its
+/// A run of a set's program, with the rows of the first table that it is answered (both columns and
+/// the value), and its
 /// calls: each line a call and what it gives.
 #[derive(Clone, Copy)]
 struct Example {
@@ -18,7 +20,8 @@ struct Example {
     calls: &'static str,
 }
 
-/// The cell that a look found, or the run's own cells that it left out and how many rows it found in others.
+/// The cell that a look found, or the run's own cells that it left out and how many rows it found
+/// in others.
 fn shown_look(alloc: Global, look: &Look) -> Result<String, AllocError> {
     match look {
         Look::One(cell, held) => format!(in alloc; "{cell:?} {held:?}"),
@@ -72,21 +75,41 @@ fn shown_answer(alloc: Global, answer: Result<Next, AnswerFault>) -> Result<Stri
     }
 }
 
-/// One call: `advance`, `rows` to answer with these rows, `none` or a number to answer what a cell holds, or a reader.
+/// The answer that a word gives: these rows, that a cell holds nothing, or the number that it
+/// holds.
+fn answered(
+    run: &mut Run<'_>,
+    rows: &[(Cell, i64)],
+    word: &str,
+) -> Option<Result<Next, AnswerFault>> {
+    match word {
+        "rows" => Some(run.answer_scan(rows)),
+        "none" => Some(run.answer_get(None)),
+        _ => {
+            let value = word.parse::<i64>().ok()?;
+            Some(run.answer_get(Some(value)))
+        }
+    }
+}
+
+fn advance(alloc: Global, run: &mut Run<'_>) -> Result<String, AllocError> {
+    let next = run.advance()?;
+    format!(in alloc; "{next:?}")
+}
+
+/// One call: `advance`, an answer, or a reader.
 fn call(
     alloc: Global,
     run: &mut Run<'_>,
     rows: &[(Cell, i64)],
     word: &str,
 ) -> Result<String, AllocError> {
-    match word {
-        "advance" => format!(in alloc; "{:?}", run.advance()?),
-        "rows" => shown_answer(alloc, run.answer_scan(rows)),
-        "none" => shown_answer(alloc, run.answer_get(None)),
-        _ => match word.parse::<i64>() {
-            Ok(value) => shown_answer(alloc, run.answer_get(Some(value))),
-            Err(_) => read(alloc, run, word),
-        },
+    if word == "advance" {
+        return advance(alloc, run);
+    }
+    match answered(run, rows, word) {
+        Some(answer) => shown_answer(alloc, answer),
+        None => read(alloc, run, word),
     }
 }
 
@@ -109,21 +132,31 @@ fn play_calls(
     rt: &impl Abort,
     alloc: Global,
     run: &mut Run<'_>,
-    example: &Example,
-) -> Result<(), Fail> {
-    let rows = rows_of(alloc, example)?;
-    for line in example.calls.lines() {
-        let (word, want) = line.split_once(": ").ok_or("no answer")?;
-        let answer = call(alloc, run, &rows, word)?;
+    rows: &[(Cell, i64)],
+    calls: &str,
+) -> Result<(), AllocError> {
+    for line in calls.lines() {
+        let (word, want) = line.split_once(": ").expect(rt, "a call and its answer");
+        let answer = call(alloc, run, rows, word)?;
         assert!(rt; answer.as_str() == want, "{word}: {answer}");
     }
     Ok(())
 }
 
+fn play_in(
+    rt: &impl Abort,
+    alloc: Global,
+    set: &ProgramSet,
+    example: &Example,
+) -> Result<(), Fail> {
+    let rows = rows_of(alloc, example)?;
+    let mut run = Run::new(alloc, set, example.program, example.args)?;
+    Ok(play_calls(rt, alloc, &mut run, &rows, example.calls)?)
+}
+
 fn play(rt: &impl Abort, alloc: Global, example: &Example) -> Result<(), Fail> {
     let set = set_of(alloc, example.text)?;
-    let mut run = Run::new(alloc, &set, example.program, example.args)?;
-    play_calls(rt, alloc, &mut run, example)
+    play_in(rt, alloc, &set, example)
 }
 
 const AMALGAMATE: Example = Example {
@@ -212,25 +245,33 @@ fn rows_from_elsewhere_are_refused(rt: HostRuntime) -> Result<(), Fail> {
     play(&rt, rt.alloc(), &ROWS_FROM_ELSEWHERE)
 }
 
-/// What a begin of the two-column set comes to.
-fn begun(alloc: Global, program: usize, args: &[i64]) -> Result<String, Fail> {
-    let set = set_of(alloc, OWN)?;
-    Ok(match Run::new(alloc, &set, program, args) {
-        Ok(run) => shown_begin(alloc, &run)?,
-        Err(fault) => fault.to_string(alloc)?,
-    })
+/// What a begin comes to.
+fn begun(
+    alloc: Global,
+    set: &ProgramSet,
+    program: usize,
+    args: &[i64],
+) -> Result<String, AllocError> {
+    match Run::new(alloc, set, program, args) {
+        Ok(run) => shown_begin(alloc, &run),
+        Err(fault) => fault.to_string(alloc),
+    }
 }
+
+/// Begins of the two-column set, and what they come to.
+const BEGINS: [(usize, &[i64], &str); 4] = [
+    (1, &[], "no such program"),
+    (0, &[], "wrong arguments"),
+    (0, &[7, 8], "wrong arguments"),
+    (0, &[7], "1 1 [7]"),
+];
 
 #[test]
 fn a_begin_wants_a_program_and_its_arguments(rt: HostRuntime) -> Result<(), Fail> {
-    let cases: [(usize, &[i64], &str); 4] = [
-        (1, &[], "no such program"),
-        (0, &[], "wrong arguments"),
-        (0, &[7, 8], "wrong arguments"),
-        (0, &[7], "1 1 [7]"),
-    ];
-    for (program, args, want) in cases {
-        assert_eq!(rt; begun(rt.alloc(), program, args)?.as_str(), want);
+    let set = set_of(rt.alloc(), OWN)?;
+    for (program, args, want) in BEGINS {
+        let begun = begun(rt.alloc(), &set, program, args)?;
+        assert!(rt; begun.as_str() == want, "{begun}");
     }
     Ok(())
 }
@@ -315,8 +356,8 @@ advance: Done(Aborted(Overflow))",
 
 #[test]
 fn runs_end_so(rt: HostRuntime) -> Result<(), Fail> {
-    for example in ENDS {
-        play(&rt, rt.alloc(), &example)?;
+    for example in &ENDS {
+        play(&rt, rt.alloc(), example)?;
     }
     Ok(())
 }

@@ -2,6 +2,7 @@
 
 use example_sets::SMALL_BANK;
 use prog_text::{TextFault, parse, print};
+use std::alloc::Global;
 use std::test::Fail;
 
 /// Each kind of statement, key and range. The canonical text.
@@ -46,11 +47,8 @@ fn refusals_have_their_place(rt: HostRuntime) {
         ("program P( {", TextFault::UnexpectedToken { place: 11 }),
         ("table t 1; @", TextFault::UnknownByte { place: 11 }),
     ] {
-        assert_eq!(rt;
-            parse(rt.alloc(), text.as_bytes()).err(),
-            Some(fault),
-            "{text}"
-        );
+        let found = parse(rt.alloc(), text.as_bytes()).err();
+        assert!(rt; found == Some(fault), "{text}");
     }
 }
 
@@ -59,7 +57,8 @@ fn is_one_token(bytes: &[u8]) -> bool {
     !bytes.is_empty() && !bytes.iter().any(|b| b.is_ascii_whitespace())
 }
 
-// Whether a prefix may be answered so: read, refused at its end, or at its last word, which was cut.
+// Whether a prefix may be answered so: read, refused at its end, or at its last word, which was
+// cut.
 fn is_answer_to_a_cut(prefix: &[u8], fault: Option<TextFault>) -> bool {
     match fault {
         None => true,
@@ -81,11 +80,16 @@ fn each_cut_is_read_or_stops_at_its_end(rt: HostRuntime) {
     }
 }
 
+// What is printed of a copy of a text that is read.
+fn printed_copy(alloc: Global, text: &str) -> Result<Vec<u8>, Fail> {
+    let draft = parse(alloc, text.as_bytes())?;
+    let copy = draft.copy()?;
+    Ok(print(alloc, &copy)?)
+}
+
 #[test]
 fn a_draft_is_copied_whole(rt: HostRuntime) -> Result<(), Fail> {
-    let draft = parse(rt.alloc(), EVERY_STATEMENT.as_bytes())?;
-    let copy = draft.copy()?;
-    let text = print(rt.alloc(), &copy)?;
-    assert_eq!(rt; text.as_slice(), EVERY_STATEMENT.as_bytes());
+    let text = printed_copy(rt.alloc(), EVERY_STATEMENT)?;
+    assert!(rt; text.as_slice() == EVERY_STATEMENT.as_bytes());
     Ok(())
 }
