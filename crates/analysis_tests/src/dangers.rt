@@ -1,21 +1,37 @@
-//! Parts of dangerous structures as texts.
+//! Questions, samples and dangerous structures as texts.
 
-use dep_graph::Danger;
+use dep_graph::{Danger, Exposure};
+use order_facts::{Node, Sample};
 use prog_paths::Question;
-use std::alloc::AllocError;
+use std::alloc::{AllocError, Global};
 
 /// Both accesses of a question, each by its path and its number there.
 pub fn push_question(text: &mut String, question: &Question) -> Result<(), AllocError> {
     let Question { x, a, y, b, .. } = question;
-    write!(text, "{x} {a}, {y} {b}")?;
+    write!(text, "{x} {a}, {y} {b}")
+}
+
+/// The numbers of three parameters of each side, mine before theirs.
+pub fn push_sample(text: &mut String, sample: &Sample) -> Result<(), AllocError> {
+    for number in 0..3 {
+        let mine = sample.get(Node::Mine(number));
+        let theirs = sample.get(Node::Theirs(number));
+        write!(text, " {mine} {theirs}")?;
+    }
     Ok(())
 }
 
-/// The way back of a danger.
-pub fn push_back(text: &mut String, danger: &Danger) -> Result<(), AllocError> {
-    text.push_str("back")?;
-    for node in danger.back.as_slice() {
-        write!(text, " {node}")?;
-    }
-    Ok(())
+fn push_exposure(text: &mut String, exposure: &Exposure) -> Result<(), AllocError> {
+    push_question(text, &exposure.question)?;
+    push_sample(text, &exposure.sample)?;
+    text.push_str(" / ")
+}
+
+/// The two questions, with their samples, and the way back of a danger.
+pub fn shown(alloc: Global, danger: &Danger) -> Result<String, AllocError> {
+    let mut text = String::new(alloc);
+    push_exposure(&mut text, &danger.first)?;
+    push_exposure(&mut text, &danger.second)?;
+    write!(text, "back {:?}", danger.back.as_slice())?;
+    Ok(text)
 }

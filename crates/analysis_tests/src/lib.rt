@@ -6,6 +6,8 @@ mod certificates;
 #[cfg(test)]
 mod dangers;
 #[cfg(test)]
+mod examples;
+#[cfg(test)]
 mod pairs;
 #[cfg(test)]
 mod paths;

@@ -4,6 +4,7 @@ use order_facts::Node;
 use prog_tree::Sequence;
 use robust_cert::{Certificate, Chain, Entry, JsonFault, Question, from_json, to_json};
 use std::alloc::{AllocError, Global};
+use std::process::Abort;
 use std::test::Fail;
 
 /// A set without programs.
@@ -14,18 +15,31 @@ const LEDGER: &str = "{\"entries\":[],\"levels\":[2,3,2],\"version\":1}";
 
 /// The report set, repaired.
 const REPORT: &str =
-    "{\"entries\":[[\"cover\",2,2,0,2,0,0,[[[\"m\",0],[\"t\",0]],[[\"t\",0],[\"m\",0]]]]],\"levels\":[3,3,3],\"version\":1}";
+    "{\"entries\":[[\"cover\",2,2,0,2,0,0,[[[\"m\",0],[\"t\",0]],[[\"t\",0],[\"m\",0]]]]],\
+    \"levels\":[3,3,3],\"version\":1}";
 
 /// The transfer set.
 const TRANSFERS: &str =
-    "{\"entries\":[[\"cover\",0,0,0,1,1,1,[[[\"m\",0],[\"t\",0]],[[\"t\",0],[\"m\",0]]]],[\"cover\",0,0,0,3,1,3,[[[\"m\",0],[\"t\",1]],[[\"t\",1],[\"m\",0]]]],[\"cover\",0,2,0,1,3,1,[[[\"m\",1],[\"t\",0]],[[\"t\",0],[\"m\",1]]]],[\"cover\",0,2,0,3,3,3,[[[\"m\",1],[\"t\",1]],[[\"t\",1],[\"m\",1]]]]],\"levels\":[1],\"version\":1}";
+    "{\"entries\":[[\"cover\",0,0,0,1,1,1,[[[\"m\",0],[\"t\",0]],[[\"t\",0],[\"m\",0]]]],\
+    [\"cover\",0,0,0,3,1,3,[[[\"m\",0],[\"t\",1]],[[\"t\",1],[\"m\",0]]]],\
+    [\"cover\",0,2,0,1,3,1,[[[\"m\",1],[\"t\",0]],[[\"t\",0],[\"m\",1]]]],\
+    [\"cover\",0,2,0,3,3,3,[[[\"m\",1],[\"t\",1]],[[\"t\",1],[\"m\",1]]]]],\
+    \"levels\":[1],\"version\":1}";
 
 /// Each kind of entry and node, numbers at the ends of their ranges, and empty lists.
 const EACH_KIND: &str =
-    "{\"entries\":[[\"apart\",0,0,4294967295,1,[[\"n\",2],[\"u\",4294967295],[\"v\",0],[\"n\",-9223372036854775808],[\"n\",9223372036854775807]]],[\"apart\",1,0,1,0,[]],[\"cover\",1,1,1,1,7,4294967295,[]],[\"cover\",1,1,2,1,0,0,[[]]]],\"levels\":[0,4294967295],\"version\":1}";
+    "{\"entries\":[[\"apart\",0,0,4294967295,1,[[\"n\",2],[\"u\",4294967295],[\"v\",0],\
+    [\"n\",-9223372036854775808],[\"n\",9223372036854775807]]],[\"apart\",1,0,1,0,[]],\
+    [\"cover\",1,1,1,1,7,4294967295,[]],[\"cover\",1,1,2,1,0,0,[[]]]],\
+    \"levels\":[0,4294967295],\"version\":1}";
 
 /// Texts, and what is written of them again.
-const OTHERWISE: [(&str, &str); 3] = [
+const WRITTEN: [(&str, &str); 8] = [
+    (EMPTY, EMPTY),
+    (LEDGER, LEDGER),
+    (REPORT, REPORT),
+    (TRANSFERS, TRANSFERS),
+    (EACH_KIND, EACH_KIND),
     (
         "{ \"version\" : 1,\n \"levels\" : [ 3 ] , \"entries\" : [ ] }\n",
         "{\"entries\":[],\"levels\":[3],\"version\":1}",
@@ -35,7 +49,8 @@ const OTHERWISE: [(&str, &str); 3] = [
         "{\"entries\":[],\"levels\":[3],\"version\":1}",
     ),
     (
-        "{\"\\u0065ntries\":[[\"\\u0061part\",0,0,0,1,[[\"\\u006d\",5]]]],\"levels\":[],\"version\":1}",
+        "{\"\\u0065ntries\":[[\"\\u0061part\",0,0,0,1,[[\"\\u006d\",5]]]],\
+        \"levels\":[],\"version\":1}",
         "{\"entries\":[[\"apart\",0,0,0,1,[[\"m\",5]]]],\"levels\":[],\"version\":1}",
     ),
 ];
@@ -132,7 +147,8 @@ const NUMBERS: [&str; 20] = [
     "{\"entries\":[[\"apart\",0,0,0,1,[[\"t\",4294967296]]]],\"levels\":[],\"version\":1}",
     "{\"entries\":[[\"apart\",0,0,0,1,[[\"v\",4294967296]]]],\"levels\":[],\"version\":1}",
     "{\"entries\":[[\"apart\",0,0,0,1,[[\"n\",9223372036854775808]]]],\"levels\":[],\"version\":1}",
-    "{\"entries\":[[\"apart\",0,0,0,1,[[\"n\",-9223372036854775809]]]],\"levels\":[],\"version\":1}",
+    "{\"entries\":[[\"apart\",0,0,0,1,[[\"n\",-9223372036854775809]]]],\
+    \"levels\":[],\"version\":1}",
     "{\"entries\":[[\"apart\",0,0,0,1,[[\"n\",1.0]]]],\"levels\":[],\"version\":1}",
     "{\"entries\":[[\"apart\",0,0,0,1,[[\"n\",-0]]]],\"levels\":[],\"version\":1}",
 ];
@@ -148,131 +164,125 @@ const VERSIONS: [&str; 10] = [
     "{\"version\":9}",
     "{\"more\":1,\"levels\":7,\"version\":3}",
     "{\"bodies\":[],\"entries\":[],\"levels\":[],\"version\":2}",
-    "{\"entries\":[[\"cover\",0,0,0,1,1,1,[[[\"m\",0],[\"t\",0]],[[\"t\",0],[\"m\",0]]]],[\"cover\",0,0,0,3,1,3,[[[\"m\",0],[\"t\",1]],[[\"t\",1],[\"m\",0]]]],[\"cover\",0,2,0,1,3,1,[[[\"m\",1],[\"t\",0]],[[\"t\",0],[\"m\",1]]]],[\"cover\",0,2,0,3,3,3,[[[\"m\",1],[\"t\",1]],[[\"t\",1],[\"m\",1]]]]],\"levels\":[1],\"version\":9}",
+    "{\"entries\":[[\"cover\",0,0,0,1,1,1,[[[\"m\",0],[\"t\",0]],[[\"t\",0],[\"m\",0]]]],\
+    [\"cover\",0,0,0,3,1,3,[[[\"m\",0],[\"t\",1]],[[\"t\",1],[\"m\",0]]]],\
+    [\"cover\",0,2,0,1,3,1,[[[\"m\",1],[\"t\",0]],[[\"t\",0],[\"m\",1]]]],\
+    [\"cover\",0,2,0,3,3,3,[[[\"m\",1],[\"t\",1]],[[\"t\",1],[\"m\",1]]]]],\
+    \"levels\":[1],\"version\":9}",
 ];
 
-/// What is written of what was read, if it was.
-fn again(alloc: Global, text: &str) -> Option<String> {
-    let certificate = from_json(alloc, text.as_bytes()).ok()?;
-    to_json(alloc, &certificate).ok()
+/// Whether this is written of what was read.
+fn is_written_of(alloc: Global, written: &str, certificate: &Certificate) -> bool {
+    match to_json(alloc, certificate) {
+        Ok(text) => text.as_str() == written,
+        Err(_) => false,
+    }
+}
+
+/// Whether a text is read, and this is written of it again.
+fn is_written_as(alloc: Global, text: &str, written: &str) -> bool {
+    match from_json(alloc, text.as_bytes()) {
+        Ok(certificate) => is_written_of(alloc, written, &certificate),
+        Err(_) => false,
+    }
+}
+
+#[test]
+fn certificates_are_written_as_they_were_read(rt: HostRuntime) {
+    for (text, written) in WRITTEN {
+        assert!(rt; is_written_as(rt.alloc(), text, written), "{text}");
+    }
+}
+
+fn chain(alloc: Global, nodes: [Node; 2]) -> Result<Chain, AllocError> {
+    Ok(Sequence::from_vec(Vec::from_array(alloc, nodes)?))
+}
+
+/// The chains of a cover, from a node of mine to one of theirs and back.
+fn chains(alloc: Global, mine: Node, theirs: Node) -> Result<Sequence<Chain>, AllocError> {
+    let there = chain(alloc, [mine, theirs])?;
+    let back = chain(alloc, [theirs, mine])?;
+    Ok(Sequence::from_vec(Vec::from_array(alloc, [there, back])?))
+}
+
+/// The only entry of the certificate of the report set.
+fn report_entry(alloc: Global) -> Result<Entry, AllocError> {
+    let question = Question {
+        x: 2,
+        a: 2,
+        y: 0,
+        b: 2,
+    };
+    Ok(Entry::Cover {
+        question,
+        mine: 0,
+        theirs: 0,
+        chains: chains(alloc, Node::Mine(0), Node::Theirs(0))?,
+    })
+}
+
+fn report(alloc: Global) -> Result<Certificate, AllocError> {
+    let entry = report_entry(alloc)?;
+    let entries = Sequence::from_vec(Vec::from_array(alloc, [entry])?);
+    let levels = Sequence::from_vec(Vec::from_array(alloc, [3, 3, 3])?);
+    Ok(Certificate { entries, levels })
+}
+
+#[test]
+fn a_certificate_is_built_and_written(rt: HostRuntime) -> Result<(), Fail> {
+    let certificate = report(rt.alloc())?;
+    assert!(rt; is_written_of(rt.alloc(), REPORT, &certificate));
+    Ok(())
 }
 
 fn fault_of(alloc: Global, bytes: &[u8]) -> Option<JsonFault> {
     from_json(alloc, bytes).err()
 }
 
-fn chain(alloc: Global, one: Node, other: Node) -> Result<Chain, AllocError> {
-    let mut chain = Sequence::new(alloc);
-    chain.push(one)?;
-    chain.push(other)?;
-    Ok(chain)
-}
-
-#[test]
-fn certificates_are_written_as_they_were_read(rt: HostRuntime) {
-    let alloc = rt.alloc();
-    for text in [EMPTY, LEDGER, REPORT, TRANSFERS, EACH_KIND] {
-        let written = again(alloc, text);
-        assert!(rt; written.is_some_and(|it| it.as_str() == text), "{text}");
+/// Asserts that each of some texts has this fault.
+fn all_have(rt: &impl Abort, alloc: Global, texts: &[&str], fault: JsonFault) {
+    for text in texts {
+        let found = fault_of(alloc, text.as_bytes());
+        assert!(rt; found == Some(fault), "{text}");
     }
-    for (text, canonical) in OTHERWISE {
-        let written = again(alloc, text);
-        assert!(rt;
-            written.is_some_and(|it| it.as_str() == canonical),
-            "{text}"
-        );
-    }
-}
-
-#[test]
-fn a_certificate_is_built_and_written(rt: HostRuntime) -> Result<(), Fail> {
-    let alloc = rt.alloc();
-    let mut chains = Sequence::new(alloc);
-    chains.push(chain(alloc, Node::Mine(0), Node::Theirs(0))?)?;
-    chains.push(chain(alloc, Node::Theirs(0), Node::Mine(0))?)?;
-    let mut entries = Sequence::new(alloc);
-    entries.push(Entry::Cover {
-        question: Question {
-            x: 2,
-            a: 2,
-            y: 0,
-            b: 2,
-        },
-        mine: 0,
-        theirs: 0,
-        chains,
-    })?;
-    let mut levels = Sequence::new(alloc);
-    for level in [3, 3, 3] {
-        levels.push(level)?;
-    }
-    let text = to_json(alloc, &Certificate { entries, levels })?;
-    assert!(rt; text.as_str() == REPORT);
-    Ok(())
 }
 
 #[test]
 fn a_text_that_is_cut_is_no_json(rt: HostRuntime) {
-    let alloc = rt.alloc();
     for text in [EMPTY, REPORT, TRANSFERS] {
         let bytes = text.as_bytes();
         for length in 0..bytes.len() {
-            assert!(rt;
-                fault_of(alloc, &bytes[..length]) == Some(JsonFault::NotJson),
-                "{length} of {text}"
-            );
+            let found = fault_of(rt.alloc(), &bytes[..length]);
+            assert!(rt; found == Some(JsonFault::NotJson), "{length} of {text}");
         }
     }
-    for text in NO_JSON {
-        assert!(rt;
-            fault_of(alloc, text.as_bytes()) == Some(JsonFault::NotJson),
-            "{text}"
-        );
-    }
+}
+
+#[test]
+fn another_text_is_no_json(rt: HostRuntime) {
+    all_have(&rt, rt.alloc(), &NO_JSON, JsonFault::NotJson);
 }
 
 #[test]
 fn bytes_and_depth_are_those_of_json(rt: HostRuntime) {
-    let alloc = rt.alloc();
     let bytes = b"{\"entries\":[],\"levels\":[],\"version\":1,\"\xff\":1}";
-    assert!(rt; fault_of(alloc, bytes) == Some(JsonFault::NotJson));
+    assert!(rt; fault_of(rt.alloc(), bytes) == Some(JsonFault::NotJson));
     let deep = [b'['; 128];
     let mut nested = [b']'; 256];
     nested[..128].copy_from_slice(&deep);
-    assert!(rt; fault_of(alloc, &nested) == Some(JsonFault::NotJson));
-    assert!(rt; fault_of(alloc, &nested[1..255]) == Some(JsonFault::WrongShape));
+    assert!(rt; fault_of(rt.alloc(), &nested) == Some(JsonFault::NotJson));
+    let less = &nested[1..255];
+    assert!(rt; fault_of(rt.alloc(), less) == Some(JsonFault::WrongShape));
 }
 
 #[test]
 fn another_form_is_refused(rt: HostRuntime) {
-    let alloc = rt.alloc();
-    for text in MEMBERS {
-        assert!(rt;
-            fault_of(alloc, text.as_bytes()) == Some(JsonFault::WrongShape),
-            "{text}"
-        );
-    }
-    for text in ENTRIES {
-        assert!(rt;
-            fault_of(alloc, text.as_bytes()) == Some(JsonFault::WrongShape),
-            "{text}"
-        );
-    }
-    for text in NUMBERS {
-        assert!(rt;
-            fault_of(alloc, text.as_bytes()) == Some(JsonFault::WrongShape),
-            "{text}"
-        );
-    }
+    all_have(&rt, rt.alloc(), &MEMBERS, JsonFault::WrongShape);
+    all_have(&rt, rt.alloc(), &ENTRIES, JsonFault::WrongShape);
+    all_have(&rt, rt.alloc(), &NUMBERS, JsonFault::WrongShape);
 }
 
 #[test]
 fn another_version_is_told_first(rt: HostRuntime) {
-    let alloc = rt.alloc();
-    for text in VERSIONS {
-        assert!(rt;
-            fault_of(alloc, text.as_bytes()) == Some(JsonFault::WrongVersion),
-            "{text}"
-        );
-    }
+    all_have(&rt, rt.alloc(), &VERSIONS, JsonFault::WrongVersion);
 }

@@ -1,4 +1,4 @@
-//! Verdicts, tables of questions and their graphs, over paths by hand.
+//! Verdicts, tables of questions and their graphs.
 
 mod graph_tests;
 mod sets;

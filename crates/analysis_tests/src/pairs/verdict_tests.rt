@@ -1,14 +1,51 @@
 //! Verdicts, and the table of all of them.
 
-use crate::pairs::sets::{
-    amalgamate, at, over, path, table_of, transact, transfer, wide, write_check,
+use crate::dangers::{push_question, push_sample};
+use crate::examples::{paths_of, wide_text};
+use crate::pairs::sets::{NUMBERS, table_of};
+use conflict_pairs::{
+    Chain, PairFault, PairTable, Verdict, changes_single_cells, is_question, verdict,
 };
-use conflict_pairs::{PairFault, PairTable, Verdict, changes_single_cells, is_question, verdict};
+use example_sets::{MOVE, SMALL_BANK, TRANSFER};
 use order_facts::Node;
-use prog_paths::{Kind, Path, Term};
+use prog_paths::Path;
 use std::alloc::{AllocError, Global};
 use std::process::Abort;
 use std::test::Fail;
+
+/// A path's number, and an access's number in it.
+type Place = (usize, usize);
+
+fn push_chain(text: &mut String, nodes: &[Node]) -> Result<(), AllocError> {
+    write!(text, " {nodes:?}")
+}
+
+fn push_cover(text: &mut String, by: Place, chains: &[Chain]) -> Result<(), AllocError> {
+    write!(text, "covered {} {}", by.0, by.1)?;
+    for chain in chains {
+        push_chain(text, chain.as_slice())?;
+    }
+    Ok(())
+}
+
+/// A verdict with the nodes of its chains, or with numbers of its sample.
+fn push_verdict(text: &mut String, verdict: &Verdict) -> Result<(), AllocError> {
+    match verdict {
+        Verdict::Apart(chain) => {
+            text.push_str("apart")?;
+            push_chain(text, chain.as_slice())
+        }
+        Verdict::Covered {
+            mine,
+            theirs,
+            chains,
+        } => push_cover(text, (*mine, *theirs), chains.as_slice()),
+        Verdict::Exposed(sample) => {
+            text.push_str("exposed")?;
+            push_sample(text, sample)
+        }
+    }
+}
 
 /// The verdict on access `a` of one path against access `b` of another.
 fn judged(
@@ -25,148 +62,120 @@ fn judged(
     verdict(alloc, x, a, y, b)
 }
 
-/// Whether a verdict is a cover by these two accesses with these two chains.
-fn is_cover(found: &Verdict, by: (usize, usize), there: [Node; 2], back: [Node; 2]) -> bool {
-    match found {
-        Verdict::Covered {
-            mine,
-            theirs,
-            chains,
-        } => {
-            let [first, second] = chains.as_slice() else {
-                return false;
-            };
-            *mine == by.0
-                && *theirs == by.1
-                && first.as_slice() == there.as_slice()
-                && second.as_slice() == back.as_slice()
-        }
-        _ => false,
-    }
-}
-
-/// Each question of a table with its verdict, a line each.
-fn shown(alloc: Global, table: &PairTable) -> Result<String, AllocError> {
+/// The verdict on the accesses at two places.
+fn said(
+    rt: &impl Abort,
+    alloc: Global,
+    paths: &[Path],
+    mine: Place,
+    theirs: Place,
+) -> Result<String, AllocError> {
+    let x = paths.get(mine.0).expect(rt, "the path is there");
+    let y = paths.get(theirs.0).expect(rt, "the path is there");
+    let verdict = judged(rt, alloc, x, mine.1, y, theirs.1)?;
     let mut text = String::new(alloc);
-    for n in 0..table.len() {
-        let q = table.question(n);
-        write!(text, "{} {} {} {}: ", q.x, q.a, q.y, q.b)?;
-        match table.verdict(n) {
-            Verdict::Apart(chain) => write!(text, "apart {}\n", chain.as_slice().len())?,
-            Verdict::Covered {
-                mine,
-                theirs,
-                chains,
-            } => write!(
-                text,
-                "covered {mine} {theirs} {}\n",
-                chains.as_slice().len()
-            )?,
-            Verdict::Exposed(_) => text.push_str("exposed\n")?,
-        }
-    }
+    push_verdict(&mut text, &verdict)?;
     Ok(text)
 }
 
-#[test]
-fn transfers_are_covered(rt: HostRuntime) -> Result<(), Fail> {
-    let alloc: Global = rt.alloc();
-    let table = table_of(&rt, alloc, &transfer(alloc)?)?;
-    let lines = "\
-0 0 0 1: covered 1 1 2
-0 0 0 3: covered 1 3 2
-0 1 0 1: exposed
-0 1 0 3: exposed
-0 2 0 1: covered 3 1 2
-0 2 0 3: covered 3 3 2
-0 3 0 3: exposed
-";
-    assert_eq!(rt; shown(alloc, &table)?.as_str(), lines);
-    assert_eq!(rt; table.nodes(), 1);
+/// Asserts what the verdicts on questions of a set are.
+fn check(
+    rt: &impl Abort,
+    alloc: Global,
+    text: &str,
+    questions: &[(Place, Place, &str)],
+) -> Result<(), Fail> {
+    let paths = paths_of(alloc, text)?;
+    for (mine, theirs, wanted) in questions {
+        let said = said(rt, alloc, &paths, *mine, *theirs)?;
+        assert!(rt; said.as_str() == *wanted, "{mine:?} {theirs:?}: {said}");
+    }
     Ok(())
 }
 
 #[test]
 fn different_numbers_are_apart(rt: HostRuntime) -> Result<(), Fail> {
-    let alloc: Global = rt.alloc();
-    let reads = path(alloc, 0, &[at(Kind::Reads, 0, Term::Literal(1))])?;
-    let writes = path(alloc, 1, &[at(Kind::Writes, 0, Term::Literal(2))])?;
-    match judged(&rt, alloc, &reads, 0, &writes, 0)? {
-        Verdict::Apart(chain) => {
-            assert!(rt; chain.as_slice() == [Node::Number(2), Node::Number(1)].as_slice());
-        }
-        _ => assert!(rt; false),
-    }
-    Ok(())
+    let verdict = "apart [Number(2), Number(1)]";
+    check(&rt, rt.alloc(), NUMBERS, &[((0, 0), (3, 0), verdict)])
 }
 
 #[test]
 fn a_range_is_apart_by_a_parameter(rt: HostRuntime) -> Result<(), Fail> {
-    let alloc: Global = rt.alloc();
-    let low = Term::Literal(7);
-    let high = Term::Literal(5);
-    let counts = path(alloc, 0, &[over(Kind::Reads, 0, low, high)])?;
-    let writes = path(alloc, 1, &[at(Kind::Writes, 0, Term::Param(0))])?;
-    let chain = [Node::Number(7), Node::Theirs(0), Node::Number(5)];
-    match judged(&rt, alloc, &counts, 0, &writes, 0)? {
-        Verdict::Apart(shown) => assert!(rt; shown.as_slice() == chain.as_slice()),
-        _ => assert!(rt; false),
-    }
-    Ok(())
+    let verdict = "apart [Number(7), Theirs(0), Number(5)]";
+    check(&rt, rt.alloc(), NUMBERS, &[((1, 0), (4, 0), verdict)])
 }
 
 #[test]
 fn a_sample_is_nearest_to_zero(rt: HostRuntime) -> Result<(), Fail> {
-    let alloc: Global = rt.alloc();
-    let low = Term::Literal(3);
-    let high = Term::Literal(5);
-    let counts = path(alloc, 0, &[over(Kind::Reads, 0, low, high)])?;
-    let writes = path(alloc, 1, &[at(Kind::Writes, 0, Term::Param(2))])?;
-    match judged(&rt, alloc, &counts, 0, &writes, 0)? {
-        Verdict::Exposed(sample) => assert_eq!(rt; sample.get(Node::Theirs(2)), 3),
-        _ => assert!(rt; false),
+    let verdict = "exposed 0 0 0 0 0 3";
+    check(&rt, rt.alloc(), NUMBERS, &[((2, 0), (5, 0), verdict)])
+}
+
+/// Questions of the path of WriteCheck with its penalty: two against Amalgamate, one against
+/// TransactSaving.
+const CHECKS: [(Place, Place, &str); 3] = [
+    (
+        (4, 0),
+        (3, 2),
+        "covered 2 3 [Mine(0), Theirs(0)] [Theirs(0), Mine(0)]",
+    ),
+    (
+        (4, 1),
+        (3, 5),
+        "covered 2 5 [Mine(0), Theirs(1)] [Theirs(1), Mine(0)]",
+    ),
+    ((4, 0), (2, 1), "exposed 0 0 0 0 0 0"),
+];
+
+#[test]
+fn checks_are_covered_but_against_deposits(rt: HostRuntime) -> Result<(), Fail> {
+    check(&rt, rt.alloc(), SMALL_BANK, &CHECKS)
+}
+
+#[test]
+fn equal_for_some_arguments_is_no_cover(rt: HostRuntime) -> Result<(), Fail> {
+    let verdict = "exposed 0 0 0 0 0 0";
+    check(&rt, rt.alloc(), MOVE, &[((0, 0), (0, 1), verdict)])
+}
+
+/// Each question of a table with its verdict, a line each.
+fn push_table(text: &mut String, table: &PairTable) -> Result<(), AllocError> {
+    for n in 0..table.len() {
+        push_question(text, &table.question(n))?;
+        text.push_str(": ")?;
+        push_verdict(text, table.verdict(n))?;
+        text.push_str("\n")?;
     }
+    Ok(())
+}
+
+/// The questions between the accesses of the only path of the transfer set.
+const TRANSFERS: &str = "\
+0 0, 0 1: covered 1 1 [Mine(0), Theirs(0)] [Theirs(0), Mine(0)]
+0 0, 0 3: covered 1 3 [Mine(0), Theirs(1)] [Theirs(1), Mine(0)]
+0 1, 0 1: exposed 0 0 0 0 0 0
+0 1, 0 3: exposed 0 0 0 0 0 0
+0 2, 0 1: covered 3 1 [Mine(1), Theirs(0)] [Theirs(0), Mine(1)]
+0 2, 0 3: covered 3 3 [Mine(1), Theirs(1)] [Theirs(1), Mine(1)]
+0 3, 0 3: exposed 0 0 0 0 0 0
+";
+
+#[test]
+fn transfers_are_covered(rt: HostRuntime) -> Result<(), Fail> {
+    let paths = paths_of(rt.alloc(), TRANSFER)?;
+    let table = table_of(&rt, rt.alloc(), &paths)?;
+    assert_eq!(rt; table.nodes(), 1);
+    let mut text = String::new(rt.alloc());
+    push_table(&mut text, &table)?;
+    assert_eq!(rt; text.as_str(), TRANSFERS);
     Ok(())
 }
 
 #[test]
 fn more_than_a_million_questions_are_too_many(rt: HostRuntime) -> Result<(), Fail> {
-    let alloc: Global = rt.alloc();
-    match table_of(&rt, alloc, &wide(alloc)?) {
-        Err(fault) => assert_eq!(rt; fault, PairFault::TooLarge),
-        Ok(_) => assert!(rt; false),
-    }
-    Ok(())
-}
-
-#[test]
-fn checks_are_covered_but_against_deposits(rt: HostRuntime) -> Result<(), Fail> {
-    let alloc: Global = rt.alloc();
-    let check = write_check(alloc)?;
-    let both = amalgamate(alloc)?;
-    let mine = Node::Mine(0);
-    let first = Node::Theirs(0);
-    let savings = judged(&rt, alloc, &check, 0, &both, 2)?;
-    assert!(rt; is_cover(&savings, (2, 3), [mine, first], [first, mine]));
-    let second = Node::Theirs(1);
-    let checking = judged(&rt, alloc, &check, 1, &both, 5)?;
-    assert!(rt; is_cover(&checking, (2, 5), [mine, second], [second, mine]));
-    match judged(&rt, alloc, &check, 0, &transact(alloc)?, 1)? {
-        Verdict::Exposed(sample) => {
-            assert_eq!(rt; sample.get(mine), 0);
-            assert_eq!(rt; sample.get(first), 0);
-        }
-        _ => assert!(rt; false),
-    }
-    Ok(())
-}
-
-#[test]
-fn equal_for_some_arguments_is_no_cover(rt: HostRuntime) -> Result<(), Fail> {
-    let alloc: Global = rt.alloc();
-    let reads = at(Kind::Reads, 0, Term::Unknown(0));
-    let moves = path(alloc, 0, &[reads, at(Kind::Writes, 0, Term::Param(1))])?;
-    let found = judged(&rt, alloc, &moves, 0, &moves, 1)?;
-    assert!(rt; matches!(&found, Verdict::Exposed(_)));
+    let text = wide_text(rt.alloc(), 2)?;
+    let paths = paths_of(rt.alloc(), text.as_str())?;
+    let fault = table_of(&rt, rt.alloc(), &paths).err();
+    assert!(rt; fault == Some(PairFault::TooLarge));
     Ok(())
 }

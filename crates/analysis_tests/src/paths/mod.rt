@@ -2,6 +2,5 @@
 
 mod path_tests;
 mod question_tests;
-mod sets;
 mod shown;
 mod square_tests;

@@ -1,18 +1,19 @@
 //! The committing paths of sets.
 
-use crate::paths::sets::wide_text;
+use crate::examples::{paths_of, wide_text};
 use crate::paths::shown::{shown, shown_path};
-use example_sets::{LEDGER, MOVE, REPORT, SMALL_BANK, TRANSFER, set_of};
-use prog_paths::paths;
-use std::alloc::Global;
+use example_sets::{LEDGER, MOVE, REPORT, SMALL_BANK, TRANSFER};
+use prog_paths::Path;
+use std::alloc::{AllocError, Global};
 use std::process::Abort;
 use std::test::Fail;
 
-/// The paths of a text, shown.
-fn paths_of(alloc: Global, text: &str) -> Result<String, Fail> {
-    let set = set_of(alloc, text)?;
-    let paths = paths(alloc, &set)?;
-    Ok(shown(alloc, &paths)?)
+/// Asserts what the paths of a text are.
+fn check(rt: &impl Abort, alloc: Global, text: &str, wanted: &str) -> Result<(), Fail> {
+    let paths = paths_of(alloc, text)?;
+    let shown = shown(alloc, &paths)?;
+    assert!(rt; shown.as_str() == wanted, "{shown}");
+    Ok(())
 }
 
 #[test]
@@ -26,8 +27,7 @@ Reads 1[Param(1)] 4; Writes 1[Param(1)] 5;
 4 [true]: Reads 0[Param(0)] 0; Reads 1[Param(0)] 1; Writes 1[Param(0)] 3;
 4 [false]: Reads 0[Param(0)] 0; Reads 1[Param(0)] 1; Writes 1[Param(0)] 4;
 ";
-    assert_eq!(rt; paths_of(rt.alloc(), SMALL_BANK)?.as_str(), six);
-    Ok(())
+    check(&rt, rt.alloc(), SMALL_BANK, six)
 }
 
 #[test]
@@ -43,9 +43,8 @@ fn a_grow_table_is_added_to_seen_and_lacking(rt: HostRuntime) -> Result<(), Fail
 2 []: Sees 0[Param(0)] 0; \
 Reads 1[Param(0), Literal(-9223372036854775808)..Literal(9223372036854775807)] 1;
 ";
-    assert_eq!(rt; paths_of(rt.alloc(), LEDGER)?.as_str(), ledger);
-    assert_eq!(rt; paths_of(rt.alloc(), REPORT)?.as_str(), report);
-    Ok(())
+    check(&rt, rt.alloc(), LEDGER, ledger)?;
+    check(&rt, rt.alloc(), REPORT, report)
 }
 
 #[test]
@@ -53,10 +52,9 @@ fn a_computed_key_is_an_unknown(rt: HostRuntime) -> Result<(), Fail> {
     let transfer = "\
 0 []: Reads 0[Param(0)] 0; Writes 0[Param(0)] 1; Reads 0[Param(1)] 2; Writes 0[Param(1)] 3;
 ";
-    assert_eq!(rt; paths_of(rt.alloc(), TRANSFER)?.as_str(), transfer);
     let one = "0 []: Reads 0[Unknown(0)] 0; Writes 0[Param(1)] 1;\n";
-    assert_eq!(rt; paths_of(rt.alloc(), MOVE)?.as_str(), one);
-    Ok(())
+    check(&rt, rt.alloc(), TRANSFER, transfer)?;
+    check(&rt, rt.alloc(), MOVE, one)
 }
 
 /// The accesses of a wide path: each pair stands behind the five branches and the pairs before it.
@@ -68,22 +66,28 @@ Reads 0[Param(0)] 17; Writes 0[Param(0)] 18; Reads 0[Param(0)] 19; Writes 0[Para
 Reads 0[Param(0)] 21; Writes 0[Param(0)] 22; Reads 0[Param(0)] 23; Writes 0[Param(0)] 24; \
 Reads 0[Param(0)] 25; Writes 0[Param(0)] 26; Reads 0[Param(0)] 27; Writes 0[Param(0)] 28;";
 
+/// Whether a path is shown with this start, before the accesses of a wide path.
+fn is_wide(alloc: Global, path: &Path, start: &str) -> Result<bool, AllocError> {
+    let shown = shown_path(alloc, path)?;
+    Ok(shown.as_str().strip_prefix(start) == Some(WIDE_ACCESSES))
+}
+
+/// Some wide paths by their numbers, and how they start.
+const WIDE_PATHS: [(usize, &str); 4] = [
+    (0, "0 [true, true, true, true, true]: "),
+    (33, "1 [true, true, true, true, false]: "),
+    (496, "15 [false, true, true, true, true]: "),
+    (511, "15 [false, false, false, false, false]: "),
+];
+
 #[test]
 fn sixteen_programs_have_thirty_two_paths_each(rt: HostRuntime) -> Result<(), Fail> {
-    let alloc: Global = rt.alloc();
-    let text = wide_text(alloc)?;
-    let set = set_of(alloc, text.as_str())?;
-    let paths = paths(alloc, &set)?;
+    let text = wide_text(rt.alloc(), 12)?;
+    let paths = paths_of(rt.alloc(), text.as_str())?;
     assert_eq!(rt; paths.len(), 512);
-    for (number, start) in [
-        (0, "0 [true, true, true, true, true]: "),
-        (33, "1 [true, true, true, true, false]: "),
-        (496, "15 [false, true, true, true, true]: "),
-        (511, "15 [false, false, false, false, false]: "),
-    ] {
-        assert!(rt; number < paths.len());
-        let path = shown_path(alloc, &paths[number])?;
-        assert_eq!(rt; path.as_str().strip_prefix(start), Some(WIDE_ACCESSES));
+    for (number, start) in WIDE_PATHS {
+        let path = paths.get(number).expect(&rt, "the path is there");
+        assert!(rt; is_wide(rt.alloc(), path, start)?, "{number}");
     }
     Ok(())
 }

@@ -1,15 +1,17 @@
 //! The facts of questions.
 
-use example_sets::{LEDGER, MOVE, TRANSFER, set_of};
+use crate::examples::paths_of;
+use example_sets::{LEDGER, MOVE, TRANSFER};
 use order_facts::{Closed, Node};
-use prog_paths::{Access, Path, paths, question_facts};
-use std::alloc::Global;
+use prog_paths::{Access, Path, question_facts};
+use std::alloc::{AllocError, Global};
 use std::process::Abort;
 use std::test::Fail;
 
 const MINE: Node = Node::Mine(0);
 
-/// A question of a set between two accesses, each by its path and its number there, and what its facts say.
+/// A question of a set between two accesses, each by its path and its number there, and what its
+/// facts say.
 struct Example {
     text: &'static str,
     mine: (usize, usize),
@@ -24,16 +26,20 @@ fn access_at(paths: &[Path], place: (usize, usize)) -> Option<&Access> {
 }
 
 /// The facts of an example, closed.
-fn closed(alloc: Global, example: &Example) -> Result<Closed, Fail> {
-    let set = set_of(alloc, example.text)?;
-    let paths = paths(alloc, &set)?;
-    let mine = access_at(&paths, example.mine).ok_or("no such access")?;
-    let theirs = access_at(&paths, example.theirs).ok_or("no such access")?;
-    Ok(question_facts(alloc, mine, theirs)?.close()?)
+fn closed(
+    rt: &impl Abort,
+    alloc: Global,
+    paths: &[Path],
+    example: &Example,
+) -> Result<Closed, AllocError> {
+    let mine = access_at(paths, example.mine).expect(rt, "the access is there");
+    let theirs = access_at(paths, example.theirs).expect(rt, "the access is there");
+    let facts = question_facts(alloc, mine, theirs)?;
+    facts.close()
 }
 
-fn check(rt: &impl Abort, alloc: Global, example: &Example) -> Result<(), Fail> {
-    let facts = closed(alloc, example)?;
+/// Asserts what the facts of an example say.
+fn compare(rt: &impl Abort, facts: &Closed, example: &Example) {
     assert!(rt; facts.consistent() == example.is_consistent);
     for (low, high) in example.entailed {
         assert!(rt; facts.entails(*low, *high));
@@ -41,6 +47,12 @@ fn check(rt: &impl Abort, alloc: Global, example: &Example) -> Result<(), Fail> 
     for (low, high) in example.left_open {
         assert!(rt; !facts.entails(*low, *high));
     }
+}
+
+fn check(rt: &impl Abort, alloc: Global, example: &Example) -> Result<(), Fail> {
+    let paths = paths_of(alloc, example.text)?;
+    let facts = closed(rt, alloc, &paths, example)?;
+    compare(rt, &facts, example);
     Ok(())
 }
 

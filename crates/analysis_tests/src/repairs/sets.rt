@@ -1,12 +1,5 @@
 //! Texts of sets that these tests alone take.
 
-/// Two programs that read what the other writes.
-pub const SKEW: &str = "\
-table t 1;
-program Left() { let a = get t[1] else 0; let b = get t[2] else 0; put t[1] = a + b; }
-program Right() { let a = get t[1] else 0; let b = get t[2] else 0; put t[2] = a + b; }
-";
-
 /// The report set, with a cell that a post and a report keep.
 pub const KEPT_REPORT: &str = "\
 table closed 1 grow;

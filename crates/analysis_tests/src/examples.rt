@@ -1,0 +1,44 @@
+//! Texts of sets that several rooms take, and the committing paths of texts.
+
+use example_sets::set_of;
+use prog_paths::{Path, paths};
+use std::alloc::{AllocError, Global};
+use std::test::Fail;
+
+/// Two programs that read what the other writes.
+pub const SKEW: &str = "\
+table t 1;
+program Left() { let a = get t[1] else 0; let b = get t[2] else 0; put t[1] = a + b; }
+program Right() { let a = get t[1] else 0; let b = get t[2] else 0; put t[2] = a + b; }
+";
+
+/// Five branches, and these pairs of a read and a write.
+fn push_wide_body(text: &mut String, pairs: usize) -> Result<(), AllocError> {
+    text.push_str("if v < 0 { } if v < 0 { } if v < 0 { } if v < 0 { } if v < 0 { } ")?;
+    for pair in 0..pairs {
+        write!(text, "let a{pair} = get t[v] else 0; put t[v] = v; ")?;
+    }
+    Ok(())
+}
+
+fn push_wide_programs(text: &mut String, pairs: usize) -> Result<(), AllocError> {
+    for number in 0..16 {
+        write!(text, "program P{number}(v) {{ ")?;
+        push_wide_body(text, pairs)?;
+        text.push_str("}\n")?;
+    }
+    Ok(())
+}
+
+/// Sixteen programs with five branches and some pairs of a read and a write each.
+pub fn wide_text(alloc: Global, pairs: usize) -> Result<String, AllocError> {
+    let mut text = String::from_str(alloc, "table t 1;\n")?;
+    push_wide_programs(&mut text, pairs)?;
+    Ok(text)
+}
+
+/// The committing paths of a text.
+pub fn paths_of(alloc: Global, text: &str) -> Result<Vec<Path>, Fail> {
+    let set = set_of(alloc, text)?;
+    Ok(paths(alloc, &set)?)
+}
