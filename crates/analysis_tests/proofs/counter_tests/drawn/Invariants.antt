@@ -1,6 +1,6 @@
 use Rattle.std.proofs.Common.{◌≡◌}
 use Rattle.job_counter.specs.Passes.{counter_of, left_of}
-use Rattle.library_tests.proofs.counter_tests.draw_all.Given as goal
+use Rattle.analysis_tests.proofs.counter_tests.drawn.Given as goal
 
 abbrev pub invariant-loop-number : goal.invariant-loop-number
 invariant-loop-number l = counter_of l.pass ≡ counter_of l.fn.pass

@@ -1,0 +1,92 @@
+ghost use Rattle.std.specs.Prelude.{◌≡◌};
+ghost use Rattle.job_counter.specs.Passes.{counter_of, name_of};
+
+use job_counter::{Counter, Pass};
+use std::alloc::{AllocError, Global};
+use std::process::Abort;
+use std::thread;
+
+#[test]
+fn three_numbers(rt: HostRuntime) -> Result<(), AllocError> {
+    let (counter, mut pass) = Counter::open(rt.alloc(), 3)?;
+    assert_eq!(rt; counter.draw(&mut pass), Some(0));
+    assert_eq!(rt; Counter::left(&pass), 2);
+    let (mut first, mut second) = counter.split(pass, 2);
+    assert_eq!(rt; counter.draw(&mut first), None);
+    assert_eq!(rt; counter.draw(&mut second), Some(1));
+    assert_eq!(rt; counter.draw(&mut second), Some(2));
+    assert_eq!(rt; counter.draw(&mut second), None);
+    let pass = counter.join(first, second);
+    assert_eq!(rt; Counter::left(&pass), 0);
+    assert_eq!(rt; counter.close(pass), 3);
+    Ok(())
+}
+
+// Draws until the pass has nothing left.
+fn drawn(alloc: Global, counter: &Counter, pass: &mut Pass) -> Result<Vec<u64>, AllocError>
+    requires { counter_of pass.old ≡ name_of counter.now }
+    ensures { counter_of pass.new ≡ counter_of pass.old }
+{
+    let mut numbers = Vec::new(alloc);
+    while let Some(number) = counter.draw(pass) {
+        numbers.push(number)?;
+    }
+    Ok(numbers)
+}
+
+// The same, with the pass behind its draws. No pass is dropped, also where memory runs out.
+fn draw_all(
+    alloc: Global,
+    counter: &Counter,
+    mut pass: Pass,
+) -> (Pass, Result<Vec<u64>, AllocError>)
+    requires { counter_of pass ≡ name_of counter.now }
+    ensures { counter_of result.0 ≡ counter_of pass }
+{
+    let numbers = drawn(alloc, counter, &mut pass);
+    (pass, numbers)
+}
+
+// How often each number below 1000 was drawn.
+fn times_drawn(
+    rt: &impl Abort,
+    alloc: Global,
+    numbers: &[u64],
+    others: &[u64],
+) -> Result<Vec<u32>, AllocError> {
+    let mut times = vec![in alloc; 0u32; 1000]?;
+    for &number in numbers.iter().chain(others.iter()) {
+        let count = times
+            .get_mut(number as usize)
+            .expect(rt, "below the budget");
+        *count = count.saturating_add(1);
+    }
+    Ok(times)
+}
+
+#[test]
+fn two_threads(rt: HostRuntime) -> Result<(), AllocError> {
+    let alloc: Global = rt.alloc();
+    let (counter, pass) = Counter::open(alloc, 1000)?;
+    let (first, second) = counter.split(pass, 500);
+    let shared = &counter;
+    let ((first, one), (second, other)) = thread::join(
+        &rt,
+        || -> (Pass, Result<Vec<u64>, AllocError>)
+            requires { counter_of first ≡ name_of shared.now }
+            ensures { counter_of result.0 ≡ name_of shared.entry.now }
+        { draw_all(alloc, shared, first) },
+        || -> (Pass, Result<Vec<u64>, AllocError>)
+            requires { counter_of second ≡ name_of shared.now }
+            ensures { counter_of result.0 ≡ name_of shared.entry.now }
+        { draw_all(alloc, shared, second) },
+    );
+    let pass = counter.join(first, second);
+    assert!(rt; counter.close(pass) == 1000);
+    let numbers = one?;
+    let others = other?;
+    assert_eq!(rt; (numbers.len(), others.len()), (500, 500));
+    let times = times_drawn(&rt, alloc, &numbers, &others)?;
+    assert!(rt; times.iter().all(|&count| count == 1));
+    Ok(())
+}
