@@ -7,6 +7,8 @@ mod change_tests;
 #[cfg(test)]
 mod check_tests;
 #[cfg(test)]
+mod copy_tests;
+#[cfg(test)]
 mod equality_tests;
 #[cfg(test)]
 mod run_tests;
