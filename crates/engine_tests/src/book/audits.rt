@@ -1,11 +1,13 @@
 //! Books of given rows, and what orders they have.
 
-use crate::book::sets::{REGISTERS, rows_of, set_of};
+use crate::book::sets::{REGISTERS, rows_of};
+use example_sets::set_of;
 use history_book::{AnyFitFault, AuditFault, Book, HistoryRow, OrderFault};
 use prog_check::ProgramSet;
 use prog_tree::{Rows, Sequence};
 use std::alloc::{AllocError, Global};
 use std::process::Abort;
+use std::test::Fail;
 
 /// The program of a row, its arguments, its start and its replies.
 pub type Record = (usize, &'static [i64], u64, &'static [i64]);
@@ -39,13 +41,11 @@ fn audited<'a>(
 }
 
 /// What is wrong with records over the registers, which hold nothing at first.
-pub fn fault_of(rt: &impl Abort, alloc: Global, records: &[Record]) -> Option<AuditFault> {
-    let Some(set) = set_of(alloc, REGISTERS) else {
-        panic!(rt; "no set");
-    };
+pub fn fault_of(alloc: Global, records: &[Record]) -> Result<Option<AuditFault>, Fail> {
+    let set = set_of(alloc, REGISTERS)?;
     match audited(alloc, &set, Rows::new(alloc), records) {
-        Ok(_) => None,
-        Err(fault) => Some(fault),
+        Ok(_) => Ok(None),
+        Err(fault) => Ok(Some(fault)),
     }
 }
 
@@ -93,27 +93,26 @@ pub struct Ordered {
     pub unfitting: &'static [&'static [usize]],
 }
 
-fn check_book(rt: &impl Abort, book: &Book<'_>, wanted: &Ordered) {
-    assert!(rt; has_least(book, &wanted.least));
-    assert!(rt; has_any(book, &wanted.any));
-    for order in wanted.fitting {
-        assert_eq!(rt; book.fits(order).ok(), Some(true), "{order:?}");
-    }
-    for order in wanted.unfitting {
-        assert_eq!(rt; book.fits(order).ok(), Some(false), "{order:?}");
+fn check_fits(rt: &impl Abort, book: &Book<'_>, orders: &[&[usize]], wanted: bool) {
+    for order in orders {
+        assert_eq!(rt; book.fits(order).ok(), Some(wanted), "{order:?}");
     }
 }
 
+fn check_book(rt: &impl Abort, book: &Book<'_>, wanted: &Ordered) {
+    assert!(rt; has_least(book, &wanted.least));
+    assert!(rt; has_any(book, &wanted.any));
+    check_fits(rt, book, wanted.fitting, true);
+    check_fits(rt, book, wanted.unfitting, false);
+}
+
 /// Asks the book of records for its orders.
-pub fn check_orders(rt: &impl Abort, alloc: Global, wanted: &Ordered) {
-    let Some(set) = set_of(alloc, wanted.set) else {
-        panic!(rt; "no set");
-    };
-    let Ok(opening) = rows_of(alloc, wanted.opening) else {
-        panic!(rt; "no rows");
-    };
+pub fn check_orders(rt: &impl Abort, alloc: Global, wanted: &Ordered) -> Result<(), Fail> {
+    let set = set_of(alloc, wanted.set)?;
+    let opening = rows_of(alloc, wanted.opening)?;
     let Ok(book) = audited(alloc, &set, opening, wanted.records) else {
-        panic!(rt; "no book");
+        return Err(Fail::new("no book"));
     };
     check_book(rt, &book, wanted);
+    Ok(())
 }

@@ -5,6 +5,7 @@ use crate::book::desk::play;
 use crate::book::runs::Ride;
 use crate::book::sets::{LOOK, NO_PROGRAM, SET, STOP};
 use history_book::{BeginFault, Place};
+use std::test::Fail;
 
 /// `Look(1)` on a snapshot without a row, up to its end.
 const LOOKED: Ride = Ride {
@@ -55,7 +56,7 @@ const STOPPED: Ride = Ride {
 };
 
 #[test]
-fn begins_are_refused_or_numbered(rt: HostRuntime) {
+fn begins_are_refused_or_numbered(rt: HostRuntime) -> Result<(), Fail> {
     let calls = [
         (
             Call::Begin(NO_PROGRAM, &[]),
@@ -69,11 +70,11 @@ fn begins_are_refused_or_numbered(rt: HostRuntime) {
         (Call::Begin(LOOK, &[1]), Answer::Begun(1, 0)),
         (Call::IsFull, Answer::Is(false)),
     ];
-    play(&rt, rt.alloc(), &[], &calls);
+    play(&rt, rt.alloc(), &[], &calls)
 }
 
 #[test]
-fn a_book_tells_what_it_was_opened_with(rt: HostRuntime) {
+fn a_book_tells_what_it_was_opened_with(rt: HostRuntime) -> Result<(), Fail> {
     let calls = [
         (Call::Program("Cut"), Answer::Count(2)),
         (Call::Set(&[2, 7]), Answer::Committed(1)),
@@ -81,11 +82,11 @@ fn a_book_tells_what_it_was_opened_with(rt: HostRuntime) {
         (Call::Newest(2), Answer::Holds(Some(7))),
         (Call::Newest(1), Answer::Holds(Some(5))),
     ];
-    play(&rt, rt.alloc(), &[(0, 1, 5), (0, 2, 6)], &calls);
+    play(&rt, rt.alloc(), &[(0, 1, 5), (0, 2, 6)], &calls)
 }
 
 #[test]
-fn commits_are_kept(rt: HostRuntime) {
+fn commits_are_kept(rt: HostRuntime) -> Result<(), Fail> {
     let calls = [
         (Call::Set(&[1, 5]), Answer::Committed(1)),
         (Call::Set(&[1, 6]), Answer::Committed(2)),
@@ -96,11 +97,11 @@ fn commits_are_kept(rt: HostRuntime) {
         (Call::Ending(1), Answer::Committed(2)),
         (Call::Ending(2), Answer::Nothing),
     ];
-    play(&rt, rt.alloc(), &[], &calls);
+    play(&rt, rt.alloc(), &[], &calls)
 }
 
 #[test]
-fn an_old_instance_sees_its_snapshot(rt: HostRuntime) {
+fn an_old_instance_sees_its_snapshot(rt: HostRuntime) -> Result<(), Fail> {
     let calls = [
         (Call::Begin(LOOK, &[1]), Answer::Begun(0, 0)),
         (Call::Set(&[1, 5]), Answer::Committed(1)),
@@ -110,11 +111,11 @@ fn an_old_instance_sees_its_snapshot(rt: HostRuntime) {
         (Call::Get(1), Answer::Holds(Some(5))),
         (Call::Rows, Answer::Count(1)),
     ];
-    play(&rt, rt.alloc(), &[], &calls);
+    play(&rt, rt.alloc(), &[], &calls)
 }
 
 #[test]
-fn the_first_committer_wins(rt: HostRuntime) {
+fn the_first_committer_wins(rt: HostRuntime) -> Result<(), Fail> {
     let calls = [
         (Call::Begin(SET, &[1, 7]), Answer::Begun(0, 0)),
         (Call::Set(&[1, 5]), Answer::Committed(1)),
@@ -122,11 +123,11 @@ fn the_first_committer_wins(rt: HostRuntime) {
         (Call::Ending(1), Answer::Clashed(1)),
         (Call::Newest(1), Answer::Holds(Some(5))),
     ];
-    play(&rt, rt.alloc(), &[], &calls);
+    play(&rt, rt.alloc(), &[], &calls)
 }
 
 #[test]
-fn invented_answers_never_commit(rt: HostRuntime) {
+fn invented_answers_never_commit(rt: HostRuntime) -> Result<(), Fail> {
     let calls = [
         (Call::Begin(LOOK, &[1]), Answer::Begun(0, 0)),
         (Call::Commit(INVENTED), Answer::ForeignRun(Place::Look(0))),
@@ -134,11 +135,11 @@ fn invented_answers_never_commit(rt: HostRuntime) {
         (Call::Commits, Answer::Count(0)),
         (Call::Ending(0), Answer::Nothing),
     ];
-    play(&rt, rt.alloc(), &[], &calls);
+    play(&rt, rt.alloc(), &[], &calls)
 }
 
 #[test]
-fn an_altered_run_leaves_the_ticket_good(rt: HostRuntime) {
+fn an_altered_run_leaves_the_ticket_good(rt: HostRuntime) -> Result<(), Fail> {
     let calls = [
         (Call::Begin(LOOK, &[1]), Answer::Begun(0, 0)),
         (Call::Commit(ELSEWHERE), Answer::ForeignRun(Place::Program)),
@@ -146,12 +147,12 @@ fn an_altered_run_leaves_the_ticket_good(rt: HostRuntime) {
         (Call::Commit(UNMOVED), Answer::WrongEnd),
         (Call::Commit(LOOKED), Answer::Committed(1)),
     ];
-    play(&rt, rt.alloc(), &[], &calls);
+    play(&rt, rt.alloc(), &[], &calls)
 }
 
 // In the first book the instance of this number was withdrawn.
 #[test]
-fn a_ticket_of_another_book_is_unknown(rt: HostRuntime) {
+fn a_ticket_of_another_book_is_unknown(rt: HostRuntime) -> Result<(), Fail> {
     let calls = [
         (Call::Begin(LOOK, &[1]), Answer::Begun(0, 0)),
         (Call::Withdraw, Answer::Withdrawn),
@@ -162,22 +163,22 @@ fn a_ticket_of_another_book_is_unknown(rt: HostRuntime) {
         (Call::End(STOPPED), Answer::NoSuchTicket),
         (Call::Withdraw, Answer::NoSuchTicket),
     ];
-    play(&rt, rt.alloc(), &[], &calls);
+    play(&rt, rt.alloc(), &[], &calls)
 }
 
 #[test]
-fn a_ticket_with_the_same_number_counts(rt: HostRuntime) {
+fn a_ticket_with_the_same_number_counts(rt: HostRuntime) -> Result<(), Fail> {
     let calls = [
         (Call::Begin(LOOK, &[1]), Answer::Begun(0, 0)),
         (Call::BeginElsewhere(LOOK, &[1]), Answer::Begun(0, 0)),
         (Call::Get(1), Answer::Holds(Some(5))),
         (Call::Withdraw, Answer::Withdrawn),
     ];
-    play(&rt, rt.alloc(), &[(0, 1, 5)], &calls);
+    play(&rt, rt.alloc(), &[(0, 1, 5)], &calls)
 }
 
 #[test]
-fn an_aborted_run_ends_its_instance(rt: HostRuntime) {
+fn an_aborted_run_ends_its_instance(rt: HostRuntime) -> Result<(), Fail> {
     let calls = [
         (Call::Begin(STOP, &[]), Answer::Begun(0, 0)),
         (Call::Commit(STOPPED), Answer::WrongEnd),
@@ -186,12 +187,12 @@ fn an_aborted_run_ends_its_instance(rt: HostRuntime) {
         (Call::Ending(0), Answer::Aborted),
         (Call::Commits, Answer::Count(0)),
     ];
-    play(&rt, rt.alloc(), &[], &calls);
+    play(&rt, rt.alloc(), &[], &calls)
 }
 
 // That no version goes holds of every vacuum, until versions are really dropped.
 #[test]
-fn a_dropped_ticket_holds_the_floor(rt: HostRuntime) {
+fn a_dropped_ticket_holds_the_floor(rt: HostRuntime) -> Result<(), Fail> {
     let calls = [
         (Call::Begin(LOOK, &[1]), Answer::Begun(0, 0)),
         (Call::Set(&[1, 1]), Answer::Committed(1)),
@@ -199,5 +200,5 @@ fn a_dropped_ticket_holds_the_floor(rt: HostRuntime) {
         (Call::Vacuum, Answer::Count(0)),
         (Call::Vacuum, Answer::Count(0)),
     ];
-    play(&rt, rt.alloc(), &[(0, 1, 0)], &calls);
+    play(&rt, rt.alloc(), &[(0, 1, 0)], &calls)
 }

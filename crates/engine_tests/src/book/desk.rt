@@ -3,12 +3,14 @@
 use crate::book::answer::{Answer, Call};
 use crate::book::endings::{commit, end, ending};
 use crate::book::runs::{Ride, run_of};
-use crate::book::sets::{REGISTERS, SET, cell, rows_of, set_of};
+use crate::book::sets::{REGISTERS, SET, cell, rows_of};
+use example_sets::set_of;
 use history_book::{Book, Ticket};
 use prog_check::ProgramSet;
 use prog_tree::{Region, Rows};
 use std::alloc::Global;
 use std::process::Abort;
+use std::test::Fail;
 
 #[derive(Drop)]
 struct Desk<'a> {
@@ -176,24 +178,28 @@ impl<'a> Desk<'a> {
     }
 }
 
+fn make_all(rt: &impl Abort, desk: &mut Desk<'_>, calls: &[(Call, Answer)]) {
+    for (call, wanted) in calls {
+        assert_eq!(rt; desk.make(call), *wanted, "{call:?}");
+    }
+}
+
 /// Makes calls of a book over rows of the registers; each has to answer as wanted.
-pub fn play(rt: &impl Abort, alloc: Global, given: &[(usize, i64, i64)], calls: &[(Call, Answer)]) {
-    let Some(set) = set_of(alloc, REGISTERS) else {
-        panic!(rt; "no set");
-    };
-    let Ok(rows) = rows_of(alloc, given) else {
-        panic!(rt; "no rows");
-    };
-    let Ok(book) = Book::open(alloc, &set, rows) else {
-        panic!(rt; "no book");
-    };
+pub fn play(
+    rt: &impl Abort,
+    alloc: Global,
+    given: &[(usize, i64, i64)],
+    calls: &[(Call, Answer)],
+) -> Result<(), Fail> {
+    let set = set_of(alloc, REGISTERS)?;
+    let rows = rows_of(alloc, given)?;
+    let book = Book::open(alloc, &set, rows)?;
     let mut desk = Desk {
         alloc,
         set: &set,
         book,
         ticket: None,
     };
-    for (call, wanted) in calls {
-        assert_eq!(rt; desk.make(call), *wanted, "{call:?}");
-    }
+    make_all(rt, &mut desk, calls);
+    Ok(())
 }

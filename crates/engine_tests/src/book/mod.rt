@@ -2,7 +2,7 @@
 
 mod answer;
 mod audit_tests;
-mod audits;
+pub mod audits;
 mod book_tests;
 mod desk;
 mod endings;

@@ -3,13 +3,14 @@
 use crate::book::audits::{Any, Least, Ordered, Record, check_orders};
 use crate::book::sets::{BALANCE, LOOK, REGISTERS, SET, TRANSACT_SAVING, WRITE_CHECK};
 use example_sets::SMALL_BANK;
+use std::test::Fail;
 
 /// Savings and a checking account, both empty.
 const EMPTY_ACCOUNTS: &[(usize, i64, i64)] = &[(0, 1, 0), (1, 1, 0)];
 
 // The check saw no savings, and commits behind a balance that saw them.
 #[test]
-fn the_read_only_anomaly_has_no_order(rt: HostRuntime) {
+fn the_read_only_anomaly_has_no_order(rt: HostRuntime) -> Result<(), Fail> {
     let anomaly = Ordered {
         set: SMALL_BANK,
         opening: EMPTY_ACCOUNTS,
@@ -30,11 +31,11 @@ fn the_read_only_anomaly_has_no_order(rt: HostRuntime) {
             &[3, 2, 1],
         ],
     };
-    check_orders(&rt, rt.alloc(), &anomaly);
+    check_orders(&rt, rt.alloc(), &anomaly)
 }
 
 #[test]
-fn a_serial_history_fits_its_own_order(rt: HostRuntime) {
+fn a_serial_history_fits_its_own_order(rt: HostRuntime) -> Result<(), Fail> {
     let serial = Ordered {
         set: SMALL_BANK,
         opening: EMPTY_ACCOUNTS,
@@ -48,11 +49,11 @@ fn a_serial_history_fits_its_own_order(rt: HostRuntime) {
         fitting: &[&[1, 2, 3]],
         unfitting: &[&[1, 1, 2], &[3, 2, 1], &[0, 1, 2], &[1, 2], &[]],
     };
-    check_orders(&rt, rt.alloc(), &serial);
+    check_orders(&rt, rt.alloc(), &serial)
 }
 
 #[test]
-fn an_old_snapshot_comes_first(rt: HostRuntime) {
+fn an_old_snapshot_comes_first(rt: HostRuntime) -> Result<(), Fail> {
     let old = Ordered {
         set: REGISTERS,
         opening: &[],
@@ -62,13 +63,13 @@ fn an_old_snapshot_comes_first(rt: HostRuntime) {
         fitting: &[&[2, 1]],
         unfitting: &[&[1, 2]],
     };
-    check_orders(&rt, rt.alloc(), &old);
+    check_orders(&rt, rt.alloc(), &old)
 }
 
 const LOOKS: &[Record; 7] = &[(LOOK, &[1], 0, &[-1]); 7];
 
 #[test]
-fn six_commits_are_ordered(rt: HostRuntime) {
+fn six_commits_are_ordered(rt: HostRuntime) -> Result<(), Fail> {
     let six = Ordered {
         set: REGISTERS,
         opening: &[],
@@ -78,11 +79,11 @@ fn six_commits_are_ordered(rt: HostRuntime) {
         fitting: &[&[6, 5, 4, 3, 2, 1]],
         unfitting: &[],
     };
-    check_orders(&rt, rt.alloc(), &six);
+    check_orders(&rt, rt.alloc(), &six)
 }
 
 #[test]
-fn seven_commits_are_too_many(rt: HostRuntime) {
+fn seven_commits_are_too_many(rt: HostRuntime) -> Result<(), Fail> {
     let seven = Ordered {
         set: REGISTERS,
         opening: &[],
@@ -92,5 +93,5 @@ fn seven_commits_are_too_many(rt: HostRuntime) {
         fitting: &[&[7, 6, 5, 4, 3, 2, 1]],
         unfitting: &[],
     };
-    check_orders(&rt, rt.alloc(), &seven);
+    check_orders(&rt, rt.alloc(), &seven)
 }

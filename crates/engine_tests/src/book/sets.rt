@@ -1,7 +1,5 @@
-//! Sets and rows of the tests.
+//! A set of the tests, and rows.
 
-use prog_check::{ProgramSet, check};
-use prog_text::parse;
 use prog_tree::{Cell, Rows};
 use std::alloc::{AllocError, Global};
 
@@ -27,12 +25,6 @@ pub const BALANCE: usize = 0;
 pub const TRANSACT_SAVING: usize = 2;
 
 pub const WRITE_CHECK: usize = 4;
-
-/// The checked set of a text.
-pub fn set_of(alloc: Global, text: &str) -> Option<ProgramSet> {
-    let draft = parse(alloc, text.as_bytes()).ok()?;
-    check(alloc, draft).ok()
-}
 
 /// A cell of a table with one key column.
 pub fn cell(table: usize, first: i64) -> Cell {

@@ -1,15 +1,17 @@
 //! Runs of a script over devices that are slow, and that fail at each of their calls.
 
 use crate::engine::fakes::{SlowSink, SlowSource};
-use prog_check::{ProgramSet, check};
-use prog_text::parse;
-use si_engine::{Bytes, Finding, InputFault, LineFault, Port, ScriptFault, run_script};
+use example_sets::set_of;
+use si_engine::{
+    Bytes, Finding, InputFault, LineFault, Port, ScriptFault, Sink, Source, run_script,
+};
 use std::alloc::Global;
+use std::process::Abort;
 use std::test::Fail;
 
 const NEVER: u64 = u64::MAX;
 
-const SET: &[u8] = b"table t 1;
+const SET: &str = "table t 1;
 program Look(k) { let x = get t[k] else -1; reply x; }
 ";
 
@@ -31,50 +33,63 @@ vacuumed 0
 order 1
 ";
 
-fn set(alloc: Global) -> Result<ProgramSet, Fail> {
-    let draft = parse(alloc, SET)?;
-    Ok(check(alloc, draft)?)
+type Ended = Result<Finding, ScriptFault>;
+
+fn run_over<S: Source, K: Sink>(
+    alloc: Global,
+    source: &mut S,
+    sink: &mut K,
+) -> Result<Ended, Fail> {
+    let set = set_of(alloc, SET)?;
+    Ok(run_script(alloc, &set, source, sink))
 }
 
 #[test]
 fn ports_are_devices(rt: HostRuntime) -> Result<(), Fail> {
-    let set = set(rt.alloc())?;
     let mut sink = Port::new(Vec::new(rt.alloc()));
-    let ended = run_script(rt.alloc(), &set, &mut Port::new(LOOK), &mut sink);
+    let ended = run_over(rt.alloc(), &mut Port::new(LOOK), &mut sink)?;
     assert_eq!(rt; ended, Ok(Finding::Order));
     assert_eq!(rt; sink.into_inner().as_slice(), LOOKED);
     Ok(())
 }
 
-// What the run comes to with a source that fails after so many pulls and a sink that fails after so many pushes.
-fn run_with(
+// How a run has to end whose source fails after so many pulls, and its sink after so many pushes,
+// and how many bytes the sink has to have taken.
+fn check_run(
+    rt: &impl Abort,
     alloc: Global,
     pulls: u64,
     pushes: u64,
-) -> Result<(Result<Finding, ScriptFault>, Vec<u8>), Fail> {
-    let set = set(alloc)?;
-    let mut source = SlowSource::new(LOOK, pulls);
+    ended: Ended,
+    taken: usize,
+) -> Result<(), Fail> {
     let mut sink = SlowSink::new(alloc, pushes);
-    let ended = run_script(alloc, &set, &mut source, &mut sink);
-    Ok((ended, sink.bytes))
+    let found = run_over(alloc, &mut SlowSource::new(LOOK, pulls), &mut sink)?;
+    assert_eq!(rt; found, ended, "after {pulls} pulls and {pushes} pushes");
+    assert_eq!(rt;
+        sink.bytes.len(),
+        taken,
+        "after {pulls} pulls and {pushes} pushes"
+    );
+    assert!(rt;
+        LOOKED.starts_with(&sink.bytes),
+        "after {pulls} pulls and {pushes} pushes"
+    );
+    Ok(())
 }
 
 #[test]
 fn slow_devices_change_nothing(rt: HostRuntime) -> Result<(), Fail> {
-    let (ended, bytes) = run_with(rt.alloc(), NEVER, NEVER)?;
-    assert_eq!(rt; ended, Ok(Finding::Order));
-    assert_eq!(rt; bytes.as_slice(), LOOKED);
-    Ok(())
+    let ended = Ok(Finding::Order);
+    check_run(&rt, rt.alloc(), NEVER, NEVER, ended, LOOKED.len())
 }
 
 // One pull for each byte, and a last one for the end.
 #[test]
 fn each_failed_pull_is_told(rt: HostRuntime) -> Result<(), Fail> {
     for pulls in 0..=LOOK.len() as u64 {
-        let (ended, bytes) = run_with(rt.alloc(), pulls, NEVER)?;
-        let fault = ScriptFault::Input(InputFault::ReadFault);
-        assert_eq!(rt; ended, Err(fault), "after {pulls} pulls");
-        assert_eq!(rt; bytes.len(), 0);
+        let ended = Err(ScriptFault::Input(InputFault::ReadFault));
+        check_run(&rt, rt.alloc(), pulls, NEVER, ended, 0)?;
     }
     Ok(())
 }
@@ -83,24 +98,17 @@ fn each_failed_pull_is_told(rt: HostRuntime) -> Result<(), Fail> {
 #[test]
 fn each_failed_push_leaves_first_bytes(rt: HostRuntime) -> Result<(), Fail> {
     for pushes in 0..34 {
-        let (ended, bytes) = run_with(rt.alloc(), NEVER, pushes)?;
-        assert_eq!(rt;
-            ended,
-            Err(ScriptFault::WriteFault),
-            "after {pushes} pushes"
-        );
-        assert_eq!(rt; bytes.len() as u64, 3 * pushes);
-        assert!(rt; LOOKED.starts_with(&bytes), "after {pushes} pushes");
+        let ended = Err(ScriptFault::WriteFault);
+        check_run(&rt, rt.alloc(), NEVER, pushes as u64, ended, 3 * pushes)?;
     }
     Ok(())
 }
 
 #[test]
 fn a_fault_leaves_nothing(rt: HostRuntime) -> Result<(), Fail> {
-    let set = set(rt.alloc())?;
     let mut sink = SlowSink::new(rt.alloc(), NEVER);
     let script = b"begin Look 7\nvacuum 1\n".as_slice();
-    let ended = run_script(rt.alloc(), &set, &mut Bytes::new(script), &mut sink);
+    let ended = run_over(rt.alloc(), &mut Bytes::new(script), &mut sink)?;
     let fault = ScriptFault::Line(LineFault::BadLine { line: 2 });
     assert_eq!(rt; ended, Err(fault));
     assert_eq!(rt; sink.bytes.len(), 0);

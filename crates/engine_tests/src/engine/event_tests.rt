@@ -1,13 +1,13 @@
 //! An engine, driven by events.
 
-use prog_check::{ProgramSet, check};
-use prog_text::parse;
+use example_sets::set_of;
 use prog_tree::{Rows, Sequence};
 use si_engine::{Engine, Event};
 use std::alloc::{AllocError, Global};
 use std::process::Abort;
+use std::test::Fail;
 
-const REGISTERS: &[u8] = b"table t 1;
+const REGISTERS: &str = "table t 1;
 program Look(k) { let x = get t[k] else -1; reply x; }
 program Set(k, v) { put t[k] = v; }
 ";
@@ -26,11 +26,6 @@ enum Sent {
     Commit(usize),
     Abort(usize),
     Vacuum,
-}
-
-fn set_of(alloc: Global) -> Option<ProgramSet> {
-    let draft = parse(alloc, REGISTERS).ok()?;
-    check(alloc, draft).ok()
 }
 
 fn event_of(alloc: Global, sent: &Sent) -> Result<Event, AllocError> {
@@ -61,35 +56,46 @@ fn counts(engine: &Engine<'_>) -> Result<(u64, usize, usize), AllocError> {
 }
 
 // Hands events to an engine; each has to be replied to as wanted.
-fn play(rt: &impl Abort, alloc: Global, events: &[(Sent, &str)], wanted: (u64, usize, usize)) {
-    let Some(set) = set_of(alloc) else {
-        panic!(rt; "no set");
-    };
-    let Ok(mut engine) = Engine::open(alloc, &set, Rows::new(alloc)) else {
-        panic!(rt; "no engine");
-    };
+fn send(
+    rt: &impl Abort,
+    alloc: Global,
+    engine: &mut Engine<'_>,
+    events: &[(Sent, &str)],
+) -> Result<(), AllocError> {
     for (sent, told) in events {
-        let Ok(reply) = reply_to(alloc, &mut engine, sent) else {
-            panic!(rt; "no memory");
-        };
+        let reply = reply_to(alloc, engine, sent)?;
         assert_eq!(rt; reply.as_str(), *told, "{sent:?}");
     }
-    assert_eq!(rt; counts(&engine).ok(), Some(wanted));
+    Ok(())
+}
+
+// An engine over the registers, and what it has to come to.
+fn play(
+    rt: &impl Abort,
+    alloc: Global,
+    events: &[(Sent, &str)],
+    wanted: (u64, usize, usize),
+) -> Result<(), Fail> {
+    let set = set_of(alloc, REGISTERS)?;
+    let mut engine = Engine::open(alloc, &set, Rows::new(alloc))?;
+    send(rt, alloc, &mut engine, events)?;
+    assert_eq!(rt; counts(&engine)?, wanted);
+    Ok(())
 }
 
 #[test]
-fn begins_are_refused_before_they_are_numbered(rt: HostRuntime) {
+fn begins_are_refused_before_they_are_numbered(rt: HostRuntime) -> Result<(), Fail> {
     let events = [
         (Sent::Begin(NO_PROGRAM, &[7]), "NoSuchProgram"),
         (Sent::Begin(LOOK, &[]), "WrongArguments"),
         (Sent::Begin(LOOK, &[7]), "Begun { instance: 0, start: 0 }"),
         (Sent::Begin(SET, &[7, 5]), "Begun { instance: 1, start: 0 }"),
     ];
-    play(&rt, rt.alloc(), &events, (0, 0, 0));
+    play(&rt, rt.alloc(), &events, (0, 0, 0))
 }
 
 #[test]
-fn a_commit_is_in_the_book_and_in_the_table(rt: HostRuntime) {
+fn a_commit_is_in_the_book_and_in_the_table(rt: HostRuntime) -> Result<(), Fail> {
     let events = [
         (Sent::Begin(SET, &[7, 5]), "Begun { instance: 0, start: 0 }"),
         (Sent::Commit(0), "NotReady"),
@@ -101,11 +107,11 @@ fn a_commit_is_in_the_book_and_in_the_table(rt: HostRuntime) {
         (Sent::Commit(0), "Committed(1)"),
         (Sent::Step(0), "Ended"),
     ];
-    play(&rt, rt.alloc(), &events, (1, 1, 1));
+    play(&rt, rt.alloc(), &events, (1, 1, 1))
 }
 
 #[test]
-fn an_abort_withdraws_and_a_vacuum_counts(rt: HostRuntime) {
+fn an_abort_withdraws_and_a_vacuum_counts(rt: HostRuntime) -> Result<(), Fail> {
     let events = [
         (Sent::Begin(LOOK, &[7]), "Begun { instance: 0, start: 0 }"),
         (Sent::Abort(0), "Withdrawn"),
@@ -113,5 +119,5 @@ fn an_abort_withdraws_and_a_vacuum_counts(rt: HostRuntime) {
         (Sent::Abort(1), "NoSuchInstance"),
         (Sent::Vacuum, "Vacuumed(0)"),
     ];
-    play(&rt, rt.alloc(), &events, (0, 0, 0));
+    play(&rt, rt.alloc(), &events, (0, 0, 0))
 }

@@ -1,12 +1,15 @@
 //! Lists of records.
 
-use prog_check::{ProgramSet, check};
-use prog_text::parse;
-use si_engine::{Bytes, ScriptFault, read_records};
+use crate::book::audits::Record;
+use example_sets::set_of;
+use history_book::HistoryRow;
+use prog_check::ProgramSet;
+use si_engine::{Bytes, Records, ScriptFault, read_records};
 use std::alloc::Global;
+use std::process::Abort;
 use std::test::Fail;
 
-const SET: &[u8] = b"table t 1;
+const SET: &str = "table t 1;
 program Look(k) { let x = get t[k] else -1; reply x; }
 program at(k) { reply k; }
 ";
@@ -18,30 +21,39 @@ record  Look 1  at 18446744073709551615   gives -4
 record at 5 at -0 gives 5 -6
 record Look at 007 gives";
 
-fn set(alloc: Global) -> Result<ProgramSet, Fail> {
-    let draft = parse(alloc, SET)?;
-    Ok(check(alloc, draft)?)
+const READ: [Record; 3] = [
+    (0, &[1], u64::MAX, &[-4]),
+    (1, &[5], 0, &[5, -6]),
+    (0, &[], 7, &[]),
+];
+
+fn check_row(rt: &impl Abort, row: &HistoryRow, wanted: &Record) {
+    let (program, args, start, replies) = *wanted;
+    assert_eq!(rt; row.program, program);
+    assert_eq!(rt; row.args.as_slice(), args);
+    assert_eq!(rt; row.start, start);
+    assert_eq!(rt; row.replies.as_slice(), replies);
+}
+
+fn check_rows(rt: &impl Abort, rows: &[HistoryRow]) {
+    assert_eq!(rt; rows.len(), READ.len());
+    for (row, wanted) in rows.iter().zip(&READ) {
+        check_row(rt, row, wanted);
+    }
+}
+
+fn read(alloc: Global, set: &ProgramSet, bytes: &[u8]) -> Result<Records, ScriptFault> {
+    read_records(alloc, set, &mut Bytes::new(bytes))
 }
 
 #[test]
 fn records_are_read(rt: HostRuntime) -> Result<(), Fail> {
-    let set = set(rt.alloc())?;
-    let Ok(records) = read_records(rt.alloc(), &set, &mut Bytes::new(RECORDS)) else {
+    let set = set_of(rt.alloc(), SET)?;
+    let Ok(found) = read(rt.alloc(), &set, RECORDS) else {
         return Err(Fail::new("a fault"));
     };
-    assert_eq!(rt; records.rows.len(), 1);
-    let rows = records.records.into_vec();
-    assert_eq!(rt; rows.len(), 3);
-    assert_eq!(rt; rows[0].program, 0);
-    assert_eq!(rt; rows[0].start, u64::MAX);
-    assert_eq!(rt; rows[0].args.as_slice(), [1].as_slice());
-    assert_eq!(rt; rows[0].replies.as_slice(), [-4].as_slice());
-    assert_eq!(rt; rows[1].program, 1);
-    assert_eq!(rt; rows[1].start, 0);
-    assert_eq!(rt; rows[1].replies.as_slice(), [5, -6].as_slice());
-    assert_eq!(rt; rows[2].start, 7);
-    assert_eq!(rt; rows[2].args.len(), 0);
-    assert_eq!(rt; rows[2].replies.len(), 0);
+    assert_eq!(rt; found.rows.len(), 1);
+    check_rows(&rt, found.records.as_slice());
     Ok(())
 }
 
@@ -58,15 +70,19 @@ const FAULTS: [(&str, &str); 10] = [
     ("record Look 1 at 0 gives 2\nrow t 1 = 2", "S4 line 2"),
 ];
 
+fn fault_of(alloc: Global, set: &ProgramSet, part: &str) -> Result<String, Fail> {
+    let Err(ScriptFault::Line(fault)) = read(alloc, set, part.as_bytes()) else {
+        return Err(Fail::new("no fault"));
+    };
+    Ok(fault.to_string(alloc)?)
+}
+
 #[test]
 fn faults_of_records_are_told(rt: HostRuntime) -> Result<(), Fail> {
-    let set = set(rt.alloc())?;
+    let set = set_of(rt.alloc(), SET)?;
     for (part, want) in FAULTS {
-        let records = read_records(rt.alloc(), &set, &mut Bytes::new(part.as_bytes()));
-        let Err(ScriptFault::Line(fault)) = records else {
-            return Err(Fail::new("no fault"));
-        };
-        assert_eq!(rt; fault.to_string(rt.alloc())?.as_str(), want);
+        let told = fault_of(rt.alloc(), &set, part)?;
+        assert_eq!(rt; told.as_str(), want);
     }
     Ok(())
 }

@@ -1,4 +1,5 @@
-//! The version store, and its twin, a plain list of commits.
+//! The version store, as tables of calls and answers; its twin, a plain list of commits.
 
+mod calls;
 mod store_tests;
 mod twin;

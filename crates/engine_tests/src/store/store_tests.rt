@@ -1,81 +1,71 @@
-use crate::store::twin::{Deed, cell, changes, rows_after};
-use prog_tree::{Cell, Changes, Region, Rows};
+//! Calls of a store by hand, and its scans beside those of the twin.
+
+use crate::store::calls::{Answer, Call, install, open, play};
+use crate::store::twin::{Deed, cell, rows_after};
+use prog_tree::{Cell, Region};
 use std::alloc::{AllocError, Global};
 use std::process::Abort;
 use std::test::Fail;
 use version_store::{Clash, Store, corners};
 
-fn opening_rows(alloc: Global, given: &[(i64, i64)]) -> Result<Rows, AllocError> {
-    let mut rows = Rows::new(alloc);
-    for (first, value) in given {
-        rows.insert(cell(*first), *value)?;
-    }
-    Ok(rows)
-}
-
-/// Installs a commit, where a number is left for it.
-fn install(
-    rt: &impl Abort,
-    alloc: Global,
-    store: &mut Store,
-    deeds: &[Deed],
-) -> Result<u64, AllocError> {
-    assert!(rt; store.commits() < u64::MAX);
-    Ok(store.install(&changes(alloc, deeds)?)?)
-}
-
-/// Vacuums up to a number that the store allows.
-fn vacuum(rt: &impl Abort, store: &mut Store, floor: u64) -> u64 {
-    assert!(rt; store.floor() <= floor);
-    assert!(rt; floor <= store.commits());
-    store.vacuum(floor)
-}
-
-/// What `t[first]` held after as many commits as the store can tell of.
-fn get(rt: &impl Abort, store: &Store, start: u64, first: i64) -> Option<i64> {
-    assert!(rt; store.floor() <= start);
-    assert!(rt; start <= store.commits());
-    store.get(start, &cell(first))
-}
-
 #[test]
 fn versions_and_vacuum_by_hand(rt: HostRuntime) -> Result<(), Fail> {
-    let alloc: Global = rt.alloc();
-    let mut store = Store::open(alloc, opening_rows(alloc, &[(1, 0)])?)?;
-    for (value, number) in [(1, 1), (2, 2), (3, 3)] {
-        let deeds = [Deed::Put(1, value)];
-        assert_eq!(rt; install(&rt, alloc, &mut store, &deeds)?, number);
-    }
-    assert_eq!(rt; store.versions(), 4);
-    assert_eq!(rt; vacuum(&rt, &mut store, 1), 0);
-    assert_eq!(rt; get(&rt, &store, 1, 1), Some(1));
-    assert_eq!(rt; vacuum(&rt, &mut store, 3), 0);
-    assert_eq!(rt; install(&rt, alloc, &mut store, &[Deed::Remove(1)])?, 4);
-    assert_eq!(rt; get(&rt, &store, 3, 1), Some(3));
-    assert_eq!(rt; get(&rt, &store, 4, 1), None);
-    assert_eq!(rt; vacuum(&rt, &mut store, 4), 0);
-    assert_eq!(rt;
-        (store.versions(), store.commits(), store.floor()),
-        (5, 4, 4)
-    );
+    let mut store = open(rt.alloc(), &[(1, 0)])?;
+    let calls = [
+        (Call::Install(&[Deed::Put(1, 1)]), Answer::Count(1)),
+        (Call::Install(&[Deed::Put(1, 2)]), Answer::Count(2)),
+        (Call::Install(&[Deed::Put(1, 3)]), Answer::Count(3)),
+        (Call::Versions, Answer::Count(4)),
+        (Call::Vacuum(1), Answer::Count(0)),
+        (Call::Get(1, 1), Answer::Holds(Some(1))),
+        (Call::Vacuum(3), Answer::Count(0)),
+        (Call::Install(&[Deed::Remove(1)]), Answer::Count(4)),
+        (Call::Get(3, 1), Answer::Holds(Some(3))),
+        (Call::Get(4, 1), Answer::Holds(None)),
+        (Call::Vacuum(4), Answer::Count(0)),
+        (Call::Versions, Answer::Count(5)),
+        (Call::Commits, Answer::Count(4)),
+        (Call::Floor, Answer::Count(4)),
+    ];
+    play(&rt, rt.alloc(), &mut store, &calls);
     Ok(())
+}
+
+const FIRST: Cell = Cell {
+    table: 0,
+    first: 1,
+    second: 0,
+};
+
+const SECOND: Cell = Cell {
+    table: 0,
+    first: 2,
+    second: 0,
+};
+
+const THIRD: Cell = Cell {
+    table: 0,
+    first: 3,
+    second: 0,
+};
+
+/// A clash with the commit of a number.
+const fn clash(cell: Cell, number: u64) -> Answer {
+    Answer::Clashes(Some(Clash { cell, number }))
 }
 
 #[test]
 fn marks_of_keep_are_not_counted(rt: HostRuntime) -> Result<(), Fail> {
-    let alloc: Global = rt.alloc();
-    let mut store = Store::open(alloc, Rows::new(alloc))?;
-    let keep = changes(alloc, &[Deed::Keep(1)])?;
-    assert_eq!(rt; store.install(&keep)?, 1);
-    assert_eq!(rt; store.vacuum(0), 0);
-    let clash = Clash {
-        cell: cell(1),
-        number: 1,
-    };
-    assert_eq!(rt; store.clash(0, &keep), Some(clash));
-    assert_eq!(rt; store.vacuum(1), 0);
-    assert_eq!(rt; store.clash(1, &keep), None);
-    assert_eq!(rt; store.versions(), 0);
+    let mut store = open(rt.alloc(), &[])?;
+    let calls = [
+        (Call::Install(&[Deed::Keep(1)]), Answer::Count(1)),
+        (Call::Vacuum(0), Answer::Count(0)),
+        (Call::Clash(0, &[Deed::Keep(1)]), clash(FIRST, 1)),
+        (Call::Vacuum(1), Answer::Count(0)),
+        (Call::Clash(1, &[Deed::Keep(1)]), Answer::Clashes(None)),
+        (Call::Versions, Answer::Count(0)),
+    ];
+    play(&rt, rt.alloc(), &mut store, &calls);
     Ok(())
 }
 
@@ -88,10 +78,14 @@ const COMMITS: [&[Deed]; 5] = [
     &[Deed::Remove(2), Deed::Keep(3)],
 ];
 
-fn worked_store(rt: &impl Abort, alloc: Global) -> Result<Store, AllocError> {
-    let mut store = Store::open(alloc, opening_rows(alloc, &[(1, 10), (3, 30)])?)?;
+const OPENING: &[(i64, i64)] = &[(1, 10), (3, 30)];
+
+fn worked_store(alloc: Global) -> Result<Store, AllocError> {
+    let mut store = open(alloc, OPENING)?;
     for deeds in &COMMITS {
-        install(rt, alloc, &mut store, deeds)?;
+        let Answer::Count(_) = install(alloc, &mut store, deeds) else {
+            return Err(AllocError);
+        };
     }
     Ok(store)
 }
@@ -111,8 +105,7 @@ fn scan(
 #[test]
 fn scans_are_those_of_the_list(rt: HostRuntime) -> Result<(), Fail> {
     let alloc: Global = rt.alloc();
-    let store = worked_store(&rt, alloc)?;
-    let opening = opening_rows(alloc, &[(1, 10), (3, 30)])?;
+    let store = worked_store(alloc)?;
     for (low, high) in [(1, 3), (2, 2), (2, 9), (3, 1)] {
         let region = Region {
             table: 0,
@@ -122,7 +115,7 @@ fn scans_are_those_of_the_list(rt: HostRuntime) -> Result<(), Fail> {
             second_high: 0,
         };
         for start in 0..6 {
-            let rows = rows_after(alloc, &opening, &COMMITS[..start], &region)?;
+            let rows = rows_after(alloc, OPENING, &COMMITS[..start], low, high)?;
             let found = scan(&rt, &store, start as u64, &region)?;
             assert!(rt;
                 found.as_slice() == rows.as_slice(),
@@ -133,71 +126,34 @@ fn scans_are_those_of_the_list(rt: HostRuntime) -> Result<(), Fail> {
     Ok(())
 }
 
-/// Whether rows are those of `t[1..3]` but for `own` cells, after as many commits as the store can
-/// tell of.
-fn are_held(
-    rt: &impl Abort,
-    store: &Store,
-    start: u64,
-    own: &[Cell],
-    rows: &[(Cell, i64)],
-) -> bool {
-    assert!(rt; store.floor() <= start);
-    assert!(rt; start <= store.commits());
-    let region = Region {
-        table: 0,
-        first_low: 1,
-        first_high: 3,
-        second_low: 0,
-        second_high: 0,
-    };
-    store.are_held(start, &region, own, rows)
-}
-
 #[test]
 fn held_rows_are_all_but_the_own(rt: HostRuntime) -> Result<(), Fail> {
-    let alloc: Global = rt.alloc();
-    let store = worked_store(&rt, alloc)?;
-    let rows = [(cell(1), 10), (cell(2), 20)];
-    for (start, own, held) in [
-        (0, 3, false),
-        (1, 3, true),
-        (1, 2, false),
-        (2, 9, true),
-        (3, 3, false),
-    ] {
-        let found = are_held(&rt, &store, start, &[cell(own)], &rows);
-        assert_eq!(rt; found, held, "at {start} without {own}");
-    }
-    assert!(rt; are_held(&rt, &store, 5, &[cell(1)], &[(cell(3), 31)]));
+    let mut store = worked_store(rt.alloc())?;
+    const ROWS: &[(Cell, i64)] = &[(FIRST, 10), (SECOND, 20)];
+    let calls = [
+        (Call::AreHeld(0, 3, ROWS), Answer::Is(false)),
+        (Call::AreHeld(1, 3, ROWS), Answer::Is(true)),
+        (Call::AreHeld(1, 2, ROWS), Answer::Is(false)),
+        (Call::AreHeld(2, 9, ROWS), Answer::Is(true)),
+        (Call::AreHeld(3, 3, ROWS), Answer::Is(false)),
+        (Call::AreHeld(5, 1, &[(THIRD, 31)]), Answer::Is(true)),
+    ];
+    play(&rt, rt.alloc(), &mut store, &calls);
     Ok(())
-}
-
-/// The clash of changes with the commits above a start that the store can tell of.
-fn clash(rt: &impl Abort, store: &Store, start: u64, changes: &Changes) -> Option<Clash> {
-    assert!(rt; store.floor() <= start);
-    assert!(rt; start <= store.commits());
-    store.clash(start, changes)
 }
 
 #[test]
 fn clashes_name_the_least_cell(rt: HostRuntime) -> Result<(), Fail> {
-    let alloc: Global = rt.alloc();
-    let store = worked_store(&rt, alloc)?;
-    let changes = changes(alloc, &[Deed::Put(2, 5), Deed::Keep(1)])?;
-    for (start, found) in [
-        (0, Some((1, 3))),
-        (2, Some((1, 3))),
-        (3, Some((2, 5))),
-        (4, Some((2, 5))),
-        (5, None),
-    ] {
-        let found = found.map(|(first, number)| Clash {
-            cell: cell(first),
-            number,
-        });
-        assert_eq!(rt; clash(&rt, &store, start, &changes), found, "at {start}");
-    }
+    let mut store = worked_store(rt.alloc())?;
+    const DEEDS: &[Deed] = &[Deed::Put(2, 5), Deed::Keep(1)];
+    let calls = [
+        (Call::Clash(0, DEEDS), clash(FIRST, 3)),
+        (Call::Clash(2, DEEDS), clash(FIRST, 3)),
+        (Call::Clash(3, DEEDS), clash(SECOND, 5)),
+        (Call::Clash(4, DEEDS), clash(SECOND, 5)),
+        (Call::Clash(5, DEEDS), Answer::Clashes(None)),
+    ];
+    play(&rt, rt.alloc(), &mut store, &calls);
     Ok(())
 }
 

@@ -1,6 +1,6 @@
 //! The store as its definition tells it: a plain list of commits.
 
-use prog_tree::{Cell, Changes, Region, Rows};
+use prog_tree::{Cell, Changes};
 use std::alloc::{AllocError, Global};
 
 /// `t[first]`, a cell of the table 0.
@@ -13,52 +13,73 @@ pub fn cell(first: i64) -> Cell {
 }
 
 /// What a commit does to `t[first]`.
-#[derive(Clone, Copy)]
+#[derive(Clone, Copy, Debug)]
 pub enum Deed {
     Put(i64, i64),
     Remove(i64),
     Keep(i64),
 }
 
+fn note(changes: &mut Changes, deed: &Deed) -> Result<(), AllocError> {
+    match *deed {
+        Deed::Put(first, value) => changes.put(cell(first), value),
+        Deed::Remove(first) => changes.remove(cell(first)),
+        Deed::Keep(first) => changes.keep(cell(first)),
+    }
+}
+
 /// The changes of a commit.
 pub fn changes(alloc: Global, deeds: &[Deed]) -> Result<Changes, AllocError> {
     let mut changes = Changes::new(alloc);
     for deed in deeds {
-        match *deed {
-            Deed::Put(first, value) => changes.put(cell(first), value)?,
-            Deed::Remove(first) => changes.remove(cell(first))?,
-            Deed::Keep(first) => changes.keep(cell(first))?,
-        }
+        note(&mut changes, deed)?;
     }
     Ok(changes)
 }
 
-/// The rows of a region after these commits were made one after another.
+// What `t[first]` holds after a commit, where it held this.
+fn held_after(held: Option<i64>, deeds: &[Deed], first: i64) -> Option<i64> {
+    let mut held = held;
+    for deed in deeds {
+        match *deed {
+            Deed::Put(key, value) if key == first => held = Some(value),
+            Deed::Remove(key) if key == first => held = None,
+            _ => {}
+        }
+    }
+    held
+}
+
+fn opening_of(given: &[(i64, i64)], first: i64) -> Option<i64> {
+    for (key, value) in given {
+        if *key == first {
+            return Some(*value);
+        }
+    }
+    None
+}
+
+fn held(given: &[(i64, i64)], commits: &[&[Deed]], first: i64) -> Option<i64> {
+    let mut held = opening_of(given, first);
+    for deeds in commits {
+        held = held_after(held, deeds, first);
+    }
+    held
+}
+
+/// The rows of `t[low..high]` after these commits were made one after another.
 pub fn rows_after(
     alloc: Global,
-    opening: &Rows,
+    given: &[(i64, i64)],
     commits: &[&[Deed]],
-    region: &Region,
+    low: i64,
+    high: i64,
 ) -> Result<Vec<(Cell, i64)>, AllocError> {
-    let mut rows = opening.copy()?;
-    for deeds in commits {
-        for deed in *deeds {
-            match *deed {
-                Deed::Put(first, value) => {
-                    rows.insert(cell(first), value)?;
-                }
-                Deed::Remove(first) => {
-                    rows.remove(&cell(first));
-                }
-                Deed::Keep(_) => {}
-            }
+    let mut rows = Vec::new(alloc);
+    for first in low..=high {
+        if let Some(value) = held(given, commits, first) {
+            rows.push((cell(first), value))?;
         }
     }
-    let mut found = Vec::new(alloc);
-    for (cell, value) in rows.iter() {
-        if region.contains(cell) {
-            found.push((*cell, *value))?;
-        }
-    }
-    Ok(found)
+    Ok(rows)
 }
