@@ -22,6 +22,9 @@ OF_NAMES = re.compile(
     r"has no field|projects from a record, but|is not in scope(?! here, so)|has no `|has no such|was not admitted|is not admitted"
 )
 
+# what is said of a function of which nothing else is refused
+MISSES = "misses what the edit took away"
+
 # what a goal asks, whatever its function calls a value or a test
 KIND = re.compile(r"^returns|^invariant_of|requires|preserved|init|smaller|result")
 
@@ -32,6 +35,7 @@ class Crate:
     folder: str
     words: list  # those of a check
     below: set  # the names of the repository's crates that it stands on
+    is_strict: bool = False  # whether an edit fails of which only names are missed
     in_cycles: set = field(default_factory=set)  # paths of functions that share a proof with others, as far as known
 
 
@@ -172,5 +176,5 @@ def refusal(crate, said, function):
     if any(file == "Invariants" for file, _ in missed):
         own = []
     if missed and not own:
-        status = f"its {missed[0][0]}.antt misses what the edit took away: {missed[0][1]}"
+        status = f"its {missed[0][0]}.antt {MISSES}: {missed[0][1]}"
     return (own[0] if own else None), status
