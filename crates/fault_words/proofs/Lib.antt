@@ -1,0 +1,2 @@
+mod FirstTokens
+mod FirstWords

@@ -3,6 +3,7 @@
 #![tactic(auto)]
 
 mod expected;
+mod laws;
 mod limits;
 mod naming;
 mod nearest;
@@ -12,6 +13,7 @@ mod scope;
 mod set_faults;
 mod text_faults;
 
+pub use laws::beginnings_are_those_of_the_grammar;
 pub use naming::{cell_text, parameter_count, program_name, table_names};
 pub use nearest::{known_names, nearest_name};
 pub use pointing::point_at;
