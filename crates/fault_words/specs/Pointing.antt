@@ -1,6 +1,6 @@
 -- What the words of a fault have to show.
-use Rattle.std.specs.Prelude.{ℕ, ◌≡◌, ⊤, List, Option, Some, None}
-use Rattle.text_places.specs.Landmarks.{IsProgramPlace, IsStatementPlace, IsTablePlace}
+use Rattle.std.specs.Prelude.{ℕ, ◌≡◌, ⊤, List, Option, Some, None, codes}
+use Rattle.text_places.specs.Landmarks.{HasNoProgram, HasNoStatement, HasNoTable, IsProgramPlace, IsStatementPlace, IsTablePlace}
 use Rattle.text_places.specs.Quotes.{pointed_out}
 use Rattle.prog_check.specs.declared.fault.Place.{Place}
 use Rattle.prog_check.specs.declared.fault.Place.TheVariants.{Table, Program, Statement}
@@ -19,7 +19,13 @@ IsPlaceOf text (Table table) place = IsTablePlace text table place
 IsPlaceOf text (Program program) place = IsProgramPlace text program place
 IsPlaceOf text (Statement program statement) place = IsStatementPlace text program statement place
 
--- the words of a fault point at the byte that its line names
+-- no table, no program or no statement of this number begins in the text
+abbrev pub HasNone : (text : List ℕ) → Place → Type 0
+HasNone text (Table table) = HasNoTable text table
+HasNone text (Program program) = HasNoProgram text program
+HasNone text (Statement program statement) = HasNoStatement text program statement
+
+-- the words of a fault point at the byte that its line names; want of memory has no place
 abbrev pub PointsAtFault : (text : List ℕ) → TextFault → (words : List ℕ) → Type 0
 PointsAtFault text (t.NotAscii place) words = PointsAt text place words
 PointsAtFault text (t.UnknownByte place) words = PointsAt text place words
@@ -29,7 +35,7 @@ PointsAtFault text (t.NumberOutOfRange place) words = PointsAt text place words
 PointsAtFault text (t.NameTooLong place) words = PointsAt text place words
 PointsAtFault text (t.TooDeep place) words = PointsAt text place words
 PointsAtFault text (t.TooLong place) words = PointsAt text place words
-PointsAtFault text t.Memory words = ⊤
+PointsAtFault text t.Memory words = words ≡ codes "memory ran out"
 
 -- the place that the line of a fault names, which want of memory has not
 abbrev pub place_of : CheckFault → Option Place
@@ -50,3 +56,8 @@ place_of c.Memory = None
 abbrev pub PointsAtPlace : (text : List ℕ) → Option Place → (words : List ℕ) → Type 0
 PointsAtPlace text (Some place) words = (at : ℕ) × IsPlaceOf text place at × PointsAt text at words
 PointsAtPlace text None words = ⊥
+
+-- nothing is pointed at: the fault names no place, or what it names begins nowhere in the text
+abbrev pub HasNoPlace : (text : List ℕ) → Option Place → Type 0
+HasNoPlace text (Some place) = HasNone text place
+HasNoPlace text None = ⊤

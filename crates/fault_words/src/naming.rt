@@ -1,4 +1,7 @@
 //! What the tables, programs and cells of a set are called.
+ghost use Rattle.std.specs.Prelude.{◌≡◌};
+ghost use Rattle.prog_tree.specs.Tree.{draft_tree};
+ghost use Rattle.fault_words.specs.Naming.{program_name};
 
 use prog_check::ProgramSet;
 use prog_tree::{Arity, Cell, Draft};
@@ -14,7 +17,9 @@ pub fn table_names(alloc: Global, draft: &Draft) -> Result<Vec<&str>, AllocError
 }
 
 /// The name of the program of a number; empty where there is none.
-pub fn program_name(set: &ProgramSet, program: usize) -> &str {
+pub fn program_name(set: &ProgramSet, program: usize) -> &str
+    ensures { result.now ≡ program_name (draft_tree set.now) program }
+{
     match set.draft().programs.get(program) {
         Some(program) => program.name.as_str(),
         None => "",

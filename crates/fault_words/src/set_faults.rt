@@ -1,6 +1,6 @@
 //! The faults of a set in words.
-ghost use Rattle.std.specs.Prelude.{◌≡◌, IfOk, IfSome, string_bytes};
-ghost use Rattle.fault_words.specs.Pointing.{place_of, IsPlaceOf, PointsAtPlace};
+ghost use Rattle.std.specs.Prelude.{◌≡◌, IfNone, IfOk, IfSome, string_bytes};
+ghost use Rattle.fault_words.specs.Pointing.{place_of, HasNone, HasNoPlace, IsPlaceOf, PointsAtPlace};
 
 use crate::naming::{parameter_count, table_names};
 use crate::nearest::known_names;
@@ -15,7 +15,8 @@ use text_places::{program_place, statement_place, table_place, without_comments}
 
 // Where a table, a program or a statement begins in a text.
 fn find_place(alloc: Global, text: &[u8], place: Place) -> Result<Option<usize>, AllocError>
-    ensures { IfOk result (λ found. IfSome found (IsPlaceOf text.now place)) }
+    ensures found { IfOk result (λ found. IfSome found (IsPlaceOf text.now place)) }
+    ensures none { IfOk result (λ found. IfNone found (HasNone text.now place)) }
 {
     match place {
         Place::Table { table } => table_place(alloc, text, table),
@@ -207,8 +208,9 @@ pub fn check_words(
     text: &[u8],
     fault: CheckFault,
 ) -> Result<Option<String>, AllocError>
-    ensures { IfOk result (λ said. IfSome said (λ words.
+    ensures said { IfOk result (λ said. IfSome said (λ words.
         PointsAtPlace text.now (place_of fault) (string_bytes words))) }
+    ensures none { IfOk result (λ said. IfNone said (HasNoPlace text.now (place_of fault))) }
 {
     let Some(place) = place_of(fault) else {
         return Ok(None);
