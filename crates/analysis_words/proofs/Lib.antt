@@ -1,0 +1,2 @@
+mod NoCertificate
+mod Unsaid

@@ -1,2 +1,3 @@
+pub mod Nodes
 pub mod Refusing
 pub mod Saying

@@ -1,6 +1,10 @@
 //! The faults of a certificate in words.
-ghost use Rattle.std.specs.Prelude.{◌≡◌, IfOk, IfSome, string_bytes};
-ghost use Rattle.analysis_words.specs.Saying.{entry_of, json_words, BeginsWithEntry, IsOfEntry};
+ghost use Rattle.std.specs.Prelude.{◌≡◌, IfNone, IfOk, IfSome, string_bytes};
+ghost use Rattle.prog_tree.specs.Tree.{draft_tree};
+ghost use Rattle.prog_check.specs.Paths.{paths_of};
+ghost use Rattle.robust_cert.specs.Reading.{IsTextOf};
+ghost use Rattle.robust_cert.specs.declared.fault.CertFault.TheVariants.{Dangerous, LevelFalls};
+ghost use Rattle.analysis_words.specs.Saying.{front_of, json_words, level_of, level_text, IsNoCertificate, IsOfFault, IsSaidOf};
 
 use crate::shown::{Shown, access_text, node_name};
 use prog_check::ProgramSet;
@@ -35,58 +39,97 @@ fn question_text(
     format!(in alloc; "{mine} against {theirs}")
 }
 
-fn level_of(certificate: &Certificate, node: usize) -> u32 {
+// The level of a node; one that has none counts as 0.
+fn level_of(certificate: &Certificate, node: usize) -> u32
+    ensures { result ≡ level_of certificate.now node }
+{
     match certificate.levels.as_slice().get(node) {
         Some(level) => *level,
         None => 0,
     }
 }
 
-// Nodes with their levels.
-fn levels_text(
+// A level and the node that has it.
+fn level_text(
     alloc: Global,
     shown: Shown<'_>,
     certificate: &Certificate,
-    nodes: &[usize],
-) -> Result<String, AllocError> {
-    let mut text = String::new(alloc);
-    for node in nodes {
-        let name = node_name(alloc, shown, *node)?;
-        let level = level_of(certificate, *node);
-        let comma = if text.is_empty() { "" } else { ", " };
-        write!(text, "{comma}{level} of {name}")?;
-    }
-    Ok(text)
-}
-
-// What is said of an entry.
-fn of_entry(alloc: Global, entry: usize, sentence: &str) -> Result<String, AllocError>
-    ensures { IfOk result (λ words. BeginsWithEntry entry (string_bytes words)) }
+    node: usize,
+) -> Result<String, AllocError>
+    ensures { IfOk result (λ text. string_bytes text ≡ level_text
+        (draft_tree shown.entry.set.now) shown.entry.paths.now certificate.now node) }
 {
-    format!(in alloc; "entry {entry}: {sentence}\n")
+    let name = node_name(alloc, shown, node)?;
+    let level = level_of(certificate, node);
+    format!(in alloc; "{level} of {name}")
 }
 
-// The entry that the line of a fault names.
-fn entry_of(fault: CertFault) -> Option<usize>
-    ensures { result ≡ entry_of fault }
+// The levels at both ends of an edge.
+fn falling_text(
+    alloc: Global,
+    shown: Shown<'_>,
+    certificate: &Certificate,
+    x: usize,
+    y: usize,
+) -> Result<String, AllocError>
+    ensures { IfOk result (λ text. string_bytes text ≡ front_of (draft_tree shown.entry.set.now)
+        shown.entry.paths.now certificate.now (LevelFalls x y)) }
+{
+    let first = level_text(alloc, shown, certificate, x)?;
+    let second = level_text(alloc, shown, certificate, y)?;
+    format!(in alloc; "levels {first}, {second}: ")
+}
+
+// The levels along two edges in a row.
+fn dangerous_text(
+    alloc: Global,
+    shown: Shown<'_>,
+    certificate: &Certificate,
+    x: usize,
+    y: usize,
+    z: usize,
+) -> Result<String, AllocError>
+    ensures { IfOk result (λ text. string_bytes text ≡ front_of (draft_tree shown.entry.set.now)
+        shown.entry.paths.now certificate.now (Dangerous x y z)) }
+{
+    let first = level_text(alloc, shown, certificate, x)?;
+    let second = level_text(alloc, shown, certificate, y)?;
+    let third = level_text(alloc, shown, certificate, z)?;
+    format!(in alloc; "levels {first}, {second}, {third}: ")
+}
+
+// What the words of a fault begin with.
+fn front_of(
+    alloc: Global,
+    shown: Shown<'_>,
+    certificate: &Certificate,
+    fault: CertFault,
+) -> Result<String, AllocError>
+    ensures { IfOk result (λ front. string_bytes front ≡ front_of (draft_tree shown.entry.set.now)
+        shown.entry.paths.now certificate.now fault) }
 {
     match fault {
         CertFault::NoSuchEntry(entry)
         | CertFault::EntryOrder(entry)
         | CertFault::BadCover(entry)
-        | CertFault::BadChain(entry) => Some(entry),
-        CertFault::TooLarge
-        | CertFault::PathCount
-        | CertFault::LevelFalls(..)
-        | CertFault::Dangerous(..)
-        | CertFault::Memory => None,
+        | CertFault::BadChain(entry) => format!(in alloc; "entry {entry}: "),
+        CertFault::LevelFalls(x, y) => falling_text(alloc, shown, certificate, x, y),
+        CertFault::Dangerous(x, y, z) => dangerous_text(alloc, shown, certificate, x, y, z),
+        CertFault::PathCount => {
+            let levels = certificate.levels.len();
+            let nodes = shown.paths.len();
+            format!(in alloc; "levels: {levels}, nodes: {nodes}; ")
+        }
+        CertFault::TooLarge => format!(in alloc;
+            "more than 1000000 pairs of accesses would have to be compared"
+        ),
+        CertFault::Memory => format!(in alloc; "memory ran out"),
     }
 }
 
-// What does not hold.
+// What does not hold of an entry, or of the levels.
 fn broken_rule(fault: CertFault) -> &'static str {
     match fault {
-        CertFault::TooLarge => "more than 1000000 pairs of accesses would have to be compared",
         CertFault::PathCount => {
             "a certificate has a level for each node, which is a way through a program that commits"
         }
@@ -103,28 +146,28 @@ fn broken_rule(fault: CertFault) -> &'static str {
         CertFault::LevelFalls(..) =>
             "along an edge that no entry takes away the level may not fall",
         CertFault::Dangerous(..) => "over two vulnerable edges in a row the level has to rise",
-        CertFault::Memory => "memory ran out",
+        CertFault::TooLarge | CertFault::Memory => "",
     }
 }
 
-// What the certificate has in place of what a fault of no entry asks for.
-fn found(
+// What the words of a fault end with: what does not hold, of an entry behind its question.
+fn rest_of(
     alloc: Global,
     shown: Shown<'_>,
     certificate: &Certificate,
     fault: CertFault,
 ) -> Result<String, AllocError> {
-    let nodes = match fault {
-        CertFault::PathCount => {
-            let levels = certificate.levels.len();
-            let nodes = shown.paths.len();
-            return format!(in alloc; "levels: {levels}, nodes: {nodes}; ");
+    let rule = broken_rule(fault);
+    match fault {
+        CertFault::NoSuchEntry(entry)
+        | CertFault::EntryOrder(entry)
+        | CertFault::BadCover(entry)
+        | CertFault::BadChain(entry) => {
+            let question = question_text(alloc, shown, certificate, entry)?;
+            format!(in alloc; "{question}: {rule}")
         }
-        CertFault::LevelFalls(x, y) => levels_text(alloc, shown, certificate, &[x, y])?,
-        CertFault::Dangerous(x, y, z) => levels_text(alloc, shown, certificate, &[x, y, z])?,
-        _ => return Ok(String::new(alloc)),
-    };
-    format!(in alloc; "levels {nodes}: ")
+        _ => format!(in alloc; "{rule}"),
+    }
 }
 
 // A fault of a certificate of a set whose nodes are these.
@@ -134,16 +177,25 @@ fn sentence(
     certificate: &Certificate,
     fault: CertFault,
 ) -> Result<String, AllocError>
-    ensures { IfOk result (λ words. IsOfEntry (entry_of fault) (string_bytes words)) }
+    ensures { IfOk result (λ words. IsOfFault (draft_tree shown.entry.set.now)
+        shown.entry.paths.now certificate.now fault (string_bytes words)) }
 {
-    let rule = broken_rule(fault);
-    let Some(entry) = entry_of(fault) else {
-        let found = found(alloc, shown, certificate, fault)?;
-        return format!(in alloc; "{found}{rule}\n");
-    };
-    let question = question_text(alloc, shown, certificate, entry)?;
-    let sentence = format!(in alloc; "{question}: {rule}")?;
-    of_entry(alloc, entry, &sentence)
+    let front = front_of(alloc, shown, certificate, fault)?;
+    let rest = rest_of(alloc, shown, certificate, fault)?;
+    format!(in alloc; "{front}{rest}\n")
+}
+
+// The certificate that a part is; nothing where it is none.
+fn certificate_of(alloc: Global, part: &[u8]) -> Result<Option<Certificate>, AllocError>
+    ensures found { IfOk result (λ found. IfSome found (λ certificate.
+        IsTextOf certificate part.now)) }
+    ensures none { IfOk result (λ found. IfNone found (IsNoCertificate part.now)) }
+{
+    match from_json(alloc, part) {
+        Ok(certificate) => Ok(Some(certificate)),
+        Err(JsonFault::Memory) => Err(AllocError),
+        Err(_) => Ok(None),
+    }
 }
 
 /// What a fault of the certificate in a part means, of a set and its text; nothing where the part
@@ -155,10 +207,11 @@ pub fn certificate_words(
     part: &[u8],
     fault: CertFault,
 ) -> Result<Option<String>, AllocError>
-    ensures { IfOk result (λ said. IfSome said (λ words.
-        IsOfEntry (entry_of fault) (string_bytes words))) }
+    ensures said { IfOk result (λ said. IfSome said (λ words. IsSaidOf part.now
+        (draft_tree set.now) (paths_of (draft_tree set.now)) fault (string_bytes words))) }
+    ensures none { IfOk result (λ said. IfNone said (IsNoCertificate part.now)) }
 {
-    let Some(certificate) = from_json(alloc, part).ok() else {
+    let Some(certificate) = certificate_of(alloc, part)? else {
         return Ok(None);
     };
     let paths = paths(alloc, set)?;

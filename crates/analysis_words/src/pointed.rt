@@ -1,6 +1,6 @@
 //! Accesses pointed at in the text of a set.
-ghost use Rattle.std.specs.Prelude.{IfOk, IfSome, string_bytes};
-ghost use Rattle.analysis_words.specs.Refusing.{PointsAtAccess};
+ghost use Rattle.std.specs.Prelude.{IfNone, IfOk, IfSome, string_bytes};
+ghost use Rattle.analysis_words.specs.Refusing.{HasNoAccess, PointsAtAccess};
 
 use crate::shown::Shown;
 use fault_words::point_at;
@@ -16,9 +16,11 @@ pub fn point_at_access(
     access: usize,
     sentence: &str,
 ) -> Result<Option<String>, AllocError>
-    ensures { IfOk result (λ said. IfSome said (λ words.
+    ensures said { IfOk result (λ said. IfSome said (λ words.
         PointsAtAccess shown.entry.text.now shown.entry.paths.now node access
         (string_bytes words))) }
+    ensures none { IfOk result (λ said. IfNone said
+        (HasNoAccess shown.entry.text.now shown.entry.paths.now node access)) }
 {
     let Some(path) = shown.paths.get(node) else {
         return Ok(None);

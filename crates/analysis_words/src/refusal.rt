@@ -1,8 +1,8 @@
 //! The refusal of a set in words.
-ghost use Rattle.std.specs.Prelude.{IfOk, IfSome, string_bytes};
+ghost use Rattle.std.specs.Prelude.{IfNone, IfOk, IfSome, string_bytes};
 ghost use Rattle.prog_tree.specs.Tree.{draft_tree};
 ghost use Rattle.prog_check.specs.Paths.{paths_of};
-ghost use Rattle.analysis_words.specs.Refusing.{ShowsDanger, ShowsQuestion};
+ghost use Rattle.analysis_words.specs.Refusing.{LacksDanger, LacksQuestion, ShowsDanger, ShowsQuestion};
 
 use crate::pointed::point_at_access;
 use crate::shown::{Shown, access_place, cells_at, node_name};
@@ -61,8 +61,10 @@ fn question_words(
     shown: Shown<'_>,
     exposure: &Exposure,
 ) -> Result<Option<String>, AllocError>
-    ensures { IfOk result (λ said. IfSome said (λ words. ShowsQuestion shown.entry.text.now
+    ensures said { IfOk result (λ said. IfSome said (λ words. ShowsQuestion shown.entry.text.now
         shown.entry.paths.now exposure.now.question (string_bytes words))) }
+    ensures none { IfOk result (λ said. IfNone said
+        (LacksQuestion shown.entry.text.now shown.entry.paths.now exposure.now.question)) }
 {
     let Question { x, a, y, b, .. } = exposure.question;
     let mine = instance(alloc, shown, &exposure.sample, true, x)?;
@@ -125,8 +127,10 @@ fn danger_words(
     shown: Shown<'_>,
     danger: &Danger,
 ) -> Result<Option<String>, AllocError>
-    ensures { IfOk result (λ said. IfSome said (λ words. ShowsDanger shown.entry.text.now
+    ensures said { IfOk result (λ said. IfSome said (λ words. ShowsDanger shown.entry.text.now
         shown.entry.paths.now danger.now (string_bytes words))) }
+    ensures none { IfOk result (λ said. IfNone said
+        (LacksDanger shown.entry.text.now shown.entry.paths.now danger.now)) }
 {
     let Some(first) = question_words(alloc, shown, &danger.first)? else {
         return Ok(None);
@@ -149,8 +153,10 @@ pub fn refusal_words(
     set: &ProgramSet,
     danger: &Danger,
 ) -> Result<Option<String>, AllocError>
-    ensures { IfOk result (λ said. IfSome said (λ words. ShowsDanger text.now
+    ensures said { IfOk result (λ said. IfSome said (λ words. ShowsDanger text.now
         (paths_of (draft_tree set.now)) danger.now (string_bytes words))) }
+    ensures none { IfOk result (λ said. IfNone said
+        (LacksDanger text.now (paths_of (draft_tree set.now)) danger.now)) }
 {
     let paths = paths(alloc, set)?;
     let shown = Shown {

@@ -1,4 +1,7 @@
 //! Nodes and their accesses, as they stand in the text of a set.
+ghost use Rattle.std.specs.Prelude.{◌≡◌, IfOk, flat_map, string_bytes};
+ghost use Rattle.prog_tree.specs.Tree.{draft_tree};
+ghost use Rattle.analysis_words.specs.Nodes.{branches_text, letter_of, node_name};
 
 use fault_words::{as_text, program_name, table_name};
 use prog_check::{Path, ProgramSet};
@@ -35,23 +38,46 @@ pub fn cells_at(text: &[u8], place: usize) -> &str {
     as_text(front.get(start..).unwrap_or(&[]))
 }
 
-fn letters(alloc: Global, choices: &[bool]) -> Result<String, AllocError> {
+// The letter of a branch that a path takes.
+fn letter_of(takes_first: bool) -> &'static str
+    ensures { result.now ≡ letter_of takes_first }
+{
+    if takes_first { "t" } else { "e" }
+}
+
+fn letters(alloc: Global, choices: &[bool]) -> Result<String, AllocError>
+    ensures { IfOk result (λ text. string_bytes text ≡ flat_map letter_of choices.now) }
+{
     let mut text = String::new(alloc);
     for choice in choices {
-        text.push_str(if text.is_empty() { ":" } else { "" })?;
-        text.push_str(if *choice { "t" } else { "e" })?;
+        text.push_str(letter_of(*choice))?;
     }
     Ok(text)
 }
 
+// A letter for each branch of a path.
+fn branches_text(alloc: Global, choices: &[bool]) -> Result<String, AllocError>
+    ensures { IfOk result (λ text. string_bytes text ≡ branches_text choices.now) }
+{
+    let [first, others @ ..] = choices else {
+        return Ok(String::new(alloc));
+    };
+    let first = letter_of(*first);
+    let others = letters(alloc, others)?;
+    format!(in alloc; ":{first}{others}")
+}
+
 /// The name of a node: its program's, with a letter for each branch of the path.
-pub fn node_name(alloc: Global, shown: Shown<'_>, node: usize) -> Result<String, AllocError> {
+pub fn node_name(alloc: Global, shown: Shown<'_>, node: usize) -> Result<String, AllocError>
+    ensures { IfOk result (λ name. string_bytes name
+        ≡ node_name (draft_tree shown.entry.set.now) shown.entry.paths.now node) }
+{
     let Some(path) = shown.paths.get(node) else {
         return format!(in alloc; "node {node}");
     };
-    let letters = letters(alloc, path.choices.as_slice())?;
+    let branches = branches_text(alloc, path.choices.as_slice())?;
     let name = program_name(shown.set, path.program);
-    format!(in alloc; "`{name}{letters}`")
+    format!(in alloc; "`{name}{branches}`")
 }
 
 /// Where the statement of an access stands.

@@ -1,8 +1,10 @@
-use Rattle.std.proofs.Common.{rules, codes, string_bytes}
+use Rattle.std.proofs.Common.{rules, codes, inl, inr, string_bytes}
+use Rattle.analysis_words.specs.Refusing.{LacksQuestion}
+use Rattle.analysis_words.proofs.Unsaid.{unsaid}
 use Rattle.analysis_words.proofs.refusal.danger_words.Goals as goal
 
-pub returns : goal.returns
-returns c = (
+pub returns-clause-said : goal.returns-clause-said
+returns-clause-said c = (
   codes "a run of this set may have no serial order, since two changes in a row can be missed\n",
   string_bytes c.in-Some.first,
   codes "and\n",
@@ -12,3 +14,15 @@ returns c = (
   search rules,
   search rules,
 )
+
+pub returns-in_default-clause-none : goal.returns-in_default-clause-none
+returns-in_default-clause-none c =
+    let shown = c.args.shown in
+    let q = c.args.danger.now.first.question in
+    inl (unsaid _ (LacksQuestion shown.text.now shown.paths.now q) c.in_default.is c.in_ok-first.ensures.none)
+
+pub returns-in_default-2-clause-none : goal.returns-in_default-2-clause-none
+returns-in_default-2-clause-none c =
+    let shown = c.args.shown in
+    let q = c.args.danger.now.second.question in
+    inr (unsaid _ (LacksQuestion shown.text.now shown.paths.now q) c.in_default-2.is c.in_ok-second.ensures.none)

@@ -3,7 +3,12 @@ use Rattle.prog_tree.specs.Tree.{draft_tree}
 use Rattle.prog_check.specs.Paths.{paths_of}
 use Rattle.analysis_words.proofs.refusal.refusal_words.Goals as goal
 
-pub returns : goal.returns
-returns c =
+pub returns-clause-said : goal.returns-clause-said
+returns-clause-said c =
     let same : c.deref.result.now ≡ paths_of (draft_tree c.args.set.now) = c.deref.ensures.value ∙ c.in_ok-paths.ensures.exact in
-    rw (sym same) c.in_ok-words.ensures
+    rw (sym same) c.in_ok-words.ensures.said
+
+pub returns-clause-none : goal.returns-clause-none
+returns-clause-none c =
+    let same : c.deref.result.now ≡ paths_of (draft_tree c.args.set.now) = c.deref.ensures.value ∙ c.in_ok-paths.ensures.exact in
+    rw (sym same) c.in_ok-words.ensures.none
