@@ -1,7 +1,8 @@
 -- What the words of a fault of the second part have to show.
-use Rattle.std.specs.Prelude.{ℕ, ◌≡◌, List, Option, Some, None, codes}
-use Rattle.text_places.specs.Landmarks.{IsRecordPlace}
-use Rattle.text_places.specs.Places.{column, line_at, IsLineFront}
+use Rattle.std.specs.Prelude.{ℕ, ◌≡◌, ◌<◌, ⊤, Bool, true, ◌&&◌, ◌||◌, List, Option, Some, None, bytes_eq, codes, drop, length, nat_eq, take}
+use Rattle.std.specs.List.{starts_with}
+use Rattle.text_places.specs.Landmarks.{ends_line, HasNoRecord, IsRecordPlace}
+use Rattle.text_places.specs.Places.{HasNoLine, IsLineFront}
 use Rattle.fault_words.specs.Pointing.{PointsAt}
 use Rattle.history_book.specs.declared.audit.AuditFault.{AuditFault}
 use Rattle.history_book.specs.declared.audit.AuditFault.TheVariants as a
@@ -23,6 +24,11 @@ abbrev pub PointsAtLineOf : (part : List ℕ) → Option ℕ → (words : List �
 PointsAtLineOf part (Some line) words = (front : ℕ) × IsLineFront part line front × PointsAt part front words
 PointsAtLineOf part None words = ⊥
 
+-- nothing is pointed at: the fault names no line, or the part has fewer
+abbrev pub HasNoLineOf : (part : List ℕ) → Option ℕ → Type 0
+HasNoLineOf part (Some line) = HasNoLine part line
+HasNoLineOf part None = ⊤
+
 -- the record that the line of a fault names; of too many, the first that is too much
 abbrev pub record_of_fault : AuditFault → Option ℕ
 record_of_fault a.Full = Some 100000
@@ -34,10 +40,26 @@ abbrev pub PointsAtRecord : (part : List ℕ) → Option ℕ → (words : List �
 PointsAtRecord part (Some number) words = (place : ℕ) × IsRecordPlace part number place × PointsAt part place words
 PointsAtRecord part None words = ⊥
 
+-- nothing is pointed at: the fault names no record, or fewer begin in the part
+abbrev pub HasNoRecordOf : (part : List ℕ) → Option ℕ → Type 0
+HasNoRecordOf part (Some number) = HasNoRecord part number
+HasNoRecordOf part None = ⊤
+
+-- `%%` stands here, and its line ends behind it
+abbrev pub begins_separator : List ℕ → Bool
+begins_separator bytes = bytes_eq bytes (codes "%%") || starts_with nat_eq bytes (codes "%%\n")
+
 -- a line `%%` begins here
+abbrev pub is_separator_at : (input : List ℕ) → (place : ℕ) → Bool
+is_separator_at input place = ends_line (take place input) && begins_separator (drop place input)
+
 abbrev pub IsSeparatorPlace : (input : List ℕ) → (place : ℕ) → Type 0
-IsSeparatorPlace input place = (column input place ≡ 1) × (line_at input place ≡ codes "%%")
+IsSeparatorPlace input place = is_separator_at input place ≡ true
 
 -- the words point at a line `%%`
 abbrev pub PointsAtSeparator : (input : List ℕ) → (words : List ℕ) → Type 0
 PointsAtSeparator input words = (place : ℕ) × IsSeparatorPlace input place × PointsAt input place words
+
+-- no line is `%%`
+abbrev pub HasNoSeparator : (input : List ℕ) → Type 0
+HasNoSeparator input = (place : ℕ) → place < length input → ¬ IsSeparatorPlace input place

@@ -1,12 +1,11 @@
 //! The cycle that the commits of a book form, in words.
-ghost use Rattle.std.specs.Prelude.{◌≡◌, ◌++◌, List, ℕ, IfOk, IfSome, OnOk, string_bytes};
-ghost use Rattle.history_book.specs.View.{depends_in};
+ghost use Rattle.std.specs.Prelude.{◌≡◌, ◌++◌, List, ℕ, IfOk, OnOk, string_bytes};
 ghost use Rattle.run_words.specs.Cycles.{BeginsWithCommit, HasLines, ShowsCycle};
 
 use crate::reasons::{Reason, reason_between};
 use crate::walk::{Doings, doings_of};
 use fault_words::{cell_text, program_name};
-use history_book::{Book, HistoryRow, OrderFault};
+use history_book::{Book, HistoryRow};
 use prog_check::ProgramSet;
 use std::alloc::{AllocError, Global};
 
@@ -109,17 +108,14 @@ fn push_lines(
     Ok(())
 }
 
-/// Why the commits of a book have no serial order; nothing where they have one.
-pub fn cycle_words(alloc: Global, book: &Book<'_>) -> Result<Option<String>, AllocError>
-    ensures { IfOk result (λ said. IfSome said (λ words.
-        ShowsCycle (depends_in book.now) (string_bytes words))) }
+/// Why the commits of a book have no serial order: the cycle that its `serial_order` answers, commit
+/// by commit.
+pub fn cycle_words(alloc: Global, book: &Book<'_>, cycle: &[usize]) -> Result<String, AllocError>
+    ensures { IfOk result (λ words. ShowsCycle cycle.now (string_bytes words)) }
 {
-    let Err(OrderFault::Cycle(cycle)) = book.serial_order() else {
-        return Ok(None);
-    };
     let mut words = format!(in alloc;
         "no serial order: each of these commits has to stand before the next, and the last before the first\n"
     )?;
-    push_lines(alloc, book, &cycle, &mut words)?;
-    Ok(Some(words))
+    push_lines(alloc, book, cycle, &mut words)?;
+    Ok(words)
 }

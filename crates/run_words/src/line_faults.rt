@@ -1,6 +1,6 @@
 //! The faults of a line of a script or of a list of records in words.
-ghost use Rattle.std.specs.Prelude.{◌≡◌, IfOk, IfSome, string_bytes};
-ghost use Rattle.run_words.specs.PartPointing.{line_of_fault, PointsAtLineOf};
+ghost use Rattle.std.specs.Prelude.{◌≡◌, IfNone, IfOk, IfSome, string_bytes};
+ghost use Rattle.run_words.specs.PartPointing.{line_of_fault, HasNoLineOf, PointsAtLineOf};
 
 pub use crate::forms::PartKind;
 use crate::forms::{first_words, form_of, no_number};
@@ -120,8 +120,10 @@ pub fn line_words(
     part: &[u8],
     fault: LineFault,
 ) -> Result<Option<String>, AllocError>
-    ensures { IfOk result (λ said. IfSome said (λ words.
+    ensures said { IfOk result (λ said. IfSome said (λ words.
         PointsAtLineOf part.now (line_of_fault fault) (string_bytes words))) }
+    ensures none { IfOk result (λ said. IfNone said
+        (HasNoLineOf part.now (line_of_fault fault))) }
 {
     let Some(line) = line_of_fault(fault) else {
         return Ok(None);

@@ -1,18 +1,36 @@
 //! What is wrong with the parts of an input, in words.
-ghost use Rattle.std.specs.Prelude.{IfOk, IfSome, length, string_bytes};
+ghost use Rattle.std.specs.Prelude.{◌≡◌, ◌<◌, IfNone, IfOk, IfSome, length, string_bytes};
+ghost use Rattle.text_places.specs.Landmarks.{ends_line};
 ghost use Rattle.fault_words.specs.Pointing.{PointsAt};
-ghost use Rattle.run_words.specs.PartPointing.{IsSeparatorPlace, PointsAtSeparator};
+ghost use Rattle.run_words.specs.PartPointing.{begins_separator, is_separator_at, HasNoSeparator, IsSeparatorPlace, PointsAtSeparator};
 
 use fault_words::point_at;
 use std::alloc::{AllocError, Global};
-use text_places::{column, line_at, line_number};
+use text_places::line_number;
+
+// Whether bytes end a line, as no bytes do.
+fn ends_line(bytes: &[u8]) -> bool
+    ensures { result ≡ ends_line bytes.now }
+{
+    match bytes {
+        [] => true,
+        [.., last] => *last == b'\n',
+    }
+}
+
+// Whether bytes begin with `%%`, where the line ends.
+fn begins_separator(bytes: &[u8]) -> bool
+    ensures { result ≡ begins_separator bytes.now }
+{
+    bytes == b"%%".as_slice() || bytes.starts_with(b"%%\n")
+}
 
 // Whether a line `%%` begins at a place.
-fn is_separator_at(input: &[u8], place: usize) -> bool {
-    let behind = input.get(place..).unwrap_or(&[]);
-    let begins = matches!(behind, [b'%', b'%'] | [b'%', b'%', b'\n', ..]);
-    let before = input.get(..place).unwrap_or(&[]);
-    begins && !matches!(before, [.., last] if *last != b'\n')
+fn is_separator_at(input: &[u8], place: usize) -> bool
+    requires { place < length input.now }
+    ensures { result ≡ is_separator_at input.now place }
+{
+    ends_line(&input[..place]) && begins_separator(&input[place..])
 }
 
 // Whether a line begins at a place that has `%%` and more.
@@ -48,14 +66,12 @@ pub fn missing_part_words(alloc: Global, input: &[u8], wanted: &str) -> Result<S
 
 // The last line `%%`, which is one too many.
 fn last_separator(input: &[u8]) -> Option<usize>
-    ensures { IfSome result (IsSeparatorPlace input.now) }
+    ensures found { IfSome result (IsSeparatorPlace input.now) }
+    ensures none { IfNone result (HasNoSeparator input.now) }
 {
-    for back in 1..=input.len() {
-        let place = input.len() - back;
-        if !is_separator_at(input, place) {
-            continue;
-        }
-        if column(input, place) == 1 && line_at(input, place) == b"%%".as_slice() {
+    for tried in 0..input.len() {
+        let place = input.len() - 1 - tried;
+        if is_separator_at(input, place) {
             return Some(place);
         }
     }
@@ -68,8 +84,9 @@ pub fn extra_part_words(
     input: &[u8],
     wanted: &str,
 ) -> Result<Option<String>, AllocError>
-    ensures { IfOk result (λ said. IfSome said (λ words.
+    ensures said { IfOk result (λ said. IfSome said (λ words.
         PointsAtSeparator input.now (string_bytes words))) }
+    ensures none { IfOk result (λ said. IfNone said (HasNoSeparator input.now)) }
 {
     let Some(place) = last_separator(input) else {
         return Ok(None);

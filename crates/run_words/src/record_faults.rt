@@ -1,6 +1,6 @@
 //! The faults of a record in words.
-ghost use Rattle.std.specs.Prelude.{◌≡◌, IfOk, IfSome, string_bytes};
-ghost use Rattle.run_words.specs.PartPointing.{record_of_fault, PointsAtRecord};
+ghost use Rattle.std.specs.Prelude.{◌≡◌, IfNone, IfOk, IfSome, string_bytes};
+ghost use Rattle.run_words.specs.PartPointing.{record_of_fault, HasNoRecordOf, PointsAtRecord};
 
 use crate::replay::ending;
 use fault_words::{cell_text, parameter_count, point_at, program_name};
@@ -175,8 +175,10 @@ pub fn record_words(
     part: &[u8],
     fault: AuditFault,
 ) -> Result<Option<String>, AllocError>
-    ensures { IfOk result (λ said. IfSome said (λ words.
+    ensures said { IfOk result (λ said. IfSome said (λ words.
         PointsAtRecord part.now (record_of_fault fault) (string_bytes words))) }
+    ensures none { IfOk result (λ said. IfNone said
+        (HasNoRecordOf part.now (record_of_fault fault))) }
 {
     let Some(number) = record_of_fault(fault) else {
         return Ok(None);

@@ -1,11 +1,34 @@
 //! The cycle in which the commits of a run or an audit end, as it is said to people.
 
+ghost use Rattle.std.specs.Prelude.{ℕ, List, IfNone, IfOk, IfSome, string_bytes};
+ghost use Rattle.history_book.specs.Orders.{IsCycle};
+ghost use Rattle.history_book.specs.View.{depends_in};
+ghost use Rattle.run_words.specs.Cycles.{ShowsCycle};
+
 use crate::sentences::kept_input::{second_part, set_of};
-use history_book::Book;
+use history_book::{Book, OrderFault};
 use prog_check::ProgramSet;
 use run_words::cycle_words;
 use si_engine::{Bytes, Engine, Records, Script, read_records, read_script};
 use std::alloc::{AllocError, Global};
+
+// The cycle in which the commits of a book end, in words; nothing where they have a serial order.
+fn cycle_of_book(alloc: Global, book: &Book<'_>) -> Result<Option<String>, AllocError>
+    ensures said { IfOk result (λ said. IfSome said (λ words.
+        (cycle : List ℕ) × IsCycle (depends_in book.now) cycle
+        × ShowsCycle cycle (string_bytes words))) }
+    ensures none { IfOk result (λ said. IfNone said
+        ((cycle : List ℕ) → ¬ IsCycle (depends_in book.now) cycle)) }
+{
+    match book.serial_order() {
+        Ok(_) => Ok(None),
+        Err(OrderFault::Cycle(cycle)) => {
+            let words = cycle_words(alloc, book, &cycle)?;
+            Ok(Some(words))
+        }
+        Err(OrderFault::Memory) => Err(AllocError),
+    }
+}
 
 fn cycle_of_script(
     alloc: Global,
@@ -20,7 +43,7 @@ fn cycle_of_script(
     for event in events.as_slice() {
         engine.apply(event)?;
     }
-    cycle_words(alloc, engine.book())
+    cycle_of_book(alloc, engine.book())
 }
 
 fn cycle_of_records(
@@ -33,7 +56,7 @@ fn cycle_of_records(
     };
     let Records { rows, records } = records;
     match Book::audit(alloc, set, rows, records.into_vec()) {
-        Ok(book) => cycle_words(alloc, &book),
+        Ok(book) => cycle_of_book(alloc, &book),
         Err(_) => Ok(None),
     }
 }
