@@ -71,7 +71,7 @@ module _ (set : DraftTree) (opening : TableState) (h : List Instance) (lawful : 
 
   pub dependencies_without_cycle : (order numbers : List ℕ) → least_order (depends set opening h) (length h) ≡ Some order → IsCycle (depends set opening h) numbers → ⊥
   dependencies_without_cycle =
-      no_cycle (depends set opening h) (length h) (λ i j t. (depends_within set opening h i j lawful.starts t).1)
+      no_cycle (depends set opening h) (length h) (λ i j t. (depends_within set opening h i j t).1)
 
   no_loop : (i : ℕ) → depends set opening h i i ≡ true → ⊥
   no_loop i t = holds_not (eqb i i) (and_parts _ _ t).0 (eq-eqb i i refl)

@@ -50,6 +50,14 @@ pub times-append : (n : ℕ) (xs ys : List ℕ) → times n (xs ++ ys) ≡ times
 times-append n [] ys = omega arith
 times-append n (x ∷ xs) ys = let e = times-append n xs ys in omega arith
 
+pub times-most : (n : ℕ) (xs : List ℕ) → times n xs ≤ length xs
+times-most n [] = omega arith
+times-most n (x ∷ xs) = go (cases_Bool (x == n)) (times-most n xs)
+  where
+    go : Either (x == n) → times n xs ≤ length xs → times n (x ∷ xs) ≤ length (x ∷ xs)
+    go (inl e) rest = rw e (omega arith)
+    go (inr e) rest = rw e (omega arith)
+
 pub times-reverse : (n : ℕ) (xs : List ℕ) → times n (reverse xs) ≡ times n xs
 times-reverse n [] = refl
 times-reverse n (x ∷ xs) =

@@ -1,5 +1,5 @@
 -- Rows that are right, one behind another, and lawful histories.
-use Rattle.std.proofs.Common.{◌≡◌, ℕ, zero, suc, ◌+◌, ◌-◌, ◌<◌, ◌≤◌, List, [], ◌∷◌, ◌++◌, length, map, take, get_or, refl, ap, sym, ◌∙◌, subst, append_assoc, append-nil, arith}
+use Rattle.std.proofs.Common.{◌≡◌, ℕ, zero, suc, ◌+◌, ◌<◌, ◌≤◌, List, [], ◌∷◌, ◌++◌, length, map, take, get_or, refl, ap, sym, ◌∙◌, subst, append_assoc, append-nil, arith}
 use Rattle.std.specs.Prelude.{All, Some, None, slice_get}
 use Rattle.std.proofs.lemmas.List.{length-append, map-append}
 use Rattle.std.proofs.lemmas.List.Elements.{All-nil, All-push}
@@ -20,7 +20,7 @@ use Rattle.history_book.specs.declared.instances.row.HistoryRow.{HistoryRow}
 use Rattle.history_book.proofs.ClashLaws.{last_touches}
 use Rattle.history_book.proofs.EndingLaws.{true_rows-push, true_row-in_longer}
 use Rattle.history_book.proofs.HistoryLaws.{lawful-nil, lawful-push, length-commits_of}
-use Rattle.history_book.proofs.StateLaws.{state_at-commits_after, commits_of-is}
+use Rattle.history_book.proofs.StateLaws.{nth_instance-behind, state_at-commits_after, commits_of-is}
 
 history-push : (rows : List HistoryRow) (r : HistoryRow) → history_of (rows ++ r ∷ []) ≡ history_of rows ++ instance_of r ∷ []
 history-push rows r = map-append instance_of rows (r ∷ [])
@@ -107,6 +107,10 @@ module _ (set : DraftTree) (opening : TableState) where
   still_there (y ∷ xs) ys zero x found = found
   still_there (y ∷ xs) ys (suc n) x found = still_there xs ys n x found
 
+  still_numbered : (h more : List Instance) (n : ℕ) (b : Instance) → nth_instance h n ≡ Some b → nth_instance (h ++ more) n ≡ Some b
+  still_numbered h more zero b found = found
+  still_numbered h more (suc n) b found = still_there h more n b found
+
   seam : {X : Type 0} (xs ys : List X) (x : X) → slice_get (xs ++ x ∷ ys) (length xs) ≡ Some x
   seam [] ys x = refl
   seam (y ∷ xs) ys x = seam xs ys x
@@ -118,19 +122,19 @@ module _ (set : DraftTree) (opening : TableState) where
 
   module _ (h more : List Instance) (i : Instance) (lawful : IsLawful set opening (h ++ i ∷ more)) where
     at_end : nth_instance (h ++ i ∷ more) (length h + 1) ≡ Some i
-    at_end = let place : length h + 1 - 1 ≡ length h = omega arith in ap (slice_get (h ++ i ∷ more)) place ∙ seam h more i
+    at_end = nth_instance-behind (h ++ i ∷ more) (length h) ∙ seam h more i
 
     within : i.start ≤ length h
-    within = let low : i.start < length h + 1 = lawful.starts (length h + 1) i (omega arith) at_end in omega arith
+    within = let low : i.start < length h + 1 = lawful.starts (length h + 1) i at_end in omega arith
 
     same_here : evaluation set opening (h ++ i ∷ more) i ≡ evaluation set opening h i
     same_here = evaluation-append h (i ∷ more) i within
 
     ready_here : (evaluation set opening h i).ending ≡ Ready
-    ready_here = ap (λ (e : Evaluation). e.ending) (sym same_here) ∙ lawful.ready (length h + 1) i (omega arith) at_end
+    ready_here = ap (λ (e : Evaluation). e.ending) (sym same_here) ∙ lawful.ready (length h + 1) i at_end
 
     starts_here : StartsBelow h
-    starts_here j b first found = lawful.starts j b first (still_there h (i ∷ more) (j - 1) b found)
+    starts_here j b found = lawful.starts j b (still_numbered h (i ∷ more) j b found)
 
     apart_here : IsClash (commits_of set opening h) i.start (evaluation set opening h i).changes None
     apart_here c touches above =
@@ -140,11 +144,10 @@ module _ (set : DraftTree) (opening : TableState) where
         let number : last_touch c 1 ws ≡ 1 + t.place = t.number in
         let did : Instance → ChangeSet = λ b. (evaluation set opening h b).changes in
         let a = of_map did h t.place t.commit (ap (λ vs. slice_get vs t.place) (sym (commits_of-is set opening h starts_here)) ∙ t.at) in
-        let place : t.place + 1 - 1 ≡ t.place = omega arith in
-        let at : nth_instance (h ++ i ∷ more) (t.place + 1) ≡ Some a.0 = ap (slice_get (h ++ i ∷ more)) place ∙ still_there h (i ∷ more) t.place a.0 a.1 in
-        let start : a.0.start < t.place + 1 = lawful.starts (t.place + 1) a.0 (omega arith) at in
+        let at : nth_instance (h ++ i ∷ more) (t.place + 1) ≡ Some a.0 = nth_instance-behind (h ++ i ∷ more) t.place ∙ still_there h (i ∷ more) t.place a.0 a.1 in
+        let start : a.0.start < t.place + 1 = lawful.starts (t.place + 1) a.0 at in
         let same : evaluation set opening (h ++ i ∷ more) a.0 ≡ evaluation set opening h a.0 = evaluation-append h (i ∷ more) a.0 (omega (arith, a.2)) in
-        lawful.apart (t.place + 1) (length h + 1) a.0 i c (omega arith) at at_end (omega arith) (omega (arith, a.2))
+        lawful.apart (t.place + 1) (length h + 1) a.0 i c at at_end (omega arith) (omega (arith, a.2))
         (ap (λ (e : Evaluation). touches_cell e.changes c) same ∙ ap (λ w. touches_cell w c) a.3 ∙ t.touched)
         (ap (λ (e : Evaluation). touches_cell e.changes c) same_here ∙ touches)
 

@@ -24,6 +24,7 @@ use Rattle.history_book.specs.declared.instances.row.Ending.TheVariants.{Committ
 use Rattle.history_book.specs.declared.instances.row.HistoryRow.{HistoryRow}
 use Rattle.history_book.proofs.HistoryLaws.{length-commits_of, commits_of-push}
 use Rattle.history_book.proofs.EndingLaws.{few_commits}
+use Rattle.history_book.proofs.StateLaws.{nth_instance-back}
 use Rattle.history_book.specs.Orders.{is_one_of}
 use Rattle.std.proofs.lemmas.Bool.Decides.{leb_tells}
 use Rattle.history_book.proofs.OnceLaws.{whole, not_twice, next_within}
@@ -199,7 +200,8 @@ item_known rows items row number same at = at ∙ ap (λ (xs : List HistoryRow).
 pub row_known : (rows items : List HistoryRow) (row : HistoryRow) (number : ℕ) → items ≡ rows → row ≡ get_or items (number - 1) row → 1 ≤ number → number ≤ length rows →
     nth_instance (history_of rows) number ≡ Some (instance_of row)
 row_known rows items row number same at first last =
-    slice_get-map instance_of rows (number - 1)
+    nth_instance-back (history_of rows) number first
+    ∙ slice_get-map instance_of rows (number - 1)
     ∙ ap (option_map instance_of) (slice_get-get_or rows (number - 1) row (omega arith) ∙ ap (λ (r : HistoryRow). Some r) (sym (item_known rows items row number same at)))
 
 pub row_true : (v : BookView) (items : List HistoryRow) (row : HistoryRow) (number : ℕ) → IsTrueBook v → items ≡ v.rows → row ≡ get_or items (number - 1) row → 1 ≤ number →

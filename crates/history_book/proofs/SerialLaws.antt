@@ -80,7 +80,7 @@ module _ (set : DraftTree) (opening : TableState) (h : List Instance) where
     ready_at : (n : ℕ) → IsUpTo (length h) n → (evaluation_at set opening h n).ending ≡ Ready
     ready_at n one =
         let f = found_at h n one in
-        ap (λ o. (run_found set o (state_after set opening h (start_found o))).ending) f.1 ∙ lawful.ready n f.0 one.0 f.1
+        ap (λ o. (run_found set o (state_after set opening h (start_found o))).ending) f.1 ∙ lawful.ready n f.0 f.1
 
     same_after : (done ns : List ℕ) → IsPlaced (length h) (DependsOn set opening h) done → FitsAfter (length h) (DependsOn set opening h) done ns → RunsTheSame set opening h ns (left_by done)
     same_after done [] placed all =

@@ -2,7 +2,7 @@
 use Rattle.std.proofs.Common.{◌≡◌, ℕ, zero, suc, ◌+◌, ◌-◌, ◌<◌, ◌≤◌, List, [], ◌∷◌, ◌++◌, length, map, take, refl, ap, sym, ◌∙◌, append_assoc, append-nil, arith}
 use Rattle.std.specs.Prelude.{fold, slice_get, Some}
 use Rattle.std.proofs.lemmas.List.{take-append-le, length-append}
-use Rattle.std.proofs.lemmas.Option.{slice_get-map}
+use Rattle.std.proofs.lemmas.Option.{slice_get-map, slice_get_within}
 use Rattle.std.specs.Option.{option_map}
 use Rattle.prog_tree.specs.ChangeSet.{ChangeSet, changed}
 use Rattle.prog_tree.specs.Syntax.{DraftTree}
@@ -10,6 +10,25 @@ use Rattle.prog_tree.specs.Table.{TableState, IsTableState}
 use Rattle.prog_tree.proofs.TableStates.{IsTableState-changed}
 use Rattle.version_store.specs.Commits.{state_at}
 use Rattle.history_book.specs.History.{Instance, eval_of, commits_after, commits_of, state_after, evaluation, nth_instance, StartsBelow}
+use Rattle.history_book.specs.Orders.{IsUpTo}
+
+-- ---- instances by their numbers
+
+-- behind n others an instance has the next number
+pub nth_instance-behind : (h : List Instance) (n : ℕ) → nth_instance h (n + 1) ≡ slice_get h n
+nth_instance-behind h n = let next : n + 1 ≡ suc n = omega arith in ap (nth_instance h) next
+
+pub nth_instance-back : (h : List Instance) (n : ℕ) → 1 ≤ n → nth_instance h n ≡ slice_get h (n - 1)
+nth_instance-back h zero first = absurd (omega (arith, first))
+nth_instance-back h (suc n) first = let back : n ≡ suc n - 1 = omega arith in ap (slice_get h) back
+
+-- whoever has a number, has one of as many as there are instances
+pub nth_instance_within : (h : List Instance) (n : ℕ) (b : Instance) → nth_instance h n ≡ Some b → IsUpTo (length h) n
+nth_instance_within h zero b found = absurd (cc)
+nth_instance_within h (suc n) b found =
+    let inside : n < length h = slice_get_within h n b found in (omega arith, omega arith)
+
+-- ---- states
 
 -- one more commit leaves the states before it
 pub state_at-push : (opening : TableState) (ws : List ChangeSet) (w : ChangeSet) (n : ℕ) → n ≤ length ws → state_at opening (ws ++ w ∷ []) n ≡ state_at opening ws n
@@ -49,10 +68,7 @@ module _ (set : DraftTree) (opening : TableState) (h : List Instance) where
   commits_of-is starts = commits_after-is set opening [] h from_start
     where
       from_start : (k : ℕ) (b : Instance) → slice_get h k ≡ Some b → b.start ≤ 0 + k
-      from_start k b found =
-          let place : k ≡ suc k - 1 = omega arith in
-          let low : b.start < suc k = starts (suc k) b (omega arith) (ap (slice_get h) (sym place) ∙ found) in
-          omega arith
+      from_start k b found = let low : b.start < suc k = starts (suc k) b found in omega arith
 
   -- before the first commit
   pub state_after-zero : state_after set opening h 0 ≡ opening
@@ -75,11 +91,8 @@ module _ (set : DraftTree) (opening : TableState) (h : List Instance) where
       one_more : n + 1 ≡ suc n
       one_more = omega arith
 
-      place : n ≡ n + 1 - 1
-      place = omega arith
-
       at : slice_get (commits_of set opening h) n ≡ Some (changes i)
-      at = ap (λ ws. slice_get ws n) (commits_of-is starts) ∙ slice_get-map changes h n ∙ ap (option_map changes) (ap (slice_get h) place ∙ found)
+      at = ap (λ ws. slice_get ws n) (commits_of-is starts) ∙ slice_get-map changes h n ∙ ap (option_map changes) (sym (nth_instance-behind h n) ∙ found)
 
   -- all states are in cell order, if the opening is
   ordered_after : (m : TableState) (ws : List ChangeSet) → IsTableState m → IsTableState (fold (λ n w. changed n w.cells) m ws)

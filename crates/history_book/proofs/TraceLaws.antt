@@ -1,5 +1,5 @@
 -- The traces of a history say what depends on what in it.
-use Rattle.std.proofs.Common.{◌≡◌, ◌∙◌, ◌==◌, ℕ, zero, suc, ◌-◌, ◌<◌, ◌≤◌, nat_lt, ℤ, Bool, true, false, cond, ◌&&◌, ◌||◌, not, List, [], ◌∷◌, ◌++◌, length, map, refl, ap, sym, subst, arith}
+use Rattle.std.proofs.Common.{◌≡◌, ◌∙◌, ◌==◌, ℕ, zero, suc, ◌<◌, ◌≤◌, nat_lt, ℤ, Bool, true, false, cond, ◌&&◌, ◌||◌, not, List, [], ◌∷◌, ◌++◌, length, map, refl, ap, sym, subst, arith}
 use Rattle.std.specs.Prelude.{nat_le, Option, Some, None, is_some, slice_get}
 use Rattle.std.specs.Option.{option_map}
 use Rattle.std.specs.List.{list_any}
@@ -71,11 +71,7 @@ module _ (set : DraftTree) (opening : TableState) (h : List Instance) where
   trace_is n =
       ap trace_found (slice_get-map (trace_in set opening h) h n)
       ∙ go (slice_get h n)
-      ∙ ap (λ k. trace_of (start_found (slice_get h k)) (run_found set (slice_get h k) (state_after set opening h (start_found (slice_get h k)))).changes.cells (run_found set (slice_get h k) (state_after set opening h (start_found (slice_get h k)))).looks) place
     where
-      place : n ≡ suc n - 1
-      place = omega arith
-
       go : (o : Option Instance) →
           trace_found (option_map (trace_in set opening h) o)
           ≡ trace_of (start_found o) (run_found set o (state_after set opening h (start_found o))).changes.cells (run_found set o (state_after set opening h (start_found o))).looks
@@ -120,10 +116,9 @@ module _ (set : DraftTree) (opening : TableState) (h : List Instance) where
       go : (o : Option Instance) → slice_get h n ≡ o → option_map (trace_in set opening h) (slice_get h n) ≡ Some t → t.start ≤ n
       go None none some = absurd (let x : option_map (trace_in set opening h) None ≡ Some t = ap (option_map (trace_in set opening h)) (sym none) ∙ some in cc)
       go (Some b) at_n some =
-          let place : n ≡ suc n - 1 = omega arith in
           let is : Some (trace_in set opening h b) ≡ Some t = ap (option_map (trace_in set opening h)) (sym at_n) ∙ some in
           let same : trace_in set opening h b ≡ t = cc in
-          let low : b.start < suc n = below (suc n) b (omega arith) (ap (slice_get h) (sym place) ∙ at_n) in
+          let low : b.start < suc n = below (suc n) b at_n in
           let starts : b.start ≡ t.start = ap (λ (u : TraceView). u.start) same in
           omega (arith, low, starts)
 
@@ -139,8 +134,7 @@ module _ (set : DraftTree) (opening : TableState) (h : List Instance) where
 
     start_within : (k : ℕ) (b : Instance) → slice_get h k ≡ Some b → b.start ≤ length h
     start_within k b found =
-        let place : k ≡ suc k - 1 = omega arith in
-        let low : b.start < suc k = below (suc k) b (omega arith) (ap (slice_get h) (sym place) ∙ found) in
+        let low : b.start < suc k = below (suc k) b found in
         let inside : k < length h = slice_get_within h k b found in
         omega (arith, low, inside)
 

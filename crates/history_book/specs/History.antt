@@ -1,5 +1,5 @@
 -- Histories of committed instances.
-use Rattle.std.specs.Prelude.{◌≡◌, ℕ, ◌-◌, ◌<◌, ◌≤◌, ℤ, true, All, List, [], ◌∷◌, ◌++◌, length, Option, Some, None, slice_get}
+use Rattle.std.specs.Prelude.{◌≡◌, ℕ, zero, suc, ◌-◌, ◌<◌, ℤ, true, All, List, [], ◌∷◌, ◌++◌, length, Option, Some, None, slice_get}
 use Rattle.prog_tree.specs.declared.cell.Cell.{Cell}
 use Rattle.prog_tree.specs.declared.deed.End.TheVariants.{Ready, Aborted}
 use Rattle.prog_tree.specs.declared.deed.Cause.TheVariants.{Asked}
@@ -48,9 +48,10 @@ state_after set opening h n = state_at opening (commits_of set opening h) n
 abbrev pub evaluation : DraftTree → TableState → List Instance → Instance → Evaluation
 evaluation set opening h i = eval_of set i (state_after set opening h i.start)
 
--- instances are numbered from 1
+-- the instance of a number; numbers begin at 1
 abbrev pub nth_instance : List Instance → ℕ → Option Instance
-nth_instance h n = slice_get h (n - 1)
+nth_instance h zero = None
+nth_instance h (suc n) = slice_get h n
 
 -- the program exists and takes as many arguments, which are i64
 abbrev pub IsCalled : DraftTree → Instance → Type 0
@@ -61,20 +62,20 @@ IsCalled set i =
 -- each instance is called rightly, sees only earlier commits and ends ready, and no cell that it changes or
 -- keeps was changed or kept by a commit above its start
 pub record IsLawful (set : DraftTree) (opening : TableState) (h : List Instance) : Type 0 where
-  pub called : (j : ℕ) (b : Instance) → 1 ≤ j → nth_instance h j ≡ Some b → IsCalled set b
-  pub starts : (j : ℕ) (b : Instance) → 1 ≤ j → nth_instance h j ≡ Some b → b.start < j
+  pub called : (j : ℕ) (b : Instance) → nth_instance h j ≡ Some b → IsCalled set b
+  pub starts : (j : ℕ) (b : Instance) → nth_instance h j ≡ Some b → b.start < j
   pub ready :
-      (j : ℕ) (b : Instance) → 1 ≤ j → nth_instance h j ≡ Some b →
+      (j : ℕ) (b : Instance) → nth_instance h j ≡ Some b →
       (evaluation set opening h b).ending ≡ Ready
   pub apart :
       (i j : ℕ) (a b : Instance) (c : Cell) →
-      1 ≤ i → nth_instance h i ≡ Some a → nth_instance h j ≡ Some b → b.start < i → i < j →
+      nth_instance h i ≡ Some a → nth_instance h j ≡ Some b → b.start < i → i < j →
       touches_cell (evaluation set opening h a).changes c ≡ true →
       touches_cell (evaluation set opening h b).changes c ≡ true → ⊥
 
 -- each instance sees only earlier commits
 abbrev pub StartsBelow : List Instance → Type 0
-StartsBelow h = (j : ℕ) (b : Instance) → 1 ≤ j → nth_instance h j ≡ Some b → b.start < j
+StartsBelow h = (j : ℕ) (b : Instance) → nth_instance h j ≡ Some b → b.start < j
 
 -- the commit of a number above the start changes or keeps the cell
 pub record NamesCommit (ws : List ChangeSet) (start : ℕ) (cell : Cell) (number : ℕ) : Type 0 where

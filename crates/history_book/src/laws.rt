@@ -77,6 +77,5 @@ pub fn forward_orders_run_the_same()
 /// Only an instance of the history depends on another, or has another depend on it.
 pub fn dependencies_are_of_instances()
     ensures { (set : DraftTree) → (opening : TableState) → (h : List Instance) → (i j : ℕ) →
-        StartsBelow h → depends set opening h i j ≡ true →
-        (i ≤ length h) × IsUpTo (length h) j }
+        depends set opening h i j ≡ true → IsUpTo (length h) i × IsUpTo (length h) j }
 {}

@@ -127,13 +127,13 @@ module _ (set : DraftTree) (opening : TableState) (h : List Instance) (is : IsHi
       m = state_after set opening h b.start
 
       called : IsCalled set b
-      called = is.lawful.called n b one.0 f.1
+      called = is.lawful.called n b f.1
 
       same : eval_of set b m ≡ eval set.tables called.0 b.args m
       same = eval_of-found set b called.0 m called.1
 
       ready : (eval set.tables called.0 b.args m).ending ≡ Ready
-      ready = ap (λ (e : Evaluation). e.ending) (sym same) ∙ is.lawful.ready n b one.0 f.1
+      ready = ap (λ (e : Evaluation). e.ending) (sym same) ∙ is.lawful.ready n b f.1
 
       removes : RemovesPlain set.tables (evaluation set opening h b).changes
       removes =

@@ -1,5 +1,5 @@
 -- The headline, from a serial order that fits the machine's history.
-use Rattle.std.proofs.Common.{◌≡◌, ℕ, zero, suc, ◌-◌, ◌<◌, true, List, [], ◌∷◌, ◌++◌, length, refl, ap, sym, ◌∙◌, subst, arith, append_assoc}
+use Rattle.std.proofs.Common.{◌≡◌, ℕ, zero, suc, ◌<◌, true, List, [], ◌∷◌, ◌++◌, length, refl, ap, sym, ◌∙◌, subst, arith, append_assoc}
 use Rattle.std.specs.Prelude.{slice_get, Some}
 use Rattle.std.specs.List.{zip}
 use Rattle.std.proofs.lemmas.Option.{slice_get_within}
@@ -83,8 +83,7 @@ module _ (set : DraftTree) (opening : TableState) (events : List Event) (o : Out
         let found = commit_at k (omega (arith, inside)) in
         let b = found.0 in
         let c = found.2 in
-        let back : suc k - 1 ≡ k = omega arith in
-        let at_number : nth_instance history (suc k) ≡ Some b = ap (slice_get history) back ∙ found.1 in
+        let at_number : nth_instance history (suc k) ≡ Some b = found.1 in
         let same : run_found set (nth_instance history (suc k)) m ≡ run_of set (call_of b) m = ap (λ x. run_found set x m) at_number in
         let did : evaluation_at set opening history (suc k) ≡ evaluation set opening history b =
         ap (λ x. run_found set x (state_after set opening history (start_found x))) at_number in

@@ -38,7 +38,7 @@ module _ (set : DraftTree) (opening : TableState) (h : List Instance) (is : IsHi
   path_followed i b one found called =
       let ready =
       ap (λ (e : Evaluation). e.ending) (sym (eval_of-found set b called.0 (state_of b) called.1))
-      ∙ is.lawful.ready i b one.0 found in
+      ∙ is.lawful.ready i b found in
       let rows = rows_after set opening h is.sound is.lawful is.opening_rows b.start in
       (law_of_paths set b.program called.0 b.args (state_of b) is.sound called.1 called.2 called.3 rows ready).0
 
@@ -58,7 +58,7 @@ module _ (set : DraftTree) (opening : TableState) (h : List Instance) (is : IsHi
       }
     where
       called : IsCalled set b
-      called = is.lawful.called i b one.0 found
+      called = is.lawful.called i b found
 
       p : ProgramTree
       p = called.0

@@ -1,5 +1,5 @@
 -- The states of a history whose instances have arguments of i64 have rows of i64.
-use Rattle.std.proofs.Common.{◌≡◌, ℕ, zero, suc, ◌-◌, List, [], ◌∷◌, ◌++◌, refl, ap, sym, ◌∙◌, arith}
+use Rattle.std.proofs.Common.{◌≡◌, ℕ, zero, suc, List, [], ◌∷◌, ◌++◌, refl}
 use Rattle.std.specs.Prelude.{slice_get, Option, Some, None, All}
 use Rattle.std.specs.List.{AllByRecursion}
 use Rattle.std.proofs.lemmas.List.Elements.{All-from_recursion}
@@ -61,6 +61,4 @@ rows_after set opening h sound lawful rows n =
     rows_at opening (commits_of set opening h) n (commits_write set opening [] h sound rows args tt) rows
   where
     args : (k : ℕ) (b : Instance) → slice_get h k ≡ Some b → All IsI64 b.args
-    args k b found =
-        let place : k ≡ suc k - 1 = omega arith in
-        (lawful.called (suc k) b (omega arith) (ap (slice_get h) (sym place) ∙ found)).3
+    args k b found = (lawful.called (suc k) b found).3

@@ -1,6 +1,6 @@
 -- A worked example: two instances that each read what the other writes are a lawful history with a cycle, and so their
 -- set has a dangerous structure.
-use Rattle.std.proofs.Common.{◌≡◌, ℕ, zero, suc, ◌-◌, ◌<◌, ◌≤◌, Bool, true, false, ◌||◌, length, List, [], ◌∷◌, refl, sym, subst, ap, ◌∙◌, arith}
+use Rattle.std.proofs.Common.{◌≡◌, ℕ, zero, suc, ◌<◌, ◌≤◌, Bool, true, false, ◌||◌, length, List, [], ◌∷◌, refl, sym, subst, ap, ◌∙◌, arith}
 use Rattle.std.specs.Prelude.{ℤ, pos, codes, Option, Some, None, is_some, slice_get, if◌then◌else◌}
 use Rattle.std.proofs.lemmas.Option.{slice_get_within}
 use Rattle.std.proofs.lemmas.Int.{ints}
@@ -64,13 +64,13 @@ sound = soundness pair refl (
 
 -- what holds of both instances holds of each
 of_both : (P : Instance → ℕ → Type 0) → P (instance_of 0) 1 → P (instance_of 1) 2 →
-    (j : ℕ) (b : Instance) → 1 ≤ j → nth_instance skew j ≡ Some b → P b j
-of_both P first second zero b low found = absurd (omega (arith, low))
-of_both P first second (suc zero) b low found = let same : instance_of 0 ≡ b = cc in subst (λ x. P x 1) same first
-of_both P first second (suc (suc zero)) b low found =
+    (j : ℕ) (b : Instance) → nth_instance skew j ≡ Some b → P b j
+of_both P first second zero b found = absurd (cc)
+of_both P first second (suc zero) b found = let same : instance_of 0 ≡ b = cc in subst (λ x. P x 1) same first
+of_both P first second (suc (suc zero)) b found =
     let same : instance_of 1 ≡ b = cc in subst (λ x. P x 2) same second
-of_both P first second (suc (suc (suc n))) b low found =
-    let inside : suc (suc (suc n)) - 1 < 2 = slice_get_within skew (suc (suc (suc n)) - 1) b found in
+of_both P first second (suc (suc (suc n))) b found =
+    let inside : suc (suc n) < 2 = slice_get_within skew (suc (suc n)) b found in
     absurd (omega arith)
 
 -- the cells that they change
@@ -121,8 +121,8 @@ tell_apart c left right = differ (ap (λ (x : Cell). x.first) (sym two ∙ one))
     differ : pos 2 ≡ pos 1 → ⊥
     differ e = cc
 
-apart : (c : Cell) (i : ℕ) (a : Instance) → 1 ≤ i → nth_instance skew i ≡ Some a →
-    (j : ℕ) (b : Instance) → 1 ≤ j → nth_instance skew j ≡ Some b → i < j → Touched a c → Touched b c → ⊥
+apart : (c : Cell) (i : ℕ) (a : Instance) → nth_instance skew i ≡ Some a →
+    (j : ℕ) (b : Instance) → nth_instance skew j ≡ Some b → i < j → Touched a c → Touched b c → ⊥
 apart c =
     of_both Apart (of_both (Behind (instance_of 0) 1) (λ l m t. omega (arith, l)) (λ l m t. tell_apart c m t))
     (of_both (Behind (instance_of 1) 2) (λ l m t. omega (arith, l)) (λ l m t. omega (arith, l)))
@@ -131,7 +131,7 @@ apart c =
     Behind a i b j = i < j → Touched a c → Touched b c → ⊥
 
     Apart : Instance → ℕ → Type 0
-    Apart a i = (j : ℕ) (b : Instance) → 1 ≤ j → nth_instance skew j ≡ Some b → Behind a i b j
+    Apart a i = (j : ℕ) (b : Instance) → nth_instance skew j ≡ Some b → Behind a i b j
 
 called_with : (n : ℕ) (p : ProgramTree) → slice_get pair.programs n ≡ Some p → length p.params ≡ 0 →
     IsCalled pair (instance_of n)
@@ -144,8 +144,7 @@ lawful = record {
   starts = of_both (λ b j. b.start < j) (omega arith) (omega arith);
   ready = of_both (λ b j. (evaluation pair [] skew b).ending ≡ Ready) (ready_at 0 (omega arith))
       (ready_at 1 (omega arith));
-  apart = λ i j a b c low at_i at_j unseen before mine theirs.
-      apart c i a low at_i j b (omega arith) at_j before mine theirs;
+  apart = λ i j a b c at_i at_j unseen before mine theirs. apart c i a at_i j b at_j before mine theirs;
 }
 
 is_history : IsHistory pair [] skew

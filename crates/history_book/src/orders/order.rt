@@ -1,7 +1,7 @@
 //! The least order in which each number stands behind those that have to stand before it, or a
 //! cycle that forbids it.
 
-ghost use Rattle.std.specs.Prelude.{nat_lt, ◌≡◌, ◌≢◌, ◌<◌, ◌≤◌, ◌+◌, ◌==◌, ◌&&◌, ◌||◌, ℕ, Bool, true, [], drop, length, slice_index, Some, IfOk, IfErr, OnOk, ◌++◌, if◌then◌else◌};
+ghost use Rattle.std.specs.Prelude.{nat_lt, ◌≡◌, ◌≢◌, ◌<◌, ◌≤◌, ◌+◌, ◌^◌, ◌==◌, ◌&&◌, ◌||◌, ℕ, Bool, true, [], drop, length, slice_index, Some, IfOk, IfErr, OnOk, ◌++◌, if◌then◌else◌};
 ghost use Rattle.std.specs.List.{IsFirstBest};
 ghost use Rattle.history_book.specs.Orders.{is_one_of, least_order, IsCycle};
 ghost use Rattle.history_book.specs.Precedence.{precedes};
@@ -61,21 +61,21 @@ impl fmt::Display for OrderFault {
 
 impl Error for OrderFault {}
 
-// Counts each of some numbers once more; want of memory also where a count would not fit.
-fn count_up(counts: &mut [usize], numbers: &[usize]) -> Result<(), AllocError>
-    requires { (n : ℕ) → is_one_of numbers.now n ≡ true → n < length counts.old }
-    ensures { OnOk result ((n : ℕ) → n < length counts.old
-        → slice_index counts.new n ≡ slice_index counts.old n + times n numbers.now) }
+// Counts each of some numbers once more.
+fn count_up(counts: &mut [u128], numbers: &[usize])
+    requires within { (n : ℕ) → is_one_of numbers.now n ≡ true → n < length counts.old }
+    requires room { (n : ℕ) → n < length counts.old
+        → slice_index counts.old n + times n numbers.now < 2 ^ 128 }
+    ensures { (n : ℕ) → n < length counts.old
+        → slice_index counts.new n ≡ slice_index counts.old n + times n numbers.now }
 {
     for number in numbers {
-        let count = counts[*number].checked_add(1);
-        counts[*number] = count.ok_or(AllocError)?;
+        counts[*number] += 1;
     }
-    Ok(())
 }
 
 // Counts each of some numbers once less.
-fn count_down(counts: &mut [usize], numbers: &[usize])
+fn count_down(counts: &mut [u128], numbers: &[usize])
     requires within { (n : ℕ) → is_one_of numbers.now n ≡ true → n < length counts.old }
     requires enough { (n : ℕ) → n < length counts.old
         → times n numbers.now ≤ slice_index counts.old n }
@@ -88,7 +88,7 @@ fn count_down(counts: &mut [usize], numbers: &[usize])
 }
 
 // The numbers that wait for none.
-fn free_numbers(alloc: Global, waits: &[usize]) -> Result<BTreeSet<usize>, AllocError>
+fn free_numbers(alloc: Global, waits: &[u128]) -> Result<BTreeSet<usize>, AllocError>
     ensures { IfOk result (λ free. (n : ℕ) → is_one_of free.keys n
         ≡ (nat_lt 0 n && nat_lt n (length waits.now) && slice_index waits.now n == 0)) }
 {
@@ -104,7 +104,7 @@ fn free_numbers(alloc: Global, waits: &[usize]) -> Result<BTreeSet<usize>, Alloc
 // Adds those of some numbers that wait for none.
 fn free_more(
     free: &mut BTreeSet<usize>,
-    waits: &[usize],
+    waits: &[u128],
     numbers: &[usize],
 ) -> Result<(), AllocError>
     requires { (n : ℕ) → is_one_of numbers.now n ≡ true → n < length waits.now }
@@ -169,7 +169,7 @@ fn place_of(numbers: &[usize], number: usize) -> usize
 }
 
 // A place whose number is not 0.
-fn place_of_waiting(waits: &[usize]) -> usize
+fn place_of_waiting(waits: &[u128]) -> usize
     requires { (n : ℕ) × (n < length waits.now) × IsWaiting waits.now n }
     ensures within { result < length waits.now }
     ensures there { IsWaiting waits.now result }
@@ -211,19 +211,19 @@ fn cycle_of(alloc: Global, walk: &[usize], again: usize) -> Result<Vec<usize>, A
 }
 
 impl Precedence {
-    // For each number from 0 on, how many stand before it.
-    fn waits(&self, alloc: Global) -> Result<Vec<usize>, AllocError>
+    // For each number from 0 on, how many stand before it: wide numbers, so that any counts fit.
+    fn waits(&self, alloc: Global) -> Result<Vec<u128>, AllocError>
         ensures { IfOk result (λ waits. AreWaits self.now [] waits.items) }
     {
         let mut waits = vec![in alloc; 0; self.len() + 1]?;
         for place in 0..self.len() {
-            count_up(&mut waits, self.behind(place + 1))?;
+            count_up(&mut waits, self.behind(place + 1));
         }
         Ok(waits)
     }
 
     // For each number from 0 on, one that waits and has to stand before it.
-    fn leaders(&self, alloc: Global, waits: &[usize]) -> Result<Vec<usize>, AllocError>
+    fn leaders(&self, alloc: Global, waits: &[u128]) -> Result<Vec<usize>, AllocError>
         requires { length waits.now ≡ length self.now + 1 }
         ensures { IfOk result (λ leaders. AreLeaders self.now waits.now leaders.items) }
     {
@@ -237,7 +237,7 @@ impl Precedence {
     }
 
     // A cycle among the numbers that wait.
-    fn cycle(&self, alloc: Global, waits: &[usize]) -> Result<Vec<usize>, AllocError>
+    fn cycle(&self, alloc: Global, waits: &[u128]) -> Result<Vec<usize>, AllocError>
         requires { IsStuck self.now waits.now }
         ensures { IfOk result (λ cycle. IsCycle (precedes self.now) cycle.items) }
     {
@@ -248,7 +248,7 @@ impl Precedence {
     }
 
     // Why there is no order: a cycle among the numbers that wait, or no memory for it.
-    fn fault(&self, alloc: Global, waits: &[usize]) -> OrderFault
+    fn fault(&self, alloc: Global, waits: &[u128]) -> OrderFault
         requires { IsStuck self.now waits.now }
         ensures { IsOrderFault (precedes self.now) result }
     {
