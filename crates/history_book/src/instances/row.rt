@@ -1,5 +1,8 @@
 //! What a book keeps of instances that ended.
 
+ghost use Rattle.std.specs.Prelude.{◌≡◌, ◌↔◌, IsTrue};
+
+use crate::instances::snapshot::same_numbers;
 use prog_tree::{Cause, Sequence};
 use version_store::Clash;
 
@@ -23,4 +26,49 @@ pub enum Ending {
     Clashed { row: HistoryRow, clash: Clash },
     /// Its program aborted.
     Aborted { row: HistoryRow, cause: Cause },
+}
+
+fn same_clashes(clash: &Clash, other: &Clash) -> bool
+    ensures { IsTrue result ↔ (clash.now ≡ other.now) }
+{
+    clash == other
+}
+
+fn same_causes(cause: &Cause, other: &Cause) -> bool
+    ensures { IsTrue result ↔ (cause.now ≡ other.now) }
+{
+    cause == other
+}
+
+impl HistoryRow {
+    /// Whether both are of the same instance, with the same replies.
+    pub fn is_same(&self, other: &HistoryRow) -> bool
+        ensures { IsTrue result ↔ (self.now ≡ other.now) }
+    {
+        if self.program != other.program || self.start != other.start {
+            return false;
+        }
+        if !same_numbers(self.args.as_slice(), other.args.as_slice()) {
+            return false;
+        }
+        same_numbers(self.replies.as_slice(), other.replies.as_slice())
+    }
+}
+
+impl Ending {
+    /// Whether both are the same end of the same instance.
+    pub fn is_same(&self, other: &Ending) -> bool
+        ensures { IsTrue result ↔ (self.now ≡ other.now) }
+    {
+        match (self, other) {
+            (Ending::Committed(number), Ending::Committed(n)) => number == n,
+            (Ending::Clashed { row, clash }, Ending::Clashed { row: r, clash: c }) => {
+                row.is_same(r) && same_clashes(clash, c)
+            }
+            (Ending::Aborted { row, cause }, Ending::Aborted { row: r, cause: c }) => {
+                row.is_same(r) && same_causes(cause, c)
+            }
+            _ => false,
+        }
+    }
 }
