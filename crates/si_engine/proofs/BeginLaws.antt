@@ -16,7 +16,7 @@ use Rattle.history_book.specs.Ticket.{TicketView}
 use Rattle.history_book.specs.View as book
 use Rattle.history_book.specs.View.{BookView, state_in, instance_of, history_of, fault_by, begin_fault_of, next_ticket, begun_in}
 use Rattle.si_engine.specs.Machine.{Active, Machine, active_of, is_full, at_begin, begin_by}
-use Rattle.si_engine.specs.View.{instance_in, active_in, begun_of, machine_of, IsHeld, IsEngine, numbered}
+use Rattle.si_engine.specs.View.{instance_in, active_in, begun_of, machine_of, IsHeld, IsEngine, numbered, takes_memory}
 use Rattle.si_engine.specs.declared.active.ActiveRun.{ActiveRun}
 use Rattle.si_engine.specs.declared.event.Reply.{Reply}
 use Rattle.si_engine.specs.declared.event.Reply.TheVariants as reply
@@ -75,6 +75,12 @@ module _ (v : BookView) (runs : List (Option ActiveRun)) (kept : IsEngine v runs
         (reply.Full, machine_of v runs) ≡ begin_by (slice_get (draft_tree v.set).programs program) (machine_of v runs) program args
     begin_full full =
         sym (begin_found (draft_tree v.set).programs (program_tree p) (machine_of v runs) program args true (program_at v.set program p found) same (sym full_is ∙ full))
+
+    -- what is not refused takes memory
+    pub begin_takes_memory : book.is_full v ≡ false → takes_memory (begin_by (slice_get (draft_tree v.set).programs program) (machine_of v runs) program args).0 ≡ true
+    begin_takes_memory room =
+        ap (λ (x : Reply × Machine). takes_memory x.0)
+        (begin_found (draft_tree v.set).programs (program_tree p) (machine_of v runs) program args false (program_at v.set program p found) same (sym full_is ∙ room))
 
     -- ---- the instance that was begun
 

@@ -1,5 +1,5 @@
 -- What a commit leaves is what the machine leaves.
-use Rattle.std.proofs.Common.{◌≡◌, ℕ, ◌+◌, true, false, List, [], ◌∷◌, ◌++◌, length, set, ap, sym, ◌∙◌, subst, cond, arith}
+use Rattle.std.proofs.Common.{◌≡◌, ℕ, ◌+◌, true, false, List, [], ◌∷◌, ◌++◌, length, set, refl, ap, sym, ◌∙◌, subst, cond, arith}
 use Rattle.std.specs.Prelude.{slice_get, Option, Some, None}
 use Rattle.std.proofs.lemmas.List.{length-map, length-append}
 use Rattle.prog_tree.specs.declared.cell.Cell.{Cell}
@@ -11,7 +11,7 @@ use Rattle.history_book.specs.View.{BookView, instance_of, history_of, active_at
 use Rattle.history_book.specs.declared.instances.row.Ending.{Ending}
 use Rattle.history_book.specs.declared.instances.row.Ending.TheVariants as ending
 use Rattle.si_engine.specs.Machine.{Machine, with_begun, commit_by, machine_step}
-use Rattle.si_engine.specs.View.{instance_in, machine_of, IsEngine, IsCommitReply}
+use Rattle.si_engine.specs.View.{instance_in, machine_of, IsEngine, IsCommitReply, takes_memory}
 use Rattle.si_engine.specs.declared.active.ActiveRun.{ActiveRun}
 use Rattle.si_engine.specs.declared.event.Event.TheVariants as event
 use Rattle.si_engine.specs.declared.event.Reply.{Reply}
@@ -40,6 +40,18 @@ module _ (v : BookView) (runs : List (Option ActiveRun)) (kept : IsEngine v runs
       ap (λ ps. (reply.NotReady, machine_of v ps)) (set-same runs i (Some a) at)
       ∙ ap (λ b. cond b (commit_by (clash_here (instance_in a)) machine i (instance_in a)) (reply.NotReady, machine)) (sym early)
       ∙ commit_event i a at
+
+  -- a commit of an instance that is ready takes memory
+  pub commit_takes_memory : (i : ℕ) (a : ActiveRun) → slice_get runs i ≡ Some (Some a) → a.ready ≡ true →
+      takes_memory (machine_step (draft_tree v.set) v.opening (event.Commit i) machine).0 ≡ true
+  commit_takes_memory i a at ready =
+      ap (λ (x : Reply × Machine). takes_memory x.0)
+      (sym (commit_event i a at) ∙ ap (λ b. cond b (commit_by (clash_here (instance_in a)) machine i (instance_in a)) (reply.NotReady, machine)) ready)
+      ∙ either (clash_here (instance_in a))
+    where
+      either : (clash : Option (Cell × ℕ)) → takes_memory (commit_by clash machine i (instance_in a)).0 ≡ true
+      either None = refl
+      either (Some clash) = refl
 
   -- the one instance of the ticket
   one_instance : (i : ℕ) (a : ActiveRun) (j : Instance) → slice_get runs i ≡ Some (Some a) → active_at v a.ticket ≡ Some j → j ≡ instance_in a

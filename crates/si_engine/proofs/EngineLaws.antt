@@ -7,6 +7,10 @@ use Rattle.std.specs.Ordering.{nat_cmp}
 use Rattle.std.proofs.lemmas.Bool.Decides.{nat_tests}
 use Rattle.std.proofs.lemmas.List.{map-append, map-set, length-map, length-set, length-append}
 use Rattle.std.proofs.lemmas.Option.{slice_get-map, slice_get-get_or}
+use Rattle.prog_tree.specs.declared.deed.Deed.{Deed}
+use Rattle.prog_tree.specs.declared.deed.End.{End}
+use Rattle.prog_tree.specs.declared.deed.End.TheVariants.{Ready, Aborted}
+use Rattle.prog_tree.specs.Evaluation.{Evaluation}
 use Rattle.prog_tree.specs.Table.{TableState}
 use Rattle.prog_tree.specs.Tree.{draft_tree}
 use Rattle.prog_run.specs.Looks.{AreFound}
@@ -17,8 +21,8 @@ use Rattle.history_book.specs.View.{BookView, instance_of, history_of, active_at
 use Rattle.history_book.specs.declared.instances.row.Ending.{Ending}
 use Rattle.history_book.specs.declared.instances.row.HistoryRow.{HistoryRow}
 use Rattle.history_book.proofs.HistoryLaws.{state_after-push}
-use Rattle.si_engine.specs.Machine.{Active, Machine, least_start, stepped, with_begun, if_active, with_active, machine_step}
-use Rattle.si_engine.specs.View.{EngineView, instance_in, active_in, begun_of, machine_of, IsHeld, IsActive, IsEngine, IsAfterStep, numbered}
+use Rattle.si_engine.specs.Machine.{Active, Machine, least_start, at_end, deed_or_end, stepped, with_begun, if_active, with_active, machine_step}
+use Rattle.si_engine.specs.View.{EngineView, instance_in, active_in, begun_of, machine_of, IsHeld, IsActive, IsEngine, IsAfterStep, numbered, takes_memory}
 use Rattle.si_engine.specs.declared.active.ActiveRun.{ActiveRun}
 use Rattle.si_engine.specs.declared.event.Event.TheVariants as event
 use Rattle.si_engine.specs.declared.event.Reply.{Reply}
@@ -106,6 +110,18 @@ with_own_start i =
     let own : (i.start == i.start) ≡ true = grind (arith, nat_tests) in
     ap (λ b. cond b (Some i) None) own
 
+-- whatever a step of an active instance answers, takes memory
+stepped_takes_memory : (e : Evaluation) (a : Active) → takes_memory (stepped e a).0 ≡ true
+stepped_takes_memory e a = either (slice_get e.deeds a.steps)
+  where
+    over : (end : End) → takes_memory (at_end end e.replies a).0 ≡ true
+    over Ready = refl
+    over (Aborted cause) = refl
+
+    either : (next : Option Deed) → takes_memory (deed_or_end next e a).0 ≡ true
+    either (Some deed) = refl
+    either None = over e.ending
+
 module _ (v : BookView) (runs : List (Option ActiveRun)) (kept : IsEngine v runs) where
   pub is_active : (i : ℕ) (a : ActiveRun) → slice_get runs i ≡ Some (Some a) → IsActive v a
   is_active i a at =
@@ -182,6 +198,13 @@ module _ (v : BookView) (runs : List (Option ActiveRun)) (kept : IsEngine v runs
   abort_ended i p at none = ended_is i p _ at none
 
   -- ---- an event on an active instance
+
+  pub step_takes_memory : (i : ℕ) (a : ActiveRun) → slice_get runs i ≡ Some (Some a) → takes_memory (step_event (event.Step i)).0 ≡ true
+  step_takes_memory i a at =
+      let s = machine_of v runs in
+      ap (λ (x : Reply × Machine). takes_memory x.0)
+      (with_active_is i a (λ b. let x = stepped (evaluation (draft_tree v.set) v.opening s.history b.instance) b in (x.0, with_begun s i x.1 (is_none x.1))) at)
+      ∙ stepped_takes_memory (evaluation (draft_tree v.set) v.opening s.history (instance_in a)) (active_in a)
 
   -- the machine where the place of a number has changed
   pub machine-set : (w : BookView) (i : ℕ) (p : Option ActiveRun) (ends : Bool) → history_of w.rows ≡ history_of v.rows → w.floor ≡ v.floor →

@@ -1,5 +1,5 @@
 -- What contracts see of an engine, and what its fields keep.
-use Rattle.std.specs.Prelude.{◌≡◌, ℕ, ◌+◌, ◌≤◌, true, List, [], ◌∷◌, length, map, Option, Some, None, option_map, slice_get}
+use Rattle.std.specs.Prelude.{◌≡◌, ℕ, ◌+◌, ◌≤◌, Bool, true, false, List, [], ◌∷◌, length, map, Option, Some, None, option_map, slice_get}
 use Rattle.prog_tree.specs.declared.deed.End.TheVariants.{Ready}
 use Rattle.prog_tree.specs.declared.program.Draft.{Draft}
 use Rattle.prog_tree.specs.Table.{TableState}
@@ -84,6 +84,20 @@ StaysOver old new = (new.set ≡ old.set) × (new.opening ≡ old.opening)
 abbrev pub IsAnswerTo : Event → (old new : EngineView) → Reply → Type 0
 IsAnswerTo event old new reply =
     (reply, new.machine) ≡ machine_step (draft_tree old.set) old.opening event old.machine
+
+-- a reply that takes memory: more is kept of an instance or in the book, or replies are given out
+abbrev pub takes_memory : Reply → Bool
+takes_memory (reply.Begun instance start) = true
+takes_memory (reply.Did deed) = true
+takes_memory (reply.Ready replies) = true
+takes_memory (reply.Aborted cause) = true
+takes_memory (reply.Committed number) = true
+takes_memory (reply.Clashed clash) = true
+takes_memory _ = false
+
+-- the event machine's reply to an event takes memory
+abbrev pub MayLackMemory : Event → EngineView → Type 0
+MayLackMemory event v = takes_memory (machine_step (draft_tree v.set) v.opening event v.machine).0 ≡ true
 
 -- ---- what a call on an active instance leaves
 

@@ -6,7 +6,7 @@ ghost use Rattle.prog_run.specs.View.{begin_fault, begun};
 ghost use Rattle.history_book.specs.History.{state_after};
 ghost use Rattle.history_book.specs.View.{history_of, begin_fault_of, next_ticket, begun_in};
 ghost use Rattle.si_engine.specs.Machine.{new_machine};
-ghost use Rattle.si_engine.specs.View.{StaysOver, IsAnswerTo};
+ghost use Rattle.si_engine.specs.View.{StaysOver, IsAnswerTo, MayLackMemory, numbered};
 
 use crate::active::ActiveRun;
 use crate::event::{Event, Reply};
@@ -99,6 +99,8 @@ impl<'a> Engine<'a> {
         ensures opening { result.now.opening ≡ self.now.opening }
         ensures history { history_of result.now.rows ≡ self.now.machine.history }
         ensures endings { length result.now.endings ≡ self.now.machine.endings }
+        ensures active { result.now.active ≡ numbered 0 self.now.machine.begun }
+        ensures begun { result.now.begun ≡ length self.now.machine.begun }
         ensures floor { result.now.floor ≡ self.now.machine.floor }
     {
         &self.book
@@ -118,6 +120,7 @@ impl<'a> Engine<'a> {
         ensures step { IfOk result
             (IsAnswerTo (event.Begin program args.now) self.old self.new) }
         ensures err { OnErr result (self.new ≡ self.old) }
+        ensures memory { OnErr result (MayLackMemory (event.Begin program args.now) self.old) }
     {
         let set = self.book.set();
         let Some(found) = set.draft().programs.get(program) else {
@@ -150,6 +153,7 @@ impl<'a> Engine<'a> {
         ensures over { StaysOver self.old self.new }
         ensures step { IfOk result (IsAnswerTo (event.Step number) self.old self.new) }
         ensures err { OnErr result (self.new ≡ self.old) }
+        ensures memory { OnErr result (MayLackMemory (event.Step number) self.old) }
     {
         if number >= self.begun.len() {
             return Ok(Reply::NoSuchInstance);
@@ -168,6 +172,7 @@ impl<'a> Engine<'a> {
         ensures over { StaysOver self.old self.new }
         ensures step { IfOk result (IsAnswerTo (event.Commit number) self.old self.new) }
         ensures err { OnErr result (self.new ≡ self.old) }
+        ensures memory { OnErr result (MayLackMemory (event.Commit number) self.old) }
     {
         if number >= self.begun.len() {
             return Ok(Reply::NoSuchInstance);
@@ -216,6 +221,7 @@ impl<'a> Engine<'a> {
         ensures over { StaysOver self.old self.new }
         ensures step { IfOk result (IsAnswerTo event.now self.old self.new) }
         ensures err { OnErr result (self.new ≡ self.old) }
+        ensures memory { OnErr result (MayLackMemory event.now self.old) }
     {
         match event {
             Event::Begin { program, args } => {

@@ -6,9 +6,11 @@ use Rattle.prog_tree.specs.Tree.{draft_tree}
 use Rattle.prog_run.specs.View.{begun}
 use Rattle.history_book.specs.Ticket.{TicketView}
 use Rattle.si_engine.specs.Machine.{begin_by}
-use Rattle.si_engine.specs.View.{EngineView, machine_of, IsEngine}
+use Rattle.si_engine.specs.View.{EngineView, machine_of, IsEngine, MayLackMemory}
+use Rattle.si_engine.specs.declared.event.Event.TheVariants as event
 use Rattle.si_engine.specs.declared.event.Reply.TheVariants as reply
-use Rattle.si_engine.proofs.BeginLaws.{item_at, no_run_fault, no_begin_fault, begin_full, begin_made, engine-begun}
+use Rattle.si_engine.proofs.BeginLaws.{item_at, no_run_fault, no_begin_fault, begin_full, begin_takes_memory, begin_made, engine-begun}
+use Rattle.si_engine.proofs.EngineLaws.{on_err}
 use Rattle.si_engine.proofs.engine.Engine.begin.Goals as goal
 
 pub returns-then-is_full-clause-step : goal.returns-then-is_full-clause-step
@@ -85,3 +87,39 @@ returns-clause-step c =
     ∙ ap (λ n. (reply.Begun (length e.begun.items) n, machine_of w c.push.new.self.items)) start
     ∙ ap (λ ps. (reply.Begun (length e.begun.items) (length e.book.rows), machine_of w ps)) pushed
     ∙ made)
+
+pub returns-in_err-run-clause-memory : goal.returns-in_err-run-clause-memory
+returns-in_err-run-clause-memory c =
+    let e = c.self.inside in
+    let p : Program = c.in-Some.found.now in
+    let here = item_at c.deref.result.now c.args.program p c.in-Some.ensures.lookup.3.0 c.in-Some.ensures.lookup.1 in
+    let items = c.deref.ensures.value ∙ ap (λ (d : Draft). d.programs.items) (c.draft.ensures.same ∙ c.set-set.ensures) in
+    let found = subst (λ ps. slice_get ps c.args.program ≡ Some p) items here in
+    let same : length p.params.items ≡ length c.args.args.now = omega arith in
+    on_err _
+    (subst (MayLackMemory (event.Begin c.args.program c.args.args.now)) c.self.view_is
+    (begin_takes_memory e.book e.begun.items c.self.invariant c.args.program c.args.args.now p found same (sym c.is_full.ensures ∙ c.if-is_full.false)))
+
+pub returns-in_err-reserve-clause-memory : goal.returns-in_err-reserve-clause-memory
+returns-in_err-reserve-clause-memory c =
+    let e = c.self.inside in
+    let p : Program = c.in-Some.found.now in
+    let here = item_at c.deref.result.now c.args.program p c.in-Some.ensures.lookup.3.0 c.in-Some.ensures.lookup.1 in
+    let items = c.deref.ensures.value ∙ ap (λ (d : Draft). d.programs.items) (c.draft.ensures.same ∙ c.set-set.ensures) in
+    let found = subst (λ ps. slice_get ps c.args.program ≡ Some p) items here in
+    let same : length p.params.items ≡ length c.args.args.now = omega arith in
+    on_err _
+    (subst (MayLackMemory (event.Begin c.args.program c.args.args.now)) c.self.view_is
+    (begin_takes_memory e.book e.begun.items c.self.invariant c.args.program c.args.args.now p found same (sym c.is_full.ensures ∙ c.if-is_full.false)))
+
+pub returns-in_err-ticket-clause-memory : goal.returns-in_err-ticket-clause-memory
+returns-in_err-ticket-clause-memory c =
+    let e = c.self.inside in
+    let p : Program = c.in-Some.found.now in
+    let here = item_at c.deref.result.now c.args.program p c.in-Some.ensures.lookup.3.0 c.in-Some.ensures.lookup.1 in
+    let items = c.deref.ensures.value ∙ ap (λ (d : Draft). d.programs.items) (c.draft.ensures.same ∙ c.set-set.ensures) in
+    let found = subst (λ ps. slice_get ps c.args.program ≡ Some p) items here in
+    let same : length p.params.items ≡ length c.args.args.now = omega arith in
+    on_err _
+    (subst (MayLackMemory (event.Begin c.args.program c.args.args.now)) c.self.view_is
+    (begin_takes_memory e.book e.begun.items c.self.invariant c.args.program c.args.args.now p found same (sym c.is_full.ensures ∙ c.if-is_full.false)))

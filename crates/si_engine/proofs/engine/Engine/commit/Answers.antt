@@ -2,10 +2,10 @@ use Rattle.std.proofs.Common.{◌≡◌, ◌<◌, length, ap, sym, ◌∙◌, su
 use Rattle.std.specs.Prelude.{Some}
 use Rattle.prog_tree.specs.Tree.{draft_tree}
 use Rattle.si_engine.specs.Machine.{machine_step}
-use Rattle.si_engine.specs.View.{EngineView, machine_of, IsEngine}
+use Rattle.si_engine.specs.View.{EngineView, machine_of, IsEngine, MayLackMemory}
 use Rattle.si_engine.specs.declared.event.Event.TheVariants as event
 use Rattle.si_engine.specs.declared.event.Reply.TheVariants as reply
-use Rattle.si_engine.proofs.CommitLaws.{commit_early, commit_is, engine-committed, engine-back}
+use Rattle.si_engine.proofs.CommitLaws.{commit_early, commit_takes_memory, commit_is, engine-committed, engine-back}
 use Rattle.si_engine.proofs.EngineLaws.{place_at, is_active, commit_ended}
 use Rattle.si_engine.proofs.engine.Engine.commit.Goals as goal
 
@@ -70,3 +70,11 @@ returns-clause-step c =
     let made = commit_is e.book e.begun.items c.self.invariant w c.args.number c.in-Some.active c.in-Ok.reply at c.if-not-active.false c.in-Ok.ensures.ok in
     subst (λ (x : EngineView). (c.in-Ok.reply, machine_of w (set e.begun.items c.args.number c.take.new.self)) ≡ machine_step (draft_tree x.set) x.opening (event.Commit c.args.number) x.machine)
     c.self.view_is (ap (λ p. (c.in-Ok.reply, machine_of w (set e.begun.items c.args.number p))) c.take.ensures.after ∙ made)
+
+pub returns-in-Err-clause-memory : goal.returns-in-Err-clause-memory
+returns-in-Err-clause-memory c =
+    let e = c.self.inside in
+    let within : c.args.number < length e.begun.items = omega arith in
+    let at = place_at e.begun.items c.args.number c.index_mut-place.result.now within c.index_mut-place.ensures.value ∙ ap Some (sym c.take.ensures.value ∙ c.in-Some.is) in
+    subst (MayLackMemory (event.Commit c.args.number)) c.self.view_is
+    (commit_takes_memory e.book e.begun.items c.self.invariant c.args.number c.in-Some.active at c.if-not-active.false)

@@ -3,11 +3,11 @@ use Rattle.std.specs.Prelude.{Some, option_map}
 use Rattle.prog_tree.specs.Tree.{draft_tree}
 use Rattle.history_book.specs.View.{done_in}
 use Rattle.si_engine.specs.Machine.{machine_step, stepped}
-use Rattle.si_engine.specs.View.{EngineView, active_in, instance_in, machine_of}
+use Rattle.si_engine.specs.View.{EngineView, active_in, instance_in, machine_of, MayLackMemory}
 use Rattle.si_engine.specs.declared.active.ActiveRun.{ActiveRun}
 use Rattle.si_engine.specs.declared.event.Event.TheVariants as event
 use Rattle.si_engine.specs.declared.event.Reply.TheVariants as reply
-use Rattle.si_engine.proofs.EngineLaws.{place_at, is_active, step_ended, stepped_is, engine-stepped, unchanged, on_err}
+use Rattle.si_engine.proofs.EngineLaws.{place_at, is_active, step_ended, step_takes_memory, stepped_is, engine-stepped, unchanged, on_err}
 use Rattle.si_engine.proofs.engine.Engine.step.Goals as goal
 
 pub returns-in_default-clause-step : goal.returns-in_default-clause-step
@@ -60,3 +60,11 @@ returns-clause-step c =
     let step = subst (λ r. IfOk r (λ reply. (reply, option_map active_in after) ≡ stepped (done_in e.book (instance_in a)) (active_in a))) c.in_ok-reply.was c.step-after.ensures.step in
     let made = stepped_is e.book e.begun.items c.self.invariant w c.args.number a after c.in_ok-reply.reply at step c.step-after.ensures.after in
     subst (λ (x : EngineView). (c.in_ok-reply.reply, machine_of w (set e.begun.items c.args.number after)) ≡ machine_step (draft_tree x.set) x.opening (event.Step c.args.number) x.machine) c.self.view_is made
+
+pub returns-in_err-reply-clause-memory : goal.returns-in_err-reply-clause-memory
+returns-in_err-reply-clause-memory c =
+    let e = c.self.inside in
+    let within : c.args.number < length e.begun.items = omega arith in
+    let at = place_at e.begun.items c.args.number c.index_mut-place.result.now within c.index_mut-place.ensures.value ∙ ap Some (sym c.take.ensures.value ∙ c.in-Some.is) in
+    on_err c.from_residual.result
+    (subst (MayLackMemory (event.Step c.args.number)) c.self.view_is (step_takes_memory e.book e.begun.items c.self.invariant c.args.number c.in-Some.active at))
