@@ -1,11 +1,10 @@
 -- The tests of dependencies tell the dependencies.
 use Rattle.std.proofs.Common.{◌≡◌, ◌≢◌, ◌⊎◌, inl, inr, ◌↔◌, ℤ, ℕ, ◌<◌, eqb, Bool, true, false, cond, not, ◌||◌, List, [], ◌∷◌, refl, ap, sym, subst, ◌∙◌, arith, zero, suc}
-use Rattle.std.specs.Prelude.{Option, Some, None, is_some, slice_get, IsTrue, ◌≤◌, ◌-◌, length}
+use Rattle.std.specs.Prelude.{Option, Some, None, is_some, slice_get, IsTrue, ◌-◌, length}
 use Rattle.std.specs.Cmp.{tied_itself}
 use Rattle.std.specs.Ordering.{is_eq}
-use Rattle.std.proofs.lemmas.Bool.{cases_lt, ltb-true, lt-ltb, leb-true, le-leb, eqb-false, and_from, and_parts, not-true, or_cases, or_left, or_right}
+use Rattle.std.proofs.lemmas.Bool.{ltb-true, lt-ltb, leb-true, le-leb, eqb-false, and_from, and_parts, not-true, or_cases, or_left, or_right}
 use Rattle.std.proofs.lemmas.Bool.Decides.{eqb_tells}
-use Rattle.std.proofs.lemmas.Option.{slice_get_within}
 use Rattle.prog_tree.specs.declared.cell.Cell.{Cell}
 use Rattle.prog_tree.specs.ChangeSet.{ChangedCells, change_at}
 use Rattle.prog_tree.specs.LookedAt.{has_looked}
@@ -17,6 +16,7 @@ use Rattle.history_book.specs.Dependencies.{run_found, start_found, start_at, ev
 use Rattle.history_book.specs.History.{Instance, nth_instance, state_after, StartsBelow}
 use Rattle.history_book.specs.Orders.{IsUpTo}
 use Rattle.history_book.proofs.DependencyRelations.{WriteWriteBy, WriteReadBy, ReadWriteBy, DependsBy}
+use Rattle.history_book.proofs.StateLaws.{nth_instance-back, nth_instance_within}
 
 module _ (set : DraftTree) (opening : TableState) (h : List Instance) where
   -- it looked at a cell
@@ -90,7 +90,7 @@ module _ (set : DraftTree) (opening : TableState) (h : List Instance) (i j : ℕ
       let r = changed_at (has_looked (evaluation_at set opening h i)) (cells_by j) parts.1 in
       record { cell = r.0; other = other; unseen = ltb-true (start_at h i) j parts.0; look = r.3; change = (r.1, r.2) }
 
-  to_read_write : ReadWriteBy Cell (start_at h) (Looks set opening h) (Changes set opening h) i j → read_write set opening h i j ≡ true
+  pub to_read_write : ReadWriteBy Cell (start_at h) (Looks set opening h) (Changes set opening h) i j → read_write set opening h i j ≡ true
   to_read_write d = and_from _ _ (lt-ltb (start_at h i) j d.unseen) (changes_at (has_looked (evaluation_at set opening h i)) (cells_by j) d.cell d.change.0 d.change.1 d.look)
 
   from_test : depends set opening h i j ≡ true → DependsOn set opening h i j
@@ -142,53 +142,28 @@ module _ (h : List Instance) where
     where
       go : (o : Option Instance) → nth_instance h n ≡ o → (b : Instance) × (nth_instance h n ≡ Some b)
       go (Some b) e = (b, e)
-      go None e = absurd (inside h (n - 1) (let a = one.0 in let b = one.1 in omega arith) e)
+      go None e = absurd (inside h (n - 1) (let a = one.0 in let b = one.1 in omega arith) (sym (nth_instance-back h n one.0) ∙ e))
 
   pub start_at-below : StartsBelow h → (n : ℕ) → IsUpTo (length h) n → start_at h n < n
-  start_at-below below n one = let f = found_at n one in subst (λ k. k < n) (sym (ap start_found f.1)) (below n f.0 one.0 f.1)
-
-  -- before the first commit there is none to see
-  sees_none : StartsBelow h → start_at h 0 ≡ 0
-  sees_none below = go (nth_instance h 1) refl
-    where
-      go : (o : Option Instance) → nth_instance h 1 ≡ o → start_found o ≡ 0
-      go None e = refl
-      go (Some b) e = let low : b.start < 1 = below 1 b (omega arith) e in omega arith
+  start_at-below below n one = let f = found_at n one in subst (λ k. k < n) (sym (ap start_found f.1)) (below n f.0 f.1)
 
 module _ (set : DraftTree) (opening : TableState) (h : List Instance) where
   -- what changes or looks at a cell is an instance
-  acts : (n : ℕ) (c : Cell) → Changes set opening h n c ⊎ Looks set opening h n c → n ≤ length h
+  acts : (n : ℕ) (c : Cell) → Changes set opening h n c ⊎ Looks set opening h n c → IsUpTo (length h) n
   acts n c did = go (nth_instance h n) refl
     where
       idle : nth_instance h n ≡ None → Changes set opening h n c ⊎ Looks set opening h n c → ⊥
       idle none (inl w) = let q : change_at (evaluation_at set opening h n).changes c ≡ None = ap (λ o. change_at (run_found set o (state_after set opening h (start_at h n))).changes c) none in let k = w.1 in cc
       idle none (inr look) = let q : has_looked (evaluation_at set opening h n) c ≡ false = ap (λ o. has_looked (run_found set o (state_after set opening h (start_at h n))) c) none in cc
 
-      go : (o : Option Instance) → nth_instance h n ≡ o → n ≤ length h
-      go (Some b) e = let inside : n - 1 < length h = slice_get_within h (n - 1) b e in omega arith
+      go : (o : Option Instance) → nth_instance h n ≡ o → IsUpTo (length h) n
+      go (Some b) e = nth_instance_within h n b e
       go None e = absurd (idle e did)
 
-  both_act : (i j : ℕ) → DependsOn set opening h i j → (i ≤ length h) × (j ≤ length h)
+  both_act : (i j : ℕ) → DependsOn set opening h i j → IsUpTo (length h) i × IsUpTo (length h) j
   both_act i j (inl d) = (acts i d.cell (inl d.first), acts j d.cell (inl d.second))
   both_act i j (inr (inl d)) = (acts i d.cell (inl d.change), acts j d.cell (inr d.look))
   both_act i j (inr (inr d)) = (acts i d.cell (inr d.look), acts j d.cell (inl d.change))
 
-  -- and of two that depend the second is no 0
-  second_counts : (i j : ℕ) → StartsBelow h → i ≢ j → DependsOn set opening h i j → 1 ≤ j
-  second_counts i j below other (inl d) = let b = d.before in omega arith
-  second_counts i j below other (inr (inr d)) = let b = d.unseen in omega arith
-  second_counts i j below other (inr (inl d)) = go (cases_lt 0 j)
-    where
-      zero_sees : j ≡ 0 → i ≤ 0
-      zero_sees e = let s : i ≤ start_at h 0 = subst (λ k. i ≤ start_at h k) e d.seen in let n = sees_none h below in omega arith
-
-      go : (0 < j) ⊎ (j ≤ 0) → 1 ≤ j
-      go (inl l) = omega arith
-      go (inr l) = let e : j ≡ 0 = omega arith in let s = zero_sees e in absurd (other (omega arith))
-
-  pub depends_within : (i j : ℕ) → StartsBelow h → depends set opening h i j ≡ true → (i ≤ length h) × IsUpTo (length h) j
-  depends_within i j below t =
-      let d = from_test set opening h i j t in
-      let both = both_act i j d in
-      let other = eqb-false i j (not-true (eqb i j) (and_parts _ _ t).0) in
-      (both.0, (second_counts i j below other d, both.1))
+  pub depends_within : (i j : ℕ) → depends set opening h i j ≡ true → IsUpTo (length h) i × IsUpTo (length h) j
+  depends_within i j t = both_act i j (from_test set opening h i j t)

@@ -1,11 +1,11 @@
 -- What committed instances look at, change and keep, by the accesses of the nodes that they follow.
-use Rattle.std.proofs.Common.{◌≡◌, ◌≢◌, ℕ, ◌<◌, true, List, [], ◌∷◌, ◌⊎◌, inl, inr, refl, ap, sym, subst, ◌∙◌}
+use Rattle.std.proofs.Common.{◌≡◌, ◌≢◌, ℕ, ◌<◌, true, List, [], ◌∷◌, ◌⊎◌, inl, inr, refl, sym, subst, ◌∙◌}
 use Rattle.std.specs.Prelude.{Some, is_some, slice_get, IsTrue, not}
 use Rattle.std.proofs.lemmas.Bool.{cases_order, and_parts, not-true, or_cases, or_left, or_right}
 use Rattle.prog_tree.specs.declared.cell.Cell.{Cell}
 use Rattle.prog_tree.specs.declared.deed.Look.{Look}
 use Rattle.prog_tree.specs.declared.deed.Look.TheVariants as look
-use Rattle.prog_tree.specs.ChangeSet.{change_at, touches_cell}
+use Rattle.prog_tree.specs.ChangeSet.{change_at}
 use Rattle.prog_tree.specs.LookedAt.{looks_at, some_looks_at, has_looked}
 use Rattle.prog_tree.specs.Syntax.{DraftTree}
 use Rattle.prog_tree.specs.Table.{TableState, is_in, is_cell_among}
@@ -19,13 +19,13 @@ use Rattle.prog_paths.specs.Meeting.{IsOf, MeetsUnder}
 use Rattle.prog_paths.specs.StaticGraph.{Question, HasQuestion}
 use Rattle.prog_check.specs.declared.path.Kind.{Kind}
 use Rattle.prog_paths.proofs.KindsFit.{KindFits}
-use Rattle.history_book.specs.Dependencies.{run_found, start_found, start_at, evaluation_at}
-use Rattle.history_book.specs.History.{Instance, nth_instance, state_after, evaluation}
-use Rattle.history_book.proofs.DependencyLaws.{Changes, found_at, start_at-below}
-use Rattle.history_book.proofs.DependencyRelations.{WriteWriteBy}
+use Rattle.history_book.specs.Dependencies.{start_at, evaluation_at}
+use Rattle.history_book.specs.History.{Instance}
+use Rattle.history_book.proofs.DependencyLaws.{start_at-below}
 use Rattle.si_engine.specs.Robustness.{Grows, IsCommitted, AreConcurrent, IsHistory, FollowsNode}
 use Rattle.si_engine.proofs.GrowLaws.{Has, ChangesAt}
 use Rattle.si_engine.proofs.KindLaws.{access_fits, grows_by, plain_by}
+use Rattle.si_engine.proofs.MissedLaws.{Touched, first_wins as wins}
 
 -- ---- looks, as tests and as relations
 
@@ -53,31 +53,15 @@ module _ (set : DraftTree) (opening : TableState) (h : List Instance) (is : IsHi
   pub starts : (n : ℕ) → IsCommitted h n → start_at h n < n
   starts n one = start_at-below h is.lawful.starts n one
 
-  touch_test : (n : ℕ) (b : Instance) (c : Cell) → nth_instance h n ≡ Some b → TouchesAt n c →
-      touches_cell (evaluation set opening h b).changes c ≡ true
-  touch_test n b c found t =
-      ap (λ o. touches_cell (run_found set o (state_after set opening h (start_found o))).changes c) (sym found)
-      ∙ either t
-    where
-      either : TouchesAt n c → touches_cell (evaluation_at set opening h n).changes c ≡ true
-      either (inl changed) = or_left _ _ changed
-      either (inr kept) = or_right (is_some (change_at (evaluation_at set opening h n).changes c)) _ kept
+  touched : (n : ℕ) (c : Cell) → TouchesAt n c → Touched set opening h n c
+  touched n c (inl changed) = or_left _ _ changed
+  touched n c (inr kept) = or_right (is_some (change_at (evaluation_at set opening h n).changes c)) _ kept
 
   -- the first committer wins
   pub first_wins : (i j : ℕ) (c : Cell) → IsCommitted h i → IsCommitted h j → start_at h j < i → i < j →
       TouchesAt i c → TouchesAt j c → ⊥
   first_wins i j c one other unseen before mine theirs =
-      let a = found_at h i one in
-      let b = found_at h j other in
-      let start : b.0.start < i = subst (λ (n : ℕ). n < i) (ap start_found b.1) unseen in
-      is.lawful.apart i j a.0 b.0 c one.0 a.1 b.1 start before (touch_test i a.0 c a.1 mine)
-      (touch_test j b.0 c b.1 theirs)
-
-  -- who changes what another one changed saw that change
-  pub sees_overwritten : (i j : ℕ) → IsCommitted h i → IsCommitted h j → start_at h j < i →
-      WriteWriteBy Cell (Changes set opening h) i j → ⊥
-  sees_overwritten i j one other unseen w =
-      first_wins i j w.cell one other unseen w.before (inl (ap is_some w.first.1)) (inl (ap is_some w.second.1))
+      wins set opening h is.lawful i j c one other unseen before (touched i c mine) (touched j c theirs)
 
   -- two concurrent instances touch no cell both
   pub none_shared : (i j : ℕ) (c : Cell) → IsCommitted h i → IsCommitted h j → i ≢ j → AreConcurrent h i j →

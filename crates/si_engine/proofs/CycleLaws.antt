@@ -1,58 +1,67 @@
 -- A cycle of dependencies shows a dangerous structure.
-use Rattle.std.proofs.Common.{◌≡◌, ℕ, ◌<◌, ◌≤◌, eqb, true, List, [], ◌∷◌, refl, subst, arith}
-use Rattle.std.specs.List.{AllByRecursion}
-use Rattle.std.proofs.lemmas.Bool.{eqb-false, and_parts, not-true}
-use Rattle.std.proofs.lemmas.List.Elements.{recursion_from_All}
+use Rattle.std.proofs.Common.{◌≡◌, ℕ, List, [], ◌∷◌, ◌++◌, sym, subst, ◌∙◌}
 use Rattle.prog_tree.specs.Syntax.{DraftTree}
 use Rattle.prog_tree.specs.Table.{TableState}
 use Rattle.prog_check.specs.Paths.{paths_of}
-use Rattle.prog_paths.specs.StaticGraph.{StaticEdge, Leads, here, IsDangerous}
+use Rattle.prog_paths.specs.StaticGraph.{StaticEdge, Leads, here, onward, IsVulnerable}
 use Rattle.history_book.specs.Dependencies.{depends}
 use Rattle.history_book.specs.History.{Instance}
 use Rattle.history_book.specs.Orders.{LeadsTo}
 use Rattle.history_book.proofs.DependencyLaws.{depends_within}
-use Rattle.si_engine.specs.Robustness.{IsCommitted, IsHistory, FollowsNode, LawOfCycles, LawOfSafeSets}
+use Rattle.si_engine.specs.Robustness.{IsCommitted, IsHistory, FollowsNode, Misses, LawOfCycles, LawOfSafeSets}
+use Rattle.si_engine.proofs.CycleSteps.{step}
+use Rattle.si_engine.proofs.MissedLaws.{misses_depends, law_of_last_steps}
 use Rattle.si_engine.proofs.NodeLaws.{law_of_nodes}
-use Rattle.si_engine.proofs.CycleSteps.{one_more, dangerous, step}
+use Rattle.si_engine.proofs.VulnerableLaws.{law_of_vulnerable_edges}
+
+ends_later : (front : List ℕ) (a b : ℕ) → [] ≡ front ++ a ∷ b ∷ [] → ⊥
+ends_later [] a b none = cc
+ends_later (x ∷ front) a b none = cc
 
 module _ (set : DraftTree) (opening : TableState) (h : List Instance) (is : IsHistory set opening h) where
-  module _ (c : ℕ) (least : IsCommitted h c) (g : FollowsNode set opening h c) where
-    -- along the cycle to its last two steps
-    walk : (i j : ℕ) (js : List ℕ) → IsCommitted h i → (f : FollowsNode set opening h i) → c ≤ i →
-        AllByRecursion (λ n. c < n) (j ∷ js) →
-        Leads (StaticEdge (paths_of set)) g.node f.node → LeadsTo (depends set opening h) (i ∷ j ∷ js) c → IsDangerous
-        (paths_of set)
-    walk i j [] one f low above back leads =
-        let other = (depends_within set opening h i j is.lawful.starts leads.0).1 in
-        let l = above.0 in
-        dangerous set opening h is c least g i j one other f low (omega arith) back leads.0 leads.1
-    walk i j (k ∷ ks) one f low above back leads =
-        let other = (depends_within set opening h i j is.lawful.starts leads.0).1 in
-        let l = above.0 in
-        let theirs = law_of_nodes set opening h is j other in
-        walk j k ks other theirs (omega arith) above.1 (one_more back (step set opening h is i j one other f theirs leads.0)) leads.1
+  -- a walk from the node that an instance follows to one that the instance of a number follows
+  abbrev WalkTo : ℕ → (i : ℕ) → FollowsNode set opening h i → Type 0
+  WalkTo n i f = (g : FollowsNode set opening h n) × Leads (StaticEdge (paths_of set)) f.node g.node
 
-  -- the end of what leads to it is an instance
-  leads_to_instance : (i : ℕ) (js : List ℕ) (end : ℕ) → LeadsTo (depends set opening h) (i ∷ js) end →
-      IsCommitted h end
-  leads_to_instance i [] end leads = (depends_within set opening h i end is.lawful.starts leads).1
-  leads_to_instance i (j ∷ js) end leads = leads_to_instance j js end leads.1
+  -- along the cycle to the last number but one
+  walk : (front : List ℕ) (a b c i : ℕ) (js : List ℕ) → i ∷ js ≡ front ++ a ∷ b ∷ [] →
+      LeadsTo (depends set opening h) (i ∷ js) c → (f : FollowsNode set opening h i) → WalkTo a i f
+  walk [] a b c i js at leads f = let same : i ≡ a = cc in subst (λ (n : ℕ). WalkTo n i f) same (f, here)
+  walk (x ∷ front) a b c i [] at leads f = let none : [] ≡ front ++ a ∷ b ∷ [] = cc in absurd (ends_later front a b none)
+  walk (x ∷ front) a b c i (j ∷ js) at leads f =
+      let within = depends_within set opening h i j leads.0 in
+      let theirs = law_of_nodes set opening h is j within.1 in
+      let later : j ∷ js ≡ front ++ a ∷ b ∷ [] = cc in
+      let w = walk front a b c j js later leads.1 theirs in
+      (w.0, onward (step set opening h is i j within.0 within.1 f theirs leads.0) w.1)
 
-  never_itself : (i : ℕ) → depends set opening h i i ≡ true → ⊥
-  never_itself i d = eqb-false i i (not-true (eqb i i) (and_parts _ _ d).0) refl
+  misses_within : (i j : ℕ) → Misses set opening h i j → IsCommitted h i × IsCommitted h j
+  misses_within i j m = depends_within set opening h i j (misses_depends set opening h i j m.other m.missed)
 
-  around : (first : ℕ) (rest : List ℕ) → AllByRecursion (λ n. first < n) rest →
-      LeadsTo (depends set opening h) (first ∷ rest) first → IsDangerous (paths_of set)
-  around first [] above leads = absurd (never_itself first leads)
-  around first (j ∷ js) above leads =
-      let one = leads_to_instance first (j ∷ js) first leads in
-      let g = law_of_nodes set opening h is first one in
-      walk first one g first j js one g (omega arith) above here leads
+  vulnerable : (i j : ℕ) (f : FollowsNode set opening h i) (g : FollowsNode set opening h j) → Misses set opening h i j →
+      IsVulnerable (paths_of set) f.node g.node
+  vulnerable i j f g m =
+      let within = misses_within i j m in
+      law_of_vulnerable_edges set opening h is i j within.0 within.1 m.other m.concurrent m.missed f g
 
 pub law_of_cycles : LawOfCycles
 law_of_cycles set opening h is numbers cycle =
-    around set opening h is cycle.first cycle.rest (recursion_from_All (λ n. cycle.first < n) cycle.rest cycle.least)
-    (subst (λ xs. LeadsTo (depends set opening h) xs cycle.first) cycle.is cycle.leads)
+    let c = cycle.first in
+    let ends = law_of_last_steps set opening h is.lawful numbers cycle in
+    let within = misses_within set opening h is ends.b c ends.last in
+    let k = law_of_nodes set opening h is ends.b within.0 in
+    let g = law_of_nodes set opening h is c within.1 in
+    let leads = subst (λ (ns : List ℕ). LeadsTo (depends set opening h) ns c) cycle.is cycle.leads in
+    let w = walk set opening h is ends.front ends.a ends.b c c cycle.rest (sym cycle.is ∙ ends.last_two) leads g in (
+      w.0.node,
+      k.node,
+      g.node,
+      record {
+        first = vulnerable set opening h is ends.a ends.b w.0 k ends.earlier;
+        second = vulnerable set opening h is ends.b c k g ends.last;
+        back = w.1;
+      },
+    )
 
 pub law_of_safe_sets : LawOfSafeSets
 law_of_safe_sets set opening h safe is numbers cycle = safe (law_of_cycles set opening h is numbers cycle)

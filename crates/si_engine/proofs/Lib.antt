@@ -16,6 +16,7 @@ pub mod KeepLaws
 pub mod KindLaws
 mod LineLemmas
 mod MachineVectors
+pub mod MissedLaws
 pub mod NodeLaws
 pub mod OutcomeLaws
 pub mod OutputLaws

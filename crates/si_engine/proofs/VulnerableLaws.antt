@@ -1,8 +1,6 @@
 -- A read-write dependency between concurrent instances is a vulnerable edge.
-use Rattle.std.proofs.Common.{◌≡◌, ◌≢◌, ℕ, eqb, true, false, not, List, ◌⊎◌, inl, inr, ap, sym, subst, ◌∙◌, arith}
+use Rattle.std.proofs.Common.{◌≡◌, ◌≢◌, ℕ, List, inl, inr, sym, subst, ◌∙◌, arith}
 use Rattle.std.specs.Prelude.{Some, slice_get}
-use Rattle.std.proofs.lemmas.Bool.Decides.{eqb_tells}
-use Rattle.std.proofs.lemmas.Bool.{and_from, or_right}
 use Rattle.prog_tree.specs.declared.cell.Cell.{Cell}
 use Rattle.prog_tree.specs.Syntax.{DraftTree}
 use Rattle.prog_tree.specs.Table.{TableState}
@@ -11,13 +9,14 @@ use Rattle.prog_check.specs.declared.path.Path.{Path}
 use Rattle.prog_check.specs.Paths.{paths_of}
 use Rattle.prog_paths.specs.Meeting.{Assignment, cell_under, MayCover, AreSameCell, MeetsUnder}
 use Rattle.prog_paths.specs.StaticGraph.{IsAccessOf, IsCovered, IsExposed, IsVulnerable, AsksReadWrite}
-use Rattle.history_book.specs.Dependencies.{start_at, write_write, write_read, read_write, depends}
+use Rattle.history_book.specs.Dependencies.{start_at}
 use Rattle.history_book.specs.History.{Instance}
 use Rattle.history_book.proofs.DependencyLaws.{Looks, Changes, DependsOn, depends_tells}
 use Rattle.history_book.proofs.DependencyRelations.{ReadWriteBy}
 use Rattle.si_engine.specs.Robustness.{IsCommitted, AreConcurrent, IsHistory, FollowsNode, LawOfVulnerableEdges}
 use Rattle.si_engine.proofs.EdgeLaws.{asked_read_write}
-use Rattle.si_engine.proofs.AccessLaws.{TouchesAt, starts, sees_overwritten, none_shared, meets, asked_with}
+use Rattle.si_engine.proofs.AccessLaws.{TouchesAt, starts, none_shared, meets, asked_with}
+use Rattle.si_engine.proofs.MissedLaws.{misses_depends, sees_overwritten}
 
 -- accesses that are the same single cell have one cell
 same_cell : (v w : Assignment) (a b : Access) → AreSameCell v a w b → cell_under v a ≡ cell_under w b
@@ -41,16 +40,7 @@ module _ (set : DraftTree) (opening : TableState) (h : List Instance) (is : IsHi
         ReadWriteBy Cell (start_at h) (Looks set opening h) (Changes set opening h) i j
     by_look (inr (inr w)) = w
     by_look (inr (inl w)) = let s = w.seen in let u = both.1 in absurd (omega arith)
-    by_look (inl w) = absurd (sees_overwritten set opening h is i j one other both.1 w)
-
-    depends_on : read_write set opening h i j ≡ true → depends set opening h i j ≡ true
-    depends_on test =
-        and_from _ _ (apart (eqb_tells i j))
-        (or_right (write_write set opening h i j) _ (or_right (write_read set opening h i j) _ test))
-      where
-        apart : ((eqb i j ≡ true) × (i ≡ j)) ⊎ ((eqb i j ≡ false) × (i ≢ j)) → not (eqb i j) ≡ true
-        apart (inl e) = absurd (differ e.1)
-        apart (inr e) = ap not e.0
+    by_look (inl w) = absurd (sees_overwritten set opening h is.lawful i j one other both.1 w)
 
     module _ (f : FollowsNode set opening h i) (g : FollowsNode set opening h j) where
       not_covered : (a b : Access) → MeetsUnder f.v g.v a b → IsCovered (paths_of set) f.node g.node a b → ⊥
@@ -73,6 +63,6 @@ pub law_of_vulnerable_edges : LawOfVulnerableEdges
 law_of_vulnerable_edges set opening h is i j one other differ both test mine theirs =
     let d =
     (depends_tells set opening h i j (starts set opening h is j other)).0
-    (depends_on set opening h is i j one other differ both test) in
+    (misses_depends set opening h i j differ test) in
     vulnerable_of set opening h is i j one other differ both mine theirs
     (by_look set opening h is i j one other differ both d)

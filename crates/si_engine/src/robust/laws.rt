@@ -7,7 +7,7 @@ ghost use Rattle.prog_tree.specs.Table.{TableState, HasI64Rows};
 ghost use Rattle.prog_check.specs.Sound.{IsSound};
 ghost use Rattle.history_book.specs.History.{Instance, IsLawful, state_after};
 ghost use Rattle.si_engine.specs.Robustness.{LawOfCycles, LawOfInserts, LawOfNodes, LawOfSafeSets};
-ghost use Rattle.si_engine.specs.Robustness.{LawOfSingleInserts, LawOfStaticEdges};
+ghost use Rattle.si_engine.specs.Robustness.{LawOfLastSteps, LawOfSingleInserts, LawOfStaticEdges};
 ghost use Rattle.si_engine.specs.Robustness.{LawOfVulnerableEdges};
 
 /// From opening rows of i64, the states of a lawful history have rows of i64.
@@ -38,6 +38,12 @@ pub fn dependencies_are_static_edges()
 /// be a cell that both changed or kept.
 pub fn concurrent_dependencies_are_vulnerable()
     ensures { LawOfVulnerableEdges }
+{}
+
+/// The last two steps of a cycle, the second of which goes to its least commit, are read-write
+/// dependencies between concurrent instances: each missed a change of the next one.
+pub fn cycles_end_in_two_missed_changes()
+    ensures { LawOfLastSteps }
 {}
 
 /// A cycle of dependencies shows a dangerous structure: where there is none, there is no cycle.
