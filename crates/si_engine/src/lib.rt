@@ -14,7 +14,13 @@ mod run;
 pub use engine::Engine;
 pub use event::{Event, Reply};
 pub use input::bytes::Bytes;
+pub use input::from_lines::{FromLines, read_part};
+pub use input::line_words::{Word, line_words};
+pub use input::lines::is_skipped;
+pub use input::names::{program_number, table_number};
+pub use input::number::{number, number_between, numbers, unsigned};
 pub use input::records::{Records, read_records};
+pub use input::row_line::{RowLine, add_row, row_line};
 pub use input::script::{Script, read_script};
 pub use input::script_fault::{LineFault, ScriptFault};
 pub use input::source::{DeviceFault, InputFault, Source, read_whole};
@@ -23,10 +29,10 @@ pub use output::finding::{Finding, push_findings};
 pub use output::sink::{Sink, write_whole};
 pub use port::Port;
 pub use robust::laws::{
-    concurrent_dependencies_are_vulnerable, cycles_are_dangerous, dependencies_are_static_edges,
-    grow_tables_gain_each_row_once, instances_follow_nodes, safe_sets_have_no_cycle,
-    states_have_i64_rows,
+    concurrent_dependencies_are_vulnerable, cycles_are_dangerous, cycles_end_in_two_missed_changes,
+    dependencies_are_static_edges, grow_tables_gain_each_row_once, instances_follow_nodes,
+    safe_sets_have_no_cycle, states_have_i64_rows,
 };
-pub use robust::run::{Outcome, run_robust};
+pub use robust::run::{Outcome, order_of, run_robust};
 pub use robust::script::run_robust_script;
 pub use run::run_script;

@@ -76,8 +76,8 @@ fn know_history(book: &Book<'_>)
     book.opening().len();
 }
 
-// The serial order of a book over a set without a dangerous structure: there is one.
-fn order_of(book: &Book<'_>) -> Result<Vec<usize>, AllocError>
+/// The least serial order of a book over a set without a dangerous structure: there is one.
+pub fn order_of(book: &Book<'_>) -> Result<Vec<usize>, AllocError>
     requires safe { ¬ IsDangerous (paths_of (draft_tree book.now.set)) }
     ensures least { IfOk result (λ order.
         least_order (depends_in book.now) (length book.now.rows) ≡ Some order.items) }
