@@ -32,15 +32,14 @@ impl Matrix {
     fn of_ends(alloc: Global, facts: &[Fact]) -> Result<Matrix, AllocError>
         ensures { IfOk result (λ m. IsMatrixOf m facts.now []) }
     {
-        let size = facts.len();
-        let Some(count) = size.checked_mul(size) else {
-            return Err(AllocError);
-        };
-        let mut entries = Vec::with_capacity(alloc, count)?;
+        let mut entries = Vec::new(alloc);
         for from in facts {
             push_row(&mut entries, from.hi, facts)?;
         }
-        Ok(Matrix { size, entries })
+        Ok(Matrix {
+            size: facts.len(),
+            entries,
+        })
     }
 
     /// Whether the fact of a row leads to that of a column.
