@@ -29,10 +29,11 @@ impl Square {
     pub fn new(alloc: Global, size: usize) -> Result<Square, AllocError>
         ensures { IfOk result (λ s. IsEmptySquare s size) }
     {
-        let Some(count) = size.checked_mul(size) else {
-            return Err(AllocError);
-        };
-        let entries = vec![in alloc; false; count]?;
+        let row = vec![in alloc; false; size]?;
+        let mut entries = Vec::new(alloc);
+        for _ in 0..size {
+            entries.extend_from_slice(&row)?;
+        }
         Ok(Square { size, entries })
     }
 
