@@ -37,6 +37,12 @@ module _ (t : Table) (edges vulnerable reach : Grid) (k : Keeps (marks_of t) edg
         λ h. e ∙ (Joins-vulnerable (marks_of t) edges vulnerable reach k x y (HasVulnerable-from_vulnerable t paths s x y h)).joined,
       )
 
+  pub reaches-right : (x y : ℕ) → x < t.nodes → y < t.nodes → (r : Bool) → r ≡ entry reach x y → IsTrue r ↔ Leads (StaticEdge paths) x y
+  reaches-right x y p q r e =
+      let size = k.edges_are.size_is in
+      let walks = k.reach_is.walks x y (omega arith) (omega arith) in
+      (λ h. Leads-within _ _ static-joined x y (walks.0 (sym e ∙ h)), λ h. e ∙ walks.1 (Leads-within _ _ joined-static x y h))
+
   pub level-right : (x count : ℕ) → x < t.nodes → IsCountOf (λ u. entry reach u x ≡ true) reach.size count → IsCountOf (λ u. Leads (StaticEdge paths) u x) (length paths) count
   level-right x count inside c =
       subst (λ n. IsCountOf (λ u. Leads (StaticEdge paths) u x) n count) s.nodes

@@ -129,6 +129,16 @@ impl<'a> Graph<'a> {
         self.vulnerable.get(x, y)
     }
 
+    /// Whether `x` reaches `y`, by any number of edges.
+    pub fn reaches(&self, x: usize, y: usize) -> bool
+        requires x { x < self.now.nodes }
+        requires y { y < self.now.nodes }
+        ensures { (paths : List Path) → StandsFor self.now paths
+            → (IsTrue result ↔ Leads (StaticEdge paths) x y) }
+    {
+        self.reach.get(x, y)
+    }
+
     /// How many nodes reach `x`, itself counted.
     pub fn level(&self, x: usize) -> usize
         requires { x < self.now.nodes }
