@@ -1,15 +1,18 @@
 -- Chains of a cover, pair by pair.
 use Rattle.std.proofs.Common.{◌≡◌, ℕ, ◌<◌, ◌≤◌, ◌+◌, ◌⊎◌, inl, inr, List, [], ◌∷◌, ◌++◌, length, get_or, sym, subst, ap, ◌∙◌, arith}
-use Rattle.std.specs.Prelude.{Some, slice_get}
+use Rattle.std.specs.Prelude.{All, Option, Some, IfSome, slice_get}
 use Rattle.std.proofs.lemmas.Bool.{cases_lt}
+use Rattle.std.proofs.lemmas.List.Elements.{All-push}
 use Rattle.std.proofs.lemmas.Option.{slice_get-get_or, slice_get_within, same_Some}
 use Rattle.order_facts.specs.declared.steps.Node.{Node}
 use Rattle.order_facts.specs.declared.steps.Fact.{Fact}
+use Rattle.order_facts.specs.Chain.{IsChain, RunsBetween}
 use Rattle.prog_check.specs.declared.path.Term.{Term}
 use Rattle.prog_paths.specs.Questions.{mine_node, their_node}
 use Rattle.prog_check.specs.declared.path.Access.{Access}
 use Rattle.prog_paths.specs.Shown.{Runs, ShowEqual}
 use Rattle.prog_paths.specs.Shown.{CoversBy}
+use Rattle.conflict_pairs.specs.Verdicts.{IsShortest}
 use Rattle.conflict_pairs.specs.Search.{CoversAt, CoversFirst}
 
 -- one more pair, and two more chains
@@ -26,6 +29,25 @@ ShowEqual-two facts old mid new p from to there back is_from is_to first second 
     let run = subst (λ (n : Node). Runs facts n (their_node p.1) there) is_from (subst (λ (n : Node). Runs facts from n there) is_to r) in
     let turn = subst (λ (n : Node). Runs facts n (mine_node p.0) back) is_to (subst (λ (n : Node). Runs facts to n back) is_from s) in
     subst (λ (c : List (List Node)). ShowEqual facts (pairs ++ p ∷ []) c) (sym (second ∙ ap (λ (c : List (List Node)). c ++ back ∷ []) first)) (ShowEqual-push facts pairs old p there back run turn h)
+
+-- ---- chains with the fewest nodes
+
+-- what is so of a thing that was found
+pub IfSome_at : {A : Type 0} (o : Option A) (x : A) (P : A → Type 0) → o ≡ Some x → IfSome o P → P x
+IfSome_at o x P e h = subst (λ (p : Option _). IfSome p P) e h
+
+pub IsShortest-from_fewest : (facts : List Fact) (from to : Node) (chain : List Node) → RunsBetween from to chain → ((other : List Node) → IsChain facts other → RunsBetween from to other → length chain ≤ length other) → IsShortest facts chain
+IsShortest-from_fewest facts from to [] r fewest x y other s o = absurd r
+IsShortest-from_fewest facts from to (a ∷ rest) r fewest x y other s o =
+    let first = sym s.0 ∙ r.0 in
+    let last = sym s.1 ∙ r.1 in
+    fewest other o.0 (subst (λ (n : Node). RunsBetween n to other) first (subst (λ (n : Node). RunsBetween x n other) last o.1))
+
+-- two more chains
+pub shortest-two : (facts : List Fact) (old mid new : List (List Node)) (there back : List Node) → mid ≡ old ++ there ∷ [] → new ≡ mid ++ back ∷ [] → IsShortest facts there → IsShortest facts back → All (IsShortest facts) old → All (IsShortest facts) new
+shortest-two facts old mid new there back first second s t h =
+    subst (λ (c : List (List Node)). All (IsShortest facts) c) (sym second)
+    (All-push (IsShortest facts) mid back (subst (λ (c : List (List Node)). All (IsShortest facts) c) (sym first) (All-push (IsShortest facts) old there h s)) t)
 
 -- ---- the least pair that covers
 

@@ -1,6 +1,8 @@
 -- Chains that fall, of a fact alone and among more facts.
-use Rattle.std.proofs.Common.{◌≡◌, ℕ, List, [], ◌∷◌, ◌++◌, map, inl, inr, sym, subst, ap, Contains}
-use Rattle.std.specs.Prelude.{Option, Some, None, slice_get, All, IfNone}
+use Rattle.std.proofs.Common.{◌≡◌, ℕ, ◌<◌, ◌≤◌, ◌+◌, ◌⊎◌, get_or, arith, List, [], ◌∷◌, ◌++◌, length, map, inl, inr, refl, sym, subst, ap, Contains}
+use Rattle.std.specs.Prelude.{Option, Some, None, slice_get, All, IfSome, IfNone}
+use Rattle.std.proofs.lemmas.Bool.{cases_lt}
+use Rattle.std.proofs.lemmas.Option.{get_or_from_slice_get}
 use Rattle.std.proofs.lemmas.List.Elements.{All-append}
 use Rattle.order_facts.specs.declared.steps.Node.{Node}
 use Rattle.order_facts.specs.declared.steps.Fact.{Fact}
@@ -13,7 +15,7 @@ use Rattle.order_facts.proofs.Reach.{IsIn}
 use Rattle.order_facts.proofs.Chains.{IsIn-from_Contains, Contains-from_IsIn}
 use Rattle.conflict_pairs.specs.Verdicts.{IsFall, HasFall}
 use Rattle.prog_paths.specs.Shown.{Falls}
-use Rattle.conflict_pairs.specs.Search.{FallsBetween, lower_nodes, upper_nodes}
+use Rattle.conflict_pairs.specs.Search.{FallsBetween, FallsAtOnce, FoundWithin, lower_nodes, upper_nodes}
 
 -- ---- among more facts
 
@@ -44,11 +46,11 @@ IsIn-right : (f : Fact) (fs gs : List Fact) → IsIn f gs → IsIn f (fs ++ gs)
 IsIn-right f [] gs i = i
 IsIn-right f (g ∷ fs) gs i = inr (IsIn-right f fs gs i)
 
-pub Falls-left : (fs gs : List Fact) (chain : List Node) → Falls fs chain → Falls (fs ++ gs) chain
-Falls-left fs gs chain f = Falls-more fs (fs ++ gs) (λ f i. IsIn-left f fs gs i) chain f
+pub FallsAtOnce-left : (fs gs : List Fact) (chain : List Node) → FallsAtOnce fs chain → FallsAtOnce (fs ++ gs) chain
+FallsAtOnce-left fs gs chain h = record { falls = Falls-more fs (fs ++ gs) (λ f i. IsIn-left f fs gs i) chain h.falls; two = h.two }
 
-pub Falls-right : (fs gs : List Fact) (chain : List Node) → Falls gs chain → Falls (fs ++ gs) chain
-Falls-right fs gs chain f = Falls-more gs (fs ++ gs) (λ f i. IsIn-right f fs gs i) chain f
+pub FallsAtOnce-right : (fs gs : List Fact) (chain : List Node) → FallsAtOnce gs chain → FallsAtOnce (fs ++ gs) chain
+FallsAtOnce-right fs gs chain h = record { falls = Falls-more gs (fs ++ gs) (λ f i. IsIn-right f fs gs i) chain h.falls; two = h.two }
 
 -- ---- of a fact alone
 
@@ -61,8 +63,8 @@ Falls-fact facts from to i f = record {
   runs = (f.from_is, f.to_is);
 }
 
-pub Falls-two : (facts : List Fact) (from to : Node) (chain : List Node) → IsIn (record { lo = from; hi = to }) facts → IsFall from to × (chain ≡ from ∷ to ∷ []) → Falls facts chain
-Falls-two facts from to chain i h = subst (λ (c : List Node). Falls facts c) (sym h.1) (Falls-fact facts from to i h.0)
+pub FallsAtOnce-two : (facts : List Fact) (from to : Node) (chain : List Node) → IsIn (record { lo = from; hi = to }) facts → IsFall from to × (chain ≡ from ∷ to ∷ []) → FallsAtOnce facts chain
+FallsAtOnce-two facts from to chain i h = subst (λ (c : List Node). FallsAtOnce facts c) (sym h.1) (record { falls = Falls-fact facts from to i h.0; two = refl })
 
 -- ---- the nodes of a question's facts
 
@@ -94,6 +96,42 @@ FallsBetween-contradiction facts h = record {
   chain = h.chain;
   runs = (h.chain_is, subst (λ (n : Node). RunsBetween n h.last.hi h.chain) (sym h.first_is) (subst (λ (n : Node). RunsBetween (Number h.greater) n h.chain) (sym h.last_is) h.chain_runs));
 }
+
+-- where a chain is found between two of these nodes with as few nodes as any, so it is for each contradiction
+pub found_for : (mine theirs : Access) (facts : List Fact) (starts ends : List Node) (found : Option (List Node)) → facts ≡ question_facts mine theirs → starts ≡ lower_nodes mine theirs → ends ≡ upper_nodes mine theirs
+    → ((i k : ℕ) (from to : Node) → slice_get starts i ≡ Some from → slice_get ends k ≡ Some to → (h : FallsBetween facts from to) → FoundWithin found (length h.chain))
+    → (h : HasContradiction facts) → FoundWithin found (length h.chain)
+unfolding FallsBetween-contradiction
+found_for mine theirs facts starts ends found same lowers uppers all h =
+    let low = lower-place mine theirs h.first (subst (λ (fs : List Fact). Contains fs h.first) same h.first_given) in
+    let high = upper-place mine theirs h.last (subst (λ (fs : List Fact). Contains fs h.last) same h.last_given) in
+    all low.0 high.0 h.first.lo h.last.hi
+    (subst (λ (ns : List Node). slice_get ns low.0 ≡ Some h.first.lo) (sym lowers) low.1)
+    (subst (λ (ns : List Node). slice_get ns high.0 ≡ Some h.last.hi) (sym uppers) high.1)
+    (FallsBetween-contradiction facts h)
+
+-- ---- the shorter of two chains
+
+pub IfSome-either : {A : Type 0} (P : A → Type 0) (result one other : Option A) → (result ≡ one) ⊎ (result ≡ other) → IfSome one P → IfSome other P → IfSome result P
+IfSome-either P result one other (inl e) h k = subst (λ (o : Option _). IfSome o P) (sym e) h
+IfSome-either P result one other (inr e) h k = subst (λ (o : Option _). IfSome o P) (sym e) k
+
+pub below_more : (P : ℕ → Type 0) (n : ℕ) → ((k : ℕ) → k < n → P k) → P n → (k : ℕ) → k < n + 1 → P k
+below_more P n below here k l = go (cases_lt k n)
+  where
+    go : (k < n) ⊎ (n ≤ k) → P k
+    go (inl before) = below k before
+    go (inr past) = let same : n ≡ k = omega arith in subst P same here
+
+pub own_end : (facts : List Fact) (from : Node) (ends : List Node) (n : ℕ) (d : Node) (found : Option (List Node)) → ((h : FallsBetween facts from (get_or ends n d)) → FoundWithin found (length h.chain))
+    → (to : Node) → slice_get ends n ≡ Some to → (h : FallsBetween facts from to) → FoundWithin found (length h.chain)
+own_end facts from ends n d found all to at = subst (λ (t : Node). (h : FallsBetween facts from t) → FoundWithin found (length h.chain)) (get_or_from_slice_get ends n to d at) all
+
+pub own_start : (facts : List Fact) (starts ends : List Node) (n : ℕ) (d : Node) (found : Option (List Node))
+    → ((k : ℕ) (to : Node) → slice_get ends k ≡ Some to → (h : FallsBetween facts (get_or starts n d) to) → FoundWithin found (length h.chain))
+    → (from : Node) → slice_get starts n ≡ Some from → (k : ℕ) (to : Node) → slice_get ends k ≡ Some to → (h : FallsBetween facts from to) → FoundWithin found (length h.chain)
+own_start facts starts ends n d found all from at =
+    subst (λ (t : Node). (k : ℕ) (to : Node) → slice_get ends k ≡ Some to → (h : FallsBetween facts t to) → FoundWithin found (length h.chain)) (get_or_from_slice_get starts n from d at) all
 
 -- where none of some facts and none of others is of two numbers that fall, none of both is
 pub none_fall : (result : Option (List Node)) (fs gs : List Fact) → All (λ f. IsFall f.lo f.hi → ⊥) fs → IfNone result (All (λ f. IsFall f.lo f.hi → ⊥) gs) → IfNone result (All (λ f. IsFall f.lo f.hi → ⊥) (fs ++ gs))

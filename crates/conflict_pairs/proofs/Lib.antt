@@ -1,4 +1,5 @@
 pub mod Falling
+pub mod Trimming
 pub mod Covering
 pub mod Meaning
 pub mod Entries

@@ -101,6 +101,7 @@ module _ (paths : List Path) (x y : Path) (i a j b : ℕ) (at_x : slice_get path
       least = λ other. h.least.least (cover_back mine theirs other);
     };
     equal = h.equal;
+    shortest = h.shortest;
   }
 
   right_there : (mine theirs : Access) (v : Verdict) → IsRightOf (two x y) (between a b) mine theirs v → IsRightOf paths here mine theirs v

@@ -1,5 +1,5 @@
 -- What the search for a verdict finds, over the facts alone.
-use Rattle.std.specs.Prelude.{◌≡◌, ◌<◌, ◌≤◌, ◌⊎◌, ℕ, List, [], ◌∷◌, Some, slice_get}
+use Rattle.std.specs.Prelude.{◌≡◌, ◌<◌, ◌≤◌, ◌⊎◌, ℕ, List, [], ◌∷◌, length, All, Option, None, Some, slice_get}
 use Rattle.order_facts.specs.declared.steps.Node.{Node}
 use Rattle.order_facts.specs.declared.steps.Fact.{Fact}
 use Rattle.order_facts.specs.Chain.{IsConsistent, IsOfI64, Meets}
@@ -8,7 +8,7 @@ use Rattle.prog_check.specs.declared.path.Kind.{Kind}
 use Rattle.prog_paths.specs.StaticGraph.{Question, AsksReadWrite}
 use Rattle.prog_check.specs.declared.path.Access.{Access}
 use Rattle.prog_paths.specs.Questions.{mine_node, their_node, column_or_zero, question_facts}
-use Rattle.conflict_pairs.specs.Verdicts.{IsFall}
+use Rattle.conflict_pairs.specs.Verdicts.{IsFall, FallsShortest, IsShortest}
 use Rattle.conflict_pairs.specs.declared.outcome.Verdict.{Verdict}
 use Rattle.conflict_pairs.specs.declared.outcome.Verdict.TheVariants.{Apart, Covered, Exposed}
 use Rattle.prog_paths.specs.Shown.{Falls, Runs, ShowEqual, key_pairs, CoversBy}
@@ -20,6 +20,16 @@ pub record FallsBetween (facts : List Fact) (from to : Node) : Type 0 where
   pub fall : IsFall from to
   pub chain : List Node
   pub runs : Runs facts from to chain
+
+-- a chain was found, of at most so many nodes
+abbrev pub FoundWithin : Option (List Node) → ℕ → Type 0
+FoundWithin None count = ⊥
+FoundWithin (Some chain) count = length chain ≤ count
+
+-- a chain of two nodes falls
+pub record FallsAtOnce (facts : List Fact) (chain : List Node) : Type 0 where
+  pub falls : Falls facts chain
+  pub two : length chain ≡ 2
 
 -- the lower nodes of a question's facts
 abbrev pub lower_nodes : Access → Access → List Node
@@ -61,7 +71,7 @@ IsNoCover facts mine theirs xs ys =
 
 -- what the facts say where nothing covers: a chain falls, or they are met by the sample, and not covered
 abbrev pub IsUncovered : List Fact → Verdict → Type 0
-IsUncovered facts (Apart chain) = Falls facts chain
+IsUncovered facts (Apart chain) = FallsShortest facts chain
 IsUncovered facts (Covered m t chains) = ⊥
 IsUncovered facts (Exposed sample) =
     (IsOfI64 (assignment_of sample) × Meets (assignment_of sample) facts)
@@ -79,6 +89,7 @@ IsJudged xs ys mine theirs (Apart chain) = IsUncovered (question_facts mine thei
 IsJudged xs ys mine theirs (Covered m t chains) =
     IsCoverFound (question_facts mine theirs) mine.kind theirs.kind xs ys m t
     × ShowEqualAt (question_facts mine theirs) xs ys m t chains
+    × All (IsShortest (question_facts mine theirs)) chains
 IsJudged xs ys mine theirs (Exposed sample) =
     IsUncovered (question_facts mine theirs) (Exposed sample)
     × IsNoCover (question_facts mine theirs) mine.kind theirs.kind xs ys

@@ -1,9 +1,11 @@
 -- When a verdict on a question is right.
-use Rattle.std.specs.Prelude.{◌≡◌, ℕ, ◌<◌, ◌≤◌, ◌⊎◌, ℤ, ◌<ℤ◌, List, Contains}
+use Rattle.std.specs.Prelude.{◌≡◌, ℕ, ◌<◌, ◌≤◌, ◌⊎◌, ℤ, ◌<ℤ◌, List, length, All, Contains}
+use Rattle.prog_tree.specs.Number.{IsI64}
 use Rattle.order_facts.specs.declared.steps.Node.{Node}
 use Rattle.order_facts.specs.declared.steps.Node.TheVariants.{Mine, MineUnknown, Theirs, TheirsUnknown, Number}
 use Rattle.order_facts.specs.declared.steps.Fact.{Fact}
 use Rattle.order_facts.specs.declared.sample.Choice.{Choice}
+use Rattle.order_facts.specs.Chain.{RunsBetween}
 use Rattle.order_facts.specs.Sample.{sample_number, IsSampled}
 use Rattle.prog_check.specs.declared.path.Access.{Access}
 use Rattle.prog_check.specs.declared.path.Path.{Path}
@@ -12,7 +14,7 @@ use Rattle.prog_paths.specs.Questions.{question_facts}
 use Rattle.prog_paths.specs.StaticGraph.{Question, AsksOf, AsksReadWrite, IsCovered}
 use Rattle.conflict_pairs.specs.declared.outcome.Verdict.{Verdict}
 use Rattle.conflict_pairs.specs.declared.outcome.Verdict.TheVariants.{Apart, Covered, Exposed}
-use Rattle.prog_paths.specs.Shown.{Falls, key_pairs, ShowEqual}
+use Rattle.prog_paths.specs.Shown.{Falls, Runs, key_pairs, ShowEqual}
 
 -- ---- apart
 
@@ -37,7 +39,19 @@ pub record NumbersFall (nodes : List Path) (q : Question) : Type 0 where
   pub asked : AsksOf nodes q mine theirs
   pub falls : HasFall (question_facts mine theirs)
 
+-- a chain falls, and none that falls between numbers of i64 has fewer nodes
+pub record FallsShortest (facts : List Fact) (chain : List Node) : Type 0 where
+  pub falls : Falls facts chain
+  pub fewest : (other : List Node) (h : Falls facts other) → IsI64 h.greater → IsI64 h.smaller
+      → length chain ≤ length other
+
 -- ---- covered
+
+-- no chain of the facts between the same two nodes has fewer nodes
+abbrev pub IsShortest : List Fact → List Node → Type 0
+IsShortest facts chain =
+    (from to : Node) (other : List Node) → RunsBetween from to chain → Runs facts from to other
+    → length chain ≤ length other
 
 -- these two accesses cover the question, and no pair before them does
 pub record IsLeastCover (nodes : List Path) (q : Question) (mine theirs : Access) (m t : ℕ) : Type 0 where
@@ -54,6 +68,7 @@ pub record IsCoveredBy (nodes : List Path) (q : Question) (mine theirs : Access)
   pub can_meet : CanMeet mine theirs
   pub least : IsLeastCover nodes q mine theirs m t
   pub equal : ShowEqual (question_facts mine theirs) (key_pairs least.cover.of_first least.cover.of_second) chains
+  pub shortest : All (IsShortest (question_facts mine theirs)) chains
 
 -- ---- exposed
 
@@ -81,7 +96,7 @@ pub record IsExposedBy (nodes : List Path) (q : Question) (mine theirs : Access)
 
 -- a verdict is right of the question between these two accesses
 abbrev pub IsRightOf : List Path → Question → Access → Access → Verdict → Type 0
-IsRightOf nodes q mine theirs (Apart chain) = ¬ CanMeet mine theirs × Falls (question_facts mine theirs) chain
+IsRightOf nodes q mine theirs (Apart chain) = ¬ CanMeet mine theirs × FallsShortest (question_facts mine theirs) chain
 IsRightOf nodes q mine theirs (Covered m t chains) = IsCoveredBy nodes q mine theirs m t chains
 IsRightOf nodes q mine theirs (Exposed sample) = IsExposedBy nodes q mine theirs sample
 

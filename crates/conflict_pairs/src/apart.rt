@@ -1,11 +1,11 @@
 //! Chains that show that two accesses never meet.
-ghost use Rattle.std.specs.Prelude.{◌≡◌, ◌⊎◌, ◌↔◌, [], ◌∷◌, ℕ, Some, slice_get, IsTrue, All, IfOk, IfSome, IfNone, IsSome};
+ghost use Rattle.std.specs.Prelude.{◌≡◌, ◌⊎◌, ◌↔◌, [], ◌∷◌, ℕ, Some, slice_get, length, IsTrue, All, IfOk, IfSome, IfNone};
 ghost use Rattle.order_facts.specs.declared.steps.Node.{Node};
 ghost use Rattle.order_facts.specs.Chain.{HasContradiction};
 ghost use Rattle.prog_paths.specs.Questions.{column_facts, second_facts, question_facts};
-ghost use Rattle.conflict_pairs.specs.Verdicts.{IsFall};
+ghost use Rattle.conflict_pairs.specs.Verdicts.{IsFall, FallsShortest};
 ghost use Rattle.prog_paths.specs.Shown.{Falls};
-ghost use Rattle.conflict_pairs.specs.Search.{FallsBetween, lower_nodes, upper_nodes};
+ghost use Rattle.conflict_pairs.specs.Search.{FallsBetween, FallsAtOnce, FoundWithin};
 
 use crate::chain::Chain;
 use order_facts::{Closed, Node};
@@ -36,7 +36,7 @@ fn fall(from: Node, to: Node) -> Option<Chain>
 
 /// The chain of the first fact of a column that is of two numbers that fall.
 fn column_fall(mine: Column, theirs: Column) -> Option<Chain>
-    ensures some { IfSome result (λ chain. Falls (column_facts mine theirs) chain) }
+    ensures some { IfSome result (λ chain. FallsAtOnce (column_facts mine theirs) chain) }
     ensures none { IfNone result (All (λ f. ¬ IsFall f.lo f.hi) (column_facts mine theirs)) }
 {
     match fall(mine_node(mine.low), their_node(theirs.low)) {
@@ -47,7 +47,7 @@ fn column_fall(mine: Column, theirs: Column) -> Option<Chain>
 
 /// The same of the second columns.
 fn second_fall(mine: Option<Column>, theirs: Option<Column>) -> Option<Chain>
-    ensures some { IfSome result (λ chain. Falls (second_facts mine theirs) chain) }
+    ensures some { IfSome result (λ chain. FallsAtOnce (second_facts mine theirs) chain) }
     ensures none { IfNone result (All (λ f. ¬ IsFall f.lo f.hi) (second_facts mine theirs)) }
 {
     match (mine, theirs) {
@@ -59,7 +59,8 @@ fn second_fall(mine: Option<Column>, theirs: Option<Column>) -> Option<Chain>
 
 /// The chain of the first fact of a question that is of two numbers that fall. It takes no memory.
 pub fn number_fall(mine: &Access, theirs: &Access) -> Option<Chain>
-    ensures some { IfSome result (λ chain. Falls (question_facts mine.now theirs.now) chain) }
+    ensures some { IfSome result
+        (λ chain. FallsShortest (question_facts mine.now theirs.now) chain) }
     ensures none { IfNone result
         (All (λ f. ¬ IsFall f.lo f.hi) (question_facts mine.now theirs.now)) }
 {
@@ -69,10 +70,11 @@ pub fn number_fall(mine: &Access, theirs: &Access) -> Option<Chain>
     }
 }
 
-/// A chain from a node to one, where they are numbers that fall.
+/// A shortest chain from a node to one, where they are numbers that fall.
 fn falling_chain(closed: &Closed, from: Node, to: Node) -> Result<Option<Chain>, AllocError>
     ensures some { IfOk result (λ found. IfSome found (λ chain. Falls closed.now chain)) }
-    ensures all { IfOk result (λ found. FallsBetween closed.now from to → IsSome found) }
+    ensures all { IfOk result (λ found.
+        (h : FallsBetween closed.now from to) → FoundWithin found (length h.chain)) }
 {
     if !is_fall(from, to) {
         return Ok(None);
@@ -86,8 +88,8 @@ fn falling_chain(closed: &Closed, from: Node, to: Node) -> Result<Option<Chain>,
 /// The shorter of two chains, the first where they are as long.
 fn shorter(one: Option<Chain>, other: Option<Chain>) -> Option<Chain>
     ensures either { (result ≡ one) ⊎ (result ≡ other) }
-    ensures one { IsSome one → IsSome result }
-    ensures other { IsSome other → IsSome result }
+    ensures one { (count : ℕ) → FoundWithin one count → FoundWithin result count }
+    ensures other { (count : ℕ) → FoundWithin other count → FoundWithin result count }
 {
     match (one, other) {
         (Some(one), Some(other)) => {
@@ -102,11 +104,11 @@ fn shorter(one: Option<Chain>, other: Option<Chain>) -> Option<Chain>
     }
 }
 
-/// A chain from a node to one of some nodes, where they are numbers that fall.
+/// A shortest chain from a node to one of some nodes, where they are numbers that fall.
 fn falling_from(closed: &Closed, from: Node, ends: &[Node]) -> Result<Option<Chain>, AllocError>
     ensures some { IfOk result (λ found. IfSome found (λ chain. Falls closed.now chain)) }
     ensures all { IfOk result (λ found. (k : ℕ) (to : Node) → slice_get ends.now k ≡ Some to
-        → FallsBetween closed.now from to → IsSome found) }
+        → (h : FallsBetween closed.now from to) → FoundWithin found (length h.chain)) }
 {
     let mut best = None;
     for to in ends {
@@ -115,7 +117,7 @@ fn falling_from(closed: &Closed, from: Node, ends: &[Node]) -> Result<Option<Cha
     Ok(best)
 }
 
-/// A chain from one of some nodes to one of others, where they are numbers that fall.
+/// A shortest chain from one of some nodes to one of others, where they are numbers that fall.
 fn falling_between(
     closed: &Closed,
     starts: &[Node],
@@ -124,7 +126,7 @@ fn falling_between(
     ensures some { IfOk result (λ found. IfSome found (λ chain. Falls closed.now chain)) }
     ensures all { IfOk result (λ found. (i k : ℕ) (from to : Node)
         → slice_get starts.now i ≡ Some from → slice_get ends.now k ≡ Some to
-        → FallsBetween closed.now from to → IsSome found) }
+        → (h : FallsBetween closed.now from to) → FoundWithin found (length h.chain)) }
 {
     let mut best = None;
     for from in starts {
@@ -133,11 +135,11 @@ fn falling_between(
     Ok(best)
 }
 
-/// A chain that shows that no assignment meets the facts of a question.
+/// A shortest chain that shows that no assignment meets the facts of a question.
 pub fn contradiction(closed: &Closed, mine: &Access, theirs: &Access) -> Result<Chain, AllocError>
     requires facts { closed.now ≡ question_facts mine.now theirs.now }
     requires contradiction { HasContradiction closed.now }
-    ensures { IfOk result (λ chain. Falls closed.now chain) }
+    ensures { IfOk result (λ chain. FallsShortest closed.now chain) }
 {
     let my_second = column_or_zero(mine.second);
     let second = their_node(column_or_zero(theirs.second).low);

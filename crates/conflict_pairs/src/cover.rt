@@ -1,5 +1,5 @@
 //! Pairs of accesses that cover a question.
-ghost use Rattle.std.specs.Prelude.{◌≡◌, ◌↔◌, ◌<◌, ◌++◌, [], ◌∷◌, ℕ, List, IfOk, OnOk, IfSome, IfNone, IsTrue, Some, slice_get};
+ghost use Rattle.std.specs.Prelude.{◌≡◌, ◌↔◌, ◌<◌, ◌++◌, [], ◌∷◌, ℕ, List, All, IfOk, OnOk, IfSome, IfNone, IsTrue, Some, slice_get};
 ghost use Rattle.order_facts.specs.Chain.{Entails, IsConsistent};
 ghost use Rattle.prog_check.specs.declared.path.Access.{Access};
 ghost use Rattle.prog_check.specs.declared.path.Term.{Term};
@@ -7,6 +7,7 @@ ghost use Rattle.prog_paths.specs.Kinds.{items_of};
 ghost use Rattle.prog_paths.specs.Questions.{mine_node, their_node};
 ghost use Rattle.prog_paths.specs.Shown.{Runs, ShowEqual, second_pair, key_pairs};
 ghost use Rattle.prog_paths.specs.Shown.{AllEqual, CoversBy};
+ghost use Rattle.conflict_pairs.specs.Verdicts.{IsShortest};
 ghost use Rattle.conflict_pairs.specs.Search.{CoversAt, CoversFirst};
 
 use crate::chain::Chain;
@@ -72,11 +73,12 @@ pub fn least_cover(closed: &Closed, mine: &[Access], theirs: &[Access]) -> Optio
     None
 }
 
-/// A chain between two nodes of which the facts put the first at most the second.
+/// A shortest chain between two nodes of which the facts put the first at most the second.
 fn chain_between(closed: &Closed, from: Node, to: Node) -> Result<Chain, AllocError>
     requires consistent { IsConsistent closed.now }
     requires entailed { Entails closed.now from to }
-    ensures { IfOk result (λ chain. Runs closed.now from to chain) }
+    ensures runs { IfOk result (λ chain. Runs closed.now from to chain) }
+    ensures shortest { IfOk result (λ chain. IsShortest closed.now chain) }
 {
     match closed.chain(from, to)? {
         Some(nodes) => Ok(Chain::from_vec(nodes)),
@@ -93,8 +95,11 @@ fn with_both(
 ) -> Result<Sequence<Chain>, AllocError>
     requires consistent { IsConsistent closed.now }
     requires equal { AllEqual closed.now ((mine, theirs) ∷ []) }
-    ensures { IfOk result (λ more. (pairs : List (Term × Term)) → ShowEqual closed.now pairs chains
+    ensures equal { IfOk result
+        (λ more. (pairs : List (Term × Term)) → ShowEqual closed.now pairs chains
         → ShowEqual closed.now (pairs ++ (mine, theirs) ∷ []) more) }
+    ensures shortest { IfOk result
+        (λ more. All (IsShortest closed.now) chains → All (IsShortest closed.now) more) }
 {
     let mine = mine_node(mine);
     let theirs = their_node(theirs);
@@ -112,7 +117,9 @@ pub fn cover_chains(
 ) -> Result<Sequence<Chain>, AllocError>
     requires consistent { IsConsistent closed.now }
     requires equal { AllEqual closed.now (key_pairs mine.now theirs.now) }
-    ensures { IfOk result (λ chains. ShowEqual closed.now (key_pairs mine.now theirs.now) chains) }
+    ensures equal { IfOk result
+        (λ chains. ShowEqual closed.now (key_pairs mine.now theirs.now) chains) }
+    ensures shortest { IfOk result (λ chains. All (IsShortest closed.now) chains) }
 {
     let none = Sequence::new(alloc);
     let chains = with_both(none, closed, mine.first.low, theirs.first.low)?;

@@ -1,10 +1,10 @@
 //! The verdict on a question.
-ghost use Rattle.std.specs.Prelude.{◌≡◌, IfOk, IfSome, IfNone, IsOk};
+ghost use Rattle.std.specs.Prelude.{◌≡◌, All, IfOk, IfSome, IfNone, IsOk};
 ghost use Rattle.order_facts.specs.Chain.{IsConsistent};
 ghost use Rattle.prog_paths.specs.Questions.{question_facts};
 ghost use Rattle.prog_check.specs.declared.path.Access.{Access};
 ghost use Rattle.prog_paths.specs.Asked.{IsQuestion, ChangesSingleCells, two, between};
-ghost use Rattle.conflict_pairs.specs.Verdicts.{HasFall, NumbersFall, IsRight};
+ghost use Rattle.conflict_pairs.specs.Verdicts.{HasFall, NumbersFall, IsShortest, IsRight};
 ghost use Rattle.conflict_pairs.specs.Search.{CoversAt, ShowEqualAt, IsCoverFound, IsNoCover, IsUncovered, IsJudged};
 
 use crate::apart::{contradiction, number_fall};
@@ -47,7 +47,8 @@ fn chains_at(
 ) -> Result<Sequence<Chain>, AllocError>
     requires consistent { IsConsistent closed.now }
     requires covers { CoversAt closed.now xs.now ys.now m t }
-    ensures { IfOk result (λ chains. ShowEqualAt closed.now xs.now ys.now m t chains) }
+    ensures equal { IfOk result (λ chains. ShowEqualAt closed.now xs.now ys.now m t chains) }
+    ensures shortest { IfOk result (λ chains. All (IsShortest closed.now) chains) }
 {
     let mine = xs[m];
     let theirs = ys[t];

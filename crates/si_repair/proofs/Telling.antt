@@ -106,7 +106,7 @@ module _ (paths : List Path) (q : Asked) (asked : IsAskedOf paths q) where
   unfolding IsCoverOf-from_covered
   holds-by (Apart chain) right =
       All-cons (Holds paths) (told.TheVariants.Apart (told_question q) chain) []
-      (record { question = is_question; fitting = tt; chains = (asked.mine, asked.theirs, asked.asked, (right asked.mine asked.theirs asked.asked).1) })
+      (record { question = is_question; fitting = tt; chains = (asked.mine, asked.theirs, asked.asked, (right asked.mine asked.theirs asked.asked).1.falls) })
       (All-nil (Holds paths))
   holds-by (Covered m t chains) right =
       let r = right asked.mine asked.theirs asked.asked in
@@ -124,10 +124,10 @@ module _ (paths : List Path) (q : Asked) (asked : IsAskedOf paths q) where
 
   own-by : (v : Verdict) → IsRight paths (numbers_of q) v → All (IsOwnEntry paths) (told_by q v)
   own-by (Apart chain) right =
-      All-cons (IsOwnEntry paths) (told.TheVariants.Apart (told_question q) chain) [] (λ mine theirs of_question. (right mine theirs of_question).0) (All-nil (IsOwnEntry paths))
+      All-cons (IsOwnEntry paths) (told.TheVariants.Apart (told_question q) chain) [] (λ mine theirs of_question. right mine theirs of_question) (All-nil (IsOwnEntry paths))
   own-by (Covered m t chains) right =
       All-cons (IsOwnEntry paths) (told.TheVariants.Cover (told_question q) m t chains) []
-      (λ mine theirs of_question. let r = right mine theirs of_question in (r.can_meet, r.least)) (All-nil (IsOwnEntry paths))
+      (λ mine theirs of_question. let r = right mine theirs of_question in (r.can_meet, r.least, r.shortest)) (All-nil (IsOwnEntry paths))
   own-by (Exposed sample) right = All-nil (IsOwnEntry paths)
 
 -- ---- all entries
