@@ -28,7 +28,8 @@ use Rattle.robust_cert.specs.declared.certificate.Question.{Question}
 use Rattle.robust_cert.specs.declared.certificate.Entry.{Entry}
 use Rattle.robust_cert.specs.declared.certificate.Entry.TheVariants.{Apart, Cover}
 use Rattle.robust_cert.specs.declared.certificate.Certificate.{Certificate}
-use Rattle.robust_cert.specs.Json.{list_data, whole_data, IsSmall, lettered, node_data, NodeFits, chain_data, ChainFits, QuestionFits, entry_items, entry_data, EntryFits, certificate_data, certificate_text, CertificateFits}
+use Rattle.robust_cert.specs.Ranges.{IsSmall, NodeFits, ChainFits}
+use Rattle.robust_cert.specs.Json.{list_data, whole_data, lettered, node_data, chain_data, QuestionFits, entry_items, entry_data, EntryFits, certificate_data, certificate_text, CertificateFits}
 use Rattle.robust_cert.specs.Reading.{IsTextOf}
 use Rattle.robust_cert.proofs.Texts.{whole_text}
 

@@ -13,7 +13,8 @@ use Rattle.order_facts.specs.declared.steps.Node.{Node}
 use Rattle.robust_cert.specs.declared.certificate.Question.{Question}
 use Rattle.robust_cert.specs.declared.certificate.Entry.{Entry}
 use Rattle.robust_cert.specs.declared.certificate.Entry.TheVariants.{Apart, Cover}
-use Rattle.robust_cert.specs.Json.{IsSmall, ChainFits, EntryFits, entry_items, apart_items, cover_items, entry_data}
+use Rattle.robust_cert.specs.Ranges.{IsSmall, ChainFits}
+use Rattle.robust_cert.specs.Json.{EntryFits, entry_items, apart_items, cover_items, entry_data}
 use Rattle.robust_cert.specs.Helpers.{IsQuestion}
 
 shown : (value : Value) (items : Vec Value Global) (seen : List Value) → value ≡ Array items → seen ≡ items.items → view value ≡ array (items_view seen)

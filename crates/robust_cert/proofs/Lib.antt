@@ -5,6 +5,7 @@ pub mod Members
 pub mod Distinct
 pub mod Outcomes
 pub mod Again
+pub mod Fitting
 mod Vectors
 pub mod Chains
 pub mod Safety

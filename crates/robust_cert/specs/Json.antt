@@ -1,6 +1,5 @@
 -- The JSON value of a certificate, and its text.
-use Rattle.std.specs.Prelude.{◌≡◌, ◌<◌, ◌^◌, ℕ, List, map, codes, All, FitsSigned}
-use Rattle.std.specs.Int.{w64}
+use Rattle.std.specs.Prelude.{◌≡◌, ℕ, List, map, codes, All}
 use Rattle.order_facts.specs.declared.steps.Node.{Node}
 use Rattle.order_facts.specs.declared.steps.Node.TheVariants.{Mine, MineUnknown, Theirs, TheirsUnknown, Number}
 use Rattle.serde_json.specs.Data.{Num, unsigned, Data, number, string, array, object, Items, no_items, item, no_members, member}
@@ -11,6 +10,7 @@ use Rattle.robust_cert.specs.declared.certificate.Question.{Question}
 use Rattle.robust_cert.specs.declared.certificate.Entry.{Entry}
 use Rattle.robust_cert.specs.declared.certificate.Entry.TheVariants.{Apart, Cover}
 use Rattle.robust_cert.specs.declared.certificate.Certificate.{Certificate}
+use Rattle.robust_cert.specs.Ranges.{IsSmall, ChainFits}
 
 -- a whole number that isn't negative
 abbrev pub whole_data : ℕ → Data
@@ -63,20 +63,7 @@ certificate_data c = members_data (list_data entry_data c.entries) (list_data wh
 abbrev pub certificate_text : Certificate → List ℕ
 certificate_text c = compact_text (certificate_data c)
 
--- ---- the numbers are in the ranges that a text may have
-
-abbrev pub IsSmall : ℕ → Type 0
-IsSmall n = n < 2 ^ 32
-
-abbrev pub NodeFits : Node → Type 0
-NodeFits (Mine i) = IsSmall i
-NodeFits (MineUnknown i) = IsSmall i
-NodeFits (Theirs i) = IsSmall i
-NodeFits (TheirsUnknown i) = IsSmall i
-NodeFits (Number k) = FitsSigned w64 k
-
-abbrev pub ChainFits : List Node → Type 0
-ChainFits = All NodeFits
+-- ---- the numbers are in their ranges, as they are in every certificate that a program holds
 
 abbrev pub QuestionFits : Question → Type 0
 QuestionFits q = IsSmall q.x × IsSmall q.a × IsSmall q.y × IsSmall q.b

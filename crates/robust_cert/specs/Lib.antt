@@ -1,3 +1,4 @@
+pub mod Ranges
 pub mod Json
 pub mod Reading
 pub mod Helpers

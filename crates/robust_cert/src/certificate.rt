@@ -1,6 +1,6 @@
 //! What a certificate is.
 
-use order_facts::Node;
+use crate::chain::Chain;
 use prog_tree::Sequence;
 
 /// Access `a` of node `x` against access `b` of node `y`.
@@ -11,9 +11,6 @@ pub struct Question {
     pub y: u32,
     pub b: u32,
 }
-
-/// Nodes of which each is at most the next.
-pub type Chain = Sequence<Node>;
 
 /// Why a question leaves nothing to fear.
 #[derive(Debug, Drop)]

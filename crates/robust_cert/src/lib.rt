@@ -6,13 +6,15 @@
 #![tactic(auto)]
 
 mod certificate;
+mod chain;
 mod checking;
 mod fault;
 mod law;
 mod robust;
 mod text;
 
-pub use certificate::{Certificate, Chain, Entry, Question};
+pub use certificate::{Certificate, Entry, Question};
+pub use chain::Chain;
 pub use checking::checker::verify;
 pub use fault::{CertFault, JsonFault};
 pub use law::accepted_is_safe;

@@ -1,6 +1,6 @@
 -- The numbers of what is told are small.
 use Rattle.std.proofs.Common.{◌≡◌, ℕ, ◌<◌, ◌≤◌, ◌+◌, List, [], ◌∷◌, ◌++◌, drop, length, ◌⊎◌, inl, inr, sym, subst, ap, ◌∙◌, arith, append_assoc}
-use Rattle.std.specs.Prelude.{Some, slice_get, slice_index_or}
+use Rattle.std.specs.Prelude.{All, Some, slice_get, slice_index_or}
 use Rattle.std.proofs.lemmas.List.{drop_more, drop_all, append-nil, get_or_append_left, get_or_push}
 use Rattle.std.proofs.lemmas.Bool.{cases_lt}
 use Rattle.std.proofs.lemmas.Option.{slice_get_within, get_or_from_slice_get}
@@ -9,6 +9,8 @@ use Rattle.prog_check.specs.declared.path.Path.{Path}
 use Rattle.prog_paths.specs.StaticGraph.{IsAccessOf}
 use Rattle.prog_paths.specs.declared.places.Question.{Question as Asked}
 use Rattle.prog_paths.specs.Asked.{numbers_of}
+use Rattle.prog_paths.specs.Questions.{question_facts}
+use Rattle.prog_paths.specs.Shown.{key_pairs}
 use Rattle.prog_paths.specs.Few.{AreFew}
 use Rattle.prog_paths.specs.Listing.{IsAskedOf}
 use Rattle.conflict_pairs.specs.declared.outcome.Verdict.{Verdict}
@@ -18,9 +20,10 @@ use Rattle.conflict_pairs.specs.Table.{Table}
 use Rattle.conflict_pairs.specs.Verdicts.{IsRight}
 use Rattle.dep_graph.specs.Counting.{IsCountOf, none, counted, passed}
 use Rattle.robust_cert.specs.declared.certificate.Entry.{Entry}
-use Rattle.robust_cert.specs.Json.{IsSmall}
+use Rattle.robust_cert.specs.Ranges.{IsSmall}
 use Rattle.si_repair.specs.Telling.{told_by, told_of, IsOfFew, AskedFits, VerdictFits}
 use Rattle.si_repair.proofs.Telling.{IsEntryOf, entries_stand}
+use Rattle.si_repair.proofs.Smallness.{AreEndsSmall, question-small, falls-small, chains-small, pairs-below, access-below}
 
 -- ---- numbers
 
@@ -47,13 +50,21 @@ question_fits paths q few asked =
     let second = access_small paths q.y q.b asked.theirs few asked.asked.at_theirs in
     (first.0, first.1, second.0, second.1)
 
+-- the facts of a question have small numbers
+facts_small : (paths : List Path) (q : Asked) → AreFew paths → (asked : IsAskedOf paths q) → All AreEndsSmall (question_facts asked.mine asked.theirs)
+facts_small paths q few asked =
+    question-small asked.mine asked.theirs (access-below paths q.x q.a asked.mine few asked.asked.at_mine) (access-below paths q.y q.b asked.theirs few asked.asked.at_theirs)
+
 pub verdict_fits : (paths : List Path) (q : Asked) (v : Verdict) → AreFew paths → IsAskedOf paths q → IsRight paths (numbers_of q) v → VerdictFits v
-verdict_fits paths q (Apart chain) few asked right = tt
+verdict_fits paths q (Apart chain) few asked right = falls-small (question_facts asked.mine asked.theirs) (facts_small paths q few asked) chain (right asked.mine asked.theirs asked.asked).1.falls
 verdict_fits paths q (Covered m t chains) few asked right =
-    let least = (right asked.mine asked.theirs asked.asked).least in
-    let cover = least.cover in (
+    let r = right asked.mine asked.theirs asked.asked in
+    let least = r.least in
+    let cover = least.cover in
+    let below = pairs-below cover.of_first cover.of_second (access-below paths q.x cover.first cover.of_first few cover.at_first) (access-below paths q.y cover.second cover.of_second few cover.at_second) in (
       subst (λ (n : ℕ). IsSmall n) least.mine_is (access_small paths q.x cover.first cover.of_first few cover.at_first).1,
       subst (λ (n : ℕ). IsSmall n) least.theirs_is (access_small paths q.y cover.second cover.of_second few cover.at_second).1,
+      chains-small (question_facts asked.mine asked.theirs) (facts_small paths q few asked) (key_pairs cover.of_first cover.of_second) chains r.equal below,
     )
 verdict_fits paths q (Exposed sample) few asked right = tt
 

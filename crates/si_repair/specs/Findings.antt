@@ -5,15 +5,15 @@ use Rattle.prog_check.specs.declared.path.Path.{Path}
 use Rattle.prog_paths.specs.Meeting.{CanMeet}
 use Rattle.prog_paths.specs.StaticGraph.{AsksOf, AsksReadWrite, IsCovered, StaticEdge, Leads}
 use Rattle.prog_paths.specs.StaticGraph as graph
+use Rattle.prog_paths.specs.Questions.{question_facts}
 use Rattle.prog_paths.specs.Asked.{IsQuestion}
-use Rattle.conflict_pairs.specs.Verdicts.{IsLeastCover}
+use Rattle.conflict_pairs.specs.Verdicts.{FallsShortest, IsShortest, IsLeastCover}
 use Rattle.dep_graph.specs.Counting.{IsCountOf}
 use Rattle.dep_graph.specs.Danger.{IsLeastDanger}
 use Rattle.robust_cert.specs.declared.certificate.Entry.{Entry}
 use Rattle.robust_cert.specs.declared.certificate.Entry.TheVariants.{Apart, Cover}
 use Rattle.robust_cert.specs.declared.certificate.Certificate.{Certificate}
 use Rattle.robust_cert.specs.Accepted.{numbers_told, IsTold, level_of, IsAccepted}
-use Rattle.robust_cert.specs.Json.{CertificateFits}
 use Rattle.si_repair.specs.declared.finding.Finding.{Finding}
 use Rattle.si_repair.specs.declared.finding.Finding.TheVariants.{Robust, Refused}
 
@@ -22,13 +22,15 @@ abbrev pub IsHarmless : List Path → graph.Question → Access → Access → T
 IsHarmless nodes q mine theirs =
     (CanMeet mine theirs → ⊥) ⊎ (AsksReadWrite q mine.kind theirs.kind × IsCovered nodes q.x q.y mine theirs)
 
--- an entry says apart of a question that can't meet, and else names the least cover
+-- an entry says apart of a question that can't meet, and else names the least cover; its chains have the fewest nodes
 abbrev pub IsOwnEntry : List Path → Entry → Type 0
 IsOwnEntry nodes (Apart q chain) =
-    (mine theirs : Access) → AsksOf nodes (numbers_told q) mine theirs → CanMeet mine theirs → ⊥
+    (mine theirs : Access) → AsksOf nodes (numbers_told q) mine theirs
+    → ¬ CanMeet mine theirs × FallsShortest (question_facts mine theirs) chain
 IsOwnEntry nodes (Cover q m t chains) =
     (mine theirs : Access) → AsksOf nodes (numbers_told q) mine theirs
     → CanMeet mine theirs × IsLeastCover nodes (numbers_told q) mine theirs m t
+    × All (IsShortest (question_facts mine theirs)) chains
 
 -- each question that is harmless has an entry
 abbrev pub TellsEach : List Path → List Entry → Type 0
@@ -42,11 +44,6 @@ pub record IsCertificateOf (nodes : List Path) (c : Certificate) : Type 0 where
   pub own : All (IsOwnEntry nodes) c.entries
   pub each : TellsEach nodes c.entries
   pub levels : (x : ℕ) → x < length nodes → IsCountOf (λ u. Leads (StaticEdge nodes) u x) (length nodes) (level_of c x)
-
--- the numbers of a certificate are in the ranges that a text may have, so that it can be printed and read again
-abbrev pub Fits : Finding → Type 0
-Fits (Robust c) = CertificateFits c
-Fits (Refused d) = Unit {0}
 
 -- the checker accepts the certificate, which is that of the paths; or the structure is the least dangerous one
 abbrev pub IsRightFinding : List Path → Finding → Type 0

@@ -1,9 +1,7 @@
 -- What a certificate tells of the entries of a table: words of private clauses.
-use Rattle.std.specs.Prelude.{◌≡◌, ℕ, ◌<◌, List, [], ◌∷◌, length, slice_index_or, All, FitsSigned}
-use Rattle.std.specs.Int.{w64}
+use Rattle.std.specs.Prelude.{◌≡◌, ℕ, ◌<◌, List, [], ◌∷◌, length, slice_index_or, All}
 use Rattle.std.specs.List.{flat_map}
 use Rattle.order_facts.specs.declared.steps.Node.{Node}
-use Rattle.order_facts.specs.declared.steps.Node.TheVariants.{Number}
 use Rattle.order_facts.specs.Chain.{IsTight}
 use Rattle.prog_check.specs.declared.path.Path.{Path}
 use Rattle.prog_paths.specs.StaticGraph.{StaticEdge, Leads}
@@ -19,7 +17,8 @@ use Rattle.dep_graph.specs.Counting.{IsCountOf}
 use Rattle.robust_cert.specs.declared.certificate.Question.{Question}
 use Rattle.robust_cert.specs.declared.certificate.Entry.{Entry}
 use Rattle.robust_cert.specs.declared.certificate.Entry as told
-use Rattle.robust_cert.specs.Json.{IsSmall, QuestionFits}
+use Rattle.robust_cert.specs.Ranges.{IsSmall, IsOfSmall}
+use Rattle.robust_cert.specs.Json.{QuestionFits}
 use Rattle.si_repair.specs.declared.fault.AnalyseFault.{AnalyseFault}
 use Rattle.si_repair.specs.declared.fault.AnalyseFault as faults
 
@@ -64,28 +63,12 @@ pub record IsOfFew (t : Table) : Type 0 where
 abbrev pub AskedFits : Asked → Type 0
 AskedFits q = QuestionFits (told_question q)
 
--- and those of the accesses that cover it
+-- those of a chain from which no node could be left out are
+abbrev pub TightFits : List Node → Type 0
+TightFits chain = IsTight chain → All IsOfSmall chain
+
+-- and those of a verdict
 abbrev pub VerdictFits : Verdict → Type 0
-VerdictFits (Covered m t chains) = IsSmall m × IsSmall t
-VerdictFits _ = Unit {0}
-
--- ---- chains
-
--- a number of a node is of i64
-abbrev pub IsNumberOfI64 : Node → Type 0
-IsNumberOfI64 (Number k) = FitsSigned w64 k
-IsNumberOfI64 _ = Unit {0}
-
--- no node of a chain could be left out, and its numbers are of i64
-abbrev pub IsKept : List Node → Type 0
-IsKept chain = IsTight chain × All IsNumberOfI64 chain
-
--- the same of each chain of a verdict
-abbrev pub KeepsChains : Verdict → Type 0
-KeepsChains (Apart chain) = IsKept chain
-KeepsChains (Covered m t chains) = All IsKept chains
-KeepsChains (Exposed sample) = Unit {0}
-
--- and of each verdict
-abbrev pub AreKept : List Judged → Type 0
-AreKept = All (λ e. KeepsChains e.verdict)
+VerdictFits (Apart chain) = TightFits chain
+VerdictFits (Covered m t chains) = IsSmall m × IsSmall t × All TightFits chains
+VerdictFits (Exposed sample) = Unit {0}

@@ -4,7 +4,7 @@ ghost use Rattle.prog_tree.specs.Tree.{draft_tree};
 ghost use Rattle.prog_check.specs.Paths.{paths_of};
 ghost use Rattle.prog_paths.specs.Asked.{questions_of, limit};
 ghost use Rattle.si_repair.specs.declared.fault.AnalyseFault as AnalyseFault;
-ghost use Rattle.si_repair.specs.Findings.{IsRightFinding, Fits};
+ghost use Rattle.si_repair.specs.Findings.{IsRightFinding};
 
 use crate::fault::AnalyseFault;
 use crate::finding::Finding;
@@ -19,7 +19,6 @@ use std::alloc::Global;
 pub fn certify(alloc: Global, set: &ProgramSet) -> Result<Finding, AnalyseFault>
     ensures finding { IfOk result
         (λ finding. IsRightFinding (paths_of (draft_tree set.now)) finding) }
-    ensures fits { IfOk result Fits }
     ensures in_bounds { OnOk result
         (length (questions_of (paths_of (draft_tree set.now))) ≤ limit) }
     ensures too_large { result ≡ Err AnalyseFault.TooLarge

@@ -2,12 +2,11 @@
 ghost use Rattle.std.specs.Prelude.{◌≡◌, ◌++◌, List, All, IfOk, OnOk};
 ghost use Rattle.prog_check.specs.declared.path.Path.{Path};
 ghost use Rattle.conflict_pairs.specs.Table.{StandsFor};
-ghost use Rattle.robust_cert.specs.Json.{IsSmall};
-ghost use Rattle.si_repair.specs.Telling.{told_question, told_by, told_of, AreLevels, IsOfFew, AskedFits, VerdictFits, IsNumberOfI64, IsKept, KeepsChains, AreKept};
+ghost use Rattle.robust_cert.specs.Ranges.{IsSmall};
+ghost use Rattle.si_repair.specs.Telling.{told_question, told_by, told_of, AreLevels, IsOfFew, AskedFits, TightFits, VerdictFits};
 
 use conflict_pairs::{PairTable, Verdict};
 use dep_graph::Graph;
-use order_facts::Node;
 use prog_tree::Sequence;
 use robust_cert::{Certificate, Chain, Entry, Question};
 use std::alloc::{AllocError, Global};
@@ -32,32 +31,20 @@ fn told_question(asked: conflict_pairs::Question) -> Question
     }
 }
 
-/// The same node.
-fn node_of(node: Node) -> Node
-    ensures same { result ≡ node }
-    ensures number { IsNumberOfI64 node }
-{
-    match node {
-        Node::Number(number) => Node::Number(number),
-        other => other,
-    }
-}
-
 fn copy_of(alloc: Global, chain: &conflict_pairs::Chain) -> Result<Chain, AllocError>
-    ensures copy { IfOk result (λ copy. copy ≡ chain.now) }
-    ensures kept { OnOk result (IsKept chain.now) }
+    requires { TightFits chain.now }
+    ensures { IfOk result (λ copy. copy ≡ chain.now) }
 {
-    let nodes = chain.as_slice();
-    let mut copy = Vec::with_capacity(alloc, nodes.len())?;
-    for node in nodes {
-        copy.push(node_of(*node))?;
+    let copy = Vec::from_slice(alloc, chain.as_slice())?;
+    match Chain::from_vec(copy) {
+        Some(chain) => Ok(chain),
+        None => unreachable!(),
     }
-    Ok(Sequence::from_vec(copy))
 }
 
 fn copies_of(alloc: Global, chains: &[conflict_pairs::Chain]) -> Result<Sequence<Chain>, AllocError>
-    ensures copies { IfOk result (λ copies. copies ≡ chains.now) }
-    ensures kept { OnOk result (All IsKept chains.now) }
+    requires { All TightFits chains.now }
+    ensures { IfOk result (λ copies. copies ≡ chains.now) }
 {
     let mut copies = Vec::with_capacity(alloc, chains.len())?;
     for chain in chains {
@@ -75,9 +62,7 @@ fn push_told(
 ) -> Result<(), AllocError>
     requires question { AskedFits asked }
     requires verdict { VerdictFits verdict.now }
-    ensures told { OnOk result
-        (entries.new.items ≡ entries.old.items ++ told_by asked verdict.now) }
-    ensures kept { OnOk result (KeepsChains verdict.now) }
+    ensures { OnOk result (entries.new.items ≡ entries.old.items ++ told_by asked verdict.now) }
 {
     let question = told_question(asked);
     match verdict {
@@ -106,8 +91,7 @@ fn push_told(
 /// What is told of the questions of a table.
 fn entries_of(alloc: Global, table: &PairTable) -> Result<Vec<Entry>, AllocError>
     requires { IsOfFew table.now }
-    ensures told { IfOk result (λ entries. entries.items ≡ told_of table.now.entries) }
-    ensures kept { OnOk result (AreKept table.now.entries) }
+    ensures { IfOk result (λ entries. entries.items ≡ told_of table.now.entries) }
 {
     let mut entries = Vec::new(alloc);
     for n in 0..table.len() {
@@ -138,7 +122,6 @@ pub fn certificate_of(
     requires few { IsOfFew table.now }
     requires graph { graph.now ≡ table.now }
     ensures entries { IfOk result (λ c. c.entries ≡ told_of table.now.entries) }
-    ensures kept { OnOk result (AreKept table.now.entries) }
     ensures levels { IfOk result (λ c.
         (paths : List Path) → StandsFor table.now paths → AreLevels paths c.levels) }
 {

@@ -10,7 +10,8 @@ ghost use Rattle.robust_cert.specs.Accepted.{question_of, IsFitting, ChainsHold}
 ghost use Rattle.robust_cert.specs.Telling.{question_with};
 ghost use Rattle.robust_cert.specs.Flaws.{facts_between, IsAskedPair, CoversWith, IsFlawOf};
 
-use crate::certificate::{Chain, Entry};
+use crate::certificate::Entry;
+use crate::chain::Chain;
 use crate::checking::by_facts::{falls, runs};
 use crate::checking::numbers::Numbers;
 use order_facts::Node;

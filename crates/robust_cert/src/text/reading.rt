@@ -5,7 +5,7 @@ ghost use Rattle.serde_json.specs.Data.{unsigned};
 ghost use Rattle.serde_json.specs.View.{view};
 ghost use Rattle.robust_cert.specs.declared.certificate.Certificate.{Certificate};
 ghost use Rattle.robust_cert.specs.declared.fault.JsonFault.{JsonFault};
-ghost use Rattle.robust_cert.specs.Json.{IsValueOf, CertificateFits, certificate_text};
+ghost use Rattle.robust_cert.specs.Json.{IsValueOf};
 ghost use Rattle.robust_cert.specs.Reading.{ReadsAs, IsTextOf, IsFaultOf, HasFault, Answers, version_of};
 
 use crate::certificate::Certificate;
@@ -56,13 +56,10 @@ pub fn from_json(alloc: Global, bytes: &[u8]) -> Result<Certificate, JsonFault>
     ensures ok { IfOk result (λ certificate. IsTextOf certificate bytes.now) }
     ensures fault { IfErr result (λ fault. fault ≢ JsonFault.Memory → HasFault bytes.now fault) }
 
-    // Each text of a certificate is taken, and each fault is told, unless memory is wanting.
+    // Each text of a certificate is taken, what `to_json` writes among them, and each fault is
+    // told, unless memory is wanting.
     ensures taken { (c : Certificate) → IsTextOf c bytes.now → Answers result (Ok c) }
     ensures refused { (fault : JsonFault) → HasFault bytes.now fault → Answers result (Err fault) }
-
-    // What `to_json` writes is read as what it was.
-    ensures round_trip { (c : Certificate) → CertificateFits c → bytes.now ≡ certificate_text c
-        → Answers result (Ok c) }
 {
     let value = value_of(alloc, bytes)?;
     certificate_in(alloc, value)

@@ -8,10 +8,12 @@ ghost use Rattle.serde_json.specs.View.{view, items_view};
 ghost use Rattle.order_facts.specs.declared.steps.Node.{Node};
 ghost use Rattle.robust_cert.specs.declared.certificate.Question.{Question};
 ghost use Rattle.robust_cert.specs.declared.certificate.Entry.{Entry};
-ghost use Rattle.robust_cert.specs.Json.{whole_data, IsSmall, node_data, NodeFits, chain_data, ChainFits, QuestionFits, list_data, entry_data, entry_items, EntryFits, apart_items, cover_items};
+ghost use Rattle.robust_cert.specs.Ranges.{IsSmall, NodeFits, ChainFits};
+ghost use Rattle.robust_cert.specs.Json.{whole_data, node_data, chain_data, QuestionFits, list_data, entry_data, entry_items, EntryFits, apart_items, cover_items};
 ghost use Rattle.robust_cert.specs.Helpers.{IsQuestion};
 
-use crate::certificate::{Chain, Entry, Question};
+use crate::certificate::{Entry, Question};
+use crate::chain::Chain;
 use crate::fault::Untaken;
 use order_facts::Node;
 use prog_tree::Sequence;
@@ -74,7 +76,10 @@ fn chain_of(alloc: Global, value: &Value) -> Result<Chain, Untaken>
         };
         nodes.push(node)?;
     }
-    Ok(Sequence::from_vec(nodes))
+    match Chain::from_vec(nodes) {
+        Some(chain) => Ok(chain),
+        None => unreachable!(),
+    }
 }
 
 fn chains_of(alloc: Global, value: &Value) -> Result<Sequence<Chain>, Untaken>

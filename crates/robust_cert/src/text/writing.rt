@@ -1,10 +1,13 @@
 //! From a certificate to text.
 
-ghost use Rattle.std.specs.Prelude.{◌≡◌, IfOk, OnOk, string_bytes};
-ghost use Rattle.robust_cert.specs.Json.{node_data, chain_data, entry_data, whole_data, list_data, certificate_data, certificate_text};
+ghost use Rattle.std.specs.Prelude.{◌≡◌, All, IfOk, OnOk, string_bytes};
+ghost use Rattle.robust_cert.specs.Ranges.{IsSmall, ChainFits};
+ghost use Rattle.robust_cert.specs.Json.{node_data, chain_data, entry_data, whole_data, list_data, certificate_data, certificate_text, EntryFits, CertificateFits};
+ghost use Rattle.robust_cert.specs.Reading.{IsTextOf};
 ghost use Rattle.robust_cert.specs.Helpers.{Appends};
 
-use crate::certificate::{Certificate, Chain, Entry, Question};
+use crate::certificate::{Certificate, Entry, Question};
+use crate::chain::Chain;
 use order_facts::Node;
 use std::alloc::{AllocError, Global};
 
@@ -36,7 +39,8 @@ fn push_chain(text: &mut String, chain: &[Node]) -> Result<(), AllocError>
 }
 
 fn push_chains(text: &mut String, chains: &[Chain]) -> Result<(), AllocError>
-    ensures { OnOk result (Appends text.old text.new (list_data chain_data chains.now)) }
+    ensures text { OnOk result (Appends text.old text.new (list_data chain_data chains.now)) }
+    ensures fits { OnOk result (All ChainFits chains.now) }
 {
     let [first, others @ ..] = chains else {
         return text.push_str("[]");
@@ -51,7 +55,8 @@ fn push_chains(text: &mut String, chains: &[Chain]) -> Result<(), AllocError>
 }
 
 fn push_entry(text: &mut String, entry: &Entry) -> Result<(), AllocError>
-    ensures { OnOk result (Appends text.old text.new (entry_data entry.now)) }
+    ensures text { OnOk result (Appends text.old text.new (entry_data entry.now)) }
+    ensures fits { OnOk result (EntryFits entry.now) }
 {
     match entry {
         Entry::Apart { question, chain } => {
@@ -67,6 +72,7 @@ fn push_entry(text: &mut String, entry: &Entry) -> Result<(), AllocError>
             chains,
         } => {
             let Question { x, a, y, b } = *question;
+            let (mine, theirs) = (*mine, *theirs);
             write!(text, "[\"cover\",{x},{a},{y},{b},{mine},{theirs},")?;
             push_chains(text, chains.as_slice())?;
             text.push_str("]")
@@ -75,7 +81,8 @@ fn push_entry(text: &mut String, entry: &Entry) -> Result<(), AllocError>
 }
 
 fn push_entries(text: &mut String, entries: &[Entry]) -> Result<(), AllocError>
-    ensures { OnOk result (Appends text.old text.new (list_data entry_data entries.now)) }
+    ensures text { OnOk result (Appends text.old text.new (list_data entry_data entries.now)) }
+    ensures fits { OnOk result (All EntryFits entries.now) }
 {
     let [first, others @ ..] = entries else {
         return text.push_str("[]");
@@ -90,7 +97,8 @@ fn push_entries(text: &mut String, entries: &[Entry]) -> Result<(), AllocError>
 }
 
 fn push_levels(text: &mut String, levels: &[u32]) -> Result<(), AllocError>
-    ensures { OnOk result (Appends text.old text.new (list_data whole_data levels.now)) }
+    ensures text { OnOk result (Appends text.old text.new (list_data whole_data levels.now)) }
+    ensures fits { OnOk result (All IsSmall levels.now) }
 {
     let [first, others @ ..] = levels else {
         return text.push_str("[]");
@@ -103,7 +111,8 @@ fn push_levels(text: &mut String, levels: &[u32]) -> Result<(), AllocError>
 }
 
 fn push_certificate(text: &mut String, certificate: &Certificate) -> Result<(), AllocError>
-    ensures { OnOk result (Appends text.old text.new (certificate_data certificate.now)) }
+    ensures text { OnOk result (Appends text.old text.new (certificate_data certificate.now)) }
+    ensures fits { OnOk result (CertificateFits certificate.now) }
 {
     text.push_str("{\"entries\":")?;
     push_entries(text, certificate.entries.as_slice())?;
@@ -114,7 +123,10 @@ fn push_certificate(text: &mut String, certificate: &Certificate) -> Result<(), 
 
 /// The text of a certificate.
 pub fn to_json(alloc: Global, certificate: &Certificate) -> Result<String, AllocError>
-    ensures { IfOk result (λ text. string_bytes text ≡ certificate_text certificate.now) }
+    ensures text { IfOk result (λ text. string_bytes text ≡ certificate_text certificate.now) }
+
+    // So `from_json` reads it as this certificate.
+    ensures reads_back { IfOk result (λ text. IsTextOf certificate.now (string_bytes text)) }
 {
     let mut text = String::new(alloc);
     push_certificate(&mut text, certificate)?;

@@ -7,7 +7,6 @@ use Rattle.prog_paths.specs.StaticGraph.{IsDangerous}
 use Rattle.prog_paths.specs.Asked.{ChangesSingleCells, questions_of, limit}
 use Rattle.prog_paths.proofs.SingleCells.{law_of_single_changes}
 use Rattle.conflict_pairs.specs.Table.{Table, StandsFor}
-use Rattle.si_repair.proofs.Printing.{certificate_fits}
 use Rattle.si_repair.proofs.Accepting.{accepted, certificate, within, where_none}
 use Rattle.si_repair.proofs.analysis.certify.Goals as goal
 
@@ -37,10 +36,3 @@ returns-clause-finding c =
       accepted table paths stands made.field-0 made.ensures.entries levels few safe,
       certificate table paths stands made.field-0 made.ensures.entries levels,
     )
-
-pub returns-clause-fits : goal.returns-clause-fits
-returns-clause-fits c =
-    let paths = c.in_ok-paths.paths.items in
-    let stands = subst (λ (l : List Path). StandsFor c.in_ok-table.table l) c.deref.ensures.value c.in_ok-table.ensures.table in
-    let made = c.in_ok-certificate_of-in-None in
-    certificate_fits c.in_ok-table.table paths stands c.in_ok-paths.ensures.few made.ensures.kept made.field-0 made.ensures.entries (made.ensures.levels paths stands)

@@ -4,7 +4,6 @@ use Rattle.conflict_pairs.specs.declared.outcome.Verdict.{Verdict}
 use Rattle.dep_graph.proofs.Entries.{entry_at}
 use Rattle.si_repair.specs.Telling.{AskedFits, VerdictFits, told_of}
 use Rattle.si_repair.proofs.Fitting.{entry_fits, told_more, told_end}
-use Rattle.si_repair.proofs.Printing.{kept_more, kept_all}
 use Rattle.si_repair.proofs.writing.entries_of.Goals as goal
 
 pub push_told-requires-clause-question : goal.push_told-requires-clause-question
@@ -21,14 +20,7 @@ pub loop-n-preserved : goal.loop-n-preserved
 loop-n-preserved c =
     let entries = c.args.table.now.entries in
     let at = entry_at entries c.loop-n.n (omega arith) in
-    let judged = c.verdict.ensures at.entry at.is in
-    record {
-      told = told_more c.loop-n.entries.items c.push_told.new.entries.items (told_of entries) entries c.loop-n.n at.entry c.question.result c.verdict.result.now at.is (c.question.ensures at.entry at.is) judged c.in_ok-push_told.ensures.told c.loop-n.invariant.told;
-      kept = kept_more entries c.loop-n.n at.entry c.verdict.result.now at.is judged c.in_ok-push_told.ensures.kept c.loop-n.invariant.kept;
-    }
+    told_more c.loop-n.entries.items c.push_told.new.entries.items (told_of entries) entries c.loop-n.n at.entry c.question.result c.verdict.result.now at.is (c.question.ensures at.entry at.is) (c.verdict.ensures at.entry at.is) c.in_ok-push_told.ensures c.loop-n.invariant
 
-pub returns-clause-told : goal.returns-clause-told
-returns-clause-told c = told_end c.loop-n.entries.items (told_of c.args.table.now.entries) c.args.table.now.entries c.loop-n.n (omega arith) c.loop-n.invariant.told
-
-pub returns-clause-kept : goal.returns-clause-kept
-returns-clause-kept c = kept_all c.args.table.now.entries c.loop-n.n (omega arith) c.loop-n.invariant.kept
+pub returns : goal.returns
+returns c = told_end c.loop-n.entries.items (told_of c.args.table.now.entries) c.args.table.now.entries c.loop-n.n (omega arith) c.loop-n.invariant

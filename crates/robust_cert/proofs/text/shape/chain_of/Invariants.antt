@@ -1,7 +1,8 @@
 use Rattle.std.proofs.Common.{◌≡◌, map, take}
 use Rattle.std.specs.Prelude.{All}
 use Rattle.serde_json.specs.View.{view}
-use Rattle.robust_cert.specs.Json.{node_data, NodeFits}
+use Rattle.robust_cert.specs.Ranges.{NodeFits}
+use Rattle.robust_cert.specs.Json.{node_data}
 use Rattle.robust_cert.proofs.text.shape.chain_of.Given as goal
 
 -- the items so far are taken

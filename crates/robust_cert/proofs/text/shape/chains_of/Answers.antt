@@ -1,4 +1,5 @@
-use Rattle.robust_cert.specs.Json.{chain_data, ChainFits}
+use Rattle.robust_cert.specs.Ranges.{ChainFits}
+use Rattle.robust_cert.specs.Json.{chain_data}
 use Rattle.robust_cert.proofs.Shapes.{not_list, list_taken, one_more, passed_on}
 use Rattle.robust_cert.proofs.text.shape.chains_of.Goals as goal
 

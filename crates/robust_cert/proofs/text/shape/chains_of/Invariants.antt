@@ -1,7 +1,8 @@
 use Rattle.std.proofs.Common.{◌≡◌, map, take}
 use Rattle.std.specs.Prelude.{All}
 use Rattle.serde_json.specs.View.{view}
-use Rattle.robust_cert.specs.Json.{chain_data, ChainFits}
+use Rattle.robust_cert.specs.Ranges.{ChainFits}
+use Rattle.robust_cert.specs.Json.{chain_data}
 use Rattle.robust_cert.proofs.text.shape.chains_of.Given as goal
 
 -- the items so far are taken

@@ -1,4 +1,5 @@
-use Rattle.robust_cert.specs.Json.{whole_data, IsSmall}
+use Rattle.robust_cert.specs.Ranges.{IsSmall}
+use Rattle.robust_cert.specs.Json.{whole_data}
 use Rattle.robust_cert.proofs.Shapes.{not_list, list_taken}
 use Rattle.robust_cert.proofs.text.shape.levels_of.Goals as goal
 

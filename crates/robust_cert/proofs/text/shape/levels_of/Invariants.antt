@@ -1,7 +1,8 @@
 use Rattle.std.proofs.Common.{◌≡◌, map, take}
 use Rattle.std.specs.Prelude.{All}
 use Rattle.serde_json.specs.View.{view}
-use Rattle.robust_cert.specs.Json.{whole_data, IsSmall}
+use Rattle.robust_cert.specs.Ranges.{IsSmall}
+use Rattle.robust_cert.specs.Json.{whole_data}
 use Rattle.robust_cert.proofs.text.shape.levels_of.Given as goal
 
 -- the items so far are taken

@@ -2,7 +2,7 @@ use Rattle.std.proofs.Common.{codes, string_bytes}
 use Rattle.robust_cert.proofs.Texts.{whole_written, last_piece}
 use Rattle.robust_cert.proofs.text.writing.push_certificate.Goals as goal
 
-pub returns : goal.returns
-returns c = last_piece c.push_str-3.result _ (string_bytes c.push_levels.new.text) (codes ",\"version\":1}") _ c.push_str-3.ensures.bytes
+pub returns-clause-text : goal.returns-clause-text
+returns-clause-text c = last_piece c.push_str-3.result _ (string_bytes c.push_levels.new.text) (codes ",\"version\":1}") _ c.push_str-3.ensures.bytes
     (whole_written c.args.certificate.now c.as_slice.result.now c.as_slice-2.result.now (string_bytes c.args.text.now) _ _ _ _ c.as_slice.ensures c.as_slice-2.ensures
-    c.in_ok-push_str.ensures.bytes c.in_ok-push_entries.ensures c.in_ok-push_str-2.ensures.bytes c.in_ok-push_levels.ensures)
+    c.in_ok-push_str.ensures.bytes c.in_ok-push_entries.ensures.text c.in_ok-push_str-2.ensures.bytes c.in_ok-push_levels.ensures.text)

@@ -4,5 +4,5 @@ use Rattle.robust_cert.specs.Json.{entry_data}
 use Rattle.robust_cert.proofs.Texts.{bracketed_lem}
 use Rattle.robust_cert.proofs.text.writing.push_entries.Goals as goal
 
-pub returns : goal.returns
-returns c = subst (λ s. OnOk c.push_str-3.result (string_bytes c.push_str-3.new.self ≡ string_bytes c.args.text.now ++ s)) (bracketed_lem entry_data c.args.entries.now) (grind (arith, common_steps))
+pub returns-clause-text : goal.returns-clause-text
+returns-clause-text c = subst (λ s. OnOk c.push_str-3.result (string_bytes c.push_str-3.new.self ≡ string_bytes c.args.text.now ++ s)) (bracketed_lem entry_data c.args.entries.now) (grind (arith, common_steps))

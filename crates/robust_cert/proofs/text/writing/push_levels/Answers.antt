@@ -4,5 +4,5 @@ use Rattle.robust_cert.specs.Json.{whole_data}
 use Rattle.robust_cert.proofs.Texts.{bracketed_lem}
 use Rattle.robust_cert.proofs.text.writing.push_levels.Goals as goal
 
-pub returns : goal.returns
-returns c = subst (λ s. OnOk c.push_str-2.result (string_bytes c.push_str-2.new.self ≡ string_bytes c.args.text.now ++ s)) (bracketed_lem whole_data c.args.levels.now) (grind (arith, common_steps))
+pub returns-clause-text : goal.returns-clause-text
+returns-clause-text c = subst (λ s. OnOk c.push_str-2.result (string_bytes c.push_str-2.new.self ≡ string_bytes c.args.text.now ++ s)) (bracketed_lem whole_data c.args.levels.now) (grind (arith, common_steps))
