@@ -1,6 +1,6 @@
 -- What the facts of a question say, in the words of meeting and covering.
 use Rattle.std.proofs.Common.{◌≡◌, ℕ, List, refl, sym, subst, ◌∙◌}
-use Rattle.std.specs.Prelude.{Some, slice_get, get_or, Result, Ok, Err, IfOk}
+use Rattle.std.specs.Prelude.{All, Some, slice_get, get_or, Result, Ok, Err, IfOk}
 use Rattle.std.proofs.lemmas.Option.{get_or_from_slice_get, same_Some}
 use Rattle.order_facts.specs.declared.steps.Node.{Node}
 use Rattle.order_facts.specs.declared.steps.Fact.{Fact}
@@ -9,16 +9,16 @@ use Rattle.order_facts.specs.Chain as facts
 use Rattle.order_facts.specs.Sample.{assignment_of}
 use Rattle.prog_check.specs.declared.path.Access.{Access}
 use Rattle.prog_check.specs.declared.path.Path.{Path}
-use Rattle.prog_paths.specs.Meeting.{MeetsUnder, CanMeet, MayCover}
+use Rattle.prog_paths.specs.Meeting.{MeetsUnder, CanMeet, MayTouch}
 use Rattle.prog_paths.specs.StaticGraph.{IsAccessOf, IsCovered}
 use Rattle.prog_paths.specs.Questions.{question_facts}
 use Rattle.prog_paths.proofs.Questions.{law_of_meeting, law_of_questions}
 use Rattle.prog_paths.specs.Asked.{IsQuestion, ChangesSingleCells, two, between}
 use Rattle.conflict_pairs.specs.declared.outcome.Verdict.{Verdict}
 use Rattle.conflict_pairs.specs.declared.outcome.Verdict.TheVariants.{Apart, Covered, Exposed}
-use Rattle.conflict_pairs.specs.Verdicts.{HasFall, NumbersFall, mine_of, theirs_of, IsCoveredBy, IsExposedBy, IsRightOf, IsRight}
+use Rattle.conflict_pairs.specs.Verdicts.{HasFall, NumbersFall, IsShortest, mine_of, theirs_of, IsCoveredBy, IsExposedBy, IsRightOf, IsRight}
 use Rattle.conflict_pairs.specs.Search.{CoversAt, IsCoverFound, ShowEqualAt, IsNoCover, IsUncovered, IsJudged}
-use Rattle.prog_paths.proofs.Shown.{IsPair, apart-from_Falls, same-from_CoversBy, CoversBy-from_same, single_at, may_cover-second}
+use Rattle.prog_paths.proofs.Shown.{IsPair, apart-from_Falls, same-from_CoversBy, CoversBy-from_same, single_at, may_touch-second}
 
 -- an access of one of two paths
 pub access-first : (x y : Path) (k : ℕ) (a : Access) → IsAccessOf (two x y) 0 k a → slice_get x.accesses k ≡ Some a
@@ -56,9 +56,9 @@ module _ (x y : Path) (a b : ℕ) (mine theirs : Access) (pair : IsPair mine the
   can_meet : facts.IsConsistent own_facts → CanMeet mine theirs
   can_meet k = (law_of_questions mine theirs pair.table pair.single).0 k
 
-  covered-right : (m t : ℕ) (chains : List (List Node)) → IsCoverFound own_facts mine.kind theirs.kind x.accesses y.accesses m t → ShowEqualAt own_facts x.accesses y.accesses m t chains → IsCoveredBy (two x y) (between a b) mine theirs m t chains
+  covered-right : (m t : ℕ) (chains : List (List Node)) → IsCoverFound own_facts mine.kind theirs.kind x.accesses y.accesses m t → ShowEqualAt own_facts x.accesses y.accesses m t chains → All (IsShortest own_facts) chains → IsCoveredBy (two x y) (between a b) mine theirs m t chains
   unfolding IsCovered-from_CoversAt
-  covered-right m t chains h equal = record {
+  covered-right m t chains h equal shortest = record {
     asks = h.asks (between a b);
     can_meet = can_meet h.consistent;
     least = record {
@@ -68,6 +68,7 @@ module _ (x y : Path) (a b : ℕ) (mine theirs : Access) (pair : IsPair mine the
       least = λ other. h.first.least other.first other.second (CoversAt-from_IsCovered (can_meet h.consistent) other);
     };
     equal = equal h.first.covers.mine h.first.covers.theirs h.first.covers.at_mine h.first.covers.at_theirs;
+    shortest = shortest;
   }
 
   exposed-right : (sample : List Choice) → IsUncovered own_facts (Exposed sample) → IsNoCover own_facts mine.kind theirs.kind x.accesses y.accesses → IsExposedBy (two x y) (between a b) mine theirs sample
@@ -88,8 +89,8 @@ module _ (x y : Path) (a b : ℕ) (mine theirs : Access) (pair : IsPair mine the
       }
 
   right-from_judged : (v : Verdict) → IsJudged x.accesses y.accesses mine theirs v → IsRightOf (two x y) (between a b) mine theirs v
-  right-from_judged (Apart chain) h = (apart-from_Falls mine theirs pair chain h, h)
-  right-from_judged (Covered m t chains) h = covered-right m t chains h.0 h.1
+  right-from_judged (Apart chain) h = (apart-from_Falls mine theirs pair chain h.falls, h)
+  right-from_judged (Covered m t chains) h = covered-right m t chains h.0 h.1 h.2
   right-from_judged (Exposed sample) h = exposed-right sample h.0 h.1
 
 -- what is said of the accesses at these places is right of the question
@@ -117,7 +118,7 @@ IsRight-from_IsJudged x y a b d e q single_x single_y v h mine theirs asked =
     pair : IsPair mine theirs
     pair = record {
       table = asked.table;
-      single = single_at y b theirs single_y at_theirs (subst MayCover same_second (may_cover-second (between a b) q.mine q.theirs q.asks));
+      single = single_at y b theirs single_y at_theirs (subst MayTouch same_second (may_touch-second (between a b) q.mine q.theirs q.asks));
     }
 
 -- the same of lists that are the paths' accesses

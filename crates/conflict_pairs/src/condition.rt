@@ -1,10 +1,10 @@
 //! Tests of what a verdict needs.
 ghost use Rattle.std.specs.Prelude.{◌≡◌, ◌↔◌, IsTrue};
-ghost use Rattle.prog_paths.specs.Meeting.{MayCover, IsSingle, IsSingleSecond};
+ghost use Rattle.prog_paths.specs.Meeting.{MayTouch, IsSingle, IsSingleSecond};
 ghost use Rattle.prog_paths.specs.Asked.{IsQuestion, ChangesSingleCells, two, between};
 
 use prog_check::{Access, Column, Path, Term};
-use prog_paths::{Placed, asks, may_cover};
+use prog_paths::{Placed, asks, may_touch};
 
 /// Whether access `a` of one path against access `b` of another is a question.
 pub fn is_question(x: &Path, a: usize, y: &Path, b: usize) -> bool
@@ -44,10 +44,10 @@ fn is_single_second(column: Option<Column>) -> bool
 }
 
 fn is_single_change(access: &Access) -> bool
-    ensures { IsTrue result ↔ (MayCover access.now → IsSingle access.now) }
+    ensures { IsTrue result ↔ (MayTouch access.now → IsSingle access.now) }
 {
     let first = access.first;
-    !may_cover(access) || (is_same(first.low, first.high) && is_single_second(access.second))
+    !may_touch(access) || (is_same(first.low, first.high) && is_single_second(access.second))
 }
 
 /// Whether each access of a path that changes or keeps is of a single cell, as it is on the paths

@@ -14,7 +14,7 @@ use Rattle.prog_check.specs.declared.path.Term.TheVariants.{Literal}
 use Rattle.prog_check.specs.declared.path.Column.{Column}
 use Rattle.prog_check.specs.declared.path.Access.{Access}
 use Rattle.prog_check.specs.declared.path.Path.{Path}
-use Rattle.prog_paths.specs.Meeting.{Assignment, MeetsUnder, CanMeet, MayCover, IsSingle, AreSameCell, second_under}
+use Rattle.prog_paths.specs.Meeting.{Assignment, MeetsUnder, CanMeet, MayTouch, MayCover, IsSingle, AreSameCell, second_under}
 use Rattle.prog_paths.specs.StaticGraph.{Question}
 use Rattle.prog_paths.specs.Questions.{question_facts, AreEqualWhereTheyMeet, EntailsEqual}
 use Rattle.prog_paths.proofs.Questions.{law_of_questions, law_of_equal_terms}
@@ -80,23 +80,23 @@ module _ (mine theirs : Access) (pair : IsPair mine theirs) where
 
 -- ---- covers of two paths
 
-pub single_at : (path : Path) (k : ℕ) (a : Access) → ChangesSingleCells path → slice_get path.accesses k ≡ Some a → MayCover a → IsSingle a
+pub single_at : (path : Path) (k : ℕ) (a : Access) → ChangesSingleCells path → slice_get path.accesses k ≡ Some a → MayTouch a → IsSingle a
 single_at path k a h at may =
     let inside = slice_get_within path.accesses k a at in
-    subst (λ (b : Access). MayCover b → IsSingle b) (get_or_from_slice_get path.accesses k a a at) (h k a inside) may
+    subst (λ (b : Access). MayTouch b → IsSingle b) (get_or_from_slice_get path.accesses k a a at) (h k a inside) may
 
 -- what a question asks of, its second access changes
-pub may_cover-second : (q : Question) (mine theirs : Access) → Asks q mine.kind theirs.kind → MayCover theirs
-may_cover-second q mine theirs (inl (inl k)) = changes k.1
+pub may_touch-second : (q : Question) (mine theirs : Access) → Asks q mine.kind theirs.kind → MayTouch theirs
+may_touch-second q mine theirs (inl (inl k)) = changes k.1
   where
-    changes : (theirs.kind ≡ Writes) ⊎ (theirs.kind ≡ Adds) → MayCover theirs
+    changes : (theirs.kind ≡ Writes) ⊎ (theirs.kind ≡ Adds) → MayTouch theirs
     changes (inl e) = inl e
     changes (inr e) = inr (inl e)
-may_cover-second q mine theirs (inl (inr k)) = inr (inl k.1)
-may_cover-second q mine theirs (inr (inl (inl k))) = changes k.1
+may_touch-second q mine theirs (inl (inr k)) = inr (inl k.1)
+may_touch-second q mine theirs (inr (inl (inl k))) = changes k.1
   where
-    changes : (theirs.kind ≡ Writes) ⊎ (theirs.kind ≡ Adds) → MayCover theirs
+    changes : (theirs.kind ≡ Writes) ⊎ (theirs.kind ≡ Adds) → MayTouch theirs
     changes (inl e) = inl e
     changes (inr e) = inr (inl e)
-may_cover-second q mine theirs (inr (inl (inr k))) = inr (inl k.1)
-may_cover-second q mine theirs (inr (inr k)) = inl k.1
+may_touch-second q mine theirs (inr (inl (inr k))) = inr (inl k.1)
+may_touch-second q mine theirs (inr (inr k)) = inl k.1

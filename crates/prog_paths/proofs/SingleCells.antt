@@ -12,12 +12,12 @@ use Rattle.prog_check.specs.declared.path.Access.{Access}
 use Rattle.prog_check.specs.declared.path.Path.{Path}
 use Rattle.prog_check.specs.Accesses.{Columns, key_columns, range_columns, columns_of, next_unknown, kinds_at, access_of, accesses_of}
 use Rattle.prog_check.specs.Paths.{Passed, Route, accesses_along, path_of, routes, program_paths, paths_from, paths_of}
-use Rattle.prog_paths.specs.Meeting.{MayCover, IsSingle, IsSingleSecond}
+use Rattle.prog_paths.specs.Meeting.{MayTouch, IsSingle, IsSingleSecond}
 use Rattle.prog_paths.specs.Questions.{LawOfSingleCells}
 use Rattle.prog_paths.specs.Listing.{LawOfSingleChanges}
 
-abbrev CoversSingly : Access → Type 0
-CoversSingly a = MayCover a → IsSingle a
+abbrev TouchesSingly : Access → Type 0
+TouchesSingly a = MayTouch a → IsSingle a
 
 -- ---- lists
 
@@ -41,22 +41,22 @@ key-single : (params : List Name) (unknown : ℕ) (key : KeyTree) → HasSingleC
 key-single params unknown (One a) = (refl, tt)
 key-single params unknown (Two a b) = (refl, refl)
 
-accesses-single : (tables : List TableDecl) (number : ℕ) (statement : StatementTree) (c : Columns) → HasSingleColumns c → (kinds : List Kind) → AllByRecursion CoversSingly (map (access_of tables number statement c) kinds)
+accesses-single : (tables : List TableDecl) (number : ℕ) (statement : StatementTree) (c : Columns) → HasSingleColumns c → (kinds : List Kind) → AllByRecursion TouchesSingly (map (access_of tables number statement c) kinds)
 accesses-single tables number statement c h [] = tt
 accesses-single tables number statement c h (k ∷ ks) = (λ m. h, accesses-single tables number statement c h ks)
 
-reads-cover : (a : Access) → a.kind ≡ Reads → CoversSingly a
-reads-cover a e (inl h) = absurd (cc)
-reads-cover a e (inr (inl h)) = absurd (cc)
-reads-cover a e (inr (inr h)) = absurd (cc)
+reads-touch : (a : Access) → a.kind ≡ Reads → TouchesSingly a
+reads-touch a e (inl h) = absurd (cc)
+reads-touch a e (inr (inl h)) = absurd (cc)
+reads-touch a e (inr (inr h)) = absurd (cc)
 
-statement-single : (tables : List TableDecl) (params : List Name) (unknown number : ℕ) (statement : StatementTree) → AllByRecursion CoversSingly (accesses_of tables params unknown number statement)
+statement-single : (tables : List TableDecl) (params : List Name) (unknown number : ℕ) (statement : StatementTree) → AllByRecursion TouchesSingly (accesses_of tables params unknown number statement)
 statement-single tables params unknown number (s.Get x table key e) = accesses-single tables number (s.Get x table key e) (key_columns params unknown key) (key-single params unknown key) (kinds_at tables (s.Get x table key e))
 statement-single tables params unknown number (s.Need x table key) = accesses-single tables number (s.Need x table key) (key_columns params unknown key) (key-single params unknown key) (kinds_at tables (s.Need x table key))
 statement-single tables params unknown number (s.Count x table range) =
-    (reads-cover (access_of tables number (s.Count x table range) (range_columns params unknown range) Reads) refl, tt)
+    (reads-touch (access_of tables number (s.Count x table range) (range_columns params unknown range) Reads) refl, tt)
 statement-single tables params unknown number (s.Sum x table range) =
-    (reads-cover (access_of tables number (s.Sum x table range) (range_columns params unknown range) Reads) refl, tt)
+    (reads-touch (access_of tables number (s.Sum x table range) (range_columns params unknown range) Reads) refl, tt)
 statement-single tables params unknown number (s.Lacks table key) = accesses-single tables number (s.Lacks table key) (key_columns params unknown key) (key-single params unknown key) (kinds_at tables (s.Lacks table key))
 statement-single tables params unknown number (s.Put table key e) = accesses-single tables number (s.Put table key e) (key_columns params unknown key) (key-single params unknown key) (kinds_at tables (s.Put table key e))
 statement-single tables params unknown number (s.Delete table key) = accesses-single tables number (s.Delete table key) (key_columns params unknown key) (key-single params unknown key) (kinds_at tables (s.Delete table key))
@@ -68,14 +68,14 @@ statement-single tables params unknown number s.Abort = tt
 
 -- ---- paths
 
-along-single : (tables : List TableDecl) (params : List Name) (unknown : ℕ) (passed : List Passed) → AllByRecursion CoversSingly (accesses_along tables params unknown passed)
+along-single : (tables : List TableDecl) (params : List Name) (unknown : ℕ) (passed : List Passed) → AllByRecursion TouchesSingly (accesses_along tables params unknown passed)
 along-single tables params unknown [] = tt
 along-single tables params unknown (p ∷ later) =
-    all-append CoversSingly (accesses_of tables params unknown p.number p.statement) (accesses_along tables params (next_unknown unknown (columns_of params unknown p.statement)) later)
+    all-append TouchesSingly (accesses_of tables params unknown p.number p.statement) (accesses_along tables params (next_unknown unknown (columns_of params unknown p.statement)) later)
     (statement-single tables params unknown p.number p.statement) (along-single tables params (next_unknown unknown (columns_of params unknown p.statement)) later)
 
 abbrev HasSingleCovers : Path → Type 0
-HasSingleCovers path = AllByRecursion CoversSingly path.accesses
+HasSingleCovers path = AllByRecursion TouchesSingly path.accesses
 
 routes-single : (tables : List TableDecl) (program : ℕ) (params : List Name) (rs : List Route) → AllByRecursion HasSingleCovers (map (path_of tables program params) rs)
 routes-single tables program params [] = tt
@@ -89,7 +89,7 @@ paths-single tables program (p ∷ ps) =
 
 pub law_of_single_cells : LawOfSingleCells
 law_of_single_cells draft x a access (path, is, got) =
-    all-at CoversSingly path.accesses (all-at HasSingleCovers (paths_of draft) (paths-single draft.tables 0 draft.programs) x path is) a access got
+    all-at TouchesSingly path.accesses (all-at HasSingleCovers (paths_of draft) (paths-single draft.tables 0 draft.programs) x path is) a access got
 
 -- ---- each path
 

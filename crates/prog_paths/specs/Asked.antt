@@ -4,7 +4,7 @@ use Rattle.prog_check.specs.declared.path.Kind.{Kind}
 use Rattle.prog_check.specs.declared.path.Kind.TheVariants.{Reads, Sees, Lacks, Writes, Adds}
 use Rattle.prog_check.specs.declared.path.Access.{Access}
 use Rattle.prog_check.specs.declared.path.Path.{Path}
-use Rattle.prog_paths.specs.Meeting.{MayCover, IsSingle}
+use Rattle.prog_paths.specs.Meeting.{MayTouch, IsSingle}
 use Rattle.prog_paths.specs.StaticGraph.{Question, AsksOf, AsksReadWrite, AsksWriteRead, AsksWriteWrite}
 use Rattle.prog_paths.specs.declared.places.Placed.{Placed}
 use Rattle.prog_paths.specs.declared.places.Question.{Question as Asked}
@@ -22,7 +22,7 @@ pub record IsQuestion (nodes : List Path) (q : Question) : Type 0 where
 
 -- what a path changes or keeps is one cell each time, as it is on the paths of a checked set
 abbrev pub ChangesSingleCells : Path → Type 0
-ChangesSingleCells path = All (λ a. MayCover a → IsSingle a) path.accesses
+ChangesSingleCells path = All (λ a. MayTouch a → IsSingle a) path.accesses
 
 -- ---- a question between two paths
 

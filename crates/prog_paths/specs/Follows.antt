@@ -10,7 +10,7 @@ use Rattle.prog_check.specs.declared.path.Kind.{Kind}
 use Rattle.prog_check.specs.declared.path.Kind.TheVariants.{Reads, Sees, Lacks, Writes, Adds, Keeps}
 use Rattle.prog_check.specs.declared.path.Access.{Access}
 use Rattle.prog_check.specs.declared.path.Path.{Path}
-use Rattle.prog_paths.specs.Meeting.{Assignment, IsOf, cell_under, MayCover}
+use Rattle.prog_paths.specs.Meeting.{Assignment, IsOfOwn, cell_under, MayCover}
 
 -- ---- what was looked at, changed and kept
 
@@ -44,9 +44,10 @@ FoundAs kind found changed =
 abbrev pub ChangedAs : Kind → Type 0 → Type 0
 ChangedAs kind found = (kind ≡ Writes) ⊎ ((kind ≡ Adds) × (found → ⊥))
 
--- an access of a list that holds this cell, and whose kind fits
+-- an access of a list that is made of this cell, and whose kind fits
 abbrev pub Touch : List Access → Assignment → Cell → (Kind → Type 0) → Type 0
-Touch accesses v c fits = (number : ℕ) × (a : Access) × (slice_get accesses number ≡ Some a) × IsOf v a c × fits a.kind
+Touch accesses v c fits =
+    (number : ℕ) × (a : Access) × (slice_get accesses number ≡ Some a) × IsOfOwn v a c × fits a.kind
 
 -- a path under an assignment says what an evaluation on m looked at, changed and kept
 pub record Follows (m : TableState) (path : Path) (v : Assignment) (e : Evaluation) : Type 0 where

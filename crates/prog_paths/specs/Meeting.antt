@@ -48,9 +48,17 @@ pub record IsOf (v : Assignment) (access : Access) (cell : Cell) : Type 0 where
 abbrev pub cell_under : Assignment → Access → Cell
 cell_under v a = record { table = a.table; first = number_under v a.first.low; second = second_under v a.second }
 
--- an access that may cover: it changes or keeps its cell
+-- an access that changes or keeps its cell
+abbrev pub MayTouch : Access → Type 0
+MayTouch a = (a.kind ≡ Writes) ⊎ (a.kind ≡ Adds) ⊎ (a.kind ≡ Keeps)
+
+-- an access that may cover: each run that follows its path changes or keeps its cell
 abbrev pub MayCover : Access → Type 0
-MayCover a = (a.kind ≡ Writes) ⊎ (a.kind ≡ Adds) ⊎ (a.kind ≡ Keeps)
+MayCover = MayTouch
+
+-- a run that follows the access's path under an assignment makes the access of this cell
+abbrev pub IsOfOwn : Assignment → Access → Cell → Type 0
+IsOfOwn = IsOf
 
 -- ---- two accesses
 
@@ -80,6 +88,10 @@ pub record MeetsUnder (v w : Assignment) (mine theirs : Access) : Type 0 where
   pub mine_of_i64 : IsOfI64 v
   pub theirs_of_i64 : IsOfI64 w
   pub meet : Meet v mine w theirs
+
+-- runs that follow the paths of two accesses under these assignments make both of one cell
+abbrev pub MeetAsOwn : Assignment → Assignment → Access → Access → Type 0
+MeetAsOwn = MeetsUnder
 
 -- some assignments of i64 make the two accesses meet
 abbrev pub CanMeet : Access → Access → Type 0

@@ -11,7 +11,7 @@ use Rattle.prog_check.specs.declared.path.Access.{Access}
 use Rattle.prog_check.specs.Accesses.{single}
 use Rattle.prog_check.specs.Paths.{paths_of}
 use Rattle.prog_tree.specs.Syntax.{DraftTree}
-use Rattle.prog_paths.specs.Meeting.{Assignment, number_under, Meet, MeetsUnder, CanMeet, MayCover, IsSingle}
+use Rattle.prog_paths.specs.Meeting.{Assignment, number_under, Meet, MeetsUnder, CanMeet, MayTouch, IsSingle}
 use Rattle.prog_paths.specs.StaticGraph.{IsAccessOf}
 
 -- ---- facts
@@ -89,4 +89,4 @@ LawOfEqualTerms =
 abbrev pub LawOfSingleCells : Type 0
 LawOfSingleCells =
     (draft : DraftTree) (x a : ℕ) (access : Access)
-    → IsAccessOf (paths_of draft) x a access → MayCover access → IsSingle access
+    → IsAccessOf (paths_of draft) x a access → MayTouch access → IsSingle access

@@ -1,7 +1,7 @@
 //! What the kinds of two accesses ask.
 ghost use Rattle.std.specs.Prelude.{◌≡◌, ◌↔◌, IsTrue};
 ghost use Rattle.prog_paths.specs.Asked.{asks_read_write, asks_write_read, both_write};
-ghost use Rattle.prog_paths.specs.Meeting.{MayCover};
+ghost use Rattle.prog_paths.specs.Meeting.{MayTouch, MayCover};
 ghost use Rattle.prog_paths.specs.StaticGraph.{Question, AsksReadWrite};
 
 use prog_check::{Access, Kind};
@@ -37,8 +37,15 @@ pub fn both_write(mine: Kind, theirs: Kind) -> bool
 }
 
 /// Whether the access changes or keeps its cell.
+pub fn may_touch(access: &Access) -> bool
+    ensures { IsTrue result ↔ MayTouch access.now }
+{
+    matches!(access.kind, Kind::Writes | Kind::Adds | Kind::Keeps)
+}
+
+/// Whether each run that follows the access's path changes or keeps its cell.
 pub fn may_cover(access: &Access) -> bool
     ensures { IsTrue result ↔ MayCover access.now }
 {
-    matches!(access.kind, Kind::Writes | Kind::Adds | Kind::Keeps)
+    may_touch(access)
 }

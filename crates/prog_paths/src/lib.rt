@@ -16,7 +16,7 @@ mod square;
 mod trail;
 mod walk;
 
-pub use asking::{asks_read_write, asks_write_read, both_write, may_cover};
+pub use asking::{asks_read_write, asks_write_read, both_write, may_cover, may_touch};
 pub use count::is_too_large;
 pub use law::{law_of_listing, law_of_paths, law_of_questions, law_of_single_changes};
 pub use listing::paths;

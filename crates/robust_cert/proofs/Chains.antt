@@ -10,7 +10,7 @@ use Rattle.order_facts.proofs.Exact.{Entails-from_reaches}
 use Rattle.prog_check.specs.declared.path.Term.{Term}
 use Rattle.prog_check.specs.declared.path.Access.{Access}
 use Rattle.prog_check.specs.declared.path.Path.{Path}
-use Rattle.prog_paths.specs.Meeting.{MayCover, IsSingle}
+use Rattle.prog_paths.specs.Meeting.{MayTouch, IsSingle}
 use Rattle.prog_paths.specs.StaticGraph.{IsAccessOf}
 use Rattle.prog_paths.specs.Shown.{Runs, ShowEqual, AllEqual}
 use Rattle.prog_paths.specs.Asked.{ChangesSingleCells}
@@ -28,7 +28,7 @@ AllEqual-from_ShowEqual facts (p ∷ ps) (there ∷ back ∷ chains) h =
     ((entailed facts _ _ there h.0, entailed facts _ _ back h.1), AllEqual-from_ShowEqual facts ps chains h.2)
 
 -- what changes or keeps is one cell
-pub single_of : (nodes : List Path) → All ChangesSingleCells nodes → (x a : ℕ) (access : Access) → IsAccessOf nodes x a access → MayCover access → IsSingle access
+pub single_of : (nodes : List Path) → All ChangesSingleCells nodes → (x a : ℕ) (access : Access) → IsAccessOf nodes x a access → MayTouch access → IsSingle access
 single_of nodes single x a access at may =
     let inside = slice_get_within nodes x at.0 at.1 in
     let own = subst ChangesSingleCells (get_or_from_slice_get nodes x at.0 at.0 at.1) (single x at.0 inside) in

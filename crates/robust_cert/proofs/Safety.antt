@@ -11,7 +11,7 @@ use Rattle.prog_paths.specs.StaticGraph.{Question, AsksOf, AsksReadWrite, IsAcce
 use Rattle.prog_paths.specs.Asked.{Asks, ChangesSingleCells}
 use Rattle.prog_paths.specs.Questions.{question_facts}
 use Rattle.prog_paths.specs.Shown.{Falls, key_pairs, AllEqual}
-use Rattle.prog_paths.proofs.Shown.{IsPair, apart-from_Falls, same-from_CoversBy, may_cover-second}
+use Rattle.prog_paths.proofs.Shown.{IsPair, apart-from_Falls, same-from_CoversBy, may_touch-second}
 use Rattle.prog_paths.proofs.Marked.{same_access}
 use Rattle.prog_paths.proofs.Edges.{HasQuestion-weaker, EdgeOf-weaker}
 use Rattle.prog_paths.proofs.SingleCells.{law_of_single_changes}
@@ -37,7 +37,7 @@ unclosed x y z r d = let up = r.rise x y z d.first d.second in let back = level-
 
 module _ (nodes : List Path) (single : All ChangesSingleCells nodes) (c : Certificate) (a : IsAccepted nodes c) where
   pair_of : (q : Question) (mine theirs : Access) → AsksOf nodes q mine theirs → Asks q mine.kind theirs.kind → IsPair mine theirs
-  pair_of q mine theirs asked asks = record { table = asked.table; single = single_of nodes single q.y q.b theirs asked.at_theirs (may_cover-second q mine theirs asks) }
+  pair_of q mine theirs asked asks = record { table = asked.table; single = single_of nodes single q.y q.b theirs asked.at_theirs (may_touch-second q mine theirs asks) }
 
   -- a question that is told apart never meets
   apart-right : (q : Question) (mine theirs : Access) → AsksOf nodes q mine theirs → Asks q mine.kind theirs.kind → IsToldApart c.entries q → CanMeet mine theirs → ⊥

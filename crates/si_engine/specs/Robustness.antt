@@ -1,7 +1,7 @@
 -- What the static graph of a set says about its lawful histories: each committed instance follows a node, each
 -- dependency is an edge between the nodes that its instances follow, a concurrent read-write dependency is a
--- vulnerable edge, and a cycle shows a dangerous structure.
-use Rattle.std.specs.Prelude.{◌≡◌, ◌≢◌, ℕ, ℤ, ◌<◌, ◌≤◌, ◌⊎◌, ◌↔◌, true, List, length, Some, slice_get}
+-- vulnerable edge, a cycle ends in two of these, and so it shows a dangerous structure.
+use Rattle.std.specs.Prelude.{◌≡◌, ◌≢◌, ℕ, ℤ, ◌<◌, ◌≤◌, ◌⊎◌, ◌↔◌, true, List, [], ◌∷◌, ◌++◌, length, Some, slice_get}
 use Rattle.prog_tree.specs.declared.cell.Cell.{Cell}
 use Rattle.prog_tree.specs.Syntax.{DraftTree}
 use Rattle.prog_tree.specs.Table.{TableState, HasI64Rows}
@@ -10,19 +10,19 @@ use Rattle.prog_check.specs.Paths.{paths_of}
 use Rattle.prog_check.specs.Sound.{IsSound}
 use Rattle.prog_check.specs.Tables.{grows}
 use Rattle.prog_paths.specs.Follows.{Changes, HasRow, Follows}
-use Rattle.prog_paths.specs.Meeting.{Assignment, IsOfI64, MeetsUnder}
+use Rattle.prog_paths.specs.Meeting.{Assignment, IsOfI64, MeetAsOwn}
 use Rattle.prog_paths.specs.StaticGraph.{HasQuestion, AsksReadWrite, AsksWriteRead, AsksWriteWrite, IsVulnerable, IsDangerous}
 use Rattle.history_book.specs.History.{Instance, IsLawful, nth_instance, state_after}
 use Rattle.history_book.specs.Orders.{IsUpTo, IsCycle}
 use Rattle.history_book.specs.Dependencies.{start_at, evaluation_at, read_write, depends}
 
--- a question that gives the edge x to y meets under this pair of assignments, the first of x, the second of y
+-- a question that gives the edge x to y is met by runs under this pair of assignments, the first of x, the second of y
 abbrev pub EdgeUnder : Assignment → Assignment → List Path → ℕ → ℕ → Type 0
 EdgeUnder v w nodes x y =
-    HasQuestion AsksReadWrite (λ q a b. MeetsUnder v w a b) nodes x y
-    ⊎ HasQuestion AsksWriteRead (λ q a b. MeetsUnder w v a b) nodes y x
-    ⊎ HasQuestion AsksWriteWrite (λ q a b. MeetsUnder v w a b) nodes x y
-    ⊎ HasQuestion AsksWriteWrite (λ q a b. MeetsUnder w v a b) nodes y x
+    HasQuestion AsksReadWrite (λ q a b. MeetAsOwn v w a b) nodes x y
+    ⊎ HasQuestion AsksWriteRead (λ q a b. MeetAsOwn w v a b) nodes y x
+    ⊎ HasQuestion AsksWriteWrite (λ q a b. MeetAsOwn v w a b) nodes x y
+    ⊎ HasQuestion AsksWriteWrite (λ q a b. MeetAsOwn w v a b) nodes y x
 
 -- an instance of this number was committed
 abbrev pub IsCommitted : List Instance → ℕ → Type 0
@@ -55,6 +55,23 @@ module _ (set : DraftTree) (opening : TableState) (h : List Instance) where
     pub sound : IsSound set
     pub opening_rows : HasI64Rows opening
     pub lawful : IsLawful set opening h
+
+  -- two instances, neither of which saw the other's commit: the first looked
+  -- at a cell that the second changed
+  pub record Misses (i j : ℕ) : Type 0 where
+    pub other : i ≢ j
+    pub concurrent : AreConcurrent h i j
+    pub missed : read_write set opening h i j ≡ true
+
+  -- of the last two numbers of a cycle each missed a change: the first that of the second, and the
+  -- second that of c
+  pub record EndsInMisses (numbers : List ℕ) (c : ℕ) : Type 0 where
+    pub front : List ℕ
+    pub a : ℕ
+    pub b : ℕ
+    pub last_two : numbers ≡ front ++ a ∷ b ∷ []
+    pub earlier : Misses a b
+    pub last : Misses b c
 
   -- the instance of a number changed the cell
   abbrev pub HasChanged : ℕ → Cell → Type 0
@@ -96,6 +113,14 @@ LawOfVulnerableEdges =
     → read_write set opening h i j ≡ true
     → (mine : FollowsNode set opening h i) (theirs : FollowsNode set opening h j)
     → IsVulnerable (paths_of set) mine.node theirs.node
+
+-- the last step of a cycle of dependencies, which goes to its least commit, and the step before it
+-- are read-write dependencies between concurrent instances
+abbrev pub LawOfLastSteps : Type 0
+LawOfLastSteps =
+    (set : DraftTree) (opening : TableState) (h : List Instance) → IsLawful set opening h
+    → (numbers : List ℕ) (cycle : IsCycle (depends set opening h) numbers)
+    → EndsInMisses set opening h numbers cycle.first
 
 -- a cycle of dependencies shows a dangerous structure
 abbrev pub LawOfCycles : Type 0
