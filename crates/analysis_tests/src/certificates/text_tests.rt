@@ -3,7 +3,7 @@
 use order_facts::Node;
 use prog_tree::Sequence;
 use robust_cert::{Certificate, Chain, Entry, JsonFault, Question, from_json, to_json};
-use std::alloc::{AllocError, Global};
+use std::alloc::Global;
 use std::process::Abort;
 use std::test::Fail;
 
@@ -194,19 +194,23 @@ fn certificates_are_written_as_they_were_read(rt: HostRuntime) {
     }
 }
 
-fn chain(alloc: Global, nodes: [Node; 2]) -> Result<Chain, AllocError> {
-    Ok(Sequence::from_vec(Vec::from_array(alloc, nodes)?))
+fn chain(alloc: Global, nodes: [Node; 2]) -> Result<Chain, Fail> {
+    let nodes = Vec::from_array(alloc, nodes)?;
+    match Chain::from_vec(nodes) {
+        Some(chain) => Ok(chain),
+        None => Err(Fail::new("a number that no text can say")),
+    }
 }
 
 /// The chains of a cover, from a node of mine to one of theirs and back.
-fn chains(alloc: Global, mine: Node, theirs: Node) -> Result<Sequence<Chain>, AllocError> {
+fn chains(alloc: Global, mine: Node, theirs: Node) -> Result<Sequence<Chain>, Fail> {
     let there = chain(alloc, [mine, theirs])?;
     let back = chain(alloc, [theirs, mine])?;
     Ok(Sequence::from_vec(Vec::from_array(alloc, [there, back])?))
 }
 
 /// The only entry of the certificate of the report set.
-fn report_entry(alloc: Global) -> Result<Entry, AllocError> {
+fn report_entry(alloc: Global) -> Result<Entry, Fail> {
     let question = Question {
         x: 2,
         a: 2,
@@ -221,7 +225,7 @@ fn report_entry(alloc: Global) -> Result<Entry, AllocError> {
     })
 }
 
-fn report(alloc: Global) -> Result<Certificate, AllocError> {
+fn report(alloc: Global) -> Result<Certificate, Fail> {
     let entry = report_entry(alloc)?;
     let entries = Sequence::from_vec(Vec::from_array(alloc, [entry])?);
     let levels = Sequence::from_vec(Vec::from_array(alloc, [3, 3, 3])?);
@@ -232,6 +236,26 @@ fn report(alloc: Global) -> Result<Certificate, AllocError> {
 fn a_certificate_is_built_and_written(rt: HostRuntime) -> Result<(), Fail> {
     let certificate = report(rt.alloc())?;
     assert!(rt; is_written_of(rt.alloc(), REPORT, &certificate));
+    Ok(())
+}
+
+/// Nodes with a number that no text can say.
+const PAST: [Node; 4] = [
+    Node::Mine(4294967296),
+    Node::MineUnknown(4294967296),
+    Node::Theirs(4294967296),
+    Node::TheirsUnknown(4294967296),
+];
+
+#[test]
+fn a_chain_holds_numbers_that_a_text_can_say(rt: HostRuntime) -> Result<(), Fail> {
+    let nodes = [Node::TheirsUnknown(4294967295), Node::Number(i64::MIN)];
+    let greatest = chain(rt.alloc(), nodes)?;
+    assert!(rt; greatest.as_slice() == &nodes[..]);
+    for node in PAST {
+        let past = Vec::from_array(rt.alloc(), [Node::Mine(0), node])?;
+        assert!(rt; Chain::from_vec(past).is_none(), "{node:?}");
+    }
     Ok(())
 }
 

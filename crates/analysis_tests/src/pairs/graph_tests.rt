@@ -60,3 +60,16 @@ fn ledger_and_transfer_have_levels(rt: HostRuntime) -> Result<(), Fail> {
     check(&rt, rt.alloc(), LEDGER, "2 3 2 ")?;
     check(&rt, rt.alloc(), TRANSFER, "1 ")
 }
+
+#[test]
+fn a_total_reaches_a_close_by_way_of_a_post(rt: HostRuntime) -> Result<(), Fail> {
+    let paths = paths_of(rt.alloc(), LEDGER)?;
+    let table = table_of(&rt, rt.alloc(), &paths)?;
+    let graph = Graph::build(rt.alloc(), &table)?;
+    assert!(rt; graph.nodes() == 3);
+    assert!(rt; graph.reaches(0, 0) && !graph.edge(0, 0));
+    assert!(rt; graph.edge(2, 0) && graph.edge(0, 1));
+    assert!(rt; graph.reaches(2, 1) && !graph.edge(2, 1));
+    assert!(rt; !graph.reaches(1, 2));
+    Ok(())
+}

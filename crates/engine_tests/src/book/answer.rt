@@ -28,6 +28,8 @@ pub enum Call {
     StartOf(u64),
     /// How the instance ended that was the nth to end, from 0.
     Ending(usize),
+    /// Whether two instances ended the same, by their places among the endings.
+    SameEndings(usize, usize),
     IsFull,
     /// The number of a program of the book's set.
     Program(&'static str),

@@ -190,6 +190,23 @@ fn an_aborted_run_ends_its_instance(rt: HostRuntime) -> Result<(), Fail> {
     play(&rt, rt.alloc(), &[], &calls)
 }
 
+#[test]
+fn endings_are_the_same_by_their_rows_and_causes(rt: HostRuntime) -> Result<(), Fail> {
+    let calls = [
+        (Call::Begin(STOP, &[]), Answer::Begun(0, 0)),
+        (Call::End(STOPPED), Answer::Aborted),
+        (Call::Begin(STOP, &[]), Answer::Begun(1, 0)),
+        (Call::End(STOPPED), Answer::Aborted),
+        (Call::Set(&[1, 5]), Answer::Committed(1)),
+        (Call::Begin(STOP, &[]), Answer::Begun(3, 1)),
+        (Call::End(STOPPED), Answer::Aborted),
+        (Call::SameEndings(0, 1), Answer::Is(true)),
+        (Call::SameEndings(0, 2), Answer::Is(false)),
+        (Call::SameEndings(0, 3), Answer::Is(false)),
+    ];
+    play(&rt, rt.alloc(), &[], &calls)
+}
+
 // That no version goes holds of every vacuum, until versions are really dropped.
 #[test]
 fn a_dropped_ticket_holds_the_floor(rt: HostRuntime) -> Result<(), Fail> {

@@ -1,7 +1,7 @@
 //! A book with the ticket that is at hand.
 
 use crate::book::answer::{Answer, Call};
-use crate::book::endings::{commit, end, ending};
+use crate::book::endings::{commit, end, ending, same_endings};
 use crate::book::runs::{Ride, run_of};
 use crate::book::sets::{REGISTERS, SET, cell, rows_of};
 use example_sets::set_of;
@@ -171,6 +171,7 @@ impl<'a> Desk<'a> {
             Call::Commits => Answer::Count(self.book.commits()),
             Call::StartOf(number) => self.start_of(*number),
             Call::Ending(number) => ending(&self.book, *number),
+            Call::SameEndings(number, other) => same_endings(&self.book, *number, *other),
             Call::IsFull => Answer::Is(self.book.is_full()),
             Call::Program(name) => self.program(name),
             _ => Answer::Nothing,

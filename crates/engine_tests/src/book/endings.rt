@@ -52,3 +52,11 @@ pub fn ending(book: &Book<'_>, number: usize) -> Answer {
         None => Answer::Nothing,
     }
 }
+
+/// Whether two instances ended the same, by their places among the endings.
+pub fn same_endings(book: &Book<'_>, number: usize, other: usize) -> Answer {
+    match (book.endings().get(number), book.endings().get(other)) {
+        (Some(ending), Some(other)) => Answer::Is(ending.is_same(other)),
+        _ => Answer::Nothing,
+    }
+}
