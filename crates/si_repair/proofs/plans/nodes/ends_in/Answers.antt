@@ -1,0 +1,16 @@
+use Rattle.std.proofs.Common.{arith}
+use Rattle.std.proofs.lemmas.Bool.{false≢true, both_ways}
+use Rattle.prog_paths.specs.StaticGraph.{StaticEdge, IsVulnerable, IsDangerousAt}
+use Rattle.si_repair.proofs.Searching.{any-more, any-end}
+use Rattle.si_repair.proofs.plans.nodes.ends_in.Goals as goal
+use Rattle.si_repair.proofs.plans.nodes.ends_in.Goals.{else-vulnerable-via-then-vulnerable+else-reaches, else-vulnerable-via-else-vulnerable}
+
+pub loop-z-preserved : goal.loop-z-preserved
+loop-z-preserved c paths s =
+    any-more (λ z. IsDangerousAt (StaticEdge paths) (IsVulnerable paths) c.args.x c.args.y z) c.args.thirds.now c.loop-z.z-index 0 (omega arith) (c.loop-z.invariant paths s) (λ d. elim c.else-vulnerable.branch [
+      | else-vulnerable-via-then-vulnerable+else-reaches w ↦ both_ways w.reaches.result w.if-reaches.false ((w.reaches.ensures paths s).1 d.back)
+      | else-vulnerable-via-else-vulnerable w ↦ both_ways c.vulnerable-in-loop-z.result w.if-vulnerable.false ((c.vulnerable-in-loop-z.ensures paths s).1 d.second)
+    ])
+
+pub returns : goal.returns
+returns c paths s = (λ e. absurd (false≢true e), λ h. absurd (any-end (λ z. IsDangerousAt (StaticEdge paths) (IsVulnerable paths) c.args.x c.args.y z) c.args.thirds.now c.loop-z.z-index (omega arith) (c.loop-z.invariant paths s) h))

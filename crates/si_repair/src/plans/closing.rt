@@ -1,0 +1,106 @@
+//! Which programs close a dangerous structure.
+ghost use Rattle.std.specs.Prelude.{◌≡◌, OnOk, IfOk};
+ghost use Rattle.conflict_pairs.specs.Table.{StandsFor};
+ghost use Rattle.si_repair.specs.Planning.{first_pair, second_pair, Adds, ClosesBehind, ClosesFrom, AreClosing};
+
+use crate::plans::nodes::{begins_in, nodes_of};
+use dep_graph::Graph;
+use prog_check::Path;
+use repair_laws::Pair;
+use std::alloc::{AllocError, Global};
+
+/// Three programs in a row.
+#[derive(Clone, Copy)]
+pub struct Triple {
+    pub first: usize,
+    pub second: usize,
+    pub third: usize,
+}
+
+impl Triple {
+    pub fn first_pair(self) -> Pair
+        ensures { result ≡ first_pair self }
+    {
+        Pair {
+            from: self.first,
+            to: self.second,
+        }
+    }
+
+    pub fn second_pair(self) -> Pair
+        ensures { result ≡ second_pair self }
+    {
+        Pair {
+            from: self.second,
+            to: self.third,
+        }
+    }
+}
+
+/// Adds the triples that close a structure behind a pair of programs.
+fn push_behind(
+    alloc: Global,
+    paths: &[Path],
+    graph: &Graph<'_>,
+    programs: usize,
+    pair: Pair,
+    triples: &mut Vec<Triple>,
+) -> Result<(), AllocError>
+    requires { StandsFor graph.now paths.now }
+    ensures { OnOk result (Adds triples.old.items triples.new.items
+        (ClosesBehind paths.now pair programs)) }
+{
+    let firsts = nodes_of(alloc, paths, pair.from)?;
+    let seconds = nodes_of(alloc, paths, pair.to)?;
+    for third in 0..programs {
+        let thirds = nodes_of(alloc, paths, third)?;
+        if begins_in(graph, &firsts, &seconds, &thirds) {
+            triples.push(Triple {
+                first: pair.from,
+                second: pair.to,
+                third,
+            })?;
+        }
+    }
+    Ok(())
+}
+
+/// Adds the triples that close a structure and begin with a program.
+fn push_from(
+    alloc: Global,
+    paths: &[Path],
+    graph: &Graph<'_>,
+    programs: usize,
+    first: usize,
+    triples: &mut Vec<Triple>,
+) -> Result<(), AllocError>
+    requires { StandsFor graph.now paths.now }
+    ensures { OnOk result (Adds triples.old.items triples.new.items
+        (ClosesFrom paths.now first programs programs)) }
+{
+    for second in 0..programs {
+        let pair = Pair {
+            from: first,
+            to: second,
+        };
+        push_behind(alloc, paths, graph, programs, pair, triples)?;
+    }
+    Ok(())
+}
+
+/// All programs in a row, of so many, that close a dangerous structure.
+pub fn closing_triples(
+    alloc: Global,
+    paths: &[Path],
+    graph: &Graph<'_>,
+    programs: usize,
+) -> Result<Vec<Triple>, AllocError>
+    requires { StandsFor graph.now paths.now }
+    ensures { IfOk result (λ triples. AreClosing paths.now programs triples.items) }
+{
+    let mut triples = Vec::new(alloc);
+    for first in 0..programs {
+        push_from(alloc, paths, graph, programs, first, &mut triples)?;
+    }
+    Ok(triples)
+}

@@ -1,0 +1,73 @@
+//! The nodes of programs, and whether a dangerous structure is among them.
+ghost use Rattle.std.specs.Prelude.{◌↔◌, ◌<◌, List, All, IfOk, IsTrue};
+ghost use Rattle.prog_check.specs.declared.path.Path.{Path};
+ghost use Rattle.conflict_pairs.specs.Table.{StandsFor};
+ghost use Rattle.si_repair.specs.Planning.{AreNodesOf, EndsIn, GoesOnIn, BeginsIn};
+
+use dep_graph::Graph;
+use prog_check::Path;
+use std::alloc::{AllocError, Global};
+
+/// The nodes that are paths of a program.
+pub fn nodes_of(alloc: Global, paths: &[Path], program: usize) -> Result<Vec<usize>, AllocError>
+    ensures { IfOk result (λ nodes. AreNodesOf paths.now program nodes.items) }
+{
+    let mut nodes = Vec::new(alloc);
+    for x in 0..paths.len() {
+        if paths[x].program == program {
+            nodes.push(x)?;
+        }
+    }
+    Ok(nodes)
+}
+
+/// Whether one of the nodes ends a dangerous structure behind `x` and `y`.
+fn ends_in(graph: &Graph<'_>, x: usize, y: usize, thirds: &[usize]) -> bool
+    requires x { x < graph.now.nodes }
+    requires y { y < graph.now.nodes }
+    requires thirds { All (λ z. z < graph.now.nodes) thirds.now }
+    ensures { (paths : List Path) → StandsFor graph.now paths
+        → (IsTrue result ↔ EndsIn paths x y thirds.now) }
+{
+    if !graph.vulnerable(x, y) {
+        return false;
+    }
+    for z in thirds {
+        if graph.vulnerable(y, *z) && graph.reaches(*z, x) {
+            return true;
+        }
+    }
+    false
+}
+
+/// Whether a dangerous structure begins with `x` and has its other nodes among these.
+fn goes_on_in(graph: &Graph<'_>, x: usize, seconds: &[usize], thirds: &[usize]) -> bool
+    requires x { x < graph.now.nodes }
+    requires seconds { All (λ y. y < graph.now.nodes) seconds.now }
+    requires thirds { All (λ z. z < graph.now.nodes) thirds.now }
+    ensures { (paths : List Path) → StandsFor graph.now paths
+        → (IsTrue result ↔ GoesOnIn paths x seconds.now thirds.now) }
+{
+    for y in seconds {
+        if ends_in(graph, x, *y, thirds) {
+            return true;
+        }
+    }
+    false
+}
+
+/// Whether a dangerous structure has its three nodes among these.
+pub fn begins_in(graph: &Graph<'_>, firsts: &[usize], seconds: &[usize], thirds: &[usize]) -> bool
+    requires firsts { All (λ x. x < graph.now.nodes) firsts.now }
+    requires seconds { All (λ y. y < graph.now.nodes) seconds.now }
+    requires thirds { All (λ z. z < graph.now.nodes) thirds.now }
+    ensures { (paths : List Path) → StandsFor graph.now paths
+        → (IsTrue result ↔ BeginsIn paths firsts.now seconds.now thirds.now) }
+{
+    for x in firsts {
+        if goes_on_in(graph, *x, seconds, thirds) {
+            return true;
+        }
+    }
+    false
+}
