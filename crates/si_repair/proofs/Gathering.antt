@@ -1,0 +1,287 @@
+-- The accesses of a program's paths, and the exposed questions between those of two programs.
+use Rattle.std.proofs.Common.{◌≡◌, ◌↔◌, ℕ, zero, suc, ◌+◌, ◌<◌, ◌≤◌, ◌⊎◌, inl, inr, true, List, [], ◌∷◌, ◌++◌, length, take, get_or, refl, sym, subst, ap, ◌∙◌, arith, Contains}
+use Rattle.std.specs.Prelude.{Some, slice_get, All}
+use Rattle.std.proofs.lemmas.List.{take_more, take_all, append-nil}
+use Rattle.std.proofs.lemmas.List.Elements.{Contains-append_left, Contains-append_right, Contains-append_cases, Contains-push, Contains-push_cases, Contains-get_or, All-contains}
+use Rattle.std.proofs.lemmas.Option.{none-some, same_Some, slice_get_within, get_or_from_slice_get, slice_get-get_or}
+use Rattle.prog_check.specs.declared.path.Access.{Access}
+use Rattle.prog_check.specs.declared.path.Path.{Path}
+use Rattle.prog_paths.specs.StaticGraph.{IsAccessOf, AsksOf}
+use Rattle.prog_paths.specs.declared.places.Placed.{Placed}
+use Rattle.prog_paths.specs.declared.places.Question.{Question as Asked}
+use Rattle.prog_paths.specs.Asked.{asks, numbers_of, question_between, placed_from, all_from}
+use Rattle.prog_paths.specs.Places.{IsAt}
+use Rattle.prog_paths.proofs.Asked.{placed, all_places_stand}
+use Rattle.prog_paths.proofs.Membership.{asks-from_Asks}
+use Rattle.prog_paths.proofs.Segments.{IsMember, member_left, member_right}
+use Rattle.conflict_pairs.specs.declared.outcome.Verdict.{Verdict}
+use Rattle.conflict_pairs.specs.Verdicts.{IsRight}
+use Rattle.conflict_pairs.specs.Law.{IsExposedVerdict}
+use Rattle.conflict_pairs.proofs.Exactness.{law_of_verdicts}
+use Rattle.repair_laws.specs.declared.plan.Pair.{Pair}
+use Rattle.repair_laws.specs.Striking.{IsOfProgram}
+use Rattle.repair_laws.specs.Keys.{ExposedOf}
+use Rattle.si_repair.specs.Exposing.{AreExposed}
+use Rattle.si_repair.specs.Gathering.{HasAccess, AreOfProgram, ArePlacesOf, MayMiss, IsExposedTo, IsExposedOf, AreExposedAmong}
+use Rattle.si_repair.proofs.Members.{Contains-from_member}
+
+-- ---- elements
+
+pub nothing : {A : Type 0} (x : A) → Contains [] x → ⊥
+nothing x c = let inside = c.1 in omega (arith, inside)
+
+pub only_one : {A : Type 0} (x y : A) → Contains (x ∷ []) y → x ≡ y
+only_one x y c = go (Contains-push_cases [] x y c)
+  where
+    go : Contains [] y ⊎ (x ≡ y) → x ≡ y
+    go (inl n) = absurd (nothing y n)
+    go (inr e) = e
+
+pub just_one : {A : Type 0} (x : A) → Contains (x ∷ []) x
+just_one x = (0, omega arith, refl)
+
+-- an element among the first ones is one of the list
+pub among_first : {A : Type 0} (n : ℕ) (xs : List A) (d x : A) → n < length xs → Contains (take (n + 1) xs) x → Contains (take n xs) x ⊎ (get_or xs n d ≡ x)
+among_first {A = A} n xs d x lt c = Contains-push_cases (take n xs) (get_or xs n d) x (subst (λ (l : List A). Contains l x) (take_more xs n d lt) c)
+
+pub still_first : {A : Type 0} (n : ℕ) (xs : List A) (d x : A) → n < length xs → Contains (take n xs) x → Contains (take (n + 1) xs) x
+still_first {A = A} n xs d x lt c = subst (λ (l : List A). Contains l x) (sym (take_more xs n d lt)) (Contains-append_left (take n xs) (get_or xs n d ∷ []) x c)
+
+pub last_first : {A : Type 0} (n : ℕ) (xs : List A) (d : A) → n < length xs → Contains (take (n + 1) xs) (get_or xs n d)
+last_first {A = A} n xs d lt = subst (λ (l : List A). Contains l (get_or xs n d)) (sym (take_more xs n d lt)) (Contains-push (take n xs) (get_or xs n d))
+
+-- ---- accesses at their places
+
+pub node_there : (nodes : List Path) (x a : ℕ) → HasAccess nodes x a → x < length nodes
+node_there nodes x a h = slice_get_within nodes x h.1.0 h.1.1
+
+pub access_there : (nodes : List Path) (x a : ℕ) (path : Path) → path ≡ get_or nodes x path → (h : HasAccess nodes x a) → slice_get path.accesses a ≡ Some h.0
+access_there nodes x a path is h =
+    subst (λ (p : Path). slice_get p.accesses a ≡ Some h.0) (sym (is ∙ get_or_from_slice_get nodes x h.1.0 path h.1.1)) h.1.2
+
+pub access_is : (nodes : List Path) (x a : ℕ) (path : Path) (d : Access) → path ≡ get_or nodes x path → HasAccess nodes x a → IsAccessOf nodes x a (get_or path.accesses a d)
+access_is nodes x a path d is h =
+    let there = access_there nodes x a path is h in
+    (path, slice_get-get_or nodes x path (node_there nodes x a h) ∙ ap Some (sym is), slice_get-get_or path.accesses a d (slice_get_within path.accesses a h.0 there))
+
+-- ---- places
+
+in_node : (node n : ℕ) (xs : List Access) (i : ℕ) (a : Access) → slice_get xs i ≡ Some a → IsMember (placed node (n + i) a) (placed_from node n xs)
+in_node node n [] i a e = absurd (none-some a e)
+in_node node n (x ∷ xs) zero a e =
+    let z : n ≡ n + 0 = omega arith in
+    let s = same_Some x a e in
+    inl (λ k. placed node (z k) (s k))
+in_node node n (x ∷ xs) (suc i) a e =
+    let z : n + 1 + i ≡ n + suc i = omega arith in
+    inr (subst (λ (k : ℕ). IsMember (placed node k a) (placed_from node (n + 1) xs)) z (in_node node (n + 1) xs i a e))
+
+in_all : (n : ℕ) (rest : List Path) (i : ℕ) (path : Path) (k : ℕ) (a : Access) → slice_get rest i ≡ Some path → slice_get path.accesses k ≡ Some a → IsMember (placed (n + i) k a) (all_from n rest)
+in_all n [] i path k a e f = absurd (none-some path e)
+in_all n (p ∷ rest) zero path k a e f =
+    let z : n ≡ n + 0 = omega arith in
+    let y : 0 + k ≡ k = omega arith in
+    let own = in_node n 0 p.accesses k a (subst (λ (r : Path). slice_get r.accesses k ≡ Some a) (sym (same_Some p path e)) f) in
+    member_left _ (placed_from n 0 p.accesses) (all_from (n + 1) rest)
+    (subst (λ (m : ℕ). IsMember (placed m k a) (placed_from n 0 p.accesses)) z (subst (λ (m : ℕ). IsMember (placed n m a) (placed_from n 0 p.accesses)) y own))
+in_all n (p ∷ rest) (suc i) path k a e f =
+    let z : n + 1 + i ≡ n + suc i = omega arith in
+    member_right _ (placed_from n 0 p.accesses) (all_from (n + 1) rest)
+    (subst (λ (m : ℕ). IsMember (placed m k a) (all_from (n + 1) rest)) z (in_all (n + 1) rest i path k a e f))
+
+in_places : (nodes : List Path) (p : Placed) → IsAt nodes p → Contains (all_from 0 nodes) p
+in_places nodes p at =
+    let z : 0 + p.node ≡ p.node = omega arith in
+    Contains-from_member (all_from 0 nodes) p (subst (λ (m : ℕ). IsMember (placed m p.number p.access) (all_from 0 nodes)) z (in_all 0 nodes p.node at.0 p.number p.access at.1 at.2))
+
+pub ArePlacesOf-from_all : (nodes : List Path) (program : ℕ) (all places : List Placed) → all ≡ all_from 0 nodes → AreOfProgram nodes program all places → ArePlacesOf nodes program places
+ArePlacesOf-from_all nodes program all places is h = record {
+  only = λ p c. let k = h.only p c in (All-contains (λ (q : Placed). IsAt nodes q) (all_from 0 nodes) p (all_places_stand nodes) (subst (λ (l : List Placed). Contains l p) is k.0), k.1);
+  each = λ p at of. h.each p (subst (λ (l : List Placed). Contains l p) (sym is) (in_places nodes p at)) of;
+}
+
+-- a listed place is a node of the list
+pub listed_within : (nodes : List Path) (all : List Placed) (n : ℕ) (d : Placed) → n < length all → all ≡ all_from 0 nodes → (get_or all n d).node < length nodes
+listed_within nodes all n d lt is =
+    let at = subst (λ (l : List Placed). All (λ (p : Placed). IsAt nodes p) l) (sym is) (all_places_stand nodes) n d lt in
+    slice_get_within nodes (get_or all n d).node at.0 at.1
+
+pub of_program : (nodes : List Path) (x program : ℕ) (d : Path) → x < length nodes → (get_or nodes x d).program ≡ program → IsOfProgram nodes program x
+of_program nodes x program d lt e = (get_or nodes x d, slice_get-get_or nodes x d lt, e)
+
+pub program-of : (nodes : List Path) (x program : ℕ) (d : Path) → IsOfProgram nodes program x → (get_or nodes x d).program ≡ program
+program-of nodes x program d h = ap (λ (p : Path). p.program) (get_or_from_slice_get nodes x h.0 d h.1) ∙ h.2
+
+module _ (nodes : List Path) (program : ℕ) (all places : List Placed) (n : ℕ) (d : Placed) (lt : n < length all) (h : AreOfProgram nodes program (take n all) places) where
+  pub AreOfProgram-more : (more : List Placed) → IsOfProgram nodes program (get_or all n d).node → more ≡ places ++ get_or all n d ∷ [] → AreOfProgram nodes program (take (n + 1) all) more
+  AreOfProgram-more more here added = subst (λ (l : List Placed). AreOfProgram nodes program (take (n + 1) all) l) (sym added) (record { only = only; each = each })
+    where
+      only : (p : Placed) → Contains (places ++ get_or all n d ∷ []) p → Contains (take (n + 1) all) p × IsOfProgram nodes program p.node
+      only p c = go (Contains-push_cases places (get_or all n d) p c)
+        where
+          go : Contains places p ⊎ (get_or all n d ≡ p) → Contains (take (n + 1) all) p × IsOfProgram nodes program p.node
+          go (inl k) = let o = h.only p k in (still_first n all d p lt o.0, o.1)
+          go (inr k) = subst (λ (q : Placed). Contains (take (n + 1) all) q × IsOfProgram nodes program q.node) k (last_first n all d lt, here)
+
+      each : (p : Placed) → Contains (take (n + 1) all) p → IsOfProgram nodes program p.node → Contains (places ++ get_or all n d ∷ []) p
+      each p c of = go (among_first n all d p lt c)
+        where
+          go : Contains (take n all) p ⊎ (get_or all n d ≡ p) → Contains (places ++ get_or all n d ∷ []) p
+          go (inl k) = Contains-append_left places (get_or all n d ∷ []) p (h.each p k of)
+          go (inr k) = subst (λ (q : Placed). Contains (places ++ get_or all n d ∷ []) q) k (Contains-push places (get_or all n d))
+
+  pub AreOfProgram-same : (more : List Placed) → (IsOfProgram nodes program (get_or all n d).node → ⊥) → more ≡ places → AreOfProgram nodes program (take (n + 1) all) more
+  AreOfProgram-same more other is = subst (λ (l : List Placed). AreOfProgram nodes program (take (n + 1) all) l) (sym is) (record { only = λ p c. let o = h.only p c in (still_first n all d p lt o.0, o.1); each = each })
+    where
+      each : (p : Placed) → Contains (take (n + 1) all) p → IsOfProgram nodes program p.node → Contains places p
+      each p c of = go (among_first n all d p lt c)
+        where
+          go : Contains (take n all) p ⊎ (get_or all n d ≡ p) → Contains places p
+          go (inl k) = h.each p k of
+          go (inr k) = absurd (other (subst (λ (q : Placed). IsOfProgram nodes program q.node) (sym k) of))
+
+pub AreOfProgram-none : (nodes : List Path) (program : ℕ) (all places : List Placed) → places ≡ [] → AreOfProgram nodes program (take 0 all) places
+AreOfProgram-none nodes program all places is = subst (λ (l : List Placed). AreOfProgram nodes program [] l) (sym is) (record { only = λ p c. absurd (nothing p c); each = λ p c of. absurd (nothing p c) })
+
+pub AreOfProgram-all : (nodes : List Path) (program : ℕ) (all places : List Placed) (n : ℕ) → length all ≤ n → AreOfProgram nodes program (take n all) places → AreOfProgram nodes program all places
+AreOfProgram-all nodes program all places n le h = subst (λ (l : List Placed). AreOfProgram nodes program l places) (take_all n all le) h
+
+pub places_stand : (nodes : List Path) (program : ℕ) (places : List Placed) → ArePlacesOf nodes program places → All (λ (p : Placed). IsAt nodes p) places
+places_stand nodes program places h k d lt = (h.only (get_or places k d) (Contains-get_or places k d lt)).0
+
+-- ---- verdicts
+
+pub asks-from_misses : (first second : Placed) → MayMiss first second → asks first second ≡ true
+asks-from_misses first second h = asks-from_Asks first second h.table (inl h.kinds)
+
+-- a right verdict says whether the first access is exposed to the second
+pub exposed-from_verdict : (nodes : List Path) (first second : Placed) (v : Verdict) → IsAt nodes first → IsAt nodes second → MayMiss first second → IsRight nodes (numbers_of (question_between first second)) v → IsExposedVerdict v ↔ IsExposedTo nodes first second
+exposed-from_verdict nodes first second v at_first at_second misses right =
+    let asked : AsksOf nodes (numbers_of (question_between first second)) first.access second.access = record { at_mine = at_first; at_theirs = at_second; table = misses.table } in
+    let exact = law_of_verdicts nodes (numbers_of (question_between first second)) first.access second.access v asked right in (
+      λ says. let e = exact.exposed.0 says in record { misses = misses; exposed = (e.0, e.1 misses.kinds) },
+      λ h. exact.exposed.1 (h.exposed.0, λ _. h.exposed.1),
+    )
+
+-- ---- questions among accesses
+
+module _ (nodes : List Path) where
+  pub among-no_firsts : (ys : List Placed) → AreExposedAmong nodes [] ys []
+  among-no_firsts ys = record { only = λ q c. absurd (nothing q c); each = λ x y i j e. absurd (nothing x i) }
+
+  pub among-no_seconds : (xs : List Placed) → AreExposedAmong nodes xs [] []
+  among-no_seconds xs = record { only = λ q c. absurd (nothing q c); each = λ x y i j e. absurd (nothing y j) }
+
+  pub among-exposed : (x y : Placed) → IsExposedTo nodes x y → AreExposedAmong nodes (x ∷ []) (y ∷ []) (question_between x y ∷ [])
+  among-exposed x y e = record {
+    only = λ q c. record { first = x; second = y; in_firsts = just_one x; in_seconds = just_one y; exposed = e; is = sym (only_one (question_between x y) q c) };
+    each = λ v w i j h. subst (λ (p : Placed). Contains (question_between x y ∷ []) (question_between p w)) (only_one x v i) (subst (λ (p : Placed). Contains (question_between x y ∷ []) (question_between x p)) (only_one y w j) (just_one (question_between x y)));
+  }
+
+  pub among-unexposed : (x y : Placed) → (IsExposedTo nodes x y → ⊥) → AreExposedAmong nodes (x ∷ []) (y ∷ []) []
+  among-unexposed x y n = record {
+    only = λ q c. absurd (nothing q c);
+    each = λ v w i j h. absurd (n (subst (λ (p : Placed). IsExposedTo nodes p y) (sym (only_one x v i)) (subst (λ (p : Placed). IsExposedTo nodes v p) (sym (only_one y w j)) h)));
+  }
+
+  first_moved : (xs ys zs : List Placed) (q : Asked) → ((x : Placed) → Contains xs x → Contains ys x) → IsExposedOf nodes xs zs q → IsExposedOf nodes ys zs q
+  first_moved xs ys zs q move e = record { first = e.first; second = e.second; in_firsts = move e.first e.in_firsts; in_seconds = e.in_seconds; exposed = e.exposed; is = e.is }
+
+  second_moved : (xs ys zs : List Placed) (q : Asked) → ((y : Placed) → Contains ys y → Contains zs y) → IsExposedOf nodes xs ys q → IsExposedOf nodes xs zs q
+  second_moved xs ys zs q move e = record { first = e.first; second = e.second; in_firsts = e.in_firsts; in_seconds = move e.second e.in_seconds; exposed = e.exposed; is = e.is }
+
+  pub among-firsts : (xs ys zs : List Placed) (qs rs : List Asked) → AreExposedAmong nodes xs zs qs → AreExposedAmong nodes ys zs rs → AreExposedAmong nodes (xs ++ ys) zs (qs ++ rs)
+  among-firsts xs ys zs qs rs h k = record { only = only; each = each }
+    where
+      only : (q : Asked) → Contains (qs ++ rs) q → IsExposedOf nodes (xs ++ ys) zs q
+      only q c = go (Contains-append_cases qs rs q c)
+        where
+          go : Contains qs q ⊎ Contains rs q → IsExposedOf nodes (xs ++ ys) zs q
+          go (inl l) = first_moved xs (xs ++ ys) zs q (λ x i. Contains-append_left xs ys x i) (h.only q l)
+          go (inr r) = first_moved ys (xs ++ ys) zs q (λ x i. Contains-append_right xs ys x i) (k.only q r)
+
+      each : (first second : Placed) → Contains (xs ++ ys) first → Contains zs second → IsExposedTo nodes first second → Contains (qs ++ rs) (question_between first second)
+      each first second i j e = go (Contains-append_cases xs ys first i)
+        where
+          go : Contains xs first ⊎ Contains ys first → Contains (qs ++ rs) (question_between first second)
+          go (inl l) = Contains-append_left qs rs _ (h.each first second l j e)
+          go (inr r) = Contains-append_right qs rs _ (k.each first second r j e)
+
+  pub among-seconds : (xs ys zs : List Placed) (qs rs : List Asked) → AreExposedAmong nodes xs ys qs → AreExposedAmong nodes xs zs rs → AreExposedAmong nodes xs (ys ++ zs) (qs ++ rs)
+  among-seconds xs ys zs qs rs h k = record { only = only; each = each }
+    where
+      only : (q : Asked) → Contains (qs ++ rs) q → IsExposedOf nodes xs (ys ++ zs) q
+      only q c = go (Contains-append_cases qs rs q c)
+        where
+          go : Contains qs q ⊎ Contains rs q → IsExposedOf nodes xs (ys ++ zs) q
+          go (inl l) = second_moved xs ys (ys ++ zs) q (λ y i. Contains-append_left ys zs y i) (h.only q l)
+          go (inr r) = second_moved xs zs (ys ++ zs) q (λ y i. Contains-append_right ys zs y i) (k.only q r)
+
+      each : (first second : Placed) → Contains xs first → Contains (ys ++ zs) second → IsExposedTo nodes first second → Contains (qs ++ rs) (question_between first second)
+      each first second i j e = go (Contains-append_cases ys zs second j)
+        where
+          go : Contains ys second ⊎ Contains zs second → Contains (qs ++ rs) (question_between first second)
+          go (inl l) = Contains-append_left qs rs _ (h.each first second i l e)
+          go (inr r) = Contains-append_right qs rs _ (k.each first second i r e)
+
+  -- one more access at the end of the seconds
+  pub more-exposed : (x : Placed) (n : ℕ) (ys : List Placed) (d : Placed) (qs more : List Asked) → n < length ys → IsExposedTo nodes x (get_or ys n d) → more ≡ qs ++ question_between x (get_or ys n d) ∷ [] → AreExposedAmong nodes (x ∷ []) (take n ys) qs → AreExposedAmong nodes (x ∷ []) (take (n + 1) ys) more
+  more-exposed x n ys d qs more lt e added h =
+      subst (λ (l : List Placed). AreExposedAmong nodes (x ∷ []) l more) (sym (take_more ys n d lt))
+      (subst (λ (l : List Asked). AreExposedAmong nodes (x ∷ []) (take n ys ++ get_or ys n d ∷ []) l) (sym added)
+      (among-seconds (x ∷ []) (take n ys) (get_or ys n d ∷ []) qs (question_between x (get_or ys n d) ∷ []) h (among-exposed x (get_or ys n d) e)))
+
+  pub more-unexposed : (x : Placed) (n : ℕ) (ys : List Placed) (d : Placed) (qs more : List Asked) → n < length ys → (IsExposedTo nodes x (get_or ys n d) → ⊥) → more ≡ qs → AreExposedAmong nodes (x ∷ []) (take n ys) qs → AreExposedAmong nodes (x ∷ []) (take (n + 1) ys) more
+  more-unexposed x n ys d qs more lt e is h =
+      subst (λ (l : List Placed). AreExposedAmong nodes (x ∷ []) l more) (sym (take_more ys n d lt))
+      (subst (λ (l : List Asked). AreExposedAmong nodes (x ∷ []) (take n ys ++ get_or ys n d ∷ []) l) (append-nil qs ∙ sym is)
+      (among-seconds (x ∷ []) (take n ys) (get_or ys n d ∷ []) qs [] h (among-unexposed x (get_or ys n d) e)))
+
+  -- one more access at the end of the firsts
+  pub more-firsts : (n : ℕ) (xs ys : List Placed) (d : Placed) (qs rs more : List Asked) → n < length xs → AreExposedAmong nodes (get_or xs n d ∷ []) ys rs → more ≡ qs ++ rs → AreExposedAmong nodes (take n xs) ys qs → AreExposedAmong nodes (take (n + 1) xs) ys more
+  more-firsts n xs ys d qs rs more lt own added h =
+      subst (λ (l : List Placed). AreExposedAmong nodes l ys more) (sym (take_more xs n d lt))
+      (subst (λ (l : List Asked). AreExposedAmong nodes (take n xs ++ get_or xs n d ∷ []) ys l) (sym added)
+      (among-firsts (take n xs) (get_or xs n d ∷ []) ys qs rs h own))
+
+  -- ---- the questions of a pair
+
+  pub AreExposed-from_places : (pair : Pair) (xs ys : List Placed) (qs : List Asked) → ArePlacesOf nodes pair.from xs → ArePlacesOf nodes pair.to ys → AreExposedAmong nodes xs ys qs → AreExposed nodes pair qs
+  AreExposed-from_places pair xs ys qs firsts seconds h = record { only = only; each = each }
+    where
+      only : (q : Asked) → Contains qs q → (e : ExposedOf nodes pair) × (e.question.question ≡ numbers_of q)
+      only q c =
+          let b = h.only q c in
+          let f = firsts.only b.first b.in_firsts in
+          let s = seconds.only b.second b.in_seconds in (
+            record {
+              x = b.first.node;
+              y = b.second.node;
+              of_pair = (f.1, s.1);
+              question = record {
+                question = numbers_of (question_between b.first b.second);
+                from = refl;
+                to = refl;
+                mine = b.first.access;
+                theirs = b.second.access;
+                asked = record { at_mine = f.0; at_theirs = s.0; table = b.exposed.misses.table };
+                kinds = b.exposed.misses.kinds;
+                holds = b.exposed.exposed;
+              };
+            },
+            ap numbers_of (sym b.is),
+          )
+
+      each : (e : ExposedOf nodes pair) → (q : Asked) × Contains qs q × (e.question.question ≡ numbers_of q)
+      each e =
+          let w = e.question in
+          let first = placed w.question.x w.question.a w.mine in
+          let second = placed w.question.y w.question.b w.theirs in
+          let exposed : IsExposedTo nodes first second = record { misses = record { table = w.asked.table; kinds = w.kinds }; exposed = w.holds } in (
+            question_between first second,
+            h.each first second
+                (firsts.each first w.asked.at_mine (subst (λ (n : ℕ). IsOfProgram nodes pair.from n) (sym w.from) e.of_pair.0))
+                (seconds.each second w.asked.at_theirs (subst (λ (n : ℕ). IsOfProgram nodes pair.to n) (sym w.to) e.of_pair.1))
+                exposed,
+            refl,
+          )

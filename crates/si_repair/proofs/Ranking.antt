@@ -1,0 +1,281 @@
+-- Pairs of parameters in order, and which of them exposed questions force equal.
+use Rattle.std.proofs.Common.{◌≡◌, ℕ, zero, suc, ◌+◌, ◌<◌, ◌≤◌, ◌⊎◌, inl, inr, List, [], ◌∷◌, ◌++◌, length, take, get_or, refl, sym, subst, ap, ◌∙◌, arith, Contains}
+use Rattle.std.specs.Prelude.{slice_get, All}
+use Rattle.std.proofs.lemmas.List.{take_more, take_all, append_assoc}
+use Rattle.std.proofs.lemmas.List.Elements.{Contains-append_left, Contains-append_right, Contains-append_cases, Contains-push, Contains-push_cases, Contains-get_or}
+use Rattle.std.proofs.lemmas.Option.{slice_get_within, get_or_from_slice_get}
+use Rattle.order_facts.specs.declared.steps.Fact.{Fact}
+use Rattle.prog_check.specs.declared.path.Term.TheVariants.{Param}
+use Rattle.prog_check.specs.declared.path.Access.{Access}
+use Rattle.prog_check.specs.declared.path.Path.{Path}
+use Rattle.prog_paths.specs.Meeting.{IsSingle}
+use Rattle.prog_paths.specs.StaticGraph.{Question, AsksOf}
+use Rattle.prog_paths.specs.Questions.{AreEqualWhereTheyMeet}
+use Rattle.prog_paths.specs.declared.places.Question.{Question as Asked}
+use Rattle.prog_paths.specs.Asked.{numbers_of, ChangesSingleCells}
+use Rattle.prog_paths.proofs.Questions.{law_of_equal_terms}
+use Rattle.prog_paths.proofs.Shown.{single_at, may_touch-second}
+use Rattle.prog_paths.proofs.Marked.{same_access}
+use Rattle.repair_laws.specs.declared.plan.Pair.{Pair}
+use Rattle.repair_laws.specs.Keys.{ExposedOf, IsForcedEqual, IsLeastForced, IsKeyOf}
+use Rattle.si_repair.specs.Exposing.{AreExposed}
+use Rattle.si_repair.specs.Forcing.{AreMissed, IsMissed, AreFactsOf, PutEqual, AreLeft, ForceEqual, IsEarlier, ArePairsRising, pairs_of, all_pairs, AreForced}
+use Rattle.si_repair.proofs.Gathering.{nothing, among_first, still_first, last_first}
+
+-- ---- pairs in order
+
+rising-push : (xs : List (ℕ × ℕ)) (x : ℕ × ℕ) → ArePairsRising xs → ((y : ℕ × ℕ) → Contains xs y → IsEarlier y x) → ArePairsRising (xs ++ x ∷ [])
+rising-push [] x h before = (λ q c. absurd (nothing q c), tt)
+rising-push (z ∷ xs) x h before = (first, rising-push xs x h.1 (λ y c. before y (Contains-append_right (z ∷ []) xs y c)))
+  where
+    first : (q : ℕ × ℕ) → Contains (xs ++ x ∷ []) q → IsEarlier z q
+    first q c = go (Contains-push_cases xs x q c)
+      where
+        go : Contains xs q ⊎ (x ≡ q) → IsEarlier z q
+        go (inl k) = h.0 q k
+        go (inr k) = subst (λ (r : ℕ × ℕ). IsEarlier z r) k (before z (0, omega arith, refl))
+
+rising-front : (xs : List (ℕ × ℕ)) (x : ℕ × ℕ) → ArePairsRising (xs ++ x ∷ []) → ArePairsRising xs × ((y : ℕ × ℕ) → Contains xs y → IsEarlier y x)
+rising-front [] x h = (tt, λ y c. absurd (nothing y c))
+rising-front (z ∷ xs) x h = (((λ q c. h.0 q (Contains-append_left xs (x ∷ []) q c)), (rising-front xs x h.1).0), before (rising-front xs x h.1).1)
+  where
+    before : ((y : ℕ × ℕ) → Contains xs y → IsEarlier y x) → (y : ℕ × ℕ) → Contains (z ∷ xs) y → IsEarlier y x
+    before rest y c = go (Contains-append_cases (z ∷ []) xs y c)
+      where
+        one : Contains (z ∷ []) y → z ≡ y
+        one k = only_z (Contains-push_cases [] z y k)
+          where
+            only_z : Contains [] y ⊎ (z ≡ y) → z ≡ y
+            only_z (inl n) = absurd (nothing y n)
+            only_z (inr e) = e
+
+        go : Contains (z ∷ []) y ⊎ Contains xs y → IsEarlier y x
+        go (inl k) = subst (λ (r : ℕ × ℕ). IsEarlier r x) (one k) (h.0 x (Contains-push xs x))
+        go (inr k) = rest y k
+
+rising-append : (xs ys : List (ℕ × ℕ)) → ArePairsRising xs → ArePairsRising ys → ((x y : ℕ × ℕ) → Contains xs x → Contains ys y → IsEarlier x y) → ArePairsRising (xs ++ ys)
+rising-append [] ys h k before = k
+rising-append (z ∷ xs) ys h k before = (first, rising-append xs ys h.1 k (λ x y i j. before x y (Contains-append_right (z ∷ []) xs x i) j))
+  where
+    first : (q : ℕ × ℕ) → Contains (xs ++ ys) q → IsEarlier z q
+    first q c = go (Contains-append_cases xs ys q c)
+      where
+        go : Contains xs q ⊎ Contains ys q → IsEarlier z q
+        go (inl i) = h.0 q i
+        go (inr j) = before z q (0, omega arith, refl) j
+
+-- ---- all pairs
+
+by_last : (a b : ℕ) → a < suc b → (a < b) ⊎ (b ≡ a)
+by_last zero zero h = inr refl
+by_last zero (suc b) h = inl (omega arith)
+by_last (suc a) zero h = absurd (omega (arith, h))
+by_last (suc a) (suc b) h = next (by_last a b (omega (arith, h)))
+  where
+    next : (a < b) ⊎ (b ≡ a) → (suc a < suc b) ⊎ (suc b ≡ suc a)
+    next (inl k) = inl (omega (arith, k))
+    next (inr k) = inr (ap suc k)
+
+pub pairs_of-next : (i n : ℕ) → pairs_of i (n + 1) ≡ pairs_of i n ++ (i, n) ∷ []
+pairs_of-next i n = let e : n + 1 ≡ suc n = omega arith in ap (pairs_of i) e
+
+pub all_pairs-next : (n seconds : ℕ) → all_pairs (n + 1) seconds ≡ all_pairs n seconds ++ pairs_of n seconds
+all_pairs-next n seconds = let e : n + 1 ≡ suc n = omega arith in ap (λ (m : ℕ). all_pairs m seconds) e
+
+-- one more pair at the end of pairs
+pub pairs-more : (old now new : List (ℕ × ℕ)) (i n : ℕ) → new ≡ now ++ (i, n) ∷ [] → now ≡ old ++ pairs_of i n → new ≡ old ++ pairs_of i (n + 1)
+pairs-more old now new i n added h =
+    added ∙ ap (λ (l : List (ℕ × ℕ)). l ++ (i, n) ∷ []) h ∙ append_assoc old (pairs_of i n) ((i, n) ∷ []) ∙ ap (λ (l : List (ℕ × ℕ)). old ++ l) (sym (pairs_of-next i n))
+
+of_pairs : (i n : ℕ) (p : ℕ × ℕ) → Contains (pairs_of i n) p → (p.0 ≡ i) × (p.1 < n)
+of_pairs i zero p c = absurd (nothing p c)
+of_pairs i (suc n) p c = go (Contains-push_cases (pairs_of i n) (i, n) p c) (λ k. of_pairs i n p k)
+  where
+    go : Contains (pairs_of i n) p ⊎ ((i, n) ≡ p) → (Contains (pairs_of i n) p → (p.0 ≡ i) × (p.1 < n)) → (p.0 ≡ i) × (p.1 < suc n)
+    go (inl k) rest = let r = rest k in let less = r.1 in (r.0, omega (arith, less))
+    go (inr e) rest = let second = ap (λ (q : ℕ × ℕ). q.1) e in (ap (λ (q : ℕ × ℕ). q.0) (sym e), omega (arith, second))
+
+in_pairs : (i n j : ℕ) → j < n → Contains (pairs_of i n) (i, j)
+in_pairs i zero j lt = absurd (omega (arith, lt))
+in_pairs i (suc n) j lt = go (by_last j n lt) (λ k. in_pairs i n j k)
+  where
+    go : (j < n) ⊎ (n ≡ j) → (j < n → Contains (pairs_of i n) (i, j)) → Contains (pairs_of i n ++ (i, n) ∷ []) (i, j)
+    go (inl k) rest = Contains-append_left (pairs_of i n) ((i, n) ∷ []) (i, j) (rest k)
+    go (inr k) rest = subst (λ (m : ℕ). Contains (pairs_of i n ++ (i, n) ∷ []) (i, m)) k (Contains-push (pairs_of i n) (i, n))
+
+of_all : (m n : ℕ) (p : ℕ × ℕ) → Contains (all_pairs m n) p → (p.0 < m) × (p.1 < n)
+of_all zero n p c = absurd (nothing p c)
+of_all (suc m) n p c = go (Contains-append_cases (all_pairs m n) (pairs_of m n) p c) (λ k. of_all m n p k)
+  where
+    go : Contains (all_pairs m n) p ⊎ Contains (pairs_of m n) p → (Contains (all_pairs m n) p → (p.0 < m) × (p.1 < n)) → (p.0 < suc m) × (p.1 < n)
+    go (inl k) rest = let r = rest k in let less = r.0 in (omega (arith, less), r.1)
+    go (inr k) rest = let r = of_pairs m n p k in let same = r.0 in (omega (arith, same), r.1)
+
+in_all : (m n i j : ℕ) → i < m → j < n → Contains (all_pairs m n) (i, j)
+in_all zero n i j lt k = absurd (omega (arith, lt))
+in_all (suc m) n i j lt k = go (by_last i m lt) (λ h. in_all m n i j h k)
+  where
+    go : (i < m) ⊎ (m ≡ i) → (i < m → Contains (all_pairs m n) (i, j)) → Contains (all_pairs m n ++ pairs_of m n) (i, j)
+    go (inl h) rest = Contains-append_left (all_pairs m n) (pairs_of m n) (i, j) (rest h)
+    go (inr h) rest = subst (λ (l : ℕ). Contains (all_pairs m n ++ pairs_of m n) (l, j)) h (Contains-append_right (all_pairs m n) (pairs_of m n) (m, j) (in_pairs m n j k))
+
+pairs_rise : (i n : ℕ) → ArePairsRising (pairs_of i n)
+pairs_rise i zero = tt
+pairs_rise i (suc n) = rising-push (pairs_of i n) (i, n) (pairs_rise i n) (λ y c. let o = of_pairs i n y c in inr (o.0, o.1))
+
+all_rise : (m n : ℕ) → ArePairsRising (all_pairs m n)
+all_rise zero n = tt
+all_rise (suc m) n = rising-append (all_pairs m n) (pairs_of m n) (all_rise m n) (pairs_rise m n) before
+  where
+    before : (x y : ℕ × ℕ) → Contains (all_pairs m n) x → Contains (pairs_of m n) y → IsEarlier x y
+    before x y i j =
+        let less = (of_all m n x i).0 in
+        let same = (of_pairs m n y j).0 in
+        inl (omega (arith, less, same))
+
+-- ---- what facts leave
+
+module _ (facts : List Fact) where
+  pub AreLeft-none : (pairs : List (ℕ × ℕ)) → AreLeft facts (take 0 pairs) []
+  AreLeft-none pairs = record { only = λ p c. absurd (nothing p c); each = λ p c e. absurd (nothing p c); rise = λ h. tt }
+
+  pub AreLeft-all : (pairs left : List (ℕ × ℕ)) (n : ℕ) → length pairs ≤ n → AreLeft facts (take n pairs) left → AreLeft facts pairs left
+  AreLeft-all pairs left n le h = subst (λ (l : List (ℕ × ℕ)). AreLeft facts l left) (take_all n pairs le) h
+
+  module _ (pairs left : List (ℕ × ℕ)) (n : ℕ) (d : ℕ × ℕ) (lt : n < length pairs) (h : AreLeft facts (take n pairs) left) where
+    front : ArePairsRising (take (n + 1) pairs) → ArePairsRising (take n pairs) × ((y : ℕ × ℕ) → Contains (take n pairs) y → IsEarlier y (get_or pairs n d))
+    front k = rising-front (take n pairs) (get_or pairs n d) (subst ArePairsRising (take_more pairs n d lt) k)
+
+    pub AreLeft-kept : (more : List (ℕ × ℕ)) → PutEqual facts (get_or pairs n d) → more ≡ left ++ get_or pairs n d ∷ [] → AreLeft facts (take (n + 1) pairs) more
+    AreLeft-kept more e added = subst (λ (l : List (ℕ × ℕ)). AreLeft facts (take (n + 1) pairs) l) (sym added) (record { only = only; each = each; rise = rise })
+      where
+        only : (p : ℕ × ℕ) → Contains (left ++ get_or pairs n d ∷ []) p → Contains (take (n + 1) pairs) p × PutEqual facts p
+        only p c = go (Contains-push_cases left (get_or pairs n d) p c)
+          where
+            go : Contains left p ⊎ (get_or pairs n d ≡ p) → Contains (take (n + 1) pairs) p × PutEqual facts p
+            go (inl k) = let o = h.only p k in (still_first n pairs d p lt o.0, o.1)
+            go (inr k) = subst (λ (q : ℕ × ℕ). Contains (take (n + 1) pairs) q × PutEqual facts q) k (last_first n pairs d lt, e)
+
+        each : (p : ℕ × ℕ) → Contains (take (n + 1) pairs) p → PutEqual facts p → Contains (left ++ get_or pairs n d ∷ []) p
+        each p c put = go (among_first n pairs d p lt c)
+          where
+            go : Contains (take n pairs) p ⊎ (get_or pairs n d ≡ p) → Contains (left ++ get_or pairs n d ∷ []) p
+            go (inl k) = Contains-append_left left (get_or pairs n d ∷ []) p (h.each p k put)
+            go (inr k) = subst (λ (q : ℕ × ℕ). Contains (left ++ get_or pairs n d ∷ []) q) k (Contains-push left (get_or pairs n d))
+
+        rise : ArePairsRising (take (n + 1) pairs) → ArePairsRising (left ++ get_or pairs n d ∷ [])
+        rise k = let f = front k in rising-push left (get_or pairs n d) (h.rise f.0) (λ y c. f.1 y (h.only y c).0)
+
+    pub AreLeft-dropped : (more : List (ℕ × ℕ)) → (PutEqual facts (get_or pairs n d) → ⊥) → more ≡ left → AreLeft facts (take (n + 1) pairs) more
+    AreLeft-dropped more no_put is = subst (λ (l : List (ℕ × ℕ)). AreLeft facts (take (n + 1) pairs) l) (sym is) (record { only = λ p c. let o = h.only p c in (still_first n pairs d p lt o.0, o.1); each = each; rise = λ k. h.rise (front k).0 })
+      where
+        each : (p : ℕ × ℕ) → Contains (take (n + 1) pairs) p → PutEqual facts p → Contains left p
+        each p c put = go (among_first n pairs d p lt c)
+          where
+            go : Contains (take n pairs) p ⊎ (get_or pairs n d ≡ p) → Contains left p
+            go (inl k) = h.each p k put
+            go (inr k) = absurd (no_put (subst (λ (q : ℕ × ℕ). PutEqual facts q) (sym k) put))
+
+-- ---- what a question forces
+
+single_theirs : (nodes : List Path) (q : Asked) (mine theirs : Access) → All ChangesSingleCells nodes → AreMissed nodes q mine theirs → IsSingle theirs
+single_theirs nodes q mine theirs all h =
+    let at = h.asked.at_theirs in
+    let inside = slice_get_within nodes q.y at.0 at.1 in
+    single_at at.0 q.b theirs (subst ChangesSingleCells (get_or_from_slice_get nodes q.y at.0 at.0 at.1) (all q.y at.0 inside)) at.2
+    (may_touch-second (numbers_of q) mine theirs (inl h.kinds))
+
+-- one question makes two parameters equal wherever it meets
+abbrev ForcesEqual : List Path → Asked → ℕ → ℕ → Type 0
+ForcesEqual nodes q i j = (mine theirs : Access) → AreMissed nodes q mine theirs → AreEqualWhereTheyMeet mine theirs (Param i) (Param j)
+
+forces-put : (nodes : List Path) (q : Asked) (facts : List Fact) (i j : ℕ) → All ChangesSingleCells nodes → AreFactsOf nodes q facts → PutEqual facts (i, j) → ForcesEqual nodes q i j
+forces-put nodes q facts i j all is put mine theirs h =
+    (law_of_equal_terms mine theirs h.asked.table (single_theirs nodes q mine theirs all h) (Param i) (Param j)).0
+    (subst (λ (fs : List Fact). PutEqual fs (i, j)) (is mine theirs h.asked) put)
+
+put-forces : (nodes : List Path) (q : Asked) (facts : List Fact) (i j : ℕ) → All ChangesSingleCells nodes → AreFactsOf nodes q facts → IsMissed nodes q → ForcesEqual nodes q i j → PutEqual facts (i, j)
+put-forces nodes q facts i j all is missed f =
+    let mine = missed.0 in
+    let theirs = missed.1 in
+    let h = missed.2 in
+    subst (λ (fs : List Fact). PutEqual fs (i, j)) (sym (is mine theirs h.asked))
+    ((law_of_equal_terms mine theirs h.asked.table (single_theirs nodes q mine theirs all h) (Param i) (Param j)).1 (f mine theirs h))
+
+module _ (nodes : List Path) (firsts seconds : ℕ) where
+  pub AreForced-none : (qs : List Asked) (pairs : List (ℕ × ℕ)) → pairs ≡ all_pairs firsts seconds → AreForced nodes (take 0 qs) firsts seconds pairs
+  AreForced-none qs pairs is = subst (λ (l : List (ℕ × ℕ)). AreForced nodes [] firsts seconds l) (sym is) (record {
+    only = λ i j c. let o = of_all firsts seconds (i, j) c in (o.0, o.1, λ q k. absurd (nothing q k));
+    each = λ i j a b f. in_all firsts seconds i j a b;
+    rise = all_rise firsts seconds;
+  })
+
+  pub AreForced-more : (qs : List Asked) (n : ℕ) (d : Asked) (facts : List Fact) (old new : List (ℕ × ℕ)) → n < length qs → All ChangesSingleCells nodes → IsMissed nodes (get_or qs n d) → AreFactsOf nodes (get_or qs n d) facts → AreLeft facts old new → AreForced nodes (take n qs) firsts seconds old → AreForced nodes (take (n + 1) qs) firsts seconds new
+  AreForced-more qs n d facts old new lt all missed is left h = record { only = only; each = each; rise = left.rise h.rise }
+    where
+      only : (i j : ℕ) → Contains new (i, j) → (i < firsts) × (j < seconds) × ForceEqual nodes (take (n + 1) qs) i j
+      only i j c =
+          let l = left.only (i, j) c in
+          let o = h.only i j l.0 in
+          (o.0, o.1, λ q k. go q l.1 o.2 (among_first n qs d q lt k))
+        where
+          go : (q : Asked) → PutEqual facts (i, j) → ForceEqual nodes (take n qs) i j → Contains (take n qs) q ⊎ (get_or qs n d ≡ q) → ForcesEqual nodes q i j
+          go q put before (inl k) = before q k
+          go q put before (inr k) = subst (λ (r : Asked). ForcesEqual nodes r i j) k (forces-put nodes (get_or qs n d) facts i j all is put)
+
+      each : (i j : ℕ) → i < firsts → j < seconds → ForceEqual nodes (take (n + 1) qs) i j → Contains new (i, j)
+      each i j a b f =
+          left.each (i, j) (h.each i j a b (λ q k. f q (still_first n qs d q lt k)))
+          (put-forces nodes (get_or qs n d) facts i j all is missed (f (get_or qs n d) (last_first n qs d lt)))
+
+  pub AreForced-all : (qs : List Asked) (n : ℕ) (pairs : List (ℕ × ℕ)) → length qs ≤ n → AreForced nodes (take n qs) firsts seconds pairs → AreForced nodes qs firsts seconds pairs
+  AreForced-all qs n pairs le h = subst (λ (l : List Asked). AreForced nodes l firsts seconds pairs) (take_all n qs le) h
+
+-- ---- the key
+
+module _ (nodes : List Path) (pair : Pair) (qs : List Asked) (exposed : AreExposed nodes pair qs) where
+  moved : (e : ExposedOf nodes pair) (q : Asked) → e.question.question ≡ numbers_of q → AreMissed nodes q e.question.mine e.question.theirs
+  moved e q is = record { asked = subst (λ (r : Question). AsksOf nodes r e.question.mine e.question.theirs) is e.question.asked; kinds = e.question.kinds }
+
+  pub missed_each : All (λ (q : Asked). IsMissed nodes q) qs
+  missed_each k d lt =
+      let o = exposed.only (get_or qs k d) (Contains-get_or qs k d lt) in
+      (o.0.question.mine, o.0.question.theirs, moved o.0 (get_or qs k d) o.1)
+
+  forced-by : (i j : ℕ) → ForceEqual nodes qs i j → IsForcedEqual nodes pair i j
+  forced-by i j f e = let q = exposed.each e in f q.0 q.1 e.question.mine e.question.theirs (moved e q.0 q.2)
+
+  by-forced : (i j : ℕ) → IsForcedEqual nodes pair i j → ForceEqual nodes qs i j
+  by-forced i j f q c mine theirs h =
+      let o = exposed.only q c in
+      let e = o.0 in
+      let own = moved e q o.1 in
+      let same_mine = same_access nodes q.x q.a e.question.mine mine own.asked.at_mine h.asked.at_mine in
+      let same_theirs = same_access nodes q.y q.b e.question.theirs theirs own.asked.at_theirs h.asked.at_theirs in
+      subst (λ (t : Access). AreEqualWhereTheyMeet mine t (Param i) (Param j)) same_theirs
+      (subst (λ (m : Access). AreEqualWhereTheyMeet m e.question.theirs (Param i) (Param j)) same_mine (f e))
+
+  least-of : (firsts seconds : ℕ) (p : ℕ × ℕ) (rest : List (ℕ × ℕ)) → AreForced nodes qs firsts seconds (p ∷ rest) → IsLeastForced nodes pair firsts seconds p.0 p.1
+  least-of firsts seconds p rest h =
+      let here : Contains (p ∷ rest) p = (0, omega arith, refl) in
+      let own = h.only p.0 p.1 here in
+      record { first_inside = own.0; second_inside = own.1; forced = forced-by p.0 p.1 own.2; least = least }
+    where
+      least : (k l : ℕ) → k < firsts → l < seconds → IsForcedEqual nodes pair k l → (p.0 < k) ⊎ ((p.0 ≡ k) × (p.1 ≤ l))
+      least k l a b f = go (Contains-append_cases (p ∷ []) rest (k, l) (h.each k l a b (by-forced k l f)))
+        where
+          same : Contains {X = ℕ × ℕ} [] (k, l) ⊎ (p ≡ (k, l)) → (p.0 < k) ⊎ ((p.0 ≡ k) × (p.1 ≤ l))
+          same (inl n) = absurd (nothing (k, l) n)
+          same (inr e) = let second = ap (λ (q : ℕ × ℕ). q.1) e in inr (ap (λ (q : ℕ × ℕ). q.0) e, omega (arith, second))
+
+          earlier : IsEarlier p (k, l) → (p.0 < k) ⊎ ((p.0 ≡ k) × (p.1 ≤ l))
+          earlier (inl less) = inl less
+          earlier (inr both) = let less = both.1 in inr (both.0, omega (arith, less))
+
+          go : Contains (p ∷ []) (k, l) ⊎ Contains rest (k, l) → (p.0 < k) ⊎ ((p.0 ≡ k) × (p.1 ≤ l))
+          go (inl c) = same (Contains-push_cases [] p (k, l) c)
+          go (inr c) = earlier (h.rise.0 (k, l) c)
+
+  pub IsKeyOf-first : (firsts seconds : ℕ) (pairs : List (ℕ × ℕ)) → AreForced nodes qs firsts seconds pairs → IsKeyOf nodes pair firsts seconds (slice_get pairs 0)
+  IsKeyOf-first firsts seconds [] h = λ i j a b f. nothing (i, j) (h.each i j a b (by-forced i j f))
+  IsKeyOf-first firsts seconds (p ∷ rest) h = least-of firsts seconds p rest h

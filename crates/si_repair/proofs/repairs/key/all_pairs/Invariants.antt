@@ -1,0 +1,6 @@
+use Rattle.std.proofs.Common.{◌≡◌}
+use Rattle.si_repair.specs.Forcing.{all_pairs}
+use Rattle.si_repair.proofs.repairs.key.all_pairs.Given as goal
+
+abbrev pub invariant-loop-first : goal.invariant-loop-first
+invariant-loop-first l = l.pairs.items ≡ all_pairs l.first l.seconds

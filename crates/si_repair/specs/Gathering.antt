@@ -1,0 +1,49 @@
+-- The accesses of a program, and which of them are exposed to those of another: words of private clauses.
+use Rattle.std.specs.Prelude.{◌≡◌, ℕ, List, Contains}
+use Rattle.prog_check.specs.declared.path.Access.{Access}
+use Rattle.prog_check.specs.declared.path.Path.{Path}
+use Rattle.prog_paths.specs.StaticGraph.{IsAccessOf, AsksReadWrite, IsExposed}
+use Rattle.prog_paths.specs.Places.{IsAt}
+use Rattle.prog_paths.specs.declared.places.Placed.{Placed}
+use Rattle.prog_paths.specs.declared.places.Question.{Question as Asked}
+use Rattle.prog_paths.specs.Asked.{numbers_of, question_between}
+use Rattle.repair_laws.specs.Striking.{IsOfProgram}
+
+-- the access of this number on the path of this node is there
+abbrev pub HasAccess : List Path → ℕ → ℕ → Type 0
+HasAccess nodes x a = (access : Access) × IsAccessOf nodes x a access
+
+-- of these accesses, those on paths of a program
+pub record AreOfProgram (nodes : List Path) (program : ℕ) (all places : List Placed) : Type 0 where
+  pub only : (p : Placed) → Contains places p → Contains all p × IsOfProgram nodes program p.node
+  pub each : (p : Placed) → Contains all p → IsOfProgram nodes program p.node → Contains places p
+
+-- the accesses on a program's paths, at their places
+pub record ArePlacesOf (nodes : List Path) (program : ℕ) (places : List Placed) : Type 0 where
+  pub only : (p : Placed) → Contains places p → IsAt nodes p × IsOfProgram nodes program p.node
+  pub each : (p : Placed) → IsAt nodes p → IsOfProgram nodes program p.node → Contains places p
+
+-- both use one table, and the first may miss what the second changes
+pub record MayMiss (first second : Placed) : Type 0 where
+  pub table : first.access.table ≡ second.access.table
+  pub kinds : AsksReadWrite (numbers_of (question_between first second)) first.access.kind second.access.kind
+
+-- the first may miss what the second changes, the two can meet, and no two accesses cover them
+pub record IsExposedTo (nodes : List Path) (first second : Placed) : Type 0 where
+  pub misses : MayMiss first second
+  pub exposed : IsExposed nodes (numbers_of (question_between first second)) first.access second.access
+
+-- the question of one of the first accesses that is exposed to one of the second
+pub record IsExposedOf (nodes : List Path) (firsts seconds : List Placed) (q : Asked) : Type 0 where
+  pub first : Placed
+  pub second : Placed
+  pub in_firsts : Contains firsts first
+  pub in_seconds : Contains seconds second
+  pub exposed : IsExposedTo nodes first second
+  pub is : q ≡ question_between first second
+
+-- all such questions
+pub record AreExposedAmong (nodes : List Path) (firsts seconds : List Placed) (questions : List Asked) : Type 0 where
+  pub only : (q : Asked) → Contains questions q → IsExposedOf nodes firsts seconds q
+  pub each : (first second : Placed) → Contains firsts first → Contains seconds second → IsExposedTo nodes first second
+      → Contains questions (question_between first second)

@@ -1,0 +1,58 @@
+-- Which statements of a program are ranges, and what exposed reads are: words of private clauses.
+use Rattle.std.specs.Prelude.{◌≡◌, Bool, true, false, List, [], ◌∷◌, ◌++◌, Contains, Option, Some, None, slice_index_or}
+use Rattle.prog_tree.specs.Syntax.{StatementTree, BlockTree, BlockEnd, Then, Branch, ProgramTree}
+use Rattle.prog_tree.specs.Syntax as s
+use Rattle.prog_check.specs.declared.path.Access.{Access}
+use Rattle.prog_check.specs.declared.path.Path.{Path}
+use Rattle.prog_paths.specs.StaticGraph.{IsAccessOf}
+use Rattle.prog_paths.specs.declared.places.Question.{Question as Asked}
+use Rattle.repair_laws.specs.Refusals.{HasUnknownKey}
+use Rattle.si_repair.specs.declared.repairs.reads.Obstacle.{Obstacle}
+use Rattle.si_repair.specs.declared.repairs.reads.Obstacle.TheVariants.{RangeRead, UnknownKey}
+use Rattle.si_repair.specs.Gathering.{HasAccess}
+
+-- ---- ranges
+
+abbrev pub is_range : StatementTree → Bool
+is_range (s.Count x table range) = true
+is_range (s.Sum x table range) = true
+is_range statement = false
+
+-- for each statement of a block in the order of the text, whether it is a range
+abbrev pub range_marks : BlockTree → List Bool
+range_marks BlockEnd = []
+range_marks (Then statement rest) = is_range statement ∷ range_marks rest
+range_marks (Branch test a b rest) = false ∷ (range_marks a ++ (range_marks b ++ range_marks rest))
+
+-- the same for a program, where there is one
+abbrev pub marks_of : Option ProgramTree → List Bool
+marks_of None = []
+marks_of (Some p) = range_marks p.body
+
+-- ---- reads
+
+-- the first access of a question is there
+abbrev pub HasRead : List Path → Asked → Type 0
+HasRead nodes q = HasAccess nodes q.x q.a
+
+-- a question's first access is of a statement that is marked
+pub record ReadsMarked (nodes : List Path) (marks : List Bool) (questions : List Asked) : Type 0 where
+  pub question : Asked
+  pub listed : Contains questions question
+  pub read : Access
+  pub at : IsAccessOf nodes question.x question.a read
+  pub marked : slice_index_or marks read.place false ≡ true
+
+-- a question's first access has a key of unknown value
+pub record ReadsUnknown (nodes : List Path) (questions : List Asked) : Type 0 where
+  pub question : Asked
+  pub listed : Contains questions question
+  pub read : Access
+  pub at : IsAccessOf nodes question.x question.a read
+  pub unknown : HasUnknownKey read
+
+-- the obstacle of a pair that reads a range or not, and under an unknown key or not: a range comes first
+abbrev pub obstacle_of : (reads_range reads_unknown : Bool) → Option Obstacle
+obstacle_of true reads_unknown = Some RangeRead
+obstacle_of false true = Some UnknownKey
+obstacle_of false false = None

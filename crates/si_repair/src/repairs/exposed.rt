@@ -1,0 +1,158 @@
+//! The exposed questions of a pair of programs.
+ghost use Rattle.std.specs.Prelude.{◌↔◌, ◌<◌, [], ◌∷◌, length, All, IfOk, IsTrue};
+ghost use Rattle.prog_paths.specs.Asked.{ChangesSingleCells, numbers_of, question_between};
+ghost use Rattle.prog_paths.specs.Places.{IsAt};
+ghost use Rattle.prog_paths.specs.StaticGraph.{IsAccessOf};
+ghost use Rattle.conflict_pairs.specs.Law.{IsExposedVerdict};
+ghost use Rattle.conflict_pairs.specs.Verdicts.{IsRight};
+ghost use Rattle.repair_laws.specs.Striking.{IsOfProgram};
+ghost use Rattle.si_repair.specs.Exposing.{AreExposed};
+ghost use Rattle.si_repair.specs.Gathering.{HasAccess, ArePlacesOf, MayMiss, IsExposedTo, AreExposedAmong};
+
+use conflict_pairs::{Verdict, verdict};
+use prog_check::{Access, Path};
+use prog_paths::{Placed, Question, all_places, asks_read_write, question_between};
+use repair_laws::Pair;
+use std::alloc::{AllocError, Global};
+
+/// The access of a number on the path of a node.
+pub fn access_at(paths: &[Path], node: usize, number: usize) -> Access
+    requires { HasAccess paths.now node number }
+    ensures { IsAccessOf paths.now node number result }
+{
+    let accesses = paths[node].accesses.as_slice();
+    accesses[number]
+}
+
+/// Whether a node is a path of a program.
+fn is_of_program(paths: &[Path], node: usize, program: usize) -> bool
+    requires { node < length paths.now }
+    ensures { IsTrue result ↔ IsOfProgram paths.now program node }
+{
+    paths[node].program == program
+}
+
+/// The accesses on the paths of a program.
+fn places_of(alloc: Global, paths: &[Path], program: usize) -> Result<Vec<Placed>, AllocError>
+    ensures { IfOk result (λ places. ArePlacesOf paths.now program places.items) }
+{
+    let all = all_places(alloc, paths)?;
+    let mut places = Vec::new(alloc);
+    for place in &all {
+        if is_of_program(paths, place.node, program) {
+            places.push(*place)?;
+        }
+    }
+    Ok(places)
+}
+
+/// Whether both use one table, and the first may miss what the second changes.
+fn may_miss(first: &Placed, second: &Placed) -> bool
+    ensures { IsTrue result ↔ MayMiss first.now second.now }
+{
+    first.access.table == second.access.table
+        && asks_read_write(first.access.kind, second.access.kind)
+}
+
+/// The verdict on what an access may miss of another.
+fn verdict_between(
+    alloc: Global,
+    paths: &[Path],
+    first: &Placed,
+    second: &Placed,
+) -> Result<Verdict, AllocError>
+    requires single { All ChangesSingleCells paths.now }
+    requires first { IsAt paths.now first.now }
+    requires second { IsAt paths.now second.now }
+    requires misses { MayMiss first.now second.now }
+    ensures { IfOk result (λ verdict.
+        IsRight paths.now (numbers_of (question_between first.now second.now)) verdict) }
+{
+    let x = &paths[first.node];
+    let y = &paths[second.node];
+    verdict(alloc, x, first.number, y, second.number)
+}
+
+fn says_exposed(verdict: &Verdict) -> bool
+    ensures { IsTrue result ↔ IsExposedVerdict verdict.now }
+{
+    matches!(verdict, Verdict::Exposed(_))
+}
+
+/// Whether the first may miss what the second changes, and no two accesses cover them.
+fn is_exposed(
+    alloc: Global,
+    paths: &[Path],
+    first: &Placed,
+    second: &Placed,
+) -> Result<bool, AllocError>
+    requires single { All ChangesSingleCells paths.now }
+    requires first { IsAt paths.now first.now }
+    requires second { IsAt paths.now second.now }
+    ensures { IfOk result (λ exposed. IsTrue exposed ↔ IsExposedTo paths.now first.now second.now) }
+{
+    if !may_miss(first, second) {
+        return Ok(false);
+    }
+    let verdict = verdict_between(alloc, paths, first, second)?;
+    Ok(says_exposed(&verdict))
+}
+
+/// The questions of an access that is exposed to some of others.
+fn exposed_to(
+    alloc: Global,
+    paths: &[Path],
+    first: &Placed,
+    seconds: &[Placed],
+) -> Result<Vec<Question>, AllocError>
+    requires single { All ChangesSingleCells paths.now }
+    requires first { IsAt paths.now first.now }
+    requires seconds { All (λ p. IsAt paths.now p) seconds.now }
+    ensures { IfOk result (λ questions.
+        AreExposedAmong paths.now (first.now ∷ []) seconds.now questions.items) }
+{
+    let mut questions = Vec::new(alloc);
+    for second in seconds {
+        if is_exposed(alloc, paths, first, second)? {
+            questions.push(question_between(first, second))?;
+        }
+    }
+    Ok(questions)
+}
+
+/// The questions of accesses that are exposed to some of others.
+fn exposed_among(
+    alloc: Global,
+    paths: &[Path],
+    firsts: &[Placed],
+    seconds: &[Placed],
+) -> Result<Vec<Question>, AllocError>
+    requires single { All ChangesSingleCells paths.now }
+    requires firsts { All (λ p. IsAt paths.now p) firsts.now }
+    requires seconds { All (λ p. IsAt paths.now p) seconds.now }
+    ensures { IfOk result (λ questions.
+        AreExposedAmong paths.now firsts.now seconds.now questions.items) }
+{
+    let mut questions = Vec::new(alloc);
+    for first in firsts {
+        let exposed = exposed_to(alloc, paths, first, seconds)?;
+        questions.extend_from_slice(&exposed)?;
+    }
+    Ok(questions)
+}
+
+/// The exposed questions of a pair: its first program may miss what its second changes, and no two
+/// accesses cover it.
+pub fn exposed_questions(
+    alloc: Global,
+    paths: &[Path],
+    pair: Pair,
+) -> Result<Vec<Question>, AllocError>
+    requires { All ChangesSingleCells paths.now }
+    ensures { IfOk result (λ questions. AreExposed paths.now pair questions.items) }
+{
+    let firsts = places_of(alloc, paths, pair.from)?;
+    let seconds = places_of(alloc, paths, pair.to)?;
+    let questions = exposed_among(alloc, paths, &firsts, &seconds)?;
+    Ok(questions)
+}

@@ -1,0 +1,117 @@
+//! The key under which the two programs of a pair meet.
+ghost use Rattle.std.specs.Prelude.{◌≡◌, ◌↔◌, ◌++◌, All, IfOk, OnOk, IsTrue};
+ghost use Rattle.prog_paths.specs.Asked.{ChangesSingleCells};
+ghost use Rattle.repair_laws.specs.Keys.{IsKeyOf};
+ghost use Rattle.si_repair.specs.Forcing.{IsMissed, AreFactsOf, PutEqual, AreLeft, AreForced, pairs_of, all_pairs};
+
+use crate::repairs::exposed::{access_at, exposed_questions};
+use order_facts::{Closed, Node};
+use prog_check::Path;
+use prog_paths::{Question, question_facts};
+use repair_laws::Pair;
+use std::alloc::{AllocError, Global};
+
+/// What the facts of a question entail.
+fn facts_of(alloc: Global, paths: &[Path], question: &Question) -> Result<Closed, AllocError>
+    requires { IsMissed paths.now question.now }
+    ensures { IfOk result (λ closed. AreFactsOf paths.now question.now closed) }
+{
+    let mine = access_at(paths, question.x, question.a);
+    let theirs = access_at(paths, question.y, question.b);
+    let facts = question_facts(alloc, &mine, &theirs)?;
+    let closed = facts.close()?;
+    Ok(closed)
+}
+
+/// Whether the facts put two parameters at most each other.
+fn puts_equal(closed: &Closed, both: (usize, usize)) -> bool
+    ensures { IsTrue result ↔ PutEqual closed.now both }
+{
+    let mine = Node::Mine(both.0);
+    let theirs = Node::Theirs(both.1);
+    closed.entails(mine, theirs) && closed.entails(theirs, mine)
+}
+
+/// Those of some pairs of parameters that the facts put equal.
+fn left_by(
+    alloc: Global,
+    closed: &Closed,
+    pairs: &[(usize, usize)],
+) -> Result<Vec<(usize, usize)>, AllocError>
+    ensures { IfOk result (λ left. AreLeft closed.now pairs.now left.items) }
+{
+    let mut left = Vec::new(alloc);
+    for both in pairs {
+        if puts_equal(closed, *both) {
+            left.push(*both)?;
+        }
+    }
+    Ok(left)
+}
+
+/// Adds one parameter with each of so many.
+fn push_pairs(
+    pairs: &mut Vec<(usize, usize)>,
+    first: usize,
+    seconds: usize,
+) -> Result<(), AllocError>
+    ensures { OnOk result (pairs.new.items ≡ pairs.old.items ++ pairs_of first seconds) }
+{
+    for second in 0..seconds {
+        pairs.push((first, second))?;
+    }
+    Ok(())
+}
+
+/// Each of so many parameters with each of so many others, in order.
+fn all_pairs(
+    alloc: Global,
+    firsts: usize,
+    seconds: usize,
+) -> Result<Vec<(usize, usize)>, AllocError>
+    ensures { IfOk result (λ pairs. pairs.items ≡ all_pairs firsts seconds) }
+{
+    let mut pairs = Vec::new(alloc);
+    for first in 0..firsts {
+        push_pairs(&mut pairs, first, seconds)?;
+    }
+    Ok(pairs)
+}
+
+/// The pairs of parameters that each of the questions forces equal, wherever it meets.
+fn forced_pairs(
+    alloc: Global,
+    paths: &[Path],
+    questions: &[Question],
+    firsts: usize,
+    seconds: usize,
+) -> Result<Vec<(usize, usize)>, AllocError>
+    requires single { All ChangesSingleCells paths.now }
+    requires missed { All (λ q. IsMissed paths.now q) questions.now }
+    ensures { IfOk result (λ pairs.
+        AreForced paths.now questions.now firsts seconds pairs.items) }
+{
+    let mut pairs = all_pairs(alloc, firsts, seconds)?;
+    for question in questions {
+        let closed = facts_of(alloc, paths, question)?;
+        pairs = left_by(alloc, &closed, &pairs)?;
+    }
+    Ok(pairs)
+}
+
+/// The least parameters of a pair's two programs, which have so many each, that every exposed
+/// question of the pair forces equal.
+pub fn key_of(
+    alloc: Global,
+    paths: &[Path],
+    pair: Pair,
+    firsts: usize,
+    seconds: usize,
+) -> Result<Option<(usize, usize)>, AllocError>
+    requires { All ChangesSingleCells paths.now }
+    ensures { IfOk result (λ key. IsKeyOf paths.now pair firsts seconds key) }
+{
+    let questions = exposed_questions(alloc, paths, pair)?;
+    let forced = forced_pairs(alloc, paths, &questions, firsts, seconds)?;
+    Ok(forced.first().copied())
+}

@@ -1,0 +1,162 @@
+//! Exposed reads that no keep covers.
+ghost use Rattle.std.specs.Prelude.{◌≡◌, ◌↔◌, ◌++◌, false, All, IfOk, OnOk, IsTrue, slice_get, slice_index_or};
+ghost use Rattle.prog_tree.specs.Syntax.{BlockTree};
+ghost use Rattle.prog_tree.specs.Tree.{with_stmt, block_tree, draft_tree};
+ghost use Rattle.prog_check.specs.Paths.{paths_of};
+ghost use Rattle.repair_laws.specs.Refusals.{IsUnknownTerm, IsUnknownSecond, HasUnknownKey};
+ghost use Rattle.si_repair.specs.Exposing.{AreExposed, IsObstacle};
+ghost use Rattle.si_repair.specs.Obstacles.{range_marks, marks_of, HasRead, ReadsMarked, ReadsUnknown, obstacle_of};
+
+use crate::repairs::exposed::access_at;
+use prog_check::{Access, Column, Path, Term};
+use prog_paths::Question;
+use prog_tree::{Block, Draft, Stmt};
+use repair_laws::Pair;
+use std::alloc::{AllocError, Global};
+
+/// Why no keep covers a read.
+#[derive(Clone, Copy, Debug, PartialEq, Eq)]
+pub enum Obstacle {
+    RangeRead,
+    UnknownKey,
+}
+
+/// Adds whether a statement is a range, and the same of those in its blocks.
+#[cycle(marks)]
+fn push_stmt(marks: &mut Vec<bool>, stmt: &Stmt) -> Result<(), AllocError>
+    ensures { OnOk result ((rest : BlockTree) → marks.new.items ++ range_marks rest
+        ≡ marks.old.items ++ range_marks (with_stmt stmt.now rest)) }
+{
+    match stmt {
+        Stmt::Branch {
+            then,
+            otherwise,
+            ..
+        } => {
+            marks.push(false)?;
+            push_block(marks, then)?;
+            push_block(marks, otherwise)?;
+        }
+        Stmt::Count { .. } | Stmt::Sum { .. } => marks.push(true)?,
+        Stmt::Bind { .. }
+        | Stmt::Get { .. }
+        | Stmt::Need { .. }
+        | Stmt::Lacks { .. }
+        | Stmt::Put { .. }
+        | Stmt::Insert { .. }
+        | Stmt::Delete { .. }
+        | Stmt::Keep { .. }
+        | Stmt::Reply { .. }
+        | Stmt::Abort => marks.push(false)?,
+    }
+    Ok(())
+}
+
+/// Adds for each statement of a block whether it is a range.
+#[cycle(marks)]
+fn push_block(marks: &mut Vec<bool>, block: &Block) -> Result<(), AllocError>
+    ensures { OnOk result
+        (marks.new.items ≡ marks.old.items ++ range_marks (block_tree block.now)) }
+{
+    for stmt in &block.stmts {
+        push_stmt(marks, stmt)?;
+    }
+    Ok(())
+}
+
+/// For each statement of the program of a number whether it is a range.
+fn ranges_of(alloc: Global, draft: &Draft, program: usize) -> Result<Vec<bool>, AllocError>
+    ensures { IfOk result (λ marks.
+        marks.items ≡ marks_of (slice_get (draft_tree draft.now).programs program)) }
+{
+    let mut marks = Vec::new(alloc);
+    if program < draft.programs.len() {
+        push_block(&mut marks, &draft.programs[program].body)?;
+    }
+    Ok(marks)
+}
+
+fn is_marked(marks: &[bool], number: usize) -> bool
+    ensures { result ≡ slice_index_or marks.now number false }
+{
+    number < marks.len() && marks[number]
+}
+
+/// Whether the first access of some question is of a statement that is marked.
+fn reads_marked(paths: &[Path], marks: &[bool], questions: &[Question]) -> bool
+    requires { All (λ q. HasRead paths.now q) questions.now }
+    ensures { IsTrue result ↔ ReadsMarked paths.now marks.now questions.now }
+{
+    for question in questions {
+        let read = access_at(paths, question.x, question.a);
+        if is_marked(marks, read.place) {
+            return true;
+        }
+    }
+    false
+}
+
+fn is_unknown(term: Term) -> bool
+    ensures { IsTrue result ↔ IsUnknownTerm term }
+{
+    matches!(term, Term::Unknown(_))
+}
+
+fn is_unknown_second(column: Option<Column>) -> bool
+    ensures { IsTrue result ↔ IsUnknownSecond column }
+{
+    match column {
+        Some(column) => is_unknown(column.low),
+        None => false,
+    }
+}
+
+fn has_unknown_key(access: &Access) -> bool
+    ensures { IsTrue result ↔ HasUnknownKey access.now }
+{
+    is_unknown(access.first.low) || is_unknown_second(access.second)
+}
+
+/// Whether the first access of some question has a key of unknown value.
+fn reads_unknown(paths: &[Path], questions: &[Question]) -> bool
+    requires { All (λ q. HasRead paths.now q) questions.now }
+    ensures { IsTrue result ↔ ReadsUnknown paths.now questions.now }
+{
+    for question in questions {
+        let read = access_at(paths, question.x, question.a);
+        if has_unknown_key(&read) {
+            return true;
+        }
+    }
+    false
+}
+
+/// The obstacle of a pair that reads a range or not, and under an unknown key or not.
+fn obstacle_of(reads_range: bool, reads_unknown: bool) -> Option<Obstacle>
+    ensures { result ≡ obstacle_of reads_range reads_unknown }
+{
+    if reads_range {
+        Some(Obstacle::RangeRead)
+    } else if reads_unknown {
+        Some(Obstacle::UnknownKey)
+    } else {
+        None
+    }
+}
+
+/// Why a pair with these exposed questions can't be promoted: a range read before an unknown key.
+pub fn first_obstacle(
+    alloc: Global,
+    draft: &Draft,
+    paths: &[Path],
+    pair: Pair,
+    questions: &[Question],
+) -> Result<Option<Obstacle>, AllocError>
+    requires paths { paths.now ≡ paths_of (draft_tree draft.now) }
+    requires exposed { AreExposed paths.now pair questions.now }
+    ensures { IfOk result (λ obstacle. IsObstacle (draft_tree draft.now) pair obstacle) }
+{
+    let ranges = ranges_of(alloc, draft, pair.from)?;
+    let reads_range = reads_marked(paths, &ranges, questions);
+    Ok(obstacle_of(reads_range, reads_unknown(paths, questions)))
+}
