@@ -4,3 +4,15 @@ pub mod Leaving
 pub mod Accepting
 pub mod Smallness
 pub mod Fitting
+pub mod Searching
+pub mod Closings
+pub mod Turns
+pub mod Gathering
+pub mod Ranking
+pub mod Marking
+pub mod Naming
+pub mod Putting
+pub mod Meetings
+pub mod Behind
+pub mod Marks
+pub mod Turning

@@ -16,7 +16,8 @@ use Rattle.repair_laws.specs.declared.plan.Pair.{Pair}
 use Rattle.repair_laws.specs.Keys.{ExposedOf}
 use Rattle.repair_laws.specs.Refusals.{IsStatementAt, IsRange, HasUnknownKey, HasRangeRead, HasUnknownRead}
 use Rattle.si_repair.specs.Exposing.{AreExposed, IsObstacle}
-use Rattle.si_repair.specs.Obstacles.{is_range, range_marks, marks_of, HasRead, ReadsMarked, ReadsUnknown, obstacle_of}
+use Rattle.si_repair.specs.Gathering.{HasRead}
+use Rattle.si_repair.specs.Obstacles.{is_range, range_marks, marks_of, ReadsMarked, ReadsUnknown, obstacle_of}
 use Rattle.si_repair.proofs.Gathering.{nothing, among_first}
 
 -- ---- statements

@@ -13,6 +13,10 @@ use Rattle.repair_laws.specs.Striking.{IsOfProgram}
 abbrev pub HasAccess : List Path → ℕ → ℕ → Type 0
 HasAccess nodes x a = (access : Access) × IsAccessOf nodes x a access
 
+-- the first access of a question is there
+abbrev pub HasRead : List Path → Asked → Type 0
+HasRead nodes q = HasAccess nodes q.x q.a
+
 -- of these accesses, those on paths of a program
 pub record AreOfProgram (nodes : List Path) (program : ℕ) (all places : List Placed) : Type 0 where
   pub only : (p : Placed) → Contains places p → Contains all p × IsOfProgram nodes program p.node

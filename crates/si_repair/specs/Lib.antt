@@ -1,2 +1,11 @@
+pub mod Carrying
+pub mod Checking
+pub mod Exposing
 pub mod Findings
+pub mod Forcing
+pub mod Gathering
+pub mod Obstacles
+pub mod Planning
+pub mod Promoting
+pub mod Repairing
 pub mod Telling

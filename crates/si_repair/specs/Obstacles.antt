@@ -9,7 +9,6 @@ use Rattle.prog_paths.specs.declared.places.Question.{Question as Asked}
 use Rattle.repair_laws.specs.Refusals.{HasUnknownKey}
 use Rattle.si_repair.specs.declared.repairs.reads.Obstacle.{Obstacle}
 use Rattle.si_repair.specs.declared.repairs.reads.Obstacle.TheVariants.{RangeRead, UnknownKey}
-use Rattle.si_repair.specs.Gathering.{HasAccess}
 
 -- ---- ranges
 
@@ -30,10 +29,6 @@ marks_of None = []
 marks_of (Some p) = range_marks p.body
 
 -- ---- reads
-
--- the first access of a question is there
-abbrev pub HasRead : List Path → Asked → Type 0
-HasRead nodes q = HasAccess nodes q.x q.a
 
 -- a question's first access is of a statement that is marked
 pub record ReadsMarked (nodes : List Path) (marks : List Bool) (questions : List Asked) : Type 0 where

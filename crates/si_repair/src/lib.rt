@@ -1,12 +1,19 @@
 //! Whether a set of programs stays serializable under snapshot isolation: the certificate that it
-//! does, or the least dangerous structure.
+//! does, or the least dangerous structure; and repairs of a set that does not.
 #![tactic(auto)]
 
 mod analysis;
 mod fault;
 mod finding;
+mod plans;
+mod repairs;
 mod writing;
 
 pub use analysis::certify;
 pub use fault::AnalyseFault;
 pub use finding::Finding;
+pub use plans::Plan;
+pub use plans::planning::plan;
+pub use repair_laws::Pair;
+pub use repairs::materialise::materialise;
+pub use repairs::{RepairFault, exposed_questions, promote};

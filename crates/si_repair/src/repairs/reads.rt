@@ -4,8 +4,9 @@ ghost use Rattle.prog_tree.specs.Syntax.{BlockTree};
 ghost use Rattle.prog_tree.specs.Tree.{with_stmt, block_tree, draft_tree};
 ghost use Rattle.prog_check.specs.Paths.{paths_of};
 ghost use Rattle.repair_laws.specs.Refusals.{IsUnknownTerm, IsUnknownSecond, HasUnknownKey};
+ghost use Rattle.si_repair.specs.Gathering.{HasRead};
 ghost use Rattle.si_repair.specs.Exposing.{AreExposed, IsObstacle};
-ghost use Rattle.si_repair.specs.Obstacles.{range_marks, marks_of, HasRead, ReadsMarked, ReadsUnknown, obstacle_of};
+ghost use Rattle.si_repair.specs.Obstacles.{range_marks, marks_of, ReadsMarked, ReadsUnknown, obstacle_of};
 
 use crate::repairs::exposed::access_at;
 use prog_check::{Access, Column, Path, Term};

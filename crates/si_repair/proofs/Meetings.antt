@@ -1,0 +1,209 @@
+-- What is made of the pairs of a plan is one draft alone, and where it gets too large.
+use Rattle.std.proofs.Common.{◌≡◌, ℕ, ◌+◌, ◌<◌, ◌≤◌, ◌⊎◌, inl, inr, List, [], ◌∷◌, ◌++◌, map, length, get_or, take, refl, sym, ap, subst, ◌∙◌, arith, append_assoc}
+use Rattle.std.specs.Prelude.{Option, Some, None, slice_get, All}
+use Rattle.std.proofs.lemmas.Bool.{true≢false, cases_lt}
+use Rattle.std.proofs.lemmas.List.{map-append, append-nil, take_more, take_all}
+use Rattle.std.proofs.lemmas.List.Elements.{All-head, All-tail, All-push, All-nil}
+use Rattle.std.proofs.lemmas.Option.{slice_get_within, slice_get-get_or}
+use Rattle.prog_tree.specs.Syntax.{Name, ProgramTree, DraftTree}
+use Rattle.prog_check.specs.declared.fault.CheckFault.{CheckFault}
+use Rattle.prog_check.specs.declared.fault.CheckFault.TheVariants as check
+use Rattle.prog_check.specs.declared.fault.Place.{Place}
+use Rattle.prog_check.specs.declared.path.Path.{Path}
+use Rattle.prog_check.specs.Faults.{table_names, first_fault}
+use Rattle.prog_check.specs.Names.{is_among}
+use Rattle.prog_check.specs.Paths.{paths_of}
+use Rattle.prog_check.specs.Sound.{IsSound}
+use Rattle.prog_paths.specs.Asked.{questions_of}
+use Rattle.prog_paths.specs.StaticGraph.{IsDangerous}
+use Rattle.repair_laws.specs.declared.plan.Pair.{Pair}
+use Rattle.repair_laws.specs.Keys.{IsKeyOf, IsLeastForced}
+use Rattle.repair_laws.specs.Materialised.{Met, mat_name, IsLeastFree, AreLeastFree, params_of, HasKey, AreMet, all_with_front, materialised_by, IsMaterialised}
+use Rattle.repair_laws.specs.Plans.{IsPlan}
+use Rattle.repair_laws.specs.Refusals.{IsTooLarge, IsTooLargeBy, Reason, StopsMaterialising, IsFirstStop}
+use Rattle.repair_laws.specs.Refusals as why
+use Rattle.repair_laws.specs.Sizes.{IsOfSize, IsOfSizeAlone}
+use Rattle.repair_laws.proofs.Counting.{law_of_as_many_questions}
+use Rattle.repair_laws.proofs.GraphLaws.{law_of_struck_pairs}
+use Rattle.repair_laws.proofs.Materialising.{law_of_materialising}
+use Rattle.repair_laws.proofs.Meanings.{law_of_meaning}
+use Rattle.repair_laws.proofs.PathLaws.{law_of_paths_kept}
+use Rattle.repair_laws.proofs.RightLaws.{law_of_repair_sizes}
+use Rattle.si_repair.specs.declared.repairs.fault.RepairFault.{RepairFault}
+use Rattle.si_repair.specs.declared.repairs.fault.RepairFault.TheVariants as fault
+use Rattle.si_repair.specs.Carrying.{new_names, taken_names}
+use Rattle.si_repair.specs.Checking.{IsRefusedAt}
+use Rattle.si_repair.specs.Repairing.{KeepsAllMeaning, StopsNowhere, IsRepairFault}
+
+-- ---- one name and one key
+
+earlier-taken : (taken : List Name) (x y : Name) (f : IsLeastFree taken x) (g : IsLeastFree taken y) → f.0 < g.0 → ⊥
+earlier-taken taken x y f g less =
+    true≢false (sym (g.3 f.0 less) ∙ ap (is_among taken) (sym f.1) ∙ f.2)
+
+same-free : (taken : List Name) (x y : Name) → IsLeastFree taken x → IsLeastFree taken y → x ≡ y
+same-free taken x y f g = go (cases_lt f.0 g.0) (cases_lt g.0 f.0)
+  where
+    go : (f.0 < g.0) ⊎ (g.0 ≤ f.0) → (g.0 < f.0) ⊎ (f.0 ≤ g.0) → x ≡ y
+    go (inl less) other = absurd (earlier-taken taken x y f g less)
+    go (inr more) (inl less) = absurd (earlier-taken taken y x g f less)
+    go (inr more) (inr less) =
+        let same : f.0 ≡ g.0 = omega (arith, more, less) in
+        f.1 ∙ ap mat_name same ∙ sym g.1
+
+same-forced : (nodes : List Path) (pair : Pair) (firsts seconds : ℕ) (k l : ℕ × ℕ) → IsLeastForced nodes pair firsts seconds k.0 k.1 → IsLeastForced nodes pair firsts seconds l.0 l.1 → k ≡ l
+same-forced nodes pair firsts seconds k l f g = go (f.least l.0 l.1 g.first_inside g.second_inside g.forced) (g.least k.0 k.1 f.first_inside f.second_inside f.forced)
+  where
+    go : (k.0 < l.0) ⊎ ((k.0 ≡ l.0) × (k.1 ≤ l.1)) → (l.0 < k.0) ⊎ ((l.0 ≡ k.0) × (l.1 ≤ k.1)) → k ≡ l
+    go (inl less) (inl more) = absurd (omega (arith, less, more))
+    go (inl less) (inr (same, more)) = absurd (omega (arith, less, same))
+    go (inr (same, less)) (inl more) = absurd (omega (arith, more, same))
+    go (inr (same, less)) (inr (again, more)) =
+        let second : k.1 ≡ l.1 = omega (arith, less, more) in
+        λ i. (same i, second i)
+
+same-key : (nodes : List Path) (pair : Pair) (firsts seconds : ℕ) (k l : Option (ℕ × ℕ)) → IsKeyOf nodes pair firsts seconds k → IsKeyOf nodes pair firsts seconds l → k ≡ l
+same-key nodes pair firsts seconds None None f g = refl
+same-key nodes pair firsts seconds None (Some l) f g = absurd (f l.0 l.1 g.first_inside g.second_inside g.forced)
+same-key nodes pair firsts seconds (Some k) None f g = absurd (g k.0 k.1 f.first_inside f.second_inside f.forced)
+same-key nodes pair firsts seconds (Some k) (Some l) f g = ap Some (same-forced nodes pair firsts seconds k l f g)
+
+-- ---- one draft
+
+same-met : (draft : DraftTree) (taken : List Name) (made others : List Met) → map (λ (m : Met). m.pair) made ≡ map (λ (m : Met). m.pair) others
+    → AreLeastFree taken (map (λ (m : Met). m.table) made) → AreLeastFree taken (map (λ (m : Met). m.table) others)
+    → All (HasKey draft) made → All (HasKey draft) others → made ≡ others
+same-met draft taken [] [] e f g h k = refl
+same-met draft taken [] (y ∷ ys) e f g h k = absurd cc
+same-met draft taken (x ∷ xs) [] e f g h k = absurd cc
+same-met draft taken (x ∷ xs) (y ∷ ys) e f g h k =
+    let pair : x.pair ≡ y.pair = cc in
+    let pairs : map (λ (m : Met). m.pair) xs ≡ map (λ (m : Met). m.pair) ys = cc in
+    let table = same-free taken x.table y.table f.0 g.0 in
+    let names = subst (λ (name : Name). AreLeastFree (taken ++ name ∷ []) (map (λ (m : Met). m.table) ys)) (sym table) g.1 in
+    let own = subst (λ (p : Pair). IsKeyOf (paths_of draft) p (params_of draft p.from) (params_of draft p.to) y.key) (sym pair) (All-head (HasKey draft) y ys k) in
+    let key = same-key (paths_of draft) x.pair (params_of draft x.pair.from) (params_of draft x.pair.to) x.key y.key (All-head (HasKey draft) x xs h) own in
+    let first : x ≡ y = λ i. record { pair = pair i; table = table i; key = key i } in
+    let rest = same-met draft (taken ++ x.table ∷ []) xs ys pairs f.1 names (All-tail (HasKey draft) x xs h) (All-tail (HasKey draft) y ys k) in
+    λ i. first i ∷ rest i
+
+pub same_draft : (draft : DraftTree) (plan : List Pair) (one other : DraftTree) → IsMaterialised draft plan one → IsMaterialised draft plan other → one ≡ other
+same_draft draft plan one other f g =
+    let same = same-met draft (table_names draft) f.0 g.0 (f.1.pairs ∙ sym g.1.pairs) f.1.names g.1.names f.1.keys g.1.keys in
+    f.2 ∙ ap (materialised_by draft) same ∙ sym g.2
+
+-- ---- one more pair
+
+free-push : (taken names : List Name) (name : Name) → AreLeastFree taken names → IsLeastFree (taken ++ names) name → AreLeastFree taken (names ++ name ∷ [])
+free-push taken [] name f g = (subst (λ (l : List Name). IsLeastFree l name) (append-nil taken) g, tt)
+free-push taken (x ∷ xs) name f g =
+    (f.0, free-push (taken ++ x ∷ []) xs name f.1 (subst (λ (l : List Name). IsLeastFree l name) (sym (append_assoc taken (x ∷ []) xs)) g))
+
+pub none_met : (draft : DraftTree) → AreMet draft [] []
+none_met draft = record { pairs = refl; names = tt; keys = All-nil (HasKey draft) }
+
+pub met_more : (draft : DraftTree) (plan : List Pair) (made : List Met) (m : Met) → AreMet draft plan made → IsLeastFree (taken_names draft made) m.table → HasKey draft m → AreMet draft (plan ++ m.pair ∷ []) (made ++ m ∷ [])
+met_more draft plan made m met free key = record {
+  pairs = map-append (λ (n : Met). n.pair) made (m ∷ []) ∙ ap (λ (l : List Pair). l ++ m.pair ∷ []) met.pairs;
+  names = subst (AreLeastFree (table_names draft)) (sym (map-append (λ (n : Met). n.table) made (m ∷ []))) (free-push (table_names draft) (new_names made) m.table met.names free);
+  keys = All-push (HasKey draft) made m met.keys key;
+}
+
+-- ---- size
+
+-- nothing that the first `n` pairs of a plan make is too large
+abbrev pub AreSmall : DraftTree → List Pair → ℕ → Type 0
+AreSmall draft plan n = (k : ℕ) → k < n → IsTooLargeBy IsMaterialised draft plan (k + 1) → ⊥
+
+pub small_more : (draft : DraftTree) (plan : List Pair) (n : ℕ) (result : DraftTree) → AreSmall draft plan n → IsMaterialised draft (take (n + 1) plan) result → first_fault result ≡ None → AreSmall draft plan (n + 1)
+small_more draft plan n result small made none k less large = go (cases_lt k n)
+  where
+    go : (k < n) ⊎ (n ≤ k) → ⊥
+    go (inl below) = small k below large
+    go (inr above) =
+        let place : k ≡ n = omega (arith, less, above) in
+        let own = subst (λ (j : ℕ). IsMaterialised draft (take (j + 1) plan) large.0) place large.1 in
+        let same = same_draft draft (take (n + 1) plan) large.0 result own made in
+        let fault = large.2.1 in
+        let found = sym none ∙ ap first_fault (sym same) ∙ fault in
+        absurd cc
+
+-- where none is, nothing stops the plan
+pub stops_nowhere : (draft : DraftTree) (plan : List Pair) → AreSmall draft plan (length plan) → StopsNowhere (StopsMaterialising IsMaterialised draft plan) plan
+stops_nowhere draft plan small n pair why.RangeRead at stops = stops
+stops_nowhere draft plan small n pair why.UnknownKey at stops = stops
+stops_nowhere draft plan small n pair why.TooLarge at stops = small n (slice_get_within plan n pair at) stops
+
+of-size : (f : CheckFault) → IsOfSize f → (place : Place) × (f ≡ check.TooMany place)
+of-size (check.TooMany place) h = (place, refl)
+of-size (check.DuplicateTable place) h = absurd h
+of-size (check.DuplicateProgram place) h = absurd h
+of-size (check.DuplicateParameter place) h = absurd h
+of-size (check.UnknownTable place) h = absurd h
+of-size (check.UnknownName place) h = absurd h
+of-size (check.NameTaken place) h = absurd h
+of-size (check.WrongArity place) h = absurd h
+of-size (check.GrowTableChanged place) h = absurd h
+of-size (check.AfterAbort place) h = absurd h
+of-size (check.TooManyPaths place) h = absurd h
+of-size check.Memory h = absurd h
+
+-- a refusal names the first pair that stops the plan
+pub refused_at : (draft : DraftTree) (plan : List Pair) (place : ℕ) (pair : Pair) (result : DraftTree)
+    → IsSound draft → slice_get plan place ≡ Some pair → IsMaterialised draft (take (place + 1) plan) result → AreSmall draft plan place
+    → (f : RepairFault) → IsRefusedAt result pair f → IsRepairFault (StopsMaterialising IsMaterialised draft plan) plan f
+refused_at draft plan place pair result sound at made small (fault.RangeRead p) h = absurd h
+refused_at draft plan place pair result sound at made small (fault.UnknownKey p) h = absurd h
+refused_at draft plan place pair result sound at made small fault.Memory h = tt
+refused_at draft plan place pair result sound at made small (fault.TooMany p) h =
+    let size = subst IsOfSizeAlone h.2 ((law_of_repair_sizes draft (take (place + 1) plan) result sound).0 made) in
+    let many = of-size h.1 size in record {
+      place = place;
+      at = at ∙ ap Some (sym h.0);
+      stops = (result, made, (many.0, h.2 ∙ ap Some many.1));
+      first = first;
+    }
+  where
+    first : (n : ℕ) (earlier : Pair) (reason : Reason) → n < place → slice_get plan n ≡ Some earlier → StopsMaterialising IsMaterialised draft plan n earlier reason → ⊥
+    first n earlier why.RangeRead less here stops = stops
+    first n earlier why.UnknownKey less here stops = stops
+    first n earlier why.TooLarge less here stops = small n less stops
+
+-- ---- the pairs of a plan, one after another
+
+no_front : (n : ℕ) (ps : List ProgramTree) → all_with_front [] n ps ≡ ps
+no_front n [] = refl
+no_front n (p ∷ ps) = ap (λ (l : List ProgramTree). p ∷ l) (no_front (n + 1) ps)
+
+pub nothing_made : (draft : DraftTree) → materialised_by draft [] ≡ draft
+nothing_made draft = λ i. record { tables = append-nil draft.tables i; programs = no_front 0 draft.programs i }
+
+pub met_next : (draft : DraftTree) (items plan : List Pair) (n : ℕ) (d : Pair) (made : List Met) → items ≡ plan → n < length items → AreMet draft (take n plan ++ get_or items n d ∷ []) made → AreMet draft (take (n + 1) plan) made
+met_next draft items plan n d made e inside met =
+    subst (λ (l : List Pair). AreMet draft l made) (ap (λ (l : List Pair). take n l ++ get_or items n d ∷ []) (sym e) ∙ sym (take_more items n d inside) ∙ ap (take (n + 1)) e) met
+
+pub met_all : (draft : DraftTree) (items plan : List Pair) (n : ℕ) (made : List Met) → items ≡ plan → length items ≤ n → AreMet draft (take n plan) made → AreMet draft plan made
+met_all draft items plan n made e past met =
+    subst (λ (l : List Pair). AreMet draft l made) (take_all n plan (subst (λ (l : List Pair). length l ≤ n) e past)) met
+
+pub small_all : (draft : DraftTree) (items plan : List Pair) (n : ℕ) → items ≡ plan → length items ≤ n → AreSmall draft plan n → AreSmall draft plan (length plan)
+small_all draft items plan n e past small k less = small k (let l = ap length e in omega (arith, past, less, l))
+
+pub place_next : (items plan : List Pair) (n : ℕ) (d : Pair) → items ≡ plan → n < length items → slice_get plan n ≡ Some (get_or items n d)
+place_next items plan n d e inside = subst (λ (l : List Pair). slice_get l n ≡ Some (get_or items n d)) e (slice_get-get_or items n d inside)
+
+-- ---- what is promised of the result
+
+pub record IsGoodRepair (draft : DraftTree) (plan : List Pair) (result : DraftTree) : Type 0 where
+  pub meaning : KeepsAllMeaning draft result
+  pub robust : IsPlan (paths_of draft) plan → IsDangerous (paths_of result) → ⊥
+  pub questions : length (questions_of (paths_of result)) ≡ length (questions_of (paths_of draft))
+
+pub good_repair : (draft : DraftTree) (plan : List Pair) (result : DraftTree) → IsSound draft → IsMaterialised draft plan result → IsGoodRepair draft plan result
+good_repair draft plan result sound made =
+    let repairs = law_of_materialising draft plan result sound made in
+    let paths = law_of_paths_kept draft result sound repairs.is_repair in record {
+      meaning = law_of_meaning draft result sound repairs.is_repair;
+      robust = λ is_plan dangerous. law_of_struck_pairs (paths_of draft) (paths_of result) plan paths is_plan repairs.has_none dangerous;
+      questions = law_of_as_many_questions (paths_of draft) (paths_of result) paths;
+    }

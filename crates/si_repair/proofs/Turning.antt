@@ -1,0 +1,297 @@
+-- The turns of a promotion, pair by pair.
+use Rattle.std.proofs.Common.{◌≡◌, ℕ, ◌+◌, ◌<◌, ◌≤◌, ◌⊎◌, inl, inr, Bool, List, [], ◌∷◌, ◌++◌, take, length, Contains, refl, sym, ap, subst, ◌∙◌, arith, slice_get, Some, None, Option, get_or, option_map}
+use Rattle.std.specs.List.{All}
+use Rattle.std.proofs.lemmas.Bool.{cases_lt}
+use Rattle.std.proofs.lemmas.List.{take_more, length-take, get_or-take, take_all}
+use Rattle.std.proofs.lemmas.List.Elements.{Contains-push_cases}
+use Rattle.std.proofs.lemmas.Option.{none-some, slice_get_within, get_or_from_slice_get, slice_get-get_or, slice_get-map, same_Some}
+use Rattle.prog_tree.specs.Syntax.{DraftTree}
+use Rattle.prog_tree.specs.Tree.{program_tree, draft_tree}
+use Rattle.prog_tree.specs.declared.program.Draft.{Draft}
+use Rattle.prog_check.specs.declared.fault.CheckFault.{CheckFault}
+use Rattle.prog_check.specs.declared.fault.CheckFault.TheVariants.{DuplicateTable, DuplicateProgram, DuplicateParameter, UnknownTable, UnknownName, NameTaken, WrongArity, GrowTableChanged, AfterAbort, TooMany, TooManyPaths, Memory}
+use Rattle.prog_check.specs.Faults.{first_fault}
+use Rattle.prog_check.specs.Paths.{paths_of}
+use Rattle.prog_check.specs.Sound.{IsSound}
+use Rattle.prog_paths.specs.Asked.{questions_of}
+use Rattle.prog_paths.specs.StaticGraph.{IsDangerous}
+use Rattle.repair_laws.specs.declared.plan.Pair.{Pair}
+use Rattle.repair_laws.specs.Promoted.{MarksExposed, promoted_by, IsPromoted}
+use Rattle.repair_laws.specs.Refusals.{HasRangeRead, HasUnknownRead, IsTooLarge, IsTooLargeBy, Reason, StopsPromotion, IsFirstStop}
+use Rattle.repair_laws.specs.Refusals as why
+use Rattle.repair_laws.specs.Plans.{IsPlan}
+use Rattle.repair_laws.specs.PathsKept.{ArePathsKept}
+use Rattle.repair_laws.specs.Safety.{MayPromote, Repairs}
+use Rattle.repair_laws.specs.Sizes.{IsOfSize, IsOfSizeAlone}
+use Rattle.repair_laws.proofs.Meanings.{law_of_meaning}
+use Rattle.repair_laws.proofs.PathLaws.{law_of_paths_kept}
+use Rattle.repair_laws.proofs.GraphLaws.{law_of_struck_pairs}
+use Rattle.repair_laws.proofs.Promoting.{law_of_promoting}
+use Rattle.repair_laws.proofs.Counting.{law_of_as_many_questions}
+use Rattle.repair_laws.proofs.RightLaws.{law_of_repair_sizes}
+use Rattle.si_repair.specs.declared.repairs.fault.RepairFault.{RepairFault}
+use Rattle.si_repair.specs.declared.repairs.fault.RepairFault.TheVariants as fault
+use Rattle.si_repair.specs.Exposing.{IsObstacle}
+use Rattle.si_repair.specs.Checking.{IsRefusedAt}
+use Rattle.si_repair.specs.Promoting.{AddsReads, HasFewStatements, IsObstacleFault}
+use Rattle.si_repair.specs.Repairing.{KeepsAllMeaning, StopsNowhere, IsRepairFault}
+use Rattle.si_repair.proofs.Behind.{none_marked, promoted-none}
+use Rattle.si_repair.proofs.Marks.{marks-none, marks-more, marks-same}
+
+-- a plan has one promoted draft
+pub one_promoted : (draft : DraftTree) (plan : List Pair) (a b : DraftTree) → IsPromoted draft plan a → IsPromoted draft plan b → a ≡ b
+one_promoted draft plan a b h k = h.2 ∙ ap (promoted_by draft) (marks-same (paths_of draft) plan h.0 k.0 h.1 k.1) ∙ sym k.2
+
+-- no pair of a plan before this place stops it
+abbrev pub StopsBefore : DraftTree → List Pair → ℕ → Type 0
+StopsBefore draft plan n =
+    (k : ℕ) (pair : Pair) (reason : Reason) → k < n → slice_get plan k ≡ Some pair → StopsPromotion IsPromoted draft plan k pair reason → ⊥
+
+-- what is promoted of a plan up to a place, with its marks
+pub record IsPromotedTo (draft : DraftTree) (plan : List Pair) (n : ℕ) (marked : ℕ → ℕ → Bool) (result : DraftTree) : Type 0 where
+  pub marks : MarksExposed (paths_of draft) (take n plan) marked
+  pub result_is : result ≡ promoted_by draft marked
+  pub passed : StopsBefore draft plan n
+
+pub promoted_first : (draft : DraftTree) (plan : List Pair) (result : DraftTree) → result ≡ draft → IsPromotedTo draft plan 0 none_marked result
+promoted_first draft plan result e = record {
+  marks = marks-none (paths_of draft);
+  result_is = e ∙ sym (promoted-none draft);
+  passed = λ k pair reason l at stops. omega (arith, l);
+}
+
+next_pair : (plan : List Pair) (n : ℕ) (pair : Pair) → slice_get plan n ≡ Some pair → take (n + 1) plan ≡ take n plan ++ pair ∷ []
+next_pair plan n pair at = take_more plan n pair (slice_get_within plan n pair at) ∙ ap (λ (p : Pair). take n plan ++ p ∷ []) (get_or_from_slice_get plan n pair pair at)
+
+-- a draft that is faultless is not too large
+faultless-fits : (draft : DraftTree) → first_fault draft ≡ None → IsTooLarge draft → ⊥
+faultless-fits draft none large = none-some (TooMany large.0) (sym none ∙ large.1)
+
+-- a turn that is made
+pub promoted_more : (draft : DraftTree) (plan : List Pair) (n : ℕ) (pair : Pair) (marked more : ℕ → ℕ → Bool) (old new : DraftTree)
+    → slice_get plan n ≡ Some pair → IsPromotedTo draft plan n marked old → AddsReads (paths_of draft) pair marked more
+    → IsObstacle draft pair None → new ≡ promoted_by draft more → first_fault new ≡ None
+    → IsPromotedTo draft plan (n + 1) more new
+promoted_more draft plan n pair marked more old new at before adds covered is faultless = record {
+  marks = marks;
+  result_is = is;
+  passed = passed;
+}
+  where
+    marks : MarksExposed (paths_of draft) (take (n + 1) plan) more
+    marks = subst (λ (l : List Pair). MarksExposed (paths_of draft) l more) (sym (next_pair plan n pair at)) (marks-more (paths_of draft) (take n plan) pair marked more before.marks adds)
+
+    stops_not : (reason : Reason) → StopsPromotion IsPromoted draft plan n pair reason → ⊥
+    stops_not why.RangeRead h = covered.0 h
+    stops_not why.UnknownKey h = covered.1 h.1
+    stops_not why.TooLarge h =
+        let large = h.2 in
+        faultless-fits new faultless (subst (λ (d : DraftTree). IsTooLarge d) (one_promoted draft (take (n + 1) plan) large.0 new large.1 (more, marks, is)) large.2)
+
+    passed : StopsBefore draft plan (n + 1)
+    passed k p reason l also stops = go (cases_lt k n)
+      where
+        go : (k < n) ⊎ (n ≤ k) → ⊥
+        go (inl less) = before.passed k p reason less also stops
+        go (inr past) =
+            let e : k ≡ n = omega arith in
+            let same : p ≡ pair = same_Some p pair (sym also ∙ ap (slice_get plan) e ∙ at) in
+            stops_not reason (subst (λ (q : Pair). StopsPromotion IsPromoted draft plan n q reason) same (subst (λ m. StopsPromotion IsPromoted draft plan m p reason) e stops))
+
+-- ---- why a turn stops
+
+-- the check finds a fault in the draft with keeps for the marks so far and the pair's
+abbrev pub IsTooMuchWith : DraftTree → Pair → (marked : ℕ → ℕ → Bool) → Type 0
+IsTooMuchWith draft pair marked =
+    (more : ℕ → ℕ → Bool) × AddsReads (paths_of draft) pair marked more
+    × (found : CheckFault) × (first_fault (promoted_by draft more) ≡ Some found)
+
+-- why a pair can't be promoted behind those of the marks so far
+abbrev pub IsTurnFault : DraftTree → Pair → (marked : ℕ → ℕ → Bool) → RepairFault → Type 0
+IsTurnFault draft pair marked (fault.RangeRead p) = IsObstacleFault draft pair (fault.RangeRead p)
+IsTurnFault draft pair marked (fault.UnknownKey p) = IsObstacleFault draft pair (fault.UnknownKey p)
+IsTurnFault draft pair marked (fault.TooMany p) =
+    (p ≡ pair) × (HasRangeRead draft pair → ⊥) × (HasUnknownRead draft pair → ⊥) × IsTooMuchWith draft pair marked
+IsTurnFault draft pair marked fault.Memory = Unit {0}
+
+-- ---- where no pair stops
+
+-- the pairs before a place may be promoted
+pub may_promote : (draft : DraftTree) (plan : List Pair) (n : ℕ) → StopsBefore draft plan n → MayPromote draft (take n plan)
+may_promote draft plan n passed = record { ranges = ranges; unknowns = unknowns }
+  where
+    standing : (pair : Pair) → Contains (take n plan) pair → (k : ℕ) × (k < n) × (slice_get plan k ≡ Some pair)
+    standing pair c =
+        let size = length-take n plan in
+        let inside = c.1 in
+        let before : c.0 < n = omega (arith, size, inside) in
+        let within : c.0 < length plan = omega (arith, size, inside) in
+        (c.0, before, slice_get-get_or plan c.0 pair within ∙ ap Some (sym (get_or-take n plan c.0 pair before) ∙ c.2))
+
+    ranges : (pair : Pair) → Contains (take n plan) pair → HasRangeRead draft pair → ⊥
+    ranges pair c h = let at = standing pair c in passed at.0 pair why.RangeRead at.1 at.2 h
+
+    unknowns : (pair : Pair) → Contains (take n plan) pair → HasUnknownRead draft pair → ⊥
+    unknowns pair c h = let at = standing pair c in passed at.0 pair why.UnknownKey at.1 at.2 (λ r. ranges pair c r, h)
+
+-- ---- a turn that stops
+
+size-fault : (draft : DraftTree) (found : CheckFault) → first_fault draft ≡ Some found → IsOfSizeAlone (first_fault draft) → IsTooLarge draft
+size-fault draft found is alone = go found is (subst (λ (o : Option CheckFault). IsOfSizeAlone o) is alone)
+  where
+    go : (f : CheckFault) → first_fault draft ≡ Some f → IsOfSize f → IsTooLarge draft
+    go (TooMany place) e h = (place, e)
+    go (DuplicateTable place) e h = absurd h
+    go (DuplicateProgram place) e h = absurd h
+    go (DuplicateParameter place) e h = absurd h
+    go (UnknownTable place) e h = absurd h
+    go (UnknownName place) e h = absurd h
+    go (NameTaken place) e h = absurd h
+    go (WrongArity place) e h = absurd h
+    go (GrowTableChanged place) e h = absurd h
+    go (AfterAbort place) e h = absurd h
+    go (TooManyPaths place) e h = absurd h
+    go Memory e h = absurd h
+
+module _ (draft : DraftTree) (sound : IsSound draft) (plan : List Pair) (n : ℕ) (pair : Pair) (at : slice_get plan n ≡ Some pair) where
+  -- the pairs up to one that has no obstacle may be promoted
+  may_with : StopsBefore draft plan n → (HasRangeRead draft pair → ⊥) → (HasUnknownRead draft pair → ⊥) → MayPromote draft (take (n + 1) plan)
+  may_with passed no_range no_unknown = record { ranges = ranges; unknowns = unknowns }
+    where
+      before : MayPromote draft (take n plan)
+      before = may_promote draft plan n passed
+
+      split : (p : Pair) → Contains (take (n + 1) plan) p → Contains (take n plan) p ⊎ (pair ≡ p)
+      split p c = Contains-push_cases (take n plan) pair p (subst (λ (l : List Pair). Contains l p) (next_pair plan n pair at) c)
+
+      ranges : (p : Pair) → Contains (take (n + 1) plan) p → HasRangeRead draft p → ⊥
+      ranges p c h = go (split p c)
+        where
+          go : Contains (take n plan) p ⊎ (pair ≡ p) → ⊥
+          go (inl k) = before.ranges p k h
+          go (inr e) = no_range (subst (λ (q : Pair). HasRangeRead draft q) (sym e) h)
+
+      unknowns : (p : Pair) → Contains (take (n + 1) plan) p → HasUnknownRead draft p → ⊥
+      unknowns p c h = go (split p c)
+        where
+          go : Contains (take n plan) p ⊎ (pair ≡ p) → ⊥
+          go (inl k) = before.unknowns p k h
+          go (inr e) = no_unknown (subst (λ (q : Pair). HasUnknownRead draft q) (sym e) h)
+
+  too_large : (marked : ℕ → ℕ → Bool) (old : DraftTree) → IsPromotedTo draft plan n marked old → (HasRangeRead draft pair → ⊥) → (HasUnknownRead draft pair → ⊥)
+      → IsTooMuchWith draft pair marked → IsTooLargeBy IsPromoted draft plan (n + 1)
+  too_large marked old before no_range no_unknown much =
+      let more = much.0 in
+      let marks = subst (λ (l : List Pair). MarksExposed (paths_of draft) l more) (sym (next_pair plan n pair at)) (marks-more (paths_of draft) (take n plan) pair marked more before.marks much.1) in
+      let promoted : IsPromoted draft (take (n + 1) plan) (promoted_by draft more) = (more, marks, refl) in (
+        promoted_by draft more,
+        promoted,
+        size-fault (promoted_by draft more) much.2 much.3 ((law_of_repair_sizes draft (take (n + 1) plan) (promoted_by draft more) sound).1 (may_with before.passed no_range no_unknown) promoted),
+      )
+
+  stopped : (why : Reason) → StopsBefore draft plan n → StopsPromotion IsPromoted draft plan n pair why → IsFirstStop (StopsPromotion IsPromoted draft plan) plan pair why
+  stopped reason passed stops = record {
+    place = n;
+    at = at;
+    stops = stops;
+    first = λ k earlier other less also h. passed k earlier other less also h;
+  }
+
+  -- the fault of a turn is that of the plan
+  pub turn_refused : (marked : ℕ → ℕ → Bool) (old : DraftTree) → IsPromotedTo draft plan n marked old → (f : RepairFault) → IsTurnFault draft pair marked f
+      → IsRepairFault (StopsPromotion IsPromoted draft plan) plan f
+  turn_refused marked old before (fault.RangeRead p) h =
+      subst (λ (q : Pair). IsFirstStop (StopsPromotion IsPromoted draft plan) plan q why.RangeRead) (sym h.0) (stopped why.RangeRead before.passed h.1)
+  turn_refused marked old before (fault.UnknownKey p) h =
+      subst (λ (q : Pair). IsFirstStop (StopsPromotion IsPromoted draft plan) plan q why.UnknownKey) (sym h.0) (stopped why.UnknownKey before.passed (h.1, h.2))
+  turn_refused marked old before (fault.TooMany p) h =
+      subst (λ (q : Pair). IsFirstStop (StopsPromotion IsPromoted draft plan) plan q why.TooLarge) (sym h.0)
+      (stopped why.TooLarge before.passed (h.1, h.2, too_large marked old before h.1 h.2 h.3))
+  turn_refused marked old before fault.Memory h = tt
+
+-- ---- the whole plan
+
+-- no pair of a plan stops it
+pub stops_nowhere : (draft : DraftTree) (plan : List Pair) (n : ℕ) → length plan ≤ n → StopsBefore draft plan n → StopsNowhere (StopsPromotion IsPromoted draft plan) plan
+stops_nowhere draft plan n all passed k pair reason at stops =
+    let within = slice_get_within plan k pair at in
+    passed k pair reason (omega (arith, within, all)) at stops
+
+-- ---- turns over items that are the plan's, on a draft that is the one handed in
+
+standing_at : (plan items : List Pair) (n : ℕ) (d : Pair) → items ≡ plan → n < length items → slice_get plan n ≡ Some (get_or items n d)
+standing_at plan items n d same inside = ap (λ (l : List Pair). slice_get l n) (sym same) ∙ slice_get-get_or items n d inside
+
+pub turn_made : (draft seen : DraftTree) (plan items : List Pair) (n : ℕ) (d : Pair) → seen ≡ draft → items ≡ plan → n < length items
+    → (marked more : ℕ → ℕ → Bool) (old new : DraftTree) → IsPromotedTo draft plan n marked old → AddsReads (paths_of seen) (get_or items n d) marked more
+    → IsObstacle seen (get_or items n d) None → new ≡ promoted_by seen more → first_fault new ≡ None
+    → IsPromotedTo draft plan (n + 1) more new
+turn_made draft seen plan items n d same all inside marked more old new before adds covered is faultless =
+    let pair = get_or items n d in
+    promoted_more draft plan n pair marked more old new (standing_at plan items n d all inside) before
+    (subst (λ (e : DraftTree). AddsReads (paths_of e) pair marked more) same adds)
+    (subst (λ (e : DraftTree). IsObstacle e pair None) same covered)
+    (is ∙ ap (λ (e : DraftTree). promoted_by e more) same) faultless
+
+pub turn_stopped : (draft seen : DraftTree) (plan items : List Pair) (n : ℕ) (d : Pair) → seen ≡ draft → items ≡ plan → n < length items → IsSound draft
+    → (marked : ℕ → ℕ → Bool) (old : DraftTree) → IsPromotedTo draft plan n marked old → (f : RepairFault) → IsTurnFault seen (get_or items n d) marked f
+    → IsRepairFault (StopsPromotion IsPromoted draft plan) plan f
+turn_stopped draft seen plan items n d same all inside sound marked old before f h =
+    turn_refused draft sound plan n (get_or items n d) (standing_at plan items n d all inside) marked old before f
+    (subst (λ (e : DraftTree). IsTurnFault e (get_or items n d) marked f) same h)
+
+-- what is no read that a keep covers refuses a turn
+pub obstacle_fault : (draft : DraftTree) (pair : Pair) (marked : ℕ → ℕ → Bool) (f : RepairFault) → IsObstacleFault draft pair f → IsTurnFault draft pair marked f
+obstacle_fault draft pair marked (fault.RangeRead p) h = h
+obstacle_fault draft pair marked (fault.UnknownKey p) h = h
+obstacle_fault draft pair marked (fault.TooMany p) h = absurd h
+obstacle_fault draft pair marked fault.Memory h = tt
+
+-- what the check refuses of a turn
+pub turn_fault : (draft : DraftTree) (pair : Pair) (marked more : ℕ → ℕ → Bool) (made : DraftTree) (f : RepairFault)
+    → IsObstacle draft pair None → AddsReads (paths_of draft) pair marked more → made ≡ promoted_by draft more → IsRefusedAt made pair f
+    → IsTurnFault draft pair marked f
+turn_fault draft pair marked more made (fault.TooMany p) covered adds is h =
+    (h.0, covered.0, covered.1, (more, adds, h.1, sym (ap first_fault is) ∙ h.2))
+turn_fault draft pair marked more made (fault.RangeRead p) covered adds is h = absurd h
+turn_fault draft pair marked more made (fault.UnknownKey p) covered adds is h = absurd h
+turn_fault draft pair marked more made fault.Memory covered adds is h = tt
+
+-- ---- the set of a whole plan
+
+pub promoted_whole : (draft : DraftTree) (plan : List Pair) (n : ℕ) (marked : ℕ → ℕ → Bool) (result : DraftTree) → length plan ≤ n → IsPromotedTo draft plan n marked result
+    → IsPromoted draft plan result
+promoted_whole draft plan n marked result all h =
+    (marked, subst (λ (l : List Pair). MarksExposed (paths_of draft) l marked) (take_all n plan all) h.marks, h.result_is)
+
+repairs_whole : (draft : DraftTree) (plan : List Pair) (n : ℕ) (marked : ℕ → ℕ → Bool) (result : DraftTree) → IsSound draft → length plan ≤ n → IsPromotedTo draft plan n marked result
+    → Repairs draft plan result
+repairs_whole draft plan n marked result sound all h =
+    law_of_promoting draft plan result sound
+    (subst (λ (l : List Pair). MayPromote draft l) (take_all n plan all) (may_promote draft plan n h.passed))
+    (promoted_whole draft plan n marked result all h)
+
+pub whole_meaning : (draft : DraftTree) (plan : List Pair) (n : ℕ) (marked : ℕ → ℕ → Bool) (result : DraftTree) → IsSound draft → length plan ≤ n → IsPromotedTo draft plan n marked result
+    → KeepsAllMeaning draft result
+whole_meaning draft plan n marked result sound all h = law_of_meaning draft result sound (repairs_whole draft plan n marked result sound all h).is_repair
+
+paths_kept : (draft : DraftTree) (plan : List Pair) (result : DraftTree) → IsSound draft → Repairs draft plan result → ArePathsKept (paths_of draft) (paths_of result)
+paths_kept draft plan result sound r = law_of_paths_kept draft result sound r.is_repair
+
+pub whole_robust : (draft : DraftTree) (plan : List Pair) (n : ℕ) (marked : ℕ → ℕ → Bool) (result : DraftTree) → IsSound draft → length plan ≤ n → IsPromotedTo draft plan n marked result
+    → IsPlan (paths_of draft) plan → IsDangerous (paths_of result) → ⊥
+whole_robust draft plan n marked result sound all h is_plan =
+    let r = repairs_whole draft plan n marked result sound all h in
+    law_of_struck_pairs (paths_of draft) (paths_of result) plan (paths_kept draft plan result sound r) is_plan r.has_none
+
+pub whole_questions : (draft : DraftTree) (plan : List Pair) (n : ℕ) (marked : ℕ → ℕ → Bool) (result : DraftTree) → IsSound draft → length plan ≤ n → IsPromotedTo draft plan n marked result
+    → length (questions_of (paths_of result)) ≡ length (questions_of (paths_of draft))
+whole_questions draft plan n marked result sound all h =
+    law_of_as_many_questions (paths_of draft) (paths_of result) (paths_kept draft plan result sound (repairs_whole draft plan n marked result sound all h))
+
+-- ---- programs of a sound draft
+
+pub few_statements : (draft : Draft) → IsSound (draft_tree draft) → All HasFewStatements draft.programs.items
+few_statements draft sound k d inside =
+    let ps = draft.programs.items in
+    (sound.programs k (program_tree (get_or ps k d)) (slice_get-map program_tree ps k ∙ ap (option_map program_tree) (slice_get-get_or ps k d inside))).few_statements

@@ -1,0 +1,17 @@
+use Rattle.std.proofs.Common.{List, map, ap, ◌∙◌}
+use Rattle.std.specs.List.{flat_map}
+use Rattle.prog_tree.specs.Syntax.{Name, Plain}
+use Rattle.repair_laws.specs.Materialised.{keeps_for}
+use Rattle.si_repair.specs.Carrying.{all_met}
+use Rattle.si_repair.proofs.Putting.{program_front}
+use Rattle.si_repair.proofs.repairs.front.with_front.Goals as goal
+
+pub returns : goal.returns
+returns c =
+    let made = all_met c.args.made.now in
+    let number = c.args.number in
+    let program = c.args.program.now in
+    let same = c.in_ok-name.ensures in
+    let kept = c.in_ok-front.ensures ∙ ap (λ (params : List Name). map Plain (flat_map (keeps_for number params) made)) c.deref.ensures.value in
+    let body = program_front made number c.in_ok-name.field-0 program c.in_ok-front.front.items c.in_ok-joined.field-0.items same kept c.in_ok-joined.ensures in
+    λ i. record { name = (same i).name; params = (same i).params; body = body i }

@@ -1,0 +1,90 @@
+-- Marked statements, and what one pair of a plan adds to them.
+use Rattle.std.specs.Prelude.{◌≡◌, ◌↔◌, ℕ, ◌+◌, ◌≤◌, ◌⊎◌, ◌&&◌, ◌==◌, Bool, true, List, Option, Some, None, slice_get}
+use Rattle.std.specs.List.{list_any}
+use Rattle.prog_tree.specs.Syntax.{Name, KeyTree, StmtTree, Plain, Fork, ProgramTree, DraftTree}
+use Rattle.prog_tree.specs.Tree.{block_tree}
+use Rattle.prog_tree.specs.declared.program.Program.{Program}
+use Rattle.prog_check.specs.declared.path.Access.{Access}
+use Rattle.prog_check.specs.declared.path.Path.{Path}
+use Rattle.prog_check.specs.Paths.{statement_count}
+use Rattle.prog_paths.specs.declared.places.Question.{Question as Asked}
+use Rattle.repair_laws.specs.declared.plan.Pair.{Pair}
+use Rattle.repair_laws.specs.Keys.{ExposedOf}
+use Rattle.repair_laws.specs.Promoted.{cell_read, with_keeps}
+use Rattle.repair_laws.specs.Refusals.{HasRangeRead, HasUnknownRead}
+use Rattle.si_repair.specs.declared.repairs.fault.RepairFault.{RepairFault}
+use Rattle.si_repair.specs.declared.repairs.fault.RepairFault.TheVariants.{RangeRead, UnknownKey, TooMany, Memory}
+use Rattle.si_repair.specs.declared.repairs.marks.Mark.{Mark}
+
+-- ---- marks
+
+-- a mark is of the statement of this number in this program
+abbrev pub is_at : (program number : ℕ) → Mark → Bool
+is_at program number mark = (mark.program == program) && (mark.number == number)
+
+-- some mark is
+abbrev pub is_marked : List Mark → (program number : ℕ) → Bool
+is_marked marks program number = list_any (is_at program number) marks
+
+-- ---- reads
+
+abbrev pub access_at : Option Path → ℕ → Option Access
+access_at None a = None
+access_at (Some path) a = slice_get path.accesses a
+
+abbrev pub place_in : Option Access → ℕ
+place_in None = 0
+place_in (Some access) = access.place
+
+-- the number of the statement whose access asks a question
+abbrev pub place_of : List Path → Asked → ℕ
+place_of nodes q = place_in (access_at (slice_get nodes q.x) q.a)
+
+-- a question of a pair is asked by the statement of this number in this program
+abbrev pub reads_at : List Path → Pair → (program number : ℕ) → Asked → Bool
+reads_at nodes pair program number q = (pair.from == program) && (place_of nodes q == number)
+
+-- the statement of this number in this program has a read that is exposed to the second program of the pair
+abbrev pub HasExposedRead : List Path → Pair → (program number : ℕ) → Type 0
+HasExposedRead nodes pair program number =
+    (pair.from ≡ program) × (e : ExposedOf nodes pair) × (e.question.mine.place ≡ number)
+
+-- the new marks are the old ones, and the statements with an exposed read of the pair
+abbrev pub AddsReads : List Path → Pair → (old new : ℕ → ℕ → Bool) → Type 0
+AddsReads nodes pair old new =
+    (program number : ℕ)
+    → (new program number ≡ true) ↔ ((old program number ≡ true) ⊎ HasExposedRead nodes pair program number)
+
+-- ---- statements
+
+-- the cell that a statement reads; a branch itself reads none
+abbrev pub cell_read_by : StmtTree → Option (Name × KeyTree)
+cell_read_by (Plain statement) = cell_read statement
+cell_read_by (Fork test a b) = None
+
+-- how many statements a statement is, those of its blocks too
+abbrev pub count_by : StmtTree → ℕ
+count_by (Plain statement) = 1
+count_by (Fork test a b) = 1 + statement_count a + statement_count b
+
+-- a statement of this number with keeps in its blocks
+abbrev pub with_keeps_in : (marked : ℕ → Bool) → (number : ℕ) → StmtTree → StmtTree
+with_keeps_in marked number (Plain statement) = Plain statement
+with_keeps_in marked number (Fork test a b) =
+    Fork test (with_keeps marked (number + 1) a) (with_keeps marked (number + 1 + statement_count a) b)
+
+abbrev pub HasFewStatements : Program → Type 0
+HasFewStatements p = statement_count (block_tree p.body) ≤ 256
+
+-- a program with keeps behind its marked statements
+abbrev pub promoted_program : (marked : ℕ → Bool) → ProgramTree → ProgramTree
+promoted_program marked p = record { name = p.name; params = p.params; body = with_keeps marked 0 p.body }
+
+-- ---- faults
+
+-- no keep covers some exposed read of the pair, or memory is wanting
+abbrev pub IsObstacleFault : DraftTree → Pair → RepairFault → Type 0
+IsObstacleFault draft pair (RangeRead p) = (p ≡ pair) × HasRangeRead draft pair
+IsObstacleFault draft pair (UnknownKey p) = (p ≡ pair) × (HasRangeRead draft pair → ⊥) × HasUnknownRead draft pair
+IsObstacleFault draft pair (TooMany p) = ⊥
+IsObstacleFault draft pair Memory = Unit {0}

@@ -1,0 +1,34 @@
+-- What is owed of a repaired set, and of a plan that is not carried out.
+use Rattle.std.specs.Prelude.{◌≡◌, ℕ, ℤ, ◌<◌, List, length, Some, slice_get}
+use Rattle.prog_tree.specs.Syntax.{ProgramTree, DraftTree}
+use Rattle.prog_tree.specs.Table.{TableState}
+use Rattle.prog_tree.specs.Evaluation.{eval}
+use Rattle.repair_laws.specs.declared.plan.Pair.{Pair}
+use Rattle.repair_laws.specs.Meaning.{KeepsMeaning}
+use Rattle.repair_laws.specs.Refusals.{Reason, IsFirstStop}
+use Rattle.repair_laws.specs.Refusals as why
+use Rattle.si_repair.specs.declared.repairs.fault.RepairFault.{RepairFault}
+use Rattle.si_repair.specs.declared.repairs.fault.RepairFault.TheVariants.{RangeRead, UnknownKey, TooMany, Memory}
+
+-- both numbers are those of programs
+abbrev pub IsInRange : DraftTree → Pair → Type 0
+IsInRange draft pair = (pair.from < length draft.programs) × (pair.to < length draft.programs)
+
+-- each program has its old meaning, on every table state and with any arguments
+abbrev pub KeepsAllMeaning : DraftTree → DraftTree → Type 0
+KeepsAllMeaning old new =
+    (number : ℕ) (p q : ProgramTree) → slice_get old.programs number ≡ Some p → slice_get new.programs number ≡ Some q
+    → (args : List ℤ) (m : TableState) → length p.params ≡ length args
+    → KeepsMeaning (eval old.tables p args m) (eval new.tables q args m)
+
+-- no pair of the plan stops it
+abbrev pub StopsNowhere : (Stops : ℕ → Pair → Reason → Type 0) → List Pair → Type 0
+StopsNowhere Stops plan =
+    (n : ℕ) (pair : Pair) (reason : Reason) → slice_get plan n ≡ Some pair → Stops n pair reason → ⊥
+
+-- the fault names the first pair that stops the plan, and why it does; of want of memory nothing is said
+abbrev pub IsRepairFault : (Stops : ℕ → Pair → Reason → Type 0) → List Pair → RepairFault → Type 0
+IsRepairFault Stops plan (RangeRead pair) = IsFirstStop Stops plan pair why.RangeRead
+IsRepairFault Stops plan (UnknownKey pair) = IsFirstStop Stops plan pair why.UnknownKey
+IsRepairFault Stops plan (TooMany pair) = IsFirstStop Stops plan pair why.TooLarge
+IsRepairFault Stops plan Memory = Unit {0}

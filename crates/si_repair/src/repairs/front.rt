@@ -1,0 +1,123 @@
+//! Keep statements in front of the programs of a draft, and the new tables of which they keep rows.
+ghost use Rattle.std.specs.Prelude.{◌≡◌, ◌++◌, IfOk, length, map, All};
+ghost use Rattle.std.specs.List.{flat_map};
+ghost use Rattle.prog_tree.specs.Syntax.{Plain};
+ghost use Rattle.prog_tree.specs.Tree.{stmt_tree, program_tree, draft_tree};
+ghost use Rattle.repair_laws.specs.Materialised.{plain_table, keeps_for, with_front, all_with_front, HasKey, materialised_by};
+ghost use Rattle.si_repair.specs.Carrying.{all_met, HasColumns, HaveColumns};
+
+use crate::repairs::keeps::{Meeting, keeps_for};
+use prog_tree::{Arity, Block, Draft, Name, Program, Stmt, TableDecl};
+use std::alloc::{AllocError, Global};
+
+/// The tables, and behind them a new one for each pair.
+fn with_tables(
+    alloc: Global,
+    tables: &[TableDecl],
+    made: &[Meeting],
+) -> Result<Vec<TableDecl>, AllocError>
+    ensures { IfOk result (λ all. all.items
+        ≡ tables.now ++ map (λ m. plain_table m.table) (all_met made.now)) }
+{
+    let mut all = copy_tables(alloc, tables)?;
+    for meeting in made {
+        all.push(TableDecl {
+            name: meeting.table.copy()?,
+            arity: Arity::One,
+            grow: false,
+        })?;
+    }
+    Ok(all)
+}
+
+fn copy_tables(alloc: Global, tables: &[TableDecl]) -> Result<Vec<TableDecl>, AllocError>
+    ensures { IfOk result (λ copies. copies.items ≡ tables.now) }
+{
+    let mut copies = Vec::with_capacity(alloc, tables.len())?;
+    for table in tables {
+        copies.push(table.copy()?)?;
+    }
+    Ok(copies)
+}
+
+/// The statements of a vector, and then those of another.
+fn joined(mut stmts: Vec<Stmt>, more: Vec<Stmt>) -> Result<Vec<Stmt>, AllocError>
+    ensures { IfOk result (λ all. all.items ≡ stmts.items ++ more.items) }
+{
+    stmts.extend(more)?;
+    Ok(stmts)
+}
+
+/// What a program of these parameters keeps for all pairs, the first pair's keeps first.
+fn front_of(
+    alloc: Global,
+    program: usize,
+    params: &[Name],
+    made: &[Meeting],
+) -> Result<Vec<Stmt>, AllocError>
+    requires { All (HasColumns program (length params.now)) (all_met made.now) }
+    ensures { IfOk result (λ front. map stmt_tree front.items
+        ≡ map Plain (flat_map (keeps_for program params.now) (all_met made.now))) }
+{
+    let mut front = Vec::new(alloc);
+    for meeting in made {
+        front = joined(front, keeps_for(alloc, program, params, meeting)?)?;
+    }
+    Ok(front)
+}
+
+/// A program with the keeps of all pairs in front.
+fn with_front(
+    alloc: Global,
+    number: usize,
+    program: &Program,
+    made: &[Meeting],
+) -> Result<Program, AllocError>
+    requires { All (HasColumns number (length program.now.params.items)) (all_met made.now) }
+    ensures { IfOk result (λ repaired. program_tree repaired
+        ≡ with_front (all_met made.now) number (program_tree program.now)) }
+{
+    let front = front_of(alloc, number, &program.params, made)?;
+    let Program { name, params, body } = program.copy()?;
+    let Block { stmts } = body;
+    Ok(Program {
+        name,
+        params,
+        body: Block {
+            stmts: joined(front, stmts)?,
+        },
+    })
+}
+
+/// The programs with the keeps of all pairs in front.
+fn all_with_front(
+    alloc: Global,
+    programs: &[Program],
+    made: &[Meeting],
+) -> Result<Vec<Program>, AllocError>
+    requires { HaveColumns (map program_tree programs.now) (all_met made.now) }
+    ensures { IfOk result (λ all. map program_tree all.items
+        ≡ all_with_front (all_met made.now) 0 (map program_tree programs.now)) }
+{
+    let mut all = Vec::with_capacity(alloc, programs.len())?;
+    for (number, program) in programs.iter().enumerate() {
+        all.push(with_front(alloc, number, program, made)?)?;
+    }
+    Ok(all)
+}
+
+/// The draft with a new table for each pair, and the keeps in front of its programs.
+pub(crate) fn materialised(
+    alloc: Global,
+    draft: &Draft,
+    made: &[Meeting],
+) -> Result<Draft, AllocError>
+    requires { All (HasKey (draft_tree draft.now)) (all_met made.now) }
+    ensures { IfOk result (λ repaired. draft_tree repaired
+        ≡ materialised_by (draft_tree draft.now) (all_met made.now)) }
+{
+    Ok(Draft {
+        tables: with_tables(alloc, &draft.tables, made)?,
+        programs: all_with_front(alloc, &draft.programs, made)?,
+    })
+}

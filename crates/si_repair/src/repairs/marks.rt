@@ -1,0 +1,80 @@
+//! The statements behind which a cell is to be kept.
+ghost use Rattle.std.specs.Prelude.{◌≡◌, ◌||◌, ℕ, All, IfOk};
+ghost use Rattle.std.specs.List.{list_any};
+ghost use Rattle.si_repair.specs.Gathering.{HasRead};
+ghost use Rattle.si_repair.specs.Promoting.{is_marked, is_at, reads_at, place_of};
+
+use prog_check::Path;
+use prog_paths::Question;
+use repair_laws::Pair;
+use std::alloc::AllocError;
+
+/// The statement of a number in the program of a number.
+#[derive(Clone, Copy, Debug, PartialEq, Eq)]
+pub struct Mark {
+    pub program: usize,
+    pub number: usize,
+}
+
+fn is_at(mark: &Mark, program: usize, number: usize) -> bool
+    ensures { result ≡ is_at program number mark.now }
+{
+    mark.program == program && mark.number == number
+}
+
+/// Whether a statement is one of those that are marked.
+pub fn is_marked(marks: &[Mark], program: usize, number: usize) -> bool
+    ensures { result ≡ is_marked marks.now program number }
+{
+    for mark in marks {
+        if is_at(mark, program, number) {
+            return true;
+        }
+    }
+    false
+}
+
+/// The marks with one more, unless it is there.
+fn with_mark(mut marks: Vec<Mark>, mark: Mark) -> Result<Vec<Mark>, AllocError>
+    ensures { IfOk result (λ more. (program number : ℕ)
+        → is_marked more.items program number
+        ≡ (is_marked marks.items program number || is_at program number mark)) }
+{
+    if is_marked(&marks, mark.program, mark.number) {
+        return Ok(marks);
+    }
+    marks.push(mark)?;
+    Ok(marks)
+}
+
+/// The number of the statement that asks a question.
+fn place_of(paths: &[Path], question: &Question) -> usize
+    requires { HasRead paths.now question.now }
+    ensures { result ≡ place_of paths.now question.now }
+{
+    paths[question.x].accesses.as_slice()[question.a].place
+}
+
+/// The marks with the statements of a pair's exposed reads.
+pub fn with_reads(
+    paths: &[Path],
+    pair: Pair,
+    questions: &[Question],
+    marks: Vec<Mark>,
+) -> Result<Vec<Mark>, AllocError>
+    requires { All (HasRead paths.now) questions.now }
+    ensures { IfOk result (λ more. (program number : ℕ)
+        → is_marked more.items program number
+        ≡ (is_marked marks.items program number
+        || list_any (reads_at paths.now pair program number) questions.now)) }
+{
+    let mut more = marks;
+    for question in questions {
+        let mark = Mark {
+            program: pair.from,
+            number: place_of(paths, question),
+        };
+        more = with_mark(more, mark)?;
+    }
+    Ok(more)
+}

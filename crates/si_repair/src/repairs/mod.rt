@@ -1,0 +1,18 @@
+//! Repairs of a set by a plan: both programs of a pair keep a row, or one keeps the rows it read.
+
+mod behind;
+mod checked;
+mod exposed;
+mod fault;
+mod front;
+mod keeps;
+mod key;
+mod marks;
+pub mod materialise;
+mod names;
+mod promotion;
+mod reads;
+
+pub use exposed::exposed_questions;
+pub use fault::RepairFault;
+pub use promotion::promote;

@@ -1,0 +1,92 @@
+//! Repairs by promotion: a program keeps the cell that it read.
+ghost use Rattle.std.specs.Prelude.{◌≡◌, length, IfOk, OnOk, IfErr, None};
+ghost use Rattle.prog_tree.specs.Tree.{draft_tree};
+ghost use Rattle.prog_check.specs.Paths.{paths_of};
+ghost use Rattle.prog_paths.specs.Asked.{questions_of};
+ghost use Rattle.prog_paths.specs.StaticGraph.{IsDangerous};
+ghost use Rattle.repair_laws.specs.Plans.{IsPlan};
+ghost use Rattle.repair_laws.specs.Promoted.{IsPromoted};
+ghost use Rattle.repair_laws.specs.Refusals.{StopsPromotion};
+ghost use Rattle.si_repair.specs.Exposing.{AreExposed, IsObstacle};
+ghost use Rattle.si_repair.specs.Promoting.{is_marked, IsObstacleFault, AddsReads};
+ghost use Rattle.si_repair.specs.Repairing.{KeepsAllMeaning, StopsNowhere, IsRepairFault};
+
+use crate::plans::Plan;
+use crate::repairs::behind::promoted_draft;
+use crate::repairs::checked::checked;
+use crate::repairs::exposed::exposed_questions;
+use crate::repairs::fault::RepairFault;
+use crate::repairs::marks::{Mark, with_reads};
+use crate::repairs::reads::{Obstacle, first_obstacle};
+use prog_check::{Path, ProgramSet};
+use prog_paths::{Question, paths};
+use prog_tree::Draft;
+use repair_laws::Pair;
+use std::alloc::Global;
+
+/// Refuses a pair with an exposed read that no keep covers.
+fn refuse_obstacle(
+    alloc: Global,
+    draft: &Draft,
+    paths: &[Path],
+    pair: Pair,
+    questions: &[Question],
+) -> Result<(), RepairFault>
+    requires paths { paths.now ≡ paths_of (draft_tree draft.now) }
+    requires exposed { AreExposed paths.now pair questions.now }
+    ensures passed { OnOk result (IsObstacle (draft_tree draft.now) pair None) }
+    ensures refused { IfErr result (λ fault. IsObstacleFault (draft_tree draft.now) pair fault) }
+{
+    match first_obstacle(alloc, draft, paths, pair, questions)? {
+        Some(Obstacle::RangeRead) => Err(RepairFault::RangeRead(pair)),
+        Some(Obstacle::UnknownKey) => Err(RepairFault::UnknownKey(pair)),
+        None => Ok(()),
+    }
+}
+
+/// The marks with the exposed reads of a pair, if keeps cover them all.
+fn with_pair(
+    alloc: Global,
+    draft: &Draft,
+    paths: &[Path],
+    pair: Pair,
+    marks: Vec<Mark>,
+) -> Result<Vec<Mark>, RepairFault>
+    requires { paths.now ≡ paths_of (draft_tree draft.now) }
+    ensures reads { IfOk result (λ more. AddsReads (paths_of (draft_tree draft.now)) pair
+        (is_marked marks.items) (is_marked more.items)) }
+    ensures passed { OnOk result (IsObstacle (draft_tree draft.now) pair None) }
+    ensures refused { IfErr result (λ fault. IsObstacleFault (draft_tree draft.now) pair fault) }
+{
+    let questions = exposed_questions(alloc, paths, pair)?;
+    refuse_obstacle(alloc, draft, paths, pair, &questions)?;
+    Ok(with_reads(paths, pair, &questions, marks)?)
+}
+
+/// The set in which the first program of each pair of a plan keeps, behind each of its reads that
+/// is exposed to the second, the cell that it read. The first pair that can't be is the fault's.
+pub fn promote(alloc: Global, set: &ProgramSet, plan: &Plan) -> Result<ProgramSet, RepairFault>
+    ensures made { IfOk result
+        (λ s. IsPromoted (draft_tree set.now) plan.now.pairs (draft_tree s)) }
+    ensures meaning { IfOk result (λ s. KeepsAllMeaning (draft_tree set.now) (draft_tree s)) }
+    ensures robust { IfOk result (λ s. IsPlan (paths_of (draft_tree set.now)) plan.now.pairs
+        → ¬ IsDangerous (paths_of (draft_tree s))) }
+    ensures questions { IfOk result (λ s. length (questions_of (paths_of (draft_tree s)))
+        ≡ length (questions_of (paths_of (draft_tree set.now)))) }
+    ensures goes { OnOk result (StopsNowhere
+        (StopsPromotion IsPromoted (draft_tree set.now) plan.now.pairs) plan.now.pairs) }
+    ensures refused { IfErr result (λ fault. IsRepairFault
+        (StopsPromotion IsPromoted (draft_tree set.now) plan.now.pairs) plan.now.pairs fault) }
+{
+    let draft = set.draft();
+    let paths = paths(alloc, set)?;
+    let mut marks = Vec::new(alloc);
+    let mut promoted = set.copy()?;
+    for pair in plan.pairs.as_slice() {
+        marks = with_pair(alloc, draft, &paths, *pair, marks)?;
+        // Each draft is made of the first one, whose statements the marks number.
+        let next = promoted_draft(alloc, draft, &marks)?;
+        promoted = checked(alloc, next, *pair)?;
+    }
+    Ok(promoted)
+}
