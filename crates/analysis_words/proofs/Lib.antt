@@ -1,2 +1,3 @@
 mod NoCertificate
+mod Parts
 mod Unsaid

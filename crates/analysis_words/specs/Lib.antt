@@ -1,3 +1,4 @@
 pub mod Nodes
 pub mod Refusing
+pub mod Repairs
 pub mod Saying

@@ -1,11 +1,17 @@
 //! What an analysis and the checker of its certificates find, in words, for people: faults of a certificate with the
-//! entry or the nodes that they are about, and the refusal of a set with its statements.
+//! entry or the nodes that they are about, the refusal of a set with its statements, and its repairs.
 #![tactic(auto)]
 
 mod certificate_faults;
+mod looks;
+mod pairs;
 mod pointed;
 mod refusal;
+mod repair;
+mod repair_faults;
 mod shown;
 
 pub use certificate_faults::{certificate_words, json_words};
 pub use refusal::refusal_words;
+pub use repair::repair_words;
+pub use repair_faults::repair_fault_words;

@@ -4,6 +4,7 @@ ghost use Rattle.prog_tree.specs.Tree.{draft_tree};
 ghost use Rattle.prog_check.specs.Paths.{paths_of};
 ghost use Rattle.analysis_words.specs.Refusing.{LacksDanger, LacksQuestion, ShowsDanger, ShowsQuestion};
 
+use crate::looks::has_unknown_key;
 use crate::pointed::point_at_access;
 use crate::shown::{Shown, access_place, cells_at, node_name};
 use dep_graph::{Danger, Exposure};
@@ -93,8 +94,8 @@ fn circle_text(alloc: Global, shown: Shown<'_>, danger: &Danger) -> Result<Strin
     Ok(text)
 }
 
-// What makes the two of a question clash: the first keeps the cell that it looks at, or where it
-// looks at a range, both keep one cell.
+// What makes the two of a question clash: the first keeps the cell that it looks at, or where that
+// is a range or its key has an unknown value, both keep one cell.
 fn repair(alloc: Global, shown: Shown<'_>, question: Question) -> Result<String, AllocError> {
     let reader = node_name(alloc, shown, question.x)?;
     let writer = node_name(alloc, shown, question.y)?;
@@ -102,7 +103,7 @@ fn repair(alloc: Global, shown: Shown<'_>, question: Question) -> Result<String,
         return format!(in alloc; "a cell that both {reader} and {writer} `keep`");
     };
     let cells = cells_at(shown.text, place);
-    if cells.contains("..") {
+    if cells.contains("..") || has_unknown_key(shown, &question) {
         return format!(in alloc;
             "one cell that stands for `{cells}`, which both {reader} and {writer} `keep`"
         );
@@ -118,7 +119,12 @@ fn advice(alloc: Global, shown: Shown<'_>, danger: &Danger) -> Result<String, Al
     let second = repair(alloc, shown, danger.second.question)?;
     let both = "the two of each pair can be under way at once: \
         no cell is sure to be changed or kept by both, so neither has to clash";
-    format!(in alloc; "{both}\nin a serial order {circle}\nwhat helps: {first}; or {second}\n")
+    let command =
+        "`sirob repair` does it for the whole set: by a row of a new table that both `keep`, \
+        or with `--promote` by a `keep` behind each look";
+    format!(in alloc;
+        "{both}\nin a serial order {circle}\nwhat helps: {first}; or {second}\n{command}\n"
+    )
 }
 
 // Both edges of a danger, and what follows.

@@ -1,0 +1,90 @@
+//! What a program looks at that another may change unseen.
+
+use crate::shown::{Shown, access_place, cells_at, node_name};
+use prog_check::{Access, Term};
+use prog_paths::Question;
+use std::alloc::{AllocError, Global};
+use text_places::{line_number, point_out};
+
+fn looking<'a>(shown: Shown<'a>, question: &Question) -> Option<&'a Access> {
+    let path = shown.paths.get(question.x)?;
+    path.accesses.as_slice().get(question.a)
+}
+
+/// A question for each statement that looks, the first one of it.
+pub fn first_of_each(
+    alloc: Global,
+    shown: Shown<'_>,
+    questions: &[Question],
+) -> Result<Vec<Question>, AllocError> {
+    let mut statements = Vec::new(alloc);
+    let mut firsts = Vec::new(alloc);
+    for question in questions {
+        let statement = looking(shown, question).map(|access| access.place);
+        if !statements.contains(&statement) {
+            statements.push(statement)?;
+            firsts.push(*question)?;
+        }
+    }
+    Ok(firsts)
+}
+
+/// The cells that the statement of a look names; nothing where it is not found.
+pub fn looked_at<'a>(
+    alloc: Global,
+    shown: Shown<'a>,
+    question: Question,
+) -> Result<&'a str, AllocError> {
+    match access_place(alloc, shown, question.x, question.a)? {
+        Some(place) => Ok(cells_at(shown.text, place)),
+        None => Ok(""),
+    }
+}
+
+fn is_unknown(term: Term) -> bool {
+    matches!(term, Term::Unknown(_))
+}
+
+/// Whether the key of a look is told by no parameters and numbers.
+pub fn has_unknown_key(shown: Shown<'_>, question: &Question) -> bool {
+    let Some(access) = looking(shown, question) else {
+        return false;
+    };
+    match access.second {
+        Some(column) => is_unknown(access.first.low) || is_unknown(column.low),
+        None => is_unknown(access.first.low),
+    }
+}
+
+/// Points at a look, with what to say of it and the line that changes what it looks at; nothing
+/// where one of the two is not found.
+pub fn look_words(
+    alloc: Global,
+    shown: Shown<'_>,
+    question: Question,
+    what: &str,
+) -> Result<String, AllocError> {
+    let Some(look) = access_place(alloc, shown, question.x, question.a)? else {
+        return Ok(String::new(alloc));
+    };
+    let Some(change) = access_place(alloc, shown, question.y, question.b)? else {
+        return Ok(String::new(alloc));
+    };
+    let line = line_number(shown.text, change);
+    let sentence = format!(in alloc; "{what} at what line {line} changes")?;
+    point_out(alloc, shown.text, look, &sentence)
+}
+
+/// Says of a question that may be none which of its node's statements looks.
+pub fn reason_words(
+    alloc: Global,
+    shown: Shown<'_>,
+    question: Option<&Question>,
+) -> Result<String, AllocError> {
+    let Some(question) = question else {
+        return Ok(String::new(alloc));
+    };
+    let name = node_name(alloc, shown, question.x)?;
+    let what = format!(in alloc; "{name} looks here")?;
+    look_words(alloc, shown, *question, &what)
+}

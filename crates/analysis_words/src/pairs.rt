@@ -1,0 +1,41 @@
+//! Sentences of the two programs of a pair.
+ghost use Rattle.std.specs.Prelude.{◌≡◌, IfOk, string_bytes};
+ghost use Rattle.prog_tree.specs.Tree.{draft_tree};
+ghost use Rattle.analysis_words.specs.Repairs.{NamesBoth, Says, quoted_name};
+
+use fault_words::program_name;
+use prog_check::ProgramSet;
+use si_repair::Pair;
+use std::alloc::{AllocError, Global};
+
+/// The name of a program between two backquotes.
+pub fn quoted_name(alloc: Global, set: &ProgramSet, program: usize) -> Result<String, AllocError>
+    ensures { IfOk result (λ name. string_bytes name ≡ quoted_name (draft_tree set.now) program) }
+{
+    let name = program_name(set, program);
+    format!(in alloc; "`{name}`")
+}
+
+// What stands before the second program's name, where it is the first's too.
+fn other(pair: Pair) -> &'static str {
+    if pair.from == pair.to { "another " } else { "" }
+}
+
+/// A sentence that begins with the first program, says something of the second, and goes on.
+pub fn pair_sentence(
+    alloc: Global,
+    set: &ProgramSet,
+    pair: Pair,
+    verb: &str,
+    rest: &str,
+) -> Result<String, AllocError>
+    ensures names { IfOk result (λ words.
+        NamesBoth (draft_tree set.now) (string_bytes words) pair) }
+    ensures rest { IfOk result (λ words. Says (string_bytes words) rest.now) }
+{
+    let first = quoted_name(alloc, set, pair.from)?;
+    let second = quoted_name(alloc, set, pair.to)?;
+    let other = other(pair);
+    let words = format!(in alloc; "{first} {verb} {other}{second}{rest}\n")?;
+    Ok(words)
+}

@@ -1,0 +1,136 @@
+//! Why a set is not repaired, in words.
+ghost use Rattle.std.specs.Prelude.{◌≡◌, IfNone, IfOk, IfSome, string_bytes};
+ghost use Rattle.prog_tree.specs.Tree.{draft_tree};
+ghost use Rattle.analysis_words.specs.Repairs.{NamesBoth, Says, SaysStop};
+ghost use Rattle.si_repair.specs.declared.repairs.fault.RepairFault.TheVariants as f;
+
+use crate::looks::{first_of_each, has_unknown_key, looked_at, reason_words};
+use crate::pairs::pair_sentence;
+use crate::shown::Shown;
+use prog_check::ProgramSet;
+use prog_paths::{Question, paths};
+use si_repair::{Pair, RepairFault, exposed_questions};
+use std::alloc::{AllocError, Global};
+
+// The first look at a range.
+fn range_look(
+    alloc: Global,
+    shown: Shown<'_>,
+    questions: &[Question],
+) -> Result<String, AllocError> {
+    let firsts = first_of_each(alloc, shown, questions)?;
+    for question in &firsts {
+        let cells = looked_at(alloc, shown, *question)?;
+        if cells.contains("..") {
+            return reason_words(alloc, shown, Some(question));
+        }
+    }
+    Ok(String::new(alloc))
+}
+
+// The first look under a key that no parameters and numbers tell.
+fn unknown_look(
+    alloc: Global,
+    shown: Shown<'_>,
+    questions: &[Question],
+) -> Result<String, AllocError> {
+    let found = questions
+        .iter()
+        .find(|question| has_unknown_key(shown, question));
+    reason_words(alloc, shown, found)
+}
+
+// The pair that can't be promoted for a look at a range.
+fn range_words(
+    alloc: Global,
+    text: &[u8],
+    set: &ProgramSet,
+    pair: Pair,
+) -> Result<String, AllocError>
+    ensures { IfOk result (λ words. SaysStop (draft_tree set.now) (f.RangeRead pair)
+        (string_bytes words)) }
+{
+    let sentence = pair_sentence(
+        alloc,
+        set,
+        pair,
+        "looks at a range that can be changed by",
+        "; no `keep` covers a range: repair without `--promote`",
+    )?;
+    let paths = paths(alloc, set)?;
+    let questions = exposed_questions(alloc, &paths, pair)?;
+    let shown = Shown {
+        text,
+        set,
+        paths: &paths,
+    };
+    let look = range_look(alloc, shown, &questions)?;
+    let words = format!(in alloc; "{sentence}{look}")?;
+    Ok(words)
+}
+
+// The pair that can't be promoted for a look under a key of unknown value.
+fn unknown_words(
+    alloc: Global,
+    text: &[u8],
+    set: &ProgramSet,
+    pair: Pair,
+) -> Result<String, AllocError>
+    ensures { IfOk result (λ words. SaysStop (draft_tree set.now) (f.UnknownKey pair)
+        (string_bytes words)) }
+{
+    let sentence = pair_sentence(
+        alloc,
+        set,
+        pair,
+        "looks at a row that can be changed by",
+        ", and no parameters and numbers tell its key: repair without `--promote`",
+    )?;
+    let paths = paths(alloc, set)?;
+    let questions = exposed_questions(alloc, &paths, pair)?;
+    let shown = Shown {
+        text,
+        set,
+        paths: &paths,
+    };
+    let look = unknown_look(alloc, shown, &questions)?;
+    let words = format!(in alloc; "{sentence}{look}")?;
+    Ok(words)
+}
+
+// The pair with whose statements the set is above a limit.
+fn limit_words(alloc: Global, set: &ProgramSet, pair: Pair) -> Result<String, AllocError>
+    ensures { IfOk result (λ words. SaysStop (draft_tree set.now) (f.TooMany pair)
+        (string_bytes words)) }
+{
+    let sentence = pair_sentence(
+        alloc,
+        set,
+        pair,
+        "has to be kept apart from",
+        ", and with the statements for that the set is above a limit: 64 tables, \
+        256 statements of a program, 24 accesses on a way through it; have fewer programs, \
+        or merge some",
+    )?;
+    Ok(sentence)
+}
+
+/// Why a plan is not carried out, by the two programs of the pair that stops it, and what to do.
+pub fn repair_fault_words(
+    alloc: Global,
+    text: &[u8],
+    set: &ProgramSet,
+    fault: RepairFault,
+) -> Result<Option<String>, AllocError>
+    ensures said { IfOk result (λ said. IfSome said (λ words.
+        SaysStop (draft_tree set.now) fault (string_bytes words))) }
+    ensures none { IfOk result (λ said. IfNone said (fault ≡ f.Memory)) }
+{
+    let words = match fault {
+        RepairFault::RangeRead(pair) => range_words(alloc, text, set, pair)?,
+        RepairFault::UnknownKey(pair) => unknown_words(alloc, text, set, pair)?,
+        RepairFault::TooMany(pair) => limit_words(alloc, set, pair)?,
+        RepairFault::Memory => return Ok(None),
+    };
+    Ok(Some(words))
+}
