@@ -1,4 +1,5 @@
-//! Analyses of sets, from their texts to the texts of certificates.
+//! Analyses and repairs of sets, from their texts to the texts of certificates and of repaired sets.
 
 mod certify_tests;
+mod repair_tests;
 mod sets;

@@ -3,4 +3,5 @@
 mod device_tests;
 mod event_tests;
 mod fakes;
+mod line_tests;
 mod record_tests;
