@@ -30,7 +30,7 @@ use Rattle.si_engine.specs.Script.{script_of}
 use Rattle.si_engine.specs.Writing.{AppendsFront, WritesOr}
 use Rattle.si_engine.specs.Writing as w
 use Rattle.sirob.specs.declared.command_line.Mode.{Mode}
-use Rattle.sirob.specs.declared.command_line.Mode.TheVariants.{Check, Certify, Verify, Run, Audit}
+use Rattle.sirob.specs.declared.command_line.Mode.TheVariants.{Check, Certify, Verify, Repair, Run, Audit}
 use Rattle.sirob.specs.declared.run_fault.RunFault.{RunFault}
 use Rattle.sirob.specs.declared.run_fault.RunFault.TheVariants as fault
 use Rattle.sirob.specs.declared.status.Status.{Status}
@@ -39,7 +39,7 @@ use Rattle.sirob.specs.FaultLines.{fault_line, is_memory}
 use Rattle.sirob.specs.Output.{parts_wanted, Gives, GivesPart, GivesFirstPart, HasSet, MayEnd, MayRun, IsAudited, IsChecked, IsRefused, IsRefusedInput, IsRefusedPart, StopsBehind, at_once, behind_lines, memory_line, IsAnswer, done, refused, stopped, IsUnread, IsReply, Writes}
 use Rattle.sirob.specs.Output as u
 use Rattle.sirob.specs.Status.{status_of}
-use Rattle.sirob.specs.Stops.{IsUnanalysedBy, IsStop, IsReadFault, Ends, well, in_fault, in_memory, IsJust, IsSetAndPart, IsPartStop, IsPartDone, IsInputDone, IsSourceDone, as_command, write_lost}
+use Rattle.sirob.specs.Stops.{IsUnanalysedBy, IsUnrepairedBy, IsStop, IsReadFault, Ends, well, in_fault, in_memory, IsJust, IsSetAndPart, IsPartStop, IsPartDone, IsInputDone, IsSourceDone, as_command, write_lost}
 
 -- ---- how reading an input stops
 
@@ -75,6 +75,7 @@ refused_input mode wanted input (fault.Parts f) is wrong = subst (λ (n : ℕ). 
 refused_input mode wanted input (fault.Text f) is wrong = subst (λ (n : ℕ). IsRefusedInput n input (fault.Text f)) (sym is) wrong
 refused_input mode wanted input (fault.Check f) is wrong = subst (λ (n : ℕ). IsRefusedInput n input (fault.Check f)) (sym is) wrong
 refused_input mode wanted input (fault.Analysis f) is (text, others, divided, count, wrong) = absurd wrong
+refused_input mode wanted input (fault.Repair f) is (text, others, divided, count, wrong) = absurd wrong
 refused_input mode wanted input (fault.Json f) is (text, others, divided, count, wrong) = absurd wrong
 refused_input mode wanted input (fault.Certificate f) is (text, others, divided, count, wrong) = absurd wrong
 refused_input mode wanted input (fault.Script f) is (text, others, divided, count, wrong) = absurd wrong
@@ -84,6 +85,7 @@ refused_input mode wanted input (fault.Audit f) is (text, others, divided, count
 pub set_refused : (input : List ℕ) (set : DraftTree) → IsChecked input set → (f : RunFault) → IsUnanalysedBy set f → IsRefused Certify input f
 set_refused input set checked (fault.Analysis f) wrong =
     (tt, set, record { text = checked.text; others = []; divided = checked.divided; count = refl; spelled = checked.spelled }, wrong)
+set_refused input set checked (fault.Repair f) wrong = absurd wrong
 set_refused input set checked (fault.Json f) wrong = absurd wrong
 set_refused input set checked (fault.Certificate f) wrong = absurd wrong
 set_refused input set checked (fault.Script f) wrong = absurd wrong
@@ -96,6 +98,7 @@ set_refused input set checked (fault.Check f) wrong = absurd wrong
 -- and so it is where a script stands behind it
 pub script_refused : (set : DraftTree) (part : List ℕ) (f : RunFault) → IsUnanalysedBy set f → IsRefusedPart (Run true) set part f
 script_refused set part (fault.Analysis f) wrong = (refl, wrong)
+script_refused set part (fault.Repair f) wrong = absurd wrong
 script_refused set part (fault.Json f) wrong = absurd wrong
 script_refused set part (fault.Certificate f) wrong = absurd wrong
 script_refused set part (fault.Script f) wrong = absurd wrong
@@ -105,9 +108,24 @@ script_refused set part (fault.Parts f) wrong = absurd wrong
 script_refused set part (fault.Text f) wrong = absurd wrong
 script_refused set part (fault.Check f) wrong = absurd wrong
 
+-- nor is one that is not repaired
+pub repair_refused : (promote : Bool) (input : List ℕ) (set : DraftTree) → IsChecked input set → (f : RunFault) → IsUnrepairedBy promote set f
+    → IsRefused (Repair promote) input f
+repair_refused promote input set checked (fault.Analysis f) wrong =
+    (tt, set, record { text = checked.text; others = []; divided = checked.divided; count = refl; spelled = checked.spelled }, wrong)
+repair_refused promote input set checked (fault.Repair f) wrong = (set, checked, wrong)
+repair_refused promote input set checked (fault.Json f) wrong = absurd wrong
+repair_refused promote input set checked (fault.Certificate f) wrong = absurd wrong
+repair_refused promote input set checked (fault.Script f) wrong = absurd wrong
+repair_refused promote input set checked (fault.Audit f) wrong = absurd wrong
+repair_refused promote input set checked (fault.Input f) wrong = absurd wrong
+repair_refused promote input set checked (fault.Parts f) wrong = absurd wrong
+repair_refused promote input set checked (fault.Text f) wrong = absurd wrong
+repair_refused promote input set checked (fault.Check f) wrong = absurd wrong
+
 -- the canonical text could not be made
-pub stops_printing : (input : List ℕ) → IsStop Check input (fault.Input i.Memory) []
-stops_printing input = ((λ no_memory. absurd (cc)), (λ memory. at_once))
+pub stops_printing : (mode : Mode) (input : List ℕ) → IsStop mode input (fault.Input i.Memory) []
+stops_printing mode input = ((λ no_memory. absurd (cc)), (λ memory. at_once))
 
 -- ---- how a second part ends
 
@@ -220,6 +238,7 @@ part_given : (mode : Mode) (input : List ℕ) (set : DraftTree) (part : List ℕ
 part_given Check input set part has ended written gives = absurd gives
 part_given Certify input set part has ended written gives = absurd gives
 part_given Verify input set part has ended written gives = (set, part, has.has, gives)
+part_given (Repair promote) input set part has ended written gives = absurd gives
 part_given (Run robust) input set part has ended written gives = (set, part, has.has, gives)
 part_given Audit input set part has ended written gives = (set, part, has.has, gives)
 
@@ -231,6 +250,7 @@ set_of_part input set part wanted two has =
 part_refused : (mode : Mode) (input : List ℕ) (set : DraftTree) (part : List ℕ) → parts_wanted mode ≡ 2 → IsSetAndPart input set part
     → (f : RunFault) → IsRefusedPart mode set part f → IsRefused mode input f
 part_refused mode input set part two has (fault.Analysis f) wrong = (wrong.0, set, set_of_part input set part (parts_wanted mode) two has, wrong.1)
+part_refused mode input set part two has (fault.Repair f) wrong = absurd wrong
 part_refused mode input set part two has (fault.Json f) wrong = (set, part, has.has, wrong)
 part_refused mode input set part two has (fault.Certificate f) wrong = (set, part, has.has, wrong)
 part_refused mode input set part two has (fault.Script f) wrong = (set, part, has.has, wrong)

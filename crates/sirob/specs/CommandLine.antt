@@ -6,7 +6,7 @@ use Rattle.clap.specs.Walk.{Rule, Row, Text, first_of}
 use Rattle.clap.specs.Simple.{App, Shape, new_shape, new_rule, with_subcommand}
 use Rattle.clap.specs.declared.builder.action.ArgAction.TheVariants.{SetTrue}
 use Rattle.sirob.specs.declared.command_line.Mode.{Mode}
-use Rattle.sirob.specs.declared.command_line.Mode.TheVariants.{Check, Certify, Verify, Run, Audit}
+use Rattle.sirob.specs.declared.command_line.Mode.TheVariants.{Check, Certify, Verify, Repair, Run, Audit}
 
 -- a subcommand with these arguments
 abbrev pub command_with : Text → List Rule → Shape
@@ -15,6 +15,9 @@ command_with name rules = record (new_shape name) { rules = rules }
 -- an argument that is on where its word stands
 abbrev pub flag_rule : Text → Rule
 flag_rule name = record (new_rule name) { long = Some name; action = Some SetTrue }
+
+abbrev pub repair_shape : Shape
+repair_shape = command_with (codes "repair") (flag_rule (codes "promote") ∷ [])
 
 abbrev pub run_shape : Shape
 run_shape = command_with (codes "run") (flag_rule (codes "robust") ∷ [])
@@ -29,7 +32,8 @@ sirob_app =
     let with_check = with_subcommand top_app (command_with (codes "check") []) in
     let with_certify = with_subcommand with_check (command_with (codes "certify") []) in
     let with_verify = with_subcommand with_certify (command_with (codes "verify") []) in
-    let with_run = with_subcommand with_verify run_shape in
+    let with_repair = with_subcommand with_verify repair_shape in
+    let with_run = with_subcommand with_repair run_shape in
     with_subcommand with_run (command_with (codes "audit") [])
 
 -- the name of the subcommand
@@ -54,6 +58,8 @@ abbrev pub IsNamedBy : Mode → Option (Text × List Row) → Type 0
 IsNamedBy Check command = name_in command ≡ Some (codes "check")
 IsNamedBy Certify command = name_in command ≡ Some (codes "certify")
 IsNamedBy Verify command = name_in command ≡ Some (codes "verify")
+IsNamedBy (Repair promote) command =
+    (name_in command ≡ Some (codes "repair")) × (promote ≡ flag_in (codes "promote") command)
 IsNamedBy (Run robust) command = (name_in command ≡ Some (codes "run")) × (robust ≡ flag_in (codes "robust") command)
 IsNamedBy Audit command = name_in command ≡ Some (codes "audit")
 

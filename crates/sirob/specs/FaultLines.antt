@@ -8,7 +8,7 @@ use Rattle.prog_check.specs.declared.fault.CheckFault.TheVariants as c
 use Rattle.prog_text.specs.declared.fault.TextFault.{TextFault}
 use Rattle.prog_text.specs.declared.fault.TextFault.TheVariants as t
 use Rattle.sirob.specs.declared.run_fault.RunFault.{RunFault}
-use Rattle.sirob.specs.declared.run_fault.RunFault.TheVariants.{Input, Parts, Text, Check, Analysis, Json, Certificate, Script, Audit}
+use Rattle.sirob.specs.declared.run_fault.RunFault.TheVariants.{Input, Parts, Text, Check, Analysis, Repair, Json, Certificate, Script, Audit}
 use Rattle.history_book.specs.declared.audit.AuditFault.{AuditFault}
 use Rattle.history_book.specs.declared.audit.AuditFault.TheVariants as a
 use Rattle.history_book.specs.declared.audit.RowFault.{RowFault}
@@ -19,6 +19,9 @@ use Rattle.robust_cert.specs.declared.fault.JsonFault.{JsonFault}
 use Rattle.robust_cert.specs.declared.fault.JsonFault.TheVariants as j
 use Rattle.si_repair.specs.declared.fault.AnalyseFault.{AnalyseFault}
 use Rattle.si_repair.specs.declared.fault.AnalyseFault.TheVariants as q
+use Rattle.si_repair.specs.declared.repairs.fault.RepairFault.{RepairFault}
+use Rattle.si_repair.specs.declared.repairs.fault.RepairFault.TheVariants as u
+use Rattle.repair_laws.specs.declared.plan.Pair.{Pair}
 use Rattle.si_engine.specs.declared.input.script_fault.ScriptFault.{ScriptFault}
 use Rattle.si_engine.specs.declared.input.script_fault.ScriptFault.TheVariants as script
 use Rattle.si_engine.specs.declared.input.script_fault.LineFault.{LineFault}
@@ -68,15 +71,25 @@ abbrev pub analyse_fault : AnalyseFault → List ℕ
 analyse_fault q.TooLarge = codes "Q1"
 analyse_fault q.Memory = codes "memory"
 
+-- a number behind a space
+abbrev pub spaced : ℕ → List ℕ
+spaced n = codes " " ++ decimal n
+
+-- a code and a pair of programs
+abbrev pub of_pair : List ℕ → Pair → List ℕ
+of_pair code pair = code ++ (spaced pair.from ++ spaced pair.to)
+
+abbrev pub repair_fault : RepairFault → List ℕ
+repair_fault (u.RangeRead pair) = of_pair (codes "U1") pair
+repair_fault (u.UnknownKey pair) = of_pair (codes "U2") pair
+repair_fault (u.TooMany pair) = of_pair (codes "U3") pair
+repair_fault u.Memory = codes "memory"
+
 abbrev pub json_fault : JsonFault → List ℕ
 json_fault j.NotJson = codes "J1"
 json_fault j.WrongShape = codes "J2"
 json_fault j.WrongVersion = codes "J3"
 json_fault j.Memory = codes "memory"
-
--- a number behind a space
-abbrev pub spaced : ℕ → List ℕ
-spaced n = codes " " ++ decimal n
 
 -- a code, and the entry from 0, or the nodes
 abbrev pub certificate_fault : CertFault → List ℕ
@@ -129,6 +142,7 @@ fault_text (Parts fault) = part_code fault
 fault_text (Text fault) = text_fault fault
 fault_text (Check fault) = check_fault fault
 fault_text (Analysis fault) = analyse_fault fault
+fault_text (Repair fault) = repair_fault fault
 fault_text (Json fault) = json_fault fault
 fault_text (Certificate fault) = certificate_fault fault
 fault_text (Script fault) = script_fault fault
@@ -144,6 +158,7 @@ is_memory (Input i.Memory) = true
 is_memory (Text t.Memory) = true
 is_memory (Check c.Memory) = true
 is_memory (Analysis q.Memory) = true
+is_memory (Repair u.Memory) = true
 is_memory (Json j.Memory) = true
 is_memory (Certificate k.Memory) = true
 is_memory (Script (script.Input i.Memory)) = true

@@ -7,6 +7,12 @@ use Rattle.prog_text.specs.Canonical.{canonical}
 use Rattle.prog_check.specs.Faults.{first_fault}
 use Rattle.prog_check.specs.Paths.{paths_of}
 use Rattle.prog_paths.specs.Asked.{questions_of, limit}
+use Rattle.prog_paths.specs.StaticGraph.{IsDangerous}
+use Rattle.repair_laws.specs.declared.plan.Pair.{Pair}
+use Rattle.repair_laws.specs.Materialised.{IsMaterialised}
+use Rattle.repair_laws.specs.Plans.{IsPlan}
+use Rattle.repair_laws.specs.Promoted.{IsPromoted}
+use Rattle.repair_laws.specs.Refusals.{Reason, StopsMaterialising, StopsPromotion}
 use Rattle.dep_graph.specs.declared.danger.Danger.{Danger}
 use Rattle.dep_graph.specs.Danger.{IsLeastDanger}
 use Rattle.robust_cert.specs.declared.certificate.Certificate.{Certificate}
@@ -16,7 +22,9 @@ use Rattle.robust_cert.specs.Reading.{HasFault, IsTextOf}
 use Rattle.robust_cert.specs.Refused.{IsFirstFault}
 use Rattle.si_repair.specs.declared.fault.AnalyseFault.{AnalyseFault}
 use Rattle.si_repair.specs.declared.fault.AnalyseFault.TheVariants as analyse_fault
+use Rattle.si_repair.specs.declared.repairs.fault.RepairFault.{RepairFault}
 use Rattle.si_repair.specs.Findings.{IsCertificateOf}
+use Rattle.si_repair.specs.Repairing.{IsRepairFault, KeepsAllMeaning, StopsNowhere}
 use Rattle.history_book.specs.Audit.{IsAuditFault}
 use Rattle.history_book.specs.History.{IsLawful}
 use Rattle.history_book.specs.TrueBook.{IsTrueRow}
@@ -34,7 +42,7 @@ use Rattle.si_engine.specs.Runs.{run_lines, end_lines, AddsFirst, AddsEnd, AddsR
 use Rattle.si_engine.specs.Script.{script_of}
 use Rattle.si_engine.specs.Writing.{AppendsFront}
 use Rattle.sirob.specs.declared.command_line.Mode.{Mode}
-use Rattle.sirob.specs.declared.command_line.Mode.TheVariants.{Check, Certify, Verify, Run, Audit}
+use Rattle.sirob.specs.declared.command_line.Mode.TheVariants.{Check, Certify, Verify, Repair, Run, Audit}
 use Rattle.sirob.specs.declared.parts.PartFault.TheVariants as part_fault
 use Rattle.sirob.specs.declared.run_fault.RunFault.{RunFault}
 use Rattle.sirob.specs.declared.run_fault.RunFault.TheVariants as fault
@@ -52,6 +60,7 @@ abbrev pub parts_wanted : Mode → ℕ
 parts_wanted Check = 1
 parts_wanted Certify = 1
 parts_wanted Verify = 2
+parts_wanted (Repair promote) = 1
 parts_wanted (Run robust) = 2
 parts_wanted Audit = 2
 
@@ -102,6 +111,35 @@ pub record IsAudited (set : DraftTree) (part : List ℕ) (records : Records) : T
 abbrev pub audit_lines : DraftTree → Records → List (List ℕ)
 audit_lines set records = end_lines set records.rows (history_of records.records)
 
+-- ---- repairs
+
+-- what a plan makes of the set: keeps of what its programs read, or of rows of new tables
+abbrev pub IsRepairBy : (promote : Bool) → DraftTree → List Pair → DraftTree → Type 0
+IsRepairBy true = IsPromoted
+IsRepairBy false = IsMaterialised
+
+-- why the pair at a place of a plan stops it
+abbrev pub StopsRepair : (promote : Bool) → DraftTree → List Pair → ℕ → Pair → Reason → Type 0
+StopsRepair true = StopsPromotion IsPromoted
+StopsRepair false = StopsMaterialising IsMaterialised
+
+-- the set's plan, and what it makes of the set: a robust set whose programs mean the same
+pub record IsRepaired (promote : Bool) (set repaired : DraftTree) : Type 0 where
+  pub few : AsksFew set
+  pub plan : List Pair
+  pub planned : IsPlan (paths_of set) plan
+  pub clear : StopsNowhere (StopsRepair promote set plan) plan
+  pub made : IsRepairBy promote set plan repaired
+  pub robust : ¬ IsDangerous (paths_of repaired)
+  pub meaning : KeepsAllMeaning set repaired
+
+-- the set is analysed, but a pair of its plan stops the repair
+pub record IsUnrepaired (promote : Bool) (set : DraftTree) (f : RepairFault) : Type 0 where
+  pub few : AsksFew set
+  pub plan : List Pair
+  pub planned : IsPlan (paths_of set) plan
+  pub wrong : IsRepairFault (StopsRepair promote set plan) plan f
+
 -- ---- the faults of an input
 
 -- the text spells no set without a fault, and this is its first
@@ -130,6 +168,7 @@ IsUnanalysed set analyse_fault.Memory = ⊥
 -- the set is analysed for a command, before its second part is looked at
 abbrev pub IsAnalysedFor : Mode → Type 0
 IsAnalysedFor Certify = Unit {0}
+IsAnalysedFor (Repair promote) = Unit {0}
 IsAnalysedFor (Run robust) = robust ≡ true
 IsAnalysedFor mode = ⊥
 
@@ -171,9 +210,15 @@ abbrev pub IsRefusedSet : Mode → List ℕ → AnalyseFault → Type 0
 IsRefusedSet mode input f =
     IsAnalysedFor mode × (set : DraftTree) × HasSet (parts_wanted mode) input set × IsUnanalysed set f
 
+-- the input has a set that is not repaired, though the command asks for it
+abbrev pub IsRefusedRepair : Mode → List ℕ → RepairFault → Type 0
+IsRefusedRepair (Repair promote) input f = (set : DraftTree) × IsChecked input set × IsUnrepaired promote set f
+IsRefusedRepair mode input f = ⊥
+
 -- the first fault of an input
 abbrev pub IsRefused : Mode → List ℕ → RunFault → Type 0
 IsRefused mode input (fault.Analysis f) = IsRefusedSet mode input f
+IsRefused mode input (fault.Repair f) = IsRefusedRepair mode input f
 IsRefused mode input (fault.Json f) = IsRefusedByPart mode input (fault.Json f)
 IsRefused mode input (fault.Certificate f) = IsRefusedByPart mode input (fault.Certificate f)
 IsRefused mode input (fault.Script f) = IsRefusedByPart mode input (fault.Script f)
@@ -201,6 +246,14 @@ pub record GivesRefusal (set : DraftTree) (written : List ℕ) (ended : Status) 
 -- what an analysis of the set finds
 abbrev pub GivesFinding : DraftTree → List ℕ → Status → Type 0
 GivesFinding set written status = GivesCertificate set written status ⊎ GivesRefusal set written status
+
+-- the canonical text of the repaired set, which has no fault
+pub record GivesRepaired (promote : Bool) (set : DraftTree) (written : List ℕ) (ended : Status) : Type 0 where
+  pub repaired : DraftTree
+  pub made : IsRepaired promote set repaired
+  pub sound : first_fault repaired ≡ None
+  pub text : written ≡ canonical repaired
+  pub status : ended ≡ Done
 
 -- the part is a certificate that is accepted for the set
 pub record ShowsRobust (set : DraftTree) (part : List ℕ) : Type 0 where
@@ -249,11 +302,13 @@ GivesByPart mode input written status =
     (set : DraftTree) × (part : List ℕ) × HasPart input set part × GivesPart mode set part written status
 
 -- all that the input means was written, and this is the status behind it: the canonical text, what an analysis finds,
--- or what its part means
+-- the repaired set, or what its part means
 abbrev pub Gives : Mode → List ℕ → List ℕ → Status → Type 0
 Gives Check input written status =
     (set : DraftTree) × IsChecked input set × (written ≡ canonical set) × (status ≡ Done)
 Gives Certify input written status = (set : DraftTree) × IsChecked input set × GivesFinding set written status
+Gives (Repair promote) input written status =
+    (set : DraftTree) × IsChecked input set × GivesRepaired promote set written status
 Gives mode input written status = GivesByPart mode input written status
 
 -- some first lines of it were written

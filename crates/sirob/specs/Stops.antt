@@ -16,7 +16,7 @@ use Rattle.sirob.specs.declared.run_fault.RunFault.TheVariants as fault
 use Rattle.sirob.specs.declared.status.Status.{Status}
 use Rattle.sirob.specs.declared.status.Status.TheVariants.{Unserializable, Faulty, Memory}
 use Rattle.sirob.specs.FaultLines.{fault_line, is_memory}
-use Rattle.sirob.specs.Output.{HasPart, Gives, GivesPart, GivesFirstPart, GivesRefusal, IsRobust, IsUnanalysed, IsRefused, IsRefusedPart, StopsBehind, memory_line}
+use Rattle.sirob.specs.Output.{HasPart, Gives, GivesPart, GivesFirstPart, GivesRefusal, IsRobust, IsUnanalysed, IsUnrepaired, IsRefused, IsRefusedPart, StopsBehind, memory_line}
 use Rattle.sirob.specs.Status.{status_of}
 
 -- these bytes and this status
@@ -33,6 +33,12 @@ write_lost = fault.Script script_fault.WriteFault
 abbrev pub IsUnanalysedBy : DraftTree → RunFault → Type 0
 IsUnanalysedBy set (fault.Analysis f) = IsUnanalysed set f
 IsUnanalysedBy set f = ⊥
+
+-- the set is not analysed or not repaired, and this is the fault that says so
+abbrev pub IsUnrepairedBy : (promote : Bool) → DraftTree → RunFault → Type 0
+IsUnrepairedBy promote set (fault.Analysis f) = IsUnanalysed set f
+IsUnrepairedBy promote set (fault.Repair f) = IsUnrepaired promote set f
+IsUnrepairedBy promote set f = ⊥
 
 -- the set was found robust, or is refused by a text
 abbrev pub IsVerified : Draft → Verified → Type 0

@@ -1,9 +1,9 @@
-//! The text of faults of an analysis and of certificates.
+//! The text of faults of an analysis, of repairs and of certificates.
 ghost use Rattle.std.specs.Prelude.{◌≡◌, IfOk, string_bytes};
-ghost use Rattle.sirob.specs.FaultLines.{analyse_fault, json_fault, certificate_fault};
+ghost use Rattle.sirob.specs.FaultLines.{analyse_fault, repair_fault, json_fault, certificate_fault};
 
 use robust_cert::{CertFault, JsonFault};
-use si_repair::AnalyseFault;
+use si_repair::{AnalyseFault, Pair, RepairFault};
 use std::alloc::{AllocError, Global};
 
 pub fn analyse_fault(alloc: Global, fault: AnalyseFault) -> Result<String, AllocError>
@@ -12,6 +12,18 @@ pub fn analyse_fault(alloc: Global, fault: AnalyseFault) -> Result<String, Alloc
     match fault {
         AnalyseFault::TooLarge => format!(in alloc; "Q1"),
         AnalyseFault::Memory => format!(in alloc; "memory"),
+    }
+}
+
+/// Why a set is not repaired, by the pair of programs that stops it.
+pub fn repair_fault(alloc: Global, fault: RepairFault) -> Result<String, AllocError>
+    ensures { IfOk result (λ text. string_bytes text ≡ repair_fault fault) }
+{
+    match fault {
+        RepairFault::RangeRead(Pair { from, to }) => format!(in alloc; "U1 {from} {to}"),
+        RepairFault::UnknownKey(Pair { from, to }) => format!(in alloc; "U2 {from} {to}"),
+        RepairFault::TooMany(Pair { from, to }) => format!(in alloc; "U3 {from} {to}"),
+        RepairFault::Memory => format!(in alloc; "memory"),
     }
 }
 

@@ -2,7 +2,7 @@
 ghost use Rattle.std.specs.Prelude.{◌≡◌, false, IfOk, [], ◌∷◌, map, option_map, string_bytes};
 ghost use Rattle.clap.specs.Words.{app_of, shape_of, rows_of, rule_of, found_of, with_subcommand, subcommand_of, subcommand_rows_of, fault_of, FailsBy};
 ghost use Rattle.clap.specs.declared.builder.command.Command.TheViews.{out-Command as fields_of};
-ghost use Rattle.sirob.specs.CommandLine.{sirob_app, top_app, command_with, flag_rule, run_shape, is_true, has_flag, IsNamedBy, NamesMode};
+ghost use Rattle.sirob.specs.CommandLine.{sirob_app, top_app, command_with, flag_rule, repair_shape, run_shape, is_true, has_flag, IsNamedBy, NamesMode};
 
 use clap::{Arg, ArgAction, ArgMatches, Command, Error};
 use std::alloc::{AllocError, Global};
@@ -13,6 +13,7 @@ pub enum Mode {
     Check,
     Certify,
     Verify,
+    Repair { promote: bool },
     Run { robust: bool },
     Audit,
 }
@@ -34,6 +35,24 @@ fn flag<'a>(alloc: Global, name: &'a str, help: &'a str) -> Arg<'a>
         .long(name)
         .action(ArgAction::SetTrue)
         .help(help)
+}
+
+// The command `repair`, which may promote reads.
+fn repair<'a>(alloc: Global) -> Result<Command<'a>, AllocError>
+    ensures shape { IfOk result (λ c. shape_of c ≡ repair_shape) }
+    ensures local { IfOk result (λ c. (fields_of c).has_globals ≡ false) }
+{
+    let promote = flag(
+        alloc,
+        "promote",
+        "Adds no table, and keeps the cells that were read",
+    );
+    plain(
+        alloc,
+        "repair",
+        "Reads a set of programs; writes the canonical text of a robust set whose programs mean the same",
+    )
+    .arg(promote)
 }
 
 // The command `run`, which may ask for a robust set.
@@ -60,7 +79,7 @@ fn top<'a>(alloc: Global) -> Result<Command<'a>, AllocError>
 {
     Command::new(alloc, "sirob")
         .about(
-            "Checks, certifies, runs and audits transaction programs under snapshot isolation, from standard input to standard output",
+            "Checks, certifies, repairs, runs and audits transaction programs under snapshot isolation, from standard input to standard output",
         )
         .subcommand_required(true)
         .bin_name("sirob")
@@ -92,6 +111,7 @@ fn command<'a>(alloc: Global) -> Result<Command<'a>, AllocError>
         "verify",
         "Reads a set of programs, a line %% and a certificate; writes that the set is robust, or the certificate's first fault",
     );
+    let repair = repair(alloc)?;
     let run = run(alloc)?;
     let audit = plain(
         alloc,
@@ -102,6 +122,7 @@ fn command<'a>(alloc: Global) -> Result<Command<'a>, AllocError>
     let all = add(all, check)?;
     let all = add(all, certify)?;
     let all = add(all, verify)?;
+    let all = add(all, repair)?;
     let all = add(all, run)?;
     let all = add(all, audit)?;
     Ok(all)
@@ -146,6 +167,11 @@ fn mode_in(matches: &ArgMatches<'_>) -> Mode
     }
     if matches.subcommand_matches("verify").is_some() {
         return Mode::Verify;
+    }
+    if let Some(repair) = matches.subcommand_matches("repair") {
+        return Mode::Repair {
+            promote: has_flag(repair, "promote"),
+        };
     }
     if let Some(run) = matches.subcommand_matches("run") {
         return Mode::Run {

@@ -1,5 +1,5 @@
-//! The program `sirob`: hands its arguments and its ports on. Today it checks and certifies sets
-//! of programs, runs scripts and audits histories.
+//! The program `sirob`: hands its arguments and its ports on. Today it checks, certifies and
+//! repairs sets of programs, runs scripts and audits histories.
 #![tactic(auto)]
 
 mod analysis_fault;

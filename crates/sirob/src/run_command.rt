@@ -10,6 +10,7 @@ use crate::command_line::Mode;
 use crate::commands::audit::audit_part;
 use crate::commands::certify::certify_input;
 use crate::commands::check::check_input;
+use crate::commands::repair::repair_input;
 use crate::commands::run::{run_part, run_robust_part};
 use crate::commands::verify::verify_part;
 use crate::input::read_text_and_part;
@@ -37,7 +38,7 @@ fn part_input<K: Sink>(
 {
     let (set, part) = read_text_and_part(alloc, input)?;
     match mode {
-        Mode::Check | Mode::Certify => unreachable!(),
+        Mode::Check | Mode::Certify | Mode::Repair { .. } => unreachable!(),
         Mode::Verify => verify_part(alloc, set, part, sink),
         Mode::Run { robust: false } => run_part(alloc, &set, part, sink),
         Mode::Run { robust: true } => run_robust_part(alloc, set, part, sink),
@@ -60,6 +61,7 @@ fn answer_input<K: Sink>(
     match mode {
         Mode::Check => check_input(alloc, input, sink),
         Mode::Certify => certify_input(alloc, input, sink),
+        Mode::Repair { promote } => repair_input(alloc, promote, input, sink),
         Mode::Verify | Mode::Run { .. } | Mode::Audit => part_input(alloc, mode, input, sink),
     }
 }

@@ -3,14 +3,14 @@ ghost use Rattle.std.specs.Prelude.{◌≡◌, IfOk, string_bytes};
 ghost use Rattle.sirob.specs.Faults.{code_of, part_code};
 ghost use Rattle.sirob.specs.FaultLines.{text_fault, place_text, in_set, check_fault, line_fault, script_fault, row_code, audit_fault, fault_line, is_memory};
 
-use crate::analysis_fault::{analyse_fault, certificate_fault, json_fault};
+use crate::analysis_fault::{analyse_fault, certificate_fault, json_fault, repair_fault};
 use crate::parts::PartFault;
 use history_book::{AuditFault, RowFault};
 use prog_check::{CheckFault, Place};
 use prog_text::TextFault;
 use robust_cert::{CertFault, JsonFault};
 use si_engine::{InputFault, LineFault, ScriptFault};
-use si_repair::AnalyseFault;
+use si_repair::{AnalyseFault, RepairFault};
 use std::alloc::{AllocError, Global};
 
 /// A fault, by the layer that finds it.
@@ -21,6 +21,7 @@ pub enum RunFault {
     Text(TextFault),
     Check(CheckFault),
     Analysis(AnalyseFault),
+    Repair(RepairFault),
     Json(JsonFault),
     Certificate(CertFault),
     Script(ScriptFault),
@@ -168,6 +169,7 @@ pub fn fault_line(alloc: Global, fault: RunFault) -> Result<String, AllocError>
         RunFault::Text(fault) => text_fault(alloc, fault)?,
         RunFault::Check(fault) => check_fault(alloc, fault)?,
         RunFault::Analysis(fault) => analyse_fault(alloc, fault)?,
+        RunFault::Repair(fault) => repair_fault(alloc, fault)?,
         RunFault::Json(fault) => json_fault(alloc, fault)?,
         RunFault::Certificate(fault) => certificate_fault(alloc, fault)?,
         RunFault::Script(fault) => script_fault(alloc, fault)?,
@@ -231,6 +233,17 @@ impl From<AnalyseFault> for RunFault {
     }
 }
 
+impl From<RepairFault> for RunFault {
+    ghost use Rattle.std.specs.Prelude.{◌≡◌};
+    ghost use Rattle.sirob.specs.declared.run_fault.RunFault.TheVariants.{Repair};
+
+    ghost from_gives = { λ fault e. e ≡ Repair fault };
+
+    fn from(fault: RepairFault) -> Self {
+        RunFault::Repair(fault)
+    }
+}
+
 impl From<JsonFault> for RunFault {
     ghost use Rattle.std.specs.Prelude.{◌≡◌};
     ghost use Rattle.sirob.specs.declared.run_fault.RunFault.TheVariants.{Json};
@@ -287,6 +300,7 @@ impl RunFault {
                 | RunFault::Text(TextFault::Memory)
                 | RunFault::Check(CheckFault::Memory)
                 | RunFault::Analysis(AnalyseFault::Memory)
+                | RunFault::Repair(RepairFault::Memory)
                 | RunFault::Json(JsonFault::Memory)
                 | RunFault::Certificate(CertFault::Memory)
                 | RunFault::Script(ScriptFault::Input(InputFault::Memory))

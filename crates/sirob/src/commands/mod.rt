@@ -4,6 +4,7 @@ pub mod audit;
 pub mod certify;
 pub mod check;
 pub mod refusal;
+pub mod repair;
 pub mod robust;
 pub mod run;
 pub mod verify;

@@ -3,4 +3,5 @@
 pub mod analysis;
 pub mod cycle;
 pub mod kept_input;
+pub mod repair;
 pub mod words;

@@ -6,6 +6,7 @@ use crate::run_fault::RunFault;
 use crate::sentences::analysis::{analysis_sentence, certificate_sentence, refusal_sentence};
 use crate::sentences::cycle::{audit_cycle_sentence, run_cycle_sentence};
 use crate::sentences::kept_input::{second_part, set_of, set_text};
+use crate::sentences::repair::{repair_fault_sentence, repair_sentence};
 use crate::status::Status;
 use analysis_words::json_words;
 use fault_words::{check_words, text_words};
@@ -17,7 +18,7 @@ use std::alloc::{AllocError, Global};
 // What stands in the second part of a command's input, where it has one.
 fn second_wanted(mode: Mode) -> Option<&'static str> {
     match mode {
-        Mode::Check | Mode::Certify => None,
+        Mode::Check | Mode::Certify | Mode::Repair { .. } => None,
         Mode::Verify => Some("a certificate"),
         Mode::Run { .. } => Some("a script"),
         Mode::Audit => Some("records"),
@@ -35,7 +36,8 @@ fn wanted_parts(alloc: Global, mode: Mode) -> Result<String, AllocError> {
 fn kind_of(mode: Mode) -> PartKind {
     match mode {
         Mode::Audit => PartKind::Records,
-        Mode::Check | Mode::Certify | Mode::Verify | Mode::Run { .. } => PartKind::Script,
+        Mode::Check | Mode::Certify | Mode::Verify | Mode::Repair { .. } | Mode::Run { .. } =>
+            PartKind::Script,
     }
 }
 
@@ -127,6 +129,7 @@ fn words_of(
         RunFault::Input(fault) => plain(alloc, input_sentence(fault)),
         RunFault::Parts(fault) => part_sentence(alloc, mode, input, fault),
         RunFault::Analysis(fault) => plain(alloc, analysis_sentence(fault)),
+        RunFault::Repair(fault) => repair_fault_sentence(alloc, input, fault),
         RunFault::Script(fault) => script_sentence(alloc, mode, input, fault),
         RunFault::Audit(fault) => record_sentence(alloc, input, fault),
         RunFault::Json(fault) => plain(alloc, Some(json_words(fault))),
@@ -141,10 +144,17 @@ fn unserializable_sentence(
     input: &[u8],
 ) -> Result<Option<String>, AllocError> {
     match mode {
-        Mode::Check | Mode::Verify => Ok(None),
+        Mode::Check | Mode::Verify | Mode::Repair { .. } => Ok(None),
         Mode::Certify | Mode::Run { robust: true } => refusal_sentence(alloc, input),
         Mode::Run { robust: false } => run_cycle_sentence(alloc, input),
         Mode::Audit => audit_cycle_sentence(alloc, input),
+    }
+}
+
+fn done_sentence(alloc: Global, mode: Mode, input: &[u8]) -> Result<Option<String>, AllocError> {
+    match mode {
+        Mode::Repair { promote } => repair_sentence(alloc, input, promote),
+        _ => Ok(None),
     }
 }
 
@@ -157,7 +167,8 @@ fn ending_words(
 ) -> Result<Option<String>, AllocError> {
     match ended {
         Ok(Status::Unserializable) => unserializable_sentence(alloc, mode, input),
-        Ok(Status::Done | Status::Faulty | Status::Memory) => Ok(None),
+        Ok(Status::Done) => done_sentence(alloc, mode, input),
+        Ok(Status::Faulty | Status::Memory) => Ok(None),
         Err(fault) => words_of(alloc, mode, input, fault),
     }
 }

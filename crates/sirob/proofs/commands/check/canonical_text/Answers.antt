@@ -16,7 +16,7 @@ returns-in_err-set-clause-err c =
 pub returns-in_err-text-clause-err : goal.returns-in_err-text-clause-err
 returns-in_err-text-clause-err c =
     let exit = err_from_is_err_and c.from_residual-in_err-text.result c.from_residual-in_err-text.ensures.1 in
-    rw (exit.1, exit.2) (stops_printing c.args.input.now)
+    rw (exit.1, exit.2) (stops_printing Check c.args.input.now)
 
 pub returns-clause-ok : goal.returns-clause-ok
 returns-clause-ok c =

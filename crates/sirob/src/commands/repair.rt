@@ -1,0 +1,65 @@
+//! The command `repair`: from the bytes of its input to the canonical text of their set, repaired.
+ghost use Rattle.std.specs.Prelude.{◌≡◌, ◌≤◌, false, [], Err, length, IfOk, IfErr};
+ghost use Rattle.prog_tree.specs.Tree.{draft_tree};
+ghost use Rattle.si_engine.specs.Reading.{input_limit};
+ghost use Rattle.si_engine.specs.Writing.{WritesOr};
+ghost use Rattle.sirob.specs.FaultLines.{is_memory};
+ghost use Rattle.sirob.specs.Output.{Gives, IsRepaired};
+ghost use Rattle.sirob.specs.Stops.{IsStop, IsInputDone, IsUnrepairedBy, write_lost};
+ghost use Rattle.sirob.specs.declared.command_line.Mode.TheVariants as mode;
+ghost use Rattle.sirob.specs.declared.status.Status.TheVariants as status;
+
+use crate::input::read_text;
+use crate::lines::write_lines;
+use crate::run_fault::RunFault;
+use crate::status::Status;
+use prog_check::ProgramSet;
+use prog_text::print;
+use si_engine::Sink;
+use si_repair::{materialise, plan, promote};
+use std::alloc::Global;
+
+// The set as its plan repairs it.
+fn repair_set(alloc: Global, promoting: bool, set: &ProgramSet) -> Result<ProgramSet, RunFault>
+    ensures ok { IfOk result (λ new. IsRepaired promoting (draft_tree set.now) (draft_tree new)) }
+    ensures err { IfErr result (λ fault. is_memory fault ≡ false
+        → IsUnrepairedBy promoting (draft_tree set.now) fault) }
+{
+    let plan = plan(alloc, set)?;
+    if promoting {
+        let promoted = promote(alloc, set, &plan)?;
+        return Ok(promoted);
+    }
+    let materialised = materialise(alloc, set, &plan)?;
+    Ok(materialised)
+}
+
+// The canonical text of the set that an input spells, repaired.
+fn repaired_text(alloc: Global, promoting: bool, input: &[u8]) -> Result<Vec<u8>, RunFault>
+    requires { length input.now ≤ input_limit }
+    ensures ok { IfOk result
+        (λ text. Gives (mode.Repair promoting) input.now text.items status.Done) }
+    ensures err { IfErr result (λ fault. IsStop (mode.Repair promoting) input.now fault []) }
+{
+    let set = read_text(alloc, input)?;
+    let repaired = repair_set(alloc, promoting, &set)?;
+    let text = print(alloc, repaired.draft())?;
+    Ok(text)
+}
+
+/// Writes the canonical text of the set that an input spells, repaired: by the rows that its
+/// programs read, or by tables of their own.
+pub fn repair_input<K: Sink>(
+    alloc: Global,
+    promoting: bool,
+    input: &[u8],
+    sink: &mut K,
+) -> Result<Status, RunFault>
+    requires short { length input.now ≤ input_limit }
+    requires working { K.has_failed sink.old ≡ false }
+    ensures { WritesOr (Err write_lost) (IsInputDone (mode.Repair promoting) input.now)
+        (K.has_failed sink.new) (K.taken sink.old) (K.taken sink.new) result }
+{
+    let text = repaired_text(alloc, promoting, input)?;
+    write_lines(sink, &text, Ok(Status::Done))
+}
