@@ -10,7 +10,7 @@ use repair_laws::Pair;
 use std::alloc::{AllocError, Global};
 
 /// A pair of programs, the new table of which both keep a row, and the row's key: a parameter of
-/// the first program and one of the second, or none for the row 0.
+/// the first program and one of the second, or none for the key 0.
 #[derive(Debug, Drop)]
 pub(crate) struct Meeting {
     pub pair: Pair,
@@ -28,7 +28,7 @@ fn is_one(key: Option<(usize, usize)>) -> bool
     }
 }
 
-/// The parameters that a program keeps for a pair, or none for the row 0. A program with itself
+/// The parameters that a program keeps for a pair, or none for the key 0. A program with itself
 /// keeps both, where they differ.
 fn columns_for(
     alloc: Global,
@@ -54,7 +54,7 @@ fn columns_for(
     Ok(Vec::new(alloc))
 }
 
-/// The statement that keeps the row of a parameter, or the row 0.
+/// The statement that keeps the row of a parameter, or of the key 0.
 fn keep(table: &Name, params: &[Name], column: Option<usize>) -> Result<Stmt, AllocError>
     requires { IsColumn (length params.now) column }
     ensures { IfOk result (λ stmt. IsPlain stmt (keep_in table.now params.now column)) }
