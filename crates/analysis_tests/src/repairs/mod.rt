@@ -1,4 +1,4 @@
-//! Analyses and repairs of sets, from their texts to the texts of certificates and of repaired sets.
+//! Analyses and repairs of sets, from their texts to those of certificates and repaired sets.
 
 mod certify_tests;
 mod repair_tests;

@@ -48,7 +48,11 @@ fn materialised(alloc: Global, text: &str, pairs: &[Pair]) -> Result<Vec<u8>, Fa
 }
 
 /// The text of a set promoted for a plan of a caller's own, or why it is not.
-fn promoted(alloc: Global, text: &str, pairs: &[Pair]) -> Result<Result<Vec<u8>, RepairFault>, Fail> {
+fn promoted(
+    alloc: Global,
+    text: &str,
+    pairs: &[Pair],
+) -> Result<Result<Vec<u8>, RepairFault>, Fail> {
     let set = set_of(alloc, text)?;
     let plan = own(alloc, pairs)?;
     match promote(alloc, &set, &plan) {
