@@ -11,7 +11,8 @@ ghost use Rattle.history_book.specs.Refusals.{HasAborted, IsCommitFault, IsEndFa
 ghost use Rattle.history_book.specs.Runs.{IsCommitted, IsAborted};
 ghost use Rattle.history_book.specs.TrueBook.{IsTrueBook};
 ghost use Rattle.history_book.specs.View.{depends_in, FitsBook};
-ghost use Rattle.history_book.specs.View.{state_in, new_book, nth_row, held_for, rows_for, least_start, vacuumed, is_full, begin_fault_of, IsBeginRefusedBy, next_ticket, begun_in};
+ghost use Rattle.history_book.specs.View.{state_in, new_book, nth_row, held_for, rows_for, commits_in, least_start, vacuumed, is_full, begin_fault_of, IsBeginRefusedBy, next_ticket, begun_in};
+ghost use Rattle.version_store.specs.Versions.{reclaimed};
 
 use crate::fault::{BeginFault, CommitFault, EndFault, NoSuchTicket, ScanFault, Unused};
 use crate::instances::active::Active;
@@ -341,10 +342,11 @@ impl<'a> Book<'a> {
         Ok(())
     }
 
-    /// Gives up what neither an active instance sees nor one that will be begun, and answers how many versions
-    /// went: none until versions are really dropped.
+    /// Drops the versions that neither an active instance sees nor one that will be begun, and
+    /// answers how many they were.
     pub fn vacuum(&mut self) -> u64
-        ensures none { result ≡ 0 }
+        ensures count { result ≡ reclaimed self.old.opening (commits_in self.old) self.old.floor
+            (least_start (length self.old.rows) self.old.active) }
         ensures floor { self.new ≡ vacuumed self.old }
     {
         let floor = self.oldest_start();

@@ -9,7 +9,7 @@ use Rattle.prog_tree.specs.declared.table.Arity.TheVariants as arity
 use Rattle.prog_tree.specs.Syntax.{Literal, Named, KeyTree, One, BlockTree, BlockEnd, Then, ProgramTree, DraftTree}
 use Rattle.prog_tree.specs.Syntax as s
 use Rattle.history_book.specs.History.{eval_of, state_after}
-use Rattle.si_engine.specs.Machine.{new_machine, replies_of, machine_after}
+use Rattle.si_engine.specs.Machine.{new_machine, machine_step, replies_of, machine_after}
 use Rattle.si_engine.specs.declared.event.Event.{Event}
 use Rattle.si_engine.specs.declared.event.Event.TheVariants.{Begin, Step, Commit, Abort, Vacuum}
 use Rattle.si_engine.specs.declared.event.Reply.TheVariants as reply
@@ -81,10 +81,13 @@ clash = refl
 abbrev zero_row : TableState
 zero_row = (cell (pos 1), pos 0) ∷ []
 
-abbrev vacuum_events : List Event
-vacuum_events =
+abbrev events_before_vacuum : List Event
+events_before_vacuum =
     Begin 1 (pos 1 ∷ pos 1 ∷ []) ∷ Step 0 ∷ Step 0 ∷ Commit 0 ∷ Begin 0 (pos 1 ∷ []) ∷ Begin 1 (pos 1 ∷ pos 2 ∷ []) ∷ Step 2 ∷ Step 2 ∷ Commit 2
-    ∷ Begin 1 (pos 1 ∷ pos 3 ∷ []) ∷ Step 3 ∷ Step 3 ∷ Commit 3 ∷ Vacuum ∷ []
+    ∷ Begin 1 (pos 1 ∷ pos 3 ∷ []) ∷ Step 3 ∷ Step 3 ∷ Commit 3 ∷ []
+
+abbrev vacuum_events : List Event
+vacuum_events = events_before_vacuum ++ Vacuum ∷ []
 
 -- then the look goes on, and ends
 abbrev look_goes_on : List Event
@@ -94,9 +97,13 @@ pub vacuum_floor : (machine_after registers zero_row vacuum_events new_machine).
 unfolding eval_of
 vacuum_floor = refl
 
+pub first_vacuum : (machine_step registers zero_row Vacuum (machine_after registers zero_row events_before_vacuum new_machine)).0 ≡ reply.Vacuumed 1
+unfolding eval_of
+first_vacuum = refl
+
 pub vacuum : replies_of registers zero_row look_goes_on (machine_after registers zero_row vacuum_events new_machine)
-    ≡ reply.Did (deed.Read (cell (pos 1)) (Some (pos 1))) ∷ reply.Ready (pos 1 ∷ []) ∷ reply.Committed 4 ∷ reply.Vacuumed 0
-    ∷ reply.Begun 4 4 ∷ reply.Did (deed.Removed (cell (pos 1))) ∷ reply.Ready [] ∷ reply.Committed 5 ∷ reply.Vacuumed 0 ∷ []
+    ≡ reply.Did (deed.Read (cell (pos 1)) (Some (pos 1))) ∷ reply.Ready (pos 1 ∷ []) ∷ reply.Committed 4 ∷ reply.Vacuumed 2
+    ∷ reply.Begun 4 4 ∷ reply.Did (deed.Removed (cell (pos 1))) ∷ reply.Ready [] ∷ reply.Committed 5 ∷ reply.Vacuumed 2 ∷ []
 unfolding eval_of
 vacuum = refl
 

@@ -14,6 +14,7 @@ use Rattle.prog_tree.specs.Evaluation.{Evaluation}
 use Rattle.prog_tree.specs.Syntax.{ProgramTree, DraftTree}
 use Rattle.prog_tree.specs.Table.{TableState}
 use Rattle.version_store.specs.Clash.{clash_of}
+use Rattle.version_store.specs.Versions.{reclaimed}
 use Rattle.history_book.specs.History.{Instance, evaluation, commits_of}
 use Rattle.history_book.proofs.HistoryLaws.{evaluation-push}
 use Rattle.si_engine.specs.declared.event.Event.{Event}
@@ -21,7 +22,7 @@ use Rattle.si_engine.specs.declared.event.Event.TheVariants as event
 use Rattle.si_engine.specs.declared.event.Reply.{Reply}
 use Rattle.si_engine.specs.declared.event.Reply.TheVariants as reply
 use Rattle.si_engine.specs.Headline.{Exchange, Call, IsBegunBy, IsReadyWith, IsCommittedAs, committed_at, commit_in, commits_said}
-use Rattle.si_engine.specs.Machine.{Active, Machine, new_machine, is_full, at_begin, at_end, deed_or_end, with_begun, if_active, begin_by, commit_by, machine_step, replies_of, machine_after}
+use Rattle.si_engine.specs.Machine.{Active, Machine, new_machine, is_full, at_begin, at_end, deed_or_end, with_begun, if_active, begin_by, commit_by, least_start, machine_step, replies_of, machine_after}
 use Rattle.si_engine.proofs.PlaceLaws.{get-set_same, get-set_other, get-push, same_number}
 
 -- ---- lists
@@ -524,10 +525,12 @@ module _ (draft : DraftTree) (opening : TableState) where
         (λ a at. leaves (event.Abort i) reply.Withdrawn i a false (record { no_replies = λ r is. absurd (cc); no_number = λ n is. absurd (cc) }) refl at)
         (slice_get s.begun i) refl
     step_told event.Vacuum =
-        unchanged said (event.Vacuum, reply.Vacuumed 0) s _ told (quiet_tells event.Vacuum (reply.Vacuumed 0) quiet) refl
-        (quiet_commits event.Vacuum (reply.Vacuumed 0) quiet) refl refl
+        unchanged said (event.Vacuum, answer) s _ told (quiet_tells event.Vacuum answer quiet) refl (quiet_commits event.Vacuum answer quiet) refl refl
       where
-        quiet : IsQuiet (reply.Vacuumed 0)
+        answer : Reply
+        answer = reply.Vacuumed (reclaimed opening (commits_of draft opening s.history) s.floor (least_start (length s.history) s.begun))
+
+        quiet : IsQuiet answer
         quiet = record { no_replies = λ r is. absurd (cc); no_number = λ n is. absurd (cc) }
 
   -- what events are answered tells of the machine after them

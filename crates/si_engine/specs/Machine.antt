@@ -8,6 +8,7 @@ use Rattle.prog_tree.specs.Evaluation.{Evaluation}
 use Rattle.prog_tree.specs.Syntax.{ProgramTree, DraftTree}
 use Rattle.prog_tree.specs.Table.{TableState}
 use Rattle.version_store.specs.Clash.{clash_of}
+use Rattle.version_store.specs.Versions.{reclaimed}
 use Rattle.history_book.specs.History.{Instance, evaluation, commits_of}
 use Rattle.si_engine.specs.declared.event.Event.{Event}
 use Rattle.si_engine.specs.declared.event.Event.TheVariants as event
@@ -123,9 +124,9 @@ module _ (set : DraftTree) (opening : TableState) where
       if a.ready then commit_by clash s i a.instance else (reply.NotReady, s))
   machine_step (event.Abort i) s =
       with_active s i (λ a. (reply.Withdrawn, with_begun s i None false))
-  -- no version goes yet, so none is counted
   machine_step event.Vacuum s =
-      (reply.Vacuumed 0, record s { floor = least_start (length s.history) s.begun })
+      let floor = least_start (length s.history) s.begun in
+      (reply.Vacuumed (reclaimed opening (commits_of set opening s.history) s.floor floor), record s { floor = floor })
 
   -- the replies to events, one after another, and the machine after them
   abbrev pub replies_of : List Event → Machine → List Reply

@@ -61,7 +61,7 @@ not_made m cell f absent none c = go (is_same_cell cell c) (λ same. cell_is cel
 
 -- ---- walks over cells in order
 
-same_turned : (a b : Cell) → is_same_cell a b ≡ is_same_cell b a
+pub same_turned : (a b : Cell) → is_same_cell a b ≡ is_same_cell b a
 same_turned a b = (eq_by_cmp_equiv cell_total).symm a b
 
 is_not_eq : (o : Ordering) → o ≡ Less → is_eq o ≡ false

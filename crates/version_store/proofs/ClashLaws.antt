@@ -1,5 +1,5 @@
 -- Laws of clashes: the first of some cells that has a number above the start.
-use Rattle.std.proofs.Common.{◌≡◌, ◌↔◌, ◌∙◌, ◌⊎◌, inl, inr, ℕ, suc, ◌<◌, ◌≤◌, Bool, true, false, ◌||◌, if◌then◌else◌, leb, nat_lt, List, [], ◌∷◌, refl, ap, sym, subst, arith}
+use Rattle.std.proofs.Common.{◌≡◌, ◌↔◌, ◌∙◌, ◌⊎◌, inl, inr, ℕ, suc, max, ◌<◌, ◌≤◌, Bool, true, false, ◌||◌, if◌then◌else◌, leb, nat_lt, List, [], ◌∷◌, refl, ap, sym, subst, arith}
 use Rattle.std.specs.Prelude.{Option, Some, None}
 use Rattle.std.specs.BTreeSet.{insert_key}
 use Rattle.std.specs.Cmp.{tied_itself}
@@ -8,7 +8,8 @@ use Rattle.std.specs.declared.cmp.Ordering.TheVariants.{Less, Equal, Greater}
 use Rattle.std.specs.List.{AllByRecursion}
 use Rattle.std.specs.List.Sorted.{IsStrictlySortedBy}
 use Rattle.std.specs.Ordering.{is_eq, is_lt, match_ordering, ordering_reverse}
-use Rattle.std.proofs.lemmas.Bool.Decides.{leb_tells}
+use Rattle.std.proofs.lemmas.Bool.{le-leb, lt-leb}
+use Rattle.std.proofs.lemmas.Bool.Decides.{leb_tells, nat_tests}
 use Rattle.std.proofs.lemmas.Map.Keys.{sorted_head, sorted_tail}
 use Rattle.prog_tree.specs.declared.cell.Cell.{Cell}
 use Rattle.prog_tree.specs.ChangeSet.{ChangeSet, touches_cell}
@@ -283,3 +284,22 @@ clashes_found ws start w o = (
   λ clash. first-unique (touches_cell w) (λ c. last_touch c 1 ws) start o (clash_of ws start w) (first_by_clash ws start w o clash) (search_clashes ws start w),
   λ same. clash_by_first ws start w o (subst (λ (x : Option (Cell × ℕ)). IsFirstTouched ws start w x) (sym same) (search_clashes ws start w)),
 )
+
+-- ---- numbers that are the same above the start find the same
+
+pub first_above-seen : (start : ℕ) (number other : Cell → ℕ) → ((c : Cell) → max start (number c) ≡ max start (other c)) →
+    (cells : List Cell) → first_above number start cells ≡ first_above other start cells
+first_above-seen start number other same [] = refl
+first_above-seen start number other same (c ∷ cells) = go (nat_lt start (number c)) refl (first_above-seen start number other same cells)
+  where
+    go : (b : Bool) → nat_lt start (number c) ≡ b → first_above number start cells ≡ first_above other start cells →
+        (if b then Some (c, number c) else first_above number start cells) ≡ (if nat_lt start (other c) then Some (c, other c) else first_above other start cells)
+    go true high rest =
+        let above : start < number c = grind (arith, nat_tests) in
+        let equal : number c ≡ other c = omega (arith, above, same c) in
+        ap (λ n. Some (c, n)) equal
+        ∙ ap (λ b. if b then Some (c, other c) else first_above other start cells) (sym (le-leb (suc start) (other c) (omega (arith, above, equal))))
+    go false low rest =
+        let below : number c ≤ start = grind (arith, nat_tests) in
+        rest
+        ∙ ap (λ b. if b then Some (c, other c) else first_above other start cells) (sym (lt-leb (suc start) (other c) (omega (arith, below, same c))))

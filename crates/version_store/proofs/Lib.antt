@@ -2,10 +2,15 @@ pub mod ChainLaws
 pub mod ChainsLaws
 pub mod ClashLaws
 pub mod CommitLaws
+pub mod CountLaws
 pub mod FoundLaws
+pub mod PendingLaws
 pub mod RegionLaws
 pub mod ScanLaws
+pub mod SizeLaws
 pub mod StandsLaws
+pub mod TrimLaws
+pub mod VacuumLaws
 pub mod VersionLaws
 pub mod Walks
 pub mod Vectors

@@ -7,7 +7,8 @@ use Rattle.prog_tree.specs.Table.{TableState}
 use Rattle.version_store.specs.Clash.{clash_of}
 use Rattle.version_store.specs.Commits.{state_at}
 use Rattle.version_store.specs.Reading.{value_at, last_number}
-use Rattle.version_store.specs.StandsFor.{chain_of}
+use Rattle.version_store.specs.StandsFor.{no_chain, chain_of, trimmed}
+use Rattle.version_store.specs.Trimming.{touches_above, within, beyond}
 use Rattle.version_store.specs.Versions.{retained, reclaimed, versions_of}
 
 -- the cells t[1] and t[2]
@@ -73,6 +74,61 @@ read_of_four = refl
 -- a removal is no return to the opening row
 pub read_of_removed : value_at 5 (chain_of opening five t1) ≡ None
 read_of_removed = refl
+
+-- ---- the same row without the commit that changes nothing: t[1] = 0, three puts, then a removal
+
+abbrev four : List ChangeSet
+four = puts t1 (pos 1) ∷ puts t1 (pos 2) ∷ puts t1 (pos 3) ∷ removes t1 ∷ []
+
+pub two_more : reclaimed opening three 1 3 ≡ 2
+two_more = refl
+
+pub one_left : length (retained opening three 3) ≡ 1
+one_left = refl
+
+pub removal_and_row : reclaimed opening four 3 4 ≡ 2
+removal_and_row = refl
+
+pub nothing_left : length (retained opening four 4) ≡ 0
+nothing_left = refl
+
+-- ---- what a vacuum leaves of a chain
+
+pub trimmed_at_none : trimmed 0 (chain_of opening three t1) ≡ chain_of opening three t1
+trimmed_at_none = refl
+
+pub trimmed_at_one : trimmed 1 (chain_of opening three t1) ≡ record { versions = (1, Some (pos 1)) ∷ (2, Some (pos 2)) ∷ (3, Some (pos 3)) ∷ []; marks = [] }
+trimmed_at_one = refl
+
+pub trimmed_at_three : trimmed 3 (chain_of opening three t1) ≡ record { versions = (3, Some (pos 3)) ∷ []; marks = [] }
+trimmed_at_three = refl
+
+pub trimmed_at_removal : trimmed 4 (chain_of opening four t1) ≡ no_chain
+trimmed_at_removal = refl
+
+-- above the floor a removal stays
+pub removal_above : trimmed 3 (chain_of opening four t1) ≡ record { versions = (3, Some (pos 3)) ∷ (4, None) ∷ []; marks = [] }
+removal_above = refl
+
+pub read_after : value_at 3 (trimmed 3 (chain_of opening four t1)) ≡ Some (pos 3)
+read_after = refl
+
+pub mark_above : trimmed 0 (chain_of [] (keeps t1 ∷ []) t1) ≡ record { versions = []; marks = 1 ∷ [] }
+mark_above = refl
+
+pub mark_goes : trimmed 1 (chain_of [] (keeps t1 ∷ []) t1) ≡ no_chain
+mark_goes = refl
+
+-- ---- the touches by which a vacuum finds its cells
+
+pub touches : touches_above 1 1 (puts t1 (pos 1) ∷ keeps t2 ∷ removes t1 ∷ []) ≡ (2, t2) ∷ (3, t1) ∷ []
+touches = refl
+
+pub touches_within : within 2 ((2, t2) ∷ (3, t1) ∷ []) ≡ t2 ∷ []
+touches_within = refl
+
+pub touches_beyond : beyond 2 ((2, t2) ∷ (3, t1) ∷ []) ≡ (3, t1) ∷ []
+touches_beyond = refl
 
 -- ---- marks of keep are not counted
 

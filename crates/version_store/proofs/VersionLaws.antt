@@ -56,11 +56,11 @@ value_at-chain_of opening ws c n = go (row_at opening c) ∙ value_from c n 1 n 
 
 -- ---- numbers rise
 
-rises_more : (n k : ℕ) (vs : List (ℕ × Option ℤ)) → n ≤ k → RisesFrom k vs → RisesFrom n vs
+pub rises_more : (n k : ℕ) (vs : List (ℕ × Option ℤ)) → n ≤ k → RisesFrom k vs → RisesFrom n vs
 rises_more n k [] less h = tt
 rises_more n k (v ∷ vs) less h = (omega (arith, h.0), h.1)
 
-changes_rise : (c : Cell) (k : ℕ) (ws : List ChangeSet) → RisesFrom k (changes_of c k ws)
+pub changes_rise : (c : Cell) (k : ℕ) (ws : List ChangeSet) → RisesFrom k (changes_of c k ws)
 changes_rise c k [] = tt
 changes_rise c k (w ∷ ws) = go (change_at w c) (changes_rise c (k + 1) ws)
   where
@@ -199,25 +199,10 @@ chain_below opening ws c i = record { versions = go (row_at opening c) i; marks 
         ap (λ b. cond b ((0, Some v) ∷ filter (λ (v : ℕ × Option ℤ). nat_lt v.0 n) (changes_of c 1 ws)) (filter (λ (v : ℕ × Option ℤ). nat_lt v.0 n) (changes_of c 1 ws))) (le-leb 1 n (omega arith))
         ∙ ap (λ vs. (0, Some v) ∷ vs) (below_all c 1 n ws (omega arith))
 
--- ---- what is counted
+-- ---- the versions of commits and of rows
 
-abbrev made_by : ℕ → Cell × Option ℤ → Version
+abbrev pub made_by : ℕ → Cell × Option ℤ → Version
 made_by n e = record { cell = e.0; number = n; value = e.1 }
 
-abbrev of_row : Cell × ℤ → Version
+abbrev pub of_row : Cell × ℤ → Version
 of_row row = record { cell = row.0; number = 0; value = Some row.1 }
-
-length-versions_from : (k : ℕ) (ws : List ChangeSet) (w : ChangeSet) → length (versions_from k (ws ++ w ∷ [])) ≡ length (versions_from k ws) + length w.cells
-length-versions_from k [] w = omega (arith, length-append (map (made_by k) w.cells) [], length-map w.cells (made_by k))
-length-versions_from k (v ∷ ws) w =
-    omega (
-      arith,
-      length-versions_from (k + 1) ws w,
-      length-append (map (made_by k) v.cells) (versions_from (k + 1) (ws ++ w ∷ [])),
-      length-append (map (made_by k) v.cells) (versions_from (k + 1) ws),
-    )
-
--- a commit adds a version for each changed cell
-pub length-versions_of : (opening : TableState) (ws : List ChangeSet) (w : ChangeSet) → length (versions_of opening (ws ++ w ∷ [])) ≡ length (versions_of opening ws) + length w.cells
-length-versions_of opening ws w =
-    omega (arith, length-versions_from 1 ws w, length-append (map of_row opening) (versions_from 1 (ws ++ w ∷ [])), length-append (map of_row opening) (versions_from 1 ws))

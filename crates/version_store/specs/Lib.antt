@@ -4,4 +4,6 @@ pub mod Reading
 pub mod Regions
 pub mod StandsFor
 pub mod Told
+pub mod Trimming
+pub mod Trims
 pub mod Versions

@@ -1,9 +1,13 @@
 -- The histories that a store stands for.
-use Rattle.std.specs.Prelude.{◌≡◌, ℕ, ◌+◌, ◌^◌, ◌-◌, ◌≤◌, ℤ, min, List, [], ◌∷◌, ◌++◌, length, Option, Some, None, if◌then◌else◌}
+use Rattle.std.specs.Prelude.{◌≡◌, ℕ, ◌+◌, ◌≤◌, ℤ, List, [], ◌∷◌, ◌++◌, length, Option, Some, None, if◌then◌else◌}
+use Rattle.std.specs.List.{AllByRecursion, sum_by}
+use Rattle.std.specs.List.Sorted.{IsStrictlySortedBy}
+use Rattle.std.specs.Map.{values_of}
 use Rattle.prog_tree.specs.declared.cell.Cell.{Cell}
 use Rattle.prog_tree.specs.ChangeSet.{ChangeSet, change_at}
-use Rattle.prog_tree.specs.Table.{is_cell_among, Cells, at_cell, TableState, IsTableState, row_at}
-use Rattle.version_store.specs.Versions.{versions_of}
+use Rattle.prog_tree.specs.Table.{cell_cmp, is_cell_among, Cells, cells_of, at_cell, TableState, IsTableState, row_at}
+use Rattle.version_store.specs.Trimming.{versions_kept, marks_kept, touches_above}
+use Rattle.version_store.specs.Versions.{retained}
 
 -- what a store keeps of a cell: its values and removals, each with the number of its commit, and the numbers of the
 -- commits that keep it; both rise
@@ -20,6 +24,8 @@ pub record StoreView : Type 0 where
   pub commits : ℕ
   pub floor : ℕ
   pub versions : ℕ
+  -- which cells the commits above the floor touched, with the commits' numbers
+  pub pending : List (ℕ × Cell)
 
 -- the version that an opening row is
 abbrev pub opening_versions : Option ℤ → List (ℕ × Option ℤ)
@@ -50,11 +56,24 @@ abbrev pub chain_or_none : Option Chain → Chain
 chain_or_none None = no_chain
 chain_or_none (Some chain) = chain
 
--- a store has all of each cell in this history
+-- what a vacuum at f leaves of a chain
+abbrev pub trimmed : (f : ℕ) → Chain → Chain
+trimmed f chain = record { versions = versions_kept f [] chain.versions; marks = marks_kept f chain.marks }
+
+-- how many versions the chains have together
+abbrev pub size : Cells Chain → ℕ
+size chains = sum_by (λ chain. length chain.versions) (values_of chains)
+
+-- the changed cells of each commit rise strictly, so each stands once
+abbrev pub AreCommits : List ChangeSet → Type 0
+AreCommits ws = AllByRecursion (λ w. IsStrictlySortedBy cell_cmp (cells_of w.cells)) ws
+
+-- a store has of each cell in this history what a vacuum at its floor leaves
 pub record StandsFor (s : StoreView) (opening : TableState) (ws : List ChangeSet) : Type 0 where
   pub ordered : IsTableState opening
-  pub chains : (c : Cell) → chain_or_none (at_cell s.chains c) ≡ chain_of opening ws c
+  pub each : AreCommits ws
+  pub chains : (c : Cell) → chain_or_none (at_cell s.chains c) ≡ trimmed s.floor (chain_of opening ws c)
+  pub pending : s.pending ≡ touches_above s.floor 1 ws
   pub commits : s.commits ≡ length ws
   pub floor : s.floor ≤ s.commits
-  -- as many as a u64 can tell
-  pub versions : s.versions ≡ min (length (versions_of opening ws)) (2 ^ 64 - 1)
+  pub versions : s.versions ≡ length (retained opening ws s.floor)

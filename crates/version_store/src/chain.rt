@@ -1,8 +1,10 @@
 //! What the store keeps of one cell.
-ghost use Rattle.std.specs.Prelude.{◌≡◌, ◌≤◌, length, None, OnOk, OnErr};
+ghost use Rattle.std.specs.Prelude.{◌≡◌, ◌≤◌, ◌+◌, length, [], drop, None, OnOk, OnErr};
+ghost use Rattle.std.specs.Bool.{OnTrue};
 ghost use Rattle.version_store.specs.Reading.{RisesFrom, IsCutAt, value_at, last_version};
 ghost use Rattle.version_store.specs.Reading.{last_mark, last_number, with_version, with_mark, cut_from};
-ghost use Rattle.version_store.specs.StandsFor.{no_chain};
+ghost use Rattle.version_store.specs.StandsFor.{no_chain, trimmed};
+ghost use Rattle.version_store.specs.Trimming.{versions_kept, marks_kept};
 
 use crate::version::Version;
 use std::alloc::{AllocError, Global};
@@ -52,6 +54,40 @@ fn count_within(versions: &[Version], number: u64) -> usize
         return versions.len();
     }
     versions.partition_point(|version| version.number <= number)
+}
+
+// How many of the versions go at a floor: those at most it but the last of them, and that one too
+// where it is a removal.
+fn outdated_versions(versions: &[Version], floor: u64) -> usize
+    ensures bound { result ≤ length versions.now }
+    ensures kept { versions_kept floor [] versions.now ≡ drop result versions.now }
+{
+    let mut outdated = 0;
+    for place in 0..versions.len() {
+        let version = versions[place];
+        if version.number > floor {
+            return outdated;
+        }
+        outdated = if version.value.is_some() {
+            place
+        } else {
+            place + 1
+        };
+    }
+    outdated
+}
+
+// How many of the marks go at a floor: those at most it.
+fn outdated_marks(marks: &[u64], floor: u64) -> usize
+    ensures bound { result ≤ length marks.now }
+    ensures kept { marks_kept floor marks.now ≡ drop result marks.now }
+{
+    for place in 0..marks.len() {
+        if marks[place] > floor {
+            return place;
+        }
+    }
+    marks.len()
 }
 
 impl Chain {
@@ -104,5 +140,25 @@ impl Chain {
     {
         self.versions.retain(|version| version.number < number);
         self.marks.retain(|mark| *mark < number);
+    }
+
+    /// Drops what a vacuum at the floor takes, and answers how many versions that were.
+    pub fn trim(&mut self, floor: u64) -> usize
+        ensures chain { self.new ≡ trimmed floor self.old }
+        ensures count { length self.new.versions + result ≡ length self.old.versions }
+    {
+        let marks = outdated_marks(&self.marks, floor);
+        self.marks.drain(..marks);
+        let versions = outdated_versions(&self.versions, floor);
+        self.versions.drain(..versions);
+        self.versions.shrink_to_fit();
+        versions
+    }
+
+    /// Whether nothing is left of it.
+    pub fn is_empty(&self) -> bool
+        ensures { OnTrue result (self.now ≡ no_chain) }
+    {
+        self.versions.is_empty() && self.marks.is_empty()
     }
 }

@@ -1,16 +1,22 @@
 //! The chains of all cells.
-ghost use Rattle.std.specs.Prelude.{◌≡◌, ◌↔◌, [], ◌++◌, Some, IfOk, IsTrue, OnOk, OnErr, option_copied};
+ghost use Rattle.std.specs.Prelude.{◌≡◌, ◌↔◌, ◌+◌, ◌-◌, ◌≤◌, ◌^◌, [], ◌++◌, Some, min};
+ghost use Rattle.std.specs.Prelude.{IfOk, IsTrue, OnOk, OnErr, option_copied};
+ghost use Rattle.std.specs.List.Sorted.{IsStrictlySortedBy};
 ghost use Rattle.prog_tree.specs.declared.cell.Cell.{Cell};
 ghost use Rattle.prog_tree.specs.ChangeSet.{change_at};
-ghost use Rattle.prog_tree.specs.Table.{cells_of, TableState, IsTableState, row_at};
+ghost use Rattle.prog_tree.specs.Table.{cell_cmp, cells_of, TableState, IsTableState, row_at};
 ghost use Rattle.version_store.specs.Reading.{RisesFrom, AllRise, chain_at, value_at, number_at};
 ghost use Rattle.version_store.specs.Reading.{with_version, with_mark, with_row_of, with_change_by};
 ghost use Rattle.version_store.specs.Reading.{with_commit, cut_from, IsGrown};
 ghost use Rattle.version_store.specs.Reading.{MakesAt, MakesAmong, MakesEach, KeepsBelow};
 ghost use Rattle.version_store.specs.Regions.{AreCorners, seen_in, seen_left, with_found};
 ghost use Rattle.version_store.specs.Regions.{found_row, IsSeen};
+ghost use Rattle.version_store.specs.StandsFor.{size, trimmed};
+ghost use Rattle.version_store.specs.Trimming.{within, beyond};
+ghost use Rattle.version_store.specs.Trims.{TrimsAll};
 
 use crate::chain::Chain;
+use crate::pending::Pending;
 use prog_tree::{Cell, Changes, Region, Rows, Sequence, is_among};
 use std::alloc::{AllocError, Global};
 use std::collections::BTreeMap;
@@ -194,12 +200,7 @@ impl Chains {
         }
     }
 
-    pub fn add_version(
-        &mut self,
-        cell: Cell,
-        number: u64,
-        value: Option<i64>,
-    ) -> Result<(), AllocError>
+    fn add_version(&mut self, cell: Cell, number: u64, value: Option<i64>) -> Result<(), AllocError>
         ensures ok { OnOk result (MakesAt cell (with_version number value) self.old self.new) }
         ensures err { OnErr result (MakesEach (λ c chain. chain) self.old self.new) }
     {
@@ -306,5 +307,61 @@ impl Chains {
             return Err(AllocError);
         };
         Ok(())
+    }
+
+    /// The cells stand in their order.
+    pub fn in_order(&self)
+        ensures { IsStrictlySortedBy cell_cmp (cells_of self.now) }
+    {
+        let _ = self.chains.iter();
+    }
+
+    // Trims the chain of a cell, and answers how many versions went.
+    fn trim_chain(&mut self, cell: &Cell, floor: u64) -> usize
+        ensures chains { MakesAt cell.now (trimmed floor) self.old self.new }
+        ensures count { size self.new + result ≡ size self.old }
+    {
+        let Some(chain) = self.chains.get_mut(cell) else {
+            return 0;
+        };
+        chain.trim(floor)
+    }
+
+    // Drops the chain of a cell where nothing is left of it.
+    fn drop_empty(&mut self, cell: &Cell)
+        ensures chains { MakesEach (λ c chain. chain) self.old self.new }
+        ensures count { size self.new ≡ size self.old }
+    {
+        let Some(chain) = self.chains.get(cell) else {
+            return;
+        };
+        if chain.is_empty() {
+            let _ = self.chains.remove(cell);
+        }
+    }
+
+    // Trims the chain of a cell, which leaves the map where nothing is left of it.
+    fn trim(&mut self, cell: &Cell, floor: u64) -> usize
+        ensures chains { MakesAt cell.now (trimmed floor) self.old self.new }
+        ensures count { size self.new + result ≡ size self.old }
+    {
+        let count = self.trim_chain(cell, floor);
+        self.drop_empty(cell);
+        count
+    }
+
+    /// Trims the chains of the pending cells up to a floor, and answers how many versions went, as
+    /// far as a u64 can tell.
+    pub fn vacuum(&mut self, pending: &mut Pending, floor: u64) -> u64
+        ensures pending { pending.new ≡ beyond floor pending.old }
+        ensures chains { TrimsAll floor (within floor pending.old) self.old self.new }
+        ensures falls { size self.new ≤ size self.old }
+        ensures count { result ≡ min (size self.old - size self.new) (2 ^ 64 - 1) }
+    {
+        let mut count: u64 = 0;
+        while let Some(cell) = pending.next_within(floor) {
+            count = count.saturating_add(self.trim(&cell, floor) as u64);
+        }
+        count
     }
 }

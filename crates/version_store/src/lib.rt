@@ -1,10 +1,11 @@
-//! A store of versions: what each cell held after each commit.
+//! A store of versions: what each cell held after each commit from the last vacuum's floor on.
 #![tactic(auto)]
 
 mod chain;
 mod chains;
 mod clash;
 mod laws;
+mod pending;
 mod store;
 mod version;
 

@@ -1,4 +1,4 @@
-ghost use Rattle.std.specs.Prelude.{◌≡◌, ◌+◌, ◌-◌, ◌<◌, ◌≤◌, ◌^◌, List, [], ◌∷◌, ◌++◌, length, min};
+ghost use Rattle.std.specs.Prelude.{◌≡◌, ◌+◌, ◌-◌, ◌<◌, ◌≤◌, ◌^◌, List, [], ◌∷◌, ◌++◌, length};
 ghost use Rattle.std.specs.Prelude.{◌↔◌, option_map, IfOk, IsTrue, OnErr};
 ghost use Rattle.prog_tree.specs.ChangeSet.{ChangeSet};
 ghost use Rattle.prog_tree.specs.Evaluation.{rows_left};
@@ -6,21 +6,23 @@ ghost use Rattle.prog_tree.specs.Table.{TableState, rows_in, row_at};
 ghost use Rattle.version_store.specs.Clash.{IsClash};
 ghost use Rattle.version_store.specs.Commits.{state_at};
 ghost use Rattle.version_store.specs.StandsFor.{StandsFor};
-ghost use Rattle.version_store.specs.Versions.{versions_of};
+ghost use Rattle.version_store.specs.Versions.{retained, reclaimed};
 
 use crate::chains::Chains;
 use crate::clash::{Clash, first_clash};
+use crate::pending::Pending;
 use prog_tree::{Cell, Changes, Region, Rows, Sequence};
 use std::alloc::{AllocError, Global};
 use std::marker::Model;
 
-/// What each cell held after each commit.
+/// What each cell held after each commit from the floor on.
 #[derive(Debug, Drop)]
 pub struct Store {
     chains: Chains,
     commits: u64,
     floor: u64,
     versions: u64,
+    pending: Pending,
 }
 
 impl Model for Store {
@@ -33,6 +35,7 @@ impl Model for Store {
       commits = s.commits;
       floor = s.floor;
       versions = s.versions;
+      pending = s.pending;
     } };
 }
 
@@ -46,6 +49,7 @@ impl Store {
             commits: 0,
             floor: 0,
             versions: opening.len() as u64,
+            pending: Pending::new(alloc),
         })
     }
 
@@ -136,32 +140,46 @@ impl Store {
             StandsFor self.old opening ws → StandsFor self.new opening ws) }
     {
         let number = self.commits + 1;
-        self.chains.add_commit(number, changes)?;
+        let Some(versions) = self.versions.checked_add(changes.iter().len() as u64) else {
+            return Err(AllocError);
+        };
+        let before = self.pending.len();
+        self.pending.add(number, changes)?;
+        let Ok(()) = self.chains.add_commit(number, changes) else {
+            self.pending.cut(before);
+            return Err(AllocError);
+        };
         self.commits = number;
-        self.versions = self.versions.saturating_add(changes.iter().len() as u64);
+        self.versions = versions;
         Ok(number)
     }
 
-    /// Records the floor below which nobody will read, and answers how many versions went: none,
-    /// until versions are really dropped.
+    /// Drops the versions that no read from the floor on can see, and answers how many they were.
+    /// It takes no memory, and the time that the commits since the last vacuum took.
     pub fn vacuum(&mut self, floor: u64) -> u64
         requires rises { self.old.floor ≤ floor }
         requires within { floor ≤ self.old.commits }
-        ensures none { result ≡ 0 }
+        ensures count { (opening : TableState) → (ws : List ChangeSet) →
+            StandsFor self.old opening ws →
+            result ≡ reclaimed opening ws self.old.floor floor }
         ensures floor { self.new.floor ≡ floor }
         ensures commits { self.new.commits ≡ self.old.commits }
         ensures stands { (opening : TableState) → (ws : List ChangeSet) →
             StandsFor self.old opening ws → StandsFor self.new opening ws }
     {
+        self.chains.in_order();
+        let count = self.chains.vacuum(&mut self.pending, floor);
+        self.chains.in_order();
         self.floor = floor;
-        0
+        self.versions = self.versions.saturating_sub(count);
+        count
     }
 
-    /// How many versions it keeps, as far as a u64 can tell.
+    /// How many versions it keeps.
     pub fn versions(&self) -> u64
         ensures { (opening : TableState) → (ws : List ChangeSet) →
             StandsFor self.now opening ws →
-            result ≡ min (length (versions_of opening ws)) (2 ^ 64 - 1) }
+            result ≡ length (retained opening ws self.now.floor) }
     {
         self.versions
     }

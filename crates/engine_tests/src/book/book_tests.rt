@@ -207,7 +207,6 @@ fn endings_are_the_same_by_their_rows_and_causes(rt: HostRuntime) -> Result<(), 
     play(&rt, rt.alloc(), &[], &calls)
 }
 
-// That no version goes holds of every vacuum, until versions are really dropped.
 #[test]
 fn a_dropped_ticket_holds_the_floor(rt: HostRuntime) -> Result<(), Fail> {
     let calls = [

@@ -1,5 +1,6 @@
-use Rattle.std.proofs.Common.{◌≡◌, length, ◌∙◌, subst, sym}
-use Rattle.history_book.specs.View.{BookView, least_start}
+use Rattle.std.proofs.Common.{◌≡◌, length, ◌∙◌, ap, subst, sym}
+use Rattle.version_store.specs.Versions.{reclaimed}
+use Rattle.history_book.specs.View.{BookView, commits_in, least_start}
 use Rattle.history_book.proofs.BookLaws.{true-vacuum}
 use Rattle.history_book.proofs.book.Book.vacuum.Goals as goal
 
@@ -15,3 +16,9 @@ invariant_of-self c =
       },
       c.self.invariant.2,
     )
+
+pub returns-clause-count : goal.returns-clause-count
+returns-clause-count c =
+    let counted = c.vacuum.ensures.count _ _ c.self.invariant.1.stands in
+    subst (λ (v : BookView). c.vacuum.result ≡ reclaimed v.opening (commits_in v) v.floor c.oldest_start-floor.result) c.self.view_is counted
+    ∙ ap (reclaimed c.args.self.now.opening (commits_in c.args.self.now) c.args.self.now.floor) c.oldest_start-floor.ensures.least

@@ -1,6 +1,10 @@
 use Rattle.std.proofs.Common.{◌≡◌, ap, sym, subst, ◌∙◌}
+use Rattle.std.specs.Prelude.{length}
 use Rattle.prog_tree.specs.Tree.{draft_tree}
-use Rattle.si_engine.specs.Machine.{machine_step}
+use Rattle.version_store.specs.Versions.{reclaimed}
+use Rattle.history_book.specs.View.{BookView, commits_in}
+use Rattle.history_book.specs.View as book
+use Rattle.si_engine.specs.Machine.{Machine, least_start, machine_step}
 use Rattle.si_engine.specs.View.{EngineView, machine_of, IsEngine}
 use Rattle.si_engine.specs.declared.event.Event.TheVariants as event
 use Rattle.si_engine.specs.declared.event.Reply.TheVariants as reply
@@ -16,6 +20,10 @@ pub returns-clause-step : goal.returns-clause-step
 returns-clause-step c =
     let e = c.self.inside in
     let w = c.vacuum.new.self in
+    let m = machine_of e.book e.begun.items in
+    let floor = least_start (length m.history) m.begun in
+    let count = reclaimed e.book.opening (commits_in e.book) e.book.floor in
     let machine = machine-vacuum e.book e.begun.items c.self.invariant w c.vacuum.ensures.floor in
+    let least : book.least_start (length e.book.rows) e.book.active ≡ floor = sym (ap (λ (v : BookView). v.floor) c.vacuum.ensures.floor) ∙ ap (λ (x : Machine). x.floor) machine in
     subst (λ (x : EngineView). (reply.Vacuumed c.vacuum.result, machine_of w e.begun.items) ≡ machine_step (draft_tree x.set) x.opening event.Vacuum x.machine)
-    c.self.view_is (ap (λ n. (reply.Vacuumed n, machine_of w e.begun.items)) c.vacuum.ensures.none ∙ ap (λ m. (reply.Vacuumed 0, m)) machine)
+    c.self.view_is (ap (λ n. (reply.Vacuumed n, machine_of w e.begun.items)) (c.vacuum.ensures.count ∙ ap count least) ∙ ap (λ m. (reply.Vacuumed (count floor), m)) machine)

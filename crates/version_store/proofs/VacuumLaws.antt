@@ -1,0 +1,88 @@
+-- What the loops over touches keep.
+use Rattle.std.proofs.Common.{◌≡◌, ◌∙◌, ℕ, ◌+◌, ◌-◌, ◌^◌, ◌<◌, ◌≤◌, min, Bool, true, false, ◌||◌, cond, if◌then◌else◌, leb, List, [], ◌∷◌, ◌++◌, length, take, drop, refl, ap, sym, subst, arith, append_assoc, append-nil}
+use Rattle.std.specs.Prelude.{slice_index_or}
+use Rattle.std.proofs.lemmas.Bool.{le-leb, lt-leb}
+use Rattle.prog_tree.specs.declared.cell.Cell.{Cell}
+use Rattle.prog_tree.specs.Table.{Cells, is_same_cell, is_cell_among}
+use Rattle.version_store.specs.Reading.{chain_at, MakesAt}
+use Rattle.version_store.specs.StandsFor.{Chain, trimmed, size}
+use Rattle.version_store.specs.Trimming.{numbered, within, beyond, TakesWithin}
+use Rattle.version_store.specs.Trims.{TrimsAll}
+use Rattle.version_store.proofs.ChainsLaws.{same_turned}
+use Rattle.version_store.proofs.TrimLaws.{trimmed_again}
+
+-- ---- touches are added
+
+-- with the cells that are left, the touches are what they will be at the end, and the first ones are those from before
+pub record Adds (number : ℕ) (cells rest : List Cell) (before now : List (ℕ × Cell)) : Type 0 where
+  pub ends : now ++ numbered number rest ≡ before ++ numbered number cells
+  pub first : take (length before) now ≡ before
+
+take_own : {A : Type 0} (xs : List A) → take (length xs) xs ≡ xs
+take_own [] = refl
+take_own (x ∷ xs) = ap (λ ys. x ∷ ys) (take_own xs)
+
+pub adds_first : (number : ℕ) (cells left : List Cell) (before : List (ℕ × Cell)) → left ≡ cells → Adds number cells left before before
+adds_first number cells left before is = record { ends = ap (λ ks. before ++ numbered number ks) is; first = take_own before }
+
+-- what begins with a list begins with it after a push
+pub first_push : {A : Type 0} (before now : List A) (x : A) → take (length before) now ≡ before → take (length before) (now ++ x ∷ []) ≡ before
+first_push [] now x h = refl
+first_push (b ∷ before) [] x h = absurd (cc)
+first_push (b ∷ before) (y ∷ now) x h =
+    let head : y ≡ b = cc in
+    let tail : take (length before) now ≡ before = cc in
+    (λ i. head i ∷ first_push before now x tail i)
+
+pub adds_more : (number : ℕ) (cells left rest : List Cell) (k : Cell) (before now next : List (ℕ × Cell)) → left ≡ k ∷ rest → next ≡ now ++ (number, k) ∷ [] →
+    Adds number cells left before now → Adds number cells rest before next
+adds_more number cells left rest k before now next is pushed h = record {
+  ends = ap (λ ts. ts ++ numbered number rest) pushed ∙ append_assoc now ((number, k) ∷ []) (numbered number rest) ∙ ap (λ ks. now ++ numbered number ks) (sym is) ∙ h.ends;
+  first = ap (take (length before)) pushed ∙ first_push before now (number, k) h.first;
+}
+
+pub adds_all : (number : ℕ) (cells left : List Cell) (before now : List (ℕ × Cell)) → left ≡ [] → Adds number cells left before now → now ≡ before ++ numbered number cells
+adds_all number cells left before now is h = sym (append-nil now) ∙ ap (λ ks. now ++ numbered number ks) (sym is) ∙ h.ends
+
+-- ---- chains are trimmed
+
+-- the chains of the cells of the touches that are left will be trimmed, and the others are
+pub record Vacuums (f : ℕ) (before now : Cells Chain) (first left : List (ℕ × Cell)) (count : ℕ) : Type 0 where
+  pub rest : beyond f left ≡ beyond f first
+  pub same : (c : Cell) → trimmed f (chain_at now c) ≡ trimmed f (chain_at before c)
+  pub done :
+      ((c : Cell) → is_cell_among (within f first) c ≡ false → trimmed f (chain_at before c) ≡ chain_at before c) →
+      (c : Cell) → is_cell_among (within f left) c ≡ false → chain_at now c ≡ trimmed f (chain_at before c)
+  pub falls : size now ≤ size before
+  pub counted : count ≡ min (size before - size now) (2 ^ 64 - 1)
+
+pub vacuums_more :
+    (f : ℕ) (before now next : Cells Chain) (first left rest : List (ℕ × Cell)) (cell : Cell) (count n total : ℕ) → TakesWithin f cell left rest →
+    MakesAt cell (trimmed f) now next → size next + n ≡ size now → total ≡ min (count + n) (2 ^ 64 - 1) → Vacuums f before now first left count →
+    Vacuums f before next first rest total
+vacuums_more f before now next first left rest cell count n total takes made fewer adds h = record {
+  rest = sym beyond_left ∙ h.rest;
+  same = λ c. ap (trimmed f) (made c) ∙ twice (is_same_cell cell c) c ∙ h.same c;
+  done = λ idle c none. made c ∙ turn c (is_same_cell cell c) refl none (h.done idle c);
+  falls = omega (arith, fewer, h.falls);
+  counted = omega (arith, fewer, adds, h.falls, h.counted);
+}
+  where
+    low : leb takes.0 f ≡ true
+    low = le-leb takes.0 f takes.1
+
+    beyond_left : beyond f left ≡ beyond f rest
+    beyond_left = ap (beyond f) takes.2 ∙ ap (λ b. cond b (beyond f rest) ((takes.0, cell) ∷ rest)) low
+
+    within_left : within f left ≡ cell ∷ within f rest
+    within_left = ap (within f) takes.2 ∙ ap (λ b. cond b (cell ∷ within f rest) []) low
+
+    twice : (b : Bool) (c : Cell) → trimmed f (if b then trimmed f (chain_at now c) else chain_at now c) ≡ trimmed f (chain_at now c)
+    twice true c = trimmed_again f f (omega arith) (chain_at now c)
+    twice false c = refl
+
+    turn : (c : Cell) (b : Bool) → is_same_cell cell c ≡ b → is_cell_among (within f rest) c ≡ false →
+        (is_cell_among (within f left) c ≡ false → chain_at now c ≡ trimmed f (chain_at before c)) →
+        (if b then trimmed f (chain_at now c) else chain_at now c) ≡ trimmed f (chain_at before c)
+    turn c true same none later = h.same c
+    turn c false apart none later = later (ap (λ cells. is_cell_among cells c) within_left ∙ ap (λ b. b || is_cell_among (within f rest) c) (same_turned c cell ∙ apart) ∙ none)

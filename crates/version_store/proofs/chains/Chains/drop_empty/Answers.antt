@@ -1,0 +1,30 @@
+use Rattle.std.proofs.Common.{◌≡◌, sym, subst, ap, ◌∙◌}
+use Rattle.prog_tree.specs.declared.cell.Cell.{Cell}
+use Rattle.prog_tree.specs.Table.{Cells}
+use Rattle.version_store.specs.Reading.{chain_at}
+use Rattle.version_store.specs.StandsFor.{Chain, size}
+use Rattle.version_store.proofs.SizeLaws.{empty_leaves, size_removed}
+use Rattle.version_store.proofs.chains.Chains.drop_empty.Goals as goal
+use Rattle.version_store.proofs.chains.Chains.drop_empty.Goals.{in-Some-1, in-None-1}
+
+pub returns-then-is_empty-clause-chains : goal.returns-then-is_empty-clause-chains
+returns-then-is_empty-clause-chains c =
+    let m = c.self.inside.chains.entries in
+    let n = c.remove.new.self.entries in
+    let same = empty_leaves m n c.args.cell.now c.in-Some.chain.now c.in-Some.ensures.value c.if-is_empty.ensures c.remove.ensures.updates.0 in
+    rw (← c.self.view_is)
+    (elim c.match-remove.branch [
+      | in-Some-1 w ↦ subst (λ (x : Cells Chain). (cell : Cell) → chain_at x cell ≡ chain_at m cell) (sym w.self-is) same
+      | in-None-1 w ↦ subst (λ (x : Cells Chain). (cell : Cell) → chain_at x cell ≡ chain_at m cell) (sym w.self-is) same
+    ])
+
+pub returns-then-is_empty-clause-count : goal.returns-then-is_empty-clause-count
+returns-then-is_empty-clause-count c =
+    let m = c.self.inside.chains.entries in
+    let n = c.remove.new.self.entries in
+    let same = size_removed m n c.args.cell.now c.in-Some.chain.now c.in-Some.ensures.value c.if-is_empty.ensures c.remove.ensures.entries in
+    rw (← c.self.view_is)
+    (elim c.match-remove.branch [
+      | in-Some-1 w ↦ ap size w.self-is ∙ same
+      | in-None-1 w ↦ ap size w.self-is ∙ same
+    ])
