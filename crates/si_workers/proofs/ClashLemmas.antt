@@ -1,0 +1,97 @@
+-- Clashes of every call are told, where those of the calls of endings and jobs are.
+use Rattle.std.proofs.Common.{◌≡◌, ◌+◌, ◌⊎◌, inl, inr, refl, sym, subst, ◌∙◌, cond, Bool, true, false, ◌&&◌, ◌==◌, List, [], ◌∷◌, true≢false, slice_index_or, ◌↔◌}
+use Rattle.std.specs.Prelude.{IsTrue}
+use Rattle.std.specs.List.{All}
+use Rattle.std.specs.Cmp.Lexicographic.{pointwise}
+use Rattle.std.specs.Ordering.{int_eq}
+use Rattle.std.specs.Prelude.{Option}
+use Rattle.std.proofs.lemmas.Bool.Decides.{Decides-int_eq, Decides-eqb}
+use Rattle.std.proofs.lemmas.List.Elements.{All-head, All-tail}
+use Rattle.std.proofs.lemmas.List.Sums.{sum_by-cons}
+use Rattle.std.proofs.lemmas.Slice.Eq.{slice_eq-Decides}
+use Rattle.history_book.specs.declared.instances.row.Ending.{Ending}
+use Rattle.history_book.specs.declared.instances.row.Ending.TheVariants.{Committed, Clashed, Aborted}
+use Rattle.si_workers.specs.Calls.{Call, call_of, called_in, is_same_call}
+use Rattle.si_workers.specs.Counting.{Tidings, is_clash_of, clashes_in, clashes_of, clashes_kept, clashes_told}
+use Rattle.si_workers.specs.Outcomes.{AreAsMany, AreClashesTold, IsClashTold}
+use Rattle.si_workers.specs.declared.job.Job.{Job}
+use Rattle.si_workers.specs.declared.job.JobOutcome.{JobOutcome}
+
+first : (a b : Bool) → (a && b) ≡ true → a ≡ true
+first true b e = refl
+first false b e = e
+
+second : (a b : Bool) → (a && b) ≡ true → b ≡ true
+second true b e = e
+second false b e = absurd (true≢false (sym e))
+
+-- calls that the test finds the same are equal
+same_calls : (a b : Call) → is_same_call a b ≡ true → a ≡ b
+same_calls a b e =
+    let programs : a.program ≡ b.program = (Decides-eqb a.program b.program).0 (first (a.program == b.program) (pointwise int_eq a.args b.args) e) in
+    let args : a.args ≡ b.args = (slice_eq-Decides Decides-int_eq a.args b.args (pointwise int_eq a.args b.args) refl).0 (second (a.program == b.program) (pointwise int_eq a.args b.args) e) in
+    λ i. record { program = programs i; args = args i }
+
+-- what holds of a call holds of a call that is the same
+by_same : (P : Call → Type 0) (a b : Call) (test : Bool) → test ≡ is_same_call a b → P b → (P a) ⊎ (test ≡ false)
+by_same P a b true e h = inl (subst P (sym (same_calls a b (sym e))) h)
+by_same P a b false e h = inr refl
+
+-- a call of no ending that clashed has no clash
+kept-step : (P : Type 0) (call : Call) (e : Ending) (es : List Ending) → P ⊎ (is_clash_of call e ≡ false) → P ⊎ (clashes_kept call es ≡ 0) → P ⊎ (clashes_kept call (e ∷ es) ≡ 0)
+kept-step P call e es (inl h) more = inl h
+kept-step P call e es (inr none) (inl h) = inl h
+kept-step P call e es (inr none) (inr rest) = inr (sum_by-cons (λ x. cond (is_clash_of call x) 1 0) e es ∙ (λ i. cond (none i) 1 0 + rest i))
+
+kept-none : (call : Call) (E : List Ending) (T : Tidings) (e : Ending) → IsClashTold E T e → (AreAsMany E T call) ⊎ (is_clash_of call e ≡ false)
+kept-none call E T (Committed n) h = inr refl
+kept-none call E T (Clashed row clash) h = by_same (AreAsMany E T) call (called_in row) (is_same_call call (called_in row)) refl h
+kept-none call E T (Aborted row cause) h = inr refl
+
+kept-told : (call : Call) (E : List Ending) (T : Tidings) (es : List Ending) → All (IsClashTold E T) es → (AreAsMany E T call) ⊎ (clashes_kept call es ≡ 0)
+kept-told call E T [] h = inr refl
+kept-told call E T (e ∷ es) h =
+    kept-step (AreAsMany E T call) call e es (kept-none call E T e (All-head (IsClashTold E T) e es h)) (kept-told call E T es (All-tail (IsClashTold E T) e es h))
+
+-- a call of no job has no clash that is told
+told-step : (P : Type 0) (call : Call) (t : Job × Option JobOutcome) (ts : Tidings) → P ⊎ (is_same_call call (call_of t.0) ≡ false) → P ⊎ (clashes_told call ts ≡ 0) → P ⊎ (clashes_told call (t ∷ ts) ≡ 0)
+told-step P call t ts (inl h) more = inl h
+told-step P call t ts (inr none) (inl h) = inl h
+told-step P call t ts (inr none) (inr rest) = inr (sum_by-cons (clashes_of call) t ts ∙ (λ i. cond (none i) (clashes_in t.1) 0 + rest i))
+
+told-kept : (call : Call) (E : List Ending) (T : Tidings) (ts : Tidings) → All (λ t. AreAsMany E T (call_of t.0)) ts → (AreAsMany E T call) ⊎ (clashes_told call ts ≡ 0)
+told-kept call E T [] h = inr refl
+told-kept call E T (t ∷ ts) h =
+    told-step (AreAsMany E T call) call t ts
+    (by_same (AreAsMany E T) call (call_of t.0) (is_same_call call (call_of t.0)) refl (All-head (λ t. AreAsMany E T (call_of t.0)) t ts h))
+    (told-kept call E T ts (All-tail (λ t. AreAsMany E T (call_of t.0)) t ts h))
+
+from_none : (E : List Ending) (T : Tidings) (call : Call) → (AreAsMany E T call) ⊎ (clashes_kept call E ≡ 0) → (AreAsMany E T call) ⊎ (clashes_told call T ≡ 0) → AreAsMany E T call
+from_none E T call (inl h) told = h
+from_none E T call (inr none) (inl h) = h
+from_none E T call (inr none) (inr nothing) = none ∙ sym nothing
+
+-- as many clashes of every call are kept as told
+pub every_call : (E : List Ending) (T : Tidings) → All (IsClashTold E T) E → All (λ t. AreAsMany E T (call_of t.0)) T → AreClashesTold E T
+every_call E T kept told call = from_none E T call (kept-told call E T E kept) (told-kept call E T T told)
+
+-- and the converse
+kept_call : (E : List Ending) (T : Tidings) → AreClashesTold E T → (e : Ending) → IsClashTold E T e
+kept_call E T all (Committed n) = tt
+kept_call E T all (Clashed row clash) = all (called_in row)
+kept_call E T all (Aborted row cause) = tt
+
+pub each_ending : (E : List Ending) (T : Tidings) → AreClashesTold E T → All (IsClashTold E T) E
+each_ending E T all = λ k d lt. kept_call E T all (slice_index_or E k d)
+
+pub each_job : (E : List Ending) (T : Tidings) → AreClashesTold E T → All (λ t. AreAsMany E T (call_of t.0)) T
+each_job E T all = λ k d lt. all (call_of (slice_index_or T k d).0)
+
+-- so two tests tell it
+pub all_told : (E F : List Ending) (T U : Tidings) (kept told : Bool) → E ≡ F → T ≡ U → IsTrue kept ↔ All (IsClashTold E T) F → IsTrue told ↔ All (λ t. AreAsMany E T (call_of t.0)) U → IsTrue (kept && told) ↔ AreClashesTold F U
+all_told E F T U kept told e f h k =
+    let is_kept : IsTrue kept ↔ All (IsClashTold F U) F = subst (λ (p : List Ending × Tidings). IsTrue kept ↔ All (IsClashTold p.0 p.1) F) (λ i. (e i, f i)) h in
+    let is_told : IsTrue told ↔ All (λ t. AreAsMany F U (call_of t.0)) U = subst (λ (p : List Ending × Tidings). IsTrue told ↔ All (λ t. AreAsMany p.0 p.1 (call_of t.0)) U) (λ i. (e i, f i)) k in (
+      λ b. every_call F U (is_kept.0 (first kept told b)) (is_told.0 (second kept told b)),
+      λ all. (λ i. is_kept.1 (each_ending F U all) i && is_told.1 (each_job F U all) i),
+    )

@@ -1,0 +1,103 @@
+-- What workers share says the same to every thread, and a closure over it may go to a thread.
+use mathlib.Core.List.{List, [], ◌∷◌}
+use Prim.Native.Nat.{ℕ}
+use denote.RattleType.{RattleType}
+use denote.Param.{param}
+use denote.Ref.{NamedLft, ShrRef}
+use denote.Slice.{ShrSlice}
+use denote.Struct.Declared.{shape}
+use denote.Struct.Tuple.{TupleAt, field_at, type_at}
+use denote.Param.Send.{IsSend, IsSync, AllSend, recorded_send, shr_send, shr_slice_send, struct_send, view_send, view_sync, sendable}
+use Rattle.std.proofs.Crossing as std
+use Rattle.std.proofs.MapsCrossing as maps
+use Rattle.std.specs.contracts.alloc.Global as heap
+use Rattle.std.proofs.alloc.Global.TheSendSync as heap-crossing
+use Rattle.job_counter.specs.contracts.Counter as counter
+use Rattle.job_counter.specs.contracts.Pass as pass
+use Rattle.job_counter.proofs.Counter.TheSendSync as counter-crossing
+use Rattle.job_counter.proofs.Pass.TheSendSync as pass-crossing
+use Rattle.prog_tree.specs.contracts.program.Draft as draft
+use Rattle.prog_tree.proofs.expr.Expr.TheLaws.TheKnot as expr-knot
+use Rattle.prog_tree.proofs.stmt.Stmt.TheLaws.TheKnot as stmt-knot
+use Rattle.prog_check.proofs.names.Names.TheSendSync as names-crossing
+use Rattle.prog_check.specs.contracts.set.ProgramSet as set
+use Rattle.prog_check.specs.contracts.set.ProgramSet.TheInside as set-inside
+use Rattle.version_store.proofs.store.Store.TheSendSync as store-crossing
+use Rattle.history_book.specs.contracts.book.Book as book
+use Rattle.history_book.specs.contracts.book.Book.TheInside as book-inside
+use Rattle.history_book.proofs.instances.active.Active.TheSendSync as active-crossing
+use Rattle.history_book.proofs.instances.row.Ending.TheSendSync as ending-crossing
+use Rattle.history_book.proofs.instances.row.HistoryRow.TheSendSync as row-crossing
+use Rattle.history_book.proofs.orders.trace.Trace.TheSendSync as trace-crossing
+use Rattle.si_workers.specs.contracts.job.Job as job
+use Rattle.si_workers.proofs.job.Job.TheSendSync as job-crossing
+use Rattle.si_workers.specs.contracts.shared.SharedBook as shared
+
+-- trees hold themselves, so they go by the rules that their rings have
+draft-sync : IsSync (draft.the_field).row
+draft-sync = search (std.crosses, expr-knot.crosses, stmt-knot.crosses, sendable) depth 60 fits 20000
+
+pub set-sync : IsSync set.the_row
+set-sync = view_sync set-inside.the_row _ _ _ _ (search (draft-sync, names-crossing.the_sync, sendable) depth 60 fits 20000)
+
+pub book-send : (a : NamedLft) → IsSend (book.the_row a)
+book-send a =
+    view_send (book-inside.the_row a) _ _ _ _ (search (
+      set-sync,
+      store-crossing.the_send,
+      active-crossing.the_send,
+      ending-crossing.the_send,
+      row-crossing.the_send,
+      trace-crossing.the_send,
+      std.crosses,
+      maps.crosses,
+      sendable,
+    ) depth 60 fits 20000)
+
+pub shared-sync : (a : NamedLft) → IsSync (shared.the_row a)
+shared-sync a = search (book-send, std.crosses, sendable) depth 60 fits 20000
+
+job-sync : IsSync job.the_row
+job-sync = search (job-crossing.the_sync, std.crosses, sendable) depth 60 fits 20000
+
+counter-sync : IsSync counter.the_row
+counter-sync = search (counter-crossing.the_sync, std.crosses, sendable) depth 60 fits 20000
+
+pass-send : IsSend pass.the_row
+pass-send = search (pass-crossing.the_send, std.crosses, sendable) depth 60 fits 20000
+
+-- the runtime, the allocator, the set, the shared book, the jobs, the counter, a pass and the gate
+module _ (R G : RattleType) (r s b a j c g : NamedLft) where
+  abbrev captured : List RattleType
+  captured =
+      ShrRef r.mir r.lft (param 0 R)
+      ∷ heap.the_row
+      ∷ ShrRef s.mir s.lft set.the_row
+      ∷ ShrRef b.mir b.lft (shared.the_row a)
+      ∷ ShrSlice j.mir j.lft job.the_row
+      ∷ ShrRef c.mir c.lft counter.the_row
+      ∷ pass.the_row
+      ∷ ShrRef g.mir g.lft (param 1 G)
+      ∷ []
+
+  captured-send : IsSync (param 0 R) → IsSync (param 1 G) → AllSend captured
+  captured-send runtime gate = (
+    shr_send r.mir r.lft (param 0 R) runtime,
+    (
+      heap-crossing.the_send,
+      (
+        shr_send s.mir s.lft set.the_row set-sync,
+        (
+          shr_send b.mir b.lft (shared.the_row a) (shared-sync a),
+          (
+            shr_slice_send j.mir j.lft job.the_row job-sync,
+            (shr_send c.mir c.lft counter.the_row counter-sync, (pass-send, (shr_send g.mir g.lft (param 1 G) gate, tt))),
+          ),
+        ),
+      ),
+    ),
+  )
+
+  pub closure-send : (name : List ℕ) → IsSync (param 0 R) → IsSync (param 1 G) → IsSend (TupleAt name captured)
+  closure-send name runtime gate =
+      recorded_send (field_at name captured).row _ _ (type_at name captured).to_one (struct_send (shape (type_at name captured)) (captured-send runtime gate))

@@ -1,0 +1,161 @@
+-- Reports that come in one after another.
+use Rattle.std.proofs.Common.{◌≡◌, ℕ, zero, suc, ◌<◌, ◌≤◌, ◌==◌, Bool, true, false, cond, List, [], ◌∷◌, ◌++◌, length, map, refl, ap, sym, ◌∙◌, subst, arith}
+use Rattle.std.specs.Prelude.{Option, Some, None, flat_map, slice_get, slice_set}
+use Rattle.std.specs.Option.{option_map}
+use Rattle.std.proofs.lemmas.Bool.Decides.{nat_tests}
+use Rattle.std.proofs.lemmas.List.{append-nil, append_assoc, length-map}
+use Rattle.std.proofs.lemmas.List.Concat.{flat_map-append}
+use Rattle.std.proofs.lemmas.Option.{slice_get-map, slice_get_past}
+use Rattle.si_workers.specs.Counting.{Tidings}
+use Rattle.si_workers.specs.Gathered.{with_one, with_all, AreToldMore}
+use Rattle.si_workers.specs.OutcomeIn.{outcome_in}
+use Rattle.si_workers.specs.Told.{Report, outcomes_of, only, AreTold}
+use Rattle.si_workers.specs.declared.job.Job.{Job}
+use Rattle.si_workers.specs.declared.job.JobOutcome.{JobOutcome}
+use Rattle.si_workers.specs.declared.told.Told.{Told}
+use Rattle.si_workers.specs.declared.worker.Done.{Done}
+use Rattle.si_workers.specs.declared.told.Told.TheVariants.{Nothing, Often}
+
+-- ---- places of a list
+
+module _ {X : Type 0} where
+  get-set : (xs : List X) (i : ℕ) (x : X) → i < length xs → slice_get (slice_set xs i x) i ≡ Some x
+  get-set [] i x within = absurd (omega (arith, within))
+  get-set (y ∷ ys) zero x within = refl
+  get-set (y ∷ ys) (suc i) x within = get-set ys i x (omega (arith, within))
+
+  get-set_other : (xs : List X) (i k : ℕ) (x : X) → (i ≡ k → ⊥) → slice_get (slice_set xs i x) k ≡ slice_get xs k
+  get-set_other [] i k x other = refl
+  get-set_other (y ∷ ys) zero zero x other = absurd (other refl)
+  get-set_other (y ∷ ys) zero (suc k) x other = refl
+  get-set_other (y ∷ ys) (suc i) zero x other = refl
+  get-set_other (y ∷ ys) (suc i) (suc k) x other = get-set_other ys i k x (λ is. other (ap suc is))
+
+  -- a loop that takes one more of a list, and one that took all
+  pub more_yielded : (yielded rest all left : List X) (x : X) → yielded ++ left ≡ all → left ≡ x ∷ rest → (yielded ++ x ∷ []) ++ rest ≡ all
+  more_yielded yielded rest all left x is first = append_assoc yielded (x ∷ []) rest ∙ ap (λ (l : List X). yielded ++ l) (sym first) ∙ is
+
+  pub all_yielded : (yielded left all : List X) → yielded ++ left ≡ all → length left ≡ 0 → yielded ≡ all
+  all_yielded yielded [] all is none = sym (append-nil yielded) ∙ is
+  all_yielded yielded (x ∷ left) all is none = absurd (omega (arith, none))
+
+-- ---- one report after another
+
+with-append : (os ps : List JobOutcome) (t : Told) → with_all ps (with_all os t) ≡ with_all (os ++ ps) t
+with-append [] ps t = refl
+with-append (o ∷ os) ps t = with-append os ps (with_one t o)
+
+both : (os ps : List JobOutcome) (x : Option Told) → option_map (with_all ps) (option_map (with_all os) x) ≡ option_map (with_all (os ++ ps)) x
+both os ps None = refl
+both os ps (Some t) = ap Some (with-append os ps t)
+
+as-before : (x : Option Told) → x ≡ option_map (with_all []) x
+as-before None = refl
+as-before (Some t) = refl
+
+pub told-none : (ts : List Told) → AreToldMore ts ts []
+told-none ts k = as-before (slice_get ts k)
+
+pub told-start : (ts us : List Told) → us ≡ ts → AreToldMore ts us []
+told-start ts us same = subst (λ (vs : List Told). AreToldMore ts vs []) (sym same) (told-none ts)
+
+-- the reports of one list, and those of another behind it
+pub told-both :
+    (first next last : List Told) (rs ss : List Report) → AreToldMore first next rs → AreToldMore next last ss → AreToldMore first last (rs ++ ss)
+told-both first next last rs ss one two k =
+    let os = outcomes_of k rs in
+    let ps = outcomes_of k ss in
+    let split : outcomes_of k (rs ++ ss) ≡ os ++ ps = flat_map-append _ rs ss in
+    two k
+    ∙ ap (option_map (with_all ps)) (one k)
+    ∙ both os ps (slice_get first k)
+    ∙ sym (ap (λ (qs : List JobOutcome). option_map (with_all qs) (slice_get first k)) split)
+
+abbrev reports_in : Done → List Report
+reports_in one = one.reports.items
+
+-- the reports of one worker more
+pub told-worker :
+    (first next last : List Told) (done : List Done) (one : Done) → AreToldMore first next (flat_map reports_in done) → AreToldMore next last one.reports.items →
+    AreToldMore first last (flat_map reports_in (done ++ one ∷ []))
+told-worker first next last done one before more =
+    let is : flat_map reports_in (done ++ one ∷ []) ≡ flat_map reports_in done ++ one.reports.items =
+    flat_map-append reports_in done (one ∷ []) ∙ ap (λ (rs : List Report). flat_map reports_in done ++ rs) (append-nil (reports_in one)) in
+    subst (AreToldMore first last) (sym is) (told-both first next last (flat_map reports_in done) one.reports.items before more)
+
+-- a report of no job changes nothing
+pub told-past : (ts : List Told) (j : ℕ) (o : JobOutcome) → length ts ≤ j → AreToldMore ts ts ((j, o) ∷ [])
+told-past ts j o past k = go (j == k) refl
+  where
+    go : (b : Bool) → (j == k) ≡ b → slice_get ts k ≡ option_map (with_all (cond b (o ∷ []) [] ++ [])) (slice_get ts k)
+    go false is = as-before (slice_get ts k)
+    go true is =
+        let same : j ≡ k = grind (arith, nat_tests) in
+        let none : slice_get ts k ≡ None = slice_get_past ts k (omega (arith, past, same)) in
+        none ∙ sym (ap (option_map (with_all (o ∷ []))) none)
+
+-- a report of a job is told of it
+pub told-one :
+    (before after : List Told) (j : ℕ) (t : Told) (o : JobOutcome) → j < length before → slice_get before j ≡ Some t → after ≡ slice_set before j (with_one t o) →
+    AreToldMore before after ((j, o) ∷ [])
+told-one before after j t o within found is k = go (j == k) refl
+  where
+    go : (b : Bool) → (j == k) ≡ b → slice_get after k ≡ option_map (with_all (cond b (o ∷ []) [] ++ [])) (slice_get before k)
+    go false differ =
+        let other : j ≡ k → ⊥ = λ (e : j ≡ k). grind (arith, nat_tests) in
+        ap (λ (ts : List Told). slice_get ts k) is ∙ get-set_other before j k (with_one t o) other ∙ as-before (slice_get before k)
+    go true equal =
+        let same : j ≡ k = grind (arith, nat_tests) in
+        let v = with_one t o in
+        let at : slice_get before k ≡ Some t = sym (ap (slice_get before) same) ∙ found in
+        let now : slice_get after k ≡ Some v =
+        ap (λ (ts : List Told). slice_get ts k) is ∙ sym (ap (slice_get (slice_set before j v)) same) ∙ get-set before j v within in
+        now ∙ sym (ap (option_map (with_all (o ∷ []))) at)
+
+-- ---- what is kept in the end
+
+often-stays : (os : List JobOutcome) → with_all os Often ≡ Often
+often-stays [] = refl
+often-stays (o ∷ os) = often-stays os
+
+kept-is : (os : List JobOutcome) → outcome_in (with_all os Nothing) ≡ only os
+kept-is [] = refl
+kept-is (o ∷ []) = refl
+kept-is (o ∷ p ∷ os) = ap outcome_in (often-stays os)
+
+abbrev nothing : Job → Told
+nothing job = Nothing
+
+same-length : (f : ℕ → List JobOutcome) (before after : List Told) → ((k : ℕ) → slice_get after k ≡ option_map (with_all (f k)) (slice_get before k)) → length before ≡ length after
+same-length f [] [] more = refl
+same-length f [] (a ∷ later) more = let is : Some a ≡ None = more zero in absurd (cc)
+same-length f (b ∷ bs) [] more = let is : None ≡ Some (with_all (f zero) b) = more zero in absurd (cc)
+same-length f (b ∷ bs) (a ∷ later) more = ap suc (same-length (λ k. f (suc k)) bs later (λ k. more (suc k)))
+
+-- something is kept of each job
+pub told-long : (jobs : List Job) (told : List Told) (reports : List Report) → AreToldMore (map nothing jobs) told reports → length jobs ≡ length told
+told-long jobs told reports more =
+    sym (length-map jobs nothing) ∙ same-length (λ k. outcomes_of k reports) (map nothing jobs) told more
+
+-- jobs with what the reports tell of each
+pub told-of :
+    (jobs : List Job) (told : List Told) (reports : List Report) (ts : Tidings) → AreToldMore (map nothing jobs) told reports →
+    map (λ t. t.0) ts ≡ jobs → map (λ t. t.1) ts ≡ map outcome_in told → AreTold jobs reports ts
+told-of jobs told reports ts more of_jobs of_told = record { of_jobs = of_jobs; each = each }
+  where
+    each : (k : ℕ) (t : Job × Option JobOutcome) → slice_get ts k ≡ Some t → t.1 ≡ only (outcomes_of k reports)
+    each k t at =
+        let os = outcomes_of k reports in
+        let is : Some t.1 ≡ option_map outcome_in (option_map (with_all os) (option_map nothing (slice_get jobs k))) =
+        sym (ap (option_map (λ (u : Job × Option JobOutcome). u.1)) at)
+        ∙ sym (slice_get-map (λ (u : Job × Option JobOutcome). u.1) ts k)
+        ∙ ap (λ (xs : List (Option JobOutcome)). slice_get xs k) of_told
+        ∙ slice_get-map outcome_in told k
+        ∙ ap (option_map outcome_in) (more k)
+        ∙ ap (λ (x : Option Told). option_map outcome_in (option_map (with_all os) x)) (slice_get-map nothing jobs k) in
+        go (slice_get jobs k) is ∙ kept-is os
+      where
+        go : (x : Option Job) → Some t.1 ≡ option_map outcome_in (option_map (with_all (outcomes_of k reports)) (option_map nothing x)) →
+            t.1 ≡ outcome_in (with_all (outcomes_of k reports) Nothing)
+        go None is = absurd (cc)
+        go (Some job) is = cc

@@ -1,0 +1,110 @@
+-- Keys that compare equal, and tallies of them.
+use Rattle.std.proofs.Common.{◌≡◌, ℕ, ◌+◌, ◌<◌, length, take, get_or, min, refl, sym, ap, ◌∙◌, Bool, true, false, ◌&&◌, ◌==◌, List, [], ◌∷◌, ℤ, arith, if◌then◌else◌}
+use Rattle.std.specs.Cmp.Lexicographic.{slice_cmp, pointwise}
+use Rattle.std.specs.Ordering.{nat_cmp, int_cmp, int_eq, ordering_then, is_eq}
+use Rattle.std.specs.declared.cmp.Ordering.{Ordering}
+use Rattle.std.specs.declared.cmp.Ordering.TheVariants.{Less, Equal, Greater}
+use Rattle.std.proofs.lemmas.Bool.Decides.{nat_tests}
+use Rattle.std.proofs.lemmas.Cmp.{int_eq_equiv, eq_by_cmp_equiv, lists_equiv}
+use Rattle.std.specs.List.{sum_by}
+use Rattle.std.proofs.lemmas.List.Sums.{sum_by_more}
+use Rattle.prog_tree.proofs.TableLemmas.{cell_total}
+use Rattle.prog_tree.specs.Table.{cell_cmp}
+use Rattle.prog_tree.specs.declared.deed.Cause.{Cause}
+use Rattle.version_store.specs.declared.clash.Clash.{Clash}
+use Rattle.si_workers.specs.Calls.{Call, is_same_call, is_same_cause, is_same_clash}
+use Rattle.si_workers.specs.Counts.{more, most}
+use Rattle.si_workers.specs.Keys.{call_at, cause_at, clash_at, call_cmp, cause_cmp, counted_if, abort_cmp, clash_cmp}
+use Rattle.si_workers.specs.declared.call.AbortKey.{AbortKey}
+use Rattle.si_workers.specs.declared.call.CallKey.{CallKey}
+use Rattle.si_workers.specs.declared.call.CauseKey.{CauseKey}
+use Rattle.si_workers.specs.declared.call.CauseKey.TheVariants.{Asked, Missing, Present, Overflow}
+use Rattle.si_workers.specs.declared.call.ClashKey.{ClashKey}
+
+-- ---- keys that compare equal
+
+then-tie : (a b : Ordering) → is_eq (ordering_then a b) ≡ (is_eq a && is_eq b)
+then-tie Less b = refl
+then-tie Equal b = refl
+then-tie Greater b = refl
+
+-- the second to the first, as the tests of endings and jobs have it
+nat-tie : (x y : ℕ) → is_eq (nat_cmp x y) ≡ (y == x)
+nat-tie x y = grind (arith, nat_tests)
+
+lists-tie : (xs ys : List ℤ) → is_eq (slice_cmp int_cmp xs ys) ≡ pointwise int_eq xs ys
+lists-tie [] [] = refl
+lists-tie [] (y ∷ ys) = refl
+lists-tie (x ∷ xs) [] = refl
+lists-tie (x ∷ xs) (y ∷ ys) = then-tie (int_cmp x y) (slice_cmp int_cmp xs ys) ∙ ap (λ b. int_eq x y && b) (lists-tie xs ys)
+
+lists-tie_back : (xs ys : List ℤ) → is_eq (slice_cmp int_cmp xs ys) ≡ pointwise int_eq ys xs
+lists-tie_back xs ys = lists-tie xs ys ∙ (lists_equiv int_eq_equiv).symm xs ys
+
+both : (a b c d : Bool) → a ≡ b → c ≡ d → (a && c) ≡ (b && d)
+both a b c d e f = λ i. e i && f i
+
+pub call-tie : (a b : CallKey) → is_eq (call_cmp a b) ≡ is_same_call (call_at b) (call_at a)
+call-tie a b =
+    then-tie (nat_cmp a.program b.program) (slice_cmp int_cmp a.args.now b.args.now)
+    ∙ both _ _ _ _ (nat-tie a.program b.program) (lists-tie_back a.args.now b.args.now)
+
+cause-tie : (a b : CauseKey) → is_eq (cause_cmp a b) ≡ is_same_cause (cause_at b) (cause_at a)
+cause-tie Asked Asked = refl
+cause-tie Asked (Missing d) = refl
+cause-tie Asked (Present d) = refl
+cause-tie Asked Overflow = refl
+cause-tie (Missing c) Asked = refl
+cause-tie (Missing c) (Missing d) = (eq_by_cmp_equiv cell_total).symm c d
+cause-tie (Missing c) (Present d) = refl
+cause-tie (Missing c) Overflow = refl
+cause-tie (Present c) Asked = refl
+cause-tie (Present c) (Missing d) = refl
+cause-tie (Present c) (Present d) = (eq_by_cmp_equiv cell_total).symm c d
+cause-tie (Present c) Overflow = refl
+cause-tie Overflow Asked = refl
+cause-tie Overflow (Missing d) = refl
+cause-tie Overflow (Present d) = refl
+cause-tie Overflow Overflow = refl
+
+pub abort-tie : (a b : AbortKey) → is_eq (abort_cmp a b) ≡ (is_same_call (call_at b.call) (call_at a.call) && is_same_cause (cause_at b.cause) (cause_at a.cause))
+abort-tie a b = then-tie (call_cmp a.call b.call) (cause_cmp a.cause b.cause) ∙ both _ _ _ _ (call-tie a.call b.call) (cause-tie a.cause b.cause)
+
+pub clash-tie : (a b : ClashKey) → is_eq (clash_cmp a b) ≡ (is_same_call (call_at b.call) (call_at a.call) && is_same_clash (clash_at b) (clash_at a))
+clash-tie a b =
+    then-tie (call_cmp a.call b.call) (ordering_then (cell_cmp a.cell b.cell) (nat_cmp a.number b.number))
+    ∙ both _ _ _ _ (call-tie a.call b.call)
+    (then-tie (cell_cmp a.cell b.cell) (nat_cmp a.number b.number) ∙ both _ _ _ _ ((eq_by_cmp_equiv cell_total).symm a.cell b.cell) (nat-tie a.number b.number))
+
+-- ---- counts on the way
+
+-- where so many more are counted by a test, so are they in the sum
+pub counted_more : (old new sum times : ℕ) (test : Bool) → old ≡ min sum most → new ≡ counted_if test times old → new ≡ min (sum + (if test then times else 0)) most
+counted_more old new sum times true e f = omega arith
+counted_more old new sum times false e f = omega arith
+
+-- an abort of a call by a cause was noted
+pub abort_noted : (key q : AbortKey) (call : Call) (by : Cause) (old new : ℕ) (test : Bool) → call_at key.call ≡ call → cause_at key.cause ≡ by → test ≡ (is_same_call (call_at q.call) call && is_same_cause (cause_at q.cause) by) → new ≡ more abort_cmp key 1 q old → new ≡ counted_if test 1 old
+abort_noted key q call by old new test e f t n =
+    n ∙ ap (λ b. counted_if b 1 old) (abort-tie key q ∙ (λ i. is_same_call (call_at q.call) (e i) && is_same_cause (cause_at q.cause) (f i)) ∙ sym t)
+
+-- a call was noted
+pub call_noted : (key q : CallKey) (call : Call) (times old new : ℕ) (test : Bool) → call_at key ≡ call → test ≡ is_same_call (call_at q) call → new ≡ more call_cmp key times q old → new ≡ counted_if test times old
+call_noted key q call times old new test e t n = n ∙ ap (λ b. counted_if b times old) (call-tie key q ∙ ap (is_same_call (call_at q)) e ∙ sym t)
+
+-- a clash of a call was noted
+pub clash_noted : (key q : ClashKey) (call : Call) (on : Clash) (old new : ℕ) (test : Bool) → call_at key.call ≡ call → clash_at key ≡ on → test ≡ (is_same_call (call_at q.call) call && is_same_clash (clash_at q) on) → new ≡ more clash_cmp key 1 q old → new ≡ counted_if test 1 old
+clash_noted key q call on old new test e f t n =
+    n ∙ ap (λ b. counted_if b 1 old) (clash-tie key q ∙ (λ i. is_same_call (call_at q.call) (e i) && is_same_clash (clash_at q) (f i)) ∙ sym t)
+
+-- a number was noted
+pub number_noted : (key q old new : ℕ) → new ≡ more nat_cmp key 1 q old → new ≡ counted_if (q == key) 1 old
+number_noted key q old new n = n ∙ ap (λ b. counted_if b 1 old) (nat-tie key q)
+
+-- one more element of a list was counted
+pub tally-step : {X : Type 0} (test : X → Bool) (times : X → ℕ) (xs : List X) (i : ℕ) (x : X) (old new : ℕ) → i < length xs → x ≡ get_or xs i x → old ≡ min (sum_by (λ x. if test x then times x else 0) (take i xs)) most → new ≡ counted_if (test x) (times x) old → new ≡ min (sum_by (λ x. if test x then times x else 0) (take (i + 1) xs)) most
+tally-step {X} test times xs i x old new lt at e f =
+    let term : X → ℕ = λ x. if test x then times x else 0 in
+    counted_more old new (sum_by term (take i xs)) (times x) (test x) e f
+    ∙ ap (λ n. min (sum_by term (take i xs) + n) most) (ap term at)
+    ∙ ap (λ s. min s most) (sym (sum_by_more term xs i x lt))

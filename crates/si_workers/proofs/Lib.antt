@@ -1,0 +1,9 @@
+mod BegunLaws
+pub mod ClashLemmas
+pub mod CountLemmas
+mod CrossingLaws
+mod GatherLaws
+mod JobVectors
+pub mod KeyLemmas
+mod RunLaws
+mod Vectors

@@ -1,0 +1,7 @@
+use Rattle.std.proofs.Common.{take}
+use Rattle.si_workers.specs.Counting.{commits_told}
+use Rattle.si_workers.specs.Keys.{TalliesNumbers}
+use Rattle.si_workers.proofs.counts.told_commits.Given as goal
+
+abbrev pub invariant-loop-tiding : goal.invariant-loop-tiding
+invariant-loop-tiding l = TalliesNumbers (λ number. commits_told number (take l.tiding-index l.tidings)) l.tally

@@ -1,0 +1,5 @@
+use Rattle.std.proofs.Common.{◌≡◌, ◌+◌}
+use Rattle.si_workers.proofs.worker.run_job.Given as goal
+
+abbrev pub invariant-loop-clashes : goal.invariant-loop-clashes
+invariant-loop-clashes g l = g.D.Desk.ended l.desk ≡ g.D.Desk.ended l.initial.desk + l.clashes

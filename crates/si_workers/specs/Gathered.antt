@@ -1,0 +1,23 @@
+-- What was told of jobs, as reports come in.
+use Rattle.std.specs.Prelude.{◌≡◌, ℕ, List, [], ◌∷◌, slice_get}
+use Rattle.std.specs.Option.{option_map}
+use Rattle.si_workers.specs.declared.job.JobOutcome.{JobOutcome}
+use Rattle.si_workers.specs.declared.told.Told.{Told}
+use Rattle.si_workers.specs.declared.told.Told.TheVariants.{Nothing, Once, Often}
+use Rattle.si_workers.specs.Told.{Report, outcomes_of}
+
+-- one more outcome was told
+abbrev pub with_one : Told → JobOutcome → Told
+with_one Nothing outcome = Once outcome
+with_one (Once first) outcome = Often
+with_one Often outcome = Often
+
+-- more outcomes were told
+abbrev pub with_all : List JobOutcome → Told → Told
+with_all [] t = t
+with_all (outcome ∷ more) t = with_all more (with_one t outcome)
+
+-- of each job the outcomes that the reports have of it were told
+abbrev pub AreToldMore : (before after : List Told) → List Report → Type 0
+AreToldMore before after reports =
+    (k : ℕ) → slice_get after k ≡ option_map (with_all (outcomes_of k reports)) (slice_get before k)

@@ -1,0 +1,114 @@
+-- What a worker does, and what comes of work.
+use Rattle.std.specs.Prelude.{◌≡◌, ⊤, ℕ, zero, suc, ◌+◌, ◌-◌, ◌<◌, ◌≤◌, ◌^◌, ◌⊎◌, List, [], ◌∷◌, ◌++◌, length, map, take, Option, Some, None, slice_get, IfSome}
+use Rattle.std.specs.Option.{option_and_then}
+use Rattle.prog_tree.specs.declared.program.Draft.{Draft}
+use Rattle.prog_tree.specs.Table.{TableState}
+use Rattle.prog_run.specs.View.{RunView}
+use Rattle.history_book.specs.TrueBook.{IsTrueBook}
+use Rattle.history_book.specs.View.{BookView}
+use Rattle.si_workers.specs.Counting.{Tidings}
+use Rattle.si_workers.specs.Outcomes.{AreRightTries, OutcomesCorrespond, IsBroken}
+use Rattle.si_workers.specs.Told.{Report}
+use Rattle.si_workers.specs.declared.fault.WorkFault.{WorkFault}
+use Rattle.si_workers.specs.declared.fault.WorkFault.TheVariants as fault
+use Rattle.si_workers.specs.declared.job.Job.{Job}
+use Rattle.si_workers.specs.declared.job.JobEnd.{JobEnd}
+use Rattle.si_workers.specs.declared.job.JobEnd.TheVariants as end
+use Rattle.si_workers.specs.declared.job.JobOutcome.{JobOutcome}
+use Rattle.si_workers.specs.declared.worker.Tried.{Tried}
+use Rattle.si_workers.specs.declared.worker.Tried.TheVariants as tried
+use Rattle.si_workers.specs.declared.worker.Came.{Came}
+use Rattle.si_workers.specs.declared.worker.Came.TheVariants as came
+use Rattle.si_workers.specs.declared.worker.Drawn.{Drawn}
+use Rattle.si_workers.specs.declared.worker.Drawn.TheVariants as drawn
+
+-- ---- a worker
+
+-- how many instances a try ended in the book, where it tells
+abbrev pub IsTried : (before after : ℕ) → Tried → Type 0
+IsTried before after (tried.Committed number replies) = after ≡ before + 1
+IsTried before after (tried.Aborted cause) = after ≡ before + 1
+IsTried before after (tried.Refused why) = after ≡ before
+IsTried before after (tried.Clashed clash) = after ≡ before + 1
+IsTried before after tried.Lost = after ≡ before
+IsTried before after tried.NoMemory = after ≡ before
+
+-- a commit has the replies of its run
+abbrev pub IsCommitOf : RunView → Tried → Type 0
+IsCommitOf run (tried.Committed number replies) = replies ≡ run.replies
+IsCommitOf run (tried.Aborted cause) = ⊤
+IsCommitOf run (tried.Refused why) = ⊤
+IsCommitOf run (tried.Clashed clash) = ⊤
+IsCommitOf run tried.Lost = ⊤
+IsCommitOf run tried.NoMemory = ⊤
+
+-- how many instances a job ended beside those that clashed before its last try
+abbrev pub last_try : JobEnd → ℕ
+last_try (end.Committed number replies) = 1
+last_try (end.Aborted cause) = 1
+last_try (end.Clashed clash) = 0
+last_try (end.Refused why) = 0
+
+-- a job has as many tries as its outcome says, and ended just so many instances; without an outcome no more
+abbrev pub IsOver : Job → (before after : ℕ) → Came → Type 0
+IsOver job before after (came.Ended outcome) =
+    AreRightTries job.retries outcome.clashes outcome.job_end
+    × (after ≡ before + outcome.clashes + last_try outcome.job_end)
+IsOver job before after came.Lost = after ≤ before + job.retries + 1
+IsOver job before after came.NoMemory = after ≤ before + job.retries + 1
+
+-- the number of the job that ended was drawn; where none did no number is lost
+abbrev pub IsDrawn : (before after : List ℕ) → Drawn → Type 0
+IsDrawn before after (drawn.Ended number outcome) = after ≡ before ++ number ∷ []
+IsDrawn before after drawn.Nothing = (more : List ℕ) × (after ≡ before ++ more)
+IsDrawn before after drawn.NoMemory = (more : List ℕ) × (after ≡ before ++ more)
+
+-- the reports are of the first numbers that the pass drew, in their order
+abbrev pub AreDrawn : List Report → List ℕ → Type 0
+AreDrawn reports numbers = map (λ r. r.0) reports ≡ take (length reports) numbers
+
+-- ---- refusals
+
+-- the outcome where there is exactly one of the job
+abbrev pub outcome_at : Tidings → ℕ → Option JobOutcome
+outcome_at ts job = option_and_then (λ t. t.1) (slice_get ts job)
+
+-- what is told of some jobs does not correspond to the book, and this job is named with its outcome
+pub record IsNamed (set : Draft) (opening : TableState) (jobs : List Job) (job : ℕ) (outcome : Option JobOutcome) (v : BookView) : Type 0
+  where
+    pub ts : Tidings
+    pub of_jobs : map (λ t. t.0) ts ≡ jobs
+    pub broken : IsBroken set opening ts v job
+    pub its_outcome : outcome ≡ outcome_at ts job
+
+-- a number of workers that is refused, and one that is not
+abbrev pub IsWrongNumber : ℕ → Type 0
+IsWrongNumber workers = (workers ≡ 0) ⊎ (8 < workers)
+
+abbrev pub IsRightNumber : ℕ → Type 0
+IsRightNumber workers = (0 < workers) × (workers ≤ 8)
+
+-- so many jobs are refused
+abbrev pub AreTooMany : List Job → Type 0
+AreTooMany jobs = 100000 < length jobs
+
+-- neither the number of workers nor that of the jobs is refused
+pub record AreTaken (workers : ℕ) (jobs : List Job) : Type 0 where
+  pub number : IsRightNumber workers
+  pub few : length jobs ≤ 100000
+
+-- the jobs that were done, where so many threads started
+abbrev pub jobs_by : (started : ℕ) → List Job → List Job
+jobs_by zero jobs = []
+jobs_by (suc n) jobs = jobs
+
+-- why work was refused, or what is wrong with it; a book that is handed out is a true book
+abbrev pub IsWorkFault : Draft → TableState → List Job → (workers : ℕ) → WorkFault → Type 0
+IsWorkFault set opening jobs workers fault.Workers = IsWrongNumber workers
+IsWorkFault set opening jobs workers fault.TooManyJobs = IsRightNumber workers × AreTooMany jobs
+IsWorkFault set opening jobs workers (fault.NoThread started outcomes book) =
+    AreTaken workers jobs × IsTrueBook book × (started < workers)
+    × OutcomesCorrespond set opening (jobs_by started jobs) outcomes book
+IsWorkFault set opening jobs workers (fault.Broken job outcome book) =
+    AreTaken workers jobs × IsTrueBook book × (started : ℕ) × IsNamed set opening (jobs_by started jobs) job outcome book
+IsWorkFault set opening jobs workers (fault.Memory book) = AreTaken workers jobs × IfSome book IsTrueBook

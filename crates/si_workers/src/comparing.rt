@@ -1,0 +1,256 @@
+//! What workers tell of jobs, compared with a book.
+
+ghost use Rattle.std.specs.Prelude.{◌≡◌, ◌↔◌, ℕ, All, IsTrue, IfOk, IfNone, IfSome, length};
+ghost use Rattle.std.specs.Option.{IsSomeAnd};
+ghost use Rattle.history_book.specs.View.{nth_row};
+ghost use Rattle.si_workers.specs.Counting.{commits_told};
+ghost use Rattle.si_workers.specs.Calls.{call_of};
+ghost use Rattle.si_workers.specs.Outcomes.{AreAsMany, AreClashesTold, AreCommitsTold, AreRightTries, Correspond, IsAllOfJobs, IsBroken, IsClashTold, IsFirstFallen, IsOfSomeJob, IsOver, IsRecordOf, IsRightEnd, IsRightRefusal, Stands};
+
+use crate::call::CallKey;
+use crate::counted::Counts;
+use crate::job::{Job, JobEnd};
+use crate::told::Tiding;
+use history_book::{BeginFault, Book, Ending, HistoryRow};
+use prog_check::ProgramSet;
+use prog_tree::Rows;
+use std::alloc::{AllocError, Global};
+
+/// So many endings let a begin be refused as full while seven other workers are active.
+const NEARLY_FULL: usize = 99_993;
+
+// ---- one outcome
+
+fn same_numbers(numbers: &[i64], others: &[i64]) -> bool
+    ensures { IsTrue result ↔ (numbers.now ≡ others.now) }
+{
+    numbers == others
+}
+
+fn is_record_of(row: &HistoryRow, job: &Job, replies: &[i64]) -> bool
+    ensures { IsTrue result ↔ IsRecordOf job.now replies.now row.now }
+{
+    if row.program != job.program {
+        return false;
+    }
+    let args = same_numbers(row.args.as_slice(), job.args.as_slice());
+    let replied = same_numbers(row.replies.as_slice(), replies);
+    args && replied
+}
+
+// Whether the commit of a number is of the job, with these replies.
+fn is_commit_of(book: &Book<'_>, number: u64, job: &Job, replies: &[i64]) -> bool
+    ensures { IsTrue result
+        ↔ IsSomeAnd (nth_row book.now.rows number) (IsRecordOf job.now replies.now) }
+{
+    match book.nth_commit(number) {
+        Some(row) => is_record_of(row, job, replies),
+        None => false,
+    }
+}
+
+fn is_right_refusal(book: &Book<'_>, job: &Job, fault: BeginFault) -> bool
+    ensures { IsTrue result ↔ IsRightRefusal book.now job.now fault }
+{
+    let program = book.set().draft().programs.get(job.program);
+    match fault {
+        BeginFault::NoSuchProgram => program.is_none(),
+        BeginFault::WrongArguments => match program {
+            Some(found) => found.params.len() != job.args.len(),
+            None => false,
+        },
+        BeginFault::Full => book.endings().len() >= NEARLY_FULL,
+        BeginFault::Memory => false,
+    }
+}
+
+fn is_right_end<'c>(book: &Book<'_>, counts: &Counts<'c>, job: &'c Job, end: &JobEnd) -> bool
+    requires same { counts.now.endings ≡ book.now.endings }
+    ensures { IsTrue result ↔ IsRightEnd book.now counts.now.tidings job.now end.now }
+{
+    match end {
+        JobEnd::Committed { number, replies } => {
+            let record = is_commit_of(book, *number, job, replies.as_slice());
+            let once = counts.is_named_once(*number);
+            record && once
+        }
+        JobEnd::Aborted(cause) => counts.are_aborts_told(CallKey::job(job), *cause),
+        JobEnd::Clashed(clash) => counts.is_clash_kept(CallKey::job(job), *clash),
+        JobEnd::Refused(fault) => is_right_refusal(book, job, *fault),
+    }
+}
+
+fn are_right_tries(retries: u32, clashes: u64, end: &JobEnd) -> bool
+    ensures { IsTrue result ↔ AreRightTries retries clashes end.now }
+{
+    let retries = u64::from(retries);
+    match end {
+        JobEnd::Clashed(_) => clashes == retries + 1,
+        JobEnd::Committed { .. } | JobEnd::Aborted(_) | JobEnd::Refused(_) => clashes <= retries,
+    }
+}
+
+fn stands<'c>(book: &Book<'_>, counts: &Counts<'c>, tiding: &Tiding<'c>) -> bool
+    requires same { counts.now.endings ≡ book.now.endings }
+    ensures { IsTrue result ↔ Stands book.now counts.now.tidings tiding.now }
+{
+    let Some(outcome) = tiding.outcome() else {
+        return false;
+    };
+    let right = is_right_end(book, counts, tiding.job, &outcome.job_end);
+    let tries = are_right_tries(tiding.job.retries, outcome.clashes, &outcome.job_end);
+    right && tries
+}
+
+// The first job whose outcome does not stand.
+fn first_fallen<'c>(book: &Book<'_>, counts: &Counts<'c>, tidings: &[Tiding<'c>]) -> Option<usize>
+    requires endings { counts.now.endings ≡ book.now.endings }
+    requires tidings { counts.now.tidings ≡ tidings.now }
+    ensures none { IfNone result (All (Stands book.now tidings.now) tidings.now) }
+    ensures fallen { IfSome result (λ job. IsFirstFallen book.now tidings.now job) }
+{
+    for (job, tiding) in tidings.iter().enumerate() {
+        if !stands(book, counts, tiding) {
+            return Some(job);
+        }
+    }
+    None
+}
+
+// ---- all of them
+
+fn are_all_commits_told(book: &Book<'_>, counts: &Counts<'_>) -> bool
+    ensures { IsTrue result ↔ AreCommitsTold book.now.rows counts.now.tidings }
+{
+    for n in 0..book.commits() {
+        if !counts.is_named(n + 1) {
+            return false;
+        }
+    }
+    true
+}
+
+fn is_of_some_job<'c>(counts: &Counts<'c>, ending: &'c Ending) -> bool
+    ensures { IsTrue result ↔ IsOfSomeJob counts.now.tidings ending.now }
+{
+    match ending {
+        Ending::Committed(_) | Ending::Clashed { .. } => true,
+        Ending::Aborted { row, cause } => counts.is_abort_told(CallKey::row(row), *cause),
+    }
+}
+
+fn are_all_of_some_job<'c>(counts: &Counts<'c>, endings: &'c [Ending]) -> bool
+    ensures { IsTrue result ↔ All (IsOfSomeJob counts.now.tidings) endings.now }
+{
+    for ending in endings {
+        if !is_of_some_job(counts, ending) {
+            return false;
+        }
+    }
+    true
+}
+
+fn is_clash_told<'c>(counts: &Counts<'c>, ending: &'c Ending) -> bool
+    ensures { IsTrue result ↔ IsClashTold counts.now.endings counts.now.tidings ending.now }
+{
+    match ending {
+        Ending::Committed(_) | Ending::Aborted { .. } => true,
+        Ending::Clashed { row, clash: _ } => counts.are_clashes_told(CallKey::row(row)),
+    }
+}
+
+// Whether as many clashes are told as kept, of the call of each ending.
+fn are_kept_clashes_told<'c>(counts: &Counts<'c>, endings: &'c [Ending]) -> bool
+    ensures { IsTrue result ↔ All (IsClashTold counts.now.endings counts.now.tidings) endings.now }
+{
+    for ending in endings {
+        if !is_clash_told(counts, ending) {
+            return false;
+        }
+    }
+    true
+}
+
+fn is_job_told<'c>(counts: &Counts<'c>, tiding: &Tiding<'c>) -> bool
+    ensures { IsTrue result
+        ↔ AreAsMany counts.now.endings counts.now.tidings (call_of tiding.now.0) }
+{
+    counts.are_clashes_told(CallKey::job(tiding.job))
+}
+
+// Whether as many clashes are kept as told, of the call of each job.
+fn are_told_clashes_kept<'c>(counts: &Counts<'c>, tidings: &[Tiding<'c>]) -> bool
+    ensures { IsTrue result
+        ↔ All (λ t. AreAsMany counts.now.endings counts.now.tidings (call_of t.0)) tidings.now }
+{
+    for tiding in tidings {
+        if !is_job_told(counts, tiding) {
+            return false;
+        }
+    }
+    true
+}
+
+fn are_all_clashes_told<'c>(
+    counts: &Counts<'c>,
+    endings: &'c [Ending],
+    tidings: &[Tiding<'c>],
+) -> bool
+    requires endings { counts.now.endings ≡ endings.now }
+    requires tidings { counts.now.tidings ≡ tidings.now }
+    ensures { IsTrue result ↔ AreClashesTold endings.now tidings.now }
+{
+    let kept = are_kept_clashes_told(counts, endings);
+    let told = are_told_clashes_kept(counts, tidings);
+    kept && told
+}
+
+fn is_whole<'c>(book: &'c Book<'_>, counts: &Counts<'c>, tidings: &[Tiding<'c>]) -> bool
+    requires endings { counts.now.endings ≡ book.now.endings }
+    requires tidings { counts.now.tidings ≡ tidings.now }
+    ensures { IsTrue result ↔ IsAllOfJobs book.now tidings.now }
+{
+    if !are_all_commits_told(book, counts) {
+        return false;
+    }
+    if !are_all_of_some_job(counts, book.endings()) {
+        return false;
+    }
+    are_all_clashes_told(counts, book.endings(), tidings)
+}
+
+fn is_over(set: &ProgramSet, opening: &Rows, book: &Book<'_>) -> bool
+    ensures { IsTrue result ↔ IsOver set.now opening.now book.now }
+{
+    if !book.set().draft().is_same(set.draft()) {
+        return false;
+    }
+    book.opening().is_same(opening)
+}
+
+/// The job that is named where what is told of the jobs does not correspond to the book: the least
+/// one whose outcome does not stand, or job 0 where all stand.
+pub fn broken<'c>(
+    alloc: Global,
+    set: &ProgramSet,
+    opening: &Rows,
+    tidings: &'c [Tiding<'c>],
+    book: &'c Book<'_>,
+) -> Result<Option<usize>, AllocError>
+    ensures none { IfOk result (λ named. IfNone named
+        (Correspond set.now opening.now tidings.now book.now)) }
+    ensures some { IfOk result (λ named. IfSome named
+        (λ job. IsBroken set.now opening.now tidings.now book.now job)) }
+{
+    let counts = Counts::of(alloc, book.endings(), tidings)?;
+    if let Some(job) = first_fallen(book, &counts, tidings) {
+        return Ok(Some(job));
+    }
+    if !is_over(set, opening, book) {
+        return Ok(Some(0));
+    }
+    if !is_whole(book, &counts, tidings) {
+        return Ok(Some(0));
+    }
+    Ok(None)
+}

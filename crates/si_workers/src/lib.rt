@@ -1,0 +1,28 @@
+//! Jobs on threads over one book: lists of jobs, the shared book, the workers, and what they tell
+//! compared with the book that they leave.
+#![tactic(auto)]
+
+mod call;
+mod comparing;
+mod counted;
+mod counts;
+mod desk;
+mod fault;
+mod gate;
+mod job;
+mod job_line;
+mod job_list;
+mod limits;
+mod run;
+mod shared;
+mod tally;
+mod threads;
+mod told;
+mod worker;
+
+pub use fault::{BeginAfterFault, WorkFault};
+pub use gate::{Gate, Moment, NoGate};
+pub use job::{Job, JobEnd, JobOutcome};
+pub use job_list::{JobList, read_jobs};
+pub use run::{Finished, run_jobs};
+pub use shared::SharedBook;

@@ -1,0 +1,207 @@
+//! Jobs, run by workers.
+
+ghost use Rattle.std.specs.Prelude.{◌≡◌, ◌≢◌, All, IfOk, IfErr, None};
+ghost use Rattle.prog_tree.specs.Tree.{draft_tree};
+ghost use Rattle.prog_check.specs.Paths.{paths_of};
+ghost use Rattle.prog_paths.specs.StaticGraph.{IsDangerous};
+ghost use Rattle.history_book.specs.TrueBook.{IsTrueBook};
+ghost use Rattle.si_workers.specs.Outcomes.{OutcomesCorrespond};
+ghost use Rattle.si_workers.specs.Settled.{AreOutcomesIn, IsCompared, IsConcluded, IsOrderOf, IsSettled, lack_memory};
+ghost use Rattle.si_workers.specs.Work.{AreTaken, IsWorkFault, jobs_by, outcome_at};
+
+use crate::comparing::broken;
+use crate::fault::WorkFault;
+use crate::gate::Gate;
+use crate::job::{Job, JobOutcome};
+use crate::limits::{MAX_JOBS, MAX_WORKERS};
+use crate::shared::SharedBook;
+use crate::threads::run_threads;
+use crate::told::{Tiding, gather};
+use crate::worker::Done;
+use history_book::Book;
+use prog_check::ProgramSet;
+use prog_tree::{Rows, Sequence};
+use robust_cert::RobustSet;
+use si_engine::order_of;
+use std::alloc::{AllocError, Global};
+use std::sync::Wait;
+use std::thread::Threads;
+
+/// What came of jobs: the outcome of each, a serial order of the commits, and the book.
+#[derive(Debug, Drop)]
+pub struct Finished<'a> {
+    pub outcomes: Sequence<JobOutcome>,
+    /// The commits by their numbers, which begin at 1.
+    pub order: Sequence<usize>,
+    pub book: Book<'a>,
+}
+
+/// What is told of jobs, beside a book.
+#[derive(Debug, Drop)]
+pub enum Compared {
+    /// It corresponds to the book, with these outcomes.
+    Correspond(Vec<JobOutcome>),
+    /// It does not, as this job shows, of which there is this outcome.
+    Broken {
+        job: usize,
+        outcome: Option<JobOutcome>,
+    },
+}
+
+// ---- what is told, compared with a book
+
+// The outcomes of jobs of each of which there is one.
+fn into_outcomes(alloc: Global, tidings: Vec<Tiding<'_>>) -> Result<Vec<JobOutcome>, AllocError>
+    requires { All (λ t. t.1 ≢ None) tidings.items }
+    ensures { IfOk result (λ outcomes. AreOutcomesIn tidings.entry.items outcomes.items) }
+{
+    let mut outcomes = Vec::with_capacity(alloc, tidings.len())?;
+    for tiding in tidings {
+        let Some(outcome) = tiding.into_outcome() else {
+            unreachable!()
+        };
+        outcomes.push(outcome)?;
+    }
+    Ok(outcomes)
+}
+
+// The outcome of one job, where there is exactly one.
+fn into_outcome(mut tidings: Vec<Tiding<'_>>, job: usize) -> Option<JobOutcome>
+    ensures { result ≡ outcome_at tidings.entry.items job }
+{
+    if job < tidings.len() {
+        tidings.swap_remove(job).into_outcome()
+    } else {
+        None
+    }
+}
+
+fn compare(
+    alloc: Global,
+    set: &ProgramSet,
+    opening: &Rows,
+    tidings: Vec<Tiding<'_>>,
+    book: &Book<'_>,
+) -> Result<Compared, AllocError>
+    ensures { IfOk result (IsCompared set.now opening.now tidings.entry.items book.now) }
+{
+    let named = broken(alloc, set, opening, &tidings, book)?;
+    match named {
+        Some(job) => {
+            let outcome = into_outcome(tidings, job);
+            Ok(Compared::Broken { job, outcome })
+        }
+        None => {
+            let outcomes = into_outcomes(alloc, tidings)?;
+            Ok(Compared::Correspond(outcomes))
+        }
+    }
+}
+
+// ---- work that was done
+
+fn lack_memory(done: &[Done]) -> bool
+    ensures { result ≡ lack_memory done.now }
+{
+    done.iter().any(|one| one.no_memory)
+}
+
+// The jobs that so many threads did: with none started none was done.
+fn jobs_by(started: usize, jobs: &[Job]) -> &[Job]
+    ensures { result.now ≡ jobs_by started jobs.now }
+{
+    if started == 0 { &jobs[..0] } else { jobs }
+}
+
+// Work whose outcomes correspond to the book, and which is in order where enough workers started.
+fn conclude<'a>(
+    workers: usize,
+    started: usize,
+    outcomes: Vec<JobOutcome>,
+    book: Book<'a>,
+) -> Result<Finished<'a>, WorkFault<'a>>
+    requires safe { ¬ IsDangerous (paths_of (draft_tree book.set)) }
+    ensures { IsConcluded workers started outcomes.items book.entry result }
+{
+    let outcomes = Sequence::from_vec(outcomes);
+    if started < workers {
+        return Err(WorkFault::NoThread {
+            started,
+            outcomes,
+            book,
+        });
+    }
+    let Ok(order) = order_of(&book) else {
+        return Err(WorkFault::Memory { book: Some(book) });
+    };
+    Ok(Finished {
+        outcomes,
+        order: Sequence::from_vec(order),
+        book,
+    })
+}
+
+// What workers did, settled by the book that they leave.
+fn settle<'a>(
+    alloc: Global,
+    set: &RobustSet,
+    opening: &Rows,
+    jobs: &[Job],
+    workers: usize,
+    done: Vec<Done>,
+    book: Book<'a>,
+) -> Result<Finished<'a>, WorkFault<'a>>
+    ensures { IsSettled set.now opening.now jobs.now workers done.items book.entry result }
+{
+    if lack_memory(&done) {
+        return Err(WorkFault::Memory { book: Some(book) });
+    }
+    let started = done.len();
+    let Ok(tidings) = gather(alloc, jobs_by(started, jobs), done) else {
+        return Err(WorkFault::Memory { book: Some(book) });
+    };
+    match compare(alloc, set.set(), opening, tidings, &book) {
+        Ok(Compared::Correspond(outcomes)) => conclude(workers, started, outcomes, book),
+        Ok(Compared::Broken { job, outcome }) => Err(WorkFault::Broken { job, outcome, book }),
+        Err(AllocError) => Err(WorkFault::Memory { book: Some(book) }),
+    }
+}
+
+/// Runs jobs by so many workers at once, and compares what they tell with the book that they leave.
+pub fn run_jobs<'a, R: Threads + Wait + Sync, G: Gate + Sync>(
+    rt: &R,
+    alloc: Global,
+    set: &'a RobustSet,
+    opening: Rows,
+    jobs: &[Job],
+    workers: usize,
+    gate: &G,
+) -> Result<Finished<'a>, WorkFault<'a>>
+    ensures taken { IfOk result (λ finished. AreTaken workers jobs.now) }
+    ensures true_book { IfOk result (λ finished. IsTrueBook finished.book) }
+    ensures correspond { IfOk result (λ finished.
+        OutcomesCorrespond set.now opening jobs.now finished.outcomes finished.book) }
+    ensures order { IfOk result (λ finished. IsOrderOf finished.book finished.order) }
+    ensures fault { IfErr result (IsWorkFault set.now opening jobs.now workers) }
+{
+    if workers == 0 || workers > MAX_WORKERS {
+        return Err(WorkFault::Workers);
+    }
+    if jobs.len() > MAX_JOBS {
+        return Err(WorkFault::TooManyJobs);
+    }
+    let Ok(kept) = opening.copy() else {
+        return Err(WorkFault::Memory { book: None });
+    };
+    let Ok(book) = Book::open(alloc, set.set(), opening) else {
+        return Err(WorkFault::Memory { book: None });
+    };
+    let shared = SharedBook::new(book);
+    let ran = run_threads(rt, alloc, set.set(), &shared, jobs, workers, gate);
+    let book = shared.into_book();
+    let _commits = book.commits();
+    let Ok(done) = ran else {
+        return Err(WorkFault::Memory { book: Some(book) });
+    };
+    settle(alloc, set, &kept, jobs, workers, done, book)
+}

@@ -1,0 +1,160 @@
+//! A book that threads share.
+
+ghost use Rattle.std.specs.Prelude.{◌≡◌, ◌≤◌, IfOk, IfErr, OnOk, OnErr, length};
+ghost use Rattle.history_book.specs.View.{begin_fault_of, next_ticket, begun_in};
+ghost use Rattle.si_workers.specs.Freshness.{IsBeginAfter, IsFresh};
+
+use crate::fault::BeginAfterFault;
+use crate::gate::{Gate, Moment};
+use history_book::{
+    BeginFault, Book, CommitFault, EndFault, NoSuchTicket, Receipt, ScanFault, Ticket,
+};
+use prog_run::Run;
+use prog_tree::{Cell, Region, Sequence};
+use std::sync::{Mutex, Wait};
+
+/// A book under one lock. Whenever the lock is taken, its value is a book. Each call takes the
+/// lock, makes the call of `Book` that it names, and lets go. No clause can name a value under a
+/// lock, so what a call does to the book is said by the contract of `Book`.
+#[derive(Drop)]
+pub struct SharedBook<'a> {
+    lock: Mutex<Book<'a>>,
+}
+
+// Begins an instance that has to see a receipt's commit. Where the book has fewer commits, it is
+// withdrawn again.
+pub(crate) fn begin_seeing<'a>(
+    book: &mut Book<'a>,
+    receipt: &Receipt,
+    program: usize,
+    args: &[i64],
+) -> Result<Ticket, BeginAfterFault>
+    ensures fresh { IsFresh receipt.now result }
+    ensures step { IsBeginAfter book.old book.new receipt.now program args.now result }
+{
+    let commits = book.commits();
+    let ticket = match book.begin(program, args) {
+        Ok(ticket) => ticket,
+        Err(fault) => return Err(BeginAfterFault::Refused(fault)),
+    };
+    if commits < receipt.number() {
+        let Ok(()) = book.withdraw(ticket) else {
+            unreachable!()
+        };
+        return Err(BeginAfterFault::Behind { commits });
+    }
+    Ok(ticket)
+}
+
+impl<'a> SharedBook<'a> {
+    /// Shares a book.
+    pub fn new(book: Book<'a>) -> Self {
+        SharedBook {
+            lock: Mutex::new(book),
+        }
+    }
+
+    /// `Book::begin`.
+    pub fn begin(
+        &self,
+        rt: &impl Wait,
+        program: usize,
+        args: &[i64],
+    ) -> Result<Ticket, BeginFault> {
+        self.lock.lock(rt).begin(program, args)
+    }
+
+    /// Begins an instance that sees the commit of a receipt. Where the book has fewer commits, the
+    /// instance is withdrawn again, under the same lock.
+    pub fn begin_after(
+        &self,
+        rt: &impl Wait,
+        receipt: &Receipt,
+        program: usize,
+        args: &[i64],
+    ) -> Result<Ticket, BeginAfterFault>
+        ensures { IsFresh receipt.now result }
+    {
+        let mut book = self.lock.lock(rt);
+        begin_seeing(&mut book, receipt, program, args)
+    }
+
+    /// `Book::get`.
+    pub fn get(
+        &self,
+        rt: &impl Wait,
+        ticket: &Ticket,
+        cell: &Cell,
+    ) -> Result<Option<i64>, NoSuchTicket> {
+        self.lock.lock(rt).get(ticket, cell)
+    }
+
+    // The same, with a gate under the lock.
+    pub(crate) fn get_at<G: Gate>(
+        &self,
+        rt: &impl Wait,
+        job: usize,
+        gate: &G,
+        ticket: &Ticket,
+        cell: &Cell,
+    ) -> Result<Option<i64>, NoSuchTicket> {
+        let book = self.lock.lock(rt);
+        gate.at(job, Moment::InRead);
+        book.get(ticket, cell)
+    }
+
+    /// `Book::scan`.
+    pub fn scan(
+        &self,
+        rt: &impl Wait,
+        ticket: &Ticket,
+        region: &Region,
+    ) -> Result<Sequence<(Cell, i64)>, ScanFault> {
+        self.lock.lock(rt).scan(ticket, region)
+    }
+
+    // The same, with a gate under the lock.
+    pub(crate) fn scan_at<G: Gate>(
+        &self,
+        rt: &impl Wait,
+        job: usize,
+        gate: &G,
+        ticket: &Ticket,
+        region: &Region,
+    ) -> Result<Sequence<(Cell, i64)>, ScanFault> {
+        let book = self.lock.lock(rt);
+        gate.at(job, Moment::InRead);
+        book.scan(ticket, region)
+    }
+
+    /// `Book::commit`.
+    pub fn commit(
+        &self,
+        rt: &impl Wait,
+        ticket: Ticket,
+        run: Run<'a>,
+    ) -> Result<Receipt, CommitFault<'a>> {
+        self.lock.lock(rt).commit(ticket, run)
+    }
+
+    /// `Book::end`.
+    pub fn end(&self, rt: &impl Wait, ticket: Ticket, run: Run<'a>) -> Result<(), EndFault<'a>> {
+        self.lock.lock(rt).end(ticket, run)
+    }
+
+    /// `Book::withdraw`.
+    pub fn withdraw(&self, rt: &impl Wait, ticket: Ticket) -> Result<(), Ticket> {
+        self.lock.lock(rt).withdraw(ticket)
+    }
+
+    /// `Book::vacuum`.
+    pub fn vacuum(&self, rt: &impl Wait) -> u64 {
+        self.lock.lock(rt).vacuum()
+    }
+
+    /// The book, once nobody shares it.
+    pub fn into_book(self) -> Book<'a> {
+        let SharedBook { lock } = self;
+        lock.into_inner()
+    }
+}

@@ -1,0 +1,126 @@
+//! The threads that workers run in.
+
+ghost use Rattle.std.specs.Prelude.{◌≡◌, ◌≤◌, ◌<◌, ◌+◌, ◌*◌, [], length, vec_len};
+ghost use Rattle.job_counter.specs.Passes.{counter_of, left_of, name_of, numbers_of};
+
+use crate::desk::Locked;
+use crate::gate::Gate;
+use crate::job::Job;
+use crate::shared::SharedBook;
+use crate::worker::{Done, work};
+use job_counter::{Counter, Pass};
+use prog_check::ProgramSet;
+use std::alloc::{AllocError, Global};
+use std::sync::Wait;
+use std::thread;
+use std::thread::{JoinHandle, Scope, Threads};
+
+// One worker over the shared book.
+fn work_shared<'r, 'a, R: Wait, G: Gate>(
+    rt: &'r R,
+    alloc: Global,
+    set: &'a ProgramSet,
+    shared: &'r SharedBook<'a>,
+    jobs: &[Job],
+    counter: &Counter,
+    pass: Pass,
+    gate: &'r G,
+) -> Done
+    requires counter { counter_of pass ≡ name_of counter.now }
+    requires numbers { numbers_of pass ≡ [] }
+    requires few { length jobs.now ≤ 100000 }
+{
+    let mut desk = Locked {
+        rt,
+        shared,
+        gate,
+        ended: 0,
+    };
+    work(alloc, set, &mut desk, jobs, counter, pass)
+}
+
+// Starts workers until one cannot be started.
+fn start_all<'s, 'e: 's, 'a: 'e, R: Threads + Wait + Sync, G: Gate + Sync>(
+    scope: &'s Scope<'s, &'e ()>,
+    rt: &'e R,
+    alloc: Global,
+    set: &'a ProgramSet,
+    shared: &'e SharedBook<'a>,
+    jobs: &'e [Job],
+    counter: &'e Counter,
+    mut pass: Pass,
+    workers: usize,
+    gate: &'e G,
+    handles: &mut Vec<JoinHandle<Done>>,
+)
+    requires counter { counter_of pass ≡ name_of counter.now }
+    requires room { workers * length jobs.now ≤ left_of pass }
+    requires few { length jobs.now ≤ 100000 }
+{
+    for _worker in 0..workers {
+        if handles.reserve(1).is_err() {
+            break;
+        }
+        let (rest, mine) = counter.split(pass, jobs.len() as u64);
+        pass = rest;
+        let started = scope.spawn(
+            move || -> Done
+                requires { (counter_of mine ≡ name_of counter.now) × (numbers_of mine ≡ []) × (length jobs.now ≤ 100000) }
+            { work_shared(rt, alloc, set, shared, jobs, counter, mine, gate) },
+        );
+        let Ok(handle) = started else {
+            break;
+        };
+        handles.push_reserved(handle);
+    }
+}
+
+/// What the workers did that could be started. All are joined. Without memory none was started,
+/// as the room for what they did is made before.
+pub(crate) fn run_threads<'a, R: Threads + Wait + Sync, G: Gate + Sync>(
+    rt: &R,
+    alloc: Global,
+    set: &'a ProgramSet,
+    shared: &SharedBook<'a>,
+    jobs: &[Job],
+    workers: usize,
+    gate: &G,
+) -> Result<Vec<Done>, AllocError>
+    requires workers { workers ≤ 8 }
+    requires few { length jobs.now ≤ 100000 }
+{
+    let (counter, pass) = Counter::open(alloc, workers as u64 * jobs.len() as u64)?;
+    let mut done = Vec::with_capacity(alloc, workers)?;
+    let mut handles = Vec::with_capacity(alloc, workers)?;
+    let lent = &counter;
+    thread::scope(
+        thread::scope_env(),
+        rt,
+        |scope|
+            requires { (counter_of pass ≡ name_of lent.now) × (workers * length jobs.now ≤ left_of pass) × (length jobs.now ≤ 100000) }
+        {
+            start_all(
+                scope,
+                rt,
+                alloc,
+                set,
+                shared,
+                jobs,
+                lent,
+                pass,
+                workers,
+                gate,
+                &mut handles,
+            );
+        },
+    );
+    let mut lacked = false;
+    for handle in handles {
+        let pushed = done.push(handle.join(rt));
+        lacked |= pushed.is_err();
+    }
+    if lacked {
+        return Err(AllocError);
+    }
+    Ok(done)
+}

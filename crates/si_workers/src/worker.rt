@@ -1,0 +1,309 @@
+//! One worker: the jobs that it draws, one after another.
+
+ghost use Rattle.std.specs.Prelude.{◌≡◌, ◌+◌, ◌<◌, ◌≤◌, ◌^◌, ◌*◌, ⊤, [], map, take, length, Some, IfOk, IfSome};
+ghost use Rattle.prog_tree.specs.declared.deed.End.TheVariants.{Ready};
+ghost use Rattle.job_counter.specs.Passes.{counter_of, name_of, numbers_of};
+ghost use Rattle.si_workers.specs.Work.{IsTried, IsOver, IsCommitOf, IsDrawn, AreDrawn};
+
+use crate::desk::Desk;
+use crate::job::{Job, JobEnd, JobOutcome};
+use crate::limits::VACUUM_AFTER;
+use history_book::{BeginFault, Clash, CommitFault, EndFault, ScanFault, Ticket, Unused};
+use job_counter::{Counter, Pass};
+use prog_check::ProgramSet;
+use prog_run::{AnswerFault, Next, Run};
+use prog_tree::{Cause, End, Sequence};
+use std::alloc::Global;
+
+/// What a worker did: its pass, what came of its jobs, and whether memory ran out.
+#[derive(Drop)]
+pub struct Done {
+    pub pass: Pass,
+    pub reports: Vec<(usize, JobOutcome)>,
+    pub no_memory: bool,
+}
+
+/// What came of one try of a job.
+#[derive(Drop)]
+pub enum Tried {
+    Committed { number: u64, replies: Sequence<i64> },
+    Aborted(Cause),
+    Refused(BeginFault),
+    Clashed(Clash),
+    /// The book does not know the instance, or takes the run for a foreign one: there is no outcome.
+    Lost,
+    NoMemory,
+}
+
+/// What came of a job.
+#[derive(Drop)]
+pub enum Came {
+    Ended(JobOutcome),
+    /// There is no outcome.
+    Lost,
+    NoMemory,
+}
+
+/// What came of drawing a job.
+#[derive(Drop)]
+pub enum Drawn {
+    /// The job of this number ended so.
+    Ended { number: usize, outcome: JobOutcome },
+    /// There was no job left, or there is no outcome of it.
+    Nothing,
+    NoMemory,
+}
+
+/// Why a run did not get to its end.
+#[derive(Clone, Copy, PartialEq, Eq)]
+pub enum Stop {
+    /// The book does not know the ticket, or the run did not take the answer.
+    Lost,
+    NoMemory,
+}
+
+// One step of a run, with what it asks for read in the book.
+fn step<'a, D: Desk<'a>>(
+    desk: &mut D,
+    job: usize,
+    ticket: &Ticket,
+    run: &mut Run<'a>,
+) -> Result<Next, Stop>
+    ensures { D.ended desk.new ≡ D.ended desk.old }
+{
+    let Ok(next) = run.advance() else {
+        return Err(Stop::NoMemory);
+    };
+    let answered = match next {
+        Next::Get(cell) => {
+            let Ok(held) = desk.get(job, ticket, &cell) else {
+                return Err(Stop::Lost);
+            };
+            run.answer_get(held)
+        }
+        Next::Scan(region) => match desk.scan(job, ticket, &region) {
+            Ok(rows) => run.answer_scan(rows.as_slice()),
+            Err(ScanFault::Memory) => return Err(Stop::NoMemory),
+            Err(ScanFault::NoSuchTicket) => return Err(Stop::Lost),
+        },
+        next => Ok(next),
+    };
+    match answered {
+        Ok(next) => Ok(next),
+        Err(AnswerFault::Memory) => Err(Stop::NoMemory),
+        Err(_) => Err(Stop::Lost),
+    }
+}
+
+// Goes on with a run to its end.
+fn finish<'a, D: Desk<'a>>(
+    desk: &mut D,
+    job: usize,
+    ticket: &Ticket,
+    run: &mut Run<'a>,
+) -> Result<End, Stop>
+    ensures { D.ended desk.new ≡ D.ended desk.old }
+{
+    for _turn in 0..u64::MAX {
+        if let Next::Done(end) = step(desk, job, ticket, run)? {
+            return Ok(end);
+        }
+    }
+    Err(Stop::Lost)
+}
+
+// Commits a run that is ready, with the replies that it has.
+fn commit<'a, D: Desk<'a>>(alloc: Global, desk: &mut D, ticket: Ticket, run: Run<'a>) -> Tried
+    requires { D.ended desk.old < 2 ^ 63 }
+    ensures ended { IsTried (D.ended desk.old) (D.ended desk.new) result }
+    ensures replies { IsCommitOf run.entry result }
+{
+    let Ok(replies) = Vec::from_slice(alloc, run.replies()) else {
+        desk.withdraw(ticket);
+        return Tried::NoMemory;
+    };
+    let replies = Sequence::from_vec(replies);
+    match desk.commit(ticket, run) {
+        Ok(number) => Tried::Committed { number, replies },
+        Err(fault) => match fault {
+            CommitFault::Clashed(clash) => Tried::Clashed(clash),
+            CommitFault::Memory(Unused { ticket, run }) => {
+                drop(run);
+                desk.withdraw(ticket);
+                Tried::NoMemory
+            }
+            CommitFault::NoSuchTicket(_unused)
+            | CommitFault::NotReady(_unused)
+            | CommitFault::ForeignRun(_, _unused) => Tried::Lost,
+        },
+    }
+}
+
+// Ends a run that has aborted.
+fn abort<'a, D: Desk<'a>>(desk: &mut D, ticket: Ticket, run: Run<'a>, cause: Cause) -> Tried
+    requires { D.ended desk.old < 2 ^ 63 }
+    ensures ended { IsTried (D.ended desk.old) (D.ended desk.new) result }
+{
+    match desk.end(ticket, run) {
+        Ok(()) => Tried::Aborted(cause),
+        Err(fault) => match fault {
+            EndFault::Memory(Unused { ticket, run }) => {
+                drop(run);
+                desk.withdraw(ticket);
+                Tried::NoMemory
+            }
+            EndFault::NoSuchTicket(_unused)
+            | EndFault::NotAborted(_unused)
+            | EndFault::ForeignRun(_, _unused) => Tried::Lost,
+        },
+    }
+}
+
+// One try of a job, from its begin to its end.
+fn try_once<'a, D: Desk<'a>>(
+    alloc: Global,
+    set: &'a ProgramSet,
+    desk: &mut D,
+    number: usize,
+    job: &Job,
+) -> Tried
+    requires { D.ended desk.old < 2 ^ 63 }
+    ensures ended { IsTried (D.ended desk.old) (D.ended desk.new) result }
+{
+    let ticket = match desk.begin(number, job.program, job.args.as_slice()) {
+        Ok(ticket) => ticket,
+        Err(BeginFault::Memory) => return Tried::NoMemory,
+        Err(fault) => return Tried::Refused(fault),
+    };
+    let Ok(mut run) = Run::new(alloc, set, job.program, job.args.as_slice()) else {
+        desk.withdraw(ticket);
+        return Tried::NoMemory;
+    };
+    match finish(desk, number, &ticket, &mut run) {
+        Ok(End::Ready) => commit(alloc, desk, ticket, run),
+        Ok(End::Aborted(cause)) => abort(desk, ticket, run, cause),
+        Err(stop) => {
+            desk.withdraw(ticket);
+            match stop {
+                Stop::Lost => Tried::Lost,
+                Stop::NoMemory => Tried::NoMemory,
+            }
+        }
+    }
+}
+
+/// A job, begun anew where it clashes, up to its retries.
+pub(crate) fn run_job<'a, D: Desk<'a>>(
+    alloc: Global,
+    set: &'a ProgramSet,
+    desk: &mut D,
+    number: usize,
+    job: &Job,
+) -> Came
+    requires { D.ended desk.old + 2 ^ 32 ≤ 2 ^ 63 }
+    ensures over { IsOver job.now (D.ended desk.old) (D.ended desk.new) result }
+    ensures few { D.ended desk.new ≤ D.ended desk.old + 2 ^ 32 }
+{
+    let tries = u64::from(job.retries) + 1;
+    for clashes in 0..tries {
+        let job_end = match try_once(alloc, set, desk, number, job) {
+            Tried::Committed { number, replies } => JobEnd::Committed { number, replies },
+            Tried::Aborted(cause) => JobEnd::Aborted(cause),
+            Tried::Refused(fault) => JobEnd::Refused(fault),
+            Tried::Clashed(clash) => {
+                if clashes + 1 < tries {
+                    continue;
+                }
+                return Came::Ended(JobOutcome {
+                    job_end: JobEnd::Clashed(clash),
+                    clashes: tries,
+                });
+            }
+            Tried::Lost => return Came::Lost,
+            Tried::NoMemory => return Came::NoMemory,
+        };
+        return Came::Ended(JobOutcome { job_end, clashes });
+    }
+    Came::Lost
+}
+
+// Draws a job and runs it.
+fn draw_job<'a, D: Desk<'a>>(
+    alloc: Global,
+    set: &'a ProgramSet,
+    desk: &mut D,
+    jobs: &[Job],
+    counter: &Counter,
+    pass: &mut Pass,
+) -> Drawn
+    requires counter { counter_of pass.old ≡ name_of counter.now }
+    requires room { D.ended desk.old + 2 ^ 32 ≤ 2 ^ 63 }
+    ensures counter { counter_of pass.new ≡ counter_of pass.old }
+    ensures few { D.ended desk.new ≤ D.ended desk.old + 2 ^ 32 }
+    ensures drawn { IsDrawn (numbers_of pass.old) (numbers_of pass.new) result }
+{
+    let Some(drawn) = counter.draw(pass) else {
+        return Drawn::Nothing;
+    };
+    let number = drawn as usize;
+    let Some(job) = jobs.get(number) else {
+        return Drawn::Nothing;
+    };
+    match run_job(alloc, set, desk, number, job) {
+        Came::Ended(outcome) => {
+            desk.finished(number);
+            Drawn::Ended { number, outcome }
+        }
+        Came::Lost => Drawn::Nothing,
+        Came::NoMemory => Drawn::NoMemory,
+    }
+}
+
+/// Draws jobs and runs them, until none is left.
+pub(crate) fn work<'a, D: Desk<'a>>(
+    alloc: Global,
+    set: &'a ProgramSet,
+    desk: &mut D,
+    jobs: &[Job],
+    counter: &Counter,
+    mut pass: Pass,
+) -> Done
+    requires counter { counter_of pass ≡ name_of counter.now }
+    requires numbers { numbers_of pass ≡ [] }
+    requires few { length jobs.now ≤ 100000 }
+    requires ended { D.ended desk.old ≡ 0 }
+    ensures counter { counter_of result.pass ≡ counter_of pass }
+    ensures drawn { AreDrawn result.reports.items (numbers_of result.pass) }
+{
+    let mut reports = Vec::new(alloc);
+    for _turn in 0..jobs.len() {
+        if reports.reserve(1).is_err() {
+            return Done {
+                pass,
+                reports,
+                no_memory: true,
+            };
+        }
+        let no_memory = match draw_job(alloc, set, desk, jobs, counter, &mut pass) {
+            Drawn::Ended { number, outcome } => {
+                reports.push_reserved((number, outcome));
+                if reports.len() % VACUUM_AFTER == 0 {
+                    desk.vacuum();
+                }
+                continue;
+            }
+            Drawn::Nothing => false,
+            Drawn::NoMemory => true,
+        };
+        return Done {
+            pass,
+            reports,
+            no_memory,
+        };
+    }
+    Done {
+        pass,
+        reports,
+        no_memory: false,
+    }
+}
