@@ -1,5 +1,5 @@
 //! Why a set is not repaired, in words.
-ghost use Rattle.std.specs.Prelude.{◌≡◌, IfNone, IfOk, IfSome, string_bytes};
+ghost use Rattle.std.specs.Prelude.{◌≡◌, IfNone, IfOk, IfSome, codes, string_bytes};
 ghost use Rattle.prog_tree.specs.Tree.{draft_tree};
 ghost use Rattle.analysis_words.specs.Repairs.{NamesBoth, Says, SaysStop};
 ghost use Rattle.si_repair.specs.declared.repairs.fault.RepairFault.TheVariants as f;
@@ -40,52 +40,40 @@ fn unknown_look(
     reason_words(alloc, shown, found)
 }
 
-// The pair that can't be promoted for a look at a range.
-fn range_words(
-    alloc: Global,
-    text: &[u8],
-    set: &ProgramSet,
-    pair: Pair,
-) -> Result<String, AllocError>
-    ensures { IfOk result (λ words. SaysStop (draft_tree set.now) (f.RangeRead pair)
-        (string_bytes words)) }
-{
-    let sentence = pair_sentence(
-        alloc,
-        set,
-        pair,
-        "looks at a range that can be changed by",
-        "; no `keep` covers a range: repair without `--promote`",
-    )?;
-    let paths = paths(alloc, set)?;
-    let questions = exposed_questions(alloc, &paths, pair)?;
-    let shown = Shown {
-        text,
-        set,
-        paths: &paths,
-    };
-    let look = range_look(alloc, shown, &questions)?;
-    let words = format!(in alloc; "{sentence}{look}")?;
-    Ok(words)
+// Why no `keep` covers a look.
+#[derive(Clone, Copy)]
+enum Obstacle {
+    // It is at a range.
+    Range,
+    // No parameters and numbers tell its key.
+    UnknownKey,
 }
 
-// The pair that can't be promoted for a look under a key of unknown value.
-fn unknown_words(
+impl Obstacle {
+    // What the first program of a pair does, before the name of the second.
+    fn verb(self) -> &'static str {
+        match self {
+            Obstacle::Range => "looks at a range that can be changed by",
+            Obstacle::UnknownKey => "looks at a row that can be changed by",
+        }
+    }
+
+    fn reason(self) -> &'static str {
+        match self {
+            Obstacle::Range => "; no `keep` covers a range",
+            Obstacle::UnknownKey => ", and no parameters and numbers tell its key",
+        }
+    }
+}
+
+// The first look of a pair that no `keep` covers.
+fn obstructed_look(
     alloc: Global,
     text: &[u8],
     set: &ProgramSet,
     pair: Pair,
-) -> Result<String, AllocError>
-    ensures { IfOk result (λ words. SaysStop (draft_tree set.now) (f.UnknownKey pair)
-        (string_bytes words)) }
-{
-    let sentence = pair_sentence(
-        alloc,
-        set,
-        pair,
-        "looks at a row that can be changed by",
-        ", and no parameters and numbers tell its key: repair without `--promote`",
-    )?;
+    obstacle: Obstacle,
+) -> Result<String, AllocError> {
     let paths = paths(alloc, set)?;
     let questions = exposed_questions(alloc, &paths, pair)?;
     let shown = Shown {
@@ -93,7 +81,29 @@ fn unknown_words(
         set,
         paths: &paths,
     };
-    let look = unknown_look(alloc, shown, &questions)?;
+    match obstacle {
+        Obstacle::Range => range_look(alloc, shown, &questions),
+        Obstacle::UnknownKey => unknown_look(alloc, shown, &questions),
+    }
+}
+
+// The pair that can't be promoted.
+fn promotion_words(
+    alloc: Global,
+    text: &[u8],
+    set: &ProgramSet,
+    pair: Pair,
+    obstacle: Obstacle,
+) -> Result<String, AllocError>
+    ensures names { IfOk result (λ words.
+        NamesBoth (draft_tree set.now) (string_bytes words) pair) }
+    ensures advice { IfOk result (λ words.
+        Says (string_bytes words) (codes "repair without `--promote`")) }
+{
+    let reason = obstacle.reason();
+    let rest = format!(in alloc; "{reason}: repair without `--promote`")?;
+    let sentence = pair_sentence(alloc, set, pair, obstacle.verb(), &rest)?;
+    let look = obstructed_look(alloc, text, set, pair, obstacle)?;
     let words = format!(in alloc; "{sentence}{look}")?;
     Ok(words)
 }
@@ -127,8 +137,12 @@ pub fn repair_fault_words(
     ensures none { IfOk result (λ said. IfNone said (fault ≡ f.Memory)) }
 {
     let words = match fault {
-        RepairFault::RangeRead(pair) => range_words(alloc, text, set, pair)?,
-        RepairFault::UnknownKey(pair) => unknown_words(alloc, text, set, pair)?,
+        RepairFault::RangeRead(pair) => {
+            promotion_words(alloc, text, set, pair, Obstacle::Range)?
+        }
+        RepairFault::UnknownKey(pair) => {
+            promotion_words(alloc, text, set, pair, Obstacle::UnknownKey)?
+        }
         RepairFault::TooMany(pair) => limit_words(alloc, set, pair)?,
         RepairFault::Memory => return Ok(None),
     };
