@@ -5,6 +5,7 @@
 pub enum PartKind {
     Script,
     Records,
+    Jobs,
 }
 
 /// The words with which a line begins.
@@ -12,6 +13,7 @@ pub fn first_words(kind: PartKind) -> &'static [&'static str] {
     match kind {
         PartKind::Script => &["row", "begin", "step", "commit", "abort", "vacuum"],
         PartKind::Records => &["row", "record"],
+        PartKind::Jobs => &["row", "job"],
     }
 }
 
@@ -24,6 +26,7 @@ pub fn form_of(first: &str) -> &'static str {
         "commit" => "`commit INSTANCE`",
         "abort" => "`abort INSTANCE`",
         "vacuum" => "`vacuum`, alone",
+        "job" => "`job RETRIES PROGRAM ARGUMENTS` with 0 to 4294967295 retries",
         _ => "`record PROGRAM ARGUMENTS at START gives REPLIES`",
     }
 }
@@ -39,8 +42,13 @@ fn is_number(word: &str, before: &str) -> bool {
     }
 }
 
-/// The first word of a line that stands in the place of a number and is none, from a word on.
-pub fn no_number<'a>(words: &[&'a str], start: usize) -> Option<&'a str> {
+fn is_retries(word: &str) -> bool {
+    let number = word.parse::<i64>().unwrap_or(-1);
+    is_number(word, "") && u32::try_from(number).is_ok()
+}
+
+// The first word from a place on that stands in the place of a number and is none.
+fn no_number_from<'a>(words: &[&'a str], start: usize) -> Option<&'a str> {
     let mut before = "";
     for word in words.get(start..).unwrap_or(&[]) {
         let word: &'a str = *word;
@@ -51,4 +59,24 @@ pub fn no_number<'a>(words: &[&'a str], start: usize) -> Option<&'a str> {
         before = word;
     }
     None
+}
+
+// The same of a line `job`, whose program stands behind a number.
+fn no_number_of_job<'a>(words: &[&'a str]) -> Option<&'a str> {
+    if let [_, retries, ..] = words {
+        let retries: &'a str = *retries;
+        if !is_retries(retries) {
+            return Some(retries);
+        }
+    }
+    no_number_from(words, 3)
+}
+
+/// The first word of a line that stands in the place of a number and is none.
+pub fn no_number<'a>(words: &[&'a str]) -> Option<&'a str> {
+    match words {
+        ["row" | "begin" | "record", ..] => no_number_from(words, 2),
+        ["job", ..] => no_number_of_job(words),
+        _ => no_number_from(words, 1),
+    }
 }

@@ -1,5 +1,5 @@
-//! What runs and audits have to say in words, for people: what is wrong with the parts of their input, with a line of a
-//! script or of a list of records, and with a record; and why commits have no serial order.
+//! What runs, audits and work have to say in words, for people: what is wrong with the parts of their input, with a line
+//! of a script, of a list of records or of a list of jobs, and with a record; and why commits have no serial order.
 #![tactic(auto)]
 
 mod cycle;
@@ -13,6 +13,6 @@ mod replay;
 mod walk;
 
 pub use cycle::cycle_words;
-pub use line_faults::{PartKind, line_words};
+pub use line_faults::{PartKind, line_fault_words};
 pub use part_faults::{extra_part_words, missing_part_words};
 pub use record_faults::record_words;

@@ -1,4 +1,4 @@
-//! The faults of a line of a script or of a list of records in words.
+//! The faults of a line of a script, of a list of records or of a list of jobs in words.
 ghost use Rattle.std.specs.Prelude.{◌≡◌, IfNone, IfOk, IfSome, string_bytes};
 ghost use Rattle.run_words.specs.PartPointing.{line_of_fault, HasNoLineOf, PointsAtLineOf};
 
@@ -24,12 +24,7 @@ fn bad_line(alloc: Global, kind: PartKind, words: &[&str]) -> Result<String, All
         return format!(in alloc; "no line begins with `{first}`; {known}");
     }
     let form = form_of(first);
-    let start = if first == "row" || (first == "begin" || first == "record") {
-        2
-    } else {
-        1
-    };
-    match no_number(words, start) {
+    match no_number(words) {
         Some(word) => {
             let word = shown(word);
             format!(in alloc; "`{word}` is no number that can stand here; the form is {form}")
@@ -49,6 +44,7 @@ fn program_names(alloc: Global, draft: &Draft) -> Result<Vec<&str>, AllocError> 
 fn unknown_name(alloc: Global, set: &ProgramSet, words: &[&str]) -> Result<String, AllocError> {
     let (what, name, names) = match words {
         ["row", name, ..] => ("table", *name, table_names(alloc, set.draft())?),
+        ["job", _, name, ..] => ("program", *name, program_names(alloc, set.draft())?),
         [_, name, ..] => ("program", *name, program_names(alloc, set.draft())?),
         _ => return format!(in alloc; "the name is not known"),
     };
@@ -72,6 +68,7 @@ fn late_row(alloc: Global, kind: PartKind) -> Result<String, AllocError> {
     match kind {
         PartKind::Script => format!(in alloc; "a row behind an event; all rows stand before"),
         PartKind::Records => format!(in alloc; "a row behind a record; all rows stand before"),
+        PartKind::Jobs => format!(in alloc; "a row behind a job; all rows stand before"),
     }
 }
 
@@ -113,7 +110,7 @@ fn line_of_fault(fault: LineFault) -> Option<usize>
 }
 
 /// What a fault of a line means, and the line in its part; nothing where it is not found.
-pub fn line_words(
+pub fn line_fault_words(
     alloc: Global,
     kind: PartKind,
     set: &ProgramSet,
