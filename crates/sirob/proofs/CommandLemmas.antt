@@ -2,8 +2,8 @@
 use Rattle.std.proofs.lemmas.List.Elements.{All-nil, All-cons}
 use Rattle.std.proofs.Common.{◌≡◌, ℕ, suc, arith, Bool, true, false, cond, List, [], ◌∷◌, ◌++◌, Option, Some, None, codes, fold, is_some, refl, sym}
 use Rattle.std.specs.Str.{bytes_eq}
-use Rattle.sirob.specs.CommandLine.{sirob_app, flag_in, NamesMode}
-use Rattle.sirob.specs.declared.command_line.Mode.TheVariants.{Check, Certify, Verify, Repair, Run, Audit}
+use Rattle.sirob.specs.CommandLine.{sirob_app, byte_in, flag_in, NamesMode}
+use Rattle.sirob.specs.declared.command_line.Mode.TheVariants.{Check, Certify, Verify, Repair, Run, Audit, Work}
 use Rattle.clap.specs.Kinds.{Kinds, or_else}
 use Rattle.clap.specs.Walk.{Held, Names, Outcome, Rule, Step, Text, Waiting, Walk}
 use Rattle.clap.specs.Walk.{next, trailing, subcommand, value, done, waits, plain, refused, idle, option, positional}
@@ -168,15 +168,17 @@ entered_own (Some p) other some =
     let repair = slice_index_or subs 3 help_shape in
     let run = slice_index_or subs 4 help_shape in
     let audit = slice_index_or subs 5 help_shape in
+    let work = slice_index_or subs 6 help_shape in
     let Named : Shape → Type 0 = λ s. NamesMode (Some (rows_at s p.1)) in
-    let named : All Named (check ∷ certify ∷ verify ∷ repair ∷ run ∷ audit ∷ []) =
-    All-cons Named check (certify ∷ verify ∷ repair ∷ run ∷ audit ∷ []) (Check, refl)
-    (All-cons Named certify (verify ∷ repair ∷ run ∷ audit ∷ []) (Certify, refl)
-    (All-cons Named verify (repair ∷ run ∷ audit ∷ []) (Verify, refl)
-    (All-cons Named repair (run ∷ audit ∷ []) (Repair (flag_in (codes "promote") (Some (rows_at repair p.1))), (refl, refl))
-    (All-cons Named run (audit ∷ []) (Run (flag_in (codes "robust") (Some (rows_at run p.1))), (refl, refl))
-    (All-cons Named audit [] (Audit, refl) (All-nil Named)))))) in
-    own_met NamesMode p.0 p.1 (check ∷ certify ∷ verify ∷ repair ∷ run ∷ audit ∷ []) (slice_index_or subs 6 help_shape) named (no_help p.0 other) some
+    let named : All Named (check ∷ certify ∷ verify ∷ repair ∷ run ∷ audit ∷ work ∷ []) =
+    All-cons Named check (certify ∷ verify ∷ repair ∷ run ∷ audit ∷ work ∷ []) (Check, refl)
+    (All-cons Named certify (verify ∷ repair ∷ run ∷ audit ∷ work ∷ []) (Certify, refl)
+    (All-cons Named verify (repair ∷ run ∷ audit ∷ work ∷ []) (Verify, refl)
+    (All-cons Named repair (run ∷ audit ∷ work ∷ []) (Repair (flag_in (codes "promote") (Some (rows_at repair p.1))), (refl, refl))
+    (All-cons Named run (audit ∷ work ∷ []) (Run (flag_in (codes "robust") (Some (rows_at run p.1))), (refl, refl))
+    (All-cons Named audit (work ∷ []) (Audit, refl)
+    (All-cons Named work [] (Work (byte_in (codes "workers") (Some (rows_at work p.1))), (refl, refl)) (All-nil Named))))))) in
+    own_met NamesMode p.0 p.1 (check ∷ certify ∷ verify ∷ repair ∷ run ∷ audit ∷ work ∷ []) (slice_index_or subs 7 help_shape) named (no_help p.0 other) some
 
 pub names_mode : (words : List Text) → fault_of sirob_app words ≡ [] → NamesMode (subcommand_of sirob_app words)
 names_mode words none =

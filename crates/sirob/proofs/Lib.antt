@@ -3,4 +3,5 @@ pub mod CommandVectors
 pub mod PartLemmas
 pub mod RefusalLemmas
 pub mod RefusalVectors
+pub mod RepairLemmas
 pub mod StopLaws

@@ -29,17 +29,19 @@ use Rattle.si_engine.specs.Sayings.{IsPartFault}
 use Rattle.si_engine.specs.Script.{script_of}
 use Rattle.si_engine.specs.Writing.{AppendsFront, WritesOr}
 use Rattle.si_engine.specs.Writing as w
+use Rattle.si_workers.specs.declared.job_list.JobList.{JobList}
+use Rattle.si_workers.specs.JobLines.{jobs_of, IsJobs, IsJobsFault}
 use Rattle.sirob.specs.declared.command_line.Mode.{Mode}
-use Rattle.sirob.specs.declared.command_line.Mode.TheVariants.{Check, Certify, Verify, Repair, Run, Audit}
+use Rattle.sirob.specs.declared.command_line.Mode.TheVariants.{Check, Certify, Verify, Repair, Run, Audit, Work}
 use Rattle.sirob.specs.declared.run_fault.RunFault.{RunFault}
 use Rattle.sirob.specs.declared.run_fault.RunFault.TheVariants as fault
 use Rattle.sirob.specs.declared.status.Status.{Status}
 use Rattle.sirob.specs.declared.status.Status.TheVariants as status
 use Rattle.sirob.specs.FaultLines.{fault_line, is_memory}
-use Rattle.sirob.specs.Output.{parts_wanted, Gives, GivesPart, GivesFirstPart, HasSet, MayEnd, MayRun, IsAudited, IsChecked, IsRefused, IsRefusedInput, IsRefusedPart, StopsBehind, at_once, behind_lines, memory_line, IsAnswer, done, refused, stopped, IsUnread, IsReply, Writes}
+use Rattle.sirob.specs.Output.{parts_wanted, Gives, IsAnalysedFor, IsRobust, GivesPart, GivesFirstPart, HasSet, MayEnd, MayRun, IsAudited, IsChecked, IsRefused, IsRefusedInput, IsRefusedPart, StopsBehind, at_once, behind_lines, memory_line, IsAnswer, done, refused, stopped, IsUnread, IsReply, Writes}
 use Rattle.sirob.specs.Output as u
 use Rattle.sirob.specs.Status.{status_of}
-use Rattle.sirob.specs.Stops.{IsUnanalysedBy, IsUnrepairedBy, IsStop, IsReadFault, Ends, well, in_fault, in_memory, IsJust, IsSetAndPart, IsPartStop, IsPartDone, IsInputDone, IsSourceDone, as_command, write_lost}
+use Rattle.sirob.specs.Stops.{IsUnanalysedBy, IsUnrepairedBy, IsStop, IsReadFault, Ends, well, in_fault, in_memory, IsJust, IsSetAndPart, IsPartStop, IsPartDone, IsRefusedJobs, IsInputDone, IsSourceDone, as_command, write_lost}
 
 -- ---- how reading an input stops
 
@@ -80,6 +82,7 @@ refused_input mode wanted input (fault.Json f) is (text, others, divided, count,
 refused_input mode wanted input (fault.Certificate f) is (text, others, divided, count, wrong) = absurd wrong
 refused_input mode wanted input (fault.Script f) is (text, others, divided, count, wrong) = absurd wrong
 refused_input mode wanted input (fault.Audit f) is (text, others, divided, count, wrong) = absurd wrong
+refused_input mode wanted input (fault.Work f) is (text, others, divided, count, wrong) = absurd wrong
 
 -- a set that is not analysed is the fault of its input
 pub set_refused : (input : List ℕ) (set : DraftTree) → IsChecked input set → (f : RunFault) → IsUnanalysedBy set f → IsRefused Certify input f
@@ -90,23 +93,26 @@ set_refused input set checked (fault.Json f) wrong = absurd wrong
 set_refused input set checked (fault.Certificate f) wrong = absurd wrong
 set_refused input set checked (fault.Script f) wrong = absurd wrong
 set_refused input set checked (fault.Audit f) wrong = absurd wrong
+set_refused input set checked (fault.Work f) wrong = absurd wrong
 set_refused input set checked (fault.Input f) wrong = absurd wrong
 set_refused input set checked (fault.Parts f) wrong = absurd wrong
 set_refused input set checked (fault.Text f) wrong = absurd wrong
 set_refused input set checked (fault.Check f) wrong = absurd wrong
 
--- and so it is where a script stands behind it
-pub script_refused : (set : DraftTree) (part : List ℕ) (f : RunFault) → IsUnanalysedBy set f → IsRefusedPart (Run true) set part f
-script_refused set part (fault.Analysis f) wrong = (refl, wrong)
-script_refused set part (fault.Repair f) wrong = absurd wrong
-script_refused set part (fault.Json f) wrong = absurd wrong
-script_refused set part (fault.Certificate f) wrong = absurd wrong
-script_refused set part (fault.Script f) wrong = absurd wrong
-script_refused set part (fault.Audit f) wrong = absurd wrong
-script_refused set part (fault.Input f) wrong = absurd wrong
-script_refused set part (fault.Parts f) wrong = absurd wrong
-script_refused set part (fault.Text f) wrong = absurd wrong
-script_refused set part (fault.Check f) wrong = absurd wrong
+-- and so it is where a part stands behind it
+pub part_unanalysed : (mode : Mode) (set : DraftTree) (part : List ℕ) (f : RunFault) → IsAnalysedFor mode → IsUnanalysedBy set f
+    → IsRefusedPart mode set part f
+part_unanalysed mode set part (fault.Analysis f) analysed wrong = (analysed, wrong)
+part_unanalysed mode set part (fault.Repair f) analysed wrong = absurd wrong
+part_unanalysed mode set part (fault.Json f) analysed wrong = absurd wrong
+part_unanalysed mode set part (fault.Certificate f) analysed wrong = absurd wrong
+part_unanalysed mode set part (fault.Script f) analysed wrong = absurd wrong
+part_unanalysed mode set part (fault.Audit f) analysed wrong = absurd wrong
+part_unanalysed mode set part (fault.Work f) analysed wrong = absurd wrong
+part_unanalysed mode set part (fault.Input f) analysed wrong = absurd wrong
+part_unanalysed mode set part (fault.Parts f) analysed wrong = absurd wrong
+part_unanalysed mode set part (fault.Text f) analysed wrong = absurd wrong
+part_unanalysed mode set part (fault.Check f) analysed wrong = absurd wrong
 
 -- nor is one that is not repaired
 pub repair_refused : (promote : Bool) (input : List ℕ) (set : DraftTree) → IsChecked input set → (f : RunFault) → IsUnrepairedBy promote set f
@@ -118,6 +124,7 @@ repair_refused promote input set checked (fault.Json f) wrong = absurd wrong
 repair_refused promote input set checked (fault.Certificate f) wrong = absurd wrong
 repair_refused promote input set checked (fault.Script f) wrong = absurd wrong
 repair_refused promote input set checked (fault.Audit f) wrong = absurd wrong
+repair_refused promote input set checked (fault.Work f) wrong = absurd wrong
 repair_refused promote input set checked (fault.Input f) wrong = absurd wrong
 repair_refused promote input set checked (fault.Parts f) wrong = absurd wrong
 repair_refused promote input set checked (fault.Text f) wrong = absurd wrong
@@ -192,6 +199,35 @@ records_refused set left part f same within (input, is, wrong) no_memory =
     part_fails (records_of set part) part (λ g. IsRefusedPart Audit set part (fault.Script g)) within (λ g e. e) f
     (subst (λ (p : List ℕ). IsRecordsFault set p f) (is ∙ same) wrong) no_memory
 
+-- the jobs of a part that could be read
+pub jobs_read : (set : DraftTree) (left part : List ℕ) (list : JobList) → left ≡ part
+    → ForInput (Some left) (λ part. IsJobs set part list) → jobs_of set part ≡ Ok list
+jobs_read set left part list same (input, is, read) = subst (λ (p : List ℕ). jobs_of set p ≡ Ok list) (is ∙ same) read.read
+
+-- those that could not
+pub jobs_refused : (set : DraftTree) (left part : List ℕ) (f : ScriptFault) → left ≡ part → length part ≤ 16777216
+    → ForInput (Some left) (λ part. IsJobsFault set part f) → is_memory (fault.Script f) ≡ false → IsRefusedJobs set part (fault.Script f)
+jobs_refused set left part f same within (input, is, wrong) no_memory =
+    part_fails (jobs_of set part) part (λ g. IsRefusedJobs set part (fault.Script g)) within (λ g e. e) f
+    (subst (λ (p : List ℕ). IsJobsFault set p f) (is ∙ same) wrong) no_memory
+
+-- and so the jobs of a robust set are refused
+pub lines_refused : (workers : ℕ) (set : DraftTree) (part : List ℕ) (f : RunFault) → IsRobust set → IsRefusedJobs set part f
+    → IsRefusedPart (Work workers) set part f
+lines_refused workers set part (fault.Script (s.Line f)) robust wrong = (robust, wrong)
+lines_refused workers set part (fault.Script (s.Input f)) robust wrong = absurd wrong
+lines_refused workers set part (fault.Script s.WriteFault) robust wrong = absurd wrong
+lines_refused workers set part (fault.Analysis f) robust wrong = absurd wrong
+lines_refused workers set part (fault.Repair f) robust wrong = absurd wrong
+lines_refused workers set part (fault.Json f) robust wrong = absurd wrong
+lines_refused workers set part (fault.Certificate f) robust wrong = absurd wrong
+lines_refused workers set part (fault.Audit f) robust wrong = absurd wrong
+lines_refused workers set part (fault.Work f) robust wrong = absurd wrong
+lines_refused workers set part (fault.Input f) robust wrong = absurd wrong
+lines_refused workers set part (fault.Parts f) robust wrong = absurd wrong
+lines_refused workers set part (fault.Text f) robust wrong = absurd wrong
+lines_refused workers set part (fault.Check f) robust wrong = absurd wrong
+
 -- ---- how an audit ends
 
 -- records that a book was made of are audited
@@ -241,6 +277,7 @@ part_given Verify input set part has ended written gives = (set, part, has.has, 
 part_given (Repair promote) input set part has ended written gives = absurd gives
 part_given (Run robust) input set part has ended written gives = (set, part, has.has, gives)
 part_given Audit input set part has ended written gives = (set, part, has.has, gives)
+part_given (Work workers) input set part has ended written gives = (set, part, has.has, gives)
 
 -- the input has the set, and its part
 set_of_part : (input : List ℕ) (set : DraftTree) (part : List ℕ) (wanted : ℕ) → wanted ≡ 2 → IsSetAndPart input set part → HasSet wanted input set
@@ -255,6 +292,7 @@ part_refused mode input set part two has (fault.Json f) wrong = (set, part, has.
 part_refused mode input set part two has (fault.Certificate f) wrong = (set, part, has.has, wrong)
 part_refused mode input set part two has (fault.Script f) wrong = (set, part, has.has, wrong)
 part_refused mode input set part two has (fault.Audit f) wrong = (set, part, has.has, wrong)
+part_refused mode input set part two has (fault.Work f) wrong = (set, part, has.has, wrong)
 part_refused mode input set part two has (fault.Input f) wrong = absurd wrong
 part_refused mode input set part two has (fault.Parts f) wrong = absurd wrong
 part_refused mode input set part two has (fault.Text f) wrong = absurd wrong

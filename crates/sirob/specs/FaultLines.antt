@@ -8,7 +8,7 @@ use Rattle.prog_check.specs.declared.fault.CheckFault.TheVariants as c
 use Rattle.prog_text.specs.declared.fault.TextFault.{TextFault}
 use Rattle.prog_text.specs.declared.fault.TextFault.TheVariants as t
 use Rattle.sirob.specs.declared.run_fault.RunFault.{RunFault}
-use Rattle.sirob.specs.declared.run_fault.RunFault.TheVariants.{Input, Parts, Text, Check, Analysis, Repair, Json, Certificate, Script, Audit}
+use Rattle.sirob.specs.declared.run_fault.RunFault.TheVariants.{Input, Parts, Text, Check, Analysis, Repair, Json, Certificate, Script, Audit, Work}
 use Rattle.history_book.specs.declared.audit.AuditFault.{AuditFault}
 use Rattle.history_book.specs.declared.audit.AuditFault.TheVariants as a
 use Rattle.history_book.specs.declared.audit.RowFault.{RowFault}
@@ -27,6 +27,8 @@ use Rattle.si_engine.specs.declared.input.script_fault.ScriptFault.TheVariants a
 use Rattle.si_engine.specs.declared.input.script_fault.LineFault.{LineFault}
 use Rattle.si_engine.specs.declared.input.script_fault.LineFault.TheVariants as s
 use Rattle.si_engine.specs.declared.input.source.InputFault.TheVariants as i
+use Rattle.sirob.specs.declared.worker_fault.WorkerFault.{WorkerFault}
+use Rattle.sirob.specs.declared.worker_fault.WorkerFault.TheVariants as w
 use Rattle.sirob.specs.Faults.{code_of, part_code}
 
 -- a code and a byte's place
@@ -136,6 +138,14 @@ audit_fault a.Full = codes "H7"
 audit_fault (a.Row number fault) = row_code fault ++ (codes " " ++ decimal number)
 audit_fault a.Memory = codes "memory"
 
+-- a code, and the job from 0
+abbrev pub worker_fault : WorkerFault → List ℕ
+worker_fault w.Workers = codes "W1"
+worker_fault (w.NoThread started) = codes "W2"
+worker_fault (w.Broken job) = codes "W3" ++ spaced job
+worker_fault w.TooManyJobs = codes "W5"
+worker_fault w.Memory = codes "memory"
+
 abbrev pub fault_text : RunFault → List ℕ
 fault_text (Input fault) = code_of fault
 fault_text (Parts fault) = part_code fault
@@ -147,6 +157,7 @@ fault_text (Json fault) = json_fault fault
 fault_text (Certificate fault) = certificate_fault fault
 fault_text (Script fault) = script_fault fault
 fault_text (Audit fault) = audit_fault fault
+fault_text (Work fault) = worker_fault fault
 
 -- the whole line, with its line feed
 abbrev pub fault_line : RunFault → List ℕ
@@ -164,4 +175,5 @@ is_memory (Certificate k.Memory) = true
 is_memory (Script (script.Input i.Memory)) = true
 is_memory (Script (script.Line s.Memory)) = true
 is_memory (Audit a.Memory) = true
+is_memory (Work w.Memory) = true
 is_memory fault = false

@@ -1,9 +1,13 @@
--- The faults of the input.
+-- The codes of faults of the input, and what is told of faults of workers.
 use Rattle.std.specs.Prelude.{ℕ, List, codes}
 use Rattle.si_engine.specs.declared.input.source.InputFault.{InputFault}
 use Rattle.si_engine.specs.declared.input.source.InputFault.TheVariants.{TooLong, ReadFault, Memory}
+use Rattle.si_workers.specs.declared.fault.WorkFault.{WorkFault}
+use Rattle.si_workers.specs.declared.fault.WorkFault.TheVariants as work
 use Rattle.sirob.specs.declared.parts.PartFault.{PartFault}
 use Rattle.sirob.specs.declared.parts.PartFault.TheVariants.{MissingPart, ExtraPart}
+use Rattle.sirob.specs.declared.worker_fault.WorkerFault.{WorkerFault}
+use Rattle.sirob.specs.declared.worker_fault.WorkerFault.TheVariants as told
 
 -- the code that a fault line gives
 abbrev pub code_of : InputFault → List ℕ
@@ -14,3 +18,11 @@ code_of Memory = codes "memory"
 abbrev pub part_code : PartFault → List ℕ
 part_code MissingPart = codes "I1"
 part_code ExtraPart = codes "I2"
+
+-- what is told of a fault of workers: all but the outcomes and the book
+abbrev pub told_of : WorkFault → WorkerFault
+told_of work.Workers = told.Workers
+told_of work.TooManyJobs = told.TooManyJobs
+told_of (work.NoThread started outcomes book) = told.NoThread started
+told_of (work.Broken job outcome book) = told.Broken job
+told_of (work.Memory book) = told.Memory

@@ -7,3 +7,4 @@ pub mod Program
 pub mod Refusal
 pub mod Status
 pub mod Stops
+pub mod Work

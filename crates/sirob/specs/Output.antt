@@ -1,7 +1,9 @@
 -- What the commands write.
 use Rattle.std.specs.Prelude.{◌≡◌, ◌⊎◌, ℕ, Bool, true, false, ◌<◌, ◌≤◌, All, List, [], ◌∷◌, ◌++◌, length, codes, Option, Some, None, Ok, Err}
 use Rattle.std.specs.Io.KnownBytes.{Appends}
+use Rattle.prog_tree.specs.declared.program.Draft.{Draft}
 use Rattle.prog_tree.specs.Syntax.{DraftTree}
+use Rattle.prog_tree.specs.Tree.{draft_tree}
 use Rattle.prog_text.specs.Answer.{Accepts, Refuses}
 use Rattle.prog_text.specs.Canonical.{canonical}
 use Rattle.prog_check.specs.Faults.{first_fault}
@@ -27,8 +29,8 @@ use Rattle.si_repair.specs.Findings.{IsCertificateOf}
 use Rattle.si_repair.specs.Repairing.{IsRepairFault, KeepsAllMeaning, StopsNowhere}
 use Rattle.history_book.specs.Audit.{IsAuditFault}
 use Rattle.history_book.specs.History.{IsLawful}
-use Rattle.history_book.specs.TrueBook.{IsTrueRow}
-use Rattle.history_book.specs.View.{history_of, most_endings}
+use Rattle.history_book.specs.TrueBook.{IsTrueBook, IsTrueRow}
+use Rattle.history_book.specs.View.{BookView, history_of, most_endings}
 use Rattle.si_engine.specs.declared.output.finding.Finding.{Finding}
 use Rattle.si_engine.specs.declared.output.finding.Finding.TheVariants.{Order}
 use Rattle.si_engine.specs.declared.input.records.Records.{Records}
@@ -41,17 +43,26 @@ use Rattle.si_engine.specs.Records.{records_of}
 use Rattle.si_engine.specs.Runs.{run_lines, end_lines, AddsFirst, AddsEnd, AddsRun}
 use Rattle.si_engine.specs.Script.{script_of}
 use Rattle.si_engine.specs.Writing.{AppendsFront}
+use Rattle.si_workers.specs.declared.fault.WorkFault.{WorkFault}
+use Rattle.si_workers.specs.declared.job.JobOutcome.{JobOutcome}
+use Rattle.si_workers.specs.declared.job_list.JobList.{JobList}
+use Rattle.si_workers.specs.JobLines.{jobs_of}
+use Rattle.si_workers.specs.Outcomes.{OutcomesCorrespond}
+use Rattle.si_workers.specs.Work.{AreTaken, IsWorkFault}
 use Rattle.sirob.specs.declared.command_line.Mode.{Mode}
-use Rattle.sirob.specs.declared.command_line.Mode.TheVariants.{Check, Certify, Verify, Repair, Run, Audit}
+use Rattle.sirob.specs.declared.command_line.Mode.TheVariants.{Check, Certify, Verify, Repair, Run, Audit, Work}
 use Rattle.sirob.specs.declared.parts.PartFault.TheVariants as part_fault
 use Rattle.sirob.specs.declared.run_fault.RunFault.{RunFault}
 use Rattle.sirob.specs.declared.run_fault.RunFault.TheVariants as fault
 use Rattle.sirob.specs.declared.status.Status.{Status}
 use Rattle.sirob.specs.declared.status.Status.TheVariants.{Done, Unserializable, Faulty, Memory}
+use Rattle.sirob.specs.declared.worker_fault.WorkerFault.{WorkerFault}
 use Rattle.sirob.specs.FaultLines.{fault_line, is_memory}
+use Rattle.sirob.specs.Faults.{told_of}
 use Rattle.sirob.specs.Parts.{parts_of}
 use Rattle.sirob.specs.Refusal.{refusal_text}
 use Rattle.sirob.specs.Status.{status_of}
+use Rattle.sirob.specs.Work.{work_text}
 
 -- ---- what an input means
 
@@ -63,6 +74,12 @@ parts_wanted Verify = 2
 parts_wanted (Repair promote) = 1
 parts_wanted (Run robust) = 2
 parts_wanted Audit = 2
+parts_wanted (Work workers) = 2
+
+-- jobs are done by workers, which may wait
+abbrev pub is_work : Mode → Bool
+is_work (Work workers) = true
+is_work mode = false
 
 -- the input has just these parts
 pub record IsDivided (input : List ℕ) (parts : List (List ℕ)) : Type 0 where
@@ -170,6 +187,7 @@ abbrev pub IsAnalysedFor : Mode → Type 0
 IsAnalysedFor Certify = Unit {0}
 IsAnalysedFor (Repair promote) = Unit {0}
 IsAnalysedFor (Run robust) = robust ≡ true
+IsAnalysedFor (Work workers) = Unit {0}
 IsAnalysedFor mode = ⊥
 
 -- the input has as many parts as are wanted, and the first spells this set, which has no fault
@@ -184,16 +202,29 @@ pub record HasSet (wanted : ℕ) (input : List ℕ) (set : DraftTree) : Type 0 w
 abbrev pub IsRefusedLine : Mode → DraftTree → List ℕ → LineFault → Type 0
 IsRefusedLine (Run robust) set part f = MayRun robust set × (script_of set part ≡ Err f)
 IsRefusedLine Audit set part f = records_of set part ≡ Err f
+IsRefusedLine (Work workers) set part f = IsRobust set × (jobs_of set part ≡ Err f)
 IsRefusedLine mode set part f = ⊥
 
+-- what kept so many workers from doing the jobs that the part is, on a robust set
+pub record IsUndone (workers : ℕ) (set : DraftTree) (part : List ℕ) (told : WorkerFault) : Type 0 where
+  pub robust : IsRobust set
+  pub list : JobList
+  pub read : jobs_of set part ≡ Ok list
+  pub draft : Draft
+  pub same_set : draft_tree draft ≡ set
+  pub f : WorkFault
+  pub wrong : IsWorkFault draft list.rows list.jobs workers f
+  pub named : told_of f ≡ told
+
 -- the first fault of a set with a second part: of the analysis that comes before its lines; of its lines, of its records
--- as a history, or of its certificate
+-- as a history, of its certificate, or of the workers
 abbrev pub IsRefusedPart : Mode → DraftTree → List ℕ → RunFault → Type 0
 IsRefusedPart mode set part (fault.Analysis f) = IsAnalysedFor mode × IsUnanalysed set f
 IsRefusedPart mode set part (fault.Script (script_fault.Line f)) = IsRefusedLine mode set part f
 IsRefusedPart mode set part (fault.Audit f) =
     (mode ≡ Audit) × (records : Records)
     × (records_of set part ≡ Ok records) × IsAuditFault set records.rows records.records f
+IsRefusedPart mode set part (fault.Work f) = (workers : ℕ) × (mode ≡ Work workers) × IsUndone workers set part f
 IsRefusedPart mode set part (fault.Json f) = (mode ≡ Verify) × HasFault part f
 IsRefusedPart mode set part (fault.Certificate f) =
     (mode ≡ Verify) × (certificate : Certificate)
@@ -223,6 +254,7 @@ IsRefused mode input (fault.Json f) = IsRefusedByPart mode input (fault.Json f)
 IsRefused mode input (fault.Certificate f) = IsRefusedByPart mode input (fault.Certificate f)
 IsRefused mode input (fault.Script f) = IsRefusedByPart mode input (fault.Script f)
 IsRefused mode input (fault.Audit f) = IsRefusedByPart mode input (fault.Audit f)
+IsRefused mode input (fault.Work f) = IsRefusedByPart mode input (fault.Work f)
 IsRefused mode input f = IsRefusedInput (parts_wanted mode) input f
 
 -- ---- what is written
@@ -278,6 +310,20 @@ GivesAudit set part written status =
     (finding : Finding) × (records : Records) × IsAudited set part records
     × AddsEnd set records.rows (history_of records.records) finding [] written × (status ≡ status_of finding)
 
+-- so many workers may do the jobs that the part is, and these are the counts and the rows that outcomes of all of them
+-- have, which correspond to a book
+pub record GivesWork (workers : ℕ) (set : DraftTree) (part written : List ℕ) : Type 0 where
+  pub list : JobList
+  pub read : jobs_of set part ≡ Ok list
+  pub taken : AreTaken workers list.jobs
+  pub draft : Draft
+  pub same_set : draft_tree draft ≡ set
+  pub outcomes : List JobOutcome
+  pub book : BookView
+  pub true_book : IsTrueBook book
+  pub correspond : OutcomesCorrespond draft list.rows list.jobs outcomes book
+  pub text : written ≡ work_text outcomes book
+
 -- all that a second part without a fault means was written, and this is the status behind it; a set that may not run
 -- is refused in its place
 abbrev pub GivesPart : Mode → DraftTree → List ℕ → List ℕ → Status → Type 0
@@ -285,6 +331,8 @@ GivesPart Verify set part written status = ShowsRobust set part × (written ≡ 
 GivesPart (Run robust) set part written status =
     (MayRun robust set × GivesRun robust set part written status) ⊎ ((robust ≡ true) × GivesRefusal set written status)
 GivesPart Audit set part written status = GivesAudit set part written status
+GivesPart (Work workers) set part written status =
+    (IsRobust set × GivesWork workers set part written × (status ≡ Done)) ⊎ GivesRefusal set written status
 GivesPart mode set part written status = ⊥
 
 -- some first lines of it were written, before the last

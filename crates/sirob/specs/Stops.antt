@@ -8,6 +8,7 @@ use Rattle.si_engine.specs.declared.input.script_fault.ScriptFault.{ScriptFault}
 use Rattle.si_engine.specs.declared.input.script_fault.ScriptFault.TheVariants as script_fault
 use Rattle.si_engine.specs.declared.input.source.InputFault.TheVariants as input_fault
 use Rattle.si_engine.specs.Reading.{ForInput, input_limit}
+use Rattle.si_workers.specs.JobLines.{jobs_of}
 use Rattle.sirob.specs.declared.command_line.Mode.{Mode}
 use Rattle.sirob.specs.declared.commands.robust.Verified.{Verified}
 use Rattle.sirob.specs.declared.commands.robust.Verified.TheVariants as verified
@@ -63,6 +64,11 @@ abbrev pub IsPartDone : Mode → DraftTree → List ℕ → List ℕ → Result 
 IsPartDone mode set part written ended =
     IfOk ended (λ status. GivesPart mode set part written status)
     × IfErr ended (λ f. IsPartStop mode set part f written)
+
+-- the first fault of the lines of jobs
+abbrev pub IsRefusedJobs : DraftTree → List ℕ → RunFault → Type 0
+IsRefusedJobs set part (fault.Script (script_fault.Line f)) = jobs_of set part ≡ Err f
+IsRefusedJobs set part f = ⊥
 
 -- the end of a script's run as that of a command
 abbrev pub as_command : Result Finding ScriptFault → Result Status RunFault

@@ -2,9 +2,9 @@
 ghost use Rattle.std.specs.Prelude.{◌≡◌, false, IfOk, [], ◌∷◌, map, option_map, string_bytes};
 ghost use Rattle.clap.specs.Words.{app_of, shape_of, rows_of, rule_of, found_of, with_subcommand, subcommand_of, subcommand_rows_of, fault_of, FailsBy};
 ghost use Rattle.clap.specs.declared.builder.command.Command.TheViews.{out-Command as fields_of};
-ghost use Rattle.sirob.specs.CommandLine.{sirob_app, top_app, command_with, flag_rule, repair_shape, run_shape, is_true, has_flag, IsNamedBy, NamesMode};
+ghost use Rattle.sirob.specs.CommandLine.{sirob_app, top_app, command_with, flag_rule, byte_rule, repair_shape, run_shape, work_shape, is_true, has_flag, byte_of, IsNamedBy, NamesMode};
 
-use clap::{Arg, ArgAction, ArgMatches, Command, Error};
+use clap::{Arg, ArgAction, ArgMatches, Command, Error, value_parser};
 use std::alloc::{AllocError, Global};
 
 /// What the program is asked to do.
@@ -16,6 +16,7 @@ pub enum Mode {
     Repair { promote: bool },
     Run { robust: bool },
     Audit,
+    Work { workers: u8 },
 }
 
 // A subcommand with no argument.
@@ -34,6 +35,20 @@ fn flag<'a>(alloc: Global, name: &'a str, help: &'a str) -> Arg<'a>
     Arg::new(alloc, name)
         .long(name)
         .action(ArgAction::SetTrue)
+        .help(help)
+}
+
+// An argument that is a number of one byte behind its word, or this one where that is missing.
+fn byte_option<'a>(alloc: Global, name: &'a str, default: &'a str, help: &'a str) -> Arg<'a>
+    ensures rule { rule_of result ≡ byte_rule name.entry.now default.entry.now }
+    ensures local { result.global ≡ false }
+{
+    Arg::new(alloc, name)
+        .long(name)
+        .action(ArgAction::Set)
+        .value_name("N")
+        .value_parser(value_parser!(u8))
+        .default_value(default)
         .help(help)
 }
 
@@ -73,13 +88,32 @@ fn run<'a>(alloc: Global) -> Result<Command<'a>, AllocError>
     .arg(robust)
 }
 
+// The command `work`, which may be told how many workers there are.
+fn work<'a>(alloc: Global) -> Result<Command<'a>, AllocError>
+    ensures shape { IfOk result (λ c. shape_of c ≡ work_shape) }
+    ensures local { IfOk result (λ c. (fields_of c).has_globals ≡ false) }
+{
+    let workers = byte_option(
+        alloc,
+        "workers",
+        "2",
+        "How many workers do jobs at once, from 1 to 8",
+    );
+    plain(
+        alloc,
+        "work",
+        "Reads a robust set of programs, a line %% and jobs; does the jobs at once, and writes how many ended in which way, and the rows",
+    )
+    .arg(workers)
+}
+
 // The program's own command, with no subcommand yet.
 fn top<'a>(alloc: Global) -> Result<Command<'a>, AllocError>
     ensures { IfOk result (λ c. app_of c ≡ top_app) }
 {
     Command::new(alloc, "sirob")
         .about(
-            "Checks, certifies, repairs, runs and audits transaction programs under snapshot isolation, from standard input to standard output",
+            "Checks, certifies, repairs, runs and audits transaction programs under snapshot isolation, and does jobs of them, from standard input to standard output",
         )
         .subcommand_required(true)
         .bin_name("sirob")
@@ -96,36 +130,38 @@ fn add<'a>(above: Command<'a>, sub: Command<'a>) -> Result<Command<'a>, AllocErr
 fn command<'a>(alloc: Global) -> Result<Command<'a>, AllocError>
     ensures { IfOk result (λ c. app_of c ≡ sirob_app) }
 {
+    let none = top(alloc)?;
     let check = plain(
         alloc,
         "check",
         "Reads a set of programs; writes its canonical text, or its first fault",
     );
+    let with_check = add(none, check)?;
     let certify = plain(
         alloc,
         "certify",
         "Reads a set of programs; writes a certificate that it is robust, or its refusal",
     );
+    let with_certify = add(with_check, certify)?;
     let verify = plain(
         alloc,
         "verify",
         "Reads a set of programs, a line %% and a certificate; writes that the set is robust, or the certificate's first fault",
     );
+    let with_verify = add(with_certify, verify)?;
     let repair = repair(alloc)?;
+    let with_repair = add(with_verify, repair)?;
     let run = run(alloc)?;
+    let with_run = add(with_repair, run)?;
     let audit = plain(
         alloc,
         "audit",
         "Reads a set of programs, a line %% and records of commits; writes the rows, and an order or a cycle",
     );
-    let all = top(alloc)?;
-    let all = add(all, check)?;
-    let all = add(all, certify)?;
-    let all = add(all, verify)?;
-    let all = add(all, repair)?;
-    let all = add(all, run)?;
-    let all = add(all, audit)?;
-    Ok(all)
+    let with_audit = add(with_run, audit)?;
+    let work = work(alloc)?;
+    let with_work = add(with_audit, work)?;
+    Ok(with_work)
 }
 
 /// What the words ask for. The first is the program's name.
@@ -155,6 +191,13 @@ fn has_flag(matches: &ArgMatches<'_>, name: &str) -> bool
     is_true(matches.get_str(name))
 }
 
+// The number of an option, which is its default where the words have none.
+fn byte_of(matches: &ArgMatches<'_>, name: &str) -> u8
+    ensures { result ≡ byte_of name.now (rows_of (found_of matches.now)) }
+{
+    matches.get_one::<u8>(name).unwrap_or(0)
+}
+
 fn mode_in(matches: &ArgMatches<'_>) -> Mode
     requires { NamesMode (subcommand_rows_of matches.now) }
     ensures { IsNamedBy result (subcommand_rows_of matches.now) }
@@ -180,6 +223,11 @@ fn mode_in(matches: &ArgMatches<'_>) -> Mode
     }
     if matches.subcommand_matches("audit").is_some() {
         return Mode::Audit;
+    }
+    if let Some(work) = matches.subcommand_matches("work") {
+        return Mode::Work {
+            workers: byte_of(work, "workers"),
+        };
     }
     unreachable!()
 }

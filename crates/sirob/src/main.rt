@@ -1,5 +1,5 @@
-//! The program `sirob`: hands its arguments and its ports on. Today it checks, certifies and
-//! repairs sets of programs, runs scripts and audits histories.
+//! The program `sirob`: hands its arguments and its ports on. It checks, certifies and repairs sets
+//! of programs, runs scripts, audits histories, and does jobs on threads.
 #![tactic(auto)]
 
 mod analysis_fault;
@@ -9,10 +9,14 @@ mod input;
 mod lines;
 mod parts;
 mod program;
+mod progress;
+mod rows;
 mod run_command;
 mod run_fault;
+mod run_work;
 mod sentences;
 mod status;
+mod worker_fault;
 
 use crate::program::carry_out;
 use si_engine::Port;

@@ -2,23 +2,28 @@
 ghost use Rattle.std.specs.Prelude.{◌≡◌, ◌≤◌, ◌+◌, [], true, map, string_bytes, IfOk, IfErr};
 ghost use Rattle.std.specs.IoError.{error_kind};
 ghost use Rattle.clap.specs.Words.{kind_of};
-ghost use Rattle.sirob.specs.Output.{Writes, memory_line};
+ghost use Rattle.sirob.specs.Output.{IsReply, Writes, memory_line};
 ghost use Rattle.sirob.specs.Program.{is_text, IsRefusal, IsWordless, IsEnd};
 ghost use Rattle.sirob.specs.Stops.{IsJust};
 
-use crate::command_line::read_words;
+use crate::command_line::{Mode, read_words};
+use crate::progress::Watched;
 use crate::run_command::{MEMORY_LINE, run_command, write_last};
+use crate::run_work::run_work;
 use crate::status::Status;
 use clap::Error;
 use clap::error::ErrorKind;
 use si_engine::{MAX_READS, Sink, Source};
 use std::alloc::Global;
 use std::io;
+use std::rt::Clock;
+use std::sync::Wait;
+use std::thread::Threads;
 
 /// Does what the arguments ask for, from a source to a sink. What is wrong with the arguments goes to the standard
 /// error.
 pub fn carry_out<S: Source, K: Sink>(
-    rt: &(impl AllocGlobal + Eprint),
+    rt: &(impl AllocGlobal + Eprint + Clock + Watched + Threads + Wait + Sync),
     arguments: &io::Result<Vec<String>>,
     source: &mut S,
     sink: &mut K,
@@ -36,9 +41,31 @@ pub fn carry_out<S: Source, K: Sink>(
     }
 }
 
+// Does what a mode asks for.
+fn run_mode<S: Source, K: Sink>(
+    rt: &(impl AllocGlobal + Eprint + Clock + Watched + Threads + Wait + Sync),
+    mode: Mode,
+    source: &mut S,
+    sink: &mut K,
+) -> Status
+    ensures reply { Writes (IsReply mode (S.left source.old) (S.has_failed source.new))
+        (K.has_failed sink.new) (K.taken sink.old) (K.taken sink.new) result }
+    ensures reads { S.pulls source.new ≤ S.pulls source.old + MAX_READS }
+{
+    match mode {
+        Mode::Check
+        | Mode::Certify
+        | Mode::Verify
+        | Mode::Repair { .. }
+        | Mode::Run { .. }
+        | Mode::Audit => run_command(rt, mode, source, sink),
+        Mode::Work { workers } => run_work(rt, workers, source, sink),
+    }
+}
+
 // Does what words ask for.
 fn follow<S: Source, K: Sink>(
-    rt: &(impl AllocGlobal + Eprint),
+    rt: &(impl AllocGlobal + Eprint + Clock + Watched + Threads + Wait + Sync),
     words: &[String],
     source: &mut S,
     sink: &mut K,
@@ -49,7 +76,7 @@ fn follow<S: Source, K: Sink>(
     ensures reads { S.pulls source.new ≤ S.pulls source.old + MAX_READS }
 {
     match read_words(rt.alloc(), words) {
-        Ok(mode) => run_command(rt, mode, source, sink),
+        Ok(mode) => run_mode(rt, mode, source, sink),
         Err(error) => refuse_words(rt, &error, sink),
     }
 }

@@ -3,7 +3,7 @@ ghost use Rattle.std.specs.Prelude.{◌≡◌, ◌≤◌, ◌+◌, false, Err, l
 ghost use Rattle.si_engine.specs.Reading.{input_limit};
 ghost use Rattle.si_engine.specs.Writing.{WritesOr};
 ghost use Rattle.sirob.specs.FaultLines.{is_memory};
-ghost use Rattle.sirob.specs.Output.{parts_wanted, IsReply, Writes, memory_line};
+ghost use Rattle.sirob.specs.Output.{is_work, parts_wanted, IsReply, Writes, memory_line};
 ghost use Rattle.sirob.specs.Stops.{IsInputDone, IsSourceDone, Ends, IsJust, write_lost};
 
 use crate::command_line::Mode;
@@ -33,12 +33,13 @@ fn part_input<K: Sink>(
     requires short { length input.now ≤ input_limit }
     requires working { K.has_failed sink.old ≡ false }
     requires two { parts_wanted mode ≡ 2 }
+    requires no_work { is_work mode ≡ false }
     ensures { WritesOr (Err write_lost) (IsInputDone mode input.now)
         (K.has_failed sink.new) (K.taken sink.old) (K.taken sink.new) result }
 {
     let (set, part) = read_text_and_part(alloc, input)?;
     match mode {
-        Mode::Check | Mode::Certify | Mode::Repair { .. } => unreachable!(),
+        Mode::Check | Mode::Certify | Mode::Repair { .. } | Mode::Work { .. } => unreachable!(),
         Mode::Verify => verify_part(alloc, set, part, sink),
         Mode::Run { robust: false } => run_part(alloc, &set, part, sink),
         Mode::Run { robust: true } => run_robust_part(alloc, set, part, sink),
@@ -55,6 +56,7 @@ fn answer_input<K: Sink>(
 ) -> Result<Status, RunFault>
     requires short { length input.now ≤ input_limit }
     requires working { K.has_failed sink.old ≡ false }
+    requires no_work { is_work mode ≡ false }
     ensures { WritesOr (Err write_lost) (IsInputDone mode input.now)
         (K.has_failed sink.new) (K.taken sink.old) (K.taken sink.new) result }
 {
@@ -63,6 +65,7 @@ fn answer_input<K: Sink>(
         Mode::Certify => certify_input(alloc, input, sink),
         Mode::Repair { promote } => repair_input(alloc, promote, input, sink),
         Mode::Verify | Mode::Run { .. } | Mode::Audit => part_input(alloc, mode, input, sink),
+        Mode::Work { .. } => unreachable!(),
     }
 }
 
@@ -74,7 +77,8 @@ fn answer_source<S: Source, K: Sink>(
     sink: &mut K,
     kept: &mut Vec<u8>,
 ) -> Result<Status, RunFault>
-    requires { K.has_failed sink.old ≡ false }
+    requires working { K.has_failed sink.old ≡ false }
+    requires no_work { is_work mode ≡ false }
     ensures done { WritesOr (Err write_lost)
         (IsSourceDone mode (S.left source.old) (S.has_failed source.new))
         (K.has_failed sink.new) (K.taken sink.old) (K.taken sink.new) result }
@@ -111,9 +115,9 @@ fn write_fault<K: Sink>(alloc: Global, sink: &mut K, fault: RunFault) -> Status
     }
 }
 
-// Writes what stands behind the lines of a command: nothing, or the line of the fault that
-// stopped it.
-fn write_end<K: Sink>(alloc: Global, sink: &mut K, ended: Result<Status, RunFault>) -> Status
+/// Writes what stands behind the lines of a command: nothing, or the line of the fault that
+/// stopped it.
+pub fn write_end<K: Sink>(alloc: Global, sink: &mut K, ended: Result<Status, RunFault>) -> Status
     ensures { Writes (Ends ended)
         (K.has_failed sink.new) (K.taken sink.old) (K.taken sink.new) result }
 {
@@ -123,15 +127,16 @@ fn write_end<K: Sink>(alloc: Global, sink: &mut K, ended: Result<Status, RunFaul
     }
 }
 
-/// Reads all of a source, does what the mode asks for, and writes the answer to a sink. A source that failed is a fault
-/// of the input; of a sink that failed, the status is that of a fault. What is wrong goes to the standard error in
-/// words, behind the answer.
+/// Reads all of a source, does what the mode asks for, which is no work, and writes the answer to a
+/// sink. A source that failed is a fault of the input; of a sink that failed, the status is that of
+/// a fault. What is wrong goes to the standard error in words, behind the answer.
 pub fn run_command<S: Source, K: Sink>(
     rt: &(impl AllocGlobal + Eprint),
     mode: Mode,
     source: &mut S,
     sink: &mut K,
 ) -> Status
+    requires { is_work mode ≡ false }
     ensures reply { Writes (IsReply mode (S.left source.old) (S.has_failed source.new))
         (K.has_failed sink.new) (K.taken sink.old) (K.taken sink.new) result }
     ensures reads { S.pulls source.new ≤ S.pulls source.old + MAX_READS }

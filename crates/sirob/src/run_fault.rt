@@ -5,12 +5,14 @@ ghost use Rattle.sirob.specs.FaultLines.{text_fault, place_text, in_set, check_f
 
 use crate::analysis_fault::{analyse_fault, certificate_fault, json_fault, repair_fault};
 use crate::parts::PartFault;
+use crate::worker_fault::{WorkerFault, worker_fault};
 use history_book::{AuditFault, RowFault};
 use prog_check::{CheckFault, Place};
 use prog_text::TextFault;
 use robust_cert::{CertFault, JsonFault};
 use si_engine::{InputFault, LineFault, ScriptFault};
 use si_repair::{AnalyseFault, RepairFault};
+use si_workers::WorkFault;
 use std::alloc::{AllocError, Global};
 
 /// A fault, by the layer that finds it.
@@ -26,6 +28,7 @@ pub enum RunFault {
     Certificate(CertFault),
     Script(ScriptFault),
     Audit(AuditFault),
+    Work(WorkerFault),
 }
 
 // A fault of the source, by its code.
@@ -174,6 +177,7 @@ pub fn fault_line(alloc: Global, fault: RunFault) -> Result<String, AllocError>
         RunFault::Certificate(fault) => certificate_fault(alloc, fault)?,
         RunFault::Script(fault) => script_fault(alloc, fault)?,
         RunFault::Audit(fault) => audit_fault(alloc, fault)?,
+        RunFault::Work(fault) => worker_fault(alloc, fault)?,
     };
     format!(in alloc; "fault {text}\n")
 }
@@ -277,6 +281,18 @@ impl From<AuditFault> for RunFault {
     }
 }
 
+impl From<WorkFault<'_>> for RunFault {
+    ghost use Rattle.std.specs.Prelude.{◌≡◌};
+    ghost use Rattle.sirob.specs.Faults.{told_of};
+    ghost use Rattle.sirob.specs.declared.run_fault.RunFault.TheVariants.{Work};
+
+    ghost from_gives = { λ fault e. e ≡ Work (told_of fault) };
+
+    fn from(fault: WorkFault<'_>) -> Self {
+        RunFault::Work(WorkerFault::of(&fault))
+    }
+}
+
 impl From<AllocError> for RunFault {
     ghost use Rattle.std.specs.Prelude.{◌≡◌};
     ghost use Rattle.sirob.specs.declared.run_fault.RunFault.TheVariants.{Input};
@@ -306,6 +322,7 @@ impl RunFault {
                 | RunFault::Script(ScriptFault::Input(InputFault::Memory))
                 | RunFault::Script(ScriptFault::Line(LineFault::Memory))
                 | RunFault::Audit(AuditFault::Memory)
+                | RunFault::Work(WorkerFault::Memory)
         )
     }
 }

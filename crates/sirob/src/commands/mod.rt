@@ -8,3 +8,4 @@ pub mod repair;
 pub mod robust;
 pub mod run;
 pub mod verify;
+pub mod work;

@@ -5,3 +5,4 @@ pub mod cycle;
 pub mod kept_input;
 pub mod repair;
 pub mod words;
+pub mod work;

@@ -7,11 +7,12 @@ use crate::sentences::analysis::{analysis_sentence, certificate_sentence, refusa
 use crate::sentences::cycle::{audit_cycle_sentence, run_cycle_sentence};
 use crate::sentences::kept_input::{second_part, set_of, set_text};
 use crate::sentences::repair::{repair_fault_sentence, repair_sentence};
+use crate::sentences::work::work_sentence;
 use crate::status::Status;
 use analysis_words::json_words;
 use fault_words::{check_words, text_words};
 use history_book::AuditFault;
-use run_words::{PartKind, extra_part_words, line_words, missing_part_words, record_words};
+use run_words::{PartKind, extra_part_words, line_fault_words, missing_part_words, record_words};
 use si_engine::{InputFault, LineFault, ScriptFault};
 use std::alloc::{AllocError, Global};
 
@@ -22,6 +23,7 @@ fn second_wanted(mode: Mode) -> Option<&'static str> {
         Mode::Verify => Some("a certificate"),
         Mode::Run { .. } => Some("a script"),
         Mode::Audit => Some("records"),
+        Mode::Work { .. } => Some("jobs"),
     }
 }
 
@@ -36,6 +38,7 @@ fn wanted_parts(alloc: Global, mode: Mode) -> Result<String, AllocError> {
 fn kind_of(mode: Mode) -> PartKind {
     match mode {
         Mode::Audit => PartKind::Records,
+        Mode::Work { .. } => PartKind::Jobs,
         Mode::Check | Mode::Certify | Mode::Verify | Mode::Repair { .. } | Mode::Run { .. } =>
             PartKind::Script,
     }
@@ -86,7 +89,7 @@ fn line_sentence(
     let Some(set) = set_of(alloc, input) else {
         return Ok(None);
     };
-    line_words(alloc, kind_of(mode), &set, second_part(input), fault)
+    line_fault_words(alloc, kind_of(mode), &set, second_part(input), fault)
 }
 
 fn script_sentence(
@@ -132,6 +135,7 @@ fn words_of(
         RunFault::Repair(fault) => repair_fault_sentence(alloc, input, fault),
         RunFault::Script(fault) => script_sentence(alloc, mode, input, fault),
         RunFault::Audit(fault) => record_sentence(alloc, input, fault),
+        RunFault::Work(fault) => work_sentence(alloc, fault),
         RunFault::Json(fault) => plain(alloc, Some(json_words(fault))),
         RunFault::Certificate(fault) => certificate_sentence(alloc, input, fault),
     }
@@ -145,7 +149,9 @@ fn unserializable_sentence(
 ) -> Result<Option<String>, AllocError> {
     match mode {
         Mode::Check | Mode::Verify | Mode::Repair { .. } => Ok(None),
-        Mode::Certify | Mode::Run { robust: true } => refusal_sentence(alloc, input),
+        Mode::Certify | Mode::Run { robust: true } | Mode::Work { .. } => refusal_sentence(
+            alloc, input,
+        ),
         Mode::Run { robust: false } => run_cycle_sentence(alloc, input),
         Mode::Audit => audit_cycle_sentence(alloc, input),
     }

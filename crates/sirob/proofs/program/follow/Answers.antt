@@ -9,10 +9,10 @@ pub returns-in-Ok-clause-end : goal.returns-in-Ok-clause-end
 returns-in-Ok-clause-end g c =
     let words = map string_bytes c.args.words.now in
     let left = g.S.Source.left c.args.source.now in
-    let failed = g.S.Source.has_failed c.run_command.new.source in
+    let failed = g.S.Source.has_failed c.run_mode.new.source in
     let mode = c.in-Ok.mode in
     let read = c.in-Ok.ensures in
-    writes_as (IsReply mode left failed) (IsEnd words left failed) _ _ _ _ (done mode read.fault read.meaning) c.run_command.ensures.reply
+    writes_as (IsReply mode left failed) (IsEnd words left failed) _ _ _ _ (done mode read.fault read.meaning) c.run_mode.ensures.reply
 
 pub returns-in-Err-clause-end : goal.returns-in-Err-clause-end
 returns-in-Err-clause-end g c =

@@ -11,7 +11,7 @@ returns-in_err-input-clause-done g c =
     let f = c.in_err-input.field-0.0 in
     rw (exit.1, exit.2)
     (read_stopped c.args.mode f (g.S.Source.left c.args.source.now) (g.S.Source.has_failed c.read_whole.new.source) _ _
-    c.requires (λ e. read.long (ap Err e)) (λ e. read.fault.0 (ap Err e))
+    c.requires.working (λ e. read.long (ap Err e)) (λ e. read.fault.0 (ap Err e))
     (λ e. let told = read.fault.1 e in let is : f ≡ i.ReadFault = cc in is))
 
 pub returns-clause-done : goal.returns-clause-done

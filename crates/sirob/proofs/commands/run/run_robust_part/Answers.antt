@@ -6,7 +6,7 @@ use Rattle.sirob.specs.declared.commands.robust.Verified.{Verified}
 use Rattle.sirob.specs.declared.status.Status.TheVariants as status
 use Rattle.sirob.specs.Output.{GivesRefusal}
 use Rattle.sirob.specs.Stops.{IsPartDone, IsVerified}
-use Rattle.sirob.proofs.StopLaws.{part_stopped, script_refused, wrote_lines}
+use Rattle.sirob.proofs.StopLaws.{part_stopped, part_unanalysed, wrote_lines}
 use Rattle.sirob.proofs.commands.run.run_robust_part.Goals as goal
 
 pub returns-in_err-set : goal.returns-in_err-set
@@ -16,7 +16,7 @@ returns-in_err-set g c =
     let set = draft_tree c.args.set in
     let part = c.args.part.now in
     rw (exit.1, exit.2)
-    (part_stopped (Run true) set part f _ _ c.requires.working (λ no_memory. script_refused set part f (c.in_err-set.ensures.err no_memory)))
+    (part_stopped (Run true) set part f _ _ c.requires.working (λ no_memory. part_unanalysed (Run true) set part f refl (c.in_err-set.ensures.err no_memory)))
 
 pub returns-in-Refused : goal.returns-in-Refused
 returns-in-Refused g c =

@@ -1,0 +1,18 @@
+use Rattle.std.proofs.Common.{◌≡◌, ◌∙◌, ap}
+use Rattle.clap.specs.Words.{App, Shape, with_subcommand}
+use Rattle.sirob.proofs.command_line.command.Goals as goal
+
+-- one more subcommand
+added : (above below : App) (has is : Shape) (made : App) → made ≡ with_subcommand above has → above ≡ below → has ≡ is → made ≡ with_subcommand below is
+added above below has is made makes before same = makes ∙ (ap (λ (a : App). with_subcommand a has) before ∙ ap (λ (s : Shape). with_subcommand below s) same)
+
+pub returns : goal.returns
+returns c =
+    added _ _ _ _ _ c.in_ok-with_work.ensures
+    (added _ _ _ _ _ c.in_ok-with_audit.ensures
+    (added _ _ _ _ _ c.in_ok-with_run.ensures
+    (added _ _ _ _ _ c.in_ok-with_repair.ensures
+    (added _ _ _ _ _ c.in_ok-with_verify.ensures
+    (added _ _ _ _ _ c.in_ok-with_certify.ensures
+    (added _ _ _ _ _ c.in_ok-with_check.ensures c.in_ok-none.ensures c.plain-check.ensures.shape) c.plain-certify.ensures.shape) c.plain-verify.ensures.shape)
+    c.in_ok-repair.ensures.shape) c.in_ok-run.ensures.shape) c.plain-audit.ensures.shape) c.in_ok-work.ensures.shape

@@ -1,0 +1,178 @@
+//! The command `work`: from the bytes of a list of jobs to what came of them.
+ghost use Rattle.std.specs.Prelude.{◌≡◌, ◌≤◌, ◌++◌, false, true, Ok, Err, length, IfOk, IfErr, OnOk, string_bytes};
+ghost use Rattle.prog_tree.specs.Tree.{draft_tree};
+ghost use Rattle.history_book.specs.View.{history_of};
+ghost use Rattle.si_engine.specs.Reading.{input_limit};
+ghost use Rattle.si_engine.specs.Runs.{end_lines};
+ghost use Rattle.si_engine.specs.Writing.{WritesOr};
+ghost use Rattle.si_workers.specs.JobLines.{jobs_of};
+ghost use Rattle.sirob.specs.FaultLines.{is_memory};
+ghost use Rattle.sirob.specs.Output.{IsRobust, IsRefusedPart, GivesWork};
+ghost use Rattle.sirob.specs.Stops.{IsPartDone, IsRefusedJobs, write_lost};
+ghost use Rattle.sirob.specs.Work.{is_committed, is_aborted, is_clashed, is_refused, ends_in, counts_text, work_text};
+ghost use Rattle.sirob.specs.declared.command_line.Mode.TheVariants as mode;
+
+use crate::commands::robust::{Verified, assess};
+use crate::lines::write_lines;
+use crate::progress::{Progress, Watched};
+use crate::rows::push_rows;
+use crate::run_fault::RunFault;
+use crate::status::Status;
+use history_book::Book;
+use prog_check::ProgramSet;
+use robust_cert::RobustSet;
+use si_engine::{Bytes, Sink};
+use si_workers::{Finished, JobEnd, JobList, JobOutcome, read_jobs, run_jobs};
+use std::alloc::{AllocError, Global};
+use std::rt::Clock;
+use std::sync::Wait;
+use std::thread::Threads;
+
+fn is_committed(end: &JobEnd) -> bool
+    ensures { result ≡ is_committed end.now }
+{
+    matches!(end, JobEnd::Committed { .. })
+}
+
+fn is_aborted(end: &JobEnd) -> bool
+    ensures { result ≡ is_aborted end.now }
+{
+    matches!(end, JobEnd::Aborted(_))
+}
+
+fn is_clashed(end: &JobEnd) -> bool
+    ensures { result ≡ is_clashed end.now }
+{
+    matches!(end, JobEnd::Clashed(_))
+}
+
+fn is_refused(end: &JobEnd) -> bool
+    ensures { result ≡ is_refused end.now }
+{
+    matches!(end, JobEnd::Refused(_))
+}
+
+fn committed_in(outcomes: &[JobOutcome]) -> usize
+    ensures { result ≡ ends_in is_committed outcomes.now }
+{
+    outcomes
+        .iter()
+        .filter(|one| is_committed(&one.job_end))
+        .count()
+}
+
+fn aborted_in(outcomes: &[JobOutcome]) -> usize
+    ensures { result ≡ ends_in is_aborted outcomes.now }
+{
+    outcomes
+        .iter()
+        .filter(|one| is_aborted(&one.job_end))
+        .count()
+}
+
+fn clashed_in(outcomes: &[JobOutcome]) -> usize
+    ensures { result ≡ ends_in is_clashed outcomes.now }
+{
+    outcomes
+        .iter()
+        .filter(|one| is_clashed(&one.job_end))
+        .count()
+}
+
+fn refused_in(outcomes: &[JobOutcome]) -> usize
+    ensures { result ≡ ends_in is_refused outcomes.now }
+{
+    outcomes
+        .iter()
+        .filter(|one| is_refused(&one.job_end))
+        .count()
+}
+
+// How many jobs ended in each way.
+fn counts_text(alloc: Global, outcomes: &[JobOutcome]) -> Result<String, AllocError>
+    ensures { IfOk result (λ text. string_bytes text ≡ counts_text outcomes.now) }
+{
+    let committed = committed_in(outcomes);
+    let aborted = aborted_in(outcomes);
+    let clashed = clashed_in(outcomes);
+    let refused = refused_in(outcomes);
+    format!(in alloc;
+        "committed {committed}\naborted {aborted}\nclashed {clashed}\nrefused {refused}\n"
+    )
+}
+
+// The lines of counts, and those of the rows that a book leaves.
+fn work_text(alloc: Global, outcomes: &[JobOutcome], book: &Book<'_>) -> Result<String, AllocError>
+    ensures { IfOk result (λ text. string_bytes text ≡ work_text outcomes.now book.now) }
+{
+    let table = book.table()?;
+    let mut text = counts_text(alloc, outcomes)?;
+    push_rows(&mut text, book.set().draft(), &table)?;
+    Ok(text)
+}
+
+// The jobs that the bytes of a part are, for a set that was found robust.
+fn jobs_in(alloc: Global, set: &ProgramSet, part: &[u8]) -> Result<JobList, RunFault>
+    requires { length part.now ≤ input_limit }
+    ensures ok { IfOk result (λ list. jobs_of (draft_tree set.now) part.now ≡ Ok list) }
+    ensures err { IfErr result (λ fault. is_memory fault ≡ false
+        → IsRefusedJobs (draft_tree set.now) part.now fault) }
+{
+    let list = read_jobs(alloc, set, &mut Bytes::new(part))?;
+    Ok(list)
+}
+
+// What came of the jobs that the bytes of a part are, on a set that was found robust.
+fn work_verified<R: AllocGlobal + Eprint + Clock + Watched + Threads + Wait + Sync>(
+    rt: &R,
+    workers: u8,
+    set: &RobustSet,
+    part: &[u8],
+) -> Result<String, RunFault>
+    requires short { length part.now ≤ input_limit }
+    requires robust { IsRobust (draft_tree set.now) }
+    ensures ok { IfOk result (λ text. GivesWork workers (draft_tree set.now) part.now
+        (string_bytes text)) }
+    ensures err { IfErr result (λ fault. is_memory fault ≡ false
+        → IsRefusedPart (mode.Work workers) (draft_tree set.now) part.now fault) }
+{
+    let alloc = rt.alloc();
+    let JobList { rows, jobs } = jobs_in(alloc, set.set(), part)?;
+    let gate = Progress::new(rt, jobs.len());
+    let Finished { outcomes, book, .. } = run_jobs(
+        rt,
+        alloc,
+        set,
+        rows,
+        jobs.as_slice(),
+        usize::from(workers),
+        &gate,
+    )?;
+    let text = work_text(alloc, outcomes.as_slice(), &book)?;
+    Ok(text)
+}
+
+/// Does the jobs that the bytes of a part are, where the set is robust, and writes what came of
+/// them; else writes its refusal.
+pub fn work_part<R: AllocGlobal + Eprint + Clock + Watched + Threads + Wait + Sync, K: Sink>(
+    rt: &R,
+    workers: u8,
+    set: ProgramSet,
+    part: &[u8],
+    sink: &mut K,
+) -> Result<Status, RunFault>
+    requires short { length part.now ≤ input_limit }
+    requires working { K.has_failed sink.old ≡ false }
+    ensures { WritesOr (Err write_lost) (IsPartDone (mode.Work workers) (draft_tree set) part.now)
+        (K.has_failed sink.new) (K.taken sink.old) (K.taken sink.new) result }
+{
+    match assess(rt.alloc(), set)? {
+        Verified::Robust(set) => {
+            let text = work_verified(rt, workers, &set, part)?;
+            write_lines(sink, text.as_bytes(), Ok(Status::Done))
+        }
+        Verified::Refused(text) => {
+            write_lines(sink, text.as_bytes(), Ok(Status::Unserializable))
+        }
+    }
+}

@@ -1,0 +1,80 @@
+//! Does jobs by workers, from a source to a sink.
+ghost use Rattle.std.specs.Prelude.{◌≡◌, ◌≤◌, ◌+◌, false, Err, length};
+ghost use Rattle.si_engine.specs.Reading.{input_limit};
+ghost use Rattle.si_engine.specs.Writing.{WritesOr};
+ghost use Rattle.sirob.specs.Output.{IsReply, Writes};
+ghost use Rattle.sirob.specs.Stops.{IsInputDone, IsSourceDone, write_lost};
+ghost use Rattle.sirob.specs.declared.command_line.Mode.TheVariants as mode;
+
+use crate::command_line::Mode;
+use crate::commands::work::work_part;
+use crate::input::read_text_and_part;
+use crate::progress::Watched;
+use crate::run_command::write_end;
+use crate::run_fault::RunFault;
+use crate::sentences::words::explain;
+use crate::status::Status;
+use si_engine::{MAX_READS, Sink, Source, read_whole};
+use std::rt::Clock;
+use std::sync::Wait;
+use std::thread::Threads;
+
+// Does the jobs of an input.
+fn work_input<R: AllocGlobal + Eprint + Clock + Watched + Threads + Wait + Sync, K: Sink>(
+    rt: &R,
+    workers: u8,
+    input: &[u8],
+    sink: &mut K,
+) -> Result<Status, RunFault>
+    requires short { length input.now ≤ input_limit }
+    requires working { K.has_failed sink.old ≡ false }
+    ensures { WritesOr (Err write_lost) (IsInputDone (mode.Work workers) input.now)
+        (K.has_failed sink.new) (K.taken sink.old) (K.taken sink.new) result }
+{
+    let (set, part) = read_text_and_part(rt.alloc(), input)?;
+    work_part(rt, workers, set, part, sink)
+}
+
+// Reads all of a source, keeps it, and does its jobs.
+fn work_source<
+    R: AllocGlobal + Eprint + Clock + Watched + Threads + Wait + Sync,
+    S: Source,
+    K: Sink,
+>(rt: &R, workers: u8, source: &mut S, sink: &mut K, kept: &mut Vec<u8>) -> Result<Status, RunFault>
+    requires { K.has_failed sink.old ≡ false }
+    ensures done { WritesOr (Err write_lost)
+        (IsSourceDone (mode.Work workers) (S.left source.old) (S.has_failed source.new))
+        (K.has_failed sink.new) (K.taken sink.old) (K.taken sink.new) result }
+    ensures reads { S.pulls source.new ≤ S.pulls source.old + MAX_READS }
+{
+    let input = read_whole(rt.alloc(), source)?;
+    let ended = work_input(rt, workers, &input, sink);
+    *kept = input;
+    ended
+}
+
+/// Reads all of a source, does its jobs by so many workers where its set is robust, and writes how
+/// many ended in which way, and the rows that are left. What is wrong goes to the standard error in
+/// words, behind the answer; on a terminal, that also tells how many jobs have ended so far.
+pub fn run_work<
+    R: AllocGlobal + Eprint + Clock + Watched + Threads + Wait + Sync,
+    S: Source,
+    K: Sink,
+>(rt: &R, workers: u8, source: &mut S, sink: &mut K) -> Status
+    ensures reply { Writes
+        (IsReply (mode.Work workers) (S.left source.old) (S.has_failed source.new))
+        (K.has_failed sink.new) (K.taken sink.old) (K.taken sink.new) result }
+    ensures reads { S.pulls source.new ≤ S.pulls source.old + MAX_READS }
+{
+    if sink.failed() {
+        return Status::Faulty;
+    }
+    let mut input = Vec::new(rt.alloc());
+    let ended = work_source(rt, workers, source, sink, &mut input);
+    if sink.failed() {
+        return Status::Faulty;
+    }
+    let status = write_end(rt.alloc(), sink, ended);
+    explain(rt, Mode::Work { workers }, &input, ended);
+    status
+}
