@@ -1,22 +1,25 @@
 /* Preloaded into the program: refuses the request for memory whose number, from 1, stands in REFUSE.
-   At exit the file REFUSED is made if a request was refused. */
+   At exit the file REFUSED is made if a request was refused. Threads may ask at once: each request
+   has a number of its own, so at most one is refused; which one differs from run to run. */
 #define _GNU_SOURCE
 #include <dlfcn.h>
 #include <errno.h>
 #include <fcntl.h>
+#include <stdatomic.h>
 #include <stdlib.h>
 #include <unistd.h>
 
-static long wanted = -1;
-static long asked;
-static int refused;
+static atomic_long wanted = -1;
+static atomic_long asked;
+static atomic_int refused;
 
 static int is_refused(void) {
   if (wanted < 0) {
     const char *text = getenv("REFUSE");
     wanted = text ? atol(text) : 0;
   }
-  if (wanted == 0 || ++asked != wanted) return 0;
+  long number = wanted;
+  if (number == 0 || ++asked != number) return 0;
   refused = 1;
   errno = ENOMEM;
   return 1;

@@ -2,6 +2,7 @@
 use crate::order::{Sight, Trace};
 use crate::program::{Comparison, Expr, Key, Program, Range, Set, Stmt, Test};
 use std::collections::{BTreeMap, BTreeSet};
+use std::ops::RangeInclusive;
 
 #[derive(Clone, Copy, PartialEq, Eq, PartialOrd, Ord)]
 pub struct Cell {
@@ -53,17 +54,13 @@ impl Store {
         Store { chains: rows.into_iter().map(|(cell, value)| (cell, chain(value))).collect(), commits: 0 }
     }
 
-    fn get(&self, start: u64, cell: &Cell) -> Option<i64> {
-        self.chains.get(cell).and_then(|chain| chain.at(start))
-    }
-
-    fn clash(&self, start: u64, run: &Run) -> Option<(Cell, u64)> {
+    pub fn clash(&self, start: u64, run: &Run) -> Option<(Cell, u64)> {
         let touched = run.changes.keys().chain(&run.kept);
         let last = |cell: &Cell| self.chains.get(cell).map_or(0, Chain::last_touch);
         touched.map(|cell| (*cell, last(cell))).filter(|found| found.1 > start).min()
     }
 
-    fn install(&mut self, run: &Run) -> u64 {
+    pub fn install(&mut self, run: &Run) -> u64 {
         self.commits += 1;
         for (cell, value) in &run.changes {
             self.chains.entry(*cell).or_default().versions.push((self.commits, *value));
@@ -76,6 +73,26 @@ impl Store {
 
     pub fn rows(&self) -> impl Iterator<Item = (&Cell, i64)> {
         self.chains.iter().filter_map(|(cell, chain)| Some((cell, chain.versions.last()?.1?)))
+    }
+}
+
+/// What holds the snapshots that runs look at.
+pub trait Snapshots {
+    fn get(&self, start: u64, cell: &Cell) -> Option<i64>;
+    fn each_row(&self, start: u64, ends: RangeInclusive<Cell>, see: impl FnMut(&Cell, i64));
+}
+
+impl Snapshots for Store {
+    fn get(&self, start: u64, cell: &Cell) -> Option<i64> {
+        self.chains.get(cell).and_then(|chain| chain.at(start))
+    }
+
+    fn each_row(&self, start: u64, ends: RangeInclusive<Cell>, mut see: impl FnMut(&Cell, i64)) {
+        for (cell, chain) in self.chains.range(ends) {
+            if let Some(value) = chain.at(start) {
+                see(cell, value);
+            }
+        }
     }
 }
 
@@ -114,17 +131,36 @@ pub struct Run<'a> {
     changes: BTreeMap<Cell, Option<i64>>,
     kept: BTreeSet<Cell>,
     looked: Vec<Sight>,
-    replies: Vec<i64>,
+    pub replies: Vec<i64>,
     ready: bool,
 }
 
-enum Stop {
+pub enum Stop {
     Did(Deed),
     Ready,
     Aborted(Cause),
 }
 
 impl<'a> Run<'a> {
+    pub fn new(start: u64, body: &'a [Stmt], args: Vec<i64>) -> Run<'a> {
+        Run {
+            start,
+            open: vec![(body, args.len())],
+            values: args,
+            changes: BTreeMap::new(),
+            kept: BTreeSet::new(),
+            looked: Vec::new(),
+            replies: Vec::new(),
+            ready: false,
+        }
+    }
+
+    /// What the run looked at and changed.
+    pub fn trace(&mut self) -> Trace {
+        let looked = std::mem::take(&mut self.looked);
+        Trace { start: self.start as usize, changed: self.changes.keys().copied().collect(), looked }
+    }
+
     fn value(&self, expr: &Expr) -> Result<i64, Stop> {
         let exact = |value: Option<i64>| value.ok_or(Stop::Aborted(Cause::Overflow));
         match expr {
@@ -177,7 +213,7 @@ impl<'a> Run<'a> {
         })
     }
 
-    fn look(&mut self, store: &Store, cell: &Cell) -> Option<i64> {
+    fn look(&mut self, store: &impl Snapshots, cell: &Cell) -> Option<i64> {
         match self.changes.get(cell) {
             Some(own) => *own,
             None => {
@@ -187,23 +223,24 @@ impl<'a> Run<'a> {
         }
     }
 
-    fn rows(&mut self, store: &Store, region: &Region) -> Vec<i64> {
+    fn rows(&mut self, store: &impl Snapshots, region: &Region) -> Vec<i64> {
         if region.is_empty() {
             return Vec::new();
         }
         let ends = region.low..=region.high;
         let own = self.changes.range(ends.clone()).map(|(cell, _)| *cell).collect();
         self.looked.push(Sight::Range(*region, own));
-        let own = self.changes.range(ends.clone()).filter_map(|(_, value)| *value);
-        let others = store.chains.range(ends).filter(|(cell, _)| !self.changes.contains_key(cell));
-        own.chain(others.filter_map(|(_, chain)| chain.at(self.start))).collect()
+        let mut values: Vec<i64> = self.changes.range(ends.clone()).filter_map(|(_, value)| *value).collect();
+        let is_own = |cell: &Cell| self.changes.contains_key(cell);
+        store.each_row(self.start, ends, |cell, value| if !is_own(cell) { values.push(value) });
+        values
     }
 
     fn bind(&mut self, value: i64) {
         self.values.push(value);
     }
 
-    fn statement(&mut self, store: &Store, stmt: &'a Stmt) -> Result<(), Stop> {
+    fn statement(&mut self, store: &impl Snapshots, stmt: &'a Stmt) -> Result<(), Stop> {
         match stmt {
             Stmt::Bind(value) => {
                 let value = self.value(value)?;
@@ -289,7 +326,7 @@ impl<'a> Run<'a> {
         }
     }
 
-    fn step(&mut self, store: &Store) -> Stop {
+    pub fn step(&mut self, store: &impl Snapshots) -> Stop {
         loop {
             let Some((rest, scope)) = self.open.last_mut() else {
                 return Stop::Ready;
@@ -329,16 +366,7 @@ impl<'a> Engine<'a> {
             return None;
         }
         let (number, start) = (self.begun.len(), self.store.commits);
-        self.begun.push(Some(Run {
-            start,
-            open: vec![(body, args.len())],
-            values: args,
-            changes: BTreeMap::new(),
-            kept: BTreeSet::new(),
-            looked: Vec::new(),
-            replies: Vec::new(),
-            ready: false,
-        }));
+        self.begun.push(Some(Run::new(start, body, args)));
         self.active.insert(number);
         Some((number, start))
     }
@@ -380,9 +408,7 @@ impl<'a> Engine<'a> {
         let reply = match self.store.clash(run.start, run) {
             Some((cell, last)) => Reply::Clashed(cell, last),
             None => {
-                let looked = std::mem::take(&mut run.looked);
-                let changed = run.changes.keys().copied().collect();
-                self.traces.push(Trace { start: run.start as usize, changed, looked });
+                self.traces.push(run.trace());
                 Reply::Committed(self.store.install(run))
             }
         };

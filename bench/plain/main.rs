@@ -1,10 +1,13 @@
-//! What `sirob run` does, as plain Rust: no proof, no limits, no faults; it stops where an input is not well-formed.
+//! What `sirob run` does, and with the word `work` and a number of workers what `sirob work` does, as plain Rust: no
+//! proof, no limits but that of a book's endings, no faults; it stops where an input is not well-formed.
 //! The store has the design of sirob's: a `BTreeMap` from cells to lists of versions.
 mod engine;
 mod order;
 mod program;
 mod script;
+mod work;
 
+use std::env;
 use std::io::{self, Read, Write};
 
 fn main() -> io::Result<()> {
@@ -13,6 +16,10 @@ fn main() -> io::Result<()> {
     let (text, lines) = input.split_once("\n%%\n").expect("two parts");
     let set = program::read(text);
     let mut out = String::new();
-    script::run(&set, lines, &mut out);
+    let words: Vec<String> = env::args().skip(1).collect();
+    match words.as_slice() {
+        [word, workers] if word == "work" => work::run(&set, lines, workers.parse().expect("a number"), &mut out),
+        _ => script::run(&set, lines, &mut out),
+    }
     io::stdout().write_all(out.as_bytes())
 }

@@ -1,5 +1,5 @@
 //! Scripts: their lines, and the line of each reply.
-use crate::engine::{Cause, Cell, Deed, Engine, Region, Reply};
+use crate::engine::{Cause, Cell, Deed, Engine, Region, Reply, Store};
 use crate::order::{Order, serial_order};
 use crate::program::Set;
 use std::collections::BTreeMap;
@@ -137,6 +137,17 @@ fn read(set: &Set, lines: &str) -> (BTreeMap<Cell, i64>, Vec<Event>) {
     (rows, events)
 }
 
+/// The line of each row.
+pub fn push_rows(set: &Set, store: &Store, out: &mut String) {
+    for (place, value) in store.rows() {
+        let table = &set.tables[place.table];
+        let _ = match table.columns {
+            1 => writeln!(out, "row {} {} = {value}", table.name, place.first),
+            _ => writeln!(out, "row {} {} {} = {value}", table.name, place.first, place.second),
+        };
+    }
+}
+
 pub fn run(set: &Set, lines: &str, out: &mut String) {
     let (rows, events) = read(set, lines);
     let mut engine = Engine::open(set, rows);
@@ -157,13 +168,7 @@ pub fn run(set: &Set, lines: &str, out: &mut String) {
             }
         }
     }
-    for (place, value) in engine.store.rows() {
-        let table = &set.tables[place.table];
-        let _ = match table.columns {
-            1 => writeln!(out, "row {} {} = {value}", table.name, place.first),
-            _ => writeln!(out, "row {} {} {} = {value}", table.name, place.first, place.second),
-        };
-    }
+    push_rows(set, &engine.store, out);
     let (word, numbers) = match serial_order(&engine.traces) {
         Order::Serial(numbers) => ("order", numbers),
         Order::Cycle(numbers) => ("cycle", numbers),

@@ -1,0 +1,16 @@
+"""What a program takes."""
+import os
+import subprocess
+import sys
+
+
+def timed(command, source, sink, ends=(0,)):
+    """Seconds of wall time, and MB at the highest, of a program that ends as it may."""
+    with open(source, "rb") as stdin, open(sink, "wb") as stdout:
+        before = os.times().elapsed
+        child = subprocess.Popen(command, stdin=stdin, stdout=stdout)
+        _, status, usage = os.wait4(child.pid, 0)
+        after = os.times().elapsed
+    if os.waitstatus_to_exitcode(status) not in ends:
+        sys.exit("%s ended with %d on %s" % (command[0], os.waitstatus_to_exitcode(status), source))
+    return after - before, usage.ru_maxrss / 1024
