@@ -1,0 +1,65 @@
+//! Calls of a book and their answers, as plain data.
+
+use history_book::{BeginFault, Clash, CommitFault, EndFault, Place, Ticket};
+use prog_run::Run;
+use prog_tree::End;
+
+/// A call, with the number of its instance where it is of one.
+#[derive(Clone, Copy, Debug)]
+pub enum Call {
+    /// A program and its arguments.
+    Begin(usize, &'static [i64]),
+    /// Goes on with the instance's run to its end, with what it asks for read in the book.
+    Run(usize),
+    Commit(usize),
+    End(usize),
+    Withdraw(usize),
+    Vacuum,
+}
+
+/// What a call answers.
+#[derive(Clone, Copy, Debug, PartialEq, Eq)]
+pub enum Answer {
+    /// With the ticket's number and start.
+    Begun(u64, u64),
+    NotBegun(BeginFault),
+    Ran(End),
+    Committed(u64),
+    Clashed(Clash),
+    Aborted,
+    Withdrawn,
+    Vacuumed(u64),
+    NoSuchTicket,
+    /// The run has not ended as it has to.
+    WrongEnd,
+    ForeignRun(Place),
+    Memory,
+    /// The instance is not at hand.
+    Nothing,
+}
+
+/// An instance of the tests.
+pub type Instance<'a> = (Ticket, Run<'a>);
+
+/// What came of a commit that was refused, and the instance where it came back.
+pub fn commit_refused<'a>(fault: CommitFault<'a>) -> (Answer, Option<Instance<'a>>) {
+    let (answer, unused) = match fault {
+        CommitFault::Clashed(clash) => return (Answer::Clashed(clash), None),
+        CommitFault::NoSuchTicket(unused) => (Answer::NoSuchTicket, unused),
+        CommitFault::NotReady(unused) => (Answer::WrongEnd, unused),
+        CommitFault::ForeignRun(place, unused) => (Answer::ForeignRun(place), unused),
+        CommitFault::Memory(unused) => (Answer::Memory, unused),
+    };
+    (answer, Some((unused.ticket, unused.run)))
+}
+
+/// The same of an end.
+pub fn end_refused<'a>(fault: EndFault<'a>) -> (Answer, Option<Instance<'a>>) {
+    let (answer, unused) = match fault {
+        EndFault::NoSuchTicket(unused) => (Answer::NoSuchTicket, unused),
+        EndFault::NotAborted(unused) => (Answer::WrongEnd, unused),
+        EndFault::ForeignRun(place, unused) => (Answer::ForeignRun(place), unused),
+        EndFault::Memory(unused) => (Answer::Memory, unused),
+    };
+    (answer, Some((unused.ticket, unused.run)))
+}

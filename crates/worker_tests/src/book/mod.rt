@@ -1,0 +1,8 @@
+//! The shared book beside a book that nobody shares, and what a receipt is good for.
+
+mod alike_tests;
+mod answer;
+mod bench;
+mod fresh_tests;
+mod kept;
+mod shelf;

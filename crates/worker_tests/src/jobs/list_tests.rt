@@ -1,0 +1,37 @@
+//! Lists of jobs, read.
+
+use crate::jobs::lists::Call;
+use crate::sets::{LOOK, REGISTERS, SET, cell};
+use example_sets::set_of;
+use si_engine::Bytes;
+use si_workers::{Job, read_jobs};
+use std::process::Abort;
+use std::test::Fail;
+
+const LIST: &[u8] = b"# jobs behind a row
+row t 1 = 4
+job 4294967295 Set 1 5
+job 0 Look 1
+";
+
+fn check_job(rt: &impl Abort, job: &Job, wanted: &Call) {
+    let (program, args, retries) = *wanted;
+    assert_eq!(rt; job.program, program);
+    assert_eq!(rt; job.args.as_slice(), args);
+    assert_eq!(rt; job.retries, retries);
+}
+
+#[test]
+fn a_list_of_jobs_is_read(rt: HostRuntime) -> Result<(), Fail> {
+    let set = set_of(rt.alloc(), REGISTERS.text)?;
+    let Ok(list) = read_jobs(rt.alloc(), &set, &mut Bytes::new(LIST)) else {
+        return Err(Fail::new("a fault"));
+    };
+    assert_eq!(rt; list.rows.get(&cell(1)), Some(4));
+    let wanted: [Call; 2] = [(SET, &[1, 5], u32::MAX), (LOOK, &[1], 0)];
+    assert_eq!(rt; list.jobs.len(), wanted.len());
+    for (job, wanted) in list.jobs.as_slice().iter().zip(&wanted) {
+        check_job(&rt, job, wanted);
+    }
+    Ok(())
+}

@@ -1,0 +1,43 @@
+//! Lists of jobs as plain data.
+
+use prog_tree::Sequence;
+use si_workers::Job;
+use std::alloc::{AllocError, Global};
+
+/// The program of a job, its arguments and its retries.
+pub type Call = (usize, &'static [i64], u32);
+
+fn job(alloc: Global, program: usize, args: &[i64], retries: u32) -> Result<Job, AllocError> {
+    Ok(Job {
+        program,
+        args: Sequence::from_vec(Vec::from_slice(alloc, args)?),
+        retries,
+    })
+}
+
+/// The jobs of these calls.
+pub fn jobs_of(alloc: Global, calls: &[Call]) -> Result<Vec<Job>, AllocError> {
+    let mut jobs = Vec::new(alloc);
+    for (program, args, retries) in calls {
+        jobs.push(job(alloc, *program, args, *retries)?)?;
+    }
+    Ok(jobs)
+}
+
+/// A hundred transfers of 1, round four cells, with 99 retries each.
+pub fn hundred_transfers(alloc: Global) -> Result<Vec<Job>, AllocError> {
+    let mut jobs = Vec::new(alloc);
+    for number in 0..100 {
+        jobs.push(job(alloc, 0, &[number % 4, (number + 1) % 4, 1], 99)?)?;
+    }
+    Ok(jobs)
+}
+
+/// So many jobs of the first program, without arguments.
+pub fn many(alloc: Global, count: usize) -> Result<Vec<Job>, AllocError> {
+    let mut jobs = Vec::new(alloc);
+    for _ in 0..count {
+        jobs.push(job(alloc, 0, &[], 0)?)?;
+    }
+    Ok(jobs)
+}

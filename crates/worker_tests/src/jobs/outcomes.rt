@@ -1,0 +1,48 @@
+//! What came of jobs, as plain data.
+
+use history_book::{BeginFault, Clash};
+use prog_tree::Cause;
+use si_workers::{JobEnd, JobOutcome};
+use std::alloc::{AllocError, Global};
+use std::process::Abort;
+
+/// How a job ended.
+#[derive(Clone, Copy, Debug, PartialEq, Eq)]
+pub enum Came {
+    /// With the number of the commit, and its first reply.
+    Committed(u64, Option<i64>),
+    Aborted(Cause),
+    Clashed(Clash),
+    Refused(BeginFault),
+}
+
+fn end_of(outcome: &JobOutcome) -> Came {
+    match &outcome.job_end {
+        JobEnd::Committed { number, replies } => {
+            Came::Committed(*number, replies.as_slice().first().copied())
+        }
+        JobEnd::Aborted(cause) => Came::Aborted(*cause),
+        JobEnd::Clashed(clash) => Came::Clashed(*clash),
+        JobEnd::Refused(fault) => Came::Refused(*fault),
+    }
+}
+
+/// Each job has to have ended as wanted, with so many clashes.
+pub fn check_outcomes(rt: &impl Abort, outcomes: &[JobOutcome], wanted: &[(Came, u64)]) {
+    assert_eq!(rt; outcomes.len(), wanted.len());
+    for (outcome, wanted) in outcomes.iter().zip(wanted) {
+        assert_eq!(rt; (end_of(outcome), outcome.clashes), *wanted);
+    }
+}
+
+/// The numbers of the commits, the least first.
+pub fn commits(alloc: Global, outcomes: &[JobOutcome]) -> Result<Vec<u64>, AllocError> {
+    let mut numbers = Vec::new(alloc);
+    for outcome in outcomes {
+        if let JobEnd::Committed { number, .. } = &outcome.job_end {
+            numbers.push(*number)?;
+        }
+    }
+    numbers.sort()?;
+    Ok(numbers)
+}
