@@ -64,7 +64,8 @@ def type_of_impl(head):
     if not trait:
         return owner, False
     name, _, rest = trait.partition("<")
-    words = [it for it in re.findall(r"\w+", rest) if it not in params]
+    # a lifetime is no part of the name
+    words = [it for it in re.findall(r"(?<!['\w])\w+", rest) if it not in params]
     return owner + name.split("::")[-1] + "".join(it[0].upper() + it[1:] for it in words), True
 
 
