@@ -1,6 +1,7 @@
 /* Preloaded into the program: refuses the request for memory whose number, from 1, stands in REFUSE.
-   At exit the file REFUSED is made if a request was refused. Threads may ask at once: each request
-   has a number of its own, so at most one is refused; which one differs from run to run. */
+   Where it is refused the file REFUSED is made, at once, since a program with threads may end without its destructors.
+   Threads may ask at once: each request has a number of its own, so at most one is refused; which one differs from run
+   to run. */
 #define _GNU_SOURCE
 #include <dlfcn.h>
 #include <errno.h>
@@ -11,7 +12,14 @@
 
 static atomic_long wanted = -1;
 static atomic_long asked;
-static atomic_int refused;
+
+/* Makes the file that tells of the refusal. */
+static void tell(void) {
+  const char *path = getenv("REFUSED");
+  if (!path) return;
+  int file = open(path, O_CREAT | O_WRONLY, 0600);
+  if (file >= 0) close(file);
+}
 
 static int is_refused(void) {
   if (wanted < 0) {
@@ -20,7 +28,7 @@ static int is_refused(void) {
   }
   long number = wanted;
   if (number == 0 || ++asked != number) return 0;
-  refused = 1;
+  tell();
   errno = ENOMEM;
   return 1;
 }
@@ -47,12 +55,4 @@ void *aligned_alloc(size_t alignment, size_t size) {
   static void *(*real)(size_t, size_t);
   if (!real) real = dlsym(RTLD_NEXT, "aligned_alloc");
   return is_refused() ? NULL : real(alignment, size);
-}
-
-__attribute__((destructor)) static void report(void) {
-  const char *path = getenv("REFUSED");
-  if (refused && path) {
-    int file = open(path, O_CREAT | O_WRONLY, 0600);
-    if (file >= 0) close(file);
-  }
 }
