@@ -11,7 +11,7 @@ use Rattle.std.proofs.lemmas.Bool.Decides.{nat_tests}
 use Rattle.std.proofs.lemmas.List.Elements.{filter-append, filter_agree}
 use Rattle.std.proofs.lemmas.List.Filters.{length-filter_both}
 use Rattle.std.proofs.lemmas.List.Folds.{list_any-append}
-use Rattle.std.proofs.lemmas.List.{map-append}
+use Rattle.std.proofs.lemmas.List.{map-append, length-map}
 use Rattle.std.proofs.lemmas.List.Sums.{sum_by-cons}
 use Rattle.std.proofs.lemmas.Map.Keys.{sorted_tail}
 use Rattle.prog_tree.specs.declared.cell.Cell.{Cell}
@@ -22,7 +22,7 @@ use Rattle.prog_tree.proofs.TableStates.{cell_is}
 use Rattle.version_store.specs.Reading.{RisesFrom, chain_at}
 use Rattle.version_store.specs.StandsFor.{Chain, chain_or_none, opening_versions, version_by, changes_of, chain_of, trimmed, size, AreCommits}
 use Rattle.version_store.specs.Trimming.{shown, versions_kept}
-use Rattle.version_store.specs.Versions.{Version, versions_from, versions_of, is_newest, is_retained, retained}
+use Rattle.version_store.specs.Versions.{Version, versions_from, versions_of, is_newest, is_retained, retained, versions_at}
 use Rattle.version_store.proofs.ChainsLaws.{none_behind, same_turned}
 use Rattle.version_store.proofs.TrimLaws.{kept_above}
 use Rattle.version_store.proofs.VersionLaws.{chain_rises, made_by, of_row}
@@ -91,9 +91,8 @@ size_grouped ((k, chain) ∷ rest) ys sorted h =
 abbrev pub pair_of_version : Version → ℕ × Option ℤ
 pair_of_version v = (v.number, v.value)
 
--- the versions of a cell, as its chain has them
 abbrev pub own : Cell → List Version → List (ℕ × Option ℤ)
-own c vs = map pair_of_version (filter (is_of c) vs)
+own = versions_at
 
 own_append : (c : Cell) (xs ys : List Version) → own c (xs ++ ys) ≡ own c xs ++ own c ys
 own_append c xs ys = ap (map pair_of_version) (filter-append (is_of c) xs ys) ∙ map-append pair_of_version (filter (is_of c) xs) (filter (is_of c) ys)
@@ -158,18 +157,18 @@ retained_own c f vs v same = ap (λ b. nat_lt f v.number || (not b && is_some v.
 
 -- two filters in turn, where the second test is one on the pairs
 filter_own : (c : Cell) (p : Version → Bool) (q : ℕ × Option ℤ → Bool) → ((v : Version) → is_of c v ≡ true → p v ≡ q (pair_of_version v)) →
-    (xs : List Version) → length (filter (is_of c) (filter p xs)) ≡ length (filter q (own c xs))
+    (xs : List Version) → own c (filter p xs) ≡ filter q (own c xs)
 filter_own c p q same [] = refl
 filter_own c p q same (v ∷ xs) = go (p v) (is_of c v) refl refl (filter_own c p q same xs)
   where
-    go : (a b : Bool) → p v ≡ a → is_of c v ≡ b → length (filter (is_of c) (filter p xs)) ≡ length (filter q (own c xs)) →
-        length (filter (is_of c) (cond a (v ∷ filter p xs) (filter p xs))) ≡ length (filter q (map pair_of_version (cond b (v ∷ filter (is_of c) xs) (filter (is_of c) xs))))
+    go : (a b : Bool) → p v ≡ a → is_of c v ≡ b → own c (filter p xs) ≡ filter q (own c xs) →
+        own c (cond a (v ∷ filter p xs) (filter p xs)) ≡ filter q (map pair_of_version (cond b (v ∷ filter (is_of c) xs) (filter (is_of c) xs)))
     go true true passes is rest =
-        ap (λ b. length (cond b (v ∷ filter (is_of c) (filter p xs)) (filter (is_of c) (filter p xs)))) is
-        ∙ ap suc rest
-        ∙ ap (λ b. length (cond b (pair_of_version v ∷ filter q (own c xs)) (filter q (own c xs)))) (sym (sym (same v is) ∙ passes))
-    go true false passes is rest = ap (λ b. length (cond b (v ∷ filter (is_of c) (filter p xs)) (filter (is_of c) (filter p xs)))) is ∙ rest
-    go false true fails is rest = rest ∙ ap (λ b. length (cond b (pair_of_version v ∷ filter q (own c xs)) (filter q (own c xs)))) (sym (sym (same v is) ∙ fails))
+        ap (λ b. map pair_of_version (cond b (v ∷ filter (is_of c) (filter p xs)) (filter (is_of c) (filter p xs)))) is
+        ∙ ap (λ ys. pair_of_version v ∷ ys) rest
+        ∙ ap (λ b. cond b (pair_of_version v ∷ filter q (own c xs)) (filter q (own c xs))) (sym (sym (same v is) ∙ passes))
+    go true false passes is rest = ap (λ b. map pair_of_version (cond b (v ∷ filter (is_of c) (filter p xs)) (filter (is_of c) (filter p xs)))) is ∙ rest
+    go false true fails is rest = rest ∙ ap (λ b. cond b (pair_of_version v ∷ filter q (own c xs)) (filter q (own c xs))) (sym (sym (same v is) ∙ fails))
     go false false fails is rest = rest
 
 -- ---- on versions that rise the test leaves what a vacuum leaves
@@ -184,33 +183,33 @@ none_newer n k f (v ∷ vs) high rises =
     go true rest = rest
     go false rest = rest
 
--- what a held version is worth, once it is known whether a newer one at most f follows
-kept_length : (f k : ℕ) (o : Option ℤ) (vs : List (ℕ × Option ℤ)) → RisesFrom (k + 1) vs →
-    length (versions_kept f (shown k o) vs) ≡ (if not (list_any (λ (u : ℕ × Option ℤ). nat_lt k u.0 && nat_le u.0 f) vs) && is_some o then suc (length (versions_kept f [] vs)) else length (versions_kept f [] vs))
-kept_length f k None [] rises = refl
-kept_length f k (Some x) [] rises = refl
-kept_length f k o (v ∷ vs) rises = go (leb v.0 f) refl
+-- a held version stays where no newer one at most f follows
+kept_list : (f k : ℕ) (o : Option ℤ) (vs : List (ℕ × Option ℤ)) → RisesFrom (k + 1) vs →
+    versions_kept f (shown k o) vs ≡ (if not (list_any (λ (u : ℕ × Option ℤ). nat_lt k u.0 && nat_le u.0 f) vs) && is_some o then (k, o) ∷ versions_kept f [] vs else versions_kept f [] vs)
+kept_list f k None [] rises = refl
+kept_list f k (Some x) [] rises = refl
+kept_list f k o (v ∷ vs) rises = go (leb v.0 f) refl
   where
     newer : nat_lt k v.0 ≡ true
     newer = le-leb (suc k) v.0 (omega (arith, rises.0))
 
-    shows : (o : Option ℤ) → length (shown k o ++ v ∷ vs) ≡ (if is_some o then suc (length (v ∷ vs)) else length (v ∷ vs))
+    shows : (o : Option ℤ) → shown k o ++ v ∷ vs ≡ (if is_some o then (k, o) ∷ v ∷ vs else v ∷ vs)
     shows None = refl
     shows (Some x) = refl
 
     go : (b : Bool) → leb v.0 f ≡ b →
-        length (cond b (versions_kept f (shown v.0 v.1) vs) (shown k o ++ v ∷ vs))
+        cond b (versions_kept f (shown v.0 v.1) vs) (shown k o ++ v ∷ vs)
         ≡ (if not ((nat_lt k v.0 && b) || list_any (λ (u : ℕ × Option ℤ). nat_lt k u.0 && nat_le u.0 f) vs) && is_some o
-        then suc (length (cond b (versions_kept f (shown v.0 v.1) vs) (v ∷ vs))) else length (cond b (versions_kept f (shown v.0 v.1) vs) (v ∷ vs)))
+        then (k, o) ∷ cond b (versions_kept f (shown v.0 v.1) vs) (v ∷ vs) else cond b (versions_kept f (shown v.0 v.1) vs) (v ∷ vs))
     go true low =
         ap (λ t. if not ((t && true) || list_any (λ (u : ℕ × Option ℤ). nat_lt k u.0 && nat_le u.0 f) vs) && is_some o
-        then suc (length (versions_kept f (shown v.0 v.1) vs)) else length (versions_kept f (shown v.0 v.1) vs)) (sym newer)
+        then (k, o) ∷ versions_kept f (shown v.0 v.1) vs else versions_kept f (shown v.0 v.1) vs) (sym newer)
     go false above =
         let high : f < v.0 = grind (arith, nat_tests) in
         let none = none_newer (v.0 + 1) k f vs (omega (arith, high)) rises.1 in
         shows o
-        ∙ ap (λ t. if not (t || false) && is_some o then suc (length (v ∷ vs)) else length (v ∷ vs)) (sym (and_false (nat_lt k v.0)))
-        ∙ ap (λ t. if not ((nat_lt k v.0 && false) || t) && is_some o then suc (length (v ∷ vs)) else length (v ∷ vs)) (sym none)
+        ∙ ap (λ t. if not (t || false) && is_some o then (k, o) ∷ v ∷ vs else v ∷ vs) (sym (and_false (nat_lt k v.0)))
+        ∙ ap (λ t. if not ((nat_lt k v.0 && false) || t) && is_some o then (k, o) ∷ v ∷ vs else v ∷ vs) (sym none)
       where
         and_false : (b : Bool) → (b && false) ≡ false
         and_false true = refl
@@ -219,10 +218,10 @@ kept_length f k o (v ∷ vs) rises = go (leb v.0 f) refl
 -- `whole` has of what is newer than n just what the rest of it has
 kept_by_test : (f n : ℕ) (whole vs : List (ℕ × Option ℤ)) →
     ((k : ℕ) → n ≤ k → list_any (λ (u : ℕ × Option ℤ). nat_lt k u.0 && nat_le u.0 f) whole ≡ list_any (λ (u : ℕ × Option ℤ). nat_lt k u.0 && nat_le u.0 f) vs) →
-    RisesFrom n vs → length (filter (stays whole f) vs) ≡ length (versions_kept f [] vs)
+    RisesFrom n vs → filter (stays whole f) vs ≡ versions_kept f [] vs
 kept_by_test f n whole [] same rises = refl
 kept_by_test f n whole (v ∷ vs) same rises =
-    ap (λ t. length (cond (nat_lt f v.0 || (not t && is_some v.1)) (v ∷ filter (stays whole f) vs) (filter (stays whole f) vs))) here
+    ap (λ t. cond (nat_lt f v.0 || (not t && is_some v.1)) (v ∷ filter (stays whole f) vs) (filter (stays whole f) vs)) here
     ∙ go (leb v.0 f) refl (kept_by_test f (v.0 + 1) whole vs (λ k low. same k (omega (arith, low, rises.0)) ∙ older k low) rises.1)
   where
     older : (k : ℕ) → v.0 + 1 ≤ k → list_any (λ (u : ℕ × Option ℤ). nat_lt k u.0 && nat_le u.0 f) (v ∷ vs) ≡ list_any (λ (u : ℕ × Option ℤ). nat_lt k u.0 && nat_le u.0 f) vs
@@ -234,41 +233,38 @@ kept_by_test f n whole (v ∷ vs) same rises =
     here : list_any (λ (u : ℕ × Option ℤ). nat_lt v.0 u.0 && nat_le u.0 f) whole ≡ later
     here = same v.0 rises.0 ∙ ap (λ b. (b && nat_le v.0 f) || later) (lt-leb (suc v.0) v.0 (omega arith))
 
-    go : (b : Bool) → leb v.0 f ≡ b → length (filter (stays whole f) vs) ≡ length (versions_kept f [] vs) →
-        length (cond (nat_lt f v.0 || (not later && is_some v.1)) (v ∷ filter (stays whole f) vs) (filter (stays whole f) vs)) ≡ length (cond b (versions_kept f (shown v.0 v.1) vs) (v ∷ vs))
+    go : (b : Bool) → leb v.0 f ≡ b → filter (stays whole f) vs ≡ versions_kept f [] vs →
+        cond (nat_lt f v.0 || (not later && is_some v.1)) (v ∷ filter (stays whole f) vs) (filter (stays whole f) vs) ≡ cond b (versions_kept f (shown v.0 v.1) vs) (v ∷ vs)
     go true low rest =
         let order : v.0 ≤ f = grind (arith, nat_tests) in
-        ap (λ b. length (cond (b || (not later && is_some v.1)) (v ∷ filter (stays whole f) vs) (filter (stays whole f) vs))) (lt-leb (suc f) v.0 (omega (arith, order)))
+        ap (λ b. cond (b || (not later && is_some v.1)) (v ∷ filter (stays whole f) vs) (filter (stays whole f) vs)) (lt-leb (suc f) v.0 (omega (arith, order)))
         ∙ chosen (not later && is_some v.1) rest
-        ∙ sym (kept_length f v.0 v.1 vs rises.1)
+        ∙ sym (kept_list f v.0 v.1 vs rises.1)
       where
-        chosen : (b : Bool) → length (filter (stays whole f) vs) ≡ length (versions_kept f [] vs) →
-            length (cond b (v ∷ filter (stays whole f) vs) (filter (stays whole f) vs)) ≡ (if b then suc (length (versions_kept f [] vs)) else length (versions_kept f [] vs))
-        chosen true rest = ap suc rest
+        chosen : (b : Bool) → filter (stays whole f) vs ≡ versions_kept f [] vs →
+            cond b (v ∷ filter (stays whole f) vs) (filter (stays whole f) vs) ≡ (if b then v ∷ versions_kept f [] vs else versions_kept f [] vs)
+        chosen true rest = ap (λ xs. v ∷ xs) rest
         chosen false rest = rest
     go false above rest =
         let high : f < v.0 = grind (arith, nat_tests) in
-        ap (λ b. length (cond (b || (not later && is_some v.1)) (v ∷ filter (stays whole f) vs) (filter (stays whole f) vs))) (le-leb (suc f) v.0 high)
-        ∙ ap suc (rest ∙ ap length (kept_above f (v.0 + 1) [] vs (omega (arith, high)) rises.1))
+        ap (λ b. cond (b || (not later && is_some v.1)) (v ∷ filter (stays whole f) vs) (filter (stays whole f) vs)) (le-leb (suc f) v.0 high)
+        ∙ ap (λ xs. v ∷ xs) (rest ∙ kept_above f (v.0 + 1) [] vs (omega (arith, high)) rises.1)
 
--- of each cell a vacuum leaves as many versions as are retained
-pub retained_of : (opening : TableState) (ws : List ChangeSet) (f : ℕ) (c : Cell) → IsTableState opening → AreCommits ws →
-    length (trimmed f (chain_of opening ws c)).versions ≡ length (filter (is_of c) (retained opening ws f))
-retained_of opening ws f c ordered each =
+-- of each cell a vacuum leaves just the retained versions
+pub retained_at : (opening : TableState) (ws : List ChangeSet) (f : ℕ) (c : Cell) → IsTableState opening → AreCommits ws →
+    versions_at c (retained opening ws f) ≡ (trimmed f (chain_of opening ws c)).versions
+retained_at opening ws f c ordered each =
     let vs = versions_of opening ws in
-    let is = own_of_history opening ws c ordered each in
-    let rises = chain_rises opening ws c in
-    sym (
+    let chain = (chain_of opening ws c).versions in
     filter_own c (is_retained vs f) (stays (own c vs) f) (λ v same. retained_own c f vs v same) vs
-    ∙ ap (λ xs. length (filter (stays xs f) xs)) is
-    ∙ kept_by_test f 0 (chain_of opening ws c).versions (chain_of opening ws c).versions (λ k low. refl) rises
-    )
+    ∙ ap (λ xs. filter (stays xs f) xs) (own_of_history opening ws c ordered each)
+    ∙ kept_by_test f 0 chain chain (λ k low. refl) (chain_rises opening ws c)
 
 -- the chains of a history after a vacuum have as many versions as are retained
 pub size_retained : (chains : Cells Chain) (opening : TableState) (ws : List ChangeSet) (f : ℕ) → IsTableState opening → AreCommits ws →
     IsStrictlySortedBy cell_cmp (cells_of chains) → ((c : Cell) → chain_at chains c ≡ trimmed f (chain_of opening ws c)) → size chains ≡ length (retained opening ws f)
 size_retained chains opening ws f ordered each sorted is =
-    size_grouped chains (retained opening ws f) sorted (λ c. ap (λ (x : Chain). length x.versions) (is c) ∙ retained_of opening ws f c ordered each)
+    size_grouped chains (retained opening ws f) sorted (λ c. ap (λ (x : Chain). length x.versions) (is c) ∙ sym (ap length (retained_at opening ws f c ordered each)) ∙ length-map (filter (is_of c) (retained opening ws f)) pair_of_version)
 
 -- ---- at the beginning
 

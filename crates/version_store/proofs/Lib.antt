@@ -4,6 +4,7 @@ pub mod ClashLaws
 pub mod CommitLaws
 pub mod CountLaws
 pub mod FoundLaws
+pub mod HoldLaws
 pub mod PendingLaws
 pub mod RegionLaws
 pub mod ScanLaws

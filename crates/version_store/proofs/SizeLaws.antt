@@ -6,7 +6,7 @@ use Rattle.std.proofs.lemmas.Map.Entries.{sum_by-set_value, sum_by-remove_entry}
 use Rattle.prog_tree.specs.declared.cell.Cell.{Cell}
 use Rattle.prog_tree.specs.Table.{Cells, at_cell, is_same_cell}
 use Rattle.prog_tree.proofs.TableStates.{cell_is}
-use Rattle.version_store.specs.Reading.{chain_at, MakesAt, MakesEach}
+use Rattle.version_store.specs.Reading.{chain_at}
 use Rattle.version_store.specs.StandsFor.{Chain, no_chain, chain_or_none, size}
 
 abbrev count_of : Chain → ℕ

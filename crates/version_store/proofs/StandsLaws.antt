@@ -12,7 +12,7 @@ use Rattle.version_store.specs.Clash.{last_touch}
 use Rattle.version_store.specs.Commits.{state_at}
 use Rattle.version_store.specs.Reading.{AllRise, RisesFrom, chain_at, value_at, last_number, with_commit, with_mark_by, with_change_by, with_row_of, IsBelow}
 use Rattle.version_store.specs.Regions.{seen_in, seen_left, IsSeen}
-use Rattle.version_store.specs.StandsFor.{Chain, no_chain, StoreView, StandsFor, AreCommits, opening_versions, chain_of, trimmed, size}
+use Rattle.version_store.specs.StandsFor.{Chain, no_chain, StoreView, StandsFor, AreCommits, opening_versions, chain_of, trimmed, size, EachHolds}
 use Rattle.version_store.specs.Trimming.{versions_kept, marks_kept, touches_by, touches_above, within, beyond}
 use Rattle.version_store.specs.Trims.{TrimsAll}
 use Rattle.version_store.specs.Versions.{retained, reclaimed}
@@ -68,12 +68,13 @@ gives_state s opening ws h n above rows ordered has =
 
 -- a store of opening rows alone
 pub stands-open :
-    (s : StoreView) (opening : TableState) → IsTableState opening → ((c : Cell) → chain_at s.chains c ≡ with_row_of (row_at opening c) no_chain) →
+    (s : StoreView) (opening : TableState) → IsTableState opening → ((c : Cell) → chain_at s.chains c ≡ with_row_of (row_at opening c) no_chain) → EachHolds s.chains →
     s.pending ≡ [] → s.commits ≡ 0 → s.floor ≡ 0 → s.versions ≡ length opening → StandsFor s opening []
-stands-open s opening ordered chains pending commits floor versions = record {
+stands-open s opening ordered chains holds pending commits floor versions = record {
   ordered = ordered;
   each = tt;
   chains = λ c. chains c ∙ go (row_at opening c) ∙ ap (λ f. trimmed f (chain_of opening [] c)) (sym floor);
+  holds = holds;
   pending = pending;
   commits = commits;
   floor = omega (arith, commits, floor);
@@ -101,9 +102,9 @@ each-push (v ∷ ws) w each sorted = (each.0, each-push ws w each.1 sorted)
 -- chains with one more commit
 pub stands-push :
     (s t : StoreView) (opening : TableState) (ws : List ChangeSet) (w : ChangeSet) → StandsFor s opening ws → IsStrictlySortedBy cell_cmp (cells_of w.cells) →
-    ((c : Cell) → chain_at t.chains c ≡ with_commit (s.commits + 1) w c (chain_at s.chains c)) → t.pending ≡ s.pending ++ touches_by (s.commits + 1) w →
+    ((c : Cell) → chain_at t.chains c ≡ with_commit (s.commits + 1) w c (chain_at s.chains c)) → (EachHolds s.chains → EachHolds t.chains) → t.pending ≡ s.pending ++ touches_by (s.commits + 1) w →
     t.commits ≡ s.commits + 1 → t.floor ≡ s.floor → t.versions ≡ s.versions + length w.cells → StandsFor t opening (ws ++ w ∷ [])
-stands-push s t opening ws w h sorted chains pending commits floor versions = record {
+stands-push s t opening ws w h sorted chains holds pending commits floor versions = record {
   ordered = h.ordered;
   each = each-push ws w h.each sorted;
   chains = λ c.
@@ -113,6 +114,7 @@ stands-push s t opening ws w h sorted chains pending commits floor versions = re
       ∙ sym (trimmed-commit s.floor (length ws + 1) w c (chain_of opening ws c) (omega (arith, low)))
       ∙ ap (trimmed s.floor) (sym (chain_of-push opening ws w c))
       ∙ ap (λ f. trimmed f (chain_of opening (ws ++ w ∷ []) c)) (sym floor);
+  holds = holds h.holds;
   pending =
       pending
       ∙ (λ i. h.pending i ++ touches_by (place i) w)
@@ -133,12 +135,13 @@ stands-push s t opening ws w h sorted chains pending commits floor versions = re
 -- chains that are as before wherever they had only lesser numbers than the next
 pub stands-kept :
     (s t : StoreView) (opening : TableState) (ws : List ChangeSet) → StandsFor s opening ws →
-    ((c : Cell) → IsBelow (s.commits + 1) (chain_at s.chains c) → chain_at t.chains c ≡ chain_at s.chains c) → t.pending ≡ s.pending → t.commits ≡ s.commits →
+    ((c : Cell) → IsBelow (s.commits + 1) (chain_at s.chains c) → chain_at t.chains c ≡ chain_at s.chains c) → (EachHolds s.chains → EachHolds t.chains) → t.pending ≡ s.pending → t.commits ≡ s.commits →
     t.floor ≡ s.floor → t.versions ≡ s.versions → StandsFor t opening ws
-stands-kept s t opening ws h chains pending commits floor versions = record {
+stands-kept s t opening ws h chains holds pending commits floor versions = record {
   ordered = h.ordered;
   each = h.each;
   chains = λ c. chains c (below c) ∙ h.chains c ∙ ap (λ f. trimmed f (chain_of opening ws c)) (sym floor);
+  holds = holds h.holds;
   pending = pending ∙ h.pending ∙ ap (λ f. touches_above f 1 ws) (sym floor);
   commits = commits ∙ h.commits;
   floor = omega (arith, commits, floor, h.floor);
@@ -170,14 +173,15 @@ vacuumed_chain s t opening ws g h rises trims c = trims idle c ∙ whole c
 pub stands-vacuum :
     (s t : StoreView) (opening : TableState) (ws : List ChangeSet) (g count : ℕ) → StandsFor s opening ws → s.floor ≤ g → g ≤ s.commits →
     IsStrictlySortedBy cell_cmp (cells_of s.chains) → IsStrictlySortedBy cell_cmp (cells_of t.chains) → TrimsAll g (within g s.pending) s.chains t.chains →
-    t.pending ≡ beyond g s.pending → t.commits ≡ s.commits → t.floor ≡ g → size t.chains ≤ size s.chains → s.versions < 2 ^ 64 →
+    (EachHolds s.chains → EachHolds t.chains) → t.pending ≡ beyond g s.pending → t.commits ≡ s.commits → t.floor ≡ g → size t.chains ≤ size s.chains → s.versions < 2 ^ 64 →
     count ≡ min (size s.chains - size t.chains) (2 ^ 64 - 1) → t.versions ≡ s.versions - count →
     StandsFor t opening ws × (count ≡ reclaimed opening ws s.floor g)
-stands-vacuum s t opening ws g count h rises within_commits sorted sorted_after trims pending commits floor falls fits counted versions = (
+stands-vacuum s t opening ws g count h rises within_commits sorted sorted_after trims holds pending commits floor falls fits counted versions = (
   record {
     ordered = h.ordered;
     each = h.each;
     chains = λ c. after c ∙ ap (λ f. trimmed f (chain_of opening ws c)) (sym floor);
+    holds = holds h.holds;
     pending = pending ∙ ap (beyond g) h.pending ∙ beyond_floor s.floor g 1 ws rises ∙ ap (λ f. touches_above f 1 ws) (sym floor);
     commits = commits ∙ h.commits;
     floor = omega (arith, commits, floor, within_commits);

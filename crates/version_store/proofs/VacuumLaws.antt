@@ -1,13 +1,11 @@
 -- What the loops over touches keep.
-use Rattle.std.proofs.Common.{◌≡◌, ◌∙◌, ℕ, ◌+◌, ◌-◌, ◌^◌, ◌<◌, ◌≤◌, min, Bool, true, false, ◌||◌, cond, if◌then◌else◌, leb, List, [], ◌∷◌, ◌++◌, length, take, drop, refl, ap, sym, subst, arith, append_assoc, append-nil}
-use Rattle.std.specs.Prelude.{slice_index_or}
-use Rattle.std.proofs.lemmas.Bool.{le-leb, lt-leb}
+use Rattle.std.proofs.Common.{◌≡◌, ◌∙◌, ℕ, ◌+◌, ◌-◌, ◌^◌, ◌≤◌, min, Bool, true, false, ◌||◌, cond, if◌then◌else◌, leb, List, [], ◌∷◌, ◌++◌, length, take, refl, ap, sym, arith, append_assoc, append-nil}
+use Rattle.std.proofs.lemmas.Bool.{le-leb}
 use Rattle.prog_tree.specs.declared.cell.Cell.{Cell}
 use Rattle.prog_tree.specs.Table.{Cells, is_same_cell, is_cell_among}
 use Rattle.version_store.specs.Reading.{chain_at, MakesAt}
-use Rattle.version_store.specs.StandsFor.{Chain, trimmed, size}
+use Rattle.version_store.specs.StandsFor.{Chain, trimmed, size, EachHolds}
 use Rattle.version_store.specs.Trimming.{numbered, within, beyond, TakesWithin}
-use Rattle.version_store.specs.Trims.{TrimsAll}
 use Rattle.version_store.proofs.ChainsLaws.{same_turned}
 use Rattle.version_store.proofs.TrimLaws.{trimmed_again}
 
@@ -53,17 +51,19 @@ pub record Vacuums (f : ℕ) (before now : Cells Chain) (first left : List (ℕ 
   pub done :
       ((c : Cell) → is_cell_among (within f first) c ≡ false → trimmed f (chain_at before c) ≡ chain_at before c) →
       (c : Cell) → is_cell_among (within f left) c ≡ false → chain_at now c ≡ trimmed f (chain_at before c)
+  pub hold : EachHolds before → EachHolds now
   pub falls : size now ≤ size before
   pub counted : count ≡ min (size before - size now) (2 ^ 64 - 1)
 
 pub vacuums_more :
     (f : ℕ) (before now next : Cells Chain) (first left rest : List (ℕ × Cell)) (cell : Cell) (count n total : ℕ) → TakesWithin f cell left rest →
-    MakesAt cell (trimmed f) now next → size next + n ≡ size now → total ≡ min (count + n) (2 ^ 64 - 1) → Vacuums f before now first left count →
+    MakesAt cell (trimmed f) now next → (EachHolds now → EachHolds next) → size next + n ≡ size now → total ≡ min (count + n) (2 ^ 64 - 1) → Vacuums f before now first left count →
     Vacuums f before next first rest total
-vacuums_more f before now next first left rest cell count n total takes made fewer adds h = record {
+vacuums_more f before now next first left rest cell count n total takes made holds fewer adds h = record {
   rest = sym beyond_left ∙ h.rest;
   same = λ c. ap (trimmed f) (made c) ∙ twice (is_same_cell cell c) c ∙ h.same c;
   done = λ idle c none. made c ∙ turn c (is_same_cell cell c) refl none (h.done idle c);
+  hold = λ each. holds (h.hold each);
   falls = omega (arith, fewer, h.falls);
   counted = omega (arith, fewer, adds, h.falls, h.counted);
 }

@@ -1,8 +1,7 @@
 -- The chain of a cell in a history.
-use Rattle.std.proofs.Common.{◌≡◌, ◌∙◌, ℕ, ℤ, zero, suc, ◌+◌, ◌<◌, ◌≤◌, max, Bool, true, false, ◌||◌, cond, if◌then◌else◌, leb, nat_lt, List, [], ◌∷◌, ◌++◌, length, map, take, refl, ap, sym, arith, append_assoc, append-nil, length-append}
+use Rattle.std.proofs.Common.{◌≡◌, ◌∙◌, ℕ, ℤ, zero, suc, ◌+◌, ◌<◌, ◌≤◌, max, Bool, true, false, ◌||◌, cond, if◌then◌else◌, leb, nat_lt, List, [], ◌∷◌, ◌++◌, length, take, refl, ap, sym, arith, append_assoc, append-nil}
 use Rattle.std.specs.Prelude.{Option, Some, None, is_some, fold, filter}
 use Rattle.std.proofs.lemmas.Bool.{le-leb, lt-leb}
-use Rattle.std.proofs.lemmas.List.{length-map}
 use Rattle.prog_tree.specs.declared.cell.Cell.{Cell}
 use Rattle.prog_tree.specs.ChangeSet.{ChangeSet, change_at, changed}
 use Rattle.prog_tree.specs.Table.{TableState, row_at, is_cell_among}
@@ -11,7 +10,7 @@ use Rattle.version_store.specs.Clash.{last_touch}
 use Rattle.version_store.specs.Commits.{state_at}
 use Rattle.version_store.specs.Reading.{RisesFrom, value_after, value_at, last_version, last_mark, last_number, with_commit, with_mark_by, with_change_by, IsBelow}
 use Rattle.version_store.specs.StandsFor.{opening_versions, version_by, changes_of, marks_of, chain_of}
-use Rattle.version_store.specs.Versions.{Version, versions_from, versions_of}
+use Rattle.version_store.specs.Versions.{Version}
 
 -- what was changed, or what was held
 abbrev own_or : Option (Option ℤ) → Option ℤ → Option ℤ

@@ -7,7 +7,7 @@ use Rattle.std.proofs.lemmas.Map.Keys.{sorted_tail}
 use Rattle.prog_tree.specs.declared.cell.Cell.{Cell}
 use Rattle.prog_tree.specs.ChangeSet.{ChangeSet, change_at}
 use Rattle.prog_tree.specs.Table.{cell_cmp, Cells, cells_of, at_cell, is_same_cell, is_cell_among}
-use Rattle.version_store.specs.StandsFor.{Chain}
+use Rattle.version_store.specs.StandsFor.{Chain, EachHolds}
 use Rattle.version_store.specs.Reading.{chain_at, with_entry, with_version, with_mark, with_change_by, cut_from, IsGrown, MakesAt}
 use Rattle.version_store.proofs.ChainsLaws.{entry_turn, cell_turn}
 
@@ -16,17 +16,19 @@ pub record AddsEntries {A : Type 0} (f : A → Chain → Chain) (entries rest : 
   pub sorted : IsStrictlySortedBy cell_cmp (cells_of rest)
   pub ends : (c : Cell) → with_entry f (at_cell rest c) (chain_at now c) ≡ with_entry f (at_cell entries c) (chain_at before c)
   pub within : (c : Cell) → at_cell entries c ≡ None → at_cell rest c ≡ None
+  pub hold : EachHolds before → EachHolds now
 
 pub entries_begin : {A : Type 0} (f : A → Chain → Chain) (entries : Cells A) (before : Cells Chain) → IsStrictlySortedBy cell_cmp (cells_of entries) → AddsEntries f entries entries before before
-entries_begin f entries before sorted = record { sorted = sorted; ends = λ c. refl; within = λ c none. none }
+entries_begin f entries before sorted = record { sorted = sorted; ends = λ c. refl; within = λ c none. none; hold = λ holds. holds }
 
 pub one_more_entry :
     {A : Type 0} (f : A → Chain → Chain) (entries left rest : Cells A) (k : Cell) (entry : A) (before now next : Cells Chain) →
-    left ≡ (k, entry) ∷ rest → AddsEntries f entries left before now → MakesAt k (f entry) now next → AddsEntries f entries rest before next
-one_more_entry {A = A} f entries left rest k entry before now next is so_far made = record {
+    left ≡ (k, entry) ∷ rest → AddsEntries f entries left before now → MakesAt k (f entry) now next → (EachHolds now → EachHolds next) → AddsEntries f entries rest before next
+one_more_entry {A = A} f entries left rest k entry before now next is so_far made holds_next = record {
   sorted = sorted_tail cell_cmp k (cells_of rest) h.sorted;
   ends = λ c. entry_turn f now next k entry rest h.sorted made c ∙ h.ends c;
   within = λ c none. go (is_same_cell c k) c (h.within c none);
+  hold = λ holds. holds_next (h.hold holds);
 }
   where
     h : AddsEntries f entries ((k, entry) ∷ rest) before now
@@ -41,17 +43,19 @@ pub record VisitsCells (f : Chain → Chain) (cells rest : List Cell) (before no
   pub sorted : IsStrictlySortedBy cell_cmp rest
   pub ends : (c : Cell) → (if is_cell_among rest c then f (chain_at now c) else chain_at now c) ≡ (if is_cell_among cells c then f (chain_at before c) else chain_at before c)
   pub within : (c : Cell) → is_cell_among cells c ≡ false → is_cell_among rest c ≡ false
+  pub hold : EachHolds before → EachHolds now
 
 pub cells_begin : (f : Chain → Chain) (cells : List Cell) (before : Cells Chain) → IsStrictlySortedBy cell_cmp cells → VisitsCells f cells cells before before
-cells_begin f cells before sorted = record { sorted = sorted; ends = λ c. refl; within = λ c none. none }
+cells_begin f cells before sorted = record { sorted = sorted; ends = λ c. refl; within = λ c none. none; hold = λ holds. holds }
 
 pub one_more_cell :
     (f : Chain → Chain) (cells left rest : List Cell) (k : Cell) (before now next : Cells Chain) →
-    left ≡ k ∷ rest → VisitsCells f cells left before now → MakesAt k f now next → VisitsCells f cells rest before next
-one_more_cell f cells left rest k before now next is so_far made = record {
+    left ≡ k ∷ rest → VisitsCells f cells left before now → MakesAt k f now next → (EachHolds now → EachHolds next) → VisitsCells f cells rest before next
+one_more_cell f cells left rest k before now next is so_far made holds_next = record {
   sorted = sorted_tail cell_cmp k rest h.sorted;
   ends = λ c. cell_turn f now next k rest h.sorted made c ∙ h.ends c;
   within = λ c none. go (is_same_cell c k) c (h.within c none);
+  hold = λ holds. holds_next (h.hold holds);
 }
   where
     h : VisitsCells f cells (k ∷ rest) before now

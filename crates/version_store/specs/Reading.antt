@@ -5,7 +5,7 @@ use Rattle.prog_tree.specs.declared.cell.Cell.{Cell}
 use Rattle.std.specs.Ordering.{is_lt}
 use Rattle.prog_tree.specs.ChangeSet.{ChangeSet, change_at, touches_cell}
 use Rattle.prog_tree.specs.Table.{cell_cmp, Cells, at_cell, is_same_cell, is_cell_among}
-use Rattle.version_store.specs.StandsFor.{Chain, chain_or_none}
+use Rattle.version_store.specs.StandsFor.{Chain, chain_or_none, HoldsSome}
 
 -- the chain of a cell
 abbrev pub chain_at : Cells Chain → Cell → Chain
@@ -115,6 +115,10 @@ MakesEach f before after = (c : Cell) → chain_at after c ≡ f c (chain_at bef
 -- where all numbers were below n, each chain is the same
 abbrev pub KeepsBelow : ℕ → Cells Chain → Cells Chain → Type 0
 KeepsBelow n before after = (c : Cell) → IsBelow n (chain_at before c) → chain_at after c ≡ chain_at before c
+
+-- each chain that is kept holds something, but for that of one cell
+abbrev pub OthersHold : Cell → Cells Chain → Type 0
+OthersHold cell chains = (c : Cell) → is_same_cell cell c ≡ false → HoldsSome (at_cell chains c)
 
 -- the greatest number in the chain of a cell, or 0
 abbrev pub number_at : Cells Chain → Cell → ℕ

@@ -1,5 +1,5 @@
 -- The histories that a store stands for.
-use Rattle.std.specs.Prelude.{◌≡◌, ℕ, ◌+◌, ◌≤◌, ℤ, List, [], ◌∷◌, ◌++◌, length, Option, Some, None, if◌then◌else◌}
+use Rattle.std.specs.Prelude.{◌≡◌, ℕ, ◌+◌, ◌≤◌, ⊤, ℤ, List, [], ◌∷◌, ◌++◌, length, Option, Some, None, if◌then◌else◌}
 use Rattle.std.specs.List.{AllByRecursion, sum_by}
 use Rattle.std.specs.List.Sorted.{IsStrictlySortedBy}
 use Rattle.std.specs.Map.{values_of}
@@ -56,6 +56,15 @@ abbrev pub chain_or_none : Option Chain → Chain
 chain_or_none None = no_chain
 chain_or_none (Some chain) = chain
 
+-- what is kept at a cell holds something
+abbrev pub HoldsSome : Option Chain → Type 0
+HoldsSome None = ⊤
+HoldsSome (Some chain) = chain ≡ no_chain → ⊥
+
+-- each chain that is kept holds something: a cell without versions and marks has none
+abbrev pub EachHolds : Cells Chain → Type 0
+EachHolds chains = (c : Cell) → HoldsSome (at_cell chains c)
+
 -- what a vacuum at f leaves of a chain
 abbrev pub trimmed : (f : ℕ) → Chain → Chain
 trimmed f chain = record { versions = versions_kept f [] chain.versions; marks = marks_kept f chain.marks }
@@ -73,6 +82,7 @@ pub record StandsFor (s : StoreView) (opening : TableState) (ws : List ChangeSet
   pub ordered : IsTableState opening
   pub each : AreCommits ws
   pub chains : (c : Cell) → chain_or_none (at_cell s.chains c) ≡ trimmed s.floor (chain_of opening ws c)
+  pub holds : EachHolds s.chains
   pub pending : s.pending ≡ touches_above s.floor 1 ws
   pub commits : s.commits ≡ length ws
   pub floor : s.floor ≤ s.commits

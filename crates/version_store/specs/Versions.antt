@@ -32,6 +32,10 @@ is_retained vs f v = nat_lt f v.number || (is_newest vs f v && is_some v.value)
 abbrev pub retained : TableState → List ChangeSet → ℕ → List Version
 retained opening ws f = let vs = versions_of opening ws in filter (is_retained vs f) vs
 
+-- the versions of a cell, each as its number and its value
+abbrev pub versions_at : Cell → List Version → List (ℕ × Option ℤ)
+versions_at c vs = map (λ v. (v.number, v.value)) (filter (λ v. is_same_cell c v.cell) vs)
+
 -- how many versions a vacuum at f takes, after one at f0
 abbrev pub reclaimed : TableState → List ChangeSet → ℕ → ℕ → ℕ
 reclaimed opening ws f0 f = length (retained opening ws f0) - length (retained opening ws f)

@@ -1,6 +1,5 @@
 //! What the store keeps of one cell.
-ghost use Rattle.std.specs.Prelude.{◌≡◌, ◌≤◌, ◌+◌, length, [], drop, None, OnOk, OnErr};
-ghost use Rattle.std.specs.Bool.{OnTrue};
+ghost use Rattle.std.specs.Prelude.{◌≡◌, ◌↔◌, ◌≤◌, ◌+◌, length, [], drop, None, IsTrue, OnOk, OnErr};
 ghost use Rattle.version_store.specs.Reading.{RisesFrom, IsCutAt, value_at, last_version};
 ghost use Rattle.version_store.specs.Reading.{last_mark, last_number, with_version, with_mark, cut_from};
 ghost use Rattle.version_store.specs.StandsFor.{no_chain, trimmed};
@@ -157,7 +156,7 @@ impl Chain {
 
     /// Whether nothing is left of it.
     pub fn is_empty(&self) -> bool
-        ensures { OnTrue result (self.now ≡ no_chain) }
+        ensures { IsTrue result ↔ (self.now ≡ no_chain) }
     {
         self.versions.is_empty() && self.marks.is_empty()
     }

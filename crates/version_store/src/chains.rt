@@ -8,10 +8,10 @@ ghost use Rattle.prog_tree.specs.Table.{cell_cmp, cells_of, TableState, IsTableS
 ghost use Rattle.version_store.specs.Reading.{RisesFrom, AllRise, chain_at, value_at, number_at};
 ghost use Rattle.version_store.specs.Reading.{with_version, with_mark, with_row_of, with_change_by};
 ghost use Rattle.version_store.specs.Reading.{with_commit, cut_from, IsGrown};
-ghost use Rattle.version_store.specs.Reading.{MakesAt, MakesAmong, MakesEach, KeepsBelow};
+ghost use Rattle.version_store.specs.Reading.{MakesAt, MakesAmong, MakesEach, KeepsBelow, OthersHold};
 ghost use Rattle.version_store.specs.Regions.{AreCorners, seen_in, seen_left, with_found};
 ghost use Rattle.version_store.specs.Regions.{found_row, IsSeen};
-ghost use Rattle.version_store.specs.StandsFor.{size, trimmed};
+ghost use Rattle.version_store.specs.StandsFor.{size, trimmed, EachHolds};
 ghost use Rattle.version_store.specs.Trimming.{within, beyond};
 ghost use Rattle.version_store.specs.Trims.{TrimsAll};
 
@@ -203,6 +203,7 @@ impl Chains {
     fn add_version(&mut self, cell: Cell, number: u64, value: Option<i64>) -> Result<(), AllocError>
         ensures ok { OnOk result (MakesAt cell (with_version number value) self.old self.new) }
         ensures err { OnErr result (MakesEach (λ c chain. chain) self.old self.new) }
+        ensures hold { EachHolds self.old → EachHolds self.new }
     {
         if let Some(chain) = self.chains.get_mut(&cell) {
             chain.add_version(number, value)?;
@@ -217,6 +218,7 @@ impl Chains {
     fn add_mark(&mut self, cell: Cell, number: u64) -> Result<(), AllocError>
         ensures ok { OnOk result (MakesAt cell (with_mark number) self.old self.new) }
         ensures err { OnErr result (MakesEach (λ c chain. chain) self.old self.new) }
+        ensures hold { EachHolds self.old → EachHolds self.new }
     {
         if let Some(chain) = self.chains.get_mut(&cell) {
             chain.add_mark(number)?;
@@ -228,17 +230,44 @@ impl Chains {
         Ok(())
     }
 
-    fn cut_from(&mut self, cell: &Cell, number: u64)
-        ensures { MakesAt cell.now (cut_from number) self.old self.new }
+    // Drops the chain of a cell where nothing is left of it.
+    fn drop_empty(&mut self, cell: &Cell)
+        ensures chains { MakesEach (λ c chain. chain) self.old self.new }
+        ensures count { size self.new ≡ size self.old }
+        ensures hold { OthersHold cell.now self.old → EachHolds self.new }
+    {
+        let Some(chain) = self.chains.get(cell) else {
+            return;
+        };
+        if chain.is_empty() {
+            let _ = self.chains.remove(cell);
+        }
+    }
+
+    // Cuts the chain of a cell.
+    fn cut_chain(&mut self, cell: &Cell, number: u64)
+        ensures chains { MakesAt cell.now (cut_from number) self.old self.new }
+        ensures others { EachHolds self.old → OthersHold cell.now self.new }
     {
         if let Some(chain) = self.chains.get_mut(cell) {
             chain.cut_from(number);
         }
     }
+
+    // Cuts the chain of a cell, which leaves the map where nothing is left of it.
+    fn cut_from(&mut self, cell: &Cell, number: u64)
+        ensures chains { MakesAt cell.now (cut_from number) self.old self.new }
+        ensures hold { EachHolds self.old → EachHolds self.new }
+    {
+        self.cut_chain(cell, number);
+        self.drop_empty(cell);
+    }
+
     /// The chains of opening rows.
     pub fn open(alloc: Global, opening: &Rows) -> Result<Self, AllocError>
-        ensures { IfOk result (λ chains.
+        ensures rows { IfOk result (λ chains.
             MakesEach (λ c. with_row_of (row_at opening.now c)) [] chains) }
+        ensures hold { IfOk result (λ chains. EachHolds chains) }
     {
         let mut chains = Chains::new(alloc);
         for (cell, value) in opening.iter() {
@@ -252,6 +281,7 @@ impl Chains {
         ensures ok { OnOk result
             (MakesEach (λ c. with_change_by number (change_at changes.now c)) self.old self.new) }
         ensures err { OnErr result (IsGrown number changes.now self.old self.new) }
+        ensures hold { EachHolds self.old → EachHolds self.new }
     {
         for (cell, change) in changes.iter() {
             self.add_version(*cell, number, *change)?;
@@ -264,6 +294,7 @@ impl Chains {
         ensures ok { OnOk result
             (MakesAmong changes.now.kept (with_mark number) self.old self.new) }
         ensures err { OnErr result (IsGrown number changes.now self.old self.new) }
+        ensures hold { EachHolds self.old → EachHolds self.new }
     {
         for cell in changes.kept() {
             self.add_mark(*cell, number)?;
@@ -272,7 +303,8 @@ impl Chains {
     }
 
     fn cut_changed(&mut self, number: u64, changes: &Changes)
-        ensures { MakesAmong (cells_of changes.now.cells) (cut_from number) self.old self.new }
+        ensures chains { MakesAmong (cells_of changes.now.cells) (cut_from number) self.old self.new }
+        ensures hold { EachHolds self.old → EachHolds self.new }
     {
         for (cell, _) in changes.iter() {
             self.cut_from(cell, number);
@@ -280,16 +312,19 @@ impl Chains {
     }
 
     fn cut_kept(&mut self, number: u64, changes: &Changes)
-        ensures { MakesAmong changes.now.kept (cut_from number) self.old self.new }
+        ensures chains { MakesAmong changes.now.kept (cut_from number) self.old self.new }
+        ensures hold { EachHolds self.old → EachHolds self.new }
     {
         for cell in changes.kept() {
             self.cut_from(cell, number);
         }
     }
+
     // Adds a version of each changed cell, and a mark of each kept cell.
     fn add_touches(&mut self, number: u64, changes: &Changes) -> Result<(), AllocError>
         ensures ok { OnOk result (MakesEach (with_commit number changes.now) self.old self.new) }
         ensures err { OnErr result (IsGrown number changes.now self.old self.new) }
+        ensures hold { EachHolds self.old → EachHolds self.new }
     {
         self.add_versions(number, changes)?;
         self.add_marks(number, changes)?;
@@ -300,6 +335,7 @@ impl Chains {
     pub fn add_commit(&mut self, number: u64, changes: &Changes) -> Result<(), AllocError>
         ensures ok { OnOk result (MakesEach (with_commit number changes.now) self.old self.new) }
         ensures err { OnErr result (KeepsBelow number self.old self.new) }
+        ensures hold { EachHolds self.old → EachHolds self.new }
     {
         let Ok(()) = self.add_touches(number, changes) else {
             self.cut_changed(number, changes);
@@ -320,6 +356,7 @@ impl Chains {
     fn trim_chain(&mut self, cell: &Cell, floor: u64) -> usize
         ensures chains { MakesAt cell.now (trimmed floor) self.old self.new }
         ensures count { size self.new + result ≡ size self.old }
+        ensures others { EachHolds self.old → OthersHold cell.now self.new }
     {
         let Some(chain) = self.chains.get_mut(cell) else {
             return 0;
@@ -327,23 +364,11 @@ impl Chains {
         chain.trim(floor)
     }
 
-    // Drops the chain of a cell where nothing is left of it.
-    fn drop_empty(&mut self, cell: &Cell)
-        ensures chains { MakesEach (λ c chain. chain) self.old self.new }
-        ensures count { size self.new ≡ size self.old }
-    {
-        let Some(chain) = self.chains.get(cell) else {
-            return;
-        };
-        if chain.is_empty() {
-            let _ = self.chains.remove(cell);
-        }
-    }
-
     // Trims the chain of a cell, which leaves the map where nothing is left of it.
     fn trim(&mut self, cell: &Cell, floor: u64) -> usize
         ensures chains { MakesAt cell.now (trimmed floor) self.old self.new }
         ensures count { size self.new + result ≡ size self.old }
+        ensures hold { EachHolds self.old → EachHolds self.new }
     {
         let count = self.trim_chain(cell, floor);
         self.drop_empty(cell);
@@ -355,6 +380,7 @@ impl Chains {
     pub fn vacuum(&mut self, pending: &mut Pending, floor: u64) -> u64
         ensures pending { pending.new ≡ beyond floor pending.old }
         ensures chains { TrimsAll floor (within floor pending.old) self.old self.new }
+        ensures hold { EachHolds self.old → EachHolds self.new }
         ensures falls { size self.new ≤ size self.old }
         ensures count { result ≡ min (size self.old - size self.new) (2 ^ 64 - 1) }
     {

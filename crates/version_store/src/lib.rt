@@ -11,5 +11,5 @@ mod version;
 
 pub use chains::corners;
 pub use clash::Clash;
-pub use laws::clashes_are_found;
+pub use laws::{clashes_are_found, retained_versions_stay};
 pub use store::Store;

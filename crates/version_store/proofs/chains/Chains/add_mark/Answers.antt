@@ -1,4 +1,4 @@
-use Rattle.std.proofs.Common.{◌∙◌, ap, subst}
+use Rattle.std.proofs.Common.{◌∙◌, ap, sym, subst}
 use Rattle.std.specs.Prelude.{IsSome}
 use Rattle.std.specs.BTreeMap.{BTreeMap}
 use Rattle.prog_tree.specs.declared.cell.Cell.{Cell}
@@ -6,6 +6,7 @@ use Rattle.prog_tree.specs.Table.{at_cell}
 use Rattle.version_store.specs.Reading.{with_mark}
 use Rattle.version_store.specs.StandsFor.{Chain}
 use Rattle.version_store.proofs.ChainsLaws.{IsWritten, made_found, made_absent, same_chains, at_error}
+use Rattle.version_store.proofs.HoldLaws.{hold_found, hold_written, mark_holds}
 use Rattle.version_store.proofs.chains.Chains.add_mark.Goals as goal
 
 pub returns-in_err-add_mark-clause-err : goal.returns-in_err-add_mark-clause-err
@@ -31,4 +32,31 @@ returns-clause-ok c =
     let chain = c.add_mark-2.new.self in
     let made = c.in_ok-add_mark-2.ensures.ok ∙ ap (with_mark c.args.number) c.new-chain.ensures in
     rw (← c.self.view_is) (made_absent m c.insert.new.self.entries c.args.cell (with_mark c.args.number) chain c.in_default.ensures.value made
+    (subst (λ (old : BTreeMap Cell Chain). IsWritten old.entries c.insert.new.self.entries c.args.cell chain) c.get_mut.follows.holds-at-none c.in_ok-insert.ensures.updates.0))
+
+pub returns-in_err-add_mark-clause-hold : goal.returns-in_err-add_mark-clause-hold
+returns-in_err-add_mark-clause-hold c =
+    let m = c.self.inside.chains.entries in
+    let chain = c.add_mark.new.self in
+    let n = (c.get_mut.follows.lender chain).entries in
+    let written = λ (some : IsSome (at_cell m c.args.cell)). ((c.get_mut.follows.holds chain).3 some).0 in
+    rw (← c.self.view_is)
+    (hold_found m n c.args.cell c.in-Some.chain.now chain c.in-Some.ensures.value (λ some none. some (sym c.in_err-add_mark.ensures.err ∙ none)) written)
+
+pub returns-in-Some-clause-hold : goal.returns-in-Some-clause-hold
+returns-in-Some-clause-hold c =
+    let m = c.self.inside.chains.entries in
+    let chain = c.add_mark.new.self in
+    let n = (c.get_mut.follows.lender chain).entries in
+    let written = λ (some : IsSome (at_cell m c.args.cell)). ((c.get_mut.follows.holds chain).3 some).0 in
+    rw (← c.self.view_is)
+    (hold_found m n c.args.cell c.in-Some.chain.now chain c.in-Some.ensures.value
+    (λ some none. mark_holds c.args.number c.in-Some.chain.now (sym c.in_ok-add_mark.ensures.ok ∙ none)) written)
+
+pub returns-clause-hold : goal.returns-clause-hold
+returns-clause-hold c =
+    let m = c.self.inside.chains.entries in
+    let chain = c.add_mark-2.new.self in
+    rw (← c.self.view_is)
+    (hold_written m c.insert.new.self.entries c.args.cell chain (λ none. mark_holds c.args.number c.new-chain.result (sym c.in_ok-add_mark-2.ensures.ok ∙ none))
     (subst (λ (old : BTreeMap Cell Chain). IsWritten old.entries c.insert.new.self.entries c.args.cell chain) c.get_mut.follows.holds-at-none c.in_ok-insert.ensures.updates.0))

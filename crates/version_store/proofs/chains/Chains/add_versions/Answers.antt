@@ -6,7 +6,7 @@ use Rattle.version_store.proofs.chains.Chains.add_versions.Goals as goal
 pub loop-cell-preserved : goal.loop-cell-preserved
 loop-cell-preserved c =
     one_more_entry (with_version c.args.number) c.args.changes.now.cells c.loop-cell.cell-iterator c.next.new.self c.in-Some.cell.now c.in-Some.change.now c.args.self.now
-    c.loop-cell.self c.add_version.new.self c.in-Some.ensures.steps c.loop-cell.invariant c.in_ok-add_version.ensures.ok
+    c.loop-cell.self c.add_version.new.self c.in-Some.ensures.steps c.loop-cell.invariant c.in_ok-add_version.ensures.ok c.add_version.ensures.hold
 
 pub returns-in_err-add_version-clause-err : goal.returns-in_err-add_version-clause-err
 returns-in_err-add_version-clause-err c =

@@ -2,6 +2,7 @@ use Rattle.std.specs.Prelude.{IsSome}
 use Rattle.prog_tree.specs.Table.{at_cell}
 use Rattle.version_store.specs.StandsFor.{trimmed}
 use Rattle.version_store.proofs.ChainsLaws.{made_found}
+use Rattle.version_store.proofs.HoldLaws.{others_found}
 use Rattle.version_store.proofs.SizeLaws.{size_written}
 use Rattle.version_store.proofs.chains.Chains.trim_chain.Goals as goal
 
@@ -20,3 +21,10 @@ returns-clause-count c =
     rw (← c.self.view_is)
     (size_written c.self.inside.chains.entries (c.get_mut.follows.lender chain).entries c.args.cell.now c.in-Some.chain.now chain c.trim.result c.in-Some.ensures.value
     (c.get_mut.follows.holds chain).0 c.trim.ensures.count)
+
+pub returns-clause-others : goal.returns-clause-others
+returns-clause-others c =
+    let m = c.self.inside.chains.entries in
+    let chain = c.trim.new.self in
+    let written = λ (some : IsSome (at_cell m c.args.cell.now)). ((c.get_mut.follows.holds chain).3 some).0 in
+    rw (← c.self.view_is) (others_found m (c.get_mut.follows.lender chain).entries c.args.cell.now c.in-Some.chain.now chain c.in-Some.ensures.value written)

@@ -5,7 +5,7 @@ use Rattle.version_store.proofs.store.Store.install.Goals as goal
 pub returns-in_default-add_commit-clause-err_stands : goal.returns-in_default-add_commit-clause-err_stands
 returns-in_default-add_commit-clause-err_stands c =
     let pending = c.cut.ensures ∙ ap (λ n. take n c.add.new.self) c.len-before.ensures ∙ c.add.ensures.first in
-    rw (← c.self.view_is) (λ opening ws stands. stands-kept _ _ opening ws stands c.in_default-add_commit.ensures.err pending refl refl refl)
+    rw (← c.self.view_is) (λ opening ws stands. stands-kept _ _ opening ws stands c.in_default-add_commit.ensures.err c.add_commit.ensures.hold pending refl refl refl)
 
 pub returns-clause-stands : goal.returns-clause-stands
 returns-clause-stands c =
@@ -13,4 +13,4 @@ returns-clause-stands c =
     let sum : c.in-Some.versions ≡ c.self.inside.versions + c.len.result = c.in-Some.ensures.1 in
     let versions = sum ∙ ap (λ n. c.self.inside.versions + n) count in
     rw (← c.self.view_is) (λ opening ws stands.
-    stands-push _ _ opening ws c.args.changes.now stands c.iter.ensures.ordered c.in-Ok.ensures.ok c.in_ok-add.ensures.ok refl refl versions)
+    stands-push _ _ opening ws c.args.changes.now stands c.iter.ensures.ordered c.in-Ok.ensures.ok c.add_commit.ensures.hold c.in_ok-add.ensures.ok refl refl versions)

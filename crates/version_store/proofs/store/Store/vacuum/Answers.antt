@@ -1,10 +1,13 @@
-use Rattle.std.proofs.Common.{◌<◌, ◌^◌, refl, rules}
-use Rattle.version_store.specs.StandsFor.{StoreView}
+use Rattle.std.proofs.Common.{◌≡◌, ◌<◌, ◌^◌, refl, rules, List}
+use Rattle.prog_tree.specs.ChangeSet.{ChangeSet}
+use Rattle.prog_tree.specs.Table.{TableState}
+use Rattle.version_store.specs.StandsFor.{StoreView, StandsFor}
+use Rattle.version_store.specs.Versions.{reclaimed}
 use Rattle.version_store.proofs.StandsLaws.{stands-vacuum}
 use Rattle.version_store.proofs.store.Store.vacuum.Goals as goal
 
-pub returns-clause-count : goal.returns-clause-count
-returns-clause-count c =
+pub returns : goal.returns
+returns c =
     let s : StoreView = record {
       chains = c.self.inside.chains;
       commits = c.self.inside.commits;
@@ -23,30 +26,13 @@ returns-clause-count c =
     let low = rw (← c.self.view_is) at c.requires.within in
     let fits : c.self.inside.versions < 2 ^ 64 = search rules in
     let done = c.vacuum-count.ensures in
-    rw (← c.self.view_is) (λ opening ws stands.
-    (stands-vacuum s t opening ws c.args.floor c.vacuum-count.result stands rises low c.in_order.ensures c.in_order-2.ensures done.chains done.pending refl refl done.falls fits
-    done.count c.saturating_sub-self-inside.ensures).1)
-
-pub returns-clause-stands : goal.returns-clause-stands
-returns-clause-stands c =
-    let s : StoreView = record {
-      chains = c.self.inside.chains;
-      commits = c.self.inside.commits;
-      floor = c.self.inside.floor;
-      versions = c.self.inside.versions;
-      pending = c.self.inside.pending;
-    } in
-    let t : StoreView = record {
-      chains = c.vacuum-count.new.self;
-      commits = c.self.inside.commits;
-      floor = c.args.floor;
-      versions = c.saturating_sub-self-inside.result;
-      pending = c.vacuum-count.new.pending;
-    } in
-    let rises = rw (← c.self.view_is) at c.requires.rises in
-    let low = rw (← c.self.view_is) at c.requires.within in
-    let fits : c.self.inside.versions < 2 ^ 64 = search rules in
-    let done = c.vacuum-count.ensures in
-    rw (← c.self.view_is) (λ opening ws stands.
-    (stands-vacuum s t opening ws c.args.floor c.vacuum-count.result stands rises low c.in_order.ensures c.in_order-2.ensures done.chains done.pending refl refl done.falls fits
-    done.count c.saturating_sub-self-inside.ensures).0)
+    let both : (opening : TableState) (ws : List ChangeSet) → StandsFor s opening ws →
+    StandsFor t opening ws × (c.vacuum-count.result ≡ reclaimed opening ws c.self.inside.floor c.args.floor) = λ opening ws stands.
+    stands-vacuum s t opening ws c.args.floor c.vacuum-count.result stands rises low c.in_order.ensures c.in_order-2.ensures done.chains done.hold done.pending refl refl done.falls fits
+    done.count c.saturating_sub-self-inside.ensures in
+    rw (← c.self.view_is) (record {
+      count = λ opening ws stands. (both opening ws stands).1;
+      floor = refl;
+      commits = refl;
+      stands = λ opening ws stands. (both opening ws stands).0;
+    })

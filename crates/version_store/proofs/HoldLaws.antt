@@ -1,0 +1,56 @@
+-- Which chains hold something, once one of them is written or leaves.
+use Rattle.std.proofs.Common.{◌≡◌, ◌∙◌, ℕ, ℤ, Bool, true, false, cond, List, [], ◌∷◌, ◌++◌, refl, ap, sym, subst}
+use Rattle.std.specs.Prelude.{Option, Some, None, IsSome}
+use Rattle.prog_tree.specs.declared.cell.Cell.{Cell}
+use Rattle.prog_tree.specs.Table.{Cells, at_cell, is_same_cell}
+use Rattle.version_store.specs.Reading.{with_version, with_mark, OthersHold}
+use Rattle.version_store.specs.StandsFor.{Chain, no_chain, HoldsSome, EachHolds}
+use Rattle.version_store.proofs.ChainsLaws.{IsWritten}
+
+not_pushed : {A : Type 0} (xs : List A) (x : A) → xs ++ x ∷ [] ≡ [] → ⊥
+not_pushed [] x h = cc
+not_pushed (y ∷ xs) x h = cc
+
+pub version_holds : (n : ℕ) (value : Option ℤ) (chain : Chain) → with_version n value chain ≡ no_chain → ⊥
+version_holds n value chain h = not_pushed chain.versions (n, value) (ap (λ (x : Chain). x.versions) h)
+
+pub mark_holds : (n : ℕ) (chain : Chain) → with_mark n chain ≡ no_chain → ⊥
+mark_holds n chain h = not_pushed chain.marks n (ap (λ (x : Chain). x.marks) h)
+
+pub none_holds : EachHolds []
+none_holds c = tt
+
+-- what is found holds something
+pub found_holds : (m : Cells Chain) (cell : Cell) (chain : Chain) → Some chain ≡ at_cell m cell → EachHolds m → chain ≡ no_chain → ⊥
+found_holds m cell chain found holds = subst HoldsSome (sym found) (holds cell)
+
+-- a written chain that holds something
+pub hold_written : (m n : Cells Chain) (cell : Cell) (chain : Chain) → (chain ≡ no_chain → ⊥) → IsWritten m n cell chain → EachHolds m → EachHolds n
+hold_written m n cell chain some written holds c = subst HoldsSome (sym (written c)) (go (is_same_cell cell c))
+  where
+    go : (b : Bool) → HoldsSome (cond b (Some chain) (at_cell m c))
+    go true = some
+    go false = holds c
+
+-- a written chain, of which nothing may be left
+pub others_written : (m n : Cells Chain) (cell : Cell) (chain : Chain) → IsWritten m n cell chain → EachHolds m → OthersHold cell n
+others_written m n cell chain written holds c apart = subst HoldsSome (sym (written c ∙ ap (λ b. cond b (Some chain) (at_cell m c)) apart)) (holds c)
+
+-- the chain of the cell leaves
+pub hold_removed : (m n : Cells Chain) (cell : Cell) → ((c : Cell) → at_cell n c ≡ cond (is_same_cell cell c) None (at_cell m c)) → OthersHold cell m → EachHolds n
+hold_removed m n cell updates holds c = subst HoldsSome (sym (updates c)) (go (is_same_cell cell c) (λ apart. holds c apart))
+  where
+    go : (b : Bool) → (b ≡ false → HoldsSome (at_cell m c)) → HoldsSome (cond b None (at_cell m c))
+    go true others = tt
+    go false others = others refl
+
+-- a found chain is written: it holds something where it did before
+pub hold_found :
+    (m n : Cells Chain) (cell : Cell) (old new : Chain) → Some old ≡ at_cell m cell → ((old ≡ no_chain → ⊥) → new ≡ no_chain → ⊥) →
+    (IsSome (at_cell m cell) → IsWritten m n cell new) → EachHolds m → EachHolds n
+hold_found m n cell old new found some written holds =
+    hold_written m n cell new (some (found_holds m cell old found holds)) (written (subst (λ (o : Option Chain). IsSome o) found refl)) holds
+
+pub others_found :
+    (m n : Cells Chain) (cell : Cell) (old new : Chain) → Some old ≡ at_cell m cell → (IsSome (at_cell m cell) → IsWritten m n cell new) → EachHolds m → OthersHold cell n
+others_found m n cell old new found written = others_written m n cell new (written (subst (λ (o : Option Chain). IsSome o) found refl))
