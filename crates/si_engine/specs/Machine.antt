@@ -1,5 +1,5 @@
 -- The event machine.
-use Rattle.std.specs.Prelude.{ℕ, ◌+◌, ◌-◌, ◌^◌, ℤ, min, nat_le, ◌==◌, Bool, false, true, not, ◌||◌, List, [], ◌∷◌, ◌++◌, length, Option, Some, None, is_none, slice_get, slice_set, if◌then◌else◌}
+use Rattle.std.specs.Prelude.{ℕ, ◌+◌, ◌-◌, ℤ, min, nat_le, ◌==◌, Bool, false, true, not, ◌||◌, List, [], ◌∷◌, ◌++◌, length, Option, Some, None, is_none, slice_get, slice_set, if◌then◌else◌}
 use Rattle.prog_tree.specs.declared.cell.Cell.{Cell}
 use Rattle.prog_tree.specs.declared.deed.Deed.{Deed}
 use Rattle.prog_tree.specs.declared.deed.End.{End}
@@ -10,6 +10,7 @@ use Rattle.prog_tree.specs.Table.{TableState}
 use Rattle.version_store.specs.Clash.{clash_of}
 use Rattle.version_store.specs.Versions.{reclaimed}
 use Rattle.history_book.specs.History.{Instance, evaluation, commits_of}
+use Rattle.history_book.specs.View.{most_endings, most_begins}
 use Rattle.si_engine.specs.declared.event.Event.{Event}
 use Rattle.si_engine.specs.declared.event.Event.TheVariants as event
 use Rattle.si_engine.specs.declared.event.Reply.{Reply}
@@ -32,14 +33,6 @@ pub record Machine : Type 0 where
 
 abbrev pub new_machine : Machine
 new_machine = record { history = []; begun = []; endings = 0; floor = 0 }
-
--- no begin succeeds where there are so many endings and active instances
-abbrev pub most_endings : ℕ
-most_endings = 100000
-
--- or where so many begins have succeeded
-abbrev pub most_begins : ℕ
-most_begins = 2 ^ 64 - 1
 
 -- how many are active
 abbrev pub active_of : List (Option Active) → ℕ

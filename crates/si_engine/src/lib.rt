@@ -25,7 +25,7 @@ pub use input::script::{Script, read_script};
 pub use input::script_fault::{LineFault, ScriptFault};
 pub use input::source::{DeviceFault, InputFault, Source, read_whole};
 pub use limits::{MAX_BYTES, MAX_READS};
-pub use output::finding::{Finding, push_findings};
+pub use output::finding::{Finding, push_findings, push_rows};
 pub use output::sink::{Sink, write_whole};
 pub use port::Port;
 pub use robust::laws::{

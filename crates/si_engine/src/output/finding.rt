@@ -19,8 +19,8 @@ pub enum Finding {
     Cycle,
 }
 
-/// Adds the line of each row.
-pub(crate) fn list_rows(set: &Draft, rows: &Rows, out: &mut String) -> Result<(), AllocError>
+/// Adds the line of each row. Where memory runs out, some first lines were added.
+pub fn push_rows(set: &Draft, rows: &Rows, out: &mut String) -> Result<(), AllocError>
     ensures ok { OnOk result (Adds (row_lines (draft_tree set.now) rows.now)
         (string_bytes out.old) (string_bytes out.new)) }
     ensures err { OnErr result (AddsFirst (row_lines (draft_tree set.now) rows.now)
@@ -62,7 +62,7 @@ pub fn push_findings(book: &Book<'_>, out: &mut String) -> Result<Finding, Alloc
         (history_of book.now.rows)) (string_bytes out.old) (string_bytes out.new)) }
 {
     let table = book.table()?;
-    list_rows(book.set().draft(), &table, out)?;
+    push_rows(book.set().draft(), &table, out)?;
     let finding = push_order(book, out)?;
     Ok(finding)
 }

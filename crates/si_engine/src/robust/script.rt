@@ -12,7 +12,7 @@ use crate::input::script::{Script, read_script};
 use crate::input::script_fault::ScriptFault;
 use crate::input::source::Source;
 use crate::limits::MAX_READS;
-use crate::output::finding::{Finding, list_rows};
+use crate::output::finding::{Finding, push_rows};
 use crate::output::printed::{push_last_line, push_reply_line};
 use crate::output::sink::Sink;
 use crate::robust::run::{Outcome, run_robust};
@@ -55,7 +55,7 @@ fn list_outcome(
         (string_bytes out.old) (string_bytes out.new)) }
 {
     list_replies(&set.tables, events, outcome.replies.as_slice(), out)?;
-    list_rows(set, &outcome.table, out)?;
+    push_rows(set, &outcome.table, out)?;
     push_last_line(out, Finding::Order, outcome.order.as_slice())
 }
 

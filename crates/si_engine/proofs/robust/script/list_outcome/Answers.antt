@@ -21,9 +21,9 @@ returns-in_err-list_replies-clause-err c =
     (adds_first_of (exchange_lines c.args.set.now.tables.items (zip events o.replies)) (row_lines (draft_tree c.args.set.now) o.table) _ _
     (subst (λ (lines : List (List ℕ)). AddsFirst lines (string_bytes c.args.out.now) (string_bytes c.list_replies.new.out)) said c.in_err-list_replies.ensures.err))
 
-pub returns-in_err-list_rows-clause-err : goal.returns-in_err-list_rows-clause-err
-returns-in_err-list_rows-clause-err c =
-    let exit = err_from_is_err_and c.from_residual-in_err-list_rows.result c.from_residual-in_err-list_rows.ensures.1 in
+pub returns-in_err-push_rows-clause-err : goal.returns-in_err-push_rows-clause-err
+returns-in_err-push_rows-clause-err c =
+    let exit = err_from_is_err_and c.from_residual-in_err-push_rows.result c.from_residual-in_err-push_rows.ensures.1 in
     let events = c.args.events.now in
     let o = c.args.outcome.now in
     let said =
@@ -32,7 +32,7 @@ returns-in_err-list_rows-clause-err c =
     let first = subst (λ (lines : List (List ℕ)). Adds lines (string_bytes c.args.out.now) (string_bytes c.list_replies.new.out)) said c.in_ok-list_replies.ensures.ok in
     rw (exit.1)
     (adds_behind (exchange_lines c.args.set.now.tables.items (zip events o.replies)) (row_lines (draft_tree c.args.set.now) o.table) _ _ _ first
-    c.in_err-list_rows.ensures.err)
+    c.in_err-push_rows.ensures.err)
 
 pub returns-clause-ok : goal.returns-clause-ok
 returns-clause-ok c =
@@ -44,11 +44,11 @@ returns-clause-ok c =
     ap (λ tables. exchange_lines tables (zip events c.as_slice.result.now)) c.deref.ensures.value
     ∙ ap (λ rs. exchange_lines c.args.set.now.tables.items (zip events rs)) c.as_slice.ensures in
     let first = subst (λ (lines : List (List ℕ)). Adds lines (string_bytes c.args.out.now) (string_bytes c.list_replies.new.out)) said c.in_ok-list_replies.ensures.ok in
-    let both = adds_both replies rows _ _ _ first c.in_ok-list_rows.ensures.ok in
+    let both = adds_both replies rows _ _ _ first c.in_ok-push_rows.ensures.ok in
     on_ok c.push_last_line.result
-    (λ (wrote : string_bytes c.push_last_line.new.text ≡ string_bytes c.list_rows.new.out ++ last_line Order c.as_slice-2.result.now).
+    (λ (wrote : string_bytes c.push_last_line.new.text ≡ string_bytes c.push_rows.new.out ++ last_line Order c.as_slice-2.result.now).
     adds_line (replies ++ rows) (last_line Order o.order) _ _ _ both
-    (wrote ∙ ap (λ ns. string_bytes c.list_rows.new.out ++ last_line Order ns) c.as_slice-2.ensures))
+    (wrote ∙ ap (λ ns. string_bytes c.push_rows.new.out ++ last_line Order ns) c.as_slice-2.ensures))
     c.push_last_line.ensures.ok
 
 pub returns-clause-err : goal.returns-clause-err
@@ -61,7 +61,7 @@ returns-clause-err c =
     ap (λ tables. exchange_lines tables (zip events c.as_slice.result.now)) c.deref.ensures.value
     ∙ ap (λ rs. exchange_lines c.args.set.now.tables.items (zip events rs)) c.as_slice.ensures in
     let first = subst (λ (lines : List (List ℕ)). Adds lines (string_bytes c.args.out.now) (string_bytes c.list_replies.new.out)) said c.in_ok-list_replies.ensures.ok in
-    let both = adds_both replies rows _ _ _ first c.in_ok-list_rows.ensures.ok in
+    let both = adds_both replies rows _ _ _ first c.in_ok-push_rows.ensures.ok in
     on_err c.push_last_line.result
-    (λ (same : string_bytes c.push_last_line.new.text ≡ string_bytes c.list_rows.new.out). adds_all (replies ++ rows) _ _ _ both same)
+    (λ (same : string_bytes c.push_last_line.new.text ≡ string_bytes c.push_rows.new.out). adds_all (replies ++ rows) _ _ _ both same)
     c.push_last_line.ensures.err

@@ -4,7 +4,7 @@ use Rattle.prog_tree.specs.Tree.{draft_tree}
 use Rattle.si_engine.specs.Runs.{row_lines}
 use Rattle.si_engine.specs.Printed.{row_line}
 use Rattle.si_engine.proofs.OutputLaws.{adds_line}
-use Rattle.si_engine.proofs.output.finding.list_rows.Goals as goal
+use Rattle.si_engine.proofs.output.finding.push_rows.Goals as goal
 
 pub loop-cell-preserved : goal.loop-cell-preserved
 loop-cell-preserved c =

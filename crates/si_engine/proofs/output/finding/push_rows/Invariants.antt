@@ -1,7 +1,7 @@
 use Rattle.std.proofs.Common.{◌≡◌, List, ℕ, ◌++◌, string_bytes}
 use Rattle.prog_tree.specs.Tree.{draft_tree}
 use Rattle.si_engine.specs.Runs.{row_lines, Adds}
-use Rattle.si_engine.proofs.output.finding.list_rows.Given as goal
+use Rattle.si_engine.proofs.output.finding.push_rows.Given as goal
 
 abbrev pub invariant-loop-cell : goal.invariant-loop-cell
 invariant-loop-cell l = record {
