@@ -2,10 +2,41 @@
 ghost use Rattle.std.specs.Prelude.{◌≡◌, false, IfOk, [], ◌∷◌, map, option_map, string_bytes};
 ghost use Rattle.clap.specs.Words.{app_of, shape_of, rows_of, rule_of, found_of, with_subcommand, subcommand_of, subcommand_rows_of, fault_of, FailsBy};
 ghost use Rattle.clap.specs.declared.builder.command.Command.TheViews.{out-Command as fields_of};
-ghost use Rattle.sirob.specs.CommandLine.{sirob_app, top_app, command_with, flag_rule, byte_rule, repair_shape, run_shape, work_shape, is_true, has_flag, byte_of, IsNamedBy, NamesMode};
+ghost use Rattle.sirob.specs.CommandLine.{sirob_app, top_app, command_with, flag_rule, byte_rule, is_true, has_flag, byte_of, IsNamedBy, NamesMode};
 
 use clap::{Arg, ArgAction, ArgMatches, Command, Error, value_parser};
 use std::alloc::{AllocError, Global};
+
+// what each command says of itself
+const SIROB: &str =
+    "Checks, certifies, repairs, runs and audits transaction programs under snapshot isolation, and does jobs of them, from standard input to standard output";
+
+const CHECK: &str = "Reads a set of programs; writes its canonical text, or its first fault";
+
+const CERTIFY: &str =
+    "Reads a set of programs; writes a certificate that it is robust, or its refusal";
+
+const VERIFY: &str =
+    "Reads a set of programs, a line %% and a certificate; writes that the set is robust, or the certificate's first fault";
+
+const REPAIR: &str =
+    "Reads a set of programs; writes the canonical text of a robust set whose programs mean the same";
+
+const RUN: &str =
+    "Reads a set of programs, a line %% and a script; writes a line for each event, the rows, and an order or a cycle";
+
+const AUDIT: &str =
+    "Reads a set of programs, a line %% and records of commits; writes the rows, and an order or a cycle";
+
+const WORK: &str =
+    "Reads a robust set of programs, a line %% and jobs; does the jobs at once, and writes how many ended in which way, and the rows";
+
+// and of their arguments
+const PROMOTE: &str = "Adds no table, and keeps the cells that were read";
+
+const ROBUST: &str = "Runs the script only where the set is robust, and else writes its refusal";
+
+const WORKERS: &str = "How many workers do jobs at once, from 1 to 8";
 
 /// What the program is asked to do.
 #[derive(Clone, Copy, Debug, PartialEq, Eq)]
@@ -52,59 +83,19 @@ fn byte_option<'a>(alloc: Global, name: &'a str, default: &'a str, help: &'a str
         .help(help)
 }
 
-// The command `repair`, which may promote reads.
-fn repair<'a>(alloc: Global) -> Result<Command<'a>, AllocError>
-    ensures shape { IfOk result (λ c. shape_of c ≡ repair_shape) }
+// A subcommand with one argument.
+fn taking<'a>(
+    alloc: Global,
+    name: &'a str,
+    about: &'a str,
+    argument: Arg<'a>,
+) -> Result<Command<'a>, AllocError>
+    requires { argument.global ≡ false }
+    ensures shape { IfOk result (λ c. shape_of c
+        ≡ command_with name.entry.now (rule_of argument.entry ∷ [])) }
     ensures local { IfOk result (λ c. (fields_of c).has_globals ≡ false) }
 {
-    let promote = flag(
-        alloc,
-        "promote",
-        "Adds no table, and keeps the cells that were read",
-    );
-    plain(
-        alloc,
-        "repair",
-        "Reads a set of programs; writes the canonical text of a robust set whose programs mean the same",
-    )
-    .arg(promote)
-}
-
-// The command `run`, which may ask for a robust set.
-fn run<'a>(alloc: Global) -> Result<Command<'a>, AllocError>
-    ensures shape { IfOk result (λ c. shape_of c ≡ run_shape) }
-    ensures local { IfOk result (λ c. (fields_of c).has_globals ≡ false) }
-{
-    let robust = flag(
-        alloc,
-        "robust",
-        "Runs the script only where the set is robust, and else writes its refusal",
-    );
-    plain(
-        alloc,
-        "run",
-        "Reads a set of programs, a line %% and a script; writes a line for each event, the rows, and an order or a cycle",
-    )
-    .arg(robust)
-}
-
-// The command `work`, which may be told how many workers there are.
-fn work<'a>(alloc: Global) -> Result<Command<'a>, AllocError>
-    ensures shape { IfOk result (λ c. shape_of c ≡ work_shape) }
-    ensures local { IfOk result (λ c. (fields_of c).has_globals ≡ false) }
-{
-    let workers = byte_option(
-        alloc,
-        "workers",
-        "2",
-        "How many workers do jobs at once, from 1 to 8",
-    );
-    plain(
-        alloc,
-        "work",
-        "Reads a robust set of programs, a line %% and jobs; does the jobs at once, and writes how many ended in which way, and the rows",
-    )
-    .arg(workers)
+    plain(alloc, name, about).arg(argument)
 }
 
 // The program's own command, with no subcommand yet.
@@ -112,9 +103,7 @@ fn top<'a>(alloc: Global) -> Result<Command<'a>, AllocError>
     ensures { IfOk result (λ c. app_of c ≡ top_app) }
 {
     Command::new(alloc, "sirob")
-        .about(
-            "Checks, certifies, repairs, runs and audits transaction programs under snapshot isolation, and does jobs of them, from standard input to standard output",
-        )
+        .about(SIROB)
         .subcommand_required(true)
         .bin_name("sirob")
 }
@@ -131,35 +120,22 @@ fn command<'a>(alloc: Global) -> Result<Command<'a>, AllocError>
     ensures { IfOk result (λ c. app_of c ≡ sirob_app) }
 {
     let none = top(alloc)?;
-    let check = plain(
-        alloc,
-        "check",
-        "Reads a set of programs; writes its canonical text, or its first fault",
-    );
+    let check = plain(alloc, "check", CHECK);
     let with_check = add(none, check)?;
-    let certify = plain(
-        alloc,
-        "certify",
-        "Reads a set of programs; writes a certificate that it is robust, or its refusal",
-    );
+    let certify = plain(alloc, "certify", CERTIFY);
     let with_certify = add(with_check, certify)?;
-    let verify = plain(
-        alloc,
-        "verify",
-        "Reads a set of programs, a line %% and a certificate; writes that the set is robust, or the certificate's first fault",
-    );
+    let verify = plain(alloc, "verify", VERIFY);
     let with_verify = add(with_certify, verify)?;
-    let repair = repair(alloc)?;
+    let promote = flag(alloc, "promote", PROMOTE);
+    let repair = taking(alloc, "repair", REPAIR, promote)?;
     let with_repair = add(with_verify, repair)?;
-    let run = run(alloc)?;
+    let robust = flag(alloc, "robust", ROBUST);
+    let run = taking(alloc, "run", RUN, robust)?;
     let with_run = add(with_repair, run)?;
-    let audit = plain(
-        alloc,
-        "audit",
-        "Reads a set of programs, a line %% and records of commits; writes the rows, and an order or a cycle",
-    );
+    let audit = plain(alloc, "audit", AUDIT);
     let with_audit = add(with_run, audit)?;
-    let work = work(alloc)?;
+    let workers = byte_option(alloc, "workers", "2", WORKERS);
+    let work = taking(alloc, "work", WORK, workers)?;
     let with_work = add(with_audit, work)?;
     Ok(with_work)
 }

@@ -10,7 +10,6 @@ mod lines;
 mod parts;
 mod program;
 mod progress;
-mod rows;
 mod run_command;
 mod run_fault;
 mod run_work;
