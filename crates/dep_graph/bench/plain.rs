@@ -340,11 +340,68 @@ fn close(matrix: &mut [bool], size: usize) {
     }
 }
 
+/// For each node a row of bits, one for each node.
+#[derive(Clone)]
+struct Bits {
+    size: usize,
+    width: usize,
+    words: Vec<u64>,
+}
+
+impl Bits {
+    fn new(size: usize) -> Bits {
+        let width = size.div_ceil(64);
+        Bits { size, width, words: vec![0; size * width] }
+    }
+
+    fn get(&self, from: usize, to: usize) -> bool {
+        self.words[from * self.width + to / 64] >> (to % 64) & 1 == 1
+    }
+
+    fn raise(&mut self, from: usize, to: usize) {
+        self.words[from * self.width + to / 64] |= 1 << (to % 64);
+    }
+
+    fn join_row(&mut self, row: usize, through: usize) {
+        let cells = |row: usize| row * self.width..row * self.width + self.width;
+        if let Ok([row, through]) = self.words.get_disjoint_mut([cells(row), cells(through)]) {
+            row.iter_mut().zip(through).for_each(|(to, via)| *to |= *via);
+        }
+    }
+
+    fn next(&self, from: usize, start: usize) -> Option<usize> {
+        let mut at = start;
+        while at < self.size {
+            let (first, rest) = (at / 64 * 64, self.words[from * self.width + at / 64] >> (at % 64));
+            if rest != 0 {
+                return Some(at + rest.trailing_zeros() as usize);
+            }
+            at = first + 64;
+        }
+        None
+    }
+
+    fn close(&mut self) {
+        for through in 0..self.size {
+            for row in 0..self.size {
+                if self.get(row, through) {
+                    self.join_row(row, through);
+                }
+            }
+        }
+    }
+
+    /// The nodes that it joins a node to.
+    fn joined(&self, from: usize) -> impl Iterator<Item = usize> {
+        std::iter::successors(self.next(from, 0), move |node| self.next(from, node + 1))
+    }
+}
+
 struct Graph {
     size: usize,
-    edges: Vec<bool>,
-    vulnerable: Vec<bool>,
-    reach: Vec<bool>,
+    edges: Bits,
+    vulnerable: Bits,
+    reach: Bits,
 }
 
 fn is_vulnerable(entry: &Entry) -> bool {
@@ -352,22 +409,24 @@ fn is_vulnerable(entry: &Entry) -> bool {
 }
 
 fn build(entries: &[Entry], size: usize) -> Graph {
-    let (mut edges, mut vulnerable) = (vec![false; size * size], vec![false; size * size]);
+    let (mut edges, mut vulnerable) = (Bits::new(size), Bits::new(size));
     for entry in entries.iter().filter(|entry| !matches!(entry.verdict, Verdict::Apart(_))) {
         let (x, y) = (entry.question.x, entry.question.y);
         // a read-write question leads there and, as a write-read one, back; so does one of two writes
-        edges[x * size + y] = true;
-        edges[y * size + x] = true;
-        vulnerable[x * size + y] |= is_vulnerable(entry);
+        edges.raise(x, y);
+        edges.raise(y, x);
+        if is_vulnerable(entry) {
+            vulnerable.raise(x, y);
+        }
     }
     let mut reach = edges.clone();
-    (0..size).for_each(|node| reach[node * size + node] = true);
-    close(&mut reach, size);
+    (0..size).for_each(|node| reach.raise(node, node));
+    reach.close();
     Graph { size, edges, vulnerable, reach }
 }
 
 fn level(graph: &Graph, x: usize) -> usize {
-    (0..graph.size).filter(|u| graph.reach[u * graph.size + x]).count()
+    (0..graph.size).filter(|u| graph.reach.get(*u, x)).count()
 }
 
 fn least_way(graph: &Graph, from: usize, end: usize) -> Vec<usize> {
@@ -377,24 +436,22 @@ fn least_way(graph: &Graph, from: usize, end: usize) -> Vec<usize> {
     let mut round = 0;
     while distances[from].is_none() {
         round += 1;
-        let leads =
-            |node: usize| (0..size).any(|next| graph.edges[node * size + next] && distances[next].is_some());
+        let leads = |node: usize| graph.edges.joined(node).any(|next| distances[next].is_some());
         distances = (0..size).map(|node| distances[node].or_else(|| leads(node).then_some(round))).collect();
     }
     let (mut way, mut at, mut left) = (vec![from], from, round);
     while left > 0 {
         left -= 1;
-        at = (0..size).find(|next| graph.edges[at * size + next] && distances[*next] == Some(left)).unwrap();
+        at = graph.edges.joined(at).find(|next| distances[*next] == Some(left)).unwrap();
         way.push(at);
     }
     way
 }
 
 fn least_triple(graph: &Graph) -> Option<(usize, usize, usize)> {
-    let size = graph.size;
-    for x in 0..size {
-        for y in (0..size).filter(|y| graph.vulnerable[x * size + y]) {
-            if let Some(z) = (0..size).find(|z| graph.vulnerable[y * size + z] && graph.reach[z * size + x]) {
+    for x in 0..graph.size {
+        for y in graph.vulnerable.joined(x) {
+            if let Some(z) = graph.vulnerable.joined(y).find(|z| graph.reach.get(*z, x)) {
                 return Some((x, y, z));
             }
         }

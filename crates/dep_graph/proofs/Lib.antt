@@ -11,3 +11,5 @@ pub mod Placing
 pub mod Exposing
 pub mod Rising
 mod Vectors
+pub mod WordRows
+pub mod Nexts

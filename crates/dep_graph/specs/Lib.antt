@@ -6,3 +6,4 @@ pub mod Distances
 pub mod Triple
 pub mod Marks
 pub mod Danger
+pub mod Words

@@ -3,7 +3,7 @@
 ghost use Rattle.std.specs.Prelude.{◌≡◌, ◌↔◌, ◌<◌, length, Option, Some, IfOk, IfSome, IsTrue};
 ghost use Rattle.dep_graph.specs.Distances.{LeadsToKnown, IsNextDistance, AreNextDistances, KnowsWithin};
 
-use prog_paths::Square;
+use crate::bit_matrix::BitMatrix;
 use std::alloc::{AllocError, Global};
 
 /// Whether the distance is known and is so many steps.
@@ -17,22 +17,24 @@ pub fn is_distance(distance: Option<usize>, steps: usize) -> bool
 }
 
 /// Whether an edge leads from the node to one of known distance.
-fn leads_to_known(edges: &Square, distances: &[Option<usize>], node: usize) -> bool
+fn leads_to_known(edges: &BitMatrix, distances: &[Option<usize>], node: usize) -> bool
     requires node { node < edges.now.size }
     requires size { length distances.now ≡ edges.now.size }
     ensures { IsTrue result ↔ LeadsToKnown edges.now distances.now node }
 {
-    for next in 0..distances.len() {
-        if edges.get(node, next) && distances[next].is_some() {
+    let mut start = 0;
+    while let Some(next) = edges.next(node, start) {
+        if distances[next].is_some() {
             return true;
         }
+        start = next + 1;
     }
     false
 }
 
 /// The node's distance after one more round, in which what leads to a known one becomes known.
 fn next_distance(
-    edges: &Square,
+    edges: &BitMatrix,
     distances: &[Option<usize>],
     node: usize,
     round: usize,
@@ -51,7 +53,7 @@ fn next_distance(
 /// The distances after one more round.
 pub fn next_distances(
     alloc: Global,
-    edges: &Square,
+    edges: &BitMatrix,
     distances: &[Option<usize>],
     round: usize,
 ) -> Result<Vec<Option<usize>>, AllocError>
@@ -68,7 +70,7 @@ pub fn next_distances(
 /// The distances before the first round: the end's alone is known.
 pub fn first_distances(
     alloc: Global,
-    edges: &Square,
+    edges: &BitMatrix,
     end: usize,
 ) -> Result<Vec<Option<usize>>, AllocError>
     requires { end < edges.now.size }

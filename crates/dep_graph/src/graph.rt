@@ -10,13 +10,13 @@ ghost use Rattle.dep_graph.specs.Marks.{has_edge, has_vulnerable};
 ghost use Rattle.dep_graph.specs.Marking.{marks_of};
 ghost use Rattle.dep_graph.specs.Danger.{IsLeastDanger};
 
+use crate::bit_matrix::BitMatrix;
 use crate::closure::close;
 use crate::danger::{Danger, first_exposure};
 use crate::least_way::least_way;
-use crate::mark::entry_mark;
+use crate::mark::{enter_edges, enter_vulnerable, entry_mark};
 use crate::triple::least_triple;
 use conflict_pairs::PairTable;
-use prog_paths::{Square, enter_edges, enter_vulnerable};
 use prog_tree::Sequence;
 use std::alloc::{AllocError, Global};
 use std::marker::Model;
@@ -25,9 +25,9 @@ use std::marker::Model;
 #[derive(Drop)]
 pub struct Graph<'a> {
     table: &'a PairTable,
-    edges: Square,
-    vulnerable: Square,
-    reach: Square,
+    edges: BitMatrix,
+    vulnerable: BitMatrix,
+    reach: BitMatrix,
 }
 
 impl<'a> Model for Graph<'a> {
@@ -49,37 +49,39 @@ impl<'a> Model for Graph<'a> {
     } };
 }
 
-fn edges_of(alloc: Global, table: &PairTable) -> Result<Square, AllocError>
-    ensures { IfOk result
-        (λ s. IsSquareOf s table.now.nodes (has_edge (marks_of table.now).marks)) }
-{
-    let mut edges = Square::new(alloc, table.nodes())?;
-    for n in 0..table.len() {
-        enter_edges(&mut edges, entry_mark(table, n));
-    }
-    Ok(edges)
+/// Which nodes are joined by an edge, and which by a vulnerable one.
+#[derive(Drop)]
+struct Edges {
+    all: BitMatrix,
+    vulnerable: BitMatrix,
 }
 
-fn vulnerable_of(alloc: Global, table: &PairTable) -> Result<Square, AllocError>
-    ensures { IfOk result
-        (λ s. IsSquareOf s table.now.nodes (has_vulnerable (marks_of table.now).marks)) }
+/// The edges that a table's questions give.
+fn edges_of(alloc: Global, table: &PairTable) -> Result<Edges, AllocError>
+    ensures all { IfOk result
+        (λ e. IsSquareOf e.all table.now.nodes (has_edge (marks_of table.now).marks)) }
+    ensures vulnerable { IfOk result
+        (λ e. IsSquareOf e.vulnerable table.now.nodes (has_vulnerable (marks_of table.now).marks)) }
 {
-    let mut vulnerable = Square::new(alloc, table.nodes())?;
+    let mut all = BitMatrix::new(alloc, table.nodes())?;
+    let mut vulnerable = BitMatrix::new(alloc, table.nodes())?;
     for n in 0..table.len() {
-        enter_vulnerable(&mut vulnerable, entry_mark(table, n));
+        let mark = entry_mark(table, n);
+        enter_edges(&mut all, mark);
+        enter_vulnerable(&mut vulnerable, mark);
     }
-    Ok(vulnerable)
+    Ok(Edges { all, vulnerable })
 }
 
 /// How many nodes are joined to the node.
-fn column_count(square: &Square, to: usize) -> usize
-    requires { to < square.now.size }
-    ensures count { IsCountOf (λ from. entry square.now from to ≡ true) square.now.size result }
-    ensures within { result ≤ square.now.size }
+fn column_count(matrix: &BitMatrix, to: usize) -> usize
+    requires { to < matrix.now.size }
+    ensures count { IsCountOf (λ from. entry matrix.now from to ≡ true) matrix.now.size result }
+    ensures within { result ≤ matrix.now.size }
 {
     let mut count = 0;
-    for from in 0..square.size() {
-        if square.get(from, to) {
+    for from in 0..matrix.size() {
+        if matrix.get(from, to) {
             count += 1;
         }
     }
@@ -91,8 +93,10 @@ impl<'a> Graph<'a> {
     pub fn build(alloc: Global, table: &'a PairTable) -> Result<Graph<'a>, AllocError>
         ensures { IfOk result (λ g. g ≡ table.now) }
     {
-        let edges = edges_of(alloc, table)?;
-        let vulnerable = vulnerable_of(alloc, table)?;
+        let Edges {
+            all: edges,
+            vulnerable,
+        } = edges_of(alloc, table)?;
         let reach = close(alloc, &edges)?;
         Ok(Graph {
             table,

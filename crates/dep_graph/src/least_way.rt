@@ -6,21 +6,23 @@ ghost use Rattle.prog_paths.specs.Square.{Joins};
 ghost use Rattle.dep_graph.specs.Ways.{IsLeastWay};
 ghost use Rattle.dep_graph.specs.Distances.{distance_at, KnowsWithin, IsLeastNearer, StepsNearer};
 
+use crate::bit_matrix::BitMatrix;
 use crate::distances::{first_distances, is_distance, next_distances};
-use prog_paths::Square;
 use std::alloc::{AllocError, Global};
 
 /// The least node that an edge leads to and that is so many steps from the end.
-fn nearer(edges: &Square, distances: &[Option<usize>], node: usize, steps: usize) -> usize
+fn nearer(edges: &BitMatrix, distances: &[Option<usize>], node: usize, steps: usize) -> usize
     requires node { node < edges.now.size }
     requires size { length distances.now ≡ edges.now.size }
     requires some { (w : ℕ) × StepsNearer edges.now distances.now node steps w }
     ensures { IsLeastNearer edges.now distances.now node steps result }
 {
-    for next in 0..distances.len() {
-        if edges.get(node, next) && is_distance(distances[next], steps) {
+    let mut start = 0;
+    while let Some(next) = edges.next(node, start) {
+        if is_distance(distances[next], steps) {
             return next;
         }
+        start = next + 1;
     }
     unreachable!()
 }
@@ -28,7 +30,7 @@ fn nearer(edges: &Square, distances: &[Option<usize>], node: usize, steps: usize
 /// The way from a node of known distance, always on to the least node that is nearer.
 fn walk(
     alloc: Global,
-    edges: &Square,
+    edges: &BitMatrix,
     distances: &[Option<usize>],
     from: usize,
     steps: usize,
@@ -55,7 +57,7 @@ fn walk(
 /// A shortest way from a node to another that it leads to, the least of these in node order.
 pub fn least_way(
     alloc: Global,
-    edges: &Square,
+    edges: &BitMatrix,
     from: usize,
     end: usize,
 ) -> Result<Vec<usize>, AllocError>

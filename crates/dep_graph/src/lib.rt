@@ -2,6 +2,7 @@
 //! and the least dangerous structure.
 #![tactic(auto)]
 
+mod bit_matrix;
 mod closure;
 mod danger;
 mod distances;

@@ -1,9 +1,10 @@
 //! The least dangerous structure: two vulnerable edges in a row, and a way back.
 
 ghost use Rattle.std.specs.Prelude.{◌≡◌, ℕ, ◌<◌, ◌≤◌, IfSome, IfNone};
+ghost use Rattle.prog_paths.specs.Square.{Joins};
 ghost use Rattle.dep_graph.specs.Triple.{ClosesAt, LeastEnd, LeastPair, IsLeastTriple};
 
-use prog_paths::Square;
+use crate::bit_matrix::BitMatrix;
 
 /// Three nodes in a row.
 #[derive(Clone, Copy)]
@@ -14,41 +15,42 @@ pub struct Triple {
 }
 
 /// The least node that closes a dangerous structure behind `x` and `y`.
-fn least_end(vulnerable: &Square, reach: &Square, x: usize, y: usize) -> Option<usize>
-    requires x { x < vulnerable.now.size }
-    requires y { y < vulnerable.now.size }
+fn least_end(vulnerable: &BitMatrix, reach: &BitMatrix, x: usize, y: usize) -> Option<usize>
+    requires first { Joins vulnerable.now x y }
     requires size { reach.now.size ≡ vulnerable.now.size }
     ensures found { IfSome result (λ z. LeastEnd vulnerable.now reach.now x y z) }
     ensures none { IfNone result ((z : ℕ) → ¬ ClosesAt vulnerable.now reach.now x y z) }
 {
-    if vulnerable.get(x, y) {
-        for z in 0..vulnerable.size() {
-            if vulnerable.get(y, z) && reach.get(z, x) {
-                return Some(z);
-            }
+    let mut start = 0;
+    while let Some(z) = vulnerable.next(y, start) {
+        if reach.get(z, x) {
+            return Some(z);
         }
+        start = z + 1;
     }
     None
 }
 
 /// The least two nodes that make a dangerous structure behind `x`.
-fn least_pair(vulnerable: &Square, reach: &Square, x: usize) -> Option<Triple>
+fn least_pair(vulnerable: &BitMatrix, reach: &BitMatrix, x: usize) -> Option<Triple>
     requires x { x < vulnerable.now.size }
     requires size { reach.now.size ≡ vulnerable.now.size }
     ensures found { IfSome result (λ t. LeastPair vulnerable.now reach.now x t) }
     ensures none { IfNone result
         ((y : ℕ) (z : ℕ) → ¬ ClosesAt vulnerable.now reach.now x y z) }
 {
-    for y in 0..vulnerable.size() {
+    let mut start = 0;
+    while let Some(y) = vulnerable.next(x, start) {
         if let Some(z) = least_end(vulnerable, reach, x, y) {
             return Some(Triple { x, y, z });
         }
+        start = y + 1;
     }
     None
 }
 
 /// The least three nodes that make a dangerous structure.
-pub fn least_triple(vulnerable: &Square, reach: &Square) -> Option<Triple>
+pub fn least_triple(vulnerable: &BitMatrix, reach: &BitMatrix) -> Option<Triple>
     requires { reach.now.size ≡ vulnerable.now.size }
     ensures found { IfSome result (λ t. IsLeastTriple vulnerable.now reach.now t) }
     ensures none { IfNone result

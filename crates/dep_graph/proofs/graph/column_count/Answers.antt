@@ -23,6 +23,6 @@ loop-from-preserved c = elim c.if-get.branch [
 
 pub returns-clause-count : goal.returns-clause-count
 returns-clause-count c =
-    let s = c.args.square.now in
+    let s = c.args.matrix.now in
     let all : c.loop-from.from ≡ s.size = omega arith in
     subst (λ n. IsCountOf (λ from. entry s from c.args.to ≡ true) n c.loop-from.count) all c.loop-from.invariant.counted

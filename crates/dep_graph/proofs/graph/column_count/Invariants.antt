@@ -5,6 +5,6 @@ use Rattle.dep_graph.proofs.graph.column_count.Given as goal
 
 abbrev pub invariant-loop-from : goal.invariant-loop-from
 invariant-loop-from l = record {
-  counted : IsCountOf (λ from. entry l.square from l.to ≡ true) l.from l.count;
+  counted : IsCountOf (λ from. entry l.matrix from l.to ≡ true) l.from l.count;
   within : l.count ≤ l.from;
 }

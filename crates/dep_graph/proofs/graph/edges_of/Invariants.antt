@@ -1,9 +1,12 @@
 use Rattle.std.proofs.Common.{take}
 use Rattle.prog_paths.specs.Square.{IsSquareOf}
-use Rattle.dep_graph.specs.Marks.{has_edge}
+use Rattle.dep_graph.specs.Marks.{has_edge, has_vulnerable}
 use Rattle.dep_graph.specs.Marking.{marks_of}
 use Rattle.dep_graph.proofs.graph.edges_of.Given as goal
 
 -- the questions before `n` are entered
 abbrev pub invariant-loop-n : goal.invariant-loop-n
-invariant-loop-n l = IsSquareOf l.edges l.table.nodes (has_edge (take l.n (marks_of l.table).marks))
+invariant-loop-n l = record {
+  all : IsSquareOf l.all l.table.nodes (has_edge (take l.n (marks_of l.table).marks));
+  vulnerable : IsSquareOf l.vulnerable l.table.nodes (has_vulnerable (take l.n (marks_of l.table).marks));
+}
