@@ -7,7 +7,7 @@ use Rattle.prog_paths.specs.declared.places.Placed.{Placed}
 use Rattle.prog_paths.specs.declared.places.Question.{Question as Asked}
 use Rattle.conflict_pairs.specs.declared.table.Entry.{Entry}
 use Rattle.prog_paths.specs.Asked.{asks, question_between, all_from, asked_by, asked_among}
-use Rattle.conflict_pairs.specs.Table.{Table, IsRightEntry, StandsFor}
+use Rattle.conflict_pairs.specs.Table.{Table, IsRightEntry, AreEntriesOf, StandsFor}
 use Rattle.prog_paths.proofs.Asked.{if_yes, if_no, asked_by-append, asked_among-next}
 
 -- ---- the questions of entries
@@ -31,31 +31,42 @@ asked-none old first second unasked =
 asked_by-next : (first : Placed) (n : ℕ) (xs : List Placed) (d : Placed) → n < length xs → asked_by first (drop n xs) ≡ asked_by first (get_or xs n d ∷ []) ++ asked_by first (drop (n + 1) xs)
 asked_by-next first n xs d lt = ap (asked_by first) (drop_more xs n d lt) ∙ asked_by-append first (get_or xs n d ∷ []) (drop (n + 1) xs)
 
-pub asked-more : (old new : List Entry) (whole : List Asked) (first : Placed) (n : ℕ) (xs : List Placed) (d : Placed) → n < length xs → questions_in new ≡ questions_in old ++ asked_by first (get_or xs n d ∷ []) → questions_in old ++ asked_by first (drop n xs) ≡ whole → questions_in new ++ asked_by first (drop (n + 1) xs) ≡ whole
+-- a list of questions, with what one access asks of one place more, of no place more, and of one part more
+pub asked-more : (old new whole : List Asked) (first : Placed) (n : ℕ) (xs : List Placed) (d : Placed) → n < length xs → new ≡ old ++ asked_by first (get_or xs n d ∷ []) → old ++ asked_by first (drop n xs) ≡ whole → new ++ asked_by first (drop (n + 1) xs) ≡ whole
 asked-more old new whole first n xs d lt added h =
     ap (λ (l : List Asked). l ++ asked_by first (drop (n + 1) xs)) added
-    ∙ append_assoc (questions_in old) (asked_by first (get_or xs n d ∷ [])) (asked_by first (drop (n + 1) xs))
-    ∙ ap (λ (l : List Asked). questions_in old ++ l) (sym (asked_by-next first n xs d lt))
+    ∙ append_assoc old (asked_by first (get_or xs n d ∷ [])) (asked_by first (drop (n + 1) xs))
+    ∙ ap (λ (l : List Asked). old ++ l) (sym (asked_by-next first n xs d lt))
     ∙ h
 
-pub asked-end : (old : List Entry) (whole : List Asked) (first : Placed) (n : ℕ) (xs : List Placed) → length xs ≤ n → questions_in old ++ asked_by first (drop n xs) ≡ whole → questions_in old ≡ whole
-asked-end old whole first n xs le h = sym (append-nil (questions_in old)) ∙ ap (λ (l : List Placed). questions_in old ++ asked_by first l) (sym (drop_all n xs le)) ∙ h
+pub asked-yes : (old new whole : List Asked) (first : Placed) (n : ℕ) (xs : List Placed) (d : Placed) → n < length xs → asks first (get_or xs n d) ≡ true → new ≡ old ++ question_between first (get_or xs n d) ∷ [] → old ++ asked_by first (drop n xs) ≡ whole → new ++ asked_by first (drop (n + 1) xs) ≡ whole
+asked-yes old new whole first n xs d lt asked added h =
+    asked-more old new whole first n xs d lt
+    (added ∙ ap (λ (l : List Asked). old ++ l) (sym (if_yes (asks first (get_or xs n d)) (question_between first (get_or xs n d)) [] asked))) h
 
-pub among-more : (old new : List Entry) (whole : List Asked) (n : ℕ) (xs seconds : List Placed) (d : Placed) → n < length xs → questions_in new ≡ questions_in old ++ asked_by (get_or xs n d) seconds → questions_in old ++ asked_among (drop n xs) seconds ≡ whole → questions_in new ++ asked_among (drop (n + 1) xs) seconds ≡ whole
+pub asked-no : (old new whole : List Asked) (first : Placed) (n : ℕ) (xs : List Placed) (d : Placed) → n < length xs → asks first (get_or xs n d) ≡ false → new ≡ old → old ++ asked_by first (drop n xs) ≡ whole → new ++ asked_by first (drop (n + 1) xs) ≡ whole
+asked-no old new whole first n xs d lt unasked same_list h =
+    asked-more old new whole first n xs d lt
+    (same_list ∙ sym (append-nil old) ∙ ap (λ (l : List Asked). old ++ l) (sym (if_no (asks first (get_or xs n d)) (question_between first (get_or xs n d)) [] unasked))) h
+
+pub asked-end : (old whole : List Asked) (first : Placed) (n : ℕ) (xs : List Placed) → length xs ≤ n → old ++ asked_by first (drop n xs) ≡ whole → old ≡ whole
+asked-end old whole first n xs le h = sym (append-nil old) ∙ ap (λ (l : List Placed). old ++ asked_by first l) (sym (drop_all n xs le)) ∙ h
+
+pub among-more : (old new whole : List Asked) (n : ℕ) (xs seconds : List Placed) (d : Placed) → n < length xs → new ≡ old ++ asked_by (get_or xs n d) seconds → old ++ asked_among (drop n xs) seconds ≡ whole → new ++ asked_among (drop (n + 1) xs) seconds ≡ whole
 among-more old new whole n xs seconds d lt added h =
     ap (λ (l : List Asked). l ++ asked_among (drop (n + 1) xs) seconds) added
-    ∙ append_assoc (questions_in old) (asked_by (get_or xs n d) seconds) (asked_among (drop (n + 1) xs) seconds)
-    ∙ ap (λ (l : List Asked). questions_in old ++ l) (sym (asked_among-next n xs seconds d lt))
+    ∙ append_assoc old (asked_by (get_or xs n d) seconds) (asked_among (drop (n + 1) xs) seconds)
+    ∙ ap (λ (l : List Asked). old ++ l) (sym (asked_among-next n xs seconds d lt))
     ∙ h
 
-pub among-end : (old : List Entry) (whole : List Asked) (n : ℕ) (xs seconds : List Placed) → length xs ≤ n → questions_in old ++ asked_among (drop n xs) seconds ≡ whole → questions_in old ≡ whole
-among-end old whole n xs seconds le h = sym (append-nil (questions_in old)) ∙ ap (λ (l : List Placed). questions_in old ++ asked_among l seconds) (sym (drop_all n xs le)) ∙ h
+pub among-end : (old whole : List Asked) (n : ℕ) (xs seconds : List Placed) → length xs ≤ n → old ++ asked_among (drop n xs) seconds ≡ whole → old ≡ whole
+among-end old whole n xs seconds le h = sym (append-nil old) ∙ ap (λ (l : List Placed). old ++ asked_among l seconds) (sym (drop_all n xs le)) ∙ h
 
 -- ---- the table
 
-pub StandsFor-from : (table : Table) (paths : List Path) (places : List Placed) (entries : List Entry) → table.nodes ≡ length paths → table.entries ≡ entries → places ≡ all_from 0 paths → questions_in entries ≡ asked_among places places → All (λ e. IsRightEntry paths e) entries → StandsFor table paths
-StandsFor-from table paths places entries nodes is all questions right = record {
+pub StandsFor-from : (table : Table) (paths : List Path) (places : List Placed) (entries : List Entry) → table.nodes ≡ length paths → table.entries ≡ entries → places ≡ all_from 0 paths → AreEntriesOf paths (asked_among places places) entries → StandsFor table paths
+StandsFor-from table paths places entries nodes is all h = record {
   nodes = nodes;
-  questions = ap questions_in is ∙ questions ∙ (λ i. asked_among (all i) (all i));
-  right = subst (λ (l : List Entry). All (λ e. IsRightEntry paths e) l) (sym is) right;
+  questions = ap questions_in is ∙ h.questions ∙ (λ i. asked_among (all i) (all i));
+  right = subst (λ (l : List Entry). All (λ e. IsRightEntry paths e) l) (sym is) h.right;
 }

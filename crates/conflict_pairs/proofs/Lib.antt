@@ -3,6 +3,8 @@ pub mod Trimming
 pub mod Covering
 pub mod Meaning
 pub mod Entries
+pub mod Collecting
+pub mod Parts
 pub mod Moving
 pub mod Exactness
 pub mod Conditions

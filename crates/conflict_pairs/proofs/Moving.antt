@@ -10,9 +10,11 @@ use Rattle.prog_check.specs.declared.path.Access.{Access}
 use Rattle.prog_check.specs.declared.path.Path.{Path}
 use Rattle.prog_paths.specs.StaticGraph.{Question, IsAccessOf, IsCovered}
 use Rattle.prog_paths.specs.declared.places.Placed.{Placed}
+use Rattle.prog_paths.specs.declared.places.Question.{Question as Asked}
 use Rattle.conflict_pairs.specs.declared.outcome.Verdict.{Verdict}
 use Rattle.conflict_pairs.specs.declared.outcome.Verdict.TheVariants.{Apart, Covered, Exposed}
-use Rattle.prog_paths.specs.Asked.{Asks, IsQuestion, ChangesSingleCells, two, between, asks, kinds_depend, both_write, is_in_order}
+use Rattle.prog_paths.specs.Asked.{Asks, IsQuestion, ChangesSingleCells, two, between, asks, kinds_depend, both_write, is_in_order, numbers_of}
+use Rattle.conflict_pairs.specs.Table.{IsAsked}
 use Rattle.conflict_pairs.specs.Verdicts.{IsCoveredBy, IsRightOf, IsRight}
 use Rattle.prog_paths.specs.Places.{IsAt}
 use Rattle.prog_paths.proofs.Membership.{both_true, either_true, depends-Asks}
@@ -118,3 +120,31 @@ IsRight-placed paths first second x y at_first at_second is_x is_y v h =
     IsRight-there paths x y first.node first.number second.node second.number
     (at_first.1 ∙ ap Some (sym (is_x ∙ path_is paths first x at_first)))
     (at_second.1 ∙ ap Some (sym (is_y ∙ path_is paths second y at_second))) v h
+
+-- ---- the same of a question that is asked
+
+module _ (paths : List Path) (q : Asked) (asked : IsAsked paths q) where
+  pub first_node_within : q.x < length paths
+  first_node_within = subst (λ (r : Asked). r.x < length paths) (sym asked.is) (node_within paths asked.first asked.at_first)
+
+  pub second_node_within : q.y < length paths
+  second_node_within = subst (λ (r : Asked). r.y < length paths) (sym asked.is) (node_within paths asked.second asked.at_second)
+
+  pub single-first : (path : Path) → All ChangesSingleCells paths → path ≡ get_or paths q.x path → ChangesSingleCells path
+  single-first path h is = single_of paths asked.first path h asked.at_first (is ∙ ap (λ (r : Asked). get_or paths r.x path) asked.is)
+
+  pub single-second : (path : Path) → All ChangesSingleCells paths → path ≡ get_or paths q.y path → ChangesSingleCells path
+  single-second path h is = single_of paths asked.second path h asked.at_second (is ∙ ap (λ (r : Asked). get_or paths r.y path) asked.is)
+
+  pub IsQuestion-asked : (x y : Path) → x ≡ get_or paths q.x x → y ≡ get_or paths q.y y → IsQuestion (two x y) (between q.a q.b)
+  IsQuestion-asked x y is_x is_y =
+      subst (λ (r : Asked). IsQuestion (two x y) (between r.a r.b)) (sym asked.is)
+      (IsQuestion-between paths asked.first asked.second x y asked.at_first asked.at_second asked.asks_it
+      (is_x ∙ ap (λ (r : Asked). get_or paths r.x x) asked.is) (is_y ∙ ap (λ (r : Asked). get_or paths r.y y) asked.is))
+
+  pub IsRight-asked : (x y : Path) → x ≡ get_or paths q.x x → y ≡ get_or paths q.y y → (v : Verdict) → IsRight (two x y) (between q.a q.b) v → IsRight paths (numbers_of q) v
+  IsRight-asked x y is_x is_y v h =
+      subst (λ (r : Asked). IsRight paths (numbers_of r) v) (sym asked.is)
+      (IsRight-placed paths asked.first asked.second x y asked.at_first asked.at_second
+      (is_x ∙ ap (λ (r : Asked). get_or paths r.x x) asked.is) (is_y ∙ ap (λ (r : Asked). get_or paths r.y y) asked.is) v
+      (subst (λ (r : Asked). IsRight (two x y) (between r.a r.b) v) asked.is h))

@@ -10,8 +10,10 @@ mod cover;
 mod fault;
 mod judge;
 mod law;
+mod limits;
 mod listing;
 mod outcome;
+mod parallel;
 mod table;
 
 pub use chain::Chain;
@@ -21,5 +23,6 @@ pub use judge::verdict;
 pub use law::law_of_verdicts;
 pub use listing::pairs;
 pub use outcome::Verdict;
+pub use parallel::pairs_par;
 pub use prog_paths::Question;
 pub use table::PairTable;

@@ -109,5 +109,6 @@ pub fn pairs(alloc: Global, paths: &[Path]) -> Result<PairTable, PairFault>
     }
     let places = all_places(alloc, paths)?;
     let entries = all_entries(alloc, paths, &places)?;
-    Ok(PairTable::of(paths.len(), entries))
+    let table = PairTable::of_one(alloc, paths.len(), entries)?;
+    Ok(table)
 }

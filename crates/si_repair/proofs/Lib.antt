@@ -2,6 +2,7 @@ pub mod Members
 pub mod Telling
 pub mod Leaving
 pub mod Accepting
+pub mod Analysing
 pub mod Smallness
 pub mod Fitting
 pub mod Searching

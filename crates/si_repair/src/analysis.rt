@@ -1,19 +1,36 @@
 //! The analysis of a set.
-ghost use Rattle.std.specs.Prelude.{◌≡◌, ◌<◌, ◌≤◌, length, IfOk, OnOk, Err};
+ghost use Rattle.std.specs.Prelude.{◌≡◌, ◌<◌, ◌≤◌, List, length, IfOk, OnOk, Err};
 ghost use Rattle.prog_tree.specs.Tree.{draft_tree};
+ghost use Rattle.prog_check.specs.declared.path.Path.{Path};
 ghost use Rattle.prog_check.specs.Paths.{paths_of};
 ghost use Rattle.prog_paths.specs.Asked.{questions_of, limit};
+ghost use Rattle.conflict_pairs.specs.Table.{StandsFor};
 ghost use Rattle.si_repair.specs.declared.fault.AnalyseFault as AnalyseFault;
 ghost use Rattle.si_repair.specs.Findings.{IsRightFinding};
+ghost use Rattle.si_repair.specs.Telling.{IsOfFew};
 
 use crate::fault::AnalyseFault;
 use crate::finding::Finding;
 use crate::writing::certificate_of;
-use conflict_pairs::pairs;
+use conflict_pairs::{PairTable, pairs, pairs_par};
 use dep_graph::Graph;
 use prog_check::ProgramSet;
 use prog_paths::paths;
-use std::alloc::Global;
+use std::alloc::{AllocError, Global};
+use std::thread::Threads;
+
+/// What the table of all questions comes to.
+fn finding_of(alloc: Global, table: &PairTable) -> Result<Finding, AllocError>
+    requires { IsOfFew table.now }
+    ensures { IfOk result (λ finding. (paths : List Path) → StandsFor table.now paths
+        → length (questions_of paths) ≤ limit → IsRightFinding paths finding) }
+{
+    let graph = Graph::build(alloc, table)?;
+    match graph.danger()? {
+        Some(danger) => Ok(Finding::Refused(danger)),
+        None => Ok(Finding::Robust(certificate_of(alloc, table, &graph)?)),
+    }
+}
 
 /// The certificate that a set is robust, or its least dangerous structure.
 pub fn certify(alloc: Global, set: &ProgramSet) -> Result<Finding, AnalyseFault>
@@ -26,9 +43,25 @@ pub fn certify(alloc: Global, set: &ProgramSet) -> Result<Finding, AnalyseFault>
 {
     let paths = paths(alloc, set)?;
     let table = pairs(alloc, &paths)?;
-    let graph = Graph::build(alloc, &table)?;
-    match graph.danger()? {
-        Some(danger) => Ok(Finding::Refused(danger)),
-        None => Ok(Finding::Robust(certificate_of(alloc, &table, &graph)?)),
-    }
+    let finding = finding_of(alloc, &table)?;
+    Ok(finding)
+}
+
+/// As `certify`; where there are many questions, several threads answer them.
+pub fn certify_par(
+    rt: &(impl Threads + Sync),
+    alloc: Global,
+    set: &ProgramSet,
+) -> Result<Finding, AnalyseFault>
+    ensures finding { IfOk result
+        (λ finding. IsRightFinding (paths_of (draft_tree set.now)) finding) }
+    ensures in_bounds { OnOk result
+        (length (questions_of (paths_of (draft_tree set.now))) ≤ limit) }
+    ensures too_large { result ≡ Err AnalyseFault.TooLarge
+        → limit < length (questions_of (paths_of (draft_tree set.now))) }
+{
+    let paths = paths(alloc, set)?;
+    let table = pairs_par(rt, alloc, &paths)?;
+    let finding = finding_of(alloc, &table)?;
+    Ok(finding)
 }

@@ -9,7 +9,7 @@ mod plans;
 mod repairs;
 mod writing;
 
-pub use analysis::certify;
+pub use analysis::{certify, certify_par};
 pub use fault::AnalyseFault;
 pub use finding::Finding;
 pub use plans::Plan;

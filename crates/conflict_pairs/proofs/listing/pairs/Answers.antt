@@ -11,5 +11,5 @@ all_entries-requires-clause-places c =
 
 pub returns-clause-table : goal.returns-clause-table
 returns-clause-table c =
-    StandsFor-from c.of.result c.args.paths.now c.deref.result.now c.in_ok-entries.entries.items c.of.ensures.nodes c.of.ensures.entries
-    (c.deref.ensures.value ∙ c.in_ok-places.ensures) c.in_ok-entries.ensures.questions c.in_ok-entries.ensures.right
+    StandsFor-from c.in_ok-table.table c.args.paths.now c.deref.result.now c.in_ok-entries.entries.items c.in_ok-table.ensures.nodes c.in_ok-table.ensures.entries
+    (c.deref.ensures.value ∙ c.in_ok-places.ensures) (record { questions = c.in_ok-entries.ensures.questions; right = c.in_ok-entries.ensures.right })
