@@ -1,4 +1,4 @@
-//! Lists of jobs, run by workers over one store under one lock, and then compared with what the store kept.
+//! Lists of jobs, run by workers over one store under one lock, which looks share, and then compared with what the store kept.
 use crate::engine::{Cause, Cell, Run, Snapshots, Stop, Store};
 use crate::order::{Order, Trace, serial_order};
 use crate::program::Set;
@@ -6,7 +6,7 @@ use crate::script;
 use std::collections::BTreeMap;
 use std::fmt::Write;
 use std::ops::RangeInclusive;
-use std::sync::Mutex;
+use std::sync::RwLock;
 use std::sync::atomic::{AtomicUsize, Ordering};
 use std::thread;
 
@@ -81,16 +81,16 @@ impl Book {
     }
 }
 
-/// Each look takes the lock.
-struct Shared(Mutex<Book>);
+/// Looks share the lock, and each other call has it alone.
+struct Shared(RwLock<Book>);
 
 impl Snapshots for Shared {
     fn get(&self, start: u64, cell: &Cell) -> Option<i64> {
-        self.0.lock().unwrap().store.get(start, cell)
+        self.0.read().unwrap().store.get(start, cell)
     }
 
     fn each_row(&self, start: u64, ends: RangeInclusive<Cell>, see: impl FnMut(&Cell, i64)) {
-        self.0.lock().unwrap().store.each_row(start, ends, see)
+        self.0.read().unwrap().store.each_row(start, ends, see)
     }
 }
 
@@ -123,7 +123,7 @@ fn try_once(set: &Set, shared: &Shared, job: &Job) -> Option<End> {
     if program.params != job.args.len() {
         return Some(End::Refused);
     }
-    let begun = shared.0.lock().unwrap().begin();
+    let begun = shared.0.write().unwrap().begin();
     let Some((number, start)) = begun else {
         return Some(End::Refused);
     };
@@ -131,7 +131,7 @@ fn try_once(set: &Set, shared: &Shared, job: &Job) -> Option<End> {
     let aborted = finish(&mut run, shared);
     let replies = run.replies.clone();
     let row = Row { program: job.program, args: job.args.clone(), replies: replies.clone() };
-    let mut book = shared.0.lock().unwrap();
+    let mut book = shared.0.write().unwrap();
     if aborted.is_some() {
         book.abort(number, row);
         return Some(End::Aborted);
@@ -158,7 +158,7 @@ fn work(set: &Set, shared: &Shared, jobs: &[Job], next: &AtomicUsize) -> Vec<(us
         };
         reports.push((number, run_job(set, shared, job)));
         if reports.len() % VACUUM_AFTER == 0 {
-            shared.0.lock().unwrap().vacuum();
+            shared.0.write().unwrap().vacuum();
         }
     }
 }
@@ -246,7 +246,7 @@ pub fn run(set: &Set, lines: &str, workers: usize, out: &mut String) {
         traces: Vec::new(),
         floor: 0,
     };
-    let (shared, next) = (Shared(Mutex::new(book)), AtomicUsize::new(0));
+    let (shared, next) = (Shared(RwLock::new(book)), AtomicUsize::new(0));
     let done = thread::scope(|scope| {
         let started: Vec<_> = (0..workers).map(|_| scope.spawn(|| work(set, &shared, &jobs, &next))).collect();
         started.into_iter().map(|handle| handle.join().unwrap()).collect()

@@ -10,6 +10,7 @@ use denote.Struct.Tuple.{TupleAt, field_at, type_at}
 use denote.Param.Send.{IsSend, IsSync, AllSend, recorded_send, shr_send, shr_slice_send, struct_send, view_send, view_sync, sendable}
 use Rattle.std.proofs.Crossing as std
 use Rattle.std.proofs.MapsCrossing as maps
+use Rattle.std.proofs.sync.RwLock.TheSendSync as lock-crossing
 use Rattle.std.specs.contracts.alloc.Global as heap
 use Rattle.std.proofs.alloc.Global.TheSendSync as heap-crossing
 use Rattle.job_counter.specs.contracts.Counter as counter
@@ -54,8 +55,23 @@ book-send a =
       sendable,
     ) depth 60 fits 20000)
 
+pub book-sync : (a : NamedLft) → IsSync (book.the_row a)
+book-sync a =
+    view_sync (book-inside.the_row a) _ _ _ _ (search (
+      set-sync,
+      store-crossing.the_sync,
+      active-crossing.the_sync,
+      ending-crossing.the_sync,
+      row-crossing.the_sync,
+      trace-crossing.the_sync,
+      std.crosses,
+      maps.crosses,
+      sendable,
+    ) depth 60 fits 20000)
+
+-- readers of the book share it
 pub shared-sync : (a : NamedLft) → IsSync (shared.the_row a)
-shared-sync a = search (book-send, std.crosses, sendable) depth 60 fits 20000
+shared-sync a = search (book-send, book-sync, lock-crossing.the_field_sync, std.crosses, sendable) depth 60 fits 20000
 
 job-sync : IsSync job.the_row
 job-sync = search (job-crossing.the_sync, std.crosses, sendable) depth 60 fits 20000

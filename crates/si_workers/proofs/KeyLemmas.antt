@@ -1,5 +1,5 @@
 -- Keys that compare equal, and tallies of them.
-use Rattle.std.proofs.Common.{◌≡◌, ℕ, ◌+◌, ◌<◌, length, take, get_or, min, refl, sym, ap, ◌∙◌, Bool, true, false, ◌&&◌, ◌==◌, List, [], ◌∷◌, ℤ, arith, if◌then◌else◌}
+use Rattle.std.proofs.Common.{◌≡◌, ℕ, ◌+◌, ◌<◌, ◌≤◌, length, take, get_or, min, refl, sym, ap, ◌∙◌, Bool, true, false, ◌&&◌, ◌==◌, List, [], ◌∷◌, ℤ, arith, if◌then◌else◌}
 use Rattle.std.specs.Cmp.Lexicographic.{slice_cmp, pointwise}
 use Rattle.std.specs.Ordering.{nat_cmp, int_cmp, int_eq, ordering_then, is_eq}
 use Rattle.std.specs.declared.cmp.Ordering.{Ordering}
@@ -97,9 +97,10 @@ pub clash_noted : (key q : ClashKey) (call : Call) (on : Clash) (old new : ℕ) 
 clash_noted key q call on old new test e f t n =
     n ∙ ap (λ b. counted_if b 1 old) (clash-tie key q ∙ (λ i. is_same_call (call_at q.call) (e i) && is_same_clash (clash_at q) (f i)) ∙ sym t)
 
--- a number was noted
-pub number_noted : (key q old new : ℕ) → new ≡ more nat_cmp key 1 q old → new ≡ counted_if (q == key) 1 old
-number_noted key q old new n = n ∙ ap (λ b. counted_if b 1 old) (nat-tie key q)
+-- nothing is counted more where it is noted no times
+pub none_noted : (test : Bool) (times count : ℕ) → times ≡ 0 → count ≤ most → count ≡ counted_if test times count
+none_noted true times count none few = omega arith
+none_noted false times count none few = refl
 
 -- one more element of a list was counted
 pub tally-step : {X : Type 0} (test : X → Bool) (times : X → ℕ) (xs : List X) (i : ℕ) (x : X) (old new : ℕ) → i < length xs → x ≡ get_or xs i x → old ≡ min (sum_by (λ x. if test x then times x else 0) (take i xs)) most → new ≡ counted_if (test x) (times x) old → new ≡ min (sum_by (λ x. if test x then times x else 0) (take (i + 1) xs)) most

@@ -58,7 +58,7 @@ module _ (set : Draft) (opening : TableState) (jobs : List Job) (workers : ℕ) 
   conclude-settled outcomes (Err (Memory book)) lack right concluded = concluded
 
   -- outcomes and book correspond where work is settled well
-  pub correspond-settled : (r : Result Finished WorkFault) → 0 < workers → IsSettled set opening jobs workers done v r → IfOk r (λ finished. OutcomesCorrespond set opening jobs finished.outcomes finished.book)
+  correspond-settled : (r : Result Finished WorkFault) → 0 < workers → IsSettled set opening jobs workers done v r → IfOk r (λ finished. OutcomesCorrespond set opening jobs finished.outcomes finished.book)
   correspond-settled (Ok finished) some settled =
       let all = jobs-some (length done) jobs (omega (arith, some, settled.1)) in
       subst (λ (book : BookView). OutcomesCorrespond set opening jobs finished.outcomes book) (sym settled.2)
@@ -66,7 +66,7 @@ module _ (set : Draft) (opening : TableState) (jobs : List Job) (workers : ℕ) 
   correspond-settled (Err fault) some settled = tt
 
   -- what is handed out where work is settled by a fault
-  pub fault-settled : (r : Result Finished WorkFault) → AreTaken workers jobs → IsTrueBook v → IsSettled set opening jobs workers done v r → IfErr r (IsWorkFault set opening jobs workers)
+  fault-settled : (r : Result Finished WorkFault) → AreTaken workers jobs → IsTrueBook v → IsSettled set opening jobs workers done v r → IfErr r (IsWorkFault set opening jobs workers)
   fault-settled (Ok finished) taken holds settled = tt
   fault-settled (Err Workers) taken holds settled = absurd settled
   fault-settled (Err TooManyJobs) taken holds settled = absurd settled
@@ -88,3 +88,14 @@ module _ (set : Draft) (opening : TableState) (jobs : List Job) (workers : ℕ) 
     where
       some-same : (a b : BookView) → Some a ≡ Some b → a ≡ b
       some-same a b e = cc
+
+-- what is promised of work that was settled over rows that are those it was opened with
+pub promised :
+    (set : Draft) (opening kept : TableState) (jobs : List Job) (workers : ℕ) (done : List Done) (v : BookView) (r : Result Finished WorkFault) →
+    kept ≡ opening → AreTaken workers jobs → IsTrueBook v → IsSettled set kept jobs workers done v r →
+    IfOk r (λ finished. OutcomesCorrespond set opening jobs finished.outcomes finished.book) × IfErr r (IsWorkFault set opening jobs workers)
+promised set opening kept jobs workers done v r same taken holds over_kept =
+    let settled = subst (λ (o : TableState). IsSettled set o jobs workers done v r) same over_kept in (
+      correspond-settled set opening jobs workers done v r taken.number.0 settled,
+      fault-settled set opening jobs workers done v r taken holds settled,
+    )

@@ -34,24 +34,12 @@ job_of draft line (word ∷ name ∷ words) = do
   program ← ok_or (number_named (program_names draft) name) (UnknownName line)
   Ok (record { program = program; args = args; retries = retries })
 
--- the words behind `row`, in a list of jobs
-unfoldable pub row_in_jobs : DraftTree → (line : ℕ) → List (List ℕ) → Result JobLine LineFault
-row_in_jobs draft line words = do
-  row ← row_line_of draft line words
-  Ok (says.Row row)
-
--- the words behind `job`, in a list of jobs
-unfoldable pub job_in_jobs : DraftTree → (line : ℕ) → List (List ℕ) → Result JobLine LineFault
-job_in_jobs draft line words = do
-  job ← job_of draft line words
-  Ok (says.Job job)
-
 -- the words of a line that is not skipped; the first says what it is
 unfoldable pub job_line_of : DraftTree → (line : ℕ) → List (List ℕ) → Result JobLine LineFault
 job_line_of draft line [] = Err (BadLine line)
 job_line_of draft line (word ∷ words) =
-    if bytes_eq word (codes "row") then row_in_jobs draft line words
-    else if bytes_eq word (codes "job") then job_in_jobs draft line words
+    if bytes_eq word (codes "row") then row_line_of draft line words >>= (λ row. Ok (says.Row row))
+    else if bytes_eq word (codes "job") then job_of draft line words >>= (λ job. Ok (says.Job job))
     else Err (BadLine line)
 
 -- a line of a list of jobs, with its number

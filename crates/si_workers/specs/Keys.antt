@@ -1,5 +1,5 @@
 -- Keys of maps: what they stand for, and how often each was counted.
-use Rattle.std.specs.Prelude.{◌≡◌, ℕ, ◌+◌, ◌<◌, min, Bool, List, length, if◌then◌else◌}
+use Rattle.std.specs.Prelude.{◌≡◌, ℕ, ◌+◌, ◌<◌, min, Bool, List, length, slice_index_or, if◌then◌else◌}
 use Rattle.std.specs.Cmp.Lexicographic.{slice_cmp}
 use Rattle.std.specs.Ordering.{nat_cmp, int_cmp, ordering_then}
 use Rattle.std.specs.declared.cmp.Ordering.{Ordering}
@@ -56,8 +56,9 @@ calls_at = count_in call_cmp
 abbrev pub clashes_at : List (ClashKey × ℕ) → ClashKey → ℕ
 clashes_at = count_in clash_cmp
 
-abbrev pub numbers_at : List (ℕ × ℕ) → ℕ → ℕ
-numbers_at = count_in nat_cmp
+-- of numbers from 1 on, how often the one that so many are before was noted
+abbrev pub noted_at : List ℕ → (before : ℕ) → ℕ
+noted_at counts before = slice_index_or counts before 0
 
 -- what a count comes to where so many more are counted by a test
 abbrev pub counted_if : Bool → (times count : ℕ) → ℕ
@@ -75,9 +76,9 @@ TalliesAborts times tally = (q : AbortKey) → aborts_at tally q ≡ min (times 
 abbrev pub TalliesClashes : (Call → Clash → ℕ) → List (ClashKey × ℕ) → Type 0
 TalliesClashes times tally = (q : ClashKey) → clashes_at tally q ≡ min (times (call_at q.call) (clash_at q)) most
 
--- likewise each number
-abbrev pub TalliesNumbers : (ℕ → ℕ) → List (ℕ × ℕ) → Type 0
-TalliesNumbers times tally = (number : ℕ) → numbers_at tally number ≡ min (times number) most
+-- likewise each of so many numbers from 1 on
+abbrev pub TalliesNumbers : (ℕ → ℕ) → List ℕ → Type 0
+TalliesNumbers times counts = (n : ℕ) → n < length counts → noted_at counts n ≡ min (times (n + 1)) most
 
 -- so few that a u64 tells each count of them
 abbrev pub AreFew : {X : Type 0} → List X → Type 0

@@ -1,11 +1,10 @@
 //! What workers tell of jobs, compared with a book.
 
 ghost use Rattle.std.specs.Prelude.{◌≡◌, ◌↔◌, ℕ, All, IsTrue, IfOk, IfNone, IfSome, length};
-ghost use Rattle.std.specs.Option.{IsSomeAnd};
-ghost use Rattle.history_book.specs.View.{nth_row};
+ghost use Rattle.si_workers.specs.Counted.{AreCountsOf};
 ghost use Rattle.si_workers.specs.Counting.{commits_told};
 ghost use Rattle.si_workers.specs.Calls.{call_of};
-ghost use Rattle.si_workers.specs.Outcomes.{AreAsMany, AreClashesTold, AreCommitsTold, AreRightTries, Correspond, IsAllOfJobs, IsBroken, IsClashTold, IsFirstFallen, IsOfSomeJob, IsOver, IsRecordOf, IsRightEnd, IsRightRefusal, Stands};
+ghost use Rattle.si_workers.specs.Outcomes.{AreAsMany, AreClashesTold, AreCommitsTold, AreRightTries, Correspond, IsAllOfJobs, IsBroken, IsClashTold, IsCommitOf, IsFirstFallen, IsNamedOnce, IsOfSomeJob, IsOver, IsRecordOf, IsRightEnd, IsRightRefusal, Stands};
 
 use crate::call::CallKey;
 use crate::counted::Counts;
@@ -40,13 +39,30 @@ fn is_record_of(row: &HistoryRow, job: &Job, replies: &[i64]) -> bool
 
 // Whether the commit of a number is of the job, with these replies.
 fn is_commit_of(book: &Book<'_>, number: u64, job: &Job, replies: &[i64]) -> bool
-    ensures { IsTrue result
-        ↔ IsSomeAnd (nth_row book.now.rows number) (IsRecordOf job.now replies.now) }
+    ensures { IsTrue result ↔ IsCommitOf book.now.rows number job.now replies.now }
 {
     match book.nth_commit(number) {
         Some(row) => is_record_of(row, job, replies),
         None => false,
     }
+}
+
+// The same, where no other job names it.
+fn is_own_commit(
+    book: &Book<'_>,
+    counts: &Counts<'_>,
+    number: u64,
+    job: &Job,
+    replies: &[i64],
+) -> bool
+    requires of_book { AreCountsOf book.now counts.now }
+    ensures { IsTrue result ↔ (IsCommitOf book.now.rows number job.now replies.now
+        × IsNamedOnce counts.now.tidings number) }
+{
+    if !is_commit_of(book, number, job, replies) {
+        return false;
+    }
+    counts.is_named_once(number)
 }
 
 fn is_right_refusal(book: &Book<'_>, job: &Job, fault: BeginFault) -> bool
@@ -65,14 +81,12 @@ fn is_right_refusal(book: &Book<'_>, job: &Job, fault: BeginFault) -> bool
 }
 
 fn is_right_end<'c>(book: &Book<'_>, counts: &Counts<'c>, job: &'c Job, end: &JobEnd) -> bool
-    requires same { counts.now.endings ≡ book.now.endings }
+    requires of_book { AreCountsOf book.now counts.now }
     ensures { IsTrue result ↔ IsRightEnd book.now counts.now.tidings job.now end.now }
 {
     match end {
         JobEnd::Committed { number, replies } => {
-            let record = is_commit_of(book, *number, job, replies.as_slice());
-            let once = counts.is_named_once(*number);
-            record && once
+            is_own_commit(book, counts, *number, job, replies.as_slice())
         }
         JobEnd::Aborted(cause) => counts.are_aborts_told(CallKey::job(job), *cause),
         JobEnd::Clashed(clash) => counts.is_clash_kept(CallKey::job(job), *clash),
@@ -91,7 +105,7 @@ fn are_right_tries(retries: u32, clashes: u64, end: &JobEnd) -> bool
 }
 
 fn stands<'c>(book: &Book<'_>, counts: &Counts<'c>, tiding: &Tiding<'c>) -> bool
-    requires same { counts.now.endings ≡ book.now.endings }
+    requires of_book { AreCountsOf book.now counts.now }
     ensures { IsTrue result ↔ Stands book.now counts.now.tidings tiding.now }
 {
     let Some(outcome) = tiding.outcome() else {
@@ -104,7 +118,7 @@ fn stands<'c>(book: &Book<'_>, counts: &Counts<'c>, tiding: &Tiding<'c>) -> bool
 
 // The first job whose outcome does not stand.
 fn first_fallen<'c>(book: &Book<'_>, counts: &Counts<'c>, tidings: &[Tiding<'c>]) -> Option<usize>
-    requires endings { counts.now.endings ≡ book.now.endings }
+    requires of_book { AreCountsOf book.now counts.now }
     requires tidings { counts.now.tidings ≡ tidings.now }
     ensures none { IfNone result (All (Stands book.now tidings.now) tidings.now) }
     ensures fallen { IfSome result (λ job. IsFirstFallen book.now tidings.now job) }
@@ -120,10 +134,11 @@ fn first_fallen<'c>(book: &Book<'_>, counts: &Counts<'c>, tidings: &[Tiding<'c>]
 // ---- all of them
 
 fn are_all_commits_told(book: &Book<'_>, counts: &Counts<'_>) -> bool
+    requires of_book { AreCountsOf book.now counts.now }
     ensures { IsTrue result ↔ AreCommitsTold book.now.rows counts.now.tidings }
 {
     for n in 0..book.commits() {
-        if !counts.is_named(n + 1) {
+        if !counts.is_named(n) {
             return false;
         }
     }
@@ -206,7 +221,7 @@ fn are_all_clashes_told<'c>(
 }
 
 fn is_whole<'c>(book: &'c Book<'_>, counts: &Counts<'c>, tidings: &[Tiding<'c>]) -> bool
-    requires endings { counts.now.endings ≡ book.now.endings }
+    requires of_book { AreCountsOf book.now counts.now }
     requires tidings { counts.now.tidings ≡ tidings.now }
     ensures { IsTrue result ↔ IsAllOfJobs book.now tidings.now }
 {
@@ -242,7 +257,8 @@ pub fn broken<'c>(
     ensures some { IfOk result (λ named. IfSome named
         (λ job. IsBroken set.now opening.now tidings.now book.now job)) }
 {
-    let counts = Counts::of(alloc, book.endings(), tidings)?;
+    let commits = book.commits() as usize;
+    let counts = Counts::of(alloc, commits, book.endings(), tidings)?;
     if let Some(job) = first_fallen(book, &counts, tidings) {
         return Ok(Some(job));
     }

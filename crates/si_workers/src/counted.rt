@@ -1,10 +1,9 @@
 //! What jobs and a book come to, counted once and looked up.
 
-ghost use Rattle.std.specs.Prelude.{◌≡◌, ◌↔◌, ◌<◌, ℕ, true, IsTrue, IfOk};
-ghost use Rattle.std.specs.List.{list_any};
-ghost use Rattle.si_workers.specs.Counting.{aborts_kept, aborts_told, commits_told, is_clash_on};
+ghost use Rattle.std.specs.Prelude.{◌≡◌, ◌↔◌, ◌<◌, ◌≤◌, ◌+◌, ℕ, IsTrue, IfOk};
+ghost use Rattle.si_workers.specs.Counting.{aborts_told, commits_told};
 ghost use Rattle.si_workers.specs.Keys.{call_at};
-ghost use Rattle.si_workers.specs.Outcomes.{AreAsMany};
+ghost use Rattle.si_workers.specs.Outcomes.{AreAbortsTold, AreAsMany, IsClashKept, IsNamedOnce};
 
 use crate::call::{AbortKey, CallKey, ClashKey};
 use crate::counts::{
@@ -22,7 +21,8 @@ use std::marker::Model;
 pub struct Counts<'c> {
     endings: &'c [Ending],
     tidings: &'c [Tiding<'c>],
-    commits: Tally<u64>,
+    // of each commit, the first of which has number 1
+    commits: Vec<u64>,
     aborts: Tally<AbortKey<'c>>,
     told_aborts: Tally<AbortKey<'c>>,
     clashes: Tally<ClashKey<'c>>,
@@ -31,17 +31,18 @@ pub struct Counts<'c> {
 }
 
 impl<'c> Model for Counts<'c> {
-    ghost use Rattle.std.specs.Prelude.{count_by};
+    ghost use Rattle.std.specs.Prelude.{count_by, length};
     ghost use Rattle.si_workers.specs.Counted.{Counted};
     ghost use Rattle.si_workers.specs.Counting.{aborts_kept, aborts_told, clashes_kept, clashes_told, commits_told, is_clash_on};
     ghost use Rattle.si_workers.specs.Keys.{AreFew, TalliesAborts, TalliesCalls, TalliesClashes, TalliesNumbers};
 
     ghost Value = { Counted };
 
-    ghost view = { λ c. record { endings = c.endings.now; tidings = c.tidings.now } };
+    ghost view = { λ c.
+        record { commits = length c.commits.items; endings = c.endings.now; tidings = c.tidings.now } };
 
     ghost invariant = { λ c. AreFew c.endings.now
-        × TalliesNumbers (λ number. commits_told number c.tidings.now) c.commits
+        × TalliesNumbers (λ number. commits_told number c.tidings.now) c.commits.items
         × TalliesAborts (λ call cause. aborts_kept call cause c.endings.now) c.aborts
         × TalliesAborts (λ call cause. aborts_told call cause c.tidings.now) c.told_aborts
         × TalliesClashes (λ call clash. count_by (is_clash_on call clash) c.endings.now) c.clashes
@@ -50,17 +51,18 @@ impl<'c> Model for Counts<'c> {
 }
 
 impl<'c> Counts<'c> {
-    /// Counts what the endings and the tidings come to.
+    /// Counts what so many commits, the endings and the tidings come to.
     pub fn of(
         alloc: Global,
+        commits: usize,
         endings: &'c [Ending],
         tidings: &'c [Tiding<'c>],
     ) -> Result<Self, AllocError>
         ensures { IfOk result (λ counts.
-            counts ≡ record { endings = endings.now; tidings = tidings.now }) }
+            counts ≡ record { commits = commits; endings = endings.now; tidings = tidings.now }) }
     {
         let _more = endings.len() + 1;
-        let commits = told_commits(alloc, tidings)?;
+        let commits = told_commits(alloc, commits, tidings)?;
         let aborts = aborts_in(alloc, endings)?;
         let told_aborts = told_aborts(alloc, tidings)?;
         let clashes = clashes_in(alloc, endings)?;
@@ -78,18 +80,21 @@ impl<'c> Counts<'c> {
         })
     }
 
-    /// Whether some job names the commit of a number.
-    pub fn is_named(&self, number: u64) -> bool
-        ensures { IsTrue result ↔ (0 < commits_told number self.now.tidings) }
+    /// Whether some job names the commit that so many are before.
+    pub fn is_named(&self, before: u64) -> bool
+        requires { before < self.now.commits }
+        ensures { IsTrue result ↔ (0 < commits_told (before + 1) self.now.tidings) }
     {
-        self.commits.count(&number) > 0
+        self.commits[before as usize] > 0
     }
 
-    /// Whether just one job names it.
+    /// Whether just one job names the commit of a number.
     pub fn is_named_once(&self, number: u64) -> bool
-        ensures { IsTrue result ↔ (commits_told number self.now.tidings ≡ 1) }
+        requires some { 0 < number }
+        requires within { number ≤ self.now.commits }
+        ensures { IsTrue result ↔ IsNamedOnce self.now.tidings number }
     {
-        self.commits.count(&number) == 1
+        self.commits[(number - 1) as usize] == 1
     }
 
     /// Whether some job of a call tells an abort by a cause.
@@ -101,8 +106,8 @@ impl<'c> Counts<'c> {
 
     /// Whether as many instances of a call aborted by a cause as jobs tell.
     pub fn are_aborts_told(&self, call: CallKey<'c>, cause: Cause) -> bool
-        ensures { IsTrue result ↔ (aborts_kept (call_at call.entry) cause self.now.endings
-            ≡ aborts_told (call_at call.entry) cause self.now.tidings) }
+        ensures { IsTrue result
+            ↔ AreAbortsTold self.now.endings self.now.tidings (call_at call.entry) cause }
     {
         let key = AbortKey::of(call, cause);
         self.aborts.count(&key) == self.told_aborts.count(&key)
@@ -110,8 +115,7 @@ impl<'c> Counts<'c> {
 
     /// Whether an instance of a call clashed so.
     pub fn is_clash_kept(&self, call: CallKey<'c>, clash: Clash) -> bool
-        ensures { IsTrue result
-            ↔ (list_any (is_clash_on (call_at call.entry) clash) self.now.endings ≡ true) }
+        ensures { IsTrue result ↔ IsClashKept self.now.endings (call_at call.entry) clash }
     {
         self.clashes.count(&ClashKey::of(call, clash)) > 0
     }

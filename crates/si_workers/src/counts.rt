@@ -1,9 +1,10 @@
 //! What jobs and a book come to, counted once.
 
-ghost use Rattle.std.specs.Prelude.{◌≡◌, ℕ, IfOk, OnOk, count_by};
+ghost use Rattle.std.specs.Prelude.{◌≡◌, ◌<◌, ◌≤◌, ◌+◌, ◌==◌, ℕ, IfOk, OnOk, count_by, length};
+ghost use Rattle.si_workers.specs.Counts.{most};
 ghost use Rattle.si_workers.specs.Calls.{call_of, is_same_call};
 ghost use Rattle.si_workers.specs.Counting.{aborts_kept, aborts_told, clashes_kept, clashes_told, clashes_in as tries_in, commits_told, names, is_abort, is_clash_of, is_clash_on, tells_abort};
-ghost use Rattle.si_workers.specs.Keys.{TalliesAborts, TalliesCalls, TalliesClashes, TalliesNumbers, aborts_at, calls_at, clashes_at, numbers_at, counted_if, call_at, cause_at, clash_at};
+ghost use Rattle.si_workers.specs.Keys.{TalliesAborts, TalliesCalls, TalliesClashes, TalliesNumbers, aborts_at, calls_at, clashes_at, noted_at, counted_if, call_at, cause_at, clash_at};
 ghost use Rattle.si_workers.specs.declared.call.AbortKey.{AbortKey};
 ghost use Rattle.si_workers.specs.declared.call.CallKey.{CallKey};
 ghost use Rattle.si_workers.specs.declared.call.ClashKey.{ClashKey};
@@ -151,15 +152,19 @@ fn tries_told(tiding: &Tiding<'_>) -> u64
     }
 }
 
+// Notes the tries of a job that clashed. Most jobs have none.
 fn note_clashes_told<'c>(
     tally: &mut Tally<CallKey<'c>>,
     tiding: &'c Tiding<'c>,
 ) -> Result<(), AllocError>
-    ensures { OnOk result ((q : CallKey) → calls_at tally.new q
+    ensures { OnOk result ((q : CallKey) → calls_at tally.old q ≤ most → calls_at tally.new q
         ≡ counted_if (is_same_call (call_at q) (call_of tiding.now.0)) (tries_in tiding.now.1)
         (calls_at tally.old q)) }
 {
     let clashes = tries_told(tiding);
+    if clashes == 0 {
+        return Ok(());
+    }
     tally.note(CallKey::job(tiding.job), clashes)?;
     Ok(())
 }
@@ -179,30 +184,46 @@ pub fn told_clashes<'c>(
     Ok(tally)
 }
 
-fn note_commit_told(tally: &mut Tally<u64>, tiding: &Tiding<'_>) -> Result<(), AllocError>
-    ensures { OnOk result ((number : ℕ) → numbers_at tally.new number
-        ≡ counted_if (names number tiding.now.1) 1 (numbers_at tally.old number)) }
+// One job more names the commit of a number. A number of no commit goes.
+fn note_number(counts: &mut Vec<u64>, number: u64)
+    ensures long { length counts.new.items ≡ length counts.old.items }
+    ensures noted { (n : ℕ) → n < length counts.old.items → noted_at counts.new.items n
+        ≡ counted_if ((n + 1) == number) 1 (noted_at counts.old.items n) }
+{
+    if number == 0 || number > counts.len() as u64 {
+        return;
+    }
+    let at = (number - 1) as usize;
+    counts[at] = counts[at].saturating_add(1);
+}
+
+fn note_commit_told(counts: &mut Vec<u64>, tiding: &Tiding<'_>)
+    ensures long { length counts.new.items ≡ length counts.old.items }
+    ensures noted { (n : ℕ) → n < length counts.old.items → noted_at counts.new.items n
+        ≡ counted_if (names (n + 1) tiding.now.1) 1 (noted_at counts.old.items n) }
 {
     let Some(outcome) = tiding.outcome() else {
-        return Ok(());
+        return;
     };
     match &outcome.job_end {
-        JobEnd::Committed { number, .. } => {
-            tally.note(*number, 1)?;
-            Ok(())
-        }
-        JobEnd::Aborted(_) | JobEnd::Clashed(_) | JobEnd::Refused(_) => Ok(()),
+        JobEnd::Committed { number, .. } => note_number(counts, *number),
+        JobEnd::Aborted(_) | JobEnd::Clashed(_) | JobEnd::Refused(_) => {}
     }
 }
 
-/// How many jobs name each commit.
-pub fn told_commits(alloc: Global, tidings: &[Tiding<'_>]) -> Result<Tally<u64>, AllocError>
-    ensures { IfOk result (λ tally.
-        TalliesNumbers (λ number. commits_told number tidings.now) tally) }
+/// How many jobs name each of so many commits, the first of which has number 1.
+pub fn told_commits(
+    alloc: Global,
+    commits: usize,
+    tidings: &[Tiding<'_>],
+) -> Result<Vec<u64>, AllocError>
+    ensures long { IfOk result (λ counts. length counts.items ≡ commits) }
+    ensures told { IfOk result (λ counts.
+        TalliesNumbers (λ number. commits_told number tidings.now) counts.items) }
 {
-    let mut tally = Tally::new(alloc);
+    let mut counts = vec![in alloc; 0; commits]?;
     for tiding in tidings {
-        note_commit_told(&mut tally, tiding)?;
+        note_commit_told(&mut counts, tiding);
     }
-    Ok(tally)
+    Ok(counts)
 }

@@ -2,7 +2,7 @@
 ghost use Rattle.std.specs.Prelude.{◌≡◌};
 ghost use Rattle.prog_tree.specs.Tree.{draft_tree};
 ghost use Rattle.si_engine.specs.RowLines.{Reads};
-ghost use Rattle.si_workers.specs.JobLines.{retries_of, job_of, row_in_jobs, job_in_jobs, job_line_of, job_line};
+ghost use Rattle.si_workers.specs.JobLines.{retries_of, job_of, job_line_of, job_line};
 
 use crate::job::Job;
 use prog_check::ProgramSet;
@@ -47,27 +47,6 @@ fn job(alloc: Global, set: &ProgramSet, line: usize, words: &[Word<'_>]) -> Resu
     })
 }
 
-#[tactic(auto, unfolding(crate::specs::JobLines::row_in_jobs))]
-fn row(set: &ProgramSet, line: usize, words: &[Word<'_>]) -> Result<JobLine, LineFault>
-    ensures { result ≡ row_in_jobs (draft_tree set.now) line words.now }
-{
-    let row = row_line(set, line, words)?;
-    Ok(JobLine::Row(row))
-}
-
-#[tactic(auto, unfolding(crate::specs::JobLines::job_in_jobs))]
-fn call(
-    alloc: Global,
-    set: &ProgramSet,
-    line: usize,
-    words: &[Word<'_>],
-) -> Result<JobLine, LineFault>
-    ensures { Reads (λ said. said) result (job_in_jobs (draft_tree set.now) line words.now) }
-{
-    let job = job(alloc, set, line, words)?;
-    Ok(JobLine::Job(job))
-}
-
 #[tactic(auto, unfolding(crate::specs::JobLines::job_line_of))]
 fn words_line(
     alloc: Global,
@@ -82,9 +61,11 @@ fn words_line(
     };
     let first = first.as_bytes();
     if first == b"row".as_slice() {
-        row(set, line, rest)
+        let row = row_line(set, line, rest)?;
+        Ok(JobLine::Row(row))
     } else if first == b"job".as_slice() {
-        call(alloc, set, line, rest)
+        let job = job(alloc, set, line, rest)?;
+        Ok(JobLine::Job(job))
     } else {
         Err(LineFault::BadLine { line })
     }

@@ -11,14 +11,15 @@ use history_book::{
 };
 use prog_run::Run;
 use prog_tree::{Cell, Region, Sequence};
-use std::sync::{Mutex, Wait};
+use std::sync::{RwLock, RwLockReadGuard, Wait};
 
-/// A book under one lock. Whenever the lock is taken, its value is a book. Each call takes the
-/// lock, makes the call of `Book` that it names, and lets go. No clause can name a value under a
-/// lock, so what a call does to the book is said by the contract of `Book`.
+/// A book under one lock, which reads share and each other call has alone. Whenever the lock is
+/// taken, its value is a book. Each call takes the lock, makes the call of `Book` that it names, and
+/// lets go. No clause can name a value under a lock, so what a call does to the book is said by the
+/// contract of `Book`.
 #[derive(Drop)]
 pub struct SharedBook<'a> {
-    lock: Mutex<Book<'a>>,
+    lock: RwLock<Book<'a>>,
 }
 
 // Begins an instance that has to see a receipt's commit. Where the book has fewer commits, it is
@@ -50,7 +51,7 @@ impl<'a> SharedBook<'a> {
     /// Shares a book.
     pub fn new(book: Book<'a>) -> Self {
         SharedBook {
-            lock: Mutex::new(book),
+            lock: RwLock::new(book),
         }
     }
 
@@ -61,7 +62,7 @@ impl<'a> SharedBook<'a> {
         program: usize,
         args: &[i64],
     ) -> Result<Ticket, BeginFault> {
-        self.lock.lock(rt).begin(program, args)
+        self.lock.write(rt).begin(program, args)
     }
 
     /// Begins an instance that sees the commit of a receipt. Where the book has fewer commits, the
@@ -75,8 +76,20 @@ impl<'a> SharedBook<'a> {
     ) -> Result<Ticket, BeginAfterFault>
         ensures { IsFresh receipt.now result }
     {
-        let mut book = self.lock.lock(rt);
+        let mut book = self.lock.write(rt);
         begin_seeing(&mut book, receipt, program, args)
+    }
+
+    // The book for a read that a worker makes for a job. The gate is called under the lock.
+    fn read_at<G: Gate>(
+        &self,
+        rt: &impl Wait,
+        job: usize,
+        gate: &G,
+    ) -> RwLockReadGuard<'_, Book<'a>> {
+        let book = self.lock.read(rt);
+        gate.at(job, Moment::InRead);
+        book
     }
 
     /// `Book::get`.
@@ -86,10 +99,10 @@ impl<'a> SharedBook<'a> {
         ticket: &Ticket,
         cell: &Cell,
     ) -> Result<Option<i64>, NoSuchTicket> {
-        self.lock.lock(rt).get(ticket, cell)
+        self.lock.read(rt).get(ticket, cell)
     }
 
-    // The same, with a gate under the lock.
+    // The same, for a job of a worker.
     pub(crate) fn get_at<G: Gate>(
         &self,
         rt: &impl Wait,
@@ -98,8 +111,7 @@ impl<'a> SharedBook<'a> {
         ticket: &Ticket,
         cell: &Cell,
     ) -> Result<Option<i64>, NoSuchTicket> {
-        let book = self.lock.lock(rt);
-        gate.at(job, Moment::InRead);
+        let book = self.read_at(rt, job, gate);
         book.get(ticket, cell)
     }
 
@@ -110,10 +122,10 @@ impl<'a> SharedBook<'a> {
         ticket: &Ticket,
         region: &Region,
     ) -> Result<Sequence<(Cell, i64)>, ScanFault> {
-        self.lock.lock(rt).scan(ticket, region)
+        self.lock.read(rt).scan(ticket, region)
     }
 
-    // The same, with a gate under the lock.
+    // The same, for a job of a worker.
     pub(crate) fn scan_at<G: Gate>(
         &self,
         rt: &impl Wait,
@@ -122,8 +134,7 @@ impl<'a> SharedBook<'a> {
         ticket: &Ticket,
         region: &Region,
     ) -> Result<Sequence<(Cell, i64)>, ScanFault> {
-        let book = self.lock.lock(rt);
-        gate.at(job, Moment::InRead);
+        let book = self.read_at(rt, job, gate);
         book.scan(ticket, region)
     }
 
@@ -134,22 +145,22 @@ impl<'a> SharedBook<'a> {
         ticket: Ticket,
         run: Run<'a>,
     ) -> Result<Receipt, CommitFault<'a>> {
-        self.lock.lock(rt).commit(ticket, run)
+        self.lock.write(rt).commit(ticket, run)
     }
 
     /// `Book::end`.
     pub fn end(&self, rt: &impl Wait, ticket: Ticket, run: Run<'a>) -> Result<(), EndFault<'a>> {
-        self.lock.lock(rt).end(ticket, run)
+        self.lock.write(rt).end(ticket, run)
     }
 
     /// `Book::withdraw`.
     pub fn withdraw(&self, rt: &impl Wait, ticket: Ticket) -> Result<(), Ticket> {
-        self.lock.lock(rt).withdraw(ticket)
+        self.lock.write(rt).withdraw(ticket)
     }
 
     /// `Book::vacuum`.
     pub fn vacuum(&self, rt: &impl Wait) -> u64 {
-        self.lock.lock(rt).vacuum()
+        self.lock.write(rt).vacuum()
     }
 
     /// The book, once nobody shares it.

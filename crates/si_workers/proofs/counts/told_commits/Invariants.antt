@@ -1,7 +1,10 @@
-use Rattle.std.proofs.Common.{take}
+use Rattle.std.proofs.Common.{◌≡◌, length, take}
 use Rattle.si_workers.specs.Counting.{commits_told}
 use Rattle.si_workers.specs.Keys.{TalliesNumbers}
 use Rattle.si_workers.proofs.counts.told_commits.Given as goal
 
 abbrev pub invariant-loop-tiding : goal.invariant-loop-tiding
-invariant-loop-tiding l = TalliesNumbers (λ number. commits_told number (take l.tiding-index l.tidings)) l.tally
+invariant-loop-tiding l = record {
+  long : length l.counts.items ≡ l.commits;
+  told : TalliesNumbers (λ number. commits_told number (take l.tiding-index l.tidings)) l.counts.items;
+}
