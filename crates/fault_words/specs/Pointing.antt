@@ -1,6 +1,7 @@
 -- What the words of a fault have to show.
-use Rattle.std.specs.Prelude.{ℕ, ◌≡◌, ⊤, List, Option, Some, None, codes}
-use Rattle.text_places.specs.Landmarks.{HasNoProgram, HasNoStatement, HasNoTable, IsProgramPlace, IsStatementPlace, IsTablePlace}
+use Rattle.std.specs.Prelude.{ℕ, ◌≡◌, ◌-◌, ◌==◌, ◌||◌, ◌&&◌, ◌⊎◌, ⊤, Bool, true, not, nat_le, List, Option, Some, None, codes, drop, length, take}
+use Rattle.std.specs.List.{list_all, prefix_len, suffix_len}
+use Rattle.text_places.specs.Landmarks.{is_word_byte, without_comments, HasNoProgram, HasNoStatement, HasNoTable, IsProgramPlace, IsStatementPlace, IsTablePlace}
 use Rattle.text_places.specs.Quotes.{pointed_out}
 use Rattle.prog_check.specs.declared.fault.Place.{Place}
 use Rattle.prog_check.specs.declared.fault.Place.TheVariants.{Table, Program, Statement}
@@ -12,6 +13,18 @@ use Rattle.prog_text.specs.declared.fault.TextFault.TheVariants as t
 -- some sentence is said of the place, with the place's own line, column and mark
 abbrev pub PointsAt : (text : List ℕ) → (place : ℕ) → (words : List ℕ) → Type 0
 PointsAt text place words = (sentence : List ℕ) × (words ≡ pointed_out text place sentence)
+
+-- what separates words and signs
+abbrev pub is_blank : ℕ → Bool
+is_blank byte = (byte == 32 || byte == 9) || (byte == 10 || byte == 13)
+
+-- where the last word or sign before a place ends: behind it stand only blanks and comments
+abbrev pub end_before : (text : List ℕ) → (place : ℕ) → ℕ
+end_before text place = length (take place (without_comments text)) - suffix_len is_blank (take place (without_comments text))
+
+-- the words point at a word or a sign, or where the one before it ends, as where a `;` is missing
+abbrev pub PointsAtToken : (text : List ℕ) → (place : ℕ) → (words : List ℕ) → Type 0
+PointsAtToken text place words = PointsAt text place words ⊎ PointsAt text (end_before text place) words
 
 -- a table, a program or a statement begins here
 abbrev pub IsPlaceOf : (text : List ℕ) → Place → (place : ℕ) → Type 0
@@ -29,7 +42,7 @@ HasNone text (Statement program statement) = HasNoStatement text program stateme
 abbrev pub PointsAtFault : (text : List ℕ) → TextFault → (words : List ℕ) → Type 0
 PointsAtFault text (t.NotAscii place) words = PointsAt text place words
 PointsAtFault text (t.UnknownByte place) words = PointsAt text place words
-PointsAtFault text (t.UnexpectedToken place) words = PointsAt text place words
+PointsAtFault text (t.UnexpectedToken place) words = PointsAtToken text place words
 PointsAtFault text (t.UnexpectedEnd place) words = PointsAt text place words
 PointsAtFault text (t.NumberOutOfRange place) words = PointsAt text place words
 PointsAtFault text (t.NameTooLong place) words = PointsAt text place words
@@ -52,10 +65,33 @@ place_of (c.TooMany place) = Some place
 place_of (c.TooManyPaths place) = Some place
 place_of c.Memory = None
 
--- the words point at the table, the program or the statement
-abbrev pub PointsAtPlace : (text : List ℕ) → Option Place → (words : List ℕ) → Type 0
-PointsAtPlace text (Some place) words = (at : ℕ) × IsPlaceOf text place at × PointsAt text at words
-PointsAtPlace text None words = ⊥
+-- neither a `;` nor a `{`
+abbrev pub goes_on : (byte : ℕ) → Bool
+goes_on byte = not (byte == 59) && not (byte == 123)
+
+-- a word begins here
+abbrev pub begins_word : (text : List ℕ) → (place : ℕ) → Bool
+begins_word text place = suffix_len is_word_byte (take place text) == 0 && not (prefix_len is_word_byte (drop place text) == 0)
+
+-- at the mark stands a word of the statement or the test that begins at a place: between them no statement ends, and no
+-- block begins
+abbrev pub is_word_of : (text : List ℕ) → (at : ℕ) → (mark : ℕ) → Bool
+is_word_of text at mark =
+    nat_le at mark && (begins_word text mark && list_all goes_on (take (mark - at) (drop at text)))
+
+-- where the mark stands, of what begins at a place: there, or where a name is the fault at a word of the statement
+abbrev pub IsMark : (text : List ℕ) → CheckFault → (at : ℕ) → (mark : ℕ) → Type 0
+IsMark text (c.UnknownName place) at mark = (mark ≡ at) ⊎ (is_word_of (without_comments text) at mark ≡ true)
+IsMark text fault at mark = mark ≡ at
+
+-- the words point at the table, the program or the statement, or at the name in it
+abbrev pub PointsFrom : (text : List ℕ) → CheckFault → Option Place → (words : List ℕ) → Type 0
+PointsFrom text fault (Some place) words =
+    (at : ℕ) × IsPlaceOf text place at × (mark : ℕ) × IsMark text fault at mark × PointsAt text mark words
+PointsFrom text fault None words = ⊥
+
+abbrev pub PointsAtFlaw : (text : List ℕ) → CheckFault → (words : List ℕ) → Type 0
+PointsAtFlaw text fault words = PointsFrom text fault (place_of fault) words
 
 -- nothing is pointed at: the fault names no place, or what it names begins nowhere in the text
 abbrev pub HasNoPlace : (text : List ℕ) → Option Place → Type 0

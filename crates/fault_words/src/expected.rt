@@ -34,18 +34,27 @@ fn shown(alloc: Global, word: &str) -> Result<String, AllocError> {
     }
 }
 
-/// With what a text could go on, in words: nothing where it is not known.
-pub fn expected(alloc: Global, before: &[u8]) -> Result<String, AllocError> {
-    let mut list = String::new(alloc);
+/// The words with which a text could go on: none where that is not known.
+pub fn possible(alloc: Global, before: &[u8]) -> Result<Vec<&'static str>, AllocError> {
+    let mut list = Vec::new(alloc);
     if before.len() > MAX_TRIED {
         return Ok(list);
     }
     for word in TRIED {
         if goes_on(alloc, before, word)? {
-            let shown = shown(alloc, word)?;
-            list.push_str(if list.is_empty() { "" } else { ", " })?;
-            list.push_str(&shown)?;
+            list.push(word)?;
         }
+    }
+    Ok(list)
+}
+
+/// Words that were tried, as people are told of them.
+pub fn told(alloc: Global, words: &[&str]) -> Result<String, AllocError> {
+    let mut list = String::new(alloc);
+    for word in words {
+        let shown = shown(alloc, word)?;
+        list.push_str(if list.is_empty() { "" } else { ", " })?;
+        list.push_str(&shown)?;
     }
     Ok(list)
 }

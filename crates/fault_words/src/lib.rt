@@ -9,8 +9,10 @@ mod naming;
 mod nearest;
 mod pointing;
 mod reading;
+mod reserved;
 mod scope;
 mod set_faults;
+mod slips;
 mod text_faults;
 
 pub use laws::beginnings_are_those_of_the_grammar;

@@ -1,12 +1,13 @@
 //! The name that was meant.
 ghost use Rattle.std.specs.Prelude.{Contains, IfOk, IfSome};
 
-use crate::limits::MAX_EDITS;
+use crate::limits::{MAX_EDITS, MAX_MEANT};
 use crate::reading::listed;
 use std::alloc::{AllocError, Global};
 use strsim::levenshtein;
 
-/// The first of the names with the fewest edits from a word, where these are few.
+/// The first of the names with the fewest edits from a word, where these are few. Counting takes as
+/// many steps as both lengths multiplied, so it is not done for a word that is too long.
 pub fn nearest_name<'a>(
     alloc: Global,
     word: &str,
@@ -14,6 +15,9 @@ pub fn nearest_name<'a>(
 ) -> Result<Option<&'a str>, AllocError>
     ensures { IfOk result (λ found. IfSome found (Contains names.now)) }
 {
+    if word.len() > MAX_MEANT {
+        return Ok(None);
+    }
     let mut best = None;
     let mut fewest = MAX_EDITS.min(word.len());
     for name in names {

@@ -1,24 +1,14 @@
 //! The names that a statement may use, and one that it may not.
 
-use crate::reading::{first_token, from_place};
+use crate::reading::{begins_word, first_token, from_place, is_word_byte};
+use crate::reserved::is_name;
 use std::alloc::{AllocError, Global};
-
-const RESERVED: [&str; 18] = [
-    "let", "get", "need", "count", "sum", "lacks", "put", "insert", "delete", "keep", "if", "else",
-    "reply", "and", "or", "not", "least", "greatest",
-];
-
-fn is_word_byte(byte: u8) -> bool {
-    byte.is_ascii_alphanumeric() || byte == b'_'
-}
 
 fn begins_token(bytes: &[u8], place: usize) -> bool {
     match from_place(bytes, place) {
         [] => false,
         [byte, ..] if byte.is_ascii_whitespace() => false,
-        [byte, ..] if is_word_byte(*byte) => {
-            place == 0 || !bytes.get(place - 1).is_some_and(|byte| is_word_byte(*byte))
-        }
+        [byte, ..] if is_word_byte(*byte) => begins_word(bytes, place),
         _ => true,
     }
 }
@@ -32,6 +22,21 @@ pub fn tokens_of(alloc: Global, bytes: &[u8]) -> Result<Vec<&str>, AllocError> {
         }
     }
     Ok(tokens)
+}
+
+/// Where the token of a number begins.
+pub fn token_place(bytes: &[u8], number: usize) -> Option<usize> {
+    let mut left = number;
+    for place in 0..bytes.len() {
+        if !begins_token(bytes, place) {
+            continue;
+        }
+        if left == 0 {
+            return Some(place);
+        }
+        left -= 1;
+    }
+    None
 }
 
 /// The names that are bound at the end of the tokens of a program's beginning.
@@ -53,11 +58,6 @@ pub fn visible_names<'a>(alloc: Global, tokens: &[&'a str]) -> Result<Vec<&'a st
     Ok(names)
 }
 
-fn is_name(token: &str) -> bool {
-    let begins = token.starts_with(|c: char| c.is_ascii_alphabetic() || c == '_');
-    begins && !RESERVED.contains(&token)
-}
-
 // Whether the token at an index is followed by `[`, as the name of a table is.
 fn is_table(statement: &[&str], index: usize) -> bool {
     match statement.get(index..) {
@@ -66,11 +66,11 @@ fn is_table(statement: &[&str], index: usize) -> bool {
     }
 }
 
-/// The first name that a statement uses and that is none of these.
-pub fn unknown_name<'a>(statement: &[&'a str], visible: &[&str]) -> Option<&'a str> {
+/// The number of the first token that is a name which a statement uses and that is none of these.
+pub fn unknown_name(statement: &[&str], visible: &[&str]) -> Option<usize> {
     let mut before = "";
     for (index, token) in statement.iter().enumerate() {
-        let token: &'a str = *token;
+        let token: &str = *token;
         if token == ";" || token == "{" {
             return None;
         }
@@ -78,7 +78,7 @@ pub fn unknown_name<'a>(statement: &[&'a str], visible: &[&str]) -> Option<&'a s
             || is_table(&*statement, index)
             || (&*visible).contains(&token);
         if is_name(token) && !is_known {
-            return Some(token);
+            return Some(index);
         }
         before = token;
     }

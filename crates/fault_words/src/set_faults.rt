@@ -1,12 +1,14 @@
 //! The faults of a set in words.
 ghost use Rattle.std.specs.Prelude.{◌≡◌, IfNone, IfOk, IfSome, string_bytes};
-ghost use Rattle.fault_words.specs.Pointing.{place_of, HasNone, HasNoPlace, IsPlaceOf, PointsAtPlace};
+ghost use Rattle.std.specs.List.{list_all};
+ghost use Rattle.fault_words.specs.Pointing.{goes_on, is_word_of, place_of, HasNone, HasNoPlace, IsMark, IsPlaceOf, PointsAtFlaw};
 
 use crate::naming::{parameter_count, table_names};
 use crate::nearest::known_names;
 use crate::pointing::point_at;
-use crate::reading::{behind_word, first_word, from_place, table_name};
-use crate::scope::{tokens_of, unknown_name, visible_names};
+use crate::reading::{begins_word, behind_word, first_word, from_place, table_name, up_to};
+use crate::reserved::in_lower_case;
+use crate::scope::{token_place, tokens_of, unknown_name, visible_names};
 use prog_check::{CheckFault, Place};
 use prog_text::parse;
 use prog_tree::{Arity, Draft, Name};
@@ -40,19 +42,93 @@ fn unknown_table(alloc: Global, text: &[u8], statement: &[u8]) -> Result<String,
     format!(in alloc; "no table is called `{name}`; {known}")
 }
 
-// The statement's name that is not bound. Names are bound by parameters and by `let`.
-fn unbound_name(alloc: Global, text: &[u8], place: Place, at: usize) -> Result<String, AllocError> {
+// The names that are bound where a statement of a program begins, in a text without comments.
+fn names_before<'a>(
+    alloc: Global,
+    plain: &'a [u8],
+    program: usize,
+    at: usize,
+) -> Result<Vec<&'a str>, AllocError> {
+    let start = program_place(alloc, plain, program)?.unwrap_or(0);
+    let before = tokens_of(alloc, from_place(up_to(plain, at), start))?;
+    visible_names(alloc, &before)
+}
+
+// Where the name stands that a statement uses and that is not bound. Names are bound by parameters and by `let`.
+fn unbound_place(
+    alloc: Global,
+    plain: &[u8],
+    program: usize,
+    at: usize,
+) -> Result<Option<usize>, AllocError> {
+    let visible = names_before(alloc, plain, program, at)?;
+    let statement = tokens_of(alloc, from_place(plain, at))?;
+    let Some(number) = unknown_name(&statement, &visible) else {
+        return Ok(None);
+    };
+    let place = token_place(from_place(plain, at), number).unwrap_or(0);
+    Ok(Some(at.saturating_add(place)))
+}
+
+// Whether a statement or a test goes on behind a byte.
+fn goes_on(byte: u8) -> bool
+    ensures { result ≡ goes_on byte }
+{
+    byte != b';' && byte != b'{'
+}
+
+// Whether all of these bytes may stand in a statement or a test.
+fn go_on(bytes: &[u8]) -> bool
+    ensures { result ≡ list_all goes_on bytes.now }
+{
+    bytes.iter().all(|byte| goes_on(*byte))
+}
+
+// Whether a word of the statement or the test that begins at a place stands at a mark.
+fn is_word_of(plain: &[u8], at: usize, mark: usize) -> bool
+    ensures { result ≡ is_word_of plain.now at mark }
+{
+    at <= mark
+        && (begins_word(plain, mark)
+            && go_on(up_to(from_place(plain, at), mark.saturating_sub(at))))
+}
+
+// Where the mark stands, of what begins at a place: at a name that is not bound.
+fn mark_of(alloc: Global, text: &[u8], fault: CheckFault, at: usize) -> Result<usize, AllocError>
+    ensures { IfOk result (λ mark. IsMark text.now fault at mark) }
+{
+    let CheckFault::UnknownName {
+        place: Place::Statement { program, .. },
+    } = fault
+    else {
+        return Ok(at);
+    };
+    let plain = without_comments(alloc, text)?;
+    match unbound_place(alloc, &plain, program, at)? {
+        Some(mark) if is_word_of(&plain, at, mark) => Ok(mark),
+        _ => Ok(at),
+    }
+}
+
+fn unbound_name(
+    alloc: Global,
+    text: &[u8],
+    place: Place,
+    at: usize,
+    mark: usize,
+) -> Result<String, AllocError> {
     let Place::Statement { program, .. } = place else {
         return format!(in alloc; "a name is not bound");
     };
-    let plain = without_comments(alloc, text)?;
-    let start = program_place(alloc, text, program)?.unwrap_or(0);
-    let before = tokens_of(alloc, plain.get(start..at).unwrap_or(&[]))?;
-    let visible = visible_names(alloc, &before)?;
-    let statement = tokens_of(alloc, from_place(&plain, at))?;
-    let Some(name) = unknown_name(&statement, &visible) else {
+    if mark == at {
         return format!(in alloc; "a name of this statement is not bound");
-    };
+    }
+    let name = first_word(from_place(text, mark));
+    if let Some(word) = in_lower_case(name) {
+        return format!(in alloc; "`{name}` is a name; the word has small letters: write `{word}`");
+    }
+    let plain = without_comments(alloc, text)?;
+    let visible = names_before(alloc, &plain, program, at)?;
     let known = known_names(alloc, name, &visible)?;
     format!(in alloc; "`{name}` is no parameter and no `let` before binds it; {known}")
 }
@@ -143,6 +219,7 @@ fn sentence(
     text: &[u8],
     fault: CheckFault,
     at: usize,
+    mark: usize,
 ) -> Result<String, AllocError> {
     let begun = from_place(text, at);
     let name = first_word(behind_word(begun));
@@ -155,7 +232,7 @@ fn sentence(
         }
         CheckFault::DuplicateParameter { place } => repeated_parameter(alloc, text, place),
         CheckFault::UnknownTable { .. } => unknown_table(alloc, text, begun),
-        CheckFault::UnknownName { place } => unbound_name(alloc, text, place, at),
+        CheckFault::UnknownName { place } => unbound_name(alloc, text, place, at, mark),
         CheckFault::NameTaken { .. } => {
             format!(in alloc;
                 "`{name}` is a parameter or bound by a `let` before; bind another name"
@@ -209,7 +286,7 @@ pub fn check_words(
     fault: CheckFault,
 ) -> Result<Option<String>, AllocError>
     ensures said { IfOk result (λ said. IfSome said (λ words.
-        PointsAtPlace text.now (place_of fault) (string_bytes words))) }
+        PointsAtFlaw text.now fault (string_bytes words))) }
     ensures none { IfOk result (λ said. IfNone said (HasNoPlace text.now (place_of fault))) }
 {
     let Some(place) = place_of(fault) else {
@@ -218,7 +295,8 @@ pub fn check_words(
     let Some(at) = find_place(alloc, text, place)? else {
         return Ok(None);
     };
-    let sentence = sentence(alloc, text, fault, at)?;
-    let words = point_at(alloc, text, at, &sentence)?;
+    let mark = mark_of(alloc, text, fault, at)?;
+    let sentence = sentence(alloc, text, fault, at, mark)?;
+    let words = point_at(alloc, text, mark, &sentence)?;
     Ok(Some(words))
 }

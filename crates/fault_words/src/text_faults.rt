@@ -1,15 +1,30 @@
 //! The faults of a text in words.
 ghost use Rattle.std.specs.Prelude.{IfOk, string_bytes};
-ghost use Rattle.fault_words.specs.Pointing.{PointsAtFault};
+ghost use Rattle.fault_words.specs.Pointing.{PointsAtFault, PointsAtToken};
 
-use crate::expected::expected;
+use crate::expected::{possible, told};
 use crate::pointing::point_at;
-use crate::reading::{first_token, from_place};
+use crate::reading::{as_text, end_before, first_token, first_word, from_place, up_to};
+use crate::reserved::begins_statement;
+use crate::slips::{Around, slip_of, slip_words, tokens_around};
 use prog_text::TextFault;
 use std::alloc::{AllocError, Global};
+use text_places::{column, line_at, line_number, without_comments};
 
-fn unknown_byte(alloc: Global, text: &[u8], place: usize) -> Result<String, AllocError> {
-    match from_place(text, place) {
+// A byte as people are told of it.
+fn byte_text(alloc: Global, bytes: &[u8]) -> Result<String, AllocError> {
+    match bytes {
+        [byte @ (..=32 | 127..), ..] => format!(in alloc; "the byte {byte}"),
+        _ => {
+            let token = first_token(bytes);
+            format!(in alloc; "`{token}`")
+        }
+    }
+}
+
+// What is wrong with a sign that is none.
+fn unknown_sign(alloc: Global, rest: &[u8]) -> Result<String, AllocError> {
+    match rest {
         [b'.', ..] => format!(in alloc;
             "a single `.` is no sign; the ends of a range stand around `..`"
         ),
@@ -21,18 +36,52 @@ fn unknown_byte(alloc: Global, text: &[u8], place: usize) -> Result<String, Allo
             "no word, number or sign begins with `|`; one of two is `or`"
         ),
         [b'/', ..] => format!(in alloc;
-            "no word, number or sign begins with `/`; a comment begins with `#`"
+            "no word, number or sign begins with `/`; nothing is divided here"
         ),
-        rest => {
-            let token = first_token(rest);
-            format!(in alloc; "no word, number or sign begins with `{token}`")
+        [b'"' | b'\'', ..] => format!(in alloc;
+            "there are no strings; keys and values are whole numbers"
+        ),
+        [b'%', b'%', b'\r'] | [b'%', b'%', b'\r', b'\n', ..] => format!(in alloc;
+            "a carriage return stands behind this `%%`; the line between two parts is `%%` alone"
+        ),
+        _ => {
+            let byte = byte_text(alloc, rest)?;
+            format!(in alloc; "no word, number or sign begins with {byte}")
         }
     }
 }
 
-fn unexpected(alloc: Global, text: &[u8], place: usize) -> Result<String, AllocError> {
-    let token = first_token(from_place(text, place));
-    let known = expected(alloc, text.get(..place).unwrap_or(text))?;
+// With what a comment of another language begins in a line.
+fn foreign_comment(line: &str) -> Option<&'static str> {
+    for sign in ["//", "/*", "--"] {
+        if line.contains(sign) {
+            return Some(sign);
+        }
+    }
+    None
+}
+
+fn unknown_byte(alloc: Global, text: &[u8], place: usize) -> Result<String, AllocError> {
+    let rest = from_place(text, place);
+    let column = column(text, place);
+    let line = as_text(up_to(line_at(text, place), column.saturating_add(1)));
+    match foreign_comment(line) {
+        Some(sign) => format!(in alloc; "a comment begins with `#`, and not with `{sign}`"),
+        None => unknown_sign(alloc, rest),
+    }
+}
+
+// What stands around a place, in words that newcomers need, or what could stand there.
+fn unexpected_words(
+    alloc: Global,
+    could: &[&str],
+    around: Around<'_>,
+) -> Result<String, AllocError> {
+    if let Some(slip) = slip_of(around, could) {
+        return slip_words(alloc, slip, around);
+    }
+    let token = around.token;
+    let known = told(alloc, could)?;
     if token.starts_with(|c: char| c.is_ascii_digit()) && known.starts_with("a number") {
         return format!(in alloc; "a table has 1 or 2 key columns, and not {token}");
     }
@@ -42,8 +91,30 @@ fn unexpected(alloc: Global, text: &[u8], place: usize) -> Result<String, AllocE
     format!(in alloc; "`{token}` cannot stand here; what could is {known}")
 }
 
+// Whether a `;` is missing: one could stand here, and the token opens another line or statement.
+fn lacks_semicolon(could: &[&str], token: &str, is_first: bool) -> bool {
+    let begins_word = !first_word(token.as_bytes()).is_empty();
+    could.contains(&";") && (token == "}" || begins_statement(token) || (is_first && begins_word))
+}
+
+fn unexpected(alloc: Global, text: &[u8], place: usize) -> Result<String, AllocError>
+    ensures { IfOk result (λ words. PointsAtToken text.now place (string_bytes words)) }
+{
+    let plain = without_comments(alloc, text)?;
+    let end = end_before(alloc, text, place)?;
+    let around = tokens_around(&plain, end, place);
+    let could = possible(alloc, up_to(text, place))?;
+    let is_first = line_number(text, end) != line_number(text, place);
+    if lacks_semicolon(&could, around.token, is_first) {
+        return point_at(alloc, text, end, "a `;` is missing here");
+    }
+    let sentence = unexpected_words(alloc, &could, around)?;
+    point_at(alloc, text, place, &sentence)
+}
+
 fn too_early(alloc: Global, text: &[u8]) -> Result<String, AllocError> {
-    let known = expected(alloc, text)?;
+    let could = possible(alloc, text)?;
+    let known = told(alloc, &could)?;
     if known.is_empty() {
         return format!(in alloc; "the text ends inside a table or a program");
     }
@@ -74,10 +145,7 @@ pub fn text_words(alloc: Global, text: &[u8], fault: TextFault) -> Result<String
             let sentence = unknown_byte(alloc, text, place)?;
             point_at(alloc, text, place, &sentence)
         }
-        TextFault::UnexpectedToken { place } => {
-            let sentence = unexpected(alloc, text, place)?;
-            point_at(alloc, text, place, &sentence)
-        }
+        TextFault::UnexpectedToken { place } => unexpected(alloc, text, place),
         TextFault::UnexpectedEnd { place } => {
             let sentence = too_early(alloc, text)?;
             point_at(alloc, text, place, &sentence)

@@ -1,5 +1,5 @@
 -- What the words of a fault of the second part have to show.
-use Rattle.std.specs.Prelude.{ℕ, ◌≡◌, ◌<◌, ⊤, Bool, true, ◌&&◌, ◌||◌, List, Option, Some, None, bytes_eq, codes, drop, length, nat_eq, take}
+use Rattle.std.specs.Prelude.{ℕ, ◌≡◌, ◌<◌, ⊤, Bool, true, ◌&&◌, ◌||◌, List, ◌++◌, Option, Some, None, bytes_eq, codes, drop, length, nat_eq, take}
 use Rattle.std.specs.List.{starts_with}
 use Rattle.text_places.specs.Landmarks.{ends_line, HasNoRecord, IsRecordPlace}
 use Rattle.text_places.specs.Places.{HasNoLine, IsLineFront}
@@ -63,3 +63,12 @@ PointsAtSeparator input words = (place : ℕ) × IsSeparatorPlace input place ×
 -- no line is `%%`
 abbrev pub HasNoSeparator : (input : List ℕ) → Type 0
 HasNoSeparator input = (place : ℕ) → place < length input → ¬ IsSeparatorPlace input place
+
+-- the words begin with what is said of a line
+abbrev pub BeginsAtLine : (part : List ℕ) → (words : List ℕ) → Type 0
+BeginsAtLine part words =
+    (line : ℕ) × (first rest : List ℕ) × PointsAtLineOf part (Some line) first × (words ≡ first ++ rest)
+
+-- something is added
+abbrev pub Extends : (before : List ℕ) → (after : List ℕ) → Type 0
+Extends before after = (more : List ℕ) × (after ≡ before ++ more)

@@ -9,6 +9,7 @@ mod line_reading;
 mod part_faults;
 mod reasons;
 mod record_faults;
+mod refusals;
 mod replay;
 mod walk;
 
@@ -16,3 +17,4 @@ pub use cycle::cycle_words;
 pub use line_faults::{PartKind, line_fault_words};
 pub use part_faults::{extra_part_words, missing_part_words};
 pub use record_faults::record_words;
+pub use refusals::refused_words;

@@ -12,7 +12,17 @@ use si_engine::LineFault;
 use std::alloc::{AllocError, Global};
 use text_places::line_front;
 
-fn bad_line(alloc: Global, kind: PartKind, words: &[&str]) -> Result<String, AllocError> {
+fn bad_line(
+    alloc: Global,
+    kind: PartKind,
+    line: &[u8],
+    words: &[&str],
+) -> Result<String, AllocError> {
+    if (&*line).contains(&b'\r') {
+        return format!(in alloc;
+            "a carriage return stands in this line; but for one at its end a line has none"
+        );
+    }
     let [first, ..] = words else {
         return format!(in alloc; "only spaces; a line without words has no spaces either");
     };
@@ -82,7 +92,7 @@ fn sentence(
 ) -> Result<String, AllocError> {
     let words = words_of(alloc, line)?;
     match fault {
-        LineFault::BadLine { .. } => bad_line(alloc, kind, &words),
+        LineFault::BadLine { .. } => bad_line(alloc, kind, line, &words),
         LineFault::UnknownName { .. } => unknown_name(alloc, set, &words),
         LineFault::WrongKeys { .. } => wrong_keys(alloc, &words),
         LineFault::LateRow { .. } => late_row(alloc, kind),

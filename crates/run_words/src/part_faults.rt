@@ -41,14 +41,22 @@ fn is_near_separator_at(input: &[u8], place: usize) -> bool {
         && !matches!(before, [.., last] if *last != b'\n')
 }
 
-// The line that was perhaps meant as `%%`.
+// Where the line begins that was perhaps meant as `%%`.
 fn near_separator(input: &[u8]) -> Option<usize> {
     for place in 0..input.len() {
         if is_near_separator_at(input, place) {
-            return Some(line_number(input, place));
+            return Some(place);
         }
     }
     None
+}
+
+// What the line that begins with these bytes has besides `%%`.
+fn excess(bytes: &[u8]) -> &'static str {
+    match bytes {
+        [b'%', b'%', b'\r'] | [b'%', b'%', b'\r', b'\n', ..] => "a carriage return behind it",
+        _ => "more than that",
+    }
 }
 
 /// That no line is `%%`, behind which something is wanted.
@@ -56,9 +64,13 @@ pub fn missing_part_words(alloc: Global, input: &[u8], wanted: &str) -> Result<S
     ensures { IfOk result (λ words. PointsAt input.now (length input.now) (string_bytes words)) }
 {
     let sentence = match near_separator(input) {
-        Some(line) => format!(in alloc;
-            "no line is `%%`, behind which {wanted} would stand; line {line} has more than that"
-        )?,
+        Some(place) => {
+            let line = line_number(input, place);
+            let excess = excess(input.get(place..).unwrap_or(&[]));
+            format!(in alloc;
+                "no line is `%%`, behind which {wanted} would stand; line {line} has {excess}"
+            )?
+        }
         None => format!(in alloc; "no line is `%%`, behind which {wanted} would stand")?,
     };
     point_at(alloc, input, input.len(), &sentence)

@@ -83,8 +83,8 @@ fn ending_text(alloc: Global, set: &ProgramSet, cut: Cut) -> Result<String, Allo
     }
 }
 
-// So many of something.
-fn counted(alloc: Global, count: usize, what: &str) -> Result<String, AllocError> {
+/// So many of something.
+pub fn counted(alloc: Global, count: usize, what: &str) -> Result<String, AllocError> {
     let ending = if count == 1 { "" } else { "s" };
     format!(in alloc; "{count} {what}{ending}")
 }
