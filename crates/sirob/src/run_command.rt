@@ -19,13 +19,14 @@ use crate::sentences::words::explain;
 use crate::status::Status;
 use si_engine::{MAX_READS, Sink, Source, read_whole, write_whole};
 use std::alloc::Global;
+use std::thread::Threads;
 
 /// The line of want of memory.
 pub const MEMORY_LINE: &[u8] = b"fault memory\n";
 
 // Does with the second part of an input what the mode asks for.
 fn part_input<K: Sink>(
-    alloc: Global,
+    rt: &(impl AllocGlobal + Threads + Sync),
     mode: Mode,
     input: &[u8],
     sink: &mut K,
@@ -37,19 +38,20 @@ fn part_input<K: Sink>(
     ensures { WritesOr (Err write_lost) (IsInputDone mode input.now)
         (K.has_failed sink.new) (K.taken sink.old) (K.taken sink.new) result }
 {
+    let alloc = rt.alloc();
     let (set, part) = read_text_and_part(alloc, input)?;
     match mode {
         Mode::Check | Mode::Certify | Mode::Repair { .. } | Mode::Work { .. } => unreachable!(),
         Mode::Verify => verify_part(alloc, set, part, sink),
         Mode::Run { robust: false } => run_part(alloc, &set, part, sink),
-        Mode::Run { robust: true } => run_robust_part(alloc, set, part, sink),
+        Mode::Run { robust: true } => run_robust_part(rt, set, part, sink),
         Mode::Audit => audit_part(alloc, &set, part, sink),
     }
 }
 
 // Does with an input what the mode asks for.
 fn answer_input<K: Sink>(
-    alloc: Global,
+    rt: &(impl AllocGlobal + Threads + Sync),
     mode: Mode,
     input: &[u8],
     sink: &mut K,
@@ -61,17 +63,17 @@ fn answer_input<K: Sink>(
         (K.has_failed sink.new) (K.taken sink.old) (K.taken sink.new) result }
 {
     match mode {
-        Mode::Check => check_input(alloc, input, sink),
-        Mode::Certify => certify_input(alloc, input, sink),
-        Mode::Repair { promote } => repair_input(alloc, promote, input, sink),
-        Mode::Verify | Mode::Run { .. } | Mode::Audit => part_input(alloc, mode, input, sink),
+        Mode::Check => check_input(rt.alloc(), input, sink),
+        Mode::Certify => certify_input(rt, input, sink),
+        Mode::Repair { promote } => repair_input(rt.alloc(), promote, input, sink),
+        Mode::Verify | Mode::Run { .. } | Mode::Audit => part_input(rt, mode, input, sink),
         Mode::Work { .. } => unreachable!(),
     }
 }
 
 // Reads all of a source, keeps it, and does with it what the mode asks for.
 fn answer_source<S: Source, K: Sink>(
-    alloc: Global,
+    rt: &(impl AllocGlobal + Threads + Sync),
     mode: Mode,
     source: &mut S,
     sink: &mut K,
@@ -84,8 +86,8 @@ fn answer_source<S: Source, K: Sink>(
         (K.has_failed sink.new) (K.taken sink.old) (K.taken sink.new) result }
     ensures reads { S.pulls source.new ≤ S.pulls source.old + MAX_READS }
 {
-    let input = read_whole(alloc, source)?;
-    let ended = answer_input(alloc, mode, &input, sink);
+    let input = read_whole(rt.alloc(), source)?;
+    let ended = answer_input(rt, mode, &input, sink);
     *kept = input;
     ended
 }
@@ -131,7 +133,7 @@ pub fn write_end<K: Sink>(alloc: Global, sink: &mut K, ended: Result<Status, Run
 /// sink. A source that failed is a fault of the input; of a sink that failed, the status is that of
 /// a fault. What is wrong goes to the standard error in words, behind the answer.
 pub fn run_command<S: Source, K: Sink>(
-    rt: &(impl AllocGlobal + Eprint),
+    rt: &(impl AllocGlobal + Eprint + Threads + Sync),
     mode: Mode,
     source: &mut S,
     sink: &mut K,
@@ -146,7 +148,7 @@ pub fn run_command<S: Source, K: Sink>(
     }
     let alloc = rt.alloc();
     let mut input = Vec::new(alloc);
-    let ended = answer_source(alloc, mode, source, sink, &mut input);
+    let ended = answer_source(rt, mode, source, sink, &mut input);
     if sink.failed() {
         return Status::Faulty;
     }

@@ -17,8 +17,9 @@ use crate::status::Status;
 use prog_check::ProgramSet;
 use robust_cert::{Certificate, to_json};
 use si_engine::Sink;
-use si_repair::{Finding, certify};
+use si_repair::{Finding, certify_par};
 use std::alloc::{AllocError, Global};
+use std::thread::Threads;
 
 // The text of a certificate, and a line feed.
 fn certificate_line(alloc: Global, certificate: &Certificate) -> Result<String, AllocError>
@@ -31,13 +32,17 @@ fn certificate_line(alloc: Global, certificate: &Certificate) -> Result<String, 
 }
 
 // What an analysis finds of a set, as a text with the status behind it.
-fn finding_text(alloc: Global, set: &ProgramSet) -> Result<(String, Status), RunFault>
+fn finding_text(
+    rt: &(impl AllocGlobal + Threads + Sync),
+    set: &ProgramSet,
+) -> Result<(String, Status), RunFault>
     ensures ok { IfOk result (λ told. GivesFinding (draft_tree set.now)
         (string_bytes told.0) told.1) }
     ensures err { IfErr result (λ fault. is_memory fault ≡ false
         → IsUnanalysedBy (draft_tree set.now) fault) }
 {
-    match certify(alloc, set)? {
+    let alloc = rt.alloc();
+    match certify_par(rt, alloc, set)? {
         Finding::Robust(certificate) => {
             let line = certificate_line(alloc, &certificate)?;
             Ok((line, Status::Done))
@@ -50,23 +55,30 @@ fn finding_text(alloc: Global, set: &ProgramSet) -> Result<(String, Status), Run
 }
 
 // The same of the set that an input spells.
-fn input_finding(alloc: Global, input: &[u8]) -> Result<(String, Status), RunFault>
+fn input_finding(
+    rt: &(impl AllocGlobal + Threads + Sync),
+    input: &[u8],
+) -> Result<(String, Status), RunFault>
     requires { length input.now ≤ input_limit }
     ensures ok { IfOk result (λ told. Gives mode.Certify input.now (string_bytes told.0) told.1) }
     ensures err { IfErr result (λ fault. IsStop mode.Certify input.now fault []) }
 {
-    let set = read_text(alloc, input)?;
-    let told = finding_text(alloc, &set)?;
+    let set = read_text(rt.alloc(), input)?;
+    let told = finding_text(rt, &set)?;
     Ok(told)
 }
 
 /// Writes the certificate or the refusal of the set that an input spells.
-pub fn certify_input<K: Sink>(alloc: Global, input: &[u8], sink: &mut K) -> Result<Status, RunFault>
+pub fn certify_input<K: Sink>(
+    rt: &(impl AllocGlobal + Threads + Sync),
+    input: &[u8],
+    sink: &mut K,
+) -> Result<Status, RunFault>
     requires short { length input.now ≤ input_limit }
     requires working { K.has_failed sink.old ≡ false }
     ensures { WritesOr (Err write_lost) (IsInputDone mode.Certify input.now)
         (K.has_failed sink.new) (K.taken sink.old) (K.taken sink.new) result }
 {
-    let (text, status) = input_finding(alloc, input)?;
+    let (text, status) = input_finding(rt, input)?;
     write_lines(sink, text.as_bytes(), Ok(status))
 }

@@ -10,8 +10,9 @@ use crate::commands::refusal::refusal_text;
 use crate::run_fault::RunFault;
 use prog_check::ProgramSet;
 use robust_cert::{Certificate, RobustSet, verify};
-use si_repair::{Finding, certify};
+use si_repair::{Finding, certify_par};
 use std::alloc::Global;
+use std::thread::Threads;
 
 /// A set with an accepted certificate, or the text that refuses it.
 #[derive(Drop)]
@@ -34,12 +35,16 @@ fn accept(alloc: Global, set: ProgramSet, certificate: &Certificate) -> Result<R
 
 /// The set as a robust one, where an analysis finds a certificate and the checker accepts it; else
 /// its refusal.
-pub fn assess(alloc: Global, set: ProgramSet) -> Result<Verified, RunFault>
+pub fn assess(
+    rt: &(impl AllocGlobal + Threads + Sync),
+    set: ProgramSet,
+) -> Result<Verified, RunFault>
     ensures ok { IfOk result (λ verified. IsVerified set verified) }
     ensures err { IfErr result (λ fault. is_memory fault ≡ false
         → IsUnanalysedBy (draft_tree set) fault) }
 {
-    match certify(alloc, &set)? {
+    let alloc = rt.alloc();
+    match certify_par(rt, alloc, &set)? {
         Finding::Robust(certificate) => {
             let robust = accept(alloc, set, &certificate)?;
             Ok(Verified::Robust(robust))

@@ -15,6 +15,7 @@ use prog_check::ProgramSet;
 use robust_cert::RobustSet;
 use si_engine::{Bytes, Sink, run_robust_script, run_script};
 use std::alloc::Global;
+use std::thread::Threads;
 
 /// Runs the script that the bytes of a part are. Each event writes a line, then each row, and last
 /// the order or the cycle; where memory runs out, some first lines were written.
@@ -54,7 +55,7 @@ fn run_verified<K: Sink>(
 
 /// As `run_part`, where the set is robust; else writes its refusal.
 pub fn run_robust_part<K: Sink>(
-    alloc: Global,
+    rt: &(impl AllocGlobal + Threads + Sync),
     set: ProgramSet,
     part: &[u8],
     sink: &mut K,
@@ -64,8 +65,8 @@ pub fn run_robust_part<K: Sink>(
     ensures { WritesOr (Err write_lost) (IsPartDone (mode.Run true) (draft_tree set) part.now)
         (K.has_failed sink.new) (K.taken sink.old) (K.taken sink.new) result }
 {
-    match assess(alloc, set)? {
-        Verified::Robust(set) => run_verified(alloc, &set, part, sink),
+    match assess(rt, set)? {
+        Verified::Robust(set) => run_verified(rt.alloc(), &set, part, sink),
         Verified::Refused(text) => {
             write_lines(sink, text.as_bytes(), Ok(Status::Unserializable))
         }

@@ -106,7 +106,7 @@ fn work_text(alloc: Global, outcomes: &[JobOutcome], book: &Book<'_>) -> Result<
 {
     let table = book.table()?;
     let mut text = counts_text(alloc, outcomes)?;
-    push_rows(&mut text, book.set().draft(), &table)?;
+    push_rows(book.set().draft(), &table, &mut text)?;
     Ok(text)
 }
 
@@ -165,7 +165,7 @@ pub fn work_part<R: AllocGlobal + Eprint + Clock + Watched + Threads + Wait + Sy
     ensures { WritesOr (Err write_lost) (IsPartDone (mode.Work workers) (draft_tree set) part.now)
         (K.has_failed sink.new) (K.taken sink.old) (K.taken sink.new) result }
 {
-    match assess(rt.alloc(), set)? {
+    match assess(rt, set)? {
         Verified::Robust(set) => {
             let text = work_verified(rt, workers, &set, part)?;
             write_lines(sink, text.as_bytes(), Ok(Status::Done))

@@ -3,8 +3,9 @@
 use crate::sentences::kept_input::{second_part, set_of, set_text};
 use analysis_words::{certificate_words, refusal_words};
 use robust_cert::CertFault;
-use si_repair::{AnalyseFault, Finding, certify};
+use si_repair::{AnalyseFault, Finding, certify_par};
 use std::alloc::{AllocError, Global};
+use std::thread::Threads;
 
 /// Why a set is not analysed.
 pub fn analysis_sentence(fault: AnalyseFault) -> Option<&'static str> {
@@ -29,11 +30,15 @@ pub fn certificate_sentence(
 }
 
 /// Why the set of an input is refused, by one more analysis.
-pub fn refusal_sentence(alloc: Global, input: &[u8]) -> Result<Option<String>, AllocError> {
+pub fn refusal_sentence(
+    rt: &(impl AllocGlobal + Threads + Sync),
+    input: &[u8],
+) -> Result<Option<String>, AllocError> {
+    let alloc = rt.alloc();
     let Some(set) = set_of(alloc, input) else {
         return Ok(None);
     };
-    match certify(alloc, &set) {
+    match certify_par(rt, alloc, &set) {
         Ok(Finding::Refused(danger)) => refusal_words(alloc, set_text(input), &set, &danger),
         _ => Ok(None),
     }

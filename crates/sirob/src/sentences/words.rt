@@ -4,9 +4,9 @@ use crate::command_line::Mode;
 use crate::parts::PartFault;
 use crate::run_fault::RunFault;
 use crate::sentences::analysis::{analysis_sentence, certificate_sentence, refusal_sentence};
-use crate::sentences::cycle::{audit_cycle_sentence, run_cycle_sentence};
 use crate::sentences::kept_input::{second_part, set_of, set_text};
 use crate::sentences::repair::{repair_fault_sentence, repair_sentence};
+use crate::sentences::runs::{audit_cycle_sentence, refused_sentence, run_cycle_sentence};
 use crate::sentences::work::work_sentence;
 use crate::status::Status;
 use analysis_words::json_words;
@@ -15,6 +15,7 @@ use history_book::AuditFault;
 use run_words::{PartKind, extra_part_words, line_fault_words, missing_part_words, record_words};
 use si_engine::{InputFault, LineFault, ScriptFault};
 use std::alloc::{AllocError, Global};
+use std::thread::Threads;
 
 // What stands in the second part of a command's input, where it has one.
 fn second_wanted(mode: Mode) -> Option<&'static str> {
@@ -143,51 +144,52 @@ fn words_of(
 
 // Why no serial order is sure, or why there is none.
 fn unserializable_sentence(
-    alloc: Global,
+    rt: &(impl AllocGlobal + Threads + Sync),
     mode: Mode,
     input: &[u8],
 ) -> Result<Option<String>, AllocError> {
     match mode {
         Mode::Check | Mode::Verify | Mode::Repair { .. } => Ok(None),
         Mode::Certify | Mode::Run { robust: true } | Mode::Work { .. } => refusal_sentence(
-            alloc, input,
+            rt, input,
         ),
-        Mode::Run { robust: false } => run_cycle_sentence(alloc, input),
-        Mode::Audit => audit_cycle_sentence(alloc, input),
+        Mode::Run { robust: false } => run_cycle_sentence(rt.alloc(), input),
+        Mode::Audit => audit_cycle_sentence(rt.alloc(), input),
     }
 }
 
 fn done_sentence(alloc: Global, mode: Mode, input: &[u8]) -> Result<Option<String>, AllocError> {
     match mode {
         Mode::Repair { promote } => repair_sentence(alloc, input, promote),
+        Mode::Run { .. } => refused_sentence(alloc, input),
         _ => Ok(None),
     }
 }
 
 // What is to be said of how a command ended.
 fn ending_words(
-    alloc: Global,
+    rt: &(impl AllocGlobal + Threads + Sync),
     mode: Mode,
     input: &[u8],
     ended: Result<Status, RunFault>,
 ) -> Result<Option<String>, AllocError> {
     match ended {
-        Ok(Status::Unserializable) => unserializable_sentence(alloc, mode, input),
-        Ok(Status::Done) => done_sentence(alloc, mode, input),
+        Ok(Status::Unserializable) => unserializable_sentence(rt, mode, input),
+        Ok(Status::Done) => done_sentence(rt.alloc(), mode, input),
         Ok(Status::Faulty | Status::Memory) => Ok(None),
-        Err(fault) => words_of(alloc, mode, input, fault),
+        Err(fault) => words_of(rt.alloc(), mode, input, fault),
     }
 }
 
 /// Says on the standard error what is wrong with an input, or why its set is refused, unless memory
 /// runs out for it.
 pub fn explain(
-    rt: &(impl AllocGlobal + Eprint),
+    rt: &(impl AllocGlobal + Eprint + Threads + Sync),
     mode: Mode,
     input: &[u8],
     ended: Result<Status, RunFault>,
 ) {
-    if let Ok(Some(words)) = ending_words(rt.alloc(), mode, input, ended) {
+    if let Ok(Some(words)) = ending_words(rt, mode, input, ended) {
         let _ = rt.eprint(&words);
     }
 }

@@ -6,14 +6,14 @@ use Rattle.sirob.proofs.StopLaws.{stops_at_once, refused_input, set_refused}
 use Rattle.sirob.proofs.commands.certify.input_finding.Goals as goal
 
 pub returns-in_err-set-clause-err : goal.returns-in_err-set-clause-err
-returns-in_err-set-clause-err c =
+returns-in_err-set-clause-err g c =
     let exit = err_from_is_err_and c.from_residual.result c.from_residual.ensures.1 in
     let f = c.in_err-set.field-0.0 in
     let input = c.args.input.now in
     rw (exit.1, exit.2) (stops_at_once Certify input f (λ no_memory. refused_input Certify 1 input f refl (c.in_err-set.ensures.err no_memory)))
 
 pub returns-in_err-told-clause-err : goal.returns-in_err-told-clause-err
-returns-in_err-told-clause-err c =
+returns-in_err-told-clause-err g c =
     let exit = err_from_is_err_and c.from_residual-in_err-told.result c.from_residual-in_err-told.ensures.1 in
     let f = c.in_err-told.field-0.0 in
     let input = c.args.input.now in
@@ -21,4 +21,4 @@ returns-in_err-told-clause-err c =
     rw (exit.1, exit.2) (stops_at_once Certify input f (λ no_memory. set_refused input set c.in_ok-set.ensures.ok f (c.in_err-told.ensures.err no_memory)))
 
 pub returns-clause-ok : goal.returns-clause-ok
-returns-clause-ok c = (draft_tree c.in_ok-set.set, c.in_ok-set.ensures.ok, c.in_ok-told.ensures.ok)
+returns-clause-ok g c = (draft_tree c.in_ok-set.set, c.in_ok-set.ensures.ok, c.in_ok-told.ensures.ok)

@@ -1,4 +1,5 @@
-//! The cycle in which the commits of a run or an audit end, as it is said to people.
+//! What a run or an audit comes to, as it is said to people: the cycle in which its commits end, and the lines of a
+//! script that do nothing.
 
 ghost use Rattle.std.specs.Prelude.{ℕ, List, IfNone, IfOk, IfSome, string_bytes};
 ghost use Rattle.history_book.specs.Orders.{IsCycle};
@@ -8,7 +9,7 @@ ghost use Rattle.run_words.specs.Cycles.{ShowsCycle};
 use crate::sentences::kept_input::{second_part, set_of};
 use history_book::{Book, OrderFault};
 use prog_check::ProgramSet;
-use run_words::cycle_words;
+use run_words::{cycle_words, refused_words};
 use si_engine::{Bytes, Engine, Records, Script, read_records, read_script};
 use std::alloc::{AllocError, Global};
 
@@ -66,6 +67,18 @@ pub fn run_cycle_sentence(alloc: Global, input: &[u8]) -> Result<Option<String>,
     match set_of(alloc, input) {
         Some(set) => cycle_of_script(alloc, &set, second_part(input)),
         None => Ok(None),
+    }
+}
+
+/// Which lines of the script of an input do nothing, by one more run.
+pub fn refused_sentence(alloc: Global, input: &[u8]) -> Result<Option<String>, AllocError> {
+    let Some(set) = set_of(alloc, input) else {
+        return Ok(None);
+    };
+    let part = second_part(input);
+    match read_script(alloc, &set, &mut Bytes::new(part)) {
+        Ok(script) => refused_words(alloc, &set, part, script),
+        Err(_) => Ok(None),
     }
 }
 
