@@ -40,5 +40,13 @@ pub fn wide_text(alloc: Global, pairs: usize) -> Result<String, AllocError> {
 /// The committing paths of a text.
 pub fn paths_of(alloc: Global, text: &str) -> Result<Vec<Path>, Fail> {
     let set = set_of(alloc, text)?;
-    Ok(paths(alloc, &set)?)
+    let paths = paths(alloc, &set);
+    drop(set);
+    Ok(paths?)
+}
+
+/// The committing paths of a wide text.
+pub fn wide_paths(alloc: Global, pairs: usize) -> Result<Vec<Path>, Fail> {
+    let text = wide_text(alloc, pairs)?;
+    paths_of(alloc, text.as_str())
 }

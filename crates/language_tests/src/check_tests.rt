@@ -62,10 +62,18 @@ fn compare(rt: &impl Abort, set: &ProgramSet) {
     assert!(rt; set.draft().programs.len() == 3);
 }
 
+// A copy of the set of a text.
+fn copy_of(alloc: Global, text: &str) -> Result<ProgramSet, Fail> {
+    let set = set_of(alloc, text)?;
+    let copy = set.copy();
+    drop(set);
+    Ok(copy?)
+}
+
 #[test]
 fn a_set_finds_its_names(rt: HostRuntime) -> Result<(), Fail> {
-    let set = set_of(rt.alloc(), LEDGER)?;
-    let copy = set.copy()?;
+    let copy = copy_of(rt.alloc(), LEDGER)?;
     compare(&rt, &copy);
+    drop(copy);
     Ok(())
 }

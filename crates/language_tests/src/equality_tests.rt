@@ -7,6 +7,7 @@ use prog_tree::{
     same_tables, table_states_stay_i64, table_states_stay_in_order,
 };
 use std::alloc::Global;
+use std::process::Abort;
 use std::test::Fail;
 
 const SET: &str = "table t 1; program P(k, v) { put t[k] = v; reply v; }";
@@ -41,17 +42,25 @@ const OTHERS: [(&str, (bool, bool)); 3] = [
 // Whether the set of another text is the same in tables and program.
 fn is_same_as(alloc: Global, set: &ProgramSet, text: &str) -> Result<(bool, bool), Fail> {
     let other = set_of(alloc, text)?;
-    Ok(are_same(set, &other))
+    let same = are_same(set, &other);
+    drop(other);
+    Ok(same)
+}
+
+fn compare(rt: &impl Abort, alloc: Global, set: &ProgramSet) -> Result<(), Fail> {
+    for (text, same) in OTHERS {
+        let found = is_same_as(alloc, set, text)?;
+        assert!(rt; found == same, "{text}");
+    }
+    Ok(())
 }
 
 #[test]
 fn sets_are_the_same_by_their_trees(rt: HostRuntime) -> Result<(), Fail> {
     let set = set_of(rt.alloc(), SET)?;
-    for (text, same) in OTHERS {
-        let found = is_same_as(rt.alloc(), &set, text)?;
-        assert!(rt; found == same, "{text}");
-    }
-    Ok(())
+    let compared = compare(&rt, rt.alloc(), &set);
+    drop(set);
+    compared
 }
 
 fn look(first: i64, held: Option<i64>) -> Look {

@@ -11,6 +11,8 @@ mod copy_tests;
 #[cfg(test)]
 mod equality_tests;
 #[cfg(test)]
+mod refused_tests;
+#[cfg(test)]
 mod run_tests;
 #[cfg(test)]
 mod text_tests;

@@ -143,20 +143,33 @@ fn play_calls(
     Ok(())
 }
 
+fn play_run(
+    rt: &impl Abort,
+    alloc: Global,
+    run: &mut Run<'_>,
+    example: &Example,
+) -> Result<(), AllocError> {
+    let rows = rows_of(alloc, example)?;
+    play_calls(rt, alloc, run, &rows, example.calls)
+}
+
 fn play_in(
     rt: &impl Abort,
     alloc: Global,
     set: &ProgramSet,
     example: &Example,
 ) -> Result<(), Fail> {
-    let rows = rows_of(alloc, example)?;
     let mut run = Run::new(alloc, set, example.program, example.args)?;
-    Ok(play_calls(rt, alloc, &mut run, &rows, example.calls)?)
+    let played = play_run(rt, alloc, &mut run, example);
+    drop(run);
+    Ok(played?)
 }
 
 fn play(rt: &impl Abort, alloc: Global, example: &Example) -> Result<(), Fail> {
     let set = set_of(alloc, example.text)?;
-    play_in(rt, alloc, &set, example)
+    let played = play_in(rt, alloc, &set, example);
+    drop(set);
+    played
 }
 
 const AMALGAMATE: Example = Example {
@@ -253,7 +266,11 @@ fn begun(
     args: &[i64],
 ) -> Result<String, AllocError> {
     match Run::new(alloc, set, program, args) {
-        Ok(run) => shown_begin(alloc, &run),
+        Ok(run) => {
+            let shown = shown_begin(alloc, &run);
+            drop(run);
+            shown
+        }
         Err(fault) => fault.to_string(alloc),
     }
 }
@@ -266,14 +283,20 @@ const BEGINS: [(usize, &[i64], &str); 4] = [
     (0, &[7], "1 1 [7]"),
 ];
 
-#[test]
-fn a_begin_wants_a_program_and_its_arguments(rt: HostRuntime) -> Result<(), Fail> {
-    let set = set_of(rt.alloc(), OWN)?;
+fn begin_all(rt: &impl Abort, alloc: Global, set: &ProgramSet) -> Result<(), AllocError> {
     for (program, args, want) in BEGINS {
-        let begun = begun(rt.alloc(), &set, program, args)?;
+        let begun = begun(alloc, set, program, args)?;
         assert!(rt; begun.as_str() == want, "{begun}");
     }
     Ok(())
+}
+
+#[test]
+fn a_begin_wants_a_program_and_its_arguments(rt: HostRuntime) -> Result<(), Fail> {
+    let set = set_of(rt.alloc(), OWN)?;
+    let begun = begin_all(&rt, rt.alloc(), &set);
+    drop(set);
+    Ok(begun?)
 }
 
 /// The overflow set.

@@ -2,7 +2,7 @@
 
 use example_sets::{TRANSFER, set_of};
 use prog_tree::{Cell, Rows};
-use robust_cert::{RobustSet, from_json, verify};
+use robust_cert::{Certificate, RobustSet, from_json, verify};
 use std::alloc::{AllocError, Global};
 use std::test::Fail;
 
@@ -55,14 +55,23 @@ pub const TRANSFERS: Certified = Certified {
 ],\"levels\":[1],\"version\":1}",
 };
 
+fn verified(alloc: Global, text: &str, certificate: &Certificate) -> Result<RobustSet, Fail> {
+    let set = set_of(alloc, text)?;
+    match verify(alloc, set, certificate) {
+        Ok(robust) => Ok(robust),
+        Err((set, _fault)) => {
+            drop(set);
+            Err(Fail::new("the certificate is not accepted"))
+        }
+    }
+}
+
 /// The set, for which its certificate is accepted.
 pub fn robust(alloc: Global, given: &Certified) -> Result<RobustSet, Fail> {
-    let set = set_of(alloc, given.text)?;
     let certificate = from_json(alloc, given.certificate.as_bytes())?;
-    match verify(alloc, set, &certificate) {
-        Ok(robust) => Ok(robust),
-        Err(_) => Err(Fail::new("the certificate is not accepted")),
-    }
+    let robust = verified(alloc, given.text, &certificate);
+    drop(certificate);
+    robust
 }
 
 /// A cell of the table `t`.

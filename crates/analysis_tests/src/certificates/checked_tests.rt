@@ -16,16 +16,29 @@ program Put() { put t[2] = 5; }
 /// How many programs the robust set has, or the fault of a certificate.
 fn checked(alloc: Global, set: ProgramSet, certificate: &Certificate) -> Result<usize, CertFault> {
     match verify(alloc, set, certificate) {
-        Ok(robust) => Ok(robust.set().draft().programs.len()),
-        Err((_set, fault)) => Err(fault),
+        Ok(robust) => {
+            let programs = robust.set().draft().programs.len();
+            drop(robust);
+            Ok(programs)
+        }
+        Err((set, fault)) => {
+            drop(set);
+            Err(fault)
+        }
     }
+}
+
+fn said(alloc: Global, certificate: &Certificate) -> Result<Result<usize, CertFault>, Fail> {
+    let set = set_of(alloc, LOOK_AND_PUT)?;
+    Ok(checked(alloc, set, certificate))
 }
 
 /// What the checker says of the text of a certificate.
 fn said_of(alloc: Global, text: &str) -> Result<Result<usize, CertFault>, Fail> {
     let certificate = from_json(alloc, text.as_bytes())?;
-    let set = set_of(alloc, LOOK_AND_PUT)?;
-    Ok(checked(alloc, set, &certificate))
+    let said = said(alloc, &certificate);
+    drop(certificate);
+    said
 }
 
 /// That the look and the put never meet, by chains that fall, that rise, and that go by more than

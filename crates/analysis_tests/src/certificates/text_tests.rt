@@ -182,7 +182,11 @@ fn is_written_of(alloc: Global, written: &str, certificate: &Certificate) -> boo
 /// Whether a text is read, and this is written of it again.
 fn is_written_as(alloc: Global, text: &str, written: &str) -> bool {
     match from_json(alloc, text.as_bytes()) {
-        Ok(certificate) => is_written_of(alloc, written, &certificate),
+        Ok(certificate) => {
+            let is_written = is_written_of(alloc, written, &certificate);
+            drop(certificate);
+            is_written
+        }
         Err(_) => false,
     }
 }
@@ -226,16 +230,18 @@ fn report_entry(alloc: Global) -> Result<Entry, Fail> {
 }
 
 fn report(alloc: Global) -> Result<Certificate, Fail> {
+    let levels = Sequence::from_vec(Vec::from_array(alloc, [3, 3, 3])?);
     let entry = report_entry(alloc)?;
     let entries = Sequence::from_vec(Vec::from_array(alloc, [entry])?);
-    let levels = Sequence::from_vec(Vec::from_array(alloc, [3, 3, 3])?);
     Ok(Certificate { entries, levels })
 }
 
 #[test]
 fn a_certificate_is_built_and_written(rt: HostRuntime) -> Result<(), Fail> {
     let certificate = report(rt.alloc())?;
-    assert!(rt; is_written_of(rt.alloc(), REPORT, &certificate));
+    let is_written = is_written_of(rt.alloc(), REPORT, &certificate);
+    drop(certificate);
+    assert!(rt; is_written);
     Ok(())
 }
 

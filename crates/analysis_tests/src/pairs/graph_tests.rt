@@ -19,20 +19,35 @@ fn levels(alloc: Global, graph: &Graph) -> Result<String, AllocError> {
     Ok(text)
 }
 
-/// The danger of a table, or else its levels.
-fn told(alloc: Global, table: &PairTable) -> Result<String, AllocError> {
-    let graph = Graph::build(alloc, table)?;
+/// The danger of a graph, or else its levels.
+fn told_of_graph(alloc: Global, graph: &Graph) -> Result<String, AllocError> {
     match graph.danger()? {
         Some(danger) => shown(alloc, &danger),
-        None => levels(alloc, &graph),
+        None => levels(alloc, graph),
     }
+}
+
+fn told_of_table(alloc: Global, table: &PairTable) -> Result<String, AllocError> {
+    let graph = Graph::build(alloc, table)?;
+    let told = told_of_graph(alloc, &graph);
+    drop(graph);
+    told
+}
+
+/// The table of a set.
+fn table_of_text(rt: &impl Abort, alloc: Global, text: &str) -> Result<PairTable, Fail> {
+    let paths = paths_of(alloc, text)?;
+    let table = table_of(rt, alloc, &paths);
+    drop(paths);
+    Ok(table?)
 }
 
 /// Asserts what the danger of a set is, or else what its levels are.
 fn check(rt: &impl Abort, alloc: Global, text: &str, wanted: &str) -> Result<(), Fail> {
-    let paths = paths_of(alloc, text)?;
-    let table = table_of(rt, alloc, &paths)?;
-    let told = told(alloc, &table)?;
+    let table = table_of_text(rt, alloc, text)?;
+    let told = told_of_table(alloc, &table);
+    drop(table);
+    let told = told?;
     assert!(rt; told.as_str() == wanted, "{told}");
     Ok(())
 }
@@ -61,15 +76,25 @@ fn ledger_and_transfer_have_levels(rt: HostRuntime) -> Result<(), Fail> {
     check(&rt, rt.alloc(), TRANSFER, "1 ")
 }
 
-#[test]
-fn a_total_reaches_a_close_by_way_of_a_post(rt: HostRuntime) -> Result<(), Fail> {
-    let paths = paths_of(rt.alloc(), LEDGER)?;
-    let table = table_of(&rt, rt.alloc(), &paths)?;
-    let graph = Graph::build(rt.alloc(), &table)?;
+fn check_ledger(rt: &impl Abort, graph: &Graph) {
     assert!(rt; graph.nodes() == 3);
     assert!(rt; graph.reaches(0, 0) && !graph.edge(0, 0));
     assert!(rt; graph.edge(2, 0) && graph.edge(0, 1));
     assert!(rt; graph.reaches(2, 1) && !graph.edge(2, 1));
     assert!(rt; !graph.reaches(1, 2));
+}
+
+fn check_ledger_table(rt: &impl Abort, alloc: Global, table: &PairTable) -> Result<(), AllocError> {
+    let graph = Graph::build(alloc, table)?;
+    check_ledger(rt, &graph);
+    drop(graph);
     Ok(())
+}
+
+#[test]
+fn a_total_reaches_a_close_by_way_of_a_post(rt: HostRuntime) -> Result<(), Fail> {
+    let table = table_of_text(&rt, rt.alloc(), LEDGER)?;
+    let checked = check_ledger_table(&rt, rt.alloc(), &table);
+    drop(table);
+    Ok(checked?)
 }

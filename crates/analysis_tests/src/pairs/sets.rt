@@ -1,14 +1,25 @@
 //! The tables of sets, and texts of sets that these tests alone take.
 
-use conflict_pairs::{PairFault, PairTable, changes_single_cells, pairs};
+use conflict_pairs::{PairFault, PairTable, changes_single_cells, pairs, pairs_par};
 use prog_paths::Path;
 use std::alloc::Global;
 use std::process::Abort;
+use std::thread::Threads;
 
 /// The table of all questions of some paths.
 pub fn table_of(rt: &impl Abort, alloc: Global, paths: &[Path]) -> Result<PairTable, PairFault> {
     assert!(rt; paths.iter().all(|path| changes_single_cells(path)));
     pairs(alloc, paths)
+}
+
+/// The same, as `pairs_par` makes it.
+pub fn table_of_threads(
+    rt: &(impl Abort + Threads + Sync),
+    alloc: Global,
+    paths: &[Path],
+) -> Result<PairTable, PairFault> {
+    assert!(rt; paths.iter().all(|path| changes_single_cells(path)));
+    pairs_par(rt, alloc, paths)
 }
 
 /// Two programs that look at different cells from those that a third puts.

@@ -1,8 +1,8 @@
 //! Verdicts, and the table of all of them.
 
 use crate::dangers::{push_question, push_sample};
-use crate::examples::{paths_of, wide_text};
-use crate::pairs::sets::{NUMBERS, table_of};
+use crate::examples::{paths_of, wide_paths};
+use crate::pairs::sets::{NUMBERS, table_of, table_of_threads};
 use conflict_pairs::{
     Chain, PairFault, PairTable, Verdict, changes_single_cells, is_question, verdict,
 };
@@ -47,6 +47,12 @@ fn push_verdict(text: &mut String, verdict: &Verdict) -> Result<(), AllocError> 
     }
 }
 
+fn shown(alloc: Global, verdict: &Verdict) -> Result<String, AllocError> {
+    let mut text = String::new(alloc);
+    push_verdict(&mut text, verdict)?;
+    Ok(text)
+}
+
 /// The verdict on access `a` of one path against access `b` of another.
 fn judged(
     rt: &impl Abort,
@@ -73,9 +79,23 @@ fn said(
     let x = paths.get(mine.0).expect(rt, "the path is there");
     let y = paths.get(theirs.0).expect(rt, "the path is there");
     let verdict = judged(rt, alloc, x, mine.1, y, theirs.1)?;
-    let mut text = String::new(alloc);
-    push_verdict(&mut text, &verdict)?;
-    Ok(text)
+    let shown = shown(alloc, &verdict);
+    drop(verdict);
+    shown
+}
+
+/// Asserts what the verdicts on questions between paths are.
+fn check_paths(
+    rt: &impl Abort,
+    alloc: Global,
+    paths: &[Path],
+    questions: &[(Place, Place, &str)],
+) -> Result<(), AllocError> {
+    for (mine, theirs, wanted) in questions {
+        let said = said(rt, alloc, paths, *mine, *theirs)?;
+        assert!(rt; said.as_str() == *wanted, "{mine:?} {theirs:?}: {said}");
+    }
+    Ok(())
 }
 
 /// Asserts what the verdicts on questions of a set are.
@@ -86,29 +106,21 @@ fn check(
     questions: &[(Place, Place, &str)],
 ) -> Result<(), Fail> {
     let paths = paths_of(alloc, text)?;
-    for (mine, theirs, wanted) in questions {
-        let said = said(rt, alloc, &paths, *mine, *theirs)?;
-        assert!(rt; said.as_str() == *wanted, "{mine:?} {theirs:?}: {said}");
-    }
-    Ok(())
+    let checked = check_paths(rt, alloc, &paths, questions);
+    drop(paths);
+    Ok(checked?)
 }
 
-#[test]
-fn different_numbers_are_apart(rt: HostRuntime) -> Result<(), Fail> {
-    let verdict = "apart [Number(2), Number(1)]";
-    check(&rt, rt.alloc(), NUMBERS, &[((0, 0), (3, 0), verdict)])
-}
+/// Different numbers are apart, and so is a range by a parameter; a sample is nearest to zero.
+const ON_NUMBERS: [(Place, Place, &str); 3] = [
+    ((0, 0), (3, 0), "apart [Number(2), Number(1)]"),
+    ((1, 0), (4, 0), "apart [Number(7), Theirs(0), Number(5)]"),
+    ((2, 0), (5, 0), "exposed 0 0 0 0 0 3"),
+];
 
 #[test]
-fn a_range_is_apart_by_a_parameter(rt: HostRuntime) -> Result<(), Fail> {
-    let verdict = "apart [Number(7), Theirs(0), Number(5)]";
-    check(&rt, rt.alloc(), NUMBERS, &[((1, 0), (4, 0), verdict)])
-}
-
-#[test]
-fn a_sample_is_nearest_to_zero(rt: HostRuntime) -> Result<(), Fail> {
-    let verdict = "exposed 0 0 0 0 0 3";
-    check(&rt, rt.alloc(), NUMBERS, &[((2, 0), (5, 0), verdict)])
+fn numbers_are_apart_or_sampled(rt: HostRuntime) -> Result<(), Fail> {
+    check(&rt, rt.alloc(), NUMBERS, &ON_NUMBERS)
 }
 
 /// Questions of the path of WriteCheck with its penalty: two against Amalgamate, one against
@@ -149,6 +161,21 @@ fn push_table(text: &mut String, table: &PairTable) -> Result<(), AllocError> {
     Ok(())
 }
 
+/// The table of a set with one path.
+fn shown_table(
+    rt: &impl Abort,
+    alloc: Global,
+    table: Result<PairTable, PairFault>,
+) -> Result<String, Fail> {
+    let table = table?;
+    assert_eq!(rt; table.nodes(), 1);
+    let mut text = String::new(alloc);
+    let pushed = push_table(&mut text, &table);
+    drop(table);
+    pushed?;
+    Ok(text)
+}
+
 /// The questions between the accesses of the only path of the transfer set.
 const TRANSFERS: &str = "\
 0 0, 0 1: covered 1 1 [Mine(0), Theirs(0)] [Theirs(0), Mine(0)]
@@ -163,19 +190,23 @@ const TRANSFERS: &str = "\
 #[test]
 fn transfers_are_covered(rt: HostRuntime) -> Result<(), Fail> {
     let paths = paths_of(rt.alloc(), TRANSFER)?;
-    let table = table_of(&rt, rt.alloc(), &paths)?;
-    assert_eq!(rt; table.nodes(), 1);
-    let mut text = String::new(rt.alloc());
-    push_table(&mut text, &table)?;
-    assert_eq!(rt; text.as_str(), TRANSFERS);
+    let table = table_of(&rt, rt.alloc(), &paths);
+    let by_threads = table_of_threads(&rt, rt.alloc(), &paths);
+    drop(paths);
+    let shown = shown_table(&rt, rt.alloc(), table)?;
+    let shown_by_threads = shown_table(&rt, rt.alloc(), by_threads)?;
+    assert_eq!(rt; shown.as_str(), TRANSFERS);
+    assert_eq!(rt; shown_by_threads.as_str(), TRANSFERS);
     Ok(())
 }
 
 #[test]
 fn more_than_a_million_questions_are_too_many(rt: HostRuntime) -> Result<(), Fail> {
-    let text = wide_text(rt.alloc(), 2)?;
-    let paths = paths_of(rt.alloc(), text.as_str())?;
+    let paths = wide_paths(rt.alloc(), 2)?;
     let fault = table_of(&rt, rt.alloc(), &paths).err();
+    let fault_of_threads = table_of_threads(&rt, rt.alloc(), &paths).err();
+    drop(paths);
     assert!(rt; fault == Some(PairFault::TooLarge));
+    assert!(rt; fault_of_threads == Some(PairFault::TooLarge));
     Ok(())
 }

@@ -1,6 +1,6 @@
 //! The committing paths of sets.
 
-use crate::examples::{paths_of, wide_text};
+use crate::examples::{paths_of, wide_paths};
 use crate::paths::shown::{shown, shown_path};
 use example_sets::{LEDGER, MOVE, REPORT, SMALL_BANK, TRANSFER};
 use prog_paths::Path;
@@ -11,7 +11,9 @@ use std::test::Fail;
 /// Asserts what the paths of a text are.
 fn check(rt: &impl Abort, alloc: Global, text: &str, wanted: &str) -> Result<(), Fail> {
     let paths = paths_of(alloc, text)?;
-    let shown = shown(alloc, &paths)?;
+    let shown = shown(alloc, &paths);
+    drop(paths);
+    let shown = shown?;
     assert!(rt; shown.as_str() == wanted, "{shown}");
     Ok(())
 }
@@ -80,14 +82,20 @@ const WIDE_PATHS: [(usize, &str); 4] = [
     (511, "15 [false, false, false, false, false]: "),
 ];
 
-#[test]
-fn sixteen_programs_have_thirty_two_paths_each(rt: HostRuntime) -> Result<(), Fail> {
-    let text = wide_text(rt.alloc(), 12)?;
-    let paths = paths_of(rt.alloc(), text.as_str())?;
+/// Asserts what the wide paths are.
+fn check_wide(rt: &impl Abort, alloc: Global, paths: &[Path]) -> Result<(), AllocError> {
     assert_eq!(rt; paths.len(), 512);
     for (number, start) in WIDE_PATHS {
-        let path = paths.get(number).expect(&rt, "the path is there");
-        assert!(rt; is_wide(rt.alloc(), path, start)?, "{number}");
+        let path = paths.get(number).expect(rt, "the path is there");
+        assert!(rt; is_wide(alloc, path, start)?, "{number}");
     }
     Ok(())
+}
+
+#[test]
+fn sixteen_programs_have_thirty_two_paths_each(rt: HostRuntime) -> Result<(), Fail> {
+    let paths = wide_paths(rt.alloc(), 12)?;
+    let checked = check_wide(&rt, rt.alloc(), &paths);
+    drop(paths);
+    Ok(checked?)
 }

@@ -35,7 +35,9 @@ fn closed(
     let mine = access_at(paths, example.mine).expect(rt, "the access is there");
     let theirs = access_at(paths, example.theirs).expect(rt, "the access is there");
     let facts = question_facts(alloc, mine, theirs)?;
-    facts.close()
+    let closed = facts.close();
+    drop(facts);
+    closed
 }
 
 /// Asserts what the facts of an example say.
@@ -51,8 +53,11 @@ fn compare(rt: &impl Abort, facts: &Closed, example: &Example) {
 
 fn check(rt: &impl Abort, alloc: Global, example: &Example) -> Result<(), Fail> {
     let paths = paths_of(alloc, example.text)?;
-    let facts = closed(rt, alloc, &paths, example)?;
+    let facts = closed(rt, alloc, &paths, example);
+    drop(paths);
+    let facts = facts?;
     compare(rt, &facts, example);
+    drop(facts);
     Ok(())
 }
 

@@ -4,25 +4,48 @@ use crate::dangers::shown;
 use crate::examples::SKEW;
 use crate::repairs::sets::{APART, COLUMNS, KEPT_REPORT};
 use example_sets::{LEDGER, REPORT, SMALL_BANK, TRANSFER, set_of};
-use prog_check::ProgramSet;
 use robust_cert::to_json;
-use si_repair::{Finding, certify};
+use si_repair::{AnalyseFault, Finding, certify, certify_par};
 use std::alloc::Global;
 use std::process::Abort;
 use std::test::Fail;
+use std::thread::Threads;
 
-fn found(alloc: Global, set: &ProgramSet) -> Result<String, Fail> {
-    let text = match certify(alloc, set)? {
-        Finding::Robust(certificate) => to_json(alloc, &certificate)?,
-        Finding::Refused(danger) => shown(alloc, &danger)?,
-    };
-    Ok(text)
+fn told(alloc: Global, finding: &Finding) -> Result<String, Fail> {
+    match finding {
+        Finding::Robust(certificate) => Ok(to_json(alloc, certificate)?),
+        Finding::Refused(danger) => Ok(shown(alloc, danger)?),
+    }
+}
+
+fn told_of(alloc: Global, found: Result<Finding, AnalyseFault>) -> Result<String, Fail> {
+    let finding = found?;
+    let told = told(alloc, &finding);
+    drop(finding);
+    told
 }
 
 /// Asserts what is found of the set of a text.
 fn check(rt: &impl Abort, alloc: Global, text: &str, wanted: &str) -> Result<(), Fail> {
     let set = set_of(alloc, text)?;
-    let found = found(alloc, &set)?;
+    let found = certify(alloc, &set);
+    drop(set);
+    let found = told_of(alloc, found)?;
+    assert!(rt; found.as_str() == wanted, "{found}");
+    Ok(())
+}
+
+/// The same of what `certify_par` finds.
+fn check_by_threads(
+    rt: &(impl Abort + Threads + Sync),
+    alloc: Global,
+    text: &str,
+    wanted: &str,
+) -> Result<(), Fail> {
+    let set = set_of(alloc, text)?;
+    let found = certify_par(rt, alloc, &set);
+    drop(set);
+    let found = told_of(alloc, found)?;
     assert!(rt; found.as_str() == wanted, "{found}");
     Ok(())
 }
@@ -44,6 +67,7 @@ fn dangerous_sets_are_refused(rt: HostRuntime) -> Result<(), Fail> {
         ),
     ] {
         check(&rt, rt.alloc(), text, wanted)?;
+        check_by_threads(&rt, rt.alloc(), text, wanted)?;
     }
     Ok(())
 }
@@ -92,6 +116,7 @@ const COVERED: [(&str, &str); 3] = [
 fn covers_are_told_with_their_chains(rt: HostRuntime) -> Result<(), Fail> {
     for (text, certificate) in COVERED {
         check(&rt, rt.alloc(), text, certificate)?;
+        check_by_threads(&rt, rt.alloc(), text, certificate)?;
     }
     Ok(())
 }

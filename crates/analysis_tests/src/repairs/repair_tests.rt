@@ -2,6 +2,7 @@
 
 use crate::examples::{SKEW, wide_text};
 use example_sets::{MOVE, REPORT, SMALL_BANK, TRANSFER, set_of};
+use prog_check::ProgramSet;
 use prog_text::print;
 use prog_tree::Sequence;
 use si_repair::{Pair, Plan, RepairFault, materialise, plan, promote};
@@ -20,10 +21,18 @@ const PLANS: [(&str, &[Pair]); 5] = [
 /// The first program with itself.
 const ITSELF: Pair = Pair { from: 0, to: 0 };
 
+/// The plan of the set of a text.
+fn plan_of(alloc: Global, text: &str) -> Result<Plan, Fail> {
+    let set = set_of(alloc, text)?;
+    let plan = plan(alloc, &set);
+    drop(set);
+    Ok(plan?)
+}
+
 #[test]
 fn plans_have_the_pairs_that_are_needed(rt: HostRuntime) -> Result<(), Fail> {
     for (text, wanted) in PLANS {
-        let plan = plan(rt.alloc(), &set_of(rt.alloc(), text)?)?;
+        let plan = plan_of(rt.alloc(), text)?;
         assert_eq!(rt; plan.pairs.as_slice(), wanted);
     }
     Ok(())
@@ -37,14 +46,44 @@ fn own(alloc: Global, pairs: &[Pair]) -> Result<Plan, AllocError> {
     })
 }
 
+type Repaired = Result<ProgramSet, RepairFault>;
+
+/// A set materialised for a plan of a caller's own.
+fn materialised_set(
+    alloc: Global,
+    set: &ProgramSet,
+    pairs: &[Pair],
+) -> Result<Repaired, AllocError> {
+    let plan = own(alloc, pairs)?;
+    let repaired = materialise(alloc, set, &plan);
+    drop(plan);
+    Ok(repaired)
+}
+
+/// A set promoted for a plan of a caller's own.
+fn promoted_set(alloc: Global, set: &ProgramSet, pairs: &[Pair]) -> Result<Repaired, AllocError> {
+    let plan = own(alloc, pairs)?;
+    let repaired = promote(alloc, set, &plan);
+    drop(plan);
+    Ok(repaired)
+}
+
+/// The text of a set, which is let go.
+fn printed(alloc: Global, set: ProgramSet) -> Result<Vec<u8>, AllocError> {
+    let text = print(alloc, set.draft());
+    drop(set);
+    text
+}
+
 /// The text of a set materialised for a plan of a caller's own.
 fn materialised(alloc: Global, text: &str, pairs: &[Pair]) -> Result<Vec<u8>, Fail> {
     let set = set_of(alloc, text)?;
-    let plan = own(alloc, pairs)?;
-    let Ok(repaired) = materialise(alloc, &set, &plan) else {
-        return Err(Fail::new("a fault"));
-    };
-    Ok(print(alloc, repaired.draft())?)
+    let repaired = materialised_set(alloc, &set, pairs);
+    drop(set);
+    match repaired? {
+        Ok(repaired) => Ok(printed(alloc, repaired)?),
+        Err(_) => Err(Fail::new("a fault")),
+    }
 }
 
 /// The text of a set promoted for a plan of a caller's own, or why it is not.
@@ -54,9 +93,10 @@ fn promoted(
     pairs: &[Pair],
 ) -> Result<Result<Vec<u8>, RepairFault>, Fail> {
     let set = set_of(alloc, text)?;
-    let plan = own(alloc, pairs)?;
-    match promote(alloc, &set, &plan) {
-        Ok(repaired) => Ok(Ok(print(alloc, repaired.draft())?)),
+    let repaired = promoted_set(alloc, &set, pairs);
+    drop(set);
+    match repaired? {
+        Ok(repaired) => Ok(Ok(printed(alloc, repaired)?)),
         Err(fault) => Ok(Err(fault)),
     }
 }
@@ -78,6 +118,11 @@ program Echo(a) {
 fn a_pair_without_a_question_keeps_its_first_parameter(rt: HostRuntime) -> Result<(), Fail> {
     let twice = materialised(rt.alloc(), ECHO, &[ITSELF, ITSELF])?;
     assert_eq!(rt; twice.as_slice(), ECHO_TWICE);
+    Ok(())
+}
+
+#[test]
+fn a_pair_without_a_question_promotes_nothing(rt: HostRuntime) -> Result<(), Fail> {
     let none = promoted(rt.alloc(), ECHO, &[ITSELF])?;
     assert_eq!(rt; none?.as_slice(), ECHO.as_bytes());
     Ok(())

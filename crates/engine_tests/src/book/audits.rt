@@ -43,10 +43,9 @@ fn audited<'a>(
 /// What is wrong with records over the registers, which hold nothing at first.
 pub fn fault_of(alloc: Global, records: &[Record]) -> Result<Option<AuditFault>, Fail> {
     let set = set_of(alloc, REGISTERS)?;
-    match audited(alloc, &set, Rows::new(alloc), records) {
-        Ok(_) => Ok(None),
-        Err(fault) => Ok(Some(fault)),
-    }
+    let fault = audited(alloc, &set, Rows::new(alloc), records).err();
+    drop(set);
+    Ok(fault)
 }
 
 /// The least serial order, or the cycle that forbids it.
@@ -106,13 +105,25 @@ fn check_book(rt: &impl Abort, book: &Book<'_>, wanted: &Ordered) {
     check_fits(rt, book, wanted.unfitting, false);
 }
 
-/// Asks the book of records for its orders.
-pub fn check_orders(rt: &impl Abort, alloc: Global, wanted: &Ordered) -> Result<(), Fail> {
-    let set = set_of(alloc, wanted.set)?;
+fn check_set(
+    rt: &impl Abort,
+    alloc: Global,
+    set: &ProgramSet,
+    wanted: &Ordered,
+) -> Result<(), Fail> {
     let opening = rows_of(alloc, wanted.opening)?;
-    let Ok(book) = audited(alloc, &set, opening, wanted.records) else {
+    let Ok(book) = audited(alloc, set, opening, wanted.records) else {
         return Err(Fail::new("no book"));
     };
     check_book(rt, &book, wanted);
+    drop(book);
     Ok(())
+}
+
+/// Asks the book of records for its orders.
+pub fn check_orders(rt: &impl Abort, alloc: Global, wanted: &Ordered) -> Result<(), Fail> {
+    let set = set_of(alloc, wanted.set)?;
+    let checked = check_set(rt, alloc, &set, wanted);
+    drop(set);
+    checked
 }

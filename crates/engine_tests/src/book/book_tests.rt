@@ -55,166 +55,171 @@ const STOPPED: Ride = Ride {
     steps: 1,
 };
 
-#[test]
-fn begins_are_refused_or_numbered(rt: HostRuntime) -> Result<(), Fail> {
-    let calls = [
-        (
-            Call::Begin(NO_PROGRAM, &[]),
-            Answer::NotBegun(BeginFault::NoSuchProgram),
-        ),
-        (
-            Call::Begin(LOOK, &[]),
-            Answer::NotBegun(BeginFault::WrongArguments),
-        ),
-        (Call::Begin(LOOK, &[1]), Answer::Begun(0, 0)),
-        (Call::Begin(LOOK, &[1]), Answer::Begun(1, 0)),
-        (Call::IsFull, Answer::Is(false)),
-    ];
-    play(&rt, rt.alloc(), &[], &calls)
-}
+const BEGINS: &[(Call, Answer)] = &[
+    (
+        Call::Begin(NO_PROGRAM, &[]),
+        Answer::NotBegun(BeginFault::NoSuchProgram),
+    ),
+    (
+        Call::Begin(LOOK, &[]),
+        Answer::NotBegun(BeginFault::WrongArguments),
+    ),
+    (Call::Begin(LOOK, &[1]), Answer::Begun(0, 0)),
+    (Call::Begin(LOOK, &[1]), Answer::Begun(1, 0)),
+    (Call::IsFull, Answer::Is(false)),
+];
+
+const OPENED: &[(Call, Answer)] = &[
+    (Call::Program("Cut"), Answer::Count(2)),
+    (Call::Set(&[2, 7]), Answer::Committed(1)),
+    (Call::Opening(2), Answer::Holds(Some(6))),
+    (Call::Newest(2), Answer::Holds(Some(7))),
+    (Call::Newest(1), Answer::Holds(Some(5))),
+];
+
+const COMMITS: &[(Call, Answer)] = &[
+    (Call::Set(&[1, 5]), Answer::Committed(1)),
+    (Call::Set(&[1, 6]), Answer::Committed(2)),
+    (Call::Newest(1), Answer::Holds(Some(6))),
+    (Call::Commits, Answer::Count(2)),
+    (Call::StartOf(2), Answer::Count(1)),
+    (Call::StartOf(3), Answer::Nothing),
+    (Call::Ending(1), Answer::Committed(2)),
+    (Call::Ending(2), Answer::Nothing),
+];
+
+const OLD: &[(Call, Answer)] = &[
+    (Call::Begin(LOOK, &[1]), Answer::Begun(0, 0)),
+    (Call::Set(&[1, 5]), Answer::Committed(1)),
+    (Call::Get(1), Answer::Holds(None)),
+    (Call::Rows, Answer::Count(0)),
+    (Call::Begin(LOOK, &[1]), Answer::Begun(2, 1)),
+    (Call::Get(1), Answer::Holds(Some(5))),
+    (Call::Rows, Answer::Count(1)),
+];
+
+const FIRST_WINS: &[(Call, Answer)] = &[
+    (Call::Begin(SET, &[1, 7]), Answer::Begun(0, 0)),
+    (Call::Set(&[1, 5]), Answer::Committed(1)),
+    (Call::Commit(SEVEN), Answer::Clashed(1)),
+    (Call::Ending(1), Answer::Clashed(1)),
+    (Call::Newest(1), Answer::Holds(Some(5))),
+];
+
+const NEVER: &[(Call, Answer)] = &[
+    (Call::Begin(LOOK, &[1]), Answer::Begun(0, 0)),
+    (Call::Commit(INVENTED), Answer::ForeignRun(Place::Look(0))),
+    (Call::Withdraw, Answer::Withdrawn),
+    (Call::Commits, Answer::Count(0)),
+    (Call::Ending(0), Answer::Nothing),
+];
+
+const ALTERED: &[(Call, Answer)] = &[
+    (Call::Begin(LOOK, &[1]), Answer::Begun(0, 0)),
+    (Call::Commit(ELSEWHERE), Answer::ForeignRun(Place::Program)),
+    (Call::Commit(INVENTED), Answer::ForeignRun(Place::Look(0))),
+    (Call::Commit(UNMOVED), Answer::WrongEnd),
+    (Call::Commit(LOOKED), Answer::Committed(1)),
+];
+
+/// In the first book the instance of this number was withdrawn.
+const UNKNOWN: &[(Call, Answer)] = &[
+    (Call::Begin(LOOK, &[1]), Answer::Begun(0, 0)),
+    (Call::Withdraw, Answer::Withdrawn),
+    (Call::BeginElsewhere(LOOK, &[1]), Answer::Begun(0, 0)),
+    (Call::Get(1), Answer::NoSuchTicket),
+    (Call::Rows, Answer::NoSuchTicket),
+    (Call::Commit(LOOKED), Answer::NoSuchTicket),
+    (Call::End(STOPPED), Answer::NoSuchTicket),
+    (Call::Withdraw, Answer::NoSuchTicket),
+];
+
+const SAME_NUMBER: &[(Call, Answer)] = &[
+    (Call::Begin(LOOK, &[1]), Answer::Begun(0, 0)),
+    (Call::BeginElsewhere(LOOK, &[1]), Answer::Begun(0, 0)),
+    (Call::Get(1), Answer::Holds(Some(5))),
+    (Call::Withdraw, Answer::Withdrawn),
+];
+
+const ABORTED: &[(Call, Answer)] = &[
+    (Call::Begin(STOP, &[]), Answer::Begun(0, 0)),
+    (Call::Commit(STOPPED), Answer::WrongEnd),
+    (Call::End(LOOKED), Answer::WrongEnd),
+    (Call::End(STOPPED), Answer::Aborted),
+    (Call::Ending(0), Answer::Aborted),
+    (Call::Commits, Answer::Count(0)),
+];
+
+const ENDINGS: &[(Call, Answer)] = &[
+    (Call::Begin(STOP, &[]), Answer::Begun(0, 0)),
+    (Call::End(STOPPED), Answer::Aborted),
+    (Call::Begin(STOP, &[]), Answer::Begun(1, 0)),
+    (Call::End(STOPPED), Answer::Aborted),
+    (Call::Set(&[1, 5]), Answer::Committed(1)),
+    (Call::Begin(STOP, &[]), Answer::Begun(3, 1)),
+    (Call::End(STOPPED), Answer::Aborted),
+    (Call::SameEndings(0, 1), Answer::Is(true)),
+    (Call::SameEndings(0, 2), Answer::Is(false)),
+    (Call::SameEndings(0, 3), Answer::Is(false)),
+];
+
+const DROPPED: &[(Call, Answer)] = &[
+    (Call::Begin(LOOK, &[1]), Answer::Begun(0, 0)),
+    (Call::Set(&[1, 1]), Answer::Committed(1)),
+    (Call::Set(&[1, 2]), Answer::Committed(2)),
+    (Call::Vacuum, Answer::Count(0)),
+    (Call::Vacuum, Answer::Count(0)),
+];
+
+/// The ticket from elsewhere takes the place of the book's own, which is dropped.
+const FREED: &[(Call, Answer)] = &[
+    (Call::Begin(LOOK, &[1]), Answer::Begun(0, 0)),
+    (Call::Set(&[1, 1]), Answer::Committed(1)),
+    (Call::BeginElsewhere(LOOK, &[2]), Answer::Begun(0, 0)),
+    (Call::Set(&[1, 2]), Answer::Committed(2)),
+    (Call::Vacuum, Answer::Count(0)),
+    (Call::Vacuum, Answer::Count(0)),
+];
+
+/// What is shown, the rows at first, and the calls.
+type Case = (
+    &'static str,
+    &'static [(usize, i64, i64)],
+    &'static [(Call, Answer)],
+);
+
+const CASES: [Case; 13] = [
+    ("begins are refused or numbered", &[], BEGINS),
+    (
+        "a book tells what it was opened with",
+        &[(0, 1, 5), (0, 2, 6)],
+        OPENED,
+    ),
+    ("commits are kept", &[], COMMITS),
+    ("an old instance sees its snapshot", &[], OLD),
+    ("the first committer wins", &[], FIRST_WINS),
+    ("invented answers never commit", &[], NEVER),
+    ("an altered run leaves the ticket good", &[], ALTERED),
+    ("a ticket of another book is unknown", &[], UNKNOWN),
+    (
+        "a ticket with the same number counts",
+        &[(0, 1, 5)],
+        SAME_NUMBER,
+    ),
+    ("an aborted run ends its instance", &[], ABORTED),
+    (
+        "endings are the same by their rows and causes",
+        &[],
+        ENDINGS,
+    ),
+    ("a dropped ticket holds the floor", &[(0, 1, 0)], DROPPED),
+    ("no call frees a dropped ticket", &[(0, 1, 0)], FREED),
+];
 
 #[test]
-fn a_book_tells_what_it_was_opened_with(rt: HostRuntime) -> Result<(), Fail> {
-    let calls = [
-        (Call::Program("Cut"), Answer::Count(2)),
-        (Call::Set(&[2, 7]), Answer::Committed(1)),
-        (Call::Opening(2), Answer::Holds(Some(6))),
-        (Call::Newest(2), Answer::Holds(Some(7))),
-        (Call::Newest(1), Answer::Holds(Some(5))),
-    ];
-    play(&rt, rt.alloc(), &[(0, 1, 5), (0, 2, 6)], &calls)
-}
-
-#[test]
-fn commits_are_kept(rt: HostRuntime) -> Result<(), Fail> {
-    let calls = [
-        (Call::Set(&[1, 5]), Answer::Committed(1)),
-        (Call::Set(&[1, 6]), Answer::Committed(2)),
-        (Call::Newest(1), Answer::Holds(Some(6))),
-        (Call::Commits, Answer::Count(2)),
-        (Call::StartOf(2), Answer::Count(1)),
-        (Call::StartOf(3), Answer::Nothing),
-        (Call::Ending(1), Answer::Committed(2)),
-        (Call::Ending(2), Answer::Nothing),
-    ];
-    play(&rt, rt.alloc(), &[], &calls)
-}
-
-#[test]
-fn an_old_instance_sees_its_snapshot(rt: HostRuntime) -> Result<(), Fail> {
-    let calls = [
-        (Call::Begin(LOOK, &[1]), Answer::Begun(0, 0)),
-        (Call::Set(&[1, 5]), Answer::Committed(1)),
-        (Call::Get(1), Answer::Holds(None)),
-        (Call::Rows, Answer::Count(0)),
-        (Call::Begin(LOOK, &[1]), Answer::Begun(2, 1)),
-        (Call::Get(1), Answer::Holds(Some(5))),
-        (Call::Rows, Answer::Count(1)),
-    ];
-    play(&rt, rt.alloc(), &[], &calls)
-}
-
-#[test]
-fn the_first_committer_wins(rt: HostRuntime) -> Result<(), Fail> {
-    let calls = [
-        (Call::Begin(SET, &[1, 7]), Answer::Begun(0, 0)),
-        (Call::Set(&[1, 5]), Answer::Committed(1)),
-        (Call::Commit(SEVEN), Answer::Clashed(1)),
-        (Call::Ending(1), Answer::Clashed(1)),
-        (Call::Newest(1), Answer::Holds(Some(5))),
-    ];
-    play(&rt, rt.alloc(), &[], &calls)
-}
-
-#[test]
-fn invented_answers_never_commit(rt: HostRuntime) -> Result<(), Fail> {
-    let calls = [
-        (Call::Begin(LOOK, &[1]), Answer::Begun(0, 0)),
-        (Call::Commit(INVENTED), Answer::ForeignRun(Place::Look(0))),
-        (Call::Withdraw, Answer::Withdrawn),
-        (Call::Commits, Answer::Count(0)),
-        (Call::Ending(0), Answer::Nothing),
-    ];
-    play(&rt, rt.alloc(), &[], &calls)
-}
-
-#[test]
-fn an_altered_run_leaves_the_ticket_good(rt: HostRuntime) -> Result<(), Fail> {
-    let calls = [
-        (Call::Begin(LOOK, &[1]), Answer::Begun(0, 0)),
-        (Call::Commit(ELSEWHERE), Answer::ForeignRun(Place::Program)),
-        (Call::Commit(INVENTED), Answer::ForeignRun(Place::Look(0))),
-        (Call::Commit(UNMOVED), Answer::WrongEnd),
-        (Call::Commit(LOOKED), Answer::Committed(1)),
-    ];
-    play(&rt, rt.alloc(), &[], &calls)
-}
-
-// In the first book the instance of this number was withdrawn.
-#[test]
-fn a_ticket_of_another_book_is_unknown(rt: HostRuntime) -> Result<(), Fail> {
-    let calls = [
-        (Call::Begin(LOOK, &[1]), Answer::Begun(0, 0)),
-        (Call::Withdraw, Answer::Withdrawn),
-        (Call::BeginElsewhere(LOOK, &[1]), Answer::Begun(0, 0)),
-        (Call::Get(1), Answer::NoSuchTicket),
-        (Call::Rows, Answer::NoSuchTicket),
-        (Call::Commit(LOOKED), Answer::NoSuchTicket),
-        (Call::End(STOPPED), Answer::NoSuchTicket),
-        (Call::Withdraw, Answer::NoSuchTicket),
-    ];
-    play(&rt, rt.alloc(), &[], &calls)
-}
-
-#[test]
-fn a_ticket_with_the_same_number_counts(rt: HostRuntime) -> Result<(), Fail> {
-    let calls = [
-        (Call::Begin(LOOK, &[1]), Answer::Begun(0, 0)),
-        (Call::BeginElsewhere(LOOK, &[1]), Answer::Begun(0, 0)),
-        (Call::Get(1), Answer::Holds(Some(5))),
-        (Call::Withdraw, Answer::Withdrawn),
-    ];
-    play(&rt, rt.alloc(), &[(0, 1, 5)], &calls)
-}
-
-#[test]
-fn an_aborted_run_ends_its_instance(rt: HostRuntime) -> Result<(), Fail> {
-    let calls = [
-        (Call::Begin(STOP, &[]), Answer::Begun(0, 0)),
-        (Call::Commit(STOPPED), Answer::WrongEnd),
-        (Call::End(LOOKED), Answer::WrongEnd),
-        (Call::End(STOPPED), Answer::Aborted),
-        (Call::Ending(0), Answer::Aborted),
-        (Call::Commits, Answer::Count(0)),
-    ];
-    play(&rt, rt.alloc(), &[], &calls)
-}
-
-#[test]
-fn endings_are_the_same_by_their_rows_and_causes(rt: HostRuntime) -> Result<(), Fail> {
-    let calls = [
-        (Call::Begin(STOP, &[]), Answer::Begun(0, 0)),
-        (Call::End(STOPPED), Answer::Aborted),
-        (Call::Begin(STOP, &[]), Answer::Begun(1, 0)),
-        (Call::End(STOPPED), Answer::Aborted),
-        (Call::Set(&[1, 5]), Answer::Committed(1)),
-        (Call::Begin(STOP, &[]), Answer::Begun(3, 1)),
-        (Call::End(STOPPED), Answer::Aborted),
-        (Call::SameEndings(0, 1), Answer::Is(true)),
-        (Call::SameEndings(0, 2), Answer::Is(false)),
-        (Call::SameEndings(0, 3), Answer::Is(false)),
-    ];
-    play(&rt, rt.alloc(), &[], &calls)
-}
-
-#[test]
-fn a_dropped_ticket_holds_the_floor(rt: HostRuntime) -> Result<(), Fail> {
-    let calls = [
-        (Call::Begin(LOOK, &[1]), Answer::Begun(0, 0)),
-        (Call::Set(&[1, 1]), Answer::Committed(1)),
-        (Call::Set(&[1, 2]), Answer::Committed(2)),
-        (Call::Vacuum, Answer::Count(0)),
-        (Call::Vacuum, Answer::Count(0)),
-    ];
-    play(&rt, rt.alloc(), &[(0, 1, 0)], &calls)
+fn instances_come_to_what_is_told_by_hand(rt: HostRuntime) -> Result<(), Fail> {
+    for (name, given, calls) in CASES {
+        play(&rt, rt.alloc(), name, given, calls)?;
+    }
+    Ok(())
 }

@@ -8,7 +8,7 @@ use example_sets::set_of;
 use history_book::{Book, Ticket};
 use prog_check::ProgramSet;
 use prog_tree::{Region, Rows};
-use std::alloc::Global;
+use std::alloc::{AllocError, Global};
 use std::process::Abort;
 use std::test::Fail;
 
@@ -47,7 +47,9 @@ impl<'a> Desk<'a> {
         let Ok(mut other) = Book::open(self.alloc, self.set, Rows::new(self.alloc)) else {
             return Answer::Memory;
         };
-        match other.begin(program, args) {
+        let begun = other.begin(program, args);
+        drop(other);
+        match begun {
             Ok(ticket) => self.take(ticket),
             Err(fault) => Answer::NotBegun(fault),
         }
@@ -74,11 +76,11 @@ impl<'a> Desk<'a> {
     }
 
     fn commit(&mut self, ride: &Ride) -> Answer {
-        let Some(run) = run_of(self.alloc, self.set, ride) else {
-            return Answer::Memory;
-        };
         let Some(ticket) = self.ticket.take() else {
             return Answer::Nothing;
+        };
+        let Some(run) = run_of(self.alloc, self.set, ride) else {
+            return Answer::Memory;
         };
         let (answer, back) = commit(&mut self.book, ticket, run);
         self.ticket = back;
@@ -86,11 +88,11 @@ impl<'a> Desk<'a> {
     }
 
     fn end(&mut self, ride: &Ride) -> Answer {
-        let Some(run) = run_of(self.alloc, self.set, ride) else {
-            return Answer::Memory;
-        };
         let Some(ticket) = self.ticket.take() else {
             return Answer::Nothing;
+        };
+        let Some(run) = run_of(self.alloc, self.set, ride) else {
+            return Answer::Memory;
         };
         let (answer, back) = end(&mut self.book, ticket, run);
         self.ticket = back;
@@ -104,10 +106,10 @@ impl<'a> Desk<'a> {
             held: None,
             steps: 2,
         };
-        let Some(run) = run_of(self.alloc, self.set, &ride) else {
+        let Ok(ticket) = self.book.begin(SET, args) else {
             return Answer::Memory;
         };
-        let Ok(ticket) = self.book.begin(SET, args) else {
+        let Some(run) = run_of(self.alloc, self.set, &ride) else {
             return Answer::Memory;
         };
         commit(&mut self.book, ticket, run).0
@@ -179,28 +181,43 @@ impl<'a> Desk<'a> {
     }
 }
 
-fn make_all(rt: &impl Abort, desk: &mut Desk<'_>, calls: &[(Call, Answer)]) {
+fn make_all(rt: &impl Abort, desk: &mut Desk<'_>, name: &str, calls: &[(Call, Answer)]) {
     for (call, wanted) in calls {
-        assert_eq!(rt; desk.make(call), *wanted, "{call:?}");
+        assert_eq!(rt; desk.make(call), *wanted, "{name}: {call:?}");
     }
+}
+
+fn play_over(
+    rt: &impl Abort,
+    alloc: Global,
+    set: &ProgramSet,
+    name: &str,
+    given: &[(usize, i64, i64)],
+    calls: &[(Call, Answer)],
+) -> Result<(), AllocError> {
+    let rows = rows_of(alloc, given)?;
+    let book = Book::open(alloc, set, rows)?;
+    let mut desk = Desk {
+        alloc,
+        set,
+        book,
+        ticket: None,
+    };
+    make_all(rt, &mut desk, name, calls);
+    drop(desk);
+    Ok(())
 }
 
 /// Makes calls of a book over rows of the registers; each has to answer as wanted.
 pub fn play(
     rt: &impl Abort,
     alloc: Global,
+    name: &str,
     given: &[(usize, i64, i64)],
     calls: &[(Call, Answer)],
 ) -> Result<(), Fail> {
     let set = set_of(alloc, REGISTERS)?;
-    let rows = rows_of(alloc, given)?;
-    let book = Book::open(alloc, &set, rows)?;
-    let mut desk = Desk {
-        alloc,
-        set: &set,
-        book,
-        ticket: None,
-    };
-    make_all(rt, &mut desk, calls);
-    Ok(())
+    let played = play_over(rt, alloc, &set, name, given, calls);
+    drop(set);
+    Ok(played?)
 }

@@ -6,6 +6,8 @@ pub mod audits;
 mod book_tests;
 mod desk;
 mod endings;
+mod full_tests;
 mod order_tests;
+mod other_set_tests;
 mod runs;
 mod sets;

@@ -41,7 +41,9 @@ fn run_over<S: Source, K: Sink>(
     sink: &mut K,
 ) -> Result<Ended, Fail> {
     let set = set_of(alloc, SET)?;
-    Ok(run_script(alloc, &set, source, sink))
+    let ended = run_script(alloc, &set, source, sink);
+    drop(set);
+    Ok(ended)
 }
 
 #[test]

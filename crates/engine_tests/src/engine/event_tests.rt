@@ -1,6 +1,7 @@
 //! An engine, driven by events.
 
 use example_sets::set_of;
+use prog_check::ProgramSet;
 use prog_tree::{Rows, Sequence};
 use si_engine::{Engine, Event};
 use std::alloc::{AllocError, Global};
@@ -44,15 +45,17 @@ fn event_of(alloc: Global, sent: &Sent) -> Result<Event, AllocError> {
 // Hands an event to the engine, and shows its reply.
 fn reply_to(alloc: Global, engine: &mut Engine<'_>, sent: &Sent) -> Result<String, AllocError> {
     let event = event_of(alloc, sent)?;
-    let reply = engine.apply(&event)?;
-    Ok(format!(in alloc; "{reply:?}")?)
+    let reply = engine.apply(&event);
+    drop(event);
+    let reply = reply?;
+    format!(in alloc; "{reply:?}")
 }
 
 // What the book and the rows of an engine come to: commits, endings and rows.
 fn counts(engine: &Engine<'_>) -> Result<(u64, usize, usize), AllocError> {
-    let rows = engine.table()?;
+    let rows = engine.table()?.len();
     let book = engine.book();
-    Ok((book.commits(), book.endings().len(), rows.len()))
+    Ok((book.commits(), book.endings().len(), rows))
 }
 
 // Hands events to an engine; each has to be replied to as wanted.
@@ -69,6 +72,29 @@ fn send(
     Ok(())
 }
 
+// Hands events to an engine, and gives what it comes to.
+fn play_engine(
+    rt: &impl Abort,
+    alloc: Global,
+    engine: &mut Engine<'_>,
+    events: &[(Sent, &str)],
+) -> Result<(u64, usize, usize), AllocError> {
+    send(rt, alloc, engine, events)?;
+    counts(engine)
+}
+
+fn play_over(
+    rt: &impl Abort,
+    alloc: Global,
+    set: &ProgramSet,
+    events: &[(Sent, &str)],
+) -> Result<(u64, usize, usize), AllocError> {
+    let mut engine = Engine::open(alloc, set, Rows::new(alloc))?;
+    let counts = play_engine(rt, alloc, &mut engine, events);
+    drop(engine);
+    counts
+}
+
 // An engine over the registers, and what it has to come to.
 fn play(
     rt: &impl Abort,
@@ -77,47 +103,51 @@ fn play(
     wanted: (u64, usize, usize),
 ) -> Result<(), Fail> {
     let set = set_of(alloc, REGISTERS)?;
-    let mut engine = Engine::open(alloc, &set, Rows::new(alloc))?;
-    send(rt, alloc, &mut engine, events)?;
-    assert_eq!(rt; counts(&engine)?, wanted);
+    let counts = play_over(rt, alloc, &set, events);
+    drop(set);
+    assert_eq!(rt; counts?, wanted);
     Ok(())
 }
 
-#[test]
-fn begins_are_refused_before_they_are_numbered(rt: HostRuntime) -> Result<(), Fail> {
-    let events = [
-        (Sent::Begin(NO_PROGRAM, &[7]), "NoSuchProgram"),
-        (Sent::Begin(LOOK, &[]), "WrongArguments"),
-        (Sent::Begin(LOOK, &[7]), "Begun { instance: 0, start: 0 }"),
-        (Sent::Begin(SET, &[7, 5]), "Begun { instance: 1, start: 0 }"),
-    ];
-    play(&rt, rt.alloc(), &events, (0, 0, 0))
-}
+/// Begins are refused before they are numbered.
+const BEGINS: &[(Sent, &str)] = &[
+    (Sent::Begin(NO_PROGRAM, &[7]), "NoSuchProgram"),
+    (Sent::Begin(LOOK, &[]), "WrongArguments"),
+    (Sent::Begin(LOOK, &[7]), "Begun { instance: 0, start: 0 }"),
+    (Sent::Begin(SET, &[7, 5]), "Begun { instance: 1, start: 0 }"),
+];
+
+/// A commit is in the book and in the table.
+const COMMIT: &[(Sent, &str)] = &[
+    (Sent::Begin(SET, &[7, 5]), "Begun { instance: 0, start: 0 }"),
+    (Sent::Commit(0), "NotReady"),
+    (
+        Sent::Step(0),
+        "Did(Put(Cell { table: 0, first: 7, second: 0 }, 5))",
+    ),
+    (Sent::Step(0), "Ready(Sequence { items: [] })"),
+    (Sent::Commit(0), "Committed(1)"),
+    (Sent::Step(0), "Ended"),
+];
+
+/// An abort withdraws, and a vacuum counts.
+const ABORT: &[(Sent, &str)] = &[
+    (Sent::Begin(LOOK, &[7]), "Begun { instance: 0, start: 0 }"),
+    (Sent::Abort(0), "Withdrawn"),
+    (Sent::Abort(0), "Ended"),
+    (Sent::Abort(1), "NoSuchInstance"),
+    (Sent::Vacuum, "Vacuumed(0)"),
+];
+
+/// Events with their replies, and what the engine comes to.
+type Case = (&'static [(Sent, &'static str)], (u64, usize, usize));
+
+const CASES: [Case; 3] = [(BEGINS, (0, 0, 0)), (COMMIT, (1, 1, 1)), (ABORT, (0, 0, 0))];
 
 #[test]
-fn a_commit_is_in_the_book_and_in_the_table(rt: HostRuntime) -> Result<(), Fail> {
-    let events = [
-        (Sent::Begin(SET, &[7, 5]), "Begun { instance: 0, start: 0 }"),
-        (Sent::Commit(0), "NotReady"),
-        (
-            Sent::Step(0),
-            "Did(Put(Cell { table: 0, first: 7, second: 0 }, 5))",
-        ),
-        (Sent::Step(0), "Ready(Sequence { items: [] })"),
-        (Sent::Commit(0), "Committed(1)"),
-        (Sent::Step(0), "Ended"),
-    ];
-    play(&rt, rt.alloc(), &events, (1, 1, 1))
-}
-
-#[test]
-fn an_abort_withdraws_and_a_vacuum_counts(rt: HostRuntime) -> Result<(), Fail> {
-    let events = [
-        (Sent::Begin(LOOK, &[7]), "Begun { instance: 0, start: 0 }"),
-        (Sent::Abort(0), "Withdrawn"),
-        (Sent::Abort(0), "Ended"),
-        (Sent::Abort(1), "NoSuchInstance"),
-        (Sent::Vacuum, "Vacuumed(0)"),
-    ];
-    play(&rt, rt.alloc(), &events, (0, 0, 0))
+fn events_are_replied_to(rt: HostRuntime) -> Result<(), Fail> {
+    for (events, wanted) in CASES {
+        play(&rt, rt.alloc(), events, wanted)?;
+    }
+    Ok(())
 }

@@ -49,11 +49,14 @@ fn read(alloc: Global, set: &ProgramSet, bytes: &[u8]) -> Result<Records, Script
 #[test]
 fn records_are_read(rt: HostRuntime) -> Result<(), Fail> {
     let set = set_of(rt.alloc(), SET)?;
-    let Ok(found) = read(rt.alloc(), &set, RECORDS) else {
+    let found = read(rt.alloc(), &set, RECORDS);
+    drop(set);
+    let Ok(found) = found else {
         return Err(Fail::new("a fault"));
     };
     assert_eq!(rt; found.rows.len(), 1);
     check_rows(&rt, found.records.as_slice());
+    drop(found);
     Ok(())
 }
 
@@ -77,12 +80,18 @@ fn fault_of(alloc: Global, set: &ProgramSet, part: &str) -> Result<String, Fail>
     Ok(fault.to_string(alloc)?)
 }
 
-#[test]
-fn faults_of_records_are_told(rt: HostRuntime) -> Result<(), Fail> {
-    let set = set_of(rt.alloc(), SET)?;
+fn check_faults(rt: &impl Abort, alloc: Global, set: &ProgramSet) -> Result<(), Fail> {
     for (part, want) in FAULTS {
-        let told = fault_of(rt.alloc(), &set, part)?;
+        let told = fault_of(alloc, set, part)?;
         assert_eq!(rt; told.as_str(), want);
     }
     Ok(())
+}
+
+#[test]
+fn faults_of_records_are_told(rt: HostRuntime) -> Result<(), Fail> {
+    let set = set_of(rt.alloc(), SET)?;
+    let checked = check_faults(&rt, rt.alloc(), &set);
+    drop(set);
+    checked
 }

@@ -114,9 +114,21 @@ fn make(alloc: Global, store: &mut Store, call: &Call) -> Answer {
     }
 }
 
-/// Makes calls of a store; each has to answer as wanted.
-pub fn play(rt: &impl Abort, alloc: Global, store: &mut Store, calls: &[(Call, Answer)]) {
+fn make_all(rt: &impl Abort, alloc: Global, store: &mut Store, calls: &[(Call, Answer)]) {
     for (call, wanted) in calls {
         assert_eq!(rt; make(alloc, store, call), *wanted, "{call:?}");
     }
+}
+
+/// Makes calls of a store over these rows; each has to answer as wanted.
+pub fn play(
+    rt: &impl Abort,
+    alloc: Global,
+    given: &[(i64, i64)],
+    calls: &[(Call, Answer)],
+) -> Result<(), AllocError> {
+    let mut store = open(alloc, given)?;
+    make_all(rt, alloc, &mut store, calls);
+    drop(store);
+    Ok(())
 }

@@ -5,32 +5,26 @@ use crate::store::twin::{Deed, cell, rows_after};
 use prog_tree::{Cell, Region};
 use std::alloc::{AllocError, Global};
 use std::process::Abort;
-use std::test::Fail;
 use version_store::{Clash, Store, corners};
 
-#[test]
-fn versions_and_vacuum_by_hand(rt: HostRuntime) -> Result<(), Fail> {
-    let mut store = open(rt.alloc(), &[(1, 0)])?;
-    let calls = [
-        (Call::Install(&[Deed::Put(1, 1)]), Answer::Count(1)),
-        (Call::Install(&[Deed::Put(1, 2)]), Answer::Count(2)),
-        (Call::Install(&[Deed::Put(1, 3)]), Answer::Count(3)),
-        (Call::Versions, Answer::Count(4)),
-        (Call::Vacuum(1), Answer::Count(1)),
-        (Call::Get(1, 1), Answer::Holds(Some(1))),
-        (Call::Vacuum(3), Answer::Count(2)),
-        (Call::Versions, Answer::Count(1)),
-        (Call::Install(&[Deed::Remove(1)]), Answer::Count(4)),
-        (Call::Get(3, 1), Answer::Holds(Some(3))),
-        (Call::Get(4, 1), Answer::Holds(None)),
-        (Call::Vacuum(4), Answer::Count(2)),
-        (Call::Versions, Answer::Count(0)),
-        (Call::Commits, Answer::Count(4)),
-        (Call::Floor, Answer::Count(4)),
-    ];
-    play(&rt, rt.alloc(), &mut store, &calls);
-    Ok(())
-}
+/// Versions and vacuums, over `t[1] = 0`.
+const VERSIONS: &[(Call, Answer)] = &[
+    (Call::Install(&[Deed::Put(1, 1)]), Answer::Count(1)),
+    (Call::Install(&[Deed::Put(1, 2)]), Answer::Count(2)),
+    (Call::Install(&[Deed::Put(1, 3)]), Answer::Count(3)),
+    (Call::Versions, Answer::Count(4)),
+    (Call::Vacuum(1), Answer::Count(1)),
+    (Call::Get(1, 1), Answer::Holds(Some(1))),
+    (Call::Vacuum(3), Answer::Count(2)),
+    (Call::Versions, Answer::Count(1)),
+    (Call::Install(&[Deed::Remove(1)]), Answer::Count(4)),
+    (Call::Get(3, 1), Answer::Holds(Some(3))),
+    (Call::Get(4, 1), Answer::Holds(None)),
+    (Call::Vacuum(4), Answer::Count(2)),
+    (Call::Versions, Answer::Count(0)),
+    (Call::Commits, Answer::Count(4)),
+    (Call::Floor, Answer::Count(4)),
+];
 
 const FIRST: Cell = Cell {
     table: 0,
@@ -50,36 +44,82 @@ const THIRD: Cell = Cell {
     second: 0,
 };
 
-/// A clash with the commit of a number.
-const fn clash(cell: Cell, number: u64) -> Answer {
-    Answer::Clashes(Some(Clash { cell, number }))
-}
+const FIRST_BY_1: Answer = Answer::Clashes(Some(Clash {
+    cell: FIRST,
+    number: 1,
+}));
 
-#[test]
-fn marks_of_keep_are_not_counted(rt: HostRuntime) -> Result<(), Fail> {
-    let mut store = open(rt.alloc(), &[])?;
-    let calls = [
-        (Call::Install(&[Deed::Keep(1)]), Answer::Count(1)),
-        (Call::Vacuum(0), Answer::Count(0)),
-        (Call::Clash(0, &[Deed::Keep(1)]), clash(FIRST, 1)),
-        (Call::Vacuum(1), Answer::Count(0)),
-        (Call::Clash(1, &[Deed::Keep(1)]), Answer::Clashes(None)),
-        (Call::Versions, Answer::Count(0)),
-    ];
-    play(&rt, rt.alloc(), &mut store, &calls);
-    Ok(())
-}
+const FIRST_BY_3: Answer = Answer::Clashes(Some(Clash {
+    cell: FIRST,
+    number: 3,
+}));
 
-/// Five commits over `t[1] = 10` and `t[3] = 30`.
-const COMMITS: [&[Deed]; 5] = [
-    &[Deed::Put(2, 20), Deed::Remove(3)],
-    &[Deed::Keep(1)],
-    &[Deed::Put(1, 11), Deed::Put(3, 31)],
-    &[],
-    &[Deed::Remove(2), Deed::Keep(3)],
+const SECOND_BY_5: Answer = Answer::Clashes(Some(Clash {
+    cell: SECOND,
+    number: 5,
+}));
+
+/// Marks of `keep` are not counted.
+const MARKS: &[(Call, Answer)] = &[
+    (Call::Install(&[Deed::Keep(1)]), Answer::Count(1)),
+    (Call::Vacuum(0), Answer::Count(0)),
+    (Call::Clash(0, &[Deed::Keep(1)]), FIRST_BY_1),
+    (Call::Vacuum(1), Answer::Count(0)),
+    (Call::Clash(1, &[Deed::Keep(1)]), Answer::Clashes(None)),
+    (Call::Versions, Answer::Count(0)),
 ];
 
+/// Five commits over `t[1] = 10` and `t[3] = 30`.
+const COMMITS: [&[Deed]; 5] = [COMMIT_1, COMMIT_2, COMMIT_3, &[], COMMIT_5];
+
+const COMMIT_1: &[Deed] = &[Deed::Put(2, 20), Deed::Remove(3)];
+
+const COMMIT_2: &[Deed] = &[Deed::Keep(1)];
+
+const COMMIT_3: &[Deed] = &[Deed::Put(1, 11), Deed::Put(3, 31)];
+
+const COMMIT_5: &[Deed] = &[Deed::Remove(2), Deed::Keep(3)];
+
 const OPENING: &[(i64, i64)] = &[(1, 10), (3, 30)];
+
+const ROWS: &[(Cell, i64)] = &[(FIRST, 10), (SECOND, 20)];
+
+const DEEDS: &[Deed] = &[Deed::Put(2, 5), Deed::Keep(1)];
+
+/// After those commits: held rows are all but the own, and clashes name the least cell.
+const WORKED: &[(Call, Answer)] = &[
+    (Call::Install(COMMIT_1), Answer::Count(1)),
+    (Call::Install(COMMIT_2), Answer::Count(2)),
+    (Call::Install(COMMIT_3), Answer::Count(3)),
+    (Call::Install(&[]), Answer::Count(4)),
+    (Call::Install(COMMIT_5), Answer::Count(5)),
+    (Call::AreHeld(0, 3, ROWS), Answer::Is(false)),
+    (Call::AreHeld(1, 3, ROWS), Answer::Is(true)),
+    (Call::AreHeld(1, 2, ROWS), Answer::Is(false)),
+    (Call::AreHeld(2, 9, ROWS), Answer::Is(true)),
+    (Call::AreHeld(3, 3, ROWS), Answer::Is(false)),
+    (Call::AreHeld(5, 1, &[(THIRD, 31)]), Answer::Is(true)),
+    (Call::Clash(0, DEEDS), FIRST_BY_3),
+    (Call::Clash(2, DEEDS), FIRST_BY_3),
+    (Call::Clash(3, DEEDS), SECOND_BY_5),
+    (Call::Clash(4, DEEDS), SECOND_BY_5),
+    (Call::Clash(5, DEEDS), Answer::Clashes(None)),
+];
+
+/// Rows at first, and the calls.
+const PLAYED: [(&[(i64, i64)], &[(Call, Answer)]); 3] = [
+    (&[(1, 0)], VERSIONS),
+    (&[], MARKS),
+    (OPENING, WORKED),
+];
+
+#[test]
+fn calls_answer_as_told_by_hand(rt: HostRuntime) -> Result<(), AllocError> {
+    for (given, calls) in PLAYED {
+        play(&rt, rt.alloc(), given, calls)?;
+    }
+    Ok(())
+}
 
 fn worked_store(alloc: Global) -> Result<Store, AllocError> {
     let mut store = open(alloc, OPENING)?;
@@ -103,59 +143,59 @@ fn scan(
     Ok(store.scan(start, region)?.into_vec())
 }
 
-#[test]
-fn scans_are_those_of_the_list(rt: HostRuntime) -> Result<(), Fail> {
-    let alloc: Global = rt.alloc();
-    let store = worked_store(alloc)?;
-    for (low, high) in [(1, 3), (2, 2), (2, 9), (3, 1)] {
-        let region = Region {
-            table: 0,
-            first_low: low,
-            first_high: high,
-            second_low: 0,
-            second_high: 0,
-        };
-        for start in 0..6 {
-            let rows = rows_after(alloc, OPENING, &COMMITS[..start], low, high)?;
-            let found = scan(&rt, &store, start as u64, &region)?;
-            assert!(rt;
-                found.as_slice() == rows.as_slice(),
-                "{low}..{high} at {start}"
-            );
-        }
+// A scan behind these commits has to find the rows of the list.
+fn check_scan(
+    rt: &impl Abort,
+    alloc: Global,
+    store: &Store,
+    region: &Region,
+    commits: &[&[Deed]],
+) -> Result<(), AllocError> {
+    let (low, high, start) = (region.first_low, region.first_high, commits.len());
+    let rows = rows_after(alloc, OPENING, commits, low, high)?;
+    let found = scan(rt, store, start as u64, region)?;
+    assert!(rt;
+        found.as_slice() == rows.as_slice(),
+        "{low}..{high} at {start}"
+    );
+    Ok(())
+}
+
+fn check_scans(
+    rt: &impl Abort,
+    alloc: Global,
+    store: &Store,
+    low: i64,
+    high: i64,
+) -> Result<(), AllocError> {
+    let region = Region {
+        table: 0,
+        first_low: low,
+        first_high: high,
+        second_low: 0,
+        second_high: 0,
+    };
+    for start in 0..6 {
+        check_scan(rt, alloc, store, &region, &COMMITS[..start])?;
+    }
+    Ok(())
+}
+
+const RANGES: [(i64, i64); 4] = [(1, 3), (2, 2), (2, 9), (3, 1)];
+
+fn check_ranges(rt: &impl Abort, alloc: Global, store: &Store) -> Result<(), AllocError> {
+    for (low, high) in RANGES {
+        check_scans(rt, alloc, store, low, high)?;
     }
     Ok(())
 }
 
 #[test]
-fn held_rows_are_all_but_the_own(rt: HostRuntime) -> Result<(), Fail> {
-    let mut store = worked_store(rt.alloc())?;
-    const ROWS: &[(Cell, i64)] = &[(FIRST, 10), (SECOND, 20)];
-    let calls = [
-        (Call::AreHeld(0, 3, ROWS), Answer::Is(false)),
-        (Call::AreHeld(1, 3, ROWS), Answer::Is(true)),
-        (Call::AreHeld(1, 2, ROWS), Answer::Is(false)),
-        (Call::AreHeld(2, 9, ROWS), Answer::Is(true)),
-        (Call::AreHeld(3, 3, ROWS), Answer::Is(false)),
-        (Call::AreHeld(5, 1, &[(THIRD, 31)]), Answer::Is(true)),
-    ];
-    play(&rt, rt.alloc(), &mut store, &calls);
-    Ok(())
-}
-
-#[test]
-fn clashes_name_the_least_cell(rt: HostRuntime) -> Result<(), Fail> {
-    let mut store = worked_store(rt.alloc())?;
-    const DEEDS: &[Deed] = &[Deed::Put(2, 5), Deed::Keep(1)];
-    let calls = [
-        (Call::Clash(0, DEEDS), clash(FIRST, 3)),
-        (Call::Clash(2, DEEDS), clash(FIRST, 3)),
-        (Call::Clash(3, DEEDS), clash(SECOND, 5)),
-        (Call::Clash(4, DEEDS), clash(SECOND, 5)),
-        (Call::Clash(5, DEEDS), Answer::Clashes(None)),
-    ];
-    play(&rt, rt.alloc(), &mut store, &calls);
-    Ok(())
+fn scans_are_those_of_the_list(rt: HostRuntime) -> Result<(), AllocError> {
+    let store = worked_store(rt.alloc())?;
+    let checked = check_ranges(&rt, rt.alloc(), &store);
+    drop(store);
+    checked
 }
 
 #[test]

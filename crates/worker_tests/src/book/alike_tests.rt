@@ -4,7 +4,7 @@ use crate::book::answer::{Answer, Call};
 use crate::book::bench::Bench;
 use crate::book::kept::keep_the_same;
 use crate::book::shelf::Shelf;
-use crate::sets::{CUT, LOOK, MAYBE, OVERFLOW, REGISTERS, SET, TOTAL, rows_of};
+use crate::sets::{CUT, Certified, LOOK, MAYBE, OVERFLOW, REGISTERS, SET, TOTAL, rows_of};
 use example_sets::set_of;
 use history_book::{BeginFault, Book};
 use prog_check::ProgramSet;
@@ -56,8 +56,15 @@ fn play<'a>(
     mut bench: Bench<'a>,
     calls: &[Wanted],
 ) -> Result<Played<'a>, AllocError> {
-    let answers = answers_of(rt, alloc, &mut bench, calls)?;
-    Ok((answers, bench.into_book()))
+    let answers = answers_of(rt, alloc, &mut bench, calls);
+    let book = bench.into_book();
+    match answers {
+        Ok(answers) => Ok((answers, book)),
+        Err(fault) => {
+            drop(book);
+            Err(fault)
+        }
+    }
 }
 
 fn check_answers(rt: &impl Abort, calls: &[Wanted], answers: &[Answer]) {
@@ -82,18 +89,46 @@ fn check_same(
     Ok(())
 }
 
-// Makes calls on a book and on a shared book over the same rows.
-fn check_alike<R: Abort + Wait>(
+/// A set, rows, calls, and how many commits and endings they come to.
+struct Case {
+    set: Certified,
+    rows: &'static [(i64, i64)],
+    calls: &'static [Wanted],
+    counts: (u64, usize),
+}
+
+// Makes the calls on a shared book over the same rows.
+fn check_shared<R: Abort + Wait>(
     rt: &R,
     alloc: Global,
     set: &ProgramSet,
-    rows: &[(i64, i64)],
-    calls: &[Wanted],
-    wanted: (u64, usize),
+    case: &Case,
+    alone: &Played<'_>,
 ) -> Result<(), AllocError> {
-    let alone = play(rt, alloc, bench(alloc, set, rows, false)?, calls)?;
-    let shared = play(rt, alloc, bench(alloc, set, rows, true)?, calls)?;
-    check_same(rt, &alone, &shared, calls, wanted)
+    let shared = play(rt, alloc, bench(alloc, set, case.rows, true)?, case.calls)?;
+    let checked = check_same(rt, alone, &shared, case.calls, case.counts);
+    drop(shared);
+    checked
+}
+
+// Makes the calls on a book, and on a shared book.
+fn check_both<R: Abort + Wait>(
+    rt: &R,
+    alloc: Global,
+    set: &ProgramSet,
+    case: &Case,
+) -> Result<(), AllocError> {
+    let alone = play(rt, alloc, bench(alloc, set, case.rows, false)?, case.calls)?;
+    let checked = check_shared(rt, alloc, set, case, &alone);
+    drop(alone);
+    checked
+}
+
+fn check_alike<R: Abort + Wait>(rt: &R, alloc: Global, case: &Case) -> Result<(), Fail> {
+    let set = set_of(alloc, case.set.text)?;
+    let checked = check_both(rt, alloc, &set, case);
+    drop(set);
+    Ok(checked?)
 }
 
 const READY: Option<Answer> = Some(Answer::Ran(End::Ready));
@@ -120,13 +155,6 @@ const COMMITS: &[Wanted] = &[
     (Call::Vacuum, None),
 ];
 
-#[test]
-fn both_books_commit_and_vacuum_alike(rt: HostRuntime) -> Result<(), Fail> {
-    let set = set_of(rt.alloc(), REGISTERS.text)?;
-    check_alike(&rt, rt.alloc(), &set, &[(1, 0)], COMMITS, (5, 5))?;
-    Ok(())
-}
-
 const REFUSALS: &[Wanted] = &[
     (Call::Begin(TOTAL, &[]), Some(Answer::Begun(0, 0))),
     (
@@ -152,9 +180,24 @@ const REFUSALS: &[Wanted] = &[
 
 const GREATEST: &[(i64, i64)] = &[(1, i64::MAX), (2, 1)];
 
+const COMMITTED: Case = Case {
+    set: REGISTERS,
+    rows: &[(1, 0)],
+    calls: COMMITS,
+    counts: (5, 5),
+};
+
+const REFUSED: Case = Case {
+    set: OVERFLOW,
+    rows: GREATEST,
+    calls: REFUSALS,
+    counts: (0, 2),
+};
+
 #[test]
-fn both_books_refuse_alike(rt: HostRuntime) -> Result<(), Fail> {
-    let set = set_of(rt.alloc(), OVERFLOW.text)?;
-    check_alike(&rt, rt.alloc(), &set, GREATEST, REFUSALS, (0, 2))?;
+fn both_books_commit_vacuum_and_refuse_alike(rt: HostRuntime) -> Result<(), Fail> {
+    for case in &[COMMITTED, REFUSED] {
+        check_alike(&rt, rt.alloc(), case)?;
+    }
     Ok(())
 }

@@ -3,9 +3,10 @@
 use crate::jobs::lists::{Call, jobs_of};
 use crate::jobs::meeting::{Hold, Meeting};
 use crate::jobs::outcomes::{Came, check_outcomes};
-use crate::sets::{LOOK, REGISTERS, SET, cell, robust};
+use crate::sets::{LOOK, REGISTERS, SET, robust};
 use history_book::Clash;
-use prog_tree::Rows;
+use prog_tree::{Cell, Rows};
+use robust_cert::RobustSet;
 use si_workers::{Moment, run_jobs};
 use std::alloc::Global;
 use std::process::Abort;
@@ -21,6 +22,26 @@ const CROSSED: [Hold; 2] = [
 ];
 
 // Runs jobs on two workers, crossed; each has to end as wanted.
+fn cross_in<R: Threads + Wait + Clock + Abort + Sync>(
+    rt: &R,
+    alloc: Global,
+    set: &RobustSet,
+    calls: &[Call],
+    wanted: &[(Came, u64)],
+) -> Result<(), Fail> {
+    let jobs = jobs_of(alloc, calls)?;
+    let gate = Meeting::new(rt, &CROSSED);
+    let finished = run_jobs(rt, alloc, set, Rows::new(alloc), &jobs, 2, &gate);
+    drop(jobs);
+    let Ok(finished) = finished else {
+        return Err(Fail::new("a fault"));
+    };
+    assert!(rt; gate.was_kept());
+    check_outcomes(rt, finished.outcomes.as_slice(), wanted);
+    drop(finished);
+    Ok(())
+}
+
 fn cross<R: Threads + Wait + Clock + Abort + Sync>(
     rt: &R,
     alloc: Global,
@@ -28,40 +49,48 @@ fn cross<R: Threads + Wait + Clock + Abort + Sync>(
     wanted: &[(Came, u64)],
 ) -> Result<(), Fail> {
     let set = robust(alloc, &REGISTERS)?;
-    let jobs = jobs_of(alloc, calls)?;
-    let gate = Meeting::new(rt, &CROSSED);
-    let Ok(finished) = run_jobs(rt, alloc, &set, Rows::new(alloc), &jobs, 2, &gate) else {
-        return Err(Fail::new("a fault"));
-    };
-    assert!(rt; gate.was_kept());
-    check_outcomes(rt, finished.outcomes.as_slice(), wanted);
+    let crossed = cross_in(rt, alloc, &set, calls, wanted);
+    drop(set);
+    crossed
+}
+
+const CLASH: Clash = Clash {
+    cell: Cell {
+        table: 0,
+        first: 1,
+        second: 0,
+    },
+    number: 1,
+};
+
+/// Both jobs, and how they have to end.
+type Case = ([Call; 2], [(Came, u64); 2]);
+
+const CASES: [Case; 3] = [
+    // a look sees nothing of a set beside it
+    (
+        [(LOOK, &[1], 0), (SET, &[1, 5], 0)],
+        [
+            (Came::Committed(2, Some(-1)), 0),
+            (Came::Committed(1, None), 0),
+        ],
+    ),
+    // a set clashes with a set beside it
+    (
+        [(SET, &[1, 6], 0), (SET, &[1, 5], 0)],
+        [(Came::Clashed(CLASH), 1), (Came::Committed(1, None), 0)],
+    ),
+    // a clashed job is begun anew
+    (
+        [(SET, &[1, 6], 1), (SET, &[1, 5], 0)],
+        [(Came::Committed(2, None), 1), (Came::Committed(1, None), 0)],
+    ),
+];
+
+#[test]
+fn jobs_at_once_look_clash_and_are_begun_anew(rt: HostRuntime) -> Result<(), Fail> {
+    for (calls, wanted) in &CASES {
+        cross(&rt, rt.alloc(), calls, wanted)?;
+    }
     Ok(())
-}
-
-#[test]
-fn a_look_sees_nothing_of_a_set_beside_it(rt: HostRuntime) -> Result<(), Fail> {
-    let calls: [Call; 2] = [(LOOK, &[1], 0), (SET, &[1, 5], 0)];
-    let wanted = [
-        (Came::Committed(2, Some(-1)), 0),
-        (Came::Committed(1, None), 0),
-    ];
-    cross(&rt, rt.alloc(), &calls, &wanted)
-}
-
-#[test]
-fn a_set_clashes_with_a_set_beside_it(rt: HostRuntime) -> Result<(), Fail> {
-    let calls: [Call; 2] = [(SET, &[1, 6], 0), (SET, &[1, 5], 0)];
-    let clash = Clash {
-        cell: cell(1),
-        number: 1,
-    };
-    let wanted = [(Came::Clashed(clash), 1), (Came::Committed(1, None), 0)];
-    cross(&rt, rt.alloc(), &calls, &wanted)
-}
-
-#[test]
-fn a_clashed_job_is_begun_anew(rt: HostRuntime) -> Result<(), Fail> {
-    let calls: [Call; 2] = [(SET, &[1, 6], 1), (SET, &[1, 5], 0)];
-    let wanted = [(Came::Committed(2, None), 1), (Came::Committed(1, None), 0)];
-    cross(&rt, rt.alloc(), &calls, &wanted)
 }

@@ -21,17 +21,25 @@ fn check_job(rt: &impl Abort, job: &Job, wanted: &Call) {
     assert_eq!(rt; job.retries, retries);
 }
 
+const JOBS: [Call; 2] = [(SET, &[1, 5], u32::MAX), (LOOK, &[1], 0)];
+
+fn check_jobs(rt: &impl Abort, jobs: &[Job]) {
+    assert_eq!(rt; jobs.len(), JOBS.len());
+    for (job, wanted) in jobs.iter().zip(&JOBS) {
+        check_job(rt, job, wanted);
+    }
+}
+
 #[test]
 fn a_list_of_jobs_is_read(rt: HostRuntime) -> Result<(), Fail> {
     let set = set_of(rt.alloc(), REGISTERS.text)?;
-    let Ok(list) = read_jobs(rt.alloc(), &set, &mut Bytes::new(LIST)) else {
+    let list = read_jobs(rt.alloc(), &set, &mut Bytes::new(LIST));
+    drop(set);
+    let Ok(list) = list else {
         return Err(Fail::new("a fault"));
     };
     assert_eq!(rt; list.rows.get(&cell(1)), Some(4));
-    let wanted: [Call; 2] = [(SET, &[1, 5], u32::MAX), (LOOK, &[1], 0)];
-    assert_eq!(rt; list.jobs.len(), wanted.len());
-    for (job, wanted) in list.jobs.as_slice().iter().zip(&wanted) {
-        check_job(&rt, job, wanted);
-    }
+    check_jobs(&rt, list.jobs.as_slice());
+    drop(list);
     Ok(())
 }

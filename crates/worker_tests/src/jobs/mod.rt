@@ -4,5 +4,7 @@ mod gate_tests;
 mod list_tests;
 mod lists;
 mod meeting;
+mod memory_tests;
 mod outcomes;
+mod reader_tests;
 mod transfer_tests;
