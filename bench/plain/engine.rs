@@ -1,7 +1,7 @@
 //! The store of versions, and instances that are stepped over it.
 use crate::order::{Sight, Trace};
 use crate::program::{Comparison, Expr, Key, Program, Range, Set, Stmt, Test};
-use std::collections::{BTreeMap, BTreeSet};
+use std::collections::{BTreeMap, BTreeSet, VecDeque};
 use std::ops::RangeInclusive;
 
 #[derive(Clone, Copy, PartialEq, Eq, PartialOrd, Ord)]
@@ -40,18 +40,32 @@ impl Chain {
     fn last_touch(&self) -> u64 {
         self.mark.max(self.versions.last().map_or(0, |version| version.0))
     }
+
+    /// Drops the versions at most the floor but the last of them, and that one too where it is a removal.
+    fn trim(&mut self, floor: u64) -> usize {
+        let within = self.versions.partition_point(|version| version.0 <= floor);
+        let is_row = within > 0 && self.versions[within - 1].1.is_some();
+        let gone = within - usize::from(is_row);
+        self.versions.drain(..gone);
+        if self.mark <= floor {
+            self.mark = 0;
+        }
+        gone
+    }
 }
 
 #[derive(Default)]
 pub struct Store {
     chains: BTreeMap<Cell, Chain>,
     pub commits: u64,
+    /// The cells that each commit above the floor touched.
+    pending: VecDeque<(u64, Cell)>,
 }
 
 impl Store {
     pub fn open(rows: BTreeMap<Cell, i64>) -> Store {
         let chain = |value| Chain { versions: vec![(0, Some(value))], mark: 0 };
-        Store { chains: rows.into_iter().map(|(cell, value)| (cell, chain(value))).collect(), commits: 0 }
+        Store { chains: rows.into_iter().map(|(cell, value)| (cell, chain(value))).collect(), commits: 0, pending: VecDeque::new() }
     }
 
     pub fn clash(&self, start: u64, run: &Run) -> Option<(Cell, u64)> {
@@ -64,11 +78,27 @@ impl Store {
         self.commits += 1;
         for (cell, value) in &run.changes {
             self.chains.entry(*cell).or_default().versions.push((self.commits, *value));
+            self.pending.push_back((self.commits, *cell));
         }
         for cell in &run.kept {
             self.chains.entry(*cell).or_default().mark = self.commits;
+            self.pending.push_back((self.commits, *cell));
         }
         self.commits
+    }
+
+    /// Drops what no read from the floor on sees, and answers how many versions these were.
+    pub fn vacuum(&mut self, floor: u64) -> usize {
+        let mut gone = 0;
+        while self.pending.front().is_some_and(|(number, _)| *number <= floor) {
+            let Some((_, cell)) = self.pending.pop_front() else { break };
+            let Some(chain) = self.chains.get_mut(&cell) else { continue };
+            gone += chain.trim(floor);
+            if chain.versions.is_empty() && chain.mark == 0 {
+                self.chains.remove(&cell);
+            }
+        }
+        gone
     }
 
     pub fn rows(&self) -> impl Iterator<Item = (&Cell, i64)> {
@@ -427,8 +457,9 @@ impl<'a> Engine<'a> {
         }
     }
 
-    pub fn vacuum(&mut self) {
+    pub fn vacuum(&mut self) -> usize {
         let first = self.active.first().and_then(|number| self.begun[*number].as_ref());
         self.floor = first.map_or(self.store.commits, |run| run.start);
+        self.store.vacuum(self.floor)
     }
 }

@@ -163,8 +163,8 @@ pub fn run(set: &Set, lines: &str, out: &mut String) {
             Event::Commit(number) => line(set, out, number, &engine.commit(number)),
             Event::Abort(number) => line(set, out, number, &engine.abort(number)),
             Event::Vacuum => {
-                engine.vacuum();
-                out.push_str("vacuumed 0\n");
+                let gone = engine.vacuum();
+                writeln!(out, "vacuumed {gone}").unwrap();
             }
         }
     }

@@ -78,6 +78,7 @@ impl Book {
 
     fn vacuum(&mut self) {
         self.floor = self.active.values().min().copied().unwrap_or(self.store.commits);
+        self.store.vacuum(self.floor);
     }
 }
 
