@@ -131,7 +131,7 @@ fn row_sentence(
     fault: RowFault,
 ) -> Result<String, AllocError> {
     let Some(cut) = cut_at(alloc, set, part, number) else {
-        return format!(in alloc; "no instance of the set has done this");
+        return format!(in alloc; "no run of the set can have left this record");
     };
     match fault {
         RowFault::NoSuchProgram => format!(in alloc; "the set has no such program"),
