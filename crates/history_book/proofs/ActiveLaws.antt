@@ -5,9 +5,8 @@ use Rattle.std.specs.BTreeMap.{insert_entry}
 use Rattle.std.specs.Map.{lookup, remove_entry}
 use Rattle.std.specs.Ordering.{nat_cmp}
 use Rattle.std.proofs.lemmas.Bool.Decides.{nat_tests}
-use Rattle.std.proofs.lemmas.List.Elements.{All-head, All-tail, All-cons, All-nil, All-push, All-weaker}
+use Rattle.std.proofs.lemmas.List.Elements.{All-head, All-tail, All-cons, All-nil, All-weaker}
 use Rattle.history_book.specs.History.{Instance}
-use Rattle.history_book.specs.TrueBook.{StartsRise}
 use Rattle.history_book.specs.View.{least_start, with_start}
 
 -- an active instance with its number
@@ -23,14 +22,6 @@ module _ (test : ℕ → Bool) where
       go : (b : Bool) → All P (remove_entry test es) → All P (cond b es (e ∷ remove_entry test es))
       go true rest = All-tail P e es all
       go false rest = All-cons P e (remove_entry test es) (All-head P e es all) rest
-
-  pub StartsRise-removed : (es : List Entry) → StartsRise es → StartsRise (remove_entry test es)
-  StartsRise-removed [] rise = rise
-  StartsRise-removed (e ∷ es) rise = go (test e.0) (StartsRise-removed es rise.1)
-    where
-      go : (b : Bool) → StartsRise (remove_entry test es) → StartsRise (cond b es (e ∷ remove_entry test es))
-      go true rest = rise.1
-      go false rest = (All-removed (λ (later : Entry). e.1.start ≤ later.1.start) es rise.0, rest)
 
   -- one less where the number is there
   pub length-removed : (es : List Entry) → IsSome (lookup test es) → length (remove_entry test es) + 1 ≡ length es
@@ -69,32 +60,19 @@ insert_last (e ∷ es) k i below =
     let not_equal : (k == e.0) ≡ false = grind (arith, nat_tests) in
     rw (not_less, not_equal) (ap (λ xs. e ∷ xs) rest)
 
--- one that starts at or above all others
-pub StartsRise-push : (es : List Entry) (k : ℕ) (i : Instance) → All (λ e. e.1.start ≤ i.start) es → StartsRise es → StartsRise (es ++ (k, i) ∷ [])
-StartsRise-push [] k i below rise = (All-nil (λ (later : Entry). i.start ≤ later.1.start), tt)
-StartsRise-push (e ∷ es) k i below rise =
-    let P = λ (x : Entry). x.1.start ≤ i.start in (
-      All-push (λ (later : Entry). e.1.start ≤ later.1.start) es (k, i) rise.0 (All-head P e es below),
-      StartsRise-push es k i (All-tail P e es below) rise.1,
-    )
-
--- where starts rise, the first is the least
-pub least-first : (n : ℕ) (e : Entry) (es : List Entry) → StartsRise (e ∷ es) → e.1.start ≤ n → least_start n (e ∷ es) ≡ e.1.start
-least-first n e es rise within = omega (arith, above n es rise.0 within)
-  where
-    above : (n : ℕ) (fs : List Entry) → All (λ later. e.1.start ≤ later.1.start) fs → e.1.start ≤ n → e.1.start ≤ least_start n fs
-    above n [] all low = low
-    above n (f ∷ fs) all low =
-        let P = λ (later : Entry). e.1.start ≤ later.1.start in
-        let here : e.1.start ≤ f.1.start = All-head P f fs all in
-        omega (arith, above n fs (All-tail P f fs all) low, here)
-
 pub least-below : (n : ℕ) (es : List Entry) → All (λ e. least_start n es ≤ e.1.start) es
 least-below n [] = All-nil (λ (e : Entry). n ≤ e.1.start)
 least-below n (f ∷ fs) =
     let m = least_start n (f ∷ fs) in
     All-cons (λ (e : Entry). m ≤ e.1.start) f fs (omega arith)
     (All-weaker (λ (e : Entry). least_start n fs ≤ e.1.start) (λ e. m ≤ e.1.start) (λ e low. omega arith) fs (least-below n fs))
+
+pub least-from : (n low : ℕ) (es : List Entry) → All (λ e. low ≤ e.1.start) es → low ≤ n → low ≤ least_start n es
+least-from n low [] all within = within
+least-from n low (e ∷ es) all within =
+    let P = λ (x : Entry). low ≤ x.1.start in
+    let here : low ≤ e.1.start = All-head P e es all in
+    omega (arith, least-from n low es (All-tail P e es all) within, here)
 
 pub least-within : (n : ℕ) (es : List Entry) → least_start n es ≤ n
 least-within n [] = omega arith

@@ -1,13 +1,9 @@
 -- Rows that are taken up behind others.
 use Rattle.std.proofs.Common.{◌≡◌, ℕ, ◌+◌, ◌<◌, ◌≤◌, List, [], ◌∷◌, ◌++◌, length, map, take, refl, ap, sym, ◌∙◌, subst, append_assoc, append-nil, arith}
-use Rattle.std.specs.Prelude.{All, Some, slice_get}
+use Rattle.std.specs.Prelude.{Some, slice_get}
 use Rattle.std.specs.List.{range_with_len}
-use Rattle.std.specs.List.Sorted.{IsStrictlySortedBy}
-use Rattle.std.specs.Map.{keys_of}
 use Rattle.std.specs.Option.{option_map}
-use Rattle.std.specs.Ordering.{nat_cmp}
 use Rattle.std.proofs.lemmas.List.{length-append}
-use Rattle.std.proofs.lemmas.List.Elements.{All-nil, All-push}
 use Rattle.std.proofs.lemmas.List.FromFn.{map-range_with_len_more, length-map-range_with_len}
 use Rattle.std.proofs.lemmas.Option.{slice_get-map}
 use Rattle.prog_tree.specs.declared.program.Draft.{Draft}
@@ -16,32 +12,12 @@ use Rattle.prog_tree.specs.Syntax.{DraftTree}
 use Rattle.prog_tree.specs.Table.{TableState}
 use Rattle.prog_tree.specs.Tree.{draft_tree, program_tree}
 use Rattle.history_book.specs.Audit.{audited, taken_up, IsRightRow, IsRowFault, AreRightBehind, IsAuditFault, IsRowRefusal}
-use Rattle.history_book.specs.History.{Instance, IsCalled}
-use Rattle.history_book.specs.TrueBook.{IsTrueActive, IsTrueBook, StartsRise}
+use Rattle.history_book.specs.History.{Instance}
 use Rattle.history_book.specs.View.{BookView, instance_of, history_of}
 use Rattle.history_book.specs.declared.audit.AuditFault.{AuditFault}
 use Rattle.history_book.specs.declared.audit.AuditFault.TheVariants as audit
 use Rattle.history_book.specs.declared.instances.row.Ending.TheVariants.{Committed}
 use Rattle.history_book.specs.declared.instances.row.HistoryRow.{HistoryRow}
-use Rattle.history_book.proofs.ActiveLaws.{Entry}
-
--- one instance is begun where none is active
-pub true-begun_as : (v : BookView) (i : Instance) (active : List Entry) → IsTrueBook v → v.active ≡ [] → IsCalled (draft_tree v.set) i → v.floor ≤ i.start → i.start ≤ length v.rows →
-    length v.endings < 100000 → active ≡ (v.begun, i) ∷ [] → IsStrictlySortedBy nat_cmp (keys_of active) → IsTrueBook (record v { active = active; begun = v.begun + 1 })
-true-begun_as v i active book none called above within room is by_number =
-    let new : BookView = record v { active = active; begun = v.begun + 1 } in
-    let this : IsTrueActive new (v.begun, i) = record { called = called; floor = above; start = within; number = omega arith } in
-    record {
-      lawful = book.lawful;
-      rows = book.rows;
-      endings = book.endings;
-      numbered = book.numbered;
-      active = subst (All (IsTrueActive new)) (sym is) (All-push (IsTrueActive new) [] (v.begun, i) (All-nil (IsTrueActive new)) this);
-      by_number = by_number;
-      rise = subst StartsRise (sym is) (All-nil _, tt);
-      floor = book.floor;
-      few = omega (arith, ap length is);
-    }
 
 -- the program of a number, as a tree
 pub program_at : (items : List Program) (n : ℕ) (p : Program) → slice_get items n ≡ Some p → slice_get (map program_tree items) n ≡ Some (program_tree p)

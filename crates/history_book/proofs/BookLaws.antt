@@ -1,35 +1,30 @@
 -- A book stays true.
-use Rattle.std.proofs.Common.{◌≡◌, ℕ, suc, ◌+◌, ◌<◌, ◌≤◌, get_or, Bool, true, false, cond, leb, true≢false, ◌⊎◌, inl, inr, List, [], ◌∷◌, ◌++◌, length, refl, ap, sym, ◌∙◌, subst, arith}
-use Rattle.std.specs.Prelude.{All, Option, Some, IsSome, None, ℤ, nat_le, ◌==◌, not, ◌||◌, slice_get}
-use Rattle.std.specs.BTreeMap.{is_at, insert_entry}
-use Rattle.std.specs.Option.{option_map}
-use Rattle.std.proofs.lemmas.Bool.Decides.{nat_tests, leb_tells}
-use Rattle.std.proofs.lemmas.Option.{slice_get-map, slice_get-get_or}
+use Rattle.std.proofs.Common.{◌≡◌, ℕ, suc, ◌+◌, ◌<◌, ◌≤◌, get_or, List, [], ◌∷◌, ◌++◌, length, refl, ap, sym, ◌∙◌, subst, arith}
+use Rattle.std.specs.Prelude.{All, Option, Some, IsSome, None, slice_get}
+use Rattle.std.specs.BTreeMap.{is_at}
+use Rattle.std.proofs.lemmas.Option.{slice_get-get_or}
 use Rattle.std.specs.List.{range_with_len}
 use Rattle.std.specs.List.Sorted.{IsStrictlySortedBy}
 use Rattle.std.specs.Map.{keys_of, lookup}
 use Rattle.std.specs.Ordering.{nat_cmp}
 use Rattle.std.proofs.lemmas.List.{length-append, length-map, map-append}
-use Rattle.std.proofs.lemmas.List.Elements.{All-nil, All-head, All-push, All-weaker}
+use Rattle.std.proofs.lemmas.List.Elements.{All-nil, All-push, All-weaker}
 use Rattle.prog_tree.specs.declared.program.Draft.{Draft}
 use Rattle.prog_tree.specs.declared.program.Program.{Program}
 use Rattle.prog_tree.specs.ChangeSet.{ChangeSet}
-use Rattle.prog_tree.specs.Number.{IsI64}
-use Rattle.prog_tree.specs.Syntax.{ProgramTree}
 use Rattle.prog_tree.specs.Table.{TableState}
-use Rattle.prog_tree.specs.Tree.{program_tree, draft_tree}
+use Rattle.prog_tree.specs.Tree.{draft_tree}
 use Rattle.version_store.specs.Clash.{IsClash}
 use Rattle.version_store.specs.StandsFor.{StoreView, StandsFor}
 use Rattle.history_book.specs.History.{Instance, commits_of, IsCalled, IsLawful}
 use Rattle.history_book.specs.Runs.{IsCommit}
-use Rattle.history_book.specs.TrueBook.{IsTrueRow, IsTrueEnding, committed, StartsRise, IsTrueActive, IsTrueBook, IsStored}
+use Rattle.history_book.specs.TrueBook.{IsTrueRow, IsTrueEnding, committed, IsTrueActive, IsTrueBook, IsStored}
 use Rattle.history_book.specs.Ticket.{TicketView}
-use Rattle.history_book.specs.View.{BookView, instance_of, history_of, commits_in, done_in, with_start, active_at, without, least_start, most_begins, is_full, fault_by, begin_fault_of, next_instance}
-use Rattle.history_book.specs.declared.fault.BeginFault.TheVariants as begin
+use Rattle.history_book.specs.View.{BookView, instance_of, history_of, commits_in, done_in, with_start, active_at, without, least_start}
 use Rattle.history_book.specs.declared.instances.row.Ending.{Ending}
 use Rattle.history_book.specs.declared.instances.row.Ending.TheVariants as ending
 use Rattle.history_book.specs.declared.instances.row.HistoryRow.{HistoryRow}
-use Rattle.history_book.proofs.ActiveLaws.{Entry, All-removed, StartsRise-removed, length-removed, fewer-removed, All-found, with_start-is, StartsRise-push, insert_last, least-first, least-below, least-within}
+use Rattle.history_book.proofs.ActiveLaws.{Entry, All-removed, length-removed, fewer-removed, All-found, with_start-is, least-from, least-below, least-within}
 use Rattle.history_book.proofs.EndingLaws.{true_rows-push, true_row-in_longer, true_endings-push, committed-append, range-push}
 use Rattle.history_book.proofs.HistoryLaws.{length-commits_of, commits_of-push, lawful-nil, lawful-push}
 
@@ -45,24 +40,20 @@ true-open set opening =
       numbered = refl;
       active = All-nil (IsTrueActive v);
       by_number = tt;
-      rise = tt;
       floor = omega arith;
       few = omega arith;
     }
 
 pub true-begin :
-    (v : BookView) (i : Instance) (active : List Entry) → IsTrueBook v → IsCalled (draft_tree v.set) i → i.start ≡ length v.rows →
+    (v : BookView) (i : Instance) (active : List Entry) → IsTrueBook v → IsCalled (draft_tree v.set) i → v.floor ≤ i.start → i.start ≤ length v.rows →
     length v.endings + length v.active < 100000 → active ≡ v.active ++ (v.begun, i) ∷ [] → IsStrictlySortedBy nat_cmp (keys_of active) →
     IsTrueBook (record v { active = active; begun = v.begun + 1 })
-true-begin v i active book called start room is by_number =
+true-begin v i active book called above within room is by_number =
     let new : BookView = record v { active = active; begun = v.begun + 1 } in
-    let low : v.floor ≤ length v.rows = book.floor in
-    let this : IsTrueActive new (v.begun, i) = record { called = called; floor = omega arith; start = omega arith; number = omega arith } in
+    let this : IsTrueActive new (v.begun, i) = record { called = called; floor = above; start = within; number = omega arith } in
     let before : All (IsTrueActive new) v.active =
     All-weaker (IsTrueActive v) (IsTrueActive new)
     (λ entry old. record { called = old.called; floor = old.floor; start = old.start; number = omega (arith, old.number) }) v.active book.active in
-    let below : All (λ entry. entry.1.start ≤ i.start) v.active =
-    All-weaker (IsTrueActive v) (λ entry. entry.1.start ≤ i.start) (λ entry old. omega (arith, old.start)) v.active book.active in
     record {
       lawful = book.lawful;
       rows = book.rows;
@@ -70,7 +61,6 @@ true-begin v i active book called start room is by_number =
       numbered = book.numbered;
       active = subst (All (IsTrueActive new)) (sym is) (All-push (IsTrueActive new) v.active (v.begun, i) before this);
       by_number = by_number;
-      rise = subst StartsRise (sym is) (StartsRise-push v.active v.begun i below book.rise);
       floor = book.floor;
       few = let more : length active ≡ length v.active + 1 = omega (arith, ap length is, length-append v.active ((v.begun, i) ∷ [])) in omega arith;
     }
@@ -90,7 +80,6 @@ true-withdrawn v number active book is by_number =
       numbered = book.numbered;
       active = subst (All (IsTrueActive new)) (sym is) (All-removed (is_at (nat_cmp number)) (IsTrueActive new) v.active before);
       by_number = by_number;
-      rise = subst StartsRise (sym is) (StartsRise-removed (is_at (nat_cmp number)) v.active book.rise);
       floor = book.floor;
       few = omega (arith, ap length is, fewer-removed (is_at (nat_cmp number)) v.active, book.few);
     }
@@ -119,7 +108,6 @@ true-ended v number e endings active book found this none more is by_number =
           All-weaker (IsTrueActive (record v { active = active })) (IsTrueActive new)
           (λ entry old. record { called = old.called; floor = old.floor; start = old.start; number = old.number }) active rest.active;
       by_number = by_number;
-      rise = rest.rise;
       floor = book.floor;
       few = still_few v.endings endings e v.active active number book.few found more is;
     }
@@ -171,7 +159,6 @@ true-committed v number row w rows endings active floor book found commit one_ro
           All-weaker (IsTrueActive (record v { active = active })) (IsTrueActive new)
           (λ entry old. record { called = old.called; floor = omega (arith, old.floor, low); start = omega (arith, old.start, longer); number = old.number }) active rest.active;
       by_number = by_number;
-      rise = rest.rise;
       floor = omega (arith, book.floor, longer, low);
       few = still_few v.endings endings (ending.Committed (length v.rows + 1)) v.active active number book.few found more is;
     }
@@ -199,7 +186,6 @@ true-vacuum v floor book is =
       active = λ k d within. let old = book.active k d within in
           record { called = old.called; floor = omega (arith, low k d within, is); start = old.start; number = old.number };
       by_number = book.by_number;
-      rise = book.rise;
       floor = omega (arith, is, least-within (length v.rows) v.active);
       few = book.few;
     }
@@ -229,82 +215,16 @@ number_known v t found = go (lookup (is_at (nat_cmp t.number)) v.active) found
     go None h = h
     go (Some i) h = refl
 
--- the first of the active instances has the least start
-pub first_least : (v : BookView) (number : ℕ) (i : Instance) → IsTrueBook v → slice_get v.active 0 ≡ Some (number, i) →
-    (i.start ≡ least_start (length v.rows) v.active) × (v.floor ≤ i.start) × (i.start ≤ length v.rows)
-first_least v number i book first = go v.active book.active book.rise first
-  where
-    go : (es : List Entry) → All (IsTrueActive v) es → StartsRise es → slice_get es 0 ≡ Some (number, i) →
-        (i.start ≡ least_start (length v.rows) es) × (v.floor ≤ i.start) × (i.start ≤ length v.rows)
-    go [] all rise found = absurd (cc)
-    go (e ∷ es) all rise found =
-        let same : e ≡ (number, i) = cc in
-        let start : e.1.start ≡ i.start = ap (λ (x : Entry). x.1.start) same in
-        let this : IsTrueActive v e = All-head (IsTrueActive v) e es all in
-        let within : e.1.start ≤ length v.rows = this.start in
-        let least : least_start (length v.rows) (e ∷ es) ≡ e.1.start = least-first (length v.rows) e es rise within in
-        (sym (least ∙ start), omega (arith, this.floor, start), omega (arith, start, within))
+-- the least start is one that a vacuum may keep
+pub least_above : (v : BookView) → IsTrueBook v → v.floor ≤ least_start (length v.rows) v.active
+least_above v book =
+    least-from (length v.rows) v.floor v.active
+    (All-weaker (IsTrueActive v) (λ entry. v.floor ≤ entry.1.start) (λ entry old. old.floor) v.active book.active) book.floor
 
--- ---- begins
+pub least_within : (v : BookView) → least_start (length v.rows) v.active ≤ length v.rows
+least_within v = least-within (length v.rows) v.active
 
--- a begin without a fault is of a program with as many parameters, and there is room
-pub record IsAllowed (v : BookView) (program : ℕ) (args : List ℤ) : Type 0 where
-  pub called : (p : ProgramTree) × (slice_get (draft_tree v.set).programs program ≡ Some p) × (length p.params ≡ length args)
-  pub room : is_full v ≡ false
-
-pub no_fault : (v : BookView) (found : Option Program) (p : Program) (args : List ℤ) → found ≡ Some p → length p.params.items ≡ length args → is_full v ≡ false →
-    fault_by v found args ≡ None
-no_fault v found p args is same room =
-    let fits : (length p.params.items == length args) ≡ true = grind (arith, nat_tests) in
-    ap (λ (f : Option Program). fault_by v f args) is ∙ (rw (fits, room) refl)
-
-pub allowed : (v : BookView) (program : ℕ) (args : List ℤ) → begin_fault_of v program args ≡ None → IsAllowed v program args
-allowed v program args none = go (slice_get v.set.programs.items program) refl none
-  where
-    by_room : (b : Bool) → is_full v ≡ b → cond b (Some begin.Full) None ≡ None → is_full v ≡ false
-    by_room true is h = absurd (cc)
-    by_room false is h = is
-
-    by_length : (p : Program) → slice_get v.set.programs.items program ≡ Some p → (b : Bool) → (length p.params.items == length args) ≡ b →
-        cond (not b) (Some begin.WrongArguments) (cond (is_full v) (Some begin.Full) None) ≡ None → IsAllowed v program args
-    by_length p is true fits h =
-        let same : length p.params.items ≡ length args = grind (arith, nat_tests) in
-        record {
-          called = (program_tree p, slice_get-map program_tree v.set.programs.items program ∙ ap (option_map program_tree) is, same);
-          room = by_room (is_full v) refl h;
-        }
-    by_length p is false fits h = absurd (cc)
-
-    go : (o : Option Program) → slice_get v.set.programs.items program ≡ o → fault_by v o args ≡ None → IsAllowed v program args
-    go None is h = absurd (cc)
-    go (Some p) is h = by_length p is (length p.params.items == length args) refl h
-
--- the active instances after a begin
-pub begun-active : (v : BookView) (program : ℕ) (args given : List ℤ) (start : ℕ) (active : List Entry) → IsTrueBook v → given ≡ args → start ≡ length v.rows →
-    active ≡ insert_entry nat_cmp v.active v.begun (record { program = program; args = given; start = start }) →
-    active ≡ v.active ++ (v.begun, next_instance v program args) ∷ []
-begun-active v program args given start active book same at is =
-    let i : Instance = record { program = program; args = given; start = start } in
-    let next : i ≡ next_instance v program args = λ k. record { program = program; args = same k; start = at k } in
-    let below : All (λ entry. entry.0 < v.begun) v.active =
-    All-weaker (IsTrueActive v) (λ entry. entry.0 < v.begun) (λ entry old. old.number) v.active book.active in
-    is ∙ insert_last v.active v.begun i below ∙ ap (λ x. v.active ++ (v.begun, x) ∷ []) next
-
-pub true-admitted :
-    (v : BookView) (program : ℕ) (args : List ℤ) (active : List Entry) → IsTrueBook v → begin_fault_of v program args ≡ None → All IsI64 args →
-    active ≡ v.active ++ (v.begun, next_instance v program args) ∷ [] → IsStrictlySortedBy nat_cmp (keys_of active) →
-    IsTrueBook (record v { active = active; begun = v.begun + 1 })
-true-admitted v program args active book none i64 is by_number =
-    let may = allowed v program args none in
-    let called : IsCalled (draft_tree v.set) (next_instance v program args) = (may.called.0, may.called.1, may.called.2, i64) in
-    true-begin v (next_instance v program args) active book called refl (few_enough (length v.endings + length v.active) (nat_le most_begins v.begun) may.room) is by_number
-  where
-    few_enough : (n : ℕ) (b : Bool) → (nat_le 100000 n || b) ≡ false → n < 100000
-    few_enough n b room = go (leb_tells 100000 n) room
-      where
-        go : ((leb 100000 n ≡ true) × (100000 ≤ n)) ⊎ ((leb 100000 n ≡ false) × (n < 100000)) → (nat_le 100000 n || b) ≡ false → n < 100000
-        go (inl more) h = absurd (true≢false (sym (ap (λ x. x || b) more.0) ∙ h))
-        go (inr less) h = less.1
+-- ---- commits and programs
 
 -- the next number of a commit
 pub next_number : (endings : List Ending) (commits rows : ℕ) → commits ≡ rows → endings ++ ending.Committed (commits + 1) ∷ [] ≡ endings ++ ending.Committed (rows + 1) ∷ []

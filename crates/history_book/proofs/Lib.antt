@@ -1,5 +1,7 @@
 pub mod ActiveLaws
 pub mod AuditLaws
+pub mod BeginLaws
+pub mod BeginningLaws
 pub mod BookLaws
 pub mod ClashLaws
 pub mod CommitLaws

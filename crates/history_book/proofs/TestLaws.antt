@@ -17,6 +17,12 @@ lt_told i j h = grind (arith, nat_tests)
 pub lt_tells : (i j : ℕ) → i < j → nat_lt i j ≡ true
 lt_tells i j h = grind (arith, nat_tests)
 
+pub not_lt : (i j : ℕ) → j ≤ i → nat_lt i j ≡ false
+not_lt i j h = grind (arith, nat_tests)
+
+pub lt_not : (i j : ℕ) → nat_lt i j ≡ false → j ≤ i
+lt_not i j h = grind (arith, nat_tests)
+
 pub le_told : (i j : ℕ) → nat_le i j ≡ true → i ≤ j
 le_told i j h = grind (arith, nat_tests)
 
@@ -25,6 +31,9 @@ le_tells i j h = grind (arith, nat_tests)
 
 pub eq_told : (i j : ℕ) → (i == j) ≡ true → i ≡ j
 eq_told i j h = grind (arith, nat_tests)
+
+pub eq_tells : (i j : ℕ) → i ≡ j → (i == j) ≡ true
+eq_tells i j h = grind (arith, nat_tests)
 
 pub eq_itself : (i : ℕ) → (i == i) ≡ true
 eq_itself i = grind (arith, nat_tests)

@@ -1,9 +1,11 @@
 -- Worked examples of histories, endings and active instances, computed from the definitions.
-use Rattle.std.proofs.Common.{◌≡◌, ℕ, [], ◌∷◌, List, refl, false}
-use Rattle.std.specs.Prelude.{ℤ, pos, negsuc, codes, map, Some, None}
+use Rattle.std.proofs.Common.{◌≡◌, ℕ, ◌-◌, ◌^◌, ◌==◌, [], ◌∷◌, List, length, refl, ap, true, false}
+use Rattle.std.specs.Prelude.{ℤ, pos, negsuc, codes, map, Some, None, not, if◌then◌else◌}
 use Rattle.prog_tree.specs.declared.cell.Cell.{Cell}
 use Rattle.prog_tree.specs.declared.deed.Cause.TheVariants.{Asked}
 use Rattle.prog_tree.specs.declared.deed.End.TheVariants.{Ready}
+use Rattle.prog_tree.specs.declared.program.Draft.{Draft}
+use Rattle.prog_tree.specs.declared.program.Program.{Program}
 use Rattle.prog_tree.specs.declared.table.Arity.TheVariants as arity
 use Rattle.prog_tree.specs.ChangeSet.{no_changes}
 use Rattle.prog_tree.specs.Syntax.{Literal, Named, KeyTree, One, BlockEnd, Then, DraftTree}
@@ -11,7 +13,9 @@ use Rattle.prog_tree.specs.Syntax as s
 use Rattle.prog_tree.specs.Table.{TableState}
 use Rattle.history_book.specs.History.{Instance, eval_of, commits_of, evaluation, state_after}
 use Rattle.history_book.specs.TrueBook.{committed}
-use Rattle.history_book.specs.View.{instance_of, row_of, nth_row, with_start, without, least_start}
+use Rattle.history_book.specs.ActiveSet.{is_beginning_of}
+use Rattle.history_book.specs.View.{BookView, instance_of, row_of, nth_row, with_start, without, least_start, vacuumed, start_fault, full_fault, or_fault, fault_at, fault_by, ticket_at, next_ticket, begun_at}
+use Rattle.history_book.specs.declared.fault.BeginFault.TheVariants as begin
 use Rattle.history_book.specs.declared.instances.row.Ending.TheVariants as ending
 use Rattle.history_book.specs.declared.instances.row.HistoryRow.{HistoryRow}
 
@@ -119,3 +123,86 @@ with_its_start = refl
 
 pub with_another_start : with_start 2 (Some old_look) ≡ None
 with_another_start = refl
+
+-- one that was begun later may see fewer commits, and then has the least start
+abbrev later_and_older : List (ℕ × Instance)
+later_and_older = (3, call 2 (pos 1 ∷ []) 4) ∷ (5, old_look) ∷ []
+
+pub least_of_the_later : least_start 9 later_and_older ≡ 1
+least_of_the_later = refl
+
+pub beginning_there : is_beginning_of later_and_older (record { start = 1; number = 5 }) ≡ true
+beginning_there = refl
+
+pub beginning_of_another_start : is_beginning_of later_and_older (record { start = 4; number = 5 }) ≡ false
+beginning_of_another_start = refl
+
+-- ---- begins at a number
+
+-- a book of two commits; the vacuum's floor, and how many begins succeeded
+module _ (set : Draft) where
+  abbrev two_commits : (floor begun : ℕ) → BookView
+  two_commits floor begun =
+      record { set = set; opening = opening; rows = row ∷ row ∷ []; endings = ending.Committed 1 ∷ ending.Committed 2 ∷ []; active = []; begun = begun; floor = floor }
+
+  abbrev most : ℕ
+  most = 2 ^ 64 - 1
+
+  pub at_the_first : start_fault (two_commits 0 2) 0 ≡ None
+  at_the_first = refl
+
+  pub at_the_newest : start_fault (two_commits 0 2) 2 ≡ None
+  at_the_newest = refl
+
+  pub above_the_newest : start_fault (two_commits 0 2) 3 ≡ Some (begin.TooNew 2)
+  above_the_newest = refl
+
+  pub at_the_floor : start_fault (two_commits 1 2) 1 ≡ None
+  at_the_floor = refl
+
+  pub below_the_floor : start_fault (two_commits 1 2) 0 ≡ Some (begin.TooOld 1)
+  below_the_floor = refl
+
+  -- the number comes before want of room
+  pub old_before_full : or_fault (start_fault (two_commits 2 most) 1) (full_fault (two_commits 2 most)) ≡ Some (begin.TooOld 2)
+  old_before_full = refl
+
+  pub new_before_full : or_fault (start_fault (two_commits 2 most) 3) (full_fault (two_commits 2 most)) ≡ Some (begin.TooNew 2)
+  new_before_full = refl
+
+  pub full_last : or_fault (start_fault (two_commits 2 most) 2) (full_fault (two_commits 2 most)) ≡ Some begin.Full
+  full_last = refl
+
+  pub nothing_wrong : or_fault (start_fault (two_commits 2 2) 2) (full_fault (two_commits 2 2)) ≡ None
+  nothing_wrong = refl
+
+  -- the program comes first, then its arguments
+  pub program_first : fault_at (two_commits 2 most) 1 None [] ≡ Some begin.NoSuchProgram
+  program_first = refl
+
+  module _ (program : Program) (one_parameter : (length program.params.items == 1) ≡ true) (not_none : (length program.params.items == 0) ≡ false) where
+    pub arguments_before_old : fault_at (two_commits 2 most) 1 (Some program) [] ≡ Some begin.WrongArguments
+    arguments_before_old = ap (λ b. if not b then Some begin.WrongArguments else Some (begin.TooOld 2)) not_none
+
+    pub old_behind_arguments : fault_at (two_commits 2 most) 1 (Some program) (pos 1 ∷ []) ≡ Some (begin.TooOld 2)
+    old_behind_arguments = ap (λ b. if not b then Some begin.WrongArguments else Some (begin.TooOld 2)) one_parameter
+
+    pub full_at_the_newest : fault_by (two_commits 2 most) (Some program) (pos 1 ∷ []) ≡ Some begin.Full
+    full_at_the_newest = ap (λ b. if not b then Some begin.WrongArguments else Some begin.Full) one_parameter
+
+  -- the number counts begins, and the start is the one that was named
+  pub old_ticket : ticket_at (two_commits 0 7) 1 ≡ record { number = 7; start = 1 }
+  old_ticket = refl
+
+  pub newest_ticket : next_ticket (two_commits 0 7) ≡ record { number = 7; start = 2 }
+  newest_ticket = refl
+
+  -- what is active keeps a vacuum from its versions
+  pub kept_by_an_old_begin : (vacuumed (begun_at (two_commits 0 7) 0 0 (pos 1 ∷ []))).floor ≡ 0
+  kept_by_an_old_begin = refl
+
+  pub kept_by_none : (vacuumed (two_commits 0 7)).floor ≡ 2
+  kept_by_none = refl
+
+  pub active_at_the_old : (begun_at (two_commits 0 7) 1 0 (pos 1 ∷ [])).active ≡ (7, old_look) ∷ []
+  active_at_the_old = refl

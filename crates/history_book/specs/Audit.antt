@@ -40,10 +40,6 @@ audited set opening rows =
       floor = 0;
     }
 
--- a book in which an instance was begun, and no other is active
-abbrev pub with_active : BookView → Instance → BookView
-with_active v i = record v { active = (v.begun, i) ∷ []; begun = v.begun + 1 }
-
 -- a book in which the instance of a row was begun, and has committed as the next
 abbrev pub taken_up : BookView → HistoryRow → BookView
 taken_up v r =

@@ -1,3 +1,4 @@
+pub mod ActiveSet
 pub mod AnyFit
 pub mod Audit
 pub mod Dependencies

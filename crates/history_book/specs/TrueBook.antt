@@ -52,12 +52,6 @@ committed (ending.Committed number ∷ endings) = number ∷ committed endings
 committed (ending.Clashed row clash ∷ endings) = committed endings
 committed (ending.Aborted row cause ∷ endings) = committed endings
 
--- no instance starts below one that was begun before it
-abbrev pub StartsRise : List (ℕ × Instance) → Type 0
-StartsRise [] = Unit {0}
-StartsRise (entry ∷ entries) =
-    All (λ later. entry.1.start ≤ later.1.start) entries × StartsRise entries
-
 -- an active instance is called rightly, sees commits from the floor on, and was begun
 pub record IsTrueActive (v : BookView) (entry : ℕ × Instance) : Type 0 where
   pub called : IsCalled (draft_tree v.set) entry.1
@@ -74,7 +68,6 @@ pub record IsTrueBook (v : BookView) : Type 0 where
   pub numbered : committed v.endings ≡ range_with_len 1 (length v.rows)
   pub active : All (IsTrueActive v) v.active
   pub by_number : IsStrictlySortedBy nat_cmp (keys_of v.active)
-  pub rise : StartsRise v.active
   pub floor : v.floor ≤ length v.rows
   pub few : length v.endings + length v.active ≤ most_endings
 

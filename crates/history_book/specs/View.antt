@@ -1,5 +1,5 @@
 -- What contracts see of a book.
-use Rattle.std.specs.Prelude.{ℕ, ◌+◌, ◌-◌, ◌^◌, ℤ, min, nat_le, ◌==◌, Bool, not, ◌||◌, zero, suc, List, [], ◌∷◌, ◌++◌, length, map, Option, Some, None, option_map, slice_get, Result, Ok, Err, if◌then◌else◌, ◌≡◌}
+use Rattle.std.specs.Prelude.{ℕ, ◌+◌, ◌-◌, ◌^◌, ℤ, min, nat_le, nat_lt, ◌==◌, Bool, not, ◌||◌, zero, suc, List, [], ◌∷◌, ◌++◌, length, map, Option, Some, None, option_map, slice_get, Result, Ok, Err, if◌then◌else◌, ◌≡◌}
 use Rattle.std.specs.BTreeMap.{is_at}
 use Rattle.std.specs.Map.{lookup, remove_entry}
 use Rattle.std.specs.Ordering.{nat_cmp}
@@ -18,7 +18,7 @@ use Rattle.history_book.specs.Ticket.{TicketView}
 use Rattle.history_book.specs.TraceView.{TraceView}
 use Rattle.history_book.specs.Traces.{trace_in, traces_of}
 use Rattle.history_book.specs.declared.fault.BeginFault.{BeginFault}
-use Rattle.history_book.specs.declared.fault.BeginFault.TheVariants.{NoSuchProgram, WrongArguments, Full, Memory}
+use Rattle.history_book.specs.declared.fault.BeginFault.TheVariants.{NoSuchProgram, WrongArguments, TooOld, TooNew, Full, Memory}
 use Rattle.history_book.specs.declared.instances.row.Ending.{Ending}
 use Rattle.history_book.specs.declared.instances.row.HistoryRow.{HistoryRow}
 
@@ -131,15 +131,42 @@ most_begins = 2 ^ 64 - 1
 abbrev pub is_full : BookView → Bool
 is_full v = nat_le most_endings (length v.endings + length v.active) || nat_le most_begins v.begun
 
--- what is wrong with a begin of a program that was found, or not
+-- why no instance can begin, whatever it is
+abbrev pub full_fault : BookView → Option BeginFault
+full_fault v = if is_full v then Some Full else None
+
+-- why no instance can begin at a number: a vacuum gave the number up, or there are not so many commits
+abbrev pub start_fault : BookView → (start : ℕ) → Option BeginFault
+start_fault v start =
+    if nat_lt start v.floor then Some (TooOld v.floor)
+    else if nat_lt (length v.rows) start then Some (TooNew (length v.rows))
+    else None
+
+-- the first of two faults
+abbrev pub or_fault : Option BeginFault → Option BeginFault → Option BeginFault
+or_fault None later = later
+or_fault (Some fault) later = Some fault
+
+-- what is wrong with a begin at a number, of a program that was found, or not
+abbrev pub fault_at : BookView → (start : ℕ) → Option Program → List ℤ → Option BeginFault
+fault_at v start None args = Some NoSuchProgram
+fault_at v start (Some p) args =
+    if not (length p.params.items == length args) then Some WrongArguments
+    else or_fault (start_fault v start) (full_fault v)
+
+-- what is wrong with a begin at a number
+abbrev pub begin_at_fault_of : BookView → (start program : ℕ) → List ℤ → Option BeginFault
+begin_at_fault_of v start program args =
+    fault_at v start (slice_get v.set.programs.items program) args
+
+-- what is wrong with a begin at the newest number, of a program that was found, or not
 abbrev pub fault_by : BookView → Option Program → List ℤ → Option BeginFault
 fault_by v None args = Some NoSuchProgram
 fault_by v (Some p) args =
     if not (length p.params.items == length args) then Some WrongArguments
-    else if is_full v then Some Full
-    else None
+    else full_fault v
 
--- what is wrong with a begin
+-- what is wrong with a begin at the newest number; the number itself is never at fault
 abbrev pub begin_fault_of : BookView → ℕ → List ℤ → Option BeginFault
 begin_fault_of v program args = fault_by v (slice_get v.set.programs.items program) args
 
@@ -149,16 +176,28 @@ IsBeginRefusedBy fault (Ok x) = fault ≡ None
 IsBeginRefusedBy fault (Err Memory) = fault ≡ None
 IsBeginRefusedBy fault (Err found) = fault ≡ Some found
 
--- the ticket of the next begin
+-- the ticket of the next begin, at a number
+abbrev pub ticket_at : BookView → (start : ℕ) → TicketView
+ticket_at v start = record { number = v.begun; start = start }
+
+-- its instance
+abbrev pub instance_at : (start program : ℕ) → List ℤ → Instance
+instance_at start program args = record { program = program; args = args; start = start }
+
+-- an instance was begun at a number
+abbrev pub begun_at : BookView → (start program : ℕ) → List ℤ → BookView
+begun_at v start program args =
+    let i : Instance = instance_at start program args in
+    record v { active = v.active ++ (v.begun, i) ∷ []; begun = v.begun + 1 }
+
+-- the ticket of the next begin, at the newest number
 abbrev pub next_ticket : BookView → TicketView
-next_ticket v = record { number = v.begun; start = length v.rows }
+next_ticket v = ticket_at v (length v.rows)
 
 -- its instance
 abbrev pub next_instance : BookView → ℕ → List ℤ → Instance
-next_instance v program args = record { program = program; args = args; start = length v.rows }
+next_instance v program args = instance_at (length v.rows) program args
 
--- an instance was begun
+-- an instance was begun at the newest number
 abbrev pub begun_in : BookView → ℕ → List ℤ → BookView
-begun_in v program args =
-    let i : Instance = next_instance v program args in
-    record v { active = v.active ++ (v.begun, i) ∷ []; begun = v.begun + 1 }
+begun_in v program args = begun_at v (length v.rows) program args

@@ -11,11 +11,13 @@ ghost use Rattle.history_book.specs.Refusals.{HasAborted, IsCommitFault, IsEndFa
 ghost use Rattle.history_book.specs.Runs.{IsCommitted, IsAborted};
 ghost use Rattle.history_book.specs.TrueBook.{IsTrueBook};
 ghost use Rattle.history_book.specs.View.{depends_in, FitsBook};
-ghost use Rattle.history_book.specs.View.{state_in, new_book, nth_row, held_for, rows_for, commits_in, least_start, vacuumed, is_full, begin_fault_of, IsBeginRefusedBy, next_ticket, begun_in};
+ghost use Rattle.history_book.specs.View.{state_in, new_book, nth_row, held_for, rows_for, commits_in, least_start, vacuumed, is_full, start_fault};
+ghost use Rattle.history_book.specs.View.{begin_fault_of, begin_at_fault_of, IsBeginRefusedBy, next_ticket, ticket_at, begun_in, begun_at};
 ghost use Rattle.version_store.specs.Versions.{reclaimed};
 
 use crate::fault::{BeginFault, CommitFault, EndFault, NoSuchTicket, ScanFault, Unused};
 use crate::instances::active::Active;
+use crate::instances::active_set::ActiveSet;
 use crate::instances::row::{Ending, HistoryRow};
 use crate::instances::ticket::{Receipt, Ticket};
 use crate::limits::MAX_ENDINGS;
@@ -27,7 +29,6 @@ use prog_check::ProgramSet;
 use prog_run::Run;
 use prog_tree::{Cause, Cell, End, Region, Rows, Sequence};
 use std::alloc::{AllocError, Global};
-use std::collections::BTreeMap;
 use std::marker::Model;
 use version_store::Store;
 
@@ -40,7 +41,7 @@ pub struct Book<'a> {
     pub(crate) store: Store,
     pub(crate) rows: Vec<HistoryRow>,
     pub(crate) endings: Vec<Ending>,
-    pub(crate) active: BTreeMap<u64, Active>,
+    pub(crate) active: ActiveSet,
     pub(crate) traces: Vec<Trace>,
     pub(crate) begun: u64,
 }
@@ -60,7 +61,7 @@ impl<'a> Model for Book<'a> {
       opening = b.opening;
       rows = b.rows.items;
       endings = b.endings.items;
-      active = b.active.entries;
+      active = b.active;
       begun = b.begun;
       floor = b.store.floor;
     } };
@@ -70,7 +71,7 @@ impl<'a> Model for Book<'a> {
       opening = b.opening;
       rows = b.rows.items;
       endings = b.endings.items;
-      active = b.active.entries;
+      active = b.active;
       begun = b.begun;
       floor = b.store.floor;
     } b.store b.traces.items };
@@ -124,7 +125,7 @@ impl<'a> Book<'a> {
             store,
             rows: Vec::new(alloc),
             endings: Vec::new(alloc),
-            active: BTreeMap::new(alloc),
+            active: ActiveSet::new(alloc),
             traces: Vec::new(alloc),
             begun: 0,
         })
@@ -184,9 +185,9 @@ impl<'a> Book<'a> {
         self.endings.len() + self.active.len() >= MAX_ENDINGS || self.begun == u64::MAX
     }
 
-    // What is wrong with a begin.
-    fn begin_fault(&self, program: usize, args: &[i64]) -> Option<BeginFault>
-        ensures { result ≡ begin_fault_of self.now program args.now }
+    /// Why a begin at a number of commits would be refused, want of memory aside.
+    pub fn refusal_at(&self, start: u64, program: usize, args: &[i64]) -> Option<BeginFault>
+        ensures { result ≡ begin_at_fault_of self.now start program args.now }
     {
         let Some(found) = self.set.draft().programs.get(program) else {
             return Some(BeginFault::NoSuchProgram);
@@ -194,8 +195,26 @@ impl<'a> Book<'a> {
         if found.params.len() != args.len() {
             return Some(BeginFault::WrongArguments);
         }
+        if let Some(fault) = self.start_fault(start) {
+            return Some(fault);
+        }
         if self.is_full() {
             return Some(BeginFault::Full);
+        }
+        None
+    }
+
+    // Why no instance can begin at a number of commits.
+    fn start_fault(&self, start: u64) -> Option<BeginFault>
+        ensures { result ≡ start_fault self.now start }
+    {
+        let floor = self.store.floor();
+        if start < floor {
+            return Some(BeginFault::TooOld { floor });
+        }
+        let commits = self.store.commits();
+        if start > commits {
+            return Some(BeginFault::TooNew { commits });
         }
         None
     }
@@ -234,23 +253,45 @@ impl<'a> Book<'a> {
         ensures begun { OnOk result (self.new ≡ begun_in self.old program args.now) }
         ensures err { OnErr result (self.new ≡ self.old) }
     {
-        if let Some(fault) = self.begin_fault(program, args) {
+        let start = self.store.commits();
+        self.begin_at(start, program, args)
+    }
+
+    /// Begins an instance that sees the first `start` commits: from the last vacuum's floor to all
+    /// so far. The first refusal that applies is answered.
+    pub fn begin_at(
+        &mut self,
+        start: u64,
+        program: usize,
+        args: &[i64],
+    ) -> Result<Ticket, BeginFault>
+        ensures refused { IsBeginRefusedBy
+            (begin_at_fault_of self.old start program args.now) result }
+        ensures ticket { IfOk result (λ ticket. ticket ≡ ticket_at self.old start) }
+        ensures begun { OnOk result (self.new ≡ begun_at self.old start program args.now) }
+        ensures err { OnErr result (self.new ≡ self.old) }
+    {
+        if let Some(fault) = self.refusal_at(start, program, args) {
             return Err(fault);
         }
-        let ticket = self.admit(program, args)?;
+        let ticket = self.admit(start, program, args)?;
         Ok(ticket)
     }
 
-    // Begins an instance that is not refused.
-    fn admit(&mut self, program: usize, args: &[i64]) -> Result<Ticket, AllocError>
-        requires { begin_fault_of self.old program args.now ≡ None }
-        ensures ticket { IfOk result (λ ticket. ticket ≡ next_ticket self.old) }
-        ensures begun { OnOk result (self.new ≡ begun_in self.old program args.now) }
+    /// Begins an instance that is not refused.
+    pub(crate) fn admit(
+        &mut self,
+        start: u64,
+        program: usize,
+        args: &[i64],
+    ) -> Result<Ticket, AllocError>
+        requires { begin_at_fault_of self.old start program args.now ≡ None }
+        ensures ticket { IfOk result (λ ticket. ticket ≡ ticket_at self.old start) }
+        ensures begun { OnOk result (self.new ≡ begun_at self.old start program args.now) }
         ensures err { OnErr result (self.new ≡ self.old) }
     {
         read_numbers(args);
         let number = self.begun;
-        let start = self.store.commits();
         let args = Sequence::from_vec(Vec::from_slice(self.alloc, args)?);
         let active = Active {
             program,
@@ -338,12 +379,12 @@ impl<'a> Book<'a> {
         if self.active_instance(&ticket).is_none() {
             return Err(ticket);
         }
-        self.active.remove(&ticket.number);
+        self.active.remove(ticket.number);
         Ok(())
     }
 
     /// Drops the versions that neither an active instance sees nor one that will be begun, and
-    /// answers how many they were.
+    /// answers how many they were. No instance begins below the new floor.
     pub fn vacuum(&mut self) -> u64
         ensures count { result ≡ reclaimed self.old.opening (commits_in self.old) self.old.floor
             (least_start (length self.old.rows) self.old.active) }
@@ -353,15 +394,12 @@ impl<'a> Book<'a> {
         self.store.vacuum(floor)
     }
 
-    // The least start of an active instance, that of the one begun first, or the number of commits.
+    // The least start of an active instance, or the number of commits.
     fn oldest_start(&self) -> u64
         ensures least { result ≡ least_start (length self.now.rows) self.now.active }
         ensures above { self.now.floor ≤ result }
         ensures within { result ≤ length self.now.rows }
     {
-        match self.active.first_key_value() {
-            Some((_, oldest)) => oldest.start,
-            None => self.store.commits(),
-        }
+        self.active.least_start(self.store.commits())
     }
 }

@@ -17,6 +17,10 @@ pub enum BeginFault {
     NoSuchProgram,
     /// There are more or fewer arguments than parameters.
     WrongArguments,
+    /// It was to start below the last vacuum's floor.
+    TooOld { floor: u64 },
+    /// It was to start above the number of commits.
+    TooNew { commits: u64 },
     /// Endings and active instances are 100,000 together, or 2^64 - 1 begins have succeeded.
     Full,
     /// There was no memory for it.
@@ -52,12 +56,14 @@ impl fmt::Display for BeginFault {
     ghost output = { λ fault. Some (begin_fault_text fault) };
 
     fn fmt<W: fmt::Write>(&self, f: &mut fmt::Formatter<W>) -> fmt::Result {
-        f.write_str(match self {
-            BeginFault::NoSuchProgram => "no such program",
-            BeginFault::WrongArguments => "wrong arguments",
-            BeginFault::Full => "full",
-            BeginFault::Memory => "memory",
-        })
+        match self {
+            BeginFault::NoSuchProgram => f.write_str("no such program"),
+            BeginFault::WrongArguments => f.write_str("wrong arguments"),
+            BeginFault::TooOld { floor } => write!(f, "too old {floor}"),
+            BeginFault::TooNew { commits } => write!(f, "too new {commits}"),
+            BeginFault::Full => f.write_str("full"),
+            BeginFault::Memory => f.write_str("memory"),
+        }
     }
 }
 

@@ -69,7 +69,7 @@ impl<'a> Book<'a> {
         ensures err { OnErr result (self.new ≡ self.old) }
     {
         self.endings.push(ending)?;
-        self.active.remove(&number);
+        self.active.remove(number);
         Ok(())
     }
 
@@ -97,7 +97,7 @@ impl<'a> Book<'a> {
             trace,
             run.changes(),
         )?;
-        self.active.remove(&number);
+        self.active.remove(number);
         Ok(commit)
     }
 }

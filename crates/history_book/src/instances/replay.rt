@@ -5,16 +5,14 @@ ghost use Rattle.prog_tree.specs.Tree.{draft_tree};
 ghost use Rattle.prog_run.specs.Looks.{AreFound};
 ghost use Rattle.prog_run.specs.Step.{question_after, end_after, deeds_after};
 ghost use Rattle.prog_run.specs.View.{IsTrueRun, SameBegin};
-ghost use Rattle.history_book.specs.Audit.{CameTo, IsBegun, with_active, taken_up};
-ghost use Rattle.history_book.specs.History.{Instance, IsCalled};
+ghost use Rattle.history_book.specs.Audit.{CameTo, taken_up};
+ghost use Rattle.history_book.specs.History.{IsCalled};
 ghost use Rattle.history_book.specs.Runs.{IsCommit};
-ghost use Rattle.history_book.specs.View.{done_in, history_of, instance_of, state_in, most_endings, most_begins};
+ghost use Rattle.history_book.specs.View.{done_in, instance_of, state_in, most_endings, most_begins};
 
 use crate::book::Book;
-use crate::instances::active::Active;
 use crate::instances::row::HistoryRow;
 use prog_run::{AnswerFault, Next, Run, RunFault};
-use prog_tree::Sequence;
 use std::alloc::AllocError;
 
 /// An answer that fits the question is refused for want of memory alone.
@@ -92,29 +90,6 @@ impl<'a> Book<'a> {
         Ok(run)
     }
 
-    // Begins the instance of a row, which sees as many commits as the row says.
-    fn begin_as(&mut self, row: &HistoryRow) -> Result<u64, AllocError>
-        requires none { self.old.active ≡ [] }
-        requires begun { IsBegun (draft_tree self.old.set) self.old.opening
-            (history_of self.old.rows) row.now }
-        requires above { self.old.floor ≤ row.now.start }
-        requires room { length self.old.endings < most_endings }
-        requires more { self.old.begun < most_begins }
-        ensures number { IfOk result (λ number. number ≡ self.old.begun) }
-        ensures ok { OnOk result (self.new ≡ with_active self.old (instance_of row.now)) }
-    {
-        let number = self.begun;
-        let args = Sequence::from_vec(Vec::from_slice(self.alloc, row.args.as_slice())?);
-        let active = Active {
-            program: row.program,
-            args,
-            start: row.start,
-        };
-        self.active.insert(number, active)?;
-        self.begun += 1;
-        Ok(number)
-    }
-
     /// Begins the instance of a row, and commits it by its run.
     pub(crate) fn take_up(&mut self, row: HistoryRow, run: &Run<'_>) -> Result<(), AllocError>
         requires none { self.old.active ≡ [] }
@@ -125,8 +100,8 @@ impl<'a> Book<'a> {
         requires more { self.old.begun < most_begins }
         ensures { OnOk result (self.new ≡ taken_up self.old row) }
     {
-        let number = self.begin_as(&row)?;
-        self.install(number, row, run)?;
+        let ticket = self.admit(row.start, row.program, row.args.as_slice())?;
+        self.install(ticket.number, row, run)?;
         Ok(())
     }
 }

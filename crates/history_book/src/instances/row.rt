@@ -12,7 +12,7 @@ pub struct HistoryRow {
     /// The number of its program.
     pub program: usize,
     pub args: Sequence<i64>,
-    /// The number of commits when it was begun.
+    /// The number of commits that it sees.
     pub start: u64,
     pub replies: Sequence<i64>,
 }

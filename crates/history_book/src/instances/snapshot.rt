@@ -35,7 +35,7 @@ impl<'a> Book<'a> {
         ensures above { IfSome result (λ active. self.now.floor ≤ active.now.start) }
         ensures within { IfSome result (λ active. active.now.start ≤ length self.now.rows) }
     {
-        let active = self.active.get(&ticket.number)?;
+        let active = self.active.get(ticket.number)?;
         if active.start == ticket.start {
             Some(active)
         } else {

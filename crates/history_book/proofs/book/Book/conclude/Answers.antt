@@ -13,8 +13,8 @@ pub invariant_of-self-2 : goal.invariant_of-self-2
 invariant_of-self-2 c =
     let found = subst (λ (v : BookView). IsSome (lookup (is_at (nat_cmp c.args.number)) v.active)) (sym c.self.view_is) c.requires.active in
     let is_true = subst (λ (v : BookView). IsTrueEnding (draft_tree v.set) v.opening (history_of v.rows) c.args.ending) (sym c.self.view_is) c.requires.is_true in (
-      true-ended _ c.args.number c.args.ending c.push.new.self.items c.remove.new.self.entries c.self.invariant.0 found is_true c.requires.no_commit
-          c.in_ok-push.ensures.items c.remove.ensures.entries c.remove.ensures.ordered,
+      true-ended _ c.args.number c.args.ending c.push.new.self.items c.remove.new.self c.self.invariant.0 found is_true c.requires.no_commit
+          c.in_ok-push.ensures.items c.remove.ensures.removed c.remove.ensures.ordered,
       record { stands = c.self.invariant.1.stands; commits = c.self.invariant.1.commits },
       c.self.invariant.2,
     )

@@ -24,8 +24,8 @@ invariant_of-self-2 c =
     let more = e.endings ∙ next_number c.self.inside.endings.items _ _ c.self.invariant.1.commits in
     let stands = subst (StandsFor c.add_commit.new.store c.self.inside.opening) (commits-committed _ c.args.row c.changes.result.now c.add_commit.new.rows.items commit e.rows)
     (e.stands _ _ c.self.invariant.1.stands) in (
-      true-committed _ c.args.number c.args.row c.changes.result.now c.add_commit.new.rows.items c.add_commit.new.endings.items c.remove.new.self.entries c.add_commit.new.store.floor
-          c.self.invariant.0 found commit e.rows more c.remove.ensures.entries c.remove.ensures.ordered e.floor,
+      true-committed _ c.args.number c.args.row c.changes.result.now c.add_commit.new.rows.items c.add_commit.new.endings.items c.remove.new.self c.add_commit.new.store.floor
+          c.self.invariant.0 found commit e.rows more c.remove.ensures.removed c.remove.ensures.ordered e.floor,
       stored _ c.add_commit.new.store stands,
       traced-committed _ c.args.row c.in_ok-trace.trace c.add_commit.new.rows.items c.self.inside.traces.items c.add_commit.new.traces.items c.self.invariant.0 c.self.invariant.2 commit.is_true.start trace e.rows e.traces,
     )

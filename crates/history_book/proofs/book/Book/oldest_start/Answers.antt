@@ -1,20 +1,17 @@
-use Rattle.std.proofs.Common.{◌≡◌, ◌≤◌, length, ap, sym, ◌∙◌, subst}
-use Rattle.history_book.specs.History.{Instance}
+use Rattle.std.proofs.Common.{◌≤◌, ℕ, length, ap, sym, ◌∙◌, subst}
 use Rattle.history_book.specs.View.{BookView, least_start}
-use Rattle.history_book.proofs.BookLaws.{first_least}
+use Rattle.history_book.proofs.ActiveLaws.{least-within}
+use Rattle.history_book.proofs.BookLaws.{least_above}
 use Rattle.history_book.proofs.book.Book.oldest_start.Goals as goal
 
-pub returns-in-Some-clause-least : goal.returns-in-Some-clause-least
-returns-in-Some-clause-least c =
-    subst (λ (v : BookView). c.oldest.inside.start ≡ least_start (length v.rows) v.active) c.self.view_is
-    (ap (λ (i : Instance). i.start) c.oldest.view_is ∙ (first_least _ _ _ c.self.invariant.0 c.in-Some.ensures.first).0)
+pub returns-clause-above : goal.returns-clause-above
+returns-clause-above c =
+    let least = c.least_start.ensures ∙ ap (λ n. least_start n c.self.inside.active) (c.commits.ensures ∙ c.self.invariant.1.commits) in
+    subst (λ (v : BookView). v.floor ≤ c.least_start.result) c.self.view_is
+    (subst (λ (n : ℕ). c.self.inside.store.floor ≤ n) (sym least) (least_above _ c.self.invariant.0))
 
-pub returns-in-Some-clause-above : goal.returns-in-Some-clause-above
-returns-in-Some-clause-above c =
-    subst (λ (v : BookView). v.floor ≤ c.oldest.inside.start) c.self.view_is
-    (subst (λ (i : Instance). c.self.inside.store.floor ≤ i.start) (sym c.oldest.view_is) (first_least _ _ _ c.self.invariant.0 c.in-Some.ensures.first).1)
-
-pub returns-in-Some-clause-within : goal.returns-in-Some-clause-within
-returns-in-Some-clause-within c =
-    subst (λ (v : BookView). c.oldest.inside.start ≤ length v.rows) c.self.view_is
-    (subst (λ (i : Instance). i.start ≤ length c.self.inside.rows.items) (sym c.oldest.view_is) (first_least _ _ _ c.self.invariant.0 c.in-Some.ensures.first).2)
+pub returns-clause-within : goal.returns-clause-within
+returns-clause-within c =
+    let least = c.least_start.ensures ∙ ap (λ n. least_start n c.self.inside.active) (c.commits.ensures ∙ c.self.invariant.1.commits) in
+    subst (λ (v : BookView). c.least_start.result ≤ length v.rows) c.self.view_is
+    (subst (λ (n : ℕ). n ≤ length c.self.inside.rows.items) (sym least) (least-within (length c.self.inside.rows.items) c.self.inside.active))

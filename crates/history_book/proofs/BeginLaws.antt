@@ -1,0 +1,135 @@
+-- Begins at a number.
+use Rattle.std.proofs.Common.{◌≡◌, ℕ, ◌+◌, ◌<◌, ◌≤◌, ◌==◌, nat_lt, Bool, true, false, cond, leb, true≢false, ◌⊎◌, inl, inr, if◌then◌else◌, List, [], ◌∷◌, ◌++◌, length, refl, ap, sym, ◌∙◌, arith}
+use Rattle.std.specs.Prelude.{All, Option, Some, None, ℤ, nat_le, not, ◌||◌, slice_get}
+use Rattle.std.specs.BTreeMap.{is_at, insert_entry}
+use Rattle.std.specs.Cmp.{nat_cmp_is}
+use Rattle.std.specs.List.Sorted.{IsStrictlySortedBy}
+use Rattle.std.specs.Map.{keys_of, lookup}
+use Rattle.std.specs.Option.{option_map}
+use Rattle.std.specs.Ordering.{nat_cmp, is_eq}
+use Rattle.std.specs.declared.cmp.Ordering.TheVariants.{Greater}
+use Rattle.std.proofs.lemmas.Bool.Decides.{nat_tests, leb_tells}
+use Rattle.std.proofs.lemmas.List.Elements.{All-head, All-tail, All-weaker}
+use Rattle.std.proofs.lemmas.Option.{slice_get-map}
+use Rattle.prog_tree.specs.declared.program.Program.{Program}
+use Rattle.prog_tree.specs.Number.{IsI64}
+use Rattle.prog_tree.specs.Syntax.{ProgramTree}
+use Rattle.prog_tree.specs.Tree.{program_tree, draft_tree}
+use Rattle.history_book.specs.History.{Instance, IsCalled}
+use Rattle.history_book.specs.TrueBook.{IsTrueActive, IsTrueBook}
+use Rattle.history_book.specs.View.{BookView, most_begins, is_full, full_fault, start_fault, or_fault, fault_at, fault_by, begin_at_fault_of, begin_fault_of, instance_at}
+use Rattle.history_book.specs.declared.fault.BeginFault.{BeginFault}
+use Rattle.history_book.specs.declared.fault.BeginFault.TheVariants as begin
+use Rattle.history_book.proofs.ActiveLaws.{Entry, insert_last}
+use Rattle.history_book.proofs.BookLaws.{true-begin}
+use Rattle.history_book.proofs.TestLaws.{eq_tells, lt_not, not_lt}
+
+-- ---- what is wrong with a begin
+
+-- a program that was found and fits is refused by its start, or for want of room
+pub fault_found : (v : BookView) (start : ℕ) (found : Option Program) (p : Program) (args : List ℤ) → found ≡ Some p → length p.params.items ≡ length args →
+    fault_at v start found args ≡ or_fault (start_fault v start) (full_fault v)
+fault_found v start found p args is same =
+    ap (λ (f : Option Program). fault_at v start f args) is
+    ∙ ap (λ b. if not b then Some begin.WrongArguments else or_fault (start_fault v start) (full_fault v)) (eq_tells (length p.params.items) (length args) same)
+
+-- nothing is wrong with a number between the floor and that of commits
+pub start_is_right : (v : BookView) (start : ℕ) → v.floor ≤ start → start ≤ length v.rows → start_fault v start ≡ None
+start_is_right v start above within =
+    ap (λ b. if b then Some (begin.TooOld v.floor) else (if nat_lt (length v.rows) start then Some (begin.TooNew (length v.rows)) else None)) (not_lt start v.floor above)
+    ∙ ap (λ b. if b then Some (begin.TooNew (length v.rows)) else None) (not_lt (length v.rows) start within)
+
+-- at the newest number the number is never at fault
+pub newest_fault : (v : BookView) (program : ℕ) (args : List ℤ) → IsTrueBook v → begin_at_fault_of v (length v.rows) program args ≡ begin_fault_of v program args
+newest_fault v program args book = go (slice_get v.set.programs.items program)
+  where
+    go : (found : Option Program) → fault_at v (length v.rows) found args ≡ fault_by v found args
+    go None = refl
+    go (Some p) =
+        ap (λ (o : Option BeginFault). if not (length p.params.items == length args) then Some begin.WrongArguments else or_fault o (full_fault v))
+        (start_is_right v (length v.rows) book.floor (omega arith))
+
+-- ---- a begin that nothing is wrong with
+
+-- its program has as many parameters, its start is one of the book's, and there is room
+pub record IsAllowed (v : BookView) (start program : ℕ) (args : List ℤ) : Type 0 where
+  pub called : (p : ProgramTree) × (slice_get (draft_tree v.set).programs program ≡ Some p) × (length p.params ≡ length args)
+  pub above : v.floor ≤ start
+  pub within : start ≤ length v.rows
+  pub room : is_full v ≡ false
+
+pub allowed : (v : BookView) (start program : ℕ) (args : List ℤ) → begin_at_fault_of v start program args ≡ None → IsAllowed v start program args
+allowed v start program args none = go (slice_get v.set.programs.items program) refl none
+  where
+    by_room : (b : Bool) → is_full v ≡ b → cond b (Some begin.Full) None ≡ None → is_full v ≡ false
+    by_room true is h = absurd (cc)
+    by_room false is h = is
+
+    by_commits : (b : Bool) → nat_lt (length v.rows) start ≡ b → or_fault (cond b (Some (begin.TooNew (length v.rows))) None) (full_fault v) ≡ None →
+        (start ≤ length v.rows) × (is_full v ≡ false)
+    by_commits true is h = absurd (cc)
+    by_commits false is h = (lt_not (length v.rows) start is, by_room (is_full v) refl h)
+
+    by_floor : (b : Bool) → nat_lt start v.floor ≡ b →
+        or_fault (cond b (Some (begin.TooOld v.floor)) (cond (nat_lt (length v.rows) start) (Some (begin.TooNew (length v.rows))) None)) (full_fault v) ≡ None →
+        (v.floor ≤ start) × (start ≤ length v.rows) × (is_full v ≡ false)
+    by_floor true is h = absurd (cc)
+    by_floor false is h = let rest = by_commits (nat_lt (length v.rows) start) refl h in (lt_not start v.floor is, rest.0, rest.1)
+
+    by_length : (p : Program) → slice_get v.set.programs.items program ≡ Some p → (b : Bool) → (length p.params.items == length args) ≡ b →
+        cond (not b) (Some begin.WrongArguments) (or_fault (start_fault v start) (full_fault v)) ≡ None → IsAllowed v start program args
+    by_length p is true fits h =
+        let same : length p.params.items ≡ length args = grind (arith, nat_tests) in
+        let rest = by_floor (nat_lt start v.floor) refl h in
+        record {
+          called = (program_tree p, slice_get-map program_tree v.set.programs.items program ∙ ap (option_map program_tree) is, same);
+          above = rest.0;
+          within = rest.1;
+          room = rest.2;
+        }
+    by_length p is false fits h = absurd (cc)
+
+    go : (o : Option Program) → slice_get v.set.programs.items program ≡ o → fault_at v start o args ≡ None → IsAllowed v start program args
+    go None is h = absurd (cc)
+    go (Some p) is h = by_length p is (length p.params.items == length args) refl h
+
+-- ---- the book after a begin
+
+-- the next number is that of no active instance
+pub unused_number : (v : BookView) → IsTrueBook v → lookup (is_at (nat_cmp v.begun)) v.active ≡ None
+unused_number v book = go v.active (All-weaker (IsTrueActive v) (λ entry. entry.0 < v.begun) (λ entry old. old.number) v.active book.active)
+  where
+    go : (es : List Entry) → All (λ e. e.0 < v.begun) es → lookup (is_at (nat_cmp v.begun)) es ≡ None
+    go [] below = refl
+    go (e ∷ es) below =
+        let P = λ (x : Entry). x.0 < v.begun in
+        let here : e.0 < v.begun = All-head P e es below in
+        ap (λ o. cond (is_eq o) (Some e.1) (lookup (is_at (nat_cmp v.begun)) es)) (sym (nat_cmp_is v.begun e.0 Greater here)) ∙ go es (All-tail P e es below)
+
+-- the active instances
+pub begun-active : (v : BookView) (start program : ℕ) (args given : List ℤ) (active : List Entry) → IsTrueBook v → given ≡ args →
+    active ≡ insert_entry nat_cmp v.active v.begun (record { program = program; args = given; start = start }) →
+    active ≡ v.active ++ (v.begun, instance_at start program args) ∷ []
+begun-active v start program args given active book same is =
+    let i : Instance = record { program = program; args = given; start = start } in
+    let next : i ≡ instance_at start program args = λ k. record { program = program; args = same k; start = start } in
+    let below : All (λ entry. entry.0 < v.begun) v.active =
+    All-weaker (IsTrueActive v) (λ entry. entry.0 < v.begun) (λ entry old. old.number) v.active book.active in
+    is ∙ insert_last v.active v.begun i below ∙ ap (λ x. v.active ++ (v.begun, x) ∷ []) next
+
+pub true-admitted :
+    (v : BookView) (start program : ℕ) (args : List ℤ) (active : List Entry) → IsTrueBook v → begin_at_fault_of v start program args ≡ None → All IsI64 args →
+    active ≡ v.active ++ (v.begun, instance_at start program args) ∷ [] → IsStrictlySortedBy nat_cmp (keys_of active) →
+    IsTrueBook (record v { active = active; begun = v.begun + 1 })
+true-admitted v start program args active book none i64 is by_number =
+    let may = allowed v start program args none in
+    let called : IsCalled (draft_tree v.set) (instance_at start program args) = (may.called.0, may.called.1, may.called.2, i64) in
+    true-begin v (instance_at start program args) active book called may.above may.within
+    (few_enough (length v.endings + length v.active) (nat_le most_begins v.begun) may.room) is by_number
+  where
+    few_enough : (n : ℕ) (b : Bool) → (nat_le 100000 n || b) ≡ false → n < 100000
+    few_enough n b room = go (leb_tells 100000 n) room
+      where
+        go : ((leb 100000 n ≡ true) × (100000 ≤ n)) ⊎ ((leb 100000 n ≡ false) × (n < 100000)) → (nat_le 100000 n || b) ≡ false → n < 100000
+        go (inl more) h = absurd (true≢false (sym (ap (λ x. x || b) more.0) ∙ h))
+        go (inr less) h = less.1
