@@ -12,7 +12,7 @@ use Rattle.si_engine.specs.declared.event.Event.TheVariants.{Begin, Step, Commit
 use Rattle.si_engine.specs.declared.event.Reply.{Reply}
 use Rattle.si_engine.specs.declared.event.Reply.TheVariants as reply
 use Rattle.si_engine.specs.declared.robust.run.Outcome.{Outcome}
-use Rattle.si_engine.specs.Headline.{Exchange, Call, IsBegunBy, IsReadyWith, IsCommittedAs, committed_at, run_of, RunsAlong, Headline}
+use Rattle.si_engine.specs.Headline.{Exchange, Call, call_in, IsBegunBy, IsReadyWith, IsCommittedAs, committed_at, run_of, RunsAlong, Headline}
 use Rattle.si_engine.proofs.MachineVectors.{cell, registers, snapshot_events, snapshot, snapshot_rows}
 
 -- what is answered: the write is the first commit, the look the second
@@ -46,13 +46,13 @@ replies_at (suc i) = []
 
 -- what each exchange says of an instance
 abbrev Says : Exchange → Type 0
-Says (Begin program args, reply.Begun i start) = record { program = program; args = args } ≡ call_at i
+Says (begin, reply.Begun i start) = (call : Call) → call_in begin ≡ Some call → call ≡ call_at i
 Says (Step i, reply.Ready replies) = replies ≡ replies_at i
 Says (Commit i, reply.Committed n) = committed_at committed n ≡ Some i
 Says exchange = Unit {0}
 
 says : (x : Exchange) → Contains said x → Says x
-says x there = All-contains Says said x (All-from_recursion Says said (refl, (refl, (tt, (refl, (refl, (tt, (refl, (refl, tt))))))))) there
+says x there = All-contains Says said x (All-from_recursion Says said ((λ call is. cc), ((λ call is. cc), (tt, (refl, (refl, (tt, (refl, (refl, tt))))))))) there
 
 look_ready : IsReadyWith said 0 (negsuc 0 ∷ [])
 look_ready = record { told = (6, omega arith, refl); never_others = λ others there. says (Step 0, reply.Ready others) there }
@@ -72,10 +72,10 @@ look_first = (
   call_at 0,
   (
     refl,
-    record { instance = 0; at = refl; begun = (0, (0, omega arith, refl)); ready = look_ready },
+    record { instance = 0; at = refl; begun = (Begin 0 (pos 1 ∷ []), 0, refl, (0, omega arith, refl)); ready = look_ready },
     (
       call_at 1,
-      (refl, record { instance = 1; at = refl; begun = (0, (1, omega arith, refl)); ready = write_ready }, refl),
+      (refl, record { instance = 1; at = refl; begun = (Begin 1 (pos 1 ∷ pos 5 ∷ []), 0, refl, (1, omega arith, refl)); ready = write_ready }, refl),
     ),
   ),
 )
@@ -103,8 +103,8 @@ look_last (write, (write_ends, first, (look, (look_ends, second, last)))) =
     let two : 0 ≡ second.instance = let at = second.at in cc in
     let begun_first = subst (λ i. IsBegunBy said i write) (sym one) first.begun in
     let begun_second = subst (λ i. IsBegunBy said i look) (sym two) second.begun in
-    let is_write : write ≡ call_at 1 = says _ begun_first.1 in
-    let is_look : look ≡ call_at 0 = says _ begun_second.1 in
+    let is_write : write ≡ call_at 1 = says _ begun_first.3 write begun_first.2 in
+    let is_look : look ≡ call_at 0 = says _ begun_second.3 look begun_second.2 in
     let ready = subst (λ i. IsReadyWith said i (run_of registers look (changed [] (run_of registers write []).changes.cells)).replies) (sym two) second.ready in
     read_five look is_look
     (subst (λ (c : Call). IsReadyWith said 0 (run_of registers look (changed [] (run_of registers c []).changes.cells)).replies) is_write ready)

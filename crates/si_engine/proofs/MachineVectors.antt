@@ -11,7 +11,7 @@ use Rattle.prog_tree.specs.Syntax as s
 use Rattle.history_book.specs.History.{eval_of, state_after}
 use Rattle.si_engine.specs.Machine.{new_machine, machine_step, replies_of, machine_after}
 use Rattle.si_engine.specs.declared.event.Event.{Event}
-use Rattle.si_engine.specs.declared.event.Event.TheVariants.{Begin, Step, Commit, Abort, Vacuum}
+use Rattle.si_engine.specs.declared.event.Event.TheVariants.{Begin, BeginAt, Step, Commit, Abort, Vacuum}
 use Rattle.si_engine.specs.declared.event.Reply.TheVariants as reply
 
 abbrev pub cell : ℤ → Cell
@@ -111,6 +111,45 @@ pub vacuum_ends : let m = machine_after registers zero_row (vacuum_events ++ loo
     (m.floor ≡ 5) × (state_after registers zero_row m.history (length m.history) ≡ [])
 unfolding eval_of
 vacuum_ends = (refl, refl)
+
+-- a look at an older number sees what stood then, and commits last; there are not so many commits as 3; and what a
+-- vacuum gave up can't be named any more
+abbrev older_events : List Event
+older_events =
+    Begin 1 (pos 1 ∷ pos 5 ∷ []) ∷ Step 0 ∷ Step 0 ∷ Commit 0 ∷ BeginAt 0 0 (pos 1 ∷ []) ∷ Step 1 ∷ Step 1 ∷ Commit 1
+    ∷ BeginAt 3 0 (pos 1 ∷ []) ∷ Vacuum ∷ BeginAt 0 0 (pos 1 ∷ []) ∷ []
+
+pub older : replies_of registers zero_row older_events new_machine
+    ≡ reply.Begun 0 0 ∷ reply.Did (deed.Put (cell (pos 1)) (pos 5)) ∷ reply.Ready [] ∷ reply.Committed 1
+    ∷ reply.Begun 1 0 ∷ reply.Did (deed.Read (cell (pos 1)) (Some (pos 0))) ∷ reply.Ready (pos 0 ∷ []) ∷ reply.Committed 2
+    ∷ reply.TooNew 2 ∷ reply.Vacuumed 1 ∷ reply.TooOld 2 ∷ []
+unfolding eval_of
+older = refl
+
+-- a write as of an older number clashes with the commit that it does not see
+abbrev older_write_events : List Event
+older_write_events =
+    Begin 1 (pos 1 ∷ pos 5 ∷ []) ∷ Step 0 ∷ Step 0 ∷ Commit 0 ∷ BeginAt 0 1 (pos 1 ∷ pos 6 ∷ []) ∷ Step 1 ∷ Step 1 ∷ Commit 1 ∷ []
+
+pub older_write : replies_of registers [] older_write_events new_machine
+    ≡ reply.Begun 0 0 ∷ reply.Did (deed.Put (cell (pos 1)) (pos 5)) ∷ reply.Ready [] ∷ reply.Committed 1
+    ∷ reply.Begun 1 0 ∷ reply.Did (deed.Put (cell (pos 1)) (pos 6)) ∷ reply.Ready []
+    ∷ reply.Clashed (record { cell = cell (pos 1); number = 1 }) ∷ []
+unfolding eval_of
+older_write = refl
+
+-- an instance that began later at an older number holds the floor there; what refuses a begin comes in its order
+abbrev oldest_events : List Event
+oldest_events =
+    Begin 1 (pos 1 ∷ pos 5 ∷ []) ∷ Step 0 ∷ Step 0 ∷ Commit 0 ∷ Begin 0 (pos 1 ∷ []) ∷ BeginAt 0 0 (pos 1 ∷ []) ∷ Vacuum ∷ Abort 2 ∷ Vacuum
+    ∷ BeginAt 1 0 (pos 1 ∷ []) ∷ BeginAt 2 3 [] ∷ BeginAt 2 0 [] ∷ BeginAt 0 0 (pos 1 ∷ []) ∷ BeginAt 2 0 (pos 1 ∷ []) ∷ []
+
+pub oldest : replies_of registers zero_row oldest_events new_machine
+    ≡ reply.Begun 0 0 ∷ reply.Did (deed.Put (cell (pos 1)) (pos 5)) ∷ reply.Ready [] ∷ reply.Committed 1
+    ∷ reply.Begun 1 1 ∷ reply.Begun 2 0 ∷ reply.Vacuumed 0 ∷ reply.Withdrawn ∷ reply.Vacuumed 1
+    ∷ reply.Begun 3 1 ∷ reply.NoSuchProgram ∷ reply.WrongArguments ∷ reply.TooOld 1 ∷ reply.TooNew 1 ∷ []
+unfolding eval_of
+oldest = refl
 
 -- ---- the overflow set
 

@@ -7,8 +7,8 @@ use Rattle.prog_tree.specs.declared.deed.Cause.TheVariants.{Asked, Missing, Pres
 use Rattle.prog_tree.specs.declared.deed.Deed.TheVariants.{Read, Counted, Summed, Put, Removed, Kept}
 use Rattle.prog_tree.specs.declared.table.Arity.TheVariants.{One, Two}
 use Rattle.prog_tree.specs.declared.table.TableDecl.{TableDecl}
-use Rattle.si_engine.specs.declared.event.Event.TheVariants.{Begin, Step, Commit, Abort, Vacuum}
-use Rattle.si_engine.specs.declared.event.Reply.TheVariants.{Begun, NoSuchProgram, WrongArguments, Full, Did, Ready, Aborted, Committed, Clashed, Withdrawn, Vacuumed, NoSuchInstance, Ended, NotReady}
+use Rattle.si_engine.specs.declared.event.Event.TheVariants.{Begin, BeginAt, Step, Commit, Abort, Vacuum}
+use Rattle.si_engine.specs.declared.event.Reply.TheVariants.{Begun, NoSuchProgram, WrongArguments, TooOld, TooNew, Full, Did, Ready, Aborted, Committed, Clashed, Withdrawn, Vacuumed, NoSuchInstance, Ended, NotReady}
 use Rattle.si_engine.specs.Printed.{reply_line, row_line}
 
 -- `t` of one key column, `e` of two
@@ -36,6 +36,18 @@ no_such_program = refl
 
 wrong_arguments : reply_line tables (Begin 0 []) WrongArguments ≡ codes "refused wrong arguments\n"
 wrong_arguments = refl
+
+begun_at : reply_line tables (BeginAt 3 0 []) (Begun 12 3) ≡ codes "12 begun at 3\n"
+unfolding digits
+begun_at = refl
+
+too_old : reply_line tables (BeginAt 3 0 []) (TooOld 12) ≡ codes "refused too old 12\n"
+unfolding digits
+too_old = refl
+
+too_new : reply_line tables (BeginAt 3 0 []) (TooNew 2) ≡ codes "refused too new 2\n"
+unfolding digits
+too_new = refl
 
 full : reply_line tables (Begin 0 []) Full ≡ codes "refused full\n"
 full = refl

@@ -1,13 +1,13 @@
 -- Lines, words, numbers and scripts, read by hand.
-use Rattle.std.proofs.Common.{◌≡◌, pos, neg_ℤ, ◌^◌, [], ◌∷◌, ◌++◌, Some, None, Ok, Err, false, refl, codes}
+use Rattle.std.proofs.Common.{◌≡◌, pos, neg_ℤ, ◌^◌, ◌-◌, [], ◌∷◌, ◌++◌, Some, None, Ok, Err, false, refl, codes}
 use Rattle.prog_tree.specs.declared.table.Arity.TheVariants.{One, Two}
 use Rattle.prog_tree.specs.Syntax.{DraftTree, BlockEnd}
-use Rattle.si_engine.specs.declared.input.command.Command.TheVariants.{Skip, Row, Begin, Step, Commit, Abort, Vacuum}
+use Rattle.si_engine.specs.declared.input.command.Command.TheVariants.{Skip, Row, Begin, BeginAt, Step, Commit, Abort, Vacuum}
 use Rattle.si_engine.specs.declared.event.Event.TheVariants as e
 use Rattle.si_engine.specs.declared.input.script_fault.LineFault.TheVariants as f
 use Rattle.si_engine.specs.Lines.{lines_of, words_of}
 use Rattle.si_engine.specs.Numbers.{i64_of, number_between}
-use Rattle.si_engine.specs.Commands.{line_command, command_of, row_command, begin_command, step_command, commit_command, abort_command, vacuum_command}
+use Rattle.si_engine.specs.Commands.{line_command, command_of, row_command, begin_command, begin_at_command, step_command, commit_command, abort_command, vacuum_command}
 use Rattle.si_engine.specs.RowLines.{row_line_of}
 use Rattle.si_engine.specs.Sayings.{sayings_from}
 use Rattle.si_engine.specs.Script.{script_of, room_fault}
@@ -78,6 +78,30 @@ row = refl
 begin : line_command draft 1 (codes "begin Set 1 -0 7") ≡ Ok (Begin 1 (pos 1 ∷ pos 0 ∷ pos 7 ∷ []))
 unfolding draft line_command command_of begin_command
 begin = refl
+
+begin_at : line_command draft 1 (codes "begin-at 18446744073709551615 Set 1 -0") ≡ Ok (BeginAt (2 ^ 64 - 1) 1 (pos 1 ∷ pos 0 ∷ []))
+unfolding draft line_command command_of begin_at_command
+begin_at = refl
+
+begin_at_no_number : line_command draft 2 (codes "begin-at Look 7") ≡ Err (f.BadLine 2)
+unfolding draft line_command command_of begin_at_command
+begin_at_no_number = refl
+
+begin_at_nothing : line_command draft 2 (codes "begin-at 0") ≡ Err (f.BadLine 2)
+unfolding draft line_command command_of begin_at_command
+begin_at_nothing = refl
+
+begin_past_the_end : line_command draft 2 (codes "begin-at 18446744073709551616 Look 1") ≡ Err (f.BadLine 2)
+unfolding draft line_command command_of begin_at_command
+begin_past_the_end = refl
+
+begin_at_no_name : line_command draft 2 (codes "begin-at 0 Lok 1") ≡ Err (f.UnknownName 2)
+unfolding draft line_command command_of begin_at_command
+begin_at_no_name = refl
+
+bad_argument_first : line_command draft 2 (codes "begin-at 0 Lok x") ≡ Err (f.BadLine 2)
+unfolding draft line_command command_of begin_at_command
+bad_argument_first = refl
 
 one_step : line_command draft 1 (codes "step 5") ≡ Ok (Step 5 1)
 unfolding draft line_command command_of step_command

@@ -1,7 +1,8 @@
 -- What the exchanges so far tell of a machine's instances and commits, and that each event keeps it.
-use Rattle.std.proofs.Common.{◌≡◌, ℕ, zero, suc, ◌+◌, ◌≤◌, ◌==◌, Bool, true, false, not, cond, List, [], ◌∷◌, ◌++◌, length, set, refl, ap, sym, ◌∙◌, subst, ◌⊎◌, inl, inr, arith, append_assoc, append-nil}
+use Rattle.std.proofs.Common.{◌≡◌, ℕ, zero, suc, ◌+◌, ◌≤◌, nat_lt, ◌==◌, Bool, true, false, not, cond, List, [], ◌∷◌, ◌++◌, length, set, refl, ap, sym, ◌∙◌, subst, ◌⊎◌, inl, inr, arith, append_assoc, append-nil}
 use Rattle.std.specs.Prelude.{ℤ, slice_get, Option, Some, None, is_none}
 use Rattle.std.specs.List.{Contains, zip}
+use Rattle.std.proofs.lemmas.Bool.Decides.{nat_tests}
 use Rattle.std.proofs.lemmas.Grind.{flat_map-append}
 use Rattle.std.proofs.lemmas.List.{length-append, length-set}
 use Rattle.std.proofs.lemmas.List.Elements.{Contains-append_left, Contains-append_right, Contains-append_cases}
@@ -21,8 +22,8 @@ use Rattle.si_engine.specs.declared.event.Event.{Event}
 use Rattle.si_engine.specs.declared.event.Event.TheVariants as event
 use Rattle.si_engine.specs.declared.event.Reply.{Reply}
 use Rattle.si_engine.specs.declared.event.Reply.TheVariants as reply
-use Rattle.si_engine.specs.Headline.{Exchange, Call, IsBegunBy, IsReadyWith, IsCommittedAs, committed_at, commit_in, commits_said}
-use Rattle.si_engine.specs.Machine.{Active, Machine, new_machine, is_full, at_begin, at_end, deed_or_end, with_begun, if_active, begin_by, commit_by, least_start, machine_step, replies_of, machine_after}
+use Rattle.si_engine.specs.Headline.{Exchange, Call, call_in, IsBegunBy, IsReadyWith, IsCommittedAs, committed_at, commit_in, commits_said}
+use Rattle.si_engine.specs.Machine.{Active, Machine, new_machine, is_full, at_begin, at_end, deed_or_end, with_begun, if_active, admitted, begin_by, begin_at_by, commit_by, least_start, machine_step, replies_of, machine_after}
 use Rattle.si_engine.proofs.PlaceLaws.{get-set_same, get-set_other, get-push, same_number}
 
 -- ---- lists
@@ -50,6 +51,15 @@ committed_at-longer xs x y (suc n) at = get-longer xs x y n at
 get-last : {X : Type 0} (xs : List X) (x : X) → slice_get (xs ++ x ∷ []) (length xs) ≡ Some x
 get-last [] x = refl
 get-last (z ∷ xs) x = get-last xs x
+
+-- an event that begins an instance commits none
+begins_alone : (begin : Event) (call : Call) (r : Reply) → call_in begin ≡ Some call → commit_in (begin, r) ≡ []
+begins_alone (event.Begin program args) call r asks = refl
+begins_alone (event.BeginAt start program args) call r asks = refl
+begins_alone (event.Step i) call r asks = absurd (cc)
+begins_alone (event.Commit i) call r asks = absurd (cc)
+begins_alone (event.Abort i) call r asks = absurd (cc)
+begins_alone event.Vacuum call r asks = absurd (cc)
 
 abbrev pub call_of : Instance → Call
 call_of i = record { program = i.program; args = i.args }
@@ -115,7 +125,7 @@ module _ (draft : DraftTree) (opening : TableState) where
         go (inr now) = inr (only x y now)
 
     still_begun : (i : ℕ) (c : Call) → IsBegunBy said i c → IsBegunBy more i c
-    still_begun i c begun = (begun.0, kept _ begun.1)
+    still_begun i c begun = (begun.0, begun.1, begun.2, kept _ begun.3)
 
     module _ (s t : Machine) (told : IsTold said s) (tells : TellsReplies s x) (same : (b : Instance) → b.start ≤ length s.history → done t b ≡ done s b) (longer : length s.history ≤ length t.history) where
       -- an instance that stays active
@@ -262,12 +272,13 @@ module _ (draft : DraftTree) (opening : TableState) where
 
   -- ---- an instance begins
 
-  module _ (said : List Exchange) (s : Machine) (told : IsTold said s) (program : ℕ) (args : List ℤ) where
+  module _ (said : List Exchange) (s : Machine) (told : IsTold said s) (begin : Event) (start program : ℕ) (args : List ℤ)
+      (asks : call_in begin ≡ Some (record { program = program; args = args })) (within : start ≤ length s.history) where
     abbrev begins : Instance
-    begins = record { program = program; args = args; start = length s.history }
+    begins = record { program = program; args = args; start = start }
 
     abbrev beginning : Exchange
-    beginning = (event.Begin program args, reply.Begun (length s.begun) (length s.history))
+    beginning = (begin, reply.Begun (length s.begun) start)
 
     abbrev with_one : Machine
     with_one = record s { begun = s.begun ++ Some (at_begin begins) ∷ [] }
@@ -280,7 +291,7 @@ module _ (draft : DraftTree) (opening : TableState) where
 
     begun_told : IsTold (said ++ beginning ∷ []) with_one
     begun_told =
-        answered said beginning s with_one told tells_nothing refl no_commit_there refl
+        answered said beginning s with_one told tells_nothing (begins_alone begin (call_of begins) beginning.1 asks) no_commit_there refl
         (λ i b at. active_at i b (get-push s.begun (Some (at_begin begins)) (Some b) i at))
         (λ i at. get-longer s.begun (Some (at_begin begins)) None i at)
         (omega (arith, length-append s.begun (Some (at_begin begins) ∷ [])))
@@ -298,8 +309,8 @@ module _ (draft : DraftTree) (opening : TableState) where
           where
             first : IsToldActive (said ++ beginning ∷ []) with_one (length s.begun) (at_begin begins)
             first = record {
-              begun = (length s.history, newest said beginning);
-              start = omega arith;
+              begun = (begin, start, asks, newest said beginning);
+              start = within;
               ready = λ is_ready. absurd (cc);
               never_others = λ others there. go others (told_before said beginning _ there);
             }
@@ -437,17 +448,36 @@ module _ (draft : DraftTree) (opening : TableState) where
         changed_one said (e, r) s (with_begun s i None ends) told (quiet_tells e r quiet) none (quiet_commits e r quiet) refl
         i a None at refl (λ b is. absurd (cc))
 
+    -- a begin has room or none, at whichever number it is
+    admitted_told : (begin : Event) (start program : ℕ) (args : List ℤ) → call_in begin ≡ Some (record { program = program; args = args }) →
+        start ≤ length s.history → Next begin (admitted s start program args)
+    admitted_told begin start program args asks within = go (is_full s)
+      where
+        go : (full : Bool) → Next begin (cond full (reply.Full, s) (reply.Begun (length s.begun) start, with_one said s told begin start program args asks within))
+        go true = stays_as_is _ _ (record { no_replies = λ r is. absurd (cc); no_number = λ n is. absurd (cc) }) (begins_alone begin _ reply.Full asks)
+        go false = begun_told said s told begin start program args asks within
+
     begin_told : (program : ℕ) (args : List ℤ) (found : Option ProgramTree) →
         Next (event.Begin program args) (begin_by found s program args)
     begin_told program args None = stays_as_is _ _ (record { no_replies = λ r is. absurd (cc); no_number = λ n is. absurd (cc) }) refl
-    begin_told program args (Some p) = go (not (length p.params == length args)) (is_full s)
+    begin_told program args (Some p) = go (not (length p.params == length args))
       where
-        go : (wrong full : Bool) → Next (event.Begin program args) (cond wrong (reply.WrongArguments, s)
-            (cond full (reply.Full, s)
-            (reply.Begun (length s.begun) (length s.history), with_one said s told program args)))
-        go true full = stays_as_is _ _ (record { no_replies = λ r is. absurd (cc); no_number = λ n is. absurd (cc) }) refl
-        go false true = stays_as_is _ _ (record { no_replies = λ r is. absurd (cc); no_number = λ n is. absurd (cc) }) refl
-        go false false = begun_told said s told program args
+        go : (wrong : Bool) → Next (event.Begin program args) (cond wrong (reply.WrongArguments, s) (admitted s (length s.history) program args))
+        go true = stays_as_is _ _ (record { no_replies = λ r is. absurd (cc); no_number = λ n is. absurd (cc) }) refl
+        go false = admitted_told (event.Begin program args) (length s.history) program args refl (omega arith)
+
+    begin_at_told : (start program : ℕ) (args : List ℤ) (found : Option ProgramTree) →
+        Next (event.BeginAt start program args) (begin_at_by found s start program args)
+    begin_at_told start program args None = stays_as_is _ _ (record { no_replies = λ r is. absurd (cc); no_number = λ n is. absurd (cc) }) refl
+    begin_at_told start program args (Some p) = go (not (length p.params == length args)) (nat_lt start s.floor) (nat_lt (length s.history) start) refl
+      where
+        go : (wrong old new : Bool) → nat_lt (length s.history) start ≡ new →
+            Next (event.BeginAt start program args) (cond wrong (reply.WrongArguments, s) (cond old (reply.TooOld s.floor, s)
+            (cond new (reply.TooNew (length s.history), s) (admitted s start program args))))
+        go true old new test = stays_as_is _ _ (record { no_replies = λ r is. absurd (cc); no_number = λ n is. absurd (cc) }) refl
+        go false true new test = stays_as_is _ _ (record { no_replies = λ r is. absurd (cc); no_number = λ n is. absurd (cc) }) refl
+        go false false true test = stays_as_is _ _ (record { no_replies = λ r is. absurd (cc); no_number = λ n is. absurd (cc) }) refl
+        go false false false test = admitted_told (event.BeginAt start program args) start program args refl (grind (arith, nat_tests))
 
     module _ (i : ℕ) (a : Active) (at : slice_get s.begun i ≡ Some (Some a)) where
       abbrev Stepped : Reply × Option Active → Type 0
@@ -514,6 +544,7 @@ module _ (draft : DraftTree) (opening : TableState) where
 
     step_told : (e : Event) → Next e (machine_step draft opening e s)
     step_told (event.Begin program args) = begin_told program args (slice_get draft.programs program)
+    step_told (event.BeginAt start program args) = begin_at_told start program args (slice_get draft.programs program)
     step_told (event.Step i) =
         on_active (event.Step i) i _ refl refl (λ a at. deed_told i a at (slice_get (done s a.instance).deeds a.steps)) (slice_get s.begun i) refl
     step_told (event.Commit i) =

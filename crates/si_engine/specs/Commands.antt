@@ -4,12 +4,12 @@ use Rattle.std.specs.Option.{ok_or}
 use Rattle.prog_tree.specs.Syntax.{DraftTree}
 use Rattle.prog_check.specs.Faults.{program_names}
 use Rattle.si_engine.specs.declared.input.command.Command.{Command}
-use Rattle.si_engine.specs.declared.input.command.Command.TheVariants.{Skip, Row, Begin, Step, Commit, Abort, Vacuum}
+use Rattle.si_engine.specs.declared.input.command.Command.TheVariants.{Skip, Row, Begin, BeginAt, Step, Commit, Abort, Vacuum}
 use Rattle.si_engine.specs.declared.input.script_fault.LineFault.{LineFault}
 use Rattle.si_engine.specs.declared.input.script_fault.LineFault.TheVariants.{BadLine, UnknownName}
 use Rattle.si_engine.specs.Lines.{is_skipped, words_of}
 use Rattle.si_engine.specs.Names.{number_named}
-use Rattle.si_engine.specs.Numbers.{numbers_of, number_between}
+use Rattle.si_engine.specs.Numbers.{numbers_of, number_between, u64_of}
 use Rattle.si_engine.specs.RowLines.{◌>>=◌, row_line_of}
 
 -- the words behind `row`: TABLE K = V, or TABLE K1 K2 = V
@@ -25,6 +25,15 @@ begin_command draft line (name ∷ words) = do
   args ← ok_or (numbers_of words) (BadLine line)
   program ← ok_or (number_named (program_names draft) name) (UnknownName line)
   Ok (Begin program args)
+
+-- the words behind `begin-at`: START PROGRAM ARG*
+unfoldable pub begin_at_command : DraftTree → (line : ℕ) → List (List ℕ) → Result Command LineFault
+begin_at_command draft line (start ∷ name ∷ words) = do
+  number ← ok_or (u64_of start) (BadLine line)
+  args ← ok_or (numbers_of words) (BadLine line)
+  program ← ok_or (number_named (program_names draft) name) (UnknownName line)
+  Ok (BeginAt number program args)
+begin_at_command draft line words = Err (BadLine line)
 
 -- the number of an instance
 abbrev pub instance_of : List ℕ → Option ℕ
@@ -60,6 +69,7 @@ command_of draft line [] = Err (BadLine line)
 command_of draft line (word ∷ words) =
     if bytes_eq word (codes "row") then row_command draft line words
     else if bytes_eq word (codes "begin") then begin_command draft line words
+    else if bytes_eq word (codes "begin-at") then begin_at_command draft line words
     else if bytes_eq word (codes "step") then step_command line words
     else if bytes_eq word (codes "commit") then commit_command line words
     else if bytes_eq word (codes "abort") then abort_command line words

@@ -26,11 +26,18 @@ pub record Call : Type 0 where
   pub program : ℕ
   pub args : List ℤ
 
+-- what an event that begins an instance asks for
+abbrev pub call_in : Event → Option Call
+call_in (event.Begin program args) = Some (record { program = program; args = args })
+call_in (event.BeginAt start program args) = Some (record { program = program; args = args })
+call_in event = None
+
 module _ (said : List Exchange) where
   -- the instance of a number was begun by this call
   abbrev pub IsBegunBy : (instance : ℕ) → Call → Type 0
   IsBegunBy instance call =
-      (start : ℕ) × Contains said (event.Begin call.program call.args, reply.Begun instance start)
+      (begin : Event) × (start : ℕ)
+      × (call_in begin ≡ Some call) × Contains said (begin, reply.Begun instance start)
 
   -- it was told that it is ready with these replies, and never with others
   pub record IsReadyWith (instance : ℕ) (replies : List ℤ) : Type 0 where

@@ -1,5 +1,5 @@
 -- The event machine.
-use Rattle.std.specs.Prelude.{ℕ, ◌+◌, ◌-◌, ℤ, min, nat_le, ◌==◌, Bool, false, true, not, ◌||◌, List, [], ◌∷◌, ◌++◌, length, Option, Some, None, is_none, slice_get, slice_set, if◌then◌else◌}
+use Rattle.std.specs.Prelude.{ℕ, ◌+◌, ℤ, min, nat_le, nat_lt, ◌==◌, Bool, false, true, not, ◌||◌, List, [], ◌∷◌, ◌++◌, length, Option, Some, None, is_none, slice_get, slice_set, if◌then◌else◌}
 use Rattle.prog_tree.specs.declared.cell.Cell.{Cell}
 use Rattle.prog_tree.specs.declared.deed.Deed.{Deed}
 use Rattle.prog_tree.specs.declared.deed.End.{End}
@@ -84,15 +84,30 @@ if_active (Some (Some a)) s go = go a
 abbrev pub with_active : Machine → ℕ → (Active → Reply × Machine) → Reply × Machine
 with_active s i go = if_active (slice_get s.begun i) s go
 
-abbrev pub begin_by : Option ProgramTree → Machine → ℕ → List ℤ → Reply × Machine
-begin_by None s program args = (reply.NoSuchProgram, s)
-begin_by (Some p) s program args =
-    let start = length s.history in
+-- an instance begins at a number, if there is room for it
+abbrev pub admitted : Machine → (start program : ℕ) → List ℤ → Reply × Machine
+admitted s start program args =
     let i : Instance = record { program = program; args = args; start = start } in
-    if not (length p.params == length args) then (reply.WrongArguments, s)
-    else if is_full s then (reply.Full, s)
+    if is_full s then (reply.Full, s)
     else
     (reply.Begun (length s.begun) start, record s { begun = s.begun ++ Some (at_begin i) ∷ [] })
+
+-- a begin at the number of commits
+abbrev pub begin_by : Option ProgramTree → Machine → (program : ℕ) → List ℤ → Reply × Machine
+begin_by None s program args = (reply.NoSuchProgram, s)
+begin_by (Some p) s program args =
+    if not (length p.params == length args) then (reply.WrongArguments, s)
+    else admitted s (length s.history) program args
+
+-- a begin at a number: none below the floor of the last vacuum, and none above the number of commits
+abbrev pub begin_at_by :
+    Option ProgramTree → Machine → (start program : ℕ) → List ℤ → Reply × Machine
+begin_at_by None s start program args = (reply.NoSuchProgram, s)
+begin_at_by (Some p) s start program args =
+    if not (length p.params == length args) then (reply.WrongArguments, s)
+    else if nat_lt start s.floor then (reply.TooOld s.floor, s)
+    else if nat_lt (length s.history) start then (reply.TooNew (length s.history), s)
+    else admitted s start program args
 
 -- the instance joins the history, or a commit above its start changed or kept a cell that it
 -- changes or keeps
@@ -108,6 +123,8 @@ module _ (set : DraftTree) (opening : TableState) where
   abbrev pub machine_step : Event → Machine → Reply × Machine
   machine_step (event.Begin program args) s =
       begin_by (slice_get set.programs program) s program args
+  machine_step (event.BeginAt start program args) s =
+      begin_at_by (slice_get set.programs program) s start program args
   machine_step (event.Step i) s = with_active s i (λ a.
       let r = stepped (evaluation set opening s.history a.instance) a in
       (r.0, with_begun s i r.1 (is_none r.1)))

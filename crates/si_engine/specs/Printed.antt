@@ -15,7 +15,7 @@ use Rattle.prog_tree.specs.declared.table.TableDecl.{TableDecl}
 use Rattle.si_engine.specs.declared.event.Event.{Event}
 use Rattle.si_engine.specs.declared.event.Event.TheVariants as e
 use Rattle.si_engine.specs.declared.event.Reply.{Reply}
-use Rattle.si_engine.specs.declared.event.Reply.TheVariants.{Begun, NoSuchProgram, WrongArguments, Full, Did, Ready, Aborted, Committed, Clashed, Withdrawn, Vacuumed, NoSuchInstance, Ended, NotReady}
+use Rattle.si_engine.specs.declared.event.Reply.TheVariants.{Begun, NoSuchProgram, WrongArguments, TooOld, TooNew, Full, Did, Ready, Aborted, Committed, Clashed, Withdrawn, Vacuumed, NoSuchInstance, Ended, NotReady}
 
 -- the name of a table and how many key columns it has; a table that is not there has no name and one column
 abbrev pub head_of : Option TableDecl → Name × Arity
@@ -69,6 +69,8 @@ abbrev pub reply_text : List TableDecl → Reply → List ℕ
 reply_text tables (Begun instance start) = decimal instance ++ (codes " begun at " ++ decimal start)
 reply_text tables NoSuchProgram = codes "refused no such program"
 reply_text tables WrongArguments = codes "refused wrong arguments"
+reply_text tables (TooOld floor) = codes "refused too old " ++ decimal floor
+reply_text tables (TooNew commits) = codes "refused too new " ++ decimal commits
 reply_text tables Full = codes "refused full"
 reply_text tables (Did deed) = deed_text tables deed
 reply_text tables (Ready replies) = codes "ready" ++ numbers_text replies
@@ -84,6 +86,7 @@ reply_text tables NotReady = codes "not ready"
 -- the instance of which a step, a commit or an abort speaks
 abbrev pub subject : Event → List ℕ
 subject (e.Begin program args) = []
+subject (e.BeginAt start program args) = []
 subject (e.Step instance) = decimal instance ++ codes " "
 subject (e.Commit instance) = decimal instance ++ codes " "
 subject (e.Abort instance) = decimal instance ++ codes " "

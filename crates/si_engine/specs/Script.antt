@@ -4,7 +4,7 @@ use Rattle.std.specs.List.{flat_map}
 use Rattle.prog_tree.specs.Syntax.{DraftTree}
 use Rattle.prog_tree.specs.Table.{TableState, row_at, with_row}
 use Rattle.si_engine.specs.declared.input.command.Command.{Command}
-use Rattle.si_engine.specs.declared.input.command.Command.TheVariants.{Skip, Row, Begin, Step, Commit, Abort, Vacuum}
+use Rattle.si_engine.specs.declared.input.command.Command.TheVariants.{Skip, Row, Begin, BeginAt, Step, Commit, Abort, Vacuum}
 use Rattle.si_engine.specs.declared.event.Event.{Event}
 use Rattle.si_engine.specs.declared.event.Event.TheVariants as e
 use Rattle.si_engine.specs.declared.input.script.Script.{Script}
@@ -27,6 +27,7 @@ rows_of commands = fold with_row_of [] commands
 -- the events of a command
 abbrev pub events_in : Command → List Event
 events_in (Begin program args) = e.Begin program args ∷ []
+events_in (BeginAt start program args) = e.BeginAt start program args ∷ []
 events_in (Step instance times) = replicate times (e.Step instance)
 events_in (Commit instance) = e.Commit instance ∷ []
 events_in (Abort instance) = e.Abort instance ∷ []
@@ -50,6 +51,7 @@ abbrev pub order_fault : (line : ℕ) → TableState → List Event → Command 
 order_fault line rows events Skip = None
 order_fault line rows events (Row row) = row_fault line (is_begun events) (row_at rows row.cell)
 order_fault line rows events (Begin program args) = room_fault line events 1
+order_fault line rows events (BeginAt start program args) = room_fault line events 1
 order_fault line rows events (Step instance times) = room_fault line events times
 order_fault line rows events (Commit instance) = room_fault line events 1
 order_fault line rows events (Abort instance) = room_fault line events 1

@@ -8,6 +8,8 @@ use Rattle.prog_run.specs.View.{IsTrueRun}
 use Rattle.history_book.specs.History.{Instance}
 use Rattle.history_book.specs.Runs.{IsOwnRun, IsCommitted, IsClashed, ended_in}
 use Rattle.history_book.specs.View.{BookView, history_of, active_at}
+use Rattle.history_book.specs.declared.fault.BeginFault.{BeginFault}
+use Rattle.history_book.specs.declared.fault.BeginFault.TheVariants as fault
 use Rattle.history_book.specs.declared.instances.row.Ending.{Ending}
 use Rattle.si_engine.specs.Machine.{Active, Machine, machine_step}
 use Rattle.si_engine.specs.declared.active.ActiveRun.{ActiveRun}
@@ -84,6 +86,15 @@ StaysOver old new = (new.set ≡ old.set) × (new.opening ≡ old.opening)
 abbrev pub IsAnswerTo : Event → (old new : EngineView) → Reply → Type 0
 IsAnswerTo event old new reply =
     (reply, new.machine) ≡ machine_step (draft_tree old.set) old.opening event old.machine
+
+-- what is answered to a begin that the book refuses; want of memory is no answer
+abbrev pub answer_to : BeginFault → Option Reply
+answer_to fault.NoSuchProgram = Some reply.NoSuchProgram
+answer_to fault.WrongArguments = Some reply.WrongArguments
+answer_to (fault.TooOld floor) = Some (reply.TooOld floor)
+answer_to (fault.TooNew commits) = Some (reply.TooNew commits)
+answer_to fault.Full = Some reply.Full
+answer_to fault.Memory = None
 
 -- a reply that takes memory: more is kept of an instance or in the book, or replies are given out
 abbrev pub takes_memory : Reply → Bool

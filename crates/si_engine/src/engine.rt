@@ -4,9 +4,9 @@ ghost use Rattle.std.specs.Prelude.{◌≡◌, length, Some, None, IfOk, OnOk, O
 ghost use Rattle.prog_tree.specs.Tree.{draft_tree};
 ghost use Rattle.prog_run.specs.View.{begin_fault, begun};
 ghost use Rattle.history_book.specs.History.{state_after};
-ghost use Rattle.history_book.specs.View.{history_of, begin_fault_of, next_ticket, begun_in};
+ghost use Rattle.history_book.specs.View.{history_of, begin_at_fault_of, ticket_at, begun_at};
 ghost use Rattle.si_engine.specs.Machine.{new_machine};
-ghost use Rattle.si_engine.specs.View.{StaysOver, IsAnswerTo, MayLackMemory, numbered};
+ghost use Rattle.si_engine.specs.View.{StaysOver, IsAnswerTo, MayLackMemory, answer_to, numbered};
 
 use crate::active::ActiveRun;
 use crate::event::{Event, Reply};
@@ -63,14 +63,34 @@ fn started<'a>(
     }
 }
 
+// What is answered to a begin that the book refuses. Want of memory is no answer.
+fn refused(fault: BeginFault) -> Result<Reply, AllocError>
+    ensures ok { IfOk result (λ reply. answer_to fault ≡ Some reply) }
+    ensures err { OnErr result (answer_to fault ≡ None) }
+{
+    match fault {
+        BeginFault::NoSuchProgram => Ok(Reply::NoSuchProgram),
+        BeginFault::WrongArguments => Ok(Reply::WrongArguments),
+        BeginFault::TooOld { floor } => Ok(Reply::TooOld { floor }),
+        BeginFault::TooNew { commits } => Ok(Reply::TooNew { commits }),
+        BeginFault::Full => Ok(Reply::Full),
+        BeginFault::Memory => Err(AllocError),
+    }
+}
+
 // Begins an instance that is not refused.
-fn begin_in<'a>(book: &mut Book<'a>, program: usize, args: &[i64]) -> Result<Ticket, AllocError>
-    requires { begin_fault_of book.old program args.now ≡ None }
-    ensures ticket { IfOk result (λ ticket. ticket ≡ next_ticket book.old) }
-    ensures begun { OnOk result (book.new ≡ begun_in book.old program args.now) }
+fn begin_in<'a>(
+    book: &mut Book<'a>,
+    start: u64,
+    program: usize,
+    args: &[i64],
+) -> Result<Ticket, AllocError>
+    requires { begin_at_fault_of book.old start program args.now ≡ None }
+    ensures ticket { IfOk result (λ ticket. ticket ≡ ticket_at book.old start) }
+    ensures begun { OnOk result (book.new ≡ begun_at book.old start program args.now) }
     ensures err { OnErr result (book.new ≡ book.old) }
 {
-    match book.begin(program, args) {
+    match book.begin_at(start, program, args) {
         Ok(ticket) => Ok(ticket),
         Err(BeginFault::Memory) => Err(AllocError),
         Err(_) => unreachable!(),
@@ -122,21 +142,28 @@ impl<'a> Engine<'a> {
         ensures err { OnErr result (self.new ≡ self.old) }
         ensures memory { OnErr result (MayLackMemory (event.Begin program args.now) self.old) }
     {
-        let set = self.book.set();
-        let Some(found) = set.draft().programs.get(program) else {
-            return Ok(Reply::NoSuchProgram);
-        };
-        if found.params.len() != args.len() {
-            return Ok(Reply::WrongArguments);
+        let commits = self.book.commits();
+        let reply = self.begin_at(commits, program, args)?;
+        Ok(reply)
+    }
+
+    fn begin_at(&mut self, start: u64, program: usize, args: &[i64]) -> Result<Reply, AllocError>
+        ensures over { StaysOver self.old self.new }
+        ensures step { IfOk result
+            (IsAnswerTo (event.BeginAt start program args.now) self.old self.new) }
+        ensures err { OnErr result (self.new ≡ self.old) }
+        ensures memory { OnErr result
+            (MayLackMemory (event.BeginAt start program args.now) self.old) }
+    {
+        if let Some(fault) = self.book.refusal_at(start, program, args) {
+            let reply = refused(fault)?;
+            return Ok(reply);
         }
-        if self.book.is_full() {
-            return Ok(Reply::Full);
-        }
-        let run = started(self.alloc, set, program, args)?;
+        let run = started(self.alloc, self.book.set(), program, args)?;
         self.begun.reserve(1)?;
-        let ticket = begin_in(&mut self.book, program, args)?;
+        let ticket = begin_in(&mut self.book, start, program, args)?;
         let instance = self.begun.len();
-        let start = ticket.start() as usize;
+        let start = start as usize;
         let active = ActiveRun {
             program,
             ticket,
@@ -226,6 +253,14 @@ impl<'a> Engine<'a> {
         match event {
             Event::Begin { program, args } => {
                 let reply = self.begin(*program, args.as_slice())?;
+                Ok(reply)
+            }
+            Event::BeginAt {
+                start,
+                program,
+                args,
+            } => {
+                let reply = self.begin_at(*start, *program, args.as_slice())?;
                 Ok(reply)
             }
             Event::Step(number) => {

@@ -7,7 +7,16 @@ use version_store::Clash;
 #[derive(Drop)]
 pub enum Event {
     /// An instance of the program of a number begins, with its arguments.
-    Begin { program: usize, args: Sequence<i64> },
+    Begin {
+        program: usize,
+        args: Sequence<i64>,
+    },
+    /// The same, and the instance sees the first `start` commits alone.
+    BeginAt {
+        start: u64,
+        program: usize,
+        args: Sequence<i64>,
+    },
     /// An instance does everything up to and including its next store statement.
     Step(usize),
     /// An instance that is ready tries to commit.
@@ -25,6 +34,10 @@ pub enum Reply {
     Begun { instance: usize, start: usize },
     NoSuchProgram,
     WrongArguments,
+    /// A begin at a number below the floor of the last vacuum.
+    TooOld { floor: u64 },
+    /// A begin at a number above that of the commits.
+    TooNew { commits: u64 },
     /// A begin past the limit of 100,000 endings and active instances, or of 2^64 - 1 begins.
     Full,
     /// A store statement was done.

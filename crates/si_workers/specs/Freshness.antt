@@ -1,7 +1,8 @@
--- Begins that have to see a commit.
+-- Begins that have to see a commit, and begins at a number.
 use Rattle.std.specs.Prelude.{◌≡◌, ℕ, ◌+◌, ◌<◌, ◌≤◌, ℤ, List, length, Some, None, Result, Ok, Err, ⊤}
 use Rattle.history_book.specs.Ticket.{TicketView}
 use Rattle.history_book.specs.View.{BookView, begin_fault_of, next_ticket, begun_in}
+use Rattle.history_book.specs.declared.fault.BeginFault.{BeginFault}
 use Rattle.history_book.specs.declared.fault.BeginFault.TheVariants as begin
 use Rattle.si_workers.specs.declared.fault.BeginAfterFault.{BeginAfterFault}
 use Rattle.si_workers.specs.declared.fault.BeginAfterFault.TheVariants.{Behind, Refused}
@@ -11,6 +12,13 @@ abbrev pub IsFresh : (commit : ℕ) → Result TicketView BeginAfterFault → Ty
 IsFresh commit (Ok ticket) = commit ≤ ticket.start
 IsFresh commit (Err (Behind commits)) = commits < commit
 IsFresh commit (Err (Refused fault)) = ⊤
+
+-- the instance sees the commits up to the number; or a vacuum gave the number up, or there are fewer commits
+abbrev pub IsAtNumber : (start : ℕ) → Result TicketView BeginFault → Type 0
+IsAtNumber start (Ok ticket) = ticket.start ≡ start
+IsAtNumber start (Err (begin.TooOld floor)) = start < floor
+IsAtNumber start (Err (begin.TooNew commits)) = commits < start
+IsAtNumber start (Err fault) = ⊤
 
 -- a begin was counted, and nothing else is left of it
 abbrev pub begun_and_withdrawn : BookView → BookView

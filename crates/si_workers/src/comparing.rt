@@ -76,7 +76,7 @@ fn is_right_refusal(book: &Book<'_>, job: &Job, fault: BeginFault) -> bool
             None => false,
         },
         BeginFault::Full => book.endings().len() >= NEARLY_FULL,
-        BeginFault::Memory => false,
+        BeginFault::TooOld { .. } | BeginFault::TooNew { .. } | BeginFault::Memory => false,
     }
 }
 

@@ -2,7 +2,7 @@
 
 ghost use Rattle.std.specs.Prelude.{◌≡◌, ◌≤◌, IfOk, IfErr, OnOk, OnErr, length};
 ghost use Rattle.history_book.specs.View.{begin_fault_of, next_ticket, begun_in};
-ghost use Rattle.si_workers.specs.Freshness.{IsBeginAfter, IsFresh};
+ghost use Rattle.si_workers.specs.Freshness.{IsAtNumber, IsBeginAfter, IsFresh};
 
 use crate::fault::BeginAfterFault;
 use crate::gate::{Gate, Moment};
@@ -47,6 +47,18 @@ pub(crate) fn begin_seeing<'a>(
     Ok(ticket)
 }
 
+// Begins an instance at a number.
+fn begin_there(
+    book: &mut Book<'_>,
+    start: u64,
+    program: usize,
+    args: &[i64],
+) -> Result<Ticket, BeginFault>
+    ensures { IsAtNumber start result }
+{
+    book.begin_at(start, program, args)
+}
+
 impl<'a> SharedBook<'a> {
     /// Shares a book.
     pub fn new(book: Book<'a>) -> Self {
@@ -63,6 +75,20 @@ impl<'a> SharedBook<'a> {
         args: &[i64],
     ) -> Result<Ticket, BeginFault> {
         self.lock.write(rt).begin(program, args)
+    }
+
+    /// `Book::begin_at`.
+    pub fn begin_at(
+        &self,
+        rt: &impl Wait,
+        start: u64,
+        program: usize,
+        args: &[i64],
+    ) -> Result<Ticket, BeginFault>
+        ensures { IsAtNumber start result }
+    {
+        let mut book = self.lock.write(rt);
+        begin_there(&mut book, start, program, args)
     }
 
     /// Begins an instance that sees the commit of a receipt. Where the book has fewer commits, the

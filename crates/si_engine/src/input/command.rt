@@ -1,13 +1,13 @@
 //! Lines of a script as commands.
 ghost use Rattle.std.specs.Prelude.{◌≡◌, Ok};
 ghost use Rattle.prog_tree.specs.Tree.{draft_tree};
-ghost use Rattle.si_engine.specs.Commands.{row_command, instance_of, steps_of, begin_command, step_command, commit_command, abort_command, vacuum_command, command_of, line_command};
+ghost use Rattle.si_engine.specs.Commands.{row_command, instance_of, steps_of, begin_command, begin_at_command, step_command, commit_command, abort_command, vacuum_command, command_of, line_command};
 ghost use Rattle.si_engine.specs.RowLines.{Reads};
 
 use crate::input::line_words::{Word, line_words};
 use crate::input::lines::is_skipped;
 use crate::input::names::program_number;
-use crate::input::number::{number_between, numbers};
+use crate::input::number::{number_between, numbers, unsigned};
 use crate::input::row_line::{RowLine, row_line};
 use crate::input::script_fault::LineFault;
 use crate::limits::{MAX_INSTANCE, MAX_STEPS};
@@ -22,9 +22,21 @@ pub enum Command {
     Skip,
     /// An opening row.
     Row(RowLine),
-    Begin { program: usize, args: Sequence<i64> },
+    Begin {
+        program: usize,
+        args: Sequence<i64>,
+    },
+    /// A begin as of a number of commits.
+    BeginAt {
+        start: u64,
+        program: usize,
+        args: Sequence<i64>,
+    },
     /// So many steps of an instance.
-    Step { instance: usize, times: usize },
+    Step {
+        instance: usize,
+        times: usize,
+    },
     Commit(usize),
     Abort(usize),
     Vacuum,
@@ -54,6 +66,29 @@ fn begin(
     let args = numbers(alloc, args)?.ok_or(LineFault::BadLine { line })?;
     let program = program_number(set, name.as_bytes()).ok_or(LineFault::UnknownName { line })?;
     Ok(Command::Begin { program, args })
+}
+
+#[tactic(auto, unfolding(crate::specs::Commands::begin_at_command))]
+fn begin_at(
+    alloc: Global,
+    set: &ProgramSet,
+    line: usize,
+    words: &[Word<'_>],
+) -> Result<Command, LineFault>
+    ensures { Reads (λ command. command) result
+        (begin_at_command (draft_tree set.now) line words.now) }
+{
+    let [start, name, args @ ..] = words else {
+        return Err(LineFault::BadLine { line });
+    };
+    let start = unsigned(start.as_bytes()).ok_or(LineFault::BadLine { line })?;
+    let args = numbers(alloc, args)?.ok_or(LineFault::BadLine { line })?;
+    let program = program_number(set, name.as_bytes()).ok_or(LineFault::UnknownName { line })?;
+    Ok(Command::BeginAt {
+        start,
+        program,
+        args,
+    })
 }
 
 // The number of an instance.
@@ -132,6 +167,8 @@ fn words_command(
         row(set, line, rest)
     } else if first == b"begin".as_slice() {
         begin(alloc, set, line, rest)
+    } else if first == b"begin-at".as_slice() {
+        begin_at(alloc, set, line, rest)
     } else if first == b"step".as_slice() {
         step(line, rest)
     } else if first == b"commit".as_slice() {

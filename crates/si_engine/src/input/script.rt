@@ -85,6 +85,18 @@ impl Script {
             Command::Begin { program, args } => {
                 self.add_event(line, Event::Begin { program, args })?;
             }
+            Command::BeginAt {
+                start,
+                program,
+                args,
+            } => {
+                let event = Event::BeginAt {
+                    start,
+                    program,
+                    args,
+                };
+                self.add_event(line, event)?;
+            }
             Command::Step { instance, times } => self.add_steps(line, instance, times)?,
             Command::Commit(instance) => self.add_event(line, Event::Commit(instance))?,
             Command::Abort(instance) => self.add_event(line, Event::Abort(instance))?,

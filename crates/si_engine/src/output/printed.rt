@@ -245,6 +245,8 @@ fn push_reply(text: &mut String, tables: &[TableDecl], reply: &Reply) -> Result<
         }
         Reply::NoSuchProgram => push_word(text, "refused no such program"),
         Reply::WrongArguments => push_word(text, "refused wrong arguments"),
+        Reply::TooOld { floor } => push_with_number(text, "refused too old ", *floor),
+        Reply::TooNew { commits } => push_with_number(text, "refused too new ", *commits),
         Reply::Full => push_word(text, "refused full"),
         Reply::Did(deed) => push_deed(text, tables, deed),
         Reply::Ready(replies) => {
@@ -274,7 +276,7 @@ fn push_subject(text: &mut String, event: &Event) -> Result<(), AllocError>
     ensures keeps { Keeps (string_bytes text.old) (string_bytes text.new) }
 {
     match event {
-        Event::Begin { .. } | Event::Vacuum => Ok(()),
+        Event::Begin { .. } | Event::BeginAt { .. } | Event::Vacuum => Ok(()),
         Event::Step(instance) | Event::Commit(instance) | Event::Abort(instance) => {
             push_number(text, *instance)?;
             push_word(text, " ")
