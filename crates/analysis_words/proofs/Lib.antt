@@ -1,3 +1,5 @@
+mod Listing
+mod MoreBehind
 mod NoCertificate
 mod Parts
 mod Unsaid

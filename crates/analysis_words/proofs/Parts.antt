@@ -13,7 +13,7 @@ says_before front tail part (before, behind, is) = (
   ap (λ l. l ++ tail) is ∙ append_assoc before (part ++ behind) tail ∙ ap (λ l. before ++ l) (append_assoc part behind tail),
 )
 
-says_behind : (front tail part : List ℕ) → Says tail part → Says (front ++ tail) part
+pub says_behind : (front tail part : List ℕ) → Says tail part → Says (front ++ tail) part
 says_behind front tail part (before, behind, is) =
     (front ++ before, behind, ap (λ l. front ++ l) is ∙ sym (append_assoc front before (part ++ behind)))
 

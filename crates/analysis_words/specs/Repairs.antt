@@ -1,5 +1,5 @@
 -- What the words of a repair have to say.
-use Rattle.std.specs.Prelude.{ℕ, ◌≡◌, List, ◌++◌, codes}
+use Rattle.std.specs.Prelude.{ℕ, ◌≡◌, ◌==◌, if◌then◌else◌, List, [], ◌++◌, codes}
 use Rattle.prog_tree.specs.Syntax.{DraftTree}
 use Rattle.repair_laws.specs.declared.plan.Pair.{Pair}
 use Rattle.fault_words.specs.Naming.{program_name}
@@ -13,6 +13,10 @@ Says words part = (before behind : List ℕ) × (words ≡ before ++ (part ++ be
 -- the name of a program between two backquotes
 abbrev pub quoted_name : DraftTree → (program : ℕ) → List ℕ
 quoted_name set program = codes "`" ++ (program_name set program ++ codes "`")
+
+-- what stands before the second name of a pair, where it is the first too
+abbrev pub other_text : Pair → List ℕ
+other_text pair = if pair.from == pair.to then codes "another " else []
 
 -- the words name both programs of a pair
 abbrev pub NamesBoth : DraftTree → (words : List ℕ) → Pair → Type 0

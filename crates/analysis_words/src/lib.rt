@@ -2,7 +2,11 @@
 //! entry or the nodes that they are about, the refusal of a set with its statements, and its repairs.
 #![tactic(auto)]
 
+mod advice;
 mod certificate_faults;
+mod edges;
+mod instances;
+mod left;
 mod looks;
 mod pairs;
 mod pointed;

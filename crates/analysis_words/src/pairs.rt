@@ -1,7 +1,7 @@
 //! Sentences of the two programs of a pair.
 ghost use Rattle.std.specs.Prelude.{◌≡◌, IfOk, string_bytes};
 ghost use Rattle.prog_tree.specs.Tree.{draft_tree};
-ghost use Rattle.analysis_words.specs.Repairs.{NamesBoth, Says, quoted_name};
+ghost use Rattle.analysis_words.specs.Repairs.{NamesBoth, Says, other_text, quoted_name};
 
 use fault_words::program_name;
 use prog_check::ProgramSet;
@@ -16,8 +16,10 @@ pub fn quoted_name(alloc: Global, set: &ProgramSet, program: usize) -> Result<St
     format!(in alloc; "`{name}`")
 }
 
-// What stands before the second program's name, where it is the first's too.
-fn other(pair: Pair) -> &'static str {
+/// What stands before the second program's name, where it is the first's too.
+pub fn other(pair: Pair) -> &'static str
+    ensures { result.now ≡ other_text pair }
+{
     if pair.from == pair.to { "another " } else { "" }
 }
 

@@ -3,9 +3,8 @@ ghost use Rattle.std.specs.Prelude.{IfNone, IfOk, IfSome, string_bytes};
 ghost use Rattle.analysis_words.specs.Refusing.{HasNoAccess, PointsAtAccess};
 
 use crate::shown::Shown;
-use fault_words::point_at;
 use std::alloc::{AllocError, Global};
-use text_places::statement_place;
+use text_places::{point_out, statement_place};
 
 /// Says a sentence of an access of a node, where its statement begins; nothing where it is not
 /// found.
@@ -18,7 +17,7 @@ pub fn point_at_access(
 ) -> Result<Option<String>, AllocError>
     ensures said { IfOk result (λ said. IfSome said (λ words.
         PointsAtAccess shown.entry.text.now shown.entry.paths.now node access
-        (string_bytes words))) }
+        sentence.now (string_bytes words))) }
     ensures none { IfOk result (λ said. IfNone said
         (HasNoAccess shown.entry.text.now shown.entry.paths.now node access)) }
 {
@@ -31,6 +30,6 @@ pub fn point_at_access(
     let Some(at) = statement_place(alloc, shown.text, path.program, access.place)? else {
         return Ok(None);
     };
-    let words = point_at(alloc, shown.text, at, sentence)?;
+    let words = point_out(alloc, shown.text, at, sentence)?;
     Ok(Some(words))
 }

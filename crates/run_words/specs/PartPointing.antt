@@ -8,6 +8,7 @@ use Rattle.history_book.specs.declared.audit.AuditFault.{AuditFault}
 use Rattle.history_book.specs.declared.audit.AuditFault.TheVariants as a
 use Rattle.si_engine.specs.declared.input.script_fault.LineFault.{LineFault}
 use Rattle.si_engine.specs.declared.input.script_fault.LineFault.TheVariants as l
+use Rattle.run_words.specs.InInput.{PointsInPart}
 
 -- the line that the line of a fault names, which want of memory has not
 abbrev pub line_of_fault : LineFault → Option ℕ
@@ -19,10 +20,10 @@ line_of_fault (l.RepeatedRow line) = Some line
 line_of_fault (l.TooManyEvents line) = Some line
 line_of_fault l.Memory = None
 
--- the words point at the front of the line
-abbrev pub PointsAtLineOf : (part : List ℕ) → Option ℕ → (words : List ℕ) → Type 0
-PointsAtLineOf part (Some line) words = (front : ℕ) × IsLineFront part line front × PointsAt part front words
-PointsAtLineOf part None words = ⊥
+-- the words point at the front of the line, with its line in the whole input
+abbrev pub PointsAtLineIn : (ahead part : List ℕ) → Option ℕ → (words : List ℕ) → Type 0
+PointsAtLineIn ahead part (Some line) words = (front : ℕ) × IsLineFront part line front × PointsInPart ahead part front words
+PointsAtLineIn ahead part None words = ⊥
 
 -- nothing is pointed at: the fault names no line, or the part has fewer
 abbrev pub HasNoLineOf : (part : List ℕ) → Option ℕ → Type 0
@@ -35,10 +36,11 @@ record_of_fault a.Full = Some 100000
 record_of_fault (a.Row number fault) = Some number
 record_of_fault a.Memory = None
 
--- the words point at the beginning of the record
-abbrev pub PointsAtRecord : (part : List ℕ) → Option ℕ → (words : List ℕ) → Type 0
-PointsAtRecord part (Some number) words = (place : ℕ) × IsRecordPlace part number place × PointsAt part place words
-PointsAtRecord part None words = ⊥
+-- the words point at the beginning of the record, with its line in the whole input
+abbrev pub PointsAtRecord : (ahead part : List ℕ) → Option ℕ → (words : List ℕ) → Type 0
+PointsAtRecord ahead part (Some number) words =
+    (place : ℕ) × IsRecordPlace part number place × PointsInPart ahead part place words
+PointsAtRecord ahead part None words = ⊥
 
 -- nothing is pointed at: the fault names no record, or fewer begin in the part
 abbrev pub HasNoRecordOf : (part : List ℕ) → Option ℕ → Type 0
@@ -65,9 +67,9 @@ abbrev pub HasNoSeparator : (input : List ℕ) → Type 0
 HasNoSeparator input = (place : ℕ) → place < length input → ¬ IsSeparatorPlace input place
 
 -- the words begin with what is said of a line
-abbrev pub BeginsAtLine : (part : List ℕ) → (words : List ℕ) → Type 0
-BeginsAtLine part words =
-    (line : ℕ) × (first rest : List ℕ) × PointsAtLineOf part (Some line) first × (words ≡ first ++ rest)
+abbrev pub BeginsAtLine : (ahead part : List ℕ) → (words : List ℕ) → Type 0
+BeginsAtLine ahead part words =
+    (line : ℕ) × (first rest : List ℕ) × PointsAtLineIn ahead part (Some line) first × (words ≡ first ++ rest)
 
 -- something is added
 abbrev pub Extends : (before : List ℕ) → (after : List ℕ) → Type 0

@@ -1,5 +1,7 @@
 //! The forms that lines have.
 
+use si_engine::unsigned;
+
 /// What the lines of a part are.
 #[derive(Clone, Copy, Debug, PartialEq, Eq)]
 pub enum PartKind {
@@ -11,7 +13,9 @@ pub enum PartKind {
 /// The words with which a line begins.
 pub fn first_words(kind: PartKind) -> &'static [&'static str] {
     match kind {
-        PartKind::Script => &["row", "begin", "step", "commit", "abort", "vacuum"],
+        PartKind::Script => &[
+            "row", "begin", "begin-at", "step", "commit", "abort", "vacuum",
+        ],
         PartKind::Records => &["row", "record"],
         PartKind::Jobs => &["row", "job"],
     }
@@ -22,6 +26,9 @@ pub fn form_of(first: &str) -> &'static str {
     match first {
         "row" => "`row TABLE KEY = VALUE`, or `row TABLE KEY KEY = VALUE`",
         "begin" => "`begin PROGRAM`, with a number for each parameter behind it",
+        "begin-at" => {
+            "`begin-at START PROGRAM`, with a number for each parameter behind it; START is a number of commits"
+        }
         "step" => "`step INSTANCE`, or `step INSTANCE TIMES` with 1 to 1000 times",
         "commit" => "`commit INSTANCE`",
         "abort" => "`abort INSTANCE`",
@@ -36,7 +43,7 @@ fn is_number(word: &str, before: &str) -> bool {
         return false;
     }
     if before == "at" {
-        word.parse::<u64>().is_ok()
+        unsigned(word.as_bytes()).is_some()
     } else {
         word.parse::<i64>().is_ok()
     }
@@ -72,11 +79,23 @@ fn no_number_of_job<'a>(words: &[&'a str]) -> Option<&'a str> {
     no_number_from(words, 3)
 }
 
+// The same of a line `begin-at`, whose program stands behind a number of commits.
+fn no_number_of_begin_at<'a>(words: &[&'a str]) -> Option<&'a str> {
+    if let [_, start, ..] = words {
+        let start: &'a str = *start;
+        if !is_number(start, "at") {
+            return Some(start);
+        }
+    }
+    no_number_from(words, 3)
+}
+
 /// The first word of a line that stands in the place of a number and is none.
 pub fn no_number<'a>(words: &[&'a str]) -> Option<&'a str> {
     match words {
         ["row" | "begin" | "record", ..] => no_number_from(words, 2),
         ["job", ..] => no_number_of_job(words),
+        ["begin-at", ..] => no_number_of_begin_at(words),
         _ => no_number_from(words, 1),
     }
 }

@@ -2,8 +2,10 @@
 //! of a script, of a list of records or of a list of jobs, and with a record; and why commits have no serial order.
 #![tactic(auto)]
 
+mod begin_numbers;
 mod cycle;
 mod forms;
+mod in_input;
 mod line_faults;
 mod line_reading;
 mod part_faults;

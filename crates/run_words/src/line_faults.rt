@@ -1,11 +1,12 @@
 //! The faults of a line of a script, of a list of records or of a list of jobs in words.
 ghost use Rattle.std.specs.Prelude.{◌≡◌, IfNone, IfOk, IfSome, string_bytes};
-ghost use Rattle.run_words.specs.PartPointing.{line_of_fault, HasNoLineOf, PointsAtLineOf};
+ghost use Rattle.run_words.specs.PartPointing.{line_of_fault, HasNoLineOf, PointsAtLineIn};
 
 pub use crate::forms::PartKind;
 use crate::forms::{first_words, form_of, no_number};
+use crate::in_input::point_in_part;
 use crate::line_reading::{line_of, shown, words_of};
-use fault_words::{known_names, point_at, table_names};
+use fault_words::{known_names, table_names};
 use prog_check::ProgramSet;
 use prog_tree::Draft;
 use si_engine::LineFault;
@@ -54,7 +55,9 @@ fn program_names(alloc: Global, draft: &Draft) -> Result<Vec<&str>, AllocError> 
 fn unknown_name(alloc: Global, set: &ProgramSet, words: &[&str]) -> Result<String, AllocError> {
     let (what, name, names) = match words {
         ["row", name, ..] => ("table", *name, table_names(alloc, set.draft())?),
-        ["job", _, name, ..] => ("program", *name, program_names(alloc, set.draft())?),
+        ["job" | "begin-at", _, name, ..] => {
+            ("program", *name, program_names(alloc, set.draft())?)
+        }
         [_, name, ..] => ("program", *name, program_names(alloc, set.draft())?),
         _ => return format!(in alloc; "the name is not known"),
     };
@@ -119,16 +122,18 @@ fn line_of_fault(fault: LineFault) -> Option<usize>
     }
 }
 
-/// What a fault of a line means, and the line in its part; nothing where it is not found.
+/// What a fault of a line means, and the line in its part, which stands behind these bytes of the
+/// input; nothing where it is not found.
 pub fn line_fault_words(
     alloc: Global,
     kind: PartKind,
     set: &ProgramSet,
+    ahead: &[u8],
     part: &[u8],
     fault: LineFault,
 ) -> Result<Option<String>, AllocError>
     ensures said { IfOk result (λ said. IfSome said (λ words.
-        PointsAtLineOf part.now (line_of_fault fault) (string_bytes words))) }
+        PointsAtLineIn ahead.now part.now (line_of_fault fault) (string_bytes words))) }
     ensures none { IfOk result (λ said. IfNone said
         (HasNoLineOf part.now (line_of_fault fault))) }
 {
@@ -139,6 +144,6 @@ pub fn line_fault_words(
         return Ok(None);
     };
     let sentence = sentence(alloc, kind, set, line_of(part, line), fault)?;
-    let words = point_at(alloc, part, front, &sentence)?;
+    let words = point_in_part(alloc, ahead, part, front, &sentence)?;
     Ok(Some(words))
 }

@@ -2,8 +2,9 @@
 ghost use Rattle.std.specs.Prelude.{◌≡◌, IfNone, IfOk, IfSome, string_bytes};
 ghost use Rattle.run_words.specs.PartPointing.{record_of_fault, HasNoRecordOf, PointsAtRecord};
 
+use crate::in_input::{input_line_text, point_in_part};
 use crate::replay::ending;
-use fault_words::{cell_text, parameter_count, point_at, program_name};
+use fault_words::{cell_text, parameter_count, program_name};
 use history_book::{AuditFault, HistoryRow, RowFault};
 use prog_check::ProgramSet;
 use prog_tree::{Cause, Sequence};
@@ -99,23 +100,32 @@ fn argument_count(alloc: Global, set: &ProgramSet, row: &HistoryRow) -> Result<S
 
 fn late_start(alloc: Global, number: usize, start: u64) -> Result<String, AllocError> {
     let before = counted(alloc, number, "record")?;
-    format!(in alloc; "behind `at` stands {start}, and only {before} stand before it")
+    let stand = if number == 1 { "stands" } else { "stand" };
+    format!(in alloc; "behind `at` stands {start}, and only {before} {stand} before it")
+}
+
+// The records of a part, which stands behind other bytes of the input.
+#[derive(Clone, Copy)]
+struct Listed<'a> {
+    ahead: &'a [u8],
+    part: &'a [u8],
 }
 
 fn clash_text(
     alloc: Global,
     set: &ProgramSet,
-    part: &[u8],
+    listed: Listed<'_>,
     clash: Clash,
 ) -> Result<String, AllocError> {
     let cell = cell_text(alloc, set, clash.cell)?;
     let commit = clash.number;
     let record = usize::try_from(commit).unwrap_or(0).saturating_sub(1);
-    match record_place(part, record) {
+    match record_place(listed.part, record) {
         Some(place) => {
-            let line = line_number(part, place);
+            let line = line_number(listed.part, place);
+            let whole = input_line_text(alloc, listed.ahead, listed.part, place)?;
             format!(in alloc;
-                "commit {commit} in line {line} changed or kept {cell} too, unseen by this one"
+                "commit {commit} in line {line}{whole} changed or kept {cell} too, unseen by this one"
             )
         }
         None => format!(in alloc; "commit {commit} changed or kept {cell} too, unseen by this one"),
@@ -126,11 +136,11 @@ fn clash_text(
 fn row_sentence(
     alloc: Global,
     set: &ProgramSet,
-    part: &[u8],
+    listed: Listed<'_>,
     number: usize,
     fault: RowFault,
 ) -> Result<String, AllocError> {
-    let Some(cut) = cut_at(alloc, set, part, number) else {
+    let Some(cut) = cut_at(alloc, set, listed.part, number) else {
         return format!(in alloc; "no run of the set can have left this record");
     };
     match fault {
@@ -138,21 +148,21 @@ fn row_sentence(
         RowFault::WrongArguments => argument_count(alloc, set, &cut.row),
         RowFault::StartTooLate => late_start(alloc, number, cut.row.start),
         RowFault::NotReady | RowFault::WrongReplies => ending_text(alloc, set, cut),
-        RowFault::Clashed(clash) => clash_text(alloc, set, part, clash),
+        RowFault::Clashed(clash) => clash_text(alloc, set, listed, clash),
     }
 }
 
 fn sentence(
     alloc: Global,
     set: &ProgramSet,
-    part: &[u8],
+    listed: Listed<'_>,
     fault: AuditFault,
 ) -> Result<String, AllocError> {
     match fault {
         AuditFault::Full => format!(in alloc;
             "this is the 100001st record, and there may be at most 100000"
         ),
-        AuditFault::Row { number, fault } => row_sentence(alloc, set, part, number, fault),
+        AuditFault::Row { number, fault } => row_sentence(alloc, set, listed, number, fault),
         AuditFault::Memory => format!(in alloc; "memory ran out"),
     }
 }
@@ -168,15 +178,17 @@ fn record_of_fault(fault: AuditFault) -> Option<usize>
     }
 }
 
-/// What a fault of a record means, and the record in its part; nothing where it is not found.
+/// What a fault of a record means, and the record in its part, which stands behind these bytes of
+/// the input; nothing where it is not found.
 pub fn record_words(
     alloc: Global,
     set: &ProgramSet,
+    ahead: &[u8],
     part: &[u8],
     fault: AuditFault,
 ) -> Result<Option<String>, AllocError>
     ensures said { IfOk result (λ said. IfSome said (λ words.
-        PointsAtRecord part.now (record_of_fault fault) (string_bytes words))) }
+        PointsAtRecord ahead.now part.now (record_of_fault fault) (string_bytes words))) }
     ensures none { IfOk result (λ said. IfNone said
         (HasNoRecordOf part.now (record_of_fault fault))) }
 {
@@ -186,7 +198,7 @@ pub fn record_words(
     let Some(place) = record_place(part, number) else {
         return Ok(None);
     };
-    let sentence = sentence(alloc, set, part, fault)?;
-    let words = point_at(alloc, part, place, &sentence)?;
+    let sentence = sentence(alloc, set, Listed { ahead, part }, fault)?;
+    let words = point_in_part(alloc, ahead, part, place, &sentence)?;
     Ok(Some(words))
 }

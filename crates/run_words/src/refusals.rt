@@ -1,10 +1,12 @@
 //! The lines of a script that do nothing, in words.
 ghost use Rattle.std.specs.Prelude.{◌≡◌, ◌++◌, List, ℕ, Some, IfOk, IfSome, OnOk, string_bytes};
-ghost use Rattle.run_words.specs.PartPointing.{BeginsAtLine, Extends, PointsAtLineOf};
+ghost use Rattle.run_words.specs.PartPointing.{BeginsAtLine, Extends, PointsAtLineIn};
 
+use crate::begin_numbers::{Numbers, number_words};
+use crate::in_input::point_in_part;
 use crate::line_reading::words_of;
 use crate::record_faults::counted;
-use fault_words::{parameter_count, point_at, program_name};
+use fault_words::{parameter_count, program_name};
 use prog_check::ProgramSet;
 use si_engine::{Engine, Event, Reply, Script};
 use std::alloc::{AllocError, Global};
@@ -20,6 +22,8 @@ const MAX_TOLD: usize = 8;
 #[derive(Clone, Copy, Debug, PartialEq, Eq)]
 enum Refusal {
     WrongArguments { program: usize, given: usize },
+    // A begin at a number at which none is possible.
+    OtherNumber { start: u64, numbers: Numbers },
     Full,
     NoInstance(usize),
     NotReady(usize),
@@ -57,7 +61,9 @@ impl Refusals {
                 self.following = self.following.saturating_add(1);
                 return Ok(());
             }
-            Refusal::WrongArguments { .. } | Refusal::Full => self.is_begin_refused = true,
+            Refusal::WrongArguments { .. } | Refusal::OtherNumber { .. } | Refusal::Full => {
+                self.is_begin_refused = true;
+            }
             _ => {}
         }
         if self.told.len() >= MAX_TOLD {
@@ -78,16 +84,28 @@ fn refusal_of_instance(instance: usize, reply: &Reply) -> Option<Refusal> {
     }
 }
 
+fn refusal_of_begin(program: usize, given: usize, reply: &Reply) -> Option<Refusal> {
+    match reply {
+        Reply::WrongArguments => Some(Refusal::WrongArguments { program, given }),
+        Reply::Full => Some(Refusal::Full),
+        _ => None,
+    }
+}
+
 // Why an event that was answered by this does nothing.
-fn refusal_of(event: &Event, reply: &Reply) -> Option<Refusal> {
+fn refusal_of(event: &Event, reply: &Reply, numbers: Numbers) -> Option<Refusal> {
     match event {
-        Event::Begin { program, args } => match reply {
-            Reply::WrongArguments => Some(Refusal::WrongArguments {
-                program: *program,
-                given: args.len(),
+        Event::Begin { program, args } => refusal_of_begin(*program, args.len(), reply),
+        Event::BeginAt {
+            start,
+            program,
+            args,
+        } => match reply {
+            Reply::TooOld { .. } | Reply::TooNew { .. } => Some(Refusal::OtherNumber {
+                start: *start,
+                numbers,
             }),
-            Reply::Full => Some(Refusal::Full),
-            _ => None,
+            _ => refusal_of_begin(*program, args.len(), reply),
         },
         Event::Step(instance) | Event::Commit(instance) | Event::Abort(instance) =>
             refusal_of_instance(*instance, reply),
@@ -100,7 +118,10 @@ fn event_count(alloc: Global, line: &[u8]) -> Result<usize, AllocError> {
     let words = words_of(alloc, line)?;
     match words.as_slice() {
         ["step", _, times] => Ok(times.parse::<usize>().unwrap_or(1)),
-        ["begin" | "step" | "commit" | "abort" | "vacuum", ..] => Ok(1),
+        [
+            "begin" | "begin-at" | "step" | "commit" | "abort" | "vacuum",
+            ..
+        ] => Ok(1),
         _ => Ok(0),
     }
 }
@@ -155,10 +176,13 @@ fn refusals_of(
         following: 0,
         more: 0,
     };
+    let mut numbers = Numbers::new();
     for (index, event) in events.as_slice().iter().enumerate() {
+        let line = lines.get(index).copied().unwrap_or(0);
         let reply = engine.apply(event)?;
-        if let Some(refusal) = refusal_of(event, &reply) {
-            refusals.add(lines.get(index).copied().unwrap_or(0), refusal)?;
+        numbers.look(engine.book(), line);
+        if let Some(refusal) = refusal_of(event, &reply, numbers) {
+            refusals.add(line, refusal)?;
         }
     }
     Ok(refusals)
@@ -190,6 +214,7 @@ fn sentence(alloc: Global, set: &ProgramSet, refusal: Refusal) -> Result<String,
                 "`{signature}` takes {wanted}, and here it is given {given}; no instance begins"
             )
         }
+        Refusal::OtherNumber { start, numbers } => number_words(alloc, start, numbers),
         Refusal::Full => format!(in alloc;
             "100000 instances have ended or are under way, the most; no instance begins"
         ),
@@ -205,17 +230,18 @@ fn sentence(alloc: Global, set: &ProgramSet, refusal: Refusal) -> Result<String,
 fn line_words(
     alloc: Global,
     set: &ProgramSet,
+    ahead: &[u8],
     part: &[u8],
     refused: Refused,
 ) -> Result<Option<String>, AllocError>
     ensures { IfOk result (λ said. IfSome said (λ words.
-        PointsAtLineOf part.now (Some refused.line) (string_bytes words))) }
+        PointsAtLineIn ahead.now part.now (Some refused.line) (string_bytes words))) }
 {
     let Some(front) = line_front(part, refused.line) else {
         return Ok(None);
     };
     let sentence = sentence(alloc, set, refused.refusal)?;
-    let words = point_at(alloc, part, front, &sentence)?;
+    let words = point_in_part(alloc, ahead, part, front, &sentence)?;
     Ok(Some(words))
 }
 
@@ -223,6 +249,7 @@ fn line_words(
 fn push_lines(
     alloc: Global,
     set: &ProgramSet,
+    ahead: &[u8],
     part: &[u8],
     told: &[Refused],
     out: &mut String,
@@ -230,7 +257,7 @@ fn push_lines(
     ensures { OnOk result (Extends (string_bytes out.old) (string_bytes out.new)) }
 {
     for refused in told {
-        let words = line_words(alloc, set, part, *refused)?.unwrap_or(String::new(alloc));
+        let words = line_words(alloc, set, ahead, part, *refused)?.unwrap_or(String::new(alloc));
         out.push_str(&words)?;
     }
     Ok(())
@@ -258,11 +285,12 @@ fn counts(alloc: Global, refusals: &Refusals) -> Result<String, AllocError> {
 pub fn refused_words(
     alloc: Global,
     set: &ProgramSet,
+    ahead: &[u8],
     part: &[u8],
     script: Script,
 ) -> Result<Option<String>, AllocError>
     ensures { IfOk result (λ said. IfSome said (λ words.
-        BeginsAtLine part.now (string_bytes words))) }
+        BeginsAtLine ahead.now part.now (string_bytes words))) }
 {
     if script.events.len() > MAX_EVENTS {
         return Ok(None);
@@ -271,10 +299,10 @@ pub fn refused_words(
     let [first, others @ ..] = refusals.told.as_slice() else {
         return Ok(None);
     };
-    let Some(mut words) = line_words(alloc, set, part, *first)? else {
+    let Some(mut words) = line_words(alloc, set, ahead, part, *first)? else {
         return Ok(None);
     };
-    push_lines(alloc, set, part, others, &mut words)?;
+    push_lines(alloc, set, ahead, part, others, &mut words)?;
     let counts = counts(alloc, &refusals)?;
     words.push_str(&counts)?;
     Ok(Some(words))

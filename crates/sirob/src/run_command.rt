@@ -15,8 +15,10 @@ use crate::commands::run::{run_part, run_robust_part};
 use crate::commands::verify::verify_part;
 use crate::input::read_text_and_part;
 use crate::run_fault::{RunFault, fault_line};
+use crate::sentences::kept::Kept;
 use crate::sentences::words::explain;
 use crate::status::Status;
+use dep_graph::Danger;
 use si_engine::{MAX_READS, Sink, Source, read_whole, write_whole};
 use std::alloc::Global;
 use std::thread::Threads;
@@ -30,6 +32,7 @@ fn part_input<K: Sink>(
     mode: Mode,
     input: &[u8],
     sink: &mut K,
+    refused_by: &mut Option<Danger>,
 ) -> Result<Status, RunFault>
     requires short { length input.now ≤ input_limit }
     requires working { K.has_failed sink.old ≡ false }
@@ -44,7 +47,7 @@ fn part_input<K: Sink>(
         Mode::Check | Mode::Certify | Mode::Repair { .. } | Mode::Work { .. } => unreachable!(),
         Mode::Verify => verify_part(alloc, set, part, sink),
         Mode::Run { robust: false } => run_part(alloc, &set, part, sink),
-        Mode::Run { robust: true } => run_robust_part(rt, set, part, sink),
+        Mode::Run { robust: true } => run_robust_part(rt, set, part, sink, refused_by),
         Mode::Audit => audit_part(alloc, &set, part, sink),
     }
 }
@@ -55,6 +58,7 @@ fn answer_input<K: Sink>(
     mode: Mode,
     input: &[u8],
     sink: &mut K,
+    refused_by: &mut Option<Danger>,
 ) -> Result<Status, RunFault>
     requires short { length input.now ≤ input_limit }
     requires working { K.has_failed sink.old ≡ false }
@@ -64,9 +68,11 @@ fn answer_input<K: Sink>(
 {
     match mode {
         Mode::Check => check_input(rt.alloc(), input, sink),
-        Mode::Certify => certify_input(rt, input, sink),
+        Mode::Certify => certify_input(rt, input, sink, refused_by),
         Mode::Repair { promote } => repair_input(rt.alloc(), promote, input, sink),
-        Mode::Verify | Mode::Run { .. } | Mode::Audit => part_input(rt, mode, input, sink),
+        Mode::Verify | Mode::Run { .. } | Mode::Audit => {
+            part_input(rt, mode, input, sink, refused_by)
+        }
         Mode::Work { .. } => unreachable!(),
     }
 }
@@ -77,7 +83,7 @@ fn answer_source<S: Source, K: Sink>(
     mode: Mode,
     source: &mut S,
     sink: &mut K,
-    kept: &mut Vec<u8>,
+    kept: &mut Kept,
 ) -> Result<Status, RunFault>
     requires working { K.has_failed sink.old ≡ false }
     requires no_work { is_work mode ≡ false }
@@ -87,8 +93,8 @@ fn answer_source<S: Source, K: Sink>(
     ensures reads { S.pulls source.new ≤ S.pulls source.old + MAX_READS }
 {
     let input = read_whole(rt.alloc(), source)?;
-    let ended = answer_input(rt, mode, &input, sink);
-    *kept = input;
+    let ended = answer_input(rt, mode, &input, sink, &mut kept.refused_by);
+    kept.input = input;
     ended
 }
 
@@ -147,12 +153,12 @@ pub fn run_command<S: Source, K: Sink>(
         return Status::Faulty;
     }
     let alloc = rt.alloc();
-    let mut input = Vec::new(alloc);
-    let ended = answer_source(rt, mode, source, sink, &mut input);
+    let mut kept = Kept::new(alloc);
+    let ended = answer_source(rt, mode, source, sink, &mut kept);
     if sink.failed() {
         return Status::Faulty;
     }
     let status = write_end(alloc, sink, ended);
-    explain(rt, mode, &input, ended);
+    explain(rt, mode, &kept, ended);
     status
 }

@@ -12,8 +12,10 @@ use crate::input::read_text_and_part;
 use crate::progress::Watched;
 use crate::run_command::write_end;
 use crate::run_fault::RunFault;
+use crate::sentences::kept::Kept;
 use crate::sentences::words::explain;
 use crate::status::Status;
+use dep_graph::Danger;
 use si_engine::{MAX_READS, Sink, Source, read_whole};
 use std::rt::Clock;
 use std::sync::Wait;
@@ -25,6 +27,7 @@ fn work_input<R: AllocGlobal + Eprint + Clock + Watched + Threads + Wait + Sync,
     workers: u8,
     input: &[u8],
     sink: &mut K,
+    refused_by: &mut Option<Danger>,
 ) -> Result<Status, RunFault>
     requires short { length input.now ≤ input_limit }
     requires working { K.has_failed sink.old ≡ false }
@@ -32,7 +35,7 @@ fn work_input<R: AllocGlobal + Eprint + Clock + Watched + Threads + Wait + Sync,
         (K.has_failed sink.new) (K.taken sink.old) (K.taken sink.new) result }
 {
     let (set, part) = read_text_and_part(rt.alloc(), input)?;
-    work_part(rt, workers, set, part, sink)
+    work_part(rt, workers, set, part, sink, refused_by)
 }
 
 // Reads all of a source, keeps it, and does its jobs.
@@ -40,7 +43,7 @@ fn work_source<
     R: AllocGlobal + Eprint + Clock + Watched + Threads + Wait + Sync,
     S: Source,
     K: Sink,
->(rt: &R, workers: u8, source: &mut S, sink: &mut K, kept: &mut Vec<u8>) -> Result<Status, RunFault>
+>(rt: &R, workers: u8, source: &mut S, sink: &mut K, kept: &mut Kept) -> Result<Status, RunFault>
     requires { K.has_failed sink.old ≡ false }
     ensures done { WritesOr (Err write_lost)
         (IsSourceDone (mode.Work workers) (S.left source.old) (S.has_failed source.new))
@@ -48,8 +51,8 @@ fn work_source<
     ensures reads { S.pulls source.new ≤ S.pulls source.old + MAX_READS }
 {
     let input = read_whole(rt.alloc(), source)?;
-    let ended = work_input(rt, workers, &input, sink);
-    *kept = input;
+    let ended = work_input(rt, workers, &input, sink, &mut kept.refused_by);
+    kept.input = input;
     ended
 }
 
@@ -69,12 +72,12 @@ pub fn run_work<
     if sink.failed() {
         return Status::Faulty;
     }
-    let mut input = Vec::new(rt.alloc());
-    let ended = work_source(rt, workers, source, sink, &mut input);
+    let mut kept = Kept::new(rt.alloc());
+    let ended = work_source(rt, workers, source, sink, &mut kept);
     if sink.failed() {
         return Status::Faulty;
     }
     let status = write_end(rt.alloc(), sink, ended);
-    explain(rt, Mode::Work { workers }, &input, ended);
+    explain(rt, Mode::Work { workers }, &kept, ended);
     status
 }

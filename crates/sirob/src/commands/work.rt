@@ -17,6 +17,7 @@ use crate::lines::write_lines;
 use crate::progress::{Progress, Watched};
 use crate::run_fault::RunFault;
 use crate::status::Status;
+use dep_graph::Danger;
 use history_book::Book;
 use prog_check::ProgramSet;
 use robust_cert::RobustSet;
@@ -152,20 +153,21 @@ fn work_verified<R: AllocGlobal + Eprint + Clock + Watched + Threads + Wait + Sy
 }
 
 /// Does the jobs that the bytes of a part are, where the set is robust, and writes what came of
-/// them; else writes its refusal.
+/// them; else writes its refusal, and keeps what refuses it.
 pub fn work_part<R: AllocGlobal + Eprint + Clock + Watched + Threads + Wait + Sync, K: Sink>(
     rt: &R,
     workers: u8,
     set: ProgramSet,
     part: &[u8],
     sink: &mut K,
+    refused_by: &mut Option<Danger>,
 ) -> Result<Status, RunFault>
     requires short { length part.now ≤ input_limit }
     requires working { K.has_failed sink.old ≡ false }
     ensures { WritesOr (Err write_lost) (IsPartDone (mode.Work workers) (draft_tree set) part.now)
         (K.has_failed sink.new) (K.taken sink.old) (K.taken sink.new) result }
 {
-    match assess(rt, set)? {
+    match assess(rt, set, refused_by)? {
         Verified::Robust(set) => {
             let text = work_verified(rt, workers, &set, part)?;
             write_lines(sink, text.as_bytes(), Ok(Status::Done))

@@ -2,10 +2,12 @@
 
 use crate::sentences::kept_input::{second_part, set_of, set_text};
 use analysis_words::{certificate_words, refusal_words};
+use dep_graph::Danger;
+use prog_check::ProgramSet;
+use prog_paths::paths;
 use robust_cert::CertFault;
-use si_repair::{AnalyseFault, Finding, certify_par};
+use si_repair::{AnalyseFault, Plan, plan};
 use std::alloc::{AllocError, Global};
-use std::thread::Threads;
 
 /// Why a set is not analysed.
 pub fn analysis_sentence(fault: AnalyseFault) -> Option<&'static str> {
@@ -29,17 +31,30 @@ pub fn certificate_sentence(
     certificate_words(alloc, set_text(input), &set, second_part(input), fault)
 }
 
-/// Why the set of an input is refused, by one more analysis.
+// A set of more nodes is not planned for its words alone: that would take as long as its analysis.
+const MAX_PLANNED_NODES: usize = 32;
+
+// What a repair of a set keeps apart, where the set is small.
+fn small_plan(alloc: Global, set: &ProgramSet) -> Option<Plan> {
+    let nodes = paths(alloc, set).ok()?.len();
+    if nodes > MAX_PLANNED_NODES {
+        return None;
+    }
+    plan(alloc, set).ok()
+}
+
+/// Why the set of an input is refused, by what an analysis found.
 pub fn refusal_sentence(
-    rt: &(impl AllocGlobal + Threads + Sync),
+    alloc: Global,
     input: &[u8],
+    danger: &Danger,
 ) -> Result<Option<String>, AllocError> {
-    let alloc = rt.alloc();
     let Some(set) = set_of(alloc, input) else {
         return Ok(None);
     };
-    match certify_par(rt, alloc, &set) {
-        Ok(Finding::Refused(danger)) => refusal_words(alloc, set_text(input), &set, &danger),
-        _ => Ok(None),
+    let text = set_text(input);
+    match small_plan(alloc, &set) {
+        Some(plan) => refusal_words(alloc, text, &set, danger, plan.pairs.as_slice()),
+        None => refusal_words(alloc, text, &set, danger, &[]),
     }
 }

@@ -21,6 +21,12 @@ pub fn second_part(input: &[u8]) -> &[u8] {
     }
 }
 
+/// What stands ahead of the second part: the set, and the line `%%`.
+pub fn ahead_of_second(input: &[u8]) -> &[u8] {
+    let len = input.len().saturating_sub(second_part(input).len());
+    input.get(..len).unwrap_or(&[])
+}
+
 /// The set of an input whose set has no fault.
 pub fn set_of(alloc: Global, input: &[u8]) -> Option<ProgramSet> {
     let draft = parse(alloc, set_text(input)).ok()?;

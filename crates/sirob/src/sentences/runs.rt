@@ -6,7 +6,7 @@ ghost use Rattle.history_book.specs.Orders.{IsCycle};
 ghost use Rattle.history_book.specs.View.{depends_in};
 ghost use Rattle.run_words.specs.Cycles.{ShowsCycle};
 
-use crate::sentences::kept_input::{second_part, set_of};
+use crate::sentences::kept_input::{ahead_of_second, second_part, set_of};
 use history_book::{Book, OrderFault};
 use prog_check::ProgramSet;
 use run_words::{cycle_words, refused_words};
@@ -77,7 +77,7 @@ pub fn refused_sentence(alloc: Global, input: &[u8]) -> Result<Option<String>, A
     };
     let part = second_part(input);
     match read_script(alloc, &set, &mut Bytes::new(part)) {
-        Ok(script) => refused_words(alloc, &set, part, script),
+        Ok(script) => refused_words(alloc, &set, ahead_of_second(input), part, script),
         Err(_) => Ok(None),
     }
 }

@@ -4,7 +4,8 @@ use crate::command_line::Mode;
 use crate::parts::PartFault;
 use crate::run_fault::RunFault;
 use crate::sentences::analysis::{analysis_sentence, certificate_sentence, refusal_sentence};
-use crate::sentences::kept_input::{second_part, set_of, set_text};
+use crate::sentences::kept::Kept;
+use crate::sentences::kept_input::{ahead_of_second, second_part, set_of, set_text};
 use crate::sentences::repair::{repair_fault_sentence, repair_sentence};
 use crate::sentences::runs::{audit_cycle_sentence, refused_sentence, run_cycle_sentence};
 use crate::sentences::work::work_sentence;
@@ -15,7 +16,6 @@ use history_book::AuditFault;
 use run_words::{PartKind, extra_part_words, line_fault_words, missing_part_words, record_words};
 use si_engine::{InputFault, LineFault, ScriptFault};
 use std::alloc::{AllocError, Global};
-use std::thread::Threads;
 
 // What stands in the second part of a command's input, where it has one.
 fn second_wanted(mode: Mode) -> Option<&'static str> {
@@ -90,7 +90,8 @@ fn line_sentence(
     let Some(set) = set_of(alloc, input) else {
         return Ok(None);
     };
-    line_fault_words(alloc, kind_of(mode), &set, second_part(input), fault)
+    let ahead = ahead_of_second(input);
+    line_fault_words(alloc, kind_of(mode), &set, ahead, second_part(input), fault)
 }
 
 fn script_sentence(
@@ -114,7 +115,13 @@ fn record_sentence(
     let Some(set) = set_of(alloc, input) else {
         return Ok(None);
     };
-    record_words(alloc, &set, second_part(input), fault)
+    record_words(
+        alloc,
+        &set,
+        ahead_of_second(input),
+        second_part(input),
+        fault,
+    )
 }
 
 // A fault in words.
@@ -144,17 +151,17 @@ fn words_of(
 
 // Why no serial order is sure, or why there is none.
 fn unserializable_sentence(
-    rt: &(impl AllocGlobal + Threads + Sync),
+    alloc: Global,
     mode: Mode,
-    input: &[u8],
+    kept: &Kept,
 ) -> Result<Option<String>, AllocError> {
+    if let Some(danger) = &kept.refused_by {
+        return refusal_sentence(alloc, &kept.input, danger);
+    }
     match mode {
-        Mode::Check | Mode::Verify | Mode::Repair { .. } => Ok(None),
-        Mode::Certify | Mode::Run { robust: true } | Mode::Work { .. } => refusal_sentence(
-            rt, input,
-        ),
-        Mode::Run { robust: false } => run_cycle_sentence(rt.alloc(), input),
-        Mode::Audit => audit_cycle_sentence(rt.alloc(), input),
+        Mode::Run { .. } => run_cycle_sentence(alloc, &kept.input),
+        Mode::Audit => audit_cycle_sentence(alloc, &kept.input),
+        _ => Ok(None),
     }
 }
 
@@ -168,28 +175,28 @@ fn done_sentence(alloc: Global, mode: Mode, input: &[u8]) -> Result<Option<Strin
 
 // What is to be said of how a command ended.
 fn ending_words(
-    rt: &(impl AllocGlobal + Threads + Sync),
+    alloc: Global,
     mode: Mode,
-    input: &[u8],
+    kept: &Kept,
     ended: Result<Status, RunFault>,
 ) -> Result<Option<String>, AllocError> {
     match ended {
-        Ok(Status::Unserializable) => unserializable_sentence(rt, mode, input),
-        Ok(Status::Done) => done_sentence(rt.alloc(), mode, input),
+        Ok(Status::Unserializable) => unserializable_sentence(alloc, mode, kept),
+        Ok(Status::Done) => done_sentence(alloc, mode, &kept.input),
         Ok(Status::Faulty | Status::Memory) => Ok(None),
-        Err(fault) => words_of(rt.alloc(), mode, input, fault),
+        Err(fault) => words_of(alloc, mode, &kept.input, fault),
     }
 }
 
 /// Says on the standard error what is wrong with an input, or why its set is refused, unless memory
 /// runs out for it.
 pub fn explain(
-    rt: &(impl AllocGlobal + Eprint + Threads + Sync),
+    rt: &(impl AllocGlobal + Eprint),
     mode: Mode,
-    input: &[u8],
+    kept: &Kept,
     ended: Result<Status, RunFault>,
 ) {
-    if let Ok(Some(words)) = ending_words(rt, mode, input, ended) {
+    if let Ok(Some(words)) = ending_words(rt.alloc(), mode, kept, ended) {
         let _ = rt.eprint(&words);
     }
 }

@@ -1,14 +1,27 @@
-use Rattle.std.proofs.Common.{◌≡◌, ◌∙◌, sym}
+use Rattle.std.proofs.Common.{rules, ◌≡◌, ◌∙◌, List, ℕ, string_bytes, subst, sym}
 use Rattle.prog_tree.specs.Tree.{draft_tree}
 use Rattle.prog_check.specs.Paths.{paths_of}
+use Rattle.analysis_words.specs.Refusing.{LacksDanger, ShowsDanger}
+use Rattle.analysis_words.specs.Repairs.{Says}
+use Rattle.analysis_words.proofs.MoreBehind.{shown_more}
+use Rattle.analysis_words.proofs.Unsaid.{unsaid}
 use Rattle.analysis_words.proofs.refusal.refusal_words.Goals as goal
 
 pub returns-clause-said : goal.returns-clause-said
 returns-clause-said c =
     let same : c.deref.result.now ≡ paths_of (draft_tree c.args.set.now) = c.deref.ensures.value ∙ c.in_ok-paths.ensures.exact in
-    rw (sym same) c.in_ok-words.ensures.said
+    let shown : ShowsDanger c.args.text.now (draft_tree c.args.set.now) c.deref.result.now c.args.danger.now (string_bytes c.in-Some.front) =
+    search rules in
+    rw (sym same) (shown_more c.args.text.now (draft_tree c.args.set.now) c.deref.result.now c.args.danger.now (string_bytes c.in-Some.front) _ (string_bytes c.in_ok-words.words)
+    c.in_ok-words.ensures.ok shown)
 
-pub returns-clause-none : goal.returns-clause-none
-returns-clause-none c =
+pub returns-clause-left : goal.returns-clause-left
+returns-clause-left c =
+    let says : Says (string_bytes c.in_ok-words.words) (string_bytes c.in_ok-left.left) =
+    (string_bytes c.in-Some.front, _, c.in_ok-words.ensures.ok) in
+    subst (λ (part : List ℕ). Says (string_bytes c.in_ok-words.words) part) c.in_ok-left.ensures says
+
+pub returns-in_default-clause-none : goal.returns-in_default-clause-none
+returns-in_default-clause-none c =
     let same : c.deref.result.now ≡ paths_of (draft_tree c.args.set.now) = c.deref.ensures.value ∙ c.in_ok-paths.ensures.exact in
-    rw (sym same) c.in_ok-words.ensures.none
+    rw (sym same) (unsaid _ (LacksDanger c.args.text.now c.deref.result.now c.args.danger.now) c.in_default.is c.in_ok-front.ensures.none)

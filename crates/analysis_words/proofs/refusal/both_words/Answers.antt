@@ -1,7 +1,7 @@
 use Rattle.std.proofs.Common.{rules, codes, inl, inr, string_bytes}
 use Rattle.analysis_words.specs.Refusing.{LacksQuestion}
 use Rattle.analysis_words.proofs.Unsaid.{unsaid}
-use Rattle.analysis_words.proofs.refusal.danger_words.Goals as goal
+use Rattle.analysis_words.proofs.refusal.both_words.Goals as goal
 
 pub returns-clause-said : goal.returns-clause-said
 returns-clause-said c = (

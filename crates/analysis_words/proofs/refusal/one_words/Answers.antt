@@ -1,0 +1,19 @@
+use Rattle.std.proofs.Common.{rules, codes, inl, string_bytes}
+use Rattle.analysis_words.specs.Refusing.{LacksQuestion}
+use Rattle.analysis_words.proofs.Unsaid.{unsaid}
+use Rattle.analysis_words.proofs.refusal.one_words.Goals as goal
+
+pub returns-clause-said : goal.returns-clause-said
+returns-clause-said c = (
+  codes "a run of this set may have no serial order, since two changes in a row can be missed\n",
+  string_bytes c.in-Some.edge,
+  string_bytes c.in_ok-advice.advice,
+  search rules,
+  search rules,
+)
+
+pub returns-in_default-clause-none : goal.returns-in_default-clause-none
+returns-in_default-clause-none c =
+    let shown = c.args.shown in
+    let q = c.args.danger.now.first.question in
+    inl (unsaid _ (LacksQuestion shown.text.now shown.paths.now q) c.in_default.is c.in_ok-edge.ensures.none)

@@ -1,0 +1,50 @@
+-- What is said of the edges of a dangerous structure.
+use Rattle.std.specs.Prelude.{ℕ, ◌≡◌, ◌==◌, true, false, if◌then◌else◌, List, [], ◌++◌, codes}
+use Rattle.prog_tree.specs.Syntax.{DraftTree}
+use Rattle.prog_check.specs.declared.path.Path.{Path}
+use Rattle.prog_paths.specs.declared.places.Question.{Question}
+use Rattle.dep_graph.specs.declared.danger.Danger.{Danger}
+use Rattle.dep_graph.specs.declared.danger.Exposure.{Exposure}
+use Rattle.analysis_words.specs.Instances.{instance_text, numbers_of}
+use Rattle.analysis_words.specs.Nodes.{node_name}
+
+-- what stands before a node that is named behind another, where it is the same
+abbrev pub other_run : (first second : ℕ) → List ℕ
+other_run first second = if first == second then codes "another " else []
+
+-- where the first instance looks, as `` `Move` with (from = 0, to = 7) looks here``
+abbrev pub look_text : DraftTree → List Path → Exposure → List ℕ
+look_text set paths edge =
+    instance_text set paths edge.sample true edge.question.x ++ codes " looks here"
+
+-- where the second one changes that
+abbrev pub change_text : DraftTree → List Path → Exposure → List ℕ
+change_text set paths edge =
+    other_run edge.question.x edge.question.y
+    ++ (instance_text set paths edge.sample false edge.question.y ++ codes " changes here what that looked at, unseen by it")
+
+-- the same of two instances of one node
+abbrev pub twin_look_text : DraftTree → List Path → Exposure → List ℕ
+twin_look_text set paths edge =
+    codes "two runs of " ++ (node_name set paths edge.question.x
+    ++ (codes ": one" ++ (numbers_of set paths edge.sample true edge.question.x ++ codes " looks here")))
+
+abbrev pub twin_change_text : DraftTree → List Path → Exposure → List ℕ
+twin_change_text set paths edge =
+    codes "the other" ++ (numbers_of set paths edge.sample false edge.question.y
+    ++ codes " changes here what that looked at, unseen by it")
+
+-- all that is said of an edge
+abbrev pub told_text : DraftTree → List Path → Exposure → List ℕ
+told_text set paths edge = look_text set paths edge ++ (codes "; " ++ change_text set paths edge)
+
+-- two questions are of the same accesses of the same nodes
+abbrev pub IsSameQuestion : Question → Question → Type 0
+IsSameQuestion question other =
+    ((question.x ≡ other.x) × (question.a ≡ other.a)) × ((question.y ≡ other.y) × (question.b ≡ other.b))
+
+-- both edges are of the same accesses, and told alike: in the same sample
+abbrev pub IsRepeated : DraftTree → List Path → Danger → Type 0
+IsRepeated set paths danger =
+    IsSameQuestion danger.first.question danger.second.question
+    × (told_text set paths danger.first ≡ told_text set paths danger.second)

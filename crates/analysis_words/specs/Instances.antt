@@ -1,0 +1,60 @@
+-- Instances of programs with the numbers that samples give their parameters.
+use Rattle.std.specs.Prelude.{ℕ, Bool, true, false, ◌+◌, ◌==◌, if◌then◌else◌, List, [], ◌∷◌, ◌++◌, Option, Some, None, codes, slice_get}
+use Rattle.std.specs.Fmt.{signed_decimal}
+use Rattle.order_facts.specs.Sample.{sample_number}
+use Rattle.order_facts.specs.declared.sample.Choice.{Choice}
+use Rattle.order_facts.specs.declared.steps.Node.{Node}
+use Rattle.order_facts.specs.declared.steps.Node.TheVariants.{Mine, Theirs}
+use Rattle.prog_tree.specs.Syntax.{Name, ProgramTree, DraftTree}
+use Rattle.prog_check.specs.declared.path.Path.{Path}
+use Rattle.analysis_words.specs.Nodes.{node_name}
+
+-- a parameter of the first or of the second instance
+abbrev pub node_of : (is_first : Bool) → (number : ℕ) → Node
+node_of true number = Mine number
+node_of false number = Theirs number
+
+-- what stands before the parameter of a number
+abbrev pub opening : (number : ℕ) → List ℕ
+opening number = if number == 0 then codes " with (" else codes ", "
+
+-- a parameter with the number that a sample gives it
+abbrev pub given : List Choice → (is_first : Bool) → (number : ℕ) → Name → List ℕ
+given sample is_first number name =
+    opening number ++ (name ++ (codes " = " ++ signed_decimal (sample_number sample (node_of is_first number))))
+
+-- parameters that are counted from this number on
+abbrev pub given_from : List Choice → (is_first : Bool) → (number : ℕ) → List Name → List ℕ
+given_from sample is_first number [] = []
+given_from sample is_first number (name ∷ names) =
+    given sample is_first number name ++ given_from sample is_first (number + 1) names
+
+-- each parameter with its number, as ` with (from = 0, to = 7)`; nothing where there is none
+abbrev pub numbers_text : List Choice → (is_first : Bool) → List Name → List ℕ
+numbers_text sample is_first [] = []
+numbers_text sample is_first (name ∷ names) = given_from sample is_first 0 (name ∷ names) ++ codes ")"
+
+-- the parameters of a program; one that is not there has none
+abbrev pub params_of : Option ProgramTree → List Name
+params_of None = []
+params_of (Some program) = program.params
+
+abbrev pub params_in : DraftTree → (program : ℕ) → List Name
+params_in set program = params_of (slice_get set.programs program)
+
+-- the parameters of a path's program
+abbrev pub params_by : DraftTree → Option Path → List Name
+params_by set None = []
+params_by set (Some path) = params_in set path.program
+
+abbrev pub params_along : DraftTree → List Path → (node : ℕ) → List Name
+params_along set paths node = params_by set (slice_get paths node)
+
+-- the numbers of an instance of a node, the first or the second of a sample
+abbrev pub numbers_of : DraftTree → List Path → List Choice → (is_first : Bool) → (node : ℕ) → List ℕ
+numbers_of set paths sample is_first node = numbers_text sample is_first (params_along set paths node)
+
+-- the instance with its name, as `` `Move` with (from = 0, to = 7)``
+abbrev pub instance_text : DraftTree → List Path → List Choice → (is_first : Bool) → (node : ℕ) → List ℕ
+instance_text set paths sample is_first node =
+    node_name set paths node ++ numbers_of set paths sample is_first node

@@ -1,0 +1,84 @@
+//! What follows from a dangerous structure, and what helps.
+
+use crate::edges::other_run;
+use crate::looks::has_unknown_key;
+use crate::shown::{Shown, access_place, cells_at, node_name};
+use dep_graph::Danger;
+use prog_paths::Question;
+use std::alloc::{AllocError, Global};
+use text_places::line_number;
+
+// The circle along both edges and the way back.
+fn circle_text(alloc: Global, shown: Shown<'_>, danger: &Danger) -> Result<String, AllocError> {
+    let first = node_name(alloc, shown, danger.x)?;
+    let other = other_run(danger.x, danger.y);
+    let middle = node_name(alloc, shown, danger.y)?;
+    let mut text = format!(in alloc; "{first} would have to stand before {other}{middle}")?;
+    let mut last = danger.y;
+    for node in danger.back.as_slice() {
+        let other = other_run(last, *node);
+        let next = node_name(alloc, shown, *node)?;
+        write!(text, ", that before {other}{next}")?;
+        last = *node;
+    }
+    Ok(text)
+}
+
+// The two of a question, as those that keep one cell.
+fn keepers(alloc: Global, shown: Shown<'_>, question: Question) -> Result<String, AllocError> {
+    let reader = node_name(alloc, shown, question.x)?;
+    if question.x == question.y {
+        return format!(in alloc; "each run of {reader} has to `keep`");
+    }
+    let writer = node_name(alloc, shown, question.y)?;
+    format!(in alloc; "both {reader} and {writer} `keep`")
+}
+
+// The same two, as those that clash.
+fn clashing(alloc: Global, shown: Shown<'_>, question: Question) -> Result<String, AllocError> {
+    let reader = node_name(alloc, shown, question.x)?;
+    if question.x == question.y {
+        return format!(in alloc; "two runs of {reader} clash");
+    }
+    let writer = node_name(alloc, shown, question.y)?;
+    format!(in alloc; "{reader} clashes with {writer}")
+}
+
+// What makes the two of a question clash: the first keeps the cell that it looks at, or where that
+// is a range or its key has an unknown value, both keep one cell.
+fn repair(alloc: Global, shown: Shown<'_>, question: Question) -> Result<String, AllocError> {
+    let Some(place) = access_place(alloc, shown, question.x, question.a)? else {
+        let keepers = keepers(alloc, shown, question)?;
+        return format!(in alloc; "a cell that {keepers}");
+    };
+    let cells = cells_at(shown.text, place);
+    if cells.contains("..") || has_unknown_key(shown, &question) {
+        let keepers = keepers(alloc, shown, question)?;
+        return format!(in alloc; "one cell that stands for `{cells}`, which {keepers}");
+    }
+    let line = line_number(shown.text, place);
+    let clashing = clashing(alloc, shown, question)?;
+    format!(in alloc; "`keep {cells};` behind line {line}, so that {clashing}")
+}
+
+/// Why nothing hinders both edges, how the circle closes, and what to do about it.
+pub fn advice(alloc: Global, shown: Shown<'_>, danger: &Danger) -> Result<String, AllocError> {
+    let circle = circle_text(alloc, shown, danger)?;
+    let first = repair(alloc, shown, danger.first.question)?;
+    let second = repair(alloc, shown, danger.second.question)?;
+    format!(in alloc;
+        "the two of each pair can be under way at once: \
+        no cell is sure to be changed or kept by both, so neither has to clash\n\
+        in a serial order {circle}\nwhat helps: {first}; or {second}\n"
+    )
+}
+
+/// The same where both edges are one.
+pub fn twin_advice(alloc: Global, shown: Shown<'_>, danger: &Danger) -> Result<String, AllocError> {
+    let repair = repair(alloc, shown, danger.first.question)?;
+    format!(in alloc;
+        "each can miss the other's change so, and both can be under way at once: \
+        no cell is sure to be changed or kept by both, so neither has to clash\n\
+        in a serial order each would have to stand before the other\nwhat helps: {repair}\n"
+    )
+}

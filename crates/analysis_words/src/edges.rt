@@ -1,0 +1,166 @@
+//! The edges of a dangerous structure in words.
+ghost use Rattle.std.specs.Prelude.{◌≡◌, ◌↔◌, IfNone, IfOk, IfSome, IsTrue, string_bytes};
+ghost use Rattle.prog_tree.specs.Tree.{draft_tree};
+ghost use Rattle.analysis_words.specs.Edges.{change_text, look_text, other_run, told_text, twin_change_text, twin_look_text, IsRepeated, IsSameQuestion};
+ghost use Rattle.analysis_words.specs.Refusing.{LacksQuestion, ShowsEdge, ShowsQuestion, ShowsTwins};
+
+use crate::instances::{instance_text, numbers_of};
+use crate::pointed::point_at_access;
+use crate::shown::{Shown, node_name};
+use dep_graph::{Danger, Exposure};
+use prog_paths::Question;
+use std::alloc::{AllocError, Global};
+
+/// What stands before a node that is named behind another, where it is the same.
+pub fn other_run(first: usize, second: usize) -> &'static str
+    ensures { result.now ≡ other_run first second }
+{
+    if first == second { "another " } else { "" }
+}
+
+// What is said where the first instance of a question looks.
+fn look_text(alloc: Global, shown: Shown<'_>, edge: &Exposure) -> Result<String, AllocError>
+    ensures { IfOk result (λ text. string_bytes text
+        ≡ look_text (draft_tree shown.entry.set.now) shown.entry.paths.now edge.now) }
+{
+    let reader = instance_text(alloc, shown, &edge.sample, true, edge.question.x)?;
+    format!(in alloc; "{reader} looks here")
+}
+
+// What is said where the second one changes that.
+fn change_text(alloc: Global, shown: Shown<'_>, edge: &Exposure) -> Result<String, AllocError>
+    ensures { IfOk result (λ text. string_bytes text
+        ≡ change_text (draft_tree shown.entry.set.now) shown.entry.paths.now edge.now) }
+{
+    let other = other_run(edge.question.x, edge.question.y);
+    let writer = instance_text(alloc, shown, &edge.sample, false, edge.question.y)?;
+    format!(in alloc; "{other}{writer} changes here what that looked at, unseen by it")
+}
+
+// The same of two instances of one node, each of which may be the first.
+fn twin_look_text(alloc: Global, shown: Shown<'_>, edge: &Exposure) -> Result<String, AllocError>
+    ensures { IfOk result (λ text. string_bytes text
+        ≡ twin_look_text (draft_tree shown.entry.set.now) shown.entry.paths.now edge.now) }
+{
+    let name = node_name(alloc, shown, edge.question.x)?;
+    let numbers = numbers_of(alloc, shown, &edge.sample, true, edge.question.x)?;
+    format!(in alloc; "two runs of {name}: one{numbers} looks here")
+}
+
+fn twin_change_text(alloc: Global, shown: Shown<'_>, edge: &Exposure) -> Result<String, AllocError>
+    ensures { IfOk result (λ text. string_bytes text
+        ≡ twin_change_text (draft_tree shown.entry.set.now) shown.entry.paths.now edge.now) }
+{
+    let numbers = numbers_of(alloc, shown, &edge.sample, false, edge.question.y)?;
+    format!(in alloc; "the other{numbers} changes here what that looked at, unseen by it")
+}
+
+// All that is said of an edge.
+fn told_text(alloc: Global, shown: Shown<'_>, edge: &Exposure) -> Result<String, AllocError>
+    ensures { IfOk result (λ text. string_bytes text
+        ≡ told_text (draft_tree shown.entry.set.now) shown.entry.paths.now edge.now) }
+{
+    let look = look_text(alloc, shown, edge)?;
+    let change = change_text(alloc, shown, edge)?;
+    format!(in alloc; "{look}; {change}")
+}
+
+fn is_same_text(text: &str, other: &str) -> bool
+    ensures { IsTrue result ↔ (text.now ≡ other.now) }
+{
+    text == other
+}
+
+// Whether two accesses are one, by their nodes and numbers.
+fn is_same_access(node: usize, access: usize, other_node: usize, other_access: usize) -> bool
+    ensures { IsTrue result ↔ ((node ≡ other_node) × (access ≡ other_access)) }
+{
+    node == other_node && access == other_access
+}
+
+// Whether two questions are of the same accesses.
+fn is_same_question(question: Question, other: Question) -> bool
+    ensures { IsTrue result ↔ IsSameQuestion question other }
+{
+    is_same_access(question.x, question.a, other.x, other.a)
+        && is_same_access(question.y, question.b, other.y, other.b)
+}
+
+// Whether two edges are of the same accesses, and told alike.
+fn is_one(question: Question, other: Question, told: &str, other_told: &str) -> bool
+    ensures { IsTrue result ↔ (IsSameQuestion question other × (told.now ≡ other_told.now)) }
+{
+    is_same_question(question, other) && is_same_text(told, other_told)
+}
+
+/// Whether both edges are the same, in the same sample.
+pub fn is_repeated(alloc: Global, shown: Shown<'_>, danger: &Danger) -> Result<bool, AllocError>
+    ensures { IfOk result (λ yes. IsTrue yes ↔ IsRepeated
+        (draft_tree shown.entry.set.now) shown.entry.paths.now danger.now) }
+{
+    let told = told_text(alloc, shown, &danger.first)?;
+    let second = told_text(alloc, shown, &danger.second)?;
+    let answer = is_one(
+        danger.first.question,
+        danger.second.question,
+        &told,
+        &second,
+    );
+    Ok(answer)
+}
+
+// Both accesses of a question, each where it stands, with what is said of it.
+fn question_words(
+    alloc: Global,
+    shown: Shown<'_>,
+    question: Question,
+    look: &str,
+    change: &str,
+) -> Result<Option<String>, AllocError>
+    ensures said { IfOk result (λ said. IfSome said (λ words. ShowsQuestion shown.entry.text.now
+        shown.entry.paths.now question look.now change.now (string_bytes words))) }
+    ensures none { IfOk result (λ said. IfNone said
+        (LacksQuestion shown.entry.text.now shown.entry.paths.now question)) }
+{
+    let Some(reader) = point_at_access(alloc, shown, question.x, question.a, look)? else {
+        return Ok(None);
+    };
+    let Some(writer) = point_at_access(alloc, shown, question.y, question.b, change)? else {
+        return Ok(None);
+    };
+    let words = format!(in alloc; "{reader}{writer}")?;
+    Ok(Some(words))
+}
+
+/// An edge: both accesses of its question, with an instance for each; nothing where they are not
+/// found.
+pub fn edge_words(
+    alloc: Global,
+    shown: Shown<'_>,
+    edge: &Exposure,
+) -> Result<Option<String>, AllocError>
+    ensures said { IfOk result (λ said. IfSome said (λ words. ShowsEdge shown.entry.text.now
+        (draft_tree shown.entry.set.now) shown.entry.paths.now edge.now (string_bytes words))) }
+    ensures none { IfOk result (λ said. IfNone said
+        (LacksQuestion shown.entry.text.now shown.entry.paths.now edge.now.question)) }
+{
+    let look = look_text(alloc, shown, edge)?;
+    let change = change_text(alloc, shown, edge)?;
+    question_words(alloc, shown, edge.question, &look, &change)
+}
+
+/// An edge of a node to itself, where it is both edges of a dangerous structure.
+pub fn twin_words(
+    alloc: Global,
+    shown: Shown<'_>,
+    edge: &Exposure,
+) -> Result<Option<String>, AllocError>
+    ensures said { IfOk result (λ said. IfSome said (λ words. ShowsTwins shown.entry.text.now
+        (draft_tree shown.entry.set.now) shown.entry.paths.now edge.now (string_bytes words))) }
+    ensures none { IfOk result (λ said. IfNone said
+        (LacksQuestion shown.entry.text.now shown.entry.paths.now edge.now.question)) }
+{
+    let look = twin_look_text(alloc, shown, edge)?;
+    let change = twin_change_text(alloc, shown, edge)?;
+    question_words(alloc, shown, edge.question, &look, &change)
+}

@@ -1,0 +1,131 @@
+//! Instances of programs with the numbers that samples give their parameters.
+ghost use Rattle.std.specs.Prelude.{◌≡◌, IfOk, string_bytes};
+ghost use Rattle.prog_tree.specs.Tree.{draft_tree};
+ghost use Rattle.analysis_words.specs.Instances.{given, given_from, instance_text, node_of, numbers_of, numbers_text, opening, params_along, params_in};
+
+use crate::shown::{Shown, node_name};
+use order_facts::{Node, Sample};
+use prog_check::ProgramSet;
+use prog_tree::Name;
+use std::alloc::{AllocError, Global};
+
+// A parameter of the first or of the second instance.
+fn node_of(is_first: bool, number: usize) -> Node
+    ensures { result ≡ node_of is_first number }
+{
+    if is_first {
+        Node::Mine(number)
+    } else {
+        Node::Theirs(number)
+    }
+}
+
+// What stands before the parameter of a number.
+fn opening(number: usize) -> &'static str
+    ensures { result.now ≡ opening number }
+{
+    if number == 0 { " with (" } else { ", " }
+}
+
+// A parameter with the number that a sample gives it.
+fn given(
+    alloc: Global,
+    sample: &Sample,
+    is_first: bool,
+    number: usize,
+    name: &Name,
+) -> Result<String, AllocError>
+    ensures { IfOk result (λ text. string_bytes text
+        ≡ given sample.now is_first number name.now) }
+{
+    let opening = opening(number);
+    let value = sample.get(node_of(is_first, number));
+    format!(in alloc; "{opening}{name} = {value}")
+}
+
+// All parameters with their numbers, from the bracket on that opens.
+fn listed(
+    alloc: Global,
+    sample: &Sample,
+    is_first: bool,
+    params: &[Name],
+) -> Result<String, AllocError>
+    ensures { IfOk result (λ text. string_bytes text
+        ≡ given_from sample.now is_first 0 params.now) }
+{
+    let mut text = String::new(alloc);
+    for (number, name) in params.iter().enumerate() {
+        let given = given(alloc, sample, is_first, number, name)?;
+        text.push_str(&given)?;
+    }
+    Ok(text)
+}
+
+// Each parameter with its number, in brackets; nothing where there is none.
+fn numbers_text(
+    alloc: Global,
+    sample: &Sample,
+    is_first: bool,
+    params: &[Name],
+) -> Result<String, AllocError>
+    ensures { IfOk result (λ text. string_bytes text
+        ≡ numbers_text sample.now is_first params.now) }
+{
+    let [_, ..] = params else {
+        return Ok(String::new(alloc));
+    };
+    let listed = listed(alloc, sample, is_first, params)?;
+    format!(in alloc; "{listed})")
+}
+
+// The parameters of a program; one that is not there has none.
+fn params_in(set: &ProgramSet, program: usize) -> &[Name]
+    ensures { result.now ≡ params_in (draft_tree set.now) program }
+{
+    match set.draft().programs.get(program) {
+        Some(program) => program.params.as_slice(),
+        None => &[],
+    }
+}
+
+// The parameters of a node's program.
+fn params_along<'a>(shown: Shown<'a>, node: usize) -> &'a [Name]
+    ensures { result.now
+        ≡ params_along (draft_tree shown.entry.set.now) shown.entry.paths.now node }
+{
+    match shown.paths.get(node) {
+        Some(path) => params_in(shown.set, path.program),
+        None => &[],
+    }
+}
+
+/// Each parameter of a node's program with the number that a sample gives it in the first or the
+/// second instance.
+pub fn numbers_of(
+    alloc: Global,
+    shown: Shown<'_>,
+    sample: &Sample,
+    is_first: bool,
+    node: usize,
+) -> Result<String, AllocError>
+    ensures { IfOk result (λ text. string_bytes text ≡ numbers_of
+        (draft_tree shown.entry.set.now) shown.entry.paths.now sample.now is_first node) }
+{
+    numbers_text(alloc, sample, is_first, params_along(shown, node))
+}
+
+/// An instance of a node in a sample.
+pub fn instance_text(
+    alloc: Global,
+    shown: Shown<'_>,
+    sample: &Sample,
+    is_first: bool,
+    node: usize,
+) -> Result<String, AllocError>
+    ensures { IfOk result (λ text. string_bytes text ≡ instance_text
+        (draft_tree shown.entry.set.now) shown.entry.paths.now sample.now is_first node) }
+{
+    let name = node_name(alloc, shown, node)?;
+    let numbers = numbers_of(alloc, shown, sample, is_first, node)?;
+    format!(in alloc; "{name}{numbers}")
+}
