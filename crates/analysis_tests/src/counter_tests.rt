@@ -9,16 +9,20 @@ use std::thread;
 #[test]
 fn three_numbers(rt: HostRuntime) -> Result<(), AllocError> {
     let (counter, mut pass) = Counter::open(rt.alloc(), 3)?;
-    assert_eq!(rt; counter.draw(&mut pass), Some(0));
-    assert_eq!(rt; Counter::left(&pass), 2);
+    let one = counter.draw(&mut pass);
+    let left = Counter::left(&pass);
     let (mut first, mut second) = counter.split(pass, 2);
-    assert_eq!(rt; counter.draw(&mut first), None);
-    assert_eq!(rt; counter.draw(&mut second), Some(1));
-    assert_eq!(rt; counter.draw(&mut second), Some(2));
-    assert_eq!(rt; counter.draw(&mut second), None);
+    let rest = [
+        counter.draw(&mut first),
+        counter.draw(&mut second),
+        counter.draw(&mut second),
+        counter.draw(&mut second),
+    ];
     let pass = counter.join(first, second);
-    assert_eq!(rt; Counter::left(&pass), 0);
-    assert_eq!(rt; counter.close(pass), 3);
+    let behind = Counter::left(&pass);
+    let drawn = counter.close(pass);
+    assert!(rt; one == Some(0) && rest == [None, Some(1), Some(2), None]);
+    assert!(rt; [left, behind, drawn] == [2, 0, 3]);
     Ok(())
 }
 
@@ -85,7 +89,7 @@ fn two_threads(rt: HostRuntime) -> Result<(), AllocError> {
     assert!(rt; counter.close(pass) == 1000);
     let numbers = one?;
     let others = other?;
-    assert_eq!(rt; (numbers.len(), others.len()), (500, 500));
+    assert!(rt; numbers.len() == 500 && others.len() == 500);
     let times = times_drawn(&rt, alloc, &numbers, &others)?;
     assert!(rt; times.iter().all(|&count| count == 1));
     Ok(())

@@ -108,7 +108,7 @@ const WORKED: [(Given, Node, Node, Answer); 14] = [
 
 #[test]
 fn worked_facts(rt: HostRuntime) -> Result<(), AllocError> {
-    for (given, x, y, want) in WORKED {
+    for &(given, x, y, want) in WORKED.iter() {
         let got = answer_of(rt.alloc(), given, x, y)?;
         assert!(rt; got == want, "from {x:?} to {y:?}: {got:?}");
     }
@@ -140,7 +140,7 @@ const STEPS: [(Node, Node, bool); 6] = [
 
 #[test]
 fn some_steps_need_no_fact(rt: HostRuntime) {
-    for (a, b, plain) in STEPS {
+    for &(a, b, plain) in STEPS.iter() {
         assert!(rt; is_plain_step(a, b) == plain, "from {a:?} to {b:?}");
     }
 }

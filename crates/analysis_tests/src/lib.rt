@@ -18,3 +18,5 @@ mod pairs;
 mod paths;
 #[cfg(test)]
 mod repairs;
+#[cfg(test)]
+mod told;

@@ -5,6 +5,9 @@ ghost use Rattle.std.specs.Prelude.{IfOk};
 ghost use Rattle.prog_text.specs.Answer.{Accepts};
 ghost use Rattle.prog_tree.specs.Tree.{draft_tree};
 
+mod asked_again;
+
+pub use asked_again::{checked_when_asked_again, parsed_when_asked_again};
 use prog_check::{ProgramSet, check};
 use prog_text::parse;
 use std::alloc::Global;

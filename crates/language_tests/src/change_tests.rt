@@ -1,7 +1,9 @@
 //! Cells, rows and changes, as a reader works them out.
 
+use crate::told::is_told;
 use prog_tree::{Cell, Changes, Region, Rows, Sequence};
-use std::alloc::AllocError;
+use std::alloc::{AllocError, Global};
+use std::process::Abort;
 
 fn cell(table: usize, first: i64, second: i64) -> Cell {
     Cell {
@@ -29,58 +31,60 @@ fn a_region_holds_its_ends(rt: HostRuntime) {
         (0, 7, 2, false),
     ] {
         let cell = cell(table, first, second);
-        assert_eq!(rt; region.contains(&cell), within, "{cell:?}");
+        assert!(rt;
+            region.contains(&cell) == within,
+            "{table} {first} {second}"
+        );
     }
 }
 
 /// Gives `e[7, 3]`, `t[-5]` and `e[7, 1]` rows in this order, and the first another; `e` is table 0
-/// and `t` table 1.
-fn insert_rows(rows: &mut Rows, text: &mut String) -> Result<(), AllocError> {
-    for (cell, value) in [
-        (cell(0, 7, 3), 4),
-        (cell(1, -5, 0), 8),
-        (cell(0, 7, 1), 9),
-        (cell(0, 7, 3), 5),
+/// and `t` table 1. Each answers the row that was there.
+fn insert_rows(rt: &impl Abort, rows: &mut Rows) -> Result<(), AllocError> {
+    for (cell, value, before) in [
+        (cell(0, 7, 3), 4, None),
+        (cell(1, -5, 0), 8, None),
+        (cell(0, 7, 1), 9, None),
+        (cell(0, 7, 3), 5, Some(4)),
     ] {
-        let before = rows.insert(cell, value)?;
-        write!(text, "{before:?}; ")?;
+        assert!(rt; rows.insert(cell, value)? == before);
     }
     Ok(())
 }
 
 /// Takes out a row, and asks for it again.
-fn remove_row(rows: &mut Rows, text: &mut String) -> Result<(), AllocError> {
+fn remove_row(rt: &impl Abort, rows: &mut Rows) {
     let cell = cell(0, 7, 1);
-    let before = rows.remove(&cell);
-    let after = rows.get(&cell);
-    let len = rows.len();
-    write!(text, "{before:?}, {after:?}, {len}; ")
+    let removed = rows.remove(&cell);
+    assert!(rt; removed == Some(9) && rows.get(&cell) == None && rows.len() == 2);
 }
 
-fn push_rows(rows: &Rows, text: &mut String) -> Result<(), AllocError> {
+fn shown_rows(alloc: Global, rows: &Rows) -> Result<String, AllocError> {
+    let mut text = String::new(alloc);
     for (cell, value) in rows.iter() {
         write!(text, "{cell:?} {value}; ")?;
     }
-    Ok(())
+    Ok(text)
 }
 
 /// A row is taken out behind a copy, which is shown.
-fn change_rows(rows: &mut Rows, text: &mut String) -> Result<(), AllocError> {
-    insert_rows(rows, text)?;
+fn shown_copy(rt: &impl Abort, alloc: Global, rows: &mut Rows) -> Result<String, AllocError> {
+    insert_rows(rt, rows)?;
     let copy = rows.copy()?;
-    remove_row(rows, text)?;
-    push_rows(&copy, text)
+    remove_row(rt, rows);
+    let shown = shown_rows(alloc, &copy);
+    drop(copy);
+    shown
 }
 
 #[test]
 fn rows_are_a_map_in_cell_order(rt: HostRuntime) -> Result<(), AllocError> {
     let mut rows = Rows::new(rt.alloc());
-    let mut text = String::new(rt.alloc());
-    change_rows(&mut rows, &mut text)?;
-    let wanted = "None; None; None; Some(4); Some(9), None, 2; \
-Cell { table: 0, first: 7, second: 1 } 9; Cell { table: 0, first: 7, second: 3 } 5; \
-Cell { table: 1, first: -5, second: 0 } 8; ";
-    assert_eq!(rt; text.as_str(), wanted);
+    let shown = shown_copy(&rt, rt.alloc(), &mut rows);
+    drop(rows);
+    let wanted = "Cell { table: 0, first: 7, second: 1 } 9; \
+Cell { table: 0, first: 7, second: 3 } 5; Cell { table: 1, first: -5, second: 0 } 8; ";
+    is_told(&rt, "rows", shown?.as_str(), wanted);
     Ok(())
 }
 
@@ -92,15 +96,19 @@ fn change(changes: &mut Changes) -> Result<(), AllocError> {
     changes.keep(cell(0, 2, 0))
 }
 
-/// What cells are changed to, and whether they are touched.
-fn push_changes_of_cells(changes: &Changes, text: &mut String) -> Result<(), AllocError> {
-    for first in 1..5 {
+/// First columns of cells, what these are changed to, and whether they are touched.
+const CHANGED: [(i64, Option<Option<i64>>, bool); 4] = [
+    (1, Some(None), true),
+    (2, Some(Some(5)), true),
+    (3, None, true),
+    (4, None, false),
+];
+
+fn compare_changes(rt: &impl Abort, changes: &Changes) {
+    for (first, change, is_touched) in CHANGED {
         let cell = cell(0, first, 0);
-        let change = changes.get(&cell);
-        let touched = changes.touches(&cell);
-        write!(text, "{change:?} {touched}; ")?;
+        assert!(rt; changes.get(&cell) == change && changes.touches(&cell) == is_touched);
     }
-    Ok(())
 }
 
 fn push_changes(changes: &Changes, text: &mut String) -> Result<(), AllocError> {
@@ -117,21 +125,26 @@ fn push_kept(changes: &Changes, text: &mut String) -> Result<(), AllocError> {
     Ok(())
 }
 
-fn push_all(changes: &Changes, text: &mut String) -> Result<(), AllocError> {
-    push_changes_of_cells(changes, text)?;
-    push_changes(changes, text)?;
-    push_kept(changes, text)
+fn shown_changes(
+    rt: &impl Abort,
+    alloc: Global,
+    changes: &mut Changes,
+) -> Result<String, AllocError> {
+    change(changes)?;
+    compare_changes(rt, changes);
+    let mut text = String::new(alloc);
+    push_changes(changes, &mut text)?;
+    push_kept(changes, &mut text)?;
+    Ok(text)
 }
 
 #[test]
 fn changes_are_values_removals_and_marks(rt: HostRuntime) -> Result<(), AllocError> {
     let mut changes = Changes::new(rt.alloc());
-    change(&mut changes)?;
-    let mut text = String::new(rt.alloc());
-    push_all(&changes, &mut text)?;
-    let wanted = "Some(None) true; Some(Some(5)) true; None true; None false; \
-1 None; 2 Some(5); kept 2; kept 3; ";
-    assert_eq!(rt; text.as_str(), wanted);
+    let shown = shown_changes(&rt, rt.alloc(), &mut changes);
+    drop(changes);
+    let wanted = "1 None; 2 Some(5); kept 2; kept 3; ";
+    is_told(&rt, "changes", shown?.as_str(), wanted);
     Ok(())
 }
 

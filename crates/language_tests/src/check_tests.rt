@@ -55,9 +55,9 @@ const NUMBERS: [(&str, Option<usize>, Option<usize>); 5] = [
 ];
 
 fn compare(rt: &impl Abort, set: &ProgramSet) {
-    for (name, table, program) in NUMBERS {
-        assert!(rt; set.table_number(name) == table, "{name}");
-        assert!(rt; set.program_number(name) == program, "{name}");
+    for &(name, table, program) in NUMBERS.iter() {
+        let numbers = (set.table_number(name), set.program_number(name));
+        assert!(rt; numbers == (table, program), "{name}");
     }
     assert!(rt; set.draft().programs.len() == 3);
 }

@@ -4,6 +4,7 @@ use example_sets::{SMALL_BANK, set_of};
 use prog_text::parse;
 use prog_tree::{Block, Draft, Expr, Key, Stmt, Test};
 use std::alloc::{AllocError, Global};
+use std::fmt::Debug;
 use std::test::Fail;
 
 fn is_copied(draft: &Draft) -> Result<bool, AllocError> {
@@ -48,81 +49,65 @@ fn a_copy_is_the_same(rt: HostRuntime) -> Result<(), Fail> {
     Ok(())
 }
 
-fn shown_branch(alloc: Global, test: &Test, then: &Block) -> Result<String, AllocError> {
-    format!(in alloc; "{test:?} {then:?}")
+/// Whether a copy is shown as the first one is.
+fn is_shown_alike<T: Debug>(alloc: Global, copy: &T, first: &T) -> Result<bool, AllocError> {
+    let copy = format!(in alloc; "{copy:?}")?;
+    let first = format!(in alloc; "{first:?}")?;
+    Ok(copy.as_str() == first.as_str())
 }
 
-fn shown_put(alloc: Global, key: &Key, value: &Expr) -> Result<String, AllocError> {
-    format!(in alloc; "{key:?} {value:?}")
-}
-
-fn shown_stmt(alloc: Global, stmt: &Stmt) -> Result<String, AllocError> {
-    format!(in alloc; "{stmt:?}")
-}
-
-fn copied_then(alloc: Global, test: &Test, then: &Block) -> Result<String, AllocError> {
-    let then = then.copy()?;
-    let shown = shown_branch(alloc, test, &then);
-    drop(then);
-    shown
-}
-
-fn copied_branch(alloc: Global, test: &Test, then: &Block) -> Result<String, AllocError> {
-    let test = test.copy()?;
-    let shown = copied_then(alloc, &test, then);
-    drop(test);
-    shown
-}
-
-fn copied_value(alloc: Global, key: &Key, value: &Expr) -> Result<String, AllocError> {
-    let value = value.copy(alloc)?;
-    let shown = shown_put(alloc, key, &value);
-    drop(value);
-    shown
-}
-
-fn copied_put(alloc: Global, key: &Key, value: &Expr) -> Result<String, AllocError> {
-    let key = key.copy(alloc)?;
-    let shown = copied_value(alloc, &key, value);
-    drop(key);
-    shown
-}
-
-fn copied_stmt(alloc: Global, stmt: &Stmt) -> Result<String, AllocError> {
-    let copy = stmt.copy(alloc)?;
-    let shown = shown_stmt(alloc, &copy);
+fn is_test_copied(alloc: Global, test: &Test) -> Result<bool, AllocError> {
+    let copy = test.copy()?;
+    let is_alike = is_shown_alike(alloc, &copy, test);
     drop(copy);
-    shown
+    is_alike
 }
 
-/// Copies of a branch's test and block, of a change's key and value, or of another statement.
-fn shown_copy(alloc: Global, stmt: &Stmt) -> Result<String, AllocError> {
+fn is_block_copied(alloc: Global, block: &Block) -> Result<bool, AllocError> {
+    let copy = block.copy()?;
+    let is_alike = is_shown_alike(alloc, &copy, block);
+    drop(copy);
+    is_alike
+}
+
+fn is_key_copied(alloc: Global, key: &Key) -> Result<bool, AllocError> {
+    let copy = key.copy(alloc)?;
+    let is_alike = is_shown_alike(alloc, &copy, key);
+    drop(copy);
+    is_alike
+}
+
+fn is_value_copied(alloc: Global, value: &Expr) -> Result<bool, AllocError> {
+    let copy = value.copy(alloc)?;
+    let is_alike = is_shown_alike(alloc, &copy, value);
+    drop(copy);
+    is_alike
+}
+
+fn is_whole_copied(alloc: Global, stmt: &Stmt) -> Result<bool, AllocError> {
+    let copy = stmt.copy(alloc)?;
+    let is_alike = is_shown_alike(alloc, &copy, stmt);
+    drop(copy);
+    is_alike
+}
+
+/// Whether a branch's test and block, a change's key and value, or another statement are copied.
+fn is_stmt_copied(alloc: Global, stmt: &Stmt) -> Result<bool, AllocError> {
     match stmt {
-        Stmt::Branch { test, then, .. } => copied_branch(alloc, test, then),
-        Stmt::Put { key, value, .. } => copied_put(alloc, key, value),
-        _ => copied_stmt(alloc, stmt),
+        Stmt::Branch { test, then, .. } => {
+            Ok(is_test_copied(alloc, test)? && is_block_copied(alloc, then)?)
+        }
+        Stmt::Put { key, value, .. } => {
+            Ok(is_key_copied(alloc, key)? && is_value_copied(alloc, value)?)
+        }
+        _ => is_whole_copied(alloc, stmt),
     }
-}
-
-/// What is copied there, as it stands.
-fn shown(alloc: Global, stmt: &Stmt) -> Result<String, AllocError> {
-    match stmt {
-        Stmt::Branch { test, then, .. } => shown_branch(alloc, test, then),
-        Stmt::Put { key, value, .. } => shown_put(alloc, key, value),
-        _ => shown_stmt(alloc, stmt),
-    }
-}
-
-fn is_shown_alike(alloc: Global, stmt: &Stmt) -> Result<bool, AllocError> {
-    let copy = shown_copy(alloc, stmt)?;
-    let wanted = shown(alloc, stmt)?;
-    Ok(copy.as_str() == wanted.as_str())
 }
 
 /// The number of the first statement whose copy is another, or else how many there are.
 fn alike(alloc: Global, stmts: &[Stmt]) -> Result<usize, AllocError> {
     for (number, stmt) in stmts.iter().enumerate() {
-        if !is_shown_alike(alloc, stmt)? {
+        if !is_stmt_copied(alloc, stmt)? {
             return Ok(number);
         }
     }

@@ -17,4 +17,6 @@ mod run_tests;
 #[cfg(test)]
 mod text_tests;
 #[cfg(test)]
+mod told;
+#[cfg(test)]
 mod value_tests;

@@ -1,5 +1,6 @@
 //! Runs step by step: the questions that they ask, and what their readers say.
 
+use crate::told::is_told;
 use example_sets::{SMALL_BANK, set_of};
 use prog_check::ProgramSet;
 use prog_run::{AnswerFault, Look, Next, Run};
@@ -8,17 +9,46 @@ use std::alloc::{AllocError, Global};
 use std::process::Abort;
 use std::test::Fail;
 
-/// A run of a set's program, with the rows of the first table that it is answered (both columns and
-/// the value), and its
-/// calls: each line a call and what it gives.
-#[derive(Clone, Copy)]
+/// A run of a set's program, with the rows that it is answered, and its calls: each line a call and
+/// what it gives.
 struct Example {
     text: &'static str,
     program: usize,
     args: &'static [i64],
-    rows: &'static [(i64, i64, i64)],
+    rows: &'static [(Cell, i64)],
     calls: &'static str,
 }
+
+/// Cells of the first table, each named by both of its columns.
+const CELL_1_0: Cell = Cell {
+    table: 0,
+    first: 1,
+    second: 0,
+};
+
+const CELL_2_0: Cell = Cell {
+    table: 0,
+    first: 2,
+    second: 0,
+};
+
+const CELL_7_1: Cell = Cell {
+    table: 0,
+    first: 7,
+    second: 1,
+};
+
+const CELL_7_3: Cell = Cell {
+    table: 0,
+    first: 7,
+    second: 3,
+};
+
+const CELL_7_4: Cell = Cell {
+    table: 0,
+    first: 7,
+    second: 4,
+};
 
 /// The cell that a look found, or the run's own cells that it left out and how many rows it found
 /// in others.
@@ -113,44 +143,19 @@ fn call(
     }
 }
 
-fn rows_of(alloc: Global, example: &Example) -> Result<Vec<(Cell, i64)>, AllocError> {
-    let table = 0;
-    let mut rows = Vec::new(alloc);
-    for &(first, second, value) in example.rows {
-        let cell = Cell {
-            table,
-            first,
-            second,
-        };
-        rows.push((cell, value))?;
-    }
-    Ok(rows)
-}
-
 /// Makes the calls of an example.
 fn play_calls(
     rt: &impl Abort,
     alloc: Global,
     run: &mut Run<'_>,
-    rows: &[(Cell, i64)],
-    calls: &str,
-) -> Result<(), AllocError> {
-    for line in calls.lines() {
-        let (word, want) = line.split_once(": ").expect(rt, "a call and its answer");
-        let answer = call(alloc, run, rows, word)?;
-        assert!(rt; answer.as_str() == want, "{word}: {answer}");
-    }
-    Ok(())
-}
-
-fn play_run(
-    rt: &impl Abort,
-    alloc: Global,
-    run: &mut Run<'_>,
     example: &Example,
 ) -> Result<(), AllocError> {
-    let rows = rows_of(alloc, example)?;
-    play_calls(rt, alloc, run, &rows, example.calls)
+    for line in example.calls.lines() {
+        let (word, want) = line.split_once(": ").expect(rt, "a call and its answer");
+        let answer = call(alloc, run, example.rows, word)?;
+        is_told(rt, word, answer.as_str(), want);
+    }
+    Ok(())
 }
 
 fn play_in(
@@ -160,7 +165,7 @@ fn play_in(
     example: &Example,
 ) -> Result<(), Fail> {
     let mut run = Run::new(alloc, set, example.program, example.args)?;
-    let played = play_run(rt, alloc, &mut run, example);
+    let played = play_calls(rt, alloc, &mut run, example);
     drop(run);
     Ok(played?)
 }
@@ -218,7 +223,7 @@ const OWN_CHANGES: Example = Example {
     text: OWN,
     program: 0,
     args: &[7],
-    rows: &[(7, 1, 9), (7, 3, 4)],
+    rows: &[(CELL_7_1, 9), (CELL_7_3, 4)],
     calls: "\
 advance: Did(Put(Cell { table: 0, first: 7, second: 2 }, 5))
 advance: Did(Removed(Cell { table: 0, first: 7, second: 1 }))
@@ -243,7 +248,7 @@ const ROWS_FROM_ELSEWHERE: Example = Example {
     text: OWN,
     program: 0,
     args: &[7],
-    rows: &[(7, 1, 9), (7, 4, 1)],
+    rows: &[(CELL_7_1, 9), (CELL_7_4, 1)],
     calls: "\
 advance: Did(Put(Cell { table: 0, first: 7, second: 2 }, 5))
 advance: Did(Removed(Cell { table: 0, first: 7, second: 1 }))
@@ -284,9 +289,9 @@ const BEGINS: [(usize, &[i64], &str); 4] = [
 ];
 
 fn begin_all(rt: &impl Abort, alloc: Global, set: &ProgramSet) -> Result<(), AllocError> {
-    for (program, args, want) in BEGINS {
+    for &(program, args, want) in BEGINS.iter() {
         let begun = begun(alloc, set, program, args)?;
-        assert!(rt; begun.as_str() == want, "{begun}");
+        is_told(rt, "begin", begun.as_str(), want);
     }
     Ok(())
 }
@@ -313,12 +318,12 @@ program Again(k) { lacks t[k]; keep t[k]; let x = need t[k]; reply x; }
 program Large(k) { let x = get t[k] else greatest + 1; insert t[k] = greatest + 1; }
 ";
 
-const ENDS: [Example; 6] = [
+const ENDS: &[Example] = &[
     Example {
         text: TOTALS,
         program: 0,
         args: &[],
-        rows: &[(1, 0, i64::MAX), (2, 0, 1)],
+        rows: &[(CELL_1_0, i64::MAX), (CELL_2_0, 1)],
         calls: "\
 advance: Scan(Region { table: 0, first_low: 1, first_high: 2, second_low: 0, second_high: 0 })
 rows: Done(Aborted(Overflow))
@@ -379,7 +384,7 @@ advance: Done(Aborted(Overflow))",
 
 #[test]
 fn runs_end_so(rt: HostRuntime) -> Result<(), Fail> {
-    for example in &ENDS {
+    for example in ENDS {
         play(&rt, rt.alloc(), example)?;
     }
     Ok(())

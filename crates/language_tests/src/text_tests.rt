@@ -2,7 +2,8 @@
 
 use example_sets::SMALL_BANK;
 use prog_text::{TextFault, parse, print};
-use std::alloc::Global;
+use prog_tree::Draft;
+use std::alloc::{AllocError, Global};
 use std::test::Fail;
 
 /// Each kind of statement, key and range. The canonical text.
@@ -80,16 +81,24 @@ fn each_cut_is_read_or_stops_at_its_end(rt: HostRuntime) {
     }
 }
 
-// What is printed of a copy of a text that is read.
-fn printed_copy(alloc: Global, text: &str) -> Result<Vec<u8>, Fail> {
-    let draft = parse(alloc, text.as_bytes())?;
+fn printed_copy(alloc: Global, draft: &Draft) -> Result<Vec<u8>, AllocError> {
     let copy = draft.copy()?;
-    Ok(print(alloc, &copy)?)
+    let text = print(alloc, &copy);
+    drop(copy);
+    text
+}
+
+// What is printed of a copy of a text that is read.
+fn copied(alloc: Global, text: &str) -> Result<Vec<u8>, Fail> {
+    let draft = parse(alloc, text.as_bytes())?;
+    let text = printed_copy(alloc, &draft);
+    drop(draft);
+    Ok(text?)
 }
 
 #[test]
 fn a_draft_is_copied_whole(rt: HostRuntime) -> Result<(), Fail> {
-    let text = printed_copy(rt.alloc(), EVERY_STATEMENT)?;
+    let text = copied(rt.alloc(), EVERY_STATEMENT)?;
     assert!(rt; text.as_slice() == EVERY_STATEMENT.as_bytes());
     Ok(())
 }

@@ -1,42 +1,49 @@
 //! What expressions, tests, keys and ranges come to, as a reader works it out from the rules of the
 //! language.
 
+use crate::told::is_told;
 use prog_text::parse;
 use prog_tree::{Draft, Env, Name, Stmt};
 use std::alloc::{AllocError, Global};
 use std::process::Abort;
 use std::test::Fail;
 
-// Statements, and what each comes to where `x` is 7: its value, whether its test holds, its cell or
-// its region.
+// Programs of one statement, and what it comes to where `x` is 7: its value, whether its test
+// holds, its cell or its region.
 const LINES: [(&str, &str); 14] = [
-    ("reply 2 * -3 + x;", "Some(1)"),
-    ("reply x - 2 - 3;", "Some(2)"),
-    ("reply least - 1;", "None"),
-    ("reply least - 1 + 1;", "None"),
-    ("reply least * -1;", "None"),
-    ("if not 1 < 0 and 2 == 2 or 3 > 4 { }", "Some(true)"),
+    ("program P(x) { reply 2 * -3 + x; }", "Some(1)"),
+    ("program P(x) { reply x - 2 - 3; }", "Some(2)"),
+    ("program P(x) { reply least - 1; }", "None"),
+    ("program P(x) { reply least - 1 + 1; }", "None"),
+    ("program P(x) { reply least * -1; }", "None"),
     (
-        "if 0 <= 0 and 0 >= 0 and 0 != 1 and -1 < 0 and 0 > -1 { }",
+        "program P(x) { if not 1 < 0 and 2 == 2 or 3 > 4 { } }",
         "Some(true)",
     ),
     (
-        "if 0 < 0 or 0 > 0 or 0 != 0 or 1 <= 0 or -1 >= 0 or 0 == 1 { }",
+        "program P(x) { if 0 <= 0 and 0 >= 0 and 0 != 1 and -1 < 0 and 0 > -1 { } }",
+        "Some(true)",
+    ),
+    (
+        "program P(x) { if 0 < 0 or 0 > 0 or 0 != 0 or 1 <= 0 or -1 >= 0 or 0 == 1 { } }",
         "Some(false)",
     ),
-    ("if 1 < 2 or greatest + 1 >= 0 { }", "None"),
-    ("keep t[x];", "Some(Cell { table: 3, first: 7, second: 0 })"),
+    ("program P(x) { if 1 < 2 or greatest + 1 >= 0 { } }", "None"),
     (
-        "keep t[x, 2];",
+        "program P(x) { keep t[x]; }",
+        "Some(Cell { table: 3, first: 7, second: 0 })",
+    ),
+    (
+        "program P(x) { keep t[x, 2]; }",
         "Some(Cell { table: 3, first: 7, second: 2 })",
     ),
-    ("keep t[greatest + 1];", "None"),
+    ("program P(x) { keep t[greatest + 1]; }", "None"),
     (
-        "let n = count t[1..x];",
+        "program P(x) { let n = count t[1..x]; }",
         "Some(Region { table: 3, first_low: 1, first_high: 7, second_low: 0, second_high: 0 })",
     ),
     (
-        "let n = count t[x, 1..3];",
+        "program P(x) { let n = count t[x, 1..3]; }",
         "Some(Region { table: 3, first_low: 7, first_high: 7, second_low: 1, second_high: 3 })",
     ),
 ];
@@ -52,65 +59,76 @@ fn shown(alloc: Global, stmt: &Stmt, env: &Env<'_>) -> Result<String, AllocError
     }
 }
 
-/// The draft of a program of one statement.
-fn draft_of(alloc: Global, line: &str) -> Result<Draft, Fail> {
-    let text = format!(in alloc; "program P(x) {{ {line} }}")?;
-    Ok(parse(alloc, text.as_bytes())?)
-}
-
 fn first_statement(draft: &Draft) -> Option<&Stmt> {
     draft.programs.first()?.body.stmts.first()
 }
 
-/// What the statement of a line comes to.
-fn evaluated(rt: &impl Abort, alloc: Global, line: &str, env: &Env<'_>) -> Result<String, Fail> {
-    let draft = draft_of(alloc, line)?;
-    let stmt = first_statement(&draft).expect(rt, "a statement");
-    Ok(shown(alloc, stmt, env)?)
+fn shown_first(alloc: Global, draft: &Draft, env: &Env<'_>) -> Result<String, AllocError> {
+    match first_statement(draft) {
+        Some(stmt) => shown(alloc, stmt, env),
+        None => Ok(String::new(alloc)),
+    }
 }
 
-/// Asserts what lines come to.
+/// What the statement of a text comes to.
+fn evaluated(alloc: Global, text: &str, env: &Env<'_>) -> Result<String, Fail> {
+    let draft = parse(alloc, text.as_bytes())?;
+    let shown = shown_first(alloc, &draft, env);
+    drop(draft);
+    Ok(shown?)
+}
+
+/// Asserts what texts come to.
 fn check_lines(rt: &impl Abort, alloc: Global, env: &Env<'_>) -> Result<(), Fail> {
-    for (line, want) in LINES {
-        let found = evaluated(rt, alloc, line, env)?;
-        assert!(rt; found.as_str() == want, "{line}: {found}");
+    for &(text, want) in LINES.iter() {
+        let found = evaluated(alloc, text, env)?;
+        is_told(rt, text, found.as_str(), want);
     }
     Ok(())
+}
+
+/// The same where a name is bound to 7.
+fn check_bound(rt: &impl Abort, alloc: Global, name: &Name) -> Result<(), Fail> {
+    let mut env = Env::new(alloc);
+    env.bind(name, 7)?;
+    check_lines(rt, alloc, &env)
 }
 
 #[test]
 fn lines_come_to_their_values(rt: HostRuntime) -> Result<(), Fail> {
     let x = Name::new(rt.alloc(), "x")?;
-    let mut env = Env::new(rt.alloc());
-    env.bind(&x, 7)?;
-    check_lines(&rt, rt.alloc(), &env)
+    let checked = check_bound(&rt, rt.alloc(), &x);
+    drop(x);
+    checked
 }
 
-/// What a name has where it is bound to 1, then to 3, and behind the cut of the second.
-fn bound_twice(alloc: Global, name: &Name, same: &Name) -> Result<[Option<i64>; 2], AllocError> {
+/// What a name has where it is bound to 1, then to 3, and behind the cut of the second, and how
+/// many bindings are left there.
+type Bound = (Option<i64>, Option<i64>, usize);
+
+fn bound_twice(alloc: Global, name: &Name, same: &Name) -> Result<Bound, AllocError> {
     let mut env = Env::new(alloc);
     env.bind(name, 1)?;
     env.bind(name, 3)?;
     let last = env.get(same);
     env.cut(1);
-    Ok([last, env.get(same)])
+    Ok((last, env.get(same), env.len()))
 }
 
-/// How many bindings are left behind such a cut.
-fn bound_and_cut(alloc: Global, name: &Name) -> Result<usize, AllocError> {
-    let mut env = Env::new(alloc);
-    env.bind(name, 1)?;
-    env.bind(name, 3)?;
-    env.cut(1);
-    Ok(env.len())
+/// The same of a name and of its copy, and whether the copy is `x` too.
+fn bound_and_copied(alloc: Global, name: &Name) -> Result<(Bound, bool), AllocError> {
+    let same = name.copy()?;
+    let is_copied = same.as_str() == "x";
+    let bound = bound_twice(alloc, name, &same);
+    drop(same);
+    Ok((bound?, is_copied))
 }
 
 #[test]
 fn the_last_binding_of_a_name_counts(rt: HostRuntime) -> Result<(), AllocError> {
     let x = Name::new(rt.alloc(), "x")?;
-    let same = x.copy()?;
-    assert!(rt; bound_twice(rt.alloc(), &x, &same)? == [Some(3), Some(1)]);
-    assert!(rt; bound_and_cut(rt.alloc(), &x)? == 1);
-    assert!(rt; same.as_str() == "x");
+    let bound = bound_and_copied(rt.alloc(), &x);
+    drop(x);
+    assert!(rt; bound? == ((Some(3), Some(1), 1), true));
     Ok(())
 }

@@ -57,12 +57,9 @@ pub const TRANSFERS: Certified = Certified {
 
 fn verified(alloc: Global, text: &str, certificate: &Certificate) -> Result<RobustSet, Fail> {
     let set = set_of(alloc, text)?;
-    match verify(alloc, set, certificate) {
-        Ok(robust) => Ok(robust),
-        Err((set, _fault)) => {
-            drop(set);
-            Err(Fail::new("the certificate is not accepted"))
-        }
+    match verify(alloc, set, certificate).ok() {
+        Some(robust) => Ok(robust),
+        None => Err(Fail::new("the certificate is not accepted")),
     }
 }
 

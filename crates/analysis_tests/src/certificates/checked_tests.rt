@@ -3,8 +3,9 @@
 
 use example_sets::set_of;
 use prog_check::ProgramSet;
-use robust_cert::{CertFault, Certificate, from_json, verify};
+use robust_cert::{CertFault, Certificate, RobustSet, from_json, verify};
 use std::alloc::Global;
+use std::process::Abort;
 use std::test::Fail;
 
 const LOOK_AND_PUT: &str = "\
@@ -14,8 +15,8 @@ program Put() { put t[2] = 5; }
 ";
 
 /// How many programs the robust set has, or the fault of a certificate.
-fn checked(alloc: Global, set: ProgramSet, certificate: &Certificate) -> Result<usize, CertFault> {
-    match verify(alloc, set, certificate) {
+pub fn told(checked: Result<RobustSet, (ProgramSet, CertFault)>) -> Result<usize, CertFault> {
+    match checked {
         Ok(robust) => {
             let programs = robust.set().draft().programs.len();
             drop(robust);
@@ -30,7 +31,7 @@ fn checked(alloc: Global, set: ProgramSet, certificate: &Certificate) -> Result<
 
 fn said(alloc: Global, certificate: &Certificate) -> Result<Result<usize, CertFault>, Fail> {
     let set = set_of(alloc, LOOK_AND_PUT)?;
-    Ok(checked(alloc, set, certificate))
+    Ok(told(verify(alloc, set, certificate)))
 }
 
 /// What the checker says of the text of a certificate.
@@ -42,8 +43,7 @@ fn said_of(alloc: Global, text: &str) -> Result<Result<usize, CertFault>, Fail> 
 }
 
 /// That the look and the put never meet, by chains that fall, that rise, and that go by more than
-/// facts; and that the
-/// look never meets itself.
+/// facts; and that the look never meets itself.
 const APART: [(&str, Result<usize, CertFault>); 4] = [
     (
         "{\"entries\":[[\"apart\",0,0,1,0,[[\"n\",2],[\"n\",1]]]],\"levels\":[1,1],\"version\":1}",
@@ -67,17 +67,27 @@ const APART: [(&str, Result<usize, CertFault>); 4] = [
 /// That the look covers the put.
 const COVER: &str = "{\"entries\":[[\"cover\",0,0,1,0,0,0,[]]],\"levels\":[1,1],\"version\":1}";
 
+/// Asserts what the checker says of the text of a certificate.
+fn check(
+    rt: &impl Abort,
+    alloc: Global,
+    text: &str,
+    want: Result<usize, CertFault>,
+) -> Result<(), Fail> {
+    let said = said_of(alloc, text)?;
+    assert!(rt; said == want, "{text}");
+    Ok(())
+}
+
 #[test]
 fn apart_needs_a_chain_that_falls(rt: HostRuntime) -> Result<(), Fail> {
-    for (text, want) in APART {
-        assert_eq!(rt; said_of(rt.alloc(), text)?, want, "{text}");
+    for &(text, want) in APART.iter() {
+        check(&rt, rt.alloc(), text, want)?;
     }
     Ok(())
 }
 
 #[test]
 fn a_look_covers_nothing(rt: HostRuntime) -> Result<(), Fail> {
-    let said = said_of(rt.alloc(), COVER)?;
-    assert_eq!(rt; said, Err(CertFault::BadCover(0)));
-    Ok(())
+    check(&rt, rt.alloc(), COVER, Err(CertFault::BadCover(0)))
 }

@@ -19,7 +19,7 @@ const REPORT: &str =
     \"levels\":[3,3,3],\"version\":1}";
 
 /// The transfer set.
-const TRANSFERS: &str =
+pub const TRANSFERS: &str =
     "{\"entries\":[[\"cover\",0,0,0,1,1,1,[[[\"m\",0],[\"t\",0]],[[\"t\",0],[\"m\",0]]]],\
     [\"cover\",0,0,0,3,1,3,[[[\"m\",0],[\"t\",1]],[[\"t\",1],[\"m\",0]]]],\
     [\"cover\",0,2,0,1,3,1,[[[\"m\",1],[\"t\",0]],[[\"t\",0],[\"m\",1]]]],\
@@ -193,7 +193,7 @@ fn is_written_as(alloc: Global, text: &str, written: &str) -> bool {
 
 #[test]
 fn certificates_are_written_as_they_were_read(rt: HostRuntime) {
-    for (text, written) in WRITTEN {
+    for &(text, written) in WRITTEN.iter() {
         assert!(rt; is_written_as(rt.alloc(), text, written), "{text}");
     }
 }
@@ -229,10 +229,14 @@ fn report_entry(alloc: Global) -> Result<Entry, Fail> {
     })
 }
 
+fn report_entries(alloc: Global) -> Result<Sequence<Entry>, Fail> {
+    let entry = report_entry(alloc)?;
+    Ok(Sequence::from_vec(Vec::from_array(alloc, [entry])?))
+}
+
 fn report(alloc: Global) -> Result<Certificate, Fail> {
     let levels = Sequence::from_vec(Vec::from_array(alloc, [3, 3, 3])?);
-    let entry = report_entry(alloc)?;
-    let entries = Sequence::from_vec(Vec::from_array(alloc, [entry])?);
+    let entries = report_entries(alloc)?;
     Ok(Certificate { entries, levels })
 }
 
@@ -258,7 +262,7 @@ fn a_chain_holds_numbers_that_a_text_can_say(rt: HostRuntime) -> Result<(), Fail
     let nodes = [Node::TheirsUnknown(4294967295), Node::Number(i64::MIN)];
     let greatest = chain(rt.alloc(), nodes)?;
     assert!(rt; greatest.as_slice() == &nodes[..]);
-    for node in PAST {
+    for &node in PAST.iter() {
         let past = Vec::from_array(rt.alloc(), [Node::Mine(0), node])?;
         assert!(rt; Chain::from_vec(past).is_none(), "{node:?}");
     }

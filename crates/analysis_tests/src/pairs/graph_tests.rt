@@ -3,6 +3,7 @@
 use crate::dangers::shown;
 use crate::examples::{SKEW, paths_of};
 use crate::pairs::sets::table_of;
+use crate::told::is_told;
 use conflict_pairs::PairTable;
 use dep_graph::Graph;
 use example_sets::{LEDGER, REPORT, SMALL_BANK, TRANSFER};
@@ -47,8 +48,7 @@ fn check(rt: &impl Abort, alloc: Global, text: &str, wanted: &str) -> Result<(),
     let table = table_of_text(rt, alloc, text)?;
     let told = told_of_table(alloc, &table);
     drop(table);
-    let told = told?;
-    assert!(rt; told.as_str() == wanted, "{told}");
+    is_told(rt, told?.as_str(), wanted);
     Ok(())
 }
 

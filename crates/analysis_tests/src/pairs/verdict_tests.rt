@@ -3,6 +3,7 @@
 use crate::dangers::{push_question, push_sample};
 use crate::examples::{paths_of, wide_paths};
 use crate::pairs::sets::{NUMBERS, table_of, table_of_threads};
+use crate::told::is_told;
 use conflict_pairs::{
     Chain, PairFault, PairTable, Verdict, changes_single_cells, is_question, verdict,
 };
@@ -93,7 +94,7 @@ fn check_paths(
 ) -> Result<(), AllocError> {
     for (mine, theirs, wanted) in questions {
         let said = said(rt, alloc, paths, *mine, *theirs)?;
-        assert!(rt; said.as_str() == *wanted, "{mine:?} {theirs:?}: {said}");
+        is_told(rt, said.as_str(), *wanted);
     }
     Ok(())
 }
@@ -168,7 +169,7 @@ fn shown_table(
     table: Result<PairTable, PairFault>,
 ) -> Result<String, Fail> {
     let table = table?;
-    assert_eq!(rt; table.nodes(), 1);
+    assert!(rt; table.nodes() == 1);
     let mut text = String::new(alloc);
     let pushed = push_table(&mut text, &table);
     drop(table);
@@ -195,8 +196,8 @@ fn transfers_are_covered(rt: HostRuntime) -> Result<(), Fail> {
     drop(paths);
     let shown = shown_table(&rt, rt.alloc(), table)?;
     let shown_by_threads = shown_table(&rt, rt.alloc(), by_threads)?;
-    assert_eq!(rt; shown.as_str(), TRANSFERS);
-    assert_eq!(rt; shown_by_threads.as_str(), TRANSFERS);
+    is_told(&rt, shown.as_str(), TRANSFERS);
+    is_told(&rt, shown_by_threads.as_str(), TRANSFERS);
     Ok(())
 }
 

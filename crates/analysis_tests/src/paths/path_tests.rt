@@ -2,6 +2,7 @@
 
 use crate::examples::{paths_of, wide_paths};
 use crate::paths::shown::{shown, shown_path};
+use crate::told::is_told;
 use example_sets::{LEDGER, MOVE, REPORT, SMALL_BANK, TRANSFER};
 use prog_paths::Path;
 use std::alloc::{AllocError, Global};
@@ -13,8 +14,7 @@ fn check(rt: &impl Abort, alloc: Global, text: &str, wanted: &str) -> Result<(),
     let paths = paths_of(alloc, text)?;
     let shown = shown(alloc, &paths);
     drop(paths);
-    let shown = shown?;
-    assert!(rt; shown.as_str() == wanted, "{shown}");
+    is_told(rt, shown?.as_str(), wanted);
     Ok(())
 }
 
@@ -84,7 +84,7 @@ const WIDE_PATHS: [(usize, &str); 4] = [
 
 /// Asserts what the wide paths are.
 fn check_wide(rt: &impl Abort, alloc: Global, paths: &[Path]) -> Result<(), AllocError> {
-    assert_eq!(rt; paths.len(), 512);
+    assert!(rt; paths.len() == 512);
     for (number, start) in WIDE_PATHS {
         let path = paths.get(number).expect(rt, "the path is there");
         assert!(rt; is_wide(alloc, path, start)?, "{number}");

@@ -3,6 +3,7 @@
 use crate::dangers::shown;
 use crate::examples::SKEW;
 use crate::repairs::sets::{APART, COLUMNS, KEPT_REPORT};
+use crate::told::is_told;
 use example_sets::{LEDGER, REPORT, SMALL_BANK, TRANSFER, set_of};
 use robust_cert::to_json;
 use si_repair::{AnalyseFault, Finding, certify, certify_par};
@@ -30,8 +31,7 @@ fn check(rt: &impl Abort, alloc: Global, text: &str, wanted: &str) -> Result<(),
     let set = set_of(alloc, text)?;
     let found = certify(alloc, &set);
     drop(set);
-    let found = told_of(alloc, found)?;
-    assert!(rt; found.as_str() == wanted, "{found}");
+    is_told(rt, told_of(alloc, found)?.as_str(), wanted);
     Ok(())
 }
 
@@ -45,8 +45,7 @@ fn check_by_threads(
     let set = set_of(alloc, text)?;
     let found = certify_par(rt, alloc, &set);
     drop(set);
-    let found = told_of(alloc, found)?;
-    assert!(rt; found.as_str() == wanted, "{found}");
+    is_told(rt, told_of(alloc, found)?.as_str(), wanted);
     Ok(())
 }
 

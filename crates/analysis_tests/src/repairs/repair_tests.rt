@@ -31,9 +31,9 @@ fn plan_of(alloc: Global, text: &str) -> Result<Plan, Fail> {
 
 #[test]
 fn plans_have_the_pairs_that_are_needed(rt: HostRuntime) -> Result<(), Fail> {
-    for (text, wanted) in PLANS {
+    for &(text, wanted) in PLANS.iter() {
         let plan = plan_of(rt.alloc(), text)?;
-        assert_eq!(rt; plan.pairs.as_slice(), wanted);
+        assert!(rt; plan.pairs.as_slice() == wanted);
     }
     Ok(())
 }
@@ -117,14 +117,14 @@ program Echo(a) {
 #[test]
 fn a_pair_without_a_question_keeps_its_first_parameter(rt: HostRuntime) -> Result<(), Fail> {
     let twice = materialised(rt.alloc(), ECHO, &[ITSELF, ITSELF])?;
-    assert_eq!(rt; twice.as_slice(), ECHO_TWICE);
+    assert!(rt; twice.as_slice() == ECHO_TWICE);
     Ok(())
 }
 
 #[test]
 fn a_pair_without_a_question_promotes_nothing(rt: HostRuntime) -> Result<(), Fail> {
     let none = promoted(rt.alloc(), ECHO, &[ITSELF])?;
-    assert_eq!(rt; none?.as_slice(), ECHO.as_bytes());
+    assert!(rt; none?.as_slice() == ECHO.as_bytes());
     Ok(())
 }
 

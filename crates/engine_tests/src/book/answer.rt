@@ -4,16 +4,22 @@ use crate::book::runs::Ride;
 use history_book::{BeginFault, Place};
 
 /// A call, with the ticket at hand where it takes one.
-#[derive(Clone, Copy, Debug)]
+#[derive(Clone, Copy)]
 pub enum Call {
     /// A begin, whose ticket takes the place of the one at hand, which is dropped.
     Begin(usize, &'static [i64]),
-    /// The same in another book, which is empty.
+    /// So many begins, one after another.
+    Begins(u64, usize, &'static [i64]),
+    /// The same as of so many commits.
+    BeginAt(u64, usize, &'static [i64]),
+    /// A begin in another book, which is empty.
     BeginElsewhere(usize, &'static [i64]),
     Get(i64),
     /// How many rows the instance sees in `t[0..9]`.
     Rows,
     Commit(Ride),
+    /// The same with a run over the other set.
+    CommitOther(Ride),
     End(Ride),
     Withdraw,
     /// An instance of `Set` begins and commits at once, beside the ticket at hand.
@@ -36,7 +42,7 @@ pub enum Call {
 }
 
 /// What a call answers.
-#[derive(Clone, Copy, Debug, PartialEq, Eq)]
+#[derive(Clone, Copy, PartialEq, Eq)]
 pub enum Answer {
     /// With the ticket's number and start.
     Begun(u64, u64),
@@ -54,6 +60,6 @@ pub enum Answer {
     WrongEnd,
     ForeignRun(Place),
     Memory,
-    /// There is no such thing, or no ticket at hand.
+    /// There is no such thing.
     Nothing,
 }

@@ -1,12 +1,22 @@
 //! What is wrong with given rows.
 
 use crate::book::audits::{Record, fault_of};
-use crate::book::sets::{LOOK, NO_PROGRAM, SET, STOP, cell};
+use crate::book::sets::{LOOK, NO_PROGRAM, REGISTERS, SET, STOP, cell};
+use example_sets::set_of;
 use history_book::{AuditFault, Clash, RowFault};
+use prog_check::ProgramSet;
+use std::alloc::Global;
+use std::process::Abort;
 use std::test::Fail;
 
 /// Sets `t[1]` to 5.
 const FIRST: Record = (SET, &[1, 5], 0, &[]);
+
+// The record behind the first has to have the fault.
+fn check_fault(rt: &impl Abort, alloc: Global, set: &ProgramSet, record: Record, fault: RowFault) {
+    let found = fault_of(rt, alloc, set, &[FIRST, record]);
+    assert!(rt; found == Some(AuditFault::Row { number: 1, fault }));
+}
 
 #[test]
 fn the_first_fault_of_a_row_is_told(rt: HostRuntime) -> Result<(), Fail> {
@@ -22,9 +32,10 @@ fn the_first_fault_of_a_row_is_told(rt: HostRuntime) -> Result<(), Fail> {
         ((LOOK, &[1], 0, &[5]), RowFault::WrongReplies),
         ((SET, &[1, 6], 0, &[]), RowFault::Clashed(clash)),
     ];
+    let set = set_of(rt.alloc(), REGISTERS)?;
     for (record, fault) in wrong {
-        let found = fault_of(rt.alloc(), &[FIRST, record])?;
-        assert_eq!(rt; found, Some(AuditFault::Row { number: 1, fault }));
+        check_fault(&rt, rt.alloc(), &set, record, fault);
     }
+    drop(set);
     Ok(())
 }

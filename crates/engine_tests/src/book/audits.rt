@@ -1,62 +1,59 @@
 //! Books of given rows, and what orders they have.
 
-use crate::book::sets::{REGISTERS, rows_of};
+use crate::book::sets::rows_of;
 use example_sets::set_of;
 use history_book::{AnyFitFault, AuditFault, Book, HistoryRow, OrderFault};
 use prog_check::ProgramSet;
 use prog_tree::{Rows, Sequence};
-use std::alloc::{AllocError, Global};
+use std::alloc::Global;
 use std::process::Abort;
 use std::test::Fail;
 
 /// The program of a row, its arguments, its start and its replies.
 pub type Record = (usize, &'static [i64], u64, &'static [i64]);
 
-fn row(alloc: Global, record: &Record) -> Result<HistoryRow, AllocError> {
-    let (program, args, start, replies) = *record;
-    Ok(HistoryRow {
-        program,
-        args: Sequence::from_vec(Vec::from_slice(alloc, args)?),
-        start,
-        replies: Sequence::from_vec(Vec::from_slice(alloc, replies)?),
-    })
+fn sequence(rt: &impl Abort, alloc: Global, numbers: &[i64]) -> Sequence<i64> {
+    Sequence::from_vec(Vec::from_slice(alloc, numbers).expect(rt, "memory"))
 }
 
-fn history_rows(alloc: Global, records: &[Record]) -> Result<Vec<HistoryRow>, AllocError> {
+fn row(rt: &impl Abort, alloc: Global, record: &Record) -> HistoryRow {
+    let (program, args, start, replies) = *record;
+    HistoryRow {
+        program,
+        args: sequence(rt, alloc, args),
+        start,
+        replies: sequence(rt, alloc, replies),
+    }
+}
+
+fn history_rows(rt: &impl Abort, alloc: Global, records: &[Record]) -> Vec<HistoryRow> {
     let mut rows = Vec::new(alloc);
     for record in records {
-        rows.push(row(alloc, record)?)?;
+        rows.push(row(rt, alloc, record)).expect(rt, "memory");
     }
-    Ok(rows)
+    rows
 }
 
-fn audited<'a>(
+/// What is wrong with records over a set whose tables hold nothing at first.
+pub fn fault_of(
+    rt: &impl Abort,
     alloc: Global,
-    set: &'a ProgramSet,
-    opening: Rows,
+    set: &ProgramSet,
     records: &[Record],
-) -> Result<Book<'a>, AuditFault> {
-    let rows = history_rows(alloc, records)?;
-    Book::audit(alloc, set, opening, rows)
-}
-
-/// What is wrong with records over the registers, which hold nothing at first.
-pub fn fault_of(alloc: Global, records: &[Record]) -> Result<Option<AuditFault>, Fail> {
-    let set = set_of(alloc, REGISTERS)?;
-    let fault = audited(alloc, &set, Rows::new(alloc), records).err();
-    drop(set);
-    Ok(fault)
+) -> Option<AuditFault> {
+    let rows = history_rows(rt, alloc, records);
+    Book::audit(alloc, set, Rows::new(alloc), rows).err()
 }
 
 /// The least serial order, or the cycle that forbids it.
-#[derive(Clone, Copy, Debug)]
+#[derive(Clone, Copy)]
 pub enum Least {
     Order(&'static [usize]),
     Cycle(&'static [usize]),
 }
 
 /// What the search for any order comes to.
-#[derive(Clone, Copy, Debug)]
+#[derive(Clone, Copy)]
 pub enum Any {
     Order(&'static [usize]),
     NoOrder,
@@ -93,8 +90,8 @@ pub struct Ordered {
 }
 
 fn check_fits(rt: &impl Abort, book: &Book<'_>, orders: &[&[usize]], wanted: bool) {
-    for order in orders {
-        assert_eq!(rt; book.fits(order).ok(), Some(wanted), "{order:?}");
+    for (number, order) in orders.iter().enumerate() {
+        assert!(rt; book.fits(order) == Ok(wanted), "order {number}");
     }
 }
 
@@ -105,25 +102,14 @@ fn check_book(rt: &impl Abort, book: &Book<'_>, wanted: &Ordered) {
     check_fits(rt, book, wanted.unfitting, false);
 }
 
-fn check_set(
-    rt: &impl Abort,
-    alloc: Global,
-    set: &ProgramSet,
-    wanted: &Ordered,
-) -> Result<(), Fail> {
-    let opening = rows_of(alloc, wanted.opening)?;
-    let Ok(book) = audited(alloc, set, opening, wanted.records) else {
-        return Err(Fail::new("no book"));
-    };
-    check_book(rt, &book, wanted);
-    drop(book);
-    Ok(())
-}
-
 /// Asks the book of records for its orders.
 pub fn check_orders(rt: &impl Abort, alloc: Global, wanted: &Ordered) -> Result<(), Fail> {
     let set = set_of(alloc, wanted.set)?;
-    let checked = check_set(rt, alloc, &set, wanted);
+    let opening = rows_of(rt, alloc, wanted.opening);
+    let rows = history_rows(rt, alloc, wanted.records);
+    let book = Book::audit(alloc, &set, opening, rows).expect(rt, "a book");
+    check_book(rt, &book, wanted);
+    drop(book);
     drop(set);
-    checked
+    Ok(())
 }

@@ -1,10 +1,14 @@
 //! What instances come to in a book.
 
 use crate::book::answer::{Answer, Call};
-use crate::book::desk::play;
+use crate::book::desk::{Case, play, play_all};
 use crate::book::runs::Ride;
-use crate::book::sets::{LOOK, NO_PROGRAM, SET, STOP};
+use crate::book::sets::{LOOK, NO_PROGRAM, REGISTERS, SET, STOP};
+use example_sets::set_of;
 use history_book::{BeginFault, Place};
+use prog_check::ProgramSet;
+use std::alloc::Global;
+use std::process::Abort;
 use std::test::Fail;
 
 /// `Look(1)` on a snapshot without a row, up to its end.
@@ -181,14 +185,18 @@ const FREED: &[(Call, Answer)] = &[
     (Call::Vacuum, Answer::Count(0)),
 ];
 
-/// What is shown, the rows at first, and the calls.
-type Case = (
-    &'static str,
-    &'static [(usize, i64, i64)],
-    &'static [(Call, Answer)],
-);
+/// So many instances may be active at once. The ticket of the last is at hand, the others are
+/// dropped.
+const FULL: &[(Call, Answer)] = &[
+    (Call::Begins(100_000, LOOK, &[1]), Answer::Begun(99_999, 0)),
+    (Call::Begin(LOOK, &[1]), Answer::NotBegun(BeginFault::Full)),
+    (Call::IsFull, Answer::Is(true)),
+    (Call::Withdraw, Answer::Withdrawn),
+    (Call::Begin(LOOK, &[1]), Answer::Begun(100_000, 0)),
+    (Call::Begin(LOOK, &[1]), Answer::NotBegun(BeginFault::Full)),
+];
 
-const CASES: [Case; 13] = [
+const CASES: &[Case] = &[
     ("begins are refused or numbered", &[], BEGINS),
     (
         "a book tells what it was opened with",
@@ -214,12 +222,57 @@ const CASES: [Case; 13] = [
     ),
     ("a dropped ticket holds the floor", &[(0, 1, 0)], DROPPED),
     ("no call frees a dropped ticket", &[(0, 1, 0)], FREED),
+    ("a full book takes a begin after a withdrawal", &[], FULL),
 ];
 
 #[test]
 fn instances_come_to_what_is_told_by_hand(rt: HostRuntime) -> Result<(), Fail> {
-    for (name, given, calls) in CASES {
-        play(&rt, rt.alloc(), name, given, calls)?;
+    let set = set_of(rt.alloc(), REGISTERS)?;
+    play_all(&rt, rt.alloc(), &set, CASES);
+    drop(set);
+    Ok(())
+}
+
+/// Sets in which `Look(1)` runs as well, over other tables or by another tree.
+const OTHERS: [&str; 5] = [
+    "table t 1 grow; program Look(k) { let x = get t[k] else -1; reply x; }",
+    "table t 1; table u 1; program Look(k) { let x = get t[k] else -1; reply x; }",
+    "table t 1; program Look(k) { let x = get t[k] else 0; reply x; }",
+    "table t 1; program Look(k) { let y = get t[k] else -1; reply y; }",
+    "table t 1; program See(k) { let x = get t[k] else -1; reply x; }",
+];
+
+const OVER_ANOTHER: Case = (
+    "a run over another set leaves the ticket good",
+    &[],
+    &[
+        (Call::Begin(LOOK, &[1]), Answer::Begun(0, 0)),
+        (
+            Call::CommitOther(LOOKED),
+            Answer::ForeignRun(Place::Program),
+        ),
+        (Call::Commit(LOOKED), Answer::Committed(1)),
+    ],
+);
+
+fn play_beside(rt: &impl Abort, alloc: Global, set: &ProgramSet, text: &str) -> Result<(), Fail> {
+    let other = set_of(alloc, text)?;
+    play(rt, alloc, set, &other, &OVER_ANOTHER);
+    drop(other);
+    Ok(())
+}
+
+fn play_beside_others(rt: &impl Abort, alloc: Global, set: &ProgramSet) -> Result<(), Fail> {
+    for text in OTHERS {
+        play_beside(rt, alloc, set, text)?;
     }
     Ok(())
+}
+
+#[test]
+fn a_run_over_another_set_leaves_the_ticket_good(rt: HostRuntime) -> Result<(), Fail> {
+    let set = set_of(rt.alloc(), REGISTERS)?;
+    let played = play_beside_others(&rt, rt.alloc(), &set);
+    drop(set);
+    played
 }

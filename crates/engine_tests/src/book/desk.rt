@@ -3,19 +3,18 @@
 use crate::book::answer::{Answer, Call};
 use crate::book::endings::{commit, end, ending, same_endings};
 use crate::book::runs::{Ride, run_of};
-use crate::book::sets::{REGISTERS, SET, cell, rows_of};
-use example_sets::set_of;
+use crate::book::sets::{SET, cell, rows_of};
 use history_book::{Book, Ticket};
 use prog_check::ProgramSet;
 use prog_tree::{Region, Rows};
-use std::alloc::{AllocError, Global};
+use std::alloc::Global;
 use std::process::Abort;
-use std::test::Fail;
 
 #[derive(Drop)]
 struct Desk<'a> {
     alloc: Global,
     set: &'a ProgramSet,
+    other: &'a ProgramSet,
     book: Book<'a>,
     ticket: Option<Ticket>,
 }
@@ -32,7 +31,7 @@ const FIRST_TEN: Region = Region {
 impl<'a> Desk<'a> {
     fn take(&mut self, ticket: Ticket) -> Answer {
         let answer = Answer::Begun(ticket.number(), ticket.start());
-        self.ticket = Some(ticket);
+        drop(self.ticket.replace(ticket));
         answer
     }
 
@@ -43,82 +42,75 @@ impl<'a> Desk<'a> {
         }
     }
 
-    fn begin_elsewhere(&mut self, program: usize, args: &[i64]) -> Answer {
-        let Ok(mut other) = Book::open(self.alloc, self.set, Rows::new(self.alloc)) else {
-            return Answer::Memory;
-        };
-        let begun = other.begin(program, args);
-        drop(other);
-        match begun {
+    fn begin_at(&mut self, start: u64, program: usize, args: &[i64]) -> Answer {
+        match self.book.begin_at(start, program, args) {
             Ok(ticket) => self.take(ticket),
             Err(fault) => Answer::NotBegun(fault),
         }
     }
 
-    fn get(&self, first: i64) -> Answer {
-        let Some(ticket) = &self.ticket else {
-            return Answer::Nothing;
-        };
+    fn begins(&mut self, count: u64, program: usize, args: &[i64]) -> Answer {
+        let mut last = Answer::Nothing;
+        for _ in 0..count {
+            last = self.begin(program, args);
+        }
+        last
+    }
+
+    fn begin_elsewhere(&mut self, rt: &impl Abort, program: usize, args: &[i64]) -> Answer {
+        let rows = Rows::new(self.alloc);
+        let mut other = Book::open(self.alloc, self.set, rows).expect(rt, "memory");
+        let ticket = other.begin(program, args).expect(rt, "a ticket");
+        drop(other);
+        self.take(ticket)
+    }
+
+    fn get(&self, rt: &impl Abort, first: i64) -> Answer {
+        let ticket = self.ticket.as_ref().expect(rt, "a ticket");
         match self.book.get(ticket, &cell(0, first)) {
             Ok(held) => Answer::Holds(held),
             Err(_) => Answer::NoSuchTicket,
         }
     }
 
-    fn rows(&self) -> Answer {
-        let Some(ticket) = &self.ticket else {
-            return Answer::Nothing;
-        };
+    fn rows(&self, rt: &impl Abort) -> Answer {
+        let ticket = self.ticket.as_ref().expect(rt, "a ticket");
         match self.book.scan(ticket, &FIRST_TEN) {
             Ok(rows) => Answer::Count(rows.len() as u64),
             Err(_) => Answer::NoSuchTicket,
         }
     }
 
-    fn commit(&mut self, ride: &Ride) -> Answer {
-        let Some(ticket) = self.ticket.take() else {
-            return Answer::Nothing;
-        };
-        let Some(run) = run_of(self.alloc, self.set, ride) else {
-            return Answer::Memory;
-        };
+    fn commit(&mut self, rt: &impl Abort, set: &'a ProgramSet, ride: &Ride) -> Answer {
+        let ticket = self.ticket.take().expect(rt, "a ticket");
+        let run = run_of(rt, self.alloc, set, ride);
         let (answer, back) = commit(&mut self.book, ticket, run);
         self.ticket = back;
         answer
     }
 
-    fn end(&mut self, ride: &Ride) -> Answer {
-        let Some(ticket) = self.ticket.take() else {
-            return Answer::Nothing;
-        };
-        let Some(run) = run_of(self.alloc, self.set, ride) else {
-            return Answer::Memory;
-        };
+    fn end(&mut self, rt: &impl Abort, ride: &Ride) -> Answer {
+        let ticket = self.ticket.take().expect(rt, "a ticket");
+        let run = run_of(rt, self.alloc, self.set, ride);
         let (answer, back) = end(&mut self.book, ticket, run);
         self.ticket = back;
         answer
     }
 
-    fn set(&mut self, args: &'static [i64]) -> Answer {
+    fn set(&mut self, rt: &impl Abort, args: &'static [i64]) -> Answer {
         let ride = Ride {
             program: SET,
             args,
             held: None,
             steps: 2,
         };
-        let Ok(ticket) = self.book.begin(SET, args) else {
-            return Answer::Memory;
-        };
-        let Some(run) = run_of(self.alloc, self.set, &ride) else {
-            return Answer::Memory;
-        };
+        let run = run_of(rt, self.alloc, self.set, &ride);
+        let ticket = self.book.begin(SET, args).expect(rt, "a ticket");
         commit(&mut self.book, ticket, run).0
     }
 
-    fn withdraw(&mut self) -> Answer {
-        let Some(ticket) = self.ticket.take() else {
-            return Answer::Nothing;
-        };
+    fn withdraw(&mut self, rt: &impl Abort) -> Answer {
+        let ticket = self.ticket.take().expect(rt, "a ticket");
         match self.book.withdraw(ticket) {
             Ok(()) => Answer::Withdrawn,
             Err(ticket) => {
@@ -128,11 +120,9 @@ impl<'a> Desk<'a> {
         }
     }
 
-    fn newest(&self, first: i64) -> Answer {
-        match self.book.table() {
-            Ok(rows) => Answer::Holds(rows.get(&cell(0, first))),
-            Err(_) => Answer::Memory,
-        }
+    fn newest(&self, rt: &impl Abort, first: i64) -> Answer {
+        let rows = self.book.table().expect(rt, "memory");
+        Answer::Holds(rows.get(&cell(0, first)))
     }
 
     fn start_of(&self, number: u64) -> Answer {
@@ -150,25 +140,28 @@ impl<'a> Desk<'a> {
     }
 
     // Makes a call that may change the book.
-    fn make(&mut self, call: &Call) -> Answer {
+    fn make(&mut self, rt: &impl Abort, call: &Call) -> Answer {
         match call {
             Call::Begin(program, args) => self.begin(*program, args),
-            Call::BeginElsewhere(program, args) => self.begin_elsewhere(*program, args),
-            Call::Commit(ride) => self.commit(ride),
-            Call::End(ride) => self.end(ride),
-            Call::Withdraw => self.withdraw(),
-            Call::Set(args) => self.set(args),
+            Call::Begins(count, program, args) => self.begins(*count, *program, args),
+            Call::BeginAt(start, program, args) => self.begin_at(*start, *program, args),
+            Call::BeginElsewhere(program, args) => self.begin_elsewhere(rt, *program, args),
+            Call::Commit(ride) => self.commit(rt, self.set, ride),
+            Call::CommitOther(ride) => self.commit(rt, self.other, ride),
+            Call::End(ride) => self.end(rt, ride),
+            Call::Withdraw => self.withdraw(rt),
+            Call::Set(args) => self.set(rt, args),
             Call::Vacuum => Answer::Count(self.book.vacuum()),
-            _ => self.ask(call),
+            _ => self.ask(rt, call),
         }
     }
 
     // Makes a call that only reads.
-    fn ask(&self, call: &Call) -> Answer {
+    fn ask(&self, rt: &impl Abort, call: &Call) -> Answer {
         match call {
-            Call::Get(first) => self.get(*first),
-            Call::Rows => self.rows(),
-            Call::Newest(first) => self.newest(*first),
+            Call::Get(first) => self.get(rt, *first),
+            Call::Rows => self.rows(rt),
+            Call::Newest(first) => self.newest(rt, *first),
             Call::Opening(first) => Answer::Holds(self.book.opening().get(&cell(0, *first))),
             Call::Commits => Answer::Count(self.book.commits()),
             Call::StartOf(number) => self.start_of(*number),
@@ -182,42 +175,43 @@ impl<'a> Desk<'a> {
 }
 
 fn make_all(rt: &impl Abort, desk: &mut Desk<'_>, name: &str, calls: &[(Call, Answer)]) {
-    for (call, wanted) in calls {
-        assert_eq!(rt; desk.make(call), *wanted, "{name}: {call:?}");
+    for (number, (call, wanted)) in calls.iter().enumerate() {
+        assert!(rt; desk.make(rt, call) == *wanted, "{name}: call {number}");
     }
 }
 
-fn play_over(
+/// What is shown, the rows at first, and the calls with what each has to answer.
+pub type Case = (
+    &'static str,
+    &'static [(usize, i64, i64)],
+    &'static [(Call, Answer)],
+);
+
+/// Makes the calls of a case on a book over a set, beside another set.
+pub fn play<'a>(
     rt: &impl Abort,
     alloc: Global,
-    set: &ProgramSet,
-    name: &str,
-    given: &[(usize, i64, i64)],
-    calls: &[(Call, Answer)],
-) -> Result<(), AllocError> {
-    let rows = rows_of(alloc, given)?;
-    let book = Book::open(alloc, set, rows)?;
+    set: &'a ProgramSet,
+    other: &'a ProgramSet,
+    case: &Case,
+) {
+    let (name, rows, calls) = *case;
+    let rows = rows_of(rt, alloc, rows);
+    let book = Book::open(alloc, set, rows).expect(rt, "memory");
     let mut desk = Desk {
         alloc,
         set,
+        other,
         book,
         ticket: None,
     };
     make_all(rt, &mut desk, name, calls);
     drop(desk);
-    Ok(())
 }
 
-/// Makes calls of a book over rows of the registers; each has to answer as wanted.
-pub fn play(
-    rt: &impl Abort,
-    alloc: Global,
-    name: &str,
-    given: &[(usize, i64, i64)],
-    calls: &[(Call, Answer)],
-) -> Result<(), Fail> {
-    let set = set_of(alloc, REGISTERS)?;
-    let played = play_over(rt, alloc, &set, name, given, calls);
-    drop(set);
-    Ok(played?)
+/// Makes the calls of cases, each on a book of its own over the set.
+pub fn play_all(rt: &impl Abort, alloc: Global, set: &ProgramSet, cases: &[Case]) {
+    for case in cases {
+        play(rt, alloc, set, set, case);
+    }
 }

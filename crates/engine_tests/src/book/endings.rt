@@ -5,7 +5,9 @@ use history_book::{Book, CommitFault, EndFault, Ending, Ticket, Unused};
 use prog_run::Run;
 
 fn ticket_of(unused: Unused<'_>) -> Option<Ticket> {
-    Some(unused.ticket)
+    let Unused { ticket, run } = unused;
+    drop(run);
+    Some(ticket)
 }
 
 fn commit_refused(fault: CommitFault<'_>) -> (Answer, Option<Ticket>) {

@@ -3,11 +3,10 @@
 mod answer;
 mod audit_tests;
 pub mod audits;
+mod begin_at_tests;
 mod book_tests;
 mod desk;
 mod endings;
-mod full_tests;
 mod order_tests;
-mod other_set_tests;
 mod runs;
 mod sets;

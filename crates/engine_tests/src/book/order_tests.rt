@@ -3,6 +3,8 @@
 use crate::book::audits::{Any, Least, Ordered, Record, check_orders};
 use crate::book::sets::{BALANCE, LOOK, REGISTERS, SET, TRANSACT_SAVING, WRITE_CHECK};
 use example_sets::SMALL_BANK;
+use std::alloc::Global;
+use std::process::Abort;
 use std::test::Fail;
 
 /// Savings and a checking account, both empty.
@@ -83,10 +85,16 @@ const SEVEN: Ordered = Ordered {
     unfitting: &[],
 };
 
-#[test]
-fn books_have_these_orders(rt: HostRuntime) -> Result<(), Fail> {
-    for wanted in &[ANOMALY, SERIAL, OLD, SIX, SEVEN] {
-        check_orders(&rt, rt.alloc(), wanted)?;
+const ORDERED: &[Ordered] = &[ANOMALY, SERIAL, OLD, SIX, SEVEN];
+
+fn check_all(rt: &impl Abort, alloc: Global, ordered: &[Ordered]) -> Result<(), Fail> {
+    for wanted in ordered {
+        check_orders(rt, alloc, wanted)?;
     }
     Ok(())
+}
+
+#[test]
+fn books_have_these_orders(rt: HostRuntime) -> Result<(), Fail> {
+    check_all(&rt, rt.alloc(), ORDERED)
 }

@@ -3,9 +3,10 @@
 use prog_check::ProgramSet;
 use prog_run::{Next, Run};
 use std::alloc::Global;
+use std::process::Abort;
 
 /// A run of a program, which takes so many steps and has each question for a cell answered alike.
-#[derive(Clone, Copy, Debug)]
+#[derive(Clone, Copy)]
 pub struct Ride {
     pub program: usize,
     pub args: &'static [i64],
@@ -13,18 +14,17 @@ pub struct Ride {
     pub steps: usize,
 }
 
-fn step(run: &mut Run<'_>, held: Option<i64>) -> Option<()> {
-    if let Next::Get(_) = run.advance().ok()? {
-        run.answer_get(held).ok()?;
+fn step(rt: &impl Abort, run: &mut Run<'_>, held: Option<i64>) {
+    if let Next::Get(_) = run.advance().expect(rt, "memory") {
+        run.answer_get(held).expect(rt, "memory");
     }
-    Some(())
 }
 
-/// The run, where memory is left for it.
-pub fn run_of<'a>(alloc: Global, set: &'a ProgramSet, ride: &Ride) -> Option<Run<'a>> {
-    let mut run = Run::new(alloc, set, ride.program, ride.args).ok()?;
+/// The run.
+pub fn run_of<'a>(rt: &impl Abort, alloc: Global, set: &'a ProgramSet, ride: &Ride) -> Run<'a> {
+    let mut run = Run::new(alloc, set, ride.program, ride.args).expect(rt, "a run");
     for _ in 0..ride.steps {
-        step(&mut run, ride.held)?;
+        step(rt, &mut run, ride.held);
     }
-    Some(run)
+    run
 }

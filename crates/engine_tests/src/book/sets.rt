@@ -1,7 +1,8 @@
 //! A set of the tests, and rows.
 
 use prog_tree::{Cell, Rows};
-use std::alloc::{AllocError, Global};
+use std::alloc::Global;
+use std::process::Abort;
 
 /// Registers that are looked at, set and cut, and a program that aborts.
 pub const REGISTERS: &str = "\
@@ -36,10 +37,11 @@ pub fn cell(table: usize, first: i64) -> Cell {
 }
 
 /// Rows of tables with one key column: the table, the key and the value of each.
-pub fn rows_of(alloc: Global, given: &[(usize, i64, i64)]) -> Result<Rows, AllocError> {
+pub fn rows_of(rt: &impl Abort, alloc: Global, given: &[(usize, i64, i64)]) -> Rows {
     let mut rows = Rows::new(alloc);
     for (table, first, value) in given {
-        rows.insert(cell(*table, *first), *value)?;
+        let cell = cell(*table, *first);
+        rows.insert(cell, *value).expect(rt, "memory");
     }
-    Ok(rows)
+    rows
 }

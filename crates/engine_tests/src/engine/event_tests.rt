@@ -1,9 +1,10 @@
-//! An engine, driven by events.
+//! An engine, driven by events. Where memory is refused an event is sent again: so
+//! `tests/refused-calls`, which has each request refused in turn, shows that the same replies come.
 
 use example_sets::set_of;
 use prog_check::ProgramSet;
 use prog_tree::{Rows, Sequence};
-use si_engine::{Engine, Event};
+use si_engine::{Engine, Event, Reply};
 use std::alloc::{AllocError, Global};
 use std::process::Abort;
 use std::test::Fail;
@@ -20,7 +21,7 @@ const SET: usize = 1;
 const NO_PROGRAM: usize = 2;
 
 /// An event as plain data.
-#[derive(Clone, Copy, Debug)]
+#[derive(Clone, Copy)]
 enum Sent {
     Begin(usize, &'static [i64]),
     Step(usize),
@@ -29,83 +30,95 @@ enum Sent {
     Vacuum,
 }
 
+fn begin(alloc: Global, program: usize, args: &[i64]) -> Result<Event, AllocError> {
+    let args = Vec::from_slice(alloc, args)?;
+    let args = Sequence::from_vec(args);
+    Ok(Event::Begin { program, args })
+}
+
 fn event_of(alloc: Global, sent: &Sent) -> Result<Event, AllocError> {
-    Ok(match sent {
-        Sent::Begin(program, args) => Event::Begin {
-            program: *program,
-            args: Sequence::from_vec(Vec::from_slice(alloc, args)?),
-        },
-        Sent::Step(number) => Event::Step(*number),
-        Sent::Commit(number) => Event::Commit(*number),
-        Sent::Abort(number) => Event::Abort(*number),
-        Sent::Vacuum => Event::Vacuum,
-    })
+    match *sent {
+        Sent::Begin(program, args) => begin(alloc, program, args),
+        Sent::Step(number) => Ok(Event::Step(number)),
+        Sent::Commit(number) => Ok(Event::Commit(number)),
+        Sent::Abort(number) => Ok(Event::Abort(number)),
+        Sent::Vacuum => Ok(Event::Vacuum),
+    }
 }
 
-// Hands an event to the engine, and shows its reply.
-fn reply_to(alloc: Global, engine: &mut Engine<'_>, sent: &Sent) -> Result<String, AllocError> {
+// What an engine replies, asked again where memory was refused.
+fn reply_to(rt: &impl Abort, engine: &mut Engine<'_>, event: &Event) -> Reply {
+    match engine.apply(event) {
+        Ok(reply) => reply,
+        Err(AllocError) => engine.apply(event).expect(rt, "refused again"),
+    }
+}
+
+// Hands an event to the engine, which has to reply as wanted.
+fn send(
+    rt: &impl Abort,
+    alloc: Global,
+    engine: &mut Engine<'_>,
+    sent: &Sent,
+    wanted: &str,
+) -> Result<(), AllocError> {
     let event = event_of(alloc, sent)?;
-    let reply = engine.apply(&event);
-    drop(event);
-    let reply = reply?;
-    format!(in alloc; "{reply:?}")
+    let reply = reply_to(rt, engine, &event);
+    let told = format!(in alloc; "{reply:?}")?;
+    assert!(rt; told.as_str() == wanted, "{told}");
+    Ok(())
 }
 
-// What the book and the rows of an engine come to: commits, endings and rows.
+fn send_all(
+    rt: &impl Abort,
+    alloc: Global,
+    engine: &mut Engine<'_>,
+    events: &[(Sent, &str)],
+) -> Result<(), AllocError> {
+    for (sent, wanted) in events {
+        send(rt, alloc, engine, sent, wanted)?;
+    }
+    Ok(())
+}
+
+/// Events with the replies that they have to have, and what the engine has to come to: commits,
+/// endings and rows.
+type Case = (&'static [(Sent, &'static str)], (u64, usize, usize));
+
 fn counts(engine: &Engine<'_>) -> Result<(u64, usize, usize), AllocError> {
     let rows = engine.table()?.len();
     let book = engine.book();
     Ok((book.commits(), book.endings().len(), rows))
 }
 
-// Hands events to an engine; each has to be replied to as wanted.
-fn send(
+fn check_engine(
     rt: &impl Abort,
     alloc: Global,
     engine: &mut Engine<'_>,
-    events: &[(Sent, &str)],
+    (events, wanted): Case,
 ) -> Result<(), AllocError> {
-    for (sent, told) in events {
-        let reply = reply_to(alloc, engine, sent)?;
-        assert_eq!(rt; reply.as_str(), *told, "{sent:?}");
-    }
+    send_all(rt, alloc, engine, events)?;
+    let counts = counts(engine)?;
+    assert!(rt; counts == wanted);
     Ok(())
 }
 
-// Hands events to an engine, and gives what it comes to.
-fn play_engine(
-    rt: &impl Abort,
-    alloc: Global,
-    engine: &mut Engine<'_>,
-    events: &[(Sent, &str)],
-) -> Result<(u64, usize, usize), AllocError> {
-    send(rt, alloc, engine, events)?;
-    counts(engine)
-}
-
-fn play_over(
+fn check_case(
     rt: &impl Abort,
     alloc: Global,
     set: &ProgramSet,
-    events: &[(Sent, &str)],
-) -> Result<(u64, usize, usize), AllocError> {
+    case: Case,
+) -> Result<(), AllocError> {
     let mut engine = Engine::open(alloc, set, Rows::new(alloc))?;
-    let counts = play_engine(rt, alloc, &mut engine, events);
+    let checked = check_engine(rt, alloc, &mut engine, case);
     drop(engine);
-    counts
+    checked
 }
 
-// An engine over the registers, and what it has to come to.
-fn play(
-    rt: &impl Abort,
-    alloc: Global,
-    events: &[(Sent, &str)],
-    wanted: (u64, usize, usize),
-) -> Result<(), Fail> {
-    let set = set_of(alloc, REGISTERS)?;
-    let counts = play_over(rt, alloc, &set, events);
-    drop(set);
-    assert_eq!(rt; counts?, wanted);
+fn check_cases(rt: &impl Abort, alloc: Global, set: &ProgramSet) -> Result<(), AllocError> {
+    for case in CASES {
+        check_case(rt, alloc, set, case)?;
+    }
     Ok(())
 }
 
@@ -121,10 +134,7 @@ const BEGINS: &[(Sent, &str)] = &[
 const COMMIT: &[(Sent, &str)] = &[
     (Sent::Begin(SET, &[7, 5]), "Begun { instance: 0, start: 0 }"),
     (Sent::Commit(0), "NotReady"),
-    (
-        Sent::Step(0),
-        "Did(Put(Cell { table: 0, first: 7, second: 0 }, 5))",
-    ),
+    (Sent::Step(0), PUT),
     (Sent::Step(0), "Ready(Sequence { items: [] })"),
     (Sent::Commit(0), "Committed(1)"),
     (Sent::Step(0), "Ended"),
@@ -139,15 +149,40 @@ const ABORT: &[(Sent, &str)] = &[
     (Sent::Vacuum, "Vacuumed(0)"),
 ];
 
-/// Events with their replies, and what the engine comes to.
-type Case = (&'static [(Sent, &'static str)], (u64, usize, usize));
+const PUT: &str = "Did(Put(Cell { table: 0, first: 7, second: 0 }, 5))";
 
-const CASES: [Case; 3] = [(BEGINS, (0, 0, 0)), (COMMIT, (1, 1, 1)), (ABORT, (0, 0, 0))];
+const CLASHED: &str = "Clashed(Clash { cell: Cell { table: 0, first: 7, second: 0 }, number: 1 })";
 
+const READ: &str = "Did(Read(Cell { table: 0, first: 7, second: 0 }, Some(5)))";
+
+/// The second of two that set a cell clashes; who begins behind the first sees what it set.
+const CLASH: &[(Sent, &str)] = &[
+    (Sent::Begin(SET, &[7, 5]), "Begun { instance: 0, start: 0 }"),
+    (Sent::Begin(SET, &[7, 5]), "Begun { instance: 1, start: 0 }"),
+    (Sent::Step(0), PUT),
+    (Sent::Step(1), PUT),
+    (Sent::Step(1), "Ready(Sequence { items: [] })"),
+    (Sent::Step(0), "Ready(Sequence { items: [] })"),
+    (Sent::Commit(0), "Committed(1)"),
+    (Sent::Commit(1), CLASHED),
+    (Sent::Begin(LOOK, &[7]), "Begun { instance: 2, start: 1 }"),
+    (Sent::Step(2), READ),
+    (Sent::Step(2), "Ready(Sequence { items: [5] })"),
+    (Sent::Commit(2), "Committed(2)"),
+];
+
+const CASES: [Case; 4] = [
+    (BEGINS, (0, 0, 0)),
+    (COMMIT, (1, 1, 1)),
+    (ABORT, (0, 0, 0)),
+    (CLASH, (2, 3, 1)),
+];
+
+// A request of the test's own that is refused is an error of the test.
 #[test]
 fn events_are_replied_to(rt: HostRuntime) -> Result<(), Fail> {
-    for (events, wanted) in CASES {
-        play(&rt, rt.alloc(), events, wanted)?;
-    }
-    Ok(())
+    let set = set_of(rt.alloc(), REGISTERS)?;
+    let checked = check_cases(&rt, rt.alloc(), &set);
+    drop(set);
+    Ok(checked?)
 }

@@ -27,18 +27,18 @@ const READ: [Record; 3] = [
     (0, &[], 7, &[]),
 ];
 
-fn check_row(rt: &impl Abort, row: &HistoryRow, wanted: &Record) {
+fn is_read(row: &HistoryRow, wanted: &Record) -> bool {
     let (program, args, start, replies) = *wanted;
-    assert_eq!(rt; row.program, program);
-    assert_eq!(rt; row.args.as_slice(), args);
-    assert_eq!(rt; row.start, start);
-    assert_eq!(rt; row.replies.as_slice(), replies);
+    row.program == program
+        && row.args.as_slice() == args
+        && row.start == start
+        && row.replies.as_slice() == replies
 }
 
 fn check_rows(rt: &impl Abort, rows: &[HistoryRow]) {
-    assert_eq!(rt; rows.len(), READ.len());
+    assert!(rt; rows.len() == READ.len());
     for (row, wanted) in rows.iter().zip(&READ) {
-        check_row(rt, row, wanted);
+        assert!(rt; is_read(row, wanted));
     }
 }
 
@@ -49,18 +49,15 @@ fn read(alloc: Global, set: &ProgramSet, bytes: &[u8]) -> Result<Records, Script
 #[test]
 fn records_are_read(rt: HostRuntime) -> Result<(), Fail> {
     let set = set_of(rt.alloc(), SET)?;
-    let found = read(rt.alloc(), &set, RECORDS);
+    let found = read(rt.alloc(), &set, RECORDS).expect(&rt, "records");
     drop(set);
-    let Ok(found) = found else {
-        return Err(Fail::new("a fault"));
-    };
-    assert_eq!(rt; found.rows.len(), 1);
+    assert!(rt; found.rows.len() == 1);
     check_rows(&rt, found.records.as_slice());
     drop(found);
     Ok(())
 }
 
-const FAULTS: [(&str, &str); 10] = [
+const FAULTS: &[(&str, &str)] = &[
     ("record Look 1 at 18446744073709551616 gives", "S1 line 1"),
     ("record at 0 gives", "S1 line 1"),
     ("record Look 1 at 0", "S1 line 1"),
@@ -73,25 +70,24 @@ const FAULTS: [(&str, &str); 10] = [
     ("record Look 1 at 0 gives 2\nrow t 1 = 2", "S4 line 2"),
 ];
 
-fn fault_of(alloc: Global, set: &ProgramSet, part: &str) -> Result<String, Fail> {
-    let Err(ScriptFault::Line(fault)) = read(alloc, set, part.as_bytes()) else {
-        return Err(Fail::new("no fault"));
+fn check_fault(rt: &impl Abort, alloc: Global, set: &ProgramSet, part: &str, wanted: &str) {
+    let Some(ScriptFault::Line(fault)) = read(alloc, set, part.as_bytes()).err() else {
+        panic!(rt; "no fault of a line: {part}")
     };
-    Ok(fault.to_string(alloc)?)
+    let told = fault.to_string(alloc).expect(rt, "memory");
+    assert!(rt; told.as_str() == wanted, "{part}");
 }
 
-fn check_faults(rt: &impl Abort, alloc: Global, set: &ProgramSet) -> Result<(), Fail> {
-    for (part, want) in FAULTS {
-        let told = fault_of(alloc, set, part)?;
-        assert_eq!(rt; told.as_str(), want);
+fn check_faults(rt: &impl Abort, alloc: Global, set: &ProgramSet, faults: &[(&str, &str)]) {
+    for (part, wanted) in faults {
+        check_fault(rt, alloc, set, part, wanted);
     }
-    Ok(())
 }
 
 #[test]
 fn faults_of_records_are_told(rt: HostRuntime) -> Result<(), Fail> {
     let set = set_of(rt.alloc(), SET)?;
-    let checked = check_faults(&rt, rt.alloc(), &set);
+    check_faults(&rt, rt.alloc(), &set, FAULTS);
     drop(set);
-    checked
+    Ok(())
 }

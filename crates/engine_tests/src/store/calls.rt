@@ -2,12 +2,12 @@
 
 use crate::store::twin::{Deed, cell, changes};
 use prog_tree::{Cell, Region, Rows};
-use std::alloc::{AllocError, Global};
+use std::alloc::Global;
 use std::process::Abort;
 use version_store::{Clash, Store};
 
 /// A call of a store.
-#[derive(Clone, Copy, Debug)]
+#[derive(Clone, Copy)]
 pub enum Call {
     /// A commit of these deeds.
     Install(&'static [Deed]),
@@ -25,39 +25,33 @@ pub enum Call {
 }
 
 /// What a call answers.
-#[derive(Clone, Copy, Debug, PartialEq, Eq)]
+#[derive(Clone, Copy, PartialEq, Eq)]
 pub enum Answer {
     Count(u64),
     Holds(Option<i64>),
     Clashes(Option<Clash>),
     Is(bool),
-    /// There is no memory for it.
-    Memory,
     /// The store can't tell of so few or so many commits.
     OutOfReach,
 }
 
 /// A store of rows `t[first]`.
-pub fn open(alloc: Global, given: &[(i64, i64)]) -> Result<Store, AllocError> {
+pub fn open(rt: &impl Abort, alloc: Global, given: &[(i64, i64)]) -> Store {
     let mut rows = Rows::new(alloc);
     for (first, value) in given {
-        rows.insert(cell(*first), *value)?;
+        rows.insert(cell(*first), *value).expect(rt, "memory");
     }
-    Store::open(alloc, rows)
+    Store::open(alloc, rows).expect(rt, "memory")
 }
 
 /// Installs a commit.
-pub fn install(alloc: Global, store: &mut Store, deeds: &[Deed]) -> Answer {
+pub fn install(rt: &impl Abort, alloc: Global, store: &mut Store, deeds: &[Deed]) -> Answer {
     if store.commits() == u64::MAX {
         return Answer::OutOfReach;
     }
-    let Ok(changes) = changes(alloc, deeds) else {
-        return Answer::Memory;
-    };
-    match store.install(&changes) {
-        Ok(number) => Answer::Count(number),
-        Err(_) => Answer::Memory,
-    }
+    let changes = changes(rt, alloc, deeds);
+    let number = store.install(&changes).expect(rt, "memory");
+    Answer::Count(number)
 }
 
 fn vacuum(store: &mut Store, floor: u64) -> Answer {
@@ -74,14 +68,12 @@ fn get(store: &Store, start: u64, first: i64) -> Answer {
     Answer::Holds(store.get(start, &cell(first)))
 }
 
-fn clash(alloc: Global, store: &Store, start: u64, deeds: &[Deed]) -> Answer {
+fn clash(rt: &impl Abort, alloc: Global, store: &Store, start: u64, deeds: &[Deed]) -> Answer {
     if start < store.floor() || start > store.commits() {
         return Answer::OutOfReach;
     }
-    match changes(alloc, deeds) {
-        Ok(changes) => Answer::Clashes(store.clash(start, &changes)),
-        Err(_) => Answer::Memory,
-    }
+    let changes = changes(rt, alloc, deeds);
+    Answer::Clashes(store.clash(start, &changes))
 }
 
 // `t[1..3]`.
@@ -101,12 +93,12 @@ fn are_held(store: &Store, start: u64, own: i64, rows: &[(Cell, i64)]) -> Answer
     Answer::Is(held)
 }
 
-fn make(alloc: Global, store: &mut Store, call: &Call) -> Answer {
+fn make(rt: &impl Abort, alloc: Global, store: &mut Store, call: &Call) -> Answer {
     match *call {
-        Call::Install(deeds) => install(alloc, store, deeds),
+        Call::Install(deeds) => install(rt, alloc, store, deeds),
         Call::Vacuum(floor) => vacuum(store, floor),
         Call::Get(start, first) => get(store, start, first),
-        Call::Clash(start, deeds) => clash(alloc, store, start, deeds),
+        Call::Clash(start, deeds) => clash(rt, alloc, store, start, deeds),
         Call::AreHeld(start, own, rows) => are_held(store, start, own, rows),
         Call::Versions => Answer::Count(store.versions()),
         Call::Commits => Answer::Count(store.commits()),
@@ -114,21 +106,14 @@ fn make(alloc: Global, store: &mut Store, call: &Call) -> Answer {
     }
 }
 
-fn make_all(rt: &impl Abort, alloc: Global, store: &mut Store, calls: &[(Call, Answer)]) {
-    for (call, wanted) in calls {
-        assert_eq!(rt; make(alloc, store, call), *wanted, "{call:?}");
-    }
-}
-
 /// Makes calls of a store over these rows; each has to answer as wanted.
-pub fn play(
-    rt: &impl Abort,
-    alloc: Global,
-    given: &[(i64, i64)],
-    calls: &[(Call, Answer)],
-) -> Result<(), AllocError> {
-    let mut store = open(alloc, given)?;
-    make_all(rt, alloc, &mut store, calls);
+pub fn play(rt: &impl Abort, alloc: Global, given: &[(i64, i64)], calls: &[(Call, Answer)]) {
+    let mut store = open(rt, alloc, given);
+    for (number, (call, wanted)) in calls.iter().enumerate() {
+        assert!(rt;
+            make(rt, alloc, &mut store, call) == *wanted,
+            "call {number}"
+        );
+    }
     drop(store);
-    Ok(())
 }

@@ -3,7 +3,7 @@
 use crate::store::calls::{Answer, Call, install, open, play};
 use crate::store::twin::{Deed, cell, rows_after};
 use prog_tree::{Cell, Region};
-use std::alloc::{AllocError, Global};
+use std::alloc::Global;
 use std::process::Abort;
 use version_store::{Clash, Store, corners};
 
@@ -114,60 +114,38 @@ const PLAYED: [(&[(i64, i64)], &[(Call, Answer)]); 3] = [
 ];
 
 #[test]
-fn calls_answer_as_told_by_hand(rt: HostRuntime) -> Result<(), AllocError> {
+fn calls_answer_as_told_by_hand(rt: HostRuntime) {
     for (given, calls) in PLAYED {
-        play(&rt, rt.alloc(), given, calls)?;
+        play(&rt, rt.alloc(), given, calls);
     }
-    Ok(())
 }
 
-fn worked_store(alloc: Global) -> Result<Store, AllocError> {
-    let mut store = open(alloc, OPENING)?;
+fn worked_store(rt: &impl Abort, alloc: Global) -> Store {
+    let mut store = open(rt, alloc, OPENING);
     for deeds in &COMMITS {
-        let Answer::Count(_) = install(alloc, &mut store, deeds) else {
-            return Err(AllocError);
-        };
+        install(rt, alloc, &mut store, deeds);
     }
-    Ok(store)
+    store
 }
 
 /// The rows of a region after as many commits as the store can tell of.
-fn scan(
-    rt: &impl Abort,
-    store: &Store,
-    start: u64,
-    region: &Region,
-) -> Result<Vec<(Cell, i64)>, AllocError> {
-    assert!(rt; store.floor() <= start);
-    assert!(rt; start <= store.commits());
-    Ok(store.scan(start, region)?.into_vec())
+fn scan(rt: &impl Abort, store: &Store, start: u64, region: &Region) -> Vec<(Cell, i64)> {
+    assert!(rt; store.floor() <= start && start <= store.commits());
+    store.scan(start, region).expect(rt, "memory").into_vec()
 }
 
 // A scan behind these commits has to find the rows of the list.
-fn check_scan(
-    rt: &impl Abort,
-    alloc: Global,
-    store: &Store,
-    region: &Region,
-    commits: &[&[Deed]],
-) -> Result<(), AllocError> {
+fn check_scan(rt: &impl Abort, alloc: Global, store: &Store, region: &Region, commits: &[&[Deed]]) {
     let (low, high, start) = (region.first_low, region.first_high, commits.len());
-    let rows = rows_after(alloc, OPENING, commits, low, high)?;
-    let found = scan(rt, store, start as u64, region)?;
+    let rows = rows_after(rt, alloc, OPENING, commits, low, high);
+    let found = scan(rt, store, start as u64, region);
     assert!(rt;
         found.as_slice() == rows.as_slice(),
         "{low}..{high} at {start}"
     );
-    Ok(())
 }
 
-fn check_scans(
-    rt: &impl Abort,
-    alloc: Global,
-    store: &Store,
-    low: i64,
-    high: i64,
-) -> Result<(), AllocError> {
+fn check_scans(rt: &impl Abort, alloc: Global, store: &Store, low: i64, high: i64) {
     let region = Region {
         table: 0,
         first_low: low,
@@ -176,26 +154,19 @@ fn check_scans(
         second_high: 0,
     };
     for start in 0..6 {
-        check_scan(rt, alloc, store, &region, &COMMITS[..start])?;
+        check_scan(rt, alloc, store, &region, &COMMITS[..start]);
     }
-    Ok(())
 }
 
 const RANGES: [(i64, i64); 4] = [(1, 3), (2, 2), (2, 9), (3, 1)];
 
-fn check_ranges(rt: &impl Abort, alloc: Global, store: &Store) -> Result<(), AllocError> {
-    for (low, high) in RANGES {
-        check_scans(rt, alloc, store, low, high)?;
-    }
-    Ok(())
-}
-
 #[test]
-fn scans_are_those_of_the_list(rt: HostRuntime) -> Result<(), AllocError> {
-    let store = worked_store(rt.alloc())?;
-    let checked = check_ranges(&rt, rt.alloc(), &store);
+fn scans_are_those_of_the_list(rt: HostRuntime) {
+    let store = worked_store(&rt, rt.alloc());
+    for (low, high) in RANGES {
+        check_scans(&rt, rt.alloc(), &store, low, high);
+    }
     drop(store);
-    checked
 }
 
 #[test]
@@ -207,7 +178,7 @@ fn regions_have_corners_unless_they_are_empty(rt: HostRuntime) {
         second_low: 0,
         second_high: 0,
     };
-    assert_eq!(rt; corners(region), Some((cell(2), cell(7))));
+    assert!(rt; corners(region) == Some((cell(2), cell(7))));
     region.first_high = 1;
-    assert_eq!(rt; corners(region), None);
+    assert!(rt; corners(region).is_none());
 }

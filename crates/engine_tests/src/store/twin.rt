@@ -1,7 +1,8 @@
 //! The store as its definition tells it: a plain list of commits.
 
 use prog_tree::{Cell, Changes};
-use std::alloc::{AllocError, Global};
+use std::alloc::Global;
+use std::process::Abort;
 
 /// `t[first]`, a cell of the table 0.
 pub fn cell(first: i64) -> Cell {
@@ -13,28 +14,29 @@ pub fn cell(first: i64) -> Cell {
 }
 
 /// What a commit does to `t[first]`.
-#[derive(Clone, Copy, Debug)]
+#[derive(Clone, Copy)]
 pub enum Deed {
     Put(i64, i64),
     Remove(i64),
     Keep(i64),
 }
 
-fn note(changes: &mut Changes, deed: &Deed) -> Result<(), AllocError> {
-    match *deed {
+fn note(rt: &impl Abort, changes: &mut Changes, deed: &Deed) {
+    let noted = match *deed {
         Deed::Put(first, value) => changes.put(cell(first), value),
         Deed::Remove(first) => changes.remove(cell(first)),
         Deed::Keep(first) => changes.keep(cell(first)),
-    }
+    };
+    noted.expect(rt, "memory");
 }
 
 /// The changes of a commit.
-pub fn changes(alloc: Global, deeds: &[Deed]) -> Result<Changes, AllocError> {
+pub fn changes(rt: &impl Abort, alloc: Global, deeds: &[Deed]) -> Changes {
     let mut changes = Changes::new(alloc);
     for deed in deeds {
-        note(&mut changes, deed)?;
+        note(rt, &mut changes, deed);
     }
-    Ok(changes)
+    changes
 }
 
 // What `t[first]` holds after a commit, where it held this.
@@ -69,17 +71,18 @@ fn held(given: &[(i64, i64)], commits: &[&[Deed]], first: i64) -> Option<i64> {
 
 /// The rows of `t[low..high]` after these commits were made one after another.
 pub fn rows_after(
+    rt: &impl Abort,
     alloc: Global,
     given: &[(i64, i64)],
     commits: &[&[Deed]],
     low: i64,
     high: i64,
-) -> Result<Vec<(Cell, i64)>, AllocError> {
+) -> Vec<(Cell, i64)> {
     let mut rows = Vec::new(alloc);
     for first in low..=high {
         if let Some(value) = held(given, commits, first) {
-            rows.push((cell(first), value))?;
+            rows.push((cell(first), value)).expect(rt, "memory");
         }
     }
-    Ok(rows)
+    rows
 }

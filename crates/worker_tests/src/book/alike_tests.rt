@@ -10,7 +10,7 @@ use history_book::{BeginFault, Book};
 use prog_check::ProgramSet;
 use prog_tree::{Cause, End};
 use si_workers::SharedBook;
-use std::alloc::{AllocError, Global};
+use std::alloc::Global;
 use std::process::Abort;
 use std::sync::Wait;
 use std::test::Fail;
@@ -18,75 +18,50 @@ use std::test::Fail;
 /// A call, and what it has to answer where that is said.
 type Wanted = (Call, Option<Answer>);
 
-/// What calls answered, and the book that they left.
-type Played<'a> = (Vec<Answer>, Book<'a>);
-
 // A bench over a book of these rows, which is shared or not.
 fn bench<'a>(
+    rt: &impl Abort,
     alloc: Global,
     set: &'a ProgramSet,
     rows: &[(i64, i64)],
     is_shared: bool,
-) -> Result<Bench<'a>, AllocError> {
-    let book = Book::open(alloc, set, rows_of(alloc, rows)?)?;
+) -> Bench<'a> {
+    let rows = rows_of(alloc, rows).expect(rt, "memory");
+    let book = Book::open(alloc, set, rows).expect(rt, "memory");
     let shelf = if is_shared {
         Shelf::Shared(SharedBook::new(book))
     } else {
         Shelf::Alone(book)
     };
-    Ok(Bench::new(alloc, set, shelf))
+    Bench::new(alloc, set, shelf)
 }
 
-fn answers_of(
-    rt: &impl Wait,
+fn answers_of<R: Wait + Abort>(
+    rt: &R,
     alloc: Global,
     bench: &mut Bench<'_>,
     calls: &[Wanted],
-) -> Result<Vec<Answer>, AllocError> {
+) -> Vec<Answer> {
     let mut answers = Vec::new(alloc);
     for (call, _) in calls {
-        answers.push(bench.make(rt, call))?;
+        answers.push(bench.make(rt, call)).expect(rt, "memory");
     }
-    Ok(answers)
-}
-
-fn play<'a>(
-    rt: &impl Wait,
-    alloc: Global,
-    mut bench: Bench<'a>,
-    calls: &[Wanted],
-) -> Result<Played<'a>, AllocError> {
-    let answers = answers_of(rt, alloc, &mut bench, calls);
-    let book = bench.into_book();
-    match answers {
-        Ok(answers) => Ok((answers, book)),
-        Err(fault) => {
-            drop(book);
-            Err(fault)
-        }
-    }
+    answers
 }
 
 fn check_answers(rt: &impl Abort, calls: &[Wanted], answers: &[Answer]) {
-    for ((call, wanted), answer) in calls.iter().zip(answers) {
-        assert!(rt; wanted.is_none() || *wanted == Some(*answer), "{call:?}");
+    for (number, ((_, wanted), answer)) in calls.iter().zip(answers).enumerate() {
+        assert!(rt;
+            wanted.is_none() || *wanted == Some(*answer),
+            "call {number}"
+        );
     }
 }
 
-// The answers have to be the same, and as wanted where that is said, and so has what both keep; it
-// comes to so many commits and endings.
-fn check_same(
-    rt: &impl Abort,
-    alone: &Played<'_>,
-    shared: &Played<'_>,
-    calls: &[Wanted],
-    wanted: (u64, usize),
-) -> Result<(), AllocError> {
-    assert_eq!(rt; shared.0.as_slice(), alone.0.as_slice());
-    check_answers(rt, calls, &alone.0);
-    assert!(rt; keep_the_same(&alone.1, &shared.1)?);
-    assert_eq!(rt; (alone.1.commits(), alone.1.endings().len()), wanted);
-    Ok(())
+// Both have to keep the same, which comes to so many commits and endings.
+fn check_kept(rt: &impl Abort, alone: &Book<'_>, shared: &Book<'_>, wanted: (u64, usize)) {
+    assert!(rt; keep_the_same(alone, shared) == Ok(true));
+    assert!(rt; (alone.commits(), alone.endings().len()) == wanted);
 }
 
 /// A set, rows, calls, and how many commits and endings they come to.
@@ -97,38 +72,26 @@ struct Case {
     counts: (u64, usize),
 }
 
-// Makes the calls on a shared book over the same rows.
-fn check_shared<R: Abort + Wait>(
-    rt: &R,
-    alloc: Global,
-    set: &ProgramSet,
-    case: &Case,
-    alone: &Played<'_>,
-) -> Result<(), AllocError> {
-    let shared = play(rt, alloc, bench(alloc, set, case.rows, true)?, case.calls)?;
-    let checked = check_same(rt, alone, &shared, case.calls, case.counts);
-    drop(shared);
-    checked
-}
-
-// Makes the calls on a book, and on a shared book.
-fn check_both<R: Abort + Wait>(
-    rt: &R,
-    alloc: Global,
-    set: &ProgramSet,
-    case: &Case,
-) -> Result<(), AllocError> {
-    let alone = play(rt, alloc, bench(alloc, set, case.rows, false)?, case.calls)?;
-    let checked = check_shared(rt, alloc, set, case, &alone);
+// Makes the calls on a book and on a shared book: the answers have to be the same, and as wanted
+// where that is said, and so has what both keep.
+fn check_both<R: Wait + Abort>(rt: &R, alloc: Global, set: &ProgramSet, case: &Case) {
+    let mut alone = bench(rt, alloc, set, case.rows, false);
+    let mut shared = bench(rt, alloc, set, case.rows, true);
+    let answers = answers_of(rt, alloc, &mut alone, case.calls);
+    let others = answers_of(rt, alloc, &mut shared, case.calls);
+    assert!(rt; others.as_slice() == answers.as_slice());
+    check_answers(rt, case.calls, &answers);
+    let (alone, shared) = (alone.into_book(), shared.into_book());
+    check_kept(rt, &alone, &shared, case.counts);
     drop(alone);
-    checked
+    drop(shared);
 }
 
-fn check_alike<R: Abort + Wait>(rt: &R, alloc: Global, case: &Case) -> Result<(), Fail> {
+fn check_alike<R: Wait + Abort>(rt: &R, alloc: Global, case: &Case) -> Result<(), Fail> {
     let set = set_of(alloc, case.set.text)?;
-    let checked = check_both(rt, alloc, &set, case);
+    check_both(rt, alloc, &set, case);
     drop(set);
-    Ok(checked?)
+    Ok(())
 }
 
 const READY: Option<Answer> = Some(Answer::Ran(End::Ready));
@@ -178,6 +141,37 @@ const REFUSALS: &[Wanted] = &[
     (Call::Vacuum, Some(Answer::Vacuumed(0))),
 ];
 
+/// No program of the set has this number.
+const NO_PROGRAM: usize = 3;
+
+// A look at an older number holds what it sees. The number that a vacuum has passed is gone.
+const OLDER: &[Wanted] = &[
+    (Call::Begin(SET, &[1, 5]), Some(Answer::Begun(0, 0))),
+    (Call::Run(0), READY),
+    (Call::Commit(0), Some(Answer::Committed(1))),
+    (Call::BeginAt(0, LOOK, &[1]), Some(Answer::Begun(1, 0))),
+    (Call::Vacuum, Some(Answer::Vacuumed(0))),
+    (Call::Withdraw(1), Some(Answer::Withdrawn)),
+    (Call::Vacuum, Some(Answer::Vacuumed(1))),
+    (
+        Call::BeginAt(0, NO_PROGRAM, &[]),
+        Some(Answer::NotBegun(BeginFault::NoSuchProgram)),
+    ),
+    (
+        Call::BeginAt(2, LOOK, &[]),
+        Some(Answer::NotBegun(BeginFault::WrongArguments)),
+    ),
+    (
+        Call::BeginAt(0, LOOK, &[1]),
+        Some(Answer::NotBegun(BeginFault::TooOld { floor: 1 })),
+    ),
+    (
+        Call::BeginAt(2, LOOK, &[1]),
+        Some(Answer::NotBegun(BeginFault::TooNew { commits: 1 })),
+    ),
+    (Call::BeginAt(1, LOOK, &[1]), Some(Answer::Begun(2, 1))),
+];
+
 const GREATEST: &[(i64, i64)] = &[(1, i64::MAX), (2, 1)];
 
 const COMMITTED: Case = Case {
@@ -194,9 +188,16 @@ const REFUSED: Case = Case {
     counts: (0, 2),
 };
 
+const BEGUN_AT: Case = Case {
+    set: REGISTERS,
+    rows: &[(1, 0)],
+    calls: OLDER,
+    counts: (1, 1),
+};
+
 #[test]
 fn both_books_commit_vacuum_and_refuse_alike(rt: HostRuntime) -> Result<(), Fail> {
-    for case in &[COMMITTED, REFUSED] {
+    for case in &[COMMITTED, REFUSED, BEGUN_AT] {
         check_alike(&rt, rt.alloc(), case)?;
     }
     Ok(())

@@ -1,12 +1,14 @@
 //! Instances over a book that is shared or not.
 
-use crate::book::answer::{Answer, Call, Instance, commit_refused, end_refused};
+use crate::book::answer::{Answer, Call, Instance};
 use crate::book::shelf::Shelf;
-use history_book::{Book, Ticket};
+use history_book::{BeginFault, Book, Ticket};
 use prog_check::ProgramSet;
 use prog_run::{Next, Run};
 use prog_tree::End;
 use std::alloc::Global;
+use std::mem;
+use std::process::Abort;
 use std::sync::Wait;
 
 // No run of the tests takes more steps.
@@ -22,20 +24,28 @@ pub struct Bench<'a> {
 }
 
 // One step of a run, with what it asks for read in the book.
-fn step(rt: &impl Wait, shelf: &Shelf<'_>, ticket: &Ticket, run: &mut Run<'_>) -> Option<Next> {
-    match run.advance().ok()? {
-        Next::Get(cell) => run.answer_get(shelf.get(rt, ticket, &cell).ok()?).ok(),
-        Next::Scan(region) => {
-            let rows = shelf.scan(rt, ticket, &region).ok()?;
-            run.answer_scan(rows.as_slice()).ok()
+fn step<R: Wait + Abort>(rt: &R, shelf: &Shelf<'_>, ticket: &Ticket, run: &mut Run<'_>) -> Next {
+    match run.advance().expect(rt, "a step") {
+        Next::Get(cell) => {
+            let held = shelf.get(rt, ticket, &cell).expect(rt, "what a cell holds");
+            run.answer_get(held).expect(rt, "a step")
         }
-        next => Some(next),
+        Next::Scan(region) => {
+            let rows = shelf.scan(rt, ticket, &region).expect(rt, "rows");
+            run.answer_scan(rows.as_slice()).expect(rt, "a step")
+        }
+        next => next,
     }
 }
 
-fn finish(rt: &impl Wait, shelf: &Shelf<'_>, ticket: &Ticket, run: &mut Run<'_>) -> Option<End> {
+fn finish<R: Wait + Abort>(
+    rt: &R,
+    shelf: &Shelf<'_>,
+    ticket: &Ticket,
+    run: &mut Run<'_>,
+) -> Option<End> {
     for _ in 0..MOST_STEPS {
-        if let Next::Done(end) = step(rt, shelf, ticket, run)? {
+        if let Next::Done(end) = step(rt, shelf, ticket, run) {
             return Some(end);
         }
     }
@@ -52,75 +62,92 @@ impl<'a> Bench<'a> {
         }
     }
 
-    fn begin(&mut self, rt: &impl Wait, program: usize, args: &[i64]) -> Answer {
-        let ticket = match self.shelf.begin(rt, program, args) {
-            Ok(ticket) => ticket,
-            Err(fault) => return Answer::NotBegun(fault),
-        };
+    // Keeps an instance that was begun.
+    fn keep(&mut self, rt: &impl Abort, ticket: Ticket, run: Run<'a>) -> Answer {
         let answer = Answer::Begun(ticket.number(), ticket.start());
-        let Ok(run) = Run::new(self.alloc, self.set, program, args) else {
-            return Answer::Memory;
-        };
-        match self.instances.push(Some((ticket, run))) {
-            Ok(()) => answer,
-            Err(_) => Answer::Memory,
+        self.instances
+            .push(Some((ticket, run)))
+            .expect(rt, "memory");
+        answer
+    }
+
+    // What came of a begin; the instance is kept.
+    fn begun(
+        &mut self,
+        rt: &impl Abort,
+        begun: Result<Ticket, BeginFault>,
+        program: usize,
+        args: &[i64],
+    ) -> Answer {
+        match begun {
+            Ok(ticket) => {
+                let run = Run::new(self.alloc, self.set, program, args).expect(rt, "a run");
+                self.keep(rt, ticket, run)
+            }
+            Err(fault) => Answer::NotBegun(fault),
         }
+    }
+
+    fn begin<R: Wait + Abort>(&mut self, rt: &R, program: usize, args: &[i64]) -> Answer {
+        let begun = self.shelf.begin(rt, program, args);
+        self.begun(rt, begun, program, args)
+    }
+
+    fn begin_at<R: Wait + Abort>(
+        &mut self,
+        rt: &R,
+        start: u64,
+        program: usize,
+        args: &[i64],
+    ) -> Answer {
+        let begun = self.shelf.begin_at(rt, start, program, args);
+        self.begun(rt, begun, program, args)
     }
 
     fn take(&mut self, number: usize) -> Option<Instance<'a>> {
         self.instances.get_mut(number)?.take()
     }
 
-    fn put_back(&mut self, number: usize, instance: Option<Instance<'a>>) {
-        if let Some(place) = self.instances.get_mut(number) {
-            *place = instance;
-        }
+    fn put_back(&mut self, rt: &impl Abort, number: usize, instance: Option<Instance<'a>>) {
+        let place = self.instances.get_mut(number).expect(rt, "a place");
+        drop(mem::replace(place, instance));
     }
 
-    fn run(&mut self, rt: &impl Wait, number: usize) -> Answer {
+    fn run<R: Wait + Abort>(&mut self, rt: &R, number: usize) -> Answer {
         let Some((ticket, mut run)) = self.take(number) else {
             return Answer::Nothing;
         };
         let ended = finish(rt, &self.shelf, &ticket, &mut run);
-        self.put_back(number, Some((ticket, run)));
+        self.put_back(rt, number, Some((ticket, run)));
         match ended {
             Some(end) => Answer::Ran(end),
             None => Answer::Nothing,
         }
     }
 
-    fn commit(&mut self, rt: &impl Wait, number: usize) -> Answer {
+    fn commit<R: Wait + Abort>(&mut self, rt: &R, number: usize) -> Answer {
         let Some((ticket, run)) = self.take(number) else {
             return Answer::Nothing;
         };
-        match self.shelf.commit(rt, ticket, run) {
-            Ok(receipt) => Answer::Committed(receipt.number()),
-            Err(fault) => {
-                let (answer, back) = commit_refused(fault);
-                self.put_back(number, back);
-                answer
-            }
-        }
+        let (answer, back) = self.shelf.commit(rt, ticket, run);
+        self.put_back(rt, number, back);
+        answer
     }
 
-    fn end(&mut self, rt: &impl Wait, number: usize) -> Answer {
+    fn end<R: Wait + Abort>(&mut self, rt: &R, number: usize) -> Answer {
         let Some((ticket, run)) = self.take(number) else {
             return Answer::Nothing;
         };
-        match self.shelf.end(rt, ticket, run) {
-            Ok(()) => Answer::Aborted,
-            Err(fault) => {
-                let (answer, back) = end_refused(fault);
-                self.put_back(number, back);
-                answer
-            }
-        }
+        let (answer, back) = self.shelf.end(rt, ticket, run);
+        self.put_back(rt, number, back);
+        answer
     }
 
     fn withdraw(&mut self, rt: &impl Wait, number: usize) -> Answer {
-        let Some((ticket, _run)) = self.take(number) else {
+        let Some((ticket, run)) = self.take(number) else {
             return Answer::Nothing;
         };
+        drop(run);
         match self.shelf.withdraw(rt, ticket) {
             Ok(()) => Answer::Withdrawn,
             Err(_) => Answer::NoSuchTicket,
@@ -128,9 +155,10 @@ impl<'a> Bench<'a> {
     }
 
     /// Makes a call.
-    pub fn make(&mut self, rt: &impl Wait, call: &Call) -> Answer {
+    pub fn make<R: Wait + Abort>(&mut self, rt: &R, call: &Call) -> Answer {
         match call {
             Call::Begin(program, args) => self.begin(rt, *program, args),
+            Call::BeginAt(start, program, args) => self.begin_at(rt, *start, *program, args),
             Call::Run(number) => self.run(rt, *number),
             Call::Commit(number) => self.commit(rt, *number),
             Call::End(number) => self.end(rt, *number),
@@ -141,7 +169,12 @@ impl<'a> Bench<'a> {
 
     /// The book, with the instances let go.
     pub fn into_book(self) -> Book<'a> {
-        let Bench { shelf, .. } = self;
+        let Bench {
+            shelf,
+            instances,
+            ..
+        } = self;
+        drop(instances);
         shelf.into_book()
     }
 }

@@ -1,68 +1,40 @@
 //! Begins that have to see a commit.
 
-use crate::sets::{LOOK, REGISTERS, SET, cell};
+use crate::sets::{LOOK, REGISTERS, SET, cell, rows_of};
 use example_sets::set_of;
-use history_book::{Book, Receipt};
+use history_book::{Book, Receipt, Ticket};
 use prog_check::ProgramSet;
 use prog_run::Run;
-use prog_tree::Rows;
 use si_workers::{BeginAfterFault, SharedBook};
-use std::alloc::{AllocError, Global};
+use std::alloc::Global;
 use std::process::Abort;
 use std::sync::Wait;
 use std::test::Fail;
 
-fn open<'a>(alloc: Global, set: &'a ProgramSet) -> Result<SharedBook<'a>, AllocError> {
-    let book = Book::open(alloc, set, Rows::new(alloc))?;
-    Ok(SharedBook::new(book))
+// A shared book in which `t[1]` is 0.
+fn open<'a>(rt: &impl Abort, alloc: Global, set: &'a ProgramSet) -> SharedBook<'a> {
+    let rows = rows_of(alloc, &[(1, 0)]).expect(rt, "memory");
+    SharedBook::new(Book::open(alloc, set, rows).expect(rt, "memory"))
 }
 
-fn advance_twice(run: &mut Run<'_>) -> Option<()> {
-    run.advance().ok()?;
-    run.advance().ok()?;
-    Some(())
+// A run of `Set(1, 5)`, at its end.
+fn run<'a>(rt: &impl Abort, alloc: Global, set: &'a ProgramSet) -> Run<'a> {
+    let mut run = Run::new(alloc, set, SET, &[1, 5]).expect(rt, "a run");
+    run.advance().expect(rt, "a step");
+    run.advance().expect(rt, "a step");
+    run
 }
 
-// A run of `Set` with these arguments, at its end.
-fn run_of<'a>(alloc: Global, set: &'a ProgramSet, args: &[i64]) -> Option<Run<'a>> {
-    let mut run = Run::new(alloc, set, SET, args).ok()?;
-    if advance_twice(&mut run).is_some() {
-        return Some(run);
-    }
-    drop(run);
-    None
-}
-
-// Begins an instance of `Set` and commits it.
-fn commit<'a>(
-    rt: &impl Wait,
+// Begins `Set(1, 5)` and commits it.
+fn set_five<'a, R: Abort + Wait>(
+    rt: &R,
     alloc: Global,
     set: &'a ProgramSet,
     shared: &SharedBook<'a>,
-    args: &[i64],
-) -> Option<Receipt> {
-    let ticket = shared.begin(rt, SET, args).ok()?;
-    let run = run_of(alloc, set, args)?;
-    shared.commit(rt, ticket, run).ok()
-}
-
-fn commit_thrice<'a>(
-    rt: &impl Wait,
-    alloc: Global,
-    set: &'a ProgramSet,
-    shared: &SharedBook<'a>,
-) -> Option<Receipt> {
-    commit(rt, alloc, set, shared, &[1, 5])?;
-    commit(rt, alloc, set, shared, &[1, 6])?;
-    commit(rt, alloc, set, shared, &[1, 7])
-}
-
-// The receipt of the third commit of a book.
-fn third_receipt(rt: &impl Wait, alloc: Global, set: &ProgramSet) -> Option<Receipt> {
-    let shared = open(alloc, set).ok()?;
-    let receipt = commit_thrice(rt, alloc, set, &shared);
-    drop(shared);
-    receipt
+) -> Receipt {
+    let run = run(rt, alloc, set);
+    let ticket = shared.begin(rt, SET, &[1, 5]).expect(rt, "a ticket");
+    shared.commit(rt, ticket, run).expect(rt, "a commit")
 }
 
 // The start of a look that is begun after a receipt, and what it finds.
@@ -77,57 +49,66 @@ fn look_after(
 }
 
 // How many commits the book has, and what `t[1]` holds behind them.
-fn kept(book: &Book<'_>) -> Result<(u64, Option<i64>), AllocError> {
-    let rows = book.table()?;
-    Ok((book.commits(), rows.get(&cell(1))))
-}
-
-// The same of a look after the first commit of a shared book.
-fn look_after_commit<'a>(
-    rt: &impl Wait,
-    alloc: Global,
-    set: &'a ProgramSet,
-    shared: &SharedBook<'a>,
-) -> Option<(u64, Option<i64>)> {
-    let receipt = commit(rt, alloc, set, shared, &[1, 5])?;
-    look_after(rt, shared, &receipt).ok()
+fn kept(rt: &impl Abort, book: &Book<'_>) -> (u64, Option<i64>) {
+    let rows = book.table().expect(rt, "memory");
+    (book.commits(), rows.get(&cell(1)))
 }
 
 // The look has to see the commit, and so has the book.
-fn check_fresh<R: Abort + Wait>(rt: &R, alloc: Global, set: &ProgramSet) -> Result<(), AllocError> {
-    let shared = open(alloc, set)?;
-    let looked = look_after_commit(rt, alloc, set, &shared);
+fn check_fresh<R: Abort + Wait>(rt: &R, alloc: Global, set: &ProgramSet) {
+    let shared = open(rt, alloc, set);
+    let receipt = set_five(rt, alloc, set, &shared);
+    let looked = look_after(rt, &shared, &receipt);
     let book = shared.into_book();
-    let kept = kept(&book);
+    let kept = kept(rt, &book);
     drop(book);
-    assert_eq!(rt; looked, Some((1, Some(5))));
-    assert_eq!(rt; kept, Ok((1, Some(5))));
-    Ok(())
+    assert!(rt; looked == Ok((1, Some(5))));
+    assert!(rt; kept == (1, Some(5)));
 }
 
 #[test]
 fn a_begin_after_a_receipt_sees_its_commit(rt: HostRuntime) -> Result<(), Fail> {
     let set = set_of(rt.alloc(), REGISTERS.text)?;
-    let checked = check_fresh(&rt, rt.alloc(), &set);
+    check_fresh(&rt, rt.alloc(), &set);
     drop(set);
-    Ok(checked?)
+    Ok(())
 }
 
-// A book without commits has to be behind a receipt of another.
-fn check_behind<R: Abort + Wait>(rt: &R, alloc: Global, set: &ProgramSet) -> Result<(), Fail> {
-    let receipt = third_receipt(rt, alloc, set).ok_or("no commit")?;
-    let shared = open(alloc, set)?;
-    let looked = look_after(rt, &shared, &receipt);
+// The receipt of the third commit of a book.
+fn third_receipt<R: Abort + Wait>(rt: &R, alloc: Global, set: &ProgramSet) -> Receipt {
+    let shared = open(rt, alloc, set);
+    set_five(rt, alloc, set, &shared);
+    set_five(rt, alloc, set, &shared);
+    let receipt = set_five(rt, alloc, set, &shared);
     drop(shared);
-    let behind = BeginAfterFault::Behind { commits: 0 };
-    assert_eq!(rt; looked, Err(behind));
-    Ok(())
+    receipt
+}
+
+// The ticket's instance alone has to hold the row that the book was opened with.
+fn check_active(rt: &impl Abort, book: &mut Book<'_>, ticket: Ticket) {
+    assert!(rt; book.vacuum() == 0);
+    assert!(rt; book.withdraw(ticket).is_ok());
+    assert!(rt; book.vacuum() == 1);
+}
+
+// A book without commits has to be behind a receipt of another, with the active instances as
+// before.
+fn check_behind<R: Abort + Wait>(rt: &R, alloc: Global, set: &ProgramSet) {
+    let receipt = third_receipt(rt, alloc, set);
+    let shared = open(rt, alloc, set);
+    let ticket = shared.begin(rt, LOOK, &[1]).expect(rt, "a ticket");
+    let looked = look_after(rt, &shared, &receipt);
+    set_five(rt, alloc, set, &shared);
+    let mut book = shared.into_book();
+    check_active(rt, &mut book, ticket);
+    drop(book);
+    assert!(rt; looked == Err(BeginAfterFault::Behind { commits: 0 }));
 }
 
 #[test]
 fn a_book_without_commits_is_behind_a_receipt_of_another(rt: HostRuntime) -> Result<(), Fail> {
     let set = set_of(rt.alloc(), REGISTERS.text)?;
-    let checked = check_behind(&rt, rt.alloc(), &set);
+    check_behind(&rt, rt.alloc(), &set);
     drop(set);
-    checked
+    Ok(())
 }

@@ -21,8 +21,15 @@ fn same_endings(book: &Book<'_>, other: &Book<'_>) -> bool {
             .all(|(ending, other)| ending.is_same(other))
 }
 
+/// Whether both have the same rows behind all commits.
+pub fn have_same_rows(book: &Book<'_>, other: &Book<'_>) -> Result<bool, AllocError> {
+    let rows = book.table()?;
+    let others = other.table()?;
+    Ok(rows.is_same(&others))
+}
+
 /// Whether both have the same history, the same endings and the same rows.
 pub fn keep_the_same(book: &Book<'_>, other: &Book<'_>) -> Result<bool, AllocError> {
     let same = same_commits(book, other) && same_endings(book, other);
-    Ok(same && book.table()?.is_same(&other.table()?))
+    Ok(same && have_same_rows(book, other)?)
 }

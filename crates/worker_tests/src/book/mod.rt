@@ -2,8 +2,7 @@
 
 mod alike_tests;
 mod answer;
-mod behind_tests;
 mod bench;
 mod fresh_tests;
-mod kept;
+pub mod kept;
 mod shelf;

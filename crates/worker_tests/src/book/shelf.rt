@@ -1,8 +1,7 @@
 //! A book that is shared or not, with the same calls.
 
-use history_book::{
-    BeginFault, Book, CommitFault, EndFault, NoSuchTicket, Receipt, ScanFault, Ticket,
-};
+use crate::book::answer::{Answer, Instance, commit_refused, end_refused};
+use history_book::{BeginFault, Book, NoSuchTicket, ScanFault, Ticket};
 use prog_run::Run;
 use prog_tree::{Cell, Region, Sequence};
 use si_workers::SharedBook;
@@ -24,6 +23,19 @@ impl<'a> Shelf<'a> {
         match self {
             Shelf::Alone(book) => book.begin(program, args),
             Shelf::Shared(book) => book.begin(rt, program, args),
+        }
+    }
+
+    pub fn begin_at(
+        &mut self,
+        rt: &impl Wait,
+        start: u64,
+        program: usize,
+        args: &[i64],
+    ) -> Result<Ticket, BeginFault> {
+        match self {
+            Shelf::Alone(book) => book.begin_at(start, program, args),
+            Shelf::Shared(book) => book.begin_at(rt, start, program, args),
         }
     }
 
@@ -51,27 +63,37 @@ impl<'a> Shelf<'a> {
         }
     }
 
+    /// Tries to commit an instance, which comes back where it is not ended.
     pub fn commit(
         &mut self,
         rt: &impl Wait,
         ticket: Ticket,
         run: Run<'a>,
-    ) -> Result<Receipt, CommitFault<'a>> {
-        match self {
+    ) -> (Answer, Option<Instance<'a>>) {
+        let committed = match self {
             Shelf::Alone(book) => book.commit(ticket, run),
             Shelf::Shared(book) => book.commit(rt, ticket, run),
+        };
+        match committed {
+            Ok(receipt) => (Answer::Committed(receipt.number()), None),
+            Err(fault) => commit_refused(fault),
         }
     }
 
+    /// Tries to end an instance, which comes back where it is not ended.
     pub fn end(
         &mut self,
         rt: &impl Wait,
         ticket: Ticket,
         run: Run<'a>,
-    ) -> Result<(), EndFault<'a>> {
-        match self {
+    ) -> (Answer, Option<Instance<'a>>) {
+        let ended = match self {
             Shelf::Alone(book) => book.end(ticket, run),
             Shelf::Shared(book) => book.end(rt, ticket, run),
+        };
+        match ended {
+            Ok(()) => (Answer::Aborted, None),
+            Err(fault) => end_refused(fault),
         }
     }
 

@@ -1,13 +1,13 @@
 //! Two workers really at once: a gate lets each job go on only once the other has come so far.
 
-use crate::jobs::lists::{Call, jobs_of};
+use crate::jobs::lists::{Call, jobs_of, run};
 use crate::jobs::meeting::{Hold, Meeting};
 use crate::jobs::outcomes::{Came, check_outcomes};
 use crate::sets::{LOOK, REGISTERS, SET, robust};
 use history_book::Clash;
-use prog_tree::{Cell, Rows};
+use prog_tree::Cell;
 use robust_cert::RobustSet;
-use si_workers::{Moment, run_jobs};
+use si_workers::Moment;
 use std::alloc::Global;
 use std::process::Abort;
 use std::sync::Wait;
@@ -22,36 +22,19 @@ const CROSSED: [Hold; 2] = [
 ];
 
 // Runs jobs on two workers, crossed; each has to end as wanted.
-fn cross_in<R: Threads + Wait + Clock + Abort + Sync>(
+fn cross<R: Threads + Wait + Clock + Abort + Sync>(
     rt: &R,
     alloc: Global,
     set: &RobustSet,
     calls: &[Call],
     wanted: &[(Came, u64)],
-) -> Result<(), Fail> {
-    let jobs = jobs_of(alloc, calls)?;
+) {
+    let jobs = jobs_of(alloc, calls).expect(rt, "memory");
     let gate = Meeting::new(rt, &CROSSED);
-    let finished = run_jobs(rt, alloc, set, Rows::new(alloc), &jobs, 2, &gate);
-    drop(jobs);
-    let Ok(finished) = finished else {
-        return Err(Fail::new("a fault"));
-    };
+    let finished = run(rt, alloc, set, &[], &jobs, 2, &gate);
     assert!(rt; gate.was_kept());
     check_outcomes(rt, finished.outcomes.as_slice(), wanted);
     drop(finished);
-    Ok(())
-}
-
-fn cross<R: Threads + Wait + Clock + Abort + Sync>(
-    rt: &R,
-    alloc: Global,
-    calls: &[Call],
-    wanted: &[(Came, u64)],
-) -> Result<(), Fail> {
-    let set = robust(alloc, &REGISTERS)?;
-    let crossed = cross_in(rt, alloc, &set, calls, wanted);
-    drop(set);
-    crossed
 }
 
 const CLASH: Clash = Clash {
@@ -89,8 +72,10 @@ const CASES: [Case; 3] = [
 
 #[test]
 fn jobs_at_once_look_clash_and_are_begun_anew(rt: HostRuntime) -> Result<(), Fail> {
+    let set = robust(rt.alloc(), &REGISTERS)?;
     for (calls, wanted) in &CASES {
-        cross(&rt, rt.alloc(), calls, wanted)?;
+        cross(&rt, rt.alloc(), &set, calls, wanted);
     }
+    drop(set);
     Ok(())
 }

@@ -1,16 +1,22 @@
-//! Lists of jobs as plain data.
+//! Lists of jobs as plain data, and jobs that are run.
 
+use crate::sets::rows_of;
 use prog_tree::Sequence;
-use si_workers::Job;
+use robust_cert::RobustSet;
+use si_workers::{Finished, Gate, Job, run_jobs};
 use std::alloc::{AllocError, Global};
+use std::process::Abort;
+use std::sync::Wait;
+use std::thread::Threads;
 
 /// The program of a job, its arguments and its retries.
 pub type Call = (usize, &'static [i64], u32);
 
 fn job(alloc: Global, program: usize, args: &[i64], retries: u32) -> Result<Job, AllocError> {
+    let args = Vec::from_slice(alloc, args)?;
     Ok(Job {
         program,
-        args: Sequence::from_vec(Vec::from_slice(alloc, args)?),
+        args: Sequence::from_vec(args),
         retries,
     })
 }
@@ -40,4 +46,18 @@ pub fn many(alloc: Global, count: usize) -> Result<Vec<Job>, AllocError> {
         jobs.push(job(alloc, 0, &[], 0)?)?;
     }
     Ok(jobs)
+}
+
+/// Runs jobs, which have no fault.
+pub fn run<'a, R: Threads + Wait + Abort + Sync, G: Gate + Sync>(
+    rt: &R,
+    alloc: Global,
+    set: &'a RobustSet,
+    rows: &[(i64, i64)],
+    jobs: &[Job],
+    workers: usize,
+    gate: &G,
+) -> Finished<'a> {
+    let rows = rows_of(alloc, rows).expect(rt, "memory");
+    run_jobs(rt, alloc, set, rows, jobs, workers, gate).expect(rt, "no fault")
 }

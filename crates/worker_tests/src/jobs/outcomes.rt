@@ -3,11 +3,11 @@
 use history_book::{BeginFault, Clash};
 use prog_tree::Cause;
 use si_workers::{JobEnd, JobOutcome};
-use std::alloc::{AllocError, Global};
+use std::alloc::Global;
 use std::process::Abort;
 
 /// How a job ended.
-#[derive(Clone, Copy, Debug, PartialEq, Eq)]
+#[derive(Clone, Copy, PartialEq, Eq)]
 pub enum Came {
     /// With the number of the commit, and its first reply.
     Committed(u64, Option<i64>),
@@ -29,20 +29,20 @@ fn end_of(outcome: &JobOutcome) -> Came {
 
 /// Each job has to have ended as wanted, with so many clashes.
 pub fn check_outcomes(rt: &impl Abort, outcomes: &[JobOutcome], wanted: &[(Came, u64)]) {
-    assert_eq!(rt; outcomes.len(), wanted.len());
+    assert!(rt; outcomes.len() == wanted.len());
     for (outcome, wanted) in outcomes.iter().zip(wanted) {
-        assert_eq!(rt; (end_of(outcome), outcome.clashes), *wanted);
+        assert!(rt; (end_of(outcome), outcome.clashes) == *wanted);
     }
 }
 
 /// The numbers of the commits, the least first.
-pub fn commits(alloc: Global, outcomes: &[JobOutcome]) -> Result<Vec<u64>, AllocError> {
+pub fn commits(rt: &impl Abort, alloc: Global, outcomes: &[JobOutcome]) -> Vec<u64> {
     let mut numbers = Vec::new(alloc);
     for outcome in outcomes {
         if let JobEnd::Committed { number, .. } = &outcome.job_end {
-            numbers.push(*number)?;
+            numbers.push(*number).expect(rt, "memory");
         }
     }
-    numbers.sort()?;
-    Ok(numbers)
+    numbers.sort().expect(rt, "memory");
+    numbers
 }

@@ -1,10 +1,11 @@
 //! Two workers inside a read of the book at once: a lock that one reader keeps from another fails.
 
-use crate::jobs::lists::{Call, jobs_of};
+use crate::jobs::lists::{Call, jobs_of, run};
 use crate::jobs::meeting::{Hold, Meeting};
 use crate::jobs::outcomes::commits;
-use crate::sets::{Certified, LOOK, OVERFLOW, REGISTERS, TOTAL, robust, rows_of};
-use si_workers::{Moment, run_jobs};
+use crate::sets::{LOOK, OVERFLOW, REGISTERS, TOTAL, robust};
+use robust_cert::RobustSet;
+use si_workers::Moment;
 use std::alloc::Global;
 use std::process::Abort;
 use std::sync::Wait;
@@ -25,38 +26,32 @@ const BESIDE: [Hold; 4] = [
 fn read_beside<R: Threads + Wait + Clock + Abort + Sync>(
     rt: &R,
     alloc: Global,
-    set: &Certified,
+    set: &RobustSet,
     calls: &[Call],
-) -> Result<(), Fail> {
-    let set = robust(alloc, set)?;
-    let jobs = jobs_of(alloc, calls)?;
-    let rows = rows_of(alloc, &[(1, 5), (2, 7)])?;
+) {
+    let jobs = jobs_of(alloc, calls).expect(rt, "memory");
     let gate = Meeting::new(rt, &BESIDE);
-    let Ok(finished) = run_jobs(rt, alloc, &set, rows, &jobs, 2, &gate) else {
-        return Err(Fail::new("a fault"));
-    };
+    let finished = run(rt, alloc, set, &[(1, 5), (2, 7)], &jobs, 2, &gate);
     assert!(rt; gate.was_kept());
-    let numbers = commits(alloc, finished.outcomes.as_slice())?;
-    assert_eq!(rt; numbers.as_slice(), [1, 2].as_slice());
-    Ok(())
+    let numbers = commits(rt, alloc, finished.outcomes.as_slice());
+    drop(finished);
+    assert!(rt; numbers.as_slice() == [1, 2].as_slice());
 }
 
 #[test]
 fn two_looks_are_in_the_book_at_once(rt: HostRuntime) -> Result<(), Fail> {
-    read_beside(
-        &rt,
-        rt.alloc(),
-        &REGISTERS,
-        &[(LOOK, &[1], 0), (LOOK, &[2], 0)],
-    )
+    let set = robust(rt.alloc(), &REGISTERS)?;
+    let looks: [Call; 2] = [(LOOK, &[1], 0), (LOOK, &[2], 0)];
+    read_beside(&rt, rt.alloc(), &set, &looks);
+    drop(set);
+    Ok(())
 }
 
 #[test]
 fn two_sums_are_in_the_book_at_once(rt: HostRuntime) -> Result<(), Fail> {
-    read_beside(
-        &rt,
-        rt.alloc(),
-        &OVERFLOW,
-        &[(TOTAL, &[], 0), (TOTAL, &[], 0)],
-    )
+    let set = robust(rt.alloc(), &OVERFLOW)?;
+    let sums: [Call; 2] = [(TOTAL, &[], 0), (TOTAL, &[], 0)];
+    read_beside(&rt, rt.alloc(), &set, &sums);
+    drop(set);
+    Ok(())
 }

@@ -1,14 +1,14 @@
 //! Many jobs at once, and how much is too much.
 
-use crate::jobs::lists::{Call, hundred_transfers, jobs_of, many};
+use crate::jobs::lists::{Call, hundred_transfers, jobs_of, many, run};
 use crate::jobs::meeting::Meeting;
 use crate::jobs::outcomes::{Came, check_outcomes, commits};
 use crate::sets::{MAYBE, OVERFLOW, REGISTERS, TOTAL, TRANSFERS, robust, rows_of};
-use history_book::BeginFault;
+use history_book::{BeginFault, Book};
 use prog_tree::{Cause, Rows};
 use robust_cert::RobustSet;
-use si_workers::{Finished, Job, Moment, NoGate, WorkFault, run_jobs};
-use std::alloc::{AllocError, Global};
+use si_workers::{Finished, Moment, NoGate, WorkFault, run_jobs};
+use std::alloc::Global;
 use std::process::Abort;
 use std::sync::Wait;
 use std::test::Fail;
@@ -17,61 +17,34 @@ use std::time::Clock;
 
 const FOUR: [(i64, i64); 4] = [(0, 100), (1, 100), (2, 100), (3, 100)];
 
-// All jobs committed, with the numbers 1 to 100, the order fits, and the rows are as at first.
-fn check_transfers(
-    rt: &impl Abort,
-    alloc: Global,
-    finished: &Finished<'_>,
-) -> Result<(), AllocError> {
-    let numbers = commits(alloc, finished.outcomes.as_slice())?;
-    assert_eq!(rt; (finished.outcomes.len(), numbers.len()), (100, 100));
+// All jobs committed, with the numbers 1 to 100, and the order fits.
+fn check_commits(rt: &impl Abort, alloc: Global, finished: &Finished<'_>) {
+    let numbers = commits(rt, alloc, finished.outcomes.as_slice());
+    assert!(rt; finished.outcomes.len() == 100 && numbers.len() == 100);
     assert!(rt;
         (1..=100)
             .zip(&numbers)
             .all(|(wanted, number)| *number == wanted)
     );
-    assert_eq!(rt; finished.book.fits(finished.order.as_slice()), Ok(true));
-    let first = rows_of(alloc, &FOUR)?;
-    assert!(rt; finished.book.table()?.is_same(&first));
-    Ok(())
+    assert!(rt; finished.book.fits(finished.order.as_slice()) == Ok(true));
 }
 
-// Runs jobs, which have no fault.
-fn run<'a, R: Threads + Wait + Sync>(
-    rt: &R,
-    alloc: Global,
-    set: &'a RobustSet,
-    rows: &[(i64, i64)],
-    jobs: &[Job],
-    workers: usize,
-) -> Result<Finished<'a>, Fail> {
-    let rows = rows_of(alloc, rows)?;
-    match run_jobs(rt, alloc, set, rows, jobs, workers, &NoGate) {
-        Ok(finished) => Ok(finished),
-        Err(_) => Err(Fail::new("a fault")),
-    }
+fn check_rows(rt: &impl Abort, alloc: Global, book: &Book<'_>) {
+    let first = rows_of(alloc, &FOUR).expect(rt, "memory");
+    assert!(rt; book.table().expect(rt, "memory").is_same(&first));
 }
 
-fn transfer<R: Threads + Wait + Abort + Sync>(
-    rt: &R,
-    alloc: Global,
-    set: &RobustSet,
-) -> Result<(), Fail> {
-    let jobs = hundred_transfers(alloc)?;
-    let finished = run(rt, alloc, set, &FOUR, &jobs, 8);
-    drop(jobs);
-    let finished = finished?;
-    let checked = check_transfers(rt, alloc, &finished);
-    drop(finished);
-    Ok(checked?)
-}
-
+// The rows have to be as at first.
 #[test]
 fn a_hundred_transfers_commit_once_each(rt: HostRuntime) -> Result<(), Fail> {
+    let jobs = hundred_transfers(rt.alloc())?;
     let set = robust(rt.alloc(), &TRANSFERS)?;
-    let transferred = transfer(&rt, rt.alloc(), &set);
+    let finished = run(&rt, rt.alloc(), &set, &FOUR, &jobs, 8, &NoGate);
+    check_commits(&rt, rt.alloc(), &finished);
+    check_rows(&rt, rt.alloc(), &finished.book);
+    drop(finished);
     drop(set);
-    transferred
+    Ok(())
 }
 
 const CALLS: &[Call] = &[
@@ -88,36 +61,26 @@ const ENDS: &[(Came, u64)] = &[
     (Came::Committed(1, None), 0),
 ];
 
-fn end<R: Threads + Wait + Abort + Sync>(
-    rt: &R,
-    alloc: Global,
-    set: &RobustSet,
-) -> Result<(), Fail> {
-    let jobs = jobs_of(alloc, CALLS)?;
-    let finished = run(rt, alloc, set, &[(1, i64::MAX), (2, 1)], &jobs, 1);
-    drop(jobs);
-    let finished = finished?;
-    check_outcomes(rt, finished.outcomes.as_slice(), ENDS);
+#[test]
+fn jobs_end_in_each_way(rt: HostRuntime) -> Result<(), Fail> {
+    let jobs = jobs_of(rt.alloc(), CALLS)?;
+    let set = robust(rt.alloc(), &OVERFLOW)?;
+    let rows = [(1, i64::MAX), (2, 1)];
+    let finished = run(&rt, rt.alloc(), &set, &rows, &jobs, 1, &NoGate);
+    check_outcomes(&rt, finished.outcomes.as_slice(), ENDS);
     drop(finished);
+    drop(set);
     Ok(())
 }
 
-#[test]
-fn jobs_end_in_each_way(rt: HostRuntime) -> Result<(), Fail> {
-    let set = robust(rt.alloc(), &OVERFLOW)?;
-    let ended = end(&rt, rt.alloc(), &set);
-    drop(set);
-    ended
-}
-
 /// What jobs are refused for before any worker starts.
-#[derive(Clone, Copy, Debug, PartialEq, Eq)]
+#[derive(Clone, Copy, PartialEq, Eq)]
 enum Refusal {
     Workers,
     TooManyJobs,
 }
 
-fn refusal_of(ran: Result<Finished<'_>, WorkFault<'_>>) -> Option<Refusal> {
+fn refusal_of(ran: &Result<Finished<'_>, WorkFault<'_>>) -> Option<Refusal> {
     match ran {
         Err(WorkFault::Workers) => Some(Refusal::Workers),
         Err(WorkFault::TooManyJobs) => Some(Refusal::TooManyJobs),
@@ -133,14 +96,14 @@ fn check_refused<R: Threads + Wait + Clock + Abort + Sync>(
     workers: usize,
     count: usize,
     wanted: Refusal,
-) -> Result<(), AllocError> {
-    let jobs = many(alloc, count)?;
+) {
+    let jobs = many(alloc, count).expect(rt, "memory");
     let gate = Meeting::new(rt, &[]);
-    let refusal = refusal_of(run_jobs(rt, alloc, set, Rows::new(alloc), &jobs, workers, &gate));
-    drop(jobs);
-    assert_eq!(rt; refusal, Some(wanted), "{count} jobs by {workers}");
+    let ran = run_jobs(rt, alloc, set, Rows::new(alloc), &jobs, workers, &gate);
+    let refusal = refusal_of(&ran);
+    drop(ran);
+    assert!(rt; refusal == Some(wanted), "{count} jobs by {workers}");
     assert!(rt; !gate.came((0, Moment::Begun)));
-    Ok(())
 }
 
 const ASKED: [(usize, usize, Refusal); 4] = [
@@ -150,21 +113,12 @@ const ASKED: [(usize, usize, Refusal); 4] = [
     (8, 100_001, Refusal::TooManyJobs),
 ];
 
-fn check_all_refused<R: Threads + Wait + Clock + Abort + Sync>(
-    rt: &R,
-    alloc: Global,
-    set: &RobustSet,
-) -> Result<(), AllocError> {
-    for (workers, count, wanted) in ASKED {
-        check_refused(rt, alloc, set, workers, count, wanted)?;
-    }
-    Ok(())
-}
-
 #[test]
 fn none_and_too_many_start_nothing(rt: HostRuntime) -> Result<(), Fail> {
     let set = robust(rt.alloc(), &REGISTERS)?;
-    let checked = check_all_refused(&rt, rt.alloc(), &set);
+    for (workers, count, wanted) in ASKED {
+        check_refused(&rt, rt.alloc(), &set, workers, count, wanted);
+    }
     drop(set);
-    Ok(checked?)
+    Ok(())
 }

@@ -1,0 +1,46 @@
+//! Calls that are made again where memory was refused. `tests/refused-calls` runs this test with
+//! each request refused in turn, so that each call is refused each of its requests; by itself it
+//! refuses none.
+
+use crate::certificates::checked_tests::told;
+use crate::certificates::text_tests::TRANSFERS;
+use example_sets::{TRANSFER, checked_when_asked_again};
+use prog_check::ProgramSet;
+use robust_cert::{CertFault, Certificate, JsonFault, RobustSet, from_json, verify};
+use std::alloc::Global;
+use std::test::Fail;
+
+// What `from_json` answers, asked again where memory was refused.
+fn read(alloc: Global, text: &str) -> Result<Certificate, JsonFault> {
+    match from_json(alloc, text.as_bytes()) {
+        Err(JsonFault::Memory) => from_json(alloc, text.as_bytes()),
+        answer => answer,
+    }
+}
+
+// What `verify` answers, asked again of the set that it hands back where memory was refused.
+fn verified(
+    alloc: Global,
+    set: ProgramSet,
+    certificate: &Certificate,
+) -> Result<RobustSet, (ProgramSet, CertFault)> {
+    match verify(alloc, set, certificate) {
+        Err((set, CertFault::Memory)) => verify(alloc, set, certificate),
+        answer => answer,
+    }
+}
+
+/// What the checker says of a certificate for the transfer set: how many programs are robust.
+fn said(alloc: Global, certificate: &Certificate) -> Result<Result<usize, CertFault>, Fail> {
+    let set = checked_when_asked_again(alloc, TRANSFER)??;
+    Ok(told(verified(alloc, set, certificate)))
+}
+
+#[test]
+fn certificates_are_read_and_checked_when_asked_again(rt: HostRuntime) -> Result<(), Fail> {
+    let certificate = read(rt.alloc(), TRANSFERS)?;
+    let said = said(rt.alloc(), &certificate);
+    drop(certificate);
+    assert!(rt; said? == Ok(1));
+    Ok(())
+}
