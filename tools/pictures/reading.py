@@ -12,12 +12,18 @@ def call(program, arguments):
     return f"{program}({', '.join(arguments)})"
 
 
+def begun(words):
+    """What a line of a begin calls: behind `begin-at` stands the number of commits that it sees."""
+    front = 2 if words[0] == "begin-at" else 1
+    return call(words[front], words[front + 1:])
+
+
 class RunReader:
     """Goes over the lines that a run prints; each that tells something of an instance takes a column of time."""
 
     def __init__(self, script):
         begins = (split_words(line) for line in script)
-        self.begins = (call(words[1], words[2:]) for words in begins if words[:1] == ["begin"])
+        self.begins = (begun(words) for words in begins if words[:1] in (["begin"], ["begin-at"]))
         self.history = History("instance")
 
     def column(self):

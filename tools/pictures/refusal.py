@@ -6,7 +6,7 @@ from pictures.asking import parameters
 from pictures.history import shown
 
 EDGE = re.compile(r"(?:first|second) (\d+):(\S+) (\d+), (\d+):(\S+) (\d+), \((.*?)\) \((.*?)\)")
-POINTED = re.compile(r"line (\d+), column \d+: `")
+POINTED = re.compile(r"line (\d+), column \d+: ")
 CIRCLE = "in a serial order "
 
 
@@ -79,8 +79,9 @@ class Refusal:
 
 
 def statements_of(lines):
-    """The line's number and the statement of each place that the words point at."""
-    return [(told[1], lines[at + 1].strip()) for at, it in enumerate(lines) if (told := POINTED.match(it))]
+    """The line's number and the statement of each place that the words point at; an edge that is both is told once."""
+    told = [(it[1], lines[at + 1].strip()) for at, line in enumerate(lines) if (it := POINTED.match(line))]
+    return told * 2 if len(told) == 2 else told
 
 
 def accesses(answer, canonical_answer, edges, known):
@@ -115,5 +116,5 @@ def read_refusal(answer, canonical, canonical_answer):
         between=tuple(nodes[3:]),
         is_short=len(back) == 1,
         others=tuple(Node(name, tuple(known[name])) for name in known if name not in met),
-        sentences=tuple(it for it in answer.words[-3:] if it.startswith((CIRCLE, "what helps", "the two of each"))),
+        sentences=tuple(it for it in answer.words if it.startswith((CIRCLE, "what helps"))),
     )
