@@ -60,7 +60,7 @@ class RunReader:
     def line(self, text):
         """Any line but the last."""
         head, _, words = text.partition(" ")
-        if text in ("refused wrong arguments", "refused full") or re.fullmatch(r"\d+ begun at \d+", text):
+        if head == "refused" or re.fullmatch(r"\d+ begun at \d+", text):
             self.begin(text)
         elif not head.isdigit() or words in ("no such instance", "not ready", "ended"):
             return
