@@ -5,6 +5,7 @@ pub mod CommitLaws
 pub mod CountLaws
 pub mod FoundLaws
 pub mod HoldLaws
+pub mod NewestLaws
 pub mod PendingLaws
 pub mod RegionLaws
 pub mod ScanLaws

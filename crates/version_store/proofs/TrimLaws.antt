@@ -75,7 +75,7 @@ marks_push f n (m ∷ ms) less = go (leb m f) (marks_push f n ms less)
 
 -- ---- reading from the floor on
 
-value_append : (n : ℕ) (before : Option ℤ) (xs ys : List (ℕ × Option ℤ)) → value_after n before (xs ++ ys) ≡ value_after n (value_after n before xs) ys
+pub value_append : (n : ℕ) (before : Option ℤ) (xs ys : List (ℕ × Option ℤ)) → value_after n before (xs ++ ys) ≡ value_after n (value_after n before xs) ys
 value_append n before [] ys = refl
 value_append n before (x ∷ xs) ys = value_append n (if leb x.0 n then x.1 else before) xs ys
 

@@ -1,5 +1,6 @@
 pub mod Clash
 pub mod Commits
+pub mod Newest
 pub mod Reading
 pub mod Regions
 pub mod StandsFor

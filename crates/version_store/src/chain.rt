@@ -5,14 +5,14 @@ ghost use Rattle.version_store.specs.Reading.{last_mark, last_number, with_versi
 ghost use Rattle.version_store.specs.StandsFor.{no_chain, trimmed};
 ghost use Rattle.version_store.specs.Trimming.{versions_kept, marks_kept};
 
-use crate::version::Version;
+use crate::versions::Versions;
 use std::alloc::{AllocError, Global};
 use std::marker::Model;
 
 /// The versions of a cell, and the numbers of the commits that keep it. Both rise.
 #[derive(Debug, Drop)]
 pub struct Chain {
-    versions: Vec<Version>,
+    versions: Versions,
     marks: Vec<u64>,
 }
 
@@ -21,17 +21,7 @@ impl Model for Chain {
 
     ghost Value = { Chain };
 
-    ghost view = { λ c. record { versions = c.versions.items; marks = c.marks.items } };
-}
-
-// The number of the last version, or 0.
-fn last_version(versions: &[Version]) -> u64
-    ensures { result ≡ last_version 0 versions.now }
-{
-    match versions.last() {
-        Some(version) => version.number,
-        None => 0,
-    }
+    ghost view = { λ c. record { versions = c.versions; marks = c.marks.items } };
 }
 
 // The last mark, or 0.
@@ -42,38 +32,6 @@ fn last_mark(marks: &[u64]) -> u64
         Some(mark) => *mark,
         None => 0,
     }
-}
-
-// How many versions are at most a number.
-fn count_within(versions: &[Version], number: u64) -> usize
-    ensures bound { result ≤ length versions.now }
-    ensures cut { RisesFrom 0 versions.now → IsCutAt number versions.now result }
-{
-    if last_version(versions) <= number {
-        return versions.len();
-    }
-    versions.partition_point(|version| version.number <= number)
-}
-
-// How many of the versions go at a floor: those at most it but the last of them, and that one too
-// where it is a removal.
-fn outdated_versions(versions: &[Version], floor: u64) -> usize
-    ensures bound { result ≤ length versions.now }
-    ensures kept { versions_kept floor [] versions.now ≡ drop result versions.now }
-{
-    let mut outdated = 0;
-    for place in 0..versions.len() {
-        let version = versions[place];
-        if version.number > floor {
-            return outdated;
-        }
-        outdated = if version.value.is_some() {
-            place
-        } else {
-            place + 1
-        };
-    }
-    outdated
 }
 
 // How many of the marks go at a floor: those at most it.
@@ -94,7 +52,7 @@ impl Chain {
         ensures { result ≡ no_chain }
     {
         Chain {
-            versions: Vec::new(alloc),
+            versions: Versions::new(alloc),
             marks: Vec::new(alloc),
         }
     }
@@ -103,25 +61,21 @@ impl Chain {
     pub fn value_at(&self, number: u64) -> Option<i64>
         ensures { RisesFrom 0 self.now.versions → result ≡ value_at number self.now }
     {
-        let count = count_within(&self.versions, number);
-        if count == 0 {
-            return None;
-        }
-        self.versions[count - 1].value
+        self.versions.value_at(number)
     }
 
     /// The greatest number in it, or 0.
     pub fn last_number(&self) -> u64
         ensures { result ≡ last_number self.now }
     {
-        last_version(&self.versions).max(last_mark(&self.marks))
+        self.versions.last_number().max(last_mark(&self.marks))
     }
 
     pub fn add_version(&mut self, number: u64, value: Option<i64>) -> Result<(), AllocError>
         ensures ok { OnOk result (self.new ≡ with_version number value self.old) }
         ensures err { OnErr result (self.new ≡ self.old) }
     {
-        self.versions.push(Version { number, value })?;
+        self.versions.push(number, value)?;
         Ok(())
     }
 
@@ -137,7 +91,7 @@ impl Chain {
     pub fn cut_from(&mut self, number: u64)
         ensures { self.new ≡ cut_from number self.old }
     {
-        self.versions.retain(|version| version.number < number);
+        self.versions.cut_from(number);
         self.marks.retain(|mark| *mark < number);
     }
 
@@ -148,10 +102,7 @@ impl Chain {
     {
         let marks = outdated_marks(&self.marks, floor);
         self.marks.drain(..marks);
-        let versions = outdated_versions(&self.versions, floor);
-        self.versions.drain(..versions);
-        self.versions.shrink_to_fit();
-        versions
+        self.versions.trim(floor)
     }
 
     /// Whether nothing is left of it.

@@ -8,6 +8,7 @@ mod laws;
 mod pending;
 mod store;
 mod version;
+mod versions;
 
 pub use chains::corners;
 pub use clash::Clash;

@@ -1,8 +1,8 @@
 use Rattle.std.proofs.Common.{◌∙◌, ◌+◌, ◌<◌, ◌≤◌, Bool, if◌then◌else◌, ap, subst, arith, sym}
 use Rattle.std.specs.Prelude.{ℕ, ℤ, Option, is_some}
 use Rattle.version_store.proofs.TrimLaws.{Outdates, outdates_first, outdates_more, outdates_above, outdates_all}
-use Rattle.version_store.proofs.chain.outdated_versions.Goals as goal
-use Rattle.version_store.proofs.chain.outdated_versions.Goals.{then-is_some, else-is_some}
+use Rattle.version_store.proofs.versions.outdated_versions.Goals as goal
+use Rattle.version_store.proofs.versions.outdated_versions.Goals.{then-is_some, else-is_some}
 
 pub loop-place-init : goal.loop-place-init
 loop-place-init c = outdates_first c.args.floor c.args.versions.now

@@ -1,0 +1,27 @@
+use Rattle.std.proofs.Common.{◌≡◌, ◌∙◌, ◌≤◌, ◌<◌, ◌∷◌, ◌++◌, [], leb, false, ap, subst, sym}
+use Rattle.std.specs.Prelude.{ℕ, ℤ, Option, None, List}
+use Rattle.std.proofs.lemmas.Bool.{lt-leb}
+use Rattle.version_store.specs.Newest.{with_newest}
+use Rattle.version_store.specs.Reading.{RisesFrom, value_after}
+use Rattle.version_store.proofs.NewestLaws.{rises_older, value_newest, value_older}
+use Rattle.version_store.proofs.versions.Versions.value_at.Goals as goal
+
+pub returns-then-newest-number : goal.returns-then-newest-number
+returns-then-newest-number c = λ rises.
+    let n = c.args.number in
+    let vs = c.self.inside.older.items in
+    let v = c.in_ok-newest.newest in
+    let whole : vs ++ v ∷ [] ≡ c.args.self.now = ap (with_newest vs) (sym c.in_ok-newest.was) ∙ c.self.view_is in
+    let low : v.0 ≤ n = subst (λ (v : ℕ × Option ℤ). v.0 ≤ n) c.newest.view_is c.if-newest-number.true in
+    ap (λ (v : ℕ × Option ℤ). v.1) c.newest.view_is ∙ value_newest n vs v low ∙ ap (value_after n None) whole
+
+pub returns : goal.returns
+returns c = λ rises.
+    let n = c.args.number in
+    let vs = c.self.inside.older.items in
+    let v = c.in_ok-newest.newest in
+    let whole : vs ++ v ∷ [] ≡ c.args.self.now = ap (with_newest vs) (sym c.in_ok-newest.was) ∙ c.self.view_is in
+    let high : n < v.0 = subst (λ (v : ℕ × Option ℤ). n < v.0) c.newest.view_is c.if-newest-number.false in
+    let older = rises_older 0 vs (v ∷ []) (subst (RisesFrom 0) (sym whole) rises) in
+    subst (λ (ws : List (ℕ × Option ℤ)). RisesFrom 0 ws → c.value_among.result ≡ value_after n None ws) c.deref.ensures.value c.value_among.ensures older
+    ∙ value_older n vs v (lt-leb v.0 n high) ∙ ap (value_after n None) whole

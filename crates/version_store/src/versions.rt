@@ -1,0 +1,171 @@
+//! The versions of one cell.
+ghost use Rattle.std.specs.List.{list_all};
+ghost use Rattle.std.specs.Prelude.{◌≡◌, ◌↔◌, ◌≤◌, ◌+◌, ◌++◌, ◌∷◌, [], None, length, drop, filter, leb, nat_lt, IsTrue, OnOk, OnErr};
+ghost use Rattle.version_store.specs.Reading.{RisesFrom, IsCutAt, value_after, last_version};
+ghost use Rattle.version_store.specs.Trimming.{versions_kept};
+
+use crate::version::Version;
+use std::alloc::{AllocError, Global};
+use std::marker::Model;
+
+/// Versions by rising numbers. The newest stands in place: most cells have no other, and most reads
+/// want it.
+#[derive(Debug, Drop)]
+pub struct Versions {
+    older: Vec<Version>,
+    newest: Option<Version>,
+}
+
+impl Model for Versions {
+    ghost use Rattle.std.specs.Prelude.{ℕ, ℤ, List, Option};
+    ghost use Rattle.version_store.specs.Newest.{with_newest, HasNewest};
+
+    ghost Value = { List (ℕ × Option ℤ) };
+
+    ghost view = { λ v. with_newest v.older.items v.newest };
+
+    ghost invariant = { λ v. HasNewest v.older.items v.newest };
+}
+
+// How many versions are at most a number.
+fn count_within(versions: &[Version], number: u64) -> usize
+    ensures bound { result ≤ length versions.now }
+    ensures cut { RisesFrom 0 versions.now → IsCutAt number versions.now result }
+{
+    versions.partition_point(|version| version.number <= number)
+}
+
+// What the cell of some versions held after the first `number` commits.
+fn value_among(versions: &[Version], number: u64) -> Option<i64>
+    ensures { RisesFrom 0 versions.now → result ≡ value_after number None versions.now }
+{
+    let count = count_within(versions, number);
+    if count == 0 {
+        return None;
+    }
+    let version = versions[count - 1];
+    version.value
+}
+
+// How many of the versions go at a floor: those at most it but the last of them, and that one too
+// where it is a removal.
+fn outdated_versions(versions: &[Version], floor: u64) -> usize
+    ensures bound { result ≤ length versions.now }
+    ensures kept { versions_kept floor [] versions.now ≡ drop result versions.now }
+{
+    let mut outdated = 0;
+    for place in 0..versions.len() {
+        let version = versions[place];
+        if version.number > floor {
+            return outdated;
+        }
+        outdated = if version.value.is_some() {
+            place
+        } else {
+            place + 1
+        };
+    }
+    outdated
+}
+
+// Whether all versions are at most a floor.
+fn are_within(versions: &[Version], floor: u64) -> bool
+    ensures { result ≡ list_all (λ v. leb v.0 floor) versions.now }
+{
+    versions.iter().all(|version| version.number <= floor)
+}
+
+// Drops what a vacuum at the floor takes, and answers how many versions that were.
+fn trim_list(versions: &mut Vec<Version>, floor: u64) -> usize
+    ensures versions { versions.new.items ≡ versions_kept floor [] versions.old.items }
+    ensures count { length versions.new.items + result ≡ length versions.old.items }
+{
+    let outdated = outdated_versions(versions, floor);
+    versions.drain(..outdated);
+    versions.shrink_to_fit();
+    outdated
+}
+
+impl Versions {
+    pub fn new(alloc: Global) -> Self
+        ensures { result ≡ [] }
+    {
+        Versions {
+            older: Vec::new(alloc),
+            newest: None,
+        }
+    }
+
+    /// The number of the last version, or 0.
+    pub fn last_number(&self) -> u64
+        ensures { result ≡ last_version 0 self.now }
+    {
+        match self.newest {
+            Some(version) => version.number,
+            None => 0,
+        }
+    }
+
+    /// What the cell held after the first `number` commits.
+    pub fn value_at(&self, number: u64) -> Option<i64>
+        ensures { RisesFrom 0 self.now → result ≡ value_after number None self.now }
+    {
+        let newest = self.newest?;
+        if newest.number <= number {
+            return newest.value;
+        }
+        value_among(&self.older, number)
+    }
+
+    /// Adds a version behind the others.
+    pub fn push(&mut self, number: u64, value: Option<i64>) -> Result<(), AllocError>
+        ensures ok { OnOk result (self.new ≡ self.old ++ (number, value) ∷ []) }
+        ensures err { OnErr result (self.new ≡ self.old) }
+    {
+        if let Some(newest) = self.newest {
+            self.older.push(newest)?;
+        }
+        self.newest = Some(Version { number, value });
+        Ok(())
+    }
+
+    /// Drops those of this number or a greater one.
+    pub fn cut_from(&mut self, number: u64)
+        ensures { self.new ≡ filter (λ v. nat_lt v.0 number) self.old }
+    {
+        self.older.retain(|version| version.number < number);
+        if let Some(newest) = self.newest {
+            if newest.number >= number {
+                self.newest = self.older.pop();
+            }
+        }
+    }
+
+    /// Drops what a vacuum at the floor takes, and answers how many versions that were.
+    pub fn trim(&mut self, floor: u64) -> usize
+        ensures versions { self.new ≡ versions_kept floor [] self.old }
+        ensures count { length self.new + result ≡ length self.old }
+    {
+        let Some(newest) = self.newest else {
+            return 0;
+        };
+        if newest.number > floor || !are_within(&self.older, floor) {
+            return trim_list(&mut self.older, floor);
+        }
+        let older = self.older.len();
+        self.older.clear();
+        self.older.shrink_to_fit();
+        if newest.value.is_some() {
+            return older;
+        }
+        self.newest = None;
+        older + 1
+    }
+
+    /// Whether there is none.
+    pub fn is_empty(&self) -> bool
+        ensures { IsTrue result ↔ (self.now ≡ []) }
+    {
+        self.newest.is_none()
+    }
+}
