@@ -1,6 +1,6 @@
 ghost use Rattle.std.specs.Prelude.{◌≡◌, ◌↔◌, IfOk, IsTrue};
 ghost use Rattle.prog_tree.specs.Evaluation.{cell_of, region_of};
-ghost use Rattle.prog_tree.specs.Tree.{key_tree, range_tree, stmt_tree, block_tree};
+ghost use Rattle.prog_tree.specs.Tree.{key_tree, range_tree, listing_tree, stmt_tree, block_tree};
 
 use crate::cell::{Cell, Region};
 use crate::env::Env;
@@ -131,6 +131,38 @@ impl Range {
     }
 }
 
+/// The head of an `each`: the names of a row's last key column and of its value, and the range whose rows it lists.
+#[derive(Debug, Drop)]
+pub struct Listing {
+    pub key: Name,
+    pub value: Name,
+    pub table: Name,
+    pub range: Range,
+}
+
+impl Listing {
+    pub(crate) fn copy(&self, alloc: Global) -> Result<Self, AllocError>
+        ensures { IfOk result (λ listing. listing_tree listing ≡ listing_tree self.now) }
+    {
+        Ok(Listing {
+            key: self.key.copy()?,
+            value: self.value.copy()?,
+            table: self.table.copy()?,
+            range: self.range.copy(alloc)?,
+        })
+    }
+
+    /// Whether both mean the same.
+    pub(crate) fn is_same(&self, other: &Listing) -> bool
+        ensures { IsTrue result ↔ (listing_tree self.now ≡ listing_tree other.now) }
+    {
+        self.key.is_same(&other.key)
+            && self.value.is_same(&other.value)
+            && self.table.is_same(&other.table)
+            && self.range.is_same(&other.range)
+    }
+}
+
 /// A statement.
 #[derive(Debug, Drop)]
 #[cycle(tree)]
@@ -198,6 +230,11 @@ pub enum Stmt {
         then: Block,
         otherwise: Block,
     },
+    /// `each key, value in table[range] { body }`
+    Each {
+        listing: Listing,
+        body: Block,
+    },
     /// `reply value;`
     Reply {
         value: Expr,
@@ -237,6 +274,10 @@ impl Stmt {
                 then: then.copy()?,
                 otherwise: otherwise.copy()?,
             }),
+            Stmt::Each { listing, body } => Ok(Stmt::Each {
+                listing: listing.copy(alloc)?,
+                body: body.copy()?,
+            }),
             Stmt::Reply { value } => copy_reply(alloc, value),
             Stmt::Abort => Ok(Stmt::Abort),
         }
@@ -244,7 +285,7 @@ impl Stmt {
 
     /// Whether both mean the same.
     #[cycle(compares)]
-    #[tactic(auto, using(crate::proofs::TreeLemmas::same_branch))]
+    #[tactic(auto, using(crate::proofs::TreeLemmas::same_branch, crate::proofs::TreeLemmas::same_loop))]
     pub(crate) fn is_same(&self, other: &Stmt) -> bool
         ensures { IsTrue result ↔ (stmt_tree self.now ≡ stmt_tree other.now) }
     {
@@ -278,6 +319,18 @@ impl Stmt {
                         return false;
                     }
                     then.is_same(a) && otherwise.is_same(b)
+                }
+                _ => false,
+            },
+            Stmt::Each { listing, body } => match other {
+                Stmt::Each {
+                    listing: l,
+                    body: b,
+                } => {
+                    if !listing.is_same(l) {
+                        return false;
+                    }
+                    body.is_same(b)
                 }
                 _ => false,
             },

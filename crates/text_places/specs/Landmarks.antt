@@ -27,7 +27,7 @@ abbrev pub begins_statement : List ℕ → Bool
 begins_statement word =
     (bytes_eq word (codes "let") || (bytes_eq word (codes "lacks") || bytes_eq word (codes "put")))
     || ((bytes_eq word (codes "insert") || (bytes_eq word (codes "delete") || bytes_eq word (codes "keep")))
-    || (bytes_eq word (codes "if") || (bytes_eq word (codes "reply") || bytes_eq word (codes "abort"))))
+    || ((bytes_eq word (codes "if") || bytes_eq word (codes "each")) || (bytes_eq word (codes "reply") || bytes_eq word (codes "abort"))))
 
 abbrev pub is_sign_of : Landmark → List ℕ → Bool
 is_sign_of Table word = bytes_eq word (codes "table")

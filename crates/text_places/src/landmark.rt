@@ -47,7 +47,7 @@ fn begins_statement(word: &[u8]) -> bool
     (word == b"let".as_slice() || (word == b"lacks".as_slice() || word == b"put".as_slice()))
         || ((word == b"insert".as_slice()
             || (word == b"delete".as_slice() || word == b"keep".as_slice()))
-            || (word == b"if".as_slice()
+            || ((word == b"if".as_slice() || word == b"each".as_slice())
                 || (word == b"reply".as_slice() || word == b"abort".as_slice())))
 }
 
