@@ -1,19 +1,20 @@
 //! The check of a program's statements.
 ghost use Rattle.std.specs.Prelude.{◌≡◌, ℕ, ◌+◌, ◌<◌, ◌++◌, false, OnOk, OnErr, length, option_copied, Option, Some, None};
 ghost use Rattle.std.specs.Option.{option_map};
-ghost use Rattle.prog_tree.specs.Tree.{stmt_tree, with_stmt, block_tree};
-ghost use Rattle.prog_check.specs.Faults.{first_broken, place_rules, table_use_rules, value_use_rules, new_name_rules, statement_rules, block_fault};
+ghost use Rattle.prog_tree.specs.Tree.{listing_tree, stmt_tree, with_stmt, block_tree};
+ghost use Rattle.prog_check.specs.Faults.{first_broken, place_rules, table_use_rules, value_use_rules, new_name_rules, inner_name_rules, statement_rules, block_fault, ◌or_else◌};
+ghost use Rattle.prog_check.specs.declared.fault.Place.TheVariants as Place;
 ghost use Rattle.prog_check.specs.Names.{Extends};
 ghost use Rattle.prog_check.specs.Paths.{statement_count};
 ghost use Rattle.prog_check.specs.Sets.{Finds, GoesOn};
-ghost use Rattle.prog_check.specs.Uses.{used_table_by, overwrites_by, used_names_by, new_name_by, with_new};
+ghost use Rattle.prog_check.specs.Uses.{used_table_by, overwrites_by, used_names_by, new_name_by, with_new, with_inner};
 
 use crate::fault::{CheckFault, Place};
 use crate::limits::MAX_STATEMENTS;
 use crate::names::Names;
 use crate::tables::Tables;
 use crate::uses::{bound_name, is_overwriting, knows_values, table_use};
-use prog_tree::{Block, Stmt};
+use prog_tree::{Block, Listing, Stmt};
 
 /// Where the check stands in a program: before the statement of this number, with these names visible.
 #[derive(Drop)]
@@ -80,6 +81,22 @@ fn declare(visible: &mut Names, place: Place, stmt: &Stmt) -> Result<(), CheckFa
     Ok(())
 }
 
+/// Makes the names of an `each` visible.
+fn declare_inner(visible: &mut Names, place: Place, listing: &Listing) -> Result<(), CheckFault>
+    ensures found { Finds (λ _. Unit {0}) result
+        (first_broken (inner_name_rules place visible.old (listing_tree listing.now))) }
+    ensures visible { OnOk result
+        (visible.new ≡ with_inner visible.old (listing_tree listing.now)) }
+{
+    if !visible.insert(&listing.key)? {
+        return Err(CheckFault::NameTaken { place });
+    }
+    if !visible.insert(&listing.value)? {
+        return Err(CheckFault::NameTaken { place });
+    }
+    Ok(())
+}
+
 /// Checks a statement but for its blocks, and goes on behind it.
 fn check_own(
     tables: &Tables<'_>,
@@ -119,6 +136,7 @@ fn check_stmt(
     ensures goes_on { GoesOn tables.now program at.old aborted (with_stmt stmt.now) at.new result }
     ensures visible { OnOk result (Extends at.old.visible at.new.visible) }
 {
+    let number = at.number;
     check_own(tables, program, at, aborted, stmt)?;
     match stmt {
         Stmt::Branch {
@@ -130,8 +148,41 @@ fn check_stmt(
             check_block(tables, program, at, otherwise)?;
             Ok(false)
         }
+        Stmt::Each { listing, body } => {
+            check_body(tables, program, number, at, listing, body)?;
+            Ok(false)
+        }
         _ => Ok(matches!(stmt, Stmt::Abort)),
     }
+}
+
+/// Checks the names and the body of an `each` of this number, behind which these names end.
+#[cycle(walk)]
+fn check_body(
+    tables: &Tables<'_>,
+    program: usize,
+    number: usize,
+    at: &mut Position,
+    listing: &Listing,
+    body: &Block,
+) -> Result<(), CheckFault>
+    ensures found { Finds (λ _. Unit {0}) result
+        (first_broken (inner_name_rules (Place.Statement program number) at.old.visible (listing_tree listing.now))
+        or_else block_fault tables.now program at.old.number false
+        (with_inner at.old.visible (listing_tree listing.now)) (block_tree body.now)) }
+    ensures number { OnOk result
+        (at.new.number ≡ at.old.number + statement_count (block_tree body.now)) }
+    ensures visible { OnOk result (at.new.visible ≡ at.old.visible) }
+{
+    let place = Place::Statement {
+        program,
+        statement: number,
+    };
+    let outer = at.visible.len();
+    declare_inner(&mut at.visible, place, listing)?;
+    check_block(tables, program, at, body)?;
+    at.visible.truncate(outer);
+    Ok(())
 }
 
 /// Checks the statements of a block, whose names end with it.
