@@ -3,18 +3,19 @@ use Rattle.std.proofs.Common.{◌≡◌, List, [], ◌∷◌, ◌++◌, length, 
 use Rattle.std.proofs.lemmas.List.{reverse-append}
 use Rattle.std.specs.declared.vec.Vec.{Vec}
 use Rattle.std.specs.declared.alloc.Global.{Global}
-use Rattle.prog_tree.specs.Syntax.{TestTree, StatementTree, BlockTree, BlockEnd, Then, Branch, StmtTree, Fork, block_from}
-use Rattle.prog_tree.specs.Tree.{test_tree, stmt_tree, with_stmt, with_stmts, stmts_tree}
+use Rattle.prog_tree.specs.Syntax.{TestTree, ListingTree, StatementTree, BlockTree, BlockEnd, Then, Branch, Each, StmtTree, Fork, Loop, block_from}
+use Rattle.prog_tree.specs.Tree.{test_tree, listing_tree, stmt_tree, with_stmt, with_stmts, stmts_tree}
 use Rattle.prog_tree.specs.declared.expr.Test.{Test}
+use Rattle.prog_tree.specs.declared.stmt.Listing.{Listing}
 use Rattle.prog_tree.specs.declared.stmt.Stmt.{Stmt}
 use Rattle.prog_tree.proofs.TreeLemmas.{with_stmts-push}
 use Rattle.prog_text.specs.declared.reading.blocks.Open.{Open}
-use Rattle.prog_text.specs.declared.reading.blocks.Open.TheVariants.{First, Second}
+use Rattle.prog_text.specs.declared.reading.blocks.Open.TheVariants.{First, Second, Turns}
 use Rattle.prog_text.specs.declared.reading.read_error.ReadError.{ReadError}
 use Rattle.prog_text.specs.declared.reading.read_error.ReadError.TheVariants as errors
 use Rattle.prog_text.specs.declared.lexing.token.Token.{Token}
-use Rattle.prog_text.specs.Reading.{Stop, Unexpected, Reading, ◌>>=◌, Fails, after_sign, behind_sign, expect, test_at, statement_at, block_at, second_at, behind_second, behind_first, branch_at, more_at, body_at, as_plain, unexpected}
-use Rattle.prog_text.specs.OpenBlocks.{in_front, outward, unread, unread_behind_end, unread_behind_if, unread_from_statement}
+use Rattle.prog_text.specs.Reading.{Stop, Unexpected, Reading, ◌>>=◌, Fails, after_sign, behind_sign, expect, test_at, statement_at, block_at, second_at, behind_second, behind_first, branch_at, listing_at, behind_turns, each_at, more_at, body_at, as_plain, unexpected}
+use Rattle.prog_text.specs.OpenBlocks.{in_front, outward, unread, unread_behind_end, unread_behind_if, unread_behind_each, unread_from_statement}
 use Rattle.prog_text.proofs.Enough.{body_is}
 use Rattle.prog_text.specs.declared.lexing.token.Sign.TheVariants as sign
 
@@ -34,6 +35,7 @@ unfolding outward in_front
 outward_fails [] k = refl
 outward_fails (First test before ∷ others) k = outward_fails others k
 outward_fails (Second test first before ∷ others) k = outward_fails others k
+outward_fails (Turns listing before ∷ others) k = outward_fails others k
 
 reading_fails : (e : ReadError) (opened : List Open) (done : List Stmt) (read : Reading BlockTree) → Fails e read → Fails e (outward opened (in_front done read))
 unfolding in_front
@@ -58,19 +60,24 @@ pub block_fails : (k : ReadError) (ts : List Token) → Fails k (expect sign.Ope
 unfolding block_at
 block_fails k ts h = then_fails k (expect sign.OpenBlock ts) _ h
 
--- what comes next: the end of the block, a branch, or a statement without blocks
-next_by : (opened : List Open) (done : List Stmt) (ts : List Token) (ends branches : Option (List Token))
-    → outward opened (in_front done (behind_sign ends (λ ts. Ok (BlockEnd, ts)) (behind_sign branches (branch_at body_at) (more_at body_at ts))))
-    ≡ behind_sign ends (λ us. outward opened (Ok (stmts_tree done, us))) (behind_sign branches (λ us. outward opened (in_front done (branch_at body_at us))) (outward opened (in_front done (more_at body_at ts))))
+-- what comes next: the end of the block, a branch, an `each`, or a statement without blocks
+next_by : (opened : List Open) (done : List Stmt) (ts : List Token) (ends branches repeats : Option (List Token))
+    → outward opened (in_front done (behind_sign ends (λ ts. Ok (BlockEnd, ts)) (behind_sign branches (branch_at body_at) (behind_sign repeats (each_at body_at) (more_at body_at ts)))))
+    ≡ behind_sign ends (λ us. outward opened (Ok (stmts_tree done, us)))
+    (behind_sign branches (λ us. outward opened (in_front done (branch_at body_at us)))
+    (behind_sign repeats (λ us. outward opened (in_front done (each_at body_at us))) (outward opened (in_front done (more_at body_at ts)))))
 unfolding in_front
-next_by opened done ts (Some us) branches = refl
-next_by opened done ts None (Some us) = refl
-next_by opened done ts None None = refl
+next_by opened done ts (Some us) branches repeats = refl
+next_by opened done ts None (Some us) repeats = refl
+next_by opened done ts None None (Some us) = refl
+next_by opened done ts None None None = refl
 
-pub unread_next : (stack : List Open) (done : List Stmt) (ts : List Token)
-    → unread stack done ts ≡ behind_sign (after_sign sign.CloseBlock ts) (unread_behind_end stack done) (behind_sign (after_sign sign.If ts) (unread_behind_if stack done) (unread_from_statement stack done ts))
-unfolding unread unread_behind_end unread_behind_if unread_from_statement
-unread_next stack done ts = ap (λ (r : Reading BlockTree). outward (reverse stack) (in_front done r)) (body_is ts) ∙ next_by (reverse stack) done ts (after_sign sign.CloseBlock ts) (after_sign sign.If ts)
+unread_next : (stack : List Open) (done : List Stmt) (ts : List Token)
+    → unread stack done ts ≡ behind_sign (after_sign sign.CloseBlock ts) (unread_behind_end stack done) (behind_sign (after_sign sign.If ts) (unread_behind_if stack done) (behind_sign (after_sign sign.Each ts) (unread_behind_each stack done) (unread_from_statement stack done ts)))
+unfolding unread unread_behind_end unread_behind_if unread_behind_each unread_from_statement
+unread_next stack done ts =
+    ap (λ (r : Reading BlockTree). outward (reverse stack) (in_front done r)) (body_is ts)
+    ∙ next_by (reverse stack) done ts (after_sign sign.CloseBlock ts) (after_sign sign.If ts) (after_sign sign.Each ts)
 
 pub next_ends : (stack : List Open) (done : List Stmt) (ts us : List Token) → after_sign sign.CloseBlock ts ≡ Some us → unread stack done ts ≡ unread_behind_end stack done us
 next_ends stack done ts us e = unread_next stack done ts ∙ (rw e refl)
@@ -78,8 +85,11 @@ next_ends stack done ts us e = unread_next stack done ts ∙ (rw e refl)
 pub next_branches : (stack : List Open) (done : List Stmt) (ts us : List Token) → after_sign sign.CloseBlock ts ≡ None → after_sign sign.If ts ≡ Some us → unread stack done ts ≡ unread_behind_if stack done us
 next_branches stack done ts us e f = unread_next stack done ts ∙ (rw (e, f) refl)
 
-pub next_goes_on : (stack : List Open) (done : List Stmt) (ts : List Token) → after_sign sign.CloseBlock ts ≡ None → after_sign sign.If ts ≡ None → unread stack done ts ≡ unread_from_statement stack done ts
-next_goes_on stack done ts e f = unread_next stack done ts ∙ (rw (e, f) refl)
+pub next_repeats : (stack : List Open) (done : List Stmt) (ts us : List Token) → after_sign sign.CloseBlock ts ≡ None → after_sign sign.If ts ≡ None → after_sign sign.Each ts ≡ Some us → unread stack done ts ≡ unread_behind_each stack done us
+next_repeats stack done ts us e f g = unread_next stack done ts ∙ (rw (e, f, g) refl)
+
+pub next_goes_on : (stack : List Open) (done : List Stmt) (ts : List Token) → after_sign sign.CloseBlock ts ≡ None → after_sign sign.If ts ≡ None → after_sign sign.Each ts ≡ None → unread stack done ts ≡ unread_from_statement stack done ts
+next_goes_on stack done ts e f g = unread_next stack done ts ∙ (rw (e, f, g) refl)
 
 -- the outermost block ends
 pub body_ends : (stack : List Open) (done : List Stmt) (ts : List Token) → (0 < length stack → false ≡ true) → unread_behind_end stack done ts ≡ Ok (stmts_tree done, ts)
@@ -167,6 +177,43 @@ unfolding unread unread_behind_if outward
 first_opens stack test before ts us vs e f =
     innermost stack (First test before) (in_front [] (body_at vs)) ∙ ap (outward (First test before ∷ reverse stack)) (in_front-nil (body_at vs))
     ∙ ap (λ (r : Reading BlockTree). outward (reverse stack) (in_front before.items r)) (sym (with_first (test_tree test) ts us vs e f))
+
+-- ---- an `each`
+
+pub listing_fails : (k : ReadError) (stack : List Open) (done : List Stmt) (ts : List Token) → Fails k (listing_at ts) → Fails k (unread_behind_each stack done ts)
+unfolding unread_behind_each each_at
+listing_fails k stack done ts h = reading_fails k (reverse stack) done _ (then_fails k (listing_at ts) _ h)
+
+with_inside : (l : ListingTree) (ts us vs : List Token) → listing_at ts ≡ Ok (l, us) → expect sign.OpenBlock us ≡ Ok (tt, vs) → each_at body_at ts ≡ (body_at vs >>= λ inside. behind_turns body_at l inside.0 inside.1)
+unfolding each_at block_at
+with_inside l ts us vs e f = rw (e, f) refl
+
+no_inside : (k : ReadError) (l : ListingTree) (ts us : List Token) → listing_at ts ≡ Ok (l, us) → Fails k (expect sign.OpenBlock us) → Fails k (each_at body_at ts)
+unfolding each_at block_at
+no_inside k l ts us e h = rw e (then_fails k _ _ (then_fails k (expect sign.OpenBlock us) _ h))
+
+pub turns_fail : (k : ReadError) (stack : List Open) (done : List Stmt) (ts us : List Token) (l : ListingTree) → listing_at ts ≡ Ok (l, us) → Fails k (expect sign.OpenBlock us) → Fails k (unread_behind_each stack done ts)
+unfolding unread_behind_each
+turns_fail k stack done ts us l e h = reading_fails k (reverse stack) done (each_at body_at ts) (no_inside k l ts us e h)
+
+pub turns_open : (stack : List Open) (listing : Listing) (before : Vec Stmt Global) (ts us vs : List Token) → listing_at ts ≡ Ok (listing_tree listing, us) → expect sign.OpenBlock us ≡ Ok (tt, vs)
+    → unread (stack ++ Turns listing before ∷ []) [] vs ≡ unread_behind_each stack before.items ts
+unfolding unread unread_behind_each outward
+turns_open stack listing before ts us vs e f =
+    innermost stack (Turns listing before) (in_front [] (body_at vs)) ∙ ap (outward (Turns listing before ∷ reverse stack)) (in_front-nil (body_at vs))
+    ∙ ap (λ (r : Reading BlockTree). outward (reverse stack) (in_front before.items r)) (sym (with_inside (listing_tree listing) ts us vs e f))
+
+with_others : (l : ListingTree) (inside : BlockTree) (ts : List Token) → behind_turns body_at l inside ts ≡ (body_at ts >>= λ rest. Ok (Each l inside rest.0, rest.1))
+unfolding behind_turns
+with_others l inside ts = refl
+
+pub turns_end : (stack : List Open) (listing : Listing) (done : List Stmt) (before : Vec Stmt Global) (s : Stmt) (ts : List Token) → stmt_tree s ≡ Loop (listing_tree listing) (stmts_tree done)
+    → unread stack (before.items ++ s ∷ []) ts ≡ unread_behind_end (stack ++ Turns listing before ∷ []) done ts
+unfolding unread unread_behind_end outward
+turns_end stack listing done before s ts is =
+    ap (outward (reverse stack)) (in_front-push before.items s (λ rest. Each (listing_tree listing) (stmts_tree done) rest) (body_at ts) (ap block_from is))
+    ∙ ap (λ (r : Reading BlockTree). outward (reverse stack) (in_front before.items r)) (sym (with_others (listing_tree listing) (stmts_tree done) ts))
+    ∙ sym (innermost stack (Turns listing before) (Ok (stmts_tree done, ts)))
 
 -- ---- a statement without blocks
 

@@ -189,6 +189,15 @@ else_closed : (depth : ℕ) (marks : List Mark) → Closed marks → Closed (els
 else_closed depth [] h = nothing_closed
 else_closed depth (mark ∷ marks) h = after_closed (else_line_closed depth) h
 
+-- the names and the range of an `each`
+listing_closed : (k v : Name) (marks : List Mark) → IsLexed (t.Name k) → IsLexed (t.Name v) → Closed marks
+    → Closed (leading (t.Sign sign.Each) ++ Word (t.Name k) ∷ (comma ++ Word (t.Name v) ∷ (spaced (t.Sign sign.In) ++ (marks ++ Space ∷ Word (t.Sign sign.OpenBlock) ∷ []))))
+listing_closed k v marks is_key is_value h =
+    after_closed (leading_closed (t.Sign sign.Each) tt)
+    (after_open (word_open (t.Name k) is_key) (comma_begins _)
+    (after_closed (leading_closed (t.Sign sign.Comma) tt)
+    (after_open (word_open (t.Name v) is_value) (space_begins _) (after_closed (spaced_closed (t.Sign sign.In) tt) (after_closed h begun)))))
+
 mutual
   statements_closed : (depth : ℕ) (ts : List Token) (b : BlockTree) → IsStatements ts b → AreLexed ts → Closed (block_marks depth b)
   statements_closed depth _ _ nothing h = nothing_closed
@@ -203,6 +212,11 @@ mutual
       (after_closed (block_closed (suc depth) ts first is_first b.0)
       (after_closed (else_closed depth _ (second_closed (suc depth) es second is_second c.0))
       (after_closed (close_line_closed depth) (statements_closed depth us rest others c.1))))
+  statements_closed depth _ _ (g.IsStatements.each k v table rs ts us r body rest is_range is_body others) h =
+      let a : AreLexed rs × AreLexed (ts ++ us) = lexed_parts rs _ h.1.1.1.1.1 in
+      let b : AreLexed ts × AreLexed us = lexed_parts ts us a.1 in
+      after_closed (line_closed depth _ (listing_closed k v (range_marks table r) h.1.0 h.1.1.1.0 (range_of rs table r is_range a.0)))
+      (after_closed (block_closed (suc depth) ts body is_body b.0) (after_closed (close_line_closed depth) (statements_closed depth us rest others b.1)))
 
   block_closed : (depth : ℕ) (ts : List Token) (b : BlockTree) → IsBlock ts b → AreLexed ts → Closed (block_marks depth b)
   block_closed depth _ _ (block ts b d) h = statements_closed depth ts b d (lexed_parts ts (t.Sign sign.CloseBlock ∷ []) h.1).0

@@ -1,13 +1,13 @@
 -- Sound, for the readers of statements and blocks.
 use Rattle.std.proofs.Common.{◌≡◌, ℕ, zero, suc, ◌<◌, List, [], ◌∷◌, ◌++◌, length, None, Ok, refl, subst, append_assoc, arith}
-use Rattle.prog_tree.specs.Syntax.{Name, ExprTree, TestTree, KeyTree, StatementTree, Bind, Get, Need, Count, Sum, Lacks, Put, Insert, Delete, Keep, Reply, Abort, BlockTree, BlockEnd, Then, Branch}
+use Rattle.prog_tree.specs.Syntax.{Name, ExprTree, TestTree, KeyTree, RangeTree, ListingTree, StatementTree, Bind, Get, Need, Count, Sum, Lacks, Put, Insert, Delete, Keep, Reply, Abort, BlockTree, BlockEnd, Then, Branch, Each}
 use Rattle.prog_text.specs.declared.lexing.token.Sign.{Sign}
 use Rattle.prog_text.specs.declared.lexing.token.Token.{Token}
 use Rattle.prog_text.specs.declared.lexing.token.Sign.TheVariants as sign
 use Rattle.prog_text.specs.declared.lexing.token.Token.TheVariants as t
 use Rattle.prog_text.specs.Grammar.{IsExpr, IsTest, IsKey, IsRange, IsStatement, bind, get, need, count, sum, lacks, put, insert, delete, keep, reply, abort, IsStatements, nothing, IsBlock, block, IsElse, missing, present}
 use Rattle.prog_text.specs.Grammar as g
-use Rattle.prog_text.specs.Reading.{Reading, ◌>>=◌, after_sign, expect, name_at, expr_at, test_at, key_at, range_at, last_expr_at, last_key_at, last_range_at, assigned_at, bind_at, get_at, need_at, count_at, summed_at, bound_at, let_at, lacks_at, put_at, insert_at, delete_at, keep_at, reply_at, abort_at, statement_at, block_at, second_at, behind_second, behind_first, branch_at, more_at, body_within, body_at}
+use Rattle.prog_text.specs.Reading.{Reading, ◌>>=◌, after_sign, expect, name_at, expr_at, test_at, key_at, range_at, last_expr_at, last_key_at, last_range_at, assigned_at, bind_at, get_at, need_at, count_at, summed_at, bound_at, let_at, lacks_at, put_at, insert_at, delete_at, keep_at, reply_at, abort_at, statement_at, block_at, second_at, behind_second, behind_first, branch_at, listing_at, behind_turns, each_at, more_at, body_within, body_at}
 use Rattle.prog_text.proofs.Sound.{Phrase, behind, Sound, then_sound, token_sound, one_sound, done_sound, fault_sound, sound_map, mapped_sound, behind_sign_sound}
 use Rattle.prog_text.proofs.OneToken.{finds_sign, alone, one_sign, one_name, a_name}
 use Rattle.prog_text.proofs.DerivedExprs.{expr_sound, test_sound, IsKeyOf, key_sound, IsRangeOf, range_sound}
@@ -133,6 +133,24 @@ statement_sound ts = fault_sound IsStatement ts (t.Sign sign.Abort ∷ t.Sign si
 
 -- ---- blocks
 
+-- the head of an `each`, behind the word
+pub data IsListing : List Token → ListingTree → Type 0 where
+  listing : (k v table : Name) (rs : List Token) (r : RangeTree)
+      → IsRange rs table r
+      → IsListing (t.Name k ∷ t.Sign sign.Comma ∷ t.Name v ∷ t.Sign sign.In ∷ rs) (record { key = k; value = v; table = table; range = r })
+
+pub listing_sound : (ts : List Token) → Sound IsListing ts (listing_at ts)
+unfolding listing_at
+listing_sound ts =
+    let F = λ (k : Name). behind (t.Sign sign.Comma ∷ []) (behind (t.Name k ∷ []) IsListing) in
+    let G = λ (k v : Name). behind (t.Sign sign.In ∷ []) (behind (t.Name v ∷ []) (F k)) in
+    one_sound IsListing t.Name a_name ts (name_at ts) _ (one_name ts)
+    (λ rest k. one_sound (behind (t.Name k ∷ []) IsListing) (alone (t.Sign sign.Comma)) tt rest (expect sign.Comma rest) _ (one_sign sign.Comma rest)
+    (λ rest u. one_sound (F k) t.Name a_name rest (name_at rest) _ (one_name rest)
+    (λ rest v. one_sound (behind (t.Name v ∷ []) (F k)) (alone (t.Sign sign.In)) tt rest (expect sign.In rest) _ (one_sign sign.In rest)
+    (λ rest u. mapped_sound IsRangeOf (G k v) rest (range_at rest) (λ r. record { key = k; value = v; table = r.0; range = r.1 })
+    (λ us r d. listing k v r.0 us r.1 d) (range_sound rest)))))
+
 -- what stands behind the opening sign of a block
 abbrev pub IsBody : Phrase BlockTree
 IsBody us b = IsBlock (t.Sign sign.OpenBlock ∷ us) b
@@ -149,6 +167,12 @@ body_branch xs ts es _ test a b _ dx da db (block us rest d) =
     let whole : (xs ++ (ts ++ (es ++ us))) ++ t.Sign sign.CloseBlock ∷ [] ≡ xs ++ (ts ++ (es ++ (us ++ t.Sign sign.CloseBlock ∷ []))) = simp append_assoc in
     subst (λ (vs : List Token). IsBody (t.Sign sign.If ∷ vs) (Branch test a b rest)) whole
     (block (t.Sign sign.If ∷ (xs ++ (ts ++ (es ++ us)))) (Branch test a b rest) (g.IsStatements.branch xs ts es us test a b rest dx da db d))
+
+body_each : (ls ts us : List Token) (l : ListingTree) (body rest : BlockTree) → IsListing ls l → IsBlock ts body → IsBody us rest → IsBody (t.Sign sign.Each ∷ (ls ++ (ts ++ us))) (Each l body rest)
+body_each _ ts _ l body _ (listing k v table rs r dr) db (block us rest d) =
+    let whole : (rs ++ (ts ++ us)) ++ t.Sign sign.CloseBlock ∷ [] ≡ rs ++ (ts ++ (us ++ t.Sign sign.CloseBlock ∷ [])) = simp append_assoc in
+    subst (λ (vs : List Token). IsBody (t.Sign sign.Each ∷ t.Name k ∷ t.Sign sign.Comma ∷ t.Name v ∷ t.Sign sign.In ∷ vs) (Each l body rest)) whole
+    (block (t.Sign sign.Each ∷ t.Name k ∷ t.Sign sign.Comma ∷ t.Name v ∷ t.Sign sign.In ∷ (rs ++ (ts ++ us))) (Each l body rest) (g.IsStatements.each k v table rs ts us r body rest dr db d))
 
 module _ (body : List Token → Reading BlockTree) (body_sound : (ts : List Token) → Sound IsBody ts (body ts)) where
   pub block_sound : (ts : List Token) → Sound IsBlock ts (block_at body ts)
@@ -171,6 +195,14 @@ module _ (body : List Token → Reading BlockTree) (body_sound : (ts : List Toke
       (λ fs rest a da. then_sound IsElse (behind fs (behind xs E)) rest (second_at body rest) _ (second_sound rest)
       (λ es rest b db. mapped_sound IsBody (behind es (behind fs (behind xs E))) rest (body rest) (Branch test a b) (λ us c d. body_branch xs fs es us test a b c dx da db d) (body_sound rest))))
 
+  each_sound : (ts : List Token) → Sound (behind (t.Sign sign.Each ∷ []) IsBody) ts (each_at body ts)
+  unfolding each_at behind_turns
+  each_sound ts =
+      let E = behind (t.Sign sign.Each ∷ []) IsBody in
+      then_sound IsListing E ts (listing_at ts) _ (listing_sound ts)
+      (λ ls rest l dl. then_sound IsBlock (behind ls E) rest (block_at body rest) _ (block_sound rest)
+      (λ fs rest inside d. mapped_sound IsBody (behind fs (behind ls E)) rest (body rest) (Each l inside) (λ us b e. body_each ls fs us l inside b dl d e) (body_sound rest)))
+
   more_sound : (ts : List Token) → Sound IsBody ts (more_at body ts)
   unfolding more_at
   more_sound ts =
@@ -183,8 +215,10 @@ body_within_sound zero ts = fault_sound IsBody ts (t.Sign sign.CloseBlock ∷ []
 body_within_sound (suc n) ts =
     behind_sign_sound IsBody (t.Sign sign.CloseBlock) ts (after_sign sign.CloseBlock ts) _ _ (finds_sign sign.CloseBlock ts)
     (λ us. done_sound (behind (t.Sign sign.CloseBlock ∷ []) IsBody) BlockEnd us body_end)
-    (behind_sign_sound IsBody (t.Sign sign.If) ts (after_sign sign.If ts) (branch_at (body_within n)) (more_at (body_within n) ts) (finds_sign sign.If ts)
-    (branch_sound (body_within n) (body_within_sound n)) (more_sound (body_within n) (body_within_sound n) ts))
+    (behind_sign_sound IsBody (t.Sign sign.If) ts (after_sign sign.If ts) (branch_at (body_within n)) _ (finds_sign sign.If ts)
+    (branch_sound (body_within n) (body_within_sound n))
+    (behind_sign_sound IsBody (t.Sign sign.Each) ts (after_sign sign.Each ts) (each_at (body_within n)) (more_at (body_within n) ts) (finds_sign sign.Each ts)
+    (each_sound (body_within n) (body_within_sound n)) (more_sound (body_within n) (body_within_sound n) ts)))
 
 pub body_sound : (ts : List Token) → Sound IsBody ts (body_at ts)
 unfolding body_at
@@ -197,8 +231,9 @@ pub record BeginsStatement (ts : List Token) : Type 0 where
   pub some : 0 < length ts
   pub no_end : (rest : List Token) → after_sign sign.CloseBlock (ts ++ rest) ≡ None
   pub no_branch : (rest : List Token) → after_sign sign.If (ts ++ rest) ≡ None
+  pub no_each : (rest : List Token) → after_sign sign.Each (ts ++ rest) ≡ None
   pub no_else : (rest : List Token) → after_sign sign.Else (ts ++ rest) ≡ None
 
 pub begins_statement : (ts : List Token) (s : StatementTree) → IsStatement ts s → BeginsStatement ts
-begins_statement _ _ (bind x ts e d) = record { some = omega arith; no_end = λ rest. refl; no_branch = λ rest. refl; no_else = λ rest. refl }
-begins_statement _ _ d = record { some = omega arith; no_end = λ rest. refl; no_branch = λ rest. refl; no_else = λ rest. refl }
+begins_statement _ _ (bind x ts e d) = record { some = omega arith; no_end = λ rest. refl; no_branch = λ rest. refl; no_each = λ rest. refl; no_else = λ rest. refl }
+begins_statement _ _ d = record { some = omega arith; no_end = λ rest. refl; no_branch = λ rest. refl; no_each = λ rest. refl; no_else = λ rest. refl }

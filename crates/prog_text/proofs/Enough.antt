@@ -1,16 +1,16 @@
 -- Loops and nesting take no more turns than there are tokens: any number of turns that is enough gives the same.
 use Rattle.std.proofs.Common.{◌≡◌, ◌∙◌, ℕ, zero, suc, ◌<◌, ◌≤◌, List, [], ◌∷◌, ◌++◌, length, length-append, Option, Some, None, Ok, Err, refl, ap, sym, arith}
-use Rattle.prog_tree.specs.Syntax.{Name, ExprTree, Plus, Minus, Times, ComparisonTree, TestTree, StatementTree, BlockTree, BlockEnd, Then, Branch, ProgramTree}
+use Rattle.prog_tree.specs.Syntax.{Name, ExprTree, Plus, Minus, Times, ComparisonTree, TestTree, StatementTree, BlockTree, BlockEnd, Then, Branch, Each, ProgramTree}
 use Rattle.prog_tree.specs.declared.table.TableDecl.{TableDecl}
 use Rattle.prog_text.specs.declared.lexing.token.Token.{Token}
 use Rattle.prog_text.specs.declared.lexing.token.Sign.TheVariants as sign
 use Rattle.prog_text.specs.declared.lexing.token.Token.TheVariants as t
 use Rattle.prog_text.specs.Grammar.{IsFactor, IsProduct, IsExpr, IsComparison, IsConjunction, IsTest, IsTable, IsName, IsStatement, IsBlock, IsElse, IsProgram}
-use Rattle.prog_text.specs.Reading.{Reading, ◌>>=◌, after_sign, expect, behind_sign, name_at, many_from, factor_at, product_from, product_at, sum_from, sum_at, expr_within, expr_at, comparison_at, conjunction_at, test_at, table_at, program_at, statement_at, block_at, second_at, behind_second, behind_first, branch_at, more_at, body_within, body_at}
+use Rattle.prog_text.specs.Reading.{Reading, ◌>>=◌, after_sign, expect, behind_sign, name_at, many_from, factor_at, product_from, product_at, sum_from, sum_at, expr_within, expr_at, comparison_at, conjunction_at, test_at, table_at, program_at, statement_at, block_at, second_at, behind_second, behind_first, branch_at, listing_at, behind_turns, each_at, more_at, body_within, body_at}
 use Rattle.prog_text.proofs.Sound.{Sound, behind, IsBehind, IsShorter, sound_shorter}
 use Rattle.prog_text.proofs.OneToken.{finds_sign}
 use Rattle.prog_text.proofs.DerivedExprs.{factor_sound, product_sound, expr_within_sound, comparison_sound, conjunction_sound, test_sound}
-use Rattle.prog_text.proofs.DerivedStatements.{statement_sound, IsBody, block_sound, second_sound, body_within_sound, begins_statement}
+use Rattle.prog_text.proofs.DerivedStatements.{statement_sound, IsListing, listing_sound, IsBody, block_sound, second_sound, body_within_sound, begins_statement}
 use Rattle.prog_text.proofs.Derived.{table_sound, program_sound, name_sound}
 
 -- what goes on behind a reading matters only where no more is left than there was
@@ -182,6 +182,13 @@ module _ (p q : List Token → Reading BlockTree) (p_sound : (ts : List Token) �
       (λ a vs fewer. then_same vs (second_at p vs) (second_at q vs) _ _ (second_same vs (omega (arith, few, fewer, le))) (sound_shorter IsElse vs (second_at p vs) (second_sound p p_sound vs))
       (λ b ws fewest. ap (λ (r : Reading BlockTree). r >>= λ rest. Ok (Branch x a b rest.0, rest.1)) (same ws (omega (arith, few, fewer, fewest, le))))))
 
+  each_same : (ts : List Token) → length ts ≤ len → each_at p ts ≡ each_at q ts
+  unfolding each_at behind_turns
+  each_same ts le =
+      then_same ts (listing_at ts) (listing_at ts) _ _ refl (sound_shorter IsListing ts (listing_at ts) (listing_sound ts))
+      (λ l us few. then_same us (block_at p us) (block_at q us) _ _ (block_same us (omega (arith, few, le))) (sound_shorter IsBlock us (block_at p us) (block_sound p p_sound us))
+      (λ inside vs fewer. ap (λ (r : Reading BlockTree). r >>= λ rest. Ok (Each l inside rest.0, rest.1)) (same vs (omega (arith, few, fewer, le)))))
+
   more_same : (ts : List Token) → length ts ≤ suc len → more_at p ts ≡ more_at q ts
   unfolding more_at
   more_same ts le =
@@ -189,10 +196,12 @@ module _ (p q : List Token → Reading BlockTree) (p_sound : (ts : List Token) �
       (λ s rest less. ap (λ (r : Reading BlockTree). r >>= λ rest. Ok (Then s rest.0, rest.1)) (same rest (omega (arith, less, le))))
 
   body_same : (ts : List Token) → length ts ≤ suc len
-      → behind_sign (after_sign sign.CloseBlock ts) (λ ts. Ok (BlockEnd, ts)) (behind_sign (after_sign sign.If ts) (branch_at p) (more_at p ts)) ≡ behind_sign (after_sign sign.CloseBlock ts) (λ ts. Ok (BlockEnd, ts)) (behind_sign (after_sign sign.If ts) (branch_at q) (more_at q ts))
+      → behind_sign (after_sign sign.CloseBlock ts) (λ ts. Ok (BlockEnd, ts)) (behind_sign (after_sign sign.If ts) (branch_at p) (behind_sign (after_sign sign.Each ts) (each_at p) (more_at p ts)))
+      ≡ behind_sign (after_sign sign.CloseBlock ts) (λ ts. Ok (BlockEnd, ts)) (behind_sign (after_sign sign.If ts) (branch_at q) (behind_sign (after_sign sign.Each ts) (each_at q) (more_at q ts)))
   body_same ts le =
       behind_sought_same (t.Sign sign.CloseBlock) ts (after_sign sign.CloseBlock ts) _ _ _ _ (finds_sign sign.CloseBlock ts) (λ us less. refl)
-      (behind_sought_same (t.Sign sign.If) ts (after_sign sign.If ts) (branch_at p) (branch_at q) _ _ (finds_sign sign.If ts) (λ us less. branch_same us (omega (arith, less, le))) (more_same ts le))
+      (behind_sought_same (t.Sign sign.If) ts (after_sign sign.If ts) (branch_at p) (branch_at q) _ _ (finds_sign sign.If ts) (λ us less. branch_same us (omega (arith, less, le)))
+      (behind_sought_same (t.Sign sign.Each) ts (after_sign sign.Each ts) (each_at p) (each_at q) _ _ (finds_sign sign.Each ts) (λ us less. each_same us (omega (arith, less, le))) (more_same ts le)))
 
 body_enough : (n m : ℕ) (ts : List Token) → length ts ≤ n → length ts ≤ m → body_within n ts ≡ body_within m ts
 unfolding body_within more_at statement_at
@@ -204,8 +213,9 @@ pub body_further : (n : ℕ) (ts : List Token) → length ts ≤ n → body_at t
 unfolding body_at
 body_further n ts le = body_enough (length ts) n ts (omega arith) le
 
--- what is left of a block: its closing sign, a branch and more, or a statement and more
-pub body_is : (ts : List Token) → body_at ts ≡ behind_sign (after_sign sign.CloseBlock ts) (λ ts. Ok (BlockEnd, ts)) (behind_sign (after_sign sign.If ts) (branch_at body_at) (more_at body_at ts))
+-- what is left of a block: its closing sign, or a branch, an `each` or a statement, and more
+pub body_is : (ts : List Token)
+    → body_at ts ≡ behind_sign (after_sign sign.CloseBlock ts) (λ ts. Ok (BlockEnd, ts)) (behind_sign (after_sign sign.If ts) (branch_at body_at) (behind_sign (after_sign sign.Each ts) (each_at body_at) (more_at body_at ts)))
 unfolding body_at body_within more_at statement_at
 body_is [] = refl
 body_is (v ∷ ts) =

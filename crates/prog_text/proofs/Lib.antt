@@ -13,6 +13,7 @@ pub mod DerivedStatements
 pub mod Enough
 pub mod Flaws
 mod CanonicalExamples
+mod EachExamples
 pub mod CutMarks
 pub mod CutPhrases
 mod Examples

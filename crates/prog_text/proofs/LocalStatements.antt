@@ -1,10 +1,10 @@
 -- Readers of statements and blocks look no further than where they stop.
 use Rattle.std.proofs.Common.{ℕ, zero, suc, List, ◌∷◌, Ok, sym, ◌∙◌, arith}
-use Rattle.prog_tree.specs.Syntax.{Name, Bind, Get, Need, Count, Sum, Lacks, Put, Insert, Delete, Keep, Reply, Abort, BlockTree, BlockEnd, Then, Branch}
+use Rattle.prog_tree.specs.Syntax.{Name, Bind, Get, Need, Count, Sum, Lacks, Put, Insert, Delete, Keep, Reply, Abort, BlockTree, BlockEnd, Then, Branch, Each}
 use Rattle.prog_text.specs.declared.lexing.token.Token.{Token}
 use Rattle.prog_text.specs.declared.lexing.token.Sign.TheVariants as sign
 use Rattle.prog_text.specs.declared.lexing.token.Token.TheVariants as t
-use Rattle.prog_text.specs.Reading.{Reading, ◌>>=◌, after_sign, behind_sign, expect, expr_within, expr_at, last_expr_at, last_key_at, last_range_at, assigned_at, bind_at, get_at, need_at, count_at, summed_at, bound_at, let_at, lacks_at, put_at, insert_at, delete_at, keep_at, reply_at, abort_at, statement_at, block_at, second_at, behind_second, behind_first, branch_at, more_at, body_within, body_at}
+use Rattle.prog_text.specs.Reading.{Reading, ◌>>=◌, after_sign, behind_sign, expect, expr_within, expr_at, last_expr_at, last_key_at, last_range_at, assigned_at, bind_at, get_at, need_at, count_at, summed_at, bound_at, let_at, lacks_at, put_at, insert_at, delete_at, keep_at, reply_at, abort_at, statement_at, block_at, second_at, behind_second, behind_first, branch_at, listing_at, behind_turns, each_at, more_at, body_within, body_at}
 use Rattle.prog_text.proofs.Alike.{Local, LocalAt, then_local, done_local, fault_local, matched, left_to, unfit, by_first, behind_sign_local, turns_local}
 use Rattle.prog_text.proofs.Enough.{body_further}
 use Rattle.prog_text.proofs.LocalTokens.{sign_local, name_local}
@@ -84,6 +84,16 @@ statement_local = by_first statement_at (λ shared rest other. omega arith) stat
 
 -- ---- blocks
 
+listing_local : Local listing_at
+unfolding listing_at
+listing_local =
+    then_local _ name_local
+    (λ k. then_local _ (sign_local sign.Comma)
+    (λ o. then_local _ name_local
+    (λ v. then_local _ (sign_local sign.In)
+    (λ o. then_local _ range_local
+    (λ r. done_local (record { key = k; value = v; table = r.0; range = r.1 }))))))
+
 module _ (body : List Token → Reading BlockTree) (body_local : Local body) where
   inner_block_local : Local (block_at body)
   unfolding block_at
@@ -102,6 +112,14 @@ module _ (body : List Token → Reading BlockTree) (body_local : Local body) whe
       (λ z. then_local _ body_local
       (λ c. done_local (Branch x y z c)))))
 
+  each_local : Local (each_at body)
+  unfolding each_at behind_turns
+  each_local =
+      then_local _ listing_local
+      (λ l. then_local _ inner_block_local
+      (λ y. then_local _ body_local
+      (λ c. done_local (Each l y c))))
+
   more_local : Local (more_at body)
   unfolding more_at
   more_local = then_local _ statement_local (λ s. then_local _ body_local (λ c. done_local (Then s c)))
@@ -111,9 +129,11 @@ unfolding body_within
 body_within_local zero = fault_local
 body_within_local (suc n) =
     let body = body_within n in
-    let goes_on = λ (ts : List Token). behind_sign (after_sign sign.If ts) (branch_at body) (more_at body ts) in
+    let turns = λ (ts : List Token). behind_sign (after_sign sign.Each ts) (each_at body) (more_at body ts) in
+    let goes_on = λ (ts : List Token). behind_sign (after_sign sign.If ts) (branch_at body) (turns ts) in
     behind_sign_local sign.CloseBlock (λ ts. Ok (BlockEnd, ts)) goes_on (done_local BlockEnd)
-    (behind_sign_local sign.If (branch_at body) (more_at body) (branch_local body (body_within_local n)) (more_local body (body_within_local n)))
+    (behind_sign_local sign.If (branch_at body) turns (branch_local body (body_within_local n))
+    (behind_sign_local sign.Each (each_at body) (more_at body) (each_local body (body_within_local n)) (more_local body (body_within_local n))))
 
 body_local : Local body_at
 unfolding body_at

@@ -1,12 +1,12 @@
 -- What is spelled so is read so: statements and blocks.
 use Rattle.std.proofs.Common.{◌≡◌, List, [], ◌∷◌, ◌++◌, None, Ok, refl, ap, sym, ◌∙◌, subst, append_assoc}
-use Rattle.prog_tree.specs.Syntax.{Name, ExprTree, TestTree, KeyTree, RangeTree, StatementTree, Bind, Get, Need, Count, Sum, Lacks, Put, Insert, Delete, Keep, Reply, BlockTree, BlockEnd, Then, Branch}
+use Rattle.prog_tree.specs.Syntax.{Name, ExprTree, TestTree, KeyTree, RangeTree, ListingTree, StatementTree, Bind, Get, Need, Count, Sum, Lacks, Put, Insert, Delete, Keep, Reply, BlockTree, BlockEnd, Then, Branch, Each}
 use Rattle.prog_text.specs.declared.lexing.token.Token.{Token}
 use Rattle.prog_text.specs.declared.lexing.token.Sign.TheVariants as sign
 use Rattle.prog_text.specs.declared.lexing.token.Token.TheVariants as t
 use Rattle.prog_text.specs.Grammar.{IsExpr, IsTest, IsKey, IsRange, IsStatement, bind, get, need, count, sum, lacks, put, insert, delete, keep, reply, abort, IsStatements, nothing, IsBlock, block, IsElse, missing, present}
 use Rattle.prog_text.specs.Grammar as g
-use Rattle.prog_text.specs.Reading.{◌>>=◌, after_sign, expect, expr_at, test_at, key_at, range_at, last_expr_at, last_key_at, last_range_at, assigned_at, bind_at, get_at, need_at, count_at, summed_at, bound_at, let_at, lacks_at, put_at, insert_at, delete_at, keep_at, reply_at, abort_at, statement_at, block_at, second_at, behind_second, behind_first, branch_at, more_at, body_at}
+use Rattle.prog_text.specs.Reading.{◌>>=◌, after_sign, expect, expr_at, test_at, key_at, range_at, last_expr_at, last_key_at, last_range_at, assigned_at, bind_at, get_at, need_at, count_at, summed_at, bound_at, let_at, lacks_at, put_at, insert_at, delete_at, keep_at, reply_at, abort_at, statement_at, block_at, second_at, behind_second, behind_first, branch_at, listing_at, behind_turns, each_at, more_at, body_at}
 use Rattle.prog_text.proofs.Only.{Reads, then_reads, mapped_reads, regrouped}
 use Rattle.prog_text.proofs.OnlyExprs.{EndsConjunction, no_operator, expr_begins, expr_reads, test_only, key_reads, range_only}
 use Rattle.prog_text.proofs.DerivedStatements.{begins_statement}
@@ -81,14 +81,15 @@ no_else : (ts : List Token) (b : BlockTree) → IsStatements ts b → (rest : Li
 no_else _ _ nothing rest = refl
 no_else _ _ (g.IsStatements.more ts us s b d ds) rest = ap (after_sign sign.Else) (append_assoc ts us (t.Sign sign.CloseBlock ∷ rest)) ∙ (begins_statement ts s d).no_else (us ++ t.Sign sign.CloseBlock ∷ rest)
 no_else _ _ (g.IsStatements.branch xs ts es us test a b c dx da db dc) rest = refl
+no_else _ _ (g.IsStatements.each k v table rs ts us r b c dr db dc) rest = refl
 
 body_ends : (rest : List Token) → Reads (BlockEnd, rest) (body_at (t.Sign sign.CloseBlock ∷ rest))
 body_ends rest = subst (Reads (BlockEnd, rest)) (sym (body_is (t.Sign sign.CloseBlock ∷ rest))) refl
 
-body_further : (ts us rest : List Token) (s : StatementTree) (b : BlockTree) → after_sign sign.CloseBlock ts ≡ None → after_sign sign.If ts ≡ None → Reads (s, us) (statement_at ts) → Reads (b, rest) (body_at us) → Reads (Then s b, rest) (body_at ts)
+body_further : (ts us rest : List Token) (s : StatementTree) (b : BlockTree) → after_sign sign.CloseBlock ts ≡ None → after_sign sign.If ts ≡ None → after_sign sign.Each ts ≡ None → Reads (s, us) (statement_at ts) → Reads (b, rest) (body_at us) → Reads (Then s b, rest) (body_at ts)
 unfolding more_at
-body_further ts us rest s b no_end no_branch h k =
-    rw (body_is ts, no_end, no_branch)
+body_further ts us rest s b no_end no_branch no_each h k =
+    rw (body_is ts, no_end, no_branch, no_each)
     (then_reads (s, us) (Then s b, rest) (statement_at ts) (λ s. body_at s.1 >>= λ rest. Ok (Then s.0 rest.0, rest.1)) h (mapped_reads b rest (body_at us) (Then s) k))
 
 -- the same tokens of a branch, grouped as they are read
@@ -105,6 +106,26 @@ branch_reads xs fs es us rest x a b c hx ha hb hc =
     (then_reads (a, es) y (block_at body_at fs) (λ first. behind_first body_at x first.0 first.1) ha
     (then_reads (b, us) y (second_at body_at es) (λ second. behind_second body_at x a second.0 second.1) hb
     (mapped_reads c rest (body_at us) (Branch x a b) hc))))
+
+-- the head of an `each`
+listing_only : (k v table : Name) (rs : List Token) (r : RangeTree) → IsRange rs table r → (rest : List Token)
+    → Reads {A = ListingTree} (record { key = k; value = v; table = table; range = r }, rest) (listing_at (t.Name k ∷ t.Sign sign.Comma ∷ t.Name v ∷ t.Sign sign.In ∷ (rs ++ rest)))
+unfolding listing_at
+listing_only k v table rs r d rest =
+    mapped_reads (table, r) rest (range_at (rs ++ rest)) (λ r. record { key = k; value = v; table = r.0; range = r.1 }) (range_only rs table r d rest)
+
+-- the same tokens of an `each`, grouped as they are read
+each_grouped : (rs ts us rest : List Token) → (rs ++ (ts ++ us)) ++ t.Sign sign.CloseBlock ∷ rest ≡ rs ++ (ts ++ (us ++ t.Sign sign.CloseBlock ∷ rest))
+each_grouped rs ts us rest = simp append_assoc
+
+each_reads : (ls fs us rest : List Token) (l : ListingTree) (b c : BlockTree) → Reads (l, fs) (listing_at ls) → Reads (b, us) (block_at body_at fs) → Reads (c, rest) (body_at us) → Reads (Each l b c, rest) (body_at (t.Sign sign.Each ∷ ls))
+unfolding each_at behind_turns
+each_reads ls fs us rest l b c hl hb hc =
+    let y : BlockTree × List Token = (Each l b c, rest) in
+    subst (Reads y) (sym (body_is (t.Sign sign.Each ∷ ls)))
+    (then_reads (l, fs) y (listing_at ls) (λ listing. block_at body_at listing.1 >>= λ inside. behind_turns body_at listing.0 inside.0 inside.1) hl
+    (then_reads (b, us) y (block_at body_at fs) (λ inside. behind_turns body_at l inside.0 inside.1) hb
+    (mapped_reads c rest (body_at us) (Each l b) hc)))
 
 block_reads : (ts rest : List Token) (b : BlockTree) → Reads (b, rest) (body_at (ts ++ t.Sign sign.CloseBlock ∷ rest)) → Reads (b, rest) (block_at body_at ((t.Sign sign.OpenBlock ∷ (ts ++ t.Sign sign.CloseBlock ∷ [])) ++ rest))
 unfolding block_at
@@ -129,13 +150,18 @@ mutual
       let behind : List Token = us ++ t.Sign sign.CloseBlock ∷ rest in
       let begins = begins_statement ts s d in
       regrouped (Then s b, rest) body_at ts us (t.Sign sign.CloseBlock ∷ rest)
-      (body_further (ts ++ behind) behind rest s b (begins.no_end behind) (begins.no_branch behind) (statement_only ts s d behind) (body_only us b ds rest))
+      (body_further (ts ++ behind) behind rest s b (begins.no_end behind) (begins.no_branch behind) (begins.no_each behind) (statement_only ts s d behind) (body_only us b ds rest))
   body_only _ _ (g.IsStatements.branch xs ts es us x a b c dx da db dc) rest =
       let behind : List Token = us ++ t.Sign sign.CloseBlock ∷ rest in
       let ends = test_ends ts a da (es ++ behind) in
       subst (λ (vs : List Token). Reads (Branch x a b c, rest) (body_at (t.Sign sign.If ∷ vs))) (sym (branch_grouped xs ts es us rest))
       (branch_reads (xs ++ (ts ++ (es ++ behind))) (ts ++ (es ++ behind)) (es ++ behind) behind rest x a b c (test_only xs x dx (ts ++ (es ++ behind)) ends.0 ends.1)
       (block_only ts a da (es ++ behind)) (second_only es b db behind (no_else us c dc rest)) (body_only us c dc rest))
+  body_only _ _ (g.IsStatements.each k v table rs ts us r b c dr db dc) rest =
+      let behind : List Token = us ++ t.Sign sign.CloseBlock ∷ rest in
+      let l : ListingTree = record { key = k; value = v; table = table; range = r } in
+      subst (λ (vs : List Token). Reads (Each l b c, rest) (body_at (t.Sign sign.Each ∷ t.Name k ∷ t.Sign sign.Comma ∷ t.Name v ∷ t.Sign sign.In ∷ vs))) (sym (each_grouped rs ts us rest))
+      (each_reads _ (ts ++ behind) behind rest l b c (listing_only k v table rs r dr (ts ++ behind)) (block_only ts b db behind) (body_only us c dc rest))
 
   pub block_only : (ts : List Token) (b : BlockTree) → IsBlock ts b → (rest : List Token) → Reads (b, rest) (block_at body_at (ts ++ rest))
   block_only _ _ (block ts b d) rest = block_reads ts rest b (body_only ts b d rest)

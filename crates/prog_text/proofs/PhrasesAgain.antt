@@ -2,14 +2,14 @@
 use Rattle.std.proofs.Common.{◌≡◌, ◌∙◌, ℕ, suc, List, [], ◌∷◌, ◌++◌, Bool, true, false, refl, sym, ap, subst, arith, append_assoc}
 use Rattle.std.specs.List.{flat_map}
 use Rattle.std.proofs.lemmas.List.Elements.{filter_map-append}
-use Rattle.prog_tree.specs.Syntax.{Name, ExprTree, RelationSign, TestTree, KeyTree, RangeTree, StatementTree, BlockTree, BlockEnd, Then, Branch}
+use Rattle.prog_tree.specs.Syntax.{Name, ExprTree, RelationSign, TestTree, KeyTree, RangeTree, ListingTree, StatementTree, BlockTree, BlockEnd, Then, Branch, Each}
 use Rattle.prog_tree.specs.declared.table.Arity.{Arity}
 use Rattle.prog_text.specs.declared.lexing.token.Token.{Token}
 use Rattle.prog_text.specs.declared.lexing.token.Sign.TheVariants as sign
 use Rattle.prog_text.specs.declared.lexing.token.Token.TheVariants as t
 use Rattle.prog_text.specs.Grammar.{Many, none, more, Led, led, Separated, separated, IsExpr, IsRelation, IsComparison, plain, negated, IsConjunction, IsTest, IsKey, IsRange, IsStatement, bind, get, need, count, sum, lacks, put, insert, delete, keep, reply, abort, IsStatements, nothing, branch, IsBlock, block, IsElse, missing, present, IsArity, IsTable, grows, IsName, IsParams, some, IsProgram, program, IsSet, set}
 use Rattle.prog_text.specs.Grammar as g
-use Rattle.prog_text.specs.Canonical.{Mark, Word, Space, LineEnd, words_of, spaced, expr_marks, relation_token, comparison_marks, each_behind, joined_by, conjunction_marks, test_marks, comma, key_marks, range_marks, statement_marks, with_semicolon, statement_line, if_line, close_line, else_marks, block_marks, arity_number, table_marks, name_marks, program_marks, draft_marks}
+use Rattle.prog_text.specs.Canonical.{Mark, Word, Space, LineEnd, words_of, spaced, expr_marks, relation_token, comparison_marks, each_behind, joined_by, conjunction_marks, test_marks, comma, key_marks, range_marks, statement_marks, with_semicolon, statement_line, if_line, each_line, close_line, else_marks, block_marks, arity_number, table_marks, name_marks, program_marks, draft_marks}
 use Rattle.prog_text.proofs.Lighter.{Lighter, nothing_lighter, same_lighter, behind_lighter, lighter_append, sides_lighter, ended_lighter}
 use Rattle.prog_text.proofs.SpelledAgain.{words_append, side_words, expr_spelled, expr_lighter}
 
@@ -254,12 +254,14 @@ second_again depth ts BlockEnd d h = record {
 second_again depth ts (Then s rest) d h = present_again depth ts (Then s rest) refl h
 second_again depth ts (Branch test first second rest) d h =
     present_again depth ts (Branch test first second rest) refl h
+second_again depth ts (Each l body rest) d h = present_again depth ts (Each l body rest) refl h
 
 -- what stands behind the first block, from its closing sign on
 behind_words : (depth : ℕ) (b : BlockTree) (rest : List Mark) → words_of (else_marks depth (block_marks (suc depth) b) ++ (close_line depth ++ rest)) ≡ t.Sign sign.CloseBlock ∷ (second_words depth b ++ words_of rest)
 behind_words depth BlockEnd rest = refl
 behind_words depth (Then s others) rest = simp (filter_map-append, append_assoc)
 behind_words depth (Branch test a b others) rest = simp (filter_map-append, append_assoc)
+behind_words depth (Each l body others) rest = simp (filter_map-append, append_assoc)
 
 if_words : (depth : ℕ) (test : TestTree) (rest : List Mark) → words_of (if_line depth test ++ rest) ≡ t.Sign sign.If ∷ (words_of (test_marks test) ++ t.Sign sign.OpenBlock ∷ words_of rest)
 if_words depth test rest = simp (filter_map-append, append_assoc)
@@ -290,6 +292,34 @@ branch_again depth xs ts es us test first second rest a b c d =
       lighter = in_line _ (t.Sign sign.OpenBlock ∷ (words_of (block_marks (suc depth) first) ++ t.Sign sign.CloseBlock ∷ [])) (second_words depth second) _ xs (t.Sign sign.OpenBlock ∷ (ts ++ t.Sign sign.CloseBlock ∷ [])) es us a.lighter (both_blocks _ _ ts es b.lighter c.lighter) d.lighter;
     })
 
+-- the tokens of an `each` before its range
+abbrev each_front : ListingTree → List Token → List Token
+each_front l ts = t.Sign sign.Each ∷ t.Name l.key ∷ t.Sign sign.Comma ∷ t.Name l.value ∷ t.Sign sign.In ∷ ts
+
+each_line_words : (depth : ℕ) (l : ListingTree) (rest : List Mark) → words_of (each_line depth l ++ rest) ≡ each_front l (words_of (range_marks l.table l.range) ++ t.Sign sign.OpenBlock ∷ words_of rest)
+each_line_words depth l rest = simp (filter_map-append, append_assoc)
+
+each_words : (depth : ℕ) (l : ListingTree) (body rest : BlockTree)
+    → words_of (block_marks depth (Each l body rest)) ≡ each_front l (words_of (range_marks l.table l.range) ++ ((t.Sign sign.OpenBlock ∷ (words_of (block_marks (suc depth) body) ++ t.Sign sign.CloseBlock ∷ [])) ++ words_of (block_marks depth rest)))
+each_words depth l body rest =
+    let others : List Mark = close_line depth ++ block_marks depth rest in
+    let inside : List Token = words_of (block_marks (suc depth) body) in
+    each_line_words depth l (block_marks (suc depth) body ++ others)
+    ∙ ap (λ (ts : List Token). each_front l (words_of (range_marks l.table l.range) ++ t.Sign sign.OpenBlock ∷ ts))
+    (words_append (block_marks (suc depth) body) others ∙ sym (append_assoc inside (t.Sign sign.CloseBlock ∷ []) (words_of (block_marks depth rest))))
+
+each_lighter : (l : ListingTree) {us ts : List Token} → Lighter us ts → Lighter (each_front l us) (each_front l ts)
+each_lighter l h =
+    behind_lighter (t.Sign sign.Each) (behind_lighter (t.Name l.key) (behind_lighter (t.Sign sign.Comma) (behind_lighter (t.Name l.value) (behind_lighter (t.Sign sign.In) h))))
+
+turns_again : (depth : ℕ) (rs ts us : List Token) (l : ListingTree) (body rest : BlockTree) → Again (λ us r. IsRange us l.table r) (words_of (range_marks l.table l.range)) rs l.range → Again IsStatements (words_of (block_marks (suc depth) body)) ts body
+    → Again IsStatements (words_of (block_marks depth rest)) us rest → Again IsStatements (words_of (block_marks depth (Each l body rest))) (each_front l (rs ++ ((t.Sign sign.OpenBlock ∷ (ts ++ t.Sign sign.CloseBlock ∷ [])) ++ us))) (Each l body rest)
+turns_again depth rs ts us l body rest a b c =
+    again_by IsStatements _ _ _ _ (each_words depth l body rest) (record {
+      spelled = g.IsStatements.each l.key l.value l.table _ _ _ l.range body rest a.spelled (block _ body b.spelled) c.spelled;
+      lighter = each_lighter l (lighter_append a.lighter (lighter_append (behind_lighter (t.Sign sign.OpenBlock) (ended_lighter (t.Sign sign.CloseBlock) b.lighter)) c.lighter));
+    })
+
 line_words : (depth : ℕ) (s : StatementTree) (rest : List Mark) → words_of (statement_line depth s ++ rest) ≡ words_of (with_semicolon (statement_marks s)) ++ words_of rest
 line_words depth s rest = words_append (with_semicolon (statement_marks s)) rest
 
@@ -308,6 +338,8 @@ statements_again depth _ _ (branch xs _ _ us test _ _ rest is_test (block ts fir
 statements_again depth _ _ (branch xs _ _ us test _ _ rest is_test (block ts first is_first) (present _ _ (block vs second is_second)) others) =
     branch_again depth xs ts (left_out vs) us test first second rest (test_again xs test is_test) (statements_again (suc depth) ts first is_first)
     (second_again depth vs second is_second (statements_again (suc depth) vs second is_second)) (statements_again depth us rest others)
+statements_again depth _ _ (g.IsStatements.each k v table rs _ us r _ rest is_range (block ts body inside) others) =
+    turns_again depth rs ts us (record { key = k; value = v; table = table; range = r }) body rest (range_again rs table r is_range) (statements_again (suc depth) ts body inside) (statements_again depth us rest others)
 
 block_again : (depth : ℕ) (ts : List Token) (b : BlockTree) → IsBlock ts b → Again IsBlock (t.Sign sign.OpenBlock ∷ (words_of (block_marks depth b) ++ t.Sign sign.CloseBlock ∷ [])) ts b
 block_again depth _ _ (block ts b d) =

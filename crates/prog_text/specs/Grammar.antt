@@ -2,7 +2,7 @@
 -- a value of `IsExpr ts e` shows how the tokens ts spell the expression e.
 use Rattle.std.specs.Prelude.{ℕ, ℤ, pos, negsuc, ◌-◌, ◌^◌, List, [], ◌∷◌, ◌++◌, true, false}
 use Rattle.std.proofs.Common.{neg_ℤ}
-use Rattle.prog_tree.specs.Syntax.{Name, ExprTree, Literal, Named, Plus, Minus, Times, RelationSign, Less, LessEqual, Greater, GreaterEqual, Equal, NotEqual, ComparisonTree, TestTree, KeyTree, One, Two, RangeTree, OneRange, TwoRange, StatementTree, Bind, Get, Need, Count, Sum, Lacks, Put, Insert, Delete, Keep, Reply, Abort, BlockTree, BlockEnd, Then, Branch, ProgramTree, DraftTree}
+use Rattle.prog_tree.specs.Syntax.{Name, ExprTree, Literal, Named, Plus, Minus, Times, RelationSign, Less, LessEqual, Greater, GreaterEqual, Equal, NotEqual, ComparisonTree, TestTree, KeyTree, One, Two, RangeTree, OneRange, TwoRange, StatementTree, Bind, Get, Need, Count, Sum, Lacks, Put, Insert, Delete, Keep, Reply, Abort, BlockTree, BlockEnd, Then, Branch, Each, ProgramTree, DraftTree}
 use Rattle.prog_tree.specs.declared.table.TableDecl.{TableDecl}
 use Rattle.prog_tree.specs.declared.table.Arity.{Arity}
 use Rattle.prog_tree.specs.declared.table.Arity.TheVariants as arity
@@ -173,7 +173,8 @@ pub data IsStatement : List Token → StatementTree → Type 0 where
   abort : IsStatement (t.Sign sign.Abort ∷ t.Sign sign.Semicolon ∷ []) Abort
 
 mutual
-  -- { stmt }: nothing; a statement and more; or "if" test block [ "else" block ] and more
+  -- { stmt }: nothing; a statement and more; "if" test block [ "else" block ] and more;
+  -- or "each" NAME "," NAME "in" range block and more
   pub data IsStatements : List Token → BlockTree → Type 0 where
     nothing : IsStatements [] BlockEnd
     more : (ts us : List Token) (s : StatementTree) (rest : BlockTree)
@@ -182,6 +183,9 @@ mutual
     branch : (xs ts es us : List Token) (test : TestTree) (first second rest : BlockTree)
         → IsTest xs test → IsBlock ts first → IsElse es second → IsStatements us rest
         → IsStatements (t.Sign sign.If ∷ (xs ++ (ts ++ (es ++ us)))) (Branch test first second rest)
+    each : (k v table : Name) (rs ts us : List Token) (r : RangeTree) (body rest : BlockTree)
+        → IsRange rs table r → IsBlock ts body → IsStatements us rest
+        → IsStatements (t.Sign sign.Each ∷ t.Name k ∷ t.Sign sign.Comma ∷ t.Name v ∷ t.Sign sign.In ∷ (rs ++ (ts ++ us))) (Each (record { key = k; value = v; table = table; range = r }) body rest)
 
   -- block = "{" { stmt } "}"
   pub data IsBlock : List Token → BlockTree → Type 0 where

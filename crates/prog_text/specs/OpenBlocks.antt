@@ -1,15 +1,15 @@
 -- What is still to be read of a block, from inside the blocks that are open in it.
 use Rattle.std.specs.Prelude.{◌≡◌, ◌<◌, ◌≤◌, List, [], ◌∷◌, ◌++◌, length, Bool, true, false, Result, Ok, Err, reverse}
 use Rattle.prog_tree.specs.Syntax.{BlockTree}
-use Rattle.prog_tree.specs.Tree.{test_tree, with_stmts, stmts_tree}
+use Rattle.prog_tree.specs.Tree.{test_tree, listing_tree, with_stmts, stmts_tree}
 use Rattle.prog_tree.specs.declared.stmt.Stmt.{Stmt}
 use Rattle.prog_text.specs.declared.reading.blocks.Body.{Body}
 use Rattle.prog_text.specs.declared.reading.blocks.Open.{Open}
-use Rattle.prog_text.specs.declared.reading.blocks.Open.TheVariants.{First, Second}
+use Rattle.prog_text.specs.declared.reading.blocks.Open.TheVariants.{First, Second, Turns}
 use Rattle.prog_text.specs.declared.reading.cursor.Cursor.{Cursor}
 use Rattle.prog_text.specs.declared.reading.read_error.ReadError.{ReadError}
 use Rattle.prog_text.specs.declared.lexing.token.Token.{Token}
-use Rattle.prog_text.specs.Reading.{Reading, ◌>>=◌, Fails, behind_first, behind_second, branch_at, more_at, body_at}
+use Rattle.prog_text.specs.Reading.{Reading, ◌>>=◌, Fails, behind_first, behind_second, branch_at, behind_turns, each_at, more_at, body_at}
 
 -- statements that were read, in front of what is read of their block
 unfoldable pub in_front : List Stmt → Reading BlockTree → Reading BlockTree
@@ -26,6 +26,9 @@ outward (First test before ∷ others) read = outward others (in_front before.it
 outward (Second test first before ∷ others) read = outward others (in_front before.items (do
   second ← read
   behind_second body_at (test_tree test) (stmts_tree first.items) second.0 second.1))
+outward (Turns listing before ∷ others) read = outward others (in_front before.items (do
+  inside ← read
+  behind_turns body_at (listing_tree listing) inside.0 inside.1))
 
 -- Below, a list of open blocks stands from the outside in, and the statements are those of the innermost so far.
 
@@ -40,6 +43,10 @@ unread_behind_end stack done ts = outward (reverse stack) (Ok (stmts_tree done, 
 -- the same behind the word `if`
 unfoldable pub unread_behind_if : List Open → List Stmt → List Token → Reading BlockTree
 unread_behind_if stack done ts = outward (reverse stack) (in_front done (branch_at body_at ts))
+
+-- the same behind the word `each`
+unfoldable pub unread_behind_each : List Open → List Stmt → List Token → Reading BlockTree
+unread_behind_each stack done ts = outward (reverse stack) (in_front done (each_at body_at ts))
 
 -- the same in front of a statement without blocks
 unfoldable pub unread_from_statement : List Open → List Stmt → List Token → Reading BlockTree
@@ -56,6 +63,10 @@ behind_end last body cursor = unread_behind_end (body.stack.items ++ last ∷ []
 -- the same behind the word `if`
 abbrev pub behind_if : Body → Cursor → Reading BlockTree
 behind_if body cursor = unread_behind_if body.stack.items body.done.items cursor.tokens.now
+
+-- the same behind the word `each`
+abbrev pub behind_each : Body → Cursor → Reading BlockTree
+behind_each body cursor = unread_behind_each body.stack.items body.done.items cursor.tokens.now
 
 -- the same where the whole block has ended, and where it hasn't
 abbrev pub state_of : (ended : Bool) → Body → Cursor → Reading BlockTree

@@ -3,7 +3,7 @@
 use Rattle.std.specs.Prelude.{◌≡◌, ℕ, zero, suc, pos, List, [], ◌∷◌, ◌++◌, length, Bool, true, false, Option, Some, None, Result, Ok, Err, if◌then◌else◌, ◌==◌}
 use Rattle.std.proofs.Common.{neg_ℤ}
 use denote.Enum.Bare.{sameb}
-use Rattle.prog_tree.specs.Syntax.{Name, ExprTree, Literal, Named, Plus, Minus, Times, RelationSign, Less, LessEqual, Greater, GreaterEqual, Equal, NotEqual, ComparisonTree, TestTree, KeyTree, One, Two, RangeTree, OneRange, TwoRange, StatementTree, Bind, Get, Need, Count, Sum, Lacks, Put, Insert, Delete, Keep, Reply, Abort, BlockTree, BlockEnd, Then, Branch, StmtTree, Plain, ProgramTree, DraftTree}
+use Rattle.prog_tree.specs.Syntax.{Name, ExprTree, Literal, Named, Plus, Minus, Times, RelationSign, Less, LessEqual, Greater, GreaterEqual, Equal, NotEqual, ComparisonTree, TestTree, KeyTree, One, Two, RangeTree, OneRange, TwoRange, ListingTree, StatementTree, Bind, Get, Need, Count, Sum, Lacks, Put, Insert, Delete, Keep, Reply, Abort, BlockTree, BlockEnd, Then, Branch, Each, StmtTree, Plain, ProgramTree, DraftTree}
 use Rattle.prog_tree.specs.declared.table.TableDecl.{TableDecl}
 use Rattle.prog_tree.specs.declared.table.Arity.{Arity}
 use Rattle.prog_tree.specs.declared.table.Arity.TheVariants as arity
@@ -416,6 +416,29 @@ branch_at body ts = do
   first ← block_at body test.1
   behind_first body test.0 first.0 first.1
 
+-- behind the word `each`: two names and the range whose rows are listed
+unfoldable pub listing_at : List Token → Reading ListingTree
+listing_at ts = do
+  key ← name_at ts
+  comma ← expect sign.Comma key.1
+  value ← name_at comma.1
+  word ← expect sign.In value.1
+  range ← range_at word.1
+  Ok (record { key = key.0; value = value.0; table = range.0.0; range = range.0.1 }, range.1)
+
+-- behind the block of an `each`
+unfoldable pub behind_turns : (body : List Token → Reading BlockTree) → ListingTree → (inside : BlockTree) → List Token → Reading BlockTree
+behind_turns body listing inside ts = do
+  rest ← body ts
+  Ok (Each listing inside rest.0, rest.1)
+
+-- behind the word `each`: an `each`, and the rest of its block
+unfoldable pub each_at : (body : List Token → Reading BlockTree) → List Token → Reading BlockTree
+each_at body ts = do
+  listing ← listing_at ts
+  inside ← block_at body listing.1
+  behind_turns body listing.0 inside.0 inside.1
+
 -- a statement without blocks, and the rest of its block
 unfoldable pub more_at : (body : List Token → Reading BlockTree) → List Token → Reading BlockTree
 more_at body ts = do
@@ -428,7 +451,8 @@ unfoldable pub body_within : ℕ → List Token → Reading BlockTree
 body_within zero ts = unexpected ts
 body_within (suc n) ts =
     behind_sign (after_sign sign.CloseBlock ts) (λ ts. Ok (BlockEnd, ts))
-    (behind_sign (after_sign sign.If ts) (branch_at (body_within n)) (more_at (body_within n) ts))
+    (behind_sign (after_sign sign.If ts) (branch_at (body_within n))
+    (behind_sign (after_sign sign.Each ts) (each_at (body_within n)) (more_at (body_within n) ts)))
 
 -- what is left of a block, and its closing sign
 unfoldable pub body_at : List Token → Reading BlockTree

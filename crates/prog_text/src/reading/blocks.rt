@@ -1,24 +1,25 @@
 // Blocks within blocks, read by a loop with a stack of those that are open.
 ghost use Rattle.std.specs.Prelude.{◌≡◌};
-ghost use Rattle.prog_tree.specs.Syntax.{Fork};
-ghost use Rattle.prog_tree.specs.Tree.{test_tree, stmt_tree, stmts_tree, block_tree};
+ghost use Rattle.prog_tree.specs.Syntax.{Fork, Loop};
+ghost use Rattle.prog_tree.specs.Tree.{test_tree, listing_tree, stmt_tree, stmts_tree, block_tree};
 ghost use Rattle.prog_text.specs.Cursor.{Reads};
-ghost use Rattle.prog_text.specs.Reading.{body_at, block_at};
-ghost use Rattle.prog_text.specs.OpenBlocks.{GoesOn, Steps, unread_of, behind_end, behind_if};
+ghost use Rattle.prog_text.specs.Reading.{listing_at, body_at, block_at};
+ghost use Rattle.prog_text.specs.OpenBlocks.{GoesOn, Steps, unread_of, behind_end, behind_if, behind_each};
 
 use crate::lexing::token::Sign;
 use crate::limits::MAX_BRACKETS;
 use crate::reading::conditions::test;
 use crate::reading::cursor::Cursor;
+use crate::reading::keys::{Ranged, range};
 use crate::reading::read_error::ReadError;
 use crate::reading::statements::statement;
-use prog_tree::{Block, Stmt, Test};
+use prog_tree::{Block, Listing, Stmt, Test};
 use smallvec::SmallVec;
 use std::alloc::Global;
 use std::default::MadeWith;
 use std::mem;
 
-/// A block of a branch that is open, and the statements in front of the branch.
+/// A block of a branch or of an `each` that is open, and the statements in front of these.
 #[derive(Drop)]
 pub enum Open {
     First {
@@ -28,6 +29,10 @@ pub enum Open {
     Second {
         test: Test,
         first: Vec<Stmt>,
+        before: Vec<Stmt>,
+    },
+    Turns {
+        listing: Listing,
         before: Vec<Stmt>,
     },
 }
@@ -57,10 +62,39 @@ fn branch(test: Test, first: Vec<Stmt>, second: Vec<Stmt>) -> Stmt
     }
 }
 
+// An `each` with this head and block.
+#[tactic(auto, using(prog_tree::proofs::TreeLemmas::loop_tree))]
+fn each(listing: Listing, body: Vec<Stmt>) -> Stmt
+    ensures { stmt_tree result ≡ Loop (listing_tree listing) (stmts_tree body.items) }
+{
+    Stmt::Each {
+        listing,
+        body: Block { stmts: body },
+    }
+}
+
+// Behind the word `each`: two names and a range.
+#[tactic(auto, unfolding(crate::specs::Reading::listing_at))]
+fn listing(cursor: &mut Cursor<'_>) -> Result<Listing, ReadError>
+    ensures { Reads listing_tree listing_at result cursor.old cursor.new }
+{
+    let key = cursor.name()?;
+    cursor.expect(Sign::Comma)?;
+    let value = cursor.name()?;
+    cursor.expect(Sign::In)?;
+    let Ranged { table, range } = range(cursor)?;
+    Ok(Listing {
+        key,
+        value,
+        table,
+        range,
+    })
+}
+
 /// A block that is being read.
 #[derive(Drop)]
 pub struct Body {
-    // The blocks of branches that are open in it, the innermost last.
+    // The blocks that are open in it, the innermost last.
     stack: SmallVec<Open, MAX_BRACKETS>,
     // The statements of the innermost one so far.
     done: Vec<Stmt>,
@@ -94,7 +128,7 @@ impl Body {
     }
 
     // Goes on behind the closing sign of the innermost block.
-    #[tactic(auto, using(crate::proofs::BlockSteps::second_ends))]
+    #[tactic(auto, using(crate::proofs::BlockSteps::second_ends, crate::proofs::BlockSteps::turns_end))]
     fn end(&mut self, cursor: &mut Cursor<'_>, last: Open) -> Result<(), ReadError>
         ensures { GoesOn (behind_end last self.old cursor.old) result
             self.new cursor.old cursor.new }
@@ -108,6 +142,11 @@ impl Body {
             } => {
                 let second = mem::replace(&mut self.done, before);
                 self.done.push(branch(test, first, second))?;
+                Ok(())
+            }
+            Open::Turns { listing, before } => {
+                let inside = mem::replace(&mut self.done, before);
+                self.done.push(each(listing, inside))?;
                 Ok(())
             }
         }
@@ -125,9 +164,21 @@ impl Body {
         Ok(())
     }
 
-    // Reads a statement, the beginning of a branch or the end of a block, and tells whether the
-    // outermost has ended.
-    #[tactic(auto, using(crate::proofs::BlockSteps::next_ends, crate::proofs::BlockSteps::next_branches, crate::proofs::BlockSteps::next_goes_on, crate::proofs::BlockSteps::statement_further))]
+    // Goes on behind the word `each`, into its block.
+    #[tactic(auto, using(crate::proofs::BlockSteps::turns_open))]
+    fn begin_each(&mut self, cursor: &mut Cursor<'_>) -> Result<(), ReadError>
+        ensures { GoesOn (behind_each self.old cursor.old) result self.new cursor.old cursor.new }
+    {
+        let listing = listing(cursor)?;
+        cursor.expect(Sign::OpenBlock)?;
+        let before = mem::replace(&mut self.done, Vec::new(cursor.alloc));
+        self.stack.push(Open::Turns { listing, before })?;
+        Ok(())
+    }
+
+    // Reads a statement, the beginning of a branch or of an `each`, or the end of a block, and
+    // tells whether the outermost has ended.
+    #[tactic(auto, using(crate::proofs::BlockSteps::next_ends, crate::proofs::BlockSteps::next_branches, crate::proofs::BlockSteps::next_repeats, crate::proofs::BlockSteps::next_goes_on, crate::proofs::BlockSteps::statement_further))]
     fn next(&mut self, cursor: &mut Cursor<'_>) -> Result<bool, ReadError>
         ensures { Steps (unread_of self.old cursor.old) result self.new cursor.old cursor.new }
     {
@@ -140,6 +191,10 @@ impl Body {
         }
         if cursor.eat(Sign::If) {
             self.begin_branch(cursor)?;
+            return Ok(false);
+        }
+        if cursor.eat(Sign::Each) {
+            self.begin_each(cursor)?;
             return Ok(false);
         }
         self.done.push(statement(cursor)?)?;

@@ -18,7 +18,9 @@ returns-in_err-statement c =
     let stack = c.args.self.now.stack.items in
     let done = c.args.self.now.done.items in
     let ts = c.args.cursor.now.tokens.now in
-    let same = c.if-eat.ensures.1 in
-    let no_branch = subst (λ us. after_sign sign.If us ≡ None) same c.if-eat-2.ensures.0 in
-    let fails = subst (λ us. Fails k (as_plain (statement_at us))) (c.if-eat-2.ensures.1 ∙ same) c.in_err-statement.ensures in
-    rw (p.1, p.2) (subst (Fails k) (sym (next_goes_on stack done ts c.if-eat.ensures.0 no_branch)) (statement_fails k stack done ts fails))
+    let first = c.if-eat.ensures.1 in
+    let second = c.if-eat-2.ensures.1 ∙ first in
+    let no_branch = subst (λ us. after_sign sign.If us ≡ None) first c.if-eat-2.ensures.0 in
+    let no_each = subst (λ us. after_sign sign.Each us ≡ None) second c.if-eat-3.ensures.0 in
+    let fails = subst (λ us. Fails k (as_plain (statement_at us))) (c.if-eat-3.ensures.1 ∙ second) c.in_err-statement.ensures in
+    rw (p.1, p.2) (subst (Fails k) (sym (next_goes_on stack done ts c.if-eat.ensures.0 no_branch no_each)) (statement_fails k stack done ts fails))
