@@ -8,17 +8,17 @@ use Rattle.prog_tree.specs.declared.deed.Deed.{Deed}
 use Rattle.prog_tree.specs.declared.deed.End.{End}
 use Rattle.prog_tree.specs.declared.progress.Progress.{Progress}
 use Rattle.prog_tree.specs.declared.table.TableDecl.{TableDecl}
-use Rattle.prog_tree.specs.Syntax.{Name, KeyTree, RangeTree, StatementTree, BlockTree}
+use Rattle.prog_tree.specs.Syntax.{Name, KeyTree, RangeTree, ListingTree, StatementTree, BlockTree}
 use Rattle.prog_tree.specs.Syntax as s
 use Rattle.prog_tree.specs.Table.{TableState}
-use Rattle.prog_tree.specs.declared.deed.Deed.TheVariants.{Counted, Summed}
+use Rattle.prog_tree.specs.declared.deed.Deed.TheVariants.{Counted, Summed, Listed}
 use Rattle.prog_tree.specs.Steps.{closed, bound, did}
-use Rattle.prog_tree.specs.Evaluation.{Evaluation, Flow, GoesOn, Stops, with_value, if_present, and_then, at_key, in_range, seen_or, with_rows, run_statement, run_block, ended, cell_of, region_of, total_of}
+use Rattle.prog_tree.specs.Evaluation.{Evaluation, Flow, GoesOn, Stops, with_value, if_present, and_then, at_key, in_range, seen_or, with_rows, Turn, begun_turn, turns_of, run_turns, run_statement, run_block, ended, cell_of, region_of, total_of}
 use Rattle.prog_tree.specs.Numbering.{number_of}
 use Rattle.prog_tree.specs.Value.{exact, value_of, or_else}
 use Rattle.prog_tree.specs.ChangeSet.{change_at}
 use Rattle.prog_tree.specs.Tree.{program_tree}
-use Rattle.prog_run.specs.Todo.{OpenTree, CursorTree, finish_block, todo}
+use Rattle.prog_run.specs.Todo.{TurnsTree, head_of, OpenTree, CursorTree, finish_turns, finish_block, todo}
 use Rattle.prog_run.specs.Looks.{AreFound}
 use Rattle.prog_run.specs.View.{RunView, IsTrueTo, IsTrueRun, comes_to}
 
@@ -52,6 +52,11 @@ by_present None p go other h e = e
 by_block : (p : Progress) (f : Flow) (go : Progress → Flow) → Extends p f → ((q : Progress) → Extends q (go q)) → Extends p (and_then f go)
 by_block p (GoesOn q) go e h = via p q e.more (go q) e.is (h q)
 by_block p (Stops cause q) go e h = e
+
+by_turns : (l : ListingTree) (body : Progress → Flow) → ((q : Progress) → Extends q (body q)) → (turns : List Turn) (p : Progress) → Extends p (run_turns l body turns p)
+by_turns l body h [] p = still p p _ refl refl
+by_turns l body h (turn ∷ turns) p =
+    by_block p _ _ (same p (begun_turn l turn p) _ refl (h (begun_turn l turn p))) (λ q. same q _ _ refl (by_turns l body h turns (closed (length p.env) q)))
 
 module _ (tables : List TableDecl) (m : TableState) where
   by_seen : (own : Option (Option ℤ)) (c : Cell) (p : Progress) (go : Option ℤ → Progress → Flow) →
@@ -103,16 +108,26 @@ module _ (tables : List TableDecl) (m : TableState) where
       by_value _ p _ (λ (holds : Bool). by_block p _ _
       (elim holds as (λ w. Extends p ((if w then run_block tables m a else run_block tables m b) p)) [ true ↦ run_grows a p | false ↦ run_grows b p ])
       (λ q. same q _ _ refl (run_grows rest (closed (length p.env) q))))
+  run_grows (s.Each l body rest) p =
+      in_range_grows l.table l.range p _ (λ g. by_rows g p _ (λ rows q.
+      let listed = did (Listed g (length rows)) q in
+      by_block q _ _ (via q listed (Listed g (length rows) ∷ []) _ refl (by_turns l (run_block tables m body) (run_grows body) (turns_of l.range rows) listed)) (run_grows rest)))
+
+  turns_grow : (o : Option TurnsTree) (p : Progress) → Extends p (finish_turns tables m o p)
+  turns_grow None p = still p p _ refl refl
+  turns_grow (Some t) p = by_turns (head_of t) (run_block tables m t.body) (run_grows t.body) t.left p
+
+  -- the rest of a block, its turns, and what comes after them
+  block_grows : (b : OpenTree) (after : Progress → Flow) → ((q : Progress) → Extends q (after q)) → (p : Progress) → Extends p (finish_block tables m after b p)
+  block_grows b after h p = by_block p _ _ (run_grows b.rest p) (λ q. same q (closed b.scope q) _ refl (by_block (closed b.scope q) _ _ (turns_grow b.turns (closed b.scope q)) h))
 
   finish_grows : (outer : List OpenTree) (after : Progress → Flow) → ((q : Progress) → Extends q (after q)) →
       (q : Progress) → Extends q (fold (finish_block tables m) after outer q)
   finish_grows [] after h = h
-  finish_grows (b ∷ outer) after h =
-      finish_grows outer (finish_block tables m after b) (λ q. by_block q _ _ (run_grows b.rest q) (λ r. same r _ _ refl (h (closed b.scope r))))
+  finish_grows (b ∷ outer) after h = finish_grows outer (finish_block tables m after b) (block_grows b after h)
 
   todo_grows : (c : CursorTree) (p : Progress) → Extends p (todo tables m c p)
-  todo_grows c p =
-      by_block p _ _ (run_grows c.here.rest p) (λ q. same q _ _ refl (finish_grows c.outer GoesOn (λ r. still r r _ refl refl) (closed c.here.scope q)))
+  todo_grows c p = block_grows c.here _ (finish_grows c.outer GoesOn (λ r. still r r _ refl refl)) p
 
 ended_deeds : (f : Flow) → (ended f).deeds ≡ flow_deeds f
 ended_deeds (GoesOn p) = refl

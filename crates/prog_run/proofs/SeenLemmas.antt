@@ -1,43 +1,27 @@
--- The number of the rows that a run sees in a region, and their total, without making these rows.
-use Rattle.std.proofs.Common.{◌≡◌, ℕ, ◌+◌, List, [], ◌∷◌, refl, ap, sym, subst, ◌∙◌, true, false, length, not, cond, arith, ◌<◌, drop, get_or, add-one, drop-cons}
-use Rattle.std.specs.Prelude.{ℤ, pos, ◌+ℤ◌, Bool, ◌||◌, Option, Some, None, filter, unwrap_or}
+-- The rows that a run sees in a region: those of its look and its own changes, merged in one pass.
+use Rattle.std.proofs.Common.{◌≡◌, ℕ, zero, suc, ◌+◌, List, [], ◌∷◌, ◌++◌, refl, ap, sym, subst, ◌∙◌, true, false, not, cond, arith, ◌<◌, length, take, drop, get_or, add-one, drop-cons, append_assoc}
+use Rattle.std.specs.Prelude.{ℤ, ◌+ℤ◌, Bool, ◌||◌, ◌&&◌, Option, Some, None, is_some, filter, if◌then◌else◌}
+use Rattle.std.specs.declared.cmp.Ordering.{Ordering}
 use Rattle.std.specs.declared.cmp.Ordering.TheVariants.{Less, Equal, Greater}
-use Rattle.std.specs.Ordering.{is_eq, match_ordering}
-use Rattle.std.specs.Cmp.{tied_itself, eq_by_cmp_equiv}
+use Rattle.std.specs.Ordering.{is_eq, is_lt, match_ordering, ordering_reverse}
+use Rattle.std.specs.Cmp.{tied_itself}
 use Rattle.std.specs.FinMap.{find}
 use Rattle.std.specs.FinMap.Entries.{find-where_key}
 use Rattle.std.specs.List.{list_any, AllByRecursion}
 use Rattle.std.specs.List.Sorted.{IsStrictlySortedBy}
-use Rattle.std.proofs.lemmas.Int.{ints}
 use Rattle.std.proofs.lemmas.List.Kept.{IsStrictlySortedBy-filter}
 use Rattle.prog_tree.specs.declared.cell.Cell.{Cell}
 use Rattle.prog_tree.specs.declared.cell.Region.{Region}
 use Rattle.prog_tree.specs.Table.{cell_cmp, is_in, is_same_cell, is_cell_among, cells_of, at_cell, TableState, row_at, with_row, without_row}
 use Rattle.prog_tree.specs.ChangeSet.{ChangedCells, changes_in, changed_row, changed}
-use Rattle.prog_tree.specs.Evaluation.{total_of}
+use Rattle.prog_tree.specs.Evaluation.{own_cells, total_of}
 use Rattle.prog_tree.proofs.TableLemmas.{cell_total, find_is}
+use Rattle.prog_tree.proofs.TableStates.{cell_is}
 use Rattle.prog_tree.proofs.ChangedLemmas.{row_at-changed}
 use Rattle.prog_run.specs.Looks.{rows_without}
-use Rattle.prog_run.specs.Seen.{counted, set_count, added, set_total, tally_with}
-use Rattle.prog_run.specs.Task.{tally_of}
-use Rattle.prog_run.specs.declared.task.Tally.{Tally}
-use Rattle.prog_run.specs.declared.task.Tally.TheVariants.{Count, Sum}
+use Rattle.prog_run.specs.Seen.{rows_before, AreAbsent, own_row}
 
--- ---- a row of a cell that had none
-
-length-with_row : (m : TableState) (c : Cell) (v : ℤ) → row_at m c ≡ None → length (with_row m c v) ≡ length m + 1
-length-with_row [] c v h = refl
-length-with_row (e ∷ m) c v h =
-    let rest = length-with_row m c v in
-    (elim (cell_cmp c e.0) as (λ o. cond (is_eq o) (Some e.1) (row_at m c) ≡ None → length (match_ordering o ((c, v) ∷ e ∷ m) ((e.0, v) ∷ m) (e ∷ with_row m c v)) ≡ length (e ∷ m) + 1)
-    [ Less ↦ λ _. omega arith | Equal ↦ λ k. absurd (cc) | Greater ↦ λ k. omega (arith, rest k) ]) h
-
-total-with_row : (m : TableState) (c : Cell) (v : ℤ) → row_at m c ≡ None → total_of (with_row m c v) ≡ v +ℤ total_of m
-total-with_row [] c v h = refl
-total-with_row (e ∷ m) c v h =
-    let rest = total-with_row m c v in
-    (elim (cell_cmp c e.0) as (λ o. cond (is_eq o) (Some e.1) (row_at m c) ≡ None → total_of (match_ordering o ((c, v) ∷ e ∷ m) ((e.0, v) ∷ m) (e ∷ with_row m c v)) ≡ v +ℤ total_of (e ∷ m))
-    [ Less ↦ λ _. refl | Equal ↦ λ k. absurd (cc) | Greater ↦ λ k. ap (λ t. e.1 +ℤ t) (rest k) ∙ omega (arith, ints) ]) h
+-- ---- rows of cells that were not changed
 
 absent_rest : (c : Cell) (row : Cell × ℤ) (m : TableState) → row_at (row ∷ m) c ≡ None → row_at m c ≡ None
 absent_rest c row m absent =
@@ -50,50 +34,37 @@ without_absent c (row ∷ m) absent =
     (elim (is_same_cell c row.0) as (λ b. cond b (Some row.1) (row_at m c) ≡ None → cond (not b) (row ∷ without_row m c) (without_row m c) ≡ row ∷ m)
     [ true ↦ λ found. absurd (cc) | false ↦ λ k. ap (λ rows. row ∷ rows) (rest k) ]) absent
 
-changed_count : (m : TableState) (c : Cell) (w : Option ℤ) → row_at m c ≡ None → length (changed_row m c w) ≡ counted w (length m)
-changed_count m c (Some v) absent = length-with_row m c v absent
-changed_count m c None absent = ap length (without_absent c m absent)
+all_absent_rest : (row : Cell × ℤ) (m : TableState) (es : ChangedCells) → AreAbsent (row ∷ m) es → AreAbsent m es
+all_absent_rest row m [] h = tt
+all_absent_rest row m (e ∷ es) h = (absent_rest e.0 row m h.0, all_absent_rest row m es h.1)
 
-changed_total : (m : TableState) (c : Cell) (w : Option ℤ) → row_at m c ≡ None → total_of (changed_row m c w) ≡ added w (total_of m)
-changed_total m c (Some v) absent = total-with_row m c v absent
-changed_total m c None absent = ap total_of (without_absent c m absent)
+-- a cell before all others is not among them
+not_at : (k : Cell) (es : ChangedCells) → AllByRecursion (λ y. cell_cmp k y ≡ Less) (cells_of es) → at_cell es k ≡ None
+not_at k [] h = refl
+not_at k (e ∷ es) h = ap (λ o. cond (is_eq o) (Some e.1) (at_cell es k)) h.0 ∙ not_at k es h.1
+
+still_absent : (m : TableState) (e : Cell × Option ℤ) (es : ChangedCells) → AllByRecursion (λ y. cell_cmp e.0 y ≡ Less) (cells_of es) → row_at m e.0 ≡ None → row_at (changed m es) e.0 ≡ None
+still_absent m e es above absent = row_at-changed m es e.0 ∙ ap (λ o. own_or o (row_at m e.0)) (not_at e.0 es above) ∙ absent
+  where
+    own_or : Option (Option ℤ) → Option ℤ → Option ℤ
+    own_or (Some w) o = w
+    own_or None o = o
 
 -- ---- rows without those of some cells
 
--- to leave out the rows of several cells is to leave out those of the first, and then the others
-pub rows_without-cons : (k : Cell) (ks : List Cell) (m : TableState) → rows_without (k ∷ ks) m ≡ rows_without ks (without_row m k)
-rows_without-cons k ks [] = refl
-rows_without-cons k ks (row ∷ m) =
-    let rest = rows_without-cons k ks m in
-    ap (λ b. cond (not (b || is_cell_among ks row.0)) (row ∷ rows_without (k ∷ ks) m) (rows_without (k ∷ ks) m)) ((eq_by_cmp_equiv cell_total).symm row.0 k)
-    ∙ elim (is_same_cell k row.0) as (λ b. cond (not (b || is_cell_among ks row.0)) (row ∷ rows_without (k ∷ ks) m) (rows_without (k ∷ ks) m) ≡ rows_without ks (cond (not b) (row ∷ without_row m k) (without_row m k)))
-    [ true ↦ rest | false ↦ ap (λ t. cond (not (is_cell_among ks row.0)) (row ∷ t) t) rest ]
-
-pub rows_without-nil : (m : TableState) → rows_without [] m ≡ m
-rows_without-nil [] = refl
-rows_without-nil (row ∷ m) = ap (λ rows. row ∷ rows) (rows_without-nil m)
-
--- none of the changed cells has a row
-abbrev AreAbsent : TableState → ChangedCells → Type 0
-AreAbsent m [] = Unit {0}
-AreAbsent m (e ∷ es) = (row_at m e.0 ≡ None) × AreAbsent m es
-
--- all changed cells are among some cells
-abbrev AreAmong : List Cell → ChangedCells → Type 0
-AreAmong cells [] = Unit {0}
-AreAmong cells (e ∷ es) = (is_cell_among cells e.0 ≡ true) × AreAmong cells es
-
-same_left : (q x k : Cell) → cell_cmp q x ≡ Equal → is_same_cell x k ≡ is_same_cell q k
-same_left q x k e = ap is_eq (sym (cell_total.congr q x k e))
-
 among_same : (cells : List Cell) (q x : Cell) → cell_cmp q x ≡ Equal → is_cell_among cells x ≡ is_cell_among cells q
-among_same cells q x e = ap (λ (f : Cell → Bool). list_any f cells) (λ i k. same_left q x k e i)
+among_same cells q x e = ap (λ (f : Cell → Bool). list_any f cells) (λ i k. is_eq (sym (cell_total.congr q x k e) i))
 
 row_at-rows_without : (own : List Cell) (m : TableState) (c : Cell) → is_cell_among own c ≡ true → row_at (rows_without own m) c ≡ None
 row_at-rows_without own m c h =
     find_is (rows_without own m) c
     ∙ find-where_key cell_cmp (λ x. not (is_cell_among own x)) c (λ x e. ap not (among_same own c x e)) m
     ∙ ap (λ b. cond (not b) (find cell_cmp c m) None) h
+
+-- all changed cells are among some cells
+abbrev AreAmong : List Cell → ChangedCells → Type 0
+AreAmong cells [] = Unit {0}
+AreAmong cells (e ∷ es) = (is_cell_among cells e.0 ≡ true) × AreAmong cells es
 
 are_absent : (own : List Cell) (m : TableState) (es : ChangedCells) → AreAmong own es → AreAbsent (rows_without own m) es
 are_absent own m [] h = tt
@@ -113,35 +84,28 @@ all_among : (es : ChangedCells) → AreAmong (cells_of es) es
 all_among [] = tt
 all_among (e ∷ es) = (among_itself e.0 (cells_of es), among_more e.0 (cells_of es) es (all_among es))
 
--- ---- changes in cell order
+-- no changed cell has a row where the rows of all changed cells are left out
+pub own_absent : (m : TableState) (own : ChangedCells) → AreAbsent (rows_without (cells_of own) m) own
+own_absent m own = are_absent (cells_of own) m own (all_among own)
 
--- a cell before all others is not among them
-not_at : (k : Cell) (es : ChangedCells) → AllByRecursion (λ y. cell_cmp k y ≡ Less) (cells_of es) → at_cell es k ≡ None
-not_at k [] h = refl
-not_at k (e ∷ es) h = ap (λ o. cond (is_eq o) (Some e.1) (at_cell es k)) h.0 ∙ not_at k es h.1
-
-still_absent : (m : TableState) (e : Cell × Option ℤ) (es : ChangedCells) → AllByRecursion (λ y. cell_cmp e.0 y ≡ Less) (cells_of es) → row_at m e.0 ≡ None → row_at (changed m es) e.0 ≡ None
-still_absent m e es above absent = row_at-changed m es e.0 ∙ ap (λ o. own_or o (row_at m e.0)) (not_at e.0 es above) ∙ absent
+-- a cell is one of the own cells of a region if it lies there and was changed
+pub own_among : (r : Region) (es : ChangedCells) (c : Cell) → is_cell_among (own_cells r es) c ≡ (is_some (at_cell es c) && is_in r c)
+own_among r [] c = refl
+own_among r (e ∷ es) c = by (is_same_cell c e.0) refl (is_in r e.0) refl (own_among r es c)
   where
-    own_or : Option (Option ℤ) → Option ℤ → Option ℤ
-    own_or (Some w) o = w
-    own_or None o = o
+    by : (b : Bool) → is_same_cell c e.0 ≡ b → (d : Bool) → is_in r e.0 ≡ d → is_cell_among (own_cells r es) c ≡ (is_some (at_cell es c) && is_in r c) →
+        is_cell_among (cells_of (cond d (e ∷ changes_in r es) (changes_in r es))) c ≡ (is_some (cond b (Some e.1) (at_cell es c)) && is_in r c)
+    by true is true lies rest = ap (λ b. b || is_cell_among (own_cells r es) c) is ∙ sym lies ∙ sym (ap (is_in r) (cell_is c e.0 is))
+    by true is false lies rest = rest ∙ ap (λ b. is_some (at_cell es c) && b) out ∙ both_false (is_some (at_cell es c)) ∙ sym out
+      where
+        out : is_in r c ≡ false
+        out = ap (is_in r) (cell_is c e.0 is) ∙ lies
 
-length-changed : (m : TableState) (es : ChangedCells) → IsStrictlySortedBy cell_cmp (cells_of es) → AreAbsent m es → length (changed m es) ≡ length m + set_count es
-unfolding IsStrictlySortedBy
-length-changed m [] ordered absent = omega arith
-length-changed m (e ∷ es) ordered absent =
-    changed_count (changed m es) e.0 e.1 (still_absent m e es ordered.0 absent.0)
-    ∙ ap (counted e.1) (length-changed m es ordered.1 absent.1)
-    ∙ elim e.1 as (λ w. counted w (length m + set_count es) ≡ length m + counted w (set_count es)) [ Some v ↦ omega arith | None ↦ refl ]
-
-total-changed : (m : TableState) (es : ChangedCells) → IsStrictlySortedBy cell_cmp (cells_of es) → AreAbsent m es → total_of (changed m es) ≡ total_of m +ℤ set_total es
-unfolding IsStrictlySortedBy
-total-changed m [] ordered absent = omega (arith, ints)
-total-changed m (e ∷ es) ordered absent =
-    changed_total (changed m es) e.0 e.1 (still_absent m e es ordered.0 absent.0)
-    ∙ ap (added e.1) (total-changed m es ordered.1 absent.1)
-    ∙ elim e.1 as (λ w. added w (total_of m +ℤ set_total es) ≡ total_of m +ℤ added w (set_total es)) [ Some v ↦ omega (arith, ints) | None ↦ refl ]
+        both_false : (b : Bool) → (b && false) ≡ false
+        both_false true = refl
+        both_false false = refl
+    by false is true lies rest = ap (λ b. b || is_cell_among (own_cells r es) c) is ∙ rest
+    by false is false lies rest = rest
 
 cells_of-in : (r : Region) (es : ChangedCells) → cells_of (changes_in r es) ≡ filter (is_in r) (cells_of es)
 cells_of-in r [] = refl
@@ -153,31 +117,117 @@ cells_of-in r (e ∷ es) =
 pub ordered_in : (r : Region) (es : ChangedCells) → IsStrictlySortedBy cell_cmp (cells_of es) → IsStrictlySortedBy cell_cmp (cells_of (changes_in r es))
 ordered_in r es h = subst (IsStrictlySortedBy cell_cmp) (sym (cells_of-in r es)) (IsStrictlySortedBy-filter cell_cmp (is_in r) (cells_of es) h)
 
--- ---- what a run sees: the rows of a look without its own cells, and its own changes
+-- ---- rows merged with changes
 
-length-seen : (m : TableState) (own : ChangedCells) → IsStrictlySortedBy cell_cmp (cells_of own) →
-    length (changed (rows_without (cells_of own) m) own) ≡ length (rows_without (cells_of own) m) + set_count own
-length-seen m own ordered = length-changed (rows_without (cells_of own) m) own ordered (are_absent (cells_of own) m own (all_among own))
+-- a cell that comes before those of all changes
+abbrev IsBeforeAll : Cell → ChangedCells → Type 0
+IsBeforeAll c es = AllByRecursion (λ y. cell_cmp c y ≡ Less) (cells_of es)
 
-total-seen : (m : TableState) (own : ChangedCells) → IsStrictlySortedBy cell_cmp (cells_of own) →
-    total_of (changed (rows_without (cells_of own) m) own) ≡ total_of (rows_without (cells_of own) m) +ℤ set_total own
-total-seen m own ordered = total-changed (rows_without (cells_of own) m) own ordered (are_absent (cells_of own) m own (all_among own))
+-- a cell that comes before that of the first row
+abbrev IsBeforeFirst : Cell → TableState → Type 0
+IsBeforeFirst c [] = Unit {0}
+IsBeforeFirst c (row ∷ rows) = cell_cmp c row.0 ≡ Less
 
-pub tally-seen : (tally : Tally) (m : TableState) (own : ChangedCells) → IsStrictlySortedBy cell_cmp (cells_of own) →
-    tally_of tally (changed (rows_without (cells_of own) m) own) ≡ tally_with tally (rows_without (cells_of own) m) own
-tally-seen Count m own ordered = ap pos (length-seen m own ordered)
-tally-seen Sum m own ordered = total-seen m own ordered
+turned : (a b : Cell) (o : Ordering) → cell_cmp a b ≡ o → cell_cmp b a ≡ ordering_reverse o
+turned a b o h = cell_total.antisymm b a ∙ ap ordering_reverse h
 
-added_is : (w : Option ℤ) (z : ℤ) → added w z ≡ unwrap_or w (pos 0) +ℤ z
-added_is (Some v) z = refl
-added_is None z = omega (arith, ints)
+before_more : (a b : Cell) → cell_cmp a b ≡ Less → (es : ChangedCells) → IsBeforeAll b es → IsBeforeAll a es
+before_more a b lt [] all = tt
+before_more a b lt (e ∷ es) all = (cell_total.trans a b e.0 lt all.0, before_more a b lt es all.1)
 
--- the values from one change on
-pub set_more : (own : ChangedCells) (i : ℕ) (d : Cell × Option ℤ) (v : ℤ) → i < length own → v ≡ unwrap_or (get_or own i d).1 (pos 0) →
-    set_total (drop i own) ≡ v +ℤ set_total (drop (i + 1) own)
-set_more own i d v lt e =
-    let split : drop i own ≡ get_or own i d ∷ drop (i + 1) own = rw add-one (drop-cons own i d lt) in
-    ap set_total split ∙ added_is (get_or own i d).1 (set_total (drop (i + 1) own)) ∙ ap (λ z. z +ℤ set_total (drop (i + 1) own)) (sym e)
+-- the change of a later cell passes a row
+passes : (row : Cell × ℤ) (m : TableState) (c : Cell) (w : Option ℤ) → cell_cmp c row.0 ≡ Greater → changed_row (row ∷ m) c w ≡ row ∷ changed_row m c w
+passes row m c (Some v) h = ap (λ o. match_ordering o ((c, v) ∷ row ∷ m) ((row.0, v) ∷ m) (row ∷ with_row m c v)) h
+passes row m c None h = ap (λ o. cond (not (is_eq o)) (row ∷ without_row m c) (without_row m c)) h
+
+-- a row before all changes stays in front
+front_stays : (row : Cell × ℤ) (m : TableState) (es : ChangedCells) → IsBeforeAll row.0 es → changed (row ∷ m) es ≡ row ∷ changed m es
+front_stays row m [] all = refl
+front_stays row m (e ∷ es) all =
+    ap (λ (rows : TableState). changed_row rows e.0 e.1) (front_stays row m es all.1) ∙ passes row (changed m es) e.0 e.1 (turned row.0 e.0 Less all.0)
+
+first_set : (m : TableState) (c : Cell) (v : ℤ) → IsBeforeFirst c m → with_row m c v ≡ (c, v) ∷ m
+first_set [] c v h = refl
+first_set (row ∷ m) c v h = ap (λ o. match_ordering o ((c, v) ∷ row ∷ m) ((row.0, v) ∷ m) (row ∷ with_row m c v)) h
+
+still_first : (c k : Cell) (w : Option ℤ) (m : TableState) → IsBeforeFirst c m → cell_cmp c k ≡ Less → row_at m k ≡ None → IsBeforeFirst c (changed_row m k w)
+still_first c k (Some v) [] h lt absent = lt
+still_first c k (Some v) (row ∷ m) h lt absent =
+    elim (cell_cmp k row.0) as (λ o. IsBeforeFirst c (match_ordering o ((k, v) ∷ row ∷ m) ((row.0, v) ∷ m) (row ∷ with_row m k v))) [ Less ↦ lt | Equal ↦ h | Greater ↦ h ]
+still_first c k None m h lt absent = subst (IsBeforeFirst c) (sym (without_absent k m absent)) h
+
+first_changed : (c : Cell) (m : TableState) (es : ChangedCells) → IsBeforeFirst c m → IsBeforeAll c es → IsStrictlySortedBy cell_cmp (cells_of es) → AreAbsent m es → IsBeforeFirst c (changed m es)
+unfolding IsStrictlySortedBy
+first_changed c m [] h all ordered absent = h
+first_changed c m (e ∷ es) h all ordered absent =
+    still_first c e.0 e.1 (changed m es) (first_changed c m es h all.1 ordered.1 absent.1) all.0 (still_absent m e es ordered.0 absent.0)
+
+-- where the first change comes before all rows, so does its row
+first_change : (e : Cell × Option ℤ) (m : TableState) (es : ChangedCells) → IsBeforeFirst e.0 m → IsStrictlySortedBy cell_cmp (cells_of (e ∷ es)) → AreAbsent m (e ∷ es) →
+    changed m (e ∷ es) ≡ own_row e.0 e.1 ++ changed m es
+unfolding IsStrictlySortedBy
+first_change e m es h ordered absent = by_change e.1
+  where
+    by_change : (w : Option ℤ) → changed_row (changed m es) e.0 w ≡ own_row e.0 w ++ changed m es
+    by_change (Some v) = first_set (changed m es) e.0 v (first_changed e.0 m es h ordered.0 ordered.1 absent.1)
+    by_change None = without_absent e.0 (changed m es) (still_absent m e es ordered.0 absent.0)
+
+-- the rows before the first change, its row, and then the others with the other changes
+pub merged : (e : Cell × Option ℤ) (es : ChangedCells) (m : TableState) → IsStrictlySortedBy cell_cmp (cells_of (e ∷ es)) → AreAbsent m (e ∷ es) →
+    changed m (e ∷ es) ≡ take (rows_before e.0 m) m ++ (own_row e.0 e.1 ++ changed (drop (rows_before e.0 m) m) es)
+unfolding IsStrictlySortedBy
+merged e es [] ordered absent = first_change e [] es tt ordered absent
+merged e es (row ∷ m) ordered absent = by_order (cell_cmp row.0 e.0) refl (merged e es m ordered (all_absent_rest row m (e ∷ es) absent))
+  where
+    by_order : (o : Ordering) → cell_cmp row.0 e.0 ≡ o → changed m (e ∷ es) ≡ take (rows_before e.0 m) m ++ (own_row e.0 e.1 ++ changed (drop (rows_before e.0 m) m) es) →
+        let n = if is_lt o then rows_before e.0 m + 1 else 0 in changed (row ∷ m) (e ∷ es) ≡ take n (row ∷ m) ++ (own_row e.0 e.1 ++ changed (drop n (row ∷ m)) es)
+    by_order Less is rest =
+        front_stays row m (e ∷ es) (is, before_more row.0 e.0 is es ordered.0) ∙ ap (λ (rows : TableState). row ∷ rows) rest
+        ∙ ap (λ n. take n (row ∷ m) ++ (own_row e.0 e.1 ++ changed (drop n (row ∷ m)) es)) (sym (add-one (rows_before e.0 m)))
+    by_order Equal is rest = let held = ap (λ o. cond (is_eq o) (Some row.1) (row_at m e.0)) (turned row.0 e.0 Equal is) in absurd (cc)
+    by_order Greater is rest = first_change e (row ∷ m) es (turned row.0 e.0 Greater is) ordered absent
+
+absent_behind : (n : ℕ) (m : TableState) (es : ChangedCells) → AreAbsent m es → AreAbsent (drop n m) es
+absent_behind zero m es h = h
+absent_behind (suc n) [] es h = h
+absent_behind (suc n) (row ∷ m) es h = absent_behind n m es (all_absent_rest row m es h)
+
+-- what is known of the rows and the changes that are still to be merged
+pub record IsToMerge (m : TableState) (es : ChangedCells) : Type 0 where
+  pub ordered : IsStrictlySortedBy cell_cmp (cells_of es)
+  pub absent : AreAbsent m es
+
+-- before the pass
+pub all_to_merge : (m : TableState) (es : ChangedCells) → IsStrictlySortedBy cell_cmp (cells_of es) → AreAbsent m es → IsToMerge m es
+all_to_merge m es ordered absent = record { ordered = ordered; absent = absent }
+
+-- one change is merged: so many rows stand before it
+module _ (own : ChangedCells) (i : ℕ) (d : Cell × Option ℤ) (left : TableState) (n : ℕ) (lt : i < length own) (count : n ≡ rows_before (get_or own i d).0 left) (more : IsToMerge left (drop i own)) where
+  abbrev change : Cell × Option ℤ
+  change = get_or own i d
+
+  split : drop i own ≡ change ∷ drop (i + 1) own
+  split = rw add-one (drop-cons own i d lt)
+
+  at : IsToMerge left (change ∷ drop (i + 1) own)
+  at = subst (IsToMerge left) split more
+
+  pub merge_more : (rest : TableState) → rest ≡ drop n left → IsToMerge rest (drop (i + 1) own)
+  unfolding IsStrictlySortedBy
+  merge_more rest is = subst (λ rows. IsToMerge rows (drop (i + 1) own)) (sym is)
+      (record { ordered = at.ordered.1; absent = absent_behind n left (drop (i + 1) own) at.absent.1 })
+
+  pub merge_one : (seen front rest both one all : TableState) → front ≡ take n left → rest ≡ drop n left → both ≡ seen ++ front → one ≡ both ++ own_row change.0 change.1 →
+      seen ++ changed left (drop i own) ≡ all → one ++ changed rest (drop (i + 1) own) ≡ all
+  merge_one seen front rest both one all before behind joined added h =
+      (λ k. (added ∙ ap (λ rows. rows ++ own_row change.0 change.1) (joined ∙ ap (λ rows. seen ++ rows) before)) k ++ changed (behind k) (drop (i + 1) own))
+      ∙ append_assoc (seen ++ take n left) (own_row change.0 change.1) (changed (drop n left) (drop (i + 1) own))
+      ∙ append_assoc seen (take n left) (own_row change.0 change.1 ++ changed (drop n left) (drop (i + 1) own))
+      ∙ ap (λ k. seen ++ (take k left ++ (own_row change.0 change.1 ++ changed (drop k left) (drop (i + 1) own)))) count
+      ∙ ap (λ rows. seen ++ rows) (sym (merged change (drop (i + 1) own) left at.ordered at.absent))
+      ∙ ap (λ es. seen ++ changed left es) (sym split) ∙ h
+
+-- ---- totals
 
 -- the values from one row on
 pub total_more : (rows : TableState) (i : ℕ) (d : Cell × ℤ) (v : ℤ) → i < length rows → v ≡ (get_or rows i d).1 →

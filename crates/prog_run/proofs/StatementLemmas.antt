@@ -1,29 +1,31 @@
 -- Laws of the statements of the store.
-use Rattle.std.proofs.Common.{◌≡◌, List, [], ◌∷◌, ◌++◌, ap, sym, subst, refl, ◌∙◌, true, true≢false}
-use Rattle.std.specs.Prelude.{ℤ, Option, Some, None, option_and_then, option_map}
+use Rattle.std.proofs.Common.{◌≡◌, List, [], ◌∷◌, ◌++◌, ap, sym, subst, refl, ◌∙◌, true, false, true≢false, length, length-append, arith}
+use Rattle.std.specs.Prelude.{ℤ, Bool, Option, Some, None, option_and_then, option_map}
 use Rattle.prog_tree.specs.declared.cell.Cell.{Cell}
 use Rattle.prog_tree.specs.declared.cell.Region.{Region}
+use Rattle.prog_tree.specs.declared.deed.Deed.{Deed}
+use Rattle.prog_tree.specs.declared.deed.Deed.TheVariants.{Listed}
+use Rattle.prog_tree.specs.declared.deed.End.{End}
 use Rattle.prog_tree.specs.declared.deed.End.TheVariants.{Ready, Aborted}
 use Rattle.prog_tree.specs.declared.deed.Look.{Look}
 use Rattle.prog_tree.specs.declared.deed.Look.TheVariants as look
 use Rattle.prog_tree.specs.declared.progress.Progress.{Progress}
 use Rattle.prog_tree.specs.declared.table.TableDecl.{TableDecl}
-use Rattle.prog_tree.specs.Syntax.{Name, StatementTree, BlockTree, BlockEnd, Then, Branch}
+use Rattle.prog_tree.specs.Syntax.{ListingTree, StatementTree, BlockTree, BlockEnd, Then, Branch, Each}
 use Rattle.prog_tree.specs.Syntax as s
 use Rattle.prog_tree.specs.Numbering.{number_of}
 use Rattle.prog_tree.specs.Value.{Bindings, value_of}
 use Rattle.prog_tree.specs.Table.{TableState}
 use Rattle.prog_tree.specs.ChangeSet.{change_at}
-use Rattle.prog_tree.specs.Steps.{looked}
+use Rattle.prog_tree.specs.Steps.{did, looked}
 use Rattle.prog_tree.specs.Evaluation.{Flow, GoesOn, Stops, with_value, seen_or, cell_of, region_of, own_cells, rows_seen, run_statement}
 use Rattle.prog_run.specs.Cursor.{needs_store}
-use Rattle.prog_run.specs.Looks.{AreFound, FoundBefore, rows_without, region_look}
-use Rattle.prog_run.specs.Task.{UseTree, OfCell, OfRegion, TaskTree, task_of, next_task, use_flow, rows_flow, task_flow}
+use Rattle.prog_run.specs.Looks.{AreFound, FoundBefore, rows_without, region_look, seen_rows}
+use Rattle.prog_run.specs.Task.{UseTree, RegionUseTree, Lists, OfCell, OfRegion, TaskTree, task_of, listing_task, next_task, use_flow, rows_flow, task_flow}
 use Rattle.prog_run.specs.Task as task
 use Rattle.prog_run.specs.Statement.{IsFlow, IsBegun}
 use Rattle.prog_run.specs.declared.next.Step.{Step}
 use Rattle.prog_run.specs.declared.next.Step.TheVariants.{Asks, Did, Over}
-use Rattle.prog_run.specs.declared.task.Tally.{Tally}
 use Rattle.prog_run.proofs.LookLemmas.{found_last}
 
 -- what was to be done was done, on each table state that holds what the looks found
@@ -82,12 +84,87 @@ task_store tables (s.Keep table key) env t is = refl
 task_store tables (s.Reply value) env t is = absurd (cc)
 task_store tables s.Abort env t is = absurd (cc)
 
--- a block whose first statement has a task begins with a statement
-pub first_statement : (tables : List TableDecl) (b : BlockTree) (env : Bindings) (t : TaskTree) → next_task tables b env ≡ Some t →
+-- ---- listings
+
+-- whether a task is to list rows
+abbrev pub lists : TaskTree → Bool
+lists (task.Look (OfRegion region (Lists l body))) = true
+lists _ = false
+
+made : {A : Type 0} (o : Option A) (make : A → Option TaskTree) (t : TaskTree) → ((a : A) (u : TaskTree) → make a ≡ Some u → lists u ≡ false) → option_and_then make o ≡ Some t → lists t ≡ false
+made None make t h is = absurd (cc)
+made (Some a) make t h is = h a t is
+
+just : (x u : TaskTree) → lists x ≡ false → Some x ≡ Some u → lists u ≡ false
+just x u h is = let same : x ≡ u = cc in ap lists (sym same) ∙ h
+
+valued : (o : Option ℤ) (make : ℤ → TaskTree) (u : TaskTree) → ((v : ℤ) → lists (make v) ≡ false) → option_map make o ≡ Some u → lists u ≡ false
+valued None make u h is = absurd (cc)
+valued (Some v) make u h is = just (make v) u (h v) is
+
+-- no statement without blocks lists rows
+plain_lists : (tables : List TableDecl) (st : StatementTree) (env : Bindings) (t : TaskTree) → task_of tables st env ≡ Some t → lists t ≡ false
+plain_lists tables (s.Bind name value) env t is = absurd (cc)
+plain_lists tables (s.Get name table key otherwise) env t is = made (cell_of (number_of tables table) key env) _ t (λ cell u. just (task.Look (OfCell cell (task.Get name otherwise))) u refl) is
+plain_lists tables (s.Need name table key) env t is = made (cell_of (number_of tables table) key env) _ t (λ cell u. just (task.Look (OfCell cell (task.Need name))) u refl) is
+plain_lists tables (s.Count name table range) env t is = made (region_of (number_of tables table) range env) _ t (λ region u. just (task.Look (OfRegion region (task.Counts name))) u refl) is
+plain_lists tables (s.Sum name table range) env t is = made (region_of (number_of tables table) range env) _ t (λ region u. just (task.Look (OfRegion region (task.Sums name))) u refl) is
+plain_lists tables (s.Lacks table key) env t is = made (cell_of (number_of tables table) key env) _ t (λ cell u. just (task.Look (OfCell cell task.Lacks)) u refl) is
+plain_lists tables (s.Put table key value) env t is = made (cell_of (number_of tables table) key env) _ t (λ cell u. valued (value_of value env) (λ v. task.Put cell v) u (λ v. refl)) is
+plain_lists tables (s.Insert table key value) env t is = made (cell_of (number_of tables table) key env) _ t (λ cell u. valued (value_of value env) (λ v. task.Look (OfCell cell (task.Insert v))) u (λ v. refl)) is
+plain_lists tables (s.Delete table key) env t is = made (cell_of (number_of tables table) key env) _ t (λ cell u. just (task.Remove cell) u refl) is
+plain_lists tables (s.Keep table key) env t is = made (cell_of (number_of tables table) key env) _ t (λ cell u. just (task.Keep cell) u refl) is
+plain_lists tables (s.Reply value) env t is = absurd (cc)
+plain_lists tables s.Abort env t is = absurd (cc)
+
+-- the region that an `each` is to list
+pub record IsListing (tables : List TableDecl) (l : ListingTree) (body : BlockTree) (env : Bindings) (t : TaskTree) : Type 0 where
+  pub region : Region
+  pub found : region_of (number_of tables l.table) l.range env ≡ Some region
+  pub is : task.Look (OfRegion region (Lists l body)) ≡ t
+
+pub listing_is : (tables : List TableDecl) (l : ListingTree) (body : BlockTree) (env : Bindings) (t : TaskTree) → listing_task tables l body env ≡ Some t → IsListing tables l body env t
+listing_is tables l body env t has = by_region (region_of (number_of tables l.table) l.range env) refl has
+  where
+    by_region : (o : Option Region) → region_of (number_of tables l.table) l.range env ≡ o → option_and_then (λ region. Some (task.Look (OfRegion region (Lists l body)))) o ≡ Some t → IsListing tables l body env t
+    by_region None at found = absurd (cc)
+    by_region (Some region) at found = record { region = region; found = at; is = cc }
+
+pub no_listing : (tables : List TableDecl) (l : ListingTree) (body : BlockTree) (env : Bindings) → listing_task tables l body env ≡ None → region_of (number_of tables l.table) l.range env ≡ None
+no_listing tables l body env none = by_region (region_of (number_of tables l.table) l.range env) none
+  where
+    by_region : (o : Option Region) → option_and_then (λ region. Some (task.Look (OfRegion region (Lists l body)))) o ≡ None → o ≡ None
+    by_region None found = refl
+    by_region (Some region) found = absurd (cc)
+
+-- ---- the first statement of a block
+
+-- a block whose next task lists no rows begins with a statement without blocks
+pub first_statement : (tables : List TableDecl) (b : BlockTree) (env : Bindings) (t : TaskTree) → lists t ≡ false → next_task tables b env ≡ Some t →
     (st : StatementTree) × (rest : BlockTree) × (b ≡ Then st rest)
-first_statement tables BlockEnd env t is = absurd (cc)
-first_statement tables (Then st rest) env t is = (st, rest, refl)
-first_statement tables (Branch test a b rest) env t is = absurd (cc)
+first_statement tables BlockEnd env t tally is = absurd (cc)
+first_statement tables (Then st rest) env t tally is = (st, rest, refl)
+first_statement tables (Branch test a b rest) env t tally is = absurd (cc)
+first_statement tables (Each l body rest) env t tally is = absurd (true≢false (ap lists (listing_is tables l body env t is).is ∙ tally))
+
+-- one whose next task lists rows begins with an `each`
+pub record IsAtListing (tables : List TableDecl) (b : BlockTree) (env : Bindings) (l : ListingTree) (body : BlockTree) (region : Region) : Type 0 where
+  pub rest : BlockTree
+  pub at : b ≡ Each l body rest
+  pub found : region_of (number_of tables l.table) l.range env ≡ Some region
+
+pub first_listing : (tables : List TableDecl) (b : BlockTree) (env : Bindings) (l : ListingTree) (body : BlockTree) (region : Region) →
+    next_task tables b env ≡ Some (task.Look (OfRegion region (Lists l body))) → IsAtListing tables b env l body region
+first_listing tables BlockEnd env l body region is = absurd (cc)
+first_listing tables (Then st rest) env l body region is = absurd (true≢false (plain_lists tables st env (task.Look (OfRegion region (Lists l body))) is))
+first_listing tables (Branch test a b rest) env l body region is = absurd (cc)
+first_listing tables (Each k block rest) env l body region is =
+    let h = listing_is tables k block env (task.Look (OfRegion region (Lists l body))) is in
+    let same = h.is in
+    let head : k ≡ l = cc in
+    let inner : block ≡ body = cc in
+    let where_ : h.region ≡ region = cc in
+    record { rest = rest; at = λ i. Each (head i) (inner i) rest; found = (λ i. region_of (number_of tables (sym head i).table) (sym head i).range env) ∙ h.found ∙ ap Some where_ }
 
 -- ---- a task that is done
 
@@ -104,6 +181,22 @@ begun_looks t (Asks asked) p q h = ap (λ (r : Progress). r.looks) h.0
 begun_looks t (Did deed) p q h = (h []).2
 begun_looks t (Over (Aborted cause)) p q h = (h []).2
 begun_looks t (Over Ready) p q h = absurd (h [])
+
+-- a look that was noted can be told from none
+longer : (ls : List Look) (l : Look) → ls ++ l ∷ [] ≡ ls → ⊥
+longer ls l e = let n = ap length e in omega (arith, n, length-append ls (l ∷ []))
+
+-- a listing that is begun only asks
+pub listing_asks : (region : Region) (l : ListingTree) (body : BlockTree) (p q : Progress) (deed : Deed) → IsBegun (task.Look (OfRegion region (Lists l body))) (Did deed) p q → ⊥
+listing_asks region l body p q deed h =
+    let one = region_look p.changes region [] in
+    let goes = (h []).0 in
+    let same : did (Listed region (length (seen_rows p.changes region []))) (looked one p) ≡ q = cc in
+    longer p.looks one (ap (λ (r : Progress). r.looks) same ∙ (h []).2)
+
+pub listing_goes_on : (region : Region) (l : ListingTree) (body : BlockTree) (p q : Progress) (end : End) → IsBegun (task.Look (OfRegion region (Lists l body))) (Over end) p q → ⊥
+listing_goes_on region l body p q (Aborted cause) h = let same = (h []).0 in absurd (cc)
+listing_goes_on region l body p q Ready h = h []
 
 -- an answered look goes from p to q, and the rest of the task goes on from there
 module _ (l : Look) (p : Progress) (flow : TableState → Flow) (half : Flow) (is : (m : TableState) → AreFound m (l ∷ []) → flow m ≡ half) where
@@ -125,12 +218,12 @@ cell_done cell usage held p unchanged =
     (λ m f. ap (λ o. seen_or [] m o cell p (use_flow usage cell)) unchanged ∙ (λ i. use_flow usage cell (f.0 i) (looked (look.One cell (f.0 i)) p)))
 
 -- a look at a region
-pub rows_done : (region : Region) (tally : Tally) (name : Name) (rows : TableState) (p : Progress) → let own = own_cells region p.changes.cells in let left = rows_without own rows in
+pub rows_done : (region : Region) (usage : RegionUseTree) (rows : TableState) (p : Progress) → let own = own_cells region p.changes.cells in let left = rows_without own rows in
     let q = looked (region_look p.changes region rows) p in
-    (n : Step) (r : Progress) → IsFlow (rows_flow tally name region (rows_seen region p.changes.cells left) q) n q r → IsDoneBy (λ m. task_flow m (task.Look (OfRegion region tally name)) p) n p r
-rows_done region tally name rows p =
+    (n : Step) (r : Progress) → IsFlow (rows_flow usage region (rows_seen region p.changes.cells left) q) n q r → IsDoneBy (λ m. task_flow m (task.Look (OfRegion region usage)) p) n p r
+rows_done region usage rows p =
     let own = own_cells region p.changes.cells in
     let left = rows_without own rows in
     let q = looked (region_look p.changes region rows) p in
-    halves (region_look p.changes region rows) p (λ m. task_flow m (task.Look (OfRegion region tally name)) p) (rows_flow tally name region (rows_seen region p.changes.cells left) q)
-    (λ m f. λ i. rows_flow tally name region (rows_seen region p.changes.cells (f.0 i)) (looked (look.Range region own (f.0 i)) p))
+    halves (region_look p.changes region rows) p (λ m. task_flow m (task.Look (OfRegion region usage)) p) (rows_flow usage region (rows_seen region p.changes.cells left) q)
+    (λ m f. λ i. rows_flow usage region (rows_seen region p.changes.cells (f.0 i)) (looked (look.Range region own (f.0 i)) p))

@@ -4,24 +4,23 @@ use Rattle.std.specs.Prelude.{ℤ, pos, codes, ◌-◌, ◌^◌, List, Option, S
 use Rattle.prog_tree.specs.declared.cell.Cell.{Cell}
 use Rattle.prog_tree.specs.declared.cell.Region.{Region}
 use Rattle.prog_tree.specs.declared.deed.Cause.TheVariants.{Overflow}
-use Rattle.prog_tree.specs.declared.deed.Deed.TheVariants.{Read, Put}
+use Rattle.prog_tree.specs.declared.deed.Deed.TheVariants.{Read, Put, Counted, Summed, Listed}
 use Rattle.prog_tree.specs.declared.deed.End.TheVariants.{Aborted}
 use Rattle.prog_tree.specs.declared.deed.Look.{Look}
 use Rattle.prog_tree.specs.declared.deed.Look.TheVariants as look
 use Rattle.prog_tree.specs.declared.table.Arity.TheVariants as arity
 use Rattle.prog_tree.specs.declared.table.TableDecl.{TableDecl}
 use Rattle.prog_tree.specs.declared.progress.Progress.{Progress}
-use Rattle.prog_tree.specs.Syntax.{ExprTree, Literal, Named, Plus, Less, KeyTree, StatementTree, BlockTree, BlockEnd, Then, Branch}
+use Rattle.prog_tree.specs.Syntax.{ExprTree, Literal, Named, Plus, Less, KeyTree, ListingTree, StatementTree, BlockTree, BlockEnd, Then, Branch, Each}
 use Rattle.prog_tree.specs.Syntax as s
-use Rattle.prog_tree.specs.Steps.{started_with, wrote}
+use Rattle.prog_tree.specs.Steps.{started_with, wrote, bound, did}
 use Rattle.prog_tree.specs.Table.{TableState}
-use Rattle.prog_tree.specs.Evaluation.{rows_seen}
+use Rattle.prog_tree.specs.Evaluation.{GoesOn, rows_seen, begun_turn}
 use Rattle.prog_run.specs.Looks.{AreFound, asked_by, region_look}
-use Rattle.prog_run.specs.Task.{task_of, tally_of}
-use Rattle.prog_run.specs.declared.task.Tally.TheVariants.{Count, Sum}
-use Rattle.prog_run.specs.Seen.{set_count, set_total}
-use Rattle.prog_run.specs.Step.{next_of, end_after, deeds_after}
-use Rattle.prog_run.specs.Todo.{weight}
+use Rattle.prog_run.specs.Task.{Counts, Sums, Lists, task_of, next_task, rows_flow}
+use Rattle.prog_run.specs.Seen.{rows_before}
+use Rattle.prog_run.specs.Step.{next_of, end_after, deeds_after, cursor_behind}
+use Rattle.prog_run.specs.Todo.{TurnsTree, named, OpenTree, CursorTree, weight, weight_left, next_turn, in_turn}
 use Rattle.prog_run.specs.View.{get_fault, scan_fault, begin_fault}
 use Rattle.prog_run.specs.declared.fault.AnswerFault.TheVariants.{NotAsked, BadRows}
 use Rattle.prog_run.specs.declared.fault.RunFault.TheVariants.{NoSuchProgram}
@@ -104,17 +103,68 @@ pub look_is_found : AreFound opening (own_look ∷ look.One (cell_2 (pos 8) (pos
 look_is_found = (refl, (refl, tt))
 
 -- two rows seen: that of the look, and the one that the run has set
-pub seen_count : tally_of Count (rows_seen region own.changes.cells ((cell_2 (pos 7) (pos 3), pos 4) ∷ [])) ≡ pos 2
+abbrev seen : TableState
+seen = rows_seen region own.changes.cells ((cell_2 (pos 7) (pos 3), pos 4) ∷ [])
+
+pub seen_rows_are : seen ≡ (cell_2 (pos 7) (pos 2), pos 5) ∷ (cell_2 (pos 7) (pos 3), pos 4) ∷ []
+seen_rows_are = refl
+
+pub seen_count : rows_flow (Counts (codes "n")) region seen nothing_yet ≡ GoesOn (bound (codes "n") (pos 2) (did (Counted region (pos 2)) nothing_yet))
 seen_count = refl
 
-pub seen_total : tally_of Sum (rows_seen region own.changes.cells ((cell_2 (pos 7) (pos 3), pos 4) ∷ [])) ≡ pos 9
+pub seen_total : rows_flow (Sums (codes "n")) region seen nothing_yet ≡ GoesOn (bound (codes "n") (pos 9) (did (Summed region (pos 9)) nothing_yet))
 seen_total = refl
 
-pub own_count : set_count own.changes.cells ≡ 1
-own_count = refl
+-- the row of cell (7, 2) comes behind one row of the snapshot
+pub own_place : rows_before (cell_2 (pos 7) (pos 2)) answered ≡ 1
+own_place = refl
 
-pub own_total : set_total own.changes.cells ≡ pos 5
-own_total = refl
+-- ---- turns
+
+-- each k, x in e[d, 1..3] { put t[k] = x; }
+abbrev head : ListingTree
+head = record { key = codes "k"; value = codes "x"; table = codes "e"; range = s.TwoRange (Named (codes "d")) (number (pos 1)) (number (pos 3)) }
+
+abbrev body : BlockTree
+body = Then (s.Put (codes "t") (s.One (Named (codes "k"))) (Named (codes "x"))) BlockEnd
+
+pub each_asks : option_and_then (asked_by own.changes) (next_task tables (Each head body BlockEnd) own.env) ≡ Some (Range region)
+each_asks = refl
+
+pub each_deed : rows_flow (Lists head body) region seen nothing_yet ≡ GoesOn (did (Listed region 2) nothing_yet)
+each_deed = refl
+
+-- before the statement, with one name bound
+abbrev before_each : CursorTree
+before_each = record { here = record { rest = Each head body BlockEnd; scope = 1; turns = None }; outer = [] }
+
+abbrev turns : List (ℤ × ℤ) → TurnsTree
+turns left = record { key = codes "k"; value = codes "x"; body = body; left = left }
+
+-- its turns are those of the rows in cell order, by the last key column and the value
+pub each_opens : cursor_behind (Lists head body) seen 1 (step.Did (Listed region 2)) before_each
+    ≡ record { here = record { rest = BlockEnd; scope = 1; turns = Some (turns ((pos 2, pos 5) ∷ (pos 3, pos 4) ∷ [])) }; outer = record { rest = BlockEnd; scope = 1; turns = None } ∷ [] }
+each_opens = refl
+
+abbrev at_turns : List (ℤ × ℤ) → OpenTree
+at_turns left = record { rest = BlockEnd; scope = 1; turns = Some (turns left) }
+
+pub first_turn : next_turn (at_turns ((pos 2, pos 5) ∷ (pos 3, pos 4) ∷ [])) ≡ Some (named (codes "k") (codes "x"), (pos 2, pos 5))
+first_turn = refl
+
+pub no_turn : next_turn (at_turns []) ≡ None
+no_turn = refl
+
+pub second_turn : in_turn 1 (at_turns ((pos 3, pos 4) ∷ [])) ≡ record { rest = body; scope = 1; turns = Some (turns []) }
+second_turn = refl
+
+-- the key and then the value are bound
+pub turn_names : begun_turn head (pos 2, pos 5) nothing_yet ≡ bound (codes "x") (pos 5) (bound (codes "k") (pos 2) nothing_yet)
+turn_names = refl
+
+-- two turns of a statement and an end each, with one step before each, and the end that comes before the first
+pub turns_weigh : weight_left (record { here = at_turns ((pos 2, pos 5) ∷ (pos 3, pos 4) ∷ []); outer = [] }) ≡ 7
+turns_weigh = refl
 
 -- ---- refusals
 

@@ -1,26 +1,36 @@
 -- Where a run stands, and what a step without the store does.
-use Rattle.std.specs.Prelude.{◌≡◌, ◌<◌, Bool, true, false, Option, Some, None, List, map}
+use Rattle.std.specs.Prelude.{◌≡◌, ◌<◌, ℤ, Bool, true, false, Option, Some, None, option_map, List, map}
 use Rattle.prog_tree.specs.declared.deed.End.{End}
 use Rattle.prog_tree.specs.declared.progress.Progress.{Progress}
 use Rattle.prog_tree.specs.declared.table.TableDecl.{TableDecl}
-use Rattle.prog_tree.specs.Syntax.{StatementTree, BlockTree, BlockEnd, Then, Branch, StmtTree, Plain, Fork}
+use Rattle.prog_tree.specs.Syntax.{ListingTree, StatementTree, BlockTree, BlockEnd, Then, Branch, Each, StmtTree, Plain, Fork, Loop}
 use Rattle.prog_tree.specs.Syntax as s
-use Rattle.prog_tree.specs.Tree.{stmts_tree}
+use Rattle.prog_tree.specs.Tree.{stmts_tree, block_tree}
 use Rattle.prog_tree.specs.Table.{TableState}
 use Rattle.prog_tree.specs.Evaluation.{as_evaluation, ended}
-use Rattle.prog_run.specs.Todo.{OpenTree, CursorTree, todo, weight_left}
-use Rattle.prog_run.specs.declared.cursor.OpenBlock.{OpenBlock}
+use Rattle.prog_run.specs.Todo.{TurnsTree, named, OpenTree, CursorTree, todo, weight_left}
+use Rattle.prog_run.specs.declared.block.Turns.{Turns}
+use Rattle.prog_run.specs.declared.block.Turn.{Turn}
+use Rattle.prog_run.specs.declared.block.OpenBlock.{OpenBlock}
 use Rattle.prog_run.specs.declared.cursor.Cursor.{Cursor}
 use Rattle.prog_run.specs.declared.cursor.Standing.{Standing}
 use Rattle.prog_run.specs.declared.cursor.Standing.TheVariants.{Moved, AtStore, Over}
 
+-- turns of the code, as plain trees
+abbrev pub turns_tree : Turns → TurnsTree
+turns_tree t = record { key = t.names.key.now; value = t.names.value.now; body = block_tree t.body.now; left = t.left.items }
+
 -- an open block of the code, as plain trees
 abbrev pub open_tree : OpenBlock → OpenTree
-open_tree b = record { rest = stmts_tree b.rest.now; scope = b.scope }
+open_tree b = record { rest = stmts_tree b.rest.now; scope = b.scope; turns = option_map turns_tree b.turns }
 
 -- a cursor of the code, as plain trees
 abbrev pub cursor_tree : Cursor → CursorTree
-cursor_tree c = record { here = record { rest = stmts_tree c.rest.now; scope = c.scope }; outer = map open_tree c.outer.items }
+cursor_tree c = record { here = open_tree c.here; outer = map open_tree c.outer.items }
+
+-- a turn of the code, with the head of its `each`
+abbrev pub turn_tree : Turn → ListingTree × (ℤ × ℤ)
+turn_tree t = (named t.names.key.now t.names.value.now, (t.key, t.value))
 
 -- the store part of what the run has done stays: deeds, changes and looks
 pub record KeepsStore (old new : Progress) : Type 0 where
@@ -43,16 +53,18 @@ needs_store (s.Keep table key) = true
 needs_store (s.Reply value) = false
 needs_store s.Abort = false
 
--- whether a statement is one of the store; a branch is not
+-- whether a statement is one of the store: an `each` is, a branch is not
 abbrev pub is_store_stmt : StmtTree → Bool
 is_store_stmt (Plain statement) = needs_store statement
 is_store_stmt (Fork test a b) = false
+is_store_stmt (Loop l body) = true
 
 -- whether a block begins with a statement of the store
 abbrev pub is_store : BlockTree → Bool
 is_store BlockEnd = false
 is_store (Then statement rest) = needs_store statement
 is_store (Branch test a b rest) = false
+is_store (Each l body rest) = true
 
 -- what is left then is what was left before
 abbrev pub SameTodo : CursorTree → Progress → CursorTree → Progress → Type 0

@@ -34,12 +34,12 @@ asked_for changes cell = if is_some (change_at changes cell) then None else Some
 -- what a look asks
 abbrev pub question_of : AskedTree → Question
 question_of (OfCell cell usage) = One cell
-question_of (OfRegion region tally name) = Range region
+question_of (OfRegion region usage) = Range region
 
 -- what a task asks; those that change a cell ask nothing
 abbrev pub asked_by : ChangeSet → TaskTree → Option Question
 asked_by changes (task.Look (OfCell cell usage)) = asked_for changes cell
-asked_by changes (task.Look (OfRegion region tally name)) = Some (Range region)
+asked_by changes (task.Look (OfRegion region usage)) = Some (Range region)
 asked_by changes _ = None
 
 -- rows but for those of some cells

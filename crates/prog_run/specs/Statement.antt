@@ -7,15 +7,13 @@ use Rattle.prog_tree.specs.declared.deed.Look.{Look}
 use Rattle.prog_tree.specs.declared.deed.Look.TheVariants as look
 use Rattle.prog_tree.specs.declared.progress.Progress.{Progress}
 use Rattle.prog_tree.specs.Steps.{looked}
-use Rattle.prog_tree.specs.Syntax.{Name}
 use Rattle.prog_tree.specs.Table.{TableState}
 use Rattle.prog_tree.specs.Evaluation.{Flow, GoesOn, Stops}
-use Rattle.prog_run.specs.Task.{UseTree, TaskTree, asked_tree, use_flow, rows_flow, task_flow}
+use Rattle.prog_run.specs.Task.{UseTree, RegionUseTree, TaskTree, asked_tree, use_flow, rows_flow, task_flow}
 use Rattle.prog_run.specs.Task as task
 use Rattle.prog_run.specs.Looks.{asked_by, question_of, region_look, seen_rows}
 use Rattle.prog_run.specs.declared.next.Step.{Step}
 use Rattle.prog_run.specs.declared.next.Step.TheVariants.{Asks, Did, Over}
-use Rattle.prog_run.specs.declared.task.Tally.{Tally}
 
 -- what was to be done was done, without a further look
 abbrev pub IsFlow : Flow → Step → Progress → Progress → Type 0
@@ -33,9 +31,9 @@ abbrev pub IsCellAnswered : UseTree → Cell → Option ℤ → Step → Progres
 IsCellAnswered usage cell held n p q = IsFlowBehind (look.One cell held) (use_flow usage cell held) n p q
 
 -- a statement that asked for a region was finished with these rows of the snapshot
-abbrev pub IsRegionAnswered : Tally → Name → Region → TableState → Step → Progress → Progress → Type 0
-IsRegionAnswered tally name region rows n p q =
-    IsFlowBehind (region_look p.changes region rows) (rows_flow tally name region (seen_rows p.changes region rows)) n p q
+abbrev pub IsRegionAnswered : RegionUseTree → Region → TableState → Step → Progress → Progress → Type 0
+IsRegionAnswered usage region rows n p q =
+    IsFlowBehind (region_look p.changes region rows) (rows_flow usage region (seen_rows p.changes region rows)) n p q
 
 -- a task was begun: it asks and nothing is done, or on every table state it does this
 abbrev pub IsBegun : TaskTree → Step → Progress → Progress → Type 0

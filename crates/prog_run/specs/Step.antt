@@ -1,15 +1,17 @@
 -- A step of a run at the store.
-use Rattle.std.specs.Prelude.{◌≡◌, List, [], ◌∷◌, ◌++◌, Option, Some, None}
+use Rattle.std.specs.Prelude.{◌≡◌, ℕ, List, [], ◌∷◌, ◌++◌, length, Option, Some, None}
+use Rattle.prog_tree.specs.declared.cell.Region.{Region}
 use Rattle.prog_tree.specs.declared.deed.Deed.{Deed}
 use Rattle.prog_tree.specs.declared.deed.End.{End}
 use Rattle.prog_tree.specs.declared.progress.Progress.{Progress}
 use Rattle.prog_tree.specs.declared.table.TableDecl.{TableDecl}
-use Rattle.prog_tree.specs.Syntax.{BlockTree, BlockEnd, Then, Branch}
+use Rattle.prog_tree.specs.Syntax.{BlockTree, BlockEnd, Then, Branch, Each}
 use Rattle.prog_tree.specs.Table.{TableState}
-use Rattle.prog_tree.specs.Evaluation.{as_evaluation, ended}
-use Rattle.prog_run.specs.Todo.{CursorTree, with_rest, todo}
+use Rattle.prog_tree.specs.Evaluation.{turns_of, as_evaluation, ended}
+use Rattle.prog_run.specs.Todo.{CursorTree, listed, with_rest, todo}
 use Rattle.prog_run.specs.Cursor.{KeepsStore}
-use Rattle.prog_run.specs.Task.{AskedTree, Look, asked_tree, next_task}
+use Rattle.prog_run.specs.Task.{RegionUseTree, Lists, AskedTree, Look, asked_tree, next_task, rows_flow}
+use Rattle.prog_run.specs.Statement.{IsFlow}
 use Rattle.prog_run.specs.Looks.{AreFound, FoundBefore, asked_by, question_of}
 use Rattle.prog_run.specs.declared.next.Next.{Next}
 use Rattle.prog_run.specs.declared.next.Next.TheVariants.{Get, Scan, Did, Done}
@@ -23,7 +25,7 @@ use Rattle.prog_run.specs.declared.task.Asked.TheVariants as asked
 -- what a run answers to its caller where it asks
 abbrev pub next_asking : Asked → Next
 next_asking (asked.OfCell cell usage) = Get cell
-next_asking (asked.OfRegion region tally name) = Scan region
+next_asking (asked.OfRegion region usage) = Scan region
 
 -- what a run answers to its caller where a step comes to this
 abbrev pub next_of : Step → Next
@@ -57,11 +59,24 @@ abbrev pub rest_after : BlockTree → BlockTree
 rest_after BlockEnd = BlockEnd
 rest_after (Then statement rest) = rest
 rest_after (Branch test a b rest) = rest
+rest_after (Each l body rest) = rest
 
 -- the cursor goes on after a statement that is done
 abbrev pub cursor_after : Step → CursorTree → CursorTree
 cursor_after (step.Did deed) c = with_rest (rest_after c.here.rest) c
 cursor_after _ c = c
+
+-- the cursor goes on once these rows are seen: before the turns of an `each`, or after a count or a sum that is done
+abbrev pub cursor_behind : RegionUseTree → TableState → (names : ℕ) → Step → CursorTree → CursorTree
+cursor_behind (Lists l body) rows names n c =
+    listed (record { key = l.key; value = l.value; body = body; left = turns_of l.range rows }) names (rest_after c.here.rest) c
+cursor_behind usage rows names n c = cursor_after n c
+
+-- these rows were used: what was to be done with them was done, and the cursor goes on
+pub record IsUsed (usage : RegionUseTree) (region : Region) (rows : TableState) (n : Step)
+    (c : CursorTree) (p : Progress) (d : CursorTree) (q : Progress) : Type 0 where
+  pub flow : IsFlow (rows_flow usage region rows p) n p q
+  pub cursor : d ≡ cursor_behind usage rows (length p.env) n c
 
 -- what is left is the same, on each table state that holds what the looks found
 abbrev pub GoesTo : List TableDecl → CursorTree → Progress → CursorTree → Progress → Type 0

@@ -7,9 +7,9 @@ use Rattle.prog_tree.specs.declared.deed.Deed.{Deed}
 use Rattle.prog_tree.specs.declared.deed.Deed.TheVariants as deed
 use Rattle.prog_tree.specs.declared.progress.Progress.{Progress}
 use Rattle.prog_tree.specs.declared.table.TableDecl.{TableDecl}
-use Rattle.prog_tree.specs.Syntax.{Name, ExprTree, StatementTree, BlockTree, BlockEnd, Then, Branch, StmtTree, Plain, Fork}
+use Rattle.prog_tree.specs.Syntax.{Name, ExprTree, ListingTree, StatementTree, BlockTree, BlockEnd, Then, Branch, Each, StmtTree, Plain, Fork, Loop}
 use Rattle.prog_tree.specs.Syntax as s
-use Rattle.prog_tree.specs.Tree.{expr_tree}
+use Rattle.prog_tree.specs.Tree.{expr_tree, listing_tree, block_tree}
 use Rattle.prog_tree.specs.Numbering.{number_of}
 use Rattle.prog_tree.specs.Value.{Bindings, or_else, value_of, exact}
 use Rattle.prog_tree.specs.Table.{TableState}
@@ -17,8 +17,8 @@ use Rattle.prog_tree.specs.Steps.{bound, did, wrote, keeps}
 use Rattle.prog_tree.specs.Evaluation.{Flow, GoesOn, Stops, with_value, if_present, with_seen, with_rows, cell_of, region_of, total_of}
 use Rattle.prog_run.specs.declared.task.CellUse.{CellUse}
 use Rattle.prog_run.specs.declared.task.CellUse.TheVariants as of_cell
-use Rattle.prog_run.specs.declared.task.Tally.{Tally}
-use Rattle.prog_run.specs.declared.task.Tally.TheVariants.{Count, Sum}
+use Rattle.prog_run.specs.declared.task.RegionUse.{RegionUse}
+use Rattle.prog_run.specs.declared.task.RegionUse.TheVariants as of_region
 use Rattle.prog_run.specs.declared.task.Asked.{Asked}
 use Rattle.prog_run.specs.declared.task.Asked.TheVariants as asked
 use Rattle.prog_run.specs.declared.task.Task.{Task}
@@ -31,10 +31,16 @@ pub data UseTree : Type 0 where
   Lacks : UseTree
   Insert : (value : ℤ) → UseTree
 
+-- what a statement does with the rows of its region: it binds their number or their total, or makes a turn for each
+pub data RegionUseTree : Type 0 where
+  Counts : (name : Name) → RegionUseTree
+  Sums : (name : Name) → RegionUseTree
+  Lists : (listing : ListingTree) (body : BlockTree) → RegionUseTree
+
 -- a look, and what its statement does with what it finds
 pub data AskedTree : Type 0 where
   OfCell : (cell : Cell) (usage : UseTree) → AskedTree
-  OfRegion : (region : Region) (tally : Tally) (name : Name) → AskedTree
+  OfRegion : (region : Region) (usage : RegionUseTree) → AskedTree
 
 pub data TaskTree : Type 0 where
   Look : (asked : AskedTree) → TaskTree
@@ -50,9 +56,14 @@ use_tree (of_cell.Need name) = Need name.now
 use_tree of_cell.Lacks = Lacks
 use_tree (of_cell.Insert value) = Insert value
 
+abbrev pub region_use_tree : RegionUse → RegionUseTree
+region_use_tree (of_region.Count name) = Counts name.now
+region_use_tree (of_region.Sum name) = Sums name.now
+region_use_tree (of_region.List listing body) = Lists (listing_tree listing.now) (block_tree body.now)
+
 abbrev pub asked_tree : Asked → AskedTree
 asked_tree (asked.OfCell cell usage) = OfCell cell (use_tree usage)
-asked_tree (asked.OfRegion region tally name) = OfRegion region tally name.now
+asked_tree (asked.OfRegion region usage) = OfRegion region (region_use_tree usage)
 
 abbrev pub task_tree : Task → TaskTree
 task_tree (task.Look look) = Look (asked_tree look)
@@ -75,8 +86,8 @@ abbrev pub task_of : List TableDecl → StatementTree → Bindings → Option Ta
 task_of tables (s.Bind name value) env = None
 task_of tables (s.Get name table key otherwise) env = task_at tables table key env (λ cell. Some (Look (OfCell cell (Get name otherwise))))
 task_of tables (s.Need name table key) env = task_at tables table key env (λ cell. Some (Look (OfCell cell (Need name))))
-task_of tables (s.Count name table range) env = task_in tables table range env (λ region. Some (Look (OfRegion region Count name)))
-task_of tables (s.Sum name table range) env = task_in tables table range env (λ region. Some (Look (OfRegion region Sum name)))
+task_of tables (s.Count name table range) env = task_in tables table range env (λ region. Some (Look (OfRegion region (Counts name))))
+task_of tables (s.Sum name table range) env = task_in tables table range env (λ region. Some (Look (OfRegion region (Sums name))))
 task_of tables (s.Lacks table key) env = task_at tables table key env (λ cell. Some (Look (OfCell cell Lacks)))
 task_of tables (s.Put table key value) env = task_at tables table key env (λ cell. option_map (λ v. Put cell v) (value_of value env))
 task_of tables (s.Insert table key value) env = task_at tables table key env (λ cell. option_map (λ v. Look (OfCell cell (Insert v))) (value_of value env))
@@ -85,16 +96,22 @@ task_of tables (s.Keep table key) env = task_at tables table key env (λ cell. S
 task_of tables (s.Reply value) env = None
 task_of tables s.Abort env = None
 
+-- an `each` is to list its rows
+abbrev pub listing_task : List TableDecl → ListingTree → BlockTree → Bindings → Option TaskTree
+listing_task tables l body env = task_in tables l.table l.range env (λ region. Some (Look (OfRegion region (Lists l body))))
+
 -- a branch has none
 abbrev pub task_of_stmt : List TableDecl → StmtTree → Bindings → Option TaskTree
 task_of_stmt tables (Plain statement) env = task_of tables statement env
 task_of_stmt tables (Fork test a b) env = None
+task_of_stmt tables (Loop l body) env = listing_task tables l body env
 
 -- the task of the first statement of a block
 abbrev pub next_task : List TableDecl → BlockTree → Bindings → Option TaskTree
 next_task tables BlockEnd env = None
 next_task tables (Then statement rest) env = task_of tables statement env
 next_task tables (Branch test a b rest) env = None
+next_task tables (Each l body rest) env = listing_task tables l body env
 
 -- ---- what a task does
 
@@ -120,27 +137,20 @@ use_flow (Need name) cell = need_flow name cell
 use_flow Lacks cell = lacks_flow cell
 use_flow (Insert value) cell = insert_flow value cell
 
--- the number of rows, or their total
-abbrev pub tally_of : Tally → TableState → ℤ
-tally_of Count rows = pos (length rows)
-tally_of Sum rows = total_of rows
-
-abbrev pub tally_deed : Tally → Region → ℤ → Deed
-tally_deed Count region v = deed.Counted region v
-tally_deed Sum region v = deed.Summed region v
-
 -- the rest of a count or a sum, once its value is known
 abbrev pub found_flow : Name → (ℤ → Deed) → Option ℤ → Progress → Flow
 found_flow name made value p = with_value value p (λ v. GoesOn (bound name v (did (made v) p)))
 
--- the same, once the rows are known that the run sees
-abbrev pub rows_flow : Tally → Name → Region → TableState → Progress → Flow
-rows_flow tally name region rows p = found_flow name (tally_deed tally region) (exact (tally_of tally rows)) p
+-- what is done once the rows are known that the run sees; the turns of an `each` come after it
+abbrev pub rows_flow : RegionUseTree → Region → TableState → Progress → Flow
+rows_flow (Counts name) region rows p = found_flow name (λ v. deed.Counted region v) (exact (pos (length rows))) p
+rows_flow (Sums name) region rows p = found_flow name (λ v. deed.Summed region v) (exact (total_of rows)) p
+rows_flow (Lists l body) region rows p = GoesOn (did (deed.Listed region (length rows)) p)
 
--- what a task does on a table state
+-- what a task does on a table state; the turns of an `each` come after it
 abbrev pub task_flow : TableState → TaskTree → Progress → Flow
 task_flow m (Look (OfCell cell usage)) p = with_seen [] m cell p (use_flow usage cell)
-task_flow m (Look (OfRegion region tally name)) p = with_rows [] m region p (rows_flow tally name region)
+task_flow m (Look (OfRegion region usage)) p = with_rows [] m region p (rows_flow usage region)
 task_flow m (Put cell v) p = GoesOn (did (deed.Put cell v) (wrote cell (Some v) p))
 task_flow m (Remove cell) p = GoesOn (did (deed.Removed cell) (wrote cell None p))
 task_flow m (Keep cell) p = GoesOn (did (deed.Kept cell) (keeps cell p))

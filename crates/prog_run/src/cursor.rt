@@ -1,37 +1,36 @@
 //! Where a run stands in its program.
-ghost use Rattle.std.specs.Prelude.{◌≡◌, true, [], IfOk, OnOk, OnErr, if◌then◌else◌};
-ghost use Rattle.prog_tree.specs.Tree.{block_tree, stmts_tree};
-ghost use Rattle.prog_run.specs.Todo.{entered};
-ghost use Rattle.prog_run.specs.Cursor.{cursor_tree, is_store, KeepsStore, SameTodo};
+ghost use Rattle.std.specs.Prelude.{◌≡◌, true, [], length, IfOk, OnOk, OnErr, if◌then◌else◌};
+ghost use Rattle.prog_tree.specs.Tree.{listing_tree, block_tree, stmts_tree};
+ghost use Rattle.prog_run.specs.Todo.{inside};
+ghost use Rattle.prog_run.specs.Cursor.{open_tree, cursor_tree, is_store, KeepsStore, SameTodo};
 ghost use Rattle.prog_run.specs.Cursor.{IsLocalStep, IsSettled};
-ghost use Rattle.prog_run.specs.Step.{cursor_after, IsStep};
+ghost use Rattle.prog_run.specs.Looks.{seen_rows};
+ghost use Rattle.prog_run.specs.Task.{Lists, region_use_tree};
+ghost use Rattle.prog_run.specs.Statement.{IsRegionAnswered};
+ghost use Rattle.prog_run.specs.Step.{cursor_after, cursor_behind, IsStep, IsUsed};
 
+use crate::block::{Names, OpenBlock, Turns, turns_over};
 use crate::next::Step;
-use crate::statement::begin;
-use crate::task::task_of;
+use crate::notes::{cut, note_turn};
+use crate::region::look_at_region;
+use crate::statement::{begin, count_rows, sum_rows};
+use crate::task::{RegionUse, task_of};
 use prog_check::ProgramSet;
-use prog_tree::{Block, Cause, End, Progress, Stmt};
+use prog_tree::{Block, Cause, Cell, Deed, End, Listing, Progress, Region, Stmt};
 use std::alloc::{AllocError, Global};
-
-/// What is left of a block that the run will come back to, and how many names were bound before the block.
-#[derive(Debug, Drop)]
-pub struct OpenBlock<'a> {
-    pub rest: &'a [Stmt],
-    pub scope: usize,
-}
+use std::mem;
 
 /// The innermost open block, and those round it, the outermost first.
 #[derive(Debug, Drop)]
 pub struct Cursor<'a> {
-    pub rest: &'a [Stmt],
-    pub scope: usize,
+    pub here: OpenBlock<'a>,
     pub outer: Vec<OpenBlock<'a>>,
 }
 
 /// Where a run stands after a step without the store.
 #[derive(Clone, Copy, Debug, PartialEq, Eq)]
 pub enum Standing {
-    /// It has done a statement, or left a block.
+    /// It has done a statement, begun a turn, or left a block.
     Moved,
     /// The next statement is one of the store.
     AtStore,
@@ -40,46 +39,55 @@ pub enum Standing {
 }
 
 impl<'a> Cursor<'a> {
-    /// Leaves the innermost block at its end.
-    fn leave(&mut self, progress: &mut Progress<'a>) -> Standing
-        requires { self.old.rest.now ≡ [] }
-        ensures { IsLocalStep result (cursor_tree self.old) progress.old
-            (cursor_tree self.new) progress.new }
+    /// At the end of the innermost block begins its next turn, or leaves it.
+    fn leave(&mut self, progress: &mut Progress<'a>) -> Result<Standing, AllocError>
+        requires { self.old.here.rest.now ≡ [] }
+        ensures step { IfOk result
+            (λ s. IsLocalStep s (cursor_tree self.old) progress.old
+            (cursor_tree self.new) progress.new) }
+        ensures err { OnErr result
+            (SameTodo (cursor_tree self.old) progress.old (cursor_tree self.new) progress.new) }
+        ensures err_store { OnErr result (KeepsStore progress.old progress.new) }
     {
+        progress.env.cut(self.here.scope);
+        if let Some(turn) = self.here.next_turn() {
+            let names = progress.env.len();
+            note_turn(progress, turn)?;
+            self.here.begin_turn(names);
+            return Ok(Standing::Moved);
+        }
         let Some(outer) = self.outer.pop() else {
-            return Standing::Over(End::Ready);
+            return Ok(Standing::Over(End::Ready));
         };
-        progress.env.cut(self.scope);
-        self.rest = outer.rest;
-        self.scope = outer.scope;
-        Standing::Moved
+        self.here = outer;
+        Ok(Standing::Moved)
     }
 
     /// Enters a block, behind which the run goes on with `rest`.
-    fn enter(&mut self, block: &'a Block, rest: &'a [Stmt], names: usize) -> Result<(), AllocError>
-        ensures ok { OnOk result (cursor_tree self.new ≡ entered (block_tree block.now) names
+    fn enter(&mut self, block: OpenBlock<'a>, rest: &'a [Stmt]) -> Result<(), AllocError>
+        ensures ok { OnOk result (cursor_tree self.new ≡ inside (open_tree block.entry)
             (stmts_tree rest.now) (cursor_tree self.old)) }
         ensures err { OnErr result (cursor_tree self.new ≡ cursor_tree self.old) }
     {
-        self.outer.push(OpenBlock {
-            rest,
-            scope: self.scope,
-        })?;
-        self.rest = block.stmts.as_slice();
-        self.scope = names;
+        self.outer.reserve(1)?;
+        let mut outer = mem::replace(&mut self.here, block);
+        outer.rest = rest;
+        self.outer.push_reserved(outer);
         Ok(())
     }
 
-    /// Does a statement without the store, or leaves a block.
+    /// Does a statement without the store; at the end of a block begins its next turn, or leaves it.
     fn local_step(&mut self, progress: &mut Progress<'a>) -> Result<Standing, AllocError>
         ensures step { IfOk result
             (λ s. IsLocalStep s (cursor_tree self.old) progress.old
             (cursor_tree self.new) progress.new) }
-        ensures err { OnErr result (cursor_tree self.new ≡ cursor_tree self.old) }
-        ensures err_progress { OnErr result (progress.new ≡ progress.old) }
+        ensures err { OnErr result
+            (SameTodo (cursor_tree self.old) progress.old (cursor_tree self.new) progress.new) }
+        ensures err_store { OnErr result (KeepsStore progress.old progress.new) }
     {
-        let Some((stmt, rest)) = self.rest.split_first() else {
-            return Ok(self.leave(progress));
+        let Some((stmt, rest)) = self.here.rest.split_first() else {
+            let standing = self.leave(progress)?;
+            return Ok(standing);
         };
         match stmt {
             Stmt::Bind { name, value } => {
@@ -87,7 +95,7 @@ impl<'a> Cursor<'a> {
                     return Ok(Standing::Over(End::Aborted(Cause::Overflow)));
                 };
                 progress.env.bind(name, value)?;
-                self.rest = rest;
+                self.here.rest = rest;
                 Ok(Standing::Moved)
             }
             Stmt::Reply { value } => {
@@ -95,7 +103,7 @@ impl<'a> Cursor<'a> {
                     return Ok(Standing::Over(End::Aborted(Cause::Overflow)));
                 };
                 progress.replies.push(value)?;
-                self.rest = rest;
+                self.here.rest = rest;
                 Ok(Standing::Moved)
             }
             Stmt::Abort => Ok(Standing::Over(End::Aborted(Cause::Asked))),
@@ -107,8 +115,12 @@ impl<'a> Cursor<'a> {
                 let Some(holds) = test.holds(&progress.env) else {
                     return Ok(Standing::Over(End::Aborted(Cause::Overflow)));
                 };
-                let block = chosen(holds, then, otherwise);
-                self.enter(block, rest, progress.env.len())?;
+                let block = OpenBlock {
+                    rest: chosen(holds, then, otherwise).stmts.as_slice(),
+                    scope: progress.env.len(),
+                    turns: None,
+                };
+                self.enter(block, rest)?;
                 Ok(Standing::Moved)
             }
             Stmt::Get { .. }
@@ -119,7 +131,8 @@ impl<'a> Cursor<'a> {
             | Stmt::Put { .. }
             | Stmt::Insert { .. }
             | Stmt::Delete { .. }
-            | Stmt::Keep { .. } => Ok(Standing::AtStore),
+            | Stmt::Keep { .. }
+            | Stmt::Each { .. } => Ok(Standing::AtStore),
         }
     }
 
@@ -156,7 +169,7 @@ impl<'a> Cursor<'a> {
         ensures err { OnErr result (cursor_tree self.new ≡ cursor_tree self.old) }
         ensures err_progress { OnErr result (progress.new ≡ progress.old) }
     {
-        let Some((stmt, rest)) = self.rest.split_first() else {
+        let Some((stmt, rest)) = self.here.rest.split_first() else {
             unreachable!()
         };
         let Some(task) = task_of(set, stmt, &progress.env) else {
@@ -172,10 +185,7 @@ impl<'a> Cursor<'a> {
         ensures { cursor_tree self.new ≡ cursor_after step.entry (cursor_tree self.old) }
     {
         let Step::Did(_) = step else { return };
-        let Some((_, rest)) = self.rest.split_first() else {
-            return;
-        };
-        self.rest = rest;
+        self.here.rest = self.here.behind();
     }
 
     /// Goes on to the next statement of the store, and does it or asks for what it needs.
@@ -197,6 +207,104 @@ impl<'a> Cursor<'a> {
             return Ok(Step::Over(end));
         }
         self.store_step(alloc, set, progress)
+    }
+
+    /// Finishes a statement that has asked for a region's rows; of an `each` the turns are opened.
+    pub fn answer_region(
+        &mut self,
+        alloc: Global,
+        progress: &mut Progress<'a>,
+        region: Region,
+        usage: RegionUse<'a>,
+        rows: &[(Cell, i64)],
+    ) -> Result<Step<'a>, AllocError>
+        ensures flow { IfOk result
+            (λ s. IsRegionAnswered (region_use_tree usage.entry) region rows.now s progress.old
+            progress.new) }
+        ensures cursor { IfOk result
+            (λ s. cursor_tree self.new ≡ cursor_behind (region_use_tree usage.entry)
+            (seen_rows progress.old.changes region rows.now) (length progress.old.env) s
+            (cursor_tree self.old)) }
+        ensures err { OnErr result (cursor_tree self.new ≡ cursor_tree self.old) }
+        ensures err_progress { OnErr result (progress.new ≡ progress.old) }
+    {
+        let looks = progress.looks.len();
+        let seen = look_at_region(alloc, progress, region, rows)?;
+        let Ok(step) = self.use_rows(alloc, progress, region, usage, seen.as_slice()) else {
+            cut(alloc, &mut progress.looks, looks);
+            return Err(AllocError);
+        };
+        Ok(step)
+    }
+
+    /// Goes on with the rows that the run sees in a region.
+    fn use_rows(
+        &mut self,
+        alloc: Global,
+        progress: &mut Progress<'a>,
+        region: Region,
+        usage: RegionUse<'a>,
+        rows: &[(Cell, i64)],
+    ) -> Result<Step<'a>, AllocError>
+        ensures used { IfOk result
+            (λ s. IsUsed (region_use_tree usage.entry) region rows.now s (cursor_tree self.old)
+            progress.old (cursor_tree self.new) progress.new) }
+        ensures err { OnErr result (cursor_tree self.new ≡ cursor_tree self.old) }
+        ensures err_progress { OnErr result (progress.new ≡ progress.old) }
+    {
+        match usage {
+            RegionUse::Count { name } => {
+                let step = count_rows(progress, region, name, rows)?;
+                self.go_on(step);
+                Ok(step)
+            }
+            RegionUse::Sum { name } => {
+                let step = sum_rows(progress, region, name, rows)?;
+                self.go_on(step);
+                Ok(step)
+            }
+            RegionUse::List { listing, body } => {
+                let step = self.list(alloc, progress, region, listing, body, rows)?;
+                Ok(step)
+            }
+        }
+    }
+
+    /// The rows of an `each` are listed: the run stands before its turns, behind which it goes on with the rest.
+    fn list(
+        &mut self,
+        alloc: Global,
+        progress: &mut Progress<'a>,
+        region: Region,
+        listing: &'a Listing,
+        body: &'a Block,
+        rows: &[(Cell, i64)],
+    ) -> Result<Step<'a>, AllocError>
+        ensures listed { IfOk result
+            (λ s. IsUsed (Lists (listing_tree listing.now) (block_tree body.now)) region rows.now s
+            (cursor_tree self.old) progress.old (cursor_tree self.new) progress.new) }
+        ensures err { OnErr result (cursor_tree self.new ≡ cursor_tree self.old) }
+        ensures err_progress { OnErr result (progress.new ≡ progress.old) }
+    {
+        let left = turns_over(alloc, &listing.range, rows)?;
+        let names = Names {
+            key: &listing.key,
+            value: &listing.value,
+        };
+        let block = OpenBlock {
+            rest: &[],
+            scope: progress.env.len(),
+            turns: Some(Turns { names, body, left }),
+        };
+        let deed = Deed::Listed(region, rows.len() as u64);
+        let deeds = progress.deeds.len();
+        progress.deeds.push(deed)?;
+        let rest = self.here.behind();
+        let Ok(()) = self.enter(block, rest) else {
+            cut(alloc, &mut progress.deeds, deeds);
+            return Err(AllocError);
+        };
+        Ok(Step::Did(deed))
     }
 }
 

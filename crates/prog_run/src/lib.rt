@@ -1,6 +1,7 @@
 //! Runs one instance of a program, step by step. It asks for what it has to know of its snapshot.
 #![tactic(auto)]
 
+mod block;
 mod cursor;
 mod fault;
 mod next;

@@ -1,7 +1,10 @@
 //! What statements note in the progress of a run. Want of memory leaves it as it was.
 ghost use Rattle.std.specs.Prelude.{◌≡◌, take, Some, None, OnOk, OnErr};
 ghost use Rattle.prog_tree.specs.Steps.{bound, did, wrote, keeps};
+ghost use Rattle.prog_tree.specs.Evaluation.{begun_turn};
+ghost use Rattle.prog_run.specs.Todo.{named};
 
+use crate::block::Turn;
 use prog_tree::{Cell, Deed, Name, Progress, Sequence};
 use std::alloc::{AllocError, Global};
 use std::mem;
@@ -28,6 +31,22 @@ pub fn note_found<'a>(
     let names = progress.env.len();
     progress.env.bind(name, value)?;
     let Ok(()) = progress.deeds.push(deed) else {
+        progress.env.cut(names);
+        return Err(AllocError);
+    };
+    Ok(())
+}
+
+/// A turn of an `each` begins: its two names are bound.
+pub fn note_turn<'a>(progress: &mut Progress<'a>, turn: Turn<'a>) -> Result<(), AllocError>
+    ensures ok { OnOk result (progress.new ≡ begun_turn
+        (named turn.entry.names.key.now turn.entry.names.value.now)
+        (turn.entry.key, turn.entry.value) progress.old) }
+    ensures err { OnErr result (progress.new ≡ progress.old) }
+{
+    let names = progress.env.len();
+    progress.env.bind(turn.names.key, turn.key)?;
+    let Ok(()) = progress.env.bind(turn.names.value, turn.value) else {
         progress.env.cut(names);
         return Err(AllocError);
     };

@@ -1,18 +1,16 @@
 //! What a run sees in a region.
-ghost use Rattle.std.specs.Prelude.{◌≡◌, IfOk, OnOk, OnErr};
+ghost use Rattle.std.specs.Prelude.{◌≡◌, ◌≤◌, ◌++◌, length, IfOk, OnOk, OnErr};
 ghost use Rattle.std.specs.List.{list_all};
 ghost use Rattle.std.specs.List.Sorted.{IsStrictlySortedBy};
-ghost use Rattle.prog_tree.specs.Table.{cell_cmp, is_in, cells_of};
-ghost use Rattle.prog_tree.specs.ChangeSet.{changes_in};
-ghost use Rattle.prog_tree.specs.Evaluation.{total_of};
+ghost use Rattle.prog_tree.specs.Table.{cell_cmp, is_in, is_cell_among, cells_of};
+ghost use Rattle.prog_tree.specs.ChangeSet.{changes_in, changed};
+ghost use Rattle.prog_tree.specs.Evaluation.{own_cells, total_of};
 ghost use Rattle.prog_tree.specs.Steps.{looked};
 ghost use Rattle.prog_tree.specs.Value.{exact};
-ghost use Rattle.prog_run.specs.Task.{tally_of};
 ghost use Rattle.prog_run.specs.Looks.{rows_without, region_look, seen_rows};
-ghost use Rattle.prog_run.specs.Seen.{set_count, set_total, tally_with};
+ghost use Rattle.prog_run.specs.Seen.{rows_before, AreAbsent, own_row};
 
-use crate::task::Tally;
-use prog_tree::{Cell, Changes, Look, Progress, Region, Sequence, is_among};
+use prog_tree::{Cell, Changes, Look, Progress, Region, Sequence};
 use std::alloc::{AllocError, Global};
 
 /// Whether all rows lie in a region.
@@ -51,36 +49,67 @@ pub fn cells(alloc: Global, own: &[(Cell, Option<i64>)]) -> Result<Sequence<Cell
     Ok(cells)
 }
 
-// Takes away the rows of some cells.
-fn remove_all(rows: &mut Vec<(Cell, i64)>, cells: &[Cell])
-    ensures { rows.new.items ≡ rows_without cells.now rows.old.items }
+// Takes away the rows of cells that a run has changed in a region.
+fn remove_own(rows: &mut Vec<(Cell, i64)>, region: &Region, changes: &Changes)
+    ensures { rows.new.items
+        ≡ rows_without (own_cells region.now changes.now.cells) rows.old.items }
 {
-    if cells.is_empty() {
-        return;
-    }
-    rows.retain(|(cell, _)| !is_among(cells, cell));
+    rows.retain(|(cell, _)| !is_own(region, changes, cell));
 }
 
-fn count_set(own: &[(Cell, Option<i64>)]) -> usize
-    ensures { result ≡ set_count own.now }
+// Whether a run has changed this cell of a region.
+#[tactic(auto, using(crate::proofs::SeenLemmas::own_among))]
+fn is_own(region: &Region, changes: &Changes, cell: &Cell) -> bool
+    ensures { result ≡ is_cell_among (own_cells region.now changes.now.cells) cell.now }
 {
-    let mut count = 0;
-    for (_, change) in own {
-        if change.is_some() {
-            count += 1;
+    let changed = changes.get(cell).is_some();
+    let inside = region.contains(cell);
+    changed && inside
+}
+
+// How many rows stand in front whose cells come before this one.
+fn before(cell: &Cell, rows: &[(Cell, i64)]) -> usize
+    ensures within { result ≤ length rows.now }
+    ensures count { result ≡ rows_before cell.now rows.now }
+{
+    for (i, row) in rows.iter().enumerate() {
+        if !row.0.cmp(cell).is_lt() {
+            return i;
         }
     }
-    count
+    rows.len()
 }
 
-fn add_set(own: &[(Cell, Option<i64>)]) -> i128
-    ensures { result ≡ set_total own.now }
+// Adds the row that a change makes: none if it removes the cell.
+fn add_own(rows: &mut Vec<(Cell, i64)>, cell: Cell, change: Option<i64>) -> Result<(), AllocError>
+    ensures { OnOk result (rows.new.items ≡ rows.old.items ++ own_row cell change) }
 {
-    let mut total = 0;
-    for (_, change) in own {
-        total += i128::from(change.unwrap_or(0));
+    if let Some(value) = change {
+        rows.push((cell, value))?;
     }
-    total
+    Ok(())
+}
+
+// Rows with a run's own changes of other cells among them, in the order of the cells: what it has removed is left out.
+fn merge(
+    alloc: Global,
+    rows: &[(Cell, i64)],
+    own: &[(Cell, Option<i64>)],
+) -> Result<Vec<(Cell, i64)>, AllocError>
+    requires ordered { IsStrictlySortedBy cell_cmp (cells_of own.now) }
+    requires absent { AreAbsent rows.now own.now }
+    ensures { IfOk result (λ seen. seen.items ≡ changed rows.now own.now) }
+{
+    let mut seen = Vec::with_capacity(alloc, rows.len())?;
+    let mut left = rows;
+    for (cell, change) in own {
+        let (front, rest) = left.split_at(before(cell, left));
+        seen.extend_from_slice(front)?;
+        add_own(&mut seen, *cell, *change)?;
+        left = rest;
+    }
+    seen.extend_from_slice(left)?;
+    Ok(seen)
 }
 
 // The value of a row, which so is known to be an i64.
@@ -90,7 +119,8 @@ fn row_value(row: &(Cell, i64)) -> i64
     row.1
 }
 
-fn add_rows(rows: &[(Cell, i64)]) -> i128
+/// The values of rows, added up.
+pub fn add_rows(rows: &[(Cell, i64)]) -> i128
     ensures { result ≡ total_of rows.now }
 {
     let mut total = 0;
@@ -100,43 +130,33 @@ fn add_rows(rows: &[(Cell, i64)]) -> i128
     total
 }
 
-fn exact_i64(number: i128) -> Option<i64>
+/// A number as an i64, or nothing where it is none.
+pub fn exact_i64(number: i128) -> Option<i64>
     ensures { result ≡ exact number }
 {
     i64::try_from(number).ok()
 }
 
 /// Looks at a region: notes the look, whose rows are those of the snapshot but for the run's own cells, and gives the
-/// number or the total of the rows that the run sees there, or nothing outside i64.
+/// rows that the run sees there.
 pub fn look_at_region(
     alloc: Global,
     progress: &mut Progress<'_>,
     region: Region,
-    tally: Tally,
     rows: &[(Cell, i64)],
-) -> Result<Option<i64>, AllocError>
+) -> Result<Vec<(Cell, i64)>, AllocError>
     ensures look { OnOk result
         (progress.new ≡ looked (region_look progress.old.changes region rows.now) progress.old) }
-    ensures value { IfOk result
-        (λ v. v ≡ exact (tally_of tally (seen_rows progress.old.changes region rows.now))) }
+    ensures seen { IfOk result
+        (λ seen. seen.items ≡ seen_rows progress.old.changes region rows.now) }
     ensures err { OnErr result (progress.new ≡ progress.old) }
 {
     let changes = own_changes(alloc, &progress.changes, &region)?;
     let own = cells(alloc, &changes)?;
     let mut rows = Vec::from_slice(alloc, rows)?;
-    remove_all(&mut rows, own.as_slice());
-    let value = tallied(tally, &rows, &changes);
+    remove_own(&mut rows, &region, &progress.changes);
+    let seen = merge(alloc, &rows, &changes)?;
     let rows = Sequence::from_vec(rows);
     progress.looks.push(Look::Range { region, own, rows })?;
-    Ok(value)
-}
-
-// The number or the total of rows, and of what own changes set in other cells.
-fn tallied(tally: Tally, rows: &[(Cell, i64)], own: &[(Cell, Option<i64>)]) -> Option<i64>
-    ensures { result ≡ exact (tally_with tally rows.now own.now) }
-{
-    match tally {
-        Tally::Count => exact_i64(rows.len() as i128 + count_set(own) as i128),
-        Tally::Sum => exact_i64(add_rows(rows).checked_add(add_set(own))?),
-    }
+    Ok(seen)
 }

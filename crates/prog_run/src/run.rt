@@ -9,11 +9,12 @@ ghost use Rattle.prog_run.specs.View.{IsRefusedBy, IsBeginRefusedBy};
 ghost use Rattle.prog_run.specs.View.{begin_fault, get_fault, scan_fault};
 ghost use Rattle.prog_run.specs.View.{asked_cell, asked_region, standing_next};
 
+use crate::block::OpenBlock;
 use crate::cursor::Cursor;
 use crate::fault::{AnswerFault, RunFault};
 use crate::next::Next;
 use crate::region::are_in;
-use crate::statement::{answer_cell, answer_region};
+use crate::statement::answer_cell;
 use crate::task::Asked;
 use prog_check::ProgramSet;
 use prog_tree::{Cell, Changes, End, Env, Look, Name, Program, Progress, Sequence, TableDecl};
@@ -107,8 +108,11 @@ impl<'a> Run<'a> {
             program,
             args: copy_args(alloc, args)?,
             cursor: Cursor {
-                rest: program.body.stmts.as_slice(),
-                scope: args.len(),
+                here: OpenBlock {
+                    rest: program.body.stmts.as_slice(),
+                    scope: args.len(),
+                    turns: None,
+                },
                 outer: Vec::new(alloc),
             },
             progress: Progress::new(alloc, env),
@@ -161,7 +165,8 @@ impl<'a> Run<'a> {
         Ok(step.next())
     }
 
-    /// Answers the question for a region with its rows in the snapshot, and finishes the statement.
+    /// Answers the question for a region with its rows in the snapshot, and finishes the statement; of an `each` that
+    /// is its listing.
     pub fn answer_scan(&mut self, rows: &[(Cell, i64)]) -> Result<Next, AnswerFault>
         ensures refused { IsRefusedBy (scan_fault (asked_region self.old.asked) rows.now) result }
         ensures answered { IfOk result
@@ -172,21 +177,15 @@ impl<'a> Run<'a> {
         ensures same { SameBegin self.old self.new }
         ensures err { OnErr result (self.new ≡ self.old) }
     {
-        let Some(
-            Asked::OfRegion {
-                region,
-                tally,
-                name,
-            },
-        ) = self.asked
-        else {
+        let Some(Asked::OfRegion { region, usage }) = self.asked else {
             return Err(AnswerFault::NotAsked);
         };
         if !are_in(&region, rows) {
             return Err(AnswerFault::BadRows);
         }
-        let step = answer_region(self.alloc, &mut self.progress, region, tally, name, rows)?;
-        self.cursor.go_on(step);
+        let step = self
+            .cursor
+            .answer_region(self.alloc, &mut self.progress, region, usage, rows)?;
         self.asked = None;
         self.end = step.end();
         Ok(step.next())

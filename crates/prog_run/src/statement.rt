@@ -1,15 +1,15 @@
 //! What the statements of the store do. Where memory ends the progress is as it was.
 ghost use Rattle.std.specs.Prelude.{◌≡◌, IfOk, OnErr};
 ghost use Rattle.prog_tree.specs.Tree.{expr_tree};
-ghost use Rattle.prog_run.specs.Task.{use_tree, task_tree, tally_deed};
+ghost use Rattle.prog_run.specs.Task.{Counts, Sums, use_tree, task_tree};
 ghost use Rattle.prog_run.specs.Task.{get_flow, need_flow, lacks_flow, insert_flow};
-ghost use Rattle.prog_run.specs.Task.{use_flow, found_flow};
-ghost use Rattle.prog_run.specs.Statement.{IsFlow, IsBegun, IsCellAnswered, IsRegionAnswered};
+ghost use Rattle.prog_run.specs.Task.{use_flow, rows_flow};
+ghost use Rattle.prog_run.specs.Statement.{IsFlow, IsBegun, IsCellAnswered};
 
 use crate::next::Step;
 use crate::notes::{cut, note_found, note_kept, note_put, note_removed};
-use crate::region::look_at_region;
-use crate::task::{Asked, CellUse, Tally, Task};
+use crate::region::{add_rows, exact_i64};
+use crate::task::{Asked, CellUse, Task};
 use prog_tree::{Cause, Cell, Deed, End, Expr, Look, Name, Progress, Region};
 use std::alloc::{AllocError, Global};
 
@@ -62,28 +62,6 @@ pub fn answer_cell<'a>(
     let looks = progress.looks.len();
     progress.looks.push(Look::One(cell, held))?;
     let Ok(step) = use_cell(alloc, progress, cell, usage, held) else {
-        cut(alloc, &mut progress.looks, looks);
-        return Err(AllocError);
-    };
-    Ok(step)
-}
-
-/// Finishes a statement that has asked for a region's rows.
-pub fn answer_region<'a>(
-    alloc: Global,
-    progress: &mut Progress<'a>,
-    region: Region,
-    tally: Tally,
-    name: &'a Name,
-    rows: &[(Cell, i64)],
-) -> Result<Step<'a>, AllocError>
-    ensures flow { IfOk result
-        (λ s. IsRegionAnswered tally name.now region rows.now s progress.old progress.new) }
-    ensures err { OnErr result (progress.new ≡ progress.old) }
-{
-    let looks = progress.looks.len();
-    let value = look_at_region(alloc, progress, region, tally, rows)?;
-    let Ok(step) = bind_tally(progress, region, tally, name, value) else {
         cut(alloc, &mut progress.looks, looks);
         return Err(AllocError);
     };
@@ -188,23 +166,42 @@ fn insert<'a>(
     Ok(Step::Did(Deed::Put(cell, value)))
 }
 
-// Binds the number or the total of the rows that the run sees.
-fn bind_tally<'a>(
+/// Binds the number of the rows that the run sees in a region.
+pub fn count_rows<'a>(
     progress: &mut Progress<'a>,
     region: Region,
-    tally: Tally,
     name: &'a Name,
-    value: Option<i64>,
+    rows: &[(Cell, i64)],
 ) -> Result<Step<'a>, AllocError>
     ensures flow { IfOk result
-        (λ s. IsFlow (found_flow name.now (tally_deed tally region) value progress.old) s
-        progress.old progress.new) }
+        (λ s. IsFlow (rows_flow (Counts name.now) region rows.now progress.old) s progress.old
+        progress.new) }
     ensures err { OnErr result (progress.new ≡ progress.old) }
 {
-    let Some(value) = value else {
+    let Some(value) = exact_i64(rows.len() as i128) else {
         return Ok(Step::Over(OVERFLOW));
     };
-    let deed = tally.deed(region, value);
+    let deed = Deed::Counted(region, value);
+    note_found(progress, name, value, deed)?;
+    Ok(Step::Did(deed))
+}
+
+/// Binds the total of their values.
+pub fn sum_rows<'a>(
+    progress: &mut Progress<'a>,
+    region: Region,
+    name: &'a Name,
+    rows: &[(Cell, i64)],
+) -> Result<Step<'a>, AllocError>
+    ensures flow { IfOk result
+        (λ s. IsFlow (rows_flow (Sums name.now) region rows.now progress.old) s progress.old
+        progress.new) }
+    ensures err { OnErr result (progress.new ≡ progress.old) }
+{
+    let Some(value) = exact_i64(add_rows(rows)) else {
+        return Ok(Step::Over(OVERFLOW));
+    };
+    let deed = Deed::Summed(region, value);
     note_found(progress, name, value, deed)?;
     Ok(Step::Did(deed))
 }

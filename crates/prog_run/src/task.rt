@@ -4,13 +4,14 @@ ghost use Rattle.prog_tree.specs.Numbering.{number_of};
 ghost use Rattle.prog_tree.specs.Evaluation.{cell_of};
 ghost use Rattle.prog_tree.specs.Tree.{key_tree, range_tree, stmt_tree};
 ghost use Rattle.prog_run.specs.Cursor.{is_store_stmt};
-ghost use Rattle.prog_run.specs.Task.{AskedTree, TaskTree, tally_deed, use_tree, task_tree};
+ghost use Rattle.prog_run.specs.Task.{AskedTree, TaskTree, use_tree, region_use_tree};
+ghost use Rattle.prog_run.specs.Task.{task_tree};
 ghost use Rattle.prog_run.specs.Task.{task_at, task_in, task_of_stmt};
 ghost use Rattle.prog_run.specs.Step.{next_asking};
 
 use crate::next::Next;
 use prog_check::ProgramSet;
-use prog_tree::{Cell, Deed, Env, Expr, Key, Name, Range, Region, Stmt};
+use prog_tree::{Block, Cell, Env, Expr, Key, Listing, Name, Range, Region, Stmt};
 
 /// What a statement does with what its cell holds.
 #[derive(Clone, Copy, Debug)]
@@ -25,11 +26,22 @@ pub enum CellUse<'a> {
     Insert { value: i64 },
 }
 
-/// What a statement takes of the rows of its region.
+/// What a statement does with the rows of its region.
 #[derive(Clone, Copy, Debug)]
-pub enum Tally {
-    Count,
-    Sum,
+pub enum RegionUse<'a> {
+    /// Binds their number.
+    Count {
+        name: &'a Name,
+    },
+    /// Binds the total of their values.
+    Sum {
+        name: &'a Name,
+    },
+    /// Makes a turn for each.
+    List {
+        listing: &'a Listing,
+        body: &'a Block,
+    },
 }
 
 /// A question, and what its statement does with the answer.
@@ -41,8 +53,7 @@ pub enum Asked<'a> {
     },
     OfRegion {
         region: Region,
-        tally: Tally,
-        name: &'a Name,
+        usage: RegionUse<'a>,
     },
 }
 
@@ -53,17 +64,6 @@ pub enum Task<'a> {
     Put { cell: Cell, value: i64 },
     Remove { cell: Cell },
     Keep { cell: Cell },
-}
-
-impl Tally {
-    pub fn deed(self, region: Region, value: i64) -> Deed
-        ensures { result ≡ tally_deed self region value }
-    {
-        match self {
-            Tally::Count => Deed::Counted(region, value),
-            Tally::Sum => Deed::Summed(region, value),
-        }
-    }
 }
 
 impl Asked<'_> {
@@ -117,19 +117,15 @@ fn look_in<'a>(
     table: &Name,
     range: &Range,
     env: &Env,
-    tally: Tally,
-    name: &'a Name,
+    usage: RegionUse<'a>,
 ) -> Option<Task<'a>>
     ensures { option_map task_tree result
         ≡ task_in set.now.tables.items table.now (range_tree range.now) env.now
-        (λ region. Some (TaskTree.Look (AskedTree.OfRegion region tally name.now))) }
+        (λ region. Some (TaskTree.Look
+        (AskedTree.OfRegion region (region_use_tree usage.entry)))) }
 {
     let region = range.region(table_number(set, table), env)?;
-    Some(Task::Look(Asked::OfRegion {
-        region,
-        tally,
-        name,
-    }))
+    Some(Task::Look(Asked::OfRegion { region, usage }))
 }
 
 /// What a statement of the store is to do, or nothing where a result lies outside i64.
@@ -152,9 +148,11 @@ pub fn task_of<'a>(set: &ProgramSet, stmt: &'a Stmt, env: &Env) -> Option<Task<'
             look_at(set, table, key, env, CellUse::Insert { value })
         }
         Stmt::Count { name, table, range } => {
-            look_in(set, table, range, env, Tally::Count, name)
+            look_in(set, table, range, env, RegionUse::Count { name })
         }
-        Stmt::Sum { name, table, range } => look_in(set, table, range, env, Tally::Sum, name),
+        Stmt::Sum { name, table, range } => {
+            look_in(set, table, range, env, RegionUse::Sum { name })
+        }
         Stmt::Put { table, key, value } => {
             let cell = cell_at(set, table, key, env)?;
             let value = value.value(env)?;
@@ -167,6 +165,10 @@ pub fn task_of<'a>(set: &ProgramSet, stmt: &'a Stmt, env: &Env) -> Option<Task<'
         Stmt::Keep { table, key } => {
             let cell = cell_at(set, table, key, env)?;
             Some(Task::Keep { cell })
+        }
+        Stmt::Each { listing, body } => {
+            let usage = RegionUse::List { listing, body };
+            look_in(set, &listing.table, &listing.range, env, usage)
         }
         Stmt::Bind { .. } | Stmt::Branch { .. } | Stmt::Reply { .. } | Stmt::Abort => {
             unreachable!()
