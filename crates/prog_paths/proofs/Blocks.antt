@@ -1,23 +1,29 @@
 -- Each run of a block that goes on follows a route of the block: the one with its choices.
-use Rattle.std.proofs.Common.{◌≡◌, ℕ, ◌+◌, Bool, true, false, List, [], ◌∷◌, ◌++◌, inl, inr, length, map, take, refl, sym, subst, ap, ◌∙◌, arith, append_assoc, append-nil}
-use Rattle.std.specs.Prelude.{ℤ, Option, Some, None, if◌then◌else◌}
-use Rattle.std.proofs.Math.Seq.{take-append_seam}
+use Rattle.std.proofs.Common.{◌≡◌, ℕ, ◌+◌, Bool, true, false, List, [], ◌∷◌, ◌++◌, inl, inr, length, map, refl, sym, subst, ap, ◌∙◌, arith, append_assoc, append-nil}
+use Rattle.std.specs.Prelude.{ℤ, Some, if◌then◌else◌}
 use Rattle.std.proofs.lemmas.List.{length-append}
+use Rattle.prog_tree.specs.declared.cell.Region.{Region}
 use Rattle.prog_tree.specs.declared.progress.Progress.{Progress}
 use Rattle.prog_tree.specs.declared.table.TableDecl.{TableDecl}
-use Rattle.prog_tree.specs.Syntax.{Name, TestTree, StatementTree, BlockTree, BlockEnd, Then, Branch}
+use Rattle.prog_tree.specs.Syntax.{Name, TestTree, ListingTree, StatementTree, BlockTree, BlockEnd, Then, Branch, Each}
 use Rattle.prog_tree.specs.Syntax as s
+use Rattle.prog_tree.specs.Numbering.{number_of}
 use Rattle.prog_tree.specs.Steps.{closed}
 use Rattle.prog_tree.specs.Value.{Bindings, holds_of}
 use Rattle.prog_tree.specs.Table.{TableState}
-use Rattle.prog_tree.specs.Evaluation.{Flow, GoesOn, Stops, and_then, with_value, run_statement, run_block}
+use Rattle.prog_tree.specs.Evaluation.{Flow, GoesOn, and_then, with_value, region_of, Turn, turns_of, run_turns, run_statement, run_block}
 use Rattle.prog_check.specs.Accesses.{columns_of, next_unknown, accesses_of}
-use Rattle.prog_check.specs.Paths.{Passed, Route, statement_count, no_steps, passing, choosing, joined, followed_by, routes, accesses_along}
+use Rattle.prog_check.specs.Paths.{Route, statement_count, no_steps, passing, body_passed, going_round, choosing, joined, followed_by, routes, accesses_along}
+use Rattle.prog_check.specs.Uses.{as_count}
+use Rattle.prog_paths.specs.Trails.{unknown_behind}
 use Rattle.prog_paths.specs.Choices.{choices_behind, choices_by, choices_taken}
 use Rattle.prog_paths.proofs.Segments.{IsMember, member_left, member_right, Segment, segment_none, segment_join}
-use Rattle.prog_paths.proofs.Numbers.{AllI64, StatementFits, BlockFits}
-use Rattle.prog_paths.proofs.Ranges.{EnvOfI64, all_append, Ranged}
-use Rattle.prog_paths.proofs.Values.{Agrees, agrees_first, agrees_behind, EnvFits, assigned, StatementSound, BlockSound, RemovesPlain}
+use Rattle.prog_paths.proofs.Numbers.{AllI64, BlockFits}
+use Rattle.prog_paths.proofs.Ranges.{EnvOfI64, all_append, Ranged, TurnsOfI64, listed_i64}
+use Rattle.prog_paths.proofs.Walking.{unknown_append, accesses_append}
+use Rattle.prog_paths.proofs.Parts.{then_goes, value_goes, seen_in, listed, Did, StatementFollows, ListingFollows}
+use Rattle.prog_paths.proofs.Rounds.{Turned, close_env, rounds, by_turns, passed_counts, zeros, zeros_i64, zeros_length}
+use Rattle.prog_paths.proofs.Values.{Agrees, agrees_first, agrees_behind, EnvFits, assigned, BlockSound, RemovesPlain}
 
 -- ---- members of maps and of routes one behind the other
 
@@ -32,47 +38,8 @@ member_followed route later (x ∷ xs) ys (inl e) k =
     member_left (joined route later) (map (joined x) ys) (followed_by xs ys) (subst (λ z. IsMember (joined route later) (map (joined z) ys)) (sym e) (member_map (joined route) later ys k))
 member_followed route later (x ∷ xs) ys (inr h) k = member_right (joined route later) (map (joined x) ys) (followed_by xs ys) (member_followed route later xs ys h k)
 
--- ---- flows that go on
-
-pub then_goes : (f : Flow) (go : Progress → Flow) (q : Progress) → and_then f go ≡ GoesOn q → (r : Progress) × (f ≡ GoesOn r) × (go r ≡ GoesOn q)
-then_goes (GoesOn r) go q e = (r, refl, e)
-then_goes (Stops cause r) go q e = absurd (cc)
-
-pub value_goes : {A : Type 0} (o : Option A) (p : Progress) (go : A → Flow) (q : Progress) → with_value o p go ≡ GoesOn q → (x : A) × (o ≡ Some x) × (go x ≡ GoesOn q)
-value_goes (Some x) p go q e = (x, refl, e)
-value_goes None p go q e = absurd (cc)
-
 module _ (tables : List TableDecl) (m : TableState) (params : List Name) (parameter : ℕ → ℤ) where
-  -- ---- accesses along a route
-
-  -- the number of the next unknown behind statements
-  abbrev pub behind : (unknown : ℕ) → List Passed → ℕ
-  behind unknown [] = unknown
-  behind unknown (x ∷ later) = behind (next_unknown unknown (columns_of params unknown x.statement)) later
-
-  behind_append : (u : ℕ) (xs ys : List Passed) → behind u (xs ++ ys) ≡ behind (behind u xs) ys
-  behind_append u [] ys = refl
-  behind_append u (x ∷ xs) ys = behind_append (next_unknown u (columns_of params u x.statement)) xs ys
-
-  along_append : (u : ℕ) (xs ys : List Passed) → accesses_along tables params u (xs ++ ys) ≡ accesses_along tables params u xs ++ accesses_along tables params (behind u xs) ys
-  along_append u [] ys = refl
-  along_append u (x ∷ xs) ys =
-      let here = accesses_of tables params u x.number x.statement in
-      let next = (next_unknown u (columns_of params u x.statement)) in
-      ap (λ l. here ++ l) (along_append next xs ys) ∙ sym (append_assoc here (accesses_along tables params next xs) (accesses_along tables params (behind next xs) ys))
-
-  -- ---- what is said of a statement and of a block
-
-  -- What a run of a statement from p to q did, with the values that its unknowns took.
-  pub record Did (number : ℕ) (statement : StatementTree) (p q : Progress) : Type 0 where
-    pub values : List ℤ
-    pub count : (u : ℕ) → (next_unknown u (columns_of params u statement)) ≡ u + length values
-    pub segment : (f : ℕ → ℤ) (u : ℕ) → Agrees f u values → Segment m (assigned params parameter f) (accesses_of tables params u number statement) p q
-    pub more : Bindings
-    pub env : q.env ≡ p.env ++ more
-    pub fits : EnvFits params parameter q.env
-    pub removes : RemovesPlain tables q.changes
-    pub of_i64 : StatementFits statement → Ranged m p → AllI64 values × Ranged m q
+  -- ---- what is said of a block
 
   -- What a run of a block from p to q did: it took a route with these choices.
   pub record Took (number : ℕ) (block : BlockTree) (choices : List Bool) (p q : Progress) : Type 0 where
@@ -80,16 +47,13 @@ module _ (tables : List TableDecl) (m : TableState) (params : List Name) (parame
     pub of_block : IsMember route (routes number block)
     pub chosen : route.choices ≡ choices
     pub values : List ℤ
-    pub count : (u : ℕ) → behind u route.passed ≡ u + length values
-    pub segment : (f : ℕ → ℤ) (u : ℕ) → Agrees f u values → Segment m (assigned params parameter f) (accesses_along tables params u route.passed) p q
+    pub count : (u : ℕ) → unknown_behind params u route.passed ≡ u + length values
+    pub segment : BlockFits block → Ranged m p → (f : ℕ → ℤ) (u : ℕ) → Agrees f u values → Segment m (assigned params parameter f) (accesses_along tables params u route.passed) p q
     pub more : Bindings
     pub env : q.env ≡ p.env ++ more
     pub fits : EnvFits params parameter q.env
     pub removes : RemovesPlain tables q.changes
     pub of_i64 : BlockFits block → Ranged m p → AllI64 values × Ranged m q
-
-  abbrev pub StatementFollows : Type 0
-  StatementFollows = (number : ℕ) (statement : StatementTree) (p q : Progress) → run_statement tables m statement p ≡ GoesOn q → StatementSound tables params statement → EnvFits params parameter p.env → RemovesPlain tables p.changes → Did number statement p q
 
   -- ---- a statement and then the rest
 
@@ -98,7 +62,7 @@ module _ (tables : List TableDecl) (m : TableState) (params : List Name) (parame
   through number s.Abort rest p r route e h = absurd (cc)
   through number statement rest p r route e h = member_map (passing number statement) route (routes (number + 1) rest) h
 
-  took_then : (number : ℕ) (statement : StatementTree) (rest : BlockTree) (p r q : Progress) → run_statement tables m statement p ≡ GoesOn r → Did number statement p r →
+  took_then : (number : ℕ) (statement : StatementTree) (rest : BlockTree) (p r q : Progress) → run_statement tables m statement p ≡ GoesOn r → Did tables m params parameter number statement p r →
       Took (number + 1) rest (choices_taken tables m rest r) r q → Took number (Then statement rest) (choices_taken tables m (Then statement rest) p) p q
   took_then number statement rest p r q e d t =
       record {
@@ -107,9 +71,9 @@ module _ (tables : List TableDecl) (m : TableState) (params : List Name) (parame
         chosen = t.chosen ∙ ap (λ f. choices_behind f (choices_taken tables m rest)) (sym e);
         values = d.values ++ t.values;
         count = λ u. t.count (next_unknown u (columns_of params u statement)) ∙ (let a = d.count u in let b = length-append d.values t.values in omega (arith, a, b));
-        segment = λ f u h. segment_join m (assigned params parameter f) (accesses_of tables params u number statement) (accesses_along tables params (next_unknown u (columns_of params u statement)) t.route.passed) p r q
+        segment = λ ok before f u h. segment_join m (assigned params parameter f) (accesses_of tables params u true number statement) (accesses_along tables params (next_unknown u (columns_of params u statement)) t.route.passed) p r q
             (d.segment f u (agrees_first f u d.values t.values h))
-            (t.segment f (next_unknown u (columns_of params u statement)) (agrees_behind f u (next_unknown u (columns_of params u statement)) d.values t.values (d.count u) h));
+            (t.segment ok.1 (d.of_i64 ok.0 before).1 f (next_unknown u (columns_of params u statement)) (agrees_behind f u (next_unknown u (columns_of params u statement)) d.values t.values (d.count u) h));
         more = d.more ++ t.more;
         env = t.env ∙ ap (λ l. l ++ t.more) d.env ∙ append_assoc p.env d.more t.more;
         fits = t.fits;
@@ -121,10 +85,6 @@ module _ (tables : List TableDecl) (m : TableState) (params : List Name) (parame
       }
 
   -- ---- a branch and then the rest
-
-  -- the end of a branch's block
-  close_env : (p r : Progress) (more : Bindings) → r.env ≡ p.env ++ more → (closed (length p.env) r).env ≡ p.env
-  close_env p r more e = ap (take (length p.env)) e ∙ take-append_seam p.env more
 
   -- the number from which the statements of the block are counted
   abbrev block_number : ℕ → BlockTree → Bool → ℕ
@@ -159,18 +119,18 @@ module _ (tables : List TableDecl) (m : TableState) (params : List Name) (parame
             ∙ ap (λ f. holds ∷ (choices_one a b holds p ++ choices_behind f (λ z. choices_taken tables m rest (closed (length p.env) z)))) (sym goes)
             ∙ ap (λ o. choices_by o (λ w. choices_one a b w p ++ choices_behind (run_one a b w p) (λ z. choices_taken tables m rest (closed (length p.env) z)))) (sym is);
         values = t.values ++ l.values;
-        count = λ u. behind_append u t.route.passed l.route.passed ∙ l.count (behind u t.route.passed) ∙ (let x = t.count u in let y = length-append t.values l.values in omega (arith, x, y));
-        segment = λ f u h. subst (λ accesses. Segment m (assigned params parameter f) accesses p q) (sym (along_append u t.route.passed l.route.passed))
-            (segment_join m (assigned params parameter f) (accesses_along tables params u t.route.passed) (accesses_along tables params (behind u t.route.passed) l.route.passed) p (closed (length p.env) r) q
-            (renamed f u (t.segment f u (agrees_first f u t.values l.values h)))
-            (l.segment f (behind u t.route.passed) (agrees_behind f u (behind u t.route.passed) t.values l.values (t.count u) h)));
+        count = λ u. unknown_append tables params u t.route.passed l.route.passed ∙ l.count (unknown_behind params u t.route.passed) ∙ (let x = t.count u in let y = length-append t.values l.values in omega (arith, x, y));
+        segment = λ ok before f u h. subst (λ accesses. Segment m (assigned params parameter f) accesses p q) (sym (accesses_append tables params u t.route.passed l.route.passed))
+            (segment_join m (assigned params parameter f) (accesses_along tables params u t.route.passed) (accesses_along tables params (unknown_behind params u t.route.passed) l.route.passed) p (closed (length p.env) r) q
+            (renamed f u (t.segment (one_fits holds ok.0 ok.1) before f u (agrees_first f u t.values l.values h)))
+            (l.segment ok.2 (closed_ranged ok before) f (unknown_behind params u t.route.passed) (agrees_behind f u (unknown_behind params u t.route.passed) t.values l.values (t.count u) h)));
         more = l.more;
-        env = l.env ∙ ap (λ e. e ++ l.more) (close_env p r t.more t.env);
+        env = l.env ∙ ap (λ e. e ++ l.more) (close_env tables m params parameter p r t.more t.env);
         fits = l.fits;
         removes = l.removes;
         of_i64 = λ h before.
             let x = t.of_i64 (one_fits holds h.0 h.1) before in
-            let y = l.of_i64 h.2 (record { rows = before.rows; env = subst EnvOfI64 (sym (close_env p r t.more t.env)) before.env; changes = x.1.changes }) in
+            let y = l.of_i64 h.2 (closed_ranged h before) in
             (all_append t.values l.values x.0 y.0, y.1);
       }
     where
@@ -178,12 +138,68 @@ module _ (tables : List TableDecl) (m : TableState) (params : List Name) (parame
       one_fits true x y = x
       one_fits false x y = y
 
+      closed_ranged : BlockFits (Branch test a b rest) → Ranged m p → Ranged m (closed (length p.env) r)
+      closed_ranged ok before =
+          let x = t.of_i64 (one_fits holds ok.0 ok.1) before in
+          record { rows = before.rows; env = subst EnvOfI64 (sym (close_env tables m params parameter p r t.more t.env)) before.env; changes = x.1.changes }
+
       renamed : (f : ℕ → ℤ) (u : ℕ) → Segment m (assigned params parameter f) (accesses_along tables params u t.route.passed) p r → Segment m (assigned params parameter f) (accesses_along tables params u t.route.passed) p (closed (length p.env) r)
       renamed f u s = record { look = s.look; change = s.change; keep = s.keep; touched = s.touched; changes_stay = s.changes_stay; keeps_stay = s.keeps_stay }
 
+  -- ---- an `each` and then the rest
+
+  -- the run goes on behind the turns, and a route of the rest behind those of the body
+  took_each : (number : ℕ) (l : ListingTree) (body rest : BlockTree) (p z r q : Progress) (turns : List Turn) → run_block tables m (Each l body BlockEnd) p ≡ GoesOn r → Did tables m params parameter number (as_count l) p z → z.env ≡ p.env →
+      (Ranged m p → TurnsOfI64 turns) → Turned tables m params parameter (number + 1) body turns z r → Took (number + 1 + statement_count body) rest (choices_taken tables m rest r) r q →
+      Took number (Each l body rest) (choices_taken tables m (Each l body rest) p) p q
+  took_each number l body rest p z r q turns goes d same ranged w t =
+      let xs = body_passed (number + 1) body in
+      let ys = t.route.passed in
+      let k = passed_counts params xs in
+      record {
+        route = passing number (as_count l) (going_round (number + 1) body t.route);
+        of_block =
+            let later = routes (number + 1 + statement_count body) rest in
+            member_map (passing number (as_count l)) (going_round (number + 1) body t.route) (map (going_round (number + 1) body) later)
+            (member_map (going_round (number + 1) body) t.route later t.of_block);
+        chosen = t.chosen ∙ ap (λ f. choices_behind f (choices_taken tables m rest)) (sym goes);
+        values = d.values ++ (zeros k.0 ++ t.values);
+        count = λ u.
+            let next = next_unknown u (columns_of params u (as_count l)) in
+            unknown_append tables params next xs ys ∙ t.count (unknown_behind params next xs)
+            ∙ (let a = d.count u in let b = k.1 next in let c = length-append d.values (zeros k.0 ++ t.values) in let e = length-append (zeros k.0) t.values in let g = zeros_length k.0 in omega (arith, a, b, c, e, g));
+        segment = λ ok before f u h.
+            let v = assigned params parameter f in
+            let x = d.of_i64 tt before in
+            let next = next_unknown u (columns_of params u (as_count l)) in
+            let own = agrees_behind f u next d.values (zeros k.0 ++ t.values) (d.count u) h in
+            let size : unknown_behind params next xs ≡ next + length (zeros k.0) = (let b = k.1 next in let g = zeros_length k.0 in omega (arith, b, g)) in
+            segment_join m v (accesses_of tables params u true number (as_count l)) (accesses_along tables params next (xs ++ ys)) p z q
+            (d.segment f u (agrees_first f u d.values (zeros k.0 ++ t.values) h))
+            (subst (λ accesses. Segment m v accesses z q) (sym (accesses_append tables params next xs ys))
+            (segment_join m v (accesses_along tables params next xs) (accesses_along tables params (unknown_behind params next xs) ys) z r q
+            (w.segment ok.0 (ranged before) x.1 f next)
+            (t.segment ok.1 (w.of_i64 ok.0 (ranged before) x.1) f (unknown_behind params next xs) (agrees_behind f next (unknown_behind params next xs) (zeros k.0) t.values size own))));
+        more = t.more;
+        env = t.env ∙ ap (λ e. e ++ t.more) (w.env ∙ same);
+        fits = t.fits;
+        removes = t.removes;
+        of_i64 = λ ok before.
+            let x = d.of_i64 tt before in
+            let y = t.of_i64 ok.1 (w.of_i64 ok.0 (ranged before) x.1) in
+            (all_append d.values (zeros k.0 ++ t.values) x.0 (all_append (zeros k.0) t.values (zeros_i64 k.0) y.0), y.1);
+      }
+
+  -- the listing and its turns alone
+  each_goes : (l : ListingTree) (body : BlockTree) (p r : Progress) (region : Region) → region_of (number_of tables l.table) l.range p.env ≡ Some region →
+      run_turns l (run_block tables m body) (turns_of l.range (seen_in m region p)) (listed m region p) ≡ GoesOn r → run_block tables m (Each l body BlockEnd) p ≡ GoesOn r
+  each_goes l body p r region is turned =
+      (λ i. with_value (is i) p (λ g. and_then (run_turns l (run_block tables m body) (turns_of l.range (seen_in m g p)) (listed m g p)) (run_block tables m BlockEnd)))
+      ∙ ap (λ f. and_then f (run_block tables m BlockEnd)) turned
+
   -- ---- blocks
 
-  module _ (statement_follows : StatementFollows) where
+  module _ (statement_follows : StatementFollows tables m params parameter) (listing_follows : ListingFollows tables m params parameter) where
     pub block_follows : (number : ℕ) (block : BlockTree) (p q : Progress) → run_block tables m block p ≡ GoesOn q → BlockSound tables params block → EnvFits params parameter p.env → RemovesPlain tables p.changes →
         Took number block (choices_taken tables m block p) p q
     block_follows number BlockEnd p q e sound fits removes = at_end number p q (goes_same p q e) fits removes
@@ -200,7 +216,7 @@ module _ (tables : List TableDecl) (m : TableState) (params : List Name) (parame
               chosen = refl;
               values = [];
               count = λ u. omega arith;
-              segment = λ f u h. segment_none m (assigned params parameter f) p p refl refl;
+              segment = λ ok before f u h. segment_none m (assigned params parameter f) p p refl refl;
               more = [];
               env = sym (append-nil p.env);
               fits = fits;
@@ -217,7 +233,7 @@ module _ (tables : List TableDecl) (m : TableState) (params : List Name) (parame
         let t = either c.0 g.0 g.1 (λ r h. block_follows (number + 1) a p r h sound.0 fits removes) (λ r h. block_follows (number + 1 + statement_count a) b p r h sound.1 fits removes) in
         took_branch number test a b rest p g.0 q c.0 c.1 g.1 t
         (block_follows (number + 1 + statement_count a + statement_count b) rest (closed (length p.env) g.0) q g.2 sound.2
-        (subst (EnvFits params parameter) (sym (close_env p g.0 t.more t.env)) fits) t.removes)
+        (subst (EnvFits params parameter) (sym (close_env tables m params parameter p g.0 t.more t.env)) fits) t.removes)
       where
         either : (holds : Bool) (r : Progress) → run_one a b holds p ≡ GoesOn r →
             ((r : Progress) → run_block tables m a p ≡ GoesOn r → Took (number + 1) a (choices_taken tables m a p) p r) →
@@ -225,3 +241,12 @@ module _ (tables : List TableDecl) (m : TableState) (params : List Name) (parame
             Took (block_number number a holds) (if holds then a else b) (choices_one a b holds p) p r
         either true r h f g = f r h
         either false r h f g = g r h
+    block_follows number (Each l body rest) p q e sound fits removes =
+        let c = value_goes (region_of (number_of tables l.table) l.range p.env) p _ q e in
+        let z = listed m c.0 p in
+        let turns = turns_of l.range (seen_in m c.0 p) in
+        let g = then_goes (run_turns l (run_block tables m body) turns z) (run_block tables m rest) q c.2 in
+        let d = listing_follows number l c.0 p c.1 fits removes in
+        let w = by_turns tables m params parameter (number + 1) l body (λ x y h k i. rounds tables m params parameter statement_follows listing_follows (number + 1) body x y h sound.2 k i) sound.0 sound.1 turns z g.0 g.1 d.fits d.removes in
+        took_each number l body rest p z g.0 q turns (each_goes l body p g.0 c.0 c.1 g.1) d refl (λ before. listed_i64 m p c.0 l.range before) w
+        (block_follows (number + 1 + statement_count body) rest g.0 q g.2 sound.3 w.fits w.removes)

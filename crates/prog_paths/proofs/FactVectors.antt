@@ -1,5 +1,5 @@
 -- Worked examples of the facts of questions, told by hand.
-use Rattle.std.specs.Prelude.{◌≡◌, [], ◌∷◌, pos, None, Some}
+use Rattle.std.specs.Prelude.{◌≡◌, [], ◌∷◌, pos, None, Some, true}
 use Rattle.std.proofs.Common.{refl, inl, arith}
 use Rattle.prog_tree.specs.Number.{least, greatest}
 use Rattle.order_facts.specs.declared.steps.Node.{Node}
@@ -25,7 +25,7 @@ computed_key = refl
 
 -- count t[a..5] against put t[b]: b is from a to 5
 abbrev up_to_five : Access
-up_to_five = record { kind = Reads; table = 0; first = record { low = Param 0; high = Literal (pos 5) }; second = None; place = 0 }
+up_to_five = record { kind = Reads; table = 0; first = record { low = Param 0; high = Literal (pos 5) }; second = None; place = 0; sure = true }
 
 range : question_facts up_to_five (at_one Writes 0 (Param 1) 1) ≡ fact (Mine 0) (Theirs 1) ∷ fact (Theirs 1) (Number (pos 5)) ∷ []
 range = refl
@@ -33,7 +33,7 @@ range = refl
 -- all entries of a day against one of them: the day is the same, and the second column is within all numbers
 abbrev entries : Access
 entries =
-    record { kind = Reads; table = 1; first = record { low = Param 0; high = Param 0 }; second = Some (record { low = Literal least; high = Literal greatest }); place = 0 }
+    record { kind = Reads; table = 1; first = record { low = Param 0; high = Param 0 }; second = Some (record { low = Literal least; high = Literal greatest }); place = 0; sure = true }
 
 two_columns : question_facts entries (at_two Adds 1 (Param 0) (Param 1) 1)
     ≡ fact (Mine 0) (Theirs 0) ∷ fact (Theirs 0) (Mine 0) ∷ fact (Number least) (Theirs 1) ∷ fact (Theirs 1) (Number greatest) ∷ []

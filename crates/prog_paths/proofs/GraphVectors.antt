@@ -11,7 +11,7 @@ use Rattle.prog_check.specs.declared.path.Term.{Term}
 use Rattle.prog_check.specs.declared.path.Term.TheVariants.{Param, Unknown}
 use Rattle.prog_check.specs.declared.path.Access.{Access}
 use Rattle.prog_check.specs.declared.path.Path.{Path}
-use Rattle.prog_paths.specs.Meeting.{Assignment, IsOfI64, MeetsUnder, MayCover, number_under}
+use Rattle.prog_paths.specs.Meeting.{Assignment, IsOfI64, MeetsUnder, MayTouch, MayCover, number_under}
 use Rattle.prog_paths.specs.StaticGraph.{IsAccessOf, Question, HasQuestion, StaticEdge, IsCovered, IsVulnerable, here, onward, IsDangerous}
 
 -- ---- in short
@@ -19,11 +19,11 @@ use Rattle.prog_paths.specs.StaticGraph.{IsAccessOf, Question, HasQuestion, Stat
 -- an access of a cell in a table of one column, and in one of two
 abbrev pub at_one : Kind → ℕ → Term → ℕ → Access
 at_one kind table term place =
-    record { kind = kind; table = table; first = record { low = term; high = term }; second = None; place = place }
+    record { kind = kind; table = table; first = record { low = term; high = term }; second = None; place = place; sure = true }
 
 abbrev pub at_two : Kind → ℕ → Term → Term → ℕ → Access
 at_two kind table first second place =
-    record { kind = kind; table = table; first = record { low = first; high = first }; second = Some (record { low = second; high = second }); place = place }
+    record { kind = kind; table = table; first = record { low = first; high = first }; second = Some (record { low = second; high = second }); place = place; sure = true }
 
 abbrev pub path : ℕ → List Bool → List Access → Path
 path program choices accesses = record { program = program; choices = choices; accesses = accesses }
@@ -107,9 +107,12 @@ abbrev pub CoversNothing : Access → Type 0
 CoversNothing a = MayCover a → ⊥
 
 pub reads_cover_nothing : (a : Access) → a.kind ≡ Reads → CoversNothing a
-reads_cover_nothing a e (inl h) = absurd (cc)
-reads_cover_nothing a e (inr (inl h)) = absurd (cc)
-reads_cover_nothing a e (inr (inr h)) = absurd (cc)
+reads_cover_nothing a e h = touches h.1
+  where
+    touches : MayTouch a → ⊥
+    touches (inl k) = absurd (cc)
+    touches (inr (inl k)) = absurd (cc)
+    touches (inr (inr k)) = absurd (cc)
 
 -- Balance changes nothing, so nothing covers its read of a checking account that WriteCheck changes
 balance_before_check : IsVulnerable small_bank 0 4
@@ -216,8 +219,8 @@ read_is_covered = record {
   of_second = at_one Writes 0 (Param 1) 3;
   at_first = (_, refl, refl);
   at_second = (_, refl, refl);
-  first_covers = inl refl;
-  second_covers = inl refl;
+  first_covers = (refl, inl refl);
+  second_covers = (refl, inl refl);
   same = λ v w m. record { table = refl; mine = (refl, tt); theirs = (refl, tt); first = equal v w m; second = refl };
 }
   where

@@ -2,15 +2,15 @@
 use Rattle.std.proofs.Common.{◌≡◌, ℕ, ◌+◌, Bool, true, false, List, [], ◌∷◌, ◌++◌, ◌⊎◌, inl, inr, map, refl, subst, ap}
 use Rattle.std.specs.Prelude.{if◌then◌else◌, slice_get, Option, Some, None}
 use Rattle.prog_tree.specs.declared.table.TableDecl.{TableDecl}
-use Rattle.prog_tree.specs.Syntax.{Name, StatementTree, BlockTree, BlockEnd, Then, Branch}
+use Rattle.prog_tree.specs.Syntax.{Name, StatementTree, BlockTree, BlockEnd, Then, Branch, Each}
 use Rattle.prog_tree.specs.Syntax as s
 use Rattle.prog_check.specs.declared.path.Kind.{Kind}
 use Rattle.prog_check.specs.declared.path.Kind.TheVariants.{Reads, Sees, Lacks, Writes, Adds, Keeps}
 use Rattle.prog_check.specs.declared.path.Access.{Access}
 use Rattle.prog_check.specs.Tables.{declaration, grows}
-use Rattle.prog_check.specs.Uses.{used_table}
+use Rattle.prog_check.specs.Uses.{used_table, as_count}
 use Rattle.prog_check.specs.Accesses.{Columns, columns_of, next_unknown, accesses_to, number_used, grows_used, kinds_at, access_of, accesses_of}
-use Rattle.prog_check.specs.Paths.{Passed, Route, statement_count, passing, choosing, joined, followed_by, routes, accesses_along}
+use Rattle.prog_check.specs.Paths.{Passed, Route, statement_count, passing, body_passed, going_round, choosing, joined, followed_by, routes, accesses_along}
 use Rattle.prog_paths.proofs.Segments.{IsMember, member_either}
 use Rattle.prog_paths.proofs.Statements.{declaration_is}
 
@@ -33,6 +33,7 @@ abbrev pub BlockPlain : List TableDecl → BlockTree → Type 0
 BlockPlain tables BlockEnd = Unit {0}
 BlockPlain tables (Then statement rest) = OverwritesPlain tables statement × BlockPlain tables rest
 BlockPlain tables (Branch test a b rest) = BlockPlain tables a × BlockPlain tables b × BlockPlain tables rest
+BlockPlain tables (Each l body rest) = BlockPlain tables body × BlockPlain tables rest
 
 abbrev AllKinds : Bool → List Kind → Type 0
 AllKinds grow [] = Unit {0}
@@ -98,16 +99,16 @@ module _ (tables : List TableDecl) where
   abbrev pub AccessFits : Access → Type 0
   AccessFits a = KindFits (grows (slice_get tables a.table)) a.kind
 
-  of_kinds : (number : ℕ) (st : StatementTree) (columns : Columns) (grow : Bool) (kinds : List Kind) → ((x : Kind) → IsMember x kinds → grow ≡ grows (slice_get tables (number_used tables (used_table st)))) → AllKinds grow kinds →
-      (a : Access) → IsMember a (map (access_of tables number st columns) kinds) → AccessFits a
-  of_kinds number st columns grow [] same h a member = absurd member
-  of_kinds number st columns grow (k ∷ ks) same h a (inl e) =
+  of_kinds : (sure : Bool) (number : ℕ) (st : StatementTree) (columns : Columns) (grow : Bool) (kinds : List Kind) → ((x : Kind) → IsMember x kinds → grow ≡ grows (slice_get tables (number_used tables (used_table st)))) → AllKinds grow kinds →
+      (a : Access) → IsMember a (map (access_of tables sure number st columns) kinds) → AccessFits a
+  of_kinds sure number st columns grow [] same h a member = absurd member
+  of_kinds sure number st columns grow (k ∷ ks) same h a (inl e) =
       subst AccessFits e (subst (λ (g : Bool). KindFits g k) (same k (inl refl)) h.0)
-  of_kinds number st columns grow (k ∷ ks) same h a (inr member) = of_kinds number st columns grow ks (λ x m. same x (inr m)) h.1 a member
+  of_kinds sure number st columns grow (k ∷ ks) same h a (inr member) = of_kinds sure number st columns grow ks (λ x m. same x (inr m)) h.1 a member
 
-  of_columns : (number : ℕ) (st : StatementTree) (columns : Option Columns) → OverwritesPlain tables st → (a : Access) → IsMember a (accesses_to tables number st columns) → AccessFits a
-  of_columns number st None h a member = absurd member
-  of_columns number st (Some columns) h a member = of_kinds number st columns (grows_used tables (used_table st)) (kinds_at tables st) (growth_is st) (kinds_fit st h) a member
+  of_columns : (sure : Bool) (number : ℕ) (st : StatementTree) (columns : Option Columns) → OverwritesPlain tables st → (a : Access) → IsMember a (accesses_to tables sure number st columns) → AccessFits a
+  of_columns sure number st None h a member = absurd member
+  of_columns sure number st (Some columns) h a member = of_kinds sure number st columns (grows_used tables (used_table st)) (kinds_at tables st) (growth_is st) (kinds_fit st h) a member
 
   abbrev AllPlain : List Passed → Type 0
   AllPlain [] = Unit {0}
@@ -115,15 +116,31 @@ module _ (tables : List TableDecl) where
 
   along_fits : (params : List Name) (u : ℕ) (passed : List Passed) → AllPlain passed → (a : Access) → IsMember a (accesses_along tables params u passed) → AccessFits a
   along_fits params u [] h a member = absurd member
-  along_fits params u (x ∷ xs) h a member = go (member_either a (accesses_of tables params u x.number x.statement) (accesses_along tables params (next_unknown u (columns_of params u x.statement)) xs) member) (along_fits params (next_unknown u (columns_of params u x.statement)) xs h.1 a)
+  along_fits params u (x ∷ xs) h a member = go (member_either a (accesses_of tables params u x.sure x.number x.statement) (accesses_along tables params (next_unknown u (columns_of params u x.statement)) xs) member) (along_fits params (next_unknown u (columns_of params u x.statement)) xs h.1 a)
     where
-      go : IsMember a (accesses_of tables params u x.number x.statement) ⊎ IsMember a (accesses_along tables params (next_unknown u (columns_of params u x.statement)) xs) → (IsMember a (accesses_along tables params (next_unknown u (columns_of params u x.statement)) xs) → AccessFits a) → AccessFits a
-      go (inl k) later = of_columns x.number x.statement (columns_of params u x.statement) h.0 a k
+      go : IsMember a (accesses_of tables params u x.sure x.number x.statement) ⊎ IsMember a (accesses_along tables params (next_unknown u (columns_of params u x.statement)) xs) → (IsMember a (accesses_along tables params (next_unknown u (columns_of params u x.statement)) xs) → AccessFits a) → AccessFits a
+      go (inl k) later = of_columns x.sure x.number x.statement (columns_of params u x.statement) h.0 a k
       go (inr k) later = later k
 
   plain_append : (xs ys : List Passed) → AllPlain xs → AllPlain ys → AllPlain (xs ++ ys)
   plain_append [] ys h k = k
   plain_append (x ∷ xs) ys h k = (h.0, plain_append xs ys h.1 k)
+
+  -- what a body passes
+  body_plain : (number : ℕ) (block : BlockTree) → BlockPlain tables block → AllPlain (body_passed number block)
+  body_plain number BlockEnd h = tt
+  body_plain number (Then st rest) h = (h.0, body_plain (number + 1) rest h.1)
+  body_plain number (Branch test a b rest) h =
+      let first = body_passed (number + 1) a in
+      let second = body_passed (number + 1 + statement_count a) b in
+      let later = body_passed (number + 1 + statement_count a + statement_count b) rest in
+      plain_append (first ++ second) later
+      (plain_append first second (body_plain (number + 1) a h.0) (body_plain (number + 1 + statement_count a) b h.1))
+      (body_plain (number + 1 + statement_count a + statement_count b) rest h.2)
+  body_plain number (Each l body rest) h = (
+    tt,
+    plain_append (body_passed (number + 1) body) (body_passed (number + 1 + statement_count body) rest) (body_plain (number + 1) body h.0) (body_plain (number + 1 + statement_count body) rest h.1),
+  )
 
   -- ---- routes
 
@@ -158,6 +175,11 @@ module _ (tables : List TableDecl) where
       (routes_map (choosing true) first (λ r p. p) (routes_plain (number + 1) a h.0))
       (routes_map (choosing false) second (λ r p. p) (routes_plain (number + 1 + statement_count a) b h.1)))
       (routes_plain (number + 1 + statement_count a + statement_count b) rest h.2)
+  routes_plain number (Each l body rest) h =
+      let own = body_passed (number + 1) body in
+      let later = routes (number + 1 + statement_count body) rest in
+      routes_map (passing number (as_count l)) (map (going_round (number + 1) body) later) (λ r p. (tt, p))
+      (routes_map (going_round (number + 1) body) later (λ r p. plain_append own r.passed (body_plain (number + 1) body h.0) p) (routes_plain (number + 1 + statement_count body) rest h.1))
 
   -- each access on a route of a sound block fits its table
   pub route_fits : (params : List Name) (block : BlockTree) → BlockPlain tables block → (route : Route) → IsMember route (routes 0 block) → (a : Access) → IsMember a (accesses_along tables params 0 route.passed) → AccessFits a

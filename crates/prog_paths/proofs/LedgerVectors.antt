@@ -1,7 +1,7 @@
 -- Worked examples of the static graphs of the ledger set, which has no dangerous structure, and of the report set, which has.
 use Rattle.std.specs.Prelude.{◌≡◌, ℕ, List, [], ◌∷◌, Some, ◌⊎◌}
 use Rattle.std.specs.List.{AllByRecursion}
-use Rattle.std.proofs.Common.{refl, subst, arith, inl, inr, suc, zero}
+use Rattle.std.proofs.Common.{refl, subst, arith, inl, inr, suc, zero, true}
 use Rattle.std.proofs.lemmas.Int.{ints}
 use lib.Signed.{≤ℤ_refl}
 use Rattle.prog_tree.specs.Number.{least, greatest}
@@ -10,7 +10,7 @@ use Rattle.prog_check.specs.declared.path.Kind.TheVariants.{Reads, Sees, Lacks, 
 use Rattle.prog_check.specs.declared.path.Term.TheVariants.{Param, Literal}
 use Rattle.prog_check.specs.declared.path.Access.{Access}
 use Rattle.prog_check.specs.declared.path.Path.{Path}
-use Rattle.prog_paths.specs.Meeting.{MeetsUnder, CanMeet}
+use Rattle.prog_paths.specs.Meeting.{MeetsUnder, CanMeet, MayTouch}
 use Rattle.prog_paths.specs.StaticGraph.{IsAccessOf, Question, AsksReadWrite, AsksWriteRead, AsksWriteWrite, HasQuestion, StaticEdge, IsCovered, IsExposed, IsVulnerable, Leads, here, onward, IsDangerous}
 use Rattle.prog_paths.proofs.GraphVectors.{at_one, at_two, path, all_of, zero_cell, zeros_of_i64, of_node, has_question, meet_at_zero, CoversNothing, CoversIn, reads_cover_nothing}
 
@@ -27,7 +27,7 @@ close = path 1 [] (at_one Adds 0 (Param 0) 0 ∷ [])
 -- all entries of one day
 abbrev entries : ℕ → Access
 entries place =
-    record { kind = Reads; table = 1; first = record { low = Param 0; high = Param 0 }; second = Some (record { low = Literal least; high = Literal greatest }); place = place }
+    record { kind = Reads; table = 1; first = record { low = Param 0; high = Param 0 }; second = Some (record { low = Literal least; high = Literal greatest }); place = place; sure = true }
 
 -- let s = sum entry[d, least..greatest]; reply s;
 abbrev total : Path
@@ -58,14 +58,20 @@ entries_meet = record {
 }
 
 sees_cover_nothing : (a : Access) → a.kind ≡ Sees → CoversNothing a
-sees_cover_nothing a e (inl h) = absurd (cc)
-sees_cover_nothing a e (inr (inl h)) = absurd (cc)
-sees_cover_nothing a e (inr (inr h)) = absurd (cc)
+sees_cover_nothing a e h = touches h.1
+  where
+    touches : MayTouch a → ⊥
+    touches (inl k) = absurd (cc)
+    touches (inr (inl k)) = absurd (cc)
+    touches (inr (inr k)) = absurd (cc)
 
 lacks_cover_nothing : (a : Access) → a.kind ≡ Lacks → CoversNothing a
-lacks_cover_nothing a e (inl h) = absurd (cc)
-lacks_cover_nothing a e (inr (inl h)) = absurd (cc)
-lacks_cover_nothing a e (inr (inr h)) = absurd (cc)
+lacks_cover_nothing a e h = touches h.1
+  where
+    touches : MayTouch a → ⊥
+    touches (inl k) = absurd (cc)
+    touches (inr (inl k)) = absurd (cc)
+    touches (inr (inr k)) = absurd (cc)
 
 -- the report changes nothing
 report_before_post : IsVulnerable reports 2 0

@@ -1,9 +1,13 @@
 pub mod Numbers
 pub mod TableNumbers
 pub mod Walking
+pub mod Bodies
 pub mod Listed
 pub mod Segments
 pub mod Values
+pub mod Parts
+pub mod Own
+pub mod Rounds
 pub mod Blocks
 pub mod Cells
 pub mod Terms

@@ -1,5 +1,5 @@
 -- The terms of a program's paths are numbered low.
-use Rattle.std.proofs.Common.{◌≡◌, ℕ, ◌+◌, ◌*◌, ◌<◌, ◌≤◌, List, [], ◌∷◌, length, map, refl, arith}
+use Rattle.std.proofs.Common.{◌≡◌, ℕ, ◌+◌, ◌*◌, ◌<◌, ◌≤◌, Bool, List, [], ◌∷◌, length, map, refl, arith}
 use Rattle.std.specs.Prelude.{Option, Some, None, IfSome, All}
 use Rattle.std.proofs.lemmas.List.Elements.{All-nil, All-cons, All-append, All-map}
 use Rattle.std.proofs.lemmas.List.Quantifiers.{position-Some}
@@ -66,17 +66,17 @@ module _ (tables : List TableDecl) (params : List Name) (bound : ℕ) (few : len
   statement_below u (s.Reply e) h = tt
   statement_below u s.Abort h = tt
 
-  accesses_below : (number : ℕ) (st : StatementTree) (columns : Option Columns) → IfSome columns (AreColumnsBelow bound) → All (IsAccessBelow bound) (accesses_to tables number st columns)
-  accesses_below number st None h = All-nil (IsAccessBelow bound)
-  accesses_below number st (Some columns) h = All-map (IsAccessBelow bound) (access_of tables number st columns) (kinds_at tables st) (λ n d inside. h)
+  accesses_below : (sure : Bool) (number : ℕ) (st : StatementTree) (columns : Option Columns) → IfSome columns (AreColumnsBelow bound) → All (IsAccessBelow bound) (accesses_to tables sure number st columns)
+  accesses_below sure number st None h = All-nil (IsAccessBelow bound)
+  accesses_below sure number st (Some columns) h = All-map (IsAccessBelow bound) (access_of tables sure number st columns) (kinds_at tables st) (λ n d inside. h)
 
   along_below : (u : ℕ) (ps : List Passed) → u + 3 * length ps ≤ bound → All (IsAccessBelow bound) (accesses_along tables params u ps)
   along_below u [] h = All-nil (IsAccessBelow bound)
   along_below u (p ∷ ps) h =
       let next = statement_low tables params u p.statement in
       let behind = next_unknown u (columns_of params u p.statement) in
-      All-append (IsAccessBelow bound) (accesses_of tables params u p.number p.statement) (accesses_along tables params behind ps)
-      (accesses_below p.number p.statement (columns_of params u p.statement) (statement_below u p.statement (omega (arith, h))))
+      All-append (IsAccessBelow bound) (accesses_of tables params u p.sure p.number p.statement) (accesses_along tables params behind ps)
+      (accesses_below p.sure p.number p.statement (columns_of params u p.statement) (statement_below u p.statement (omega (arith, h))))
       (along_below behind ps (omega (arith, h, next)))
 
   paths_below : (program k : ℕ) → 3 * k ≤ bound → (rs : List Route) → AreShort k rs → All (λ path. All (IsAccessBelow bound) path.accesses) (map (path_of tables program params) rs)

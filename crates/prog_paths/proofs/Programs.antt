@@ -18,14 +18,14 @@ use Rattle.prog_paths.specs.Meeting.{Assignment}
 use Rattle.prog_paths.specs.Law.{FollowsPath}
 use Rattle.prog_tree.specs.Number.{IsI64}
 use Rattle.prog_paths.proofs.Numbers.{AllI64, RowsOfI64, BlockFits}
-use Rattle.prog_paths.proofs.Ranges.{nth_i64, EnvOfI64}
+use Rattle.prog_paths.proofs.Ranges.{nth_i64, EnvOfI64, Ranged}
 use Rattle.prog_tree.specs.Value.{same_name, or_else, value_in}
 use Rattle.prog_paths.specs.Choices.{program_choices}
 use Rattle.prog_paths.specs.Follows.{LooksAt, Changes, KeepsCell, HasRow, FoundAs, ChangedAs, Touch, Follows}
 use Rattle.prog_paths.proofs.Segments.{IsMember, Held, Segment}
 use Rattle.prog_paths.proofs.Values.{nth, agrees_nth, EnvFits, assigned, BlockSound}
 use Rattle.prog_paths.proofs.Blocks.{member_map, block_follows}
-use Rattle.prog_paths.proofs.Statements.{statement_follows}
+use Rattle.prog_paths.proofs.Statements.{statement_follows, listing_follows}
 use Rattle.prog_paths.proofs.Distinct.{one_path}
 
 -- ---- members by their numbers
@@ -105,10 +105,11 @@ pub program_follows : (tables : List TableDecl) (number : ℕ) (program : Progra
     (eval tables program args m).ending ≡ Ready → FollowsPath tables number program args m
 program_follows tables number program args m sound args_fit rows body ready =
     let g = goes_on (run_block tables m program.body (at_start program args)) ready in
-    let t = block_follows tables m program.params (nth args) (statement_follows tables m program.params (nth args)) 0 program.body (at_start program args) g.0 g.1 sound.body sound.arguments (λ c e. absurd (cc)) in
+    let t = block_follows tables m program.params (nth args) (statement_follows tables m program.params (nth args)) (listing_follows tables m program.params (nth args)) 0 program.body (at_start program args) g.0 g.1 sound.body sound.arguments (λ c e. absurd (cc)) in
     let path = path_of tables number program.params t.route in
     let r = place_of_member path (program_paths tables number program) (member_map (path_of tables number program.params) t.route (routes 0 program.body) t.of_block) in
-    let numbers = t.of_i64 body (record { rows = rows; env = zip_i64 program.params args args_fit; changes = λ c z e. absurd (cc) }) in
+    let ranged : Ranged m (at_start program args) = record { rows = rows; env = zip_i64 program.params args args_fit; changes = tt } in
+    let numbers = t.of_i64 body ranged in
     record {
       place = r.0;
       path = path;
@@ -117,7 +118,7 @@ program_follows tables number program args m sound args_fit rows body ready =
       v = assigned program.params (nth args) (nth t.values);
       arguments = nth_at args;
       of_i64 = record { parameter = nth_i64 args args_fit; unknown = nth_i64 t.values numbers.0 };
-      follows = subst (Follows m path (assigned program.params (nth args) (nth t.values))) (ap ended (sym g.1)) (whole m path (assigned program.params (nth args) (nth t.values)) (at_start program args) g.0 refl refl (t.segment (nth t.values) 0 (agrees_nth t.values)));
+      follows = subst (Follows m path (assigned program.params (nth args) (nth t.values))) (ap ended (sym g.1)) (whole m path (assigned program.params (nth args) (nth t.values)) (at_start program args) g.0 refl refl (t.segment body ranged (nth t.values) 0 (agrees_nth t.values)));
     }
 
 -- and it is the only one

@@ -1,19 +1,22 @@
--- Numbers of i64: values of expressions, names and unknowns.
-use Rattle.std.proofs.Common.{◌≡◌, ℕ, zero, suc, Bool, true, false, List, [], ◌∷◌, ◌++◌, ◌⊎◌, inl, inr, refl, sym, subst, ◌∙◌}
-use Rattle.std.specs.Prelude.{ℤ, pos, ◌+ℤ◌, ◌-ℤ◌, ◌*ℤ◌, Option, Some, None, if◌then◌else◌}
+-- Numbers of i64: values of expressions, names and unknowns, changed rows and the turns of an `each`.
+use Rattle.std.proofs.Common.{◌≡◌, ℕ, zero, suc, Bool, true, false, List, [], ◌∷◌, ◌++◌, refl, sym, subst, ◌∙◌}
+use Rattle.std.proofs.lemmas.List.Elements.{All-filter, All-from_recursion, recursion_from_All}
+use Rattle.std.specs.Prelude.{ℤ, pos, ◌+ℤ◌, ◌-ℤ◌, ◌*ℤ◌, Option, Some, None, IfSome, not, if◌then◌else◌}
+use Rattle.std.specs.List.{AllByRecursion}
 use Rattle.prog_tree.specs.declared.cell.Cell.{Cell}
+use Rattle.prog_tree.specs.declared.cell.Region.{Region}
 use Rattle.prog_tree.specs.declared.progress.Progress.{Progress}
-use Rattle.prog_tree.specs.Syntax.{Name, ExprTree, StatementTree, BlockTree, BlockEnd, Then, Branch}
+use Rattle.prog_tree.specs.Syntax.{Name, ExprTree, RangeTree, OneRange, TwoRange}
 use Rattle.prog_tree.specs.Syntax as s
 use Rattle.prog_tree.specs.Value.{Bindings, same_name, or_else, exact, both, value_in, value_of}
-use Rattle.prog_tree.specs.Table.{TableState}
-use Rattle.prog_tree.specs.ChangeSet.{ChangeSet, change_at, with_change}
+use Rattle.prog_tree.specs.Table.{TableState, at_cell, is_same_cell, is_cell_among, is_in, rows_in, IsI64Cell, IsI64Row}
+use Rattle.prog_tree.specs.ChangeSet.{ChangedCells, ChangeSet, changes_in, with_change}
+use Rattle.prog_tree.specs.Evaluation.{Turn, last_column, turns_of, own_cells, rows_left, rows_seen}
 use Rattle.prog_tree.proofs.EnvLemmas.{value_in_push}
 use Rattle.prog_tree.specs.Number.{IsI64, is_i64}
-use Rattle.prog_tree.proofs.NumberLaws.{i64_is_tested}
+use Rattle.prog_tree.proofs.NumberLaws.{i64_is_tested, IsEntry, written, HasI64Rows-changed}
 use Rattle.prog_paths.proofs.Numbers.{AllI64, RowsOfI64, LiteralFits}
 use Rattle.prog_paths.proofs.Values.{nth}
-use Rattle.prog_paths.proofs.Cells.{change_either}
 
 pub all_append : (xs ys : List ℤ) → AllI64 xs → AllI64 ys → AllI64 (xs ++ ys)
 all_append [] ys h k = k
@@ -28,8 +31,11 @@ nth_i64 (x ∷ xs) h (suc n) = nth_i64 xs h.1 n
 abbrev pub EnvOfI64 : Bindings → Type 0
 EnvOfI64 env = (x : Name) (z : ℤ) → value_in env x ≡ Some z → IsI64 z
 
+abbrev pub MayBeI64 : Option ℤ → Type 0
+MayBeI64 o = IfSome o IsI64
+
 abbrev pub ChangesOfI64 : ChangeSet → Type 0
-ChangesOfI64 changes = (c : Cell) (z : ℤ) → change_at changes c ≡ Some (Some z) → IsI64 z
+ChangesOfI64 changes = AllByRecursion (IsEntry MayBeI64) changes.cells
 
 pub record Ranged (m : TableState) (p : Progress) : Type 0 where
   pub rows : RowsOfI64 m
@@ -65,12 +71,43 @@ env_push env y v fits h x z e = go (same_name y x) (sym (value_in_push env (y, v
     go true k = subst IsI64 (some_is v z k) h
     go false k = fits x z k
 
-pub changes_put : (changes : ChangeSet) (cell : Cell) (w : Option ℤ) → ChangesOfI64 changes → ((v : ℤ) → w ≡ Some v → IsI64 v) → ChangesOfI64 (with_change changes cell w)
-changes_put changes cell w fits h c z e = change_cases (change_either changes cell w c (Some (Some z)) e)
-  where
-    inner : (o : Option ℤ) → Some (Some z) ≡ Some o → o ≡ Some z
-    inner o e = cc
+pub changes_put : (changes : ChangeSet) (cell : Cell) (w : Option ℤ) → ChangesOfI64 changes → IsI64Cell cell → MayBeI64 w → ChangesOfI64 (with_change changes cell w)
+changes_put changes cell w fits is value = written MayBeI64 cell w changes.cells is value fits
 
-    change_cases : ((c ≡ cell) × (Some (Some z) ≡ Some w)) ⊎ (change_at changes c ≡ Some (Some z)) → IsI64 z
-    change_cases (inl k) = h z (inner w k.1)
-    change_cases (inr k) = fits c z k
+pub change_i64 : (cells : ChangedCells) (c : Cell) (z : ℤ) → AllByRecursion (IsEntry MayBeI64) cells → at_cell cells c ≡ Some (Some z) → IsI64 z
+change_i64 [] c z h e = absurd (cc)
+change_i64 (entry ∷ entries) c z h e = here (change_i64 entries c z h.1) (is_same_cell c entry.0) e
+  where
+    value : (o : Option ℤ) → Some o ≡ Some (Some z) → o ≡ Some z
+    value o k = cc
+
+    here : (at_cell entries c ≡ Some (Some z) → IsI64 z) → (b : Bool) → (if b then Some entry.1 else at_cell entries c) ≡ Some (Some z) → IsI64 z
+    here later true is = subst MayBeI64 (value entry.1 is) h.0.1
+    here later false is = later is
+
+-- ---- the turns of an `each`
+
+abbrev pub TurnsOfI64 : List Turn → Type 0
+TurnsOfI64 turns = AllByRecursion (λ (turn : Turn). IsI64 turn.0 × IsI64 turn.1) turns
+
+column_i64 : (range : RangeTree) (c : Cell) → IsI64Cell c → IsI64 (last_column range c)
+column_i64 (OneRange low high) c is = is.0
+column_i64 (TwoRange first low high) c is = is.1
+
+turns_i64 : (range : RangeTree) (rows : TableState) → RowsOfI64 rows → TurnsOfI64 (turns_of range rows)
+turns_i64 range [] h = tt
+turns_i64 range (row ∷ rows) h = ((column_i64 range row.0 h.0.0, h.0.1), turns_i64 range rows h.1)
+
+-- the rows that a run sees in a region
+seen_i64 : (m : TableState) (p : Progress) (g : Region) → Ranged m p → RowsOfI64 (rows_seen g p.changes.cells (rows_left g (own_cells g p.changes.cells) m))
+seen_i64 m p g r =
+    let own = own_cells g p.changes.cells in
+    let left = rows_left g own m in
+    let in_region = All-filter (λ (row : Cell × ℤ). is_in g row.0) IsI64Row m (All-from_recursion IsI64Row m r.rows) in
+    let others = All-filter (λ (row : Cell × ℤ). not (is_cell_among own row.0)) IsI64Row (rows_in g m) in_region in
+    let changes = All-filter (λ (entry : Cell × Option ℤ). is_in g entry.0) (IsEntry MayBeI64) p.changes.cells (All-from_recursion (IsEntry MayBeI64) p.changes.cells r.changes) in
+    recursion_from_All IsI64Row (rows_seen g p.changes.cells left) (HasI64Rows-changed left (changes_in g p.changes.cells) changes others)
+
+-- so the turns of an `each` are numbers of i64
+pub listed_i64 : (m : TableState) (p : Progress) (g : Region) (range : RangeTree) → Ranged m p → TurnsOfI64 (turns_of range (rows_seen g p.changes.cells (rows_left g (own_cells g p.changes.cells) m)))
+listed_i64 m p g range r = turns_i64 range (rows_seen g p.changes.cells (rows_left g (own_cells g p.changes.cells) m)) (seen_i64 m p g r)

@@ -1,5 +1,5 @@
 -- On a draft's paths each access that changes or keeps is of a single cell.
-use Rattle.std.specs.Prelude.{◌≡◌, ℕ, ◌+◌, List, [], ◌∷◌, ◌++◌, map, Some, slice_get}
+use Rattle.std.specs.Prelude.{◌≡◌, ℕ, ◌+◌, Bool, List, [], ◌∷◌, ◌++◌, map, Some, slice_get}
 use Rattle.std.specs.List.{AllByRecursion}
 use Rattle.std.proofs.lemmas.Option.{slice_get-get_or}
 use Rattle.std.proofs.Common.{get_or, refl, subst, inl, inr, suc, zero}
@@ -21,7 +21,7 @@ TouchesSingly a = MayTouch a → IsSingle a
 
 -- ---- lists
 
-all-append : {X : Type 0} (P : X → Type 0) (xs ys : List X) → AllByRecursion P xs → AllByRecursion P ys → AllByRecursion P (xs ++ ys)
+pub all-append : {X : Type 0} (P : X → Type 0) (xs ys : List X) → AllByRecursion P xs → AllByRecursion P ys → AllByRecursion P (xs ++ ys)
 all-append P [] ys h k = k
 all-append P (x ∷ xs) ys h k = (h.0, all-append P xs ys h.1 k)
 
@@ -41,38 +41,38 @@ key-single : (params : List Name) (unknown : ℕ) (key : KeyTree) → HasSingleC
 key-single params unknown (One a) = (refl, tt)
 key-single params unknown (Two a b) = (refl, refl)
 
-accesses-single : (tables : List TableDecl) (number : ℕ) (statement : StatementTree) (c : Columns) → HasSingleColumns c → (kinds : List Kind) → AllByRecursion TouchesSingly (map (access_of tables number statement c) kinds)
-accesses-single tables number statement c h [] = tt
-accesses-single tables number statement c h (k ∷ ks) = (λ m. h, accesses-single tables number statement c h ks)
+accesses-single : (tables : List TableDecl) (sure : Bool) (number : ℕ) (statement : StatementTree) (c : Columns) → HasSingleColumns c → (kinds : List Kind) → AllByRecursion TouchesSingly (map (access_of tables sure number statement c) kinds)
+accesses-single tables sure number statement c h [] = tt
+accesses-single tables sure number statement c h (k ∷ ks) = (λ m. h, accesses-single tables sure number statement c h ks)
 
 reads-touch : (a : Access) → a.kind ≡ Reads → TouchesSingly a
 reads-touch a e (inl h) = absurd (cc)
 reads-touch a e (inr (inl h)) = absurd (cc)
 reads-touch a e (inr (inr h)) = absurd (cc)
 
-statement-single : (tables : List TableDecl) (params : List Name) (unknown number : ℕ) (statement : StatementTree) → AllByRecursion TouchesSingly (accesses_of tables params unknown number statement)
-statement-single tables params unknown number (s.Get x table key e) = accesses-single tables number (s.Get x table key e) (key_columns params unknown key) (key-single params unknown key) (kinds_at tables (s.Get x table key e))
-statement-single tables params unknown number (s.Need x table key) = accesses-single tables number (s.Need x table key) (key_columns params unknown key) (key-single params unknown key) (kinds_at tables (s.Need x table key))
-statement-single tables params unknown number (s.Count x table range) =
-    (reads-touch (access_of tables number (s.Count x table range) (range_columns params unknown range) Reads) refl, tt)
-statement-single tables params unknown number (s.Sum x table range) =
-    (reads-touch (access_of tables number (s.Sum x table range) (range_columns params unknown range) Reads) refl, tt)
-statement-single tables params unknown number (s.Lacks table key) = accesses-single tables number (s.Lacks table key) (key_columns params unknown key) (key-single params unknown key) (kinds_at tables (s.Lacks table key))
-statement-single tables params unknown number (s.Put table key e) = accesses-single tables number (s.Put table key e) (key_columns params unknown key) (key-single params unknown key) (kinds_at tables (s.Put table key e))
-statement-single tables params unknown number (s.Delete table key) = accesses-single tables number (s.Delete table key) (key_columns params unknown key) (key-single params unknown key) (kinds_at tables (s.Delete table key))
-statement-single tables params unknown number (s.Insert table key e) = accesses-single tables number (s.Insert table key e) (key_columns params unknown key) (key-single params unknown key) (kinds_at tables (s.Insert table key e))
-statement-single tables params unknown number (s.Keep table key) = accesses-single tables number (s.Keep table key) (key_columns params unknown key) (key-single params unknown key) (kinds_at tables (s.Keep table key))
-statement-single tables params unknown number (s.Bind x e) = tt
-statement-single tables params unknown number (s.Reply e) = tt
-statement-single tables params unknown number s.Abort = tt
+statement-single : (tables : List TableDecl) (params : List Name) (unknown : ℕ) (sure : Bool) (number : ℕ) (statement : StatementTree) → AllByRecursion TouchesSingly (accesses_of tables params unknown sure number statement)
+statement-single tables params unknown sure number (s.Get x table key e) = accesses-single tables sure number (s.Get x table key e) (key_columns params unknown key) (key-single params unknown key) (kinds_at tables (s.Get x table key e))
+statement-single tables params unknown sure number (s.Need x table key) = accesses-single tables sure number (s.Need x table key) (key_columns params unknown key) (key-single params unknown key) (kinds_at tables (s.Need x table key))
+statement-single tables params unknown sure number (s.Count x table range) =
+    (reads-touch (access_of tables sure number (s.Count x table range) (range_columns params unknown range) Reads) refl, tt)
+statement-single tables params unknown sure number (s.Sum x table range) =
+    (reads-touch (access_of tables sure number (s.Sum x table range) (range_columns params unknown range) Reads) refl, tt)
+statement-single tables params unknown sure number (s.Lacks table key) = accesses-single tables sure number (s.Lacks table key) (key_columns params unknown key) (key-single params unknown key) (kinds_at tables (s.Lacks table key))
+statement-single tables params unknown sure number (s.Put table key e) = accesses-single tables sure number (s.Put table key e) (key_columns params unknown key) (key-single params unknown key) (kinds_at tables (s.Put table key e))
+statement-single tables params unknown sure number (s.Delete table key) = accesses-single tables sure number (s.Delete table key) (key_columns params unknown key) (key-single params unknown key) (kinds_at tables (s.Delete table key))
+statement-single tables params unknown sure number (s.Insert table key e) = accesses-single tables sure number (s.Insert table key e) (key_columns params unknown key) (key-single params unknown key) (kinds_at tables (s.Insert table key e))
+statement-single tables params unknown sure number (s.Keep table key) = accesses-single tables sure number (s.Keep table key) (key_columns params unknown key) (key-single params unknown key) (kinds_at tables (s.Keep table key))
+statement-single tables params unknown sure number (s.Bind x e) = tt
+statement-single tables params unknown sure number (s.Reply e) = tt
+statement-single tables params unknown sure number s.Abort = tt
 
 -- ---- paths
 
 along-single : (tables : List TableDecl) (params : List Name) (unknown : ℕ) (passed : List Passed) → AllByRecursion TouchesSingly (accesses_along tables params unknown passed)
 along-single tables params unknown [] = tt
 along-single tables params unknown (p ∷ later) =
-    all-append TouchesSingly (accesses_of tables params unknown p.number p.statement) (accesses_along tables params (next_unknown unknown (columns_of params unknown p.statement)) later)
-    (statement-single tables params unknown p.number p.statement) (along-single tables params (next_unknown unknown (columns_of params unknown p.statement)) later)
+    all-append TouchesSingly (accesses_of tables params unknown p.sure p.number p.statement) (accesses_along tables params (next_unknown unknown (columns_of params unknown p.statement)) later)
+    (statement-single tables params unknown p.sure p.number p.statement) (along-single tables params (next_unknown unknown (columns_of params unknown p.statement)) later)
 
 abbrev HasSingleCovers : Path → Type 0
 HasSingleCovers path = AllByRecursion TouchesSingly path.accesses

@@ -4,20 +4,20 @@ use Rattle.std.specs.Prelude.{ℤ, Option, Some, None, if◌then◌else◌}
 use Rattle.std.specs.Cmp.Lexicographic.{nat_list_eq_equiv}
 use Rattle.std.proofs.lemmas.List.Quantifiers.{position-Some}
 use Rattle.prog_tree.specs.declared.table.TableDecl.{TableDecl}
-use Rattle.prog_tree.specs.Syntax.{Name, ExprTree, StatementTree, BlockTree, BlockEnd, Then, Branch, ProgramTree, DraftTree}
+use Rattle.prog_tree.specs.Syntax.{Name, ExprTree, KeyTree, One, Two, StatementTree, BlockTree, BlockEnd, Then, Branch, Each, ProgramTree, DraftTree}
 use Rattle.prog_tree.specs.Syntax as s
 use Rattle.prog_tree.specs.Value.{same_name, or_else, value_in}
 use Rattle.prog_tree.specs.Number.{IsI64}
-use Rattle.prog_tree.specs.Literals.{expr_literals, key_literals, test_literals, statement_literals, block_literals}
+use Rattle.prog_tree.specs.Literals.{expr_literals, key_literals, range_literals, test_literals, statement_literals, block_literals}
 use Rattle.std.specs.List.{AllByRecursion}
 use Rattle.std.proofs.lemmas.List.Elements.{recursion_from_All}
 use Rattle.prog_check.specs.Names.{is_among, has_twice}
-use Rattle.prog_check.specs.Sound.{IsNoneOf, AllStatements, OverwritesPlain, IsSoundProgram}
+use Rattle.prog_check.specs.Sound.{IsNoneOf, AllStatements, AllNew, OverwritesPlain, IsSoundProgram}
 use Rattle.prog_check.specs.Uses.{new_name}
 use Rattle.prog_paths.proofs.Values.{nth, EnvFits, IsApart, IsApartNew, DeletesPlain, BlockSound}
 use Rattle.prog_paths.proofs.Programs.{ProgramSound, program_follows, only_path}
 use Rattle.prog_paths.specs.Law.{LawOfPaths}
-use Rattle.prog_paths.proofs.Numbers.{all_i64, rows_i64, LiteralFits, StatementFits, BlockFits}
+use Rattle.prog_paths.proofs.Numbers.{all_i64, rows_i64, LiteralFits, KeyLiteralsFit, StatementFits, BlockFits}
 
 -- ---- names
 
@@ -84,10 +84,11 @@ deletes_plain : (tables : List TableDecl) (st : StatementTree) → OverwritesPla
 deletes_plain tables (s.Delete table key) h = h
 deletes_plain tables st h = tt
 
-block_sound : (tables : List TableDecl) (params : List Name) (block : BlockTree) → AllStatements (λ s. IsNoneOf params (new_name s)) block → AllStatements (OverwritesPlain tables) block → BlockSound tables params block
+block_sound : (tables : List TableDecl) (params : List Name) (block : BlockTree) → AllNew (IsNoneOf params) block → AllStatements (OverwritesPlain tables) block → BlockSound tables params block
 block_sound tables params BlockEnd h k = tt
 block_sound tables params (Then st rest) h k = ((new_apart params (new_name st) h.0, deletes_plain tables st k.0), block_sound tables params rest h.1 k.1)
 block_sound tables params (Branch test a b rest) h k = (block_sound tables params a h.0 k.0, block_sound tables params b h.1 k.1, block_sound tables params rest h.2 k.2)
+block_sound tables params (Each l body rest) h k = (is_apart params l.key h.0, is_apart params l.value h.1, block_sound tables params body h.2 k.1, block_sound tables params rest h.3 k.2)
 
 -- ---- literals
 
@@ -104,11 +105,16 @@ literal_fits : (e : ExprTree) → AllByRecursion IsI64 (expr_literals e) → Lit
 literal_fits (s.Literal n) h = h.0
 literal_fits e h = tt
 
+key_literals_fit : (key : KeyTree) → AllByRecursion IsI64 (key_literals key) → KeyLiteralsFit key
+key_literals_fit (One a) h = literal_fits a h
+key_literals_fit (Two a b) h = (literal_fits a (front (expr_literals a) (expr_literals b) h), literal_fits b (behind (expr_literals a) (expr_literals b) h))
+
 statement_fits : (st : StatementTree) → AllByRecursion IsI64 (statement_literals st) → StatementFits st
 statement_fits (s.Bind x e) h = literal_fits e h
 statement_fits (s.Get x table key e) h = literal_fits e (behind (key_literals key) (expr_literals e) h)
-statement_fits (s.Put table key e) h = literal_fits e (behind (key_literals key) (expr_literals e) h)
-statement_fits (s.Insert table key e) h = literal_fits e (behind (key_literals key) (expr_literals e) h)
+statement_fits (s.Put table key e) h = (key_literals_fit key (front (key_literals key) (expr_literals e) h), literal_fits e (behind (key_literals key) (expr_literals e) h))
+statement_fits (s.Insert table key e) h = (key_literals_fit key (front (key_literals key) (expr_literals e) h), literal_fits e (behind (key_literals key) (expr_literals e) h))
+statement_fits (s.Delete table key) h = key_literals_fit key h
 statement_fits st h = tt
 
 block_fits : (block : BlockTree) → AllByRecursion IsI64 (block_literals block) → BlockFits block
@@ -124,6 +130,11 @@ block_fits (Branch test a b rest) h =
       block_fits a (behind t (block_literals a) first),
       block_fits b (behind (t ++ block_literals a) (block_literals b) blocks),
       block_fits rest (behind (t ++ block_literals a ++ block_literals b) (block_literals rest) h),
+    )
+block_fits (Each l body rest) h =
+    let ends = range_literals l.range in (
+      block_fits body (behind ends (block_literals body) (front (ends ++ block_literals body) (block_literals rest) h)),
+      block_fits rest (behind (ends ++ block_literals body) (block_literals rest) h),
     )
 
 -- ---- programs

@@ -12,12 +12,12 @@ use Rattle.prog_tree.specs.declared.deed.Deed.{Deed}
 use Rattle.prog_tree.specs.declared.deed.Deed.TheVariants.{Read, Counted, Summed, Put, Removed, Kept}
 use Rattle.prog_tree.specs.declared.progress.Progress.{Progress}
 use Rattle.prog_tree.specs.declared.table.TableDecl.{TableDecl}
-use Rattle.prog_tree.specs.Syntax.{Name, ExprTree, KeyTree, RangeTree, StatementTree}
+use Rattle.prog_tree.specs.Syntax.{Name, ExprTree, KeyTree, RangeTree, ListingTree, StatementTree}
 use Rattle.prog_tree.specs.Syntax as s
 use Rattle.prog_tree.specs.Numbering.{number_of}
 use Rattle.prog_tree.specs.Steps.{bound, did, replied, wrote, keeps, looked}
 use Rattle.prog_tree.specs.Value.{Bindings, same_name, or_else, exact, value_of}
-use Rattle.prog_tree.specs.Table.{TableState, row_at}
+use Rattle.prog_tree.specs.Table.{IsI64Cell, TableState, row_at}
 use Rattle.prog_tree.specs.ChangeSet.{ChangeSet, change_at, with_change, with_kept}
 use Rattle.prog_tree.specs.Evaluation.{Flow, GoesOn, Stops, with_value, in_range, with_rows, if_present, seen_or, with_seen, cell_of, region_of, total_of, own_cells, rows_left, rows_seen, run_statement}
 use Rattle.prog_check.specs.declared.path.Kind.{Kind}
@@ -25,16 +25,17 @@ use Rattle.prog_check.specs.declared.path.Kind.TheVariants.{Reads, Sees, Lacks, 
 use Rattle.prog_check.specs.declared.path.Access.{Access}
 use Rattle.prog_check.specs.Tables.{declaration, grows}
 use Rattle.prog_check.specs.Accesses.{Columns, columns_of, next_unknown, key_columns, range_columns, accesses_of}
-use Rattle.prog_paths.specs.Meeting.{Assignment, IsOf, cell_under, MayCover}
+use Rattle.prog_check.specs.Uses.{as_count}
+use Rattle.prog_paths.specs.Meeting.{Assignment, IsOfOwn, cell_under, MayCover}
 use Rattle.prog_paths.specs.Follows.{IsLookOf, LooksAt, Changes, KeepsCell, HasRow, FoundAs, ChangedAs}
 use Rattle.prog_paths.proofs.Segments.{IsMember, Held, Segment, segment_none}
 use Rattle.prog_tree.specs.Number.{IsI64}
-use Rattle.prog_paths.proofs.Numbers.{StatementFits}
-use Rattle.prog_paths.proofs.Ranges.{EnvOfI64, ChangesOfI64, Ranged, exact_i64, value_i64, env_push, changes_put}
+use Rattle.prog_paths.proofs.Numbers.{StatementFits, row_i64}
+use Rattle.prog_paths.proofs.Ranges.{EnvOfI64, MayBeI64, ChangesOfI64, Ranged, exact_i64, value_i64, env_push, changes_put, change_i64}
 use Rattle.prog_paths.proofs.Values.{nth, agrees_nth, EnvFits, assigned, IsApart, fits_push, RemovesPlain}
 use Rattle.prog_paths.proofs.Cells.{change_either, changes_either, changes_here, changes_stay, keeps_either, keeps_here, keeps_stay}
-use Rattle.prog_paths.proofs.Terms.{CellIn, CellAt, key_fits, range_fits}
-use Rattle.prog_paths.proofs.Blocks.{value_goes, Did, StatementFollows}
+use Rattle.prog_paths.proofs.Terms.{CellIn, CellAt, cell_i64, key_fits, range_fits}
+use Rattle.prog_paths.proofs.Parts.{value_goes, listed, Did, StatementFollows, ListingFollows}
 
 -- ---- tables by name and by number
 
@@ -139,12 +140,12 @@ module _ (m : TableState) where
 
 -- ---- accesses of a key
 
--- the access of these columns
+-- the sure access of these columns
 abbrev access_at : Kind → ℕ → Columns → ℕ → Access
-access_at kind table columns place = record { kind = kind; table = table; first = columns.first; second = columns.second; place = place }
+access_at kind table columns place = record { kind = kind; table = table; first = columns.first; second = columns.second; place = place; sure = true }
 
-is_of : (v : Assignment) (kind : Kind) (number : ℕ) (columns : Columns) (place : ℕ) (cell : Cell) → CellIn v columns number cell → IsOf v (access_at kind number columns place) cell
-is_of v kind number columns place cell h = record { table = h.table; first = h.first; second = h.second }
+is_of : (v : Assignment) (kind : Kind) (number : ℕ) (columns : Columns) (place : ℕ) (cell : Cell) → CellIn v columns number cell → IsOfOwn v (access_at kind number columns place) cell
+is_of v kind number columns place cell h = (v, refl, record { table = h.table; first = h.first; second = h.second })
 
 cell_is_under : (v : Assignment) (kind : Kind) (number : ℕ) (columns : Columns) (place : ℕ) (cell : Cell) → CellAt v columns number cell → cell_under v (access_at kind number columns place) ≡ cell
 cell_is_under v kind number columns place cell h = λ i. record { table = sym h.holds.table i; first = h.low_first i; second = h.low_second i }
@@ -180,7 +181,7 @@ abbrev Covers : Kind → Type 0
 Covers kind = (kind ≡ Writes) ⊎ (kind ≡ Adds) ⊎ (kind ≡ Keeps)
 
 none_covers : (a : Access) → (Covers a.kind → ⊥) → (b : Access) → IsMember b (a ∷ []) → MayCover b → ⊥
-none_covers a bare b (inl e) k = bare (subst (λ (x : Access). Covers x.kind) (sym e) k)
+none_covers a bare b (inl e) k = bare (subst (λ (x : Access). Covers x.kind) (sym e) k.1)
 none_covers a bare b (inr h) k = absurd h
 
 only_one : (v : Assignment) (a : Access) (cell : Cell) → cell_under v a ≡ cell → (b : Access) → IsMember b (a ∷ []) → MayCover b → cell_under v b ≡ cell
@@ -222,7 +223,7 @@ module _ (tables : List TableDecl) (m : TableState) (params : List Name) (parame
   -- a look at the cell of a key, and no change
   read_did : (number : ℕ) (st : StatementTree) (p z q : Progress) (table : Name) (key : KeyTree) (cell : Cell) (seen : Option ℤ) (kind : Kind) (more : Bindings) →
       ((u : ℕ) → columns_of params u st ≡ Some (key_columns params u key)) →
-      ((u : ℕ) → accesses_of tables params u number st ≡ access_at kind (number_of tables table) (key_columns params u key) number ∷ []) →
+      ((u : ℕ) → accesses_of tables params u true number st ≡ access_at kind (number_of tables table) (key_columns params u key) number ∷ []) →
       cell_of (number_of tables table) key p.env ≡ Some cell → Seen m cell p seen z → (seen ≡ row_at m cell → FoundAs kind (HasRow m cell) (Changes q.changes cell)) → (Covers kind → ⊥) →
       q.env ≡ z.env ++ more → q.changes ≡ z.changes → q.looks ≡ z.looks →
       EnvFits params parameter p.env → EnvFits params parameter q.env → RemovesPlain tables p.changes → (StatementFits st → Ranged m p → EnvOfI64 q.env) → Did tables m params parameter number st p q
@@ -250,7 +251,7 @@ module _ (tables : List TableDecl) (m : TableState) (params : List Name) (parame
   -- what changes or keeps the cell of a key alone, and looks at nothing
   touch_did : (number : ℕ) (st : StatementTree) (p q : Progress) (table : Name) (key : KeyTree) (cell : Cell) (kind : Kind) →
       ((u : ℕ) → columns_of params u st ≡ Some (key_columns params u key)) →
-      ((u : ℕ) → accesses_of tables params u number st ≡ access_at kind (number_of tables table) (key_columns params u key) number ∷ []) →
+      ((u : ℕ) → accesses_of tables params u true number st ≡ access_at kind (number_of tables table) (key_columns params u key) number ∷ []) →
       cell_of (number_of tables table) key p.env ≡ Some cell → q.env ≡ p.env → EnvFits params parameter p.env →
       ((v : Assignment) (columns : Columns) → CellAt v columns (number_of tables table) cell → Segment m v (access_at kind (number_of tables table) columns number ∷ []) p q) →
       (cell.table ≡ number_of tables table → RemovesPlain tables q.changes) → (StatementFits st → Ranged m p → ChangesOfI64 q.changes) → Did tables m params parameter number st p q
@@ -272,9 +273,9 @@ module _ (tables : List TableDecl) (m : TableState) (params : List Name) (parame
   -- a change of the cell of a key, and no look
   write_did : (number : ℕ) (st : StatementTree) (p q : Progress) (table : Name) (key : KeyTree) (cell : Cell) (w : Option ℤ) →
       ((u : ℕ) → columns_of params u st ≡ Some (key_columns params u key)) →
-      ((u : ℕ) → accesses_of tables params u number st ≡ access_at Writes (number_of tables table) (key_columns params u key) number ∷ []) →
+      ((u : ℕ) → accesses_of tables params u true number st ≡ access_at Writes (number_of tables table) (key_columns params u key) number ∷ []) →
       cell_of (number_of tables table) key p.env ≡ Some cell → q.env ≡ p.env → q.changes ≡ with_change p.changes cell w → q.looks ≡ p.looks →
-      EnvFits params parameter p.env → (cell.table ≡ number_of tables table → RemovesPlain tables (with_change p.changes cell w)) → (StatementFits st → Ranged m p → (v : ℤ) → w ≡ Some v → IsI64 v) → Did tables m params parameter number st p q
+      EnvFits params parameter p.env → (cell.table ≡ number_of tables table → RemovesPlain tables (with_change p.changes cell w)) → (StatementFits st → Ranged m p → IsI64Cell cell × MayBeI64 w) → Did tables m params parameter number st p q
   write_did number st p q table key cell w columns accesses is env changes looks fits removes ranged =
       touch_did number st p q table key cell Writes columns accesses is env fits
       (λ v cs at.
@@ -283,11 +284,11 @@ module _ (tables : List TableDecl) (m : TableState) (params : List Name) (parame
       (a, inl refl, is_of v Writes (number_of tables table) cs number cell at.holds, inl refl)
       (only_one v a cell (cell_is_under v Writes (number_of tables table) cs number cell at)))
       (λ in_table. subst (RemovesPlain tables) (sym changes) (removes in_table))
-      (λ h r. subst ChangesOfI64 (sym changes) (changes_put p.changes cell w r.changes (ranged h r)))
+      (λ h r. let k = ranged h r in subst ChangesOfI64 (sym changes) (changes_put p.changes cell w r.changes k.0 k.1))
 
   keep_did : (number : ℕ) (st : StatementTree) (p q : Progress) (table : Name) (key : KeyTree) (cell : Cell) →
       ((u : ℕ) → columns_of params u st ≡ Some (key_columns params u key)) →
-      ((u : ℕ) → accesses_of tables params u number st ≡ access_at Keeps (number_of tables table) (key_columns params u key) number ∷ []) →
+      ((u : ℕ) → accesses_of tables params u true number st ≡ access_at Keeps (number_of tables table) (key_columns params u key) number ∷ []) →
       cell_of (number_of tables table) key p.env ≡ Some cell → q.env ≡ p.env → q.changes ≡ with_kept p.changes cell → q.looks ≡ p.looks →
       EnvFits params parameter p.env → RemovesPlain tables p.changes → Did tables m params parameter number st p q
   keep_did number st p q table key cell columns accesses is env changes looks fits removes =
@@ -335,15 +336,12 @@ module _ (tables : List TableDecl) (m : TableState) (params : List Name) (parame
       })
 
   -- what is seen is a number of i64
-  some_is : (a b : ℤ) → Some a ≡ Some b → a ≡ b
-  some_is a b e = cc
-
   seen_i64 : (cell : Cell) (p : Progress) (seen : Option ℤ) (z : Progress) → Seen m cell p seen z → Ranged m p → (v : ℤ) → seen ≡ Some v → IsI64 v
   seen_i64 cell p seen z s r v e = go s.how
     where
       go : ((z.looks ≡ p.looks) × (change_at p.changes cell ≡ Some seen)) ⊎ ((z.looks ≡ p.looks ++ look.One cell (row_at m cell) ∷ []) × (seen ≡ row_at m cell)) → IsI64 v
-      go (inl h) = r.changes cell v (h.1 ∙ ap (λ o. Some o) e)
-      go (inr h) = r.rows cell v (sym h.1 ∙ e)
+      go (inl h) = change_i64 p.changes.cells cell v r.changes (h.1 ∙ ap (λ o. Some o) e)
+      go (inr h) = row_i64 m cell v r.rows (sym h.1 ∙ e)
 
   or_else_i64 : (a b : Option ℤ) (x : ℤ) → or_else a b ≡ Some x → ((v : ℤ) → a ≡ Some v → IsI64 v) → (b ≡ Some x → IsI64 x) → IsI64 x
   or_else_i64 (Some v) b x e f g = f x e
@@ -407,7 +405,7 @@ module _ (tables : List TableDecl) (m : TableState) (params : List Name) (parame
       let after = did (Put c.0 x.0) (wrote c.0 (Some x.0) p) in
       subst (Did tables m params parameter number (s.Put table key value) p) (goes_same after q x.2)
       (write_did number (s.Put table key value) p after table key c.0 (Some x.0) (λ u. refl) (λ u. refl) c.1 refl refl refl fits (λ same. set_removes p.changes c.0 x.0 removes)
-      (λ h r v same. subst IsI64 (some_is x.0 v same) (value_i64 value p.env x.0 r.env h x.1)))
+      (λ h r. (cell_i64 (number_of tables table) key p.env c.0 r.env h.0 c.1, value_i64 value p.env x.0 r.env h.1 x.1)))
 
   abbrev removal : Option (Option ℤ)
   removal = Some None
@@ -427,7 +425,7 @@ module _ (tables : List TableDecl) (m : TableState) (params : List Name) (parame
       let after = did (Removed c.0) (wrote c.0 None p) in
       subst (Did tables m params parameter number (s.Delete table key) p) (goes_same after q c.2)
       (write_did number (s.Delete table key) p after table key c.0 None (λ u. refl) (λ u. refl) c.1 refl refl refl fits (λ same. delete_removes p.changes c.0 table same plain removes)
-      (λ h r v same. absurd (cc)))
+      (λ h r. (cell_i64 (number_of tables table) key p.env c.0 r.env h c.1, tt)))
 
   keep_follows : (number : ℕ) (table : Name) (key : KeyTree) (p q : Progress) → run_statement tables m (s.Keep table key) p ≡ GoesOn q → EnvFits params parameter p.env → RemovesPlain tables p.changes →
       Did tables m params parameter number (s.Keep table key) p q
@@ -461,7 +459,7 @@ module _ (tables : List TableDecl) (m : TableState) (params : List Name) (parame
             env = h.env ∙ sym (append-nil p.env);
             fits = subst (EnvFits params parameter) (sym h.env) fits;
             removes = subst (RemovesPlain tables) (λ i. with_change (sym h.changes i) cell (Some v)) (set_removes p.changes cell v removes);
-            of_i64 = λ ok r. (k.of_i64 r.env, record { rows = r.rows; env = subst EnvOfI64 (sym h.env) r.env; changes = subst ChangesOfI64 (λ i. with_change (sym h.changes i) cell (Some v)) (changes_put p.changes cell (Some v) r.changes (λ w same. subst IsI64 (some_is v w same) (value_i64 value p.env v r.env ok worth))) });
+            of_i64 = λ ok r. (k.of_i64 r.env, record { rows = r.rows; env = subst EnvOfI64 (sym h.env) r.env; changes = subst ChangesOfI64 (λ i. with_change (sym h.changes i) cell (Some v)) (changes_put p.changes cell (Some v) r.changes (cell_i64 (number_of tables table) key p.env cell r.env ok.0 is) (value_i64 value p.env v r.env ok.1 worth)) });
           }
         where
           -- in a grow table no row was ever removed, so the cell was looked at
@@ -505,7 +503,7 @@ module _ (tables : List TableDecl) (m : TableState) (params : List Name) (parame
 
   range_did : (number : ℕ) (st : StatementTree) (p q : Progress) (table : Name) (range : RangeTree) (region : Region) (own : List Cell) (rows : TableState) (more : Bindings) →
       ((u : ℕ) → columns_of params u st ≡ Some (range_columns params u range)) →
-      ((u : ℕ) → accesses_of tables params u number st ≡ access_at Reads (number_of tables table) (range_columns params u range) number ∷ []) →
+      ((u : ℕ) → accesses_of tables params u true number st ≡ access_at Reads (number_of tables table) (range_columns params u range) number ∷ []) →
       region_of (number_of tables table) range p.env ≡ Some region →
       q.env ≡ p.env ++ more → q.changes ≡ p.changes → q.looks ≡ p.looks ++ look.Range region own rows ∷ [] →
       EnvFits params parameter p.env → EnvFits params parameter q.env → RemovesPlain tables p.changes → (Ranged m p → EnvOfI64 q.env) → Did tables m params parameter number st p q
@@ -531,7 +529,7 @@ module _ (tables : List TableDecl) (m : TableState) (params : List Name) (parame
   -- a statement that binds a number which the rows of a range come to
   scan_follows : (number : ℕ) (st : StatementTree) (name table : Name) (range : RangeTree) (total : TableState → ℤ) (deed : Region → ℤ → Deed) (p q : Progress) →
       ((u : ℕ) → columns_of params u st ≡ Some (range_columns params u range)) →
-      ((u : ℕ) → accesses_of tables params u number st ≡ access_at Reads (number_of tables table) (range_columns params u range) number ∷ []) →
+      ((u : ℕ) → accesses_of tables params u true number st ≡ access_at Reads (number_of tables table) (range_columns params u range) number ∷ []) →
       in_range tables m table range p (λ region. with_rows tables m region p (λ rows z. with_value (exact (total rows)) z (λ v. GoesOn (bound name v (did (deed region v) z))))) ≡ GoesOn q →
       IsApart params name → EnvFits params parameter p.env → RemovesPlain tables p.changes → Did tables m params parameter number st p q
   scan_follows number st name table range total deed p q columns accesses e apart fits removes =
@@ -553,6 +551,11 @@ module _ (tables : List TableDecl) (m : TableState) (params : List Name) (parame
   sum_follows : (number : ℕ) (name table : Name) (range : RangeTree) (p q : Progress) → run_statement tables m (s.Sum name table range) p ≡ GoesOn q → IsApart params name → EnvFits params parameter p.env → RemovesPlain tables p.changes →
       Did tables m params parameter number (s.Sum name table range) p q
   sum_follows number name table range p q e apart fits removes = scan_follows number (s.Sum name table range) name table range total_of Summed p q (λ u. refl) (λ u. refl) e apart fits removes
+
+  -- the listing of an `each`
+  pub listing_follows : ListingFollows tables m params parameter
+  listing_follows number l region p is fits removes =
+      range_did number (as_count l) p (listed m region p) l.table l.range region (own_cells region p.changes.cells) (rows_left region (own_cells region p.changes.cells) m) [] (λ u. refl) (λ u. refl) is (sym (append-nil p.env)) refl refl fits fits removes (λ r. r.env)
 
   -- ---- all of them
 

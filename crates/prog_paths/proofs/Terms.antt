@@ -16,7 +16,9 @@ use Rattle.prog_check.specs.Names.{place_among}
 use Rattle.prog_check.specs.Accesses.{Columns, single, param_or, is_unknown, term_of, next_behind, key_columns, range_columns}
 use Rattle.prog_paths.specs.Meeting.{Assignment, number_under, second_under, IsWithin, IsWithinSecond}
 use Rattle.prog_tree.specs.Number.{IsI64}
-use Rattle.prog_paths.proofs.Numbers.{AllI64}
+use Rattle.prog_tree.specs.Table.{IsI64Cell}
+use Rattle.prog_tree.proofs.NumberLaws.{i64_is_tested}
+use Rattle.prog_paths.proofs.Numbers.{AllI64, KeyLiteralsFit}
 use Rattle.prog_paths.proofs.Ranges.{all_append, EnvOfI64, value_i64}
 use Rattle.prog_paths.proofs.Values.{Agrees, agrees_first, agrees_behind, EnvFits, assigned}
 
@@ -25,6 +27,18 @@ pub pair_goes : {A B C : Type 0} (f : A → B → C) (o : Option A) (k : Option 
 pair_goes f (Some a) (Some b) c e = (a, b, refl, refl, cc)
 pair_goes f (Some a) None c e = absurd (cc)
 pair_goes f None k c e = absurd (cc)
+
+-- the cell of a key has columns of i64
+pub cell_i64 : (number : ℕ) (key : KeyTree) (env : Bindings) (cell : Cell) → EnvOfI64 env → KeyLiteralsFit key → cell_of number key env ≡ Some cell → IsI64Cell cell
+cell_i64 number (One a) env cell ranged fits e =
+    let c = pair_goes (cell_in number) (value_of a env) (Some (pos 0)) cell e in
+    subst IsI64Cell c.4 (value_i64 a env c.0 ranged fits c.2, subst IsI64 (zero_is c.1 c.3) ((i64_is_tested (pos 0)).0 refl))
+  where
+    zero_is : (y : ℤ) → Some (pos 0) ≡ Some y → pos 0 ≡ y
+    zero_is y e = cc
+cell_i64 number (Two a b) env cell ranged fits e =
+    let c = pair_goes (cell_in number) (value_of a env) (value_of b env) cell e in
+    subst IsI64Cell c.4 (value_i64 a env c.0 ranged fits.0 c.2, value_i64 b env c.1 ranged fits.1 c.3)
 
 within_single : (v : Assignment) (t : Term) (z : ℤ) → number_under v t ≡ z → IsWithin v (single t) z
 within_single v t z e = (subst (λ k. k ≤ℤ z) (sym e) (≤ℤ_refl z), subst (λ k. z ≤ℤ k) (sym e) (≤ℤ_refl z))

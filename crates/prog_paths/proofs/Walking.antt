@@ -5,11 +5,11 @@ use Rattle.std.specs.List.{AllByRecursion}
 use Rattle.std.specs.Option.{MatchOption}
 use Rattle.std.proofs.lemmas.List.{append-nil, append_assoc, map-append, length-append}
 use Rattle.prog_tree.specs.declared.table.TableDecl.{TableDecl}
-use Rattle.prog_tree.specs.Syntax.{Name, ExprTree, TestTree, KeyTree, One, Two, RangeTree, OneRange, TwoRange, StatementTree, BlockTree, BlockEnd, Then, Branch, StmtTree, Plain, Fork, block_from}
+use Rattle.prog_tree.specs.Syntax.{Name, ExprTree, TestTree, KeyTree, One, Two, RangeTree, OneRange, TwoRange, StatementTree, ListingTree, BlockTree, BlockEnd, Then, Branch, Each, StmtTree, Plain, Fork, Loop, block_from}
 use Rattle.prog_tree.specs.Syntax as s
 use Rattle.prog_check.specs.Accesses.{term_of, is_unknown, next_behind, key_columns, range_columns, columns_of, next_unknown, accesses_of}
-use Rattle.prog_check.specs.Paths.{Passed, Route, no_steps, passing, choosing, joined, followed_by, routes, statement_count, accesses_along}
-use Rattle.prog_check.specs.Uses.{is_abort}
+use Rattle.prog_check.specs.Paths.{Passed, Route, no_steps, passing, body_passed, going_round, choosing, joined, followed_by, routes, statement_count, accesses_along}
+use Rattle.prog_check.specs.Uses.{is_abort, as_count}
 use Rattle.prog_tree.specs.declared.expr.Test.{Test}
 use Rattle.prog_tree.specs.declared.stmt.Block.{Block}
 use Rattle.prog_tree.specs.declared.stmt.Stmt.{Stmt}
@@ -17,13 +17,14 @@ use Rattle.prog_tree.specs.declared.stmt.Stmt as t
 use Rattle.prog_tree.specs.Tree.{stmt_tree, block_tree}
 use Rattle.prog_tree.proofs.TreeLemmas.{fork_tree}
 use Rattle.prog_paths.specs.declared.trail.Trail.{Trail}
-use Rattle.prog_paths.specs.Trails.{alone, passes, commits, unknown_behind, trail_of, past, choosing_first, along, all_along, IsLow, AreLow}
+use Rattle.prog_paths.specs.Trails.{alone, commits, unknown_behind, trail_of, choosing_first, along, all_along, IsLow, AreLow}
 
 -- ---- statements and blocks
 
 pub count_from : (x : StmtTree) (rest : BlockTree) → statement_count (block_from x rest) ≡ statement_count (alone x) + statement_count rest
 count_from (Plain st) rest = omega arith
 count_from (Fork t a b) rest = omega arith
+count_from (Loop l body) rest = omega arith
 
 pub commits_from : (x : StmtTree) (rest : BlockTree) → commits (block_from x rest) ≡ (commits (alone x) && commits rest)
 commits_from (Plain st) rest = go (not (is_abort st))
@@ -36,6 +37,7 @@ commits_from (Fork t a b) rest = go (commits a || commits b)
     go : (w : Bool) → (w && commits rest) ≡ ((w && true) && commits rest)
     go true = refl
     go false = refl
+commits_from (Loop l body) rest = refl
 
 pub lets_first : (x : StmtTree) (t : TestTree) (a b : BlockTree) (r : Bool) → x ≡ Fork t a b → r ≡ true → r ≡ commits a → r ≡ commits (alone x)
 lets_first x t a b r is yes_ e = yes_ ∙ sym (ap (λ y. commits (alone y)) is ∙ ap (λ w. (w || commits b) && true) (sym e ∙ yes_))
@@ -56,6 +58,14 @@ followed_none : (fs : List Route) → followed_by fs (no_steps ∷ []) ≡ fs
 followed_none [] = refl
 followed_none (f ∷ fs) = λ i. joined_none f i ∷ followed_none fs i
 
+map_map : {A B C : Type 0} (f : A → B) (g : B → C) (h : A → C) → ((x : A) → g (f x) ≡ h x) → (xs : List A) → map g (map f xs) ≡ map h xs
+map_map f g h e [] = refl
+map_map f g h e (x ∷ xs) = λ i. e x i ∷ map_map f g h e xs i
+
+-- past an `each`, and then the rest
+loop_joined : (n : ℕ) (l : ListingTree) (body : BlockTree) (r : Route) → passing n (as_count l) (going_round (n + 1) body r) ≡ joined (passing n (as_count l) (going_round (n + 1) body no_steps)) r
+loop_joined n l body r = λ i. record { choices = r.choices; passed = record { number = n; sure = true; statement = as_count l } ∷ (sym (append-nil (body_passed (n + 1) body)) i ++ r.passed) }
+
 -- the routes of a block, by its first statement
 pub routes_from : (n : ℕ) (x : StmtTree) (rest : BlockTree) → routes n (block_from x rest) ≡ followed_by (routes n (alone x)) (routes (n + statement_count (alone x)) rest)
 routes_from n (Plain st) rest = go (is_abort st)
@@ -67,6 +77,12 @@ routes_from n (Fork t a b) rest =
     let firsts = map (choosing true) (routes (n + 1) a) ++ map (choosing false) (routes (n + 1 + statement_count a) b) in
     let same : n + 1 + statement_count a + statement_count b ≡ n + (1 + statement_count a + statement_count b + 0) = omega arith in
     λ i. followed_by (sym (followed_none firsts) i) (routes (same i) rest)
+routes_from n (Loop l body) rest =
+    let own = passing n (as_count l) (going_round (n + 1) body no_steps) in
+    let same : n + 1 + statement_count body ≡ n + (1 + statement_count body + 0) = omega arith in
+    map_map (going_round (n + 1) body) (passing n (as_count l)) (joined own) (loop_joined n l body) (routes (n + 1 + statement_count body) rest)
+    ∙ sym (append-nil (map (joined own) (routes (n + 1 + statement_count body) rest)))
+    ∙ (λ i. map (joined own) (routes (same i) rest) ++ [])
 
 -- a block without a committing path has no routes
 followed_nothing : (fs : List Route) → followed_by fs [] ≡ []
@@ -93,23 +109,20 @@ no_routes (Branch t a b rest) n e =
     go false false h f g k = λ i. followed_by (map (choosing true) (f refl i) ++ map (choosing false) (g refl i)) (routes (n + 1 + statement_count a + statement_count b) rest)
     go true w h f g k = ap (followed_by (map (choosing true) (routes (n + 1) a) ++ map (choosing false) (routes (n + 1 + statement_count a) b))) (k h) ∙ followed_nothing (map (choosing true) (routes (n + 1) a) ++ map (choosing false) (routes (n + 1 + statement_count a) b))
     go false true h f g k = ap (followed_by (map (choosing true) (routes (n + 1) a) ++ map (choosing false) (routes (n + 1 + statement_count a) b))) (k h) ∙ followed_nothing (map (choosing true) (routes (n + 1) a) ++ map (choosing false) (routes (n + 1 + statement_count a) b))
+no_routes (Each l body rest) n e = ap (λ rs. map (passing n (as_count l)) (map (going_round (n + 1) body) rs)) (no_routes rest (n + 1 + statement_count body) e)
 
 -- ---- trails
 
-map_map : {A B C : Type 0} (f : A → B) (g : B → C) (h : A → C) → ((x : A) → g (f x) ≡ h x) → (xs : List A) → map g (map f xs) ≡ map h xs
-map_map f g h e [] = refl
-map_map f g h e (x ∷ xs) = λ i. e x i ∷ map_map f g h e xs i
-
 module _ (tables : List TableDecl) (params : List Name) where
-  unknown_append : (u : ℕ) (p q : List Passed) → unknown_behind params u (p ++ q) ≡ unknown_behind params (unknown_behind params u p) q
+  pub unknown_append : (u : ℕ) (p q : List Passed) → unknown_behind params u (p ++ q) ≡ unknown_behind params (unknown_behind params u p) q
   unknown_append u [] q = refl
   unknown_append u (x ∷ p) q = unknown_append (next_unknown u (columns_of params u x.statement)) p q
 
-  accesses_append : (u : ℕ) (p q : List Passed) → accesses_along tables params u (p ++ q) ≡ accesses_along tables params u p ++ accesses_along tables params (unknown_behind params u p) q
+  pub accesses_append : (u : ℕ) (p q : List Passed) → accesses_along tables params u (p ++ q) ≡ accesses_along tables params u p ++ accesses_along tables params (unknown_behind params u p) q
   accesses_append u [] q = refl
   accesses_append u (x ∷ p) q =
       let next = next_unknown u (columns_of params u x.statement) in
-      let own = accesses_of tables params u x.number x.statement in
+      let own = accesses_of tables params u x.sure x.number x.statement in
       ap (λ l. own ++ l) (accesses_append next p q)
       ∙ sym (append_assoc own (accesses_along tables params next p) (accesses_along tables params (unknown_behind params next p) q))
 
@@ -159,25 +172,11 @@ module _ (tables : List TableDecl) (params : List Name) where
 
   -- ---- one statement
 
-  past_is : (n : ℕ) (st : StatementTree) (t : Trail) → past tables params n (Plain st) t ≡ along tables params t (passing n st no_steps)
-  past_is n st t = λ i. trail_of (sym (append-nil t.choices) i) (t.accesses ++ sym (append-nil (accesses_of tables params t.unknown n st)) i) (next_unknown t.unknown (columns_of params t.unknown st))
-
-  pub all_past : (n : ℕ) (x : StmtTree) (ts : List Trail) → passes x ≡ true → map (past tables params n x) ts ≡ all_along tables params ts (routes n (alone x))
-  all_past n (Fork t a b) ts e = absurd (cc)
-  all_past n (Plain st) ts e = go (is_abort st) e
-    where
-      each : (us : List Trail) → map (past tables params n (Plain st)) us ≡ all_along tables params us (passing n st no_steps ∷ [])
-      each [] = refl
-      each (t ∷ us) = λ i. past_is n st t i ∷ each us i
-
-      go : (w : Bool) → not w ≡ true → map (past tables params n (Plain st)) ts ≡ all_along tables params ts (if w then [] else map (passing n st) (no_steps ∷ []))
-      go true h = absurd (cc)
-      go false h = each ts
-
   -- one more trail past a statement
-  pub more_past : (n : ℕ) (x : StmtTree) (before : List Trail) (t : Trail) (out : List Trail) → passes x ≡ true → out ≡ all_along tables params before (routes n (alone x)) → out ++ past tables params n x t ∷ [] ≡ all_along tables params (before ++ t ∷ []) (routes n (alone x))
-  more_past n x before t out e h =
-      (λ i. h i ++ all_past n x (t ∷ []) e i)
+  pub more_past : (n : ℕ) (x : StmtTree) (before : List Trail) (t r : Trail) (out : List Trail) → r ∷ [] ≡ map (along tables params t) (routes n (alone x)) → out ≡ all_along tables params before (routes n (alone x)) →
+      out ++ r ∷ [] ≡ all_along tables params (before ++ t ∷ []) (routes n (alone x))
+  more_past n x before t r out e h =
+      (λ i. h i ++ (e ∙ sym (all_one t (routes n (alone x)))) i)
       ∙ sym (all_append before (t ∷ []) (routes n (alone x)))
 
   choosing_is : (w : Bool) (t : Trail) (r : Route) → along tables params (choosing_first w t) r ≡ along tables params t (choosing w r)
@@ -240,7 +239,7 @@ module _ (tables : List TableDecl) (params : List Name) where
   statement_low u (s.Reply e) = omega arith
   statement_low u s.Abort = omega arith
 
-  behind_low : (u : ℕ) (ps : List Passed) → unknown_behind params u ps ≤ u + 3 * length ps
+  pub behind_low : (u : ℕ) (ps : List Passed) → unknown_behind params u ps ≤ u + 3 * length ps
   behind_low u [] = omega arith
   behind_low u (p ∷ ps) =
       let h = statement_low u p.statement in
@@ -269,6 +268,26 @@ short_followed j k (f ∷ fs) rs h g =
     (short_map k (j + k) (joined f) (λ r short. let e = length-append f.passed r.passed in let own = h.0 in omega (arith, e, own, short)) rs g)
     (short_followed j k fs rs h.1 g)
 
+-- a body passes at most its statements
+pub body_short : (n : ℕ) (b : BlockTree) → length (body_passed n b) ≤ statement_count b
+body_short n BlockEnd = omega arith
+body_short n (Then st rest) = let h = body_short (n + 1) rest in omega (arith, h)
+body_short n (Branch t a b rest) =
+    let first = body_passed (n + 1) a in
+    let second = body_passed (n + 1 + statement_count a) b in
+    let later = body_passed (n + 1 + statement_count a + statement_count b) rest in
+    let whole = length-append (first ++ second) later in
+    let part = length-append first second in
+    let h = body_short (n + 1) a in
+    let k = body_short (n + 1 + statement_count a) b in
+    let l = body_short (n + 1 + statement_count a + statement_count b) rest in
+    omega (arith, whole, part, h, k, l)
+body_short n (Each l body rest) =
+    let whole = length-append (body_passed (n + 1) body) (body_passed (n + 1 + statement_count body) rest) in
+    let h = body_short (n + 1) body in
+    let k = body_short (n + 1 + statement_count body) rest in
+    omega (arith, whole, h, k)
+
 pub short_routes : (n : ℕ) (b : BlockTree) → AreShort (statement_count b) (routes n b)
 short_routes n BlockEnd = (omega arith, tt)
 short_routes n (Then st rest) = go (is_abort st) (short_routes (n + 1) rest)
@@ -285,6 +304,12 @@ short_routes n (Branch t a b rest) =
     short_followed (1 + ca + cb) cr (map (choosing true) (routes (n + 1) a) ++ map (choosing false) (routes (n + 1 + ca) b)) (routes (n + 1 + ca + cb) rest)
     (short_append (1 + ca + cb) (map (choosing true) (routes (n + 1) a)) (map (choosing false) (routes (n + 1 + ca) b)) first second)
     (short_routes (n + 1 + ca + cb) rest)
+short_routes n (Each l body rest) =
+    let cb = statement_count body in
+    let cr = statement_count rest in
+    let own = body_short (n + 1) body in
+    short_map (cb + cr) (1 + cb + cr) (passing n (as_count l)) (λ r short. omega (arith, short)) (map (going_round (n + 1) body) (routes (n + 1 + cb) rest))
+    (short_map cr (cb + cr) (going_round (n + 1) body) (λ r short. let e = length-append (body_passed (n + 1) body) r.passed in omega (arith, e, own, short)) (routes (n + 1 + cb) rest) (short_routes (n + 1 + cb) rest))
 
 module _ (tables : List TableDecl) (params : List Name) where
   low_append : (n : ℕ) (ts us : List Trail) → AreLow n ts → AreLow n us → AreLow n (ts ++ us)

@@ -2,7 +2,7 @@
 use Rattle.std.specs.Prelude.{ℤ, Bool, List, [], ◌∷◌, ◌++◌, length, Option, Some, None, if◌then◌else◌}
 use Rattle.prog_tree.specs.declared.progress.Progress.{Progress}
 use Rattle.prog_tree.specs.declared.table.TableDecl.{TableDecl}
-use Rattle.prog_tree.specs.Syntax.{BlockTree, BlockEnd, Then, Branch, ProgramTree}
+use Rattle.prog_tree.specs.Syntax.{BlockTree, BlockEnd, Then, Branch, Each, ProgramTree}
 use Rattle.prog_tree.specs.Steps.{closed}
 use Rattle.prog_tree.specs.Table.{TableState}
 use Rattle.prog_tree.specs.Value.{holds_of}
@@ -28,6 +28,9 @@ module _ (tables : List TableDecl) (m : TableState) where
       (if holds then choices_taken a else choices_taken b) p
       ++ choices_behind ((if holds then run_block tables m a else run_block tables m b) p)
       (λ q. choices_taken rest (closed (length p.env) q)))
+  -- the branches in the body of an `each` are no choices
+  choices_taken (Each l body rest) p =
+      choices_behind (run_block tables m (Each l body BlockEnd) p) (choices_taken rest)
 
 -- the choices of a program with arguments on a table state
 abbrev pub program_choices : List TableDecl → ProgramTree → List ℤ → TableState → List Bool

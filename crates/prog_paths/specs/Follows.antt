@@ -44,7 +44,7 @@ FoundAs kind found changed =
 abbrev pub ChangedAs : Kind → Type 0 → Type 0
 ChangedAs kind found = (kind ≡ Writes) ⊎ ((kind ≡ Adds) × (found → ⊥))
 
--- an access of a list that is made of this cell, and whose kind fits
+-- an access of a list that is made of this cell at some time, and whose kind fits
 abbrev pub Touch : List Access → Assignment → Cell → (Kind → Type 0) → Type 0
 Touch accesses v c fits =
     (number : ℕ) × (a : Access) × (slice_get accesses number ≡ Some a) × IsOfOwn v a c × fits a.kind

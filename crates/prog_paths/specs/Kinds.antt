@@ -1,5 +1,5 @@
 -- The accesses that a statement adds, from its kinds and its columns.
-use Rattle.std.specs.Prelude.{ℕ, List, [], ◌∷◌, Option, Some, None}
+use Rattle.std.specs.Prelude.{ℕ, Bool, List, [], ◌∷◌, Option, Some, None}
 use Rattle.prog_check.specs.declared.path.Kind.{Kind}
 use Rattle.prog_check.specs.declared.path.Access.{Access}
 use Rattle.prog_paths.specs.declared.columns.Columns.{Columns}
@@ -9,6 +9,6 @@ abbrev pub items_of : {A : Type 0} → Option A → List A
 items_of (Some x) = x ∷ []
 items_of None = []
 
-abbrev pub access_at : (table : ℕ) (columns : Columns) (place : ℕ) → Kind → Access
-access_at table columns place kind =
-    record { kind = kind; table = table; first = columns.first; second = columns.second; place = place }
+abbrev pub access_at : (table : ℕ) (columns : Columns) (sure : Bool) (place : ℕ) → Kind → Access
+access_at table columns sure place kind =
+    record { kind = kind; table = table; first = columns.first; second = columns.second; place = place; sure = sure }

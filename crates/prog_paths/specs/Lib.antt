@@ -8,6 +8,7 @@ pub mod Law
 pub mod Listing
 pub mod Marks
 pub mod Meeting
+pub mod Own
 pub mod Places
 pub mod Questions
 pub mod Shown

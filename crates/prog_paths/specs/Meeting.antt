@@ -1,5 +1,5 @@
 -- What an access is under an assignment.
-use Rattle.std.specs.Prelude.{◌≡◌, ℕ, ℤ, pos, ◌≤ℤ◌, ◌⊎◌, Option, Some, None}
+use Rattle.std.specs.Prelude.{◌≡◌, ℕ, ℤ, pos, ◌≤ℤ◌, ◌⊎◌, ◌==◌, ◌||◌, Bool, true, false, Option, Some, None, if◌then◌else◌}
 use Rattle.prog_tree.specs.declared.cell.Cell.{Cell}
 use Rattle.prog_tree.specs.Number.{IsI64}
 use Rattle.prog_check.specs.declared.path.Kind.TheVariants.{Writes, Adds, Keeps}
@@ -54,11 +54,44 @@ MayTouch a = (a.kind ≡ Writes) ⊎ (a.kind ≡ Adds) ⊎ (a.kind ≡ Keeps)
 
 -- an access that may cover: each run that follows its path changes or keeps its cell
 abbrev pub MayCover : Access → Type 0
-MayCover = MayTouch
+MayCover a = (a.sure ≡ true) × MayTouch a
 
--- a run that follows the access's path under an assignment makes the access of this cell
+-- ---- times: an access in the body of an `each` is made once for each row of a list
+
+-- the term is the unknown of this number
+abbrev pub is_unknown_at : Term → ℕ → Bool
+is_unknown_at (Param i) n = false
+is_unknown_at (Literal k) n = false
+is_unknown_at (Unknown i) n = i == n
+
+abbrev pub column_has : Column → ℕ → Bool
+column_has c n = is_unknown_at c.low n || is_unknown_at c.high n
+
+abbrev pub second_has : Option Column → ℕ → Bool
+second_has None n = false
+second_has (Some c) n = column_has c n
+
+-- the unknown of this number is one of an access's own
+abbrev pub has_unknown : Access → ℕ → Bool
+has_unknown a n = column_has a.first n || second_has a.second n
+
+-- an assignment, with these values of an access's own unknowns
+abbrev pub with_own : Access → (ℕ → ℤ) → Assignment → Assignment
+with_own a values v =
+    record { parameter = v.parameter; unknown = λ n. if has_unknown a n then values n else v.unknown n }
+
+-- What an assignment is to an access each time that it is made: itself, where the access is sure; else with some values
+-- of the access's own unknowns.
+abbrev pub IsTimeOf : (sure : Bool) → Access → Assignment → Assignment → Type 0
+IsTimeOf true a v w = w ≡ v
+IsTimeOf false a v w = (values : ℕ → ℤ) × ((n : ℕ) → IsI64 (values n)) × (w ≡ with_own a values v)
+
+abbrev pub IsTime : Access → Assignment → Assignment → Type 0
+IsTime a v w = IsTimeOf a.sure a v w
+
+-- a run that follows the access's path under an assignment may make the access of this cell, at some time
 abbrev pub IsOfOwn : Assignment → Access → Cell → Type 0
-IsOfOwn = IsOf
+IsOfOwn v a c = (w : Assignment) × IsTime a v w × IsOf w a c
 
 -- ---- two accesses
 
@@ -89,9 +122,10 @@ pub record MeetsUnder (v w : Assignment) (mine theirs : Access) : Type 0 where
   pub theirs_of_i64 : IsOfI64 w
   pub meet : Meet v mine w theirs
 
--- runs that follow the paths of two accesses under these assignments make both of one cell
+-- runs that follow the paths of two accesses under these assignments may make both of one cell, at some times
 abbrev pub MeetAsOwn : Assignment → Assignment → Access → Access → Type 0
-MeetAsOwn = MeetsUnder
+MeetAsOwn v w mine theirs =
+    (x : Assignment) × (y : Assignment) × IsTime mine v x × IsTime theirs w y × MeetsUnder x y mine theirs
 
 -- some assignments of i64 make the two accesses meet
 abbrev pub CanMeet : Access → Access → Type 0

@@ -2,44 +2,49 @@
 use Rattle.std.specs.Prelude.{ℕ, ◌*◌, ◌≤◌, Bool, true, false, not, ◌&&◌, ◌||◌, List, [], ◌∷◌, ◌++◌, map, Option, None}
 use Rattle.std.specs.List.{AllByRecursion}
 use Rattle.prog_tree.specs.declared.table.TableDecl.{TableDecl}
-use Rattle.prog_tree.specs.Syntax.{Name, BlockTree, BlockEnd, Then, Branch, StmtTree, Plain, Fork, block_from}
+use Rattle.prog_tree.specs.Syntax.{Name, BlockTree, BlockEnd, Then, Branch, Each, StmtTree, Plain, Fork, Loop, block_from}
 use Rattle.prog_check.specs.declared.path.Kind.{Kind}
 use Rattle.prog_check.specs.declared.path.Access.{Access}
 use Rattle.prog_check.specs.declared.path.Path.{Path}
 use Rattle.prog_check.specs.Accesses.{Columns, columns_of, next_unknown, accesses_of, kinds_of}
-use Rattle.prog_check.specs.Paths.{Passed, Route, accesses_along}
-use Rattle.prog_check.specs.Uses.{is_abort}
+use Rattle.prog_check.specs.Paths.{Passed, Route, body_passed, accesses_along}
+use Rattle.prog_check.specs.Uses.{is_abort, as_count}
 use Rattle.prog_paths.specs.declared.trail.Trail.{Trail}
 
 -- ---- statements
 
--- what a statement does to its table; a branch itself does nothing
+-- what a statement does to its table; a branch itself does nothing, and an `each` itself does what a `count` does
 abbrev pub kinds_by : (grow : Bool) → StmtTree → List Kind
 kinds_by grow (Plain s) = kinds_of grow s
 kinds_by grow (Fork test a b) = []
+kinds_by grow (Loop l body) = kinds_of grow (as_count l)
 
 abbrev pub columns_by : (params : List Name) → (unknown : ℕ) → StmtTree → Option Columns
 columns_by params unknown (Plain s) = columns_of params unknown s
 columns_by params unknown (Fork test a b) = None
+columns_by params unknown (Loop l body) = columns_of params unknown (as_count l)
 
-abbrev pub accesses_by : List TableDecl → (params : List Name) → (unknown number : ℕ) → StmtTree → List Access
-accesses_by tables params unknown number (Plain s) = accesses_of tables params unknown number s
-accesses_by tables params unknown number (Fork test a b) = []
+abbrev pub accesses_by : List TableDecl → (params : List Name) → (unknown : ℕ) (sure : Bool) (number : ℕ) → StmtTree → List Access
+accesses_by tables params unknown sure number (Plain s) = accesses_of tables params unknown sure number s
+accesses_by tables params unknown sure number (Fork test a b) = []
+accesses_by tables params unknown sure number (Loop l body) = accesses_of tables params unknown sure number (as_count l)
 
 -- a block that is one statement
 abbrev pub alone : StmtTree → BlockTree
 alone s = block_from s BlockEnd
 
--- a statement that goes on behind itself, without blocks
+-- a statement behind which each run goes on in one way
 abbrev pub passes : StmtTree → Bool
 passes (Plain s) = not (is_abort s)
 passes (Fork test a b) = false
+passes (Loop l body) = true
 
 -- some way through a block meets no `abort;`
 abbrev pub commits : BlockTree → Bool
 commits BlockEnd = true
 commits (Then s rest) = not (is_abort s) && commits rest
 commits (Branch test a b rest) = (commits a || commits b) && commits rest
+commits (Each l body rest) = commits rest
 
 -- ---- trails
 
@@ -53,11 +58,17 @@ unknown_behind params unknown (p ∷ later) =
 abbrev pub trail_of : List Bool → List Access → (unknown : ℕ) → Trail
 trail_of choices accesses unknown = record { choices = choices; accesses = accesses; unknown = unknown }
 
--- a trail behind a statement without blocks
-abbrev pub past : List TableDecl → (params : List Name) → (number : ℕ) → StmtTree → Trail → Trail
-past tables params number s t =
-    trail_of t.choices (t.accesses ++ accesses_by tables params t.unknown number s)
+-- a trail behind a statement itself, without its blocks
+abbrev pub past : List TableDecl → (params : List Name) → (sure : Bool) (number : ℕ) → StmtTree → Trail → Trail
+past tables params sure number s t =
+    trail_of t.choices (t.accesses ++ accesses_by tables params t.unknown sure number s)
     (next_unknown t.unknown (columns_by params t.unknown s))
+
+-- a trail behind the body of an `each`
+abbrev pub past_body : List TableDecl → (params : List Name) → (number : ℕ) → BlockTree → Trail → Trail
+past_body tables params number body t =
+    trail_of t.choices (t.accesses ++ accesses_along tables params t.unknown (body_passed number body))
+    (unknown_behind params t.unknown (body_passed number body))
 
 -- a trail that takes a branch's first block, or its second
 abbrev pub choosing_first : Bool → Trail → Trail

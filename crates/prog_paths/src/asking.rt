@@ -47,5 +47,5 @@ pub fn may_touch(access: &Access) -> bool
 pub fn may_cover(access: &Access) -> bool
     ensures { IsTrue result ↔ MayCover access.now }
 {
-    may_touch(access)
+    access.sure && may_touch(access)
 }

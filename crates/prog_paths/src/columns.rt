@@ -132,6 +132,7 @@ pub fn columns_of(params: &[Name], unknown: usize, stmt: &Stmt) -> Option<Column
         Stmt::Count { range, .. } | Stmt::Sum { range, .. } => {
             Some(columns_of_range(params, unknown, range))
         }
+        Stmt::Each { listing, .. } => Some(columns_of_range(params, unknown, &listing.range)),
         Stmt::Bind { .. } | Stmt::Branch { .. } | Stmt::Reply { .. } | Stmt::Abort => None,
     }
 }

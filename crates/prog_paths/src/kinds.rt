@@ -17,7 +17,9 @@ pub fn kinds(grow: bool, stmt: &Stmt) -> (Option<Kind>, Option<Kind>)
     ensures { items_of result.0 ++ items_of result.1 ≡ kinds_by grow (stmt_tree stmt.now) }
 {
     match stmt {
-        Stmt::Get { .. } | Stmt::Count { .. } | Stmt::Sum { .. } => (Some(Kind::Reads), None),
+        Stmt::Get { .. } | Stmt::Count { .. } | Stmt::Sum { .. } | Stmt::Each { .. } => {
+            (Some(Kind::Reads), None)
+        }
         Stmt::Need { .. } if grow => (Some(Kind::Sees), None),
         Stmt::Need { .. } => (Some(Kind::Reads), None),
         Stmt::Lacks { .. } if grow => (Some(Kind::Lacks), None),
@@ -45,6 +47,7 @@ fn table_name(stmt: &Stmt) -> Option<&Name>
         | Stmt::Insert { table, .. }
         | Stmt::Delete { table, .. }
         | Stmt::Keep { table, .. } => Some(table),
+        Stmt::Each { listing, .. } => Some(&listing.table),
         Stmt::Bind { .. } | Stmt::Branch { .. } | Stmt::Reply { .. } | Stmt::Abort => None,
     }
 }

@@ -1,6 +1,7 @@
 //! The laws of paths and of questions, as functions that a check has to prove.
 ghost use Rattle.prog_paths.specs.Law.{LawOfPaths};
 ghost use Rattle.prog_paths.specs.Listing.{LawOfListing, LawOfOrder, LawOfSingleChanges};
+ghost use Rattle.prog_paths.specs.Own.{LawOfOwnUnknowns, LawOfCovers, LawOfTimes, LawOfValues};
 ghost use Rattle.prog_paths.specs.Questions.{LawOfMeeting, LawOfQuestions, LawOfEqualTerms, LawOfSingleCells};
 
 /// Each evaluation that ends Ready follows exactly one committing path.
@@ -26,4 +27,13 @@ pub fn law_of_listing()
 /// What a path of a draft changes or keeps is a single cell.
 pub fn law_of_single_changes()
     ensures { LawOfSingleChanges }
+{}
+
+/// On a draft's paths no unknown of an access in a body is an end of a sure one, so no cover depends
+/// on the times at which the others are made.
+pub fn law_of_own_unknowns()
+    ensures own { LawOfOwnUnknowns }
+    ensures covers { LawOfCovers }
+    ensures times { LawOfTimes }
+    ensures values { LawOfValues }
 {}

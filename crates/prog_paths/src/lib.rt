@@ -18,7 +18,9 @@ mod walk;
 
 pub use asking::{asks_read_write, asks_write_read, both_write, may_cover, may_touch};
 pub use count::is_too_large;
-pub use law::{law_of_listing, law_of_paths, law_of_questions, law_of_single_changes};
+pub use law::{
+    law_of_listing, law_of_own_unknowns, law_of_paths, law_of_questions, law_of_single_changes,
+};
 pub use listing::paths;
 pub use mark::{Mark, enter_edges, enter_vulnerable, mark_by};
 pub use places::{Placed, Question, all_places, asks, question_between};

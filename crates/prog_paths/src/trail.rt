@@ -51,11 +51,12 @@ fn add_access(
     accesses: &mut Accesses,
     table: usize,
     columns: Columns,
+    sure: bool,
     place: usize,
     kind: Option<Kind>,
 ) -> Result<(), AllocError>
-    ensures { OnOk result
-        (accesses.new ≡ accesses.old ++ map (access_at table columns place) (items_of kind)) }
+    ensures { OnOk result (accesses.new
+        ≡ accesses.old ++ map (access_at table columns sure place) (items_of kind)) }
 {
     if let Some(kind) = kind {
         accesses.push(Access {
@@ -64,30 +65,33 @@ fn add_access(
             first: columns.first,
             second: columns.second,
             place,
+            sure,
         })?;
     }
     Ok(())
 }
 
-/// Goes past a statement without blocks, of this number.
+/// Goes past a statement of this number itself, without its blocks. It isn't sure in the body of an
+/// `each`.
 pub fn pass(
     set: &ProgramSet,
     params: &[Name],
+    sure: bool,
     number: usize,
     stmt: &Stmt,
     trail: &mut Trail,
 ) -> Result<(), AllocError>
     requires { trail.old.unknown < 1024 }
-    ensures { OnOk result
-        (trail.new ≡ past set.now.tables.items params.now number (stmt_tree stmt.now) trail.old) }
+    ensures { OnOk result (trail.new
+        ≡ past set.now.tables.items params.now sure number (stmt_tree stmt.now) trail.old) }
 {
     let Some(columns) = columns_of(params, trail.unknown, stmt) else {
         return Ok(());
     };
     let (table, grow) = table_used(set, stmt);
-    let (kind, second_kind) = kinds(grow, stmt);
-    add_access(&mut trail.accesses, table, columns, number, kind)?;
-    add_access(&mut trail.accesses, table, columns, number, second_kind)?;
+    let (kind, second) = kinds(grow, stmt);
+    add_access(&mut trail.accesses, table, columns, sure, number, kind)?;
+    add_access(&mut trail.accesses, table, columns, sure, number, second)?;
     trail.unknown = columns.next;
     Ok(())
 }

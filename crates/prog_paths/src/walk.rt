@@ -1,9 +1,9 @@
 //! The walk along a program's committing paths. It enters no block that always aborts, so each way
 //! that it keeps is one of the paths that are listed.
-ghost use Rattle.std.specs.Prelude.{◌≡◌, ◌+◌, ◌≤◌, ◌<◌, ◌++◌, true, map, min, IfOk, OnOk};
+ghost use Rattle.std.specs.Prelude.{◌≡◌, ◌+◌, ◌≤◌, ◌++◌, ◌∷◌, [], true, map, min, IfOk, OnOk};
 ghost use Rattle.prog_tree.specs.Tree.{stmt_tree, block_tree};
 ghost use Rattle.prog_check.specs.Paths.{statement_count, routes};
-ghost use Rattle.prog_paths.specs.Trails.{IsLow, AreLow, alone, passes, commits, along, all_along};
+ghost use Rattle.prog_paths.specs.Trails.{IsLow, AreLow, alone, passes, commits, past_body, along, all_along};
 
 use crate::limits::MAX_COUNTED;
 use crate::trail::{Trail, pass};
@@ -23,6 +23,7 @@ fn count_own(stmt: &Stmt) -> usize
             otherwise,
             ..
         } => (1 + count_all(then) + count_all(otherwise)).min(MAX_COUNTED),
+        Stmt::Each { body, .. } => (1 + count_all(body)).min(MAX_COUNTED),
         _ => 1,
     }
 }
@@ -69,7 +70,85 @@ fn commits(block: &Block) -> bool
     true
 }
 
-/// Takes all trails past a statement without blocks, of this number.
+/// Goes past a statement of this number in the body of an `each`.
+#[cycle(bodies)]
+fn pass_inside(
+    set: &ProgramSet,
+    params: &[Name],
+    number: usize,
+    stmt: &Stmt,
+    trail: Trail,
+) -> Result<Trail, AllocError>
+    requires few { number + statement_count (alone (stmt_tree stmt.now)) ≤ 256 }
+    requires low { IsLow number trail }
+    ensures { IfOk result (λ r. r
+        ≡ past_body set.now.tables.items params.now number (alone (stmt_tree stmt.now)) trail) }
+{
+    let mut trail = trail;
+    pass(set, params, false, number, stmt, &mut trail)?;
+    match stmt {
+        Stmt::Branch {
+            then,
+            otherwise,
+            ..
+        } => {
+            let trail = pass_body(set, params, number + 1, then, trail)?;
+            pass_body(set, params, number + 1 + count_all(then), otherwise, trail)
+        }
+        Stmt::Each { body, .. } => pass_body(set, params, number + 1, body, trail),
+        _ => Ok(trail),
+    }
+}
+
+/// Goes past the body of an `each`, whose first statement has this number.
+#[cycle(bodies)]
+fn pass_body(
+    set: &ProgramSet,
+    params: &[Name],
+    number: usize,
+    body: &Block,
+    trail: Trail,
+) -> Result<Trail, AllocError>
+    requires few { number + statement_count (block_tree body.now) ≤ 256 }
+    requires low { IsLow number trail }
+    ensures { IfOk result (λ r. r
+        ≡ past_body set.now.tables.items params.now number (block_tree body.now) trail) }
+{
+    let mut trail = trail;
+    let mut number = number;
+    for stmt in &body.stmts {
+        trail = pass_inside(set, params, number, stmt, trail)?;
+        number += count_own(stmt);
+    }
+    Ok(trail)
+}
+
+/// Goes past a statement of this number that isn't a branch, and past its body if it has one.
+fn pass_whole(
+    set: &ProgramSet,
+    params: &[Name],
+    number: usize,
+    stmt: &Stmt,
+    trail: Trail,
+) -> Result<Trail, AllocError>
+    requires few { number + statement_count (alone (stmt_tree stmt.now)) ≤ 256 }
+    requires low { IsLow number trail }
+    requires passes { passes (stmt_tree stmt.now) ≡ true }
+    ensures { IfOk result (λ r. r ∷ [] ≡ map (along set.now.tables.items params.now trail)
+        (routes number (alone (stmt_tree stmt.now)))) }
+{
+    let mut trail = trail;
+    pass(set, params, true, number, stmt, &mut trail)?;
+    match stmt {
+        Stmt::Each { body, .. } => {
+            trail = pass_body(set, params, number + 1, body, trail)?;
+            Ok(trail)
+        }
+        _ => Ok(trail),
+    }
+}
+
+/// Takes all trails past a statement of this number that isn't a branch.
 fn pass_all(
     alloc: Global,
     set: &ProgramSet,
@@ -78,16 +157,15 @@ fn pass_all(
     stmt: &Stmt,
     trails: Vec<Trail>,
 ) -> Result<Vec<Trail>, AllocError>
-    requires few { number < 256 }
+    requires few { number + statement_count (alone (stmt_tree stmt.now)) ≤ 256 }
     requires low { AreLow number trails.items }
     requires passes { passes (stmt_tree stmt.now) ≡ true }
     ensures { IfOk result (λ r. r.items ≡ all_along set.now.tables.items params.now trails.items
         (routes number (alone (stmt_tree stmt.now)))) }
 {
     let mut passed = Vec::new(alloc);
-    for mut trail in trails {
-        pass(set, params, number, stmt, &mut trail)?;
-        passed.push(trail)?;
+    for trail in trails {
+        passed.push(pass_whole(set, params, number, stmt, trail)?)?;
     }
     Ok(passed)
 }

@@ -1,7 +1,7 @@
 use Rattle.std.proofs.Common.{◌∙◌, ◌∷◌, ◌+◌, ap, sym, arith, drop}
 use Rattle.std.proofs.lemmas.List.{drop_more}
 use Rattle.prog_tree.specs.Tree.{stmt_tree, stmts_tree}
-use Rattle.prog_tree.proofs.TreeLemmas.{fork_tree}
+use Rattle.prog_tree.proofs.TreeLemmas.{fork_tree, loop_tree}
 use Rattle.prog_check.specs.Paths.{statement_count}
 use Rattle.prog_paths.specs.Trails.{alone}
 use Rattle.prog_paths.proofs.Walking.{count_from}
@@ -30,3 +30,11 @@ count_own-returns-in-Branch-clause-counted t c =
     let second = c.count_all-in-Branch.ensures.counted in
     let cut = c.min.ensures in
     omega (arith, size, first, second, cut)
+
+pub count_own-returns-in-Each-clause-counted : goal.count_own-returns-in-Each-clause-counted
+count_own-returns-in-Each-clause-counted t c =
+    let loop = c.in-Each in
+    let size = ap (λ x. statement_count (alone x)) (ap stmt_tree loop.is ∙ loop_tree loop.listing loop.body) in
+    let own = c.count_all-in-Each.ensures.counted in
+    let cut = c.min-in-Each.ensures in
+    omega (arith, size, own, cut)

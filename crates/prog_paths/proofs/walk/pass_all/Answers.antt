@@ -1,4 +1,4 @@
-use Rattle.std.proofs.Common.{◌∙◌, ap, ◌++◌, ◌∷◌, []}
+use Rattle.std.proofs.Common.{◌∙◌}
 use Rattle.prog_tree.specs.Tree.{stmt_tree}
 use Rattle.prog_paths.proofs.Walking.{more_past}
 use Rattle.prog_paths.proofs.walk.pass_all.Goals as goal
@@ -7,5 +7,4 @@ pub loop-trail-preserved : goal.loop-trail-preserved
 loop-trail-preserved c =
     let before = c.loop-trail.passed.items in
     c.in_ok-push.ensures.items
-    ∙ ap (λ t. before ++ t ∷ []) c.in_ok-pass.ensures
-    ∙ more_past c.args.set.now.tables.items c.args.params.now c.args.number (stmt_tree c.args.stmt.now) c.loop-trail.yielded c.in-Some.trail before c.requires.passes c.loop-trail.invariant
+    ∙ more_past c.args.set.now.tables.items c.args.params.now c.args.number (stmt_tree c.args.stmt.now) c.loop-trail.yielded c.in-Some.trail c.in_ok-pass_whole.field-0 before c.in_ok-pass_whole.ensures c.loop-trail.invariant
