@@ -41,7 +41,7 @@ module _ (x y : Path) (a b : ℕ) (mine theirs : Access) (pair : IsPair mine the
     at_second = (y, refl, h.at_theirs);
     first_covers = h.covers.mine_covers;
     second_covers = h.covers.theirs_covers;
-    same = same-from_CoversBy mine theirs pair h.mine h.theirs (single_at x m h.mine single_x h.at_mine h.covers.mine_covers) (single_at y t h.theirs single_y h.at_theirs h.covers.theirs_covers) h.covers;
+    same = same-from_CoversBy mine theirs pair h.mine h.theirs (single_at x m h.mine single_x h.at_mine h.covers.mine_covers.1) (single_at y t h.theirs single_y h.at_theirs h.covers.theirs_covers.1) h.covers;
   }
 
   CoversAt-from_IsCovered : CanMeet mine theirs → (h : IsCovered (two x y) 0 1 mine theirs) → CoversAt own_facts x.accesses y.accesses h.first h.second

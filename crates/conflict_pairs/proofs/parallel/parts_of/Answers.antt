@@ -1,6 +1,5 @@
-use Rattle.std.proofs.Common.{◌≡◌, ◌≤◌, List, map, max, sym, subst, ap, ◌∙◌}
+use Rattle.std.proofs.Common.{List, max, sym, subst}
 use Rattle.std.specs.Prelude.{All, IfOk}
-use Rattle.std.specs.List.{AllZip}
 use Rattle.std.proofs.Crossing.{crosses, frees}
 use denote.Param.Send.{sendable}
 use Rattle.rayon.specs.Lists.{chunks_of}

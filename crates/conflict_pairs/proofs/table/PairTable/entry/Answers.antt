@@ -1,7 +1,7 @@
-use Rattle.std.proofs.Common.{◌≡◌, ℕ, ◌<◌, ◌≤◌, ◌∙◌, List, length, get_or, sym, ap, subst}
+use Rattle.std.proofs.Common.{ℕ, ◌<◌, ◌≤◌, ◌∙◌, List, length, get_or, sym, ap, subst}
 use Rattle.conflict_pairs.specs.declared.table.Entry.{Entry}
 use Rattle.conflict_pairs.specs.Table.{Table, entries_in}
-use Rattle.conflict_pairs.proofs.Parts.{left_inside, left_same, found_here, none_left}
+use Rattle.conflict_pairs.proofs.Parts.{left_inside, left_same, found_here}
 use Rattle.conflict_pairs.proofs.table.PairTable.entry.Goals as goal
 
 pub loop-part-init : goal.loop-part-init
