@@ -1,5 +1,5 @@
 -- The text of a certificate is read as its value.
-use Rattle.std.proofs.Common.{◌≡◌, ◌≤◌, ◌<◌, ◌^◌, ◌∷◌, [], ◌++◌, append-nil, ℕ, suc, ℤ, pos, negsuc, List, Bool, true, false, Some, map, decimal, codes, option_map, option_and_then, refl, sym, ap, subst, ◌∙◌, arith}
+use Rattle.std.proofs.Common.{◌≡◌, ◌≤◌, ◌<◌, ◌^◌, ◌∷◌, [], ◌++◌, append-nil, ℕ, suc, ℤ, pos, negsuc, List, Bool, true, false, Some, map, decimal, codes, option_map, option_and_then, refl, sym, ap, subst, ◌∙◌, inl, inr, if◌then◌else◌, arith}
 use Rattle.std.specs.Prelude.{All, IsUtf8, FitsSigned}
 use Rattle.std.specs.Fmt.{signed_decimal}
 use Rattle.std.specs.Int.{w64}
@@ -29,9 +29,9 @@ use Rattle.robust_cert.specs.declared.certificate.Entry.{Entry}
 use Rattle.robust_cert.specs.declared.certificate.Entry.TheVariants.{Apart, Cover}
 use Rattle.robust_cert.specs.declared.certificate.Certificate.{Certificate}
 use Rattle.robust_cert.specs.Ranges.{IsSmall, NodeFits, ChainFits}
-use Rattle.robust_cert.specs.Json.{list_data, whole_data, lettered, node_data, chain_data, QuestionFits, entry_items, entry_data, EntryFits, certificate_data, certificate_text, CertificateFits}
+use Rattle.robust_cert.specs.Json.{list_data, whole_data, lettered, node_data, chain_data, QuestionFits, entry_items, entry_data, EntryFits, has_no_bodies, first_data, second_data, certificate_text, CertificateFits, IsValueOf}
 use Rattle.robust_cert.specs.Reading.{IsTextOf}
-use Rattle.robust_cert.proofs.Texts.{whole_text}
+use Rattle.robust_cert.proofs.Texts.{first_whole, second_whole}
 
 -- a value's text is UTF-8 and is read as the value, which nests no deeper than that
 record ReadsBack (k : ℕ) (d : Data) : Type 0 where
@@ -125,37 +125,57 @@ entry_again (Cover q mine theirs chains) h =
 
 -- ---- the whole
 
-module _ (c : Certificate) (fits : CertificateFits c) where
-  entries : ReadsBack 5 (list_data entry_data c.entries)
-  entries = list_again entry_data EntryFits 4 entry_again c.entries fits.0
+-- the text of a value that nests no deeper than a text may is read as the value
+read_back : (d : Data) → ReadsBack 127 d → read (compact_text d) ≡ Some d
+read_back d h =
+    let ts = json_tokens (outline d) in
+    let seen : tokens (print ts) ≡ ts ++ [] = tokens-print ts (ArePrintable-json_tokens (outline d) h.numbers) ∙ sym (append-nil ts) in
+    ap read (sym (print-outline d))
+    ∙ ap (λ o. option_and_then of_json (option_and_then (λ p. json.if_last p.0 p.1) o)) (ap (json.value 127) seen ∙ value-json_tokens (outline d) 127 [] h.deep)
+    ∙ h.same
 
-  levels : ReadsBack 5 (list_data whole_data c.levels)
-  levels = list_again whole_data IsSmall 4 (small_again 4) c.levels fits.1
+entries_again : (es : List Entry) → All EntryFits es → ReadsBack 5 (list_data entry_data es)
+entries_again = list_again entry_data EntryFits 4 entry_again
 
-  version : ReadsBack 5 (whole_data 1)
-  version = small_again 5 1 (omega arith)
+numbers_again : (ns : List ℕ) → All IsSmall ns → ReadsBack 5 (list_data whole_data ns)
+numbers_again = list_again whole_data IsSmall 4 (small_again 4)
 
-  numbers_again : HasNumbers (outline (certificate_data c))
-  numbers_again = (entries.numbers, (levels.numbers, (version.numbers, tt)))
+first_again : (c : Certificate) → All EntryFits c.entries → All IsSmall c.levels → ReadsBack 127 (first_data c)
+first_again c fit small =
+    let entries : ReadsBack 5 (list_data entry_data c.entries) = entries_again c.entries fit in
+    let levels : ReadsBack 5 (list_data whole_data c.levels) = numbers_again c.levels small in
+    let version : ReadsBack 5 (whole_data 1) = small_again 5 1 (omega arith) in
+    record {
+      numbers = (entries.numbers, (levels.numbers, (version.numbers, tt)));
+      deep = let a = entries.deep in let b = levels.deep in let d = version.deep in omega arith;
+      same = rw (entries.same, levels.same, version.same) refl;
+      utf8 = subst IsUtf8 (first_whole c)
+          (IsUtf8-append (codes "{\"entries\":") _ (IsUtf8-are_ascii _ refl) (IsUtf8-append (compact_text (list_data entry_data c.entries)) _ entries.utf8
+          (IsUtf8-append (codes ",\"levels\":") _ (IsUtf8-are_ascii _ refl) (IsUtf8-append (compact_text (list_data whole_data c.levels)) (codes ",\"version\":1}") levels.utf8 (IsUtf8-are_ascii _ refl)))));
+    }
 
-  deep_again : tree.depth (outline (certificate_data c)) ≤ 127
-  deep_again = let a = entries.deep in let b = levels.deep in let d = version.deep in omega arith
+second_again : (c : Certificate) → CertificateFits c → ReadsBack 127 (second_data c)
+second_again c fits =
+    let entries : ReadsBack 5 (list_data entry_data c.entries) = entries_again c.entries fits.0 in
+    let levels : ReadsBack 5 (list_data whole_data c.levels) = numbers_again c.levels fits.1 in
+    let bodies : ReadsBack 5 (list_data whole_data c.bodies) = numbers_again c.bodies fits.2 in
+    let version : ReadsBack 5 (whole_data 2) = small_again 5 2 (omega arith) in
+    record {
+      numbers = (bodies.numbers, (entries.numbers, (levels.numbers, (version.numbers, tt))));
+      deep = let a = entries.deep in let b = levels.deep in let d = version.deep in let e = bodies.deep in omega arith;
+      same = rw (bodies.same, entries.same, levels.same, version.same) refl;
+      utf8 = subst IsUtf8 (second_whole c)
+          (IsUtf8-append (codes "{\"bodies\":") _ (IsUtf8-are_ascii _ refl) (IsUtf8-append (compact_text (list_data whole_data c.bodies)) _ bodies.utf8
+          (IsUtf8-append (codes ",\"entries\":") _ (IsUtf8-are_ascii _ refl) (IsUtf8-append (compact_text (list_data entry_data c.entries)) _ entries.utf8
+          (IsUtf8-append (codes ",\"levels\":") _ (IsUtf8-are_ascii _ refl) (IsUtf8-append (compact_text (list_data whole_data c.levels)) (codes ",\"version\":2}") levels.utf8 (IsUtf8-are_ascii _ refl)))))));
+    }
 
-  same_again : of_json (outline (certificate_data c)) ≡ Some (certificate_data c)
-  same_again = rw (entries.same, levels.same, version.same) refl
+text_of : (c : Certificate) (d : Data) → ReadsBack 127 d → IsValueOf c d → (bytes : List ℕ) → bytes ≡ compact_text d → IsTextOf c bytes
+text_of c d h value bytes e = (d, (subst IsUtf8 (sym e) h.utf8, ap read e ∙ read_back d h), value)
 
-  utf8_again : IsUtf8 (certificate_text c)
-  utf8_again = subst IsUtf8 (whole_text c)
-      (IsUtf8-append (codes "{\"entries\":") _ (IsUtf8-are_ascii _ refl) (IsUtf8-append (compact_text (list_data entry_data c.entries)) _ entries.utf8
-      (IsUtf8-append (codes ",\"levels\":") _ (IsUtf8-are_ascii _ refl) (IsUtf8-append (compact_text (list_data whole_data c.levels)) (codes ",\"version\":1}") levels.utf8 (IsUtf8-are_ascii _ refl)))))
+text_by : (c : Certificate) → CertificateFits c → (none : Bool) → has_no_bodies c ≡ none → (bytes : List ℕ) → bytes ≡ compact_text (if none then first_data c else second_data c) → IsTextOf c bytes
+text_by c fits true is bytes e = text_of c (first_data c) (first_again c fits.0 fits.1) (fits, inl (is, refl)) bytes e
+text_by c fits false is bytes e = text_of c (second_data c) (second_again c fits) (fits, inr refl) bytes e
 
-  read_again : read (certificate_text c) ≡ Some (certificate_data c)
-  read_again =
-      let ts = json_tokens (outline (certificate_data c)) in
-      let seen : tokens (print ts) ≡ ts ++ [] = tokens-print ts (ArePrintable-json_tokens (outline (certificate_data c)) numbers_again) ∙ sym (append-nil ts) in
-      ap read (sym (print-outline (certificate_data c)))
-      ∙ ap (λ o. option_and_then of_json (option_and_then (λ p. json.if_last p.0 p.1) o)) (ap (json.value 127) seen ∙ value-json_tokens (outline (certificate_data c)) 127 [] deep_again)
-      ∙ same_again
-
-  pub is_text : (bytes : List ℕ) → bytes ≡ certificate_text c → IsTextOf c bytes
-  is_text bytes e = (certificate_data c, (subst IsUtf8 (sym e) utf8_again, ap read e ∙ read_again), (fits, refl))
+pub is_text : (c : Certificate) → CertificateFits c → (bytes : List ℕ) → bytes ≡ certificate_text c → IsTextOf c bytes
+is_text c fits bytes e = text_by c fits (has_no_bodies c) refl bytes e

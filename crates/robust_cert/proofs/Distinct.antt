@@ -1,4 +1,4 @@
--- Two certificates with one value are one.
+-- Two lists of entries or of numbers with one value are one.
 use Rattle.std.proofs.Common.{◌≡◌, ◌∷◌, [], ◌==◌, ℕ, ℤ, pos, negsuc, List, map, slice_index, refl, sym, ap, ap₂, ◌∙◌}
 use Rattle.std.specs.Bool.{if◌then◌else◌}
 use Rattle.serde_json.specs.Data.{Num, unsigned, negative, float, Data, number, string, array, no_items, item}
@@ -9,8 +9,7 @@ use Rattle.order_facts.specs.declared.steps.Node.TheVariants.{Mine, MineUnknown,
 use Rattle.robust_cert.specs.declared.certificate.Question.{Question}
 use Rattle.robust_cert.specs.declared.certificate.Entry.{Entry}
 use Rattle.robust_cert.specs.declared.certificate.Entry.TheVariants.{Apart, Cover}
-use Rattle.robust_cert.specs.declared.certificate.Certificate.{Certificate}
-use Rattle.robust_cert.specs.Json.{node_data, chain_data, list_data, entry_data, whole_data, certificate_data}
+use Rattle.robust_cert.specs.Json.{node_data, chain_data, list_data, entry_data, whole_data}
 use Rattle.robust_cert.proofs.Entries.{kinds_differ}
 
 -- ---- a node is in its value
@@ -82,8 +81,8 @@ same_entry (Apart p c) (Cover q m t d) e = absurd (kinds_differ (cc))
 same_entry (Cover p m t c) (Apart q d) e = absurd (kinds_differ (cc))
 same_entry (Cover p m t c) (Cover q n u d) e = let f = same_question p q (cc) (cc) (cc) (cc) in let g = same_list chain_data same_chain c d (cc) in cc
 
-abbrev certificate : List Entry → List ℕ → Certificate
-certificate entries levels = record { entries = entries; levels = levels }
+pub same_entries : (xs ys : List Entry) → list_data entry_data xs ≡ list_data entry_data ys → xs ≡ ys
+same_entries = same_list entry_data same_entry
 
-pub same_certificate : (a b : Certificate) → certificate_data a ≡ certificate_data b → a ≡ b
-same_certificate a b e = ap₂ certificate (same_list entry_data same_entry a.entries b.entries (cc)) (same_list whole_data same_number a.levels b.levels (cc))
+pub same_numbers : (xs ys : List ℕ) → list_data whole_data xs ≡ list_data whole_data ys → xs ≡ ys
+same_numbers = same_list whole_data same_number

@@ -15,4 +15,5 @@ pub mod Leftover
 pub mod Reasons
 pub mod Firsts
 pub mod Verdicts
+pub mod Values
 pub mod Facts

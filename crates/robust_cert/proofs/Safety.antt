@@ -79,7 +79,7 @@ module _ (nodes : List Path) (single : All ChangesSingleCells nodes) (c : Certif
                 at_second = at_second;
                 first_covers = cover.mine_covers;
                 second_covers = cover.theirs_covers;
-                same = same-from_CoversBy mine theirs (pair_of q mine theirs asked asks) of_mine of_theirs (single_of nodes single q.x m of_mine at_first cover.mine_covers) (single_of nodes single q.y t of_theirs at_second cover.theirs_covers) (record { mine_covers = cover.mine_covers; theirs_covers = cover.theirs_covers; table = cover.table; equal = by_own });
+                same = same-from_CoversBy mine theirs (pair_of q mine theirs asked asks) of_mine of_theirs (single_of nodes single q.x m of_mine at_first cover.mine_covers.1) (single_of nodes single q.y t of_theirs at_second cover.theirs_covers.1) (record { mine_covers = cover.mine_covers; theirs_covers = cover.theirs_covers; table = cover.table; equal = by_own });
               }
 
   -- ---- each edge is left

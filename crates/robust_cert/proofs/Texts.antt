@@ -12,7 +12,8 @@ use Rattle.robust_cert.specs.declared.certificate.Question.{Question}
 use Rattle.robust_cert.specs.declared.certificate.Entry.{Entry}
 use Rattle.robust_cert.specs.declared.certificate.Entry.TheVariants.{Apart, Cover}
 use Rattle.robust_cert.specs.declared.certificate.Certificate.{Certificate}
-use Rattle.robust_cert.specs.Json.{list_data, whole_data, chain_data, entry_data, certificate_text}
+use Rattle.robust_cert.specs.Json.{list_data, whole_data, chain_data, entry_data, first_data, second_data}
+use Rattle.robust_cert.specs.Helpers.{shared_text}
 
 -- each thing's text behind a comma
 abbrev pub behind_commas : {A : Type 0} → (A → Data) → List A → List ℕ
@@ -47,16 +48,30 @@ pub cover_text : (q : Question) (mine theirs : ℕ) (chains : List (List Node))
 unfolding serde_json_on_literals
 cover_text q mine theirs chains = refl
 
-pub whole_text : (c : Certificate)
-    → codes "{\"entries\":" ++ (compact_text (list_data entry_data c.entries) ++ (codes ",\"levels\":" ++ (compact_text (list_data whole_data c.levels) ++ codes ",\"version\":1}"))) ≡ certificate_text c
+-- a certificate's text in the first version, and in the second
+pub first_whole : (c : Certificate)
+    → codes "{\"entries\":" ++ (compact_text (list_data entry_data c.entries) ++ (codes ",\"levels\":" ++ (compact_text (list_data whole_data c.levels) ++ codes ",\"version\":1}"))) ≡ compact_text (first_data c)
 unfolding serde_json_on_literals digits
-whole_text c = refl
+first_whole c = refl
 
--- the pieces of a certificate's text, one pushed behind the other
-pub whole_written : (c : Certificate) (es : List Entry) (ls old one two three four : List ℕ) → es ≡ c.entries → ls ≡ c.levels
-    → one ≡ old ++ codes "{\"entries\":" → two ≡ one ++ compact_text (list_data entry_data es) → three ≡ two ++ codes ",\"levels\":" → four ≡ three ++ compact_text (list_data whole_data ls)
-    → four ++ codes ",\"version\":1}" ≡ old ++ certificate_text c
-whole_written c es ls old one two three four a b e f g h = rw (h, g, f, e, a, b, ← whole_text c) (simp append_assoc)
+pub second_whole : (c : Certificate)
+    → codes "{\"bodies\":" ++ (compact_text (list_data whole_data c.bodies) ++ (codes ",\"entries\":" ++ (compact_text (list_data entry_data c.entries) ++ (codes ",\"levels\":" ++ (compact_text (list_data whole_data c.levels) ++ codes ",\"version\":2}"))))) ≡ compact_text (second_data c)
+unfolding serde_json_on_literals digits
+second_whole c = refl
+
+-- the pieces of these texts, one pushed behind the other
+pub shared_written : (c : Certificate) (es : List Entry) (ls old one two three : List ℕ) → es ≡ c.entries → ls ≡ c.levels
+    → one ≡ old ++ codes "\"entries\":" → two ≡ one ++ compact_text (list_data entry_data es) → three ≡ two ++ codes ",\"levels\":"
+    → three ++ compact_text (list_data whole_data ls) ≡ old ++ shared_text c
+shared_written c es ls old one two three a b e f g = rw (g, f, e, a, b) (simp append_assoc)
+
+pub first_written : (c : Certificate) (old one two : List ℕ) → one ≡ old ++ codes "{" → two ≡ one ++ shared_text c → two ++ codes ",\"version\":1}" ≡ old ++ compact_text (first_data c)
+first_written c old one two e f = rw (f, e, ← first_whole c) (simp append_assoc)
+
+pub second_written : (c : Certificate) (bs old one two three four : List ℕ) → bs ≡ c.bodies
+    → one ≡ old ++ codes "{\"bodies\":" → two ≡ one ++ compact_text (list_data whole_data bs) → three ≡ two ++ codes "," → four ≡ three ++ shared_text c
+    → four ++ codes ",\"version\":2}" ≡ old ++ compact_text (second_data c)
+second_written c bs old one two three four a e f g h = rw (h, g, f, e, a, ← second_whole c) (simp append_assoc)
 
 pub last_piece : {T E : Type 0} (r : Result T E) (after before z whole : List ℕ) → after ≡ (if is_ok r then before ++ z else before) → before ++ z ≡ whole → OnOk r (after ≡ whole)
 last_piece (Ok _) after before z whole e f = e ∙ f

@@ -1,5 +1,5 @@
 -- Worked examples of the definitions, told by hand.
-use Rattle.std.proofs.Common.{◌≡◌, ◌∷◌, [], ℕ, List, Some, None, codes, refl, pos, negsuc}
+use Rattle.std.proofs.Common.{◌≡◌, ◌∷◌, [], ℕ, List, length, replicate, Some, None, codes, refl, pos, negsuc}
 use Rattle.std.specs.Fmt.{digits}
 use Rattle.json.proofs.Printed.Utf8.{IsUtf8-are_ascii}
 use Rattle.order_facts.specs.declared.steps.Node.{Node}
@@ -12,8 +12,9 @@ use Rattle.robust_cert.specs.declared.fault.JsonFault.TheVariants.{NotJson, Wron
 use Rattle.robust_cert.specs.Json.{certificate_text}
 use Rattle.robust_cert.specs.Reading.{HasFault}
 
+-- no access stands in a body
 abbrev certificate : List Entry → List ℕ → Certificate
-certificate entries levels = record { entries = entries; levels = levels }
+certificate entries levels = record { entries = entries; levels = levels; bodies = replicate (length levels) 0 }
 
 -- a cover in a table of one key column, for which one node of each side is the same
 abbrev cover : ℕ → ℕ → ℕ → ℕ → ℕ → ℕ → Node → Node → Entry
@@ -53,7 +54,13 @@ not_json : HasFault (codes "{\"version\":1") NotJson
 unfolding serde_json_on_literals
 not_json d reads = let none : None ≡ Some d = reads.1 in absurd (cc)
 
--- a version that isn't 1, whatever stands beside it
+-- the pay-each set, repaired: one access stands in a body
+pay_each : certificate_text (record { entries = Cover record { x = 0; a = 1; y = 0; b = 2 } 0 0 ((Number (pos 0) ∷ []) ∷ (Number (pos 0) ∷ []) ∷ []) ∷ []; levels = 1 ∷ []; bodies = 1 ∷ [] })
+    ≡ codes "{\"bodies\":[1],\"entries\":[[\"cover\",0,1,0,2,0,0,[[[\"n\",0]],[[\"n\",0]]]]],\"levels\":[1],\"version\":2}"
+unfolding serde_json_on_literals digits
+pay_each = refl
+
+-- a version that is neither 1 nor 2, whatever stands beside it
 other_version : HasFault (codes "{\"version\": 9, \"entries\": true}") WrongVersion
 unfolding serde_json_on_literals
-other_version = (_, (IsUtf8-are_ascii _ refl, refl), ((λ e. cc), (λ e. cc)))
+other_version = (_, (IsUtf8-are_ascii _ refl, refl), ((λ e. cc), (λ e. cc), (λ e. cc)))

@@ -52,6 +52,7 @@ module _ (nodes : List Path) (c : Certificate) (s : StandTo nodes c (length c.en
     accepted-from_rise r = record {
       few = s.size.few;
       levels = s.size.levels;
+      bodies = s.size.bodies;
       rising = all-rise;
       holds = all-hold;
       levels_rise = record {
@@ -87,7 +88,7 @@ module _ (nodes : List Path) (c : Certificate) (a : IsAccepted nodes c) where
 
   pub only_memory : (fault : CertFault) → IsFirstFault nodes c fault → fault ≡ Memory
   only_memory TooLarge h = let few = a.few in absurd (omega (arith, few, h))
-  only_memory PathCount h = absurd (h.1 a.levels)
+  only_memory PathCount h = absurd (h.1 (a.levels, a.bodies))
   only_memory (NoSuchEntry k) (e, f, against) = absurd (against (held k e f.at).question)
   only_memory (EntryOrder k) (e, f, q, against) = absurd (against (λ j last at is. behind-entry c.entries k e a.rising f.at j last (omega (arith, at)) is))
   only_memory (BadCover k) (e, f, q, b, against) = absurd (against (held k e f.at).fitting)

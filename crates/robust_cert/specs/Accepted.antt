@@ -1,5 +1,5 @@
 -- When a certificate is accepted for a list of paths. Numbers are compared and chains are read; no path is followed.
-use Rattle.std.specs.Prelude.{◌≡◌, ℕ, ◌<◌, ◌≤◌, ◌*◌, List, length, All, Contains, slice_index_or}
+use Rattle.std.specs.Prelude.{◌≡◌, ℕ, ◌<◌, ◌≤◌, ◌*◌, List, length, map, filter, not, All, Contains, slice_index_or}
 use Rattle.prog_check.specs.declared.path.Access.{Access}
 use Rattle.prog_check.specs.declared.path.Path.{Path}
 use Rattle.prog_paths.specs.Meeting.{MayCover}
@@ -93,13 +93,18 @@ pub record LevelsRise (edge vulnerable : ℕ → ℕ → Type 0) (level : ℕ �
   pub never_fall : (x y : ℕ) → edge x y → level x ≤ level y
   pub rise : (x y z : ℕ) → vulnerable x y → vulnerable y z → level x < level z
 
+-- how many accesses of a path aren't sure
+abbrev pub body_size : Path → ℕ
+body_size path = length (filter (λ a. not a.sure) path.accesses)
+
 -- ---- the whole
 
--- At most as many questions as an analysis may have; a level for each node; the entries are about questions, rising
--- strictly, and hold; the levels rise over what the entries leave.
+-- At most as many questions as an analysis may have; a level for each node, and how many of its accesses aren't sure;
+-- the entries are about questions, rising strictly, and hold; the levels rise over what the entries leave.
 pub record IsAccepted (nodes : List Path) (c : Certificate) : Type 0 where
   pub few : length (questions_of nodes) ≤ limit
   pub levels : length c.levels ≡ length nodes
+  pub bodies : c.bodies ≡ map body_size nodes
   pub rising : RiseBy question_of c.entries
   pub holds : All (Holds nodes) c.entries
   pub levels_rise : LevelsRise (IsLeft nodes c.entries) (IsLeftVulnerable nodes c.entries) (level_of c)

@@ -1,8 +1,9 @@
 -- The JSON value of a certificate, and its text.
-use Rattle.std.specs.Prelude.{◌≡◌, ℕ, List, map, codes, All}
+use Rattle.std.specs.Prelude.{◌≡◌, ℕ, List, length, map, codes, All, Bool, ◌&&◌, ◌==◌, if◌then◌else◌, IsTrue, ◌⊎◌}
+use Rattle.std.specs.List.{list_all}
 use Rattle.order_facts.specs.declared.steps.Node.{Node}
 use Rattle.order_facts.specs.declared.steps.Node.TheVariants.{Mine, MineUnknown, Theirs, TheirsUnknown, Number}
-use Rattle.serde_json.specs.Data.{Num, unsigned, Data, number, string, array, object, Items, no_items, item, no_members, member}
+use Rattle.serde_json.specs.Data.{Num, unsigned, Data, number, string, array, object, Items, no_items, item, Members, no_members, member}
 use Rattle.serde_json.specs.Find.{of_integer}
 use Rattle.serde_json.specs.View.{items_of}
 use Rattle.serde_json.specs.Written.{compact_text}
@@ -52,12 +53,27 @@ entry_data (Cover q mine theirs chains) = entry_items (codes "cover") q (cover_i
 
 -- ---- the whole
 
--- the members of a certificate, of which the last is a version
-abbrev pub members_data : Data → Data → Num → Data
-members_data entries levels version = object (member (codes "entries") entries (member (codes "levels") levels (member (codes "version") (number version) no_members)))
+-- the members that both versions have, of which the last is the version
+abbrev pub members_data : Data → Data → Num → Members
+members_data entries levels version = member (codes "entries") entries (member (codes "levels") levels (member (codes "version") (number version) no_members))
 
+abbrev pub shared_members : Certificate → Num → Members
+shared_members c version = members_data (list_data entry_data c.entries) (list_data whole_data c.levels) version
+
+-- no access stands in the body of an `each`: one zero for each level
+abbrev pub has_no_bodies : Certificate → Bool
+has_no_bodies c = length c.bodies == length c.levels && list_all (λ n. n == 0) c.bodies
+
+-- the first version says nothing of such accesses, and the second one how many there are
+abbrev pub first_data : Certificate → Data
+first_data c = object (shared_members c (unsigned 1))
+
+abbrev pub second_data : Certificate → Data
+second_data c = object (member (codes "bodies") (list_data whole_data c.bodies) (shared_members c (unsigned 2)))
+
+-- the value that is written: of the first version, where it says all
 abbrev pub certificate_data : Certificate → Data
-certificate_data c = members_data (list_data entry_data c.entries) (list_data whole_data c.levels) (unsigned 1)
+certificate_data c = if has_no_bodies c then first_data c else second_data c
 
 -- its text, with no space
 abbrev pub certificate_text : Certificate → List ℕ
@@ -73,8 +89,8 @@ EntryFits (Apart q chain) = QuestionFits q × ChainFits chain
 EntryFits (Cover q mine theirs chains) = QuestionFits q × IsSmall mine × IsSmall theirs × All ChainFits chains
 
 abbrev pub CertificateFits : Certificate → Type 0
-CertificateFits c = All EntryFits c.entries × All IsSmall c.levels
+CertificateFits c = All EntryFits c.entries × All IsSmall c.levels × All IsSmall c.bodies
 
--- a JSON value is that of a certificate whose numbers fit
+-- a JSON value is that of a certificate whose numbers fit; one without such accesses has a value of either version
 abbrev pub IsValueOf : Certificate → Data → Type 0
-IsValueOf c d = CertificateFits c × (d ≡ certificate_data c)
+IsValueOf c d = CertificateFits c × ((IsTrue (has_no_bodies c) × (d ≡ first_data c)) ⊎ (d ≡ second_data c))

@@ -26,9 +26,9 @@ if_whole (float x) = None
 abbrev pub version_of : Data → Option Num
 version_of d = option_and_then if_whole (option_and_then as_number (get (codes "version") d))
 
--- there is a whole number, and it is another one than 1
+-- there is a whole number, and it is neither 1 nor 2
 abbrev pub IsOtherVersion : Option Num → Type 0
-IsOtherVersion version = (version ≢ None) × (version ≢ Some (unsigned 1))
+IsOtherVersion version = (version ≢ None) × (version ≢ Some (unsigned 1)) × (version ≢ Some (unsigned 2))
 
 -- what is wrong with a JSON value: first its version, then the rest
 abbrev pub IsFaultOf : Data → JsonFault → Type 0

@@ -1,5 +1,5 @@
 -- The first fault of a certificate that is not accepted.
-use Rattle.std.specs.Prelude.{◌≡◌, ℕ, ◌<◌, ◌≤◌, ◌+◌, List, [], ◌∷◌, length, All, take, Some, slice_get}
+use Rattle.std.specs.Prelude.{◌≡◌, ℕ, ◌<◌, ◌≤◌, ◌+◌, List, [], ◌∷◌, length, map, All, take, Some, slice_get}
 use Rattle.prog_check.specs.declared.path.Path.{Path}
 use Rattle.prog_paths.specs.Asked.{IsQuestion, questions_of, limit}
 use Rattle.prog_paths.specs.Listing.{IsBefore, IsAtMost, RiseBy}
@@ -7,14 +7,15 @@ use Rattle.robust_cert.specs.declared.certificate.Entry.{Entry}
 use Rattle.robust_cert.specs.declared.certificate.Certificate.{Certificate}
 use Rattle.robust_cert.specs.declared.fault.CertFault.{CertFault}
 use Rattle.robust_cert.specs.declared.fault.CertFault.TheVariants.{TooLarge, PathCount, NoSuchEntry, EntryOrder, BadChain, BadCover, LevelFalls, Dangerous, Memory}
-use Rattle.robust_cert.specs.Accepted.{question_of, IsFitting, ChainsHold, Holds, IsLeft, IsLeftVulnerable, level_of}
+use Rattle.robust_cert.specs.Accepted.{question_of, body_size, IsFitting, ChainsHold, Holds, IsLeft, IsLeftVulnerable, level_of}
 
 -- ---- the whole, in the order in which it is looked at
 
--- neither too many questions nor a wrong number of levels
+-- neither too many questions, nor a wrong number of levels, nor other accesses in bodies
 pub record IsOfSize (nodes : List Path) (c : Certificate) : Type 0 where
   pub few : length (questions_of nodes) ≤ limit
   pub levels : length c.levels ≡ length nodes
+  pub bodies : c.bodies ≡ map body_size nodes
 
 -- the first entries, so many of them, rise and hold
 pub record StandTo (nodes : List Path) (c : Certificate) (k : ℕ) : Type 0 where
@@ -50,7 +51,9 @@ pub record StaysAt (nodes : List Path) (c : Certificate) (x y z : ℕ) : Type 0 
 -- the first fault, each with all that comes before it in order
 abbrev pub IsFirstFault : List Path → Certificate → CertFault → Type 0
 IsFirstFault nodes c TooLarge = limit < length (questions_of nodes)
-IsFirstFault nodes c PathCount = (length (questions_of nodes) ≤ limit) × (length c.levels ≡ length nodes → ⊥)
+IsFirstFault nodes c PathCount =
+    (length (questions_of nodes) ≤ limit)
+    × ((length c.levels ≡ length nodes) × (c.bodies ≡ map body_size nodes) → ⊥)
 IsFirstFault nodes c (NoSuchEntry k) = (e : Entry) × IsAtFault nodes c k e × (IsQuestion nodes (question_of e) → ⊥)
 IsFirstFault nodes c (EntryOrder k) =
     (e : Entry) × IsAtFault nodes c k e × IsQuestion nodes (question_of e) × (IsBehindLast c.entries k e → ⊥)

@@ -36,4 +36,6 @@ pub struct Certificate {
     pub entries: Sequence<Entry>,
     /// One for each node.
     pub levels: Sequence<u32>,
+    /// For each node, how many of its accesses stand in the body of an `each`.
+    pub bodies: Sequence<u32>,
 }

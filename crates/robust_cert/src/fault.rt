@@ -11,7 +11,7 @@ pub enum JsonFault {
     NotJson,
     /// No object with a whole number under `version`, or not of the form of that version.
     WrongShape,
-    /// The number under `version` isn't 1.
+    /// The number under `version` is neither 1 nor 2.
     WrongVersion,
     Memory,
 }
@@ -21,7 +21,7 @@ pub enum JsonFault {
 pub enum CertFault {
     /// The set asks more than 1,000,000 questions.
     TooLarge,
-    /// Not one level for each path.
+    /// Not one level for each path, or other numbers of accesses in bodies than the paths have.
     PathCount,
     /// The entry of this number is about no question of the set.
     NoSuchEntry(usize),

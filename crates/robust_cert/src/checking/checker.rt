@@ -7,6 +7,7 @@ ghost use Rattle.robust_cert.specs.Accepted.{IsAccepted};
 ghost use Rattle.robust_cert.specs.Refused.{IsOfSize, StandTo, IsFirstFault};
 
 use crate::certificate::Certificate;
+use crate::checking::bodies::are_body_sizes;
 use crate::checking::entry_check::check_entries;
 use crate::checking::left::left_of;
 use crate::checking::levels::check_levels;
@@ -24,6 +25,9 @@ fn check_size(paths: &[Path], certificate: &Certificate) -> Result<(), CertFault
         return Err(CertFault::TooLarge);
     }
     if certificate.levels.len() != paths.len() {
+        return Err(CertFault::PathCount);
+    }
+    if !are_body_sizes(certificate.bodies.as_slice(), paths) {
         return Err(CertFault::PathCount);
     }
     Ok(())

@@ -1,5 +1,6 @@
 //! The checker.
 
+pub mod bodies;
 pub mod by_facts;
 pub mod checker;
 pub mod entry_check;

@@ -2,5 +2,6 @@
 
 pub mod reading;
 pub mod shape;
+pub mod version;
 pub mod whole;
 pub mod writing;

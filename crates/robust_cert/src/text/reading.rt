@@ -1,15 +1,16 @@
 //! From text to a certificate.
 
-ghost use Rattle.std.specs.Prelude.{◌≡◌, ◌≢◌, Some, IfOk, IfErr, OnOk, Ok, Err};
-ghost use Rattle.serde_json.specs.Data.{unsigned};
+ghost use Rattle.std.specs.Prelude.{◌≡◌, ◌≢◌, Some, IfOk, IfErr, Ok, Err};
 ghost use Rattle.serde_json.specs.View.{view};
 ghost use Rattle.robust_cert.specs.declared.certificate.Certificate.{Certificate};
 ghost use Rattle.robust_cert.specs.declared.fault.JsonFault.{JsonFault};
 ghost use Rattle.robust_cert.specs.Json.{IsValueOf};
 ghost use Rattle.robust_cert.specs.Reading.{ReadsAs, IsTextOf, IsFaultOf, HasFault, Answers, version_of};
+ghost use Rattle.robust_cert.specs.Helpers.{number_of};
 
 use crate::certificate::Certificate;
 use crate::fault::JsonFault;
+use crate::text::version::Version;
 use crate::text::whole::{certificate_of, object_of};
 use serde_json::Value;
 use std::alloc::Global;
@@ -25,13 +26,16 @@ fn value_of(alloc: Global, bytes: &[u8]) -> Result<Value, JsonFault>
     }
 }
 
-fn check_version(value: &Value) -> Result<(), JsonFault>
-    ensures ok { OnOk result (version_of (view value.now) ≡ Some (unsigned 1)) }
+fn version_in(value: &Value) -> Result<Version, JsonFault>
+    ensures ok { IfOk result (λ version. version_of (view value.now) ≡ Some (number_of version)) }
     ensures fault { IfErr result (IsFaultOf (view value.now)) }
 {
     let version = value.get("version").ok_or(JsonFault::WrongShape)?;
     if version.as_u64() == Some(1) {
-        return Ok(());
+        return Ok(Version::First);
+    }
+    if version.as_u64() == Some(2) {
+        return Ok(Version::Second);
     }
     if version.is_u64() || version.is_i64() {
         return Err(JsonFault::WrongVersion);
@@ -44,11 +48,11 @@ fn certificate_in(alloc: Global, value: Value) -> Result<Certificate, JsonFault>
     ensures fault { IfErr result (λ fault. fault ≢ JsonFault.Memory
         → IsFaultOf (view value) fault) }
 {
-    check_version(&value)?;
+    let version = version_in(&value)?;
     let Some(members) = object_of(value) else {
         return Err(JsonFault::WrongShape);
     };
-    Ok(certificate_of(alloc, members)?)
+    Ok(certificate_of(alloc, version, members)?)
 }
 
 /// The certificate that the bytes are.

@@ -193,23 +193,23 @@ pub fn entries_of(alloc: Global, items: Vec<Value>) -> Result<Sequence<Entry>, U
     Ok(Sequence::from_vec(entries))
 }
 
-/// The levels of a certificate.
-pub fn levels_of(alloc: Global, value: &Value) -> Result<Sequence<u32>, Untaken>
-    ensures ok { IfOk result (λ levels. All IsSmall levels
-        × (view value.now ≡ list_data whole_data levels)) }
+/// Whole numbers below 2^32, as levels are.
+pub fn numbers_of(alloc: Global, value: &Value) -> Result<Sequence<u32>, Untaken>
+    ensures ok { IfOk result (λ numbers. All IsSmall numbers
+        × (view value.now ≡ list_data whole_data numbers)) }
     ensures misshapen { result ≡ Err Untaken.Misshapen
-        → (levels : List ℕ) → All IsSmall levels
-        → view value.now ≢ list_data whole_data levels }
+        → (numbers : List ℕ) → All IsSmall numbers
+        → view value.now ≢ list_data whole_data numbers }
 {
     let Value::Array(items) = value else {
         return Err(Untaken::Misshapen);
     };
-    let mut levels = Vec::with_capacity(alloc, items.len())?;
+    let mut numbers = Vec::with_capacity(alloc, items.len())?;
     for item in items {
-        let Some(level) = small_of(item) else {
+        let Some(number) = small_of(item) else {
             return Err(Untaken::Misshapen);
         };
-        levels.push(level)?;
+        numbers.push(number)?;
     }
-    Ok(Sequence::from_vec(levels))
+    Ok(Sequence::from_vec(numbers))
 }

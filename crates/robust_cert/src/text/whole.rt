@@ -1,17 +1,20 @@
 //! A whole JSON value as a certificate.
 
-ghost use Rattle.std.specs.Prelude.{◌≡◌, ◌≢◌, IfOk, IfSome, IfNone, Some, Err};
-ghost use Rattle.serde_json.specs.Data.{Data, Items, Members, unsigned, array, object, member};
+ghost use Rattle.std.specs.Prelude.{◌≡◌, ◌≢◌, IfOk, IfSome, IfNone, Some, Err, length, replicate};
+ghost use Rattle.serde_json.specs.Data.{Data, Num, Items, Members, unsigned, array, object, member};
 ghost use Rattle.serde_json.specs.View.{view, items_view, members_view};
 ghost use Rattle.robust_cert.specs.declared.certificate.Certificate.{Certificate};
 ghost use Rattle.robust_cert.specs.Json.{IsValueOf, members_data};
 ghost use Rattle.robust_cert.specs.Reading.{version_of};
+ghost use Rattle.robust_cert.specs.Helpers.{number_of, IsShared, IsNotShared};
 
-use crate::certificate::Certificate;
+use crate::certificate::{Certificate, Entry};
 use crate::fault::Untaken;
-use crate::text::shape::{entries_of, levels_of};
+use crate::text::shape::{entries_of, numbers_of};
+use crate::text::version::Version;
+use prog_tree::Sequence;
 use serde_json::{Map, Value};
-use std::alloc::Global;
+use std::alloc::{AllocError, Global};
 
 // The first of the members, if it has this name.
 fn take_member(members: &mut Map<String, Value>, name: &str) -> Option<Value>
@@ -28,13 +31,13 @@ fn take_member(members: &mut Map<String, Value>, name: &str) -> Option<Value>
     }
 }
 
-// The values of `entries` and `levels`, if the members are those two and the version, which is known.
+// The values of `entries` and `levels`, if the members are those two and a version.
 fn parts_of(mut members: Map<String, Value>) -> Option<(Value, Value)>
-    requires { version_of (object (members_view members.entries)) ≡ Some (unsigned 1) }
-    ensures some { IfSome result (λ p. object (members_view members.entries)
-        ≡ members_data (view p.0) (view p.1) (unsigned 1)) }
-    ensures none { IfNone result ((entries levels : Data)
-        → object (members_view members.entries) ≢ members_data entries levels (unsigned 1)) }
+    ensures some { IfSome result (λ p. (version : Num)
+        → version_of (object (members_view members.entries)) ≡ Some version
+        → members_view members.entries ≡ members_data (view p.0) (view p.1) version) }
+    ensures none { IfNone result ((entries levels : Data) (version : Num)
+        → members_view members.entries ≢ members_data entries levels version) }
 {
     let entries = take_member(&mut members, "entries")?;
     let levels = take_member(&mut members, "levels")?;
@@ -45,12 +48,14 @@ fn parts_of(mut members: Map<String, Value>) -> Option<(Value, Value)>
     Some((entries, levels))
 }
 
-/// The certificate of which these are the members, where the version is known.
-pub fn certificate_of(alloc: Global, members: Map<String, Value>) -> Result<Certificate, Untaken>
-    requires { version_of (object (members_view members.entries)) ≡ Some (unsigned 1) }
-    ensures ok { IfOk result (λ c. IsValueOf c (object (members_view members.entries))) }
+// The entries and the levels, if the members are those two and a version.
+fn shared_of(
+    alloc: Global,
+    members: Map<String, Value>,
+) -> Result<(Sequence<Entry>, Sequence<u32>), Untaken>
+    ensures ok { IfOk result (λ p. IsShared p.0 p.1 (members_view members.entries)) }
     ensures misshapen { result ≡ Err Untaken.Misshapen
-        → (c : Certificate) → ¬ IsValueOf c (object (members_view members.entries)) }
+        → IsNotShared (members_view members.entries) }
 {
     let Some((entries, levels)) = parts_of(members) else {
         return Err(Untaken::Misshapen);
@@ -59,8 +64,66 @@ pub fn certificate_of(alloc: Global, members: Map<String, Value>) -> Result<Cert
         return Err(Untaken::Misshapen);
     };
     let entries = entries_of(alloc, entries)?;
-    let levels = levels_of(alloc, &levels)?;
-    Ok(Certificate { entries, levels })
+    let levels = numbers_of(alloc, &levels)?;
+    Ok((entries, levels))
+}
+
+// One zero for each level.
+fn no_bodies(alloc: Global, levels: &Sequence<u32>) -> Result<Sequence<u32>, AllocError>
+    ensures { IfOk result (λ bodies. bodies ≡ replicate (length levels.now) 0) }
+{
+    let zeros = vec![in alloc; 0; levels.len()]?;
+    Ok(Sequence::from_vec(zeros))
+}
+
+fn first_of(alloc: Global, members: Map<String, Value>) -> Result<Certificate, Untaken>
+    requires { version_of (object (members_view members.entries)) ≡ Some (unsigned 1) }
+    ensures ok { IfOk result (λ c. IsValueOf c (object (members_view members.entries))) }
+    ensures misshapen { result ≡ Err Untaken.Misshapen
+        → (c : Certificate) → ¬ IsValueOf c (object (members_view members.entries)) }
+{
+    let (entries, levels) = shared_of(alloc, members)?;
+    let bodies = no_bodies(alloc, &levels)?;
+    Ok(Certificate {
+        entries,
+        levels,
+        bodies,
+    })
+}
+
+fn second_of(alloc: Global, mut members: Map<String, Value>) -> Result<Certificate, Untaken>
+    requires { version_of (object (members_view members.entries)) ≡ Some (unsigned 2) }
+    ensures ok { IfOk result (λ c. IsValueOf c (object (members_view members.entries))) }
+    ensures misshapen { result ≡ Err Untaken.Misshapen
+        → (c : Certificate) → ¬ IsValueOf c (object (members_view members.entries)) }
+{
+    let Some(bodies) = take_member(&mut members, "bodies") else {
+        return Err(Untaken::Misshapen);
+    };
+    let bodies = numbers_of(alloc, &bodies)?;
+    let (entries, levels) = shared_of(alloc, members)?;
+    Ok(Certificate {
+        entries,
+        levels,
+        bodies,
+    })
+}
+
+/// The certificate of which these are the members, where the version is known.
+pub fn certificate_of(
+    alloc: Global,
+    version: Version,
+    members: Map<String, Value>,
+) -> Result<Certificate, Untaken>
+    requires { version_of (object (members_view members.entries)) ≡ Some (number_of version) }
+    ensures ok { IfOk result (λ c. IsValueOf c (object (members_view members.entries))) }
+    ensures misshapen { result ≡ Err Untaken.Misshapen
+        → (c : Certificate) → ¬ IsValueOf c (object (members_view members.entries)) }
+{
+    match version {
+        Version::First => first_of(alloc, members),
+        Version::Second => second_of(alloc, members),
+    }
 }
 
 // The items of a list.

@@ -1,10 +1,11 @@
 //! From a certificate to text.
 
-ghost use Rattle.std.specs.Prelude.{◌≡◌, All, IfOk, OnOk, string_bytes};
+ghost use Rattle.std.specs.Prelude.{◌≡◌, ◌++◌, ◌==◌, All, IfOk, OnOk, string_bytes};
+ghost use Rattle.std.specs.List.{list_all};
 ghost use Rattle.robust_cert.specs.Ranges.{IsSmall, ChainFits};
-ghost use Rattle.robust_cert.specs.Json.{node_data, chain_data, entry_data, whole_data, list_data, certificate_data, certificate_text, EntryFits, CertificateFits};
+ghost use Rattle.robust_cert.specs.Json.{node_data, chain_data, entry_data, whole_data, list_data, has_no_bodies, first_data, second_data, certificate_data, certificate_text, EntryFits, CertificateFits};
 ghost use Rattle.robust_cert.specs.Reading.{IsTextOf};
-ghost use Rattle.robust_cert.specs.Helpers.{Appends};
+ghost use Rattle.robust_cert.specs.Helpers.{Appends, shared_text};
 
 use crate::certificate::{Certificate, Entry, Question};
 use crate::chain::Chain;
@@ -96,29 +97,75 @@ fn push_entries(text: &mut String, entries: &[Entry]) -> Result<(), AllocError>
     text.push_str("]")
 }
 
-fn push_levels(text: &mut String, levels: &[u32]) -> Result<(), AllocError>
-    ensures text { OnOk result (Appends text.old text.new (list_data whole_data levels.now)) }
-    ensures fits { OnOk result (All IsSmall levels.now) }
+fn push_numbers(text: &mut String, numbers: &[u32]) -> Result<(), AllocError>
+    ensures text { OnOk result (Appends text.old text.new (list_data whole_data numbers.now)) }
+    ensures fits { OnOk result (All IsSmall numbers.now) }
 {
-    let [first, others @ ..] = levels else {
+    let [first, others @ ..] = numbers else {
         return text.push_str("[]");
     };
     write!(text, "[{first}")?;
-    for level in others {
-        write!(text, ",{level}")?;
+    for number in others {
+        write!(text, ",{number}")?;
     }
     text.push_str("]")
+}
+
+// The members that both versions have, up to the version.
+fn push_shared(text: &mut String, certificate: &Certificate) -> Result<(), AllocError>
+    ensures text { OnOk result (string_bytes text.new
+        ≡ string_bytes text.old ++ shared_text certificate.now) }
+    ensures fits { OnOk result (All EntryFits certificate.now.entries
+        × All IsSmall certificate.now.levels) }
+{
+    text.push_str("\"entries\":")?;
+    push_entries(text, certificate.entries.as_slice())?;
+    text.push_str(",\"levels\":")?;
+    push_numbers(text, certificate.levels.as_slice())
+}
+
+fn push_first(text: &mut String, certificate: &Certificate) -> Result<(), AllocError>
+    ensures text { OnOk result (Appends text.old text.new (first_data certificate.now)) }
+    ensures fits { OnOk result (All EntryFits certificate.now.entries
+        × All IsSmall certificate.now.levels) }
+{
+    text.push_str("{")?;
+    push_shared(text, certificate)?;
+    text.push_str(",\"version\":1}")
+}
+
+fn push_second(text: &mut String, certificate: &Certificate) -> Result<(), AllocError>
+    ensures text { OnOk result (Appends text.old text.new (second_data certificate.now)) }
+    ensures fits { OnOk result (CertificateFits certificate.now) }
+{
+    text.push_str("{\"bodies\":")?;
+    push_numbers(text, certificate.bodies.as_slice())?;
+    text.push_str(",")?;
+    push_shared(text, certificate)?;
+    text.push_str(",\"version\":2}")
+}
+
+fn are_zeros(numbers: &[u32]) -> bool
+    ensures { result ≡ list_all (λ n. n == 0) numbers.now }
+{
+    numbers.iter().all(|number| *number == 0)
+}
+
+fn has_no_bodies(certificate: &Certificate) -> bool
+    ensures { result ≡ has_no_bodies certificate.now }
+{
+    certificate.bodies.len() == certificate.levels.len() && are_zeros(certificate.bodies.as_slice())
 }
 
 fn push_certificate(text: &mut String, certificate: &Certificate) -> Result<(), AllocError>
     ensures text { OnOk result (Appends text.old text.new (certificate_data certificate.now)) }
     ensures fits { OnOk result (CertificateFits certificate.now) }
 {
-    text.push_str("{\"entries\":")?;
-    push_entries(text, certificate.entries.as_slice())?;
-    text.push_str(",\"levels\":")?;
-    push_levels(text, certificate.levels.as_slice())?;
-    text.push_str(",\"version\":1}")
+    if has_no_bodies(certificate) {
+        push_first(text, certificate)
+    } else {
+        push_second(text, certificate)
+    }
 }
 
 /// The text of a certificate.

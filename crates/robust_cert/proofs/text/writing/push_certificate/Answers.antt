@@ -1,8 +1,9 @@
-use Rattle.std.proofs.Common.{codes, string_bytes}
-use Rattle.robust_cert.proofs.Texts.{whole_written, last_piece}
+use Rattle.std.proofs.Common.{sym}
+use Rattle.std.proofs.lemmas.Result.{on_ok_weaker}
+use Rattle.robust_cert.proofs.Values.{no_bodies_small}
 use Rattle.robust_cert.proofs.text.writing.push_certificate.Goals as goal
 
-pub returns-clause-text : goal.returns-clause-text
-returns-clause-text c = last_piece c.push_str-3.result _ (string_bytes c.push_levels.new.text) (codes ",\"version\":1}") _ c.push_str-3.ensures.bytes
-    (whole_written c.args.certificate.now c.as_slice.result.now c.as_slice-2.result.now (string_bytes c.args.text.now) _ _ _ _ c.as_slice.ensures c.as_slice-2.ensures
-    c.in_ok-push_str.ensures.bytes c.in_ok-push_entries.ensures.text c.in_ok-push_str-2.ensures.bytes c.in_ok-push_levels.ensures.text)
+pub returns-then-has_no_bodies-clause-fits : goal.returns-then-has_no_bodies-clause-fits
+returns-then-has_no_bodies-clause-fits c =
+    let small = no_bodies_small c.args.certificate.now (sym c.if-has_no_bodies.ensures) in
+    on_ok_weaker c.push_first.result (λ fits. (fits.0, fits.1, small)) c.push_first.ensures.fits

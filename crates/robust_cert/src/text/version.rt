@@ -1,0 +1,9 @@
+//! The versions of a certificate's text.
+
+/// The second version says how many accesses of each node stand in the body of an `each`. The
+/// first stands for none.
+#[derive(Clone, Copy)]
+pub enum Version {
+    First,
+    Second,
+}
