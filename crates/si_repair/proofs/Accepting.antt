@@ -1,5 +1,5 @@
 -- The certificate of a table without a dangerous structure is accepted, and is that of the paths.
-use Rattle.std.proofs.Common.{◌≡◌, ℕ, ◌<◌, ◌≤◌, List, length, ◌⊎◌, inl, inr, subst}
+use Rattle.std.proofs.Common.{◌≡◌, ℕ, ◌<◌, ◌≤◌, List, length, map, ◌⊎◌, inl, inr, subst}
 use Rattle.std.proofs.lemmas.Bool.{cases_lt}
 use Rattle.std.specs.Prelude.{slice_index_or, Option, Some, None, IfSome, IfNone}
 use Rattle.prog_check.specs.declared.path.Path.{Path}
@@ -8,7 +8,7 @@ use Rattle.prog_paths.specs.Asked.{questions_of, limit}
 use Rattle.conflict_pairs.specs.Table.{Table, StandsFor}
 use Rattle.dep_graph.proofs.Rising.{level-le, level-lt}
 use Rattle.robust_cert.specs.declared.certificate.Certificate.{Certificate}
-use Rattle.robust_cert.specs.Accepted.{IsLeft, IsLeftVulnerable, LevelsRise, IsAccepted}
+use Rattle.robust_cert.specs.Accepted.{IsLeft, IsLeftVulnerable, LevelsRise, body_size, IsAccepted}
 use Rattle.si_repair.specs.Findings.{IsCertificateOf}
 use Rattle.si_repair.specs.Telling.{told_of, AreLevels}
 use Rattle.si_repair.proofs.Telling.{rising, told_holds, told_own}
@@ -30,10 +30,11 @@ module _ (t : Table) (paths : List Path) (s : StandsFor t paths) where
         level-lt (StaticEdge paths) (length paths) x y z _ _ inside edge_first edge_second (λ back. safe (x, y, z, record { first = first; second = second; back = back })) (are.counted x (edge_inside paths x y edge_first).0) (are.counted z inside);
   }
 
-  pub accepted : (c : Certificate) → c.entries ≡ told_of t.entries → AreLevels paths c.levels → length (questions_of paths) ≤ limit → (IsDangerous paths → ⊥) → IsAccepted paths c
-  accepted c is are few safe = record {
+  pub accepted : (c : Certificate) → c.entries ≡ told_of t.entries → AreLevels paths c.levels → c.bodies ≡ map body_size paths → length (questions_of paths) ≤ limit → (IsDangerous paths → ⊥) → IsAccepted paths c
+  accepted c is are bodies few safe = record {
     few = few;
     levels = are.one_each;
+    bodies = bodies;
     rising = rw is (rising t paths s);
     holds = rw is (told_holds t paths s);
     levels_rise = rw is (levels_rise c.levels are safe);

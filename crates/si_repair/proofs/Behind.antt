@@ -1,13 +1,14 @@
 -- Blocks with keeps behind their marked statements.
 use Rattle.std.proofs.Common.{◌≡◌, ℕ, ◌+◌, Bool, true, false, List, [], ◌∷◌, ◌++◌, map, refl, sym, ap, ◌∙◌, arith}
 use Rattle.std.specs.Prelude.{if◌then◌else◌}
-use Rattle.prog_tree.specs.Syntax.{StatementTree, BlockTree, BlockEnd, Then, Branch, StmtTree, Plain, Fork, block_from, ProgramTree, DraftTree}
+use Rattle.prog_tree.specs.Syntax.{StatementTree, BlockTree, BlockEnd, Then, Branch, Each, StmtTree, Plain, Fork, Loop, block_from, ProgramTree, DraftTree}
 use Rattle.prog_tree.specs.Tree.{test_tree, stmt_tree, with_stmt, with_stmts, stmts_tree, block_tree}
 use Rattle.prog_tree.specs.declared.expr.Test.{Test}
 use Rattle.prog_tree.specs.declared.stmt.Block.{Block}
+use Rattle.prog_tree.specs.declared.stmt.Listing.{Listing}
 use Rattle.prog_tree.specs.declared.stmt.Stmt.{Stmt}
 use Rattle.prog_tree.specs.declared.stmt.Stmt as t
-use Rattle.prog_tree.proofs.TreeLemmas.{fork_tree}
+use Rattle.prog_tree.proofs.TreeLemmas.{fork_tree, loop_tree}
 use Rattle.prog_check.specs.Paths.{statement_count}
 use Rattle.repair_laws.specs.Materialised.{in_front}
 use Rattle.repair_laws.specs.Promoted.{keep_of, with_keeps, all_with_keeps, promoted_by}
@@ -28,11 +29,17 @@ keeps-first marked number (Fork test a b) rest =
     ap (Branch test (with_keeps marked (number + 1) a) (with_keeps marked (number + 1 + statement_count a) b))
     (ap (λ n. with_keeps marked n rest) next
     ∙ sym (nothing_in_front (marked number) (with_keeps marked (number + (1 + statement_count a + statement_count b)) rest)))
+keeps-first marked number (Loop l body) rest =
+    let next : number + 1 + statement_count body ≡ number + (1 + statement_count body) = omega arith in
+    ap (Each l body)
+    (ap (λ n. with_keeps marked n rest) next
+    ∙ sym (nothing_in_front (marked number) (with_keeps marked (number + (1 + statement_count body)) rest)))
 
 -- a block has the statements of its first one, and the rest
 pub count-first : (x : StmtTree) (rest : BlockTree) → statement_count (block_from x rest) ≡ count_by x + statement_count rest
 count-first (Plain s) rest = refl
 count-first (Fork test a b) rest = refl
+count-first (Loop l body) rest = refl
 
 pub with_stmts-append : (ss ts : List Stmt) (rest : BlockTree) → with_stmts (ss ++ ts) rest ≡ with_stmts ss (with_stmts ts rest)
 with_stmts-append [] ts rest = refl
@@ -80,6 +87,7 @@ keeps-none number BlockEnd = refl
 keeps-none number (Then s rest) = ap (Then s) (keeps-none (number + 1) rest)
 keeps-none number (Branch test a b rest) =
     λ i. Branch test (keeps-none (number + 1) a i) (keeps-none (number + 1 + statement_count a) b i) (keeps-none (number + 1 + statement_count a + statement_count b) rest i)
+keeps-none number (Each l body rest) = ap (Each l body) (keeps-none (number + 1 + statement_count body) rest)
 
 all-none : (program : ℕ) (ps : List ProgramTree) → all_with_keeps none_marked program ps ≡ ps
 all-none program [] = refl
@@ -97,3 +105,8 @@ pub keeps-fork : (marked : ℕ → Bool) (number : ℕ) (stmt : Stmt) (x : Test)
     → with_keeps_in marked number (stmt_tree stmt)
     ≡ Fork (test_tree x) (with_keeps marked (number + 1) (block_tree a)) (with_keeps marked (number + 1 + statement_count (block_tree a)) (block_tree b))
 keeps-fork marked number stmt x a b is = ap (with_keeps_in marked number) (ap stmt_tree is ∙ fork_tree x a b)
+
+-- ---- bodies
+
+pub count-loop : (stmt : Stmt) (l : Listing) (body : Block) → stmt ≡ t.Each l body → count_by (stmt_tree stmt) ≡ 1 + statement_count (block_tree body)
+count-loop stmt l body is = ap count_by (ap stmt_tree is ∙ loop_tree l body)

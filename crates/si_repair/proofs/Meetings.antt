@@ -132,6 +132,7 @@ small_more draft plan n result small made none k less large = go (cases_lt k n)
 pub stops_nowhere : (draft : DraftTree) (plan : List Pair) → AreSmall draft plan (length plan) → StopsNowhere (StopsMaterialising IsMaterialised draft plan) plan
 stops_nowhere draft plan small n pair why.RangeRead at stops = stops
 stops_nowhere draft plan small n pair why.UnknownKey at stops = stops
+stops_nowhere draft plan small n pair why.BodyRead at stops = stops
 stops_nowhere draft plan small n pair why.TooLarge at stops = small n (slice_get_within plan n pair at) stops
 
 of-size : (f : CheckFault) → IsOfSize f → (place : Place) × (f ≡ check.TooMany place)
@@ -154,6 +155,7 @@ pub refused_at : (draft : DraftTree) (plan : List Pair) (place : ℕ) (pair : Pa
     → (f : RepairFault) → IsRefusedAt result pair f → IsRepairFault (StopsMaterialising IsMaterialised draft plan) plan f
 refused_at draft plan place pair result sound at made small (fault.RangeRead p) h = absurd h
 refused_at draft plan place pair result sound at made small (fault.UnknownKey p) h = absurd h
+refused_at draft plan place pair result sound at made small (fault.BodyRead p) h = absurd h
 refused_at draft plan place pair result sound at made small fault.Memory h = tt
 refused_at draft plan place pair result sound at made small (fault.TooMany p) h =
     let size = subst IsOfSizeAlone h.2 ((law_of_repair_sizes draft (take (place + 1) plan) result sound).0 made) in
@@ -167,6 +169,7 @@ refused_at draft plan place pair result sound at made small (fault.TooMany p) h 
     first : (n : ℕ) (earlier : Pair) (reason : Reason) → n < place → slice_get plan n ≡ Some earlier → StopsMaterialising IsMaterialised draft plan n earlier reason → ⊥
     first n earlier why.RangeRead less here stops = stops
     first n earlier why.UnknownKey less here stops = stops
+    first n earlier why.BodyRead less here stops = stops
     first n earlier why.TooLarge less here stops = small n less stops
 
 -- ---- the pairs of a plan, one after another

@@ -17,7 +17,7 @@ use Rattle.prog_paths.specs.Asked.{questions_of}
 use Rattle.prog_paths.specs.StaticGraph.{IsDangerous}
 use Rattle.repair_laws.specs.declared.plan.Pair.{Pair}
 use Rattle.repair_laws.specs.Promoted.{MarksExposed, promoted_by, IsPromoted}
-use Rattle.repair_laws.specs.Refusals.{HasRangeRead, HasUnknownRead, IsTooLarge, IsTooLargeBy, Reason, StopsPromotion, IsFirstStop}
+use Rattle.repair_laws.specs.Refusals.{HasRangeRead, HasUnknownRead, HasBodyRead, IsTooLarge, IsTooLargeBy, Reason, StopsPromotion, IsFirstStop}
 use Rattle.repair_laws.specs.Refusals as why
 use Rattle.repair_laws.specs.Plans.{IsPlan}
 use Rattle.repair_laws.specs.PathsKept.{ArePathsKept}
@@ -84,8 +84,9 @@ promoted_more draft plan n pair marked more old new at before adds covered is fa
     stops_not : (reason : Reason) → StopsPromotion IsPromoted draft plan n pair reason → ⊥
     stops_not why.RangeRead h = covered.0 h
     stops_not why.UnknownKey h = covered.1 h.1
+    stops_not why.BodyRead h = covered.2 h.2
     stops_not why.TooLarge h =
-        let large = h.2 in
+        let large = h.3 in
         faultless-fits new faultless (subst (λ (d : DraftTree). IsTooLarge d) (one_promoted draft (take (n + 1) plan) large.0 new large.1 (more, marks, is)) large.2)
 
     passed : StopsBefore draft plan (n + 1)
@@ -110,15 +111,15 @@ IsTooMuchWith draft pair marked =
 abbrev pub IsTurnFault : DraftTree → Pair → (marked : ℕ → ℕ → Bool) → RepairFault → Type 0
 IsTurnFault draft pair marked (fault.RangeRead p) = IsObstacleFault draft pair (fault.RangeRead p)
 IsTurnFault draft pair marked (fault.UnknownKey p) = IsObstacleFault draft pair (fault.UnknownKey p)
-IsTurnFault draft pair marked (fault.TooMany p) =
-    (p ≡ pair) × (HasRangeRead draft pair → ⊥) × (HasUnknownRead draft pair → ⊥) × IsTooMuchWith draft pair marked
+IsTurnFault draft pair marked (fault.BodyRead p) = IsObstacleFault draft pair (fault.BodyRead p)
+IsTurnFault draft pair marked (fault.TooMany p) = (p ≡ pair) × IsObstacle draft pair None × IsTooMuchWith draft pair marked
 IsTurnFault draft pair marked fault.Memory = Unit {0}
 
 -- ---- where no pair stops
 
 -- the pairs before a place may be promoted
 pub may_promote : (draft : DraftTree) (plan : List Pair) (n : ℕ) → StopsBefore draft plan n → MayPromote draft (take n plan)
-may_promote draft plan n passed = record { ranges = ranges; unknowns = unknowns }
+may_promote draft plan n passed = record { ranges = ranges; unknowns = unknowns; bodies = bodies }
   where
     standing : (pair : Pair) → Contains (take n plan) pair → (k : ℕ) × (k < n) × (slice_get plan k ≡ Some pair)
     standing pair c =
@@ -133,6 +134,9 @@ may_promote draft plan n passed = record { ranges = ranges; unknowns = unknowns 
 
     unknowns : (pair : Pair) → Contains (take n plan) pair → HasUnknownRead draft pair → ⊥
     unknowns pair c h = let at = standing pair c in passed at.0 pair why.UnknownKey at.1 at.2 (λ r. ranges pair c r, h)
+
+    bodies : (pair : Pair) → Contains (take n plan) pair → HasBodyRead draft pair → ⊥
+    bodies pair c h = let at = standing pair c in passed at.0 pair why.BodyRead at.1 at.2 (λ r. ranges pair c r, λ u. unknowns pair c u, h)
 
 -- ---- a turn that stops
 
@@ -155,8 +159,8 @@ size-fault draft found is alone = go found is (subst (λ (o : Option CheckFault)
 
 module _ (draft : DraftTree) (sound : IsSound draft) (plan : List Pair) (n : ℕ) (pair : Pair) (at : slice_get plan n ≡ Some pair) where
   -- the pairs up to one that has no obstacle may be promoted
-  may_with : StopsBefore draft plan n → (HasRangeRead draft pair → ⊥) → (HasUnknownRead draft pair → ⊥) → MayPromote draft (take (n + 1) plan)
-  may_with passed no_range no_unknown = record { ranges = ranges; unknowns = unknowns }
+  may_with : StopsBefore draft plan n → IsObstacle draft pair None → MayPromote draft (take (n + 1) plan)
+  may_with passed covered = record { ranges = ranges; unknowns = unknowns; bodies = bodies }
     where
       before : MayPromote draft (take n plan)
       before = may_promote draft plan n passed
@@ -169,24 +173,31 @@ module _ (draft : DraftTree) (sound : IsSound draft) (plan : List Pair) (n : ℕ
         where
           go : Contains (take n plan) p ⊎ (pair ≡ p) → ⊥
           go (inl k) = before.ranges p k h
-          go (inr e) = no_range (subst (λ (q : Pair). HasRangeRead draft q) (sym e) h)
+          go (inr e) = covered.0 (subst (λ (q : Pair). HasRangeRead draft q) (sym e) h)
 
       unknowns : (p : Pair) → Contains (take (n + 1) plan) p → HasUnknownRead draft p → ⊥
       unknowns p c h = go (split p c)
         where
           go : Contains (take n plan) p ⊎ (pair ≡ p) → ⊥
           go (inl k) = before.unknowns p k h
-          go (inr e) = no_unknown (subst (λ (q : Pair). HasUnknownRead draft q) (sym e) h)
+          go (inr e) = covered.1 (subst (λ (q : Pair). HasUnknownRead draft q) (sym e) h)
 
-  too_large : (marked : ℕ → ℕ → Bool) (old : DraftTree) → IsPromotedTo draft plan n marked old → (HasRangeRead draft pair → ⊥) → (HasUnknownRead draft pair → ⊥)
+      bodies : (p : Pair) → Contains (take (n + 1) plan) p → HasBodyRead draft p → ⊥
+      bodies p c h = go (split p c)
+        where
+          go : Contains (take n plan) p ⊎ (pair ≡ p) → ⊥
+          go (inl k) = before.bodies p k h
+          go (inr e) = covered.2 (subst (λ (q : Pair). HasBodyRead draft q) (sym e) h)
+
+  too_large : (marked : ℕ → ℕ → Bool) (old : DraftTree) → IsPromotedTo draft plan n marked old → IsObstacle draft pair None
       → IsTooMuchWith draft pair marked → IsTooLargeBy IsPromoted draft plan (n + 1)
-  too_large marked old before no_range no_unknown much =
+  too_large marked old before covered much =
       let more = much.0 in
       let marks = subst (λ (l : List Pair). MarksExposed (paths_of draft) l more) (sym (next_pair plan n pair at)) (marks-more (paths_of draft) (take n plan) pair marked more before.marks much.1) in
       let promoted : IsPromoted draft (take (n + 1) plan) (promoted_by draft more) = (more, marks, refl) in (
         promoted_by draft more,
         promoted,
-        size-fault (promoted_by draft more) much.2 much.3 ((law_of_repair_sizes draft (take (n + 1) plan) (promoted_by draft more) sound).1 (may_with before.passed no_range no_unknown) promoted),
+        size-fault (promoted_by draft more) much.2 much.3 ((law_of_repair_sizes draft (take (n + 1) plan) (promoted_by draft more) sound).1 (may_with before.passed covered) promoted),
       )
 
   stopped : (why : Reason) → StopsBefore draft plan n → StopsPromotion IsPromoted draft plan n pair why → IsFirstStop (StopsPromotion IsPromoted draft plan) plan pair why
@@ -204,9 +215,11 @@ module _ (draft : DraftTree) (sound : IsSound draft) (plan : List Pair) (n : ℕ
       subst (λ (q : Pair). IsFirstStop (StopsPromotion IsPromoted draft plan) plan q why.RangeRead) (sym h.0) (stopped why.RangeRead before.passed h.1)
   turn_refused marked old before (fault.UnknownKey p) h =
       subst (λ (q : Pair). IsFirstStop (StopsPromotion IsPromoted draft plan) plan q why.UnknownKey) (sym h.0) (stopped why.UnknownKey before.passed (h.1, h.2))
+  turn_refused marked old before (fault.BodyRead p) h =
+      subst (λ (q : Pair). IsFirstStop (StopsPromotion IsPromoted draft plan) plan q why.BodyRead) (sym h.0) (stopped why.BodyRead before.passed (h.1, h.2, h.3))
   turn_refused marked old before (fault.TooMany p) h =
       subst (λ (q : Pair). IsFirstStop (StopsPromotion IsPromoted draft plan) plan q why.TooLarge) (sym h.0)
-      (stopped why.TooLarge before.passed (h.1, h.2, too_large marked old before h.1 h.2 h.3))
+      (stopped why.TooLarge before.passed (h.1.0, h.1.1, h.1.2, too_large marked old before h.1 h.2))
   turn_refused marked old before fault.Memory h = tt
 
 -- ---- the whole plan
@@ -244,6 +257,7 @@ turn_stopped draft seen plan items n d same all inside sound marked old before f
 pub obstacle_fault : (draft : DraftTree) (pair : Pair) (marked : ℕ → ℕ → Bool) (f : RepairFault) → IsObstacleFault draft pair f → IsTurnFault draft pair marked f
 obstacle_fault draft pair marked (fault.RangeRead p) h = h
 obstacle_fault draft pair marked (fault.UnknownKey p) h = h
+obstacle_fault draft pair marked (fault.BodyRead p) h = h
 obstacle_fault draft pair marked (fault.TooMany p) h = absurd h
 obstacle_fault draft pair marked fault.Memory h = tt
 
@@ -252,9 +266,10 @@ pub turn_fault : (draft : DraftTree) (pair : Pair) (marked more : ℕ → ℕ �
     → IsObstacle draft pair None → AddsReads (paths_of draft) pair marked more → made ≡ promoted_by draft more → IsRefusedAt made pair f
     → IsTurnFault draft pair marked f
 turn_fault draft pair marked more made (fault.TooMany p) covered adds is h =
-    (h.0, covered.0, covered.1, (more, adds, h.1, sym (ap first_fault is) ∙ h.2))
+    (h.0, covered, (more, adds, h.1, sym (ap first_fault is) ∙ h.2))
 turn_fault draft pair marked more made (fault.RangeRead p) covered adds is h = absurd h
 turn_fault draft pair marked more made (fault.UnknownKey p) covered adds is h = absurd h
+turn_fault draft pair marked more made (fault.BodyRead p) covered adds is h = absurd h
 turn_fault draft pair marked more made fault.Memory covered adds is h = tt
 
 -- ---- the set of a whole plan

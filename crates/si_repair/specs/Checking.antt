@@ -9,7 +9,7 @@ use Rattle.prog_check.specs.Faults.{first_fault}
 use Rattle.prog_check.specs.Sound.{IsSound}
 use Rattle.repair_laws.specs.declared.plan.Pair.{Pair}
 use Rattle.si_repair.specs.declared.repairs.fault.RepairFault.{RepairFault}
-use Rattle.si_repair.specs.declared.repairs.fault.RepairFault.TheVariants.{RangeRead, UnknownKey, TooMany, Memory}
+use Rattle.si_repair.specs.declared.repairs.fault.RepairFault.TheVariants.{RangeRead, UnknownKey, BodyRead, TooMany, Memory}
 
 -- the set is the draft, which has no fault
 abbrev pub IsCheckedSet : Draft → Draft → Type 0
@@ -21,4 +21,5 @@ IsRefusedAt draft pair (TooMany stopping) =
     (stopping ≡ pair) × (fault : CheckFault) × (first_fault draft ≡ Some fault) × (fault ≡ check.Memory → ⊥)
 IsRefusedAt draft pair (RangeRead stopping) = ⊥
 IsRefusedAt draft pair (UnknownKey stopping) = ⊥
+IsRefusedAt draft pair (BodyRead stopping) = ⊥
 IsRefusedAt draft pair Memory = Unit {0}

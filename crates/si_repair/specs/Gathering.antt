@@ -17,6 +17,10 @@ HasAccess nodes x a = (access : Access) × IsAccessOf nodes x a access
 abbrev pub HasRead : List Path → Asked → Type 0
 HasRead nodes q = HasAccess nodes q.x q.a
 
+-- both accesses of a question are there
+abbrev pub HasBoth : List Path → Asked → Type 0
+HasBoth nodes q = HasAccess nodes q.x q.a × HasAccess nodes q.y q.b
+
 -- of these accesses, those on paths of a program
 pub record AreOfProgram (nodes : List Path) (program : ℕ) (all places : List Placed) : Type 0 where
   pub only : (p : Placed) → Contains places p → Contains all p × IsOfProgram nodes program p.node

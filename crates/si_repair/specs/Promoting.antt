@@ -1,7 +1,7 @@
 -- Marked statements, and what one pair of a plan adds to them.
 use Rattle.std.specs.Prelude.{◌≡◌, ◌↔◌, ℕ, ◌+◌, ◌≤◌, ◌⊎◌, ◌&&◌, ◌==◌, Bool, true, List, Option, Some, None, slice_get}
 use Rattle.std.specs.List.{list_any}
-use Rattle.prog_tree.specs.Syntax.{Name, KeyTree, StmtTree, Plain, Fork, ProgramTree, DraftTree}
+use Rattle.prog_tree.specs.Syntax.{Name, KeyTree, StmtTree, Plain, Fork, Loop, ProgramTree, DraftTree}
 use Rattle.prog_tree.specs.Tree.{block_tree}
 use Rattle.prog_tree.specs.declared.program.Program.{Program}
 use Rattle.prog_check.specs.declared.path.Access.{Access}
@@ -11,9 +11,9 @@ use Rattle.prog_paths.specs.declared.places.Question.{Question as Asked}
 use Rattle.repair_laws.specs.declared.plan.Pair.{Pair}
 use Rattle.repair_laws.specs.Keys.{ExposedOf}
 use Rattle.repair_laws.specs.Promoted.{cell_read, with_keeps}
-use Rattle.repair_laws.specs.Refusals.{HasRangeRead, HasUnknownRead}
+use Rattle.repair_laws.specs.Refusals.{HasRangeRead, HasUnknownRead, HasBodyRead}
 use Rattle.si_repair.specs.declared.repairs.fault.RepairFault.{RepairFault}
-use Rattle.si_repair.specs.declared.repairs.fault.RepairFault.TheVariants.{RangeRead, UnknownKey, TooMany, Memory}
+use Rattle.si_repair.specs.declared.repairs.fault.RepairFault.TheVariants.{RangeRead, UnknownKey, BodyRead, TooMany, Memory}
 use Rattle.si_repair.specs.declared.repairs.marks.Mark.{Mark}
 
 -- ---- marks
@@ -57,21 +57,24 @@ AddsReads nodes pair old new =
 
 -- ---- statements
 
--- the cell that a statement reads; a branch itself reads none
+-- the cell that a statement reads; a branch itself reads none, nor does an `each`
 abbrev pub cell_read_by : StmtTree → Option (Name × KeyTree)
 cell_read_by (Plain statement) = cell_read statement
 cell_read_by (Fork test a b) = None
+cell_read_by (Loop l body) = None
 
 -- how many statements a statement is, those of its blocks too
 abbrev pub count_by : StmtTree → ℕ
 count_by (Plain statement) = 1
 count_by (Fork test a b) = 1 + statement_count a + statement_count b
+count_by (Loop l body) = 1 + statement_count body
 
--- a statement of this number with keeps in its blocks
+-- a statement of this number with keeps in the blocks of a branch; a body gets none
 abbrev pub with_keeps_in : (marked : ℕ → Bool) → (number : ℕ) → StmtTree → StmtTree
 with_keeps_in marked number (Plain statement) = Plain statement
 with_keeps_in marked number (Fork test a b) =
     Fork test (with_keeps marked (number + 1) a) (with_keeps marked (number + 1 + statement_count a) b)
+with_keeps_in marked number (Loop l body) = Loop l body
 
 abbrev pub HasFewStatements : Program → Type 0
 HasFewStatements p = statement_count (block_tree p.body) ≤ 256
@@ -86,5 +89,7 @@ promoted_program marked p = record { name = p.name; params = p.params; body = wi
 abbrev pub IsObstacleFault : DraftTree → Pair → RepairFault → Type 0
 IsObstacleFault draft pair (RangeRead p) = (p ≡ pair) × HasRangeRead draft pair
 IsObstacleFault draft pair (UnknownKey p) = (p ≡ pair) × (HasRangeRead draft pair → ⊥) × HasUnknownRead draft pair
+IsObstacleFault draft pair (BodyRead p) =
+    (p ≡ pair) × (HasRangeRead draft pair → ⊥) × (HasUnknownRead draft pair → ⊥) × HasBodyRead draft pair
 IsObstacleFault draft pair (TooMany p) = ⊥
 IsObstacleFault draft pair Memory = Unit {0}

@@ -8,7 +8,7 @@ use Rattle.repair_laws.specs.Meaning.{KeepsMeaning}
 use Rattle.repair_laws.specs.Refusals.{Reason, IsFirstStop}
 use Rattle.repair_laws.specs.Refusals as why
 use Rattle.si_repair.specs.declared.repairs.fault.RepairFault.{RepairFault}
-use Rattle.si_repair.specs.declared.repairs.fault.RepairFault.TheVariants.{RangeRead, UnknownKey, TooMany, Memory}
+use Rattle.si_repair.specs.declared.repairs.fault.RepairFault.TheVariants.{RangeRead, UnknownKey, BodyRead, TooMany, Memory}
 
 -- both numbers are those of programs
 abbrev pub IsInRange : DraftTree → Pair → Type 0
@@ -30,5 +30,6 @@ StopsNowhere Stops plan =
 abbrev pub IsRepairFault : (Stops : ℕ → Pair → Reason → Type 0) → List Pair → RepairFault → Type 0
 IsRepairFault Stops plan (RangeRead pair) = IsFirstStop Stops plan pair why.RangeRead
 IsRepairFault Stops plan (UnknownKey pair) = IsFirstStop Stops plan pair why.UnknownKey
+IsRepairFault Stops plan (BodyRead pair) = IsFirstStop Stops plan pair why.BodyRead
 IsRepairFault Stops plan (TooMany pair) = IsFirstStop Stops plan pair why.TooLarge
 IsRepairFault Stops plan Memory = Unit {0}

@@ -1,34 +1,34 @@
 //! The analysis of a set.
-ghost use Rattle.std.specs.Prelude.{◌≡◌, ◌<◌, ◌≤◌, List, length, IfOk, OnOk, Err};
+ghost use Rattle.std.specs.Prelude.{◌≡◌, ◌<◌, ◌≤◌, length, IfOk, OnOk, Err};
 ghost use Rattle.prog_tree.specs.Tree.{draft_tree};
-ghost use Rattle.prog_check.specs.declared.path.Path.{Path};
 ghost use Rattle.prog_check.specs.Paths.{paths_of};
 ghost use Rattle.prog_paths.specs.Asked.{questions_of, limit};
+ghost use Rattle.prog_paths.specs.Few.{AreFew};
 ghost use Rattle.conflict_pairs.specs.Table.{StandsFor};
 ghost use Rattle.si_repair.specs.declared.fault.AnalyseFault as AnalyseFault;
 ghost use Rattle.si_repair.specs.Findings.{IsRightFinding};
-ghost use Rattle.si_repair.specs.Telling.{IsOfFew};
 
 use crate::fault::AnalyseFault;
 use crate::finding::Finding;
 use crate::writing::certificate_of;
 use conflict_pairs::{PairTable, pairs, pairs_par};
 use dep_graph::Graph;
-use prog_check::ProgramSet;
+use prog_check::{Path, ProgramSet};
 use prog_paths::paths;
 use std::alloc::{AllocError, Global};
 use std::thread::Threads;
 
-/// What the table of all questions comes to.
-fn finding_of(alloc: Global, table: &PairTable) -> Result<Finding, AllocError>
-    requires { IsOfFew table.now }
-    ensures { IfOk result (λ finding. (paths : List Path) → StandsFor table.now paths
-        → length (questions_of paths) ≤ limit → IsRightFinding paths finding) }
+/// What the table of all questions of a list of paths comes to.
+fn finding_of(alloc: Global, paths: &[Path], table: &PairTable) -> Result<Finding, AllocError>
+    requires stands { StandsFor table.now paths.now }
+    requires few { AreFew paths.now }
+    requires in_bounds { length (questions_of paths.now) ≤ limit }
+    ensures { IfOk result (IsRightFinding paths.now) }
 {
     let graph = Graph::build(alloc, table)?;
     match graph.danger()? {
         Some(danger) => Ok(Finding::Refused(danger)),
-        None => Ok(Finding::Robust(certificate_of(alloc, table, &graph)?)),
+        None => Ok(Finding::Robust(certificate_of(alloc, paths, table, &graph)?)),
     }
 }
 
@@ -43,7 +43,7 @@ pub fn certify(alloc: Global, set: &ProgramSet) -> Result<Finding, AnalyseFault>
 {
     let paths = paths(alloc, set)?;
     let table = pairs(alloc, &paths)?;
-    let finding = finding_of(alloc, &table)?;
+    let finding = finding_of(alloc, &paths, &table)?;
     Ok(finding)
 }
 
@@ -62,6 +62,6 @@ pub fn certify_par(
 {
     let paths = paths(alloc, set)?;
     let table = pairs_par(rt, alloc, &paths)?;
-    let finding = finding_of(alloc, &table)?;
+    let finding = finding_of(alloc, &paths, &table)?;
     Ok(finding)
 }

@@ -1,14 +1,17 @@
 //! The certificate of a table whose graph has no dangerous structure.
-ghost use Rattle.std.specs.Prelude.{◌≡◌, ◌++◌, List, All, IfOk, OnOk};
+ghost use Rattle.std.specs.Prelude.{◌≡◌, ◌++◌, List, map, All, IfOk, OnOk};
 ghost use Rattle.prog_check.specs.declared.path.Path.{Path};
+ghost use Rattle.prog_paths.specs.Few.{AreFew};
 ghost use Rattle.conflict_pairs.specs.Table.{StandsFor};
+ghost use Rattle.robust_cert.specs.Accepted.{body_size};
 ghost use Rattle.robust_cert.specs.Ranges.{IsSmall};
 ghost use Rattle.si_repair.specs.Telling.{told_question, told_by, told_of, AreLevels, IsOfFew, AskedFits, TightFits, VerdictFits};
 
 use conflict_pairs::{PairTable, Verdict};
 use dep_graph::Graph;
+use prog_check::Path;
 use prog_tree::Sequence;
-use robust_cert::{Certificate, Chain, Entry, Question};
+use robust_cert::{Certificate, Chain, Entry, Question, body_size};
 use std::alloc::{AllocError, Global};
 
 /// A number as a certificate has it.
@@ -113,20 +116,35 @@ fn levels_of(alloc: Global, graph: &Graph<'_>) -> Result<Vec<u32>, AllocError>
     Ok(levels)
 }
 
-/// The certificate of a table, with its graph.
+/// For each path how many of its accesses stand in the body of an `each`.
+fn bodies_of(alloc: Global, paths: &[Path]) -> Result<Vec<u32>, AllocError>
+    requires { AreFew paths.now }
+    ensures { IfOk result (λ bodies. bodies.items ≡ map body_size paths.now) }
+{
+    let mut bodies = Vec::with_capacity(alloc, paths.len())?;
+    for path in paths {
+        bodies.push(small(body_size(path)))?;
+    }
+    Ok(bodies)
+}
+
+/// The certificate of the table of a list of paths, with its graph.
 pub fn certificate_of(
     alloc: Global,
+    paths: &[Path],
     table: &PairTable,
     graph: &Graph<'_>,
 ) -> Result<Certificate, AllocError>
-    requires few { IsOfFew table.now }
+    requires paths { StandsFor table.now paths.now }
+    requires few { AreFew paths.now }
     requires graph { graph.now ≡ table.now }
     ensures entries { IfOk result (λ c. c.entries ≡ told_of table.now.entries) }
-    ensures levels { IfOk result (λ c.
-        (paths : List Path) → StandsFor table.now paths → AreLevels paths c.levels) }
+    ensures levels { IfOk result (λ c. AreLevels paths.now c.levels) }
+    ensures bodies { IfOk result (λ c. c.bodies ≡ map body_size paths.now) }
 {
     Ok(Certificate {
         entries: Sequence::from_vec(entries_of(alloc, table)?),
         levels: Sequence::from_vec(levels_of(alloc, graph)?),
+        bodies: Sequence::from_vec(bodies_of(alloc, paths)?),
     })
 }

@@ -8,6 +8,7 @@ ghost use Rattle.prog_check.specs.Sound.{IsSound};
 ghost use Rattle.repair_laws.specs.Promoted.{keep_of, with_keeps, all_with_keeps, promoted_by};
 ghost use Rattle.si_repair.specs.Promoting.{is_marked, cell_read_by, count_by, with_keeps_in, HasFewStatements, promoted_program};
 
+use crate::repairs::counts::count_block;
 use crate::repairs::marks::{Mark, is_marked};
 use prog_tree::{Block, Draft, Key, Name, Program, Stmt};
 use std::alloc::{AllocError, Global};
@@ -57,6 +58,7 @@ fn keep_of(alloc: Global, stmt: &Stmt) -> Result<Vec<Stmt>, AllocError>
         | Stmt::Delete { .. }
         | Stmt::Keep { .. }
         | Stmt::Branch { .. }
+        | Stmt::Each { .. }
         | Stmt::Reply { .. }
         | Stmt::Abort => Ok(Vec::new(alloc)),
     }
@@ -74,7 +76,7 @@ fn keeps_behind(alloc: Global, marked: bool, stmt: &Stmt) -> Result<Vec<Stmt>, A
     }
 }
 
-/// A statement of this number with keeps in its blocks.
+/// A statement of this number with keeps in the blocks of a branch; none in the body of an `each`.
 #[cycle(keeps)]
 fn keeps_in_stmt(
     alloc: Global,
@@ -105,6 +107,10 @@ fn keeps_in_stmt(
                 next: second.next,
             })
         }
+        Stmt::Each { body, .. } => Ok(NumberedStmt {
+            stmt: stmt.copy(alloc)?,
+            next: number + 1 + count_block(body),
+        }),
         _ => Ok(NumberedStmt {
             stmt: stmt.copy(alloc)?,
             next: number + 1,

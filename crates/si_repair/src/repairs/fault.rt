@@ -10,6 +10,9 @@ pub enum RepairFault {
     RangeRead(Pair),
     /// The first program reads a row under a key of unknown value that is exposed to the second.
     UnknownKey(Pair),
+    /// A read of the first program that is exposed to the second, or the access to which it is,
+    /// stands in the body of an `each`.
+    BodyRead(Pair),
     /// The repaired set would break a limit.
     TooMany(Pair),
     Memory,

@@ -40,6 +40,7 @@ fn refuse_obstacle(
     match first_obstacle(alloc, draft, paths, pair, questions)? {
         Some(Obstacle::RangeRead) => Err(RepairFault::RangeRead(pair)),
         Some(Obstacle::UnknownKey) => Err(RepairFault::UnknownKey(pair)),
+        Some(Obstacle::BodyRead) => Err(RepairFault::BodyRead(pair)),
         None => Ok(()),
     }
 }

@@ -4,9 +4,9 @@ ghost use Rattle.prog_tree.specs.Syntax.{BlockTree};
 ghost use Rattle.prog_tree.specs.Tree.{with_stmt, block_tree, draft_tree};
 ghost use Rattle.prog_check.specs.Paths.{paths_of};
 ghost use Rattle.repair_laws.specs.Refusals.{IsUnknownTerm, IsUnknownSecond, HasUnknownKey};
-ghost use Rattle.si_repair.specs.Gathering.{HasRead};
+ghost use Rattle.si_repair.specs.Gathering.{HasRead, HasBoth};
 ghost use Rattle.si_repair.specs.Exposing.{AreExposed, IsObstacle};
-ghost use Rattle.si_repair.specs.Obstacles.{range_marks, marks_of, ReadsMarked, ReadsUnknown, obstacle_of};
+ghost use Rattle.si_repair.specs.Obstacles.{range_marks, marks_of, ReadsMarked, ReadsUnknown, MeetsInBody, obstacle_of};
 
 use crate::repairs::exposed::access_at;
 use prog_check::{Access, Column, Path, Term};
@@ -20,6 +20,7 @@ use std::alloc::{AllocError, Global};
 pub enum Obstacle {
     RangeRead,
     UnknownKey,
+    BodyRead,
 }
 
 /// Adds whether a statement is a range, and the same of those in its blocks.
@@ -37,6 +38,10 @@ fn push_stmt(marks: &mut Vec<bool>, stmt: &Stmt) -> Result<(), AllocError>
             marks.push(false)?;
             push_block(marks, then)?;
             push_block(marks, otherwise)?;
+        }
+        Stmt::Each { body, .. } => {
+            marks.push(true)?;
+            push_block(marks, body)?;
         }
         Stmt::Count { .. } | Stmt::Sum { .. } => marks.push(true)?,
         Stmt::Bind { .. }
@@ -132,20 +137,39 @@ fn reads_unknown(paths: &[Path], questions: &[Question]) -> bool
     false
 }
 
-/// The obstacle of a pair that reads a range or not, and under an unknown key or not.
-fn obstacle_of(reads_range: bool, reads_unknown: bool) -> Option<Obstacle>
-    ensures { result ≡ obstacle_of reads_range reads_unknown }
+/// Whether an access of some question stands in the body of an `each`.
+fn meets_in_body(paths: &[Path], questions: &[Question]) -> bool
+    requires { All (λ q. HasBoth paths.now q) questions.now }
+    ensures { IsTrue result ↔ MeetsInBody paths.now questions.now }
+{
+    for question in questions {
+        let read = access_at(paths, question.x, question.a);
+        let other = access_at(paths, question.y, question.b);
+        if !read.sure || !other.sure {
+            return true;
+        }
+    }
+    false
+}
+
+/// The obstacle of a pair that reads a range or not, under an unknown key or not, and in a body or
+/// not.
+fn obstacle_of(reads_range: bool, reads_unknown: bool, in_body: bool) -> Option<Obstacle>
+    ensures { result ≡ obstacle_of reads_range reads_unknown in_body }
 {
     if reads_range {
         Some(Obstacle::RangeRead)
     } else if reads_unknown {
         Some(Obstacle::UnknownKey)
+    } else if in_body {
+        Some(Obstacle::BodyRead)
     } else {
         None
     }
 }
 
-/// Why a pair with these exposed questions can't be promoted: a range read before an unknown key.
+/// Why a pair with these exposed questions can't be promoted: a range read before an unknown key,
+/// and that before an access in a body.
 pub fn first_obstacle(
     alloc: Global,
     draft: &Draft,
@@ -159,5 +183,7 @@ pub fn first_obstacle(
 {
     let ranges = ranges_of(alloc, draft, pair.from)?;
     let reads_range = reads_marked(paths, &ranges, questions);
-    Ok(obstacle_of(reads_range, reads_unknown(paths, questions)))
+    let unknown_key = reads_unknown(paths, questions);
+    let in_body = meets_in_body(paths, questions);
+    Ok(obstacle_of(reads_range, unknown_key, in_body))
 }

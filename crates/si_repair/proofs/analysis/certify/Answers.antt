@@ -1,9 +1,12 @@
-use Rattle.std.proofs.Common.{List, subst, ◌∙◌}
+use Rattle.std.proofs.Common.{List, length, ◌≤◌, sym, subst, ◌∙◌}
 use Rattle.prog_tree.specs.Tree.{draft_tree}
 use Rattle.prog_check.specs.declared.path.Path.{Path}
 use Rattle.prog_check.specs.Paths.{paths_of}
+use Rattle.prog_paths.specs.Asked.{questions_of, limit}
+use Rattle.prog_paths.specs.Few.{AreFew}
 use Rattle.prog_paths.proofs.SingleCells.{law_of_single_changes}
 use Rattle.conflict_pairs.specs.Table.{StandsFor}
+use Rattle.si_repair.specs.Findings.{IsRightFinding}
 use Rattle.si_repair.proofs.Analysing.{all_single, in_limit}
 use Rattle.si_repair.proofs.analysis.certify.Goals as goal
 
@@ -13,15 +16,18 @@ pairs-requires c = record {
 }
 
 pub finding_of-requires : goal.finding_of-requires
-finding_of-requires c = record {
-  paths = c.in_ok-paths.paths.items;
-  stands = subst (λ (l : List Path). StandsFor c.in_ok-table.table l) c.deref.ensures.value c.in_ok-table.ensures.table;
-  few = c.in_ok-paths.ensures.few;
-}
+finding_of-requires c =
+    let paths = paths_of (draft_tree c.args.set.now) in
+    let seen = c.deref.ensures.value in
+    let again = sym c.deref-2.ensures.value in
+    let in_bounds = in_limit _ paths (seen ∙ c.in_ok-paths.ensures.exact) (λ over. let e = c.in_ok-table.ensures.too_large.1 over in absurd (cc)) in
+    record {
+      stands = subst (λ (l : List Path). StandsFor c.in_ok-table.table l) (seen ∙ again) c.in_ok-table.ensures.table;
+      few = subst (λ (l : List Path). AreFew l) again c.in_ok-paths.ensures.few;
+      in_bounds = subst (λ (l : List Path). length (questions_of l) ≤ limit) (sym c.in_ok-paths.ensures.exact ∙ again) in_bounds;
+    }
 
 pub returns-clause-finding : goal.returns-clause-finding
 returns-clause-finding c =
-    let paths = paths_of (draft_tree c.args.set.now) in
-    let same = c.deref.ensures.value ∙ c.in_ok-paths.ensures.exact in
-    c.in_ok-finding.ensures paths (subst (λ (l : List Path). StandsFor c.in_ok-table.table l) same c.in_ok-table.ensures.table)
-    (in_limit _ paths same (λ over. let e = c.in_ok-table.ensures.too_large.1 over in absurd (cc)))
+    let same = c.deref-2.ensures.value ∙ c.in_ok-paths.ensures.exact in
+    subst (λ (l : List Path). IsRightFinding l c.in_ok-finding.finding) same c.in_ok-finding.ensures

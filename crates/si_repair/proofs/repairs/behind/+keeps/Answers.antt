@@ -6,7 +6,7 @@ use Rattle.prog_tree.proofs.TreeLemmas.{fork_tree}
 use Rattle.prog_check.specs.Paths.{statement_count}
 use Rattle.repair_laws.specs.Promoted.{keep_of, with_keeps}
 use Rattle.si_repair.specs.Promoting.{is_marked, cell_read_by}
-use Rattle.si_repair.proofs.Behind.{count-first, keeps-more, count-fork, keeps-fork}
+use Rattle.si_repair.proofs.Behind.{count-first, keeps-more, count-fork, keeps-fork, count-loop}
 use Rattle.si_repair.proofs.repairs.behind.+keeps.Goals as goal
 
 pub keeps_in_stmt-keeps_in_block-requires : goal.keeps_in_stmt-keeps_in_block-requires
@@ -44,6 +44,28 @@ keeps_in_stmt-returns-in_ok-copy-in-Branch-clause-kept t c =
     fork_tree test.field-0 first.first.block second.second.block
     ∙ (λ i. Fork (test.ensures i) (first.ensures.kept i) ((second.ensures.kept ∙ ap (λ n. with_keeps marked n (block_tree branch.otherwise)) first.ensures.next) i))
     ∙ sym (keeps-fork marked c.args.number c.args.stmt.now branch.test branch.then branch.otherwise branch.is)
+
+pub keeps_in_stmt-count_block-requires : goal.keeps_in_stmt-count_block-requires
+keeps_in_stmt-count_block-requires t c =
+    let each = c.in-Each in
+    let size = count-loop c.args.stmt.now each.listing each.body each.is in
+    let room = c.requires in
+    omega (arith, size, room)
+
+pub keeps_in_stmt-overflow_add-result-in-Each : goal.keeps_in_stmt-overflow_add-result-in-Each
+keeps_in_stmt-overflow_add-result-in-Each t c =
+    let each = c.in-Each in
+    let size = count-loop c.args.stmt.now each.listing each.body each.is in
+    let room = c.requires in
+    let inside = c.count_block.ensures in
+    omega (arith, size, room, inside)
+
+pub keeps_in_stmt-returns-in_ok-copy-in-Each-clause-next : goal.keeps_in_stmt-returns-in_ok-copy-in-Each-clause-next
+keeps_in_stmt-returns-in_ok-copy-in-Each-clause-next t c =
+    let each = c.in-Each in
+    let size = count-loop c.args.stmt.now each.listing each.body each.is in
+    let inside = c.count_block.ensures in
+    omega (arith, size, inside)
 
 pub keeps_in_block-keeps_in_stmt-requires : goal.keeps_in_block-keeps_in_stmt-requires
 keeps_in_block-keeps_in_stmt-requires t c =
