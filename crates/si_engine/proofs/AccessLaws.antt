@@ -15,10 +15,11 @@ use Rattle.prog_check.specs.declared.path.Kind.TheVariants.{Sees, Lacks, Writes,
 use Rattle.prog_check.specs.Paths.{paths_of}
 use Rattle.prog_check.specs.Tables.{grows}
 use Rattle.prog_paths.specs.Follows.{IsLookOf, LooksAt, KeepsCell, FoundAs, ChangedAs}
-use Rattle.prog_paths.specs.Meeting.{IsOf, MeetsUnder}
+use Rattle.prog_paths.specs.Meeting.{Assignment, IsOf, IsTime, MeetAsOwn}
 use Rattle.prog_paths.specs.StaticGraph.{Question, HasQuestion}
 use Rattle.prog_check.specs.declared.path.Kind.{Kind}
 use Rattle.prog_paths.proofs.KindsFit.{KindFits}
+use Rattle.prog_paths.proofs.Own.{law_of_times}
 use Rattle.history_book.specs.Dependencies.{start_at, evaluation_at}
 use Rattle.history_book.specs.History.{Instance}
 use Rattle.history_book.proofs.DependencyLaws.{start_at-below}
@@ -75,12 +76,14 @@ module _ (set : DraftTree) (opening : TableState) (h : List Instance) (is : IsHi
 
   -- ---- accesses that hold a cell
 
-  -- an access of the node that an instance follows holds the cell
+  -- an access of the node that an instance follows holds the cell at some time
   pub record Holds (i : ℕ) (f : FollowsNode set opening h i) (c : Cell) : Type 0 where
     pub number : ℕ
     pub access : Access
     pub at : slice_get f.path.accesses number ≡ Some access
-    pub holds : IsOf f.v access c
+    pub time : Assignment
+    pub at_time : IsTime access f.v time
+    pub holds : IsOf time access c
 
   -- an access that holds the cell, of a kind that fits what a look found there
   abbrev pub HoldsLook : (i : ℕ) → FollowsNode set opening h i → Cell → Type 0
@@ -96,13 +99,16 @@ module _ (set : DraftTree) (opening : TableState) (h : List Instance) (is : IsHi
       IsTrue (has_looked (evaluation_at set opening h i) c) → HoldsLook i f c
   looked i f c looks =
       let t = f.follows.look c (looks_of (evaluation_at set opening h i).looks c looks) in
-      (record { number = t.0; access = t.1; at = t.2; holds = t.3 }, t.4)
+      let own = t.3 in
+      (record { number = t.0; access = t.1; at = t.2; time = own.0; at_time = own.1; holds = own.2 }, t.4)
 
   -- whatever it changed, an access holds that changes
   pub changed_in : (i : ℕ) (f : FollowsNode set opening h i) (c : Cell) → ChangesAt set opening h is i c →
       HoldsChange i f c
   changed_in i f c k =
-      let t = f.follows.change c k in (record { number = t.0; access = t.1; at = t.2; holds = t.3 }, t.4)
+      let t = f.follows.change c k in
+      let own = t.3 in
+      (record { number = t.0; access = t.1; at = t.2; time = own.0; at_time = own.1; holds = own.2 }, t.4)
 
   fits_at : (i : ℕ) (f : FollowsNode set opening h i) (c : Cell) (t : Holds i f c) →
       KindFits (grows (slice_get set.tables c.table)) t.access.kind
@@ -121,8 +127,18 @@ module _ (set : DraftTree) (opening : TableState) (h : List Instance) (is : IsHi
   -- ---- two accesses that hold one cell are a question that meets
 
   module _ (i j : ℕ) (f : FollowsNode set opening h i) (g : FollowsNode set opening h j) (c : Cell) (t : Holds i f c) (s : Holds j g c) where
-    pub meets : MeetsUnder f.v g.v t.access s.access
-    meets = record { mine_of_i64 = f.of_i64; theirs_of_i64 = g.of_i64; meet = (c, t.holds, s.holds) }
+    pub meets : MeetAsOwn f.v g.v t.access s.access
+    meets = (
+      t.time,
+      s.time,
+      t.at_time,
+      s.at_time,
+      record {
+        mine_of_i64 = law_of_times t.access f.v t.time f.of_i64 t.at_time;
+        theirs_of_i64 = law_of_times s.access g.v s.time g.of_i64 s.at_time;
+        meet = (c, t.holds, s.holds);
+      },
+    )
 
     abbrev pub question_of : Question
     question_of = record { x = f.node; a = t.number; y = g.node; b = s.number }
@@ -147,7 +163,7 @@ module _ (set : DraftTree) (opening : TableState) (h : List Instance) (is : IsHi
           holds = p;
         }
 
-    -- a question that meets under the assignments followed
+    -- a question that meets at some times under the assignments followed
     pub asked : (asks : Question → Kind → Kind → Type 0) → asks question_of t.access.kind s.access.kind →
-        HasQuestion asks (λ q a b. MeetsUnder f.v g.v a b) (paths_of set) f.node g.node
-    asked asks kinds = asked_with asks (λ q a b. MeetsUnder f.v g.v a b) kinds meets
+        HasQuestion asks (λ q a b. MeetAsOwn f.v g.v a b) (paths_of set) f.node g.node
+    asked asks kinds = asked_with asks (λ q a b. MeetAsOwn f.v g.v a b) kinds meets

@@ -5,7 +5,7 @@ use Rattle.prog_tree.specs.Table.{TableState}
 use Rattle.prog_check.specs.declared.path.Kind.{Kind}
 use Rattle.prog_check.specs.declared.path.Path.{Path}
 use Rattle.prog_check.specs.Paths.{paths_of}
-use Rattle.prog_paths.specs.Meeting.{Assignment, MeetsUnder, CanMeet}
+use Rattle.prog_paths.specs.Meeting.{Assignment, MeetAsOwn, CanMeet}
 use Rattle.prog_paths.specs.StaticGraph.{Question, HasQuestion, StaticEdge}
 use Rattle.prog_paths.proofs.Edges.{HasQuestion-weaker}
 use Rattle.history_book.specs.Dependencies.{depends}
@@ -16,10 +16,10 @@ use Rattle.si_engine.proofs.EdgeLaws.{edge_of}
 use Rattle.si_engine.proofs.AccessLaws.{starts}
 
 can_meet : (asks : Question → Kind → Kind → Type 0) (v w : Assignment) (nodes : List Path) (x y : ℕ) →
-    HasQuestion asks (λ q a b. MeetsUnder v w a b) nodes x y → HasQuestion asks (λ q a b. CanMeet a b) nodes x y
+    HasQuestion asks (λ q a b. MeetAsOwn v w a b) nodes x y → HasQuestion asks (λ q a b. CanMeet a b) nodes x y
 can_meet asks v w nodes x y q =
-    HasQuestion-weaker asks (λ question a b. MeetsUnder v w a b) (λ question a b. CanMeet a b) nodes
-    (λ question mine theirs asked kinds meets. (v, w, meets)) x y q
+    HasQuestion-weaker asks (λ question a b. MeetAsOwn v w a b) (λ question a b. CanMeet a b) nodes
+    (λ question mine theirs asked kinds meets. (meets.0, meets.1, meets.4)) x y q
 
 -- an edge under some assignments is an edge
 pub static_edge : (v w : Assignment) (nodes : List Path) (x y : ℕ) → EdgeUnder v w nodes x y → StaticEdge nodes x y

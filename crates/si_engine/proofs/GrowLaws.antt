@@ -19,7 +19,7 @@ use Rattle.prog_paths.specs.Follows.{Changes, HasRow}
 use Rattle.prog_paths.proofs.Blocks.{block_follows}
 use Rattle.prog_paths.proofs.Programs.{goes_on}
 use Rattle.prog_paths.proofs.Sound.{program_sound}
-use Rattle.prog_paths.proofs.Statements.{declaration_is, statement_follows}
+use Rattle.prog_paths.proofs.Statements.{declaration_is, statement_follows, listing_follows}
 use Rattle.prog_paths.proofs.Values.{nth, RemovesPlain}
 use Rattle.history_book.specs.Dependencies.{run_found, start_found, evaluation_at}
 use Rattle.history_book.specs.History.{Instance, nth_instance, state_after, eval_of, evaluation, IsCalled}
@@ -94,8 +94,9 @@ removes_plain set number p args m sound at same ready =
     let g = goes_on (run_block set.tables m p.body (at_start p args)) ready in
     let fine = program_sound set.tables number p args (sound.programs number p at) same in
     let t =
-    block_follows set.tables m p.params (nth args) (statement_follows set.tables m p.params (nth args)) 0 p.body
-    (at_start p args) g.0 g.1 fine.body fine.arguments (λ c e. absurd (cc)) in
+    block_follows set.tables m p.params (nth args) (statement_follows set.tables m p.params (nth args))
+    (listing_follows set.tables m p.params (nth args)) 0 p.body (at_start p args) g.0 g.1 fine.body fine.arguments
+    (λ c e. absurd (cc)) in
     subst (λ f. RemovesPlain set.tables (ended f).changes) (sym g.1) t.removes
 
 -- ---- the rows of a grow table

@@ -2,7 +2,7 @@
 use Rattle.std.proofs.Common.{◌≡◌, ℕ, suc, ◌+◌, Bool, true, false, List, [], ◌∷◌, ◌⊎◌, inl, inr, map, refl, sym, subst, arith}
 use Rattle.std.specs.Prelude.{Some, slice_get}
 use Rattle.prog_tree.specs.declared.table.TableDecl.{TableDecl}
-use Rattle.prog_tree.specs.Syntax.{Name, StatementTree, BlockTree, BlockEnd, Then, Branch, ProgramTree, DraftTree}
+use Rattle.prog_tree.specs.Syntax.{Name, StatementTree, BlockTree, BlockEnd, Then, Branch, Each, ProgramTree, DraftTree}
 use Rattle.prog_tree.specs.Syntax as s
 use Rattle.prog_check.specs.declared.path.Access.{Access}
 use Rattle.prog_check.specs.declared.path.Kind.{Kind}
@@ -29,6 +29,7 @@ block_plain tables BlockEnd h = tt
 block_plain tables (Then st rest) h = (overwrites_plain tables st h.0, block_plain tables rest h.1)
 block_plain tables (Branch test a b rest) h =
     (block_plain tables a h.0, block_plain tables b h.1, block_plain tables rest h.2)
+block_plain tables (Each l body rest) h = (block_plain tables body h.1, block_plain tables rest h.2)
 
 -- ---- a node is a path of a program
 

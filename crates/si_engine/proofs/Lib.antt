@@ -31,4 +31,5 @@ pub mod SeamLaws
 pub mod SkewVectors
 mod TextLemmas
 pub mod ToldLaws
+mod TurnVectors
 pub mod VulnerableLaws

@@ -2,11 +2,12 @@
 use Rattle.std.proofs.Common.{◌≡◌, [], ◌∷◌, ◌++◌, refl, false}
 use Rattle.std.specs.Prelude.{ℕ, ℤ, pos, negsuc, codes, List, length, Some, None}
 use Rattle.prog_tree.specs.declared.cell.Cell.{Cell}
+use Rattle.prog_tree.specs.declared.cell.Region.{Region}
 use Rattle.prog_tree.specs.declared.deed.Cause.TheVariants as cause
 use Rattle.prog_tree.specs.declared.deed.Deed.TheVariants as deed
 use Rattle.prog_tree.specs.Table.{TableState}
 use Rattle.prog_tree.specs.declared.table.Arity.TheVariants as arity
-use Rattle.prog_tree.specs.Syntax.{Literal, Named, KeyTree, One, BlockTree, BlockEnd, Then, ProgramTree, DraftTree}
+use Rattle.prog_tree.specs.Syntax.{Literal, Named, Plus, KeyTree, One, BlockTree, BlockEnd, Then, Each, ProgramTree, DraftTree}
 use Rattle.prog_tree.specs.Syntax as s
 use Rattle.history_book.specs.History.{eval_of, state_after}
 use Rattle.si_engine.specs.Machine.{new_machine, machine_step, replies_of, machine_after}
@@ -186,3 +187,38 @@ every_refusal = refl
 pub endings_left : (machine_after overflows two_rows refused_events new_machine).endings ≡ 2
 unfolding eval_of
 endings_left = refl
+
+-- ---- the pay-each set
+
+abbrev pays : DraftTree
+pays = set_of (
+    -- each k, x in t[1..3] { put t[k] = x + v; }
+    record {
+      name = codes "Pay";
+      params = codes "v" ∷ [];
+      body =
+          Each (record { key = codes "k"; value = codes "x"; table = codes "t"; range = s.OneRange (Literal (pos 1)) (Literal (pos 3)) })
+          (Then (s.Put (codes "t") (key (codes "k")) (Plus (Named (codes "x")) (Named (codes "v")))) BlockEnd) BlockEnd;
+    }
+    ∷ [])
+
+abbrev paid_rows : TableState
+paid_rows = (cell (pos 1), pos 5) ∷ (cell (pos 3), pos 7) ∷ []
+
+-- the listing of two rows is a step, and each turn's write is one
+abbrev pay_events : List Event
+pay_events = Begin 0 (pos 2 ∷ []) ∷ Step 0 ∷ Step 0 ∷ Step 0 ∷ Step 0 ∷ Commit 0 ∷ []
+
+abbrev one_to_three : Region
+one_to_three = record { table = 0; first_low = pos 1; first_high = pos 3; second_low = pos 0; second_high = pos 0 }
+
+pub pay : replies_of pays paid_rows pay_events new_machine
+    ≡ reply.Begun 0 0 ∷ reply.Did (deed.Listed one_to_three 2) ∷ reply.Did (deed.Put (cell (pos 1)) (pos 7))
+    ∷ reply.Did (deed.Put (cell (pos 3)) (pos 9)) ∷ reply.Ready [] ∷ reply.Committed 1 ∷ []
+unfolding eval_of
+pay = refl
+
+pub pay_rows : let h = (machine_after pays paid_rows pay_events new_machine).history in
+    state_after pays paid_rows h (length h) ≡ (cell (pos 1), pos 7) ∷ (cell (pos 3), pos 9) ∷ []
+unfolding eval_of
+pay_rows = refl

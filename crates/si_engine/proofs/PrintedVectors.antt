@@ -4,7 +4,7 @@ use Rattle.std.specs.Fmt.{digits}
 use Rattle.prog_tree.specs.declared.cell.Cell.{Cell}
 use Rattle.prog_tree.specs.declared.cell.Region.{Region}
 use Rattle.prog_tree.specs.declared.deed.Cause.TheVariants.{Asked, Missing, Present, Overflow}
-use Rattle.prog_tree.specs.declared.deed.Deed.TheVariants.{Read, Counted, Summed, Put, Removed, Kept}
+use Rattle.prog_tree.specs.declared.deed.Deed.TheVariants.{Read, Counted, Summed, Listed, Put, Removed, Kept}
 use Rattle.prog_tree.specs.declared.table.Arity.TheVariants.{One, Two}
 use Rattle.prog_tree.specs.declared.table.TableDecl.{TableDecl}
 use Rattle.si_engine.specs.declared.event.Event.TheVariants.{Begin, BeginAt, Step, Commit, Abort, Vacuum}
@@ -26,6 +26,13 @@ t_region = record { table = 0; first_low = pos 1; first_high = pos 2; second_low
 
 e_region : Region
 e_region = record { table = 1; first_low = pos 7; first_high = pos 7; second_low = pos 1; second_high = pos 3 }
+
+-- its low end lies above its high one
+no_region : Region
+no_region = record { table = 0; first_low = pos 3; first_high = pos 1; second_low = pos 0; second_high = pos 0 }
+
+negative_region : Region
+negative_region = record { table = 1; first_low = neg_ℤ (pos 7); first_high = neg_ℤ (pos 7); second_low = neg_ℤ (pos 2); second_high = pos 0 }
 
 begun : reply_line tables (Begin 0 []) (Begun 12 3) ≡ codes "12 begun at 3\n"
 unfolding digits
@@ -67,6 +74,18 @@ count = refl
 sum : reply_line tables (Step 1) (Did (Summed t_region (pos (2 ^ 63 - 1)))) ≡ codes "1 sum t[1..2] 9223372036854775807\n"
 unfolding digits tables t_region
 sum = refl
+
+list : reply_line tables (Step 0) (Did (Listed t_region 2)) ≡ codes "0 list t[1..2] 2\n"
+unfolding digits tables t_region
+list = refl
+
+list_of_nothing : reply_line tables (Step 0) (Did (Listed no_region 0)) ≡ codes "0 list t[3..1] 0\n"
+unfolding digits tables no_region
+list_of_nothing = refl
+
+list_of_two_columns : reply_line tables (Step 0) (Did (Listed negative_region 2)) ≡ codes "0 list e[-7, -2..0] 2\n"
+unfolding digits tables negative_region
+list_of_two_columns = refl
 
 put : reply_line tables (Step 0) (Did (Put e72 (pos 5))) ≡ codes "0 put e[7, -2] 5\n"
 unfolding digits tables e72

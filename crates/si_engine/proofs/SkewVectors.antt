@@ -41,11 +41,11 @@ pair = record {
   programs = copies (codes "Left") (pos 1) (pos 2) ∷ copies (codes "Right") (pos 2) (pos 1) ∷ [];
 }
 
-abbrev instance_of : ℕ → Instance
+abbrev pub instance_of : ℕ → Instance
 instance_of program = record { program = program; args = []; start = 0 }
 
 -- one of each, and neither sees the other
-abbrev skew : List Instance
+abbrev pub skew : List Instance
 skew = instance_of 0 ∷ instance_of 1 ∷ []
 
 small : (n : ℕ) → n ≤ 2 → IsI64 (pos n)
@@ -63,7 +63,7 @@ sound = soundness pair refl (
 )
 
 -- what holds of both instances holds of each
-of_both : (P : Instance → ℕ → Type 0) → P (instance_of 0) 1 → P (instance_of 1) 2 →
+pub of_both : (P : Instance → ℕ → Type 0) → P (instance_of 0) 1 → P (instance_of 1) 2 →
     (j : ℕ) (b : Instance) → nth_instance skew j ≡ Some b → P b j
 of_both P first second zero b found = absurd (cc)
 of_both P first second (suc zero) b found = let same : instance_of 0 ≡ b = cc in subst (λ x. P x 1) same first
@@ -74,14 +74,14 @@ of_both P first second (suc (suc (suc n))) b found =
     absurd (omega arith)
 
 -- the cells that they change
-abbrev first_cell : Cell
+abbrev pub first_cell : Cell
 first_cell = record { table = 0; first = pos 1; second = pos 0 }
 
-abbrev second_cell : Cell
+abbrev pub second_cell : Cell
 second_cell = record { table = 0; first = pos 2; second = pos 0 }
 
 -- the one cell that is changed
-alone : (cell c : Cell) (w : Option ℤ) → touches_cell (record { cells = (cell, w) ∷ []; kept = [] }) c ≡ true → c ≡ cell
+pub alone : (cell c : Cell) (w : Option ℤ) → touches_cell (record { cells = (cell, w) ∷ []; kept = [] }) c ≡ true → c ≡ cell
 alone cell c w h = cell_is c cell (go (is_same_cell c cell) h)
   where
     go : (b : Bool) → (is_some (if b then Some w else None) || false) ≡ true → b ≡ true

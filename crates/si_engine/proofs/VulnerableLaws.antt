@@ -1,21 +1,25 @@
 -- A read-write dependency between concurrent instances is a vulnerable edge.
 use Rattle.std.proofs.Common.{◌≡◌, ◌≢◌, ℕ, List, inl, inr, sym, subst, ◌∙◌, arith}
 use Rattle.std.specs.Prelude.{Some, slice_get}
+use Rattle.std.proofs.lemmas.Option.{slice_get_within, get_or_from_slice_get}
 use Rattle.prog_tree.specs.declared.cell.Cell.{Cell}
 use Rattle.prog_tree.specs.Syntax.{DraftTree}
 use Rattle.prog_tree.specs.Table.{TableState}
 use Rattle.prog_check.specs.declared.path.Access.{Access}
 use Rattle.prog_check.specs.declared.path.Path.{Path}
 use Rattle.prog_check.specs.Paths.{paths_of}
-use Rattle.prog_paths.specs.Meeting.{Assignment, cell_under, MayCover, AreSameCell, MeetsUnder}
+use Rattle.prog_paths.specs.Meeting.{Assignment, IsTime, cell_under, MayCover, AreSameCell, MeetAsOwn}
+use Rattle.prog_paths.specs.Own.{AreOwn}
 use Rattle.prog_paths.specs.StaticGraph.{IsAccessOf, IsCovered, IsExposed, IsVulnerable, AsksReadWrite}
+use Rattle.prog_paths.proofs.Own.{law_of_own_unknowns, law_of_covers}
+use Rattle.prog_paths.proofs.Programs.{member_at}
 use Rattle.history_book.specs.Dependencies.{start_at}
 use Rattle.history_book.specs.History.{Instance}
 use Rattle.history_book.proofs.DependencyLaws.{Looks, Changes, DependsOn, depends_tells}
 use Rattle.history_book.proofs.DependencyRelations.{ReadWriteBy}
 use Rattle.si_engine.specs.Robustness.{IsCommitted, AreConcurrent, IsHistory, FollowsNode, LawOfVulnerableEdges}
 use Rattle.si_engine.proofs.EdgeLaws.{asked_read_write}
-use Rattle.si_engine.proofs.AccessLaws.{TouchesAt, starts, none_shared, meets, asked_with}
+use Rattle.si_engine.proofs.AccessLaws.{TouchesAt, Holds, starts, none_shared, meets, asked_with}
 use Rattle.si_engine.proofs.MissedLaws.{misses_depends, sees_overwritten}
 
 -- accesses that are the same single cell have one cell
@@ -27,12 +31,31 @@ same_path : (p q : Path) → Some p ≡ Some q → p ≡ q
 same_path p q e = cc
 
 module _ (set : DraftTree) (opening : TableState) (h : List Instance) (is : IsHistory set opening h) where
-  -- the cell of an access that covers is touched by the instance
-  touches_cover : (i : ℕ) (f : FollowsNode set opening h i) (n : ℕ) (a : Access) →
-      IsAccessOf (paths_of set) f.node n a → MayCover a → TouchesAt set opening h is i (cell_under f.v a)
-  touches_cover i f n a at covers =
-      f.follows.touched n a
-      (subst (λ (p : Path). slice_get p.accesses n ≡ Some a) (same_path at.0 f.path (sym at.1 ∙ f.path_at)) at.2) covers
+  -- an access of a node is one of the path that the instance follows
+  on_path : (i : ℕ) (f : FollowsNode set opening h i) (n : ℕ) (a : Access) → IsAccessOf (paths_of set) f.node n a →
+      slice_get f.path.accesses n ≡ Some a
+  on_path i f n a at =
+      subst (λ (p : Path). slice_get p.accesses n ≡ Some a) (same_path at.0 f.path (sym at.1 ∙ f.path_at)) at.2
+
+  own_unknowns : (i : ℕ) (f : FollowsNode set opening h i) → AreOwn f.path.accesses
+  own_unknowns i f =
+      subst (λ (p : Path). AreOwn p.accesses) (get_or_from_slice_get (paths_of set) f.node f.path f.path f.path_at)
+      (law_of_own_unknowns set f.node f.path (slice_get_within (paths_of set) f.node f.path f.path_at))
+
+  -- an access that covers has one cell at all times of another access, and the instance touches that cell
+  touches_cover : (i : ℕ) (f : FollowsNode set opening h i) (c : Cell) (t : Holds set opening h is i f c)
+      (time : Assignment) → IsTime t.access f.v time → (n : ℕ) (a : Access) → IsAccessOf (paths_of set) f.node n a →
+      MayCover a → TouchesAt set opening h is i (cell_under time a)
+  touches_cover i f c t time at_time n a at covers =
+      subst (λ (x : Cell). TouchesAt set opening h is i x) (sym same) (f.follows.touched n a here covers)
+    where
+      here : slice_get f.path.accesses n ≡ Some a
+      here = on_path i f n a at
+
+      same : cell_under time a ≡ cell_under f.v a
+      same =
+          law_of_covers f.path.accesses (own_unknowns i f) t.access a (member_at f.path.accesses t.number t.access t.at)
+          (member_at f.path.accesses n a here) covers f.v time at_time
 
   module _ (i j : ℕ) (one : IsCommitted h i) (other : IsCommitted h j) (differ : i ≢ j) (both : AreConcurrent h i j) where
     -- of two concurrent instances one depends on the other by a look alone
@@ -43,13 +66,16 @@ module _ (set : DraftTree) (opening : TableState) (h : List Instance) (is : IsHi
     by_look (inl w) = absurd (sees_overwritten set opening h is.lawful i j one other both.1 w)
 
     module _ (f : FollowsNode set opening h i) (g : FollowsNode set opening h j) where
-      not_covered : (a b : Access) → MeetsUnder f.v g.v a b → IsCovered (paths_of set) f.node g.node a b → ⊥
-      not_covered a b meet cover =
-          let same = same_cell f.v g.v cover.of_first cover.of_second (cover.same f.v g.v meet) in
-          let mine = touches_cover i f cover.first cover.of_first cover.at_first cover.first_covers in
-          let theirs = touches_cover j g cover.second cover.of_second cover.at_second cover.second_covers in
-          none_shared set opening h is i j (cell_under f.v cover.of_first) one other differ both mine
-          (subst (λ (c : Cell). TouchesAt set opening h is j c) (sym same) theirs)
+      -- where two accesses meet at some times, no cover has one cell at these
+      not_covered : (c : Cell) (t : Holds set opening h is i f c) (s : Holds set opening h is j g c) →
+          MeetAsOwn f.v g.v t.access s.access → IsCovered (paths_of set) f.node g.node t.access s.access → ⊥
+      not_covered c t s meet cover =
+          let same = same_cell meet.0 meet.1 cover.of_first cover.of_second (cover.same meet.0 meet.1 meet.4) in
+          let mine = touches_cover i f c t meet.0 meet.2 cover.first cover.of_first cover.at_first cover.first_covers in
+          let theirs =
+          touches_cover j g c s meet.1 meet.3 cover.second cover.of_second cover.at_second cover.second_covers in
+          none_shared set opening h is i j (cell_under meet.0 cover.of_first) one other differ both mine
+          (subst (λ (x : Cell). TouchesAt set opening h is j x) (sym same) theirs)
 
       pub vulnerable_of : ReadWriteBy Cell (start_at h) (Looks set opening h) (Changes set opening h) i j →
           IsVulnerable (paths_of set) f.node g.node
@@ -57,7 +83,7 @@ module _ (set : DraftTree) (opening : TableState) (h : List Instance) (is : IsHi
           let q = asked_read_write set opening h is i j one other f g w in
           let meet = meets set opening h is i j f g q.0 q.1 q.2 in
           asked_with set opening h is i j f g q.0 q.1 q.2 AsksReadWrite (IsExposed (paths_of set)) q.3
-          ((f.v, g.v, meet), not_covered q.1.access q.2.access meet)
+          ((meet.0, meet.1, meet.4), not_covered q.0 q.1 q.2 meet)
 
 pub law_of_vulnerable_edges : LawOfVulnerableEdges
 law_of_vulnerable_edges set opening h is i j one other differ both test mine theirs =

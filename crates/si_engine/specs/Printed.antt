@@ -6,7 +6,7 @@ use Rattle.prog_tree.specs.Syntax.{Name}
 use Rattle.prog_tree.specs.declared.cell.Cell.{Cell}
 use Rattle.prog_tree.specs.declared.cell.Region.{Region}
 use Rattle.prog_tree.specs.declared.deed.Deed.{Deed}
-use Rattle.prog_tree.specs.declared.deed.Deed.TheVariants.{Read, Counted, Summed, Put, Removed, Kept}
+use Rattle.prog_tree.specs.declared.deed.Deed.TheVariants.{Read, Counted, Summed, Listed, Put, Removed, Kept}
 use Rattle.prog_tree.specs.declared.deed.Cause.{Cause}
 use Rattle.prog_tree.specs.declared.deed.Cause.TheVariants.{Asked, Missing, Present, Overflow}
 use Rattle.prog_tree.specs.declared.table.Arity.{Arity}
@@ -50,6 +50,7 @@ abbrev pub deed_text : List TableDecl → Deed → List ℕ
 deed_text tables (Read c v) = codes "read " ++ (cell_text tables c ++ (codes " " ++ value_text v))
 deed_text tables (Counted r v) = codes "count " ++ (region_text tables r ++ (codes " " ++ signed_decimal v))
 deed_text tables (Summed r v) = codes "sum " ++ (region_text tables r ++ (codes " " ++ signed_decimal v))
+deed_text tables (Listed r n) = codes "list " ++ (region_text tables r ++ (codes " " ++ decimal n))
 deed_text tables (Put c v) = codes "put " ++ (cell_text tables c ++ (codes " " ++ signed_decimal v))
 deed_text tables (Removed c) = codes "removed " ++ cell_text tables c
 deed_text tables (Kept c) = codes "kept " ++ cell_text tables c

@@ -158,22 +158,20 @@ fn push_with_cell(
 }
 
 // Adds a region with what was found there.
-fn push_found(
+fn push_found<I: Integer>(
     text: &mut String,
     word: &str,
     tables: &[TableDecl],
     region: &Region,
-    found: i64,
+    found: I,
 ) -> Result<(), AllocError>
     ensures ok { OnOk result (string_bytes text.new ≡ string_bytes text.old
-        ++ (word.now ++ (region_text tables.now region.now
-        ++ (codes " " ++ signed_decimal found)))) }
+        ++ (word.now ++ (region_text tables.now region.now ++ (codes " " ++ I.text found)))) }
     ensures keeps { Keeps (string_bytes text.old) (string_bytes text.new) }
 {
     push_word(text, word)?;
     push_region(text, tables, region)?;
-    push_word(text, " ")?;
-    push_number(text, found)
+    push_with_number(text, " ", found)
 }
 
 // Adds a value behind a space.
@@ -198,6 +196,7 @@ fn push_deed(text: &mut String, tables: &[TableDecl], deed: &Deed) -> Result<(),
         }
         Deed::Counted(region, count) => push_found(text, "count ", tables, region, *count),
         Deed::Summed(region, sum) => push_found(text, "sum ", tables, region, *sum),
+        Deed::Listed(region, rows) => push_found(text, "list ", tables, region, *rows),
         Deed::Put(cell, value) => {
             push_with_cell(text, "put ", tables, cell)?;
             push_behind(text, Some(*value))

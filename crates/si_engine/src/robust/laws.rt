@@ -29,7 +29,8 @@ pub fn grow_tables_gain_each_row_once()
     ensures once { LawOfSingleInserts }
 {}
 
-/// Each dependency has a question of its static edge that meets under the assignments followed.
+/// Each dependency has a question of its static edge whose two accesses meet, each at some time
+/// under the assignment that its instance follows.
 pub fn dependencies_are_static_edges()
     ensures { LawOfStaticEdges }
 {}
