@@ -3,7 +3,7 @@ use Rattle.std.proofs.Common.{◌≡◌, ◌∙◌, List, [], ◌∷◌, ◌++�
 use Rattle.std.specs.List.{flat_map}
 use Rattle.std.proofs.lemmas.List.Elements.{filter-append}
 use Rattle.std.proofs.lemmas.List.{append-nil}
-use Rattle.prog_tree.specs.Syntax.{Name, ExprTree, ComparisonTree, TestTree, KeyTree, RangeTree, RelationSign, StatementTree, BlockTree, BlockEnd, Then, Branch, ProgramTree, DraftTree}
+use Rattle.prog_tree.specs.Syntax.{Name, ExprTree, ComparisonTree, TestTree, KeyTree, RangeTree, RelationSign, StatementTree, BlockTree, BlockEnd, Then, Branch, Each, ProgramTree, DraftTree}
 use Rattle.prog_tree.specs.declared.table.TableDecl.{TableDecl}
 use Rattle.prog_text.specs.declared.lexing.token.Token.{Token}
 use Rattle.prog_text.specs.declared.lexing.token.Sign.TheVariants as sign
@@ -146,6 +146,9 @@ mutual
       ap (λ vs. t.Sign sign.If ∷ vs) (joined xs (ts ++ (es ++ us)) [] _ (test_none xs test x)
       (joined ts (es ++ us) _ _ (block_firsts ts first d)
       (joined es us _ _ (else_firsts es second e) (statements_firsts us rest others))))
+  statements_firsts _ _ (g.IsStatements.each k v table rs ts us r body rest d e others) =
+      ap (λ vs. t.Sign sign.Each ∷ vs) (joined rs (ts ++ us) [] _ (range_none rs table r d)
+      (joined ts us _ _ (block_firsts ts body e) (statements_firsts us rest others)))
 
   block_firsts : (ts : List Token) (b : BlockTree) → IsBlock ts b → beginnings_among ts ≡ firsts_of b
   block_firsts _ _ (g.IsBlock.block ts b d) = inside ts (firsts_of b) (statements_firsts ts b d)
@@ -193,3 +196,4 @@ as_many (Then s rest) = omega (arith, as_many rest)
 as_many (Branch test a b rest) =
     rw (length-append (firsts_of a) (firsts_of b ++ firsts_of rest), length-append (firsts_of b) (firsts_of rest))
     (omega (arith, as_many a, as_many b, as_many rest))
+as_many (Each l body rest) = rw (length-append (firsts_of body) (firsts_of rest)) (omega (arith, as_many body, as_many rest))

@@ -33,6 +33,7 @@ record Fail (test : List ℕ → Bool) : Type 0 where
   delete : test (codes "delete") ≡ false
   keep : test (codes "keep") ≡ false
   if_word : test (codes "if") ≡ false
+  each : test (codes "each") ≡ false
   reply : test (codes "reply") ≡ false
   abort : test (codes "abort") ≡ false
 
@@ -48,6 +49,7 @@ no_sign test fail Statement other word passes =
       apart test word (codes "delete") passes fail.delete,
       apart test word (codes "keep") passes fail.keep,
       apart test word (codes "if") passes fail.if_word,
+      apart test word (codes "each") passes fail.each,
       apart test word (codes "reply") passes fail.reply,
       apart test word (codes "abort") passes fail.abort,
     ) refl
@@ -57,13 +59,13 @@ abbrev is_free : List ℕ → Bool
 is_free word = is_none (find (λ u. bytes_eq word (spelling u)) reserved_words)
 
 free_fail : Fail is_free
-free_fail = record { table = refl; program = refl; let_word = refl; lacks = refl; put = refl; insert = refl; delete = refl; keep = refl; if_word = refl; reply = refl; abort = refl }
+free_fail = record { table = refl; program = refl; let_word = refl; lacks = refl; put = refl; insert = refl; delete = refl; keep = refl; if_word = refl; each = refl; reply = refl; abort = refl }
 
 abbrev begins_digits : List ℕ → Bool
 begins_digits word = is_digit (slice_index word 0)
 
 digits_fail : Fail begins_digits
-digits_fail = record { table = refl; program = refl; let_word = refl; lacks = refl; put = refl; insert = refl; delete = refl; keep = refl; if_word = refl; reply = refl; abort = refl }
+digits_fail = record { table = refl; program = refl; let_word = refl; lacks = refl; put = refl; insert = refl; delete = refl; keep = refl; if_word = refl; each = refl; reply = refl; abort = refl }
 
 -- a word is looked for just where the token that it spells is
 pub word_first : (kind : Landmark) → kind ≢ Record → (u : Token) (word : List ℕ) → Spells u word → is_sign_of kind word ≡ is_first kind u

@@ -1,7 +1,7 @@
 -- With which tokens the tables, programs and statements of a set begin, and which words are looked for in its text.
 use Rattle.std.specs.Prelude.{Bool, false, ◌||◌, List, [], ◌∷◌, ◌++◌, map}
 use Rattle.std.specs.List.{filter, flat_map}
-use Rattle.prog_tree.specs.Syntax.{StatementTree, Bind, Get, Need, Count, Sum, Lacks, Put, Insert, Delete, Keep, Reply, Abort, BlockTree, BlockEnd, Then, Branch, ProgramTree, DraftTree}
+use Rattle.prog_tree.specs.Syntax.{StatementTree, Bind, Get, Need, Count, Sum, Lacks, Put, Insert, Delete, Keep, Reply, Abort, BlockTree, BlockEnd, Then, Branch, Each, ProgramTree, DraftTree}
 use Rattle.text_places.specs.Landmarks.{is_sign_of}
 use Rattle.text_places.specs.declared.landmark.Landmark.{Landmark}
 use Rattle.text_places.specs.declared.landmark.Landmark.TheVariants as l
@@ -40,11 +40,13 @@ first_of (Keep table key) = t.Sign sign.Keep
 first_of (Reply e) = t.Sign sign.Reply
 first_of Abort = t.Sign sign.Abort
 
--- the first token of each statement, by their numbers: those of a branch stand behind it, its first block's first
+-- the first token of each statement, by their numbers: those of a branch stand behind it, its first block's first, and
+-- those of an `each` behind it
 abbrev pub firsts_of : BlockTree → List Token
 firsts_of BlockEnd = []
 firsts_of (Then s rest) = first_of s ∷ firsts_of rest
 firsts_of (Branch test a b rest) = t.Sign sign.If ∷ (firsts_of a ++ (firsts_of b ++ firsts_of rest))
+firsts_of (Each l body rest) = t.Sign sign.Each ∷ (firsts_of body ++ firsts_of rest)
 
 -- `program`, and the first token of each of its statements
 abbrev pub program_beginnings : ProgramTree → List Token

@@ -1,3 +1,4 @@
 pub mod Beginnings
 pub mod Naming
 pub mod Pointing
+pub mod Reserved

@@ -1,15 +1,16 @@
 //! What could stand at a place of a text: each word and sign is tried there.
 
 use crate::limits::MAX_TRIED;
+use crate::reading::push_listed;
 use prog_text::{TextFault, parse};
 use std::alloc::{AllocError, Global};
 
 // A name, a number, and each word and sign of the language.
-const TRIED: [&str; 44] = [
+const TRIED: [&str; 45] = [
     "NAME", "1", "(", ")", "[", "]", "{", "}", ",", ";", "=", "+", "-", "*", "..", "<", "<=", ">",
     ">=", "==", "!=", "table", "grow", "program", "let", "get", "need", "count", "sum", "lacks",
-    "put", "insert", "delete", "keep", "if", "else", "reply", "abort", "or", "and", "not", "least",
-    "greatest", "in",
+    "put", "insert", "delete", "keep", "if", "else", "each", "reply", "abort", "or", "and", "not",
+    "least", "greatest", "in",
 ];
 
 // Whether a word goes on what stands before it.
@@ -40,9 +41,9 @@ pub fn possible(alloc: Global, before: &[u8]) -> Result<Vec<&'static str>, Alloc
     if before.len() > MAX_TRIED {
         return Ok(list);
     }
-    for word in TRIED {
+    for word in TRIED.iter() {
         if goes_on(alloc, before, word)? {
-            list.push(word)?;
+            list.push(*word)?;
         }
     }
     Ok(list)
@@ -52,9 +53,7 @@ pub fn possible(alloc: Global, before: &[u8]) -> Result<Vec<&'static str>, Alloc
 pub fn told(alloc: Global, words: &[&str]) -> Result<String, AllocError> {
     let mut list = String::new(alloc);
     for word in words {
-        let shown = shown(alloc, word)?;
-        list.push_str(if list.is_empty() { "" } else { ", " })?;
-        list.push_str(&shown)?;
+        push_listed(&mut list, &shown(alloc, word)?)?;
     }
     Ok(list)
 }

@@ -4,7 +4,7 @@ ghost use Rattle.prog_tree.specs.Tree.{draft_tree};
 ghost use Rattle.fault_words.specs.Naming.{program_name};
 
 use prog_check::ProgramSet;
-use prog_tree::{Arity, Cell, Draft};
+use prog_tree::{Arity, Cell, Draft, Region};
 use std::alloc::{AllocError, Global};
 
 /// The names of the tables.
@@ -48,5 +48,35 @@ pub fn cell_text(alloc: Global, set: &ProgramSet, cell: Cell) -> Result<String, 
     match table.arity {
         Arity::One => format!(in alloc; "`{name}[{first}]`"),
         Arity::Two => format!(in alloc; "`{name}[{first}, {second}]`"),
+    }
+}
+
+// An end of a range as a statement names it.
+fn end_text(alloc: Global, end: i64) -> Result<String, AllocError> {
+    match end {
+        i64::MIN => format!(in alloc; "least"),
+        i64::MAX => format!(in alloc; "greatest"),
+        _ => format!(in alloc; "{end}"),
+    }
+}
+
+/// A region as a statement names it.
+pub fn region_text(alloc: Global, set: &ProgramSet, region: Region) -> Result<String, AllocError> {
+    let Some(table) = set.draft().tables.get(region.table) else {
+        return format!(in alloc; "a range");
+    };
+    let name = table.name.as_str();
+    match table.arity {
+        Arity::One => {
+            let low = end_text(alloc, region.first_low)?;
+            let high = end_text(alloc, region.first_high)?;
+            format!(in alloc; "`{name}[{low}..{high}]`")
+        }
+        Arity::Two => {
+            let first = region.first_low;
+            let low = end_text(alloc, region.second_low)?;
+            let high = end_text(alloc, region.second_high)?;
+            format!(in alloc; "`{name}[{first}, {low}..{high}]`")
+        }
     }
 }

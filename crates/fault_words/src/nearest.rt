@@ -2,7 +2,7 @@
 ghost use Rattle.std.specs.Prelude.{Contains, IfOk, IfSome};
 
 use crate::limits::{MAX_EDITS, MAX_MEANT};
-use crate::reading::listed;
+use crate::reading::push_listed;
 use std::alloc::{AllocError, Global};
 use strsim::levenshtein;
 
@@ -28,6 +28,15 @@ pub fn nearest_name<'a>(
         }
     }
     Ok(best)
+}
+
+// Names between backquotes, with commas between them.
+fn listed(alloc: Global, names: &[&str]) -> Result<String, AllocError> {
+    let mut list = String::new(alloc);
+    for name in names {
+        push_listed(&mut list, &format!(in alloc; "`{name}`")?)?;
+    }
+    Ok(list)
 }
 
 /// The nearest of the names to a word that is none of them, or all of the names.

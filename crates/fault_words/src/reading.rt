@@ -57,7 +57,7 @@ pub fn up_to(text: &[u8], place: usize) -> &[u8]
 fn is_blank(byte: u8) -> bool
     ensures { result ≡ is_blank byte }
 {
-    matches!(byte, b' ' | b'\t' | b'\n' | b'\r')
+    (byte == b' ' || byte == b'\t') || (byte == b'\n' || byte == b'\r')
 }
 
 // How many bytes at the end separate tokens.
@@ -114,47 +114,40 @@ pub fn first_token(bytes: &[u8]) -> &str {
 
 /// The word at the end, and where there is none the last byte of a sign.
 pub fn last_token(bytes: &[u8]) -> &str {
-    let len = last_len(bytes).max(1);
+    let len = match last_len(bytes) {
+        0 => 1,
+        len => len,
+    };
     as_text(from_place(bytes, bytes.len().saturating_sub(len)))
+}
+
+// The bytes behind the blanks at the front.
+fn behind_blanks(bytes: &[u8]) -> &[u8] {
+    let blanks = bytes.iter().take_while(|byte| is_blank(**byte)).count();
+    from_place(bytes, blanks)
 }
 
 /// The word or the sign behind the first one.
 pub fn second_token(bytes: &[u8]) -> &str {
     let rest = from_place(bytes, first_token(bytes).len());
-    let spaces = rest.iter().take_while(|byte| is_blank(**byte));
-    first_token(from_place(rest, spaces.count()))
+    first_token(behind_blanks(rest))
 }
 
-/// The bytes behind the first word and the spaces that follow it.
+/// The bytes behind the first word and the blanks that follow it.
 pub fn behind_word(bytes: &[u8]) -> &[u8] {
-    let rest = from_place(bytes, word_len(bytes));
-    let spaces = rest.iter().take_while(|byte| byte.is_ascii_whitespace());
-    from_place(rest, spaces.count())
+    behind_blanks(from_place(bytes, word_len(bytes)))
 }
 
 /// The name before the first `[`: the table of a statement.
 pub fn table_name(statement: &[u8]) -> &str {
     let before = statement.iter().take_while(|byte| **byte != b'[').count();
-    let front = statement.get(..before).unwrap_or(&[]);
-    let spaces = front
-        .iter()
-        .rev()
-        .take_while(|byte| byte.is_ascii_whitespace())
-        .count();
-    let name = last_token(up_to(front, before.saturating_sub(spaces)));
+    let front = up_to(statement, before);
+    let name = last_token(up_to(front, front.len() - last_blanks(front)));
     first_word(name.as_bytes())
 }
 
-/// Words between backquotes, with commas between them.
-pub fn listed(alloc: Global, words: &[&str]) -> Result<String, AllocError> {
-    let mut list = String::new(alloc);
-    for word in words {
-        if !list.is_empty() {
-            list.push_str(", ")?;
-        }
-        list.push_str("`")?;
-        list.push_str(word)?;
-        list.push_str("`")?;
-    }
-    Ok(list)
+/// Adds to a list, with a comma before what is not its first.
+pub fn push_listed(list: &mut String, word: &str) -> Result<(), AllocError> {
+    list.push_str(if list.is_empty() { "" } else { ", " })?;
+    list.push_str(word)
 }

@@ -1,4 +1,6 @@
 //! The names that a statement may use, and one that it may not.
+ghost use Rattle.std.specs.Prelude.{◌≡◌, true, slice_get, IfSome};
+ghost use Rattle.fault_words.specs.Reserved.{is_name};
 
 use crate::reading::{begins_word, first_token, from_place, is_word_byte};
 use crate::reserved::is_name;
@@ -39,18 +41,41 @@ pub fn token_place(bytes: &[u8], number: usize) -> Option<usize> {
     None
 }
 
-/// The names that are bound at the end of the tokens of a program's beginning.
+// Whether a name is bound behind a token, in a block or before the first, where the parameters are.
+fn binds(before: &str, is_outside: bool) -> bool {
+    match before {
+        "let" => true,
+        "(" | "," => is_outside,
+        _ => false,
+    }
+}
+
+// Adds the two names that an `each` binds in its block, given its tokens.
+fn push_turn<'a>(names: &mut Vec<&'a str>, each: &[&'a str]) -> Result<(), AllocError> {
+    if let ["each", key, ",", value, ..] = each {
+        names.push(*key)?;
+        names.push(*value)?;
+    }
+    Ok(())
+}
+
+/// The names that are bound at the end of the tokens of a program's beginning: those of an `each`
+/// from the front of its block to its end.
 pub fn visible_names<'a>(alloc: Global, tokens: &[&'a str]) -> Result<Vec<&'a str>, AllocError> {
     let mut names: Vec<&'a str> = Vec::new(alloc);
     let mut outer = Vec::new(alloc);
+    let mut each = 0;
     let mut before = "";
-    for token in tokens {
-        let is_parameter = outer.is_empty() && (before == "(" || before == ",");
+    for (index, token) in tokens.iter().enumerate() {
         if *token == "{" {
             outer.push(names.len())?;
+            push_turn(&mut names, tokens.get(each..index).unwrap_or(&[]))?;
+            each = index;
         } else if *token == "}" {
             names.truncate(outer.pop().unwrap_or(0));
-        } else if is_parameter || before == "let" {
+        } else if *token == "each" {
+            each = index;
+        } else if binds(before, outer.is_empty()) && is_name(*token) {
             names.push(*token)?;
         }
         before = *token;
@@ -60,27 +85,86 @@ pub fn visible_names<'a>(alloc: Global, tokens: &[&'a str]) -> Result<Vec<&'a st
 
 // Whether the token at an index is followed by `[`, as the name of a table is.
 fn is_table(statement: &[&str], index: usize) -> bool {
-    match statement.get(index..) {
-        Some([_, next, ..]) => *next == "[",
+    match statement.get(index.saturating_add(1)) {
+        Some(next) => *next == "[",
+        None => false,
+    }
+}
+
+// Whether a statement binds a name by the token at an index.
+fn is_bound_at(statement: &[&str], index: usize) -> bool {
+    match statement {
+        ["let", ..] => index == 1,
+        ["each", ..] => index == 1 || index == 3,
         _ => false,
     }
 }
 
 /// The number of the first token that is a name which a statement uses and that is none of these.
-pub fn unknown_name(statement: &[&str], visible: &[&str]) -> Option<usize> {
-    let mut before = "";
+pub fn unknown_name(statement: &[&str], visible: &[&str]) -> Option<usize>
+    ensures { IfSome result (λ index. IfSome (slice_get statement.now index) (λ token.
+        is_name token.now ≡ true)) }
+{
     for (index, token) in statement.iter().enumerate() {
         let token: &str = *token;
         if token == ";" || token == "{" {
             return None;
         }
-        let is_known = before == "let"
-            || is_table(&*statement, index)
+        let is_known = is_bound_at(statement, index)
+            || is_table(statement, index)
             || (&*visible).contains(&token);
         if is_name(token) && !is_known {
             return Some(index);
         }
-        before = token;
     }
     None
+}
+
+/// The name that a statement binds, of an `each` the one that may not be: it is none of the visible
+/// ones where both are one name.
+pub fn taken_name<'a>(statement: &[&'a str], visible: &[&str]) -> &'a str {
+    match statement {
+        ["each", key, ",", value, ..] if !visible.contains(key) => *value,
+        [_, name, ..] => *name,
+        _ => "",
+    }
+}
+
+// Whether tokens begin with a `let` or an `each` that binds a name.
+fn binds_name(tokens: &[&str], name: &str) -> bool {
+    match tokens {
+        ["let", bound, ..] => *bound == name,
+        ["each", key, ",", value, ..] => *key == name || *value == name,
+        _ => false,
+    }
+}
+
+/// Whether an `each` binds a name in its block.
+pub fn is_of_turn(statement: &[&str], name: &str) -> bool {
+    match statement {
+        ["each", ..] => binds_name(statement, name),
+        _ => false,
+    }
+}
+
+/// Whether a `let` or an `each` among tokens binds a name, in whichever block.
+pub fn is_bound_among(tokens: &[&str], name: &str) -> bool {
+    for index in 0..tokens.len() {
+        if binds_name(&tokens[index..], name) {
+            return true;
+        }
+    }
+    false
+}
+
+/// Whether an `each` stands in the program with which tokens begin.
+pub fn has_each(tokens: &[&str]) -> bool {
+    for token in tokens.get(1..).unwrap_or(&[]) {
+        match *token {
+            "program" => return false,
+            "each" => return true,
+            _ => {}
+        }
+    }
+    false
 }

@@ -8,7 +8,10 @@ use crate::nearest::known_names;
 use crate::pointing::point_at;
 use crate::reading::{begins_word, behind_word, first_word, from_place, table_name, up_to};
 use crate::reserved::in_lower_case;
-use crate::scope::{token_place, tokens_of, unknown_name, visible_names};
+use crate::scope::{
+    has_each, is_bound_among, is_of_turn, taken_name, token_place, tokens_of, unknown_name,
+    visible_names,
+};
 use prog_check::{CheckFault, Place};
 use prog_text::parse;
 use prog_tree::{Arity, Draft, Name};
@@ -42,6 +45,17 @@ fn unknown_table(alloc: Global, text: &[u8], statement: &[u8]) -> Result<String,
     format!(in alloc; "no table is called `{name}`; {known}")
 }
 
+// What stands of a program before one of its statements, in a text without comments.
+fn tokens_before<'a>(
+    alloc: Global,
+    plain: &'a [u8],
+    program: usize,
+    at: usize,
+) -> Result<Vec<&'a str>, AllocError> {
+    let start = program_place(alloc, plain, program)?.unwrap_or(0);
+    tokens_of(alloc, from_place(up_to(plain, at), start))
+}
+
 // The names that are bound where a statement of a program begins, in a text without comments.
 fn names_before<'a>(
     alloc: Global,
@@ -49,12 +63,12 @@ fn names_before<'a>(
     program: usize,
     at: usize,
 ) -> Result<Vec<&'a str>, AllocError> {
-    let start = program_place(alloc, plain, program)?.unwrap_or(0);
-    let before = tokens_of(alloc, from_place(up_to(plain, at), start))?;
+    let before = tokens_before(alloc, plain, program, at)?;
     visible_names(alloc, &before)
 }
 
-// Where the name stands that a statement uses and that is not bound. Names are bound by parameters and by `let`.
+// Where the name stands that a statement uses and that is not bound. Names are bound by parameters,
+// by `let` and by `each`.
 fn unbound_place(
     alloc: Global,
     plain: &[u8],
@@ -110,6 +124,31 @@ fn mark_of(alloc: Global, text: &[u8], fault: CheckFault, at: usize) -> Result<u
     }
 }
 
+// That a name is not bound where a statement uses it, in a text without comments.
+fn unknown_words(
+    alloc: Global,
+    plain: &[u8],
+    program: usize,
+    at: usize,
+    name: &str,
+) -> Result<String, AllocError> {
+    let statement = tokens_of(alloc, from_place(plain, at))?;
+    if is_of_turn(&statement, name) {
+        return format!(in alloc;
+            "`{name}` is bound in the block of this `each`, and not before it"
+        );
+    }
+    let before = tokens_before(alloc, plain, program, at)?;
+    if is_bound_among(&before, name) {
+        return format!(in alloc;
+            "`{name}` is bound only in a block that ends before this statement"
+        );
+    }
+    let visible = visible_names(alloc, &before)?;
+    let known = known_names(alloc, name, &visible)?;
+    format!(in alloc; "`{name}` is no parameter, and no `let` or `each` before binds it; {known}")
+}
+
 fn unbound_name(
     alloc: Global,
     text: &[u8],
@@ -128,9 +167,26 @@ fn unbound_name(
         return format!(in alloc; "`{name}` is a name; the word has small letters: write `{word}`");
     }
     let plain = without_comments(alloc, text)?;
+    unknown_words(alloc, &plain, program, at, name)
+}
+
+// The name that a statement binds, and that is taken.
+fn name_taken(alloc: Global, text: &[u8], place: Place, at: usize) -> Result<String, AllocError> {
+    let Place::Statement { program, .. } = place else {
+        return format!(in alloc; "a name is taken");
+    };
+    let plain = without_comments(alloc, text)?;
     let visible = names_before(alloc, &plain, program, at)?;
-    let known = known_names(alloc, name, &visible)?;
-    format!(in alloc; "`{name}` is no parameter and no `let` before binds it; {known}")
+    let statement = tokens_of(alloc, from_place(&plain, at))?;
+    let name = taken_name(&statement, &visible);
+    if !(&*visible).contains(&name) {
+        return format!(in alloc;
+            "both names of this `each` are `{name}`; the value wants another than the key"
+        );
+    }
+    format!(in alloc;
+        "`{name}` is a parameter, or bound by a `let` or an `each` before; bind another name"
+    )
 }
 
 fn arity_of(draft: &Draft, name: &str) -> Option<Arity> {
@@ -187,7 +243,26 @@ fn repeated_parameter(alloc: Global, text: &[u8], place: Place) -> Result<String
     }
 }
 
-fn too_much_in_program(alloc: Global, text: &[u8], program: usize) -> Result<String, AllocError> {
+// That a way through the program that begins at a place has too many accesses.
+fn too_many_accesses(alloc: Global, text: &[u8], at: usize) -> Result<String, AllocError> {
+    let plain = without_comments(alloc, text)?;
+    let tokens = tokens_of(alloc, from_place(&plain, at))?;
+    let bodies = if has_each(&tokens) {
+        "; all that stand in the body of an `each` count, once each"
+    } else {
+        ""
+    };
+    format!(in alloc;
+        "a way through this program makes more than 24 accesses, the most allowed{bodies}"
+    )
+}
+
+fn too_much_in_program(
+    alloc: Global,
+    text: &[u8],
+    program: usize,
+    at: usize,
+) -> Result<String, AllocError> {
     if program > 15 {
         return format!(in alloc; "this is the 17th program, and a set has at most 16");
     }
@@ -198,15 +273,15 @@ fn too_much_in_program(alloc: Global, text: &[u8], program: usize) -> Result<Str
     if count > 8 {
         return format!(in alloc; "this program has {count} parameters, and at most 8 are allowed");
     }
-    format!(in alloc; "a way through this program makes more than 24 accesses, the most allowed")
+    too_many_accesses(alloc, text, at)
 }
 
-fn too_many(alloc: Global, text: &[u8], place: Place) -> Result<String, AllocError> {
+fn too_many(alloc: Global, text: &[u8], place: Place, at: usize) -> Result<String, AllocError> {
     match place {
         Place::Table { .. } => {
             format!(in alloc; "this is the 65th table, and a set has at most 64")
         }
-        Place::Program { program } => too_much_in_program(alloc, text, program),
+        Place::Program { program } => too_much_in_program(alloc, text, program, at),
         Place::Statement { .. } => {
             format!(in alloc; "this is the 257th statement, and a program has at most 256")
         }
@@ -233,11 +308,7 @@ fn sentence(
         CheckFault::DuplicateParameter { place } => repeated_parameter(alloc, text, place),
         CheckFault::UnknownTable { .. } => unknown_table(alloc, text, begun),
         CheckFault::UnknownName { place } => unbound_name(alloc, text, place, at, mark),
-        CheckFault::NameTaken { .. } => {
-            format!(in alloc;
-                "`{name}` is a parameter or bound by a `let` before; bind another name"
-            )
-        }
+        CheckFault::NameTaken { place } => name_taken(alloc, text, place, at),
         CheckFault::WrongArity { .. } => wrong_columns(alloc, text, begun),
         CheckFault::GrowTableChanged { .. } => {
             let table = table_name(begun);
@@ -248,7 +319,7 @@ fn sentence(
         CheckFault::AfterAbort { .. } => {
             format!(in alloc; "never reached: the `abort;` before it ends this block")
         }
-        CheckFault::TooMany { place } => too_many(alloc, text, place),
+        CheckFault::TooMany { place } => too_many(alloc, text, place, at),
         CheckFault::TooManyPaths { .. } => {
             format!(in alloc;
                 "more than 32 ways through `{name}` commit; each further `if` doubles them"

@@ -1,7 +1,7 @@
 //! Slips that newcomers make, known by the tokens around the first one that cannot stand where it does.
 
 use crate::reading::{first_token, from_place, last_token, second_token, up_to};
-use crate::reserved::{in_lower_case, is_name};
+use crate::reserved::{in_lower_case, is_name, is_reserved};
 use std::alloc::{AllocError, Global};
 
 /// What stands around a token that cannot stand where it does.
@@ -14,33 +14,93 @@ pub struct Around<'a> {
 }
 
 /// A slip, by what was written.
-#[derive(Clone, Copy, Debug, PartialEq, Eq)]
+#[derive(Clone, Copy)]
 pub enum Slip {
     /// `Put t[1] = 2;`
     OtherCase,
     /// `let x = Get t[1] else 0;`, where the word before is taken for a name
     OtherCaseBefore,
-    /// `return x;`
-    Return,
     /// `get t[1] else 0;`
     NoLet,
     /// `x = 5;`
     NoLetOfName,
     /// `t[1] = 5;`
     NoPut,
-    /// `-- set it`
-    Dashes,
-    /// `else if`
-    ElseIf,
     /// `-x`
     MinusOfName,
-    /// `if (x < 1) {`
-    BracketedTest,
-    /// `let x == 5;`
-    TwoEquals,
-    /// `if x = 5 {`
-    OneEquals,
+    /// `let each = 1;`
+    WordAsName,
+    /// `if get t[1] else 0 < 5 {`
+    LookInside,
+    /// `let x = t[1];`
+    NoLook,
+    /// One that is said alike whatever its tokens are
+    Said(&'static str),
 }
+
+/// `return x;`
+const RETURN: &str =
+    "`return` is no word of the language; a number is given by `reply`, which ends nothing";
+
+/// `-- set it`
+const DASHES: &str = "a comment begins with `#`, and not with `--`";
+
+/// `else if`
+const ELSE_IF: &str = "behind `else` stands a block: write `else { if .. }`";
+
+/// `if (x < 1) {`
+const BRACKETED_TEST: &str =
+    "no brackets stand around a test or a part of it; `and` binds tighter than `or`";
+
+/// `let x == 5;`
+const TWO_EQUALS: &str = "`==` compares; a value is given by a single `=`";
+
+/// `if x = 5 {`
+const ONE_EQUALS: &str = "`=` gives a value; two values are compared by `==`";
+
+/// `each k in t[1..3] {`
+const EACH_NAMES: &str =
+    "an `each` binds two names, the key and the value of a row: write `each k, v in ..`";
+
+/// `each (k, v) in t[1..3] {`
+const EACH_BRACKETS: &str =
+    "no brackets stand around the names of an `each`: write `each k, v in ..`";
+
+/// `for k, v in t[1..3] {`
+const OTHER_LOOP: &str =
+    "rows are gone through by `each k, v in t[low..high] { .. }`; there is no other loop";
+
+/// `each k, v in t {`
+const NO_KEY: &str =
+    "behind a table stands a key or a range in `[` and `]`; all rows are `[least..greatest]`";
+
+/// `count t[1]`
+const ONE_END: &str = "a range has two ends: write `[low..high]`; all rows are `[least..greatest]`";
+
+/// `count t[*]`
+const NO_ENDS: &str = "all keys are `least..greatest`";
+
+/// `keep t[1..3];`
+const RANGE_FOR_CELL: &str =
+    "one cell stands here, and no range; over ranges go `count`, `sum` and `each`";
+
+/// `sum t[1..3, x]`
+const THIRD_COLUMN: &str = "a key has at most two columns, and a range is of the last one";
+
+/// `let x = max t[1..3];`
+const OTHER_TOTAL: &str = "over a range go `count` and `sum`, and for all else `each`";
+
+/// `let x = need t[1] else 0;`
+const ELSE_OF_NO_GET: &str = "only a `get` has an `else`; a `need` aborts where its row is absent";
+
+/// `if x {`
+const NO_COMPARISON: &str = "a test compares two values, as `x != 0` does";
+
+/// `table` behind a program
+const LATE_TABLE: &str = "tables stand before all programs";
+
+/// `program` within a program
+const OPEN_BLOCK: &str = "a block before is still open: a `}` is missing";
 
 /// What stands around a place of a text without comments, at whose end a token ends.
 pub fn tokens_around(plain: &[u8], end: usize, place: usize) -> Around<'_> {
@@ -52,21 +112,23 @@ pub fn tokens_around(plain: &[u8], end: usize, place: usize) -> Around<'_> {
     }
 }
 
-fn is_comparison(token: &str) -> bool {
-    matches!(
-        token,
-        "<" | "<=" | ">" | ">=" | "==" | "!=" | "=" | "and" | "or"
-    )
-}
+const COMPARISONS: [&str; 9] = ["<", "<=", ">", ">=", "==", "!=", "=", "and", "or"];
+
+const LOOKS: [&str; 4] = ["get", "need", "count", "sum"];
+
+const OTHER_LOOPS: [&str; 4] = ["for", "foreach", "while", "loop"];
+
+const OTHER_TOTALS: [&str; 3] = ["max", "min", "avg"];
 
 // Whether something but a number begins that can be added to another.
 fn begins_term(token: &str) -> bool {
-    is_name(token) || matches!(token, "(" | "least" | "greatest")
+    is_name(token) || ["(", "least", "greatest"].contains(&token)
 }
 
 fn case_slip(around: Around<'_>, could: &[&str]) -> Option<Slip> {
-    if in_lower_case(around.token).is_some_and(|word| could.contains(&word)) {
-        return Some(Slip::OtherCase);
+    match in_lower_case(around.token) {
+        Some(word) if could.contains(&word) => return Some(Slip::OtherCase),
+        _ => {}
     }
     if could.contains(&"+") && in_lower_case(around.before).is_some() {
         return Some(Slip::OtherCaseBefore);
@@ -74,26 +136,115 @@ fn case_slip(around: Around<'_>, could: &[&str]) -> Option<Slip> {
     None
 }
 
-// The slip where a statement could begin.
-fn statement_slip(around: Around<'_>) -> Option<Slip> {
-    match (around.token, around.next) {
-        ("get" | "need" | "count" | "sum", _) => Some(Slip::NoLet),
-        (name, "=") if is_name(name) => Some(Slip::NoLetOfName),
-        (name, "[") if is_name(name) => Some(Slip::NoPut),
-        ("return", _) => Some(Slip::Return),
+// The slip where a statement could begin with a name.
+fn name_slip(name: &str, next: &str) -> Option<Slip> {
+    match next {
+        "=" => Some(Slip::NoLetOfName),
+        "[" => Some(Slip::NoPut),
+        _ if name == "return" => Some(Slip::Said(RETURN)),
+        _ if OTHER_LOOPS.contains(&name) => Some(Slip::Said(OTHER_LOOP)),
         _ => None,
     }
 }
 
+// The slip where a statement could begin.
+fn statement_slip(around: Around<'_>) -> Option<Slip> {
+    if LOOKS.contains(&around.token) {
+        return Some(Slip::NoLet);
+    }
+    if is_name(around.token) {
+        return name_slip(around.token, around.next);
+    }
+    match around.token {
+        "table" | "program" => Some(Slip::Said(OPEN_BLOCK)),
+        _ => None,
+    }
+}
+
+// The slip in the head of an `each`, behind the name of a table, or where a name alone could stand.
+fn head_slip(around: Around<'_>, could: &[&str]) -> Option<Slip> {
+    match could {
+        [","] => return Some(Slip::Said(EACH_NAMES)),
+        ["["] => return Some(Slip::Said(NO_KEY)),
+        _ => {}
+    }
+    if !could.contains(&"NAME") || could.contains(&"1") {
+        return None;
+    }
+    match around.token {
+        "(" if around.before == "each" => Some(Slip::Said(EACH_BRACKETS)),
+        token if is_reserved(token) => Some(Slip::WordAsName),
+        _ => None,
+    }
+}
+
+// The slip where a value could begin, which a key or a range has too.
+fn beginning_slip(around: Around<'_>) -> Option<Slip> {
+    match around.token {
+        "*" | ".." if around.before == "[" || around.before == "," => Some(Slip::Said(NO_ENDS)),
+        token if LOOKS.contains(&token) => Some(Slip::LookInside),
+        _ => None,
+    }
+}
+
+// The slip behind a value of a key or a range.
+fn key_slip(token: &str, could: &[&str]) -> Option<Slip> {
+    match token {
+        "]" if could.contains(&"..") => Some(Slip::Said(ONE_END)),
+        ".." if could.contains(&"]") => Some(Slip::Said(RANGE_FOR_CELL)),
+        "," if could.contains(&"]") => Some(Slip::Said(THIRD_COLUMN)),
+        _ => None,
+    }
+}
+
+// The slip behind a value, or behind a name that is taken for one.
+fn behind_slip(around: Around<'_>, could: &[&str]) -> Option<Slip> {
+    match around.token {
+        "[" if is_name(around.before) => Some(Slip::NoLook),
+        "{" if could.contains(&"<") => Some(Slip::Said(NO_COMPARISON)),
+        token if is_name(token) && OTHER_TOTALS.contains(&around.before) => {
+            Some(Slip::Said(OTHER_TOTAL))
+        }
+        token => key_slip(token, could),
+    }
+}
+
+// The slip of a look, a key or a range, or of a table.
+fn look_slip(around: Around<'_>, could: &[&str]) -> Option<Slip> {
+    match around.token {
+        "table" if could.contains(&"program") => return Some(Slip::Said(LATE_TABLE)),
+        "else" if could.contains(&";") => return Some(Slip::Said(ELSE_OF_NO_GET)),
+        _ => {}
+    }
+    if could.contains(&"1") {
+        return beginning_slip(around);
+    }
+    if could.contains(&"+") {
+        return behind_slip(around, could);
+    }
+    None
+}
+
+// Whether a test stands in brackets, as no test may.
+fn is_bracketed(around: Around<'_>, could: &[&str]) -> bool {
+    if around.before == "(" && around.token == "not" {
+        return true;
+    }
+    let is_inside = could.contains(&")") && could.contains(&"+");
+    is_inside && COMPARISONS.contains(&around.token)
+}
+
 // The slip in an expression, a test or a value.
 fn value_slip(around: Around<'_>, could: &[&str]) -> Option<Slip> {
-    let is_bracketed = could.contains(&")") && could.contains(&"+");
-    match (around.before, around.token) {
-        ("(", "not") => Some(Slip::BracketedTest),
-        (_, sign) if is_bracketed && is_comparison(sign) => Some(Slip::BracketedTest),
-        (_, "==") if could.contains(&"=") => Some(Slip::TwoEquals),
-        (_, "=") if could.contains(&"==") => Some(Slip::OneEquals),
-        ("-", term) if begins_term(term) && !could.contains(&"NAME") => Some(Slip::MinusOfName),
+    if is_bracketed(around, could) {
+        return Some(Slip::Said(BRACKETED_TEST));
+    }
+    match around.token {
+        "==" if could.contains(&"=") => Some(Slip::Said(TWO_EQUALS)),
+        "=" if could.contains(&"==") => Some(Slip::Said(ONE_EQUALS)),
+        term if around.before == "-" && begins_term(term) && !could.contains(&"NAME") => {
+            Some(Slip::MinusOfName)
+        }
         _ => None,
     }
 }
@@ -104,34 +255,36 @@ pub fn slip_of(around: Around<'_>, could: &[&str]) -> Option<Slip> {
         return Some(slip);
     }
     if around.token == "-" && around.next == "-" {
-        return Some(Slip::Dashes);
+        return Some(Slip::Said(DASHES));
     }
     if could.contains(&"let") {
         return statement_slip(around);
     }
     if could.contains(&"{") && around.before == "else" && around.token == "if" {
-        return Some(Slip::ElseIf);
+        return Some(Slip::Said(ELSE_IF));
     }
     value_slip(around, could)
+        .or(head_slip(around, could))
+        .or(look_slip(around, could))
+}
+
+// That a name was meant as the word that it is but for its letters' case.
+fn case_words(alloc: Global, name: &str, place: &str) -> Result<String, AllocError> {
+    let word = in_lower_case(name).unwrap_or(name);
+    format!(in alloc; "`{name}`{place} is a name; the word has small letters: write `{word}`")
+}
+
+fn minus_words(alloc: Global, token: &str) -> Result<String, AllocError> {
+    let term = if token == "(" { "(..)" } else { token };
+    format!(in alloc; "only a number has a minus before it: write `(0 - {term})`")
 }
 
 /// What a slip is, and what to write instead.
 pub fn slip_words(alloc: Global, slip: Slip, around: Around<'_>) -> Result<String, AllocError> {
     let Around { before, token, .. } = around;
     match slip {
-        Slip::OtherCase => {
-            let word = in_lower_case(token).unwrap_or(token);
-            format!(in alloc; "`{token}` is a name; the word has small letters: write `{word}`")
-        }
-        Slip::OtherCaseBefore => {
-            let word = in_lower_case(before).unwrap_or(before);
-            format!(in alloc;
-                "`{before}` before it is a name; the word has small letters: write `{word}`"
-            )
-        }
-        Slip::Return => format!(in alloc;
-            "`return` is no word of the language; a number is given by `reply`, which ends nothing"
-        ),
+        Slip::OtherCase => case_words(alloc, token, ""),
+        Slip::OtherCaseBefore => case_words(alloc, before, " before it"),
         Slip::NoLet => format!(in alloc;
             "what `{token}` finds is given a name: write `let x = {token} ..;`"
         ),
@@ -141,16 +294,14 @@ pub fn slip_words(alloc: Global, slip: Slip, around: Around<'_>) -> Result<Strin
         Slip::NoPut => format!(in alloc;
             "a row is given its value by `put`: write `put {token}[..] = ..;`"
         ),
-        Slip::Dashes => format!(in alloc; "a comment begins with `#`, and not with `--`"),
-        Slip::ElseIf => format!(in alloc; "behind `else` stands a block: write `else {{ if .. }}`"),
-        Slip::MinusOfName => {
-            let term = if token == "(" { "(..)" } else { token };
-            format!(in alloc; "only a number has a minus before it: write `(0 - {term})`")
-        }
-        Slip::BracketedTest => format!(in alloc;
-            "no brackets stand around a test or a part of it; `and` binds tighter than `or`"
+        Slip::MinusOfName => minus_words(alloc, token),
+        Slip::WordAsName => format!(in alloc; "`{token}` is a word of the language, and no name"),
+        Slip::LookInside => format!(in alloc;
+            "what `{token}` finds is given a name by a `let` of its own, before this statement"
         ),
-        Slip::TwoEquals => format!(in alloc; "`==` compares; a value is given by a single `=`"),
-        Slip::OneEquals => format!(in alloc; "`=` gives a value; two values are compared by `==`"),
+        Slip::NoLook => format!(in alloc;
+            "a row is looked up by `let x = get {before}[..] else ..;` or `let x = need {before}[..];`"
+        ),
+        Slip::Said(words) => format!(in alloc; "{words}"),
     }
 }

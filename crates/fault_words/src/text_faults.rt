@@ -22,40 +22,53 @@ fn byte_text(alloc: Global, bytes: &[u8]) -> Result<String, AllocError> {
     }
 }
 
-// What is wrong with a sign that is none.
-fn unknown_sign(alloc: Global, rest: &[u8]) -> Result<String, AllocError> {
-    match rest {
-        [b'.', ..] => format!(in alloc;
-            "a single `.` is no sign; the ends of a range stand around `..`"
-        ),
-        [b'!', ..] => format!(in alloc;
-            "a single `!` is no sign; unequal is `!=`, and `not` turns a comparison round"
-        ),
-        [b'&', ..] => format!(in alloc; "no word, number or sign begins with `&`; both is `and`"),
-        [b'|', ..] => format!(in alloc;
-            "no word, number or sign begins with `|`; one of two is `or`"
-        ),
-        [b'/', ..] => format!(in alloc;
-            "no word, number or sign begins with `/`; nothing is divided here"
-        ),
-        [b'"' | b'\'', ..] => format!(in alloc;
-            "there are no strings; keys and values are whole numbers"
-        ),
-        [b'%', b'%', b'\r'] | [b'%', b'%', b'\r', b'\n', ..] => format!(in alloc;
-            "a carriage return stands behind this `%%`; the line between two parts is `%%` alone"
-        ),
-        _ => {
-            let byte = byte_text(alloc, rest)?;
-            format!(in alloc; "no word, number or sign begins with {byte}")
+// What is wrong with a byte of another language.
+fn foreign_byte(byte: u8) -> Option<&'static str> {
+    match byte {
+        b'.' => Some("a single `.` is no sign; the ends of a range stand around `..`"),
+        b'!' => {
+            Some("a single `!` is no sign; unequal is `!=`, and `not` turns a comparison round")
         }
+        b'&' => Some("no word, number or sign begins with `&`; both is `and`"),
+        b'|' => Some("no word, number or sign begins with `|`; one of two is `or`"),
+        b'/' => Some("no word, number or sign begins with `/`; nothing is divided here"),
+        b'"' | b'\'' => Some("there are no strings; keys and values are whole numbers"),
+        _ => None,
     }
 }
 
+// What is wrong with a sign that is none, where more can be said than that it is none.
+fn foreign_sign(rest: &[u8]) -> Option<&'static str> {
+    match rest {
+        [b'%', b'%', b'\r'] | [b'%', b'%', b'\r', b'\n', ..] => Some(
+            "a carriage return stands behind this `%%`; the line between two parts is `%%` alone",
+        ),
+        [byte, ..] => foreign_byte(*byte),
+        [] => None,
+    }
+}
+
+// That a byte begins nothing.
+fn no_beginning(alloc: Global, rest: &[u8]) -> Result<String, AllocError> {
+    let byte = byte_text(alloc, rest)?;
+    format!(in alloc; "no word, number or sign begins with {byte}")
+}
+
+// What is wrong with a sign that is none.
+fn unknown_sign(alloc: Global, rest: &[u8]) -> Result<String, AllocError> {
+    match foreign_sign(rest) {
+        Some(words) => format!(in alloc; "{words}"),
+        None => no_beginning(alloc, rest),
+    }
+}
+
+const COMMENTS: [&str; 3] = ["//", "/*", "--"];
+
 // With what a comment of another language begins in a line.
 fn foreign_comment(line: &str) -> Option<&'static str> {
-    for sign in ["//", "/*", "--"] {
-        if line.contains(sign) {
-            return Some(sign);
+    for sign in COMMENTS.iter() {
+        if line.contains(*sign) {
+            return Some(*sign);
         }
     }
     None
@@ -71,24 +84,37 @@ fn unknown_byte(alloc: Global, text: &[u8], place: usize) -> Result<String, Allo
     }
 }
 
-// What stands around a place, in words that newcomers need, or what could stand there.
-fn unexpected_words(
-    alloc: Global,
-    could: &[&str],
-    around: Around<'_>,
-) -> Result<String, AllocError> {
-    if let Some(slip) = slip_of(around, could) {
-        return slip_words(alloc, slip, around);
-    }
-    let token = around.token;
-    let known = told(alloc, could)?;
-    if token.starts_with(|c: char| c.is_ascii_digit()) && known.starts_with("a number") {
+fn is_number(token: &str) -> bool {
+    matches!(token.as_bytes(), [b'0'..=b'9', ..])
+}
+
+// That a token cannot stand at a place, and what is known to be able to.
+fn misplaced_words(alloc: Global, token: &str, known: &str) -> Result<String, AllocError> {
+    if is_number(token) && known.starts_with("a number") {
         return format!(in alloc; "a table has 1 or 2 key columns, and not {token}");
     }
     if known.is_empty() {
         return format!(in alloc; "`{token}` cannot stand here");
     }
     format!(in alloc; "`{token}` cannot stand here; what could is {known}")
+}
+
+// The same, where these could stand.
+fn misplaced(alloc: Global, token: &str, could: &[&str]) -> Result<String, AllocError> {
+    let known = told(alloc, could)?;
+    misplaced_words(alloc, token, &known)
+}
+
+// What stands around a place, in words that newcomers need, or what could stand there.
+fn unexpected_words(
+    alloc: Global,
+    could: &[&str],
+    around: Around<'_>,
+) -> Result<String, AllocError> {
+    match slip_of(around, could) {
+        Some(slip) => slip_words(alloc, slip, around),
+        None => misplaced(alloc, around.token, could),
+    }
 }
 
 // Whether a `;` is missing: one could stand here, and the token opens another line or statement.

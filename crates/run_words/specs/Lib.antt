@@ -1,3 +1,4 @@
 pub mod Cycles
+pub mod Deeds
 pub mod InInput
 pub mod PartPointing

@@ -4,7 +4,7 @@ ghost use Rattle.run_words.specs.Cycles.{BeginsWithCommit, HasLines, ShowsCycle}
 
 use crate::reasons::{Reason, reason_between};
 use crate::walk::{Doings, doings_of};
-use fault_words::{cell_text, program_name};
+use fault_words::{cell_text, program_name, region_text};
 use history_book::{Book, HistoryRow};
 use prog_check::ProgramSet;
 use std::alloc::{AllocError, Global};
@@ -41,6 +41,11 @@ fn reason_text(
         Reason::Missed(cell) => {
             let cell = cell_text(alloc, set, cell)?;
             format!(in alloc; "looked at {cell}, and missed what commit {second} changed there")
+        }
+        Reason::Overlooked(region, cell) => {
+            let region = region_text(alloc, set, region)?;
+            let cell = cell_text(alloc, set, cell)?;
+            format!(in alloc; "listed {region}, and missed what commit {second} changed at {cell}")
         }
     }
 }

@@ -21,6 +21,16 @@ pub fn first_words(kind: PartKind) -> &'static [&'static str] {
     }
 }
 
+/// The command that reads lines which begin with a word, of such as not every list has.
+pub fn command_of(first: &str) -> Option<&'static str> {
+    match first {
+        "begin" | "begin-at" | "step" | "commit" | "abort" | "vacuum" => Some("run"),
+        "record" => Some("audit"),
+        "job" => Some("work"),
+        _ => None,
+    }
+}
+
 /// What stands in a line that begins with a word.
 pub fn form_of(first: &str) -> &'static str {
     match first {

@@ -3,7 +3,7 @@ ghost use Rattle.std.specs.Prelude.{◌≡◌, IfNone, IfOk, IfSome, string_byte
 ghost use Rattle.run_words.specs.PartPointing.{line_of_fault, HasNoLineOf, PointsAtLineIn};
 
 pub use crate::forms::PartKind;
-use crate::forms::{first_words, form_of, no_number};
+use crate::forms::{command_of, first_words, form_of, no_number};
 use crate::in_input::point_in_part;
 use crate::line_reading::{line_of, shown, words_of};
 use fault_words::{known_names, table_names};
@@ -12,6 +12,20 @@ use prog_tree::Draft;
 use si_engine::LineFault;
 use std::alloc::{AllocError, Global};
 use text_places::line_front;
+
+// That no line begins with a word, and which do; of another command's line the command.
+fn other_beginning(alloc: Global, kind: PartKind, first: &str) -> Result<String, AllocError> {
+    let begins = first_words(kind);
+    if let Some(command) = command_of(first) {
+        let known = known_names(alloc, "", begins)?;
+        return format!(in alloc;
+            "no line begins with `{first}`, as one for `sirob {command}` does; {known}"
+        );
+    }
+    let known = known_names(alloc, first, begins)?;
+    let first = shown(first);
+    format!(in alloc; "no line begins with `{first}`; {known}")
+}
 
 fn bad_line(
     alloc: Global,
@@ -30,9 +44,7 @@ fn bad_line(
     let first: &str = *first;
     let begins = first_words(kind);
     if !(&*begins).contains(&first) {
-        let known = known_names(alloc, first, begins)?;
-        let first = shown(first);
-        return format!(in alloc; "no line begins with `{first}`; {known}");
+        return other_beginning(alloc, kind, first);
     }
     let form = form_of(first);
     match no_number(words) {

@@ -6,8 +6,8 @@ use prog_tree::{Deed, Rows, Sequence};
 use si_engine::{Engine, Event, Reply};
 use std::alloc::{AllocError, Global};
 
-// A program has at most 256 statements.
-const MAX_STEPS: usize = 300;
+// More than a run has steps: each gives a deed, and these are kept.
+const MAX_STEPS: usize = usize::MAX;
 
 /// The begin of a row's instance.
 pub fn begin_of(alloc: Global, row: &HistoryRow) -> Result<Event, AllocError> {
