@@ -2,4 +2,5 @@ mod Listing
 mod MoreBehind
 mod NoCertificate
 mod Parts
+mod Stopped
 mod Unsaid

@@ -1,6 +1,7 @@
 -- Words that say a part of theirs.
 use Rattle.std.proofs.Common.{◌≡◌, ℕ, ◌+◌, ◌<◌, List, [], ◌++◌, codes, length, take, get_or, ap, refl, subst, sym, ◌∙◌, append_assoc}
 use Rattle.std.specs.Prelude.{All}
+use Rattle.std.proofs.lemmas.List.{append-nil}
 use Rattle.std.proofs.lemmas.List.Elements.{All-more, All-weaker}
 use Rattle.prog_tree.specs.Syntax.{DraftTree}
 use Rattle.repair_laws.specs.declared.plan.Pair.{Pair}
@@ -20,6 +21,11 @@ says_behind front tail part (before, behind, is) =
 pub says_through : (words whole part : List ℕ) → Says words whole → Says whole part → Says words part
 says_through words whole part (before, behind, is) inner =
     rw is (says_behind before (whole ++ behind) part (says_before whole behind part inner))
+
+-- what words end with
+pub says_last : (words front middle part : List ℕ) → words ≡ front ++ (middle ++ part) → Says words part
+says_last words front middle part is =
+    rw is (says_behind front (middle ++ part) part (says_behind middle part part ([], [], sym (append-nil part))))
 
 names_before : (set : DraftTree) (front tail : List ℕ) (pair : Pair) → NamesBoth set front pair → NamesBoth set (front ++ tail) pair
 names_before set front tail pair names =

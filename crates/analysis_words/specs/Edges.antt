@@ -6,33 +6,40 @@ use Rattle.prog_paths.specs.declared.places.Question.{Question}
 use Rattle.dep_graph.specs.declared.danger.Danger.{Danger}
 use Rattle.dep_graph.specs.declared.danger.Exposure.{Exposure}
 use Rattle.analysis_words.specs.Instances.{instance_text, numbers_of}
-use Rattle.analysis_words.specs.Nodes.{node_name}
+use Rattle.analysis_words.specs.Nodes.{node_name, turns_text}
 
 -- what stands before a node that is named behind another, where it is the same
 abbrev pub other_run : (first second : ℕ) → List ℕ
 other_run first second = if first == second then codes "another " else []
 
--- where the first instance looks, as `` `Move` with (from = 0, to = 7) looks here``
+-- where the first instance looks, as `` `Move` with (from = 0, to = 7) looks here``, and whether in each turn
 abbrev pub look_text : DraftTree → List Path → Exposure → List ℕ
 look_text set paths edge =
-    instance_text set paths edge.sample true edge.question.x ++ codes " looks here"
+    instance_text set paths edge.sample true edge.question.x
+    ++ (codes " looks here" ++ turns_text paths edge.question.x edge.question.a)
+
+-- what is said behind the instance that changes what another looked at
+abbrev pub unseen_text : List Path → (node access : ℕ) → List ℕ
+unseen_text paths node access =
+    codes " changes here" ++ (turns_text paths node access ++ codes " what that looked at, unseen by it")
 
 -- where the second one changes that
 abbrev pub change_text : DraftTree → List Path → Exposure → List ℕ
 change_text set paths edge =
     other_run edge.question.x edge.question.y
-    ++ (instance_text set paths edge.sample false edge.question.y ++ codes " changes here what that looked at, unseen by it")
+    ++ (instance_text set paths edge.sample false edge.question.y ++ unseen_text paths edge.question.y edge.question.b)
 
 -- the same of two instances of one node
 abbrev pub twin_look_text : DraftTree → List Path → Exposure → List ℕ
 twin_look_text set paths edge =
     codes "two runs of " ++ (node_name set paths edge.question.x
-    ++ (codes ": one" ++ (numbers_of set paths edge.sample true edge.question.x ++ codes " looks here")))
+    ++ (codes ": one" ++ (numbers_of set paths edge.sample true edge.question.x
+    ++ (codes " looks here" ++ turns_text paths edge.question.x edge.question.a))))
 
 abbrev pub twin_change_text : DraftTree → List Path → Exposure → List ℕ
 twin_change_text set paths edge =
-    codes "the other" ++ (numbers_of set paths edge.sample false edge.question.y
-    ++ codes " changes here what that looked at, unseen by it")
+    codes "the other"
+    ++ (numbers_of set paths edge.sample false edge.question.y ++ unseen_text paths edge.question.y edge.question.b)
 
 -- all that is said of an edge
 abbrev pub told_text : DraftTree → List Path → Exposure → List ℕ

@@ -4,4 +4,6 @@ pub mod Left
 pub mod Nodes
 pub mod Refusing
 pub mod Repairs
+pub mod Robust
 pub mod Saying
+pub mod Ways

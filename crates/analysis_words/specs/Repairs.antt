@@ -4,7 +4,7 @@ use Rattle.prog_tree.specs.Syntax.{DraftTree}
 use Rattle.repair_laws.specs.declared.plan.Pair.{Pair}
 use Rattle.fault_words.specs.Naming.{program_name}
 use Rattle.si_repair.specs.declared.repairs.fault.RepairFault.{RepairFault}
-use Rattle.si_repair.specs.declared.repairs.fault.RepairFault.TheVariants.{RangeRead, UnknownKey, TooMany, Memory}
+use Rattle.si_repair.specs.declared.repairs.fault.RepairFault.TheVariants.{RangeRead, UnknownKey, BodyRead, TooMany, Memory}
 
 -- the part stands somewhere in the words
 abbrev pub Says : (words part : List ℕ) → Type 0
@@ -27,6 +27,7 @@ NamesBoth set words pair = Says words (quoted_name set pair.from) × Says words 
 abbrev pub SaysStop : DraftTree → RepairFault → (words : List ℕ) → Type 0
 SaysStop set (RangeRead pair) words = NamesBoth set words pair × Says words (codes "repair without `--promote`")
 SaysStop set (UnknownKey pair) words = NamesBoth set words pair × Says words (codes "repair without `--promote`")
+SaysStop set (BodyRead pair) words = NamesBoth set words pair × Says words (codes "repair without `--promote`")
 SaysStop set (TooMany pair) words =
     NamesBoth set words pair × Says words (codes "64 tables, 256 statements of a program, 24 accesses on a way through it")
 SaysStop set Memory words = ⊥

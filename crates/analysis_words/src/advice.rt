@@ -1,7 +1,7 @@
 //! What follows from a dangerous structure, and what helps.
 
 use crate::edges::other_run;
-use crate::looks::has_unknown_key;
+use crate::looks::{has_unknown_key, meets_body};
 use crate::shown::{Shown, access_place, cells_at, node_name};
 use dep_graph::Danger;
 use prog_paths::Question;
@@ -44,21 +44,54 @@ fn clashing(alloc: Global, shown: Shown<'_>, question: Question) -> Result<Strin
     format!(in alloc; "{reader} clashes with {writer}")
 }
 
+// A cell in place of those that a question is about, which both keep, and surely: so in no body of
+// an `each`, which may have no turn.
+fn shared_cell(
+    alloc: Global,
+    shown: Shown<'_>,
+    question: Question,
+    cells: &str,
+) -> Result<String, AllocError> {
+    let keepers = keepers(alloc, shown, question)?;
+    let outside = if meets_body(shown, &question) {
+        " outside of any `each`"
+    } else {
+        ""
+    };
+    format!(in alloc; "one cell that stands for `{cells}`, which {keepers}{outside}")
+}
+
+// The cell that the first of a question looks at, which it keeps: under a key of parameters and
+// numbers.
+fn own_cell(
+    alloc: Global,
+    shown: Shown<'_>,
+    question: Question,
+    place: usize,
+) -> Result<String, AllocError> {
+    let cells = cells_at(shown.text, place);
+    let line = line_number(shown.text, place);
+    let clashing = clashing(alloc, shown, question)?;
+    if has_unknown_key(shown, &question) {
+        return format!(in alloc;
+            "the key of `{cells}` made a parameter, and a `keep` of that cell behind line {line}, so that {clashing}"
+        );
+    }
+    format!(in alloc; "`keep {cells};` behind line {line}, so that {clashing}")
+}
+
 // What makes the two of a question clash: the first keeps the cell that it looks at, or where that
-// is a range or its key has an unknown value, both keep one cell.
+// is a range, or one of both stands in the body of an `each`, both keep one cell.
 fn repair(alloc: Global, shown: Shown<'_>, question: Question) -> Result<String, AllocError> {
     let Some(place) = access_place(alloc, shown, question.x, question.a)? else {
         let keepers = keepers(alloc, shown, question)?;
         return format!(in alloc; "a cell that {keepers}");
     };
     let cells = cells_at(shown.text, place);
-    if cells.contains("..") || has_unknown_key(shown, &question) {
-        let keepers = keepers(alloc, shown, question)?;
-        return format!(in alloc; "one cell that stands for `{cells}`, which {keepers}");
+    if cells.contains("..") || meets_body(shown, &question) {
+        return shared_cell(alloc, shown, question, cells);
     }
-    let line = line_number(shown.text, place);
-    let clashing = clashing(alloc, shown, question)?;
-    format!(in alloc; "`keep {cells};` behind line {line}, so that {clashing}")
+    own_cell(alloc, shown, question, place)
 }
 
 /// Why nothing hinders both edges, how the circle closes, and what to do about it.

@@ -1,20 +1,22 @@
 //! The faults of a certificate in words.
-ghost use Rattle.std.specs.Prelude.{◌≡◌, IfNone, IfOk, IfSome, string_bytes};
+ghost use Rattle.std.specs.Prelude.{◌≡◌, IfNone, IfOk, IfSome, slice_get, string_bytes};
 ghost use Rattle.prog_tree.specs.Tree.{draft_tree};
 ghost use Rattle.prog_check.specs.Paths.{paths_of};
 ghost use Rattle.robust_cert.specs.Reading.{IsTextOf};
 ghost use Rattle.robust_cert.specs.declared.fault.CertFault.TheVariants.{Dangerous, LevelFalls};
-ghost use Rattle.analysis_words.specs.Saying.{front_of, json_words, level_of, level_text, IsNoCertificate, IsOfFault, IsSaidOf};
+ghost use Rattle.analysis_words.specs.Saying.{body_size_in, count_text, counts_text, first_mistold, front_of, is_told, json_words, level_of, level_text, mistold_text, number_at, IsNoCertificate, IsOfFault, IsSaidOf};
 
 use crate::shown::{Shown, access_text, node_name};
-use prog_check::ProgramSet;
+use prog_check::{Path, ProgramSet};
 use prog_paths::paths;
-use robust_cert::{CertFault, Certificate, Entry, JsonFault, Question, from_json};
+use robust_cert::{CertFault, Certificate, Entry, JsonFault, Question, body_size, from_json};
 use std::alloc::{AllocError, Global};
 
-// A number of the text of a certificate.
-fn wide(number: u32) -> usize {
-    usize::try_from(number).unwrap_or(0)
+/// A number of the text of a certificate.
+pub fn wide(number: u32) -> usize
+    ensures { result ≡ number }
+{
+    number as usize
 }
 
 fn question_of(entry: &Entry) -> Question {
@@ -39,18 +41,97 @@ fn question_text(
     format!(in alloc; "{mine} against {theirs}")
 }
 
-// The level of a node; one that has none counts as 0.
-fn level_of(certificate: &Certificate, node: usize) -> u32
-    ensures { result ≡ level_of certificate.now node }
+// The number of a list at a node; one that has none counts as 0.
+fn number_at(numbers: &[u32], node: usize) -> u32
+    ensures { result ≡ number_at numbers.now node }
 {
-    match certificate.levels.as_slice().get(node) {
-        Some(level) => *level,
+    match numbers.get(node) {
+        Some(number) => *number,
         None => 0,
     }
 }
 
-// A level and the node that has it.
-fn level_text(
+fn level_of(certificate: &Certificate, node: usize) -> u32
+    ensures { result ≡ level_of certificate.now node }
+{
+    number_at(certificate.levels.as_slice(), node)
+}
+
+// Whether the number that is told of a path is that of its accesses in bodies.
+fn is_told(told: u32, path: &Path) -> bool
+    ensures { result ≡ is_told (told, path.now) }
+{
+    wide(told) == body_size(path)
+}
+
+// The first node of which another number is told than it has.
+fn first_mistold(bodies: &[u32], paths: &[Path]) -> usize
+    ensures { result ≡ first_mistold bodies.now paths.now }
+{
+    bodies
+        .iter()
+        .zip(paths)
+        .take_while(|(told, path)| is_told(**told, path))
+        .count()
+}
+
+// How many accesses of a node stand in bodies.
+fn body_size_in(shown: Shown<'_>, node: usize) -> usize
+    ensures { result ≡ body_size_in (slice_get shown.entry.paths.now node) }
+{
+    match shown.paths.get(node) {
+        Some(path) => body_size(path),
+        None => 0,
+    }
+}
+
+// The same by a certificate and by the paths.
+fn mistold_text(
+    alloc: Global,
+    shown: Shown<'_>,
+    certificate: &Certificate,
+    node: usize,
+) -> Result<String, AllocError>
+    ensures { IfOk result (λ text. string_bytes text ≡ mistold_text
+        (draft_tree shown.entry.set.now) shown.entry.paths.now certificate.now node) }
+{
+    let told = number_at(certificate.bodies.as_slice(), node);
+    let name = node_name(alloc, shown, node)?;
+    let size = body_size_in(shown, node);
+    format!(in alloc; "bodies: {told} of {name}, which has {size}; ")
+}
+
+// How many of something there are, where there has to be one for each node.
+fn count_text(alloc: Global, what: &str, count: usize, nodes: usize) -> Result<String, AllocError>
+    ensures { IfOk result (λ text. string_bytes text ≡ count_text what.now count nodes) }
+{
+    format!(in alloc; "{what}: {count}, nodes: {nodes}; ")
+}
+
+// The counts that are not those of the nodes.
+fn counts_text(
+    alloc: Global,
+    shown: Shown<'_>,
+    certificate: &Certificate,
+) -> Result<String, AllocError>
+    ensures { IfOk result (λ text. string_bytes text ≡ counts_text
+        (draft_tree shown.entry.set.now) shown.entry.paths.now certificate.now) }
+{
+    let nodes = shown.paths.len();
+    let levels = certificate.levels.len();
+    if levels != nodes {
+        return count_text(alloc, "levels", levels, nodes);
+    }
+    let bodies = certificate.bodies.len();
+    if bodies != nodes {
+        return count_text(alloc, "bodies", bodies, nodes);
+    }
+    let node = first_mistold(certificate.bodies.as_slice(), shown.paths);
+    mistold_text(alloc, shown, certificate, node)
+}
+
+/// A level and the node that has it.
+pub fn level_text(
     alloc: Global,
     shown: Shown<'_>,
     certificate: &Certificate,
@@ -115,11 +196,7 @@ fn front_of(
         | CertFault::BadChain(entry) => format!(in alloc; "entry {entry}: "),
         CertFault::LevelFalls(x, y) => falling_text(alloc, shown, certificate, x, y),
         CertFault::Dangerous(x, y, z) => dangerous_text(alloc, shown, certificate, x, y, z),
-        CertFault::PathCount => {
-            let levels = certificate.levels.len();
-            let nodes = shown.paths.len();
-            format!(in alloc; "levels: {levels}, nodes: {nodes}; ")
-        }
+        CertFault::PathCount => counts_text(alloc, shown, certificate),
         CertFault::TooLarge => format!(in alloc;
             "more than 1000000 pairs of accesses would have to be compared"
         ),
@@ -131,14 +208,16 @@ fn front_of(
 fn broken_rule(fault: CertFault) -> &'static str {
     match fault {
         CertFault::PathCount => {
-            "a certificate has a level for each node, which is a way through a program that commits"
+            "a certificate has for each node, which is a way through a program that commits, a level \
+            and how many of its accesses stand in the body of an `each`: none of any in version 1"
         }
         CertFault::NoSuchEntry(_) => "these two ask nothing of one another",
         CertFault::EntryOrder(_) => {
             "entries stand in the order of their nodes and accesses, and this one does not"
         }
         CertFault::BadCover(_) => {
-            "a cover is of a read that may miss a write, by two changes of one table, with two chains a key column"
+            "a cover is of a read that may miss a write, by two changes of one table, with two chains a key column; \
+            what stands in the body of an `each` covers nothing"
         }
         CertFault::BadChain(_) => {
             "a chain is none, or runs elsewhere; each step has to follow from where the two meet"
@@ -231,8 +310,8 @@ pub fn json_words(fault: JsonFault) -> &'static str
     match fault {
         JsonFault::NotJson => "the second part is no JSON, in which a certificate is written\n",
         JsonFault::WrongShape =>
-            "a certificate is an object with just `entries`, `levels` and `version`\n",
-        JsonFault::WrongVersion => "the version of the certificate is another than 1\n",
+            "a certificate is an object with just `entries`, `levels` and `version`, and of version 2 `bodies` too\n",
+        JsonFault::WrongVersion => "the version of the certificate is neither 1 nor 2\n",
         JsonFault::Memory => "memory ran out\n",
     }
 }

@@ -1,12 +1,12 @@
 //! The edges of a dangerous structure in words.
 ghost use Rattle.std.specs.Prelude.{◌≡◌, ◌↔◌, IfNone, IfOk, IfSome, IsTrue, string_bytes};
 ghost use Rattle.prog_tree.specs.Tree.{draft_tree};
-ghost use Rattle.analysis_words.specs.Edges.{change_text, look_text, other_run, told_text, twin_change_text, twin_look_text, IsRepeated, IsSameQuestion};
+ghost use Rattle.analysis_words.specs.Edges.{change_text, look_text, other_run, told_text, twin_change_text, twin_look_text, unseen_text, IsRepeated, IsSameQuestion};
 ghost use Rattle.analysis_words.specs.Refusing.{LacksQuestion, ShowsEdge, ShowsQuestion, ShowsTwins};
 
 use crate::instances::{instance_text, numbers_of};
 use crate::pointed::point_at_access;
-use crate::shown::{Shown, node_name};
+use crate::shown::{Shown, node_name, turns_text};
 use dep_graph::{Danger, Exposure};
 use prog_paths::Question;
 use std::alloc::{AllocError, Global};
@@ -24,7 +24,22 @@ fn look_text(alloc: Global, shown: Shown<'_>, edge: &Exposure) -> Result<String,
         ≡ look_text (draft_tree shown.entry.set.now) shown.entry.paths.now edge.now) }
 {
     let reader = instance_text(alloc, shown, &edge.sample, true, edge.question.x)?;
-    format!(in alloc; "{reader} looks here")
+    let turns = turns_text(shown, edge.question.x, edge.question.a);
+    format!(in alloc; "{reader} looks here{turns}")
+}
+
+// What is said behind the instance that changes what another looked at.
+fn unseen_text(
+    alloc: Global,
+    shown: Shown<'_>,
+    node: usize,
+    access: usize,
+) -> Result<String, AllocError>
+    ensures { IfOk result
+        (λ text. string_bytes text ≡ unseen_text shown.entry.paths.now node access) }
+{
+    let turns = turns_text(shown, node, access);
+    format!(in alloc; " changes here{turns} what that looked at, unseen by it")
 }
 
 // What is said where the second one changes that.
@@ -34,7 +49,8 @@ fn change_text(alloc: Global, shown: Shown<'_>, edge: &Exposure) -> Result<Strin
 {
     let other = other_run(edge.question.x, edge.question.y);
     let writer = instance_text(alloc, shown, &edge.sample, false, edge.question.y)?;
-    format!(in alloc; "{other}{writer} changes here what that looked at, unseen by it")
+    let unseen = unseen_text(alloc, shown, edge.question.y, edge.question.b)?;
+    format!(in alloc; "{other}{writer}{unseen}")
 }
 
 // The same of two instances of one node, each of which may be the first.
@@ -44,7 +60,8 @@ fn twin_look_text(alloc: Global, shown: Shown<'_>, edge: &Exposure) -> Result<St
 {
     let name = node_name(alloc, shown, edge.question.x)?;
     let numbers = numbers_of(alloc, shown, &edge.sample, true, edge.question.x)?;
-    format!(in alloc; "two runs of {name}: one{numbers} looks here")
+    let turns = turns_text(shown, edge.question.x, edge.question.a);
+    format!(in alloc; "two runs of {name}: one{numbers} looks here{turns}")
 }
 
 fn twin_change_text(alloc: Global, shown: Shown<'_>, edge: &Exposure) -> Result<String, AllocError>
@@ -52,7 +69,8 @@ fn twin_change_text(alloc: Global, shown: Shown<'_>, edge: &Exposure) -> Result<
         ≡ twin_change_text (draft_tree shown.entry.set.now) shown.entry.paths.now edge.now) }
 {
     let numbers = numbers_of(alloc, shown, &edge.sample, false, edge.question.y)?;
-    format!(in alloc; "the other{numbers} changes here what that looked at, unseen by it")
+    let unseen = unseen_text(alloc, shown, edge.question.y, edge.question.b)?;
+    format!(in alloc; "the other{numbers}{unseen}")
 }
 
 // All that is said of an edge.

@@ -1,9 +1,12 @@
 //! What an analysis and the checker of its certificates find, in words, for people: faults of a certificate with the
-//! entry or the nodes that they are about, the refusal of a set with its statements, and its repairs.
+//! entry or the nodes that they are about, what a certificate shows, the refusal of a set with its statements, and its
+//! repairs.
 #![tactic(auto)]
 
 mod advice;
+mod asked;
 mod certificate_faults;
+mod covering;
 mod edges;
 mod instances;
 mod left;
@@ -13,9 +16,12 @@ mod pointed;
 mod refusal;
 mod repair;
 mod repair_faults;
+mod robust;
 mod shown;
+mod ways;
 
 pub use certificate_faults::{certificate_words, json_words};
 pub use refusal::refusal_words;
 pub use repair::repair_words;
 pub use repair_faults::repair_fault_words;
+pub use robust::robust_words;

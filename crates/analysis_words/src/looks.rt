@@ -1,15 +1,10 @@
 //! What a program looks at that another may change unseen.
 
-use crate::shown::{Shown, access_place, cells_at, node_name};
-use prog_check::{Access, Term};
+use crate::shown::{Shown, access_of, access_place, cells_at, is_in_body, node_name, turns_text};
+use prog_check::Term;
 use prog_paths::Question;
 use std::alloc::{AllocError, Global};
 use text_places::{line_number, point_out};
-
-fn looking<'a>(shown: Shown<'a>, question: &Question) -> Option<&'a Access> {
-    let path = shown.paths.get(question.x)?;
-    path.accesses.as_slice().get(question.a)
-}
 
 /// A question for each statement that looks, the first one of it.
 pub fn first_of_each(
@@ -20,7 +15,7 @@ pub fn first_of_each(
     let mut statements = Vec::new(alloc);
     let mut firsts = Vec::new(alloc);
     for question in questions {
-        let statement = looking(shown, question).map(|access| access.place);
+        let statement = access_of(shown, question.x, question.a).map(|access| access.place);
         if !statements.contains(&statement) {
             statements.push(statement)?;
             firsts.push(*question)?;
@@ -47,13 +42,19 @@ fn is_unknown(term: Term) -> bool {
 
 /// Whether the key of a look is told by no parameters and numbers.
 pub fn has_unknown_key(shown: Shown<'_>, question: &Question) -> bool {
-    let Some(access) = looking(shown, question) else {
+    let Some(access) = access_of(shown, question.x, question.a) else {
         return false;
     };
     match access.second {
         Some(column) => is_unknown(access.first.low) || is_unknown(column.low),
         None => is_unknown(access.first.low),
     }
+}
+
+/// Whether the look of a question, or what changes what it looks at, stands in the body of an
+/// `each`.
+pub fn meets_body(shown: Shown<'_>, question: &Question) -> bool {
+    is_in_body(shown, question.x, question.a) || is_in_body(shown, question.y, question.b)
 }
 
 /// Points at a look, with what to say of it and the line that changes what it looks at; nothing
@@ -71,7 +72,8 @@ pub fn look_words(
         return Ok(String::new(alloc));
     };
     let line = line_number(shown.text, change);
-    let sentence = format!(in alloc; "{what} at what line {line} changes")?;
+    let turns = turns_text(shown, question.y, question.b);
+    let sentence = format!(in alloc; "{what} at what line {line} changes{turns}")?;
     point_out(alloc, shown.text, look, &sentence)
 }
 
@@ -85,6 +87,7 @@ pub fn reason_words(
         return Ok(String::new(alloc));
     };
     let name = node_name(alloc, shown, question.x)?;
-    let what = format!(in alloc; "{name} looks here")?;
+    let turns = turns_text(shown, question.x, question.a);
+    let what = format!(in alloc; "{name} looks here{turns}")?;
     look_words(alloc, shown, *question, &what)
 }

@@ -1,19 +1,21 @@
 //! The refusal of a set in words.
-ghost use Rattle.std.specs.Prelude.{IfNone, IfOk, IfSome, string_bytes};
+ghost use Rattle.std.specs.Prelude.{ℕ, IfNone, IfOk, IfSome, List, string_bytes};
 ghost use Rattle.prog_tree.specs.Tree.{draft_tree};
 ghost use Rattle.prog_check.specs.Paths.{paths_of};
 ghost use Rattle.analysis_words.specs.Left.{left_text};
 ghost use Rattle.analysis_words.specs.Refusing.{LacksDanger, ShowsBoth, ShowsDanger, ShowsOne};
 ghost use Rattle.analysis_words.specs.Repairs.{Says};
+ghost use Rattle.analysis_words.specs.Ways.{IsWaysText};
 
 use crate::advice::{advice, twin_advice};
 use crate::edges::{edge_words, is_repeated, twin_words};
 use crate::left::left_text;
 use crate::shown::Shown;
+use crate::ways::ways_of;
 use dep_graph::Danger;
 use prog_check::ProgramSet;
 use prog_paths::paths;
-use si_repair::Pair;
+use si_repair::Plan;
 use std::alloc::{AllocError, Global};
 
 // Both edges of a danger, and what follows.
@@ -75,19 +77,21 @@ fn danger_words(
 }
 
 /// Why a set is refused, by its least dangerous structure: its edges with their statements, how the
-/// way back closes, and the pairs of programs that a repair keeps apart; nothing where the
-/// statements are not found in the set's text.
+/// way back closes, the pairs of programs that a repair by this plan keeps apart, and which repairs
+/// go through; nothing where the statements are not found in the set's text.
 pub fn refusal_words(
     alloc: Global,
     text: &[u8],
     set: &ProgramSet,
     danger: &Danger,
-    pairs: &[Pair],
+    plan: &Plan,
 ) -> Result<Option<String>, AllocError>
     ensures said { IfOk result (λ said. IfSome said (λ words. ShowsDanger text.now
         (draft_tree set.now) (paths_of (draft_tree set.now)) danger.now (string_bytes words))) }
     ensures left { IfOk result (λ said. IfSome said (λ words.
-        Says (string_bytes words) (left_text (draft_tree set.now) pairs.now))) }
+        Says (string_bytes words) (left_text (draft_tree set.now) plan.now.pairs))) }
+    ensures ways { IfOk result (λ said. IfSome said (λ words. (text : List ℕ)
+        × IsWaysText (draft_tree set.now) plan.now.pairs text × Says (string_bytes words) text)) }
     ensures none { IfOk result (λ said. IfNone said
         (LacksDanger text.now (paths_of (draft_tree set.now)) danger.now)) }
 {
@@ -100,10 +104,8 @@ pub fn refusal_words(
     let Some(front) = danger_words(alloc, shown, danger)? else {
         return Ok(None);
     };
-    let left = left_text(alloc, set, pairs)?;
-    let words = format!(in alloc;
-        "{front}{left}`sirob repair` does it: by a row of a new table that both `keep`, \
-        or with `--promote` by a `keep` behind each look\n"
-    )?;
+    let left = left_text(alloc, set, plan.pairs.as_slice())?;
+    let ways = ways_of(alloc, set, plan)?;
+    let words = format!(in alloc; "{front}{left}{ways}")?;
     Ok(Some(words))
 }

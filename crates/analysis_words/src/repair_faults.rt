@@ -4,7 +4,7 @@ ghost use Rattle.prog_tree.specs.Tree.{draft_tree};
 ghost use Rattle.analysis_words.specs.Repairs.{NamesBoth, Says, SaysStop};
 ghost use Rattle.si_repair.specs.declared.repairs.fault.RepairFault.TheVariants as f;
 
-use crate::looks::{first_of_each, has_unknown_key, looked_at, reason_words};
+use crate::looks::{first_of_each, has_unknown_key, looked_at, meets_body, reason_words};
 use crate::pairs::pair_sentence;
 use crate::shown::Shown;
 use prog_check::ProgramSet;
@@ -40,6 +40,18 @@ fn unknown_look(
     reason_words(alloc, shown, found)
 }
 
+// The first look that stands in the body of an `each`, or at what such a body changes.
+fn body_look(
+    alloc: Global,
+    shown: Shown<'_>,
+    questions: &[Question],
+) -> Result<String, AllocError> {
+    let found = questions
+        .iter()
+        .find(|question| meets_body(shown, question));
+    reason_words(alloc, shown, found)
+}
+
 // Why no `keep` covers a look.
 #[derive(Clone, Copy)]
 enum Obstacle {
@@ -47,6 +59,8 @@ enum Obstacle {
     Range,
     // No parameters and numbers tell its key.
     UnknownKey,
+    // It stands in the body of an `each`, or what changes it does.
+    Body,
 }
 
 impl Obstacle {
@@ -54,7 +68,7 @@ impl Obstacle {
     fn verb(self) -> &'static str {
         match self {
             Obstacle::Range => "looks at a range that can be changed by",
-            Obstacle::UnknownKey => "looks at a row that can be changed by",
+            Obstacle::UnknownKey | Obstacle::Body => "looks at a row that can be changed by",
         }
     }
 
@@ -62,6 +76,10 @@ impl Obstacle {
         match self {
             Obstacle::Range => "; no `keep` covers a range",
             Obstacle::UnknownKey => ", and no parameters and numbers tell its key",
+            Obstacle::Body => {
+                ", and one of the two stands in the body of an `each`, \
+                where a `keep` may run for many rows or for none and covers nothing"
+            }
         }
     }
 }
@@ -84,6 +102,7 @@ fn obstructed_look(
     match obstacle {
         Obstacle::Range => range_look(alloc, shown, &questions),
         Obstacle::UnknownKey => unknown_look(alloc, shown, &questions),
+        Obstacle::Body => body_look(alloc, shown, &questions),
     }
 }
 
@@ -143,6 +162,7 @@ pub fn repair_fault_words(
         RepairFault::UnknownKey(pair) => {
             promotion_words(alloc, text, set, pair, Obstacle::UnknownKey)?
         }
+        RepairFault::BodyRead(pair) => { promotion_words(alloc, text, set, pair, Obstacle::Body)? }
         RepairFault::TooMany(pair) => limit_words(alloc, set, pair)?,
         RepairFault::Memory => return Ok(None),
     };

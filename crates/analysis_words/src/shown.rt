@@ -1,10 +1,10 @@
 //! Nodes and their accesses, as they stand in the text of a set.
 ghost use Rattle.std.specs.Prelude.{◌≡◌, IfOk, flat_map, string_bytes};
 ghost use Rattle.prog_tree.specs.Tree.{draft_tree};
-ghost use Rattle.analysis_words.specs.Nodes.{branches_text, letter_of, node_name};
+ghost use Rattle.analysis_words.specs.Nodes.{access_of, branches_text, letter_of, node_name, turns_by, turns_text};
 
 use fault_words::{as_text, program_name, table_name};
-use prog_check::{Path, ProgramSet};
+use prog_check::{Access, Path, ProgramSet};
 use std::alloc::{AllocError, Global};
 use text_places::{line_number, statement_place};
 
@@ -18,14 +18,18 @@ pub struct Shown<'a> {
     pub paths: &'a [Path],
 }
 
-// The statement at a place, to its `;` or to the end of its line.
+fn ends_statement(byte: u8) -> bool {
+    byte == b';' || byte == b'{' || byte == b'\n'
+}
+
+// The statement at a place, to its `;`, to the `{` of its body, or to the end of its line.
 fn statement_at(text: &[u8], place: usize) -> &str {
     let rest = text.get(place..).unwrap_or(&[]);
     let len = rest
         .iter()
-        .take_while(|byte| **byte != b';' && **byte != b'\n')
+        .take_while(|byte| !ends_statement(**byte))
         .count();
-    as_text(rest.get(..len.min(MAX_SHOWN)).unwrap_or(&[]))
+    as_text(rest.get(..len.min(MAX_SHOWN)).unwrap_or(&[])).trim_end()
 }
 
 /// The cell or the range that the statement at a place names, with its table.
@@ -78,6 +82,40 @@ pub fn node_name(alloc: Global, shown: Shown<'_>, node: usize) -> Result<String,
     let branches = branches_text(alloc, path.choices.as_slice())?;
     let name = program_name(shown.set, path.program);
     format!(in alloc; "`{name}{branches}`")
+}
+
+/// The access of a number of a node.
+pub fn access_of(shown: Shown<'_>, node: usize, access: usize) -> Option<Access>
+    ensures { result ≡ access_of shown.entry.paths.now node access }
+{
+    let path = shown.paths.get(node)?;
+    path.accesses.as_slice().get(access).copied()
+}
+
+// What is said of an access that is sure or not.
+fn turns_by(sure: bool) -> &'static str
+    ensures { result.now ≡ turns_by sure }
+{
+    if sure {
+        ""
+    } else {
+        " in each turn of its `each`"
+    }
+}
+
+/// What is said of an access that may be made in many turns, or in none.
+pub fn turns_text(shown: Shown<'_>, node: usize, access: usize) -> &'static str
+    ensures { result.now ≡ turns_text shown.entry.paths.now node access }
+{
+    match access_of(shown, node, access) {
+        Some(access) => turns_by(access.sure),
+        None => "",
+    }
+}
+
+/// Whether an access of a node stands in the body of an `each`.
+pub fn is_in_body(shown: Shown<'_>, node: usize, access: usize) -> bool {
+    access_of(shown, node, access).is_some_and(|access| !access.sure)
 }
 
 /// Where the statement of an access stands.

@@ -84,6 +84,7 @@ of_pair code pair = code ++ (spaced pair.from ++ spaced pair.to)
 abbrev pub repair_fault : RepairFault → List ℕ
 repair_fault (u.RangeRead pair) = of_pair (codes "U1") pair
 repair_fault (u.UnknownKey pair) = of_pair (codes "U2") pair
+repair_fault (u.BodyRead pair) = of_pair (codes "U5") pair
 repair_fault (u.TooMany pair) = of_pair (codes "U3") pair
 repair_fault u.Memory = codes "memory"
 

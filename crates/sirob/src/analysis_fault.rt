@@ -22,6 +22,7 @@ pub fn repair_fault(alloc: Global, fault: RepairFault) -> Result<String, AllocEr
     match fault {
         RepairFault::RangeRead(Pair { from, to }) => format!(in alloc; "U1 {from} {to}"),
         RepairFault::UnknownKey(Pair { from, to }) => format!(in alloc; "U2 {from} {to}"),
+        RepairFault::BodyRead(Pair { from, to }) => format!(in alloc; "U5 {from} {to}"),
         RepairFault::TooMany(Pair { from, to }) => format!(in alloc; "U3 {from} {to}"),
         RepairFault::Memory => format!(in alloc; "memory"),
     }

@@ -18,8 +18,8 @@ use crate::run_fault::{RunFault, fault_line};
 use crate::sentences::kept::Kept;
 use crate::sentences::words::explain;
 use crate::status::Status;
-use dep_graph::Danger;
 use si_engine::{MAX_READS, Sink, Source, read_whole, write_whole};
+use si_repair::Finding;
 use std::alloc::Global;
 use std::thread::Threads;
 
@@ -32,7 +32,7 @@ fn part_input<K: Sink>(
     mode: Mode,
     input: &[u8],
     sink: &mut K,
-    refused_by: &mut Option<Danger>,
+    found: &mut Option<Finding>,
 ) -> Result<Status, RunFault>
     requires short { length input.now ≤ input_limit }
     requires working { K.has_failed sink.old ≡ false }
@@ -47,7 +47,7 @@ fn part_input<K: Sink>(
         Mode::Check | Mode::Certify | Mode::Repair { .. } | Mode::Work { .. } => unreachable!(),
         Mode::Verify => verify_part(alloc, set, part, sink),
         Mode::Run { robust: false } => run_part(alloc, &set, part, sink),
-        Mode::Run { robust: true } => run_robust_part(rt, set, part, sink, refused_by),
+        Mode::Run { robust: true } => run_robust_part(rt, set, part, sink, found),
         Mode::Audit => audit_part(alloc, &set, part, sink),
     }
 }
@@ -58,7 +58,7 @@ fn answer_input<K: Sink>(
     mode: Mode,
     input: &[u8],
     sink: &mut K,
-    refused_by: &mut Option<Danger>,
+    found: &mut Option<Finding>,
 ) -> Result<Status, RunFault>
     requires short { length input.now ≤ input_limit }
     requires working { K.has_failed sink.old ≡ false }
@@ -68,10 +68,10 @@ fn answer_input<K: Sink>(
 {
     match mode {
         Mode::Check => check_input(rt.alloc(), input, sink),
-        Mode::Certify => certify_input(rt, input, sink, refused_by),
+        Mode::Certify => certify_input(rt, input, sink, found),
         Mode::Repair { promote } => repair_input(rt.alloc(), promote, input, sink),
         Mode::Verify | Mode::Run { .. } | Mode::Audit => {
-            part_input(rt, mode, input, sink, refused_by)
+            part_input(rt, mode, input, sink, found)
         }
         Mode::Work { .. } => unreachable!(),
     }
@@ -93,7 +93,7 @@ fn answer_source<S: Source, K: Sink>(
     ensures reads { S.pulls source.new ≤ S.pulls source.old + MAX_READS }
 {
     let input = read_whole(rt.alloc(), source)?;
-    let ended = answer_input(rt, mode, &input, sink, &mut kept.refused_by);
+    let ended = answer_input(rt, mode, &input, sink, &mut kept.found);
     kept.input = input;
     ended
 }

@@ -15,8 +15,8 @@ use crate::run_fault::RunFault;
 use crate::sentences::kept::Kept;
 use crate::sentences::words::explain;
 use crate::status::Status;
-use dep_graph::Danger;
 use si_engine::{MAX_READS, Sink, Source, read_whole};
+use si_repair::Finding;
 use std::rt::Clock;
 use std::sync::Wait;
 use std::thread::Threads;
@@ -27,7 +27,7 @@ fn work_input<R: AllocGlobal + Eprint + Clock + Watched + Threads + Wait + Sync,
     workers: u8,
     input: &[u8],
     sink: &mut K,
-    refused_by: &mut Option<Danger>,
+    found: &mut Option<Finding>,
 ) -> Result<Status, RunFault>
     requires short { length input.now ≤ input_limit }
     requires working { K.has_failed sink.old ≡ false }
@@ -35,7 +35,7 @@ fn work_input<R: AllocGlobal + Eprint + Clock + Watched + Threads + Wait + Sync,
         (K.has_failed sink.new) (K.taken sink.old) (K.taken sink.new) result }
 {
     let (set, part) = read_text_and_part(rt.alloc(), input)?;
-    work_part(rt, workers, set, part, sink, refused_by)
+    work_part(rt, workers, set, part, sink, found)
 }
 
 // Reads all of a source, keeps it, and does its jobs.
@@ -51,7 +51,7 @@ fn work_source<
     ensures reads { S.pulls source.new ≤ S.pulls source.old + MAX_READS }
 {
     let input = read_whole(rt.alloc(), source)?;
-    let ended = work_input(rt, workers, &input, sink, &mut kept.refused_by);
+    let ended = work_input(rt, workers, &input, sink, &mut kept.found);
     kept.input = input;
     ended
 }

@@ -14,7 +14,6 @@ use crate::input::read_text;
 use crate::lines::write_lines;
 use crate::run_fault::RunFault;
 use crate::status::Status;
-use dep_graph::Danger;
 use prog_check::ProgramSet;
 use robust_cert::{Certificate, to_json};
 use si_engine::Sink;
@@ -32,11 +31,11 @@ fn certificate_line(alloc: Global, certificate: &Certificate) -> Result<String, 
     Ok(line)
 }
 
-// What an analysis finds of a set, as a text with the status behind it. What refuses the set is kept.
+// What an analysis finds of a set, as a text with the status behind it. It is kept.
 fn finding_text(
     rt: &(impl AllocGlobal + Threads + Sync),
     set: &ProgramSet,
-    refused_by: &mut Option<Danger>,
+    found: &mut Option<Finding>,
 ) -> Result<(String, Status), RunFault>
     ensures ok { IfOk result (λ told. GivesFinding (draft_tree set.now)
         (string_bytes told.0) told.1) }
@@ -47,11 +46,12 @@ fn finding_text(
     match certify_par(rt, alloc, set)? {
         Finding::Robust(certificate) => {
             let line = certificate_line(alloc, &certificate)?;
+            *found = Some(Finding::Robust(certificate));
             Ok((line, Status::Done))
         }
         Finding::Refused(danger) => {
             let text = refusal_text(alloc, set, &danger)?;
-            *refused_by = Some(danger);
+            *found = Some(Finding::Refused(danger));
             Ok((text, Status::Unserializable))
         }
     }
@@ -61,30 +61,29 @@ fn finding_text(
 fn input_finding(
     rt: &(impl AllocGlobal + Threads + Sync),
     input: &[u8],
-    refused_by: &mut Option<Danger>,
+    found: &mut Option<Finding>,
 ) -> Result<(String, Status), RunFault>
     requires { length input.now ≤ input_limit }
     ensures ok { IfOk result (λ told. Gives mode.Certify input.now (string_bytes told.0) told.1) }
     ensures err { IfErr result (λ fault. IsStop mode.Certify input.now fault []) }
 {
     let set = read_text(rt.alloc(), input)?;
-    let told = finding_text(rt, &set, refused_by)?;
+    let told = finding_text(rt, &set, found)?;
     Ok(told)
 }
 
-/// Writes the certificate or the refusal of the set that an input spells. What refuses the set is
-/// kept.
+/// Writes the certificate or the refusal of the set that an input spells. What was found is kept.
 pub fn certify_input<K: Sink>(
     rt: &(impl AllocGlobal + Threads + Sync),
     input: &[u8],
     sink: &mut K,
-    refused_by: &mut Option<Danger>,
+    found: &mut Option<Finding>,
 ) -> Result<Status, RunFault>
     requires short { length input.now ≤ input_limit }
     requires working { K.has_failed sink.old ≡ false }
     ensures { WritesOr (Err write_lost) (IsInputDone mode.Certify input.now)
         (K.has_failed sink.new) (K.taken sink.old) (K.taken sink.new) result }
 {
-    let (text, status) = input_finding(rt, input, refused_by)?;
+    let (text, status) = input_finding(rt, input, found)?;
     write_lines(sink, text.as_bytes(), Ok(status))
 }

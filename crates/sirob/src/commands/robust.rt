@@ -8,7 +8,6 @@ ghost use Rattle.sirob.specs.Stops.{IsUnanalysedBy, IsVerified};
 
 use crate::commands::refusal::refusal_text;
 use crate::run_fault::RunFault;
-use dep_graph::Danger;
 use prog_check::ProgramSet;
 use robust_cert::{Certificate, RobustSet, verify};
 use si_repair::{Finding, certify_par};
@@ -35,11 +34,11 @@ fn accept(alloc: Global, set: ProgramSet, certificate: &Certificate) -> Result<R
 }
 
 /// The set as a robust one, where an analysis finds a certificate and the checker accepts it; else
-/// its refusal. What refuses it is kept.
+/// its refusal. That is kept.
 pub fn assess(
     rt: &(impl AllocGlobal + Threads + Sync),
     set: ProgramSet,
-    refused_by: &mut Option<Danger>,
+    found: &mut Option<Finding>,
 ) -> Result<Verified, RunFault>
     ensures ok { IfOk result (λ verified. IsVerified set verified) }
     ensures err { IfErr result (λ fault. is_memory fault ≡ false
@@ -53,7 +52,7 @@ pub fn assess(
         }
         Finding::Refused(danger) => {
             let text = refusal_text(alloc, &set, &danger)?;
-            *refused_by = Some(danger);
+            *found = Some(Finding::Refused(danger));
             Ok(Verified::Refused(text))
         }
     }

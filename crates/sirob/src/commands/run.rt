@@ -11,10 +11,10 @@ use crate::commands::robust::{Verified, assess};
 use crate::lines::write_lines;
 use crate::run_fault::RunFault;
 use crate::status::Status;
-use dep_graph::Danger;
 use prog_check::ProgramSet;
 use robust_cert::RobustSet;
 use si_engine::{Bytes, Sink, run_robust_script, run_script};
+use si_repair::Finding;
 use std::alloc::Global;
 use std::thread::Threads;
 
@@ -60,14 +60,14 @@ pub fn run_robust_part<K: Sink>(
     set: ProgramSet,
     part: &[u8],
     sink: &mut K,
-    refused_by: &mut Option<Danger>,
+    found: &mut Option<Finding>,
 ) -> Result<Status, RunFault>
     requires short { length part.now ≤ input_limit }
     requires working { K.has_failed sink.old ≡ false }
     ensures { WritesOr (Err write_lost) (IsPartDone (mode.Run true) (draft_tree set) part.now)
         (K.has_failed sink.new) (K.taken sink.old) (K.taken sink.new) result }
 {
-    match assess(rt, set, refused_by)? {
+    match assess(rt, set, found)? {
         Verified::Robust(set) => run_verified(rt.alloc(), &set, part, sink),
         Verified::Refused(text) => {
             write_lines(sink, text.as_bytes(), Ok(Status::Unserializable))

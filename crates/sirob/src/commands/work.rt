@@ -17,11 +17,11 @@ use crate::lines::write_lines;
 use crate::progress::{Progress, Watched};
 use crate::run_fault::RunFault;
 use crate::status::Status;
-use dep_graph::Danger;
 use history_book::Book;
 use prog_check::ProgramSet;
 use robust_cert::RobustSet;
 use si_engine::{Bytes, Sink, push_rows};
+use si_repair::Finding;
 use si_workers::{Finished, JobEnd, JobList, JobOutcome, read_jobs, run_jobs};
 use std::alloc::{AllocError, Global};
 use std::rt::Clock;
@@ -160,14 +160,14 @@ pub fn work_part<R: AllocGlobal + Eprint + Clock + Watched + Threads + Wait + Sy
     set: ProgramSet,
     part: &[u8],
     sink: &mut K,
-    refused_by: &mut Option<Danger>,
+    found: &mut Option<Finding>,
 ) -> Result<Status, RunFault>
     requires short { length part.now ≤ input_limit }
     requires working { K.has_failed sink.old ≡ false }
     ensures { WritesOr (Err write_lost) (IsPartDone (mode.Work workers) (draft_tree set) part.now)
         (K.has_failed sink.new) (K.taken sink.old) (K.taken sink.new) result }
 {
-    match assess(rt, set, refused_by)? {
+    match assess(rt, set, found)? {
         Verified::Robust(set) => {
             let text = work_verified(rt, workers, &set, part)?;
             write_lines(sink, text.as_bytes(), Ok(Status::Done))

@@ -1,11 +1,12 @@
 //! What an analysis and the checker of certificates find, as it is said to people.
 
 use crate::sentences::kept_input::{second_part, set_of, set_text};
-use analysis_words::{certificate_words, refusal_words};
+use analysis_words::{certificate_words, refusal_words, robust_words};
 use dep_graph::Danger;
 use prog_check::ProgramSet;
 use prog_paths::paths;
-use robust_cert::CertFault;
+use prog_tree::Sequence;
+use robust_cert::{CertFault, Certificate};
 use si_repair::{AnalyseFault, Plan, plan};
 use std::alloc::{AllocError, Global};
 
@@ -34,13 +35,23 @@ pub fn certificate_sentence(
 // A set of more nodes is not planned for its words alone: that would take as long as its analysis.
 const MAX_PLANNED_NODES: usize = 32;
 
-// What a repair of a set keeps apart, where the set is small.
+// The plan of a small set.
 fn small_plan(alloc: Global, set: &ProgramSet) -> Option<Plan> {
     let nodes = paths(alloc, set).ok()?.len();
     if nodes > MAX_PLANNED_NODES {
         return None;
     }
     plan(alloc, set).ok()
+}
+
+// What a repair of a set keeps apart, where the set is small; else a plan without pairs.
+fn known_plan(alloc: Global, set: &ProgramSet) -> Plan {
+    match small_plan(alloc, set) {
+        Some(plan) => plan,
+        None => Plan {
+            pairs: Sequence::new(alloc),
+        },
+    }
 }
 
 /// Why the set of an input is refused, by what an analysis found.
@@ -52,9 +63,19 @@ pub fn refusal_sentence(
     let Some(set) = set_of(alloc, input) else {
         return Ok(None);
     };
-    let text = set_text(input);
-    match small_plan(alloc, &set) {
-        Some(plan) => refusal_words(alloc, text, &set, danger, plan.pairs.as_slice()),
-        None => refusal_words(alloc, text, &set, danger, &[]),
-    }
+    let plan = known_plan(alloc, &set);
+    refusal_words(alloc, set_text(input), &set, danger, &plan)
+}
+
+/// What the certificate of the set of an input shows.
+pub fn robust_sentence(
+    alloc: Global,
+    input: &[u8],
+    certificate: &Certificate,
+) -> Result<Option<String>, AllocError> {
+    let Some(set) = set_of(alloc, input) else {
+        return Ok(None);
+    };
+    let words = robust_words(alloc, set_text(input), &set, certificate)?;
+    Ok(Some(words))
 }

@@ -1,20 +1,20 @@
 //! What a command keeps, to say something of it behind its answer.
 
-use dep_graph::Danger;
+use si_repair::Finding;
 use std::alloc::Global;
 
-/// The input, and what refused its set, where that was found.
+/// The input, and what an analysis found of its set, where one was made.
 #[derive(Drop)]
 pub struct Kept {
     pub input: Vec<u8>,
-    pub refused_by: Option<Danger>,
+    pub found: Option<Finding>,
 }
 
 impl Kept {
     pub fn new(alloc: Global) -> Self {
         Kept {
             input: Vec::new(alloc),
-            refused_by: None,
+            found: None,
         }
     }
 }

@@ -3,7 +3,9 @@
 use crate::command_line::Mode;
 use crate::parts::PartFault;
 use crate::run_fault::RunFault;
-use crate::sentences::analysis::{analysis_sentence, certificate_sentence, refusal_sentence};
+use crate::sentences::analysis::{
+    analysis_sentence, certificate_sentence, refusal_sentence, robust_sentence,
+};
 use crate::sentences::kept::Kept;
 use crate::sentences::kept_input::{ahead_of_second, second_part, set_of, set_text};
 use crate::sentences::repair::{repair_fault_sentence, repair_sentence};
@@ -15,6 +17,7 @@ use fault_words::{check_words, text_words};
 use history_book::AuditFault;
 use run_words::{PartKind, extra_part_words, line_fault_words, missing_part_words, record_words};
 use si_engine::{InputFault, LineFault, ScriptFault};
+use si_repair::Finding;
 use std::alloc::{AllocError, Global};
 
 // What stands in the second part of a command's input, where it has one.
@@ -155,7 +158,7 @@ fn unserializable_sentence(
     mode: Mode,
     kept: &Kept,
 ) -> Result<Option<String>, AllocError> {
-    if let Some(danger) = &kept.refused_by {
+    if let Some(Finding::Refused(danger)) = &kept.found {
         return refusal_sentence(alloc, &kept.input, danger);
     }
     match mode {
@@ -165,10 +168,19 @@ fn unserializable_sentence(
     }
 }
 
-fn done_sentence(alloc: Global, mode: Mode, input: &[u8]) -> Result<Option<String>, AllocError> {
+// What a certificate shows that was found.
+fn found_sentence(alloc: Global, kept: &Kept) -> Result<Option<String>, AllocError> {
+    match &kept.found {
+        Some(Finding::Robust(certificate)) => robust_sentence(alloc, &kept.input, certificate),
+        _ => Ok(None),
+    }
+}
+
+fn done_sentence(alloc: Global, mode: Mode, kept: &Kept) -> Result<Option<String>, AllocError> {
     match mode {
-        Mode::Repair { promote } => repair_sentence(alloc, input, promote),
-        Mode::Run { .. } => refused_sentence(alloc, input),
+        Mode::Certify => found_sentence(alloc, kept),
+        Mode::Repair { promote } => repair_sentence(alloc, &kept.input, promote),
+        Mode::Run { .. } => refused_sentence(alloc, &kept.input),
         _ => Ok(None),
     }
 }
@@ -182,7 +194,7 @@ fn ending_words(
 ) -> Result<Option<String>, AllocError> {
     match ended {
         Ok(Status::Unserializable) => unserializable_sentence(alloc, mode, kept),
-        Ok(Status::Done) => done_sentence(alloc, mode, &kept.input),
+        Ok(Status::Done) => done_sentence(alloc, mode, kept),
         Ok(Status::Faulty | Status::Memory) => Ok(None),
         Err(fault) => words_of(alloc, mode, &kept.input, fault),
     }
