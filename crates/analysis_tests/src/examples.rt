@@ -1,4 +1,4 @@
-//! Texts of sets that several rooms take, and the committing paths of texts.
+//! Texts that several rooms take, and the committing paths of texts.
 
 use example_sets::set_of;
 use prog_paths::{Path, paths};
@@ -11,6 +11,11 @@ table t 1;
 program Left() { let a = get t[1] else 0; let b = get t[2] else 0; put t[1] = a + b; }
 program Right() { let a = get t[1] else 0; let b = get t[2] else 0; put t[2] = a + b; }
 ";
+
+/// The certificate of the set that adds to each row of a range and keeps a cell.
+pub const KEPT_PAYS: &str =
+    "{\"bodies\":[1],\"entries\":[[\"cover\",0,1,0,2,0,0,[[[\"n\",0]],[[\"n\",0]]]]],\
+    \"levels\":[1],\"version\":2}";
 
 /// Five branches, and these pairs of a read and a write.
 fn push_wide_body(text: &mut String, pairs: usize) -> Result<(), AllocError> {

@@ -90,6 +90,28 @@ table t 1;
 program Move(a, b) { let x = get t[a + 0] else 0; put t[b] = x; }
 ";
 
+/// A program that adds to each row of a range.
+pub const PAY: &str = "\
+table t 1;
+program Pay(v) {
+  each k, x in t[1..3] {
+    put t[k] = x + v;
+  }
+}
+";
+
+/// The same with a cell that each run keeps. The canonical text.
+pub const KEPT_PAY: &str = "\
+table t 1;
+table mat_0 1;
+program Pay(v) {
+  keep mat_0[0];
+  each k, x in t[1..3] {
+    put t[k] = x + v;
+  }
+}
+";
+
 /// The checked set of a text.
 pub fn set_of(alloc: Global, text: &str) -> Result<ProgramSet, Fail>
     ensures { IfOk result (λ set. Accepts text.now (draft_tree set)) }

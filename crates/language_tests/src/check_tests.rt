@@ -20,8 +20,18 @@ const FIRST_STATEMENT: Place = Place::Statement {
     statement: 0,
 };
 
+const SECOND_STATEMENT: Place = Place::Statement {
+    program: 0,
+    statement: 1,
+};
+
+const THIRD_STATEMENT: Place = Place::Statement {
+    program: 0,
+    statement: 2,
+};
+
 /// Texts and their first faults.
-const FAULTS: [(&str, CheckFault); 2] = [
+const FAULTS: [(&str, CheckFault); 5] = [
     (
         "table t 1; table t 2;",
         CheckFault::DuplicateTable {
@@ -34,7 +44,42 @@ const FAULTS: [(&str, CheckFault); 2] = [
             place: FIRST_STATEMENT,
         },
     ),
+    (
+        "table t 1; program P() { reply 1; each k, k in t[1..3] { } }",
+        CheckFault::NameTaken {
+            place: SECOND_STATEMENT,
+        },
+    ),
+    (
+        "table t 1; program P() { each k, v in t[1..3] { } reply v; }",
+        CheckFault::UnknownName {
+            place: SECOND_STATEMENT,
+        },
+    ),
+    (
+        "table t 1; program P() { each k, v in t[1..3] { abort; reply v; } }",
+        CheckFault::AfterAbort {
+            place: THIRD_STATEMENT,
+        },
+    ),
 ];
+
+/// Six branches make 64 ways, but none of a program where they stand in the block of an `each`.
+const BRANCHES: &str = "\
+table t 1;
+program P(a) {
+  each k, v in t[1..3] {
+    if a < 0 { } if a < 0 { } if a < 0 { } if a < 0 { } if a < 0 { } if a < 0 { }
+  }
+}
+";
+
+#[test]
+fn branches_of_an_each_add_no_paths(rt: HostRuntime) -> Result<(), Fail> {
+    let found = fault_of(rt.alloc(), BRANCHES)?;
+    assert!(rt; found == None);
+    Ok(())
+}
 
 #[test]
 fn faults_have_their_place(rt: HostRuntime) -> Result<(), Fail> {

@@ -1,6 +1,6 @@
 //! Copies of a draft and of its parts.
 
-use example_sets::{SMALL_BANK, set_of};
+use example_sets::{PAY, SMALL_BANK, set_of};
 use prog_text::parse;
 use prog_tree::{Block, Draft, Expr, Key, Stmt, Test};
 use std::alloc::{AllocError, Global};
@@ -40,12 +40,20 @@ fn are_copied(draft: &Draft) -> Result<[bool; 3], AllocError> {
     Ok([whole, tables, programs])
 }
 
-#[test]
-fn a_copy_is_the_same(rt: HostRuntime) -> Result<(), Fail> {
-    let set = set_of(rt.alloc(), SMALL_BANK)?;
+/// The same of the draft of a text.
+fn are_copied_of(alloc: Global, text: &str) -> Result<[bool; 3], Fail> {
+    let set = set_of(alloc, text)?;
     let copied = are_copied(set.draft());
     drop(set);
-    assert!(rt; copied? == [true, true, true]);
+    Ok(copied?)
+}
+
+#[test]
+fn a_copy_is_the_same(rt: HostRuntime) -> Result<(), Fail> {
+    for text in [SMALL_BANK, PAY] {
+        let copied = are_copied_of(rt.alloc(), text)?;
+        assert!(rt; copied == [true, true, true], "{text}");
+    }
     Ok(())
 }
 
@@ -122,14 +130,20 @@ fn alike_in(alloc: Global, draft: &Draft) -> Result<usize, AllocError> {
     }
 }
 
-const STATEMENTS: &str =
-    "program P(k, v) { if not k < v { abort; } put e[k, 2] = v - 3 * k; delete e[k, -1]; }";
+const STATEMENTS: &str = "\
+program P(k, v) {
+  if not k < v { abort; }
+  put e[k, 2] = v - 3 * k;
+  delete e[k, -1];
+  each i, u in t[1..k] { keep t[i]; }
+}
+";
 
 #[test]
 fn parts_of_statements_are_copied_whole(rt: HostRuntime) -> Result<(), Fail> {
     let draft = parse(rt.alloc(), STATEMENTS.as_bytes())?;
     let alike = alike_in(rt.alloc(), &draft);
     drop(draft);
-    assert!(rt; alike? == 3);
+    assert!(rt; alike? == 4);
     Ok(())
 }

@@ -9,6 +9,8 @@ mod check_tests;
 #[cfg(test)]
 mod copy_tests;
 #[cfg(test)]
+mod each_tests;
+#[cfg(test)]
 mod equality_tests;
 #[cfg(test)]
 mod refused_tests;

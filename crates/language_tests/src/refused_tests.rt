@@ -2,7 +2,7 @@
 //! each request refused in turn, so that each call is refused each of its requests; by themselves
 //! they refuse none.
 
-use example_sets::{SMALL_BANK, checked_when_asked_again, parsed_when_asked_again};
+use example_sets::{KEPT_PAY, SMALL_BANK, checked_when_asked_again, parsed_when_asked_again};
 use prog_check::{CheckFault, Place};
 use prog_text::{TextFault, print};
 use prog_tree::Draft;
@@ -17,12 +17,20 @@ fn printed(alloc: Global, draft: &Draft) -> Result<Vec<u8>, AllocError> {
     }
 }
 
+// What is printed of a text that is read and checked.
+fn printed_of(alloc: Global, text: &str) -> Result<Vec<u8>, Fail> {
+    let set = checked_when_asked_again(alloc, text)??;
+    let text = printed(alloc, set.draft());
+    drop(set);
+    Ok(text?)
+}
+
 #[test]
 fn texts_are_read_when_asked_again(rt: HostRuntime) -> Result<(), Fail> {
-    let set = checked_when_asked_again(rt.alloc(), SMALL_BANK)??;
-    let text = printed(rt.alloc(), set.draft());
-    drop(set);
-    assert!(rt; text?.as_slice() == SMALL_BANK.as_bytes());
+    for text in [SMALL_BANK, KEPT_PAY] {
+        let printed = printed_of(rt.alloc(), text)?;
+        assert!(rt; printed.as_slice() == text.as_bytes(), "{text}");
+    }
     Ok(())
 }
 

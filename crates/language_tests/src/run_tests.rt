@@ -11,34 +11,34 @@ use std::test::Fail;
 
 /// A run of a set's program, with the rows that it is answered, and its calls: each line a call and
 /// what it gives.
-struct Example {
-    text: &'static str,
-    program: usize,
-    args: &'static [i64],
-    rows: &'static [(Cell, i64)],
-    calls: &'static str,
+pub struct Example {
+    pub text: &'static str,
+    pub program: usize,
+    pub args: &'static [i64],
+    pub rows: &'static [(Cell, i64)],
+    pub calls: &'static str,
 }
 
 /// Cells of the first table, each named by both of its columns.
-const CELL_1_0: Cell = Cell {
+pub const CELL_1_0: Cell = Cell {
     table: 0,
     first: 1,
     second: 0,
 };
 
-const CELL_2_0: Cell = Cell {
+pub const CELL_2_0: Cell = Cell {
     table: 0,
     first: 2,
     second: 0,
 };
 
-const CELL_7_1: Cell = Cell {
+pub const CELL_7_1: Cell = Cell {
     table: 0,
     first: 7,
     second: 1,
 };
 
-const CELL_7_3: Cell = Cell {
+pub const CELL_7_3: Cell = Cell {
     table: 0,
     first: 7,
     second: 3,
@@ -170,7 +170,8 @@ fn play_in(
     Ok(played?)
 }
 
-fn play(rt: &impl Abort, alloc: Global, example: &Example) -> Result<(), Fail> {
+/// Makes the calls of an example's run.
+pub fn play(rt: &impl Abort, alloc: Global, example: &Example) -> Result<(), Fail> {
     let set = set_of(alloc, example.text)?;
     let played = play_in(rt, alloc, &set, example);
     drop(set);

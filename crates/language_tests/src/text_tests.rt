@@ -38,6 +38,11 @@ program All(a, b) {
   } else {
     abort;
   }
+  each k, v in t[a..(a + 1) * 2] {
+    put t[k] = v;
+    each i, u in e[k, least..greatest] {
+    }
+  }
   reply n + s + z + w + q;
 }
 ";
@@ -47,6 +52,14 @@ fn refusals_have_their_place(rt: HostRuntime) {
     for (text, fault) in [
         ("program P( {", TextFault::UnexpectedToken { place: 11 }),
         ("table t 1; @", TextFault::UnknownByte { place: 11 }),
+        (
+            "table t 1; program P() { each k v in t[1..3] { } }",
+            TextFault::UnexpectedToken { place: 32 },
+        ),
+        (
+            "table t 1; program P() { each k, v in",
+            TextFault::UnexpectedEnd { place: 37 },
+        ),
     ] {
         let found = parse(rt.alloc(), text.as_bytes()).err();
         assert!(rt; found == Some(fault), "{text}");

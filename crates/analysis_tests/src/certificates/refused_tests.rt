@@ -4,7 +4,8 @@
 
 use crate::certificates::checked_tests::told;
 use crate::certificates::text_tests::TRANSFERS;
-use example_sets::{TRANSFER, checked_when_asked_again};
+use crate::examples::KEPT_PAYS;
+use example_sets::{KEPT_PAY, TRANSFER, checked_when_asked_again};
 use prog_check::ProgramSet;
 use robust_cert::{CertFault, Certificate, JsonFault, RobustSet, from_json, verify};
 use std::alloc::Global;
@@ -30,17 +31,29 @@ fn verified(
     }
 }
 
-/// What the checker says of a certificate for the transfer set: how many programs are robust.
-fn said(alloc: Global, certificate: &Certificate) -> Result<Result<usize, CertFault>, Fail> {
-    let set = checked_when_asked_again(alloc, TRANSFER)??;
+/// What the checker says of a certificate for the set of a text: how many programs are robust.
+fn said(
+    alloc: Global,
+    text: &str,
+    certificate: &Certificate,
+) -> Result<Result<usize, CertFault>, Fail> {
+    let set = checked_when_asked_again(alloc, text)??;
     Ok(told(verified(alloc, set, certificate)))
+}
+
+/// The same of the text of a certificate.
+fn said_of(alloc: Global, text: &str, written: &str) -> Result<Result<usize, CertFault>, Fail> {
+    let certificate = read(alloc, written)?;
+    let said = said(alloc, text, &certificate);
+    drop(certificate);
+    said
 }
 
 #[test]
 fn certificates_are_read_and_checked_when_asked_again(rt: HostRuntime) -> Result<(), Fail> {
-    let certificate = read(rt.alloc(), TRANSFERS)?;
-    let said = said(rt.alloc(), &certificate);
-    drop(certificate);
-    assert!(rt; said? == Ok(1));
+    for (text, written) in [(TRANSFER, TRANSFERS), (KEPT_PAY, KEPT_PAYS)] {
+        let said = said_of(rt.alloc(), text, written)?;
+        assert!(rt; said == Ok(1), "{text}");
+    }
     Ok(())
 }

@@ -1,5 +1,6 @@
 //! Certificates as text, told by hand.
 
+use crate::examples::KEPT_PAYS;
 use order_facts::Node;
 use prog_tree::Sequence;
 use robust_cert::{Certificate, Chain, Entry, JsonFault, Question, from_json, to_json};
@@ -33,8 +34,11 @@ const EACH_KIND: &str =
     [\"cover\",1,1,1,1,7,4294967295,[]],[\"cover\",1,1,2,1,0,0,[[]]]],\
     \"levels\":[0,4294967295],\"version\":1}";
 
+/// The greatest number of accesses, and more numbers than levels.
+const BODIES: &str = "{\"bodies\":[0,4294967295,7],\"entries\":[],\"levels\":[3],\"version\":2}";
+
 /// Texts, and what is written of them again.
-const WRITTEN: [(&str, &str); 8] = [
+const WRITTEN: [(&str, &str); 13] = [
     (EMPTY, EMPTY),
     (LEDGER, LEDGER),
     (REPORT, REPORT),
@@ -53,6 +57,20 @@ const WRITTEN: [(&str, &str); 8] = [
         \"levels\":[],\"version\":1}",
         "{\"entries\":[[\"apart\",0,0,0,1,[[\"m\",5]]]],\"levels\":[],\"version\":1}",
     ),
+    (KEPT_PAYS, KEPT_PAYS),
+    (BODIES, BODIES),
+    (
+        "{\"bodies\":[],\"entries\":[],\"levels\":[],\"version\":2}",
+        EMPTY,
+    ),
+    (
+        "{\"version\":2,\"levels\":[2,3,2],\"entries\":[],\"bodies\":[0,0,0]}",
+        LEDGER,
+    ),
+    (
+        "{\"bodies\":[0,0],\"entries\":[],\"levels\":[3],\"version\":2}",
+        "{\"bodies\":[0,0],\"entries\":[],\"levels\":[3],\"version\":2}",
+    ),
 ];
 
 /// No JSON at all.
@@ -69,7 +87,7 @@ const NO_JSON: [&str; 9] = [
 ];
 
 /// Members that are missing, too many or of another type, and versions that are no whole number.
-const MEMBERS: [&str; 24] = [
+const MEMBERS: [&str; 29] = [
     "[]",
     "1",
     "null",
@@ -80,6 +98,11 @@ const MEMBERS: [&str; 24] = [
     "{\"entries\":[],\"levels\":[]}",
     "{\"entries\":[],\"levels\":[],\"versiom\":1}",
     "{\"bodies\":[],\"entries\":[],\"levels\":[],\"version\":1}",
+    "{\"entries\":[],\"levels\":[],\"version\":2}",
+    "{\"bodies\":0,\"entries\":[],\"levels\":[],\"version\":2}",
+    "{\"bodies\":null,\"entries\":[],\"levels\":[],\"version\":2}",
+    "{\"bodies\":[[]],\"entries\":[],\"levels\":[],\"version\":2}",
+    "{\"bodies\":[],\"entries\":[],\"levels\":[],\"more\":0,\"version\":2}",
     "{\"entries\":[],\"levels\":[],\"more\":0,\"version\":1}",
     "{\"entries\":[],\"levels\":[],\"version\":1,\"w\":1}",
     "{\"Entries\":[],\"levels\":[],\"version\":1}",
@@ -129,7 +152,11 @@ const ENTRIES: [&str; 28] = [
 ];
 
 /// Numbers past their ranges, and ones that are no whole numbers.
-const NUMBERS: [&str; 20] = [
+const NUMBERS: [&str; 24] = [
+    "{\"bodies\":[4294967296],\"entries\":[],\"levels\":[3],\"version\":2}",
+    "{\"bodies\":[-1],\"entries\":[],\"levels\":[3],\"version\":2}",
+    "{\"bodies\":[1.0],\"entries\":[],\"levels\":[3],\"version\":2}",
+    "{\"bodies\":[\"1\"],\"entries\":[],\"levels\":[3],\"version\":2}",
     "{\"entries\":[],\"levels\":[4294967296],\"version\":1}",
     "{\"entries\":[],\"levels\":[-3],\"version\":1}",
     "{\"entries\":[],\"levels\":[3.0],\"version\":1}",
@@ -153,17 +180,16 @@ const NUMBERS: [&str; 20] = [
     "{\"entries\":[[\"apart\",0,0,0,1,[[\"n\",-0]]]],\"levels\":[],\"version\":1}",
 ];
 
-/// Versions that are not 1, whatever stands beside them.
-const VERSIONS: [&str; 10] = [
+/// Versions that are neither 1 nor 2, whatever stands beside them.
+const VERSIONS: [&str; 9] = [
     "{\"entries\":[],\"levels\":[],\"version\":9}",
     "{\"entries\":[],\"levels\":[],\"version\":0}",
-    "{\"entries\":[],\"levels\":[],\"version\":2}",
     "{\"entries\":[],\"levels\":[],\"version\":-1}",
     "{\"entries\":[],\"levels\":[],\"version\":18446744073709551615}",
     "{\"entries\":[],\"levels\":[],\"version\":-9223372036854775808}",
     "{\"version\":9}",
     "{\"more\":1,\"levels\":7,\"version\":3}",
-    "{\"bodies\":[],\"entries\":[],\"levels\":[],\"version\":2}",
+    "{\"bodies\":[],\"entries\":[],\"levels\":[],\"version\":3}",
     "{\"entries\":[[\"cover\",0,0,0,1,1,1,[[[\"m\",0],[\"t\",0]],[[\"t\",0],[\"m\",0]]]],\
     [\"cover\",0,0,0,3,1,3,[[[\"m\",0],[\"t\",1]],[[\"t\",1],[\"m\",0]]]],\
     [\"cover\",0,2,0,1,3,1,[[[\"m\",1],[\"t\",0]],[[\"t\",0],[\"m\",1]]]],\
@@ -234,18 +260,37 @@ fn report_entries(alloc: Global) -> Result<Sequence<Entry>, Fail> {
     Ok(Sequence::from_vec(Vec::from_array(alloc, [entry])?))
 }
 
-fn report(alloc: Global) -> Result<Certificate, Fail> {
+/// The certificate of the report set, with these numbers of accesses that stand in bodies.
+fn report(alloc: Global, bodies: [u32; 3]) -> Result<Certificate, Fail> {
     let levels = Sequence::from_vec(Vec::from_array(alloc, [3, 3, 3])?);
+    let bodies = Sequence::from_vec(Vec::from_array(alloc, bodies)?);
     let entries = report_entries(alloc)?;
-    Ok(Certificate { entries, levels })
+    Ok(Certificate {
+        entries,
+        levels,
+        bodies,
+    })
 }
+
+/// Whether this is written of it.
+fn is_report_written(alloc: Global, bodies: [u32; 3], written: &str) -> Result<bool, Fail> {
+    let certificate = report(alloc, bodies)?;
+    let is_written = is_written_of(alloc, written, &certificate);
+    drop(certificate);
+    Ok(is_written)
+}
+
+/// What is written of the report set's certificate if its last program had six such accesses.
+const REPORT_WITH_BODIES: &str =
+    "{\"bodies\":[0,0,6],\"entries\":[[\"cover\",2,2,0,2,0,0,[[[\"m\",0],[\"t\",0]],\
+    [[\"t\",0],[\"m\",0]]]]],\"levels\":[3,3,3],\"version\":2}";
 
 #[test]
 fn a_certificate_is_built_and_written(rt: HostRuntime) -> Result<(), Fail> {
-    let certificate = report(rt.alloc())?;
-    let is_written = is_written_of(rt.alloc(), REPORT, &certificate);
-    drop(certificate);
-    assert!(rt; is_written);
+    for (bodies, written) in [([0, 0, 0], REPORT), ([0, 0, 6], REPORT_WITH_BODIES)] {
+        let is_written = is_report_written(rt.alloc(), bodies, written)?;
+        assert!(rt; is_written, "{written}");
+    }
     Ok(())
 }
 
@@ -283,7 +328,7 @@ fn all_have(rt: &impl Abort, alloc: Global, texts: &[&str], fault: JsonFault) {
 
 #[test]
 fn a_text_that_is_cut_is_no_json(rt: HostRuntime) {
-    for text in [EMPTY, REPORT, TRANSFERS] {
+    for text in [EMPTY, REPORT, TRANSFERS, KEPT_PAYS] {
         let bytes = text.as_bytes();
         for length in 0..bytes.len() {
             let found = fault_of(rt.alloc(), &bytes[..length]);

@@ -22,6 +22,13 @@ pub fn table_of_threads(
     pairs_par(rt, alloc, paths)
 }
 
+/// A read and a write of one cell that stand in a body.
+pub const IN_A_BODY: &str = "\
+table s 1;
+table t 1;
+program Move(a, b) { each k, x in s[1..3] { let y = get t[a] else 0; put t[a] = x + y; } }
+";
+
 /// Two programs that look at different cells from those that a third puts.
 pub const NUMBERS: &str = "\
 table t 1;

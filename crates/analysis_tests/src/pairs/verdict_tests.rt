@@ -2,7 +2,7 @@
 
 use crate::dangers::{push_question, push_sample};
 use crate::examples::{paths_of, wide_paths};
-use crate::pairs::sets::{NUMBERS, table_of, table_of_threads};
+use crate::pairs::sets::{IN_A_BODY, NUMBERS, table_of, table_of_threads};
 use crate::told::is_told;
 use conflict_pairs::{
     Chain, PairFault, PairTable, Verdict, changes_single_cells, is_question, verdict,
@@ -149,6 +149,12 @@ fn checks_are_covered_but_against_deposits(rt: HostRuntime) -> Result<(), Fail> 
 fn equal_for_some_arguments_is_no_cover(rt: HostRuntime) -> Result<(), Fail> {
     let verdict = "exposed 0 0 0 0 0 0";
     check(&rt, rt.alloc(), MOVE, &[((0, 0), (0, 1), verdict)])
+}
+
+#[test]
+fn a_write_in_a_body_covers_nothing(rt: HostRuntime) -> Result<(), Fail> {
+    let verdict = "exposed 0 0 0 0 0 0";
+    check(&rt, rt.alloc(), IN_A_BODY, &[((0, 1), (0, 2), verdict)])
 }
 
 /// Each question of a table with its verdict, a line each.

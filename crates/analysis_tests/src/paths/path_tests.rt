@@ -3,8 +3,11 @@
 use crate::examples::{paths_of, wide_paths};
 use crate::paths::shown::{shown, shown_path};
 use crate::told::is_told;
-use example_sets::{LEDGER, MOVE, REPORT, SMALL_BANK, TRANSFER};
-use prog_paths::Path;
+use example_sets::{KEPT_PAY, LEDGER, MOVE, REPORT, SMALL_BANK, TRANSFER};
+use prog_paths::{
+    Path, law_of_listing, law_of_own_unknowns, law_of_paths, law_of_questions,
+    law_of_single_changes,
+};
 use std::alloc::{AllocError, Global};
 use std::process::Abort;
 use std::test::Fail;
@@ -57,6 +60,44 @@ fn a_computed_key_is_an_unknown(rt: HostRuntime) -> Result<(), Fail> {
     let one = "0 []: Reads 0[Unknown(0)] 0; Writes 0[Param(1)] 1;\n";
     check(&rt, rt.alloc(), TRANSFER, transfer)?;
     check(&rt, rt.alloc(), MOVE, one)
+}
+
+/// Bodies: both blocks of a branch, what stands before an `abort;`, and a body in a body. What stands
+/// behind them has an unknown of its own.
+const BODIES: &str = "\
+table t 1;
+table s 1;
+program Both(a) {
+  each k, v in s[a..3] {
+    if v < 0 { let x = get t[4] else 0; abort; } else { lacks t[k]; }
+    each q, w in t[k..v] { insert t[q + 1] = w; delete t[q]; }
+  }
+  put t[a + 1] = a;
+}
+";
+
+#[test]
+fn a_body_passes_all_its_statements(rt: HostRuntime) -> Result<(), Fail> {
+    let pay = "0 []: Keeps 1[Literal(0)] 0; Reads 0[Literal(1)..Literal(3)] 1; \
+Writes 0[Unknown(0)] 2 in a body;
+";
+    let both = "\
+0 []: Reads 1[Param(0)..Literal(3)] 0; Reads 0[Literal(4)] 2 in a body; \
+Reads 0[Unknown(0)] 4 in a body; Reads 0[Unknown(1)..Unknown(2)] 5 in a body; \
+Reads 0[Unknown(3)] 6 in a body; Writes 0[Unknown(3)] 6 in a body; \
+Writes 0[Unknown(4)] 7 in a body; Writes 0[Unknown(5)] 8;
+";
+    check(&rt, rt.alloc(), KEPT_PAY, pay)?;
+    check(&rt, rt.alloc(), BODIES, both)
+}
+
+#[test]
+fn laws_are_called() {
+    law_of_paths();
+    law_of_questions();
+    law_of_listing();
+    law_of_single_changes();
+    law_of_own_unknowns();
 }
 
 /// The accesses of a wide path: each pair stands behind the five branches and the pairs before it.

@@ -20,11 +20,15 @@ fn show_access(text: &mut String, access: &Access) -> Result<(), AllocError> {
         text.push_str(", ")?;
         show_column(text, second)?;
     }
-    write!(text, "] {};", access.place)?;
-    Ok(())
+    write!(text, "] {}", access.place)?;
+    if !access.sure {
+        text.push_str(" in a body")?;
+    }
+    text.push_str(";")
 }
 
-/// The path's program, its choices, and its accesses by kind, table, key and place.
+/// The path's program, its choices, and its accesses by kind, table, key and place, and whether they
+/// stand in a body.
 pub fn shown_path(alloc: Global, path: &Path) -> Result<String, AllocError> {
     let mut text = format!(in alloc; "{} {:?}:", path.program, path.choices.as_slice())?;
     for access in path.accesses.as_slice() {

@@ -1,10 +1,10 @@
 //! What the analysis of sets finds: the text of a certificate, or the least dangerous structure.
 
 use crate::dangers::shown;
-use crate::examples::SKEW;
+use crate::examples::{KEPT_PAYS, SKEW};
 use crate::repairs::sets::{APART, COLUMNS, KEPT_REPORT};
 use crate::told::is_told;
-use example_sets::{LEDGER, REPORT, SMALL_BANK, TRANSFER, set_of};
+use example_sets::{KEPT_PAY, LEDGER, PAY, REPORT, SMALL_BANK, TRANSFER, set_of};
 use robust_cert::to_json;
 use si_repair::{AnalyseFault, Finding, certify, certify_par};
 use std::alloc::Global;
@@ -64,6 +64,10 @@ fn dangerous_sets_are_refused(rt: HostRuntime) -> Result<(), Fail> {
             REPORT,
             "2 1, 0 1 0 0 0 0 0 0 / 0 0, 1 0 0 0 0 0 0 0 / back [1, 2]",
         ),
+        (
+            PAY,
+            "0 0, 0 1 0 0 0 0 0 0 / 0 0, 0 1 0 0 0 0 0 0 / back [0]",
+        ),
     ] {
         check(&rt, rt.alloc(), text, wanted)?;
         check_by_threads(&rt, rt.alloc(), text, wanted)?;
@@ -90,7 +94,8 @@ fn sets_without_covers_are_certified(rt: HostRuntime) -> Result<(), Fail> {
 }
 
 /// Sets, and their certificates with covers.
-const COVERED: [(&str, &str); 3] = [
+const COVERED: [(&str, &str); 4] = [
+    (KEPT_PAY, KEPT_PAYS),
     (
         KEPT_REPORT,
         "{\"entries\":[[\"cover\",2,2,0,2,0,0,[[[\"m\",0],[\"t\",0]],[[\"t\",0],[\"m\",0]]]]],\

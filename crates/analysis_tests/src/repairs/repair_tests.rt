@@ -1,7 +1,8 @@
 //! Plans of sets, and what is made of plans of a caller's own.
 
 use crate::examples::{SKEW, wide_text};
-use example_sets::{MOVE, REPORT, SMALL_BANK, TRANSFER, set_of};
+use crate::repairs::sets::MOVE_IN_A_BODY;
+use example_sets::{KEPT_PAY, MOVE, PAY, REPORT, SMALL_BANK, TRANSFER, set_of};
 use prog_check::ProgramSet;
 use prog_text::print;
 use prog_tree::Sequence;
@@ -10,11 +11,13 @@ use std::alloc::{AllocError, Global};
 use std::test::Fail;
 
 /// Sets, and the pairs of their plans.
-const PLANS: [(&str, &[Pair]); 5] = [
+const PLANS: [(&str, &[Pair]); 7] = [
     (SMALL_BANK, &[Pair { from: 4, to: 2 }]),
     (REPORT, &[Pair { from: 2, to: 0 }]),
     (SKEW, &[Pair { from: 1, to: 0 }]),
     (MOVE, &[ITSELF]),
+    (PAY, &[ITSELF]),
+    (MOVE_IN_A_BODY, &[ITSELF]),
     (TRANSFER, &[]),
 ];
 
@@ -125,6 +128,29 @@ fn a_pair_without_a_question_keeps_its_first_parameter(rt: HostRuntime) -> Resul
 fn a_pair_without_a_question_promotes_nothing(rt: HostRuntime) -> Result<(), Fail> {
     let none = promoted(rt.alloc(), ECHO, &[ITSELF])?;
     assert!(rt; none?.as_slice() == ECHO.as_bytes());
+    Ok(())
+}
+
+#[test]
+fn a_program_that_lists_rows_keeps_a_cell(rt: HostRuntime) -> Result<(), Fail> {
+    let kept = materialised(rt.alloc(), PAY, &[ITSELF])?;
+    assert!(rt; kept.as_slice() == KEPT_PAY.as_bytes());
+    Ok(())
+}
+
+/// Sets whose reads are not promoted, and why.
+const NOT_PROMOTED: [(&str, RepairFault); 3] = [
+    (PAY, RepairFault::RangeRead(ITSELF)),
+    (MOVE, RepairFault::UnknownKey(ITSELF)),
+    (MOVE_IN_A_BODY, RepairFault::BodyRead(ITSELF)),
+];
+
+#[test]
+fn a_read_of_a_range_or_in_a_body_is_not_promoted(rt: HostRuntime) -> Result<(), Fail> {
+    for (text, fault) in NOT_PROMOTED {
+        let found = promoted(rt.alloc(), text, &[ITSELF])?.err();
+        assert!(rt; found == Some(fault), "{text}");
+    }
     Ok(())
 }
 

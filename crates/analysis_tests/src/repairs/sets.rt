@@ -18,6 +18,13 @@ program Report(d) {
 /// A read and a write that never meet.
 pub const APART: &str = "table t 1; program P() { let x = get t[1] else 0; put t[2] = x; }";
 
+/// A read that stands in a body, and a write that it is exposed to.
+pub const MOVE_IN_A_BODY: &str = "\
+table s 1;
+table t 1;
+program Move(a, b) { each k, x in s[1..3] { let y = get t[a] else 0; put t[b] = x + y; } }
+";
+
 /// A read and a write in two columns, one of them covered through a number.
 pub const COLUMNS: &str = "\
 table e 2;

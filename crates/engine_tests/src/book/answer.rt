@@ -12,6 +12,8 @@ pub enum Call {
     Begins(u64, usize, &'static [i64]),
     /// The same as of so many commits.
     BeginAt(u64, usize, &'static [i64]),
+    /// Why no instance can begin so.
+    RefusalAt(u64, usize, &'static [i64]),
     /// A begin in another book, which is empty.
     BeginElsewhere(usize, &'static [i64]),
     Get(i64),

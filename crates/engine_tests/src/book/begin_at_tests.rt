@@ -23,6 +23,11 @@ const OLDER: &[(Call, Answer)] = &[
         Call::BeginAt(2, LOOK, &[1]),
         Answer::NotBegun(BeginFault::TooNew { commits: 1 }),
     ),
+    (
+        Call::RefusalAt(0, LOOK, &[1]),
+        Answer::NotBegun(BeginFault::TooOld { floor: 1 }),
+    ),
+    (Call::RefusalAt(1, LOOK, &[1]), Answer::Nothing),
     (Call::BeginAt(1, LOOK, &[1]), Answer::Begun(2, 1)),
     (Call::Get(1), Answer::Holds(Some(5))),
 ];

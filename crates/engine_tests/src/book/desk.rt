@@ -139,6 +139,13 @@ impl<'a> Desk<'a> {
         }
     }
 
+    fn refusal_at(&self, start: u64, program: usize, args: &[i64]) -> Answer {
+        match self.book.refusal_at(start, program, args) {
+            Some(fault) => Answer::NotBegun(fault),
+            None => Answer::Nothing,
+        }
+    }
+
     // Makes a call that may change the book.
     fn make(&mut self, rt: &impl Abort, call: &Call) -> Answer {
         match call {
@@ -159,6 +166,7 @@ impl<'a> Desk<'a> {
     // Makes a call that only reads.
     fn ask(&self, rt: &impl Abort, call: &Call) -> Answer {
         match call {
+            Call::RefusalAt(start, program, args) => self.refusal_at(*start, *program, args),
             Call::Get(first) => self.get(rt, *first),
             Call::Rows => self.rows(rt),
             Call::Newest(first) => self.newest(rt, *first),

@@ -12,13 +12,16 @@ use std::test::Fail;
 const REGISTERS: &str = "table t 1;
 program Look(k) { let x = get t[k] else -1; reply x; }
 program Set(k, v) { put t[k] = v; }
+program Pay(k, v) { put t[k] = 5; each i, x in t[1..9] { put t[i] = x + v; } }
 ";
 
 const LOOK: usize = 0;
 
 const SET: usize = 1;
 
-const NO_PROGRAM: usize = 2;
+const PAY: usize = 2;
+
+const NO_PROGRAM: usize = 3;
 
 /// An event as plain data.
 #[derive(Clone, Copy)]
@@ -171,11 +174,27 @@ const CLASH: &[(Sent, &str)] = &[
     (Sent::Commit(2), "Committed(2)"),
 ];
 
-const CASES: [Case; 4] = [
+const LISTED: &str = "Did(Listed(Region { table: 0, first_low: 1, first_high: 9, second_low: 0, \
+second_high: 0 }, 1))";
+
+const PAID: &str = "Did(Put(Cell { table: 0, first: 7, second: 0 }, 7))";
+
+/// An `each` lists the row that its instance has put, and its turn is a step of its own.
+const EACH: &[(Sent, &str)] = &[
+    (Sent::Begin(PAY, &[7, 2]), "Begun { instance: 0, start: 0 }"),
+    (Sent::Step(0), PUT),
+    (Sent::Step(0), LISTED),
+    (Sent::Step(0), PAID),
+    (Sent::Step(0), "Ready(Sequence { items: [] })"),
+    (Sent::Commit(0), "Committed(1)"),
+];
+
+const CASES: [Case; 5] = [
     (BEGINS, (0, 0, 0)),
     (COMMIT, (1, 1, 1)),
     (ABORT, (0, 0, 0)),
     (CLASH, (2, 3, 1)),
+    (EACH, (1, 1, 1)),
 ];
 
 // A request of the test's own that is refused is an error of the test.
