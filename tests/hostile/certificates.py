@@ -6,7 +6,7 @@ the committing paths, and takes a certificate only where each entry holds and th
 import json
 import math
 
-from texts import GREATEST, LEAST, Fault, routes_of
+from texts import GREATEST, LEAST, OVER_RANGES, PLACES, Fault, routes_of
 
 MOST_INDEX = 2 ** 32 - 1
 MOST_QUESTIONS = 1000000
@@ -93,26 +93,29 @@ def is_entry(value):
 
 
 def read_certificate(data):
-    """The entries and levels of the bytes of a certificate."""
+    """The entries and levels of the bytes of a certificate, and how many accesses of each node aren't sure."""
     value = read_json(data)
     if not isinstance(value, dict) or not isinstance(value.get("version"), Index):
         raise Fault("fault J2")
-    if value["version"] != 1:
+    if value["version"] not in (1, 2):
         raise Fault("fault J3")
-    is_right = set(value) == {"entries", "levels", "version"} and is_list(value["entries"]) and is_list(value["levels"])
-    if not is_right or not all(map(is_index, value["levels"])) or not all(map(is_entry, value["entries"])):
+    lists = ["entries", "levels", *(["bodies"] if value["version"] == 2 else [])]
+    if set(value) != {*lists, "version"} or not all(is_list(value[name]) for name in lists):
         raise Fault("fault J2")
-    return value["entries"], value["levels"]
+    bodies = value.get("bodies", [Index(0)] * len(value["levels"]))
+    if not all(map(is_index, [*value["levels"], *bodies])) or not all(map(is_entry, value["entries"])):
+        raise Fault("fault J2")
+    return value["entries"], value["levels"], bodies
 
 
 class Path:
-    """A committing path: its accesses, each a kind, a table, and the low and the high end of each key column."""
+    """A committing path: its accesses, each a kind, a table, the ends of each key column, and whether it is sure."""
 
     def __init__(self, tables, parameters, statements):
         self.grows = {name: grows for name, _, grows in tables}
         self.parameters, self.unknowns, self.accesses = parameters, 0, []
-        for it in statements:
-            self.add(it)
+        for it, is_sure in statements:
+            self.add(it, is_sure)
 
     def term(self, expression):
         if expression[0] == "number":
@@ -122,22 +125,27 @@ class Path:
         self.unknowns += 1
         return "unknown", self.unknowns - 1
 
-    def add(self, it):
+    def add(self, it, is_sure):
         kind = it[0]
-        if kind in ("let", "reply"):
+        if kind not in PLACES:
             return
-        table, columns = it[2 if kind in ("get", "need", "count", "sum") else 1]
+        table, columns = it[PLACES[kind]]
         terms = [self.term(column) for column in columns]
         ends = [(term, term) for term in terms]
-        if kind in ("count", "sum"):
+        if kind in OVER_RANGES:
             ends = [(term, term) for term in terms[:-2]] + [tuple(terms[-2:])]
         grows = self.grows[table]
         kinds = {
-            "get": ["Reads"], "count": ["Reads"], "sum": ["Reads"], "put": ["Writes"], "delete": ["Writes"],
+            "get": ["Reads"], "count": ["Reads"], "sum": ["Reads"], "each": ["Reads"],
             "need": ["Sees" if grows else "Reads"], "lacks": ["Lacks" if grows else "Reads"],
+            "put": ["Writes"], "delete": ["Writes"],
             "insert": ["Adds"] if grows else ["Reads", "Writes"], "keep": ["Keeps"],
         }[kind]
-        self.accesses += [(each, table, ends) for each in kinds]
+        self.accesses += [(each, table, ends, is_sure) for each in kinds]
+
+    def in_bodies(self):
+        """How many accesses aren't sure."""
+        return sum(not is_sure for *_, is_sure in self.accesses)
 
 
 def paths_of(tables, programs):
@@ -208,7 +216,7 @@ def look_at_entry(number, entry, paths, questions):
         return
     covering = [paths[it].accesses[place] if place < len(paths[it].accesses) else None
                 for it, place in ((x, entry[5]), (y, entry[6]))]
-    is_sound = questions[x, a, y, b][0][1] and all(it and it[0] in WRITING for it in covering)
+    is_sound = questions[x, a, y, b][0][1] and all(it and it[0] in WRITING and it[3] for it in covering)
     if not is_sound or covering[0][1] != covering[1][1] or len(entry[7]) != 2 * len(covering[0][2]):
         raise Fault(f"fault K5 {number}")
     for column, ((mine, _), (theirs, _)) in enumerate(zip(covering[0][2], covering[1][2])):
@@ -246,10 +254,10 @@ class Verifier:
 
     def look(self, data):
         """Raises the first fault of a certificate."""
-        entries, levels = read_certificate(data)
+        entries, levels, bodies = read_certificate(data)
         if len(self.questions) > MOST_QUESTIONS:
             raise Fault("fault K8")
-        if len(levels) != len(self.paths):
+        if len(levels) != len(self.paths) or bodies != [path.in_bodies() for path in self.paths]:
             raise Fault("fault K1")
         before = ()
         for number, entry in enumerate(entries):

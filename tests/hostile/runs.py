@@ -50,11 +50,17 @@ def row_of(words):
     return words[1], [number(it) for it in words[2:-2]], number(words[-1])
 
 
+def start_of(word):
+    return number(word, 0, 2 ** 64 - 1)
+
+
 def event_of(words):
-    """An event, how many it stands for, and the program's name; or None."""
+    """An event, a begin with its program's name and its start, and how many it stands for; or None."""
     kind = words[0]
     if kind == b"begin" and len(words) > 1 and all_numbers(words[2:]):
-        return ("begin", words[1], [number(it) for it in words[2:]]), 1
+        return ("begin", words[1], [number(it) for it in words[2:]], None), 1
+    if kind == b"begin-at" and len(words) > 2 and start_of(words[1]) is not None and all_numbers(words[3:]):
+        return ("begin", words[2], [number(it) for it in words[3:]], start_of(words[1])), 1
     if kind == b"step" and len(words) in (2, 3) and instance(words[1]) is not None:
         times = number(words[2], 1, 1000) if len(words) == 3 else 1
         return times and (("step", instance(words[1])), times)
@@ -91,7 +97,7 @@ def read_script(part, tables, programs):
         event, times = found
         if event[0] == "begin":
             refuse("S2", event[1] not in begun)
-            event = ("begin", begun[event[1]], event[2])
+            event = ("begin", begun[event[1]], *event[2:])
         is_late = True
         refuse("S6", len(events) + times > MOST_EVENTS)
         events += [event] * times
@@ -101,9 +107,8 @@ def read_script(part, tables, programs):
 class Instance:
     """A program under way: `deeds` goes on to the end of each step."""
 
-    def __init__(self, engine, program, args):
-        self.engine, self.program = engine, program
-        self.start = len(engine.states) - 1
+    def __init__(self, engine, program, args, start):
+        self.engine, self.program, self.start = engine, program, start
         self.names = dict(zip(program[1], args))
         self.changes, self.kept, self.looked, self.replies = {}, set(), [], []
         self.ready, self.ended = "", False
@@ -141,7 +146,7 @@ class Instance:
         return COMPARE[it[2]](self.value(it[1], names), self.value(it[3], names)) != it[0]
 
     def over(self, place, names):
-        """The rows of a range, and how the region prints."""
+        """How a region prints, and its rows in the order of their keys, each its last key column and its value."""
         table, (*front, low, high) = self.place(place, names)
         columns = self.engine.tables[table][1]
 
@@ -151,7 +156,8 @@ class Instance:
         own = set(self.changes)
         state = {**self.engine.states[self.start], **self.changes}
         region = f"{place[0]}[{''.join(f'{it}, ' for it in front)}{low}..{high}]"
-        return region, [value for cell, value in state.items() if is_in(cell) and value is not None]
+        found = sorted((cell, value) for cell, value in state.items() if is_in(cell) and value is not None)
+        return region, [(cell[columns], value) for cell, value in found]
 
     def block(self, statements, names):
         names = dict(names)
@@ -164,6 +170,11 @@ class Instance:
                 self.replies.append(self.value(it[1], names))
             elif it[0] == "abort":
                 raise Ended("asked")
+            elif it[0] == "each":
+                region, rows = self.over(it[3], names)
+                yield f"list {region} {len(rows)}"
+                for key, value in rows:
+                    yield from self.block(it[4], {**names, it[1]: key, it[2]: value})
             else:
                 yield self.deed(it, names)
 
@@ -171,8 +182,8 @@ class Instance:
         """The line of a store statement."""
         kind, engine = it[0], self.engine
         if kind in ("count", "sum"):
-            region, values = self.over(it[2], names)
-            total = len(values) if kind == "count" else sum(values)
+            region, rows = self.over(it[2], names)
+            total = len(rows) if kind == "count" else sum(value for _, value in rows)
             if not LEAST <= total <= GREATEST:
                 raise Ended("overflow")
             names[it[1]] = total
@@ -204,6 +215,8 @@ class Engine:
         self.tables = tables
         self.numbers = {it[0]: place for place, it in enumerate(tables)}
         self.states, self.commits, self.instances = [rows], [], []
+        self.versions = {cell: [(0, value)] for cell, value in rows.items()}
+        self.floor = 0
 
     def shown(self, cell):
         name, columns, _ = self.tables[cell[0]]
@@ -211,18 +224,39 @@ class Engine:
 
     def apply(self, event):
         if event[0] == "begin":
-            if len(event[2]) != len(event[1][1]):
-                return "refused wrong arguments"
-            self.instances.append(Instance(self, event[1], event[2]))
-            return f"{len(self.instances) - 1} begun at {self.instances[-1].start}"
+            return self.begin(*event[1:])
         if event[0] == "vacuum":
-            raise NotImplementedError
+            return self.vacuum()
         if event[1] >= len(self.instances):
             return f"{event[1]} no such instance"
         it = self.instances[event[1]]
         if it.ended:
             return f"{event[1]} ended"
         return f"{event[1]} {getattr(self, event[0])(it)}"
+
+    def begin(self, program, args, start):
+        """Begins an instance, at a number of commits where one is named."""
+        if len(args) != len(program[1]):
+            return "refused wrong arguments"
+        newest = len(self.commits)
+        start = newest if start is None else start
+        if start < self.floor:
+            return f"refused too old {self.floor}"
+        if start > newest:
+            return f"refused too new {newest}"
+        self.instances.append(Instance(self, program, args, start))
+        return f"{len(self.instances) - 1} begun at {start}"
+
+    def vacuum(self):
+        """Drops the versions that nobody can see."""
+        self.floor = min((it.start for it in self.instances if not it.ended), default=len(self.commits))
+        gone = 0
+        for cell, versions in self.versions.items():
+            older = [it for it in versions if it[0] <= self.floor]
+            left = [it for it in older[-1:] if it[1] is not None] + versions[len(older):]
+            gone += len(versions) - len(left)
+            self.versions[cell] = left
+        return f"vacuumed {gone}"
 
     def abort(self, it):
         it.ended = True
@@ -252,6 +286,8 @@ class Engine:
         state = {**self.states[-1], **it.changes}
         self.states.append({cell: value for cell, value in state.items() if value is not None})
         self.commits.append(it)
+        for cell, value in it.changes.items():
+            self.versions.setdefault(cell, []).append((len(self.commits), value))
         return f"committed {len(self.commits)}"
 
     def depends(self, j, i):

@@ -11,6 +11,11 @@ LEAST = -(2 ** 63)
 LONGEST = 1048576
 TOKEN = re.compile(rb"([ \t\n\r]+|#[^\n]*)|([A-Za-z_][A-Za-z0-9_]*)|([0-9]+)|(\.\.|[<>=!]=|[()\[\]{},;=+*<>-])")
 RELATIONS = ("<", "<=", ">", ">=", "==", "!=")
+# where the key or the range stands in a statement of the store
+PLACES = {"get": 2, "need": 2, "count": 2, "sum": 2, "each": 3, "lacks": 1, "put": 1, "insert": 1, "delete": 1, "keep": 1}
+OVER_RANGES = ("count", "sum", "each")
+# how many names a statement binds
+BINDS = {"let": 1, "get": 1, "need": 1, "count": 1, "sum": 1, "each": 2}
 
 
 class Fault(Exception):
@@ -117,10 +122,16 @@ class Parser:
         return statements
 
     def statement(self):
-        kind = self.take("let", "lacks", "put", "insert", "delete", "keep", "if", "reply", "abort")
+        kind = self.take("let", "lacks", "put", "insert", "delete", "keep", "if", "each", "reply", "abort")
         if kind == "if":
             test, then = self.test(), self.block()
             return "if", test, then, self.block() if self.may_take("else") else []
+        if kind == "each":
+            key = self.take("name")
+            self.take(",")
+            value = self.take("name")
+            self.take("in")
+            return "each", key, value, self.range(), self.block()
         it = (kind,)
         if kind == "let":
             name = self.take("name")
@@ -238,7 +249,7 @@ class Checker:
             self.block(block, set(parameters))
             paths = routes_of(block)
             self.refuse("C11", len(paths) > 32, where)
-            self.refuse("C10", any(sum(map(self.accesses, path)) > 24 for path in paths), where)
+            self.refuse("C10", any(sum(self.accesses(it) for it, _ in path) > 24 for path in paths), where)
 
     def refuse(self, fault, is_so, where):
         if is_so:
@@ -257,17 +268,20 @@ class Checker:
             if statement[0] == "if":
                 self.block(statement[2], visible)
                 self.block(statement[3], visible)
-            visible |= new
+            if statement[0] == "each":
+                self.block(statement[4], visible | new)
+            else:
+                visible |= new
 
     def statement(self, statement, visible, where):
-        """Looks for the faults of one statement, and answers the names that it binds."""
+        """Looks for the faults of one statement, and answers the names that it binds, an `each` in its block alone."""
         kind = statement[0]
         expressions = []
-        if kind in ("get", "need", "count", "sum", "lacks", "put", "insert", "delete", "keep"):
-            table, columns = statement[2 if kind in ("get", "need", "count", "sum") else 1]
+        if kind in PLACES:
+            table, columns = statement[PLACES[kind]]
             self.refuse("C4", table not in self.columns, where)
             wanted, grows = self.columns[table]
-            self.refuse("C7", len(columns) != wanted + (kind in ("count", "sum")), where)
+            self.refuse("C7", len(columns) != wanted + (kind in OVER_RANGES), where)
             self.refuse("C8", grows and kind in ("put", "delete"), where)
             expressions += columns
         if kind in ("get", "let", "put", "insert", "reply"):
@@ -276,19 +290,22 @@ class Checker:
             expressions += [side for part in statement[1] for it in part for side in (it[1], it[3])]
         used = [name for it in expressions for name in names_in(it)]
         self.refuse("C5", any(name not in visible for name in used), where)
-        bound = {statement[1]} if kind in ("let", "get", "need", "count", "sum") else set()
-        self.refuse("C6", bool(bound & visible), where)
-        return bound
+        bound = statement[1:BINDS.get(kind, 0) + 1]
+        self.refuse("C6", bool(set(bound) & visible) or len(set(bound)) < len(bound), where)
+        return set(bound)
 
     def accesses(self, statement):
         """How many accesses a statement has."""
         if statement[0] == "insert":
             return 1 if self.columns[statement[1][0]][1] else 2
-        return 0 if statement[0] in ("let", "reply") else 1
+        return 1 if statement[0] in PLACES else 0
 
 
 def routes_of(statements):
-    """The lists of statements that reach a block's end, the then-branch before the else-branch."""
+    """The lists of statements that reach a block's end, the then-branch before the else-branch.
+
+    With each statement stands whether it is done once: those in the block of an `each` are not.
+    """
     routes = [[]]
     for statement in statements:
         if statement[0] == "abort":
@@ -297,8 +314,20 @@ def routes_of(statements):
             ways = routes_of(statement[2]) + routes_of(statement[3])
             routes = [front + way for front in routes for way in ways]
         else:
-            routes = [route + [statement] for route in routes]
+            inside = all_in(statement[4]) if statement[0] == "each" else []
+            routes = [[*route, (statement, True), *((it, False) for it in inside)] for route in routes]
     return routes
+
+
+def all_in(statements):
+    """All statements of a block in the order of the text, those of both blocks of a branch too."""
+    found = []
+    for statement in statements:
+        if statement[0] == "if":
+            found += all_in(statement[2]) + all_in(statement[3])
+        else:
+            found += [statement, *(all_in(statement[4]) if statement[0] == "each" else [])]
+    return found
 
 
 def read_set(text):
@@ -347,6 +376,10 @@ def printed_block(statements, indent):
             lines += [f"{indent}if {printed_test(it[1])} {{", *printed_block(it[2], indent + "  ")]
             lines += [f"{indent}}} else {{", *printed_block(it[3], indent + "  ")] if it[3] else []
             lines.append(f"{indent}}}")
+            continue
+        if kind == "each":
+            lines.append(f"{indent}each {it[1]}, {it[2]} in {printed_range(it[3])} {{")
+            lines += [*printed_block(it[4], indent + "  "), f"{indent}}}"]
             continue
         says = {
             "let": lambda: f"let {it[1]} = {printed_expression(it[2])}",

@@ -3,7 +3,7 @@ from pictures.svg import NOTE
 
 MEANINGS = {
     "read": "reads a cell",
-    "range": "counts or sums a range",
+    "range": "counts, sums or lists a range",
     "put": "sets a cell",
     "removed": "removes a row",
     "kept": "keeps a cell",

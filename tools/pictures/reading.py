@@ -4,8 +4,8 @@ import re
 from pictures.asking import split_words
 from pictures.history import History, Lane, Mark, read_last_line, shown
 
-DEED = re.compile(r"(read|count|sum|put|removed|kept) (\w+\[[^\]]*\])(?: (.*))?")
-KINDS = {"count": "range", "sum": "range"}
+DEED = re.compile(r"(read|count|sum|list|put|removed|kept) (\w+\[[^\]]*\])(?: (.*))?")
+KINDS = {"count": "range", "sum": "range", "list": "range"}
 
 
 def call(program, arguments):
