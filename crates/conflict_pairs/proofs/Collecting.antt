@@ -10,7 +10,7 @@ use Rattle.prog_paths.specs.declared.places.Question.{Question as Asked}
 use Rattle.prog_paths.specs.Asked.{asks, question_between, all_from, asked_by, asked_among, questions_of}
 use Rattle.prog_paths.specs.Places.{IsAt}
 use Rattle.prog_paths.proofs.Asked.{all_places_stand}
-use Rattle.conflict_pairs.specs.Table.{IsAsked}
+use Rattle.conflict_pairs.specs.Alike.{IsAsked}
 
 -- ---- each question of the list is asked
 

@@ -1,32 +1,12 @@
--- The questions of entries, one more at a time.
-use Rattle.std.proofs.Common.{◌≡◌, ℕ, ◌<◌, ◌≤◌, ◌+◌, true, false, List, [], ◌∷◌, ◌++◌, length, map, get_or, drop, refl, sym, subst, ap, ◌∙◌, append_assoc}
-use Rattle.std.specs.Prelude.{All}
+-- The questions of a list, one more at a time.
+use Rattle.std.proofs.Common.{◌≡◌, ℕ, ◌<◌, ◌≤◌, ◌+◌, true, false, List, [], ◌∷◌, ◌++◌, length, get_or, drop, sym, ap, ◌∙◌, append_assoc}
 use Rattle.std.proofs.lemmas.List.{drop_more, drop_all, append-nil}
-use Rattle.prog_check.specs.declared.path.Path.{Path}
 use Rattle.prog_paths.specs.declared.places.Placed.{Placed}
 use Rattle.prog_paths.specs.declared.places.Question.{Question as Asked}
-use Rattle.conflict_pairs.specs.declared.table.Entry.{Entry}
-use Rattle.prog_paths.specs.Asked.{asks, question_between, all_from, asked_by, asked_among}
-use Rattle.conflict_pairs.specs.Table.{Table, IsRightEntry, AreEntriesOf, StandsFor}
+use Rattle.prog_paths.specs.Asked.{asks, question_between, asked_by, asked_among}
 use Rattle.prog_paths.proofs.Asked.{if_yes, if_no, asked_by-append, asked_among-next}
 
--- ---- the questions of entries
-
-abbrev pub questions_in : List Entry → List Asked
-questions_in = map (λ (e : Entry). e.question)
-
-questions_in-push : (old : List Entry) (e : Entry) → questions_in (old ++ e ∷ []) ≡ questions_in old ++ e.question ∷ []
-questions_in-push [] e = refl
-questions_in-push (x ∷ old) e = ap (λ (l : List Asked). x.question ∷ l) (questions_in-push old e)
-
-pub asked-one : (old new : List Entry) (e : Entry) (first second : Placed) → asks first second ≡ true → e.question ≡ question_between first second → new ≡ old ++ e ∷ [] → questions_in new ≡ questions_in old ++ asked_by first (second ∷ [])
-asked-one old new e first second asked is added =
-    ap questions_in added ∙ questions_in-push old e ∙ ap (λ (q : Asked). questions_in old ++ q ∷ []) is
-    ∙ ap (λ (l : List Asked). questions_in old ++ l) (sym (if_yes (asks first second) (question_between first second) [] asked))
-
-pub asked-none : (old : List Entry) (first second : Placed) → asks first second ≡ false → questions_in old ≡ questions_in old ++ asked_by first (second ∷ [])
-asked-none old first second unasked =
-    sym (append-nil (questions_in old)) ∙ ap (λ (l : List Asked). questions_in old ++ l) (sym (if_no (asks first second) (question_between first second) [] unasked))
+-- ---- questions, one more at a time
 
 asked_by-next : (first : Placed) (n : ℕ) (xs : List Placed) (d : Placed) → n < length xs → asked_by first (drop n xs) ≡ asked_by first (get_or xs n d ∷ []) ++ asked_by first (drop (n + 1) xs)
 asked_by-next first n xs d lt = ap (asked_by first) (drop_more xs n d lt) ∙ asked_by-append first (get_or xs n d ∷ []) (drop (n + 1) xs)
@@ -61,12 +41,3 @@ among-more old new whole n xs seconds d lt added h =
 
 pub among-end : (old whole : List Asked) (n : ℕ) (xs seconds : List Placed) → length xs ≤ n → old ++ asked_among (drop n xs) seconds ≡ whole → old ≡ whole
 among-end old whole n xs seconds le h = sym (append-nil old) ∙ ap (λ (l : List Placed). old ++ asked_among l seconds) (sym (drop_all n xs le)) ∙ h
-
--- ---- the table
-
-pub StandsFor-from : (table : Table) (paths : List Path) (places : List Placed) (entries : List Entry) → table.nodes ≡ length paths → table.entries ≡ entries → places ≡ all_from 0 paths → AreEntriesOf paths (asked_among places places) entries → StandsFor table paths
-StandsFor-from table paths places entries nodes is all h = record {
-  nodes = nodes;
-  questions = ap questions_in is ∙ h.questions ∙ (λ i. asked_among (all i) (all i));
-  right = subst (λ (l : List Entry). All (λ e. IsRightEntry paths e) l) (sym is) h.right;
-}

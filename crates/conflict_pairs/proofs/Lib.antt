@@ -2,7 +2,11 @@ pub mod Falling
 pub mod Trimming
 pub mod Covering
 pub mod Meaning
+pub mod Zipped
+pub mod Likeness
 pub mod Entries
+pub mod Growing
+pub mod Numbered
 pub mod Collecting
 pub mod Parts
 pub mod Moving

@@ -14,7 +14,7 @@ use Rattle.prog_paths.specs.declared.places.Question.{Question as Asked}
 use Rattle.conflict_pairs.specs.declared.outcome.Verdict.{Verdict}
 use Rattle.conflict_pairs.specs.declared.outcome.Verdict.TheVariants.{Apart, Covered, Exposed}
 use Rattle.prog_paths.specs.Asked.{Asks, IsQuestion, ChangesSingleCells, two, between, asks, kinds_depend, both_write, is_in_order, numbers_of}
-use Rattle.conflict_pairs.specs.Table.{IsAsked}
+use Rattle.conflict_pairs.specs.Alike.{IsAsked}
 use Rattle.conflict_pairs.specs.Verdicts.{IsCoveredBy, IsRightOf, IsRight}
 use Rattle.prog_paths.specs.Places.{IsAt}
 use Rattle.prog_paths.proofs.Membership.{both_true, either_true, depends-Asks}

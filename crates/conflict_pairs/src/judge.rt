@@ -5,6 +5,7 @@ ghost use Rattle.prog_paths.specs.Questions.{question_facts};
 ghost use Rattle.prog_check.specs.declared.path.Access.{Access};
 ghost use Rattle.prog_paths.specs.Asked.{IsQuestion, ChangesSingleCells, two, between};
 ghost use Rattle.conflict_pairs.specs.Verdicts.{HasFall, NumbersFall, IsShortest, IsRight};
+ghost use Rattle.conflict_pairs.specs.Alike.{IsAsked, IsJudgedAt, AreJudged};
 ghost use Rattle.conflict_pairs.specs.Search.{CoversAt, ShowEqualAt, IsCoverFound, IsNoCover, IsUncovered, IsJudged};
 
 use crate::apart::{contradiction, number_fall};
@@ -13,7 +14,7 @@ use crate::cover::{cover_chains, least_cover};
 use crate::outcome::Verdict;
 use order_facts::Closed;
 use prog_check::{Access, Kind, Path};
-use prog_paths::{asks_read_write, question_facts};
+use prog_paths::{Question, asks_read_write, question_facts};
 use prog_tree::Sequence;
 use std::alloc::{AllocError, Global};
 
@@ -125,4 +126,30 @@ pub fn verdict(alloc: Global, x: &Path, a: usize, y: &Path, b: usize) -> Result<
     let xs = x.accesses.as_slice();
     let ys = y.accesses.as_slice();
     judged(alloc, xs, ys, &xs[a], &ys[b])
+}
+
+/// What the facts say of a question of the paths.
+fn verdict_of(alloc: Global, paths: &[Path], question: &Question) -> Result<Verdict, AllocError>
+    requires { IsAsked paths.now question.now }
+    ensures { IfOk result (λ verdict. IsJudgedAt paths.now question.now verdict) }
+{
+    let xs = paths[question.x].accesses.as_slice();
+    let ys = paths[question.y].accesses.as_slice();
+    judged(alloc, xs, ys, &xs[question.a], &ys[question.b])
+}
+
+/// The verdicts on some questions, in their order.
+pub fn verdicts_of(
+    alloc: Global,
+    paths: &[Path],
+    questions: &[Question],
+) -> Result<Vec<Verdict>, AllocError>
+    requires { All (IsAsked paths.now) questions.now }
+    ensures { IfOk result (λ verdicts. AreJudged paths.now questions.now verdicts.items) }
+{
+    let mut verdicts = Vec::with_capacity(alloc, questions.len())?;
+    for question in questions {
+        verdicts.push(verdict_of(alloc, paths, question)?)?;
+    }
+    Ok(verdicts)
 }

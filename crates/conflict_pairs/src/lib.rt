@@ -3,6 +3,7 @@
 //! with their verdicts.
 #![tactic(auto)]
 
+mod alike;
 mod apart;
 mod chain;
 mod condition;
@@ -14,6 +15,7 @@ mod limits;
 mod listing;
 mod outcome;
 mod parallel;
+mod shown;
 mod table;
 
 pub use chain::Chain;

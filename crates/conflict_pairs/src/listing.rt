@@ -1,99 +1,53 @@
 //! All questions of a list of paths.
-ghost use Rattle.std.specs.Prelude.{◌≡◌, ◌↔◌, ◌++◌, ◌<◌, [], ◌∷◌, map, length, All, IfOk, OnOk, Err, true};
+ghost use Rattle.std.specs.Prelude.{◌≡◌, ◌↔◌, ◌++◌, ◌<◌, length, All, IfOk, OnOk, Err};
 ghost use Rattle.conflict_pairs.specs.declared.fault.PairFault as PairFault;
-ghost use Rattle.prog_paths.specs.Asked.{ChangesSingleCells, asks, question_between, placed_from, all_from, asked_by, asked_among, questions_of, limit};
-ghost use Rattle.prog_paths.specs.Places.{IsAt};
-ghost use Rattle.conflict_pairs.specs.Table.{IsRightEntry, StandsFor};
+ghost use Rattle.prog_paths.specs.Asked.{ChangesSingleCells, asked_by, asked_among, questions_of, limit};
+ghost use Rattle.conflict_pairs.specs.Table.{verdicts_in, StandsFor};
 
 use crate::fault::PairFault;
-use crate::judge::verdict;
-use crate::table::{Entry, PairTable};
-use prog_check::{Access, Path};
-use prog_paths::{Placed, all_places, asks, is_too_large, question_between};
+use crate::judge::verdicts_of;
+use crate::outcome::Verdict;
+use crate::shown::{Shown, shown_of};
+use crate::table::PairTable;
+use prog_check::Path;
+use prog_paths::{Placed, Question, all_places, asks, is_too_large, question_between};
 use std::alloc::{AllocError, Global};
 
-/// The entry of the question of an access against another.
-fn entry(
-    alloc: Global,
-    paths: &[Path],
-    first: &Placed,
-    second: &Placed,
-) -> Result<Entry, AllocError>
-    requires single { All ChangesSingleCells paths.now }
-    requires first { IsAt paths.now first.now }
-    requires second { IsAt paths.now second.now }
-    requires asks { asks first.now second.now ≡ true }
-    ensures question { IfOk result (λ e. e.question ≡ question_between first.now second.now) }
-    ensures right { IfOk result (λ e. IsRightEntry paths.now e) }
-{
-    let x = &paths[first.node];
-    let y = &paths[second.node];
-    let verdict = verdict(alloc, x, first.number, y, second.number)?;
-    Ok(Entry {
-        question: question_between(first, second),
-        verdict,
-    })
-}
-
-/// Adds what an access asks of another, where it asks.
-fn push_question(
-    alloc: Global,
-    paths: &[Path],
-    first: &Placed,
-    second: &Placed,
-    entries: &mut Vec<Entry>,
-) -> Result<(), AllocError>
-    requires single { All ChangesSingleCells paths.now }
-    requires first { IsAt paths.now first.now }
-    requires second { IsAt paths.now second.now }
-    requires right { All (λ e. IsRightEntry paths.now e) entries.old.items }
-    ensures questions { OnOk result (map (λ e. e.question) entries.new.items
-        ≡ map (λ e. e.question) entries.old.items ++ asked_by first.now (second.now ∷ [])) }
-    ensures right { OnOk result (All (λ e. IsRightEntry paths.now e) entries.new.items) }
-{
-    if !asks(first, second) {
-        return Ok(());
-    }
-    let entry = entry(alloc, paths, first, second)?;
-    entries.push(entry)?;
-    Ok(())
-}
-
 /// Adds what one access asks of each.
-fn push_asked(
-    alloc: Global,
-    paths: &[Path],
+fn push_questions(
     first: &Placed,
     places: &[Placed],
-    entries: &mut Vec<Entry>,
+    questions: &mut Vec<Question>,
 ) -> Result<(), AllocError>
-    requires single { All ChangesSingleCells paths.now }
-    requires first { IsAt paths.now first.now }
-    requires places { All (λ p. IsAt paths.now p) places.now }
-    requires right { All (λ e. IsRightEntry paths.now e) entries.old.items }
-    ensures questions { OnOk result (map (λ e. e.question) entries.new.items
-        ≡ map (λ e. e.question) entries.old.items ++ asked_by first.now places.now) }
-    ensures right { OnOk result (All (λ e. IsRightEntry paths.now e) entries.new.items) }
+    ensures { OnOk result
+        (questions.new.items ≡ questions.old.items ++ asked_by first.now places.now) }
 {
     for second in places {
-        push_question(alloc, paths, first, second, entries)?;
+        if asks(first, second) {
+            questions.push(question_between(first, second))?;
+        }
     }
     Ok(())
 }
 
-/// What each access asks of each.
-fn all_entries(alloc: Global, paths: &[Path], places: &[Placed]) -> Result<Vec<Entry>, AllocError>
-    requires single { All ChangesSingleCells paths.now }
-    requires places { All (λ p. IsAt paths.now p) places.now }
-    ensures questions { IfOk result (λ entries.
-        map (λ e. e.question) entries.items ≡ asked_among places.now places.now) }
-    ensures right { IfOk result (λ entries. All (λ e. IsRightEntry paths.now e) entries.items) }
+/// What each access asks of each, without the verdicts.
+pub fn all_questions(alloc: Global, places: &[Placed]) -> Result<Vec<Question>, AllocError>
+    ensures { IfOk result (λ questions. questions.items ≡ asked_among places.now places.now) }
 {
-    let mut entries = Vec::new(alloc);
+    let mut questions = Vec::new(alloc);
     for first in places {
-        push_asked(alloc, paths, first, places, &mut entries)?;
+        push_questions(first, places, &mut questions)?;
     }
-    Ok(entries)
+    Ok(questions)
+}
+
+/// The verdicts as one part.
+fn one_part(alloc: Global, verdicts: Vec<Verdict>) -> Result<Vec<Vec<Verdict>>, AllocError>
+    ensures { IfOk result (λ parts. verdicts_in parts.items ≡ verdicts.items) }
+{
+    let mut parts = Vec::new(alloc);
+    parts.push(verdicts)?;
+    Ok(parts)
 }
 
 /// All questions of the paths in order, with their verdicts. They are counted before any memory is
@@ -108,7 +62,9 @@ pub fn pairs(alloc: Global, paths: &[Path]) -> Result<PairTable, PairFault>
         return Err(PairFault::TooLarge);
     }
     let places = all_places(alloc, paths)?;
-    let entries = all_entries(alloc, paths, &places)?;
-    let table = PairTable::of_one(alloc, paths.len(), entries)?;
-    Ok(table)
+    let questions = all_questions(alloc, &places)?;
+    let Shown { judged, numbers } = shown_of(alloc, paths, &questions)?;
+    let verdicts = verdicts_of(alloc, paths, &judged)?;
+    let parts = one_part(alloc, verdicts)?;
+    Ok(PairTable::of(paths.len(), questions, numbers, parts))
 }

@@ -1,74 +1,22 @@
 //! All questions of a list of paths, answered by several threads.
-ghost use Rattle.std.specs.Prelude.{◌≡◌, ◌↔◌, ◌++◌, ◌<◌, length, All, IfOk, OnOk, Err};
+ghost use Rattle.std.specs.Prelude.{◌≡◌, ◌↔◌, ◌<◌, length, All, IfOk, Err};
 ghost use Rattle.conflict_pairs.specs.declared.fault.PairFault as PairFault;
-ghost use Rattle.prog_paths.specs.Asked.{ChangesSingleCells, asked_by, asked_among, questions_of, limit};
-ghost use Rattle.conflict_pairs.specs.Table.{entries_in, IsAsked, IsEntryOf, AreEntriesOf, StandsFor};
+ghost use Rattle.prog_paths.specs.Asked.{ChangesSingleCells, questions_of, limit};
+ghost use Rattle.conflict_pairs.specs.Alike.{IsAsked, AreJudged};
+ghost use Rattle.conflict_pairs.specs.Table.{verdicts_in, StandsFor};
 
 use crate::fault::PairFault;
-use crate::judge::verdict;
+use crate::judge::verdicts_of;
 use crate::limits::{EQUAL_PARTS, MIN_QUESTIONS_OF_THREADS};
-use crate::table::{Entry, PairTable};
+use crate::listing::all_questions;
+use crate::outcome::Verdict;
+use crate::shown::{Shown, shown_of};
+use crate::table::PairTable;
 use prog_check::Path;
-use prog_paths::{Placed, Question, all_places, asks, is_too_large, question_between};
+use prog_paths::{Question, all_places, is_too_large};
 use rayon::prelude::*;
 use std::alloc::{AllocError, Global};
 use std::thread::Threads;
-
-/// Adds what one access asks of each.
-fn push_questions(
-    first: &Placed,
-    places: &[Placed],
-    questions: &mut Vec<Question>,
-) -> Result<(), AllocError>
-    ensures { OnOk result
-        (questions.new.items ≡ questions.old.items ++ asked_by first.now places.now) }
-{
-    for second in places {
-        if asks(first, second) {
-            questions.push(question_between(first, second))?;
-        }
-    }
-    Ok(())
-}
-
-/// What each access asks of each, without the verdicts.
-fn all_questions(alloc: Global, places: &[Placed]) -> Result<Vec<Question>, AllocError>
-    ensures { IfOk result (λ questions. questions.items ≡ asked_among places.now places.now) }
-{
-    let mut questions = Vec::new(alloc);
-    for first in places {
-        push_questions(first, places, &mut questions)?;
-    }
-    Ok(questions)
-}
-
-/// The entry of a question.
-fn entry_of(alloc: Global, paths: &[Path], question: &Question) -> Result<Entry, AllocError>
-    requires single { All ChangesSingleCells paths.now }
-    requires asked { IsAsked paths.now question.now }
-    ensures { IfOk result (λ e. IsEntryOf paths.now question.now e) }
-{
-    let x = &paths[question.x];
-    let y = &paths[question.y];
-    let verdict = verdict(alloc, x, question.a, y, question.b)?;
-    Ok(Entry {
-        question: *question,
-        verdict,
-    })
-}
-
-/// The entries of some questions, in their order.
-fn part_of(alloc: Global, paths: &[Path], questions: &[Question]) -> Result<Vec<Entry>, AllocError>
-    requires single { All ChangesSingleCells paths.now }
-    requires asked { All (IsAsked paths.now) questions.now }
-    ensures { IfOk result (λ part. AreEntriesOf paths.now questions.now part.items) }
-{
-    let mut part = Vec::with_capacity(alloc, questions.len())?;
-    for question in questions {
-        part.push(entry_of(alloc, paths, question)?)?;
-    }
-    Ok(part)
-}
 
 /// How many questions a part has, of so many.
 fn part_len(questions: usize) -> usize
@@ -81,27 +29,26 @@ fn part_len(questions: usize) -> usize
     }
 }
 
-/// The entries of some questions, in their order, in parts that threads of their own make where
+/// The verdicts on some questions, in their order, in parts that threads of their own make where
 /// there are many.
 fn parts_of(
     rt: &(impl Threads + Sync),
     alloc: Global,
     paths: &[Path],
     questions: &[Question],
-) -> Result<Vec<Vec<Entry>>, AllocError>
-    requires single { All ChangesSingleCells paths.now }
-    requires asked { All (IsAsked paths.now) questions.now }
-    ensures { IfOk result (λ parts. AreEntriesOf paths.now questions.now (entries_in parts.items)) }
+) -> Result<Vec<Vec<Verdict>>, AllocError>
+    requires { All (IsAsked paths.now) questions.now }
+    ensures { IfOk result (λ parts. AreJudged paths.now questions.now (verdicts_in parts.items)) }
 {
     questions
         .par_chunks(part_len(questions.len()))
         .map(
-            |chunk: &[Question]| -> Result<Vec<Entry>, AllocError>
-                requires { All ChangesSingleCells paths.now × All (IsAsked paths.now) chunk.now }
-                ensures { IfOk result (λ part. AreEntriesOf paths.entry.now chunk.now part.items) }
-            { part_of(alloc, paths, chunk) },
+            |chunk: &[Question]| -> Result<Vec<Verdict>, AllocError>
+                requires { All (IsAsked paths.now) chunk.now }
+                ensures { IfOk result (λ part. AreJudged paths.entry.now chunk.now part.items) }
+            { verdicts_of(alloc, paths, chunk) },
         )
-        .collect::<Result<Vec<Vec<Entry>>, AllocError>>(rt, alloc)?
+        .collect::<Result<Vec<Vec<Verdict>>, AllocError>>(rt, alloc)?
 }
 
 /// All questions of the paths in order, with their verdicts, as `pairs` gives them, by several
@@ -121,6 +68,7 @@ pub fn pairs_par(
     }
     let places = all_places(alloc, paths)?;
     let questions = all_questions(alloc, &places)?;
-    let parts = parts_of(rt, alloc, paths, &questions)?;
-    Ok(PairTable::of(paths.len(), questions.len(), parts))
+    let Shown { judged, numbers } = shown_of(alloc, paths, &questions)?;
+    let parts = parts_of(rt, alloc, paths, &judged)?;
+    Ok(PairTable::of(paths.len(), questions, numbers, parts))
 }

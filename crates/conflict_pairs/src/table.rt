@@ -1,14 +1,13 @@
 //! The table of all questions with their verdicts.
-ghost use Rattle.std.specs.Prelude.{◌≡◌, ◌<◌, ◌↔◌, [], IsTrue, IfOk, Some, length, slice_get};
+ghost use Rattle.std.specs.Prelude.{◌≡◌, ◌<◌, ◌↔◌, [], IsTrue, All, Some, length, slice_get};
 ghost use Rattle.conflict_pairs.specs.declared.table.Entry.{Entry};
-ghost use Rattle.conflict_pairs.specs.Table.{entries_in};
+ghost use Rattle.conflict_pairs.specs.Table.{verdicts_in, verdict_at, entries_of};
 
 use crate::outcome::Verdict;
 use prog_paths::Question;
-use std::alloc::{AllocError, Global};
 use std::marker::Model;
 
-/// A question and its verdict.
+/// A question and its verdict, as contracts list them.
 #[derive(Drop)]
 pub struct Entry {
     pub question: Question,
@@ -19,60 +18,65 @@ pub struct Entry {
 #[derive(Drop)]
 pub struct PairTable {
     nodes: usize,
-    len: usize,
-    // The entries in order, in as many parts as were made at once.
-    parts: Vec<Vec<Entry>>,
+    questions: Vec<Question>,
+    // For each question the number of its verdict, which may be that of several.
+    numbers: Vec<usize>,
+    // The verdicts in order, in as many parts as were made at once.
+    parts: Vec<Vec<Verdict>>,
+}
+
+/// The verdict of a number.
+fn verdict_in(parts: &[Vec<Verdict>], number: usize) -> &Verdict
+    requires { number < length (verdicts_in parts.now) }
+    ensures { result.now ≡ verdict_at (verdicts_in parts.now) number }
+{
+    let mut left = number;
+    for part in parts {
+        if left < part.len() {
+            return &part[left];
+        }
+        left -= part.len();
+    }
+    unreachable!()
 }
 
 impl Model for PairTable {
-    ghost use Rattle.std.specs.Prelude.{◌≡◌, length};
-    ghost use Rattle.conflict_pairs.specs.Table.{Table, entries_in};
+    ghost use Rattle.std.specs.Prelude.{◌≡◌, ◌<◌, length, All};
+    ghost use Rattle.conflict_pairs.specs.Table.{Table, verdicts_in, entries_of};
 
     ghost Value = { Table };
 
-    ghost view = { λ t. record { nodes = t.nodes; entries = entries_in t.parts.items } };
+    ghost view = { λ t. record {
+      nodes = t.nodes;
+      entries = entries_of (verdicts_in t.parts.items) t.questions.items t.numbers.items;
+    } };
 
-    ghost invariant = { λ t. t.len ≡ length (entries_in t.parts.items) };
+    ghost invariant = { λ t. record {
+      one_each : length t.questions.items ≡ length t.numbers.items;
+      within : All (λ n. n < length (verdicts_in t.parts.items)) t.numbers.items;
+    } };
 }
 
 impl PairTable {
-    /// The table of entries that were made in parts, and of which there are so many.
-    pub(crate) fn of(nodes: usize, len: usize, parts: Vec<Vec<Entry>>) -> Self
-        requires { len ≡ length (entries_in parts.items) }
-        ensures nodes { result.nodes ≡ nodes }
-        ensures entries { result.entries ≡ entries_in parts.items }
-    {
-        PairTable { nodes, len, parts }
-    }
-
-    /// The table of entries that were made in turn.
-    pub(crate) fn of_one(
-        alloc: Global,
+    /// The table of questions with the numbers of their verdicts, which were made in parts.
+    pub(crate) fn of(
         nodes: usize,
-        entries: Vec<Entry>,
-    ) -> Result<Self, AllocError>
-        ensures nodes { IfOk result (λ table. table.nodes ≡ nodes) }
-        ensures entries { IfOk result (λ table. table.entries ≡ entries.items) }
+        questions: Vec<Question>,
+        numbers: Vec<usize>,
+        parts: Vec<Vec<Verdict>>,
+    ) -> Self
+        requires one_each { length questions.items ≡ length numbers.items }
+        requires within { All (λ n. n < length (verdicts_in parts.items)) numbers.items }
+        ensures nodes { result.nodes ≡ nodes }
+        ensures entries { result.entries
+            ≡ entries_of (verdicts_in parts.items) questions.items numbers.items }
     {
-        let len = entries.len();
-        let mut parts = Vec::new(alloc);
-        parts.push(entries)?;
-        Ok(PairTable::of(nodes, len, parts))
-    }
-
-    /// The entry of a number.
-    fn entry(&self, n: usize) -> &Entry
-        requires { n < length self.now.entries }
-        ensures { (e : Entry) → slice_get self.now.entries n ≡ Some e → result.now ≡ e }
-    {
-        let mut left = n;
-        for part in &self.parts {
-            if left < part.len() {
-                return &part[left];
-            }
-            left -= part.len();
+        PairTable {
+            nodes,
+            questions,
+            numbers,
+            parts,
         }
-        unreachable!()
     }
 
     /// How many nodes there are.
@@ -86,13 +90,13 @@ impl PairTable {
     pub fn len(&self) -> usize
         ensures { result ≡ length self.now.entries }
     {
-        self.len
+        self.questions.len()
     }
 
     pub fn is_empty(&self) -> bool
         ensures { IsTrue result ↔ (self.now.entries ≡ []) }
     {
-        self.len == 0
+        self.len() == 0
     }
 
     /// The question of a number.
@@ -100,7 +104,7 @@ impl PairTable {
         requires { n < length self.now.entries }
         ensures { (e : Entry) → slice_get self.now.entries n ≡ Some e → result ≡ e.question }
     {
-        self.entry(n).question
+        self.questions[n]
     }
 
     /// The verdict on the question of a number.
@@ -108,6 +112,6 @@ impl PairTable {
         requires { n < length self.now.entries }
         ensures { (e : Entry) → slice_get self.now.entries n ≡ Some e → result.now ≡ e.verdict }
     {
-        &self.entry(n).verdict
+        verdict_in(&self.parts, self.numbers[n])
     }
 }

@@ -1,0 +1,263 @@
+-- What is said of one question is said of those that are alike.
+use Rattle.std.proofs.Common.{◌≡◌, ℕ, ◌<◌, ◌≤◌, ◌+◌, ◌⊎◌, inl, inr, List, [], ◌∷◌, ◌++◌, length, get_or, refl, sym, subst, ap, ◌∙◌, arith}
+use Rattle.std.specs.Prelude.{All, Some, slice_get}
+use Rattle.std.proofs.lemmas.Bool.{cases_lt}
+use Rattle.std.proofs.lemmas.List.{get_or_push, get_or_append_left}
+use Rattle.std.proofs.lemmas.Option.{get_or_from_slice_get, slice_get-get_or, slice_get_within, same_Some}
+use Rattle.order_facts.specs.declared.steps.Node.{Node}
+use Rattle.order_facts.specs.declared.steps.Fact.{Fact}
+use Rattle.prog_check.specs.declared.path.Access.{Access}
+use Rattle.prog_check.specs.declared.path.Path.{Path}
+use Rattle.prog_paths.specs.declared.places.Question.{Question as Asked}
+use Rattle.prog_paths.specs.Meeting.{MayCover}
+use Rattle.prog_paths.specs.StaticGraph.{IsAccessOf}
+use Rattle.prog_paths.specs.Asked.{ChangesSingleCells, numbers_of}
+use Rattle.prog_paths.specs.Questions.{question_facts}
+use Rattle.prog_paths.specs.Shown.{ShowEqual, key_pairs, CoversBy}
+use Rattle.conflict_pairs.specs.declared.outcome.Verdict.{Verdict}
+use Rattle.conflict_pairs.specs.declared.outcome.Verdict.TheVariants.{Apart, Covered, Exposed}
+use Rattle.conflict_pairs.specs.Verdicts.{IsRight}
+use Rattle.conflict_pairs.specs.Search.{CoversAt, IsJudged}
+use Rattle.conflict_pairs.specs.Alike.{AreAlike, CoverAlike, CoversToo, HaveSameCovers, accesses_in, accesses_at, AreClasses, IsAsked, HasAccess, IsLikeAt, IsLike, IsJudgedAt}
+use Rattle.conflict_pairs.proofs.Meaning.{IsRight-from_lists}
+use Rattle.conflict_pairs.proofs.Moving.{single-first, single-second, IsQuestion-asked, IsRight-asked}
+
+-- ---- accesses that are alike
+
+-- an access without its place
+abbrev unplaced : Access → Access
+unplaced a = record { kind = a.kind; table = a.table; first = a.first; second = a.second; place = 0; sure = a.sure }
+
+same_but_place : (a b : Access) → AreAlike a b → unplaced a ≡ unplaced b
+same_but_place a b h = λ i. record { kind = h.kind i; table = h.table i; first = h.first i; second = h.second i; place = 0; sure = h.sure i }
+
+alike-own : (a : Access) → AreAlike a a
+alike-own a = record { kind = refl; table = refl; first = refl; second = refl; sure = refl }
+
+alike-back : (a b : Access) → AreAlike a b → AreAlike b a
+alike-back a b h = record { kind = sym h.kind; table = sym h.table; first = sym h.first; second = sym h.second; sure = sym h.sure }
+
+alike-through : (a b c : Access) → AreAlike a b → AreAlike b c → AreAlike a c
+alike-through a b c h k = record { kind = h.kind ∙ k.kind; table = h.table ∙ k.table; first = h.first ∙ k.first; second = h.second ∙ k.second; sure = h.sure ∙ k.sure }
+
+-- of accesses that are alike both may cover, or neither
+pub may_cover-alike : (a b : Access) → AreAlike a b → MayCover a → MayCover b
+may_cover-alike a b h may = subst MayCover (same_but_place a b h) may
+
+module _ (facts : List Fact) where
+  covers-unplaced : (a b : Access) → CoversBy facts a b → CoversBy facts (unplaced a) (unplaced b)
+  covers-unplaced a b h = record { mine_covers = h.mine_covers; theirs_covers = h.theirs_covers; table = h.table; equal = h.equal }
+
+  covers-placed : (a b : Access) → CoversBy facts (unplaced a) (unplaced b) → CoversBy facts a b
+  covers-placed a b h = record { mine_covers = h.mine_covers; theirs_covers = h.theirs_covers; table = h.table; equal = h.equal }
+
+  covers-alike : (a b c d : Access) → AreAlike a c → AreAlike b d → CoversBy facts a b → CoversBy facts c d
+  covers-alike a b c d e f h =
+      covers-placed c d (subst (λ (z : Access). CoversBy facts z (unplaced d)) (same_but_place a c e) (subst (λ (z : Access). CoversBy facts (unplaced a) z) (same_but_place b d f) (covers-unplaced a b h)))
+
+  shown-alike : (a b c d : Access) (chains : List (List Node)) → AreAlike a c → AreAlike b d → ShowEqual facts (key_pairs a b) chains → ShowEqual facts (key_pairs c d) chains
+  shown-alike a b c d chains e f h =
+      subst (λ (z : Access). ShowEqual facts (key_pairs z (unplaced d)) chains) (same_but_place a c e) (subst (λ (z : Access). ShowEqual facts (key_pairs (unplaced a) z) chains) (same_but_place b d f) h)
+
+  covers_at-alike : (xs ys zs ws : List Access) (m t : ℕ) → CoversToo xs zs → CoversToo ys ws → CoversAt facts xs ys m t → CoversAt facts zs ws m t
+  covers_at-alike xs ys zs ws m t p q h =
+      let mine = p m h.mine h.at_mine h.covers.mine_covers in
+      let theirs = q t h.theirs h.at_theirs h.covers.theirs_covers in
+      record { mine = mine.0; theirs = theirs.0; at_mine = mine.1; at_theirs = theirs.1; covers = covers-alike h.mine h.theirs mine.0 theirs.0 mine.2 theirs.2 h.covers }
+
+-- ---- lists with the same covers
+
+pub covers-own : (xs : List Access) → HaveSameCovers xs xs
+covers-own xs = (λ k a at may. (a, at, alike-own a), λ k a at may. (a, at, alike-own a))
+
+covers_too-through : (xs ys zs : List Access) → CoversToo xs ys → CoversToo ys zs → CoversToo xs zs
+covers_too-through xs ys zs p q k a at may =
+    let b = p k a at may in
+    let c = q k b.0 b.1 (may_cover-alike a b.0 b.2 may) in
+    (c.0, c.1, alike-through a b.0 c.0 b.2 c.2)
+
+pub covers-through : (xs ys zs : List Access) → HaveSameCovers xs ys → HaveSameCovers zs ys → HaveSameCovers xs zs
+covers-through xs ys zs p q = (covers_too-through xs ys zs p.0 q.1, covers_too-through zs ys xs q.0 p.1)
+
+-- the first so many accesses of two lists are alike where they may cover
+abbrev pub CoverAlikeTo : List Access → List Access → ℕ → Type 0
+CoverAlikeTo xs ys n = (j : ℕ) (a b : Access) → j < n → slice_get xs j ≡ Some a → slice_get ys j ≡ Some b → CoverAlike a b
+
+pub cover_alike-more : (xs ys : List Access) (n : ℕ) (d e : Access) → CoverAlike (get_or xs n d) (get_or ys n e) → CoverAlikeTo xs ys n → CoverAlikeTo xs ys (n + 1)
+cover_alike-more xs ys n d e h before j a b lt at_a at_b = by (cases_lt j n)
+  where
+    by : (j < n) ⊎ (n ≤ j) → CoverAlike a b
+    by (inl l) = before j a b l at_a at_b
+    by (inr l) =
+        let last : j ≡ n = omega (arith, l, lt) in
+        let is_a = get_or_from_slice_get xs n a d (subst (λ (k : ℕ). slice_get xs k ≡ Some a) last at_a) in
+        let is_b = get_or_from_slice_get ys n b e (subst (λ (k : ℕ). slice_get ys k ≡ Some b) last at_b) in
+        subst (λ (z : Access). CoverAlike z b) is_a (subst (λ (z : Access). CoverAlike (get_or xs n d) z) is_b h)
+
+pub covers-all : (xs ys : List Access) (n : ℕ) → length xs ≡ length ys → length xs ≤ n → CoverAlikeTo xs ys n → HaveSameCovers xs ys
+covers-all xs ys n long le h = (
+  λ k a at may. let lt = slice_get_within xs k a at in
+      let there = slice_get-get_or ys k a (omega (arith, lt, long)) in
+      (get_or ys k a, there, (h k a (get_or ys k a) (omega (arith, lt, le)) at there).0 may),
+  λ k b at may. let lt = slice_get_within ys k b at in
+      let here = slice_get-get_or xs k b (omega (arith, lt, long)) in
+      (get_or xs k b, here, (h k (get_or xs k b) b (omega (arith, lt, long, le)) here at).1 may),
+)
+
+-- ---- nodes
+
+pub node_accesses : (paths : List Path) (x : ℕ) (p : Path) → x < length paths → p ≡ get_or paths x p → accesses_at paths x ≡ p.accesses
+node_accesses paths x p lt is = ap accesses_in (slice_get-get_or paths x p lt ∙ ap Some (sym is))
+
+pub classes-more : (paths : List Path) (old new : List ℕ) (n c : ℕ) → length old ≡ n → new ≡ old ++ c ∷ [] → HaveSameCovers (accesses_at paths n) (accesses_at paths c) → ((x : ℕ) → x < n → HaveSameCovers (accesses_at paths x) (accesses_at paths (get_or old x 0))) → (x : ℕ) → x < n + 1 → HaveSameCovers (accesses_at paths x) (accesses_at paths (get_or new x 0))
+classes-more paths old new n c long added h before x lt = subst (λ (l : List ℕ). HaveSameCovers (accesses_at paths x) (accesses_at paths (get_or l x 0))) (sym added) (by (cases_lt x n))
+  where
+    by : (x < n) ⊎ (n ≤ x) → HaveSameCovers (accesses_at paths x) (accesses_at paths (get_or (old ++ c ∷ []) x 0))
+    by (inl l) = subst (λ (k : ℕ). HaveSameCovers (accesses_at paths x) (accesses_at paths k)) (sym (get_or_append_left old (c ∷ []) 0 x (omega (arith, l, long)))) (before x l)
+    by (inr l) =
+        let here : x ≡ n = omega (arith, l, lt) in
+        let is : get_or (old ++ c ∷ []) x 0 ≡ c = get_or_push old c 0 x (long ∙ sym here) in
+        subst (λ (k : ℕ). HaveSameCovers (accesses_at paths x) (accesses_at paths k)) (sym is) (subst (λ (k : ℕ). HaveSameCovers (accesses_at paths k) (accesses_at paths c)) (sym here) h)
+
+pub one_class : (paths : List Path) (classes : List ℕ) (x y : ℕ) → AreClasses paths classes → x < length classes → y < length classes → get_or classes x 0 ≡ get_or classes y 0 → HaveSameCovers (accesses_at paths x) (accesses_at paths y)
+one_class paths classes x y h lt le same_class =
+    covers-through (accesses_at paths x) (accesses_at paths (get_or classes x 0)) (accesses_at paths y) (h.same x lt)
+    (subst (λ (k : ℕ). HaveSameCovers (accesses_at paths y) (accesses_at paths k)) (sym same_class) (h.same y le))
+
+pub access_unique : (paths : List Path) (x a : ℕ) (one other : Access) → IsAccessOf paths x a one → IsAccessOf paths x a other → one ≡ other
+access_unique paths x a one other h k =
+    same_Some one other (sym h.2 ∙ subst (λ (p : Path). slice_get p.accesses a ≡ Some other) (sym (same_Some h.0 k.0 (sym h.1 ∙ k.1))) k.2)
+
+pub node_within : (paths : List Path) (x a : ℕ) → HasAccess paths x a → x < length paths
+node_within paths x a h = slice_get_within paths x h.1.0 h.1.1
+
+-- the access that was read at its numbers
+access_read : (paths : List Path) (x a : ℕ) (p : Path) (xs : List Access) (d : Access) (h : HasAccess paths x a) → xs ≡ (get_or paths x p).accesses → get_or xs a d ≡ h.0
+access_read paths x a p xs d h of_p =
+    ap (λ (l : List Access). get_or l a d) (of_p ∙ ap (λ (z : Path). z.accesses) (get_or_from_slice_get paths x h.1.0 p h.1.1))
+    ∙ get_or_from_slice_get h.1.0.accesses a h.0 d h.1.2
+
+-- accesses that were read at their numbers and are alike, at nodes of one class
+pub like_at-read : (paths : List Path) (classes : List ℕ) (x a y b : ℕ) (p q : Path) (xs ys : List Access) (d e : Access) → AreClasses paths classes → HasAccess paths x a → HasAccess paths y b → xs ≡ (get_or paths x p).accesses → ys ≡ (get_or paths y q).accesses → get_or classes x 0 ≡ get_or classes y 0 → AreAlike (get_or xs a d) (get_or ys b e) → IsLikeAt paths x a y b
+like_at-read paths classes x a y b p q xs ys d e classed h k of_p of_q same_class alike = record {
+  mine = h.0;
+  other = k.0;
+  at_mine = h.1;
+  at_other = k.1;
+  alike =
+      subst (λ (z : Access). AreAlike z k.0) (access_read paths x a p xs d h of_p)
+      (subst (λ (z : Access). AreAlike (get_or xs a d) z) (access_read paths y b q ys e k of_q) alike);
+  covers =
+      let within_x = node_within paths x a h in
+      let within_y = node_within paths y b k in
+      one_class paths classes x y classed (omega (arith, within_x, classed.one_each)) (omega (arith, within_y, classed.one_each)) same_class;
+}
+
+-- ---- what is asked
+
+module _ (paths : List Path) (q : Asked) (asked : IsAsked paths q) where
+  pub access-first : IsAccessOf paths q.x q.a asked.first.access
+  access-first = (asked.at_first.0, ap (λ (r : Asked). slice_get paths r.x) asked.is ∙ asked.at_first.1, ap (λ (r : Asked). slice_get asked.at_first.0.accesses r.a) asked.is ∙ asked.at_first.2)
+
+  pub access-second : IsAccessOf paths q.y q.b asked.second.access
+  access-second = (asked.at_second.0, ap (λ (r : Asked). slice_get paths r.y) asked.is ∙ asked.at_second.1, ap (λ (r : Asked). slice_get asked.at_second.0.accesses r.b) asked.is ∙ asked.at_second.2)
+
+  pub has-first : HasAccess paths q.x q.a
+  has-first = (asked.first.access, access-first)
+
+  pub has-second : HasAccess paths q.y q.b
+  has-second = (asked.second.access, access-second)
+
+  pub like-own : IsLike paths q q
+  like-own = (
+    record { mine = asked.first.access; other = asked.first.access; at_mine = access-first; at_other = access-first; alike = alike-own asked.first.access; covers = covers-own (accesses_at paths q.x) },
+    record { mine = asked.second.access; other = asked.second.access; at_mine = access-second; at_other = access-second; alike = alike-own asked.second.access; covers = covers-own (accesses_at paths q.y) },
+  )
+
+-- ---- verdicts
+
+judged-lists : (xs ys zs ws : List Access) (mine theirs : Access) → HaveSameCovers xs zs → HaveSameCovers ys ws → (v : Verdict) → IsJudged xs ys mine theirs v → IsJudged zs ws mine theirs v
+judged-lists xs ys zs ws mine theirs p q (Apart chain) h = h
+judged-lists xs ys zs ws mine theirs p q (Covered m t chains) h =
+    let covers = h.0.first.covers in
+    let there = p.0 m covers.mine covers.at_mine covers.covers.mine_covers in
+    let back = q.0 t covers.theirs covers.at_theirs covers.covers.theirs_covers in (
+      record {
+        consistent = h.0.consistent;
+        asks = h.0.asks;
+        first = record {
+          covers = covers_at-alike (question_facts mine theirs) xs ys zs ws m t p.0 q.0 covers;
+          least = λ i j k. h.0.first.least i j (covers_at-alike (question_facts mine theirs) zs ws xs ys i j p.1 q.1 k);
+        };
+      },
+      λ a b at_a at_b.
+          subst (λ (z : Access). ShowEqual (question_facts mine theirs) (key_pairs z b) chains) (same_Some there.0 a (sym there.1 ∙ at_a))
+          (subst (λ (z : Access). ShowEqual (question_facts mine theirs) (key_pairs there.0 z) chains) (same_Some back.0 b (sym back.1 ∙ at_b))
+          (shown-alike (question_facts mine theirs) covers.mine covers.theirs there.0 back.0 chains there.2 back.2 (h.1 covers.mine covers.theirs covers.at_mine covers.at_theirs))),
+      h.2,
+    )
+judged-lists xs ys zs ws mine theirs p q (Exposed sample) h =
+    (h.0, λ k r asks m t c. h.1 k r asks m t (covers_at-alike (question_facts mine theirs) zs ws xs ys m t p.1 q.1 c))
+
+judged-unplaced : (xs ys : List Access) (a b : Access) (v : Verdict) → IsJudged xs ys a b v → IsJudged xs ys (unplaced a) (unplaced b) v
+judged-unplaced xs ys a b (Apart chain) h = h
+judged-unplaced xs ys a b (Covered m t chains) h = h
+judged-unplaced xs ys a b (Exposed sample) h = h
+
+judged-placed : (xs ys : List Access) (a b : Access) (v : Verdict) → IsJudged xs ys (unplaced a) (unplaced b) v → IsJudged xs ys a b v
+judged-placed xs ys a b (Apart chain) h = h
+judged-placed xs ys a b (Covered m t chains) h = h
+judged-placed xs ys a b (Exposed sample) h = h
+
+judged-alike : (xs ys : List Access) (a b c d : Access) (v : Verdict) → AreAlike a c → AreAlike b d → IsJudged xs ys a b v → IsJudged xs ys c d v
+judged-alike xs ys a b c d v e f h =
+    judged-placed xs ys c d v
+    (subst (λ (z : Access). IsJudged xs ys z (unplaced d) v) (same_but_place a c e) (subst (λ (z : Access). IsJudged xs ys (unplaced a) z v) (same_but_place b d f) (judged-unplaced xs ys a b v h)))
+
+-- what is said of a question is said of one that is like it
+pub judged-like : (paths : List Path) (q r : Asked) (v : Verdict) → IsLike paths q r → IsJudgedAt paths r v → IsJudgedAt paths q v
+judged-like paths q r v like h mine theirs at_mine at_theirs =
+    let first = like.0 in
+    let second = like.1 in
+    let is_mine = access_unique paths q.x q.a first.mine mine first.at_mine at_mine in
+    let is_theirs = access_unique paths q.y q.b second.mine theirs second.at_mine at_theirs in
+    subst (λ (z : Access). IsJudged (accesses_at paths q.x) (accesses_at paths q.y) z theirs v) is_mine
+    (subst (λ (z : Access). IsJudged (accesses_at paths q.x) (accesses_at paths q.y) first.mine z v) is_theirs
+    (judged-lists (accesses_at paths r.x) (accesses_at paths r.y) (accesses_at paths q.x) (accesses_at paths q.y) first.mine second.mine
+    (first.covers.1, first.covers.0) (second.covers.1, second.covers.0) v
+    (judged-alike (accesses_at paths r.x) (accesses_at paths r.y) first.other second.other first.mine second.mine v (alike-back first.mine first.other first.alike) (alike-back second.mine second.other second.alike)
+    (h first.other second.other first.at_other second.at_other))))
+
+-- what is said of a question's accesses is right of it
+pub right-judged : (paths : List Path) (q : Asked) → All ChangesSingleCells paths → IsAsked paths q → (v : Verdict) → IsJudgedAt paths q v → IsRight paths (numbers_of q) v
+unfolding access-first access-second
+right-judged paths q single asked v h =
+    IsRight-asked paths q asked x y is_x is_y v
+    (IsRight-from_lists x y q.a q.b x.accesses y.accesses asked.first.access asked.second.access (IsQuestion-asked paths q asked x y is_x is_y)
+    (single-first paths q asked x single is_x) (single-second paths q asked y single is_y) refl refl v judged)
+  where
+    x : Path
+    x = asked.at_first.0
+
+    y : Path
+    y = asked.at_second.0
+
+    is_x : x ≡ get_or paths q.x x
+    is_x = sym (ap (λ (r : Asked). get_or paths r.x x) asked.is ∙ get_or_from_slice_get paths asked.first.node x x asked.at_first.1)
+
+    is_y : y ≡ get_or paths q.y y
+    is_y = sym (ap (λ (r : Asked). get_or paths r.y y) asked.is ∙ get_or_from_slice_get paths asked.second.node y y asked.at_second.1)
+
+    first : IsAccessOf paths q.x q.a asked.first.access
+    first = access-first paths q asked
+
+    second : IsAccessOf paths q.y q.b asked.second.access
+    second = access-second paths q asked
+
+    judged : IsJudged x.accesses y.accesses (get_or x.accesses q.a asked.first.access) (get_or y.accesses q.b asked.second.access) v
+    judged =
+        subst (λ (l : List Access). IsJudged l y.accesses (get_or x.accesses q.a asked.first.access) (get_or y.accesses q.b asked.second.access) v) (ap accesses_in first.1)
+        (subst (λ (l : List Access). IsJudged (accesses_at paths q.x) l (get_or x.accesses q.a asked.first.access) (get_or y.accesses q.b asked.second.access) v) (ap accesses_in second.1)
+        (subst (λ (z : Access). IsJudged (accesses_at paths q.x) (accesses_at paths q.y) z (get_or y.accesses q.b asked.second.access) v) (sym (get_or_from_slice_get x.accesses q.a asked.first.access asked.first.access first.2))
+        (subst (λ (z : Access). IsJudged (accesses_at paths q.x) (accesses_at paths q.y) asked.first.access z v) (sym (get_or_from_slice_get y.accesses q.b asked.second.access asked.second.access second.2))
+        (h asked.first.access asked.second.access first second))))

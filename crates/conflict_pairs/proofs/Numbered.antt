@@ -1,0 +1,85 @@
+-- The entries of questions that have the numbers of their verdicts.
+use Rattle.std.proofs.Common.{◌≡◌, ℕ, ◌<◌, List, [], ◌∷◌, length, map, get_or, refl, sym, subst, ap, ◌∙◌, arith, zero, suc}
+use Rattle.std.specs.Prelude.{All, Some, slice_get}
+use Rattle.std.specs.List.{AllZip}
+use Rattle.std.proofs.lemmas.List.Elements.{All-nil, All-cons, All-head, All-tail}
+use Rattle.std.proofs.lemmas.Option.{get_or_from_slice_get, slice_get_within, same_Some}
+use Rattle.prog_check.specs.declared.path.Path.{Path}
+use Rattle.prog_paths.specs.declared.places.Question.{Question as Asked}
+use Rattle.prog_paths.specs.Asked.{ChangesSingleCells, questions_of}
+use Rattle.conflict_pairs.specs.declared.outcome.Verdict.{Verdict}
+use Rattle.conflict_pairs.specs.declared.outcome.Verdict.TheVariants.{Apart}
+use Rattle.conflict_pairs.specs.declared.table.Entry.{Entry}
+use Rattle.conflict_pairs.specs.Table.{Table, verdict_at, entry_by, entries_of, IsRightEntry, StandsFor}
+use Rattle.conflict_pairs.specs.Alike.{IsAsked, StandsIn, IsJudgedAt, AreJudged}
+use Rattle.conflict_pairs.proofs.Zipped.{AllZip-at, AllZip-lengths}
+use Rattle.conflict_pairs.proofs.Likeness.{judged-like, right-judged}
+
+module _ (vs : List Verdict) where
+  pub entries-length : (qs : List Asked) (ns : List ℕ) → length qs ≡ length ns → length (entries_of vs qs ns) ≡ length qs
+  entries-length [] ns e = refl
+  entries-length (q ∷ qs) [] e = let no : ⊥ = omega (arith, e) in absurd no
+  entries-length (q ∷ qs) (n ∷ ns) e = ap suc (entries-length qs ns (omega (arith, e)))
+
+  pub entries-questions : (qs : List Asked) (ns : List ℕ) → length qs ≡ length ns → map (λ (e : Entry). e.question) (entries_of vs qs ns) ≡ qs
+  entries-questions [] ns e = refl
+  entries-questions (q ∷ qs) [] e = let no : ⊥ = omega (arith, e) in absurd no
+  entries-questions (q ∷ qs) (n ∷ ns) e = ap (λ (l : List Asked). q ∷ l) (entries-questions qs ns (omega (arith, e)))
+
+  pub entries-none : (qs : List Asked) (ns : List ℕ) → length qs ≡ length ns → (qs ≡ [] → entries_of vs qs ns ≡ []) × (entries_of vs qs ns ≡ [] → qs ≡ [])
+  entries-none [] ns e = (λ h. refl, λ h. refl)
+  entries-none (q ∷ qs) ns e = (
+    λ h. let no : ⊥ = omega (arith, ap length h) in absurd no,
+    λ h. let no : ⊥ = omega (arith, sym (entries-length (q ∷ qs) ns e) ∙ ap length h) in absurd no,
+  )
+
+  -- the entry of a number
+  pub entries-at : (qs : List Asked) (ns : List ℕ) (k : ℕ) (q : Asked) (n : ℕ) (e : Entry) → slice_get (entries_of vs qs ns) k ≡ Some e → e ≡ entry_by vs (get_or qs k q) (get_or ns k n)
+  entries-at [] ns k q n e at = absurd (no-entry k at)
+    where
+      no-entry : (k : ℕ) → slice_get (entries_of vs [] ns) k ≡ Some e → ⊥
+      no-entry k h = let lt = slice_get_within (entries_of vs [] ns) k e h in omega (arith, lt)
+  entries-at (x ∷ qs) [] k q n e at = absurd (no-entry k at)
+    where
+      no-entry : (k : ℕ) → slice_get (entries_of vs (x ∷ qs) []) k ≡ Some e → ⊥
+      no-entry k h = let lt = slice_get_within (entries_of vs (x ∷ qs) []) k e h in omega (arith, lt)
+  entries-at (x ∷ qs) (m ∷ ns) zero q n e at = sym (same_Some (entry_by vs x m) e at)
+  entries-at (x ∷ qs) (m ∷ ns) (suc k) q n e at = entries-at qs ns k q n e at
+
+-- ---- right entries
+
+module _ (paths : List Path) (judged : List Asked) (vs : List Verdict) (asked : All (IsAsked paths) judged) (answered : AreJudged paths judged vs) where
+  within_judged : (q : Asked) (n : ℕ) → StandsIn paths judged q n → n < length judged
+  within_judged q n h = slice_get_within judged n h.question h.at
+
+  -- the verdict on the question that stands for another says what the facts say of this one
+  stands-judged : (q : Asked) (n : ℕ) → StandsIn paths judged q n → IsJudgedAt paths q (verdict_at vs n)
+  stands-judged q n h =
+      judged-like paths q h.question (verdict_at vs n) h.like
+      (subst (λ (r : Asked). IsJudgedAt paths r (verdict_at vs n)) (get_or_from_slice_get judged n h.question h.question h.at)
+      (AllZip-at (IsJudgedAt paths) judged vs n h.question (Apart []) answered (within_judged q n h)))
+
+  pub numbers-within : (qs : List Asked) (ns : List ℕ) → AllZip (StandsIn paths judged) qs ns → All (λ n. n < length vs) ns
+  numbers-within [] [] h = All-nil (λ n. n < length vs)
+  numbers-within [] (n ∷ ns) h = absurd h
+  numbers-within (q ∷ qs) [] h = absurd h
+  numbers-within (q ∷ qs) (n ∷ ns) h =
+      All-cons (λ n. n < length vs) n ns
+      (subst (λ (k : ℕ). n < k) (AllZip-lengths (IsJudgedAt paths) judged vs answered) (within_judged q n h.0))
+      (numbers-within qs ns h.1)
+
+  pub entries-right : All ChangesSingleCells paths → (qs : List Asked) (ns : List ℕ) → All (IsAsked paths) qs → AllZip (StandsIn paths judged) qs ns → All (λ e. IsRightEntry paths e) (entries_of vs qs ns)
+  entries-right single [] ns h k = All-nil (λ (e : Entry). IsRightEntry paths e)
+  entries-right single (q ∷ qs) [] h k = absurd k
+  entries-right single (q ∷ qs) (n ∷ ns) h k =
+      All-cons (λ (e : Entry). IsRightEntry paths e) (entry_by vs q n) (entries_of vs qs ns)
+      (right-judged paths q single (All-head (IsAsked paths) q qs h) (verdict_at vs n) (stands-judged q n k.0))
+      (entries-right single qs ns (All-tail (IsAsked paths) q qs h) k.1)
+
+  -- the table of all questions
+  pub StandsFor-from : All ChangesSingleCells paths → (table : Table) (qs : List Asked) (ns : List ℕ) → All (IsAsked paths) qs → AllZip (StandsIn paths judged) qs ns → table.nodes ≡ length paths → table.entries ≡ entries_of vs qs ns → qs ≡ questions_of paths → StandsFor table paths
+  StandsFor-from single table qs ns h k nodes entries all = record {
+    nodes = nodes;
+    questions = ap (map (λ (e : Entry). e.question)) entries ∙ entries-questions vs qs ns (AllZip-lengths (StandsIn paths judged) qs ns k) ∙ all;
+    right = subst (λ (l : List Entry). All (λ e. IsRightEntry paths e) l) (sym entries) (entries-right single qs ns h k);
+  }

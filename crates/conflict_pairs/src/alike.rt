@@ -1,0 +1,110 @@
+//! Questions that are alike: what is said of one is said of the other.
+ghost use Rattle.std.specs.Prelude.{◌≡◌, ◌↔◌, ◌<◌, length, IsTrue, IfOk};
+ghost use Rattle.conflict_pairs.specs.Alike.{AreAlike, CoverAlike, HaveSameCovers, accesses_at, AreClasses, IsAsked, HasAccess, IsLikeAt, IsLike};
+
+use prog_check::{Access, Column, Kind, Path};
+use prog_paths::{Question, may_cover};
+use std::alloc::{AllocError, Global};
+
+fn is_same_column(one: Column, other: Column) -> bool
+    ensures { IsTrue result ↔ (one ≡ other) }
+{
+    one.low == other.low && one.high == other.high
+}
+
+fn is_same_second(one: Option<Column>, other: Option<Column>) -> bool
+    ensures { IsTrue result ↔ (one ≡ other) }
+{
+    match (one, other) {
+        (Some(one), Some(other)) => is_same_column(one, other),
+        (None, None) => true,
+        _ => false,
+    }
+}
+
+fn is_same_kind(one: Kind, other: Kind) -> bool
+    ensures { IsTrue result ↔ (one ≡ other) }
+{
+    one == other
+}
+
+/// Whether two accesses are equal but for their places.
+fn are_alike(one: &Access, other: &Access) -> bool
+    ensures { IsTrue result → AreAlike one.now other.now }
+{
+    one.table == other.table
+        && one.sure == other.sure
+        && is_same_kind(one.kind, other.kind)
+        && is_same_column(one.first, other.first)
+        && is_same_second(one.second, other.second)
+}
+
+/// Whether two accesses are alike, or neither may cover.
+fn cover_alike(one: &Access, other: &Access) -> bool
+    ensures { IsTrue result → CoverAlike one.now other.now }
+{
+    are_alike(one, other) || (!may_cover(one) && !may_cover(other))
+}
+
+/// Whether what may cover in two lists is alike, number by number.
+fn have_same_covers(xs: &[Access], ys: &[Access]) -> bool
+    ensures { IsTrue result → HaveSameCovers xs.now ys.now }
+{
+    if xs.len() != ys.len() {
+        return false;
+    }
+    for k in 0..xs.len() {
+        if !cover_alike(&xs[k], &ys[k]) {
+            return false;
+        }
+    }
+    true
+}
+
+/// The first node with the covers of a node.
+fn class_of(paths: &[Path], x: usize) -> usize
+    requires { x < length paths.now }
+    ensures { HaveSameCovers (accesses_at paths.now x) (accesses_at paths.now result) }
+{
+    let xs = paths[x].accesses.as_slice();
+    for c in 0..x {
+        if have_same_covers(xs, paths[c].accesses.as_slice()) {
+            return c;
+        }
+    }
+    x
+}
+
+/// For each node the first one with the same covers.
+pub fn classes_of(alloc: Global, paths: &[Path]) -> Result<Vec<usize>, AllocError>
+    ensures { IfOk result (λ classes. AreClasses paths.now classes.items) }
+{
+    let mut classes = Vec::with_capacity(alloc, paths.len())?;
+    for x in 0..paths.len() {
+        classes.push(class_of(paths, x))?;
+    }
+    Ok(classes)
+}
+
+/// Whether access `a` of node `x` and access `b` of node `y` are alike, as the covers of the nodes.
+fn is_like_at(paths: &[Path], classes: &[usize], x: usize, a: usize, y: usize, b: usize) -> bool
+    requires classes { AreClasses paths.now classes.now }
+    requires first { HasAccess paths.now x a }
+    requires second { HasAccess paths.now y b }
+    ensures { IsTrue result → IsLikeAt paths.now x a y b }
+{
+    let xs = paths[x].accesses.as_slice();
+    let ys = paths[y].accesses.as_slice();
+    classes[x] == classes[y] && are_alike(&xs[a], &ys[b])
+}
+
+/// Whether two questions are alike.
+pub fn is_like(paths: &[Path], classes: &[usize], one: &Question, other: &Question) -> bool
+    requires classes { AreClasses paths.now classes.now }
+    requires one { IsAsked paths.now one.now }
+    requires other { IsAsked paths.now other.now }
+    ensures { IsTrue result → IsLike paths.now one.now other.now }
+{
+    is_like_at(paths, classes, one.x, one.a, other.x, other.a)
+        && is_like_at(paths, classes, one.y, one.b, other.y, other.b)
+}
