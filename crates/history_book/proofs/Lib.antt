@@ -15,6 +15,8 @@ pub mod FoundLaws
 pub mod HistoryLaws
 pub mod InTurn
 pub mod LeastFree
+pub mod NearbyLaws
+pub mod NearbyOrderLaws
 pub mod NumberLists
 pub mod OnceLaws
 pub mod OrderLaws
@@ -24,6 +26,8 @@ pub mod PlacedLaws
 pub mod PlacingLaws
 mod PlacingVectors
 pub mod PrecedenceLaws
+pub mod ReasonBooks
+pub mod ReasonLaws
 pub mod ReducedLaws
 pub mod RegionPairs
 pub mod RepeatLaws

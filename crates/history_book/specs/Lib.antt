@@ -3,9 +3,12 @@ pub mod AnyFit
 pub mod Audit
 pub mod Dependencies
 pub mod History
+pub mod Nearby
+pub mod NearbyOrder
 pub mod Orders
 pub mod Placing
 pub mod Precedence
+pub mod Reasons
 pub mod Reduced
 pub mod Refusals
 pub mod Repeats

@@ -1,16 +1,17 @@
 //! The book.
 
-ghost use Rattle.std.specs.Prelude.{◌≡◌, ◌≤◌, ℕ, List, Some, None, All, ◌↔◌, IsTrue, IfNone, IfSome, length, IfOk, IfErr, OnOk, OnErr, option_copied};
+ghost use Rattle.std.specs.Prelude.{◌≡◌, ◌≤◌, ℕ, false, List, Some, None, All, ◌↔◌, IsTrue, IfNone, IfSome, length, IfOk, IfErr, OnOk, OnErr, option_copied};
 ghost use Rattle.prog_tree.specs.Number.{IsI64};
 ghost use Rattle.prog_tree.specs.Table.{IsTableState};
 ghost use Rattle.prog_run.specs.View.{IsTrueRun};
 ghost use Rattle.history_book.specs.Orders.{IsCycle, IsReduced, least_order};
 ghost use Rattle.history_book.specs.Placing.{IsOrderFault};
 ghost use Rattle.history_book.specs.Precedence.{precedes};
+ghost use Rattle.history_book.specs.Reasons.{told_reason, IsReason};
 ghost use Rattle.history_book.specs.Refusals.{HasAborted, IsCommitFault, IsEndFault, IsCellRead, IsRegionRead, IsWithdrawal};
 ghost use Rattle.history_book.specs.Runs.{IsCommitted, IsAborted};
 ghost use Rattle.history_book.specs.TrueBook.{IsTrueBook};
-ghost use Rattle.history_book.specs.View.{depends_in, FitsBook};
+ghost use Rattle.history_book.specs.View.{depends_in, traces_in, FitsBook};
 ghost use Rattle.history_book.specs.View.{state_in, new_book, nth_row, held_for, rows_for, commits_in, least_start, vacuumed, is_full, start_fault};
 ghost use Rattle.history_book.specs.View.{begin_fault_of, begin_at_fault_of, IsBeginRefusedBy, next_ticket, ticket_at, begun_in, begun_at};
 ghost use Rattle.version_store.specs.Versions.{reclaimed};
@@ -21,9 +22,11 @@ use crate::instances::active_set::ActiveSet;
 use crate::instances::row::{Ending, HistoryRow};
 use crate::instances::ticket::{Receipt, Ticket};
 use crate::limits::MAX_ENDINGS;
+use crate::orders::nearby::nearby_order;
 use crate::orders::order::OrderFault;
 use crate::orders::precedence::Precedence;
 use crate::orders::readers::reduced;
+use crate::orders::reason::{Reason, are_commits, reason_between};
 use crate::orders::trace::Trace;
 use prog_check::ProgramSet;
 use prog_run::Run;
@@ -229,8 +232,23 @@ impl<'a> Book<'a> {
             IsCycle (depends_in self.now) numbers → ⊥) }
         ensures cycle { IfErr result (IsOrderFault (depends_in self.now)) }
     {
+        let nearby = self.nearby_order()?;
+        if let Some(order) = nearby {
+            return Ok(order);
+        }
         let precedence = self.precedence()?;
         let order = precedence.order(self.alloc)?;
+        Ok(order)
+    }
+
+    // The least order of the commits, where tests of commits that are near each other find it.
+    fn nearby_order(&self) -> Result<Option<Vec<usize>>, AllocError>
+        ensures order { IfOk result (λ found. IfSome found (λ order.
+            least_order (depends_in self.now) (length self.now.rows) ≡ Some order.items)) }
+        ensures true_book { IsTrueBook self.now }
+        ensures ordered { IsTableState self.now.opening }
+    {
+        let order = nearby_order(self.alloc, &self.traces)?;
         Ok(order)
     }
 
@@ -244,6 +262,20 @@ impl<'a> Book<'a> {
     {
         let precedence = reduced(self.alloc, &self.traces)?;
         Ok(precedence)
+    }
+
+    /// Why the first of two commits has to stand before the second; none where it need not, or where a
+    /// number is of no commit.
+    pub fn reason(&self, first: usize, second: usize) -> Option<Reason>
+        ensures some { IfSome result (IsReason (traces_in self.now) first second) }
+        ensures none { IfNone result (depends_in self.now first second ≡ false) }
+        ensures told { result ≡ told_reason (traces_in self.now) first second }
+    {
+        let traces = self.traces.as_slice();
+        if !are_commits(traces, first, second) {
+            return None;
+        }
+        reason_between(traces, first, second)
     }
 
     /// Begins an instance, which sees all commits so far.

@@ -9,7 +9,10 @@ ghost use Rattle.version_store.specs.Clash.{IsClash};
 ghost use Rattle.history_book.specs.Dependencies.{depends};
 ghost use Rattle.history_book.specs.History.{Instance, commits_of, evaluation, state_after, nth_instance, IsLawful, StartsBelow, NamesCommit};
 ghost use Rattle.history_book.specs.Orders.{IsCycle, IsForward, IsReduced, IsUpTo, least_order};
+ghost use Rattle.history_book.specs.Reasons.{IsReason};
 ghost use Rattle.history_book.specs.Serial.{is_each_once, Fits, RunsTheSame};
+ghost use Rattle.history_book.specs.Traces.{traces_of};
+ghost use Rattle.history_book.specs.declared.orders.reason.Reason.{Reason};
 
 /// Where each instance sees only earlier commits, what was committed is what the instances write on the states
 /// that they see, and each commit leads to the next state.
@@ -78,4 +81,11 @@ pub fn forward_orders_run_the_same()
 pub fn dependencies_are_of_instances()
     ensures { (set : DraftTree) → (opening : TableState) → (h : List Instance) → (i j : ℕ) →
         depends set opening h i j ≡ true → IsUpTo (length h) i × IsUpTo (length h) j }
+{}
+
+/// Each reason why one commit has to stand before another is one for a dependency between them.
+pub fn reasons_are_of_dependencies()
+    ensures { (set : DraftTree) → (opening : TableState) → (h : List Instance) → (i j : ℕ) →
+        (reason : Reason) → IsReason (traces_of set opening h) i j reason →
+        depends set opening h i j ≡ true }
 {}

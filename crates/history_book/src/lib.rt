@@ -18,8 +18,9 @@ pub use instances::ticket::{Receipt, Ticket};
 pub use laws::{
     clashes_name_a_commit, commits_are_what_the_instances_write, dependencies_are_of_instances,
     forward_orders_run_the_same, least_orders_fit, least_orders_of_reduced_relations,
-    orders_are_of_relations_without_a_cycle,
+    orders_are_of_relations_without_a_cycle, reasons_are_of_dependencies,
 };
 pub use orders::fits::AnyFitFault;
 pub use orders::order::OrderFault;
+pub use orders::reason::Reason;
 pub use version_store::Clash;

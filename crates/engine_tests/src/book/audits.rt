@@ -2,7 +2,7 @@
 
 use crate::book::sets::rows_of;
 use example_sets::set_of;
-use history_book::{AnyFitFault, AuditFault, Book, HistoryRow, OrderFault};
+use history_book::{AnyFitFault, AuditFault, Book, HistoryRow, OrderFault, Reason};
 use prog_check::ProgramSet;
 use prog_tree::{Rows, Sequence};
 use std::alloc::Global;
@@ -109,6 +109,33 @@ pub fn check_orders(rt: &impl Abort, alloc: Global, wanted: &Ordered) -> Result<
     let rows = history_rows(rt, alloc, wanted.records);
     let book = Book::audit(alloc, &set, opening, rows).expect(rt, "a book");
     check_book(rt, &book, wanted);
+    drop(book);
+    drop(set);
+    Ok(())
+}
+
+/// A book of records over a set, and why the first of two of its commits has to stand before the
+/// second.
+#[derive(Clone, Copy)]
+pub struct Reasoned {
+    pub set: &'static str,
+    pub opening: &'static [(usize, i64, i64)],
+    pub records: &'static [Record],
+    pub reasons: &'static [(usize, usize, Option<Reason>)],
+}
+
+/// Asks the book of records for the reasons.
+pub fn check_reasons(rt: &impl Abort, alloc: Global, wanted: &Reasoned) -> Result<(), Fail> {
+    let set = set_of(alloc, wanted.set)?;
+    let opening = rows_of(rt, alloc, wanted.opening);
+    let rows = history_rows(rt, alloc, wanted.records);
+    let book = Book::audit(alloc, &set, opening, rows).expect(rt, "a book");
+    for (first, second, reason) in wanted.reasons {
+        assert!(rt;
+            book.reason(*first, *second) == *reason,
+            "{first} before {second}"
+        );
+    }
     drop(book);
     drop(set);
     Ok(())

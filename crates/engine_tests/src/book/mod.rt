@@ -8,5 +8,6 @@ mod book_tests;
 mod desk;
 mod endings;
 mod order_tests;
+mod reason_tests;
 mod runs;
 mod sets;

@@ -23,6 +23,8 @@ pub const NO_PROGRAM: usize = 4;
 
 pub const BALANCE: usize = 0;
 
+pub const DEPOSIT_CHECKING: usize = 1;
+
 pub const TRANSACT_SAVING: usize = 2;
 
 pub const WRITE_CHECK: usize = 4;

@@ -1,8 +1,11 @@
 //! What has to stand before what, and serial orders of it.
 
+pub mod dependency;
 pub mod fits;
+pub mod nearby;
 pub mod order;
 pub mod precedence;
 pub mod readers;
+pub mod reason;
 pub mod trace;
 pub mod writers;

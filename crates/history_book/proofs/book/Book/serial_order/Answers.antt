@@ -11,6 +11,24 @@ use Rattle.history_book.proofs.ReducedLaws.{least_order_same}
 use Rattle.history_book.proofs.TraceLaws.{same_fault}
 use Rattle.history_book.proofs.book.Book.serial_order.Goals as goal
 
+pub returns-in-Some-clause-fits : goal.returns-in-Some-clause-fits
+returns-in-Some-clause-fits c =
+    let v = c.args.self.now in
+    let h = history_of v.rows in
+    let order = c.in-Some.order.items in
+    let size : length h ≡ length v.rows = length-map v.rows instance_of in
+    let least : least_order (depends_in v) (length v.rows) ≡ Some order = rw c.in-Some.is at c.in_ok-nearby.ensures.order in
+    least_order-fits (draft_tree v.set) v.opening h c.in_ok-nearby.ensures.true_book.lawful c.in_ok-nearby.ensures.ordered order (ap (least_order (depends_in v)) size ∙ least)
+
+pub returns-in-Some-clause-acyclic : goal.returns-in-Some-clause-acyclic
+returns-in-Some-clause-acyclic c =
+    let v = c.args.self.now in
+    let h = history_of v.rows in
+    let order = c.in-Some.order.items in
+    let size : length h ≡ length v.rows = length-map v.rows instance_of in
+    let least : least_order (depends_in v) (length v.rows) ≡ Some order = rw c.in-Some.is at c.in_ok-nearby.ensures.order in
+    λ numbers. dependencies_without_cycle (draft_tree v.set) v.opening h c.in_ok-nearby.ensures.true_book.lawful order numbers (ap (least_order (depends_in v)) size ∙ least)
+
 pub returns-clause-order : goal.returns-clause-order
 returns-clause-order c =
     let v = c.args.self.now in

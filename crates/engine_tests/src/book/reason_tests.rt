@@ -1,0 +1,100 @@
+//! Why one commit of a book has to stand before another.
+
+use crate::book::audits::{Reasoned, check_reasons};
+use crate::book::sets::{BALANCE, DEPOSIT_CHECKING, REGISTERS, SET, TRANSACT_SAVING, WRITE_CHECK};
+use example_sets::SMALL_BANK;
+use history_book::Reason;
+use prog_tree::{Cell, Region};
+use std::alloc::Global;
+use std::process::Abort;
+use std::test::Fail;
+
+/// The cell `t[1]`, or `savings[1]`.
+const T1: Cell = Cell {
+    table: 0,
+    first: 1,
+    second: 0,
+};
+
+const T2: Cell = Cell {
+    table: 0,
+    first: 2,
+    second: 0,
+};
+
+const CHECKING: Cell = Cell {
+    table: 1,
+    first: 1,
+    second: 0,
+};
+
+/// The range `t[1..2]`.
+const BOTH_ROWS: Region = Region {
+    table: 0,
+    first_low: 1,
+    first_high: 2,
+    second_low: 0,
+    second_high: 0,
+};
+
+/// The check saw no savings, and commits behind a balance that saw them.
+const ANOMALY: Reasoned = Reasoned {
+    set: SMALL_BANK,
+    opening: &[(0, 1, 0), (1, 1, 0)],
+    records: &[
+        (TRANSACT_SAVING, &[1, 20], 0, &[]),
+        (BALANCE, &[1], 1, &[20]),
+        (WRITE_CHECK, &[1, 10], 0, &[]),
+    ],
+    reasons: &[
+        (1, 2, Some(Reason::Saw(T1))),
+        (2, 3, Some(Reason::Missed(CHECKING))),
+        (3, 1, Some(Reason::Missed(T1))),
+        (2, 1, None),
+        (1, 3, None),
+        (1, 1, None),
+        (0, 1, None),
+        (3, 4, None),
+    ],
+};
+
+/// Both changed a cell, whether the second looked at it or not.
+const DEPOSITS: Reasoned = Reasoned {
+    set: SMALL_BANK,
+    opening: &[],
+    records: &[
+        (DEPOSIT_CHECKING, &[1, 5], 0, &[]),
+        (DEPOSIT_CHECKING, &[1, 6], 1, &[]),
+    ],
+    reasons: &[(1, 2, Some(Reason::Both(CHECKING))), (2, 1, None)],
+};
+
+const REGISTER: Reasoned = Reasoned {
+    set: REGISTERS,
+    opening: &[],
+    records: &[(SET, &[1, 5], 0, &[]), (SET, &[1, 6], 1, &[])],
+    reasons: &[(1, 2, Some(Reason::Both(T1))), (2, 1, None)],
+};
+
+/// Write skew: each counts two rows, and sets one.
+const SKEW: Reasoned = Reasoned {
+    set: "table t 1; program P(k) { let n = count t[1..2]; put t[k] = n; }",
+    opening: &[],
+    records: &[(0, &[1], 0, &[]), (0, &[2], 0, &[])],
+    reasons: &[
+        (1, 2, Some(Reason::MissedIn(BOTH_ROWS, T2))),
+        (2, 1, Some(Reason::MissedIn(BOTH_ROWS, T1))),
+    ],
+};
+
+fn check_all(rt: &impl Abort, alloc: Global, reasoned: &[Reasoned]) -> Result<(), Fail> {
+    for wanted in reasoned {
+        check_reasons(rt, alloc, wanted)?;
+    }
+    Ok(())
+}
+
+#[test]
+fn books_tell_these_reasons(rt: HostRuntime) -> Result<(), Fail> {
+    check_all(&rt, rt.alloc(), &[ANOMALY, DEPOSITS, REGISTER, SKEW])
+}

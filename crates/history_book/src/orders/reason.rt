@@ -1,0 +1,164 @@
+//! Why one commit has to stand before another.
+
+ghost use Rattle.std.specs.Prelude.{◌≡◌, ◌↔◌, if◌then◌else◌, IsTrue, Some, None, length};
+ghost use Rattle.history_book.specs.Orders.{IsUpTo};
+ghost use Rattle.history_book.specs.Reasons.{by_change, by_look, changed_before, change_reason};
+ghost use Rattle.history_book.specs.Reasons.{missed_at, missed_by, told_reason};
+ghost use Rattle.history_book.specs.Traces.{changed_at, looked_at, takes_in, trace_at};
+
+use crate::orders::trace::{Sight, Trace};
+use prog_tree::{Cell, Region, is_among};
+
+/// Why the first of two commits has to stand before the second.
+#[derive(Clone, Copy, Debug, PartialEq, Eq)]
+pub enum Reason {
+    /// Both changed the cell, in this order.
+    Both(Cell),
+    /// The first changed the cell, and the second looked at it and saw the change.
+    Saw(Cell),
+    /// The first looked at the cell, and missed the change of the second.
+    Missed(Cell),
+    /// The first looked at a region with the cell, and missed the change of the second.
+    MissedIn(Region, Cell),
+}
+
+// Whether a look takes in a cell.
+fn takes_in(sight: &Sight, cell: &Cell) -> bool
+    ensures { result ≡ takes_in sight.now cell.now }
+{
+    match sight {
+        Sight::One(own) => own.cmp(cell).is_eq(),
+        Sight::Range { region, own } => region.contains(cell) && !is_among(own.as_slice(), cell),
+    }
+}
+
+// Whether a commit looked at a cell.
+fn looked_at(trace: &Trace, cell: &Cell) -> bool
+    ensures { result ≡ looked_at trace.now cell.now }
+{
+    let sights = trace.looked.as_slice();
+    sights.iter().any(|sight| takes_in(sight, cell))
+}
+
+// Whether a commit changed a cell.
+fn changed_at(trace: &Trace, cell: &Cell) -> bool
+    ensures { result ≡ changed_at trace.now cell.now }
+{
+    is_among(trace.changed.as_slice(), cell)
+}
+
+/// The trace of a commit that there is.
+pub fn trace_at(traces: &[Trace], number: usize) -> &Trace
+    requires { IsUpTo (length traces.now) number }
+    ensures { result.now ≡ trace_at traces.now number }
+{
+    &traces[number - 1]
+}
+
+// Whether a number is that of a commit.
+fn is_commit(traces: &[Trace], number: usize) -> bool
+    ensures { IsTrue result ↔ IsUpTo (length traces.now) number }
+{
+    (1..=traces.len()).contains(&number)
+}
+
+/// Whether two numbers are those of commits.
+pub fn are_commits(traces: &[Trace], first: usize, second: usize) -> bool
+    ensures { IsTrue result
+        ↔ (IsUpTo (length traces.now) first × IsUpTo (length traces.now) second) }
+{
+    is_commit(traces, first) && is_commit(traces, second)
+}
+
+// Why the first stands before the second, by a cell that it changed.
+fn by_changed(traces: &[Trace], first: usize, second: usize, cell: &Cell) -> Option<Reason>
+    requires first { IsUpTo (length traces.now) first }
+    requires second { IsUpTo (length traces.now) second }
+    ensures { result ≡ if changed_before first second (trace_at traces.now second) cell.now
+        then Some (change_reason first second (trace_at traces.now second) cell.now) else None }
+{
+    let after = trace_at(traces, second);
+    if first < second && changed_at(after, cell) {
+        return Some(Reason::Both(*cell));
+    }
+    if first as u64 <= after.start && looked_at(after, cell) {
+        return Some(Reason::Saw(*cell));
+    }
+    None
+}
+
+// Why the first stands before the second, by the first such cell of those that it changed.
+fn by_change(traces: &[Trace], first: usize, second: usize) -> Option<Reason>
+    requires first { IsUpTo (length traces.now) first }
+    requires second { IsUpTo (length traces.now) second }
+    ensures { result
+        ≡ by_change first second (trace_at traces.now first) (trace_at traces.now second) }
+{
+    let cells = trace_at(traces, first).changed.as_slice();
+    for cell in cells {
+        let reason = by_changed(traces, first, second, cell);
+        if reason.is_some() {
+            return reason;
+        }
+    }
+    None
+}
+
+// What a look that takes in a cell missed there.
+fn missed(sight: &Sight, cell: &Cell) -> Reason
+    ensures { result ≡ missed_by sight.now cell.now }
+{
+    match sight {
+        Sight::One(_) => Reason::Missed(*cell),
+        Sight::Range { region, .. } => Reason::MissedIn(*region, *cell),
+    }
+}
+
+// What the first look of a commit that takes in a cell missed there.
+fn missed_at(trace: &Trace, cell: &Cell) -> Option<Reason>
+    ensures { result ≡ missed_at trace.now cell.now }
+{
+    let sights = trace.looked.as_slice();
+    for sight in sights {
+        if takes_in(sight, cell) {
+            return Some(missed(sight, cell));
+        }
+    }
+    None
+}
+
+// Why the first stands before the second, by the first such cell of those that the second changed.
+fn by_look(traces: &[Trace], first: usize, second: usize) -> Option<Reason>
+    requires first { IsUpTo (length traces.now) first }
+    requires second { IsUpTo (length traces.now) second }
+    ensures { result ≡ by_look second (trace_at traces.now first) (trace_at traces.now second) }
+{
+    let before = trace_at(traces, first);
+    if before.start >= second as u64 {
+        return None;
+    }
+    let cells = trace_at(traces, second).changed.as_slice();
+    for cell in cells {
+        let reason = missed_at(before, cell);
+        if reason.is_some() {
+            return reason;
+        }
+    }
+    None
+}
+
+/// Why one commit has to stand before another.
+pub fn reason_between(traces: &[Trace], first: usize, second: usize) -> Option<Reason>
+    requires first { IsUpTo (length traces.now) first }
+    requires second { IsUpTo (length traces.now) second }
+    ensures { result ≡ told_reason traces.now first second }
+{
+    if first == second {
+        return None;
+    }
+    let changed = by_change(traces, first, second);
+    if changed.is_some() {
+        return changed;
+    }
+    by_look(traces, first, second)
+}
