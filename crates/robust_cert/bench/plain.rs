@@ -266,11 +266,12 @@ fn check_levels(left: &Left, levels: &[u32]) -> Result<(), Fault> {
             }
         }
     }
+    let behind = |y: usize| (0..size).filter(move |z| left.vulnerable[y * size + z]);
+    let lowest: Vec<_> = (0..size).map(|y| behind(y).map(|z| levels[z]).min()).collect();
     for x in 0..size {
-        for y in (0..size).filter(|y| left.vulnerable[x * size + y]) {
-            if let Some(z) = (0..size).find(|z| left.vulnerable[y * size + z] && levels[*z] <= levels[x]) {
-                return Err(Fault::Dangerous(x, y, z));
-            }
+        if let Some(y) = behind(x).find(|y| lowest[*y].is_some_and(|level| level <= levels[x])) {
+            let z = behind(y).find(|z| levels[*z] <= levels[x]).expect("one has the lowest level");
+            return Err(Fault::Dangerous(x, y, z));
         }
     }
     Ok(())

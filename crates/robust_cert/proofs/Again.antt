@@ -1,5 +1,5 @@
 -- The text of a certificate is read as its value.
-use Rattle.std.proofs.Common.{◌≡◌, ◌≤◌, ◌<◌, ◌^◌, ◌∷◌, [], ◌++◌, append-nil, ℕ, suc, ℤ, pos, negsuc, List, Bool, true, false, Some, map, decimal, codes, option_map, option_and_then, refl, sym, ap, subst, ◌∙◌, inl, inr, if◌then◌else◌, arith}
+use Rattle.std.proofs.Common.{◌≡◌, ◌≤◌, ◌<◌, ◌^◌, ◌∷◌, [], ◌++◌, append-nil, ℕ, suc, ℤ, pos, negsuc, List, Bool, true, false, Some, map, decimal, codes, option_map, option_and_then, refl, sym, ap, subst, ◌∙◌, inl, inr, ◌⊎◌, if◌then◌else◌, arith}
 use Rattle.std.specs.Prelude.{All, IsUtf8, FitsSigned}
 use Rattle.std.specs.Fmt.{signed_decimal}
 use Rattle.std.specs.Int.{w64}
@@ -29,8 +29,9 @@ use Rattle.robust_cert.specs.declared.certificate.Entry.{Entry}
 use Rattle.robust_cert.specs.declared.certificate.Entry.TheVariants.{Apart, Cover}
 use Rattle.robust_cert.specs.declared.certificate.Certificate.{Certificate}
 use Rattle.robust_cert.specs.Ranges.{IsSmall, NodeFits, ChainFits}
-use Rattle.robust_cert.specs.Json.{list_data, whole_data, lettered, node_data, chain_data, QuestionFits, entry_items, entry_data, EntryFits, has_no_bodies, first_data, second_data, certificate_text, CertificateFits, IsValueOf}
+use Rattle.robust_cert.specs.Json.{list_data, whole_data, lettered, node_data, chain_data, QuestionFits, entry_items, entry_data, EntryFits, has_no_bodies, first_data, second_data, certificate_data, certificate_text, CertificateFits, IsValueOf}
 use Rattle.robust_cert.specs.Reading.{IsTextOf}
+use Rattle.robust_cert.proofs.LineEnd.{tokens_line}
 use Rattle.robust_cert.proofs.Texts.{first_whole, second_whole}
 
 -- a value's text is UTF-8 and is read as the value, which nests no deeper than that
@@ -134,6 +135,14 @@ read_back d h =
     ∙ ap (λ o. option_and_then of_json (option_and_then (λ p. json.if_last p.0 p.1) o)) (ap (json.value 127) seen ∙ value-json_tokens (outline d) 127 [] h.deep)
     ∙ h.same
 
+-- and so with a line feed behind it
+read_line : (d : Data) → ReadsBack 127 d → read (compact_text d ++ 10 ∷ []) ≡ Some d
+read_line d h =
+    let ts = json_tokens (outline d) in
+    ap (λ s. read (s ++ 10 ∷ [])) (sym (print-outline d))
+    ∙ ap (λ us. option_and_then of_json (option_and_then (λ p. json.if_last p.0 p.1) (json.value 127 us))) (tokens_line ts (ArePrintable-json_tokens (outline d) h.numbers))
+    ∙ ap read (print-outline d) ∙ read_back d h
+
 entries_again : (es : List Entry) → All EntryFits es → ReadsBack 5 (list_data entry_data es)
 entries_again = list_again entry_data EntryFits 4 entry_again
 
@@ -170,12 +179,24 @@ second_again c fits =
           (IsUtf8-append (codes ",\"levels\":") _ (IsUtf8-are_ascii _ refl) (IsUtf8-append (compact_text (list_data whole_data c.levels)) (codes ",\"version\":2}") levels.utf8 (IsUtf8-are_ascii _ refl)))))));
     }
 
-text_of : (c : Certificate) (d : Data) → ReadsBack 127 d → IsValueOf c d → (bytes : List ℕ) → bytes ≡ compact_text d → IsTextOf c bytes
-text_of c d h value bytes e = (d, (subst IsUtf8 (sym e) h.utf8, ap read e ∙ read_back d h), value)
-
-text_by : (c : Certificate) → CertificateFits c → (none : Bool) → has_no_bodies c ≡ none → (bytes : List ℕ) → bytes ≡ compact_text (if none then first_data c else second_data c) → IsTextOf c bytes
-text_by c fits true is bytes e = text_of c (first_data c) (first_again c fits.0 fits.1) (fits, inl (is, refl)) bytes e
-text_by c fits false is bytes e = text_of c (second_data c) (second_again c fits) (fits, inr refl) bytes e
+-- the value that is written is one of the certificate
+data_again : (c : Certificate) → CertificateFits c → (none : Bool) → has_no_bodies c ≡ none
+    → ReadsBack 127 (if none then first_data c else second_data c) × IsValueOf c (if none then first_data c else second_data c)
+data_again c fits true is = (first_again c fits.0 fits.1, (fits, inl (is, refl)))
+data_again c fits false is = (second_again c fits, (fits, inr refl))
 
 pub is_text : (c : Certificate) → CertificateFits c → (bytes : List ℕ) → bytes ≡ certificate_text c → IsTextOf c bytes
-is_text c fits bytes e = text_by c fits (has_no_bodies c) refl bytes e
+is_text c fits bytes e =
+    let h = data_again c fits (has_no_bodies c) refl in
+    (certificate_data c, (subst IsUtf8 (sym e) h.0.utf8, ap read e ∙ read_back (certificate_data c) h.0), h.1)
+
+-- and so with a line feed behind it
+is_line : (c : Certificate) → CertificateFits c → (bytes : List ℕ) → bytes ≡ certificate_text c ++ 10 ∷ [] → IsTextOf c bytes
+is_line c fits bytes e =
+    let h = data_again c fits (has_no_bodies c) refl in
+    let utf8 = IsUtf8-append (certificate_text c) (10 ∷ []) h.0.utf8 (IsUtf8-are_ascii _ refl) in
+    (certificate_data c, (subst IsUtf8 (sym e) utf8, ap read e ∙ read_line (certificate_data c) h.0), h.1)
+
+pub is_either : (c : Certificate) (bytes text : List ℕ) → text ≡ certificate_text c → IsTextOf c text → (bytes ≡ text) ⊎ (bytes ≡ text ++ codes "\n") → IsTextOf c bytes
+is_either c bytes text e h (inl is) = subst (IsTextOf c) (sym is) h
+is_either c bytes text e h (inr is) = is_line c h.2.0 bytes (is ∙ ap (λ s. s ++ 10 ∷ []) e)

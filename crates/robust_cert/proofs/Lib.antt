@@ -4,6 +4,7 @@ pub mod Entries
 pub mod Members
 pub mod Distinct
 pub mod Outcomes
+mod LineEnd
 pub mod Again
 pub mod Fitting
 mod Vectors

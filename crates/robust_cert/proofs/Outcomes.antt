@@ -39,3 +39,10 @@ none_refused bytes Memory h c text = refl
 pub only_memory : (bytes : List ℕ) (fault : JsonFault) (r : Result Certificate JsonFault) → IsErrAnd r (λ e. e ≡ fault) → (fault ≢ Memory → HasFault bytes fault) → (c : Certificate) → IsTextOf c bytes → Answers r (Ok c)
 only_memory bytes fault (Ok b) is h c text = absurd is
 only_memory bytes fault (Err e) is h c text = inr (ap Err (is ∙ none_refused bytes fault h c text))
+
+-- bytes that are a certificate's text have no other reading
+pub only_taken : (bytes : List ℕ) (b : Certificate) → IsTextOf b bytes → (c : Certificate) → IsTextOf c bytes → Answers (Ok b) (Ok c)
+only_taken bytes b h c text = all_taken bytes h.0 (Ok b) h.1 h.2 tt c text
+
+pub not_refused : (bytes : List ℕ) (b : Certificate) → IsTextOf b bytes → (fault : JsonFault) → HasFault bytes fault → Answers (Ok b) (Err fault)
+not_refused bytes b h fault wrong = absurd (subst (HasFault bytes) (none_refused bytes fault (λ _. wrong) b h) wrong)

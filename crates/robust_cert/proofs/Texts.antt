@@ -1,9 +1,10 @@
 -- The text of a list's value, a part after another.
-use Rattle.std.proofs.Common.{◌≡◌, ◌∷◌, [], ◌++◌, ℕ, List, map, true, codes, decimal, refl, sym, ap, ◌∙◌, append_assoc, Result, Ok, Err, is_ok, OnOk}
+use Rattle.std.proofs.Common.{◌≡◌, ◌∷◌, [], ◌++◌, ℕ, ℤ, pos, negsuc, List, map, true, codes, decimal, refl, sym, ap, ◌∙◌, append_assoc, Result, Ok, Err, is_ok, OnOk}
 use Rattle.std.specs.Bool.{if◌then◌else◌}
-use Rattle.std.specs.Fmt.{digits}
+use Rattle.std.specs.Fmt.{digits, signed_decimal}
 use Rattle.std.specs.List.{flat_map}
 use Rattle.order_facts.specs.declared.steps.Node.{Node}
+use Rattle.order_facts.specs.declared.steps.Node.TheVariants.{Mine, MineUnknown, Theirs, TheirsUnknown, Number}
 use Rattle.serde_json.specs.Data.{Data}
 use Rattle.serde_json.specs.View.{items_of}
 use Rattle.serde_json.specs.Written.{compact_text, items_text}
@@ -12,8 +13,8 @@ use Rattle.robust_cert.specs.declared.certificate.Question.{Question}
 use Rattle.robust_cert.specs.declared.certificate.Entry.{Entry}
 use Rattle.robust_cert.specs.declared.certificate.Entry.TheVariants.{Apart, Cover}
 use Rattle.robust_cert.specs.declared.certificate.Certificate.{Certificate}
-use Rattle.robust_cert.specs.Json.{list_data, whole_data, chain_data, entry_data, first_data, second_data}
-use Rattle.robust_cert.specs.Helpers.{shared_text}
+use Rattle.robust_cert.specs.Json.{list_data, whole_data, node_data, chain_data, entry_data, first_data, second_data}
+use Rattle.robust_cert.specs.Helpers.{question_text, shared_text}
 
 -- each thing's text behind a comma
 abbrev pub behind_commas : {A : Type 0} → (A → Data) → List A → List ℕ
@@ -34,19 +35,49 @@ bracketed_lem f (x ∷ xs) = ap (λ s. 91 ∷ (compact_text (f x) ++ s)) (sym (i
 
 -- ---- a value with a literal in it, part by part
 
--- a number behind a comma
-abbrev pub next : ℕ → List ℕ → List ℕ
-next n rest = 44 ∷ (decimal n ++ rest)
+pub mine_text : (i : ℕ) → codes "[\"m\"," ++ (decimal i ++ codes "]") ≡ compact_text (node_data (Mine i))
+unfolding serde_json_on_literals
+mine_text i = refl
 
-pub apart_text : (q : Question) (chain : List Node)
-    → codes "[\"apart\"" ++ next q.x (next q.a (next q.y (next q.b (44 ∷ (compact_text (chain_data chain) ++ (93 ∷ [])))))) ≡ compact_text (entry_data (Apart q chain))
+pub mine_unknown_text : (i : ℕ) → codes "[\"u\"," ++ (decimal i ++ codes "]") ≡ compact_text (node_data (MineUnknown i))
+unfolding serde_json_on_literals
+mine_unknown_text i = refl
+
+pub theirs_text : (i : ℕ) → codes "[\"t\"," ++ (decimal i ++ codes "]") ≡ compact_text (node_data (Theirs i))
+unfolding serde_json_on_literals
+theirs_text i = refl
+
+pub theirs_unknown_text : (i : ℕ) → codes "[\"v\"," ++ (decimal i ++ codes "]") ≡ compact_text (node_data (TheirsUnknown i))
+unfolding serde_json_on_literals
+theirs_unknown_text i = refl
+
+pub integer_text : (k : ℤ) → codes "[\"n\"," ++ (signed_decimal k ++ codes "]") ≡ compact_text (node_data (Number k))
+unfolding serde_json_on_literals
+integer_text (pos n) = refl
+integer_text (negsuc n) = refl
+
+apart_text : (q : Question) (chain : List Node)
+    → codes "[\"apart\"," ++ (decimal q.x ++ (codes "," ++ (decimal q.a ++ (codes "," ++ (decimal q.y ++ (codes "," ++ (decimal q.b ++ (codes "," ++ (compact_text (chain_data chain) ++ codes "]"))))))))) ≡ compact_text (entry_data (Apart q chain))
 unfolding serde_json_on_literals
 apart_text q chain = refl
 
-pub cover_text : (q : Question) (mine theirs : ℕ) (chains : List (List Node))
-    → codes "[\"cover\"" ++ next q.x (next q.a (next q.y (next q.b (next mine (next theirs (44 ∷ (compact_text (list_data chain_data chains) ++ (93 ∷ [])))))))) ≡ compact_text (entry_data (Cover q mine theirs chains))
+cover_text : (q : Question) (mine theirs : ℕ) (chains : List (List Node))
+    → codes "[\"cover\"," ++ (decimal q.x ++ (codes "," ++ (decimal q.a ++ (codes "," ++ (decimal q.y ++ (codes "," ++ (decimal q.b ++ (codes "," ++ (decimal mine ++ (codes "," ++ (decimal theirs ++ (codes "," ++ (compact_text (list_data chain_data chains) ++ codes "]")))))))))))))
+    ≡ compact_text (entry_data (Cover q mine theirs chains))
 unfolding serde_json_on_literals
 cover_text q mine theirs chains = refl
+
+-- the pieces of these texts, one pushed behind the other
+pub apart_written : (q : Question) (chain : List Node) (old one two three : List ℕ)
+    → one ≡ old ++ codes "[\"apart\"," → two ≡ one ++ question_text q → three ≡ two ++ compact_text (chain_data chain)
+    → three ++ codes "]" ≡ old ++ compact_text (entry_data (Apart q chain))
+apart_written q chain old one two three e f g = rw (g, f, e, ← apart_text q chain) (simp append_assoc)
+
+pub cover_written : (q : Question) (mine theirs : ℕ) (chains : List (List Node)) (old one two three four five : List ℕ)
+    → one ≡ old ++ codes "[\"cover\"," → two ≡ one ++ question_text q → three ≡ two ++ (decimal mine ++ codes ",") → four ≡ three ++ (decimal theirs ++ codes ",")
+    → five ≡ four ++ compact_text (list_data chain_data chains)
+    → five ++ codes "]" ≡ old ++ compact_text (entry_data (Cover q mine theirs chains))
+cover_written q mine theirs chains old one two three four five e f g h k = rw (k, h, g, f, e, ← cover_text q mine theirs chains) (simp append_assoc)
 
 -- a certificate's text in the first version, and in the second
 pub first_whole : (c : Certificate)

@@ -34,11 +34,24 @@ pub record StaysFirst (vulnerable : Grid) (levels : List ℕ) (x y z : ℕ) : Ty
   pub stays : Stays vulnerable levels x y z
   pub least : (other : ℕ) → Stays vulnerable levels x y other → z ≤ other
 
--- the least two nodes over which it doesn't rise from x
-pub record StaysFrom (vulnerable : Grid) (levels : List ℕ) (x : ℕ) (t : Triple) : Type 0 where
-  pub from : t.x ≡ x
-  pub stays : Stays vulnerable levels t.x t.y t.z
-  pub least : (y z : ℕ) → Stays vulnerable levels x y z → IsAtMost (t.y ∷ t.z ∷ []) (y ∷ z ∷ [])
+-- the lowest level that a vulnerable edge leads to from y
+pub record IsLowestBehind (vulnerable : Grid) (levels : List ℕ) (y lowest : ℕ) : Type 0 where
+  pub behind : (z : ℕ) × Joins vulnerable y z × (slice_index_or levels z 0 ≡ lowest)
+  pub lowest_of_all : (z : ℕ) → Joins vulnerable y z → lowest ≤ slice_index_or levels z 0
+
+-- the level doesn't rise from x by way of y, to some node
+abbrev pub StaysBy : Grid → List ℕ → ℕ → ℕ → Type 0
+StaysBy vulnerable levels x y = (z : ℕ) × Stays vulnerable levels x y z
+
+-- the least node from which it doesn't rise by way of y
+pub record StaysFirstBy (vulnerable : Grid) (levels : List ℕ) (x y : ℕ) : Type 0 where
+  pub stays : StaysBy vulnerable levels x y
+  pub least : (other z : ℕ) → Stays vulnerable levels other y z → x ≤ other
+
+-- the first of the least two vulnerable edges over which it doesn't rise
+pub record IsLeastFirstEdge (vulnerable : Grid) (levels : List ℕ) (p : Pair) : Type 0 where
+  pub stays : StaysBy vulnerable levels p.x p.y
+  pub least : (x y z : ℕ) → Stays vulnerable levels x y z → IsAtMost (p.x ∷ p.y ∷ []) (x ∷ y ∷ [])
 
 -- the least two vulnerable edges over which it doesn't rise
 pub record IsLeastStay (vulnerable : Grid) (levels : List ℕ) (t : Triple) : Type 0 where

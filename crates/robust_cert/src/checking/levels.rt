@@ -1,6 +1,7 @@
 //! Whether the levels rise over the edges that are left.
-ghost use Rattle.std.specs.Prelude.{◌≡◌, ℕ, ◌<◌, length, IfSome, IfNone, OnOk, IfErr};
-ghost use Rattle.robust_cert.specs.Levels.{Falls, FallsFirst, IsLeastFall, Stays, StaysFirst, StaysFrom, IsLeastStay, RiseOver, IsLevelFault};
+ghost use Rattle.std.specs.Prelude.{◌≡◌, ℕ, ◌<◌, ◌≤◌, length, IfSome, IfNone, OnOk, IfErr};
+ghost use Rattle.prog_paths.specs.Square.{Joins};
+ghost use Rattle.robust_cert.specs.Levels.{Falls, FallsFirst, IsLeastFall, Stays, StaysFirst, IsLowestBehind, StaysFirstBy, IsLeastFirstEdge, IsLeastStay, RiseOver, IsLevelFault};
 
 use crate::checking::left::Left;
 use crate::fault::CertFault;
@@ -68,19 +69,57 @@ fn first_stay(vulnerable: &Square, levels: &[u32], x: usize, y: usize) -> Option
     None
 }
 
-/// The least two nodes over which the level doesn't rise from `x`.
-fn stay_from(vulnerable: &Square, levels: &[u32], x: usize) -> Option<Triple>
-    requires x { x < vulnerable.now.size }
+/// The lowest level that a vulnerable edge leads to from `y`.
+fn lowest_behind(vulnerable: &Square, levels: &[u32], y: usize) -> Option<u32>
+    requires y { y < vulnerable.now.size }
     requires size { length levels.now ≡ vulnerable.now.size }
-    ensures found { IfSome result (λ triple. StaysFrom vulnerable.now levels.now x triple) }
-    ensures none { IfNone result ((y z : ℕ) → ¬ Stays vulnerable.now levels.now x y z) }
+    ensures found { IfSome result (λ lowest. IsLowestBehind vulnerable.now levels.now y lowest) }
+    ensures none { IfNone result ((z : ℕ) → ¬ Joins vulnerable.now y z) }
 {
-    for y in 0..vulnerable.size() {
-        if let Some(z) = first_stay(vulnerable, levels, x, y) {
-            return Some(Triple { x, y, z });
+    let mut lowest: Option<u32> = None;
+    for z in 0..vulnerable.size() {
+        if vulnerable.get(y, z) && lowest.is_none_or(|level| levels[z] < level) {
+            lowest = Some(levels[z]);
+        }
+    }
+    lowest
+}
+
+/// The least node before `end` from which the level doesn't rise by way of `y`. No other node is
+/// asked for but one of the lowest level behind `y`.
+fn first_stay_by(vulnerable: &Square, levels: &[u32], y: usize, end: usize) -> Option<usize>
+    requires y { y < vulnerable.now.size }
+    requires end { end ≤ vulnerable.now.size }
+    requires size { length levels.now ≡ vulnerable.now.size }
+    ensures found { IfSome result (λ x. (x < end) × StaysFirstBy vulnerable.now levels.now x y) }
+    ensures none { IfNone result
+        ((x z : ℕ) → x < end → ¬ Stays vulnerable.now levels.now x y z) }
+{
+    let lowest = lowest_behind(vulnerable, levels, y)?;
+    for x in 0..end {
+        if lowest <= levels[x] && vulnerable.get(x, y) {
+            return Some(x);
         }
     }
     None
+}
+
+/// The first of the least two vulnerable edges over which the level doesn't rise. A later node in
+/// their middle counts only where they begin at an earlier one.
+fn least_first_edge(vulnerable: &Square, levels: &[u32]) -> Option<Pair>
+    requires { length levels.now ≡ vulnerable.now.size }
+    ensures found { IfSome result (λ pair. IsLeastFirstEdge vulnerable.now levels.now pair) }
+    ensures none { IfNone result ((x y z : ℕ) → ¬ Stays vulnerable.now levels.now x y z) }
+{
+    let mut least = None;
+    let mut end = vulnerable.size();
+    for y in 0..vulnerable.size() {
+        if let Some(x) = first_stay_by(vulnerable, levels, y, end) {
+            least = Some(Pair { x, y });
+            end = x;
+        }
+    }
+    least
 }
 
 /// The least two vulnerable edges over which the level doesn't rise.
@@ -89,12 +128,9 @@ fn least_stay(vulnerable: &Square, levels: &[u32]) -> Option<Triple>
     ensures found { IfSome result (λ triple. IsLeastStay vulnerable.now levels.now triple) }
     ensures none { IfNone result ((x y z : ℕ) → ¬ Stays vulnerable.now levels.now x y z) }
 {
-    for x in 0..vulnerable.size() {
-        if let Some(triple) = stay_from(vulnerable, levels, x) {
-            return Some(triple);
-        }
-    }
-    None
+    let Pair { x, y } = least_first_edge(vulnerable, levels)?;
+    let z = first_stay(vulnerable, levels, x, y)?;
+    Some(Triple { x, y, z })
 }
 
 /// Whether the levels rise over the edges, or where they don't first.

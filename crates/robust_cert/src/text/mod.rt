@@ -1,5 +1,6 @@
 //! The JSON text of a certificate, in both directions.
 
+pub mod compact;
 pub mod reading;
 pub mod shape;
 pub mod version;

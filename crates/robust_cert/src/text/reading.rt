@@ -1,6 +1,6 @@
 //! From text to a certificate.
 
-ghost use Rattle.std.specs.Prelude.{◌≡◌, ◌≢◌, Some, IfOk, IfErr, Ok, Err};
+ghost use Rattle.std.specs.Prelude.{◌≡◌, ◌≢◌, ◌⊎◌, ◌++◌, codes, string_bytes, Some, IfOk, IfErr, Ok, Err, IsTrue};
 ghost use Rattle.serde_json.specs.View.{view};
 ghost use Rattle.robust_cert.specs.declared.certificate.Certificate.{Certificate};
 ghost use Rattle.robust_cert.specs.declared.fault.JsonFault.{JsonFault};
@@ -9,11 +9,13 @@ ghost use Rattle.robust_cert.specs.Reading.{ReadsAs, IsTextOf, IsFaultOf, HasFau
 ghost use Rattle.robust_cert.specs.Helpers.{number_of};
 
 use crate::certificate::Certificate;
-use crate::fault::JsonFault;
+use crate::fault::{JsonFault, Untaken};
+use crate::text::compact::compact_candidate;
 use crate::text::version::Version;
 use crate::text::whole::{certificate_of, object_of};
+use crate::text::writing::to_json;
 use serde_json::Value;
-use std::alloc::Global;
+use std::alloc::{AllocError, Global};
 
 fn value_of(alloc: Global, bytes: &[u8]) -> Result<Value, JsonFault>
     ensures ok { IfOk result (λ value. ReadsAs bytes.now (view value)) }
@@ -55,6 +57,43 @@ fn certificate_in(alloc: Global, value: Value) -> Result<Certificate, JsonFault>
     Ok(certificate_of(alloc, version, members)?)
 }
 
+// The certificate that the bytes are, by the reader of JSON.
+fn from_value(alloc: Global, bytes: &[u8]) -> Result<Certificate, JsonFault>
+    ensures ok { IfOk result (λ certificate. IsTextOf certificate bytes.now) }
+    ensures fault { IfErr result (λ fault. fault ≢ JsonFault.Memory → HasFault bytes.now fault) }
+    ensures taken { (c : Certificate) → IsTextOf c bytes.now → Answers result (Ok c) }
+    ensures refused { (fault : JsonFault) → HasFault bytes.now fault → Answers result (Err fault) }
+{
+    let value = value_of(alloc, bytes)?;
+    certificate_in(alloc, value)
+}
+
+// Whether the bytes are a text, or a text and a line feed.
+fn is_line_of(mut text: String, bytes: &[u8]) -> Result<bool, AllocError>
+    ensures { IfOk result (λ same. IsTrue same → (bytes.now ≡ string_bytes text)
+        ⊎ (bytes.now ≡ string_bytes text ++ codes "\n")) }
+{
+    if bytes == text.as_bytes() {
+        return Ok(true);
+    }
+    text.push_str("\n")?;
+    Ok(bytes == text.as_bytes())
+}
+
+// The certificate of which the bytes are the text, as `to_json` writes it.
+fn from_compact(alloc: Global, bytes: &[u8]) -> Result<Certificate, Untaken>
+    ensures { IfOk result (λ certificate. IsTextOf certificate bytes.now) }
+{
+    let candidate = compact_candidate(alloc, bytes)?;
+    let text = to_json(alloc, &candidate)?;
+    let same = is_line_of(text, bytes)?;
+    if same {
+        Ok(candidate)
+    } else {
+        Err(Untaken::Misshapen)
+    }
+}
+
 /// The certificate that the bytes are.
 pub fn from_json(alloc: Global, bytes: &[u8]) -> Result<Certificate, JsonFault>
     ensures ok { IfOk result (λ certificate. IsTextOf certificate bytes.now) }
@@ -65,6 +104,9 @@ pub fn from_json(alloc: Global, bytes: &[u8]) -> Result<Certificate, JsonFault>
     ensures taken { (c : Certificate) → IsTextOf c bytes.now → Answers result (Ok c) }
     ensures refused { (fault : JsonFault) → HasFault bytes.now fault → Answers result (Err fault) }
 {
-    let value = value_of(alloc, bytes)?;
-    certificate_in(alloc, value)
+    match from_compact(alloc, bytes) {
+        Ok(certificate) => Ok(certificate),
+        Err(Untaken::Memory) => Err(JsonFault::Memory),
+        Err(Untaken::Misshapen) => from_value(alloc, bytes),
+    }
 }

@@ -1,26 +1,59 @@
 //! From a certificate to text.
 
-ghost use Rattle.std.specs.Prelude.{◌≡◌, ◌++◌, ◌==◌, All, IfOk, OnOk, string_bytes};
+ghost use Rattle.std.specs.Prelude.{◌≡◌, ◌++◌, ◌==◌, All, IfOk, OnOk, codes, string_bytes};
 ghost use Rattle.std.specs.List.{list_all};
 ghost use Rattle.robust_cert.specs.Ranges.{IsSmall, ChainFits};
-ghost use Rattle.robust_cert.specs.Json.{node_data, chain_data, entry_data, whole_data, list_data, has_no_bodies, first_data, second_data, certificate_data, certificate_text, EntryFits, CertificateFits};
+ghost use Rattle.robust_cert.specs.Json.{node_data, chain_data, entry_data, whole_data, list_data, entry_items, apart_items, cover_items, has_no_bodies, first_data, second_data, certificate_data, certificate_text, QuestionFits, EntryFits, CertificateFits};
 ghost use Rattle.robust_cert.specs.Reading.{IsTextOf};
-ghost use Rattle.robust_cert.specs.Helpers.{Appends, shared_text};
+ghost use Rattle.robust_cert.specs.Helpers.{Appends, question_text, shared_text};
 
 use crate::certificate::{Certificate, Entry, Question};
 use crate::chain::Chain;
+use itoa::{Buffer, Integer};
 use order_facts::Node;
 use std::alloc::{AllocError, Global};
+
+// Adds the digits of a number, behind a sign where it is negative.
+fn push_number<I: Integer>(text: &mut String, number: I) -> Result<(), AllocError>
+    ensures { OnOk result (string_bytes text.new ≡ string_bytes text.old ++ I.text number) }
+{
+    let mut digits = Buffer::new();
+    text.push_str(digits.format(number))
+}
+
+fn push_whole(text: &mut String, number: u32) -> Result<(), AllocError>
+    ensures { OnOk result (Appends text.old text.new (whole_data number)) }
+{
+    push_number(text, number)
+}
+
+// Adds a number, and a piece behind it.
+fn push_before<I: Integer>(text: &mut String, number: I, piece: &str) -> Result<(), AllocError>
+    ensures { OnOk result
+        (string_bytes text.new ≡ string_bytes text.old ++ (I.text number ++ piece.now)) }
+{
+    push_number(text, number)?;
+    text.push_str(piece)
+}
+
+// Adds the letter of a node, with what stands round it, and its number.
+fn push_lettered<I: Integer>(text: &mut String, letter: &str, number: I) -> Result<(), AllocError>
+    ensures { OnOk result (string_bytes text.new
+        ≡ string_bytes text.old ++ (letter.now ++ (I.text number ++ codes "]"))) }
+{
+    text.push_str(letter)?;
+    push_before(text, number, "]")
+}
 
 fn push_node(text: &mut String, node: Node) -> Result<(), AllocError>
     ensures { OnOk result (Appends text.old text.new (node_data node)) }
 {
     match node {
-        Node::Mine(index) => write!(text, "[\"m\",{index}]"),
-        Node::MineUnknown(index) => write!(text, "[\"u\",{index}]"),
-        Node::Theirs(index) => write!(text, "[\"t\",{index}]"),
-        Node::TheirsUnknown(index) => write!(text, "[\"v\",{index}]"),
-        Node::Number(number) => write!(text, "[\"n\",{number}]"),
+        Node::Mine(index) => push_lettered(text, "[\"m\",", index),
+        Node::MineUnknown(index) => push_lettered(text, "[\"u\",", index),
+        Node::Theirs(index) => push_lettered(text, "[\"t\",", index),
+        Node::TheirsUnknown(index) => push_lettered(text, "[\"v\",", index),
+        Node::Number(number) => push_lettered(text, "[\"n\",", number),
     }
 }
 
@@ -55,29 +88,61 @@ fn push_chains(text: &mut String, chains: &[Chain]) -> Result<(), AllocError>
     text.push_str("]")
 }
 
+// Adds the numbers of a question, each with a comma behind it.
+fn push_question(text: &mut String, question: Question) -> Result<(), AllocError>
+    ensures { OnOk result
+        (string_bytes text.new ≡ string_bytes text.old ++ question_text question) }
+{
+    let Question { x, a, y, b } = question;
+    push_before(text, x, ",")?;
+    push_before(text, a, ",")?;
+    push_before(text, y, ",")?;
+    push_before(text, b, ",")
+}
+
+fn push_apart(text: &mut String, question: Question, chain: &[Node]) -> Result<(), AllocError>
+    ensures text { OnOk result (Appends text.old text.new
+        (entry_items (codes "apart") question (apart_items chain.now))) }
+    ensures fits { QuestionFits question }
+{
+    text.push_str("[\"apart\",")?;
+    push_question(text, question)?;
+    push_chain(text, chain)?;
+    text.push_str("]")
+}
+
+fn push_cover(
+    text: &mut String,
+    question: Question,
+    mine: u32,
+    theirs: u32,
+    chains: &[Chain],
+) -> Result<(), AllocError>
+    ensures text { OnOk result (Appends text.old text.new
+        (entry_items (codes "cover") question (cover_items mine theirs chains.now))) }
+    ensures fits { OnOk result (QuestionFits question × IsSmall mine × IsSmall theirs
+        × All ChainFits chains.now) }
+{
+    text.push_str("[\"cover\",")?;
+    push_question(text, question)?;
+    push_before(text, mine, ",")?;
+    push_before(text, theirs, ",")?;
+    push_chains(text, chains)?;
+    text.push_str("]")
+}
+
 fn push_entry(text: &mut String, entry: &Entry) -> Result<(), AllocError>
     ensures text { OnOk result (Appends text.old text.new (entry_data entry.now)) }
     ensures fits { OnOk result (EntryFits entry.now) }
 {
     match entry {
-        Entry::Apart { question, chain } => {
-            let Question { x, a, y, b } = *question;
-            write!(text, "[\"apart\",{x},{a},{y},{b},")?;
-            push_chain(text, chain.as_slice())?;
-            text.push_str("]")
-        }
+        Entry::Apart { question, chain } => push_apart(text, *question, chain.as_slice()),
         Entry::Cover {
             question,
             mine,
             theirs,
             chains,
-        } => {
-            let Question { x, a, y, b } = *question;
-            let (mine, theirs) = (*mine, *theirs);
-            write!(text, "[\"cover\",{x},{a},{y},{b},{mine},{theirs},")?;
-            push_chains(text, chains.as_slice())?;
-            text.push_str("]")
-        }
+        } => push_cover(text, *question, *mine, *theirs, chains.as_slice()),
     }
 }
 
@@ -104,9 +169,11 @@ fn push_numbers(text: &mut String, numbers: &[u32]) -> Result<(), AllocError>
     let [first, others @ ..] = numbers else {
         return text.push_str("[]");
     };
-    write!(text, "[{first}")?;
+    text.push_str("[")?;
+    push_whole(text, *first)?;
     for number in others {
-        write!(text, ",{number}")?;
+        text.push_str(",")?;
+        push_whole(text, *number)?;
     }
     text.push_str("]")
 }

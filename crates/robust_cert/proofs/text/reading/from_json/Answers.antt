@@ -1,6 +1,8 @@
-use Rattle.serde_json.specs.View.{view}
-use Rattle.robust_cert.proofs.Outcomes.{all_taken}
+use Rattle.robust_cert.proofs.Outcomes.{only_taken, not_refused}
 use Rattle.robust_cert.proofs.text.reading.from_json.Goals as goal
 
-pub returns-clause-taken : goal.returns-clause-taken
-returns-clause-taken c = all_taken c.args.bytes.now (view c.in_ok-value.value) c.certificate_in.result c.in_ok-value.ensures.ok c.certificate_in.ensures.ok c.certificate_in.ensures.fault
+pub returns-in-Ok-clause-taken : goal.returns-in-Ok-clause-taken
+returns-in-Ok-clause-taken c = only_taken c.args.bytes.now c.in-Ok.certificate c.in-Ok.ensures
+
+pub returns-in-Ok-clause-refused : goal.returns-in-Ok-clause-refused
+returns-in-Ok-clause-refused c = not_refused c.args.bytes.now c.in-Ok.certificate c.in-Ok.ensures

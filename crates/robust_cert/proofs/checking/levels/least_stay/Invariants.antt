@@ -1,6 +1,0 @@
-use Rattle.std.proofs.Common.{ℕ, ◌<◌}
-use Rattle.robust_cert.specs.Levels.{Stays}
-use Rattle.robust_cert.proofs.checking.levels.least_stay.Given as goal
-
-abbrev pub invariant-loop-x : goal.invariant-loop-x
-invariant-loop-x l = (x y z : ℕ) → x < l.x → ¬ Stays l.vulnerable l.levels x y z

@@ -1,0 +1,294 @@
+//! A certificate from the very text that `to_json` writes.
+//!
+//! This is for speed alone. What is read here is written again and compared with the bytes, so
+//! nothing is promised of it: a text of another form is misshapen here, and is read as JSON.
+
+use crate::certificate::{Certificate, Entry, Question};
+use crate::chain::Chain;
+use crate::fault::Untaken;
+use order_facts::Node;
+use prog_tree::Sequence;
+use std::alloc::Global;
+
+// What is still to be read.
+#[derive(Drop)]
+struct Cursor<'a> {
+    alloc: Global,
+    rest: &'a [u8],
+}
+
+impl Cursor<'_> {
+    // Reads a piece, where it comes next.
+    fn eat(&mut self, piece: &[u8]) -> bool {
+        match self.rest.strip_prefix(piece) {
+            Some(rest) => {
+                self.rest = rest;
+                true
+            }
+            None => false,
+        }
+    }
+
+    // Reads a piece that has to come next.
+    fn expect(&mut self, piece: &[u8]) -> Result<(), Untaken> {
+        if self.eat(piece) {
+            Ok(())
+        } else {
+            Err(Untaken::Misshapen)
+        }
+    }
+
+    // Reads what stands behind an item of a list: whether one more comes.
+    fn has_more(&mut self) -> Result<bool, Untaken> {
+        let [first, rest @ ..] = self.rest else {
+            return Err(Untaken::Misshapen);
+        };
+        self.rest = rest;
+        match first {
+            b',' => Ok(true),
+            b']' => Ok(false),
+            _ => Err(Untaken::Misshapen),
+        }
+    }
+
+    // Reads digits, up to the first other byte.
+    fn digits(&mut self) -> Result<u64, Untaken> {
+        let bytes = self.rest;
+        let mut value: u64 = 0;
+        for (place, byte) in bytes.iter().enumerate() {
+            if !byte.is_ascii_digit() {
+                self.rest = &bytes[place..];
+                return Ok(value);
+            }
+            value = with_digit(value, *byte)?;
+        }
+        Err(Untaken::Misshapen)
+    }
+
+    fn small(&mut self) -> Result<u32, Untaken> {
+        match u32::try_from(self.digits()?) {
+            Ok(number) => Ok(number),
+            Err(_) => Err(Untaken::Misshapen),
+        }
+    }
+
+    // Reads a number with a comma behind it.
+    fn small_before_comma(&mut self) -> Result<u32, Untaken> {
+        let number = self.small()?;
+        self.expect(b",")?;
+        Ok(number)
+    }
+
+    fn integer(&mut self) -> Result<i64, Untaken> {
+        if self.eat(b"-") {
+            let number = signed(self.digits()?)?;
+            return number.checked_neg().ok_or(Untaken::Misshapen);
+        }
+        signed(self.digits()?)
+    }
+
+    // Reads the letter of a node, and what stands round it.
+    fn letter(&mut self) -> Result<u8, Untaken> {
+        let [b'[', b'"', letter, b'"', b',', rest @ ..] = self.rest else {
+            return Err(Untaken::Misshapen);
+        };
+        self.rest = rest;
+        Ok(*letter)
+    }
+
+    fn node(&mut self) -> Result<Node, Untaken> {
+        let node = match self.letter()? {
+            b'm' => Node::Mine(self.small()? as usize),
+            b'u' => Node::MineUnknown(self.small()? as usize),
+            b't' => Node::Theirs(self.small()? as usize),
+            b'v' => Node::TheirsUnknown(self.small()? as usize),
+            b'n' => Node::Number(self.integer()?),
+            _ => return Err(Untaken::Misshapen),
+        };
+        self.expect(b"]")?;
+        Ok(node)
+    }
+
+    fn nodes(&mut self) -> Result<Vec<Node>, Untaken> {
+        let mut nodes = Vec::with_capacity(self.alloc, 2)?;
+        for _turn in 0..self.rest.len() {
+            nodes.push(self.node()?)?;
+            if !self.has_more()? {
+                return Ok(nodes);
+            }
+        }
+        Err(Untaken::Misshapen)
+    }
+
+    fn chain(&mut self) -> Result<Chain, Untaken> {
+        if self.eat(b"[]") {
+            return chain_of(Vec::new(self.alloc));
+        }
+        self.expect(b"[")?;
+        chain_of(self.nodes()?)
+    }
+
+    fn chains(&mut self) -> Result<Sequence<Chain>, Untaken> {
+        if self.eat(b"[]") {
+            return Ok(Sequence::from_vec(Vec::new(self.alloc)));
+        }
+        self.expect(b"[")?;
+        let mut chains = Vec::with_capacity(self.alloc, 2)?;
+        for _turn in 0..self.rest.len() {
+            chains.push(self.chain()?)?;
+            if !self.has_more()? {
+                return Ok(Sequence::from_vec(chains));
+            }
+        }
+        Err(Untaken::Misshapen)
+    }
+
+    fn question(&mut self) -> Result<Question, Untaken> {
+        Ok(Question {
+            x: self.small_before_comma()?,
+            a: self.small_before_comma()?,
+            y: self.small_before_comma()?,
+            b: self.small_before_comma()?,
+        })
+    }
+
+    fn entry(&mut self) -> Result<Entry, Untaken> {
+        if self.eat(b"[\"apart\",") {
+            return self.apart();
+        }
+        self.expect(b"[\"cover\",")?;
+        self.cover()
+    }
+
+    fn apart(&mut self) -> Result<Entry, Untaken> {
+        let question = self.question()?;
+        let chain = self.chain()?;
+        self.expect(b"]")?;
+        Ok(Entry::Apart { question, chain })
+    }
+
+    fn cover(&mut self) -> Result<Entry, Untaken> {
+        let question = self.question()?;
+        let mine = self.small_before_comma()?;
+        let theirs = self.small_before_comma()?;
+        let chains = self.chains()?;
+        self.expect(b"]")?;
+        Ok(Entry::Cover {
+            question,
+            mine,
+            theirs,
+            chains,
+        })
+    }
+
+    fn entries(&mut self) -> Result<Sequence<Entry>, Untaken> {
+        let mut entries = Vec::new(self.alloc);
+        if self.eat(b"[]") {
+            return Ok(Sequence::from_vec(entries));
+        }
+        self.expect(b"[")?;
+        for _turn in 0..self.rest.len() {
+            entries.push(self.entry()?)?;
+            if !self.has_more()? {
+                return Ok(Sequence::from_vec(entries));
+            }
+        }
+        Err(Untaken::Misshapen)
+    }
+
+    fn numbers(&mut self) -> Result<Sequence<u32>, Untaken> {
+        let mut numbers = Vec::new(self.alloc);
+        if self.eat(b"[]") {
+            return Ok(Sequence::from_vec(numbers));
+        }
+        self.expect(b"[")?;
+        for _turn in 0..self.rest.len() {
+            numbers.push(self.small()?)?;
+            if !self.has_more()? {
+                return Ok(Sequence::from_vec(numbers));
+            }
+        }
+        Err(Untaken::Misshapen)
+    }
+
+    // Reads the entries and the levels, with their names.
+    fn shared(&mut self) -> Result<(Sequence<Entry>, Sequence<u32>), Untaken> {
+        self.expect(b"\"entries\":")?;
+        let entries = self.entries()?;
+        self.expect(b",\"levels\":")?;
+        let levels = self.numbers()?;
+        Ok((entries, levels))
+    }
+
+    // Nothing may be left.
+    fn end(&self) -> Result<(), Untaken> {
+        if self.rest.is_empty() {
+            Ok(())
+        } else {
+            Err(Untaken::Misshapen)
+        }
+    }
+
+    fn first(&mut self) -> Result<Certificate, Untaken> {
+        self.expect(b"{")?;
+        let (entries, levels) = self.shared()?;
+        self.end()?;
+        let bodies = no_bodies(self.alloc, &levels)?;
+        Ok(Certificate {
+            entries,
+            levels,
+            bodies,
+        })
+    }
+
+    fn second(&mut self) -> Result<Certificate, Untaken> {
+        self.expect(b"{\"bodies\":")?;
+        let bodies = self.numbers()?;
+        self.expect(b",")?;
+        let (entries, levels) = self.shared()?;
+        self.end()?;
+        Ok(Certificate {
+            entries,
+            levels,
+            bodies,
+        })
+    }
+}
+
+// A number with one more digit.
+fn with_digit(value: u64, digit: u8) -> Result<u64, Untaken> {
+    let unit = u64::from(digit.wrapping_sub(b'0'));
+    let more = value.checked_mul(10).ok_or(Untaken::Misshapen)?;
+    more.checked_add(unit).ok_or(Untaken::Misshapen)
+}
+
+fn signed(digits: u64) -> Result<i64, Untaken> {
+    match i64::try_from(digits) {
+        Ok(number) => Ok(number),
+        Err(_) => Err(Untaken::Misshapen),
+    }
+}
+
+fn chain_of(nodes: Vec<Node>) -> Result<Chain, Untaken> {
+    Chain::from_vec(nodes).ok_or(Untaken::Misshapen)
+}
+
+// One zero for each level.
+fn no_bodies(alloc: Global, levels: &Sequence<u32>) -> Result<Sequence<u32>, Untaken> {
+    let zeros = vec![in alloc; 0; levels.len()]?;
+    Ok(Sequence::from_vec(zeros))
+}
+
+/// A certificate whose text the bytes may be. They are looked at from their end first.
+pub fn compact_candidate(alloc: Global, bytes: &[u8]) -> Result<Certificate, Untaken> {
+    let line = bytes.strip_suffix(b"\n").unwrap_or(bytes);
+    if let Some(rest) = line.strip_suffix(b",\"version\":1}") {
+        let mut cursor = Cursor { alloc, rest };
+        return cursor.first();
+    }
+    let Some(rest) = line.strip_suffix(b",\"version\":2}") else {
+        return Err(Untaken::Misshapen);
+    };
+    let mut cursor = Cursor { alloc, rest };
+    cursor.second()
+}
