@@ -6,7 +6,7 @@ use Rattle.std.specs.List.{find}
 use Rattle.std.specs.Option.{is_none}
 use Rattle.text_places.specs.Landmarks.{is_sign_of}
 use Rattle.text_places.specs.declared.landmark.Landmark.{Landmark}
-use Rattle.text_places.specs.declared.landmark.Landmark.TheVariants.{Table, Program, Statement, Record}
+use Rattle.text_places.specs.declared.landmark.Landmark.TheVariants.{Table, Program, Statement, Record, Job}
 use Rattle.prog_text.specs.declared.lexing.token.Token.{Token}
 use Rattle.prog_text.specs.declared.lexing.token.Token.TheVariants as t
 use Rattle.fault_words.specs.Beginnings.{is_first}
@@ -37,10 +37,10 @@ record Fail (test : List ℕ → Bool) : Type 0 where
   reply : test (codes "reply") ≡ false
   abort : test (codes "abort") ≡ false
 
-no_sign : (test : List ℕ → Bool) → Fail test → (kind : Landmark) → kind ≢ Record → (word : List ℕ) → test word ≡ true → is_sign_of kind word ≡ false
-no_sign test fail Table other word passes = apart test word (codes "table") passes fail.table
-no_sign test fail Program other word passes = apart test word (codes "program") passes fail.program
-no_sign test fail Statement other word passes =
+no_sign : (test : List ℕ → Bool) → Fail test → (kind : Landmark) → kind ≢ Record → kind ≢ Job → (word : List ℕ) → test word ≡ true → is_sign_of kind word ≡ false
+no_sign test fail Table other others word passes = apart test word (codes "table") passes fail.table
+no_sign test fail Program other others word passes = apart test word (codes "program") passes fail.program
+no_sign test fail Statement other others word passes =
     rw (
       apart test word (codes "let") passes fail.let_word,
       apart test word (codes "lacks") passes fail.lacks,
@@ -53,7 +53,8 @@ no_sign test fail Statement other word passes =
       apart test word (codes "reply") passes fail.reply,
       apart test word (codes "abort") passes fail.abort,
     ) refl
-no_sign test fail Record other word passes = absurd (other refl)
+no_sign test fail Record other others word passes = absurd (other refl)
+no_sign test fail Job other others word passes = absurd (others refl)
 
 abbrev is_free : List ℕ → Bool
 is_free word = is_none (find (λ u. bytes_eq word (spelling u)) reserved_words)
@@ -68,7 +69,7 @@ digits_fail : Fail begins_digits
 digits_fail = record { table = refl; program = refl; let_word = refl; lacks = refl; put = refl; insert = refl; delete = refl; keep = refl; if_word = refl; each = refl; reply = refl; abort = refl }
 
 -- a word is looked for just where the token that it spells is
-pub word_first : (kind : Landmark) → kind ≢ Record → (u : Token) (word : List ℕ) → Spells u word → is_sign_of kind word ≡ is_first kind u
-word_first kind other (t.Name x) word spells = no_sign is_free free_fail kind other word (ap is_none spells.1.free)
-word_first kind other (t.Number n) word spells = no_sign begins_digits digits_fail kind other word spells.begins
-word_first kind other (t.Sign u) word spells = ap (is_sign_of kind) spells
+pub word_first : (kind : Landmark) → kind ≢ Record → kind ≢ Job → (u : Token) (word : List ℕ) → Spells u word → is_sign_of kind word ≡ is_first kind u
+word_first kind other others (t.Name x) word spells = no_sign is_free free_fail kind other others word (ap is_none spells.1.free)
+word_first kind other others (t.Number n) word spells = no_sign begins_digits digits_fail kind other others word spells.begins
+word_first kind other others (t.Sign u) word spells = ap (is_sign_of kind) spells

@@ -1,2 +1,3 @@
 mod FirstTokens
 mod FirstWords
+mod LastBefore

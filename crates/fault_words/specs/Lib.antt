@@ -1,4 +1,5 @@
 pub mod Beginnings
+pub mod Blocks
 pub mod Naming
 pub mod Pointing
 pub mod Reserved

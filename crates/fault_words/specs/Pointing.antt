@@ -1,8 +1,9 @@
 -- What the words of a fault have to show.
-use Rattle.std.specs.Prelude.{ℕ, ◌≡◌, ◌-◌, ◌==◌, ◌||◌, ◌&&◌, ◌⊎◌, ⊤, Bool, true, not, nat_le, List, Option, Some, None, codes, drop, length, take}
+use Rattle.std.specs.Prelude.{ℕ, ◌≡◌, ◌-◌, ◌==◌, ◌||◌, ◌&&◌, ◌⊎◌, ⊤, Bool, true, not, nat_le, List, ◌++◌, Option, Some, None, option_map, codes, drop, length, take}
 use Rattle.std.specs.List.{list_all, prefix_len, suffix_len}
 use Rattle.text_places.specs.Landmarks.{is_word_byte, without_comments, HasNoProgram, HasNoStatement, HasNoTable, IsProgramPlace, IsStatementPlace, IsTablePlace}
 use Rattle.text_places.specs.Quotes.{pointed_out}
+use Rattle.fault_words.specs.Blocks.{open_head, open_text}
 use Rattle.prog_check.specs.declared.fault.Place.{Place}
 use Rattle.prog_check.specs.declared.fault.Place.TheVariants.{Table, Program, Statement}
 use Rattle.prog_check.specs.declared.fault.CheckFault.{CheckFault}
@@ -26,6 +27,17 @@ end_before text place = length (take place (without_comments text)) - suffix_len
 abbrev pub PointsAtToken : (text : List ℕ) → (place : ℕ) → (words : List ℕ) → Type 0
 PointsAtToken text place words = PointsAt text place words ⊎ PointsAt text (end_before text place) words
 
+-- a sentence begins with what there is to say first, where there is something
+abbrev pub BeginsBy : (first : Option (List ℕ)) → (sentence : List ℕ) → Type 0
+BeginsBy None sentence = ⊤
+BeginsBy (Some first) sentence = (more : List ℕ) × (sentence ≡ first ++ more)
+
+-- the words point at the place, and tell first which block is open there, where one is
+abbrev pub TellsOpenBlock : (text : List ℕ) → (place : ℕ) → (words : List ℕ) → Type 0
+TellsOpenBlock text place words =
+    (sentence : List ℕ) × BeginsBy (option_map (open_text text) (open_head text place)) sentence
+    × (words ≡ pointed_out text place sentence)
+
 -- a table, a program or a statement begins here
 abbrev pub IsPlaceOf : (text : List ℕ) → Place → (place : ℕ) → Type 0
 IsPlaceOf text (Table table) place = IsTablePlace text table place
@@ -43,7 +55,7 @@ abbrev pub PointsAtFault : (text : List ℕ) → TextFault → (words : List ℕ
 PointsAtFault text (t.NotAscii place) words = PointsAt text place words
 PointsAtFault text (t.UnknownByte place) words = PointsAt text place words
 PointsAtFault text (t.UnexpectedToken place) words = PointsAtToken text place words
-PointsAtFault text (t.UnexpectedEnd place) words = PointsAt text place words
+PointsAtFault text (t.UnexpectedEnd place) words = TellsOpenBlock text place words
 PointsAtFault text (t.NumberOutOfRange place) words = PointsAt text place words
 PointsAtFault text (t.NameTooLong place) words = PointsAt text place words
 PointsAtFault text (t.TooDeep place) words = PointsAt text place words

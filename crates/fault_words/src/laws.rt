@@ -4,7 +4,7 @@ ghost use Rattle.std.specs.Prelude.{◌≡◌, ◌≢◌, ℕ, List, length};
 ghost use Rattle.prog_tree.specs.Syntax.{BlockTree, DraftTree};
 ghost use Rattle.text_places.specs.Landmarks.{is_sign_of};
 ghost use Rattle.text_places.specs.declared.landmark.Landmark.{Landmark};
-ghost use Rattle.text_places.specs.declared.landmark.Landmark.TheVariants.{Record};
+ghost use Rattle.text_places.specs.declared.landmark.Landmark.TheVariants.{Job, Record};
 ghost use Rattle.prog_text.specs.declared.lexing.token.Token.{Token};
 ghost use Rattle.prog_text.specs.Cut.{Spells};
 ghost use Rattle.prog_text.specs.Grammar.{IsSet};
@@ -21,8 +21,9 @@ pub fn beginnings_are_those_of_the_grammar()
         → beginnings_among ts ≡ draft_beginnings set }
 
     // What is looked for is a word that spells such a token: no name and no number does.
-    ensures words { (kind : Landmark) → kind ≢ Record → (token : Token) → (word : List ℕ)
-        → Spells token word → is_sign_of kind word ≡ is_first kind token }
+    ensures words { (kind : Landmark) → kind ≢ Record → kind ≢ Job
+        → (token : Token) → (word : List ℕ) → Spells token word
+        → is_sign_of kind word ≡ is_first kind token }
 
     // There are as many as the numbers of statements that a fault may name.
     ensures numbers { (block : BlockTree) → length (firsts_of block) ≡ statement_count block }

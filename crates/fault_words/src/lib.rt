@@ -7,6 +7,7 @@ mod laws;
 mod limits;
 mod naming;
 mod nearest;
+mod open_blocks;
 mod pointing;
 mod reading;
 mod reserved;

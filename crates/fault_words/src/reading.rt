@@ -14,15 +14,15 @@ pub fn is_word_byte(byte: u8) -> bool
     byte.is_ascii_alphanumeric() || byte == b'_'
 }
 
-// How many bytes the word at the front has.
-fn word_len(bytes: &[u8]) -> usize
+/// How many bytes the word at the front has.
+pub fn word_len(bytes: &[u8]) -> usize
     ensures { result ≡ prefix_len is_word_byte bytes.now }
 {
     bytes.iter().take_while(|byte| is_word_byte(**byte)).count()
 }
 
-// How many bytes the word at the end has.
-fn last_len(bytes: &[u8]) -> usize
+/// How many bytes the word at the end has.
+pub fn last_len(bytes: &[u8]) -> usize
     ensures { result ≡ suffix_len is_word_byte bytes.now }
 {
     bytes

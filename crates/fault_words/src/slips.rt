@@ -34,6 +34,8 @@ pub enum Slip {
     LookInside,
     /// `let x = t[1];`
     NoLook,
+    /// `program` within a program
+    OpenBlock,
     /// One that is said alike whatever its tokens are
     Said(&'static str),
 }
@@ -99,9 +101,6 @@ const NO_COMPARISON: &str = "a test compares two values, as `x != 0` does";
 /// `table` behind a program
 const LATE_TABLE: &str = "tables stand before all programs";
 
-/// `program` within a program
-const OPEN_BLOCK: &str = "a block before is still open: a `}` is missing";
-
 /// What stands around a place of a text without comments, at whose end a token ends.
 pub fn tokens_around(plain: &[u8], end: usize, place: usize) -> Around<'_> {
     let rest = from_place(plain, place);
@@ -156,7 +155,7 @@ fn statement_slip(around: Around<'_>) -> Option<Slip> {
         return name_slip(around.token, around.next);
     }
     match around.token {
-        "table" | "program" => Some(Slip::Said(OPEN_BLOCK)),
+        "table" | "program" => Some(Slip::OpenBlock),
         _ => None,
     }
 }
@@ -302,6 +301,7 @@ pub fn slip_words(alloc: Global, slip: Slip, around: Around<'_>) -> Result<Strin
         Slip::NoLook => format!(in alloc;
             "a row is looked up by `let x = get {before}[..] else ..;` or `let x = need {before}[..];`"
         ),
+        Slip::OpenBlock => format!(in alloc; "a block before is still open: a `}}` is missing"),
         Slip::Said(words) => format!(in alloc; "{words}"),
     }
 }

@@ -1,15 +1,16 @@
 //! The faults of a text in words.
-ghost use Rattle.std.specs.Prelude.{IfOk, string_bytes};
-ghost use Rattle.fault_words.specs.Pointing.{PointsAtFault, PointsAtToken};
+ghost use Rattle.std.specs.Prelude.{IfOk, option_map, string_bytes};
+ghost use Rattle.fault_words.specs.Pointing.{BeginsBy, PointsAtFault, PointsAtToken, TellsOpenBlock};
 
 use crate::expected::{possible, told};
+use crate::open_blocks::open_words;
 use crate::pointing::point_at;
 use crate::reading::{as_text, end_before, first_token, first_word, from_place, up_to};
 use crate::reserved::begins_statement;
-use crate::slips::{Around, slip_of, slip_words, tokens_around};
+use crate::slips::{Around, Slip, slip_of, slip_words, tokens_around};
 use prog_text::TextFault;
 use std::alloc::{AllocError, Global};
-use text_places::{column, line_at, line_number, without_comments};
+use text_places::{column, line_at, line_number, point_out, without_comments};
 
 // A byte as people are told of it.
 fn byte_text(alloc: Global, bytes: &[u8]) -> Result<String, AllocError> {
@@ -105,13 +106,29 @@ fn misplaced(alloc: Global, token: &str, could: &[&str]) -> Result<String, Alloc
     misplaced_words(alloc, token, &known)
 }
 
-// What stands around a place, in words that newcomers need, or what could stand there.
+// What is said of a slip where no block is open, or where another slip is meant.
+fn open_block_words(
+    alloc: Global,
+    text: &[u8],
+    place: usize,
+    around: Around<'_>,
+) -> Result<String, AllocError> {
+    match open_words(alloc, text, place)? {
+        Some(words) => Ok(words),
+        None => slip_words(alloc, Slip::OpenBlock, around),
+    }
+}
+
+// What stands at a place and around it, in words that newcomers need, or what could stand there.
 fn unexpected_words(
     alloc: Global,
+    text: &[u8],
+    place: usize,
     could: &[&str],
     around: Around<'_>,
 ) -> Result<String, AllocError> {
     match slip_of(around, could) {
+        Some(Slip::OpenBlock) => open_block_words(alloc, text, place, around),
         Some(slip) => slip_words(alloc, slip, around),
         None => misplaced(alloc, around.token, could),
     }
@@ -134,17 +151,39 @@ fn unexpected(alloc: Global, text: &[u8], place: usize) -> Result<String, AllocE
     if lacks_semicolon(&could, around.token, is_first) {
         return point_at(alloc, text, end, "a `;` is missing here");
     }
-    let sentence = unexpected_words(alloc, &could, around)?;
+    let sentence = unexpected_words(alloc, text, place, &could, around)?;
     point_at(alloc, text, place, &sentence)
 }
 
-fn too_early(alloc: Global, text: &[u8]) -> Result<String, AllocError> {
+// What could follow, where that is known.
+fn could_follow(alloc: Global, text: &[u8]) -> Result<String, AllocError> {
     let could = possible(alloc, text)?;
     let known = told(alloc, &could)?;
     if known.is_empty() {
-        return format!(in alloc; "the text ends inside a table or a program");
+        return Ok(known);
     }
-    format!(in alloc; "the text ends inside a table or a program; what could follow is {known}")
+    format!(in alloc; "; what could follow is {known}")
+}
+
+// That a text ends too early, where this is said of an open block, and this could follow.
+fn end_sentence(alloc: Global, said: Option<&str>, more: &str) -> Result<String, AllocError>
+    ensures { IfOk result (λ sentence.
+        BeginsBy (option_map (λ first. first.now) said.entry) (string_bytes sentence)) }
+{
+    match said {
+        Some(first) => format!(in alloc; "{first}{more}"),
+        None => format!(in alloc; "the text ends inside a table or a program{more}"),
+    }
+}
+
+fn too_early(alloc: Global, text: &[u8], place: usize) -> Result<String, AllocError>
+    ensures { IfOk result (λ words. TellsOpenBlock text.now place (string_bytes words)) }
+{
+    let more = could_follow(alloc, text)?;
+    let said = open_words(alloc, text, place)?;
+    let sentence = end_sentence(alloc, said.as_deref(), &more)?;
+    let words = point_out(alloc, text, place, &sentence)?;
+    Ok(words)
 }
 
 fn too_deep(alloc: Global, text: &[u8], place: usize) -> Result<String, AllocError> {
@@ -172,10 +211,7 @@ pub fn text_words(alloc: Global, text: &[u8], fault: TextFault) -> Result<String
             point_at(alloc, text, place, &sentence)
         }
         TextFault::UnexpectedToken { place } => unexpected(alloc, text, place),
-        TextFault::UnexpectedEnd { place } => {
-            let sentence = too_early(alloc, text)?;
-            point_at(alloc, text, place, &sentence)
-        }
+        TextFault::UnexpectedEnd { place } => too_early(alloc, text, place),
         TextFault::NumberOutOfRange { place } => point_at(
             alloc,
             text,

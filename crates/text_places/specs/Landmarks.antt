@@ -1,9 +1,9 @@
--- Where the tables, programs and statements of a set's text begin, and the records of a list.
+-- Where the tables, programs and statements of a set's text begin, and the records or the jobs of a list.
 use Rattle.std.specs.Prelude.{ℕ, zero, suc, ◌≡◌, ◌≤◌, ◌+◌, ◌-◌, ◌==◌, Bool, true, false, not, ◌&&◌, ◌||◌, List, [], ◌∷◌, codes, bytes_eq, drop, length, nat_le, take, if◌then◌else◌}
 use Rattle.std.specs.List.{list_all, prefix_len, suffix_len}
 use Rattle.text_places.specs.Places.{is_feed}
 use Rattle.text_places.specs.declared.landmark.Landmark.{Landmark}
-use Rattle.text_places.specs.declared.landmark.Landmark.TheVariants.{Table, Program, Statement, Record}
+use Rattle.text_places.specs.declared.landmark.Landmark.TheVariants.{Table, Program, Statement, Record, Job}
 
 -- a letter, a digit or `_`
 abbrev pub is_word_byte : ℕ → Bool
@@ -34,6 +34,7 @@ is_sign_of Table word = bytes_eq word (codes "table")
 is_sign_of Program word = bytes_eq word (codes "program")
 is_sign_of Statement word = begins_statement word
 is_sign_of Record word = bytes_eq word (codes "record")
+is_sign_of Job word = bytes_eq word (codes "job")
 
 -- the word at the front, of which eight bytes tell whether it is one of these
 abbrev pub first_word : List ℕ → List ℕ
@@ -55,12 +56,13 @@ abbrev pub begins_line : (text : List ℕ) → (place : ℕ) → Bool
 begins_line text place =
     ends_line (take (length (take place text) - suffix_len is_space (take place text)) (take place text))
 
--- a record is a line, and what else there is may stand anywhere in one
+-- a record and a job are a line each, and what else there is may stand anywhere in one
 abbrev pub begins_here : Landmark → (text : List ℕ) → (place : ℕ) → Bool
 begins_here Table text place = stands_free text place
 begins_here Program text place = stands_free text place
 begins_here Statement text place = stands_free text place
 begins_here Record text place = begins_line text place
+begins_here Job text place = begins_line text place
 
 abbrev pub is_landmark : Landmark → (text : List ℕ) → (place : ℕ) → Bool
 is_landmark kind text place = is_sign_of kind (first_word (drop place text)) && begins_here kind text place
@@ -108,3 +110,9 @@ IsRecordPlace list number place = IsNumbered Record list 0 number place
 
 abbrev pub HasNoRecord : (list : List ℕ) → (number : ℕ) → Type 0
 HasNoRecord list number = HasFewer Record list 0 number
+
+abbrev pub IsJobPlace : (list : List ℕ) → (number : ℕ) → (place : ℕ) → Type 0
+IsJobPlace list number place = IsNumbered Job list 0 number place
+
+abbrev pub HasNoJob : (list : List ℕ) → (number : ℕ) → Type 0
+HasNoJob list number = HasFewer Job list 0 number

@@ -1,8 +1,8 @@
-//! Where the tables, programs and statements of a set's text begin, and the records of a list. A statement's first word
-//! stands nowhere else.
+//! Where the tables, programs and statements of a set's text begin, and the records or the jobs of a list. A statement's
+//! first word stands nowhere else.
 ghost use Rattle.std.specs.Prelude.{◌≡◌, ◌<◌, ◌≤◌, ◌+◌, length, take, IfNone, IfOk, IfSome};
 ghost use Rattle.std.specs.List.{prefix_len, suffix_len};
-ghost use Rattle.text_places.specs.Landmarks.{begins_here, begins_line, begins_statement, ends_line, first_word, is_in_comment, is_landmark, is_sign_of, is_space, is_word_byte, landmarks_before, stands_free, without_comments, HasFewer, HasNoProgram, HasNoRecord, HasNoStatement, HasNoTable, IsNumbered, IsProgramPlace, IsRecordPlace, IsStatementPlace, IsTablePlace};
+ghost use Rattle.text_places.specs.Landmarks.{begins_here, begins_line, begins_statement, ends_line, first_word, is_in_comment, is_landmark, is_sign_of, is_space, is_word_byte, landmarks_before, stands_free, without_comments, HasFewer, HasNoJob, HasNoProgram, HasNoRecord, HasNoStatement, HasNoTable, IsJobPlace, IsNumbered, IsProgramPlace, IsRecordPlace, IsStatementPlace, IsTablePlace};
 
 use crate::place::{before, behind, is_feed};
 use std::alloc::{AllocError, Global};
@@ -14,6 +14,7 @@ pub enum Landmark {
     Program,
     Statement,
     Record,
+    Job,
 }
 
 fn is_word_byte(byte: u8) -> bool
@@ -59,6 +60,7 @@ fn is_sign_of(kind: Landmark, word: &[u8]) -> bool
         Landmark::Program => word == b"program".as_slice(),
         Landmark::Statement => begins_statement(word),
         Landmark::Record => word == b"record".as_slice(),
+        Landmark::Job => word == b"job".as_slice(),
     }
 }
 
@@ -132,7 +134,7 @@ fn begins_here(kind: Landmark, text: &[u8], place: usize) -> bool
 {
     match kind {
         Landmark::Table | Landmark::Program | Landmark::Statement => stands_free(text, place),
-        Landmark::Record => begins_line(text, place),
+        Landmark::Record | Landmark::Job => begins_line(text, place),
     }
 }
 
@@ -221,4 +223,12 @@ pub fn record_place(list: &[u8], number: usize) -> Option<usize>
     ensures none { IfNone result (HasNoRecord list.now number) }
 {
     numbered(Landmark::Record, list, 0, number)
+}
+
+/// Where a job of a list begins.
+pub fn job_place(list: &[u8], number: usize) -> Option<usize>
+    ensures found { IfSome result (IsJobPlace list.now number) }
+    ensures none { IfNone result (HasNoJob list.now number) }
+{
+    numbered(Landmark::Job, list, 0, number)
 }

@@ -1,0 +1,57 @@
+-- Which block of a text is left open, and how people are told.
+use Rattle.std.specs.Prelude.{ℕ, zero, suc, ◌==◌, ◌&&◌, ◌||◌, Bool, false, List, [], ◌∷◌, ◌++◌, Option, Some, None, bytes_eq, codes, count_by, drop, length, take, if◌then◌else◌}
+use Rattle.std.specs.Fmt.{decimal}
+use Rattle.text_places.specs.Landmarks.{first_word, stands_free, without_comments}
+use Rattle.text_places.specs.Places.{line_number}
+
+-- the last place before a bound that passes a test
+abbrev pub last_before : (test : ℕ → Bool) → (bound : ℕ) → Option ℕ
+last_before test zero = None
+last_before test (suc place) = if test place then Some place else last_before test place
+
+abbrev pub opens : (byte : ℕ) → Bool
+opens byte = byte == 123
+
+abbrev pub closes : (byte : ℕ) → Bool
+closes byte = byte == 125
+
+-- a block begins with the first byte, and as many blocks begin behind it as end
+abbrev pub is_left_open : List ℕ → Bool
+is_left_open [] = false
+is_left_open (byte ∷ bytes) = opens byte && count_by opens bytes == count_by closes bytes
+
+-- where the last block begins that a text leaves open
+abbrev pub open_block : (text : List ℕ) → Option ℕ
+open_block text = last_before (λ place. is_left_open (drop place text)) (length text)
+
+-- the words of which one stands before each block
+abbrev pub is_head : (word : List ℕ) → Bool
+is_head word =
+    (bytes_eq word (codes "program") || bytes_eq word (codes "if"))
+    || (bytes_eq word (codes "else") || bytes_eq word (codes "each"))
+
+-- which of them a word is
+abbrev pub head_name : (word : List ℕ) → List ℕ
+head_name word =
+    if bytes_eq word (codes "program") then codes "program"
+    else (if bytes_eq word (codes "if") then codes "if" else (if bytes_eq word (codes "else") then codes "else" else codes "each"))
+
+-- such a word begins here
+abbrev pub begins_head : (text : List ℕ) → (place : ℕ) → Bool
+begins_head text place = is_head (first_word (drop place text)) && stands_free text place
+
+-- where the last such word before a block begins
+abbrev pub head_before : (text : List ℕ) → (block : Option ℕ) → Option ℕ
+head_before text None = None
+head_before text (Some block) = last_before (begins_head text) block
+
+-- where the head of the last block begins that is open before a place, not counting what stands in comments
+abbrev pub open_head : (text : List ℕ) → (place : ℕ) → Option ℕ
+open_head text place =
+    head_before (take place (without_comments text)) (open_block (take place (without_comments text)))
+
+-- the block of a head, with the line of the head
+abbrev pub open_text : (text : List ℕ) → (head : ℕ) → List ℕ
+open_text text head =
+    codes "the block of `" ++ (head_name (first_word (drop head (without_comments text))) ++ (codes "` in line "
+    ++ (decimal (line_number text head) ++ codes " is still open: a `}` is missing")))

@@ -1,0 +1,121 @@
+//! The block that is open at a place of a text.
+ghost use Rattle.std.specs.Prelude.{◌≡◌, IfOk, option_map, string_bytes};
+ghost use Rattle.text_places.specs.Landmarks.{first_word, without_comments};
+ghost use Rattle.fault_words.specs.Blocks.{begins_head, closes, head_before, head_name, is_head, last_before, open_block, open_head, open_text, opens};
+
+use crate::reading::{from_place, last_len, up_to, word_len};
+use std::alloc::{AllocError, Global};
+use text_places::{line_number, without_comments};
+
+fn opens(byte: u8) -> bool
+    ensures { result ≡ opens byte }
+{
+    byte == b'{'
+}
+
+fn closes(byte: u8) -> bool
+    ensures { result ≡ closes byte }
+{
+    byte == b'}'
+}
+
+// Where the last block begins that is left open, of a text without comments.
+fn open_block(plain: &[u8]) -> Option<usize>
+    ensures { result ≡ open_block plain.now }
+{
+    let mut begun: usize = 0;
+    let mut ended: usize = 0;
+    let mut place = plain.len();
+    while place > 0 {
+        place -= 1;
+        let byte = plain[place];
+        if opens(byte) && begun == ended {
+            return Some(place);
+        }
+        begun += usize::from(opens(byte));
+        ended += usize::from(closes(byte));
+    }
+    None
+}
+
+// The word at the front, of which eight bytes tell whether it is the head of a block.
+fn first_word(bytes: &[u8]) -> &[u8]
+    ensures { result.now ≡ first_word bytes.now }
+{
+    let front = up_to(bytes, 8);
+    up_to(front, word_len(front))
+}
+
+fn is_head(word: &[u8]) -> bool
+    ensures { result ≡ is_head word.now }
+{
+    (word == b"program".as_slice() || word == b"if".as_slice())
+        || (word == b"else".as_slice() || word == b"each".as_slice())
+}
+
+// Which head a word is.
+fn head_name(word: &[u8]) -> &'static str
+    ensures { result.now ≡ head_name word.now }
+{
+    if word == b"program".as_slice() {
+        "program"
+    } else if word == b"if".as_slice() {
+        "if"
+    } else if word == b"else".as_slice() {
+        "else"
+    } else {
+        "each"
+    }
+}
+
+fn begins_head(plain: &[u8], place: usize) -> bool
+    ensures { result ≡ begins_head plain.now place }
+{
+    is_head(first_word(from_place(plain, place))) && last_len(up_to(plain, place)) == 0
+}
+
+// Where the last head before a block begins.
+fn head_before(plain: &[u8], block: usize) -> Option<usize>
+    ensures { result ≡ last_before (begins_head plain.now) block }
+{
+    let mut place = block;
+    while place > 0 {
+        place -= 1;
+        if begins_head(plain, place) {
+            return Some(place);
+        }
+    }
+    None
+}
+
+// Where the head of the block begins that is open at the end of a text without comments.
+fn open_head(plain: &[u8]) -> Option<usize>
+    ensures { result ≡ head_before plain.now (open_block plain.now) }
+{
+    match open_block(plain) {
+        Some(block) => head_before(plain, block),
+        None => None,
+    }
+}
+
+// The block of a head, with the line of the head.
+fn open_text(alloc: Global, text: &[u8], plain: &[u8], head: usize) -> Result<String, AllocError>
+    requires { plain.now ≡ without_comments text.now }
+    ensures { IfOk result (λ words. string_bytes words ≡ open_text text.now head) }
+{
+    let name = head_name(first_word(from_place(plain, head)));
+    let line = line_number(text, head);
+    format!(in alloc; "the block of `{name}` in line {line} is still open: a `}}` is missing")
+}
+
+/// The block that is open before a place, as people are told of it; nothing where none is open.
+pub fn open_words(alloc: Global, text: &[u8], place: usize) -> Result<Option<String>, AllocError>
+    ensures { IfOk result (λ said. option_map string_bytes said
+        ≡ option_map (open_text text.now) (open_head text.now place)) }
+{
+    let plain = without_comments(alloc, text)?;
+    match open_head(up_to(&plain, place)) {
+        Some(head) => Ok(Some(open_text(alloc, text, &plain, head)?)),
+        None => Ok(None),
+    }
+}
