@@ -7,6 +7,7 @@ pub mod CycleSteps
 pub mod EdgeLaws
 pub mod EngineLaws
 pub mod EvaluateLaws
+pub mod FoundCycles
 pub mod GrowLaws
 pub mod HeadlineLaws
 mod HeadlineVectors

@@ -10,6 +10,7 @@ mod output;
 mod port;
 mod robust;
 mod run;
+mod witness;
 
 pub use engine::Engine;
 pub use event::{Event, Reply};
@@ -25,7 +26,7 @@ pub use input::script::{Script, read_script};
 pub use input::script_fault::{LineFault, ScriptFault};
 pub use input::source::{DeviceFault, InputFault, Source, read_whole};
 pub use limits::{MAX_BYTES, MAX_READS};
-pub use output::finding::{Finding, push_findings, push_rows};
+pub use output::finding::{Finding, push_findings, push_findings_before, push_rows};
 pub use output::sink::{Sink, write_whole};
 pub use port::Port;
 pub use robust::laws::{
@@ -33,6 +34,7 @@ pub use robust::laws::{
     dependencies_are_static_edges, grow_tables_gain_each_row_once, instances_follow_nodes,
     safe_sets_have_no_cycle, states_have_i64_rows,
 };
-pub use robust::run::{Outcome, order_of, run_robust};
-pub use robust::script::run_robust_script;
-pub use run::run_script;
+pub use robust::run::{Outcome, order_of, run_robust, run_robust_before};
+pub use robust::script::{run_robust_script, run_robust_script_before};
+pub use run::{run_script, run_script_before};
+pub use witness::{NoWitness, Witness};

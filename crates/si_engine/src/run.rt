@@ -13,19 +13,21 @@ use crate::input::script::{Script, read_script};
 use crate::input::script_fault::ScriptFault;
 use crate::input::source::Source;
 use crate::limits::MAX_READS;
-use crate::output::finding::{Finding, push_findings};
+use crate::output::finding::{Finding, push_findings_before};
 use crate::output::printed::push_reply_line;
 use crate::output::sink::{Sink, write_whole};
+use crate::witness::{NoWitness, Witness};
 use prog_check::ProgramSet;
 use prog_tree::Draft;
 use std::alloc::{AllocError, Global};
 
 // Hands the events to the engine, and adds the line of each reply.
-fn run_events(
+fn run_events<W: Witness>(
     engine: &mut Engine<'_>,
     set: &Draft,
     events: &[Event],
     out: &mut String,
+    witness: &mut W,
 ) -> Result<(), AllocError>
     requires { engine.old.set ≡ set.now }
     ensures over { StaysOver engine.old engine.new }
@@ -40,6 +42,7 @@ fn run_events(
 {
     for event in events {
         let reply = engine.apply(event)?;
+        witness.answered(event, &reply, engine.book());
         push_reply_line(out, &set.tables, event, &reply)?;
     }
     Ok(())
@@ -47,11 +50,12 @@ fn run_events(
 
 // Adds the lines of a script, and the last line. Where memory runs out, some first lines before
 // that were added.
-fn push_lines(
+fn push_lines<W: Witness>(
     alloc: Global,
     set: &ProgramSet,
     script: Script,
     out: &mut String,
+    witness: &mut W,
 ) -> Result<Finding, AllocError>
     ensures ok { IfOk result (λ finding. AddsRun (draft_tree set.now) script finding
         (string_bytes out.old) (string_bytes out.new)) }
@@ -61,16 +65,17 @@ fn push_lines(
     let Script { rows, events } = script;
     let draft = set.draft();
     let mut engine = Engine::open(alloc, set, rows)?;
-    run_events(&mut engine, draft, events.as_slice(), out)?;
-    push_findings(engine.book(), out)
+    run_events(&mut engine, draft, events.as_slice(), out, witness)?;
+    push_findings_before(engine.book(), out, witness)
 }
 
 // Reads all of a source as a script, runs it, and adds its lines.
-fn run_source<S: Source>(
+fn run_source<S: Source, W: Witness>(
     alloc: Global,
     set: &ProgramSet,
     source: &mut S,
     out: &mut String,
+    witness: &mut W,
 ) -> Result<Finding, ScriptFault>
     requires { string_bytes out.old ≡ [] }
     ensures run { S.has_failed source.new ≡ false
@@ -80,7 +85,7 @@ fn run_source<S: Source>(
     ensures reads { S.pulls source.new ≤ S.pulls source.old + MAX_READS }
 {
     let script = read_script(alloc, set, source)?;
-    let finding = push_lines(alloc, set, script, out)?;
+    let finding = push_lines(alloc, set, script, out, witness)?;
     Ok(finding)
 }
 
@@ -99,6 +104,24 @@ pub(crate) fn write_end<K: Sink>(
     }
 }
 
+/// As `run_script`, before a witness, which is told each reply and the cycle.
+pub fn run_script_before<S: Source, K: Sink, W: Witness>(
+    alloc: Global,
+    set: &ProgramSet,
+    source: &mut S,
+    sink: &mut K,
+    witness: &mut W,
+) -> Result<Finding, ScriptFault>
+    ensures run { WritesOr (Err ScriptFault.WriteFault)
+        (IsRunReply (draft_tree set.now) (S.left source.old) (S.has_failed source.new))
+        (K.has_failed sink.new) (K.taken sink.old) (K.taken sink.new) result }
+    ensures reads { S.pulls source.new ≤ S.pulls source.old + MAX_READS }
+{
+    let mut lines = String::new(alloc);
+    let ended = run_source(alloc, set, source, &mut lines, witness);
+    write_end(sink, lines.as_bytes(), ended)
+}
+
 /// Reads all of a source as a script, and runs it on a set. A sink gets a line for each event, one
 /// for each row, and the last line; nothing at a fault of the script, and some first lines, but not
 /// the last, where memory ran out.
@@ -113,7 +136,5 @@ pub fn run_script<S: Source, K: Sink>(
         (K.has_failed sink.new) (K.taken sink.old) (K.taken sink.new) result }
     ensures reads { S.pulls source.new ≤ S.pulls source.old + MAX_READS }
 {
-    let mut lines = String::new(alloc);
-    let ended = run_source(alloc, set, source, &mut lines);
-    write_end(sink, lines.as_bytes(), ended)
+    run_script_before(alloc, set, source, sink, &mut NoWitness)
 }

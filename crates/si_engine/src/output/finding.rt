@@ -6,6 +6,7 @@ ghost use Rattle.si_engine.specs.LastLine.{IsLastLine};
 ghost use Rattle.si_engine.specs.Runs.{row_lines, end_lines, Adds, AddsFirst, AddsEnd};
 
 use crate::output::printed::{push_last_line, push_row_line};
+use crate::witness::{NoWitness, Witness};
 use history_book::{Book, OrderFault};
 use prog_tree::{Draft, Rows};
 use std::alloc::AllocError;
@@ -32,8 +33,12 @@ pub fn push_rows(set: &Draft, rows: &Rows, out: &mut String) -> Result<(), Alloc
     Ok(())
 }
 
-// Adds the last line, or nothing.
-fn push_order(book: &Book<'_>, out: &mut String) -> Result<Finding, AllocError>
+// Adds the last line, or nothing. A witness is told a cycle.
+fn push_order<W: Witness>(
+    book: &Book<'_>,
+    out: &mut String,
+    witness: &mut W,
+) -> Result<Finding, AllocError>
     ensures ok { IfOk result (λ finding. (last : List ℕ)
         × IsLastLine (draft_tree book.now.set) book.now.opening (history_of book.now.rows)
         finding last
@@ -47,10 +52,28 @@ fn push_order(book: &Book<'_>, out: &mut String) -> Result<Finding, AllocError>
         }
         Err(OrderFault::Cycle(cycle)) => {
             push_last_line(out, Finding::Cycle, &cycle)?;
+            witness.cycle(book, &cycle);
             Ok(Finding::Cycle)
         }
         Err(OrderFault::Memory) => Err(AllocError),
     }
+}
+
+/// As `push_findings`, before a witness, which is told a cycle.
+pub fn push_findings_before<W: Witness>(
+    book: &Book<'_>,
+    out: &mut String,
+    witness: &mut W,
+) -> Result<Finding, AllocError>
+    ensures ok { IfOk result (λ finding. AddsEnd (draft_tree book.now.set) book.now.opening
+        (history_of book.now.rows) finding (string_bytes out.old) (string_bytes out.new)) }
+    ensures err { OnErr result (AddsFirst (end_lines (draft_tree book.now.set) book.now.opening
+        (history_of book.now.rows)) (string_bytes out.old) (string_bytes out.new)) }
+{
+    let table = book.table()?;
+    push_rows(book.set().draft(), &table, out)?;
+    let finding = push_order(book, out, witness)?;
+    Ok(finding)
 }
 
 /// Adds the line of each row of a book's table, and then the last line. Where memory runs out, some
@@ -61,8 +84,5 @@ pub fn push_findings(book: &Book<'_>, out: &mut String) -> Result<Finding, Alloc
     ensures err { OnErr result (AddsFirst (end_lines (draft_tree book.now.set) book.now.opening
         (history_of book.now.rows)) (string_bytes out.old) (string_bytes out.new)) }
 {
-    let table = book.table()?;
-    push_rows(book.set().draft(), &table, out)?;
-    let finding = push_order(book, out)?;
-    Ok(finding)
+    push_findings_before(book, out, &mut NoWitness)
 }

@@ -14,6 +14,7 @@ ghost use Rattle.si_engine.specs.View.{StaysOver};
 
 use crate::engine::Engine;
 use crate::event::{Event, Reply};
+use crate::witness::{NoWitness, Witness};
 use history_book::{Book, OrderFault};
 use prog_tree::{Rows, Sequence};
 use robust_cert::RobustSet;
@@ -44,10 +45,11 @@ fn note_commit(committed: &mut Vec<usize>, event: &Event, reply: &Reply) -> Resu
 }
 
 // Hands the events to the engine, and keeps each reply and the instance of each commit.
-fn apply_events(
+fn apply_events<W: Witness>(
     alloc: Global,
     engine: &mut Engine<'_>,
     events: &[Event],
+    witness: &mut W,
 ) -> Result<(Vec<Reply>, Vec<usize>), AllocError>
     ensures over { StaysOver engine.old engine.new }
     ensures after { OnOk result (engine.new.machine ≡ machine_after
@@ -61,6 +63,7 @@ fn apply_events(
     let mut committed = Vec::new(alloc);
     for event in events {
         let reply = engine.apply(event)?;
+        witness.answered(event, &reply, engine.book());
         note_commit(&mut committed, event, &reply)?;
         replies.push(reply)?;
     }
@@ -91,6 +94,31 @@ pub fn order_of(book: &Book<'_>) -> Result<Vec<usize>, AllocError>
     }
 }
 
+/// As `run_robust`, before a witness, which is told each reply.
+pub fn run_robust_before<W: Witness>(
+    alloc: Global,
+    set: &RobustSet,
+    rows: Rows,
+    events: &[Event],
+    witness: &mut W,
+) -> Result<Outcome, AllocError>
+    ensures headline { IfOk result (Headline (draft_tree set.now) rows events.now) }
+    ensures least { IfOk result (λ o.
+        let h = (machine_after (draft_tree set.now) rows events.now new_machine).history in
+        least_order (depends (draft_tree set.now) rows h) (length h) ≡ Some o.order) }
+{
+    let mut engine = Engine::open(alloc, set.set(), rows)?;
+    let (replies, committed) = apply_events(alloc, &mut engine, events, witness)?;
+    let order = order_of(engine.book())?;
+    let table = engine.table()?;
+    Ok(Outcome {
+        replies: Sequence::from_vec(replies),
+        committed: Sequence::from_vec(committed),
+        order: Sequence::from_vec(order),
+        table,
+    })
+}
+
 /// Hands events to an engine over a robust set. Whatever they are, what committed has a serial
 /// order: the least, as `Book::serial_order` finds it.
 pub fn run_robust(
@@ -104,14 +132,5 @@ pub fn run_robust(
         let h = (machine_after (draft_tree set.now) rows events.now new_machine).history in
         least_order (depends (draft_tree set.now) rows h) (length h) ≡ Some o.order) }
 {
-    let mut engine = Engine::open(alloc, set.set(), rows)?;
-    let (replies, committed) = apply_events(alloc, &mut engine, events)?;
-    let order = order_of(engine.book())?;
-    let table = engine.table()?;
-    Ok(Outcome {
-        replies: Sequence::from_vec(replies),
-        committed: Sequence::from_vec(committed),
-        order: Sequence::from_vec(order),
-        table,
-    })
+    run_robust_before(alloc, set, rows, events, &mut NoWitness)
 }

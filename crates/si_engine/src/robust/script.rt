@@ -15,8 +15,9 @@ use crate::limits::MAX_READS;
 use crate::output::finding::{Finding, push_rows};
 use crate::output::printed::{push_last_line, push_reply_line};
 use crate::output::sink::Sink;
-use crate::robust::run::{Outcome, run_robust};
+use crate::robust::run::{Outcome, run_robust_before};
 use crate::run::write_end;
+use crate::witness::{NoWitness, Witness};
 use prog_tree::{Draft, TableDecl};
 use robust_cert::RobustSet;
 use std::alloc::{AllocError, Global};
@@ -61,11 +62,12 @@ fn list_outcome(
 
 // Adds the lines of a script, and the order. Where memory runs out, some first lines before that
 // were added.
-fn push_lines(
+fn push_lines<W: Witness>(
     alloc: Global,
     set: &RobustSet,
     script: Script,
     out: &mut String,
+    witness: &mut W,
 ) -> Result<(), AllocError>
     ensures ok { OnOk result (AddsRun (draft_tree set.now) script Finding.Order
         (string_bytes out.old) (string_bytes out.new)) }
@@ -73,16 +75,17 @@ fn push_lines(
         (string_bytes out.old) (string_bytes out.new)) }
 {
     let Script { rows, events } = script;
-    let outcome = run_robust(alloc, set, rows, events.as_slice())?;
+    let outcome = run_robust_before(alloc, set, rows, events.as_slice(), witness)?;
     list_outcome(set.set().draft(), events.as_slice(), &outcome, out)
 }
 
 // Reads all of a source as a script, runs it, and adds its lines.
-fn run_source<S: Source>(
+fn run_source<S: Source, W: Witness>(
     alloc: Global,
     set: &RobustSet,
     source: &mut S,
     out: &mut String,
+    witness: &mut W,
 ) -> Result<Finding, ScriptFault>
     requires { string_bytes out.old ≡ [] }
     ensures run { S.has_failed source.new ≡ false
@@ -93,8 +96,27 @@ fn run_source<S: Source>(
     ensures order { IfOk result (λ finding. finding ≡ Finding.Order) }
 {
     let script = read_script(alloc, set.set(), source)?;
-    push_lines(alloc, set, script, out)?;
+    push_lines(alloc, set, script, out, witness)?;
     Ok(Finding::Order)
+}
+
+/// As `run_robust_script`, before a witness, which is told each reply.
+pub fn run_robust_script_before<S: Source, K: Sink, W: Witness>(
+    alloc: Global,
+    set: &RobustSet,
+    source: &mut S,
+    sink: &mut K,
+    witness: &mut W,
+) -> Result<Finding, ScriptFault>
+    ensures run { WritesOr (Err ScriptFault.WriteFault)
+        (IsOrderedReply (draft_tree set.now) (S.left source.old) (S.has_failed source.new))
+        (K.has_failed sink.new) (K.taken sink.old) (K.taken sink.new) result }
+    ensures reads { S.pulls source.new ≤ S.pulls source.old + MAX_READS }
+    ensures order { IfOk result (λ finding. finding ≡ Finding.Order) }
+{
+    let mut lines = String::new(alloc);
+    let ended = run_source(alloc, set, source, &mut lines, witness);
+    write_end(sink, lines.as_bytes(), ended)
 }
 
 /// As `run_script`, on a set that a certificate was accepted for: the last line is an order.
@@ -110,7 +132,5 @@ pub fn run_robust_script<S: Source, K: Sink>(
     ensures reads { S.pulls source.new ≤ S.pulls source.old + MAX_READS }
     ensures order { IfOk result (λ finding. finding ≡ Finding.Order) }
 {
-    let mut lines = String::new(alloc);
-    let ended = run_source(alloc, set, source, &mut lines);
-    write_end(sink, lines.as_bytes(), ended)
+    run_robust_script_before(alloc, set, source, sink, &mut NoWitness)
 }

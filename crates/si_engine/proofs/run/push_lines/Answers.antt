@@ -7,7 +7,7 @@ use Rattle.si_engine.proofs.RunLaws.{first_events, after_is, all_lines, first_ro
 use Rattle.si_engine.proofs.run.push_lines.Goals as goal
 
 pub returns-in_err-run_events-clause-err : goal.returns-in_err-run_events-clause-err
-returns-in_err-run_events-clause-err c =
+returns-in_err-run_events-clause-err g c =
     let exit = err_from_is_err_and c.from_residual-in_err-run_events.result c.from_residual-in_err-run_events.ensures.1 in
     let engine = c.in_ok-engine.engine in
     rw (exit.1)
@@ -17,7 +17,7 @@ returns-in_err-run_events-clause-err c =
     (string_bytes c.args.out.now) (string_bytes c.run_events.new.out) c.in_err-run_events.ensures.err))
 
 pub returns-clause-ok : goal.returns-clause-ok
-returns-clause-ok c =
+returns-clause-ok g c =
     let engine = c.in_ok-engine.engine in
     let ran = c.in_ok-run_events.ensures in
     let opening = ap (λ e. e.opening) c.in_ok-engine.ensures in
@@ -27,15 +27,15 @@ returns-clause-ok c =
     let same = c.book.ensures.set ∙ (ran.over.0 ∙ (ap (λ e. e.set) c.in_ok-engine.ensures ∙ sym c.draft-draft.ensures.same)) in
     let history =
     c.book.ensures.history ∙ ap (λ m. m.history) (ran.after ∙ after_is set c.args.script engine.opening c.as_slice.result.now engine.machine opening c.as_slice.ensures machine) in
-    subst (λ d. IfOk c.push_findings.result (λ finding. AddsRun (draft_tree d) c.args.script finding (string_bytes c.args.out.now) (string_bytes c.push_findings.new.out))) c.draft-draft.ensures.same
-    (if_ok c.push_findings.result
+    subst (λ d. IfOk c.push_findings_before.result (λ finding. AddsRun (draft_tree d) c.args.script finding (string_bytes c.args.out.now) (string_bytes c.push_findings_before.new.out))) c.draft-draft.ensures.same
+    (if_ok c.push_findings_before.result
     (all_lines set c.args.script engine.opening c.as_slice.result.now engine.machine opening c.as_slice.ensures machine
-    (string_bytes c.args.out.now) (string_bytes c.run_events.new.out) (string_bytes c.push_findings.new.out)
+    (string_bytes c.args.out.now) (string_bytes c.run_events.new.out) (string_bytes c.push_findings_before.new.out)
     (draft_tree book.set) book.opening (history_of book.rows) (ap draft_tree same) (c.book.ensures.opening ∙ (ran.over.1 ∙ opening)) history ran.ok)
-    c.push_findings.ensures.ok)
+    c.push_findings_before.ensures.ok)
 
 pub returns-clause-err : goal.returns-clause-err
-returns-clause-err c =
+returns-clause-err g c =
     let engine = c.in_ok-engine.engine in
     let ran = c.in_ok-run_events.ensures in
     let opening = ap (λ e. e.opening) c.in_ok-engine.ensures in
@@ -45,9 +45,9 @@ returns-clause-err c =
     let same = c.book.ensures.set ∙ (ran.over.0 ∙ (ap (λ e. e.set) c.in_ok-engine.ensures ∙ sym c.draft-draft.ensures.same)) in
     let history =
     c.book.ensures.history ∙ ap (λ m. m.history) (ran.after ∙ after_is set c.args.script engine.opening c.as_slice.result.now engine.machine opening c.as_slice.ensures machine) in
-    subst (λ d. OnErr c.push_findings.result (AddsFirst (run_lines (draft_tree d) c.args.script) (string_bytes c.args.out.now) (string_bytes c.push_findings.new.out))) c.draft-draft.ensures.same
-    (on_err c.push_findings.result
+    subst (λ d. OnErr c.push_findings_before.result (AddsFirst (run_lines (draft_tree d) c.args.script) (string_bytes c.args.out.now) (string_bytes c.push_findings_before.new.out))) c.draft-draft.ensures.same
+    (on_err c.push_findings_before.result
     (first_rows set c.args.script engine.opening c.as_slice.result.now engine.machine opening c.as_slice.ensures machine
-    (string_bytes c.args.out.now) (string_bytes c.run_events.new.out) (string_bytes c.push_findings.new.out)
+    (string_bytes c.args.out.now) (string_bytes c.run_events.new.out) (string_bytes c.push_findings_before.new.out)
     (draft_tree book.set) book.opening (history_of book.rows) (ap draft_tree same) (c.book.ensures.opening ∙ (ran.over.1 ∙ opening)) history ran.ok)
-    c.push_findings.ensures.err)
+    c.push_findings_before.ensures.err)

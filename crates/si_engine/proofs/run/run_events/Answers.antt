@@ -9,7 +9,7 @@ use Rattle.si_engine.proofs.RunLaws.{first_line, first_after}
 use Rattle.si_engine.proofs.run.run_events.Goals as goal
 
 pub loop-event-preserved : goal.loop-event-preserved
-loop-event-preserved c =
+loop-event-preserved g c =
     let before = c.loop-event.invariant in
     let set = draft_tree c.args.set.now in
     let opening = c.args.engine.now.opening in

@@ -6,7 +6,7 @@ use Rattle.si_engine.proofs.run.run_events.Given as goal
 
 -- the lines so far, and those of the events that are left, are all lines
 abbrev pub invariant-loop-event : goal.invariant-loop-event
-invariant-loop-event l = record {
+invariant-loop-event g l = record {
   same_set : l.engine.set ≡ l.fn.engine.set;
   same_opening : l.engine.opening ≡ l.fn.engine.opening;
   after : machine_after (draft_tree l.set) l.fn.engine.opening (drop l.event-index l.events) l.engine.machine

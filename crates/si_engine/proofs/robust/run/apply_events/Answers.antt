@@ -8,7 +8,7 @@ use Rattle.si_engine.proofs.RunLaws.{first_after, first_reply, first_commit}
 use Rattle.si_engine.proofs.robust.run.apply_events.Goals as goal
 
 pub loop-event-preserved : goal.loop-event-preserved
-loop-event-preserved c =
+loop-event-preserved g c =
     let before = c.loop-event.invariant in
     let set = draft_tree c.args.engine.now.set in
     let opening = c.args.engine.now.opening in

@@ -4,7 +4,7 @@ use Rattle.si_engine.proofs.RunLaws.{on_ok, on_err}
 use Rattle.si_engine.proofs.robust.script.push_lines.Goals as goal
 
 pub returns-clause-ok : goal.returns-clause-ok
-returns-clause-ok c =
+returns-clause-ok g c =
     let same = c.draft.ensures.same ∙ c.set.ensures.same in
     let ran = c.in_ok-outcome.ensures in
     on_ok c.list_outcome.result
@@ -13,7 +13,7 @@ returns-clause-ok c =
     c.list_outcome.ensures.ok
 
 pub returns-clause-err : goal.returns-clause-err
-returns-clause-err c =
+returns-clause-err g c =
     let same = c.draft.ensures.same ∙ c.set.ensures.same in
     let ran = c.in_ok-outcome.ensures in
     on_err c.list_outcome.result

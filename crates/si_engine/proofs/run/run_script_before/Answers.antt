@@ -3,7 +3,7 @@ use Rattle.prog_tree.specs.Tree.{draft_tree}
 use Rattle.si_engine.specs.Runs.{IsRunReply}
 use Rattle.si_engine.specs.declared.input.script_fault.ScriptFault.TheVariants as fault
 use Rattle.si_engine.proofs.RunLaws.{run_replies, writes_just}
-use Rattle.si_engine.proofs.run.run_script.Goals as goal
+use Rattle.si_engine.proofs.run.run_script_before.Goals as goal
 
 pub returns-clause-run : goal.returns-clause-run
 returns-clause-run g c =

@@ -4,7 +4,7 @@ use Rattle.si_engine.specs.Runs.{IsOrderedReply}
 use Rattle.si_engine.specs.declared.input.script_fault.ScriptFault.TheVariants as fault
 use Rattle.si_engine.proofs.OutcomeLaws.{found_stays}
 use Rattle.si_engine.proofs.RunLaws.{run_replies, writes_just}
-use Rattle.si_engine.proofs.robust.script.run_robust_script.Goals as goal
+use Rattle.si_engine.proofs.robust.script.run_robust_script_before.Goals as goal
 
 pub returns-clause-run : goal.returns-clause-run
 returns-clause-run g c =
