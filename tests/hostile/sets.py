@@ -6,7 +6,7 @@ PLAIN = ("get", "get", "need", "count", "sum", "lacks", "insert", "put", "put", 
 WITH_EACH = (*PLAIN, "each", "each", "each", "each")
 MOST_DEEP = 2  # of branches and `each` in one another
 MOST_STEPS = 1000  # of one line; each instance ends within so many
-MANY_STEPS = 200  # of one line of a script whose steps that do nothing are told, which is done of 10,000 events at most
+MANY_STEPS = 200  # of one line of a script whose steps that do nothing are told
 
 
 class Maker:

@@ -69,6 +69,7 @@ class History:
 REASONS = (
     ("saw", re.compile(r"changed (\S+\[.*\]), and commit (\d+) saw it")),
     ("missed", re.compile(r"looked at (\S+\[.*\]), and missed what commit (\d+) changed there")),
+    ("missed", re.compile(r"looked at \S+\[.*\], and missed what commit \d+ changed at (\S+\[.*\])")),
     ("both", re.compile(r"changed (\S+\[.*\]) before commit (\d+) did")),
 )
 

@@ -7,18 +7,25 @@ abbrev pub heading : List ℕ
 heading =
     codes "no serial order: each of these commits has to stand before the next, and the last before the first\n"
 
--- the line begins with the commit that it is about
-abbrev pub BeginsWithCommit : (number : ℕ) → (line : List ℕ) → Type 0
-BeginsWithCommit number line =
-    (sentence : List ℕ) × (line ≡ codes "commit " ++ (decimal number ++ (sentence ++ codes "\n")))
+-- the line begins with the commit that it is about, and names the one that stands next
+abbrev pub IsLineOf : (number next : ℕ) → (line : List ℕ) → Type 0
+IsLineOf number next line =
+    (ahead behind : List ℕ)
+    × (line ≡ codes "commit " ++ (decimal number ++ (ahead ++ (codes " commit " ++ (decimal next ++ (behind ++ codes "\n"))))))
 
--- a line for each commit, in their order
-abbrev pub HasLines : (numbers : List ℕ) → (lines : List ℕ) → Type 0
-HasLines [] lines = lines ≡ []
-HasLines (number ∷ numbers) lines =
-    (line rest : List ℕ) × BeginsWithCommit number line × HasLines numbers rest × (lines ≡ line ++ rest)
+-- the first of some numbers, or another where there is none
+abbrev pub first_or : (numbers : List ℕ) → (other : ℕ) → ℕ
+first_or [] other = other
+first_or (number ∷ numbers) other = number
 
--- the words have a line for each commit of a cycle, along it, and no more behind a heading
+-- a line for each commit, in their order; the last of them stands before the commit `end`
+abbrev pub HasLines : (numbers : List ℕ) → (end : ℕ) → (lines : List ℕ) → Type 0
+HasLines [] end lines = lines ≡ []
+HasLines (number ∷ numbers) end lines =
+    (line rest : List ℕ) × IsLineOf number (first_or numbers end) line × HasLines numbers end rest × (lines ≡ line ++ rest)
+
+-- the words have a line for each commit of a cycle, along it, and no more behind a heading; the last stands before the
+-- first
 abbrev pub ShowsCycle : (numbers : List ℕ) → (words : List ℕ) → Type 0
 ShowsCycle numbers words =
-    (lines : List ℕ) × HasLines numbers lines × (words ≡ heading ++ lines)
+    (lines : List ℕ) × HasLines numbers (first_or numbers 0) lines × (words ≡ heading ++ lines)

@@ -1,4 +1,4 @@
 pub mod Cycles
-pub mod Deeds
 pub mod InInput
+pub mod LostJobs
 pub mod PartPointing

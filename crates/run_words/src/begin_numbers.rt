@@ -1,5 +1,6 @@
 //! The numbers of commits at which instances can begin.
 
+use crate::event_lines::EventLines;
 use history_book::{BeginFault, Book};
 use std::alloc::{AllocError, Global};
 
@@ -14,6 +15,15 @@ pub struct Numbers {
     vacuum: Option<usize>,
 }
 
+/// The last vacuum that gave a number up.
+#[derive(Clone, Copy)]
+pub struct Vacuums {
+    floor: u64,
+    // The number of its event.
+    last: Option<usize>,
+    lines: EventLines,
+}
+
 // The least number at which an instance can begin, which a begin of the first program at 0 is told.
 fn floor_of(book: &Book<'_>) -> u64 {
     let programs = &book.set().draft().programs;
@@ -25,23 +35,41 @@ fn floor_of(book: &Book<'_>) -> u64 {
     }
 }
 
-impl Numbers {
+impl Vacuums {
+    /// There was none.
     pub fn new() -> Self {
-        Numbers {
+        Vacuums {
             floor: 0,
-            commits: 0,
-            vacuum: None,
+            last: None,
+            lines: EventLines::new(),
         }
     }
 
-    /// Looks at a book behind the event of a line. Vacuums alone give numbers up.
-    pub fn look(&mut self, book: &Book<'_>, line: usize) {
+    /// Looks at a book behind a vacuum, the event of a number. Vacuums alone give numbers up.
+    pub fn look(&mut self, book: &Book<'_>, event: usize) {
         let floor = floor_of(book);
         if floor > self.floor {
-            self.vacuum = Some(line);
+            self.last = Some(event);
         }
         self.floor = floor;
-        self.commits = book.commits();
+    }
+
+    /// At which numbers instances can begin in a book, behind the last vacuum.
+    pub fn numbers(
+        &mut self,
+        alloc: Global,
+        part: &[u8],
+        book: &Book<'_>,
+    ) -> Result<Numbers, AllocError> {
+        let vacuum = match self.last {
+            Some(event) => Some(self.lines.line_of(alloc, part, event)?),
+            None => None,
+        };
+        Ok(Numbers {
+            floor: self.floor,
+            commits: book.commits(),
+            vacuum,
+        })
     }
 }
 

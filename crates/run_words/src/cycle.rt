@@ -1,11 +1,9 @@
 //! The cycle that the commits of a book form, in words.
 ghost use Rattle.std.specs.Prelude.{◌≡◌, ◌++◌, List, ℕ, IfOk, OnOk, string_bytes};
-ghost use Rattle.run_words.specs.Cycles.{BeginsWithCommit, HasLines, ShowsCycle};
+ghost use Rattle.run_words.specs.Cycles.{first_or, HasLines, IsLineOf, ShowsCycle};
 
-use crate::reasons::{Reason, reason_between};
-use crate::walk::{Doings, doings_of};
 use fault_words::{cell_text, program_name, region_text};
-use history_book::{Book, HistoryRow};
+use history_book::{Book, HistoryRow, Reason};
 use prog_check::ProgramSet;
 use std::alloc::{AllocError, Global};
 
@@ -22,75 +20,94 @@ fn call_text(alloc: Global, set: &ProgramSet, row: &HistoryRow) -> Result<String
     Ok(text)
 }
 
+// The words of a reason: what stands ahead of the second commit's number, and what stands behind it.
+struct Words {
+    ahead: String,
+    behind: String,
+}
+
 // What the first of two commits and the second did to a cell.
-fn reason_text(
+fn reason_words(
     alloc: Global,
     set: &ProgramSet,
-    second: usize,
-    reason: Reason,
-) -> Result<String, AllocError> {
+    reason: Option<Reason>,
+) -> Result<Words, AllocError> {
     match reason {
-        Reason::Both(cell) => {
+        Some(Reason::Both(cell)) => {
             let cell = cell_text(alloc, set, cell)?;
-            format!(in alloc; "changed {cell} before commit {second} did")
+            Ok(Words {
+                ahead: format!(in alloc; "changed {cell} before")?,
+                behind: format!(in alloc; " did")?,
+            })
         }
-        Reason::Saw(cell) => {
+        Some(Reason::Saw(cell)) => {
             let cell = cell_text(alloc, set, cell)?;
-            format!(in alloc; "changed {cell}, and commit {second} saw it")
+            Ok(Words {
+                ahead: format!(in alloc; "changed {cell}, and")?,
+                behind: format!(in alloc; " saw it")?,
+            })
         }
-        Reason::Missed(cell) => {
+        Some(Reason::Missed(cell)) => {
             let cell = cell_text(alloc, set, cell)?;
-            format!(in alloc; "looked at {cell}, and missed what commit {second} changed there")
+            Ok(Words {
+                ahead: format!(in alloc; "looked at {cell}, and missed what")?,
+                behind: format!(in alloc; " changed there")?,
+            })
         }
-        Reason::Overlooked(region, cell) => {
+        Some(Reason::MissedIn(region, cell)) => {
             let region = region_text(alloc, set, region)?;
             let cell = cell_text(alloc, set, cell)?;
-            format!(in alloc; "listed {region}, and missed what commit {second} changed at {cell}")
+            Ok(Words {
+                ahead: format!(in alloc; "looked at {region}, and missed what")?,
+                behind: format!(in alloc; " changed at {cell}")?,
+            })
         }
+        None => Ok(Words {
+            ahead: format!(in alloc; "stands before")?,
+            behind: String::new(alloc),
+        }),
     }
 }
 
-// Why a commit has to stand before another.
-fn why(
+// What is said of two commits, of which the first has to stand before the second.
+fn of_commits(
     alloc: Global,
-    set: &ProgramSet,
-    doings: &Doings,
     first: usize,
+    ahead: &str,
     second: usize,
-) -> Result<String, AllocError> {
-    let (Some(one), Some(other)) = (doings.of(first), doings.of(second)) else {
-        return format!(in alloc; "stands before commit {second}");
-    };
-    match reason_between(one, other) {
-        Some(reason) => reason_text(alloc, set, second, reason),
-        None => format!(in alloc; "stands before commit {second}"),
-    }
-}
-
-// What is said of a commit.
-fn of_commit(alloc: Global, number: usize, sentence: &str) -> Result<String, AllocError>
-    ensures { IfOk result (λ line. BeginsWithCommit number (string_bytes line)) }
+    behind: &str,
+) -> Result<String, AllocError>
+    ensures { IfOk result (λ line. IsLineOf first second (string_bytes line)) }
 {
-    format!(in alloc; "commit {number}{sentence}\n")
+    format!(in alloc; "commit {first}{ahead} commit {second}{behind}\n")
 }
 
 // The line of a commit: its instance, and why it has to stand before the next one.
 fn line_of(
     alloc: Global,
     book: &Book<'_>,
-    doings: &Doings,
     first: usize,
     second: usize,
 ) -> Result<String, AllocError>
-    ensures { IfOk result (λ line. BeginsWithCommit first (string_bytes line)) }
+    ensures { IfOk result (λ line. IsLineOf first second (string_bytes line)) }
 {
     let call = match book.nth_commit(u64::try_from(first).unwrap_or(0)) {
         Some(row) => call_text(alloc, book.set(), row)?,
         None => String::new(alloc),
     };
-    let why = why(alloc, book.set(), doings, first, second)?;
-    let sentence = format!(in alloc; ", `{call}`, {why}")?;
-    of_commit(alloc, first, &sentence)
+    let Words { ahead, behind } = reason_words(alloc, book.set(), book.reason(first, second))?;
+    let ahead = format!(in alloc; ", `{call}`, {ahead}")?;
+    of_commits(alloc, first, &ahead, second, &behind)
+}
+
+// The first of some commits, or another where there is none.
+fn first_or(commits: &[usize], other: usize) -> usize
+    ensures { result ≡ first_or commits.now other }
+{
+    match commits {
+        [first, ..] => *first,
+        [] => other,
+    }
 }
 
 // Adds the line of each commit of a cycle.
@@ -100,14 +117,13 @@ fn push_lines(
     cycle: &[usize],
     out: &mut String,
 ) -> Result<(), AllocError>
-    ensures { OnOk result ((lines : List ℕ) × HasLines cycle.now lines
+    ensures { OnOk result ((lines : List ℕ) × HasLines cycle.now (first_or cycle.now 0) lines
         × (string_bytes out.new ≡ string_bytes out.old ++ lines)) }
 {
-    let doings = doings_of(alloc, book, cycle)?;
+    let first = first_or(cycle, 0);
     for index in 0..cycle.len() {
-        let next = cycle.get(index + 1).or(cycle.first());
-        let next = next.copied().unwrap_or(0);
-        let line = line_of(alloc, book, &doings, cycle[index], next)?;
+        let next = first_or(&cycle[index + 1..], first);
+        let line = line_of(alloc, book, cycle[index], next)?;
         out.push_str(&line)?;
     }
     Ok(())

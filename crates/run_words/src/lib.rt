@@ -1,22 +1,25 @@
 //! What runs, audits and work have to say in words, for people: what is wrong with the parts of their input, with a line
-//! of a script, of a list of records or of a list of jobs, and with a record; and why commits have no serial order.
+//! of a script, of a list of records or of a list of jobs, and with a record; which jobs did not commit; and why commits
+//! have no serial order.
 #![tactic(auto)]
 
 mod begin_numbers;
 mod cycle;
+mod event_lines;
 mod forms;
 mod in_input;
+mod job_reasons;
 mod line_faults;
 mod line_reading;
+mod lost_jobs;
 mod part_faults;
-mod reasons;
 mod record_faults;
 mod refusals;
 mod replay;
-mod walk;
 
 pub use cycle::cycle_words;
 pub use line_faults::{PartKind, line_fault_words};
+pub use lost_jobs::{Told, lost_job_words};
 pub use part_faults::{extra_part_words, missing_part_words};
 pub use record_faults::record_words;
-pub use refusals::refused_words;
+pub use refusals::{Refusals, refused_words};

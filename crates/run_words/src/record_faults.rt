@@ -45,7 +45,8 @@ fn numbers_text(alloc: Global, numbers: &[i64]) -> Result<String, AllocError> {
     Ok(text)
 }
 
-fn cause_text(alloc: Global, set: &ProgramSet, cause: Cause) -> Result<String, AllocError> {
+/// Why an instance aborts.
+pub fn cause_text(alloc: Global, set: &ProgramSet, cause: Cause) -> Result<String, AllocError> {
     match cause {
         Cause::Asked => format!(in alloc; "by an `abort;`"),
         Cause::Missing(cell) => {

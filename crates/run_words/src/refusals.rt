@@ -1,19 +1,20 @@
 //! The lines of a script that do nothing, in words.
-ghost use Rattle.std.specs.Prelude.{◌≡◌, ◌++◌, List, ℕ, Some, IfOk, IfSome, OnOk, string_bytes};
+ghost use Rattle.std.specs.Prelude.{◌≡◌, ◌↔◌, ◌++◌, [], List, ℕ, Some, IsTrue, IfOk, IfSome, OnOk, string_bytes};
 ghost use Rattle.run_words.specs.PartPointing.{BeginsAtLine, Extends, PointsAtLineIn};
 
-use crate::begin_numbers::{Numbers, number_words};
+use crate::begin_numbers::{Numbers, Vacuums, number_words};
+use crate::event_lines::EventLines;
 use crate::in_input::point_in_part;
-use crate::line_reading::words_of;
 use crate::record_faults::counted;
 use fault_words::{parameter_count, program_name};
+use history_book::Book;
 use prog_check::ProgramSet;
-use si_engine::{Engine, Event, Reply, Script};
+use si_engine::{Event, Reply};
 use std::alloc::{AllocError, Global};
-use text_places::{line_at, line_front};
+use text_places::line_front;
 
-// Of a longer script nothing is told: its second run would take too long.
-const MAX_EVENTS: usize = 10_000;
+/// Why no instance begins where there are as many as there may be.
+pub const FULL: &str = "100000 instances have ended or are under way, the most";
 
 // So many lines are told.
 const MAX_TOLD: usize = 8;
@@ -37,9 +38,15 @@ struct Refused {
     refusal: Refusal,
 }
 
-// Those that are told, and how many more there are.
+/// The lines of a script that do nothing, as the run of it tells them: some first ones, and how many
+/// more there are.
 #[derive(Drop)]
-struct Refusals {
+pub struct Refusals {
+    alloc: Global,
+    // How many events were looked at.
+    events: usize,
+    lines: EventLines,
+    vacuums: Vacuums,
     told: Vec<Refused>,
     // The last line that was added, told or not.
     last: usize,
@@ -47,9 +54,65 @@ struct Refusals {
     // Lines that name an instance which does not begin.
     following: usize,
     more: usize,
+    // Memory ran out for them.
+    is_lost: bool,
+}
+
+fn refusal_of_instance(instance: usize, reply: &Reply) -> Option<Refusal> {
+    match reply {
+        Reply::NoSuchInstance => Some(Refusal::NoInstance(instance)),
+        Reply::NotReady => Some(Refusal::NotReady(instance)),
+        Reply::Ended => Some(Refusal::Ended(instance)),
+        _ => None,
+    }
+}
+
+fn refusal_of_begin(program: usize, given: usize, reply: &Reply) -> Option<Refusal> {
+    match reply {
+        Reply::WrongArguments => Some(Refusal::WrongArguments { program, given }),
+        Reply::Full => Some(Refusal::Full),
+        _ => None,
+    }
+}
+
+// Why an event that was answered by this does nothing, but for a begin at another number.
+fn refusal_of(event: &Event, reply: &Reply) -> Option<Refusal> {
+    match event {
+        Event::Begin { program, args } | Event::BeginAt { program, args, .. } => {
+            refusal_of_begin(*program, args.len(), reply)
+        }
+        Event::Step(instance) | Event::Commit(instance) | Event::Abort(instance) => {
+            refusal_of_instance(*instance, reply)
+        }
+        Event::Vacuum => None,
+    }
+}
+
+// The number at which an event asks an instance to begin, where none can begin there.
+fn refused_start(event: &Event, reply: &Reply) -> Option<u64> {
+    match (event, reply) {
+        (Event::BeginAt { start, .. }, Reply::TooOld { .. } | Reply::TooNew { .. }) => Some(*start),
+        _ => None,
+    }
 }
 
 impl Refusals {
+    /// Of no event yet.
+    pub fn new(alloc: Global) -> Self {
+        Refusals {
+            alloc,
+            events: 0,
+            lines: EventLines::new(),
+            vacuums: Vacuums::new(),
+            told: Vec::new(alloc),
+            last: 0,
+            is_begin_refused: false,
+            following: 0,
+            more: 0,
+            is_lost: false,
+        }
+    }
+
     // Adds a line, once.
     fn add(&mut self, line: usize, refusal: Refusal) -> Result<(), AllocError> {
         if line == self.last {
@@ -73,119 +136,57 @@ impl Refusals {
         self.told.push(Refused { line, refusal })?;
         Ok(())
     }
-}
 
-fn refusal_of_instance(instance: usize, reply: &Reply) -> Option<Refusal> {
-    match reply {
-        Reply::NoSuchInstance => Some(Refusal::NoInstance(instance)),
-        Reply::NotReady => Some(Refusal::NotReady(instance)),
-        Reply::Ended => Some(Refusal::Ended(instance)),
-        _ => None,
+    // Adds the line of the event of a number.
+    fn add_event(
+        &mut self,
+        part: &[u8],
+        number: usize,
+        refusal: Refusal,
+    ) -> Result<(), AllocError> {
+        let line = self.lines.line_of(self.alloc, part, number)?;
+        self.add(line, refusal)?;
+        Ok(())
     }
-}
 
-fn refusal_of_begin(program: usize, given: usize, reply: &Reply) -> Option<Refusal> {
-    match reply {
-        Reply::WrongArguments => Some(Refusal::WrongArguments { program, given }),
-        Reply::Full => Some(Refusal::Full),
-        _ => None,
-    }
-}
-
-// Why an event that was answered by this does nothing.
-fn refusal_of(event: &Event, reply: &Reply, numbers: Numbers) -> Option<Refusal> {
-    match event {
-        Event::Begin { program, args } => refusal_of_begin(*program, args.len(), reply),
-        Event::BeginAt {
-            start,
-            program,
-            args,
-        } => match reply {
-            Reply::TooOld { .. } | Reply::TooNew { .. } => Some(Refusal::OtherNumber {
-                start: *start,
-                numbers,
-            }),
-            _ => refusal_of_begin(*program, args.len(), reply),
-        },
-        Event::Step(instance) | Event::Commit(instance) | Event::Abort(instance) =>
-            refusal_of_instance(*instance, reply),
-        Event::Vacuum => None,
-    }
-}
-
-// How many events a line of a script is.
-fn event_count(alloc: Global, line: &[u8]) -> Result<usize, AllocError> {
-    let words = words_of(alloc, line)?;
-    match words.as_slice() {
-        ["step", _, times] => Ok(times.parse::<usize>().unwrap_or(1)),
-        [
-            "begin" | "begin-at" | "step" | "commit" | "abort" | "vacuum",
-            ..
-        ] => Ok(1),
-        _ => Ok(0),
-    }
-}
-
-fn begins_line(part: &[u8], place: usize) -> bool {
-    !matches!(part.get(..place), Some([.., last]) if *last != b'\n')
-}
-
-// The line of a place, without what ends it.
-fn whole_line(part: &[u8], place: usize) -> &[u8] {
-    match line_at(part, place) {
-        [rest @ .., b'\r'] => rest,
-        bytes => bytes,
-    }
-}
-
-fn push_times(lines: &mut Vec<usize>, line: usize, times: usize) -> Result<(), AllocError> {
-    for _event in 0..times {
-        lines.push(line)?;
-    }
-    Ok(())
-}
-
-// The line of each event of a script.
-fn lines_of_events(alloc: Global, part: &[u8]) -> Result<Vec<usize>, AllocError> {
-    let mut lines = Vec::new(alloc);
-    let mut line: usize = 0;
-    for place in 0..part.len() {
-        if begins_line(part, place) {
-            line = line.saturating_add(1);
-            let times = event_count(alloc, whole_line(part, place))?;
-            push_times(&mut lines, line, times)?;
+    // Adds the line of an event that does nothing.
+    fn note(
+        &mut self,
+        part: &[u8],
+        number: usize,
+        event: &Event,
+        reply: &Reply,
+        book: &Book<'_>,
+    ) -> Result<(), AllocError> {
+        if let Some(start) = refused_start(event, reply) {
+            let numbers = self.vacuums.numbers(self.alloc, part, book)?;
+            return self.add_event(part, number, Refusal::OtherNumber { start, numbers });
+        }
+        match refusal_of(event, reply) {
+            Some(refusal) => self.add_event(part, number, refusal),
+            None => Ok(()),
         }
     }
-    Ok(lines)
-}
 
-// Runs a script again, and keeps the lines that do nothing.
-fn refusals_of(
-    alloc: Global,
-    set: &ProgramSet,
-    part: &[u8],
-    script: Script,
-) -> Result<Refusals, AllocError> {
-    let Script { rows, events } = script;
-    let lines = lines_of_events(alloc, part)?;
-    let mut engine = Engine::open(alloc, set, rows)?;
-    let mut refusals = Refusals {
-        told: Vec::new(alloc),
-        last: 0,
-        is_begin_refused: false,
-        following: 0,
-        more: 0,
-    };
-    let mut numbers = Numbers::new();
-    for (index, event) in events.as_slice().iter().enumerate() {
-        let line = lines.get(index).copied().unwrap_or(0);
-        let reply = engine.apply(event)?;
-        numbers.look(engine.book(), line);
-        if let Some(refusal) = refusal_of(event, &reply, numbers) {
-            refusals.add(line, refusal)?;
+    /// Whether no line is told.
+    pub fn is_empty(&self) -> bool
+        ensures { IsTrue result ↔ (self.now.told.items ≡ []) }
+    {
+        self.told.is_empty()
+    }
+
+    /// Looks at the next event of the script that a part is, with its reply and the book behind it.
+    pub fn look(&mut self, part: &[u8], event: &Event, reply: &Reply, book: &Book<'_>) {
+        let number = self.events;
+        self.events = number.saturating_add(1);
+        if let Event::Vacuum = event {
+            self.vacuums.look(book, number);
+            return;
+        }
+        if !self.is_lost && self.note(part, number, event, reply, book).is_err() {
+            self.is_lost = true;
         }
     }
-    Ok(refusals)
 }
 
 // A program with its parameters.
@@ -204,20 +205,27 @@ fn signature(alloc: Global, set: &ProgramSet, program: usize) -> Result<String, 
     Ok(text)
 }
 
+/// That a program takes another number of arguments.
+pub fn wrong_arguments(
+    alloc: Global,
+    set: &ProgramSet,
+    program: usize,
+    given: usize,
+) -> Result<String, AllocError> {
+    let signature = signature(alloc, set, program)?;
+    let wanted = counted(alloc, parameter_count(set.draft(), program), "argument")?;
+    format!(in alloc; "`{signature}` takes {wanted}, and here it is given {given}")
+}
+
 // Why a line does nothing.
 fn sentence(alloc: Global, set: &ProgramSet, refusal: Refusal) -> Result<String, AllocError> {
     match refusal {
         Refusal::WrongArguments { program, given } => {
-            let signature = signature(alloc, set, program)?;
-            let wanted = counted(alloc, parameter_count(set.draft(), program), "argument")?;
-            format!(in alloc;
-                "`{signature}` takes {wanted}, and here it is given {given}; no instance begins"
-            )
+            let words = wrong_arguments(alloc, set, program, given)?;
+            format!(in alloc; "{words}; no instance begins")
         }
         Refusal::OtherNumber { start, numbers } => number_words(alloc, start, numbers),
-        Refusal::Full => format!(in alloc;
-            "100000 instances have ended or are under way, the most; no instance begins"
-        ),
+        Refusal::Full => format!(in alloc; "{FULL}; no instance begins"),
         Refusal::NoInstance(instance) => format!(in alloc; "no instance {instance} has begun"),
         Refusal::NotReady(instance) => format!(in alloc;
             "instance {instance} has more steps to do before it can commit"
@@ -280,22 +288,21 @@ fn counts(alloc: Global, refusals: &Refusals) -> Result<String, AllocError> {
     Ok(text)
 }
 
-/// Which lines of a script do nothing, and why, by one more run of it; nothing where each line does something, and of a
-/// script with more than 10,000 events.
+/// Which lines of a script do nothing, and why; nothing where each line does something, and where
+/// memory ran out for them.
 pub fn refused_words(
     alloc: Global,
     set: &ProgramSet,
     ahead: &[u8],
     part: &[u8],
-    script: Script,
+    refusals: &Refusals,
 ) -> Result<Option<String>, AllocError>
     ensures { IfOk result (λ said. IfSome said (λ words.
         BeginsAtLine ahead.now part.now (string_bytes words))) }
 {
-    if script.events.len() > MAX_EVENTS {
+    if refusals.is_lost {
         return Ok(None);
     }
-    let refusals = refusals_of(alloc, set, part, script)?;
     let [first, others @ ..] = refusals.told.as_slice() else {
         return Ok(None);
     };
@@ -303,7 +310,7 @@ pub fn refused_words(
         return Ok(None);
     };
     push_lines(alloc, set, ahead, part, others, &mut words)?;
-    let counts = counts(alloc, &refusals)?;
+    let counts = counts(alloc, refusals)?;
     words.push_str(&counts)?;
     Ok(Some(words))
 }

@@ -1,16 +1,16 @@
-//! Instances of a history run once more.
+//! Instances of records run once more.
 
 use history_book::{Book, HistoryRow};
 use prog_check::ProgramSet;
-use prog_tree::{Deed, Rows, Sequence};
+use prog_tree::{Rows, Sequence};
 use si_engine::{Engine, Event, Reply};
 use std::alloc::{AllocError, Global};
 
-// More than a run has steps: each gives a deed, and these are kept.
+// More than a run has steps: each gives a deed, which the run keeps.
 const MAX_STEPS: usize = usize::MAX;
 
-/// The begin of a row's instance.
-pub fn begin_of(alloc: Global, row: &HistoryRow) -> Result<Event, AllocError> {
+// The begin of a row's instance.
+fn begin_of(alloc: Global, row: &HistoryRow) -> Result<Event, AllocError> {
     let mut args = Sequence::new(alloc);
     for argument in row.args.as_slice() {
         args.push(*argument)?;
@@ -37,35 +37,15 @@ fn rows_behind(
     }
 }
 
-/// What an instance did, and how it ended.
-#[derive(Drop)]
-pub struct Ended {
-    pub deeds: Vec<Deed>,
-    pub ending: Option<Reply>,
-}
-
-/// Steps an instance of an engine to its end.
-pub fn run_to_end(
-    alloc: Global,
-    engine: &mut Engine<'_>,
-    instance: usize,
-) -> Result<Ended, AllocError> {
-    let mut deeds = Vec::new(alloc);
+// Steps an instance of an engine to its end, and tells how it ends.
+fn run_to_end(engine: &mut Engine<'_>, instance: usize) -> Result<Option<Reply>, AllocError> {
     for _turn in 0..MAX_STEPS {
         match engine.apply(&Event::Step(instance))? {
-            Reply::Did(deed) => deeds.push(deed)?,
-            reply => {
-                return Ok(Ended {
-                    deeds,
-                    ending: Some(reply),
-                });
-            }
+            Reply::Did(_) => {}
+            reply => return Ok(Some(reply)),
         }
     }
-    Ok(Ended {
-        deeds,
-        ending: None,
-    })
+    Ok(None)
 }
 
 /// How the instance of a record ends on the rows that the records which it saw leave; nothing where
@@ -83,6 +63,5 @@ pub fn ending(
     let mut engine = Engine::open(alloc, set, rows)?;
     let begin = begin_of(alloc, row)?;
     engine.apply(&begin)?;
-    let ended = run_to_end(alloc, &mut engine, 0)?;
-    Ok(ended.ending)
+    run_to_end(&mut engine, 0)
 }

@@ -19,7 +19,6 @@ use crate::sentences::kept::Kept;
 use crate::sentences::words::explain;
 use crate::status::Status;
 use si_engine::{MAX_READS, Sink, Source, read_whole, write_whole};
-use si_repair::Finding;
 use std::alloc::Global;
 use std::thread::Threads;
 
@@ -32,7 +31,7 @@ fn part_input<K: Sink>(
     mode: Mode,
     input: &[u8],
     sink: &mut K,
-    found: &mut Option<Finding>,
+    kept: &mut Kept,
 ) -> Result<Status, RunFault>
     requires short { length input.now ≤ input_limit }
     requires working { K.has_failed sink.old ≡ false }
@@ -46,9 +45,9 @@ fn part_input<K: Sink>(
     match mode {
         Mode::Check | Mode::Certify | Mode::Repair { .. } | Mode::Work { .. } => unreachable!(),
         Mode::Verify => verify_part(alloc, set, part, sink),
-        Mode::Run { robust: false } => run_part(alloc, &set, part, sink),
-        Mode::Run { robust: true } => run_robust_part(rt, set, part, sink, found),
-        Mode::Audit => audit_part(alloc, &set, part, sink),
+        Mode::Run { robust: false } => run_part(alloc, &set, part, sink, kept),
+        Mode::Run { robust: true } => run_robust_part(rt, set, part, sink, kept),
+        Mode::Audit => audit_part(alloc, &set, part, sink, kept),
     }
 }
 
@@ -58,7 +57,7 @@ fn answer_input<K: Sink>(
     mode: Mode,
     input: &[u8],
     sink: &mut K,
-    found: &mut Option<Finding>,
+    kept: &mut Kept,
 ) -> Result<Status, RunFault>
     requires short { length input.now ≤ input_limit }
     requires working { K.has_failed sink.old ≡ false }
@@ -68,11 +67,9 @@ fn answer_input<K: Sink>(
 {
     match mode {
         Mode::Check => check_input(rt.alloc(), input, sink),
-        Mode::Certify => certify_input(rt, input, sink, found),
-        Mode::Repair { promote } => repair_input(rt.alloc(), promote, input, sink),
-        Mode::Verify | Mode::Run { .. } | Mode::Audit => {
-            part_input(rt, mode, input, sink, found)
-        }
+        Mode::Certify => certify_input(rt, input, sink, &mut kept.found),
+        Mode::Repair { promote } => repair_input(rt.alloc(), promote, input, sink, kept),
+        Mode::Verify | Mode::Run { .. } | Mode::Audit => { part_input(rt, mode, input, sink, kept) }
         Mode::Work { .. } => unreachable!(),
     }
 }
@@ -93,7 +90,7 @@ fn answer_source<S: Source, K: Sink>(
     ensures reads { S.pulls source.new ≤ S.pulls source.old + MAX_READS }
 {
     let input = read_whole(rt.alloc(), source)?;
-    let ended = answer_input(rt, mode, &input, sink, &mut kept.found);
+    let ended = answer_input(rt, mode, &input, sink, kept);
     kept.input = input;
     ended
 }

@@ -11,10 +11,12 @@ ghost use Rattle.sirob.specs.declared.command_line.Mode.TheVariants as mode;
 
 use crate::lines::write_lines;
 use crate::run_fault::RunFault;
+use crate::sentences::kept::Kept;
+use crate::sentences::runs::Keeper;
 use crate::status::Status;
 use history_book::Book;
 use prog_check::ProgramSet;
-use si_engine::{Bytes, Records, Sink, push_findings, read_records};
+use si_engine::{Bytes, Records, Sink, push_findings_before, read_records};
 use std::alloc::Global;
 
 // The records that the bytes of a part are.
@@ -35,6 +37,7 @@ fn push_audit(
     set: &ProgramSet,
     part: &[u8],
     out: &mut String,
+    kept: &mut Kept,
 ) -> Result<Status, RunFault>
     requires short { length part.now ≤ input_limit }
     requires empty { string_bytes out.old ≡ [] }
@@ -42,23 +45,26 @@ fn push_audit(
 {
     let Records { rows, records } = records_in(alloc, set, part)?;
     let book = Book::audit(alloc, set, rows, records.into_vec())?;
-    let finding = push_findings(&book, out)?;
+    let mut keeper = Keeper { alloc, part, kept };
+    let finding = push_findings_before(&book, out, &mut keeper)?;
     Ok(Status::of(finding))
 }
 
 /// Audits the records that the bytes of a part are. Each row that is left writes a line, and last
-/// the order or the cycle; where memory runs out, some first lines were written.
+/// the order or the cycle; where memory runs out, some first lines were written. A cycle is kept in
+/// words.
 pub fn audit_part<K: Sink>(
     alloc: Global,
     set: &ProgramSet,
     part: &[u8],
     sink: &mut K,
+    kept: &mut Kept,
 ) -> Result<Status, RunFault>
     requires { length part.now ≤ input_limit }
     ensures { WritesOr (Err write_lost) (IsPartDone mode.Audit (draft_tree set.now) part.now)
         (K.has_failed sink.new) (K.taken sink.old) (K.taken sink.new) result }
 {
     let mut lines = String::new(alloc);
-    let ended = push_audit(alloc, set, part, &mut lines);
+    let ended = push_audit(alloc, set, part, &mut lines, kept);
     write_lines(sink, lines.as_bytes(), ended)
 }

@@ -12,6 +12,7 @@ ghost use Rattle.sirob.specs.declared.status.Status.TheVariants as status;
 use crate::input::read_text;
 use crate::lines::write_lines;
 use crate::run_fault::RunFault;
+use crate::sentences::kept::{Kept, Repair};
 use crate::status::Status;
 use prog_check::ProgramSet;
 use prog_text::print;
@@ -20,46 +21,60 @@ use si_repair::{materialise, plan, promote};
 use std::alloc::Global;
 
 // The set as its plan repairs it.
-fn repair_set(alloc: Global, promoting: bool, set: &ProgramSet) -> Result<ProgramSet, RunFault>
-    ensures ok { IfOk result (λ new. IsRepaired promoting (draft_tree set.now) (draft_tree new)) }
+fn repair_set(alloc: Global, promoting: bool, set: &ProgramSet) -> Result<Repair, RunFault>
+    ensures ok { IfOk result (λ repair.
+        IsRepaired promoting (draft_tree set.now) (draft_tree repair.repaired)) }
     ensures err { IfErr result (λ fault. is_memory fault ≡ false
         → IsUnrepairedBy promoting (draft_tree set.now) fault) }
 {
     let plan = plan(alloc, set)?;
     if promoting {
         let promoted = promote(alloc, set, &plan)?;
-        return Ok(promoted);
+        return Ok(Repair {
+            plan,
+            repaired: promoted,
+        });
     }
     let materialised = materialise(alloc, set, &plan)?;
-    Ok(materialised)
+    Ok(Repair {
+        plan,
+        repaired: materialised,
+    })
 }
 
-// The canonical text of the set that an input spells, repaired.
-fn repaired_text(alloc: Global, promoting: bool, input: &[u8]) -> Result<Vec<u8>, RunFault>
+// The canonical text of the set that an input spells, repaired. The repair is kept.
+fn repaired_text(
+    alloc: Global,
+    promoting: bool,
+    input: &[u8],
+    kept: &mut Option<Repair>,
+) -> Result<Vec<u8>, RunFault>
     requires { length input.now ≤ input_limit }
     ensures ok { IfOk result
         (λ text. Gives (mode.Repair promoting) input.now text.items status.Done) }
     ensures err { IfErr result (λ fault. IsStop (mode.Repair promoting) input.now fault []) }
 {
     let set = read_text(alloc, input)?;
-    let repaired = repair_set(alloc, promoting, &set)?;
-    let text = print(alloc, repaired.draft())?;
+    let repair = repair_set(alloc, promoting, &set)?;
+    let text = print(alloc, repair.repaired.draft())?;
+    *kept = Some(repair);
     Ok(text)
 }
 
 /// Writes the canonical text of the set that an input spells, repaired: by the rows that its
-/// programs read, or by tables of their own.
+/// programs read, or by tables of their own. The repair is kept.
 pub fn repair_input<K: Sink>(
     alloc: Global,
     promoting: bool,
     input: &[u8],
     sink: &mut K,
+    kept: &mut Kept,
 ) -> Result<Status, RunFault>
     requires short { length input.now ≤ input_limit }
     requires working { K.has_failed sink.old ≡ false }
     ensures { WritesOr (Err write_lost) (IsInputDone (mode.Repair promoting) input.now)
         (K.has_failed sink.new) (K.taken sink.old) (K.taken sink.new) result }
 {
-    let text = repaired_text(alloc, promoting, input)?;
+    let text = repaired_text(alloc, promoting, input, &mut kept.repair)?;
     write_lines(sink, &text, Ok(Status::Done))
 }

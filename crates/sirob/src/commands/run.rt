@@ -10,27 +10,31 @@ ghost use Rattle.sirob.specs.declared.command_line.Mode.TheVariants as mode;
 use crate::commands::robust::{Verified, assess};
 use crate::lines::write_lines;
 use crate::run_fault::RunFault;
+use crate::sentences::kept::Kept;
+use crate::sentences::runs::Keeper;
 use crate::status::Status;
 use prog_check::ProgramSet;
 use robust_cert::RobustSet;
-use si_engine::{Bytes, Sink, run_robust_script, run_script};
-use si_repair::Finding;
+use si_engine::{Bytes, Sink, run_robust_script_before, run_script_before};
 use std::alloc::Global;
 use std::thread::Threads;
 
 /// Runs the script that the bytes of a part are. Each event writes a line, then each row, and last
-/// the order or the cycle; where memory runs out, some first lines were written.
+/// the order or the cycle; where memory runs out, some first lines were written. What there is to
+/// say of it is kept.
 pub fn run_part<K: Sink>(
     alloc: Global,
     set: &ProgramSet,
     part: &[u8],
     sink: &mut K,
+    kept: &mut Kept,
 ) -> Result<Status, RunFault>
     requires { length part.now ≤ input_limit }
     ensures { WritesOr (Err write_lost) (IsPartDone (mode.Run false) (draft_tree set.now) part.now)
         (K.has_failed sink.new) (K.taken sink.old) (K.taken sink.new) result }
 {
-    match run_script(alloc, set, &mut Bytes::new(part), sink) {
+    let mut keeper = Keeper { alloc, part, kept };
+    match run_script_before(alloc, set, &mut Bytes::new(part), sink, &mut keeper) {
         Ok(finding) => Ok(Status::of(finding)),
         Err(fault) => Err(RunFault::Script(fault)),
     }
@@ -42,13 +46,15 @@ fn run_verified<K: Sink>(
     set: &RobustSet,
     part: &[u8],
     sink: &mut K,
+    kept: &mut Kept,
 ) -> Result<Status, RunFault>
     requires short { length part.now ≤ input_limit }
     requires robust { IsRobust (draft_tree set.now) }
     ensures { WritesOr (Err write_lost) (IsPartDone (mode.Run true) (draft_tree set.now) part.now)
         (K.has_failed sink.new) (K.taken sink.old) (K.taken sink.new) result }
 {
-    match run_robust_script(alloc, set, &mut Bytes::new(part), sink) {
+    let mut keeper = Keeper { alloc, part, kept };
+    match run_robust_script_before(alloc, set, &mut Bytes::new(part), sink, &mut keeper) {
         Ok(finding) => Ok(Status::of(finding)),
         Err(fault) => Err(RunFault::Script(fault)),
     }
@@ -60,15 +66,15 @@ pub fn run_robust_part<K: Sink>(
     set: ProgramSet,
     part: &[u8],
     sink: &mut K,
-    found: &mut Option<Finding>,
+    kept: &mut Kept,
 ) -> Result<Status, RunFault>
     requires short { length part.now ≤ input_limit }
     requires working { K.has_failed sink.old ≡ false }
     ensures { WritesOr (Err write_lost) (IsPartDone (mode.Run true) (draft_tree set) part.now)
         (K.has_failed sink.new) (K.taken sink.old) (K.taken sink.new) result }
 {
-    match assess(rt, set, found)? {
-        Verified::Robust(set) => run_verified(rt.alloc(), &set, part, sink),
+    match assess(rt, set, &mut kept.found)? {
+        Verified::Robust(set) => run_verified(rt.alloc(), &set, part, sink, kept),
         Verified::Refused(text) => {
             write_lines(sink, text.as_bytes(), Ok(Status::Unserializable))
         }

@@ -19,6 +19,7 @@ use crate::run_fault::RunFault;
 use crate::status::Status;
 use history_book::Book;
 use prog_check::ProgramSet;
+use prog_tree::Sequence;
 use robust_cert::RobustSet;
 use si_engine::{Bytes, Sink, push_rows};
 use si_repair::Finding;
@@ -122,17 +123,24 @@ fn jobs_in(alloc: Global, set: &ProgramSet, part: &[u8]) -> Result<JobList, RunF
     Ok(list)
 }
 
+// What came of jobs, and the text that says so.
+#[derive(Drop)]
+struct Done {
+    text: String,
+    outcomes: Sequence<JobOutcome>,
+}
+
 // What came of the jobs that the bytes of a part are, on a set that was found robust.
 fn work_verified<R: AllocGlobal + Eprint + Clock + Watched + Threads + Wait + Sync>(
     rt: &R,
     workers: u8,
     set: &RobustSet,
     part: &[u8],
-) -> Result<String, RunFault>
+) -> Result<Done, RunFault>
     requires short { length part.now ≤ input_limit }
     requires robust { IsRobust (draft_tree set.now) }
-    ensures ok { IfOk result (λ text. GivesWork workers (draft_tree set.now) part.now
-        (string_bytes text)) }
+    ensures ok { IfOk result (λ done. GivesWork workers (draft_tree set.now) part.now
+        (string_bytes done.text)) }
     ensures err { IfErr result (λ fault. is_memory fault ≡ false
         → IsRefusedPart (mode.Work workers) (draft_tree set.now) part.now fault) }
 {
@@ -149,11 +157,11 @@ fn work_verified<R: AllocGlobal + Eprint + Clock + Watched + Threads + Wait + Sy
         &gate,
     )?;
     let text = work_text(alloc, outcomes.as_slice(), &book)?;
-    Ok(text)
+    Ok(Done { text, outcomes })
 }
 
 /// Does the jobs that the bytes of a part are, where the set is robust, and writes what came of
-/// them; else writes its refusal, and keeps what refuses it.
+/// them; else writes its refusal, and keeps what refuses it. It keeps what came of each job too.
 pub fn work_part<R: AllocGlobal + Eprint + Clock + Watched + Threads + Wait + Sync, K: Sink>(
     rt: &R,
     workers: u8,
@@ -161,6 +169,7 @@ pub fn work_part<R: AllocGlobal + Eprint + Clock + Watched + Threads + Wait + Sy
     part: &[u8],
     sink: &mut K,
     found: &mut Option<Finding>,
+    came: &mut Sequence<JobOutcome>,
 ) -> Result<Status, RunFault>
     requires short { length part.now ≤ input_limit }
     requires working { K.has_failed sink.old ≡ false }
@@ -169,7 +178,8 @@ pub fn work_part<R: AllocGlobal + Eprint + Clock + Watched + Threads + Wait + Sy
 {
     match assess(rt, set, found)? {
         Verified::Robust(set) => {
-            let text = work_verified(rt, workers, &set, part)?;
+            let Done { text, outcomes } = work_verified(rt, workers, &set, part)?;
+            *came = outcomes;
             write_lines(sink, text.as_bytes(), Ok(Status::Done))
         }
         Verified::Refused(text) => {

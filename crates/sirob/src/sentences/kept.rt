@@ -1,13 +1,34 @@
 //! What a command keeps, to say something of it behind its answer.
 
-use si_repair::Finding;
+use prog_check::ProgramSet;
+use prog_tree::Sequence;
+use run_words::Refusals;
+use si_repair::{Finding, Plan};
+use si_workers::JobOutcome;
 use std::alloc::Global;
 
-/// The input, and what an analysis found of its set, where one was made.
+/// A set as its plan repairs it, and that plan.
+#[derive(Drop)]
+pub struct Repair {
+    pub plan: Plan,
+    pub repaired: ProgramSet,
+}
+
+/// The input, and what a command found of it.
 #[derive(Drop)]
 pub struct Kept {
     pub input: Vec<u8>,
+    /// What an analysis found of the set, where one was made.
     pub found: Option<Finding>,
+    /// The repair of the set, where one was made.
+    pub repair: Option<Repair>,
+    /// The cycle in which the commits of a run or an audit end, in words; none where they have a
+    /// serial order, and where memory ran out for the words.
+    pub cycle: Option<String>,
+    /// The lines of a script that do nothing.
+    pub refusals: Refusals,
+    /// What came of jobs.
+    pub outcomes: Sequence<JobOutcome>,
 }
 
 impl Kept {
@@ -15,6 +36,10 @@ impl Kept {
         Kept {
             input: Vec::new(alloc),
             found: None,
+            repair: None,
+            cycle: None,
+            refusals: Refusals::new(alloc),
+            outcomes: Sequence::new(alloc),
         }
     }
 }

@@ -1,9 +1,9 @@
 //! What is said to people of repairs.
 
+use crate::sentences::kept::Kept;
 use crate::sentences::kept_input::{set_of, set_text};
 use analysis_words::{repair_fault_words, repair_words};
-use prog_check::ProgramSet;
-use si_repair::{Plan, RepairFault, materialise, plan, promote};
+use si_repair::RepairFault;
 use std::alloc::{AllocError, Global};
 
 /// Why the set of an input is not repaired.
@@ -18,29 +18,20 @@ pub fn repair_fault_sentence(
     repair_fault_words(alloc, set_text(input), &set, fault)
 }
 
-// The set as a plan repairs it, where it does.
-fn repaired(alloc: Global, set: &ProgramSet, plan: &Plan, promoting: bool) -> Option<ProgramSet> {
-    if promoting {
-        return promote(alloc, set, plan).ok();
-    }
-    materialise(alloc, set, plan).ok()
-}
-
-/// What a repair has put into the set of an input, by one more repair.
+/// What a repair has put into the set of an input.
 pub fn repair_sentence(
     alloc: Global,
-    input: &[u8],
+    kept: &Kept,
     promoting: bool,
 ) -> Result<Option<String>, AllocError> {
+    let input = kept.input.as_slice();
     let Some(set) = set_of(alloc, input) else {
         return Ok(None);
     };
-    let Ok(plan) = plan(alloc, &set) else {
+    let Some(repair) = &kept.repair else {
         return Ok(None);
     };
-    let Some(repaired) = repaired(alloc, &set, &plan, promoting) else {
-        return Ok(None);
-    };
-    let pairs = plan.pairs.as_slice();
-    repair_words(alloc, set_text(input), &set, &repaired, pairs, promoting)
+    let pairs = repair.plan.pairs.as_slice();
+    let text = set_text(input);
+    repair_words(alloc, text, &set, &repair.repaired, pairs, promoting)
 }

@@ -9,8 +9,8 @@ use crate::sentences::analysis::{
 use crate::sentences::kept::Kept;
 use crate::sentences::kept_input::{ahead_of_second, second_part, set_of, set_text};
 use crate::sentences::repair::{repair_fault_sentence, repair_sentence};
-use crate::sentences::runs::{audit_cycle_sentence, refused_sentence, run_cycle_sentence};
-use crate::sentences::work::work_sentence;
+use crate::sentences::runs::refused_sentence;
+use crate::sentences::work::{lost_sentence, work_sentence};
 use crate::status::Status;
 use analysis_words::json_words;
 use fault_words::{check_words, text_words};
@@ -153,19 +153,12 @@ fn words_of(
 }
 
 // Why no serial order is sure, or why there is none.
-fn unserializable_sentence(
-    alloc: Global,
-    mode: Mode,
-    kept: &Kept,
-) -> Result<Option<String>, AllocError> {
+fn unserializable_sentence(alloc: Global, kept: &Kept) -> Result<Option<String>, AllocError> {
     if let Some(Finding::Refused(danger)) = &kept.found {
         return refusal_sentence(alloc, &kept.input, danger);
     }
-    match mode {
-        Mode::Run { .. } => run_cycle_sentence(alloc, &kept.input),
-        Mode::Audit => audit_cycle_sentence(alloc, &kept.input),
-        _ => Ok(None),
-    }
+    let cycle = kept.cycle.as_ref();
+    plain(alloc, cycle.map(|words| words.as_str()))
 }
 
 // What a certificate shows that was found.
@@ -179,8 +172,9 @@ fn found_sentence(alloc: Global, kept: &Kept) -> Result<Option<String>, AllocErr
 fn done_sentence(alloc: Global, mode: Mode, kept: &Kept) -> Result<Option<String>, AllocError> {
     match mode {
         Mode::Certify => found_sentence(alloc, kept),
-        Mode::Repair { promote } => repair_sentence(alloc, &kept.input, promote),
-        Mode::Run { .. } => refused_sentence(alloc, &kept.input),
+        Mode::Repair { promote } => repair_sentence(alloc, kept, promote),
+        Mode::Run { .. } => refused_sentence(alloc, kept),
+        Mode::Work { .. } => lost_sentence(alloc, &kept.input, kept.outcomes.as_slice()),
         _ => Ok(None),
     }
 }
@@ -193,7 +187,7 @@ fn ending_words(
     ended: Result<Status, RunFault>,
 ) -> Result<Option<String>, AllocError> {
     match ended {
-        Ok(Status::Unserializable) => unserializable_sentence(alloc, mode, kept),
+        Ok(Status::Unserializable) => unserializable_sentence(alloc, kept),
         Ok(Status::Done) => done_sentence(alloc, mode, kept),
         Ok(Status::Faulty | Status::Memory) => Ok(None),
         Err(fault) => words_of(alloc, mode, &kept.input, fault),

@@ -1,7 +1,41 @@
-//! What keeps workers from doing jobs, as it is said to people.
+//! What keeps workers from doing jobs, and which jobs did not commit, as it is said to people.
 
+use crate::sentences::kept_input::{ahead_of_second, second_part, set_of};
 use crate::worker_fault::WorkerFault;
+use run_words::{Told, lost_job_words};
+use si_engine::Bytes;
+use si_workers::{JobEnd, JobOutcome, read_jobs};
 use std::alloc::{AllocError, Global};
+
+fn has_committed(outcome: &JobOutcome) -> bool {
+    matches!(outcome.job_end, JobEnd::Committed { .. })
+}
+
+/// Which jobs of an input did not commit, given what came of each.
+pub fn lost_sentence(
+    alloc: Global,
+    input: &[u8],
+    outcomes: &[JobOutcome],
+) -> Result<Option<String>, AllocError> {
+    if outcomes.iter().all(has_committed) {
+        return Ok(None);
+    }
+    let Some(set) = set_of(alloc, input) else {
+        return Ok(None);
+    };
+    let part = second_part(input);
+    let Some(list) = read_jobs(alloc, &set, &mut Bytes::new(part)).ok() else {
+        return Ok(None);
+    };
+    let told = Told {
+        ahead: ahead_of_second(input),
+        part,
+        jobs: list.jobs.as_slice(),
+        outcomes,
+    };
+    let words = lost_job_words(alloc, &set, told)?;
+    Ok(Some(words))
+}
 
 /// Why jobs were not done, or what came of them is not told.
 pub fn work_sentence(alloc: Global, fault: WorkerFault) -> Result<Option<String>, AllocError> {

@@ -14,15 +14,15 @@ returns-in_err-set-clause-err c =
     let input = c.args.input.now in
     rw (exit.1, exit.2) (stops_at_once mode input f (λ no_memory. refused_input mode 1 input f refl (c.in_err-set.ensures.err no_memory)))
 
-pub returns-in_err-repaired-clause-err : goal.returns-in_err-repaired-clause-err
-returns-in_err-repaired-clause-err c =
-    let exit = err_from_is_err_and c.from_residual-in_err-repaired.result c.from_residual-in_err-repaired.ensures.1 in
-    let f = c.in_err-repaired.field-0.0 in
+pub returns-in_err-repair-clause-err : goal.returns-in_err-repair-clause-err
+returns-in_err-repair-clause-err c =
+    let exit = err_from_is_err_and c.from_residual-in_err-repair.result c.from_residual-in_err-repair.ensures.1 in
+    let f = c.in_err-repair.field-0.0 in
     let promoting = c.args.promoting in
     let input = c.args.input.now in
     let set = draft_tree c.in_ok-set.set in
     rw (exit.1, exit.2)
-    (stops_at_once (Repair promoting) input f (λ no_memory. repair_refused promoting input set c.in_ok-set.ensures.ok f (c.in_err-repaired.ensures.err no_memory)))
+    (stops_at_once (Repair promoting) input f (λ no_memory. repair_refused promoting input set c.in_ok-set.ensures.ok f (c.in_err-repair.ensures.err no_memory)))
 
 pub returns-in_err-text-clause-err : goal.returns-in_err-text-clause-err
 returns-in_err-text-clause-err c =
@@ -35,8 +35,8 @@ returns-clause-ok c =
       draft_tree c.in_ok-set.set,
       c.in_ok-set.ensures.ok,
       record {
-        repaired = draft_tree c.in_ok-repaired.repaired;
-        made = c.in_ok-repaired.ensures.ok;
+        repaired = draft_tree c.in_ok-repair.repair.repaired;
+        made = c.in_ok-repair.ensures.ok;
         sound = c.draft.ensures.faultless;
         text = text;
         status = refl;

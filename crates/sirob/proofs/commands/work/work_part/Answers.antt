@@ -44,6 +44,6 @@ returns-in_ok-text-in-Robust g c =
     let part = c.args.part.now in
     let workers = c.args.workers in
     let robust = subst (λ (v : Verified). IsVerified c.args.set v) c.in-Robust.is c.in_ok-set.ensures.ok in
-    let of_set = subst (λ (own : Draft). GivesWork workers (draft_tree own) part (string_bytes c.in_ok-text-in-Robust.text)) robust.0 c.in_ok-text-in-Robust.ensures.ok in
+    let of_set = subst (λ (own : Draft). GivesWork workers (draft_tree own) part (string_bytes c.in_ok-text-in-Robust.field-0.text)) robust.0 c.in_ok-text-in-Robust.ensures.ok in
     let gives = subst (λ (text : List ℕ). GivesWork workers set part text) (sym c.as_bytes.ensures.value) of_set in
     wrote_lines (IsPartDone (Work workers) set part) c.as_bytes.result.now (Ok status.Done) _ _ _ _ (inl (robust.1, gives, refl), tt) c.write_lines.ensures

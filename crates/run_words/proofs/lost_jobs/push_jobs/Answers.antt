@@ -1,0 +1,14 @@
+use Rattle.std.proofs.Common.{◌++◌, ◌∙◌, ap, append_assoc}
+use Rattle.std.proofs.lemmas.List.{take_more}
+use Rattle.run_words.proofs.LostLines.{TellsJobs-append}
+use Rattle.run_words.proofs.lost_jobs.push_jobs.Goals as goal
+
+pub loop-index-preserved : goal.loop-index-preserved
+loop-index-preserved c =
+    let before = c.loop-index.invariant in
+    let line = c.deref-in-loop-index.result.now in (
+      before.0 ++ line,
+      rw (take_more c.args.numbers.now c.loop-index.index 0 c.loop-index-test.true)
+          (TellsJobs-append _ _ _ _ before.0 line before.1 (rw c.deref-in-loop-index.ensures c.in_ok-line.ensures)),
+      c.in_ok-push_str.ensures.bytes ∙ ap (λ out. out ++ line) before.2 ∙ append_assoc _ before.0 line,
+    )

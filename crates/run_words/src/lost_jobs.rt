@@ -1,0 +1,226 @@
+//! The jobs that did not commit, in words.
+ghost use Rattle.std.specs.Prelude.{◌≡◌, ◌++◌, [], ◌∷◌, List, ℕ, IfOk, OnOk, slice_get, string_bytes, take, if◌then◌else◌};
+ghost use Rattle.run_words.specs.LostJobs.{heading, is_loss, is_lost_by, more_text, numbers_lost, place_text, IsJobText, TellsJob, TellsJobs, TellsLosses, TellsLost};
+
+use crate::in_input::input_line_text;
+use crate::job_reasons::job_sentence;
+use prog_check::ProgramSet;
+use si_workers::{Job, JobEnd, JobOutcome};
+use std::alloc::{AllocError, Global};
+use text_places::{job_place, line_number};
+
+// So many jobs of a kind are told.
+const MAX_TOLD: usize = 8;
+
+/// How a job ended that did not commit.
+#[derive(Clone, Copy, Debug, PartialEq, Eq)]
+pub enum Loss {
+    /// It could not be begun.
+    Refused,
+    Aborted,
+    /// Its last try clashed too.
+    Clashed,
+}
+
+fn is_loss(kind: Loss, end: &JobEnd) -> bool
+    ensures { result ≡ is_loss kind end.now }
+{
+    match end {
+        JobEnd::Committed { .. } => false,
+        JobEnd::Aborted(_) => kind == Loss::Aborted,
+        JobEnd::Clashed(_) => kind == Loss::Clashed,
+        JobEnd::Refused(_) => kind == Loss::Refused,
+    }
+}
+
+fn is_lost_by(kind: Loss, outcomes: &[JobOutcome], number: usize) -> bool
+    ensures { result ≡ is_lost_by kind (slice_get outcomes.now number) }
+{
+    match outcomes.get(number) {
+        Some(outcome) => is_loss(kind, &outcome.job_end),
+        None => false,
+    }
+}
+
+// Adds a number where it is one of those that are looked for.
+fn push_if(numbers: &mut Vec<usize>, is_lost: bool, number: usize) -> Result<(), AllocError>
+    ensures { OnOk result (numbers.new.items
+        ≡ numbers.old.items ++ (if is_lost then number ∷ [] else [])) }
+{
+    if is_lost {
+        numbers.push(number)?;
+    }
+    Ok(())
+}
+
+// The numbers of the jobs that ended so.
+fn numbers_lost(
+    alloc: Global,
+    kind: Loss,
+    outcomes: &[JobOutcome],
+) -> Result<Vec<usize>, AllocError>
+    ensures { IfOk result (λ numbers. numbers.items ≡ numbers_lost kind outcomes.now) }
+{
+    let mut numbers = Vec::new(alloc);
+    for number in 0..outcomes.len() {
+        let is_lost = is_lost_by(kind, outcomes, number);
+        push_if(&mut numbers, is_lost, number)?;
+    }
+    Ok(numbers)
+}
+
+/// A list of jobs with what came of each, in a part that stands behind other bytes of the input.
+#[derive(Clone, Copy)]
+pub struct Told<'a> {
+    pub ahead: &'a [u8],
+    pub part: &'a [u8],
+    pub jobs: &'a [Job],
+    pub outcomes: &'a [JobOutcome],
+}
+
+fn place_text(alloc: Global, ahead: &[u8], part: &[u8], place: usize) -> Result<String, AllocError>
+    ensures { IfOk result (λ text. string_bytes text ≡ place_text ahead.now part.now place) }
+{
+    let line = line_number(part, place);
+    let whole = input_line_text(alloc, ahead, part, place)?;
+    format!(in alloc; "line {line}{whole}")
+}
+
+// Where the job of a number stands.
+fn job_text(alloc: Global, ahead: &[u8], part: &[u8], number: usize) -> Result<String, AllocError>
+    ensures { IfOk result (λ text. IsJobText ahead.now part.now number (string_bytes text)) }
+{
+    match job_place(part, number) {
+        Some(place) => place_text(alloc, ahead, part, place),
+        None => format!(in alloc; "job {number}"),
+    }
+}
+
+// The line of the job of a number.
+fn job_line(
+    alloc: Global,
+    ahead: &[u8],
+    part: &[u8],
+    number: usize,
+    sentence: &str,
+) -> Result<String, AllocError>
+    ensures { IfOk result (λ line. TellsJob ahead.now part.now number (string_bytes line)) }
+{
+    let text = job_text(alloc, ahead, part, number)?;
+    let line = format!(in alloc; "  {text}: {sentence}\n")?;
+    Ok(line)
+}
+
+// Adds the lines of jobs.
+fn push_jobs(
+    alloc: Global,
+    set: &ProgramSet,
+    told: Told<'_>,
+    numbers: &[usize],
+    out: &mut String,
+) -> Result<(), AllocError>
+    ensures { OnOk result ((lines : List ℕ)
+        × TellsJobs told.entry.ahead.now told.entry.part.now numbers.now lines
+        × (string_bytes out.new ≡ string_bytes out.old ++ lines)) }
+{
+    for index in 0..numbers.len() {
+        let number = numbers[index];
+        let sentence = job_sentence(alloc, set, told.jobs.get(number), told.outcomes.get(number))?;
+        let line = job_line(alloc, told.ahead, told.part, number, &sentence)?;
+        out.push_str(&line)?;
+    }
+    Ok(())
+}
+
+fn heading(kind: Loss) -> &'static str
+    ensures { result.now ≡ heading kind }
+{
+    match kind {
+        Loss::Refused => "jobs that were refused: ",
+        Loss::Aborted => "jobs that aborted: ",
+        Loss::Clashed => "jobs of which each try clashed: ",
+    }
+}
+
+// That there are so many more.
+fn more_text(alloc: Global, count: usize) -> Result<String, AllocError>
+    ensures { IfOk result (λ text. string_bytes text ≡ more_text count) }
+{
+    if count == 0 {
+        return Ok(String::new(alloc));
+    }
+    format!(in alloc; "  and {count} more\n")
+}
+
+// The first ones of some numbers.
+fn first_ones(numbers: &[usize]) -> &[usize]
+    ensures { result.now ≡ take 8 numbers.now }
+{
+    if numbers.len() > MAX_TOLD {
+        &numbers[..MAX_TOLD]
+    } else {
+        numbers
+    }
+}
+
+// The lines of the first ones of some jobs.
+fn first_lines(
+    alloc: Global,
+    set: &ProgramSet,
+    told: Told<'_>,
+    numbers: &[usize],
+) -> Result<String, AllocError>
+    ensures { IfOk result (λ lines. TellsJobs told.entry.ahead.now told.entry.part.now
+        (take 8 numbers.now) (string_bytes lines)) }
+{
+    let mut lines = String::new(alloc);
+    push_jobs(alloc, set, told, first_ones(numbers), &mut lines)?;
+    Ok(lines)
+}
+
+// The jobs of these numbers, which ended so.
+fn lost_text(
+    alloc: Global,
+    set: &ProgramSet,
+    told: Told<'_>,
+    kind: Loss,
+    numbers: &[usize],
+) -> Result<String, AllocError>
+    ensures { IfOk result (λ words. TellsLost told.entry.ahead.now told.entry.part.now
+        kind numbers.now (string_bytes words)) }
+{
+    let [_, ..] = numbers else {
+        return Ok(String::new(alloc));
+    };
+    let heading = heading(kind);
+    let count = numbers.len();
+    let lines = first_lines(alloc, set, told, numbers)?;
+    let more = more_text(alloc, count.saturating_sub(MAX_TOLD))?;
+    format!(in alloc; "{heading}{count}\n{lines}{more}")
+}
+
+// The jobs that ended so.
+fn jobs_lost(
+    alloc: Global,
+    set: &ProgramSet,
+    told: Told<'_>,
+    kind: Loss,
+) -> Result<String, AllocError>
+    ensures { IfOk result (λ words. TellsLost told.entry.ahead.now told.entry.part.now
+        kind (numbers_lost kind told.entry.outcomes.now) (string_bytes words)) }
+{
+    let numbers = numbers_lost(alloc, kind, told.outcomes)?;
+    lost_text(alloc, set, told, kind, &numbers)
+}
+
+/// Which jobs were refused, which aborted and which clashed for good: of each kind how many, and the
+/// first eight; nothing where all committed.
+pub fn lost_job_words(alloc: Global, set: &ProgramSet, told: Told<'_>) -> Result<String, AllocError>
+    ensures { IfOk result (λ words. TellsLosses told.entry.ahead.now told.entry.part.now
+        told.entry.outcomes.now (string_bytes words)) }
+{
+    let refused = jobs_lost(alloc, set, told, Loss::Refused)?;
+    let aborted = jobs_lost(alloc, set, told, Loss::Aborted)?;
+    let clashed = jobs_lost(alloc, set, told, Loss::Clashed)?;
+    format!(in alloc; "{refused}{aborted}{clashed}")
+}
