@@ -10,13 +10,13 @@ use std::process::Abort;
 use std::test::Fail;
 
 /// The cell `t[1]`, or `savings[1]`.
-const T1: Cell = Cell {
+const FIRST_ROW: Cell = Cell {
     table: 0,
     first: 1,
     second: 0,
 };
 
-const T2: Cell = Cell {
+const SECOND_ROW: Cell = Cell {
     table: 0,
     first: 2,
     second: 0,
@@ -47,9 +47,9 @@ const ANOMALY: Reasoned = Reasoned {
         (WRITE_CHECK, &[1, 10], 0, &[]),
     ],
     reasons: &[
-        (1, 2, Some(Reason::Saw(T1))),
+        (1, 2, Some(Reason::Saw(FIRST_ROW))),
         (2, 3, Some(Reason::Missed(CHECKING))),
-        (3, 1, Some(Reason::Missed(T1))),
+        (3, 1, Some(Reason::Missed(FIRST_ROW))),
         (2, 1, None),
         (1, 3, None),
         (1, 1, None),
@@ -73,7 +73,7 @@ const REGISTER: Reasoned = Reasoned {
     set: REGISTERS,
     opening: &[],
     records: &[(SET, &[1, 5], 0, &[]), (SET, &[1, 6], 1, &[])],
-    reasons: &[(1, 2, Some(Reason::Both(T1))), (2, 1, None)],
+    reasons: &[(1, 2, Some(Reason::Both(FIRST_ROW))), (2, 1, None)],
 };
 
 /// Write skew: each counts two rows, and sets one.
@@ -82,8 +82,8 @@ const SKEW: Reasoned = Reasoned {
     opening: &[],
     records: &[(0, &[1], 0, &[]), (0, &[2], 0, &[])],
     reasons: &[
-        (1, 2, Some(Reason::MissedIn(BOTH_ROWS, T2))),
-        (2, 1, Some(Reason::MissedIn(BOTH_ROWS, T1))),
+        (1, 2, Some(Reason::MissedIn(BOTH_ROWS, SECOND_ROW))),
+        (2, 1, Some(Reason::MissedIn(BOTH_ROWS, FIRST_ROW))),
     ],
 };
 
