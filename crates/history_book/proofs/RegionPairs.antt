@@ -5,7 +5,7 @@ use Rattle.std.proofs.lemmas.List.Elements.{All-head, All-tail, All-filter}
 use Rattle.prog_tree.specs.declared.cell.Cell.{Cell}
 use Rattle.prog_tree.specs.declared.cell.Region.{Region}
 use Rattle.prog_tree.specs.Table.{Cells, is_in, is_cell_among}
-use Rattle.version_store.specs.Regions.{is_between, AreCorners}
+use Rattle.prog_tree.specs.Corners.{is_between, AreCorners}
 use Rattle.history_book.specs.Reduced.{Pairs, Adds, RiseFrom, AreWithin, AllRiseWithin, steps_of, writers_steps, reader_pairs, region_pairs}
 use Rattle.history_book.specs.Traces.{takes_in}
 use Rattle.history_book.specs.declared.orders.trace.Sight.TheVariants as sight

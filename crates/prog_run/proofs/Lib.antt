@@ -1,5 +1,6 @@
 pub mod GrowLemmas
 pub mod LookLemmas
+pub mod OwnLemmas
 pub mod SeenLemmas
 pub mod StatementLemmas
 pub mod StepLemmas

@@ -1,5 +1,6 @@
 //! What a run sees in a region.
-ghost use Rattle.std.specs.Prelude.{◌≡◌, ◌≤◌, ◌++◌, length, IfOk, OnOk, OnErr};
+ghost use Rattle.std.specs.Prelude.{◌≡◌, ◌≤◌, [], ◌++◌, length, IfOk, OnOk, OnErr};
+ghost use Rattle.std.specs.Cow.{cow_slice_items};
 ghost use Rattle.std.specs.List.{list_all};
 ghost use Rattle.std.specs.List.Sorted.{IsStrictlySortedBy};
 ghost use Rattle.prog_tree.specs.Table.{cell_cmp, is_in, is_cell_among, cells_of};
@@ -10,8 +11,9 @@ ghost use Rattle.prog_tree.specs.Value.{exact};
 ghost use Rattle.prog_run.specs.Looks.{rows_without, region_look, seen_rows};
 ghost use Rattle.prog_run.specs.Seen.{rows_before, AreAbsent, own_row};
 
-use prog_tree::{Cell, Changes, Look, Progress, Region, Sequence};
+use prog_tree::{Cell, Changes, Look, Progress, Region, Sequence, corners};
 use std::alloc::{AllocError, Global};
+use std::borrow::CowSlice;
 
 /// Whether all rows lie in a region.
 pub fn are_in(region: &Region, rows: &[(Cell, i64)]) -> bool
@@ -30,7 +32,10 @@ pub fn own_changes(
     ensures ordered { IfOk result (λ own. IsStrictlySortedBy cell_cmp (cells_of own.items)) }
 {
     let mut own = Vec::new(alloc);
-    for (cell, change) in changes.iter() {
+    let Some((low, high)) = corners(*region) else {
+        return Ok(own);
+    };
+    for (cell, change) in changes.between(low, high) {
         if region.contains(cell) {
             own.push((*cell, *change))?;
         }
@@ -137,26 +142,53 @@ pub fn exact_i64(number: i128) -> Option<i64>
     i64::try_from(number).ok()
 }
 
-/// Looks at a region: notes the look, whose rows are those of the snapshot but for the run's own cells, and gives the
-/// rows that the run sees there.
-pub fn look_at_region(
+// Notes a look at a region in which the run has changed nothing.
+fn note_look(
     alloc: Global,
     progress: &mut Progress<'_>,
     region: Region,
     rows: &[(Cell, i64)],
-) -> Result<Vec<(Cell, i64)>, AllocError>
+) -> Result<(), AllocError>
+    requires { changes_in region progress.old.changes.cells ≡ [] }
+    ensures ok { OnOk result
+        (progress.new ≡ looked (region_look progress.old.changes region rows.now) progress.old) }
+    ensures err { OnErr result (progress.new ≡ progress.old) }
+{
+    let rows = Vec::from_slice(alloc, rows)?;
+    let look = Look::Range {
+        region,
+        own: Sequence::new(alloc),
+        rows: Sequence::from_vec(rows),
+    };
+    progress.looks.push(look)?;
+    Ok(())
+}
+
+/// Looks at a region: notes the look, whose rows are those of the snapshot but for the run's own
+/// cells, and gives the rows that the run sees there. Where the run has changed nothing in the
+/// region, these are the rows of the snapshot, which are not copied for it.
+pub fn look_at_region<'r>(
+    alloc: Global,
+    progress: &mut Progress<'_>,
+    region: Region,
+    rows: &'r [(Cell, i64)],
+) -> Result<CowSlice<'r, (Cell, i64), Global>, AllocError>
     ensures look { OnOk result
         (progress.new ≡ looked (region_look progress.old.changes region rows.now) progress.old) }
     ensures seen { IfOk result
-        (λ seen. seen.items ≡ seen_rows progress.old.changes region rows.now) }
+        (λ seen. cow_slice_items seen ≡ seen_rows progress.old.changes region rows.now) }
     ensures err { OnErr result (progress.new ≡ progress.old) }
 {
     let changes = own_changes(alloc, &progress.changes, &region)?;
+    if changes.is_empty() {
+        note_look(alloc, progress, region, rows)?;
+        return Ok(CowSlice::Borrowed(rows));
+    }
     let own = cells(alloc, &changes)?;
     let mut rows = Vec::from_slice(alloc, rows)?;
     remove_own(&mut rows, &region, &progress.changes);
     let seen = merge(alloc, &rows, &changes)?;
     let rows = Sequence::from_vec(rows);
     progress.looks.push(Look::Range { region, own, rows })?;
-    Ok(seen)
+    Ok(CowSlice::Owned(seen))
 }

@@ -3,6 +3,7 @@ use Rattle.std.specs.Prelude.{ℤ, Bool, ◌||◌, List, [], ◌∷◌, filter, 
 use Rattle.std.specs.BTreeSet.{insert_key}
 use Rattle.prog_tree.specs.declared.cell.Cell.{Cell}
 use Rattle.prog_tree.specs.declared.cell.Region.{Region}
+use Rattle.prog_tree.specs.Corners.{is_between}
 use Rattle.prog_tree.specs.Number.{IsI64}
 use Rattle.prog_tree.specs.Table.{cell_cmp, is_cell_among, is_in, IsI64Cell, Cells, at_cell, with_cell, TableState, with_row, without_row}
 
@@ -38,6 +39,10 @@ touches_cell s c = is_some (change_at s c) || is_cell_among s.kept c
 -- the changes of a region's cells
 abbrev pub changes_in : Region → ChangedCells → ChangedCells
 changes_in r changes = filter (λ entry. is_in r entry.0) changes
+
+-- the changes of the cells from one to another
+abbrev pub changes_between : (low high : Cell) → ChangedCells → ChangedCells
+changes_between low high changes = filter (λ entry. is_between low high entry.0) changes
 
 -- a state with one change made
 abbrev pub changed_row : TableState → Cell → Option ℤ → TableState

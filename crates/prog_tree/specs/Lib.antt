@@ -1,4 +1,5 @@
 pub mod ChangeSet
+pub mod Corners
 pub mod Evaluation
 pub mod Literals
 pub mod LookedAt

@@ -1,5 +1,6 @@
 ghost use Rattle.std.specs.Prelude.{◌≡◌};
 ghost use Rattle.prog_tree.specs.Table.{is_cell_among, is_in, lies_between};
+ghost use Rattle.prog_tree.specs.Corners.{AreCorners};
 
 /// A cell of a table. In a table of one key column the second is 0.
 #[derive(Clone, Copy, Debug, PartialEq, Eq, PartialOrd, Ord)]
@@ -24,6 +25,27 @@ pub fn is_among(cells: &[Cell], cell: &Cell) -> bool
     ensures { result ≡ is_cell_among cells.now cell.now }
 {
     cells.iter().any(|other| cell.cmp(other).is_eq())
+}
+
+/// The least and the greatest cell that a region can have, or none where it has no cell. Between
+/// them stand cells beside the region too.
+pub fn corners(region: Region) -> Option<(Cell, Cell)>
+    ensures { AreCorners region result }
+{
+    if region.first_low > region.first_high || region.second_low > region.second_high {
+        return None;
+    }
+    let low = Cell {
+        table: region.table,
+        first: region.first_low,
+        second: region.second_low,
+    };
+    let high = Cell {
+        table: region.table,
+        first: region.first_high,
+        second: region.second_high,
+    };
+    Some((low, high))
 }
 
 fn is_between(low: i64, x: i64, high: i64) -> bool

@@ -1,7 +1,9 @@
 ghost use Rattle.std.specs.Prelude.{◌≡◌, ◌↔◌, [], Some, None, OnOk, OnErr, IsTrue};
 ghost use Rattle.std.specs.List.Sorted.{IsStrictlySortedBy};
 ghost use Rattle.prog_tree.specs.Table.{cell_cmp, cells_of};
-ghost use Rattle.prog_tree.specs.ChangeSet.{change_at, with_change, with_kept, touches_cell, no_changes};
+ghost use Rattle.prog_tree.specs.ChangeSet.{change_at, with_change, with_kept, touches_cell};
+ghost use Rattle.prog_tree.specs.ChangeSet.{changes_between, no_changes};
+ghost use Rattle.prog_tree.specs.Corners.{AreInOrder};
 
 use crate::cell::Cell;
 use std::alloc::{AllocError, Global};
@@ -80,6 +82,15 @@ impl Changes {
         ensures ordered { IsStrictlySortedBy cell_cmp (cells_of self.now.cells) }
     {
         self.cells.iter()
+    }
+
+    /// The changed cells from one to another, in their order.
+    pub fn between(&self, low: Cell, high: Cell) -> btree_map::Range<'_, Cell, Option<i64>>
+        requires { AreInOrder low high }
+        ensures rest { result ≡ changes_between low high self.now.cells }
+        ensures ordered { IsStrictlySortedBy cell_cmp (cells_of self.now.cells) }
+    {
+        self.cells.range(low..=high)
     }
 
     /// The kept cells, in their order.

@@ -19,7 +19,8 @@ use Rattle.prog_tree.proofs.TableLemmas.{cell_total, find_is}
 use Rattle.prog_tree.proofs.TableStates.{same_cell, cell_is, same_state, IsTableState-nil}
 use Rattle.version_store.specs.StandsFor.{Chain, no_chain, chain_or_none}
 use Rattle.version_store.specs.Reading.{AllRise, RisesFrom, chain_at, value_at}
-use Rattle.version_store.specs.Regions.{is_between, AreCorners, seen_in, seen_left, found_row, found_rows, IsSeen}
+use Rattle.prog_tree.specs.Corners.{is_between, AreCorners}
+use Rattle.version_store.specs.Regions.{seen_in, seen_left, found_row, found_rows, IsSeen}
 use Rattle.version_store.proofs.ChainsLaws.{none_behind}
 use Rattle.version_store.proofs.ScanLaws.{seen_at, or_none}
 

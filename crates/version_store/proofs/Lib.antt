@@ -7,7 +7,6 @@ pub mod FoundLaws
 pub mod HoldLaws
 pub mod NewestLaws
 pub mod PendingLaws
-pub mod RegionLaws
 pub mod ScanLaws
 pub mod SizeLaws
 pub mod StandsLaws

@@ -1,22 +1,10 @@
--- Corners of regions, and their rows.
-use Rattle.std.specs.Prelude.{◌≡◌, ℕ, ℤ, Bool, true, false, ◌&&◌, not, List, [], ◌∷◌, ◌++◌, Option, Some, None, if◌then◌else◌}
-use Rattle.std.specs.Ordering.{is_gt, is_le, is_lt}
+-- The rows of regions.
+use Rattle.std.specs.Prelude.{◌≡◌, ℕ, ℤ, not, List, [], ◌∷◌, ◌++◌, Option, Some, None, if◌then◌else◌}
 use Rattle.prog_tree.specs.declared.cell.Cell.{Cell}
 use Rattle.prog_tree.specs.declared.cell.Region.{Region}
-use Rattle.prog_tree.specs.Table.{cell_cmp, is_in, is_cell_among, Cells, TableState, IsTableState, row_at, with_row}
+use Rattle.prog_tree.specs.Table.{is_in, is_cell_among, Cells, TableState, IsTableState, row_at, with_row}
 use Rattle.version_store.specs.StandsFor.{Chain}
 use Rattle.version_store.specs.Reading.{chain_at, value_at}
-
--- a cell lies between two others in the order of cells, or is one of them
-abbrev pub is_between : Cell → Cell → Cell → Bool
-is_between low high c = is_le (cell_cmp low c) && not (is_lt (cell_cmp high c))
-
--- two cells in order between which all of a region lies; none where the region has no cell
-abbrev pub AreCorners : Region → Option (Cell × Cell) → Type 0
-AreCorners region None = (c : Cell) → is_in region c ≡ false
-AreCorners region (Some corners) =
-    (is_gt (cell_cmp corners.0 corners.1) ≡ false)
-    × ((c : Cell) → is_in region c ≡ true → is_between corners.0 corners.1 c ≡ true)
 
 -- what a region has of a cell with a chain, after the first n commits
 abbrev pub seen_in : Region → (n : ℕ) → Cell → Chain → Option ℤ

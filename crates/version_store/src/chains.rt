@@ -9,7 +9,7 @@ ghost use Rattle.version_store.specs.Reading.{RisesFrom, AllRise, chain_at, valu
 ghost use Rattle.version_store.specs.Reading.{with_version, with_mark, with_row_of, with_change_by};
 ghost use Rattle.version_store.specs.Reading.{with_commit, cut_from, IsGrown};
 ghost use Rattle.version_store.specs.Reading.{MakesAt, MakesAmong, MakesEach, KeepsBelow, OthersHold};
-ghost use Rattle.version_store.specs.Regions.{AreCorners, seen_in, seen_left, with_found};
+ghost use Rattle.version_store.specs.Regions.{seen_in, seen_left, with_found};
 ghost use Rattle.version_store.specs.Regions.{found_row, IsSeen};
 ghost use Rattle.version_store.specs.StandsFor.{size, trimmed, EachHolds};
 ghost use Rattle.version_store.specs.Trimming.{within, beyond};
@@ -17,7 +17,7 @@ ghost use Rattle.version_store.specs.Trims.{TrimsAll};
 
 use crate::chain::Chain;
 use crate::pending::Pending;
-use prog_tree::{Cell, Changes, Region, Rows, Sequence, is_among};
+use prog_tree::{Cell, Changes, Region, Rows, Sequence, corners, is_among};
 use std::alloc::{AllocError, Global};
 use std::collections::BTreeMap;
 use std::marker::Model;
@@ -36,27 +36,6 @@ impl Model for Chains {
     ghost Value = { Cells Chain };
 
     ghost view = { λ c. c.chains.entries };
-}
-
-/// The least and the greatest cell that a region can have, or none where it has no cell. Between them
-/// stand cells beside the region too.
-pub fn corners(region: Region) -> Option<(Cell, Cell)>
-    ensures { AreCorners region result }
-{
-    if region.first_low > region.first_high || region.second_low > region.second_high {
-        return None;
-    }
-    let low = Cell {
-        table: region.table,
-        first: region.first_low,
-        second: region.second_low,
-    };
-    let high = Cell {
-        table: region.table,
-        first: region.first_high,
-        second: region.second_high,
-    };
-    Some((low, high))
 }
 
 // Adds the row of a cell after the first `start` commits, where it has one.

@@ -10,7 +10,6 @@ mod store;
 mod version;
 mod versions;
 
-pub use chains::corners;
 pub use clash::Clash;
 pub use laws::{clashes_are_found, retained_versions_stay};
 pub use store::Store;

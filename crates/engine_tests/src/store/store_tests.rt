@@ -2,10 +2,10 @@
 
 use crate::store::calls::{Answer, Call, install, open, play};
 use crate::store::twin::{Deed, cell, rows_after};
-use prog_tree::{Cell, Region};
+use prog_tree::{Cell, Region, corners};
 use std::alloc::Global;
 use std::process::Abort;
-use version_store::{Clash, Store, corners};
+use version_store::{Clash, Store};
 
 /// Versions and vacuums, over `t[1] = 0`.
 const VERSIONS: &[(Call, Answer)] = &[

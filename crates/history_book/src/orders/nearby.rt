@@ -14,6 +14,10 @@ use std::alloc::{AllocError, Global};
 // such a look takes up to two pairs for each written cell in the region, and any other look two.
 const STEPS: u128 = 1024;
 
+// How many steps the tests may take for each commit besides: of a history without looks at regions,
+// most commits wait for few of those near them.
+const STEPS_OF_A_COMMIT: u128 = 24;
+
 /// What a commit that is not placed waits for.
 #[derive(Clone, Copy, Debug)]
 pub enum Wait {
@@ -39,7 +43,9 @@ fn budget(traces: &[Trace]) -> u128 {
     for trace in traces {
         regions = regions.saturating_add(count_regions(trace.looked.as_slice()) as u128);
     }
-    regions.saturating_mul(STEPS)
+    regions
+        .saturating_mul(STEPS)
+        .saturating_add((traces.len() as u128).saturating_mul(STEPS_OF_A_COMMIT))
 }
 
 // Spends some steps, if so many are left.

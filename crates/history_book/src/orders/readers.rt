@@ -12,9 +12,8 @@ ghost use Rattle.history_book.specs.Precedence.{precedes};
 use crate::orders::precedence::Precedence;
 use crate::orders::trace::{Sight, Trace};
 use crate::orders::writers::{Writers, first_missed, last_seen};
-use prog_tree::{Cell, Region, is_among};
+use prog_tree::{Cell, Region, corners, is_among};
 use std::alloc::{AllocError, Global};
-use version_store::corners;
 
 // Puts a number and each of the next before the one behind it.
 fn add_steps_from(

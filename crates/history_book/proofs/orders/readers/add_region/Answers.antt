@@ -1,7 +1,7 @@
 use Rattle.std.proofs.Common.{◌≡◌, ◌∙◌, ℕ, List, true, false, length, subst, sym}
 use Rattle.std.specs.Prelude.{filter}
 use Rattle.prog_tree.specs.declared.cell.Cell.{Cell}
-use Rattle.version_store.specs.Regions.{is_between}
+use Rattle.prog_tree.specs.Corners.{is_between}
 use Rattle.history_book.specs.Reduced.{Pairs, RiseFrom, AreWithin, Adds, reader_pairs, region_pairs}
 use Rattle.history_book.proofs.PairLaws.{no_pair}
 use Rattle.history_book.proofs.RegionPairs.{entry_first, region_on, region_begins, no_region}

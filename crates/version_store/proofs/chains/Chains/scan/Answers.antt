@@ -3,7 +3,8 @@ use Rattle.std.specs.Prelude.{filter}
 use Rattle.std.specs.List.Sorted.{IsStrictlySortedBy}
 use Rattle.prog_tree.specs.declared.cell.Cell.{Cell}
 use Rattle.prog_tree.specs.Table.{cell_cmp, Cells, cells_of, TableState}
-use Rattle.version_store.specs.Regions.{is_between, seen_in, found_row, IsSeen}
+use Rattle.prog_tree.specs.Corners.{is_between}
+use Rattle.version_store.specs.Regions.{seen_in, found_row, IsSeen}
 use Rattle.version_store.specs.StandsFor.{Chain}
 use Rattle.version_store.proofs.FoundLaws.{gains_first, gains_more, gained, gained_nothing}
 use Rattle.version_store.proofs.chains.Chains.scan.Goals as goal

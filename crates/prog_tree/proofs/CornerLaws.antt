@@ -10,7 +10,7 @@ use Rattle.std.proofs.lemmas.Bool.Decides.{nat_tests}
 use Rattle.prog_tree.specs.declared.cell.Cell.{Cell}
 use Rattle.prog_tree.specs.declared.cell.Region.{Region}
 use Rattle.prog_tree.specs.Table.{cell_cmp, is_in, lies_between}
-use Rattle.version_store.specs.Regions.{is_between, AreCorners}
+use Rattle.prog_tree.specs.Corners.{is_between, AreCorners}
 
 -- ---- tests
 

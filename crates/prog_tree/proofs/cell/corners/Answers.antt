@@ -1,8 +1,8 @@
 use Rattle.std.proofs.Common.{rules, w64, FitsSigned}
 use Rattle.std.proofs.lemmas.Int.{to_z-of_z}
-use Rattle.version_store.proofs.RegionLaws.{corners_of, no_cell_first, no_cell_second}
-use Rattle.version_store.proofs.chains.corners.Goals as goal
-use Rattle.version_store.proofs.chains.corners.Goals.{then-region-via-then-region, then-region-via-else-region+then-region-2}
+use Rattle.prog_tree.proofs.CornerLaws.{corners_of, no_cell_first, no_cell_second}
+use Rattle.prog_tree.proofs.cell.corners.Goals as goal
+use Rattle.prog_tree.proofs.cell.corners.Goals.{then-region-via-then-region, then-region-via-else-region+then-region-2}
 
 pub returns : goal.returns
 returns c =
