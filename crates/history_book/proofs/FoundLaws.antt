@@ -2,7 +2,7 @@
 use Rattle.std.proofs.Common.{◌≡◌, ℕ, zero, suc, ◌+◌, ◌<◌, Bool, false, true≢false, List, [], ◌∷◌, length, take, get_or, ap, sym, ◌∙◌, subst, arith}
 use Rattle.std.specs.Prelude.{Some, IsTrue, ◌↔◌}
 use Rattle.std.proofs.lemmas.Option.{slice_get-get_or}
-use Rattle.prog_tree.specs.declared.deed.Look.{Look}
+use Rattle.prog_tree.specs.declared.look.Look.{Look}
 use Rattle.prog_tree.specs.Table.{TableState}
 use Rattle.prog_run.specs.Looks.{IsFound, AreFound}
 use Rattle.history_book.specs.Runs.{IsFirstForeign}

@@ -3,8 +3,8 @@ use Rattle.std.proofs.Common.{◌≡◌, Bool, true, false, cond, List, [], ◌�
 use Rattle.std.specs.List.{list_all}
 use Rattle.prog_tree.specs.declared.cell.Cell.{Cell}
 use Rattle.prog_tree.specs.declared.cell.Region.{Region}
-use Rattle.prog_tree.specs.declared.deed.Look.{Look}
-use Rattle.prog_tree.specs.declared.deed.Look.TheVariants as look
+use Rattle.prog_tree.specs.declared.look.Look.{Look}
+use Rattle.prog_tree.specs.declared.look.Look.TheVariants as look
 use Rattle.prog_tree.specs.Table.{TableState, is_in, row_at, rows_in}
 use Rattle.prog_run.specs.declared.fault.AnswerFault.{AnswerFault}
 use Rattle.prog_run.specs.declared.fault.AnswerFault.TheVariants.{NotAsked, BadRows, Memory}

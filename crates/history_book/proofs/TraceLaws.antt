@@ -6,8 +6,8 @@ use Rattle.std.specs.List.{list_any}
 use Rattle.std.proofs.lemmas.List.{map-append}
 use Rattle.std.proofs.lemmas.Option.{slice_get-map, slice_get_within}
 use Rattle.prog_tree.specs.declared.cell.Cell.{Cell}
-use Rattle.prog_tree.specs.declared.deed.Look.{Look}
-use Rattle.prog_tree.specs.declared.deed.Look.TheVariants as look
+use Rattle.prog_tree.specs.declared.look.Look.{Look}
+use Rattle.prog_tree.specs.declared.look.Look.TheVariants as look
 use Rattle.prog_tree.specs.ChangeSet.{ChangedCells, change_at}
 use Rattle.prog_tree.specs.Evaluation.{Evaluation}
 use Rattle.prog_tree.specs.LookedAt.{looks_at, some_looks_at, has_looked}

@@ -3,7 +3,7 @@ use Rattle.std.specs.Prelude.{◌≡◌, ℕ, ◌+◌, List, [], ◌∷◌, ◌+
 use Rattle.prog_tree.specs.declared.cell.Cell.{Cell}
 use Rattle.prog_tree.specs.declared.deed.Cause.{Cause}
 use Rattle.prog_tree.specs.declared.deed.End.TheVariants.{Ready, Aborted}
-use Rattle.prog_tree.specs.declared.deed.Look.{Look}
+use Rattle.prog_tree.specs.declared.look.Look.{Look}
 use Rattle.prog_tree.specs.ChangeSet.{ChangeSet}
 use Rattle.prog_tree.specs.Table.{TableState}
 use Rattle.prog_tree.specs.Tree.{draft_tree, program_tree}

@@ -1,5 +1,6 @@
-// What a pass holds in the proofs, the rule that all passes keep together, and the steps on the
-// counter's word.
+//! What a pass holds in the proofs, the rule that all passes keep together, and the steps on the
+//! counter's word.
+
 ghost use Rattle.std.specs.Prelude.{ℕ};
 
 use atomic_table::{Join, Play, Split, TableRule};

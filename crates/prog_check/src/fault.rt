@@ -1,3 +1,5 @@
+//! Why a draft is no set.
+
 use std::alloc::{AllocError, AllocFailed};
 use thiserror::Error;
 

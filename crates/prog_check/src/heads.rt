@@ -65,8 +65,7 @@ fn check_head(alloc: Global, earlier: &mut Names, program: &Program) -> Result<N
     if program.params.len() > MAX_PARAMETERS {
         return Err(CheckFault::TooMany { place });
     }
-    let params = check_params(alloc, place, &program.params)?;
-    Ok(params)
+    check_params(alloc, place, &program.params)
 }
 
 /// Checks a program behind the programs of these names, which its own name joins.

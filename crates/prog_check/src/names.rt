@@ -1,3 +1,5 @@
+//! Names, each once.
+
 ghost use Rattle.std.specs.Prelude.{◌≡◌, [], ◌∷◌, ◌++◌, not, length, take, IfOk, if◌then◌else◌};
 ghost use Rattle.prog_check.specs.Names.{is_among, place_among};
 
@@ -55,8 +57,7 @@ impl Names {
             (λ new. self.new ≡ (if new then self.old ++ name.now ∷ [] else self.old)) }
     {
         let text = String::from_str(*self.texts.allocator(), name.as_str())?;
-        let new = self.texts.insert(text)?;
-        Ok(new)
+        Ok(self.texts.insert(text)?)
     }
 
     /// Keeps the first `len` names.

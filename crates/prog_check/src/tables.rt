@@ -1,3 +1,5 @@
+//! Declared tables, found by their names.
+
 ghost use Rattle.std.specs.Prelude.{◌≡◌, option_copied, IfOk, map};
 ghost use Rattle.prog_check.specs.Tables.{declaration};
 

@@ -3,7 +3,7 @@ use Rattle.std.proofs.Common.{◌≡◌, ◌∙◌, Bool, true, false, cond, [],
 use Rattle.std.specs.Prelude.{Some, None}
 use Rattle.prog_tree.specs.declared.cell.Cell.{Cell}
 use Rattle.prog_tree.specs.declared.cell.Region.{Region}
-use Rattle.prog_tree.specs.declared.deed.Look.TheVariants as look
+use Rattle.prog_tree.specs.declared.look.Look.TheVariants as look
 use Rattle.prog_tree.specs.Corners.{is_between, AreCorners}
 use Rattle.prog_tree.specs.Table.{cells_of, is_in, TableState}
 use Rattle.prog_tree.specs.ChangeSet.{ChangedCells, ChangeSet, changes_between, changes_in, changed}

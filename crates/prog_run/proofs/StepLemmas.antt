@@ -7,8 +7,8 @@ use Rattle.prog_tree.specs.declared.deed.Cause.TheVariants.{Overflow}
 use Rattle.prog_tree.specs.declared.deed.Deed.TheVariants.{Listed}
 use Rattle.prog_tree.specs.declared.deed.End.{End}
 use Rattle.prog_tree.specs.declared.deed.End.TheVariants.{Ready, Aborted}
-use Rattle.prog_tree.specs.declared.deed.Look.{Look}
-use Rattle.prog_tree.specs.declared.deed.Look.TheVariants as look
+use Rattle.prog_tree.specs.declared.look.Look.{Look}
+use Rattle.prog_tree.specs.declared.look.Look.TheVariants as look
 use Rattle.prog_tree.specs.declared.progress.Progress.{Progress}
 use Rattle.prog_tree.specs.declared.table.TableDecl.{TableDecl}
 use Rattle.prog_tree.specs.Syntax.{ListingTree, StatementTree, BlockTree, Then, StmtTree, Plain, Fork, Loop, block_from, ProgramTree}

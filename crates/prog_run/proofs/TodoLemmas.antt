@@ -7,7 +7,7 @@ use Rattle.prog_tree.specs.declared.cell.Region.{Region}
 use Rattle.prog_tree.specs.declared.deed.Cause.TheVariants.{Overflow}
 use Rattle.prog_tree.specs.declared.deed.Deed.TheVariants.{Listed}
 use Rattle.prog_tree.specs.declared.deed.End.TheVariants.{Ready}
-use Rattle.prog_tree.specs.declared.deed.Look.TheVariants as look
+use Rattle.prog_tree.specs.declared.look.Look.TheVariants as look
 use Rattle.prog_tree.specs.declared.progress.Progress.{Progress}
 use Rattle.prog_tree.specs.declared.table.TableDecl.{TableDecl}
 use Rattle.prog_tree.specs.Numbering.{number_of}

@@ -6,8 +6,8 @@ use Rattle.prog_tree.specs.declared.cell.Region.{Region}
 use Rattle.prog_tree.specs.declared.deed.Cause.TheVariants.{Overflow}
 use Rattle.prog_tree.specs.declared.deed.Deed.TheVariants.{Read, Put, Counted, Summed, Listed}
 use Rattle.prog_tree.specs.declared.deed.End.TheVariants.{Aborted}
-use Rattle.prog_tree.specs.declared.deed.Look.{Look}
-use Rattle.prog_tree.specs.declared.deed.Look.TheVariants as look
+use Rattle.prog_tree.specs.declared.look.Look.{Look}
+use Rattle.prog_tree.specs.declared.look.Look.TheVariants as look
 use Rattle.prog_tree.specs.declared.table.Arity.TheVariants as arity
 use Rattle.prog_tree.specs.declared.table.TableDecl.{TableDecl}
 use Rattle.prog_tree.specs.declared.progress.Progress.{Progress}

@@ -2,8 +2,8 @@
 use Rattle.std.specs.Prelude.{◌≡◌, List, [], ◌∷◌, Option, Some, None, is_some, filter, not, if◌then◌else◌}
 use Rattle.prog_tree.specs.declared.cell.Cell.{Cell}
 use Rattle.prog_tree.specs.declared.cell.Region.{Region}
-use Rattle.prog_tree.specs.declared.deed.Look.{Look}
-use Rattle.prog_tree.specs.declared.deed.Look.TheVariants as look
+use Rattle.prog_tree.specs.declared.look.Look.{Look}
+use Rattle.prog_tree.specs.declared.look.Look.TheVariants as look
 use Rattle.prog_tree.specs.declared.progress.Progress.{Progress}
 use Rattle.prog_tree.specs.Table.{is_cell_among, TableState, row_at}
 use Rattle.prog_tree.specs.ChangeSet.{ChangeSet, change_at}

@@ -1,12 +1,14 @@
 -- What one statement of the store does.
-use Rattle.std.specs.Prelude.{◌≡◌, ℤ, [], ◌∷◌, ◌++◌, Option, Some}
+use Rattle.std.specs.Prelude.{◌≡◌, ℤ, [], ◌∷◌, ◌++◌, Option, Some, None}
 use Rattle.prog_tree.specs.declared.cell.Cell.{Cell}
 use Rattle.prog_tree.specs.declared.cell.Region.{Region}
+use Rattle.prog_tree.specs.declared.deed.Deed.{Deed}
+use Rattle.prog_tree.specs.declared.deed.Deed.TheVariants.{Put, Removed, Kept}
 use Rattle.prog_tree.specs.declared.deed.End.TheVariants.{Ready, Aborted}
-use Rattle.prog_tree.specs.declared.deed.Look.{Look}
-use Rattle.prog_tree.specs.declared.deed.Look.TheVariants as look
+use Rattle.prog_tree.specs.declared.look.Look.{Look}
+use Rattle.prog_tree.specs.declared.look.Look.TheVariants as look
 use Rattle.prog_tree.specs.declared.progress.Progress.{Progress}
-use Rattle.prog_tree.specs.Steps.{looked}
+use Rattle.prog_tree.specs.Steps.{looked, wrote, keeps}
 use Rattle.prog_tree.specs.Table.{TableState}
 use Rattle.prog_tree.specs.Evaluation.{Flow, GoesOn, Stops}
 use Rattle.prog_run.specs.Task.{UseTree, RegionUseTree, TaskTree, asked_tree, use_flow, rows_flow, task_flow}
@@ -14,6 +16,13 @@ use Rattle.prog_run.specs.Task as task
 use Rattle.prog_run.specs.Looks.{asked_by, question_of, region_look, seen_rows}
 use Rattle.prog_run.specs.declared.next.Step.{Step}
 use Rattle.prog_run.specs.declared.next.Step.TheVariants.{Asks, Did, Over}
+
+-- what a run has done so far, with what a deed changes: a set, removed or kept cell
+abbrev pub written_by : Deed → Progress → Progress
+written_by (Put cell v) p = wrote cell (Some v) p
+written_by (Removed cell) p = wrote cell None p
+written_by (Kept cell) p = keeps cell p
+written_by _ p = p
 
 -- what was to be done was done, without a further look
 abbrev pub IsFlow : Flow → Step → Progress → Progress → Type 0

@@ -5,7 +5,7 @@ use Rattle.prog_tree.specs.declared.cell.Cell.{Cell}
 use Rattle.prog_tree.specs.declared.cell.Region.{Region}
 use Rattle.prog_tree.specs.declared.deed.Deed.{Deed}
 use Rattle.prog_tree.specs.declared.deed.End.{End}
-use Rattle.prog_tree.specs.declared.deed.Look.{Look}
+use Rattle.prog_tree.specs.declared.look.Look.{Look}
 use Rattle.prog_tree.specs.declared.program.Program.{Program}
 use Rattle.prog_tree.specs.declared.progress.Progress.{Progress}
 use Rattle.prog_tree.specs.declared.table.TableDecl.{TableDecl}

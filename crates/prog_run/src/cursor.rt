@@ -264,8 +264,7 @@ impl<'a> Cursor<'a> {
                 Ok(step)
             }
             RegionUse::List { listing, body } => {
-                let step = self.list(alloc, progress, region, listing, body, rows)?;
-                Ok(step)
+                self.list(alloc, progress, region, listing, body, rows)
             }
         }
     }

@@ -1,3 +1,5 @@
+//! Why a run is not made, or an answer not taken.
+
 use std::alloc::AllocError;
 use std::error::Error;
 use std::fmt;

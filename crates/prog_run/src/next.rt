@@ -1,3 +1,5 @@
+//! What a step of a run comes to.
+
 ghost use Rattle.std.specs.Prelude.{◌≡◌};
 ghost use Rattle.prog_run.specs.Step.{next_of, asked_after, end_after};
 

@@ -1,11 +1,12 @@
 //! What statements note in the progress of a run. Want of memory leaves it as it was.
-ghost use Rattle.std.specs.Prelude.{◌≡◌, take, Some, None, OnOk, OnErr};
-ghost use Rattle.prog_tree.specs.Steps.{bound, did, wrote, keeps};
+ghost use Rattle.std.specs.Prelude.{◌≡◌, take, OnOk, OnErr};
+ghost use Rattle.prog_tree.specs.Steps.{bound, did};
 ghost use Rattle.prog_tree.specs.Evaluation.{begun_turn};
+ghost use Rattle.prog_run.specs.Statement.{written_by};
 ghost use Rattle.prog_run.specs.Todo.{named};
 
 use crate::block::Turn;
-use prog_tree::{Cell, Deed, Name, Progress, Sequence};
+use prog_tree::{Deed, Name, Progress, Sequence};
 use std::alloc::{AllocError, Global};
 use std::mem;
 
@@ -53,53 +54,20 @@ pub fn note_turn<'a>(progress: &mut Progress<'a>, turn: Turn<'a>) -> Result<(), 
     Ok(())
 }
 
-/// A cell was set.
-pub fn note_put(
-    alloc: Global,
-    progress: &mut Progress<'_>,
-    cell: Cell,
-    value: i64,
-) -> Result<(), AllocError>
-    ensures ok { OnOk result (progress.new ≡ did (Deed.Put cell value)
-        (wrote cell (Some value) progress.old)) }
+/// A deed of the store is done: what it changes is changed, and it is told.
+pub fn note_deed(alloc: Global, progress: &mut Progress<'_>, deed: Deed) -> Result<(), AllocError>
+    ensures ok { OnOk result (progress.new ≡ did deed (written_by deed progress.old)) }
     ensures err { OnErr result (progress.new ≡ progress.old) }
 {
     let deeds = progress.deeds.len();
-    progress.deeds.push(Deed::Put(cell, value))?;
-    let Ok(()) = progress.changes.put(cell, value) else {
-        cut(alloc, &mut progress.deeds, deeds);
-        return Err(AllocError);
+    progress.deeds.push(deed)?;
+    let written = match deed {
+        Deed::Put(cell, value) => progress.changes.put(cell, value),
+        Deed::Removed(cell) => progress.changes.remove(cell),
+        Deed::Kept(cell) => progress.changes.keep(cell),
+        _ => Ok(()),
     };
-    Ok(())
-}
-
-/// A cell was removed.
-pub fn note_removed(
-    alloc: Global,
-    progress: &mut Progress<'_>,
-    cell: Cell,
-) -> Result<(), AllocError>
-    ensures ok { OnOk result (progress.new ≡ did (Deed.Removed cell)
-        (wrote cell None progress.old)) }
-    ensures err { OnErr result (progress.new ≡ progress.old) }
-{
-    let deeds = progress.deeds.len();
-    progress.deeds.push(Deed::Removed(cell))?;
-    let Ok(()) = progress.changes.remove(cell) else {
-        cut(alloc, &mut progress.deeds, deeds);
-        return Err(AllocError);
-    };
-    Ok(())
-}
-
-/// A cell was kept.
-pub fn note_kept(alloc: Global, progress: &mut Progress<'_>, cell: Cell) -> Result<(), AllocError>
-    ensures ok { OnOk result (progress.new ≡ did (Deed.Kept cell) (keeps cell progress.old)) }
-    ensures err { OnErr result (progress.new ≡ progress.old) }
-{
-    let deeds = progress.deeds.len();
-    progress.deeds.push(Deed::Kept(cell))?;
-    let Ok(()) = progress.changes.keep(cell) else {
+    let Ok(()) = written else {
         cut(alloc, &mut progress.deeds, deeds);
         return Err(AllocError);
     };

@@ -1,13 +1,14 @@
 //! What the statements of the store do. Where memory ends the progress is as it was.
-ghost use Rattle.std.specs.Prelude.{◌≡◌, IfOk, OnErr};
+ghost use Rattle.std.specs.Prelude.{◌≡◌, IfOk, OnOk, OnErr};
+ghost use Rattle.prog_tree.specs.Steps.{did};
 ghost use Rattle.prog_tree.specs.Tree.{expr_tree};
 ghost use Rattle.prog_run.specs.Task.{Counts, Sums, use_tree, task_tree};
 ghost use Rattle.prog_run.specs.Task.{get_flow, need_flow, lacks_flow, insert_flow};
 ghost use Rattle.prog_run.specs.Task.{use_flow, rows_flow};
-ghost use Rattle.prog_run.specs.Statement.{IsFlow, IsBegun, IsCellAnswered};
+ghost use Rattle.prog_run.specs.Statement.{written_by, IsFlow, IsBegun, IsCellAnswered};
 
 use crate::next::Step;
-use crate::notes::{cut, note_found, note_kept, note_put, note_removed};
+use crate::notes::{cut, note_deed, note_found};
 use crate::region::{add_rows, exact_i64};
 use crate::task::{Asked, CellUse, Task};
 use prog_tree::{Cause, Cell, Deed, End, Expr, Look, Name, Progress, Region};
@@ -32,19 +33,20 @@ pub fn begin<'a>(
             use_cell(alloc, progress, cell, usage, own)
         }
         Task::Look(asked) => Ok(Step::Asks(asked)),
-        Task::Put { cell, value } => {
-            note_put(alloc, progress, cell, value)?;
-            Ok(Step::Did(Deed::Put(cell, value)))
-        }
-        Task::Remove { cell } => {
-            note_removed(alloc, progress, cell)?;
-            Ok(Step::Did(Deed::Removed(cell)))
-        }
-        Task::Keep { cell } => {
-            note_kept(alloc, progress, cell)?;
-            Ok(Step::Did(Deed::Kept(cell)))
-        }
+        Task::Put { cell, value } => write(alloc, progress, Deed::Put(cell, value)),
+        Task::Remove { cell } => write(alloc, progress, Deed::Removed(cell)),
+        Task::Keep { cell } => write(alloc, progress, Deed::Kept(cell)),
     }
+}
+
+// Does a deed that writes to the store.
+fn write<'a>(alloc: Global, progress: &mut Progress<'a>, deed: Deed) -> Result<Step<'a>, AllocError>
+    ensures step { IfOk result (λ s. s ≡ Step.Did deed) }
+    ensures ok { OnOk result (progress.new ≡ did deed (written_by deed progress.old)) }
+    ensures err { OnErr result (progress.new ≡ progress.old) }
+{
+    note_deed(alloc, progress, deed)?;
+    Ok(Step::Did(deed))
 }
 
 /// Finishes a statement that has asked for a cell.
@@ -162,8 +164,7 @@ fn insert<'a>(
     let None = held else {
         return Ok(Step::Over(End::Aborted(Cause::Present(cell))));
     };
-    note_put(alloc, progress, cell, value)?;
-    Ok(Step::Did(Deed::Put(cell, value)))
+    write(alloc, progress, Deed::Put(cell, value))
 }
 
 /// Binds the number of the rows that the run sees in a region.

@@ -54,7 +54,7 @@ spelling (t.Sign sign.GreaterEqual) = codes ">="
 spelling (t.Sign sign.EqualEqual) = codes "=="
 spelling (t.Sign sign.NotEqual) = codes "!="
 
--- the words that are no names; `each` and `in` stand in no statement yet
+-- the words that are no names
 abbrev pub reserved_words : List Token
 reserved_words =
     map t.Sign (

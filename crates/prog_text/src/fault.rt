@@ -1,3 +1,5 @@
+//! Why a text is refused.
+
 use thiserror::Error;
 
 /// Why a text is refused, and the byte from 0 at which the refusal stands.

@@ -1,3 +1,5 @@
+//! How much there may be.
+
 ghost use Rattle.std.specs.Prelude.{◌≡◌, ℕ, ◌+◌, ◌<◌, ◌≤◌};
 ghost use Rattle.prog_text.specs.Limits.{bracket_limit, operator_limit, brackets_after, operators_after, too_deep};
 

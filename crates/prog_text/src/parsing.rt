@@ -1,3 +1,5 @@
+//! From the bytes of a text to a draft.
+
 ghost use Rattle.std.specs.Prelude.{◌≡◌, ℕ, ◌<◌, ◌≤◌, List, length, IfOk, IfErr, MatchResult, Ok, Err};
 ghost use Rattle.prog_tree.specs.Syntax.{DraftTree};
 ghost use Rattle.prog_tree.specs.Tree.{draft_tree};

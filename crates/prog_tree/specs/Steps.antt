@@ -2,7 +2,7 @@
 use Rattle.std.specs.Prelude.{ℕ, ℤ, [], ◌∷◌, ◌++◌, take, Option}
 use Rattle.prog_tree.specs.declared.cell.Cell.{Cell}
 use Rattle.prog_tree.specs.declared.deed.Deed.{Deed}
-use Rattle.prog_tree.specs.declared.deed.Look.{Look}
+use Rattle.prog_tree.specs.declared.look.Look.{Look}
 use Rattle.prog_tree.specs.declared.progress.Progress.{Progress}
 use Rattle.prog_tree.specs.Syntax.{Name}
 use Rattle.prog_tree.specs.Value.{Bindings}

@@ -1,3 +1,5 @@
+//! Cells, and regions of them.
+
 ghost use Rattle.std.specs.Prelude.{◌≡◌};
 ghost use Rattle.prog_tree.specs.Table.{is_cell_among, is_in, lies_between};
 ghost use Rattle.prog_tree.specs.Corners.{AreCorners};

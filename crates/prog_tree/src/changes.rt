@@ -1,3 +1,5 @@
+//! What an instance writes.
+
 ghost use Rattle.std.specs.Prelude.{◌≡◌, ◌↔◌, [], Some, None, OnOk, OnErr, IsTrue};
 ghost use Rattle.std.specs.List.Sorted.{IsStrictlySortedBy};
 ghost use Rattle.prog_tree.specs.Table.{cell_cmp, cells_of};

@@ -1,3 +1,5 @@
+//! The names that a run has bound, with their values.
+
 ghost use Rattle.std.specs.Prelude.{◌≡◌, [], ◌∷◌, ◌++◌, length, take, OnOk, OnErr};
 ghost use Rattle.prog_tree.specs.Value.{value_in};
 

@@ -1,3 +1,5 @@
+//! Programs, and the draft of a set of them.
+
 ghost use Rattle.std.specs.Prelude.{◌≡◌, ◌↔◌, IfOk, IsTrue, map};
 ghost use Rattle.prog_tree.specs.Tree.{program_tree, draft_tree};
 

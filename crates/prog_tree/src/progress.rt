@@ -1,6 +1,9 @@
+//! How far a run has come.
+
 use crate::changes::Changes;
-use crate::deed::{Deed, Look};
+use crate::deed::Deed;
 use crate::env::Env;
+use crate::look::Look;
 use crate::sequence::Sequence;
 use std::alloc::Global;
 

@@ -1,3 +1,5 @@
+//! Table states.
+
 ghost use Rattle.std.specs.Prelude.{◌≡◌, ◌↔◌, [], length, IfOk, OnOk, OnErr, IsTrue};
 ghost use Rattle.prog_tree.specs.Table.{HasI64Rows, IsTableState, row_at, with_row, without_row};
 

@@ -1,3 +1,5 @@
+//! Statements, and blocks of them.
+
 ghost use Rattle.std.specs.Prelude.{◌≡◌, ◌↔◌, IfOk, IsTrue};
 ghost use Rattle.prog_tree.specs.Evaluation.{cell_of, region_of};
 ghost use Rattle.prog_tree.specs.Tree.{key_tree, range_tree, listing_tree, stmt_tree, block_tree};
@@ -11,8 +13,8 @@ use crate::stmt_copy::{
     copy_put, copy_reply, copy_sum,
 };
 use crate::stmt_same::{
-    is_bind, is_count, is_delete, is_get, is_insert, is_keep, is_lacks, is_need, is_put, is_reply,
-    is_sum,
+    same_bind, same_count, same_delete, same_get, same_insert, same_keep, same_lacks, same_need,
+    same_put, same_reply, same_sum,
 };
 use std::alloc::{AllocError, Global};
 
@@ -290,21 +292,21 @@ impl Stmt {
         ensures { IsTrue result ↔ (stmt_tree self.now ≡ stmt_tree other.now) }
     {
         match self {
-            Stmt::Bind { name, value } => is_bind(other, name, value),
+            Stmt::Bind { name, value } => same_bind(other, name, value),
             Stmt::Get {
                 name,
                 table,
                 key,
                 otherwise,
-            } => is_get(other, name, table, key, otherwise),
-            Stmt::Need { name, table, key } => is_need(other, name, table, key),
-            Stmt::Count { name, table, range } => is_count(other, name, table, range),
-            Stmt::Sum { name, table, range } => is_sum(other, name, table, range),
-            Stmt::Lacks { table, key } => is_lacks(other, table, key),
-            Stmt::Put { table, key, value } => is_put(other, table, key, value),
-            Stmt::Insert { table, key, value } => is_insert(other, table, key, value),
-            Stmt::Delete { table, key } => is_delete(other, table, key),
-            Stmt::Keep { table, key } => is_keep(other, table, key),
+            } => same_get(other, name, table, key, otherwise),
+            Stmt::Need { name, table, key } => same_need(other, name, table, key),
+            Stmt::Count { name, table, range } => same_count(other, name, table, range),
+            Stmt::Sum { name, table, range } => same_sum(other, name, table, range),
+            Stmt::Lacks { table, key } => same_lacks(other, table, key),
+            Stmt::Put { table, key, value } => same_put(other, table, key, value),
+            Stmt::Insert { table, key, value } => same_insert(other, table, key, value),
+            Stmt::Delete { table, key } => same_delete(other, table, key),
+            Stmt::Keep { table, key } => same_keep(other, table, key),
             Stmt::Branch {
                 test,
                 then,
@@ -334,7 +336,7 @@ impl Stmt {
                 }
                 _ => false,
             },
-            Stmt::Reply { value } => is_reply(other, value),
+            Stmt::Reply { value } => same_reply(other, value),
             Stmt::Abort => matches!(other, Stmt::Abort),
         }
     }

@@ -8,7 +8,7 @@ use crate::expr::Expr;
 use crate::name::Name;
 use crate::stmt::{Key, Range, Stmt};
 
-pub(crate) fn is_bind(stmt: &Stmt, name: &Name, value: &Expr) -> bool
+pub(crate) fn same_bind(stmt: &Stmt, name: &Name, value: &Expr) -> bool
     ensures { IsTrue result ↔ IsPlain stmt.now (s.Bind name.now (expr_tree value.now)) }
 {
     match stmt {
@@ -17,7 +17,7 @@ pub(crate) fn is_bind(stmt: &Stmt, name: &Name, value: &Expr) -> bool
     }
 }
 
-pub(crate) fn is_get(stmt: &Stmt, name: &Name, table: &Name, key: &Key, otherwise: &Expr) -> bool
+pub(crate) fn same_get(stmt: &Stmt, name: &Name, table: &Name, key: &Key, otherwise: &Expr) -> bool
     ensures { IsTrue result ↔
         IsPlain stmt.now (s.Get name.now table.now (key_tree key.now) (expr_tree otherwise.now)) }
 {
@@ -32,7 +32,7 @@ pub(crate) fn is_get(stmt: &Stmt, name: &Name, table: &Name, key: &Key, otherwis
     }
 }
 
-pub(crate) fn is_need(stmt: &Stmt, name: &Name, table: &Name, key: &Key) -> bool
+pub(crate) fn same_need(stmt: &Stmt, name: &Name, table: &Name, key: &Key) -> bool
     ensures { IsTrue result ↔ IsPlain stmt.now (s.Need name.now table.now (key_tree key.now)) }
 {
     match stmt {
@@ -45,7 +45,7 @@ pub(crate) fn is_need(stmt: &Stmt, name: &Name, table: &Name, key: &Key) -> bool
     }
 }
 
-pub(crate) fn is_count(stmt: &Stmt, name: &Name, table: &Name, range: &Range) -> bool
+pub(crate) fn same_count(stmt: &Stmt, name: &Name, table: &Name, range: &Range) -> bool
     ensures { IsTrue result ↔
         IsPlain stmt.now (s.Count name.now table.now (range_tree range.now)) }
 {
@@ -59,7 +59,7 @@ pub(crate) fn is_count(stmt: &Stmt, name: &Name, table: &Name, range: &Range) ->
     }
 }
 
-pub(crate) fn is_sum(stmt: &Stmt, name: &Name, table: &Name, range: &Range) -> bool
+pub(crate) fn same_sum(stmt: &Stmt, name: &Name, table: &Name, range: &Range) -> bool
     ensures { IsTrue result ↔
         IsPlain stmt.now (s.Sum name.now table.now (range_tree range.now)) }
 {
@@ -73,7 +73,7 @@ pub(crate) fn is_sum(stmt: &Stmt, name: &Name, table: &Name, range: &Range) -> b
     }
 }
 
-pub(crate) fn is_lacks(stmt: &Stmt, table: &Name, key: &Key) -> bool
+pub(crate) fn same_lacks(stmt: &Stmt, table: &Name, key: &Key) -> bool
     ensures { IsTrue result ↔ IsPlain stmt.now (s.Lacks table.now (key_tree key.now)) }
 {
     match stmt {
@@ -82,7 +82,7 @@ pub(crate) fn is_lacks(stmt: &Stmt, table: &Name, key: &Key) -> bool
     }
 }
 
-pub(crate) fn is_put(stmt: &Stmt, table: &Name, key: &Key, value: &Expr) -> bool
+pub(crate) fn same_put(stmt: &Stmt, table: &Name, key: &Key, value: &Expr) -> bool
     ensures { IsTrue result ↔
         IsPlain stmt.now (s.Put table.now (key_tree key.now) (expr_tree value.now)) }
 {
@@ -96,7 +96,7 @@ pub(crate) fn is_put(stmt: &Stmt, table: &Name, key: &Key, value: &Expr) -> bool
     }
 }
 
-pub(crate) fn is_insert(stmt: &Stmt, table: &Name, key: &Key, value: &Expr) -> bool
+pub(crate) fn same_insert(stmt: &Stmt, table: &Name, key: &Key, value: &Expr) -> bool
     ensures { IsTrue result ↔
         IsPlain stmt.now (s.Insert table.now (key_tree key.now) (expr_tree value.now)) }
 {
@@ -110,7 +110,7 @@ pub(crate) fn is_insert(stmt: &Stmt, table: &Name, key: &Key, value: &Expr) -> b
     }
 }
 
-pub(crate) fn is_delete(stmt: &Stmt, table: &Name, key: &Key) -> bool
+pub(crate) fn same_delete(stmt: &Stmt, table: &Name, key: &Key) -> bool
     ensures { IsTrue result ↔ IsPlain stmt.now (s.Delete table.now (key_tree key.now)) }
 {
     match stmt {
@@ -119,7 +119,7 @@ pub(crate) fn is_delete(stmt: &Stmt, table: &Name, key: &Key) -> bool
     }
 }
 
-pub(crate) fn is_keep(stmt: &Stmt, table: &Name, key: &Key) -> bool
+pub(crate) fn same_keep(stmt: &Stmt, table: &Name, key: &Key) -> bool
     ensures { IsTrue result ↔ IsPlain stmt.now (s.Keep table.now (key_tree key.now)) }
 {
     match stmt {
@@ -128,7 +128,7 @@ pub(crate) fn is_keep(stmt: &Stmt, table: &Name, key: &Key) -> bool
     }
 }
 
-pub(crate) fn is_reply(stmt: &Stmt, value: &Expr) -> bool
+pub(crate) fn same_reply(stmt: &Stmt, value: &Expr) -> bool
     ensures { IsTrue result ↔ IsPlain stmt.now (s.Reply (expr_tree value.now)) }
 {
     match stmt {

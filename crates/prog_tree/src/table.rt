@@ -1,3 +1,5 @@
+//! Tables as a set declares them.
+
 ghost use Rattle.std.specs.Prelude.{◌≡◌, ◌↔◌, IfOk, IsTrue};
 
 use crate::name::Name;

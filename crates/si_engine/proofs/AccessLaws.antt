@@ -3,8 +3,8 @@ use Rattle.std.proofs.Common.{◌≡◌, ◌≢◌, ℕ, ◌<◌, true, List, []
 use Rattle.std.specs.Prelude.{Some, is_some, slice_get, IsTrue, not}
 use Rattle.std.proofs.lemmas.Bool.{cases_order, and_parts, not-true, or_cases, or_left, or_right}
 use Rattle.prog_tree.specs.declared.cell.Cell.{Cell}
-use Rattle.prog_tree.specs.declared.deed.Look.{Look}
-use Rattle.prog_tree.specs.declared.deed.Look.TheVariants as look
+use Rattle.prog_tree.specs.declared.look.Look.{Look}
+use Rattle.prog_tree.specs.declared.look.Look.TheVariants as look
 use Rattle.prog_tree.specs.ChangeSet.{change_at}
 use Rattle.prog_tree.specs.LookedAt.{looks_at, some_looks_at, has_looked}
 use Rattle.prog_tree.specs.Syntax.{DraftTree}

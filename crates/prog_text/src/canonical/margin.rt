@@ -1,3 +1,5 @@
+//! How far lines are set in.
+
 ghost use Rattle.std.specs.Prelude.{◌≡◌, ◌*◌, suc, IfOk, replicate};
 
 use std::alloc::{AllocError, Global};

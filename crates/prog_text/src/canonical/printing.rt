@@ -1,3 +1,5 @@
+//! The canonical text of a draft.
+
 ghost use Rattle.std.specs.Prelude.{◌≡◌, ℕ, ◌≤◌, List, length, IfOk};
 ghost use Rattle.prog_tree.specs.Tree.{draft_tree};
 ghost use Rattle.prog_text.specs.Answer.{text_limit, Accepts};

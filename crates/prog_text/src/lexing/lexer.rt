@@ -1,3 +1,5 @@
+//! From the bytes of a text to its tokens.
+
 ghost use Rattle.std.specs.Prelude.{◌≡◌, ℕ, ◌+◌, ◌<◌, ◌≤◌, length, drop, slice_index, IfOk, true, List, ◌↔◌, Ok, Err};
 ghost use Rattle.std.specs.List.{prefix_len};
 ghost use Rattle.prog_text.specs.Cut.{IsCut, IsFirstFlaw};

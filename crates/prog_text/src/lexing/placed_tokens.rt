@@ -1,3 +1,5 @@
+//! Tokens with their places.
+
 use crate::lexing::token::Token;
 use std::marker::Model;
 

@@ -1,3 +1,5 @@
+//! Tokens.
+
 ghost use Rattle.std.specs.Prelude.{◌≡◌, ◌^◌, ◌<◌, ◌↔◌, pos, IsSome, IfSome};
 ghost use Rattle.std.proofs.Common.{neg_ℤ};
 

@@ -1,3 +1,5 @@
+//! The words of the language.
+
 ghost use Rattle.std.specs.Prelude.{◌≡◌, true, map};
 ghost use Rattle.std.specs.List.{list_all};
 ghost use Rattle.prog_text.specs.Lexing.{is_word_byte, word_token};

@@ -1,4 +1,5 @@
-// Blocks within blocks, read by a loop with a stack of those that are open.
+//! Blocks within blocks, read by a loop with a stack of those that are open.
+
 ghost use Rattle.std.specs.Prelude.{◌≡◌};
 ghost use Rattle.prog_tree.specs.Syntax.{Fork, Loop};
 ghost use Rattle.prog_tree.specs.Tree.{test_tree, listing_tree, stmt_tree, stmts_tree, block_tree};

@@ -1,3 +1,5 @@
+//! Tests.
+
 ghost use Rattle.prog_tree.specs.Tree.{relation_sign, comparison_tree, clause_tree, test_tree};
 ghost use Rattle.prog_text.specs.Cursor.{Reads};
 ghost use Rattle.prog_text.specs.Reading.{relation_at, comparison_at, conjunction_at, test_at};

@@ -1,3 +1,5 @@
+//! Expressions.
+
 ghost use Rattle.std.specs.Prelude.{◌≡◌, IfOk};
 ghost use Rattle.prog_tree.specs.Syntax.{Plus, Minus, Times};
 ghost use Rattle.prog_tree.specs.Tree.{expr_tree};

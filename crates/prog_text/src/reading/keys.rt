@@ -1,4 +1,5 @@
-// Keys and ranges, behind the name of their table.
+//! Keys and ranges, behind the name of their table.
+
 ghost use Rattle.std.specs.Prelude.{◌≡◌, ◌<◌, length, IfOk};
 ghost use Rattle.prog_tree.specs.Tree.{expr_tree, key_tree, range_tree};
 ghost use Rattle.prog_text.specs.Reading.{key_from, key_at, high_at, range_from, range_at};

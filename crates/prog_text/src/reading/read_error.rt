@@ -1,3 +1,5 @@
+//! Why tokens are no set.
+
 ghost use Rattle.std.specs.Prelude.{◌≡◌, length};
 
 use crate::lexing::token::Token;

@@ -1,3 +1,5 @@
+//! Tables, programs, and the whole set.
+
 ghost use Rattle.std.specs.Prelude.{[], map};
 ghost use Rattle.prog_tree.specs.Tree.{program_tree, draft_tree};
 ghost use Rattle.prog_text.specs.Cursor.{Reads, itself};

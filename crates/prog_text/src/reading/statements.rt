@@ -1,4 +1,5 @@
-// Statements without blocks.
+//! Statements without blocks.
+
 ghost use Rattle.prog_tree.specs.Tree.{expr_tree};
 ghost use Rattle.prog_text.specs.Cursor.{Reads, ReadsPlain, assigned_tree, keyed_tree, ranged_tree};
 ghost use Rattle.prog_text.specs.Reading.{last_expr_at, last_key_at, last_range_at, assigned_at, get_at, bound_at, let_at, statement_at};

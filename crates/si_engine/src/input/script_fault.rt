@@ -1,3 +1,5 @@
+//! Why a script is refused.
+
 use crate::input::source::InputFault;
 use std::alloc::{AllocError, AllocFailed};
 use thiserror::Error;

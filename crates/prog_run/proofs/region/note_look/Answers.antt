@@ -1,6 +1,6 @@
 use Rattle.std.proofs.Common.{◌∙◌, [], ◌∷◌, ◌++◌, ap}
-use Rattle.prog_tree.specs.declared.deed.Look.{Look}
-use Rattle.prog_tree.specs.declared.deed.Look.TheVariants as look
+use Rattle.prog_tree.specs.declared.look.Look.{Look}
+use Rattle.prog_tree.specs.declared.look.Look.TheVariants as look
 use Rattle.prog_tree.specs.Steps.{looked}
 use Rattle.prog_run.proofs.OwnLemmas.{look_of_all}
 use Rattle.prog_run.proofs.region.note_look.Goals as goal

@@ -1,5 +1,5 @@
 use Rattle.std.proofs.Common.{sym, subst, ap, ◌∙◌, IfOk, IfSome}
-use Rattle.prog_tree.specs.declared.deed.Look.TheVariants as look
+use Rattle.prog_tree.specs.declared.look.Look.TheVariants as look
 use Rattle.prog_run.specs.Looks.{AreFound, region_look}
 use Rattle.prog_run.specs.Step.{question_after}
 use Rattle.prog_run.specs.View.{IsAnswered, asked_cell, asked_region}

@@ -1,6 +1,6 @@
 use Rattle.std.proofs.Common.{◌≡◌, ◌∙◌, sym, rules}
-use Rattle.prog_tree.specs.declared.deed.Look.TheVariants as look
-use Rattle.prog_tree.proofs.deed.Look.is_same.Goals as goal
+use Rattle.prog_tree.specs.declared.look.Look.TheVariants as look
+use Rattle.prog_tree.proofs.look.Look.is_same.Goals as goal
 
 pub returns-then-same_cells : goal.returns-then-same_cells
 returns-then-same_cells c =

@@ -1,7 +1,7 @@
 use Rattle.std.proofs.Common.{ap}
 use Rattle.std.proofs.lemmas.Bool.Decides.{Decides-eqb, Decides-int_eq, Decides-and, Decides-at, Decides-like}
 use Rattle.prog_tree.specs.declared.cell.Region.{Region}
-use Rattle.prog_tree.proofs.deed.same_regions.Goals as goal
+use Rattle.prog_tree.proofs.look.same_regions.Goals as goal
 
 -- regions are equal where each field is
 pub returns : goal.returns

@@ -1,5 +1,5 @@
 use Rattle.std.proofs.Common.{◌≡◌, ◌↔◌, length}
-use Rattle.prog_tree.proofs.deed.same_looks.Given as goal
+use Rattle.prog_tree.proofs.look.same_looks.Given as goal
 
 -- as many looks are left in both, and they are the same exactly where all are
 abbrev pub invariant-loop-look : goal.invariant-loop-look

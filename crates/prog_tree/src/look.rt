@@ -1,0 +1,78 @@
+//! What an instance found in its snapshot.
+
+ghost use Rattle.std.specs.Prelude.{◌≡◌, ◌↔◌, IsTrue};
+
+use crate::cell::{Cell, Region};
+use crate::sequence::Sequence;
+
+/// What an instance found in its snapshot.
+#[derive(Debug, Drop)]
+pub enum Look {
+    /// A cell and what it held.
+    One(Cell, Option<i64>),
+    /// A region and its rows in the order of their cells, but for those of its `own` cells: the ones that the
+    /// instance had changed.
+    Range {
+        region: Region,
+        own: Sequence<Cell>,
+        rows: Sequence<(Cell, i64)>,
+    },
+}
+
+fn same_regions(region: &Region, other: &Region) -> bool
+    ensures { IsTrue result ↔ (region.now ≡ other.now) }
+{
+    region == other
+}
+
+fn same_cells(cells: &[Cell], others: &[Cell]) -> bool
+    ensures { IsTrue result ↔ (cells.now ≡ others.now) }
+{
+    cells == others
+}
+
+fn same_rows(rows: &[(Cell, i64)], others: &[(Cell, i64)]) -> bool
+    ensures { IsTrue result ↔ (rows.now ≡ others.now) }
+{
+    rows == others
+}
+
+impl Look {
+    /// Whether both looked at the same and found the same.
+    pub fn is_same(&self, other: &Look) -> bool
+        ensures { IsTrue result ↔ (self.now ≡ other.now) }
+    {
+        match (self, other) {
+            (Look::One(cell, held), Look::One(c, h)) => cell == c && held == h,
+            (
+                Look::Range { region, own, rows },
+                Look::Range {
+                    region: r,
+                    own: o,
+                    rows: s,
+                },
+            ) => {
+                if !same_regions(region, r) {
+                    return false;
+                }
+                same_cells(own.as_slice(), o.as_slice()) && same_rows(rows.as_slice(), s.as_slice())
+            }
+            _ => false,
+        }
+    }
+}
+
+/// Whether both lists have the same looks, in the same order.
+pub fn same_looks(looks: &[Look], others: &[Look]) -> bool
+    ensures { IsTrue result ↔ (looks.now ≡ others.now) }
+{
+    if looks.len() != others.len() {
+        return false;
+    }
+    for (look, other) in looks.iter().zip(others) {
+        if !look.is_same(other) {
+            return false;
+        }
+    }
+    true
+}
