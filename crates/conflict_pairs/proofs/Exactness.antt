@@ -4,8 +4,8 @@ use Rattle.prog_check.specs.declared.path.Path.{Path}
 use Rattle.std.specs.Prelude.{List}
 use Rattle.prog_paths.specs.Meeting.{CanMeet}
 use Rattle.prog_paths.specs.StaticGraph.{Question}
-use Rattle.conflict_pairs.specs.declared.outcome.Verdict.{Verdict}
-use Rattle.conflict_pairs.specs.declared.outcome.Verdict.TheVariants.{Apart, Covered, Exposed}
+use Rattle.conflict_pairs.specs.declared.verdicts.Verdict.{Verdict}
+use Rattle.conflict_pairs.specs.declared.verdicts.Verdict.TheVariants.{Apart, Covered, Exposed}
 use Rattle.conflict_pairs.specs.Verdicts.{mine_of, theirs_of, IsRightOf}
 use Rattle.conflict_pairs.specs.Law.{IsExact, LawOfVerdicts}
 

@@ -14,8 +14,8 @@ use Rattle.prog_paths.specs.StaticGraph.{IsAccessOf}
 use Rattle.prog_paths.specs.Asked.{ChangesSingleCells, numbers_of}
 use Rattle.prog_paths.specs.Questions.{question_facts}
 use Rattle.prog_paths.specs.Shown.{ShowEqual, key_pairs, CoversBy}
-use Rattle.conflict_pairs.specs.declared.outcome.Verdict.{Verdict}
-use Rattle.conflict_pairs.specs.declared.outcome.Verdict.TheVariants.{Apart, Covered, Exposed}
+use Rattle.conflict_pairs.specs.declared.verdicts.Verdict.{Verdict}
+use Rattle.conflict_pairs.specs.declared.verdicts.Verdict.TheVariants.{Apart, Covered, Exposed}
 use Rattle.conflict_pairs.specs.Verdicts.{IsRight}
 use Rattle.conflict_pairs.specs.Search.{CoversAt, IsJudged}
 use Rattle.conflict_pairs.specs.Alike.{AreAlike, CoverAlike, CoversToo, HaveSameCovers, accesses_in, accesses_at, AreClasses, IsAsked, HasAccess, IsLikeAt, IsLike, IsJudgedAt}

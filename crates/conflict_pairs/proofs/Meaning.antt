@@ -14,8 +14,8 @@ use Rattle.prog_paths.specs.StaticGraph.{IsAccessOf, IsCovered}
 use Rattle.prog_paths.specs.Questions.{question_facts}
 use Rattle.prog_paths.proofs.Questions.{law_of_meeting, law_of_questions}
 use Rattle.prog_paths.specs.Asked.{IsQuestion, ChangesSingleCells, two, between}
-use Rattle.conflict_pairs.specs.declared.outcome.Verdict.{Verdict}
-use Rattle.conflict_pairs.specs.declared.outcome.Verdict.TheVariants.{Apart, Covered, Exposed}
+use Rattle.conflict_pairs.specs.declared.verdicts.Verdict.{Verdict}
+use Rattle.conflict_pairs.specs.declared.verdicts.Verdict.TheVariants.{Apart, Covered, Exposed}
 use Rattle.conflict_pairs.specs.Verdicts.{HasFall, NumbersFall, IsShortest, mine_of, theirs_of, IsCoveredBy, IsExposedBy, IsRightOf, IsRight}
 use Rattle.conflict_pairs.specs.Search.{CoversAt, IsCoverFound, ShowEqualAt, IsNoCover, IsUncovered, IsJudged}
 use Rattle.prog_paths.proofs.Shown.{IsPair, apart-from_Falls, same-from_CoversBy, CoversBy-from_same, single_at, may_touch-second}

@@ -7,8 +7,8 @@ use Rattle.std.proofs.lemmas.Option.{get_or_from_slice_get, slice_get_within, sa
 use Rattle.prog_check.specs.declared.path.Path.{Path}
 use Rattle.prog_paths.specs.declared.places.Question.{Question as Asked}
 use Rattle.prog_paths.specs.Asked.{ChangesSingleCells, questions_of}
-use Rattle.conflict_pairs.specs.declared.outcome.Verdict.{Verdict}
-use Rattle.conflict_pairs.specs.declared.outcome.Verdict.TheVariants.{Apart}
+use Rattle.conflict_pairs.specs.declared.verdicts.Verdict.{Verdict}
+use Rattle.conflict_pairs.specs.declared.verdicts.Verdict.TheVariants.{Apart}
 use Rattle.conflict_pairs.specs.declared.table.Entry.{Entry}
 use Rattle.conflict_pairs.specs.Table.{Table, verdict_at, entry_by, entries_of, IsRightEntry, StandsFor}
 use Rattle.conflict_pairs.specs.Alike.{IsAsked, StandsIn, IsJudgedAt, AreJudged}

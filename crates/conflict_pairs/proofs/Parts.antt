@@ -10,7 +10,7 @@ use Rattle.prog_check.specs.declared.path.Path.{Path}
 use Rattle.prog_paths.specs.declared.places.Question.{Question as Asked}
 use Rattle.rayon.specs.Lists.{chunks_of, chunks_from}
 use Rattle.rayon.proofs.ToStd.{chunks_of-concat}
-use Rattle.conflict_pairs.specs.declared.outcome.Verdict.{Verdict}
+use Rattle.conflict_pairs.specs.declared.verdicts.Verdict.{Verdict}
 use Rattle.conflict_pairs.specs.Alike.{IsAsked, IsJudgedAt, AreJudged}
 use Rattle.conflict_pairs.specs.Table.{verdicts_in}
 use Rattle.conflict_pairs.proofs.Zipped.{AllZip-append}

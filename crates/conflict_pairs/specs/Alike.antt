@@ -10,7 +10,7 @@ use Rattle.prog_paths.specs.Asked.{asks, question_between}
 use Rattle.prog_paths.specs.Meeting.{MayCover}
 use Rattle.prog_paths.specs.Places.{IsAt}
 use Rattle.prog_paths.specs.StaticGraph.{IsAccessOf}
-use Rattle.conflict_pairs.specs.declared.outcome.Verdict.{Verdict}
+use Rattle.conflict_pairs.specs.declared.verdicts.Verdict.{Verdict}
 use Rattle.conflict_pairs.specs.Search.{IsJudged}
 
 -- ---- accesses

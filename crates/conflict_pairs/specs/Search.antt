@@ -9,8 +9,8 @@ use Rattle.prog_paths.specs.StaticGraph.{Question, AsksReadWrite}
 use Rattle.prog_check.specs.declared.path.Access.{Access}
 use Rattle.prog_paths.specs.Questions.{mine_node, their_node, column_or_zero, question_facts}
 use Rattle.conflict_pairs.specs.Verdicts.{IsFall, FallsShortest, IsShortest}
-use Rattle.conflict_pairs.specs.declared.outcome.Verdict.{Verdict}
-use Rattle.conflict_pairs.specs.declared.outcome.Verdict.TheVariants.{Apart, Covered, Exposed}
+use Rattle.conflict_pairs.specs.declared.verdicts.Verdict.{Verdict}
+use Rattle.conflict_pairs.specs.declared.verdicts.Verdict.TheVariants.{Apart, Covered, Exposed}
 use Rattle.prog_paths.specs.Shown.{Falls, Runs, ShowEqual, key_pairs, CoversBy}
 
 -- ---- apart

@@ -6,7 +6,7 @@ ghost use Rattle.conflict_pairs.specs.Table.{verdicts_in, StandsFor};
 
 use crate::fault::PairFault;
 use crate::judge::verdicts_of;
-use crate::outcome::Verdict;
+use crate::verdicts::Verdict;
 use crate::shown::{Shown, shown_of};
 use crate::table::PairTable;
 use prog_check::Path;

@@ -9,7 +9,7 @@ use crate::fault::PairFault;
 use crate::judge::verdicts_of;
 use crate::limits::{EQUAL_PARTS, MIN_QUESTIONS_OF_THREADS};
 use crate::listing::all_questions;
-use crate::outcome::Verdict;
+use crate::verdicts::Verdict;
 use crate::shown::{Shown, shown_of};
 use crate::table::PairTable;
 use prog_check::Path;

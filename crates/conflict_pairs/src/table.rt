@@ -3,7 +3,7 @@ ghost use Rattle.std.specs.Prelude.{◌≡◌, ◌<◌, ◌↔◌, [], IsTrue, A
 ghost use Rattle.conflict_pairs.specs.declared.table.Entry.{Entry};
 ghost use Rattle.conflict_pairs.specs.Table.{verdicts_in, verdict_at, entries_of};
 
-use crate::outcome::Verdict;
+use crate::verdicts::Verdict;
 use prog_paths::Question;
 use std::marker::Model;
 

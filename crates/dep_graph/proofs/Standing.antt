@@ -20,8 +20,8 @@ use Rattle.prog_paths.proofs.Elements.{contains_at, place_of, contains_mapped, f
 use Rattle.prog_paths.proofs.Marked.{same_access, same_asked, edge-from_mark, vulnerable-from_mark, vulnerable-from_mark-question, mark-from_edge, mark-from_vulnerable}
 use Rattle.prog_paths.proofs.Membership.{law_of_listing}
 use Rattle.prog_paths.proofs.Order.{law_of_order, rise-between}
-use Rattle.conflict_pairs.specs.declared.outcome.Verdict.{Verdict}
-use Rattle.conflict_pairs.specs.declared.outcome.Verdict.TheVariants.{Apart, Covered, Exposed}
+use Rattle.conflict_pairs.specs.declared.verdicts.Verdict.{Verdict}
+use Rattle.conflict_pairs.specs.declared.verdicts.Verdict.TheVariants.{Apart, Covered, Exposed}
 use Rattle.conflict_pairs.specs.declared.table.Entry.{Entry}
 use Rattle.conflict_pairs.specs.Verdicts.{mine_of, theirs_of, IsRightOf, IsRight, IsExposedBy}
 use Rattle.conflict_pairs.specs.Table.{Table, IsRightEntry, StandsFor}

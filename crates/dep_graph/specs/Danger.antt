@@ -2,7 +2,7 @@
 use Rattle.std.specs.Prelude.{◌≡◌, ℕ, ◌<◌, ◌≤◌, ◌⊎◌, List, [], ◌∷◌, Some, slice_get}
 use Rattle.prog_check.specs.declared.path.Path.{Path}
 use Rattle.prog_paths.specs.StaticGraph.{AsksReadWrite, HasQuestion, IsExposed, StaticEdge, IsVulnerable, IsDangerousAt}
-use Rattle.conflict_pairs.specs.declared.outcome.Verdict.TheVariants.{Exposed}
+use Rattle.conflict_pairs.specs.declared.verdicts.Verdict.TheVariants.{Exposed}
 use Rattle.conflict_pairs.specs.declared.table.Entry.{Entry}
 use Rattle.conflict_pairs.specs.Verdicts.{IsExposedBy}
 use Rattle.conflict_pairs.specs.Table.{Table}

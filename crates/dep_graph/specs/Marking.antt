@@ -1,7 +1,7 @@
 -- What a question with its verdict makes of the graph.
 use Rattle.std.specs.Prelude.{map, Bool, true, false}
-use Rattle.conflict_pairs.specs.declared.outcome.Verdict.{Verdict}
-use Rattle.conflict_pairs.specs.declared.outcome.Verdict.TheVariants.{Apart, Covered, Exposed}
+use Rattle.conflict_pairs.specs.declared.verdicts.Verdict.{Verdict}
+use Rattle.conflict_pairs.specs.declared.verdicts.Verdict.TheVariants.{Apart, Covered, Exposed}
 use Rattle.conflict_pairs.specs.declared.table.Entry.{Entry}
 use Rattle.prog_paths.specs.declared.mark.Mark.{Mark}
 use Rattle.prog_paths.specs.Marks.{mark_by}

@@ -6,7 +6,7 @@ mod asking;
 mod columns;
 mod count;
 mod kinds;
-mod law;
+mod laws;
 mod limits;
 mod listing;
 mod mark;
@@ -18,7 +18,7 @@ mod walk;
 
 pub use asking::{asks_read_write, asks_write_read, both_write, may_cover, may_touch};
 pub use count::is_too_large;
-pub use law::{
+pub use laws::{
     law_of_listing, law_of_own_unknowns, law_of_paths, law_of_questions, law_of_single_changes,
 };
 pub use listing::paths;

@@ -9,7 +9,7 @@ mod certificate;
 mod chain;
 mod checking;
 mod fault;
-mod law;
+mod laws;
 mod robust;
 mod text;
 
@@ -18,7 +18,7 @@ pub use chain::Chain;
 pub use checking::bodies::body_size;
 pub use checking::checker::verify;
 pub use fault::{CertFault, JsonFault};
-pub use law::accepted_is_safe;
+pub use laws::accepted_is_safe;
 pub use robust::RobustSet;
 pub use text::reading::from_json;
 pub use text::writing::to_json;

@@ -14,7 +14,7 @@ use Rattle.prog_paths.specs.Places.{IsAt}
 use Rattle.prog_paths.proofs.Asked.{placed, all_places_stand}
 use Rattle.prog_paths.proofs.Membership.{asks-from_Asks}
 use Rattle.prog_paths.proofs.Segments.{IsMember, member_left, member_right}
-use Rattle.conflict_pairs.specs.declared.outcome.Verdict.{Verdict}
+use Rattle.conflict_pairs.specs.declared.verdicts.Verdict.{Verdict}
 use Rattle.conflict_pairs.specs.Verdicts.{IsRight}
 use Rattle.conflict_pairs.specs.Law.{IsExposedVerdict}
 use Rattle.conflict_pairs.proofs.Exactness.{law_of_verdicts}

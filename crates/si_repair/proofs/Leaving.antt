@@ -10,8 +10,8 @@ use Rattle.prog_paths.specs.Asked.{Asks, numbers_of}
 use Rattle.prog_paths.proofs.Segments.{IsMember}
 use Rattle.prog_paths.proofs.Edges.{HasQuestion-weaker, EdgeOf-weaker, EdgeOf-inside}
 use Rattle.prog_paths.proofs.Membership.{law_of_listing}
-use Rattle.conflict_pairs.specs.declared.outcome.Verdict.{Verdict}
-use Rattle.conflict_pairs.specs.declared.outcome.Verdict.TheVariants.{Apart, Covered, Exposed}
+use Rattle.conflict_pairs.specs.declared.verdicts.Verdict.{Verdict}
+use Rattle.conflict_pairs.specs.declared.verdicts.Verdict.TheVariants.{Apart, Covered, Exposed}
 use Rattle.conflict_pairs.specs.declared.table.Entry.{Entry as Judged}
 use Rattle.conflict_pairs.specs.Table.{Table, StandsFor, IsRightEntry}
 use Rattle.conflict_pairs.specs.Verdicts.{mine_of, theirs_of, IsRight, IsRightOf}

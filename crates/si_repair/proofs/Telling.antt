@@ -14,8 +14,8 @@ use Rattle.prog_paths.specs.Shown.{ShowEqual, key_pairs}
 use Rattle.prog_paths.specs.Questions.{question_facts}
 use Rattle.prog_paths.proofs.Membership.{law_of_listing}
 use Rattle.prog_paths.proofs.Order.{law_of_order}
-use Rattle.conflict_pairs.specs.declared.outcome.Verdict.{Verdict}
-use Rattle.conflict_pairs.specs.declared.outcome.Verdict.TheVariants.{Apart, Covered, Exposed}
+use Rattle.conflict_pairs.specs.declared.verdicts.Verdict.{Verdict}
+use Rattle.conflict_pairs.specs.declared.verdicts.Verdict.TheVariants.{Apart, Covered, Exposed}
 use Rattle.conflict_pairs.specs.declared.table.Entry.{Entry as Judged}
 use Rattle.conflict_pairs.specs.Table.{Table, StandsFor, IsRightEntry}
 use Rattle.conflict_pairs.specs.Verdicts.{IsRight, IsCoveredBy}

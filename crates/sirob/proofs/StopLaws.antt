@@ -33,8 +33,8 @@ use Rattle.si_workers.specs.declared.job_list.JobList.{JobList}
 use Rattle.si_workers.specs.JobLines.{jobs_of, IsJobs, IsJobsFault}
 use Rattle.sirob.specs.declared.command_line.Mode.{Mode}
 use Rattle.sirob.specs.declared.command_line.Mode.TheVariants.{Check, Certify, Verify, Repair, Run, Audit, Work}
-use Rattle.sirob.specs.declared.run_fault.RunFault.{RunFault}
-use Rattle.sirob.specs.declared.run_fault.RunFault.TheVariants as fault
+use Rattle.sirob.specs.declared.command_fault.CommandFault.{CommandFault}
+use Rattle.sirob.specs.declared.command_fault.CommandFault.TheVariants as fault
 use Rattle.sirob.specs.declared.status.Status.{Status}
 use Rattle.sirob.specs.declared.status.Status.TheVariants as status
 use Rattle.sirob.specs.FaultLines.{fault_line, is_memory}
@@ -46,7 +46,7 @@ use Rattle.sirob.specs.Stops.{IsUnanalysedBy, IsUnrepairedBy, IsStop, IsReadFaul
 -- ---- how reading an input stops
 
 -- a fault of the input stands before the first line
-pub stops_at_once : (mode : Mode) (input : List ℕ) (f : RunFault) → (is_memory f ≡ false → IsRefused mode input f) → IsStop mode input f []
+pub stops_at_once : (mode : Mode) (input : List ℕ) (f : CommandFault) → (is_memory f ≡ false → IsRefused mode input f) → IsStop mode input f []
 stops_at_once mode input f h = ((λ no_memory. (h no_memory, refl)), (λ memory. at_once))
 
 -- reading this input stopped
@@ -71,7 +71,7 @@ stops_reading mode f None failed long fails works =
 stops_reading mode f (Some bytes) failed long fails works = (bytes, refl, stops_at mode f bytes failed long fails works)
 
 -- a fault up to the text is one of the input
-pub refused_input : (mode : Mode) (wanted : ℕ) (input : List ℕ) (f : RunFault) → parts_wanted mode ≡ wanted → IsRefusedInput wanted input f → IsRefused mode input f
+pub refused_input : (mode : Mode) (wanted : ℕ) (input : List ℕ) (f : CommandFault) → parts_wanted mode ≡ wanted → IsRefusedInput wanted input f → IsRefused mode input f
 refused_input mode wanted input (fault.Input f) is wrong = subst (λ (n : ℕ). IsRefusedInput n input (fault.Input f)) (sym is) wrong
 refused_input mode wanted input (fault.Parts f) is wrong = subst (λ (n : ℕ). IsRefusedInput n input (fault.Parts f)) (sym is) wrong
 refused_input mode wanted input (fault.Text f) is wrong = subst (λ (n : ℕ). IsRefusedInput n input (fault.Text f)) (sym is) wrong
@@ -85,7 +85,7 @@ refused_input mode wanted input (fault.Audit f) is (text, others, divided, count
 refused_input mode wanted input (fault.Work f) is (text, others, divided, count, wrong) = absurd wrong
 
 -- a set that is not analysed is the fault of its input
-pub set_refused : (input : List ℕ) (set : DraftTree) → IsChecked input set → (f : RunFault) → IsUnanalysedBy set f → IsRefused Certify input f
+pub set_refused : (input : List ℕ) (set : DraftTree) → IsChecked input set → (f : CommandFault) → IsUnanalysedBy set f → IsRefused Certify input f
 set_refused input set checked (fault.Analysis f) wrong =
     (tt, set, record { text = checked.text; others = []; divided = checked.divided; count = refl; spelled = checked.spelled }, wrong)
 set_refused input set checked (fault.Repair f) wrong = absurd wrong
@@ -100,7 +100,7 @@ set_refused input set checked (fault.Text f) wrong = absurd wrong
 set_refused input set checked (fault.Check f) wrong = absurd wrong
 
 -- and so it is where a part stands behind it
-pub part_unanalysed : (mode : Mode) (set : DraftTree) (part : List ℕ) (f : RunFault) → IsAnalysedFor mode → IsUnanalysedBy set f
+pub part_unanalysed : (mode : Mode) (set : DraftTree) (part : List ℕ) (f : CommandFault) → IsAnalysedFor mode → IsUnanalysedBy set f
     → IsRefusedPart mode set part f
 part_unanalysed mode set part (fault.Analysis f) analysed wrong = (analysed, wrong)
 part_unanalysed mode set part (fault.Repair f) analysed wrong = absurd wrong
@@ -115,7 +115,7 @@ part_unanalysed mode set part (fault.Text f) analysed wrong = absurd wrong
 part_unanalysed mode set part (fault.Check f) analysed wrong = absurd wrong
 
 -- nor is one that is not repaired
-pub repair_refused : (promote : Bool) (input : List ℕ) (set : DraftTree) → IsChecked input set → (f : RunFault) → IsUnrepairedBy promote set f
+pub repair_refused : (promote : Bool) (input : List ℕ) (set : DraftTree) → IsChecked input set → (f : CommandFault) → IsUnrepairedBy promote set f
     → IsRefused (Repair promote) input f
 repair_refused promote input set checked (fault.Analysis f) wrong =
     (tt, set, record { text = checked.text; others = []; divided = checked.divided; count = refl; spelled = checked.spelled }, wrong)
@@ -137,7 +137,7 @@ stops_printing mode input = ((λ no_memory. absurd (cc)), (λ memory. at_once))
 -- ---- how a second part ends
 
 -- a fault of the part stands before the first line
-pub part_at_once : (mode : Mode) (set : DraftTree) (part : List ℕ) (f : RunFault) → (is_memory f ≡ false → IsRefusedPart mode set part f) → IsPartStop mode set part f []
+pub part_at_once : (mode : Mode) (set : DraftTree) (part : List ℕ) (f : CommandFault) → (is_memory f ≡ false → IsRefusedPart mode set part f) → IsPartStop mode set part f []
 part_at_once mode set part f h = ((λ no_memory. (h no_memory, refl)), (λ memory. inl refl))
 
 -- a fault of a line, where memory did not lack
@@ -212,7 +212,7 @@ jobs_refused set left part f same within (input, is, wrong) no_memory =
     (subst (λ (p : List ℕ). IsJobsFault set p f) (is ∙ same) wrong) no_memory
 
 -- and so the jobs of a robust set are refused
-pub lines_refused : (workers : ℕ) (set : DraftTree) (part : List ℕ) (f : RunFault) → IsRobust set → IsRefusedJobs set part f
+pub lines_refused : (workers : ℕ) (set : DraftTree) (part : List ℕ) (f : CommandFault) → IsRobust set → IsRefusedJobs set part f
     → IsRefusedPart (Work workers) set part f
 lines_refused workers set part (fault.Script (s.Line f)) robust wrong = (robust, wrong)
 lines_refused workers set part (fault.Script (s.Input f)) robust wrong = absurd wrong
@@ -285,7 +285,7 @@ set_of_part input set part wanted two has =
     record { text = has.has.text; others = part ∷ []; divided = has.has.divided; count = sym two; spelled = has.has.spelled }
 
 part_refused : (mode : Mode) (input : List ℕ) (set : DraftTree) (part : List ℕ) → parts_wanted mode ≡ 2 → IsSetAndPart input set part
-    → (f : RunFault) → IsRefusedPart mode set part f → IsRefused mode input f
+    → (f : CommandFault) → IsRefusedPart mode set part f → IsRefused mode input f
 part_refused mode input set part two has (fault.Analysis f) wrong = (wrong.0, set, set_of_part input set part (parts_wanted mode) two has, wrong.1)
 part_refused mode input set part two has (fault.Repair f) wrong = absurd wrong
 part_refused mode input set part two has (fault.Json f) wrong = (set, part, has.has, wrong)
@@ -305,7 +305,7 @@ part_behind mode input set part has written (inr first) = behind_lines written (
 
 -- the end of a part is that of its input
 part_is_input : (mode : Mode) (input : List ℕ) (set : DraftTree) (part : List ℕ) → parts_wanted mode ≡ 2 → IsSetAndPart input set part
-    → (written : List ℕ) (ended : Result Status RunFault) → IsPartDone mode set part written ended → IsInputDone mode input written ended
+    → (written : List ℕ) (ended : Result Status CommandFault) → IsPartDone mode set part written ended → IsInputDone mode input written ended
 part_is_input mode input set part two has written (Ok ended) given = (part_given mode input set part has ended written given.0, tt)
 part_is_input mode input set part two has written (Err f) given = (
   tt,
@@ -367,16 +367,16 @@ front_behind old mid new first second appends (n, more) =
     (length first + n, subst (Appends old new) (sym (take_past first second n)) (Appends-trans old mid new first (take n second) appends more))
 
 -- lines were written, and this end was given
-pub wrote_lines : (P : List ℕ → Result Status RunFault → Type 0) (lines : List ℕ) (given : Result Status RunFault) (failed : Bool) (old new : Option (List ℕ)) (ended : Result Status RunFault)
+pub wrote_lines : (P : List ℕ → Result Status CommandFault → Type 0) (lines : List ℕ) (given : Result Status CommandFault) (failed : Bool) (old new : Option (List ℕ)) (ended : Result Status CommandFault)
     → P lines given → WritesOr (Err write_lost) (w.IsJust lines given) failed old new ended → WritesOr (Err write_lost) P failed old new ended
 wrote_lines P lines given failed old new ended is writes =
-    writes_or_as (λ (e : Result Status RunFault). e) (Err write_lost) (w.IsJust lines given) P failed old new ended
+    writes_or_as (λ (e : Result Status CommandFault). e) (Err write_lost) (w.IsJust lines given) P failed old new ended
     (λ written end just. subst (λ (l : List ℕ). P l end) (sym just.0) (subst (P lines) (sym just.1) is)) writes
 
 -- ---- what a command replies
 
 -- the answer to an input, with the line behind it
-answered : (mode : Mode) (input lines : List ℕ) (ended : Result Status RunFault) (written : List ℕ) (end : Status)
+answered : (mode : Mode) (input lines : List ℕ) (ended : Result Status CommandFault) (written : List ℕ) (end : Status)
     → IsInputDone mode input lines ended → Ends ended written end → IsAnswer mode input (lines ++ written) end
 answered mode input lines _ _ _ given (well end) = subst (λ (l : List ℕ). IsAnswer mode input l end) (sym (append-nil lines)) (done lines end given.0)
 answered mode input lines _ _ _ given (in_fault f no_memory) =
@@ -388,24 +388,24 @@ answered mode input lines _ _ _ given (in_memory f) = go (is_memory f) refl
     go true memory = stopped lines (given.1.1 memory)
     go false no_memory = subst (λ (l : List ℕ). IsAnswer mode input (l ++ memory_line) status.Memory) (sym (given.1.0 no_memory).1) (stopped [] at_once)
 
-unread : (ended : Result Status RunFault) (written : List ℕ) (end : Status) → IsReadFault ended → Ends ended written end → IsUnread written end
+unread : (ended : Result Status CommandFault) (written : List ℕ) (end : Status) → IsReadFault ended → Ends ended written end → IsUnread written end
 unread _ _ _ is (well end) = absurd (cc)
-unread _ _ _ is (in_fault f no_memory) = let same : f ≡ fault.Input i.ReadFault = cc in subst (λ (g : RunFault). IsUnread (fault_line g) status.Faulty) (sym same) u.refused
+unread _ _ _ is (in_fault f no_memory) = let same : f ≡ fault.Input i.ReadFault = cc in subst (λ (g : CommandFault). IsUnread (fault_line g) status.Faulty) (sym same) u.refused
 unread _ _ _ is (in_memory f) = u.stopped
 
-replied : (mode : Mode) (left : Option (List ℕ)) (failed : Bool) (lines : List ℕ) (ended : Result Status RunFault) (written : List ℕ) (end : Status)
+replied : (mode : Mode) (left : Option (List ℕ)) (failed : Bool) (lines : List ℕ) (ended : Result Status CommandFault) (written : List ℕ) (end : Status)
     → IsSourceDone mode left failed lines ended → Ends ended written end → IsReply mode left failed (lines ++ written) end
 replied mode left false lines ended written end (input, can, given) ends = (input, can, answered mode input lines ended written end given ends)
 replied mode left true lines ended written end (is, none) ends =
     subst (λ (l : List ℕ). IsUnread (l ++ written) end) (sym none) (unread ended written end is ends)
 
 -- some line can stand behind each end
-some_end : (ended : Result Status RunFault) → (written : List ℕ) × (end : Status) × Ends ended written end
+some_end : (ended : Result Status CommandFault) → (written : List ℕ) × (end : Status) × Ends ended written end
 some_end (Ok end) = ([], end, well end)
 some_end (Err f) = (memory_line, status.Memory, in_memory f)
 
 -- the sink failed on the way
-pub lost : (mode : Mode) (left : Option (List ℕ)) (source_failed failed : Bool) (old new : Option (List ℕ)) (ended : Result Status RunFault)
+pub lost : (mode : Mode) (left : Option (List ℕ)) (source_failed failed : Bool) (old new : Option (List ℕ)) (ended : Result Status CommandFault)
     → failed ≡ true → WritesOr (Err write_lost) (IsSourceDone mode left source_failed) failed old new ended → Writes (IsReply mode left source_failed) failed old new status.Faulty
 lost mode left source_failed false old new ended fails writes = absurd (cc)
 lost mode left source_failed true old new ended fails (lost_is, lines, meant, given, appends) =
@@ -413,7 +413,7 @@ lost mode left source_failed true old new ended fails (lost_is, lines, meant, gi
     (refl, lines ++ behind.0, behind.1, replied mode left source_failed lines meant behind.0 behind.1 given behind.2, front_before old new lines behind.0 appends)
 
 -- the sink took all lines
-pub whole : (mode : Mode) (left : Option (List ℕ)) (source_failed mid_failed failed : Bool) (old mid new : Option (List ℕ)) (ended : Result Status RunFault) (end : Status)
+pub whole : (mode : Mode) (left : Option (List ℕ)) (source_failed mid_failed failed : Bool) (old mid new : Option (List ℕ)) (ended : Result Status CommandFault) (end : Status)
     → mid_failed ≡ false → WritesOr (Err write_lost) (IsSourceDone mode left source_failed) mid_failed old mid ended → Writes (Ends ended) failed mid new end
     → Writes (IsReply mode left source_failed) failed old new end
 whole mode left source_failed true failed old mid new ended end works given behind = absurd (cc)
@@ -449,22 +449,22 @@ part_run robust set left part false failed old new inner may same within works w
     (reply_done robust set left part may same within) writes
 
 -- a fault before anything is written
-pub input_stopped : (mode : Mode) (input : List ℕ) (f : RunFault) (failed : Bool) (old : Option (List ℕ)) → failed ≡ false → IsStop mode input f []
+pub input_stopped : (mode : Mode) (input : List ℕ) (f : CommandFault) (failed : Bool) (old : Option (List ℕ)) → failed ≡ false → IsStop mode input f []
     → WritesOr (Err write_lost) (IsInputDone mode input) failed old old (Err f)
 input_stopped mode input f true old works stop = absurd (cc)
 input_stopped mode input f false old works stop = ([], (tt, stop), Appends-nil old)
 
 -- a fault of a set or its part before anything is written
-pub part_stopped : (mode : Mode) (set : DraftTree) (part : List ℕ) (f : RunFault) (failed : Bool) (old : Option (List ℕ)) → failed ≡ false
+pub part_stopped : (mode : Mode) (set : DraftTree) (part : List ℕ) (f : CommandFault) (failed : Bool) (old : Option (List ℕ)) → failed ≡ false
     → (is_memory f ≡ false → IsRefusedPart mode set part f) → WritesOr (Err write_lost) (IsPartDone mode set part) failed old old (Err f)
 part_stopped mode set part f true old works wrong = absurd (cc)
 part_stopped mode set part f false old works wrong = ([], (tt, part_at_once mode set part f wrong), Appends-nil old)
 
-pub done_of_part : (mode : Mode) (input : List ℕ) (set : DraftTree) (part : List ℕ) (failed : Bool) (old new : Option (List ℕ)) (ended : Result Status RunFault)
+pub done_of_part : (mode : Mode) (input : List ℕ) (set : DraftTree) (part : List ℕ) (failed : Bool) (old new : Option (List ℕ)) (ended : Result Status CommandFault)
     → parts_wanted mode ≡ 2 → IsSetAndPart input set part → WritesOr (Err write_lost) (IsPartDone mode set part) failed old new ended
     → WritesOr (Err write_lost) (IsInputDone mode input) failed old new ended
 done_of_part mode input set part failed old new ended two has writes =
-    writes_or_as (λ (e : Result Status RunFault). e) (Err write_lost) (IsPartDone mode set part) (IsInputDone mode input) failed old new ended (part_is_input mode input set part two has) writes
+    writes_or_as (λ (e : Result Status CommandFault). e) (Err write_lost) (IsPartDone mode set part) (IsInputDone mode input) failed old new ended (part_is_input mode input set part two has) writes
 
 -- the source could not be read
 unread_source : (mode : Mode) (f : InputFault) (left : Option (List ℕ)) (source_failed : Bool)
@@ -482,12 +482,12 @@ read_stopped mode f left source_failed true old works long fails is = absurd (cc
 read_stopped mode f left source_failed false old works long fails is = ([], unread_source mode f left source_failed long fails is, Appends-nil old)
 
 -- the source was read
-pub done_of_source : (mode : Mode) (left : Option (List ℕ)) (source_failed : Bool) (items input : List ℕ) (failed : Bool) (old new : Option (List ℕ)) (ended : Result Status RunFault)
+pub done_of_source : (mode : Mode) (left : Option (List ℕ)) (source_failed : Bool) (items input : List ℕ) (failed : Bool) (old new : Option (List ℕ)) (ended : Result Status CommandFault)
     → input ≡ items → CanGive left items → (source_failed ≡ true → ⊥) → WritesOr (Err write_lost) (IsInputDone mode input) failed old new ended
     → WritesOr (Err write_lost) (IsSourceDone mode left source_failed) failed old new ended
 done_of_source mode left true items input failed old new ended same can works writes = absurd (works refl)
 done_of_source mode left false items input failed old new ended same can works writes =
-    writes_or_as (λ (e : Result Status RunFault). e) (Err write_lost) (IsInputDone mode input) (IsSourceDone mode left false) failed old new ended turn writes
+    writes_or_as (λ (e : Result Status CommandFault). e) (Err write_lost) (IsInputDone mode input) (IsSourceDone mode left false) failed old new ended turn writes
   where
-    turn : (written : List ℕ) (end : Result Status RunFault) → IsInputDone mode input written end → IsSourceDone mode left false written end
+    turn : (written : List ℕ) (end : Result Status CommandFault) → IsInputDone mode input written end → IsSourceDone mode left false written end
     turn written end given = (items, can, subst (λ (l : List ℕ). IsInputDone mode l written end) same given)

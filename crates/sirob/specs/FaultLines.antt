@@ -7,8 +7,8 @@ use Rattle.prog_check.specs.declared.fault.CheckFault.{CheckFault}
 use Rattle.prog_check.specs.declared.fault.CheckFault.TheVariants as c
 use Rattle.prog_text.specs.declared.fault.TextFault.{TextFault}
 use Rattle.prog_text.specs.declared.fault.TextFault.TheVariants as t
-use Rattle.sirob.specs.declared.run_fault.RunFault.{RunFault}
-use Rattle.sirob.specs.declared.run_fault.RunFault.TheVariants.{Input, Parts, Text, Check, Analysis, Repair, Json, Certificate, Script, Audit, Work}
+use Rattle.sirob.specs.declared.command_fault.CommandFault.{CommandFault}
+use Rattle.sirob.specs.declared.command_fault.CommandFault.TheVariants.{Input, Parts, Text, Check, Analysis, Repair, Json, Certificate, Script, Audit, Work}
 use Rattle.history_book.specs.declared.audit.AuditFault.{AuditFault}
 use Rattle.history_book.specs.declared.audit.AuditFault.TheVariants as a
 use Rattle.history_book.specs.declared.audit.RowFault.{RowFault}
@@ -147,7 +147,7 @@ worker_fault (w.Broken job) = codes "W3" ++ spaced job
 worker_fault w.TooManyJobs = codes "W5"
 worker_fault w.Memory = codes "memory"
 
-abbrev pub fault_text : RunFault → List ℕ
+abbrev pub fault_text : CommandFault → List ℕ
 fault_text (Input fault) = code_of fault
 fault_text (Parts fault) = part_code fault
 fault_text (Text fault) = text_fault fault
@@ -161,11 +161,11 @@ fault_text (Audit fault) = audit_fault fault
 fault_text (Work fault) = worker_fault fault
 
 -- the whole line, with its line feed
-abbrev pub fault_line : RunFault → List ℕ
+abbrev pub fault_line : CommandFault → List ℕ
 fault_line fault = codes "fault " ++ (fault_text fault ++ 10 ∷ [])
 
 -- want of memory, which is no fault of the input
-abbrev pub is_memory : RunFault → Bool
+abbrev pub is_memory : CommandFault → Bool
 is_memory (Input i.Memory) = true
 is_memory (Text t.Memory) = true
 is_memory (Check c.Memory) = true

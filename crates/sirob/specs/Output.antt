@@ -52,8 +52,8 @@ use Rattle.si_workers.specs.Work.{AreTaken, IsWorkFault}
 use Rattle.sirob.specs.declared.command_line.Mode.{Mode}
 use Rattle.sirob.specs.declared.command_line.Mode.TheVariants.{Check, Certify, Verify, Repair, Run, Audit, Work}
 use Rattle.sirob.specs.declared.parts.PartFault.TheVariants as part_fault
-use Rattle.sirob.specs.declared.run_fault.RunFault.{RunFault}
-use Rattle.sirob.specs.declared.run_fault.RunFault.TheVariants as fault
+use Rattle.sirob.specs.declared.command_fault.CommandFault.{CommandFault}
+use Rattle.sirob.specs.declared.command_fault.CommandFault.TheVariants as fault
 use Rattle.sirob.specs.declared.status.Status.{Status}
 use Rattle.sirob.specs.declared.status.Status.TheVariants.{Done, Unserializable, Faulty, Memory}
 use Rattle.sirob.specs.declared.worker_fault.WorkerFault.{WorkerFault}
@@ -160,13 +160,13 @@ pub record IsUnrepaired (promote : Bool) (set : DraftTree) (f : RepairFault) : T
 -- ---- the faults of an input
 
 -- the text spells no set without a fault, and this is its first
-abbrev pub IsRefusedText : List ℕ → RunFault → Type 0
+abbrev pub IsRefusedText : List ℕ → CommandFault → Type 0
 IsRefusedText text (fault.Text f) = Refuses text f
 IsRefusedText text (fault.Check f) = (set : DraftTree) × Accepts text set × (first_fault set ≡ Some f)
 IsRefusedText text f = ⊥
 
 -- the first fault of an input of which so many parts are wanted, up to its text
-abbrev pub IsRefusedInput : (wanted : ℕ) → List ℕ → RunFault → Type 0
+abbrev pub IsRefusedInput : (wanted : ℕ) → List ℕ → CommandFault → Type 0
 IsRefusedInput wanted input (fault.Input input_fault.TooLong) = input_limit < length input
 IsRefusedInput wanted input (fault.Input f) = ⊥
 IsRefusedInput wanted input (fault.Parts part_fault.MissingPart) =
@@ -218,7 +218,7 @@ pub record IsUndone (workers : ℕ) (set : DraftTree) (part : List ℕ) (told : 
 
 -- the first fault of a set with a second part: of the analysis that comes before its lines; of its lines, of its records
 -- as a history, of its certificate, or of the workers
-abbrev pub IsRefusedPart : Mode → DraftTree → List ℕ → RunFault → Type 0
+abbrev pub IsRefusedPart : Mode → DraftTree → List ℕ → CommandFault → Type 0
 IsRefusedPart mode set part (fault.Analysis f) = IsAnalysedFor mode × IsUnanalysed set f
 IsRefusedPart mode set part (fault.Script (script_fault.Line f)) = IsRefusedLine mode set part f
 IsRefusedPart mode set part (fault.Audit f) =
@@ -232,7 +232,7 @@ IsRefusedPart mode set part (fault.Certificate f) =
 IsRefusedPart mode set part f = ⊥
 
 -- the input has a second part, of which this is the first fault
-abbrev pub IsRefusedByPart : Mode → List ℕ → RunFault → Type 0
+abbrev pub IsRefusedByPart : Mode → List ℕ → CommandFault → Type 0
 IsRefusedByPart mode input f =
     (set : DraftTree) × (part : List ℕ) × HasPart input set part × IsRefusedPart mode set part f
 
@@ -247,7 +247,7 @@ IsRefusedRepair (Repair promote) input f = (set : DraftTree) × IsChecked input 
 IsRefusedRepair mode input f = ⊥
 
 -- the first fault of an input
-abbrev pub IsRefused : Mode → List ℕ → RunFault → Type 0
+abbrev pub IsRefused : Mode → List ℕ → CommandFault → Type 0
 IsRefused mode input (fault.Analysis f) = IsRefusedSet mode input f
 IsRefused mode input (fault.Repair f) = IsRefusedRepair mode input f
 IsRefused mode input (fault.Json f) = IsRefusedByPart mode input (fault.Json f)
@@ -378,7 +378,7 @@ pub data IsAnswer (mode : Mode) (input : List ℕ) : List ℕ → Status → Typ
   -- all that the input means
   done : (written : List ℕ) (status : Status) → Gives mode input written status → IsAnswer mode input written status
   -- the line of the first fault, alone
-  refused : (f : RunFault) → is_memory f ≡ false → IsRefused mode input f → IsAnswer mode input (fault_line f) Faulty
+  refused : (f : CommandFault) → is_memory f ≡ false → IsRefused mode input f → IsAnswer mode input (fault_line f) Faulty
   -- some first lines of it, or none, and the line of want of memory
   stopped : (written : List ℕ) → StopsBehind mode input written → IsAnswer mode input (written ++ memory_line) Memory
 

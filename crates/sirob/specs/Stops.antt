@@ -12,8 +12,8 @@ use Rattle.si_workers.specs.JobLines.{jobs_of}
 use Rattle.sirob.specs.declared.command_line.Mode.{Mode}
 use Rattle.sirob.specs.declared.commands.robust.Verified.{Verified}
 use Rattle.sirob.specs.declared.commands.robust.Verified.TheVariants as verified
-use Rattle.sirob.specs.declared.run_fault.RunFault.{RunFault}
-use Rattle.sirob.specs.declared.run_fault.RunFault.TheVariants as fault
+use Rattle.sirob.specs.declared.command_fault.CommandFault.{CommandFault}
+use Rattle.sirob.specs.declared.command_fault.CommandFault.TheVariants as fault
 use Rattle.sirob.specs.declared.status.Status.{Status}
 use Rattle.sirob.specs.declared.status.Status.TheVariants.{Unserializable, Faulty, Memory}
 use Rattle.sirob.specs.FaultLines.{fault_line, is_memory}
@@ -25,18 +25,18 @@ abbrev pub IsJust : List ℕ → Status → List ℕ → Status → Type 0
 IsJust bytes status written ended = (written ≡ bytes) × (ended ≡ status)
 
 -- the sink failed
-abbrev pub write_lost : RunFault
+abbrev pub write_lost : CommandFault
 write_lost = fault.Script script_fault.WriteFault
 
 -- ---- an analysis
 
 -- the set is not analysed, and this is the fault that says so
-abbrev pub IsUnanalysedBy : DraftTree → RunFault → Type 0
+abbrev pub IsUnanalysedBy : DraftTree → CommandFault → Type 0
 IsUnanalysedBy set (fault.Analysis f) = IsUnanalysed set f
 IsUnanalysedBy set f = ⊥
 
 -- the set is not analysed or not repaired, and this is the fault that says so
-abbrev pub IsUnrepairedBy : (promote : Bool) → DraftTree → RunFault → Type 0
+abbrev pub IsUnrepairedBy : (promote : Bool) → DraftTree → CommandFault → Type 0
 IsUnrepairedBy promote set (fault.Analysis f) = IsUnanalysed set f
 IsUnrepairedBy promote set (fault.Repair f) = IsUnrepaired promote set f
 IsUnrepairedBy promote set f = ⊥
@@ -54,48 +54,48 @@ pub record IsSetAndPart (input : List ℕ) (set : DraftTree) (part : List ℕ) :
   pub within : length part ≤ input_limit
 
 -- a part stopped with this fault behind these bytes: a fault of the input comes before them all
-abbrev pub IsPartStop : Mode → DraftTree → List ℕ → RunFault → List ℕ → Type 0
+abbrev pub IsPartStop : Mode → DraftTree → List ℕ → CommandFault → List ℕ → Type 0
 IsPartStop mode set part f written =
     (is_memory f ≡ false → IsRefusedPart mode set part f × (written ≡ []))
     × (is_memory f ≡ true → (written ≡ []) ⊎ GivesFirstPart mode set part written)
 
 -- what is written for a part, and how it ends
-abbrev pub IsPartDone : Mode → DraftTree → List ℕ → List ℕ → Result Status RunFault → Type 0
+abbrev pub IsPartDone : Mode → DraftTree → List ℕ → List ℕ → Result Status CommandFault → Type 0
 IsPartDone mode set part written ended =
     IfOk ended (λ status. GivesPart mode set part written status)
     × IfErr ended (λ f. IsPartStop mode set part f written)
 
 -- the first fault of the lines of jobs
-abbrev pub IsRefusedJobs : DraftTree → List ℕ → RunFault → Type 0
+abbrev pub IsRefusedJobs : DraftTree → List ℕ → CommandFault → Type 0
 IsRefusedJobs set part (fault.Script (script_fault.Line f)) = jobs_of set part ≡ Err f
 IsRefusedJobs set part f = ⊥
 
 -- the end of a script's run as that of a command
-abbrev pub as_command : Result Finding ScriptFault → Result Status RunFault
+abbrev pub as_command : Result Finding ScriptFault → Result Status CommandFault
 as_command (Ok finding) = Ok (status_of finding)
 as_command (Err f) = Err (fault.Script f)
 
 -- ---- an input
 
 -- a command stopped with this fault behind these bytes: a fault of the input comes before them all
-abbrev pub IsStop : Mode → List ℕ → RunFault → List ℕ → Type 0
+abbrev pub IsStop : Mode → List ℕ → CommandFault → List ℕ → Type 0
 IsStop mode input f written =
     (is_memory f ≡ false → IsRefused mode input f × (written ≡ []))
     × (is_memory f ≡ true → StopsBehind mode input written)
 
 -- what is written for an input, and how it ends
-abbrev pub IsInputDone : Mode → List ℕ → List ℕ → Result Status RunFault → Type 0
+abbrev pub IsInputDone : Mode → List ℕ → List ℕ → Result Status CommandFault → Type 0
 IsInputDone mode input written ended =
     IfOk ended (λ status. Gives mode input written status) × IfErr ended (λ f. IsStop mode input f written)
 
 -- ---- a source
 
 -- the one fault of a source that failed
-abbrev pub IsReadFault : {X : Type 0} → Result X RunFault → Type 0
+abbrev pub IsReadFault : {X : Type 0} → Result X CommandFault → Type 0
 IsReadFault ended = ended ≡ Err (fault.Input input_fault.ReadFault)
 
 -- what is written for a source, and how it ends: nothing where the source failed
-abbrev pub IsSourceDone : Mode → (left : Option (List ℕ)) → (failed : Bool) → List ℕ → Result Status RunFault → Type 0
+abbrev pub IsSourceDone : Mode → (left : Option (List ℕ)) → (failed : Bool) → List ℕ → Result Status CommandFault → Type 0
 IsSourceDone mode left false written ended = ForInput left (λ input. IsInputDone mode input written ended)
 IsSourceDone mode left true written ended = IsReadFault ended × (written ≡ [])
 
@@ -103,7 +103,7 @@ IsSourceDone mode left true written ended = IsReadFault ended × (written ≡ []
 
 -- what is written behind the lines of a command that ended so, and the status behind it; memory may lack for the line
 -- of a fault
-pub data Ends : Result Status RunFault → List ℕ → Status → Type 0 where
+pub data Ends : Result Status CommandFault → List ℕ → Status → Type 0 where
   well : (status : Status) → Ends (Ok status) [] status
-  in_fault : (f : RunFault) → is_memory f ≡ false → Ends (Err f) (fault_line f) Faulty
-  in_memory : (f : RunFault) → Ends (Err f) memory_line Memory
+  in_fault : (f : CommandFault) → is_memory f ≡ false → Ends (Err f) (fault_line f) Faulty
+  in_memory : (f : CommandFault) → Ends (Err f) memory_line Memory

@@ -6,14 +6,14 @@ ghost use Rattle.si_engine.specs.Reading.{input_limit};
 ghost use Rattle.sirob.specs.Output.{IsSoundText, IsChecked, IsRefusedInput, IsRefusedText};
 ghost use Rattle.sirob.specs.Stops.{IsSetAndPart};
 
+use crate::command_fault::CommandFault;
 use crate::parts::{one_part, two_parts};
-use crate::run_fault::RunFault;
 use prog_check::{ProgramSet, check};
 use prog_text::parse;
 use std::alloc::Global;
 
 // The set that a text spells, where it has no fault.
-fn read_set(alloc: Global, text: &[u8]) -> Result<ProgramSet, RunFault>
+fn read_set(alloc: Global, text: &[u8]) -> Result<ProgramSet, CommandFault>
     ensures ok { IfOk result (λ set. IsSoundText text.now (draft_tree set)) }
     ensures err { IfErr result (λ fault. is_memory fault ≡ false → IsRefusedText text.now fault) }
 {
@@ -23,7 +23,7 @@ fn read_set(alloc: Global, text: &[u8]) -> Result<ProgramSet, RunFault>
 }
 
 /// The set of an input that is one text, where it has no fault.
-pub fn read_text(alloc: Global, input: &[u8]) -> Result<ProgramSet, RunFault>
+pub fn read_text(alloc: Global, input: &[u8]) -> Result<ProgramSet, CommandFault>
     requires { length input.now ≤ input_limit }
     ensures ok { IfOk result (λ set. IsChecked input.now (draft_tree set)) }
     ensures err { IfErr result (λ fault. is_memory fault ≡ false
@@ -35,7 +35,7 @@ pub fn read_text(alloc: Global, input: &[u8]) -> Result<ProgramSet, RunFault>
 }
 
 /// The set that the first part of an input spells, where it has no fault, and the bytes of the second part.
-pub fn read_text_and_part(alloc: Global, input: &[u8]) -> Result<(ProgramSet, &[u8]), RunFault>
+pub fn read_text_and_part(alloc: Global, input: &[u8]) -> Result<(ProgramSet, &[u8]), CommandFault>
     requires { length input.now ≤ input_limit }
     ensures ok { IfOk result (λ r. IsSetAndPart input.now (draft_tree r.0) r.1.now) }
     ensures err { IfErr result (λ fault. is_memory fault ≡ false

@@ -3,7 +3,7 @@ ghost use Rattle.std.specs.Prelude.{Err};
 ghost use Rattle.si_engine.specs.Writing.{IsJust, WritesOr};
 ghost use Rattle.sirob.specs.Stops.{write_lost};
 
-use crate::run_fault::RunFault;
+use crate::command_fault::CommandFault;
 use crate::status::Status;
 use si_engine::{ScriptFault, Sink, write_whole};
 
@@ -11,13 +11,13 @@ use si_engine::{ScriptFault, Sink, write_whole};
 pub fn write_lines<K: Sink>(
     sink: &mut K,
     lines: &[u8],
-    ended: Result<Status, RunFault>,
-) -> Result<Status, RunFault>
+    ended: Result<Status, CommandFault>,
+) -> Result<Status, CommandFault>
     ensures { WritesOr (Err write_lost) (IsJust lines.now ended)
         (K.has_failed sink.new) (K.taken sink.old) (K.taken sink.new) result }
 {
     match write_whole(sink, lines) {
         Ok(()) => ended,
-        Err(_) => Err(RunFault::Script(ScriptFault::WriteFault)),
+        Err(_) => Err(CommandFault::Script(ScriptFault::WriteFault)),
     }
 }

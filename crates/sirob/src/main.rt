@@ -3,6 +3,7 @@
 #![tactic(auto)]
 
 mod analysis_fault;
+mod command_fault;
 mod command_line;
 mod commands;
 mod input;
@@ -11,7 +12,6 @@ mod parts;
 mod program;
 mod progress;
 mod run_command;
-mod run_fault;
 mod run_work;
 mod sentences;
 mod status;

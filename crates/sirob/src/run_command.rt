@@ -6,6 +6,7 @@ ghost use Rattle.sirob.specs.FaultLines.{is_memory};
 ghost use Rattle.sirob.specs.Output.{is_work, parts_wanted, IsReply, Writes, memory_line};
 ghost use Rattle.sirob.specs.Stops.{IsInputDone, IsSourceDone, Ends, IsJust, write_lost};
 
+use crate::command_fault::{CommandFault, fault_line};
 use crate::command_line::Mode;
 use crate::commands::audit::audit_part;
 use crate::commands::certify::certify_input;
@@ -14,7 +15,6 @@ use crate::commands::repair::repair_input;
 use crate::commands::run::{run_part, run_robust_part};
 use crate::commands::verify::verify_part;
 use crate::input::read_text_and_part;
-use crate::run_fault::{RunFault, fault_line};
 use crate::sentences::kept::Kept;
 use crate::sentences::words::explain;
 use crate::status::Status;
@@ -32,7 +32,7 @@ fn part_input<K: Sink>(
     input: &[u8],
     sink: &mut K,
     kept: &mut Kept,
-) -> Result<Status, RunFault>
+) -> Result<Status, CommandFault>
     requires short { length input.now ≤ input_limit }
     requires working { K.has_failed sink.old ≡ false }
     requires two { parts_wanted mode ≡ 2 }
@@ -58,7 +58,7 @@ fn answer_input<K: Sink>(
     input: &[u8],
     sink: &mut K,
     kept: &mut Kept,
-) -> Result<Status, RunFault>
+) -> Result<Status, CommandFault>
     requires short { length input.now ≤ input_limit }
     requires working { K.has_failed sink.old ≡ false }
     requires no_work { is_work mode ≡ false }
@@ -81,7 +81,7 @@ fn answer_source<S: Source, K: Sink>(
     source: &mut S,
     sink: &mut K,
     kept: &mut Kept,
-) -> Result<Status, RunFault>
+) -> Result<Status, CommandFault>
     requires working { K.has_failed sink.old ≡ false }
     requires no_work { is_work mode ≡ false }
     ensures done { WritesOr (Err write_lost)
@@ -107,7 +107,7 @@ pub fn write_last<K: Sink>(sink: &mut K, bytes: &[u8], status: Status) -> Status
 }
 
 // Writes the line of a fault, alone.
-fn write_fault<K: Sink>(alloc: Global, sink: &mut K, fault: RunFault) -> Status
+fn write_fault<K: Sink>(alloc: Global, sink: &mut K, fault: CommandFault) -> Status
     ensures { Writes (Ends (Err fault))
         (K.has_failed sink.new) (K.taken sink.old) (K.taken sink.new) result }
 {
@@ -122,7 +122,11 @@ fn write_fault<K: Sink>(alloc: Global, sink: &mut K, fault: RunFault) -> Status
 
 /// Writes what stands behind the lines of a command: nothing, or the line of the fault that
 /// stopped it.
-pub fn write_end<K: Sink>(alloc: Global, sink: &mut K, ended: Result<Status, RunFault>) -> Status
+pub fn write_end<K: Sink>(
+    alloc: Global,
+    sink: &mut K,
+    ended: Result<Status, CommandFault>,
+) -> Status
     ensures { Writes (Ends ended)
         (K.has_failed sink.new) (K.taken sink.old) (K.taken sink.new) result }
 {

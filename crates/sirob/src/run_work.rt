@@ -6,12 +6,12 @@ ghost use Rattle.sirob.specs.Output.{IsReply, Writes};
 ghost use Rattle.sirob.specs.Stops.{IsInputDone, IsSourceDone, write_lost};
 ghost use Rattle.sirob.specs.declared.command_line.Mode.TheVariants as mode;
 
+use crate::command_fault::CommandFault;
 use crate::command_line::Mode;
 use crate::commands::work::work_part;
 use crate::input::read_text_and_part;
 use crate::progress::Watched;
 use crate::run_command::write_end;
-use crate::run_fault::RunFault;
 use crate::sentences::kept::Kept;
 use crate::sentences::words::explain;
 use crate::status::Status;
@@ -31,7 +31,7 @@ fn work_input<R: AllocGlobal + Eprint + Clock + Watched + Threads + Wait + Sync,
     sink: &mut K,
     found: &mut Option<Finding>,
     came: &mut Sequence<JobOutcome>,
-) -> Result<Status, RunFault>
+) -> Result<Status, CommandFault>
     requires short { length input.now ≤ input_limit }
     requires working { K.has_failed sink.old ≡ false }
     ensures { WritesOr (Err write_lost) (IsInputDone (mode.Work workers) input.now)
@@ -46,7 +46,13 @@ fn work_source<
     R: AllocGlobal + Eprint + Clock + Watched + Threads + Wait + Sync,
     S: Source,
     K: Sink,
->(rt: &R, workers: u8, source: &mut S, sink: &mut K, kept: &mut Kept) -> Result<Status, RunFault>
+>(
+    rt: &R,
+    workers: u8,
+    source: &mut S,
+    sink: &mut K,
+    kept: &mut Kept,
+) -> Result<Status, CommandFault>
     requires { K.has_failed sink.old ≡ false }
     ensures done { WritesOr (Err write_lost)
         (IsSourceDone (mode.Work workers) (S.left source.old) (S.has_failed source.new))

@@ -9,8 +9,8 @@ ghost use Rattle.sirob.specs.Output.{IsRefusedPart};
 ghost use Rattle.sirob.specs.Stops.{IsPartDone, write_lost};
 ghost use Rattle.sirob.specs.declared.command_line.Mode.TheVariants as mode;
 
+use crate::command_fault::CommandFault;
 use crate::lines::write_lines;
-use crate::run_fault::RunFault;
 use crate::sentences::kept::Kept;
 use crate::sentences::runs::Keeper;
 use crate::status::Status;
@@ -20,7 +20,7 @@ use si_engine::{Bytes, Records, Sink, push_findings_before, read_records};
 use std::alloc::Global;
 
 // The records that the bytes of a part are.
-fn records_in(alloc: Global, set: &ProgramSet, part: &[u8]) -> Result<Records, RunFault>
+fn records_in(alloc: Global, set: &ProgramSet, part: &[u8]) -> Result<Records, CommandFault>
     requires { length part.now ≤ input_limit }
     ensures ok { IfOk result (λ records. records_of (draft_tree set.now) part.now ≡ Ok records) }
     ensures err { IfErr result (λ fault. is_memory fault ≡ false
@@ -38,7 +38,7 @@ fn push_audit(
     part: &[u8],
     out: &mut String,
     kept: &mut Kept,
-) -> Result<Status, RunFault>
+) -> Result<Status, CommandFault>
     requires short { length part.now ≤ input_limit }
     requires empty { string_bytes out.old ≡ [] }
     ensures { IsPartDone mode.Audit (draft_tree set.now) part.now (string_bytes out.new) result }
@@ -59,7 +59,7 @@ pub fn audit_part<K: Sink>(
     part: &[u8],
     sink: &mut K,
     kept: &mut Kept,
-) -> Result<Status, RunFault>
+) -> Result<Status, CommandFault>
     requires { length part.now ≤ input_limit }
     ensures { WritesOr (Err write_lost) (IsPartDone mode.Audit (draft_tree set.now) part.now)
         (K.has_failed sink.new) (K.taken sink.old) (K.taken sink.new) result }

@@ -9,10 +9,10 @@ ghost use Rattle.sirob.specs.Output.{Gives, GivesFinding};
 ghost use Rattle.sirob.specs.Stops.{IsStop, IsInputDone, IsUnanalysedBy, write_lost};
 ghost use Rattle.sirob.specs.declared.command_line.Mode.TheVariants as mode;
 
+use crate::command_fault::CommandFault;
 use crate::commands::refusal::refusal_text;
 use crate::input::read_text;
 use crate::lines::write_lines;
-use crate::run_fault::RunFault;
 use crate::status::Status;
 use prog_check::ProgramSet;
 use robust_cert::{Certificate, to_json};
@@ -36,7 +36,7 @@ fn finding_text(
     rt: &(impl AllocGlobal + Threads + Sync),
     set: &ProgramSet,
     found: &mut Option<Finding>,
-) -> Result<(String, Status), RunFault>
+) -> Result<(String, Status), CommandFault>
     ensures ok { IfOk result (λ told. GivesFinding (draft_tree set.now)
         (string_bytes told.0) told.1) }
     ensures err { IfErr result (λ fault. is_memory fault ≡ false
@@ -62,7 +62,7 @@ fn input_finding(
     rt: &(impl AllocGlobal + Threads + Sync),
     input: &[u8],
     found: &mut Option<Finding>,
-) -> Result<(String, Status), RunFault>
+) -> Result<(String, Status), CommandFault>
     requires { length input.now ≤ input_limit }
     ensures ok { IfOk result (λ told. Gives mode.Certify input.now (string_bytes told.0) told.1) }
     ensures err { IfErr result (λ fault. IsStop mode.Certify input.now fault []) }
@@ -78,7 +78,7 @@ pub fn certify_input<K: Sink>(
     input: &[u8],
     sink: &mut K,
     found: &mut Option<Finding>,
-) -> Result<Status, RunFault>
+) -> Result<Status, CommandFault>
     requires short { length input.now ≤ input_limit }
     requires working { K.has_failed sink.old ≡ false }
     ensures { WritesOr (Err write_lost) (IsInputDone mode.Certify input.now)

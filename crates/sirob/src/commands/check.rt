@@ -7,16 +7,16 @@ ghost use Rattle.sirob.specs.Stops.{IsStop, IsInputDone, write_lost};
 ghost use Rattle.sirob.specs.declared.command_line.Mode.TheVariants as mode;
 ghost use Rattle.sirob.specs.declared.status.Status.TheVariants as status;
 
+use crate::command_fault::CommandFault;
 use crate::input::read_text;
 use crate::lines::write_lines;
-use crate::run_fault::RunFault;
 use crate::status::Status;
 use prog_text::print;
 use si_engine::Sink;
 use std::alloc::Global;
 
 // The canonical text of the set that an input spells.
-fn canonical_text(alloc: Global, input: &[u8]) -> Result<Vec<u8>, RunFault>
+fn canonical_text(alloc: Global, input: &[u8]) -> Result<Vec<u8>, CommandFault>
     requires { length input.now ≤ input_limit }
     ensures ok { IfOk result (λ text. Gives mode.Check input.now text.items status.Done) }
     ensures err { IfErr result (λ fault. IsStop mode.Check input.now fault []) }
@@ -27,7 +27,11 @@ fn canonical_text(alloc: Global, input: &[u8]) -> Result<Vec<u8>, RunFault>
 }
 
 /// Writes the canonical text of the set that an input spells.
-pub fn check_input<K: Sink>(alloc: Global, input: &[u8], sink: &mut K) -> Result<Status, RunFault>
+pub fn check_input<K: Sink>(
+    alloc: Global,
+    input: &[u8],
+    sink: &mut K,
+) -> Result<Status, CommandFault>
     requires short { length input.now ≤ input_limit }
     requires working { K.has_failed sink.old ≡ false }
     ensures { WritesOr (Err write_lost) (IsInputDone mode.Check input.now)

@@ -9,9 +9,9 @@ ghost use Rattle.sirob.specs.Stops.{IsStop, IsInputDone, IsUnrepairedBy, write_l
 ghost use Rattle.sirob.specs.declared.command_line.Mode.TheVariants as mode;
 ghost use Rattle.sirob.specs.declared.status.Status.TheVariants as status;
 
+use crate::command_fault::CommandFault;
 use crate::input::read_text;
 use crate::lines::write_lines;
-use crate::run_fault::RunFault;
 use crate::sentences::kept::{Kept, Repair};
 use crate::status::Status;
 use prog_check::ProgramSet;
@@ -21,7 +21,7 @@ use si_repair::{materialise, plan, promote};
 use std::alloc::Global;
 
 // The set as its plan repairs it.
-fn repair_set(alloc: Global, promoting: bool, set: &ProgramSet) -> Result<Repair, RunFault>
+fn repair_set(alloc: Global, promoting: bool, set: &ProgramSet) -> Result<Repair, CommandFault>
     ensures ok { IfOk result (λ repair.
         IsRepaired promoting (draft_tree set.now) (draft_tree repair.repaired)) }
     ensures err { IfErr result (λ fault. is_memory fault ≡ false
@@ -48,7 +48,7 @@ fn repaired_text(
     promoting: bool,
     input: &[u8],
     kept: &mut Option<Repair>,
-) -> Result<Vec<u8>, RunFault>
+) -> Result<Vec<u8>, CommandFault>
     requires { length input.now ≤ input_limit }
     ensures ok { IfOk result
         (λ text. Gives (mode.Repair promoting) input.now text.items status.Done) }
@@ -69,7 +69,7 @@ pub fn repair_input<K: Sink>(
     input: &[u8],
     sink: &mut K,
     kept: &mut Kept,
-) -> Result<Status, RunFault>
+) -> Result<Status, CommandFault>
     requires short { length input.now ≤ input_limit }
     requires working { K.has_failed sink.old ≡ false }
     ensures { WritesOr (Err write_lost) (IsInputDone (mode.Repair promoting) input.now)

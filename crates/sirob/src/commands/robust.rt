@@ -6,8 +6,8 @@ ghost use Rattle.robust_cert.specs.Accepted.{IsAccepted};
 ghost use Rattle.sirob.specs.FaultLines.{is_memory};
 ghost use Rattle.sirob.specs.Stops.{IsUnanalysedBy, IsVerified};
 
+use crate::command_fault::CommandFault;
 use crate::commands::refusal::refusal_text;
-use crate::run_fault::RunFault;
 use prog_check::ProgramSet;
 use robust_cert::{Certificate, RobustSet, verify};
 use si_repair::{Finding, certify_par};
@@ -22,14 +22,18 @@ pub enum Verified {
 }
 
 // The set as a robust one, by a certificate of its own.
-fn accept(alloc: Global, set: ProgramSet, certificate: &Certificate) -> Result<RobustSet, RunFault>
+fn accept(
+    alloc: Global,
+    set: ProgramSet,
+    certificate: &Certificate,
+) -> Result<RobustSet, CommandFault>
     requires { IsAccepted (paths_of (draft_tree set)) certificate.now }
     ensures same { IfOk result (λ robust. robust ≡ set) }
     ensures memory { IfErr result (λ fault. is_memory fault ≡ true) }
 {
     match verify(alloc, set, certificate) {
         Ok(robust) => Ok(robust),
-        Err((_, fault)) => Err(RunFault::Certificate(fault)),
+        Err((_, fault)) => Err(CommandFault::Certificate(fault)),
     }
 }
 
@@ -39,7 +43,7 @@ pub fn assess(
     rt: &(impl AllocGlobal + Threads + Sync),
     set: ProgramSet,
     found: &mut Option<Finding>,
-) -> Result<Verified, RunFault>
+) -> Result<Verified, CommandFault>
     ensures ok { IfOk result (λ verified. IsVerified set verified) }
     ensures err { IfErr result (λ fault. is_memory fault ≡ false
         → IsUnanalysedBy (draft_tree set) fault) }

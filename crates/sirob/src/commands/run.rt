@@ -7,9 +7,9 @@ ghost use Rattle.sirob.specs.Output.{IsRobust};
 ghost use Rattle.sirob.specs.Stops.{IsPartDone, write_lost};
 ghost use Rattle.sirob.specs.declared.command_line.Mode.TheVariants as mode;
 
+use crate::command_fault::CommandFault;
 use crate::commands::robust::{Verified, assess};
 use crate::lines::write_lines;
-use crate::run_fault::RunFault;
 use crate::sentences::kept::Kept;
 use crate::sentences::runs::Keeper;
 use crate::status::Status;
@@ -28,7 +28,7 @@ pub fn run_part<K: Sink>(
     part: &[u8],
     sink: &mut K,
     kept: &mut Kept,
-) -> Result<Status, RunFault>
+) -> Result<Status, CommandFault>
     requires { length part.now ≤ input_limit }
     ensures { WritesOr (Err write_lost) (IsPartDone (mode.Run false) (draft_tree set.now) part.now)
         (K.has_failed sink.new) (K.taken sink.old) (K.taken sink.new) result }
@@ -36,7 +36,7 @@ pub fn run_part<K: Sink>(
     let mut keeper = Keeper { alloc, part, kept };
     match run_script_before(alloc, set, &mut Bytes::new(part), sink, &mut keeper) {
         Ok(finding) => Ok(Status::of(finding)),
-        Err(fault) => Err(RunFault::Script(fault)),
+        Err(fault) => Err(CommandFault::Script(fault)),
     }
 }
 
@@ -47,7 +47,7 @@ fn run_verified<K: Sink>(
     part: &[u8],
     sink: &mut K,
     kept: &mut Kept,
-) -> Result<Status, RunFault>
+) -> Result<Status, CommandFault>
     requires short { length part.now ≤ input_limit }
     requires robust { IsRobust (draft_tree set.now) }
     ensures { WritesOr (Err write_lost) (IsPartDone (mode.Run true) (draft_tree set.now) part.now)
@@ -56,7 +56,7 @@ fn run_verified<K: Sink>(
     let mut keeper = Keeper { alloc, part, kept };
     match run_robust_script_before(alloc, set, &mut Bytes::new(part), sink, &mut keeper) {
         Ok(finding) => Ok(Status::of(finding)),
-        Err(fault) => Err(RunFault::Script(fault)),
+        Err(fault) => Err(CommandFault::Script(fault)),
     }
 }
 
@@ -67,7 +67,7 @@ pub fn run_robust_part<K: Sink>(
     part: &[u8],
     sink: &mut K,
     kept: &mut Kept,
-) -> Result<Status, RunFault>
+) -> Result<Status, CommandFault>
     requires short { length part.now ≤ input_limit }
     requires working { K.has_failed sink.old ≡ false }
     ensures { WritesOr (Err write_lost) (IsPartDone (mode.Run true) (draft_tree set) part.now)

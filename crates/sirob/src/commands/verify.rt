@@ -7,8 +7,8 @@ ghost use Rattle.sirob.specs.Output.{IsRefusedPart, ShowsRobust};
 ghost use Rattle.sirob.specs.Stops.{IsPartDone, write_lost};
 ghost use Rattle.sirob.specs.declared.command_line.Mode.TheVariants as mode;
 
+use crate::command_fault::CommandFault;
 use crate::lines::write_lines;
-use crate::run_fault::RunFault;
 use crate::status::Status;
 use prog_check::ProgramSet;
 use robust_cert::{from_json, verify};
@@ -18,7 +18,7 @@ use std::alloc::Global;
 const ROBUST_LINE: &[u8] = b"robust\n";
 
 // Whether the bytes of a part are a certificate that is accepted for a set.
-fn check_certificate(alloc: Global, set: ProgramSet, part: &[u8]) -> Result<(), RunFault>
+fn check_certificate(alloc: Global, set: ProgramSet, part: &[u8]) -> Result<(), CommandFault>
     ensures ok { OnOk result (ShowsRobust (draft_tree set) part.now) }
     ensures err { IfErr result (λ fault. is_memory fault ≡ false
         → IsRefusedPart mode.Verify (draft_tree set) part.now fault) }
@@ -26,7 +26,7 @@ fn check_certificate(alloc: Global, set: ProgramSet, part: &[u8]) -> Result<(), 
     let certificate = from_json(alloc, part)?;
     match verify(alloc, set, &certificate) {
         Ok(_) => Ok(()),
-        Err((_, fault)) => Err(RunFault::Certificate(fault)),
+        Err((_, fault)) => Err(CommandFault::Certificate(fault)),
     }
 }
 
@@ -36,7 +36,7 @@ pub fn verify_part<K: Sink>(
     set: ProgramSet,
     part: &[u8],
     sink: &mut K,
-) -> Result<Status, RunFault>
+) -> Result<Status, CommandFault>
     requires { K.has_failed sink.old ≡ false }
     ensures { WritesOr (Err write_lost) (IsPartDone mode.Verify (draft_tree set) part.now)
         (K.has_failed sink.new) (K.taken sink.old) (K.taken sink.new) result }

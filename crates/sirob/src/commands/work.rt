@@ -12,10 +12,10 @@ ghost use Rattle.sirob.specs.Stops.{IsPartDone, IsRefusedJobs, write_lost};
 ghost use Rattle.sirob.specs.Work.{is_committed, is_aborted, is_clashed, is_refused, ends_in, counts_text, work_text};
 ghost use Rattle.sirob.specs.declared.command_line.Mode.TheVariants as mode;
 
+use crate::command_fault::CommandFault;
 use crate::commands::robust::{Verified, assess};
 use crate::lines::write_lines;
 use crate::progress::{Progress, Watched};
-use crate::run_fault::RunFault;
 use crate::status::Status;
 use history_book::Book;
 use prog_check::ProgramSet;
@@ -113,7 +113,7 @@ fn work_text(alloc: Global, outcomes: &[JobOutcome], book: &Book<'_>) -> Result<
 }
 
 // The jobs that the bytes of a part are, for a set that was found robust.
-fn jobs_in(alloc: Global, set: &ProgramSet, part: &[u8]) -> Result<JobList, RunFault>
+fn jobs_in(alloc: Global, set: &ProgramSet, part: &[u8]) -> Result<JobList, CommandFault>
     requires { length part.now ≤ input_limit }
     ensures ok { IfOk result (λ list. jobs_of (draft_tree set.now) part.now ≡ Ok list) }
     ensures err { IfErr result (λ fault. is_memory fault ≡ false
@@ -136,7 +136,7 @@ fn work_verified<R: AllocGlobal + Eprint + Clock + Watched + Threads + Wait + Sy
     workers: u8,
     set: &RobustSet,
     part: &[u8],
-) -> Result<Done, RunFault>
+) -> Result<Done, CommandFault>
     requires short { length part.now ≤ input_limit }
     requires robust { IsRobust (draft_tree set.now) }
     ensures ok { IfOk result (λ done. GivesWork workers (draft_tree set.now) part.now
@@ -170,7 +170,7 @@ pub fn work_part<R: AllocGlobal + Eprint + Clock + Watched + Threads + Wait + Sy
     sink: &mut K,
     found: &mut Option<Finding>,
     came: &mut Sequence<JobOutcome>,
-) -> Result<Status, RunFault>
+) -> Result<Status, CommandFault>
     requires short { length part.now ≤ input_limit }
     requires working { K.has_failed sink.old ≡ false }
     ensures { WritesOr (Err write_lost) (IsPartDone (mode.Work workers) (draft_tree set) part.now)

@@ -1,8 +1,8 @@
 //! What is said to people on the standard error.
 
+use crate::command_fault::CommandFault;
 use crate::command_line::Mode;
 use crate::parts::PartFault;
-use crate::run_fault::RunFault;
 use crate::sentences::analysis::{
     analysis_sentence, certificate_sentence, refusal_sentence, robust_sentence,
 };
@@ -132,23 +132,23 @@ fn words_of(
     alloc: Global,
     mode: Mode,
     input: &[u8],
-    fault: RunFault,
+    fault: CommandFault,
 ) -> Result<Option<String>, AllocError> {
     match fault {
-        RunFault::Text(fault) => {
+        CommandFault::Text(fault) => {
             let words = text_words(alloc, set_text(input), fault)?;
             Ok(Some(words))
         }
-        RunFault::Check(fault) => check_words(alloc, set_text(input), fault),
-        RunFault::Input(fault) => plain(alloc, input_sentence(fault)),
-        RunFault::Parts(fault) => part_sentence(alloc, mode, input, fault),
-        RunFault::Analysis(fault) => plain(alloc, analysis_sentence(fault)),
-        RunFault::Repair(fault) => repair_fault_sentence(alloc, input, fault),
-        RunFault::Script(fault) => script_sentence(alloc, mode, input, fault),
-        RunFault::Audit(fault) => record_sentence(alloc, input, fault),
-        RunFault::Work(fault) => work_sentence(alloc, fault),
-        RunFault::Json(fault) => plain(alloc, Some(json_words(fault))),
-        RunFault::Certificate(fault) => certificate_sentence(alloc, input, fault),
+        CommandFault::Check(fault) => check_words(alloc, set_text(input), fault),
+        CommandFault::Input(fault) => plain(alloc, input_sentence(fault)),
+        CommandFault::Parts(fault) => part_sentence(alloc, mode, input, fault),
+        CommandFault::Analysis(fault) => plain(alloc, analysis_sentence(fault)),
+        CommandFault::Repair(fault) => repair_fault_sentence(alloc, input, fault),
+        CommandFault::Script(fault) => script_sentence(alloc, mode, input, fault),
+        CommandFault::Audit(fault) => record_sentence(alloc, input, fault),
+        CommandFault::Work(fault) => work_sentence(alloc, fault),
+        CommandFault::Json(fault) => plain(alloc, Some(json_words(fault))),
+        CommandFault::Certificate(fault) => certificate_sentence(alloc, input, fault),
     }
 }
 
@@ -184,7 +184,7 @@ fn ending_words(
     alloc: Global,
     mode: Mode,
     kept: &Kept,
-    ended: Result<Status, RunFault>,
+    ended: Result<Status, CommandFault>,
 ) -> Result<Option<String>, AllocError> {
     match ended {
         Ok(Status::Unserializable) => unserializable_sentence(alloc, kept),
@@ -200,7 +200,7 @@ pub fn explain(
     rt: &(impl AllocGlobal + Eprint),
     mode: Mode,
     kept: &Kept,
-    ended: Result<Status, RunFault>,
+    ended: Result<Status, CommandFault>,
 ) {
     if let Ok(Some(words)) = ending_words(rt.alloc(), mode, kept, ended) {
         let _ = rt.eprint(&words);

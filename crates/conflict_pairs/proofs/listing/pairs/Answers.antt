@@ -3,7 +3,7 @@ use Rattle.std.specs.List.{AllZip}
 use Rattle.std.specs.Prelude.{All}
 use Rattle.prog_paths.specs.declared.places.Question.{Question as Asked}
 use Rattle.prog_paths.specs.Asked.{asked_among}
-use Rattle.conflict_pairs.specs.declared.outcome.Verdict.{Verdict}
+use Rattle.conflict_pairs.specs.declared.verdicts.Verdict.{Verdict}
 use Rattle.conflict_pairs.specs.Alike.{IsAsked, StandsIn, AreJudged}
 use Rattle.conflict_pairs.specs.Table.{verdicts_in}
 use Rattle.conflict_pairs.proofs.Zipped.{AllZip-lengths}

@@ -1,5 +1,5 @@
 use Rattle.std.proofs.Common.{ℕ, ◌<◌, ◌≤◌, ◌∙◌, [], refl, subst}
-use Rattle.conflict_pairs.specs.declared.outcome.Verdict.TheVariants.{Apart}
+use Rattle.conflict_pairs.specs.declared.verdicts.Verdict.TheVariants.{Apart}
 use Rattle.conflict_pairs.specs.Table.{verdicts_in}
 use Rattle.conflict_pairs.proofs.Parts.{left_inside, left_same, found_here}
 use Rattle.conflict_pairs.proofs.table.verdict_in.Goals as goal

@@ -1,5 +1,5 @@
 use Rattle.std.proofs.Common.{◌≡◌, ◌<◌, drop, get_or, length}
-use Rattle.conflict_pairs.specs.declared.outcome.Verdict.{Verdict}
+use Rattle.conflict_pairs.specs.declared.verdicts.Verdict.{Verdict}
 use Rattle.conflict_pairs.specs.Table.{verdicts_in}
 use Rattle.conflict_pairs.proofs.table.verdict_in.Given as goal
 

@@ -1,5 +1,5 @@
 use Rattle.std.proofs.Common.{sym, ap, ◌∙◌}
-use Rattle.conflict_pairs.specs.declared.outcome.Verdict.TheVariants.{Exposed}
+use Rattle.conflict_pairs.specs.declared.verdicts.Verdict.TheVariants.{Exposed}
 use Rattle.dep_graph.proofs.Exposing.{sample_at}
 use Rattle.dep_graph.proofs.danger.first_exposure.Goals as goal
 

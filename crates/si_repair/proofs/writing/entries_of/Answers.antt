@@ -1,6 +1,6 @@
 use Rattle.std.proofs.Common.{sym, subst, arith}
 use Rattle.prog_paths.specs.declared.places.Question.{Question}
-use Rattle.conflict_pairs.specs.declared.outcome.Verdict.{Verdict}
+use Rattle.conflict_pairs.specs.declared.verdicts.Verdict.{Verdict}
 use Rattle.dep_graph.proofs.Entries.{entry_at}
 use Rattle.si_repair.specs.Telling.{AskedFits, VerdictFits, told_of}
 use Rattle.si_repair.proofs.Fitting.{entry_fits, told_more, told_end}

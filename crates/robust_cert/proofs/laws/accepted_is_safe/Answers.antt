@@ -1,5 +1,5 @@
 use Rattle.robust_cert.proofs.Safety.{accepted_is_safe}
-use Rattle.robust_cert.proofs.law.accepted_is_safe.Goals as goal
+use Rattle.robust_cert.proofs.laws.accepted_is_safe.Goals as goal
 
 pub returns : goal.returns
 returns c = accepted_is_safe

@@ -17,7 +17,7 @@ use std::alloc::{AllocError, Global};
 
 /// A fault, by the layer that finds it.
 #[derive(Clone, Copy, Debug, PartialEq, Eq)]
-pub enum RunFault {
+pub enum CommandFault {
     Input(InputFault),
     Parts(PartFault),
     Text(TextFault),
@@ -163,166 +163,166 @@ fn audit_fault(alloc: Global, fault: AuditFault) -> Result<String, AllocError>
 }
 
 /// The line that a fault is, with its line feed.
-pub fn fault_line(alloc: Global, fault: RunFault) -> Result<String, AllocError>
+pub fn fault_line(alloc: Global, fault: CommandFault) -> Result<String, AllocError>
     ensures { IfOk result (λ line. string_bytes line ≡ fault_line fault) }
 {
     let text = match fault {
-        RunFault::Input(fault) => input_fault(alloc, fault)?,
-        RunFault::Parts(fault) => part_fault(alloc, fault)?,
-        RunFault::Text(fault) => text_fault(alloc, fault)?,
-        RunFault::Check(fault) => check_fault(alloc, fault)?,
-        RunFault::Analysis(fault) => analyse_fault(alloc, fault)?,
-        RunFault::Repair(fault) => repair_fault(alloc, fault)?,
-        RunFault::Json(fault) => json_fault(alloc, fault)?,
-        RunFault::Certificate(fault) => certificate_fault(alloc, fault)?,
-        RunFault::Script(fault) => script_fault(alloc, fault)?,
-        RunFault::Audit(fault) => audit_fault(alloc, fault)?,
-        RunFault::Work(fault) => worker_fault(alloc, fault)?,
+        CommandFault::Input(fault) => input_fault(alloc, fault)?,
+        CommandFault::Parts(fault) => part_fault(alloc, fault)?,
+        CommandFault::Text(fault) => text_fault(alloc, fault)?,
+        CommandFault::Check(fault) => check_fault(alloc, fault)?,
+        CommandFault::Analysis(fault) => analyse_fault(alloc, fault)?,
+        CommandFault::Repair(fault) => repair_fault(alloc, fault)?,
+        CommandFault::Json(fault) => json_fault(alloc, fault)?,
+        CommandFault::Certificate(fault) => certificate_fault(alloc, fault)?,
+        CommandFault::Script(fault) => script_fault(alloc, fault)?,
+        CommandFault::Audit(fault) => audit_fault(alloc, fault)?,
+        CommandFault::Work(fault) => worker_fault(alloc, fault)?,
     };
     format!(in alloc; "fault {text}\n")
 }
 
-impl From<InputFault> for RunFault {
+impl From<InputFault> for CommandFault {
     ghost use Rattle.std.specs.Prelude.{◌≡◌};
-    ghost use Rattle.sirob.specs.declared.run_fault.RunFault.TheVariants.{Input};
+    ghost use Rattle.sirob.specs.declared.command_fault.CommandFault.TheVariants.{Input};
 
     ghost from_gives = { λ fault e. e ≡ Input fault };
 
     fn from(fault: InputFault) -> Self {
-        RunFault::Input(fault)
+        CommandFault::Input(fault)
     }
 }
 
-impl From<PartFault> for RunFault {
+impl From<PartFault> for CommandFault {
     ghost use Rattle.std.specs.Prelude.{◌≡◌};
-    ghost use Rattle.sirob.specs.declared.run_fault.RunFault.TheVariants.{Parts};
+    ghost use Rattle.sirob.specs.declared.command_fault.CommandFault.TheVariants.{Parts};
 
     ghost from_gives = { λ fault e. e ≡ Parts fault };
 
     fn from(fault: PartFault) -> Self {
-        RunFault::Parts(fault)
+        CommandFault::Parts(fault)
     }
 }
 
-impl From<TextFault> for RunFault {
+impl From<TextFault> for CommandFault {
     ghost use Rattle.std.specs.Prelude.{◌≡◌};
-    ghost use Rattle.sirob.specs.declared.run_fault.RunFault.TheVariants.{Text};
+    ghost use Rattle.sirob.specs.declared.command_fault.CommandFault.TheVariants.{Text};
 
     ghost from_gives = { λ fault e. e ≡ Text fault };
 
     fn from(fault: TextFault) -> Self {
-        RunFault::Text(fault)
+        CommandFault::Text(fault)
     }
 }
 
-impl From<CheckFault> for RunFault {
+impl From<CheckFault> for CommandFault {
     ghost use Rattle.std.specs.Prelude.{◌≡◌};
-    ghost use Rattle.sirob.specs.declared.run_fault.RunFault.TheVariants.{Check};
+    ghost use Rattle.sirob.specs.declared.command_fault.CommandFault.TheVariants.{Check};
 
     ghost from_gives = { λ fault e. e ≡ Check fault };
 
     fn from(fault: CheckFault) -> Self {
-        RunFault::Check(fault)
+        CommandFault::Check(fault)
     }
 }
 
-impl From<AnalyseFault> for RunFault {
+impl From<AnalyseFault> for CommandFault {
     ghost use Rattle.std.specs.Prelude.{◌≡◌};
-    ghost use Rattle.sirob.specs.declared.run_fault.RunFault.TheVariants.{Analysis};
+    ghost use Rattle.sirob.specs.declared.command_fault.CommandFault.TheVariants.{Analysis};
 
     ghost from_gives = { λ fault e. e ≡ Analysis fault };
 
     fn from(fault: AnalyseFault) -> Self {
-        RunFault::Analysis(fault)
+        CommandFault::Analysis(fault)
     }
 }
 
-impl From<RepairFault> for RunFault {
+impl From<RepairFault> for CommandFault {
     ghost use Rattle.std.specs.Prelude.{◌≡◌};
-    ghost use Rattle.sirob.specs.declared.run_fault.RunFault.TheVariants.{Repair};
+    ghost use Rattle.sirob.specs.declared.command_fault.CommandFault.TheVariants.{Repair};
 
     ghost from_gives = { λ fault e. e ≡ Repair fault };
 
     fn from(fault: RepairFault) -> Self {
-        RunFault::Repair(fault)
+        CommandFault::Repair(fault)
     }
 }
 
-impl From<JsonFault> for RunFault {
+impl From<JsonFault> for CommandFault {
     ghost use Rattle.std.specs.Prelude.{◌≡◌};
-    ghost use Rattle.sirob.specs.declared.run_fault.RunFault.TheVariants.{Json};
+    ghost use Rattle.sirob.specs.declared.command_fault.CommandFault.TheVariants.{Json};
 
     ghost from_gives = { λ fault e. e ≡ Json fault };
 
     fn from(fault: JsonFault) -> Self {
-        RunFault::Json(fault)
+        CommandFault::Json(fault)
     }
 }
 
-impl From<ScriptFault> for RunFault {
+impl From<ScriptFault> for CommandFault {
     ghost use Rattle.std.specs.Prelude.{◌≡◌};
-    ghost use Rattle.sirob.specs.declared.run_fault.RunFault.TheVariants.{Script};
+    ghost use Rattle.sirob.specs.declared.command_fault.CommandFault.TheVariants.{Script};
 
     ghost from_gives = { λ fault e. e ≡ Script fault };
 
     fn from(fault: ScriptFault) -> Self {
-        RunFault::Script(fault)
+        CommandFault::Script(fault)
     }
 }
 
-impl From<AuditFault> for RunFault {
+impl From<AuditFault> for CommandFault {
     ghost use Rattle.std.specs.Prelude.{◌≡◌};
-    ghost use Rattle.sirob.specs.declared.run_fault.RunFault.TheVariants.{Audit};
+    ghost use Rattle.sirob.specs.declared.command_fault.CommandFault.TheVariants.{Audit};
 
     ghost from_gives = { λ fault e. e ≡ Audit fault };
 
     fn from(fault: AuditFault) -> Self {
-        RunFault::Audit(fault)
+        CommandFault::Audit(fault)
     }
 }
 
-impl From<WorkFault<'_>> for RunFault {
+impl From<WorkFault<'_>> for CommandFault {
     ghost use Rattle.std.specs.Prelude.{◌≡◌};
     ghost use Rattle.sirob.specs.Faults.{told_of};
-    ghost use Rattle.sirob.specs.declared.run_fault.RunFault.TheVariants.{Work};
+    ghost use Rattle.sirob.specs.declared.command_fault.CommandFault.TheVariants.{Work};
 
     ghost from_gives = { λ fault e. e ≡ Work (told_of fault) };
 
     fn from(fault: WorkFault<'_>) -> Self {
-        RunFault::Work(WorkerFault::of(&fault))
+        CommandFault::Work(WorkerFault::of(&fault))
     }
 }
 
-impl From<AllocError> for RunFault {
+impl From<AllocError> for CommandFault {
     ghost use Rattle.std.specs.Prelude.{◌≡◌};
-    ghost use Rattle.sirob.specs.declared.run_fault.RunFault.TheVariants.{Input};
+    ghost use Rattle.sirob.specs.declared.command_fault.CommandFault.TheVariants.{Input};
     ghost use Rattle.si_engine.specs.declared.input.source.InputFault.TheVariants.{Memory};
 
     ghost from_gives = { λ _ e. e ≡ Input Memory };
 
     fn from(_: AllocError) -> Self {
-        RunFault::Input(InputFault::Memory)
+        CommandFault::Input(InputFault::Memory)
     }
 }
 
-impl RunFault {
+impl CommandFault {
     /// Whether it is want of memory, and no fault of the input.
     pub fn is_memory(self) -> bool
         ensures { result ≡ is_memory self }
     {
         matches!(
             self,
-            RunFault::Input(InputFault::Memory)
-                | RunFault::Text(TextFault::Memory)
-                | RunFault::Check(CheckFault::Memory)
-                | RunFault::Analysis(AnalyseFault::Memory)
-                | RunFault::Repair(RepairFault::Memory)
-                | RunFault::Json(JsonFault::Memory)
-                | RunFault::Certificate(CertFault::Memory)
-                | RunFault::Script(ScriptFault::Input(InputFault::Memory))
-                | RunFault::Script(ScriptFault::Line(LineFault::Memory))
-                | RunFault::Audit(AuditFault::Memory)
-                | RunFault::Work(WorkerFault::Memory)
+            CommandFault::Input(InputFault::Memory)
+                | CommandFault::Text(TextFault::Memory)
+                | CommandFault::Check(CheckFault::Memory)
+                | CommandFault::Analysis(AnalyseFault::Memory)
+                | CommandFault::Repair(RepairFault::Memory)
+                | CommandFault::Json(JsonFault::Memory)
+                | CommandFault::Certificate(CertFault::Memory)
+                | CommandFault::Script(ScriptFault::Input(InputFault::Memory))
+                | CommandFault::Script(ScriptFault::Line(LineFault::Memory))
+                | CommandFault::Audit(AuditFault::Memory)
+                | CommandFault::Work(WorkerFault::Memory)
         )
     }
 }

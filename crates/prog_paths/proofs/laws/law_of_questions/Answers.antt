@@ -1,6 +1,6 @@
 use Rattle.prog_paths.proofs.Questions.{law_of_meeting, law_of_questions, law_of_equal_terms}
 use Rattle.prog_paths.proofs.SingleCells.{law_of_single_cells}
-use Rattle.prog_paths.proofs.law.law_of_questions.Goals as goal
+use Rattle.prog_paths.proofs.laws.law_of_questions.Goals as goal
 
 pub returns-clause-meeting : goal.returns-clause-meeting
 returns-clause-meeting c = law_of_meeting

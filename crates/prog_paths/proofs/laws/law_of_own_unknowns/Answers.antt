@@ -1,5 +1,5 @@
 use Rattle.prog_paths.proofs.Own.{law_of_own_unknowns, law_of_covers, law_of_times, law_of_values}
-use Rattle.prog_paths.proofs.law.law_of_own_unknowns.Goals as goal
+use Rattle.prog_paths.proofs.laws.law_of_own_unknowns.Goals as goal
 
 pub returns-clause-own : goal.returns-clause-own
 returns-clause-own c = law_of_own_unknowns
