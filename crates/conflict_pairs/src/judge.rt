@@ -53,8 +53,7 @@ fn chains_at(
 {
     let mine = xs[m];
     let theirs = ys[t];
-    let chains = cover_chains(alloc, closed, &mine, &theirs)?;
-    Ok(chains)
+    cover_chains(alloc, closed, &mine, &theirs)
 }
 
 /// What is said of a question that nothing covers.

@@ -182,8 +182,7 @@ fn too_early(alloc: Global, text: &[u8], place: usize) -> Result<String, AllocEr
     let more = could_follow(alloc, text)?;
     let said = open_words(alloc, text, place)?;
     let sentence = end_sentence(alloc, said.as_deref(), &more)?;
-    let words = point_out(alloc, text, place, &sentence)?;
-    Ok(words)
+    point_out(alloc, text, place, &sentence)
 }
 
 fn too_deep(alloc: Global, text: &[u8], place: usize) -> Result<String, AllocError> {

@@ -18,8 +18,7 @@ fn read_set(alloc: Global, text: &[u8]) -> Result<ProgramSet, CommandFault>
     ensures err { IfErr result (λ fault. is_memory fault ≡ false → IsRefusedText text.now fault) }
 {
     let draft = parse(alloc, text)?;
-    let set = check(alloc, draft)?;
-    Ok(set)
+    Ok(check(alloc, draft)?)
 }
 
 /// The set of an input that is one text, where it has no fault.
@@ -30,8 +29,7 @@ pub fn read_text(alloc: Global, input: &[u8]) -> Result<ProgramSet, CommandFault
         → IsRefusedInput 1 input.now fault) }
 {
     let text = one_part(input)?;
-    let set = read_set(alloc, text)?;
-    Ok(set)
+    read_set(alloc, text)
 }
 
 /// The set that the first part of an input spells, where it has no fault, and the bytes of the second part.

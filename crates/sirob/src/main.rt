@@ -33,6 +33,5 @@ fn main(rt: HostRuntime) -> ExitCode {
 
 // The words of the command line. The first is the program's name.
 fn gather(rt: &(impl Env + AllocGlobal)) -> io::Result<Vec<String>> {
-    let words = env::args(rt)?.collect(rt.alloc())?;
-    Ok(words)
+    Ok(env::args(rt)?.collect(rt.alloc())?)
 }

@@ -19,8 +19,7 @@ fn facts_of(alloc: Global, paths: &[Path], question: &Question) -> Result<Closed
     let mine = access_at(paths, question.x, question.a);
     let theirs = access_at(paths, question.y, question.b);
     let facts = question_facts(alloc, &mine, &theirs)?;
-    let closed = facts.close()?;
-    Ok(closed)
+    facts.close()
 }
 
 /// Whether the facts put two parameters at most each other.

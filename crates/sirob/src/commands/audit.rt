@@ -26,8 +26,7 @@ fn records_in(alloc: Global, set: &ProgramSet, part: &[u8]) -> Result<Records, C
     ensures err { IfErr result (λ fault. is_memory fault ≡ false
         → IsRefusedPart mode.Audit (draft_tree set.now) part.now fault) }
 {
-    let records = read_records(alloc, set, &mut Bytes::new(part))?;
-    Ok(records)
+    Ok(read_records(alloc, set, &mut Bytes::new(part))?)
 }
 
 // Audits the records that the bytes of a part are, and adds the rows that are left and the last

@@ -119,8 +119,7 @@ fn jobs_in(alloc: Global, set: &ProgramSet, part: &[u8]) -> Result<JobList, Comm
     ensures err { IfErr result (λ fault. is_memory fault ≡ false
         → IsRefusedJobs (draft_tree set.now) part.now fault) }
 {
-    let list = read_jobs(alloc, set, &mut Bytes::new(part))?;
-    Ok(list)
+    Ok(read_jobs(alloc, set, &mut Bytes::new(part))?)
 }
 
 // What came of jobs, and the text that says so.
