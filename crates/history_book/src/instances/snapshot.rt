@@ -1,6 +1,6 @@
 //! What active instances see, and whether runs are theirs.
 
-ghost use Rattle.std.specs.Prelude.{◌≡◌, ◌≤◌, ◌↔◌, length, true, IfOk, IfErr, IfSome, IsTrue, option_copied, option_map, MatchOption};
+ghost use Rattle.std.specs.Prelude.{◌≡◌, ◌≤◌, ◌↔◌, ◌-◌, length, slice_get, Some, true, IfOk, IfErr, IfSome, IsTrue, option_copied, option_map, MatchOption};
 ghost use Rattle.prog_tree.specs.Evaluation.{rows_left};
 ghost use Rattle.prog_tree.specs.Table.{row_at, rows_in};
 ghost use Rattle.prog_run.specs.Looks.{IsFound, AreFound};
@@ -25,6 +25,16 @@ pub(crate) fn same_numbers(numbers: &[i64], others: &[i64]) -> bool
     ensures { IsTrue result ↔ (numbers.now ≡ others.now) }
 {
     numbers == others
+}
+
+// Whether the last of some looks is this one.
+fn is_last(looks: &[Look], look: &Look) -> bool
+    ensures { IsTrue result ↔ (slice_get looks.now (length looks.now - 1) ≡ Some look.now) }
+{
+    match looks.last() {
+        Some(last) => last.is_same(look),
+        None => false,
+    }
 }
 
 impl<'a> Book<'a> {
@@ -99,6 +109,19 @@ impl<'a> Book<'a> {
         }
     }
 
+    // The same of a look behind others that did: one that is at once repeated finds the same.
+    fn is_found_next(&self, start: u64, before: &[Look], look: &Look) -> bool
+        requires above { self.now.floor ≤ start }
+        requires within { start ≤ length self.now.rows }
+        requires found { AreFound (state_in self.now start) before.now }
+        ensures { IsTrue result ↔ IsFound (state_in self.now start) look.now }
+    {
+        if is_last(before, look) {
+            return true;
+        }
+        self.is_found(start, look)
+    }
+
     // The first look that did not find what is held after the first `start` commits.
     fn foreign_look(&self, start: u64, looks: &[Look]) -> Option<usize>
         requires above { self.now.floor ≤ start }
@@ -108,7 +131,7 @@ impl<'a> Book<'a> {
             (λ number. IsFirstForeign (state_in self.now start) looks.now number) }
     {
         for (number, look) in looks.iter().enumerate() {
-            if !self.is_found(start, look) {
+            if !self.is_found_next(start, &looks[..number], look) {
                 return Some(number);
             }
         }

@@ -5,15 +5,15 @@ use Rattle.history_book.specs.View.{state_in}
 use Rattle.history_book.proofs.FoundLaws.{found_one_more, first_foreign}
 use Rattle.history_book.proofs.book.Book.foreign_look.Goals as goal
 
-pub returns-then-not-is_found : goal.returns-then-not-is_found
-returns-then-not-is_found c =
-    first_foreign (state_in c.args.self.now c.args.start) c.args.looks.now c.loop-number.number c.index-looks-number.result c.is_found.result
-    (omega arith) c.index-looks-number.is c.loop-number.invariant c.is_found.ensures c.if-not-is_found.true
+pub returns-then-not-is_found_next : goal.returns-then-not-is_found_next
+returns-then-not-is_found_next c =
+    first_foreign (state_in c.args.self.now c.args.start) c.args.looks.now c.loop-number.number c.index-looks-number.result c.is_found_next.result
+    (omega arith) c.index-looks-number.is c.loop-number.invariant c.is_found_next.ensures c.if-not-is_found_next.true
 
 pub loop-number-preserved : goal.loop-number-preserved
 loop-number-preserved c =
     found_one_more (state_in c.args.self.now c.args.start) c.args.looks.now c.loop-number.number c.index-looks-number.result
-    (omega arith) c.index-looks-number.is c.loop-number.invariant (c.is_found.ensures.0 c.if-not-is_found.false)
+    (omega arith) c.index-looks-number.is c.loop-number.invariant (c.is_found_next.ensures.0 c.if-not-is_found_next.false)
 
 pub returns : goal.returns
 returns c =
