@@ -79,7 +79,7 @@ not_above : (k : Cell) (rest : List Cell) → AllByRecursion (λ d. cell_cmp k d
 not_above k [] below = refl
 not_above k (d ∷ rest) below = ap (λ b. b || is_cell_among rest k) (is_not_eq (cell_cmp k d) below.0) ∙ not_above k rest below.1
 
-not_behind : (k c : Cell) (rest : List Cell) → IsStrictlySortedBy cell_cmp (k ∷ rest) → is_same_cell c k ≡ true → is_cell_among rest c ≡ false
+pub not_behind : (k c : Cell) (rest : List Cell) → IsStrictlySortedBy cell_cmp (k ∷ rest) → is_same_cell c k ≡ true → is_cell_among rest c ≡ false
 not_behind k c rest sorted same = ap (is_cell_among rest) (cell_is c k same) ∙ not_above k rest (sorted_head cell_cmp k rest sorted)
 
 -- one more entry of a map was put into the chains
@@ -94,19 +94,4 @@ entry_turn f before after k entry rest sorted made c =
     go : (b : Bool) → (b ≡ true → at_cell rest c ≡ None) →
         with_entry f (at_cell rest c) (if b then f entry (chain_at before c) else chain_at before c) ≡ with_entry f (cond b (Some entry) (at_cell rest c)) (chain_at before c)
     go true none = ap (λ o. with_entry f o (f entry (chain_at before c))) (none refl)
-    go false none = refl
-
--- the same for one more cell of a list
-pub cell_turn :
-    (f : Chain → Chain) (before after : Cells Chain) (k : Cell) (rest : List Cell) →
-    IsStrictlySortedBy cell_cmp (k ∷ rest) → MakesAt k f before after →
-    (c : Cell) → (if is_cell_among rest c then f (chain_at after c) else chain_at after c) ≡ (if is_cell_among (k ∷ rest) c then f (chain_at before c) else chain_at before c)
-cell_turn f before after k rest sorted made c =
-    ap (λ x. if is_cell_among rest c then f x else x) (made c ∙ ap (λ b. if b then f (chain_at before c) else chain_at before c) (same_turned k c))
-    ∙ go (is_same_cell c k) (λ same. not_behind k c rest sorted same)
-  where
-    go : (b : Bool) → (b ≡ true → is_cell_among rest c ≡ false) →
-        (if is_cell_among rest c then f (if b then f (chain_at before c) else chain_at before c) else (if b then f (chain_at before c) else chain_at before c))
-        ≡ (if b || is_cell_among rest c then f (chain_at before c) else chain_at before c)
-    go true none = ap (λ a. if a then f (f (chain_at before c)) else f (chain_at before c)) (none refl)
     go false none = refl

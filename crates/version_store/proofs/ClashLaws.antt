@@ -1,5 +1,5 @@
 -- Laws of clashes: the first of some cells that has a number above the start.
-use Rattle.std.proofs.Common.{◌≡◌, ◌↔◌, ◌∙◌, ◌⊎◌, inl, inr, ℕ, suc, max, ◌<◌, ◌≤◌, Bool, true, false, ◌||◌, if◌then◌else◌, leb, nat_lt, List, [], ◌∷◌, refl, ap, sym, subst, arith}
+use Rattle.std.proofs.Common.{◌≡◌, ◌↔◌, ◌∙◌, ◌⊎◌, inl, inr, ℕ, suc, max, ◌<◌, ◌≤◌, Bool, true, false, ◌||◌, if◌then◌else◌, leb, nat_lt, List, [], ◌∷◌, ◌++◌, append_assoc, append-nil, refl, ap, sym, subst, arith}
 use Rattle.std.specs.Prelude.{Option, Some, None}
 use Rattle.std.specs.BTreeSet.{insert_key}
 use Rattle.std.specs.Cmp.{tied_itself}
@@ -8,17 +8,19 @@ use Rattle.std.specs.declared.cmp.Ordering.TheVariants.{Less, Equal, Greater}
 use Rattle.std.specs.List.{AllByRecursion}
 use Rattle.std.specs.List.Sorted.{IsStrictlySortedBy}
 use Rattle.std.specs.Ordering.{is_eq, is_lt, match_ordering, ordering_reverse}
-use Rattle.std.proofs.lemmas.Bool.{le-leb, lt-leb}
-use Rattle.std.proofs.lemmas.Bool.Decides.{leb_tells, nat_tests}
+use Rattle.std.proofs.lemmas.Bool.Decides.{leb_tells}
+use Rattle.std.proofs.lemmas.List.Folds.{list_any-append}
 use Rattle.std.proofs.lemmas.Map.Keys.{sorted_head, sorted_tail}
 use Rattle.prog_tree.specs.declared.cell.Cell.{Cell}
 use Rattle.prog_tree.specs.ChangeSet.{ChangeSet, touches_cell}
-use Rattle.prog_tree.specs.Table.{cell_cmp, cells_of, is_same_cell, is_cell_among}
+use Rattle.prog_tree.specs.Table.{cell_cmp, Cells, cells_of, is_same_cell, is_cell_among}
 use Rattle.prog_tree.proofs.TableLemmas.{cell_total}
 use Rattle.prog_tree.proofs.TableStates.{same_cell, cell_is}
-use Rattle.version_store.specs.Clash.{last_touch, IsClash, with_cells, touched, first_clash, clash_of}
+use Rattle.version_store.specs.declared.touches.Touch.{Touch}
+use Rattle.version_store.specs.Clash.{last_touch, IsClash, IsFirst, with_cells, touched, first_clash, clash_of}
 use Rattle.version_store.specs.Reading.{first_above, lesser}
-use Rattle.version_store.proofs.CommitLaws.{among-some}
+use Rattle.version_store.specs.Touches.{touches_of}
+use Rattle.version_store.proofs.TouchLaws.{among-some, among_touches}
 
 -- ---- the order of cells
 
@@ -38,12 +40,6 @@ less_than c x y less least = go (cell_cmp x y) refl
     go Greater is = absurd (least (turned x y is))
 
 -- ---- the first cell above the start
-
--- the least cell that passes the test and has a number above the start, with its number; none where there is none
-abbrev pub IsFirst : (Cell → Bool) → (Cell → ℕ) → ℕ → Option (Cell × ℕ) → Type 0
-IsFirst p number start None = (c : Cell) → p c ≡ true → start < number c → ⊥
-IsFirst p number start (Some x) =
-    (p x.0 ≡ true) × (start < number x.0) × (x.1 ≡ number x.0) × ((c : Cell) → p c ≡ true → start < number c → cell_cmp c x.0 ≡ Less → ⊥)
 
 -- the same test and the same numbers
 pub first-same :
@@ -179,18 +175,19 @@ first_by_clash : (ws : List ChangeSet) (start : ℕ) (w : ChangeSet) (o : Option
 first_by_clash ws start w None h = h
 first_by_clash ws start w (Some x) h = h
 
--- the first of the changed and of the kept cells, by numbers that are those of the last commits
+-- numbers that are the same above the start find the same
+first-seen :
+    (p : Cell → Bool) (number other : Cell → ℕ) (start : ℕ) (o : Option (Cell × ℕ)) → ((c : Cell) → max start (number c) ≡ max start (other c)) → IsFirst p number start o → IsFirst p other start o
+first-seen p number other start None same h = λ c passes above. h c passes (omega (arith, above, same c))
+first-seen p number other start (Some x) same h =
+    let equal : number x.0 ≡ other x.0 = omega (arith, h.1, same x.0) in
+    (h.0, omega (arith, h.1, equal), h.2 ∙ equal, λ c passes above. h.3 c passes (omega (arith, above, same c)))
+
+-- the first of the touched cells, by numbers that are those of the last commits as far as they are above the start
 pub clash_found :
-    (ws : List ChangeSet) (start : ℕ) (w : ChangeSet) (number : Cell → ℕ) (o : Option (Cell × ℕ)) → IsStrictlySortedBy cell_cmp (cells_of w.cells) → IsStrictlySortedBy cell_cmp w.kept →
-    ((c : Cell) → number c ≡ last_touch c 1 ws) → o ≡ lesser (first_above number start (cells_of w.cells)) (first_above number start w.kept) → IsClash ws start w o
-clash_found ws start w number o changed kept same is =
-    let cells = cells_of w.cells in
-    let first = first-lesser (is_cell_among cells) (is_cell_among w.kept) number start (first_above number start cells) (first_above number start w.kept)
-    (first-above number start cells changed) (first-above number start w.kept kept) in
-    clash_by_first ws start w o
-    (subst (λ (x : Option (Cell × ℕ)). IsFirstTouched ws start w x) (sym is)
-    (first-same (λ c. is_cell_among cells c || is_cell_among w.kept c) (touches_cell w) number (λ c. last_touch c 1 ws) start _
-    (λ c. ap (λ b. b || is_cell_among w.kept c) (among-some w.cells c)) same first))
+    (ws : List ChangeSet) (start : ℕ) (w : ChangeSet) (number : Cell → ℕ) (o : Option (Cell × ℕ)) → ((c : Cell) → max start (number c) ≡ max start (last_touch c 1 ws)) →
+    IsFirst (touches_cell w) number start o → IsClash ws start w o
+clash_found ws start w number o same first = clash_by_first ws start w o (first-seen (touches_cell w) number (λ c. last_touch c 1 ws) start o same first)
 
 -- ---- the search over the touched cells
 
@@ -285,21 +282,33 @@ clashes_found ws start w o = (
   λ same. clash_by_first ws start w o (subst (λ (x : Option (Cell × ℕ)). IsFirstTouched ws start w x) (sym same) (search_clashes ws start w)),
 )
 
--- ---- numbers that are the same above the start find the same
+-- ---- a walk over the touched cells
 
-pub first_above-seen : (start : ℕ) (number other : Cell → ℕ) → ((c : Cell) → max start (number c) ≡ max start (other c)) →
-    (cells : List Cell) → first_above number start cells ≡ first_above other start cells
-first_above-seen start number other same [] = refl
-first_above-seen start number other same (c ∷ cells) = go (nat_lt start (number c)) refl (first_above-seen start number other same cells)
-  where
-    go : (b : Bool) → nat_lt start (number c) ≡ b → first_above number start cells ≡ first_above other start cells →
-        (if b then Some (c, number c) else first_above number start cells) ≡ (if nat_lt start (other c) then Some (c, other c) else first_above other start cells)
-    go true high rest =
-        let above : start < number c = grind (arith, nat_tests) in
-        let equal : number c ≡ other c = omega (arith, above, same c) in
-        ap (λ n. Some (c, n)) equal
-        ∙ ap (λ b. if b then Some (c, other c) else first_above other start cells) (sym (le-leb (suc start) (other c) (omega (arith, above, equal))))
-    go false low rest =
-        let below : number c ≤ start = grind (arith, nat_tests) in
-        rest
-        ∙ ap (λ b. if b then Some (c, other c) else first_above other start cells) (sym (lt-leb (suc start) (other c) (omega (arith, below, same c))))
+-- what was found is the first of the touches that were walked over
+pub record Finds (number : Cell → ℕ) (start : ℕ) (touches walked rest : Cells Touch) (found : Option (Cell × ℕ)) : Type 0 where
+  pub joined : walked ++ rest ≡ touches
+  pub first : IsFirst (is_cell_among (cells_of walked)) number start found
+
+cells-append : (walked more : Cells Touch) → cells_of (walked ++ more) ≡ cells_of walked ++ cells_of more
+cells-append [] more = refl
+cells-append (t ∷ walked) more = ap (λ cs. t.0 ∷ cs) (cells-append walked more)
+
+pub finds_more :
+    (number : Cell → ℕ) (start : ℕ) (touches walked left rest : Cells Touch) (k : Cell) (touch : Touch) (found here next : Option (Cell × ℕ)) → left ≡ (k, touch) ∷ rest →
+    here ≡ first_above number start (k ∷ []) → next ≡ lesser found here → Finds number start touches walked left found → Finds number start touches (walked ++ (k, touch) ∷ []) rest next
+finds_more number start touches walked left rest k touch found here next is at is_next h = record {
+  joined = append_assoc walked ((k, touch) ∷ []) rest ∙ ap (λ ts. walked ++ ts) (sym is) ∙ h.joined;
+  first =
+      subst (λ (o : Option (Cell × ℕ)). IsFirst (is_cell_among (cells_of (walked ++ (k, touch) ∷ []))) number start o) (sym (is_next ∙ ap (lesser found) at))
+      (first-same (λ c. is_cell_among (cells_of walked) c || is_cell_among (k ∷ []) c) (is_cell_among (cells_of (walked ++ (k, touch) ∷ []))) number number start _
+      (λ c. sym (ap (λ cs. is_cell_among cs c) (cells-append walked ((k, touch) ∷ [])) ∙ list_any-append (is_same_cell c) (cells_of walked) (k ∷ []))) (λ c. refl)
+      (first-lesser (is_cell_among (cells_of walked)) (is_cell_among (k ∷ [])) number start found (first_above number start (k ∷ [])) h.first
+      (first-above number start (k ∷ []) (sorted_insert [] k nothing_sorted))));
+}
+
+pub finds_all :
+    (number : Cell → ℕ) (start : ℕ) (w : ChangeSet) (walked left : Cells Touch) (found : Option (Cell × ℕ)) → left ≡ [] → Finds number start (touches_of w) walked left found →
+    IsFirst (touches_cell w) number start found
+finds_all number start w walked left found none h =
+    let all : walked ≡ touches_of w = sym (append-nil walked) ∙ ap (λ ts. walked ++ ts) (sym none) ∙ h.joined in
+    first-same (is_cell_among (cells_of walked)) (touches_cell w) number number start found (λ c. ap (λ (ts : Cells Touch). is_cell_among (cells_of ts) c) all ∙ among_touches w c) (λ c. refl) h.first

@@ -1,9 +1,12 @@
 -- Which chains hold something, once one of them is written or leaves.
-use Rattle.std.proofs.Common.{◌≡◌, ◌∙◌, ℕ, ℤ, Bool, true, false, cond, List, [], ◌∷◌, ◌++◌, refl, ap, sym, subst}
+use Rattle.std.proofs.Common.{◌≡◌, ◌∙◌, ℕ, Bool, true, false, cond, List, [], ◌∷◌, ◌++◌, refl, ap, sym, subst}
 use Rattle.std.specs.Prelude.{Option, Some, None, IsSome}
 use Rattle.prog_tree.specs.declared.cell.Cell.{Cell}
 use Rattle.prog_tree.specs.Table.{Cells, at_cell, is_same_cell}
-use Rattle.version_store.specs.Reading.{with_version, with_mark, OthersHold}
+use Rattle.version_store.specs.declared.touches.Touch.{Touch}
+use Rattle.version_store.specs.declared.touches.Touch.TheVariants.{Change, Keep}
+use Rattle.version_store.specs.Reading.{OthersHold}
+use Rattle.version_store.specs.Touches.{with_touch}
 use Rattle.version_store.specs.StandsFor.{Chain, no_chain, HoldsSome, EachHolds}
 use Rattle.version_store.proofs.ChainsLaws.{IsWritten}
 
@@ -11,11 +14,9 @@ not_pushed : {A : Type 0} (xs : List A) (x : A) → xs ++ x ∷ [] ≡ [] → �
 not_pushed [] x h = cc
 not_pushed (y ∷ xs) x h = cc
 
-pub version_holds : (n : ℕ) (value : Option ℤ) (chain : Chain) → with_version n value chain ≡ no_chain → ⊥
-version_holds n value chain h = not_pushed chain.versions (n, value) (ap (λ (x : Chain). x.versions) h)
-
-pub mark_holds : (n : ℕ) (chain : Chain) → with_mark n chain ≡ no_chain → ⊥
-mark_holds n chain h = not_pushed chain.marks n (ap (λ (x : Chain). x.marks) h)
+pub touch_holds : (n : ℕ) (touch : Touch) (chain : Chain) → with_touch n touch chain ≡ no_chain → ⊥
+touch_holds n (Change value) chain h = not_pushed chain.versions (n, value) (ap (λ (x : Chain). x.versions) h)
+touch_holds n Keep chain h = not_pushed chain.marks n (ap (λ (x : Chain). x.marks) h)
 
 pub none_holds : EachHolds []
 none_holds c = tt

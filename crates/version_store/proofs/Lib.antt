@@ -10,6 +10,7 @@ pub mod PendingLaws
 pub mod ScanLaws
 pub mod SizeLaws
 pub mod StandsLaws
+pub mod TouchLaws
 pub mod TrimLaws
 pub mod VacuumLaws
 pub mod VersionLaws

@@ -1,15 +1,19 @@
--- What walks over the cells of changes keep.
+-- What walks over the touches of a commit, and over opening rows, keep.
 use Rattle.std.proofs.Common.{◌≡◌, ◌∙◌, ℕ, ℤ, Bool, true, false, ◌||◌, cond, if◌then◌else◌, List, [], ◌∷◌, ◌++◌, refl, ap, sym, subst, arith, nat_lt}
-use Rattle.std.specs.Prelude.{Option, Some, None, is_some, filter}
+use Rattle.std.specs.Prelude.{Option, Some, None, filter}
 use Rattle.std.specs.List.Sorted.{IsStrictlySortedBy}
 use Rattle.std.proofs.lemmas.Bool.Decides.{nat_tests}
 use Rattle.std.proofs.lemmas.Map.Keys.{sorted_tail}
 use Rattle.prog_tree.specs.declared.cell.Cell.{Cell}
-use Rattle.prog_tree.specs.ChangeSet.{ChangeSet, change_at}
+use Rattle.prog_tree.specs.ChangeSet.{ChangeSet}
 use Rattle.prog_tree.specs.Table.{cell_cmp, Cells, cells_of, at_cell, is_same_cell, is_cell_among}
+use Rattle.version_store.specs.declared.touches.Touch.{Touch}
+use Rattle.version_store.specs.declared.touches.Touch.TheVariants.{Change, Keep}
 use Rattle.version_store.specs.StandsFor.{Chain, EachHolds}
-use Rattle.version_store.specs.Reading.{chain_at, with_entry, with_version, with_mark, with_change_by, cut_from, IsGrown, MakesAt}
-use Rattle.version_store.proofs.ChainsLaws.{entry_turn, cell_turn}
+use Rattle.version_store.specs.Reading.{chain_at, with_entry, with_version, with_mark, with_commit, cut_from, IsGrown, MakesAt, MakesTouched}
+use Rattle.version_store.specs.Touches.{touches_of, with_touch, with_touches}
+use Rattle.version_store.proofs.ChainsLaws.{entry_turn, same_turned}
+use Rattle.version_store.proofs.TouchLaws.{among_touches, commit_touches}
 
 -- with the entries that are left, the chains are what they will be at the end, and these are entries of the map
 pub record AddsEntries {A : Type 0} (f : A → Chain → Chain) (entries rest : Cells A) (before now : Cells Chain) : Type 0 where
@@ -38,34 +42,7 @@ one_more_entry {A = A} f entries left rest k entry before now next is so_far mad
     go true c none = absurd (cc)
     go false c none = none
 
--- the same over a list of cells
-pub record VisitsCells (f : Chain → Chain) (cells rest : List Cell) (before now : Cells Chain) : Type 0 where
-  pub sorted : IsStrictlySortedBy cell_cmp rest
-  pub ends : (c : Cell) → (if is_cell_among rest c then f (chain_at now c) else chain_at now c) ≡ (if is_cell_among cells c then f (chain_at before c) else chain_at before c)
-  pub within : (c : Cell) → is_cell_among cells c ≡ false → is_cell_among rest c ≡ false
-  pub hold : EachHolds before → EachHolds now
-
-pub cells_begin : (f : Chain → Chain) (cells : List Cell) (before : Cells Chain) → IsStrictlySortedBy cell_cmp cells → VisitsCells f cells cells before before
-cells_begin f cells before sorted = record { sorted = sorted; ends = λ c. refl; within = λ c none. none; hold = λ holds. holds }
-
-pub one_more_cell :
-    (f : Chain → Chain) (cells left rest : List Cell) (k : Cell) (before now next : Cells Chain) →
-    left ≡ k ∷ rest → VisitsCells f cells left before now → MakesAt k f now next → (EachHolds now → EachHolds next) → VisitsCells f cells rest before next
-one_more_cell f cells left rest k before now next is so_far made holds_next = record {
-  sorted = sorted_tail cell_cmp k rest h.sorted;
-  ends = λ c. cell_turn f now next k rest h.sorted made c ∙ h.ends c;
-  within = λ c none. go (is_same_cell c k) c (h.within c none);
-  hold = λ holds. holds_next (h.hold holds);
-}
-  where
-    h : VisitsCells f cells (k ∷ rest) before now
-    h = subst (λ (cs : List Cell). VisitsCells f cells cs before now) is so_far
-
-    go : (b : Bool) (c : Cell) → (b || is_cell_among rest c) ≡ false → is_cell_among rest c ≡ false
-    go true c none = absurd (cc)
-    go false c none = none
-
--- ---- what stands where a walk could not end
+-- ---- walks over the touches of a commit
 
 filter_push : {X : Type 0} (p : X → Bool) (xs : List X) (x : X) → p x ≡ false → filter p (xs ++ x ∷ []) ≡ filter p xs
 filter_push p [] x drops = ap (λ b. cond b (x ∷ []) []) drops
@@ -86,44 +63,113 @@ cut_mark n chain i = record {
   marks = filter_push (λ (m : ℕ). nat_lt m n) chain.marks n (not_below n) i;
 }
 
-pub cut_change : (n : ℕ) (change : Option (Option ℤ)) (chain : Chain) → cut_from n (with_change_by n change chain) ≡ cut_from n chain
-cut_change n None chain = refl
-cut_change n (Some value) chain = cut_version n value chain
+below_touch : (n : ℕ) (touch : Touch) (chain : Chain) → cut_from n (with_touch n touch chain) ≡ cut_from n chain
+below_touch n (Change value) chain = cut_version n value chain
+below_touch n Keep chain = cut_mark n chain
 
-cut_kept : (n : ℕ) (kept : Bool) (chain : Chain) → cut_from n (if kept then with_mark n chain else chain) ≡ cut_from n chain
-cut_kept n true chain = cut_mark n chain
-cut_kept n false chain = refl
+not_either : (a b : Bool) → (a || b) ≡ false → (a ≡ false) × (b ≡ false)
+not_either true b h = absurd (cc)
+not_either false b h = (refl, h)
 
-pub not_changed : (change : Option (Option ℤ)) (kept : Bool) → (is_some change || kept) ≡ false → change ≡ None
-not_changed None kept h = refl
-not_changed (Some value) kept h = absurd (cc)
+-- with the touches that are left, the chains are what they will be at the end; nothing below the number changes, and nothing at all of a cell that is not touched
+pub record AddsTouches (n : ℕ) (touches rest : Cells Touch) (before now : Cells Chain) : Type 0 where
+  pub ends : (c : Cell) → with_touches n rest c (chain_at now c) ≡ with_touches n touches c (chain_at before c)
+  pub below : (c : Cell) → cut_from n (chain_at now c) ≡ cut_from n (chain_at before c)
+  pub apart : (c : Cell) → is_cell_among (cells_of touches) c ≡ false → (is_cell_among (cells_of rest) c ≡ false) × (chain_at now c ≡ chain_at before c)
+  pub hold : EachHolds before → EachHolds now
 
-not_kept : (changed kept : Bool) → (changed || kept) ≡ false → kept ≡ false
-not_kept true kept h = absurd (cc)
-not_kept false kept h = h
+pub adds_begin : (n : ℕ) (touches left : Cells Touch) (before : Cells Chain) → left ≡ touches → AddsTouches n touches left before before
+adds_begin n touches left before is = record {
+  ends = λ c. ap (λ ts. with_touches n ts c (chain_at before c)) is;
+  below = λ c. refl;
+  apart = λ c none. (ap (λ (ts : Cells Touch). is_cell_among (cells_of ts) c) is ∙ none, refl);
+  hold = λ holds. holds;
+}
 
-pub grown_by_versions :
-    (n : ℕ) (w : ChangeSet) (rest : Cells (Option ℤ)) (before now next : Cells Chain) → AddsEntries (with_version n) w.cells rest before now →
+pub one_more_touch :
+    (n : ℕ) (touches left rest : Cells Touch) (k : Cell) (touch : Touch) (before now next : Cells Chain) → left ≡ (k, touch) ∷ rest → AddsTouches n touches left before now →
+    MakesAt k (with_touch n touch) now next → (EachHolds now → EachHolds next) → AddsTouches n touches rest before next
+one_more_touch n touches left rest k touch before now next is so_far made holds_next = record {
+  ends = λ c. ap (with_touches n rest c) (made c) ∙ h.ends c;
+  below = λ c. ap (cut_from n) (made c) ∙ go (is_same_cell k c) c ∙ h.below c;
+  apart = λ c none.
+      let both = h.apart c none in
+      let neither = not_either (is_same_cell c k) (is_cell_among (cells_of rest) c) both.0 in
+      (neither.1, made c ∙ ap (λ b. if b then with_touch n touch (chain_at now c) else chain_at now c) (same_turned k c ∙ neither.0) ∙ both.1);
+  hold = λ holds. holds_next (h.hold holds);
+}
+  where
+    h : AddsTouches n touches ((k, touch) ∷ rest) before now
+    h = subst (λ (ts : Cells Touch). AddsTouches n touches ts before now) is so_far
+
+    go : (b : Bool) (c : Cell) → cut_from n (if b then with_touch n touch (chain_at now c) else chain_at now c) ≡ cut_from n (chain_at now c)
+    go true c = below_touch n touch (chain_at now c)
+    go false c = refl
+
+-- all touches of a commit were added
+pub commit_added :
+    (n : ℕ) (w : ChangeSet) (left : Cells Touch) (before now : Cells Chain) → IsStrictlySortedBy cell_cmp (cells_of w.cells) → IsStrictlySortedBy cell_cmp w.kept → left ≡ [] →
+    AddsTouches n (touches_of w) left before now → (c : Cell) → chain_at now c ≡ with_commit n w c (chain_at before c)
+commit_added n w left before now changed kept none h c =
+    ap (λ ts. with_touches n ts c (chain_at now c)) (sym none) ∙ h.ends c ∙ commit_touches n w c (chain_at before c) changed kept
+
+-- some of them were added
+pub commit_grown :
+    (n : ℕ) (w : ChangeSet) (rest : Cells Touch) (before now next : Cells Chain) → AddsTouches n (touches_of w) rest before now →
     ((c : Cell) → chain_at next c ≡ chain_at now c) → IsGrown n w before next
-grown_by_versions n w rest before now next h same c = (
-  ap (cut_from n) (same c) ∙ sym (cut_change n (at_cell rest c) (chain_at now c)) ∙ ap (cut_from n) (h.ends c) ∙ cut_change n (at_cell w.cells c) (chain_at before c),
-  λ apart.
-      let none : at_cell w.cells c ≡ None = not_changed (at_cell w.cells c) (is_cell_among w.kept c) apart in
-      same c
-      ∙ ap (λ o. with_change_by n o (chain_at now c)) (sym (h.within c none))
-      ∙ h.ends c
-      ∙ ap (λ o. with_change_by n o (chain_at before c)) none,
-)
+commit_grown n w rest before now next h same c = (ap (cut_from n) (same c) ∙ h.below c, λ apart. same c ∙ (h.apart c (among_touches w c ∙ apart)).1)
 
-pub grown_by_marks :
-    (n : ℕ) (w : ChangeSet) (rest : List Cell) (before now next : Cells Chain) → VisitsCells (with_mark n) w.kept rest before now →
-    ((c : Cell) → chain_at next c ≡ chain_at now c) → IsGrown n w before next
-grown_by_marks n w rest before now next h same c = (
-  ap (cut_from n) (same c) ∙ sym (cut_kept n (is_cell_among rest c) (chain_at now c)) ∙ ap (cut_from n) (h.ends c) ∙ cut_kept n (is_cell_among w.kept c) (chain_at before c),
-  λ apart.
-      let none : is_cell_among w.kept c ≡ false = not_kept (is_some (change_at w c)) (is_cell_among w.kept c) apart in
-      same c
-      ∙ ap (λ b. if b then with_mark n (chain_at now c) else chain_at now c) (sym (h.within c none))
-      ∙ h.ends c
-      ∙ ap (λ b. if b then with_mark n (chain_at before c) else chain_at before c) none,
-)
+-- ---- walks that cut
+
+filter_twice : {X : Type 0} (p : X → Bool) (xs : List X) → filter p (filter p xs) ≡ filter p xs
+filter_twice p [] = refl
+filter_twice {X = X} p (x ∷ xs) = go (p x) refl (filter_twice p xs)
+  where
+    go : (b : Bool) → p x ≡ b → filter p (filter p xs) ≡ filter p xs → filter p (cond b (x ∷ filter p xs) (filter p xs)) ≡ cond b (x ∷ filter p xs) (filter p xs)
+    go true passes rest = ap (λ b. cond b (x ∷ filter p (filter p xs)) (filter p (filter p xs))) passes ∙ ap (λ (ys : List X). x ∷ ys) rest
+    go false drops rest = rest
+
+cut_twice : (n : ℕ) (chain : Chain) → cut_from n (cut_from n chain) ≡ cut_from n chain
+cut_twice n chain i = record {
+  versions = filter_twice (λ (v : ℕ × Option ℤ). nat_lt v.0 n) chain.versions i;
+  marks = filter_twice (λ (m : ℕ). nat_lt m n) chain.marks i;
+}
+
+-- once the touches that are left are cut too, all of them are
+pub record CutsTouches (n : ℕ) (touches rest : Cells Touch) (before now : Cells Chain) : Type 0 where
+  pub ends : (c : Cell) → (if is_cell_among (cells_of rest) c then cut_from n (chain_at now c) else chain_at now c) ≡ (if is_cell_among (cells_of touches) c then cut_from n (chain_at before c) else chain_at before c)
+  pub hold : EachHolds before → EachHolds now
+
+pub cuts_begin : (n : ℕ) (touches left : Cells Touch) (before : Cells Chain) → left ≡ touches → CutsTouches n touches left before before
+cuts_begin n touches left before is = record {
+  ends = λ c. ap (λ (ts : Cells Touch). if is_cell_among (cells_of ts) c then cut_from n (chain_at before c) else chain_at before c) is;
+  hold = λ holds. holds;
+}
+
+pub one_more_cut :
+    (n : ℕ) (touches left rest : Cells Touch) (k : Cell) (touch : Touch) (before now next : Cells Chain) → left ≡ (k, touch) ∷ rest → CutsTouches n touches left before now →
+    MakesAt k (cut_from n) now next → (EachHolds now → EachHolds next) → CutsTouches n touches rest before next
+one_more_cut n touches left rest k touch before now next is so_far made holds_next = record {
+  ends = λ c.
+      ap (λ x. if is_cell_among (cells_of rest) c then cut_from n x else x) (made c ∙ ap (λ b. if b then cut_from n (chain_at now c) else chain_at now c) (same_turned k c))
+      ∙ go (is_same_cell c k) (is_cell_among (cells_of rest) c) (chain_at now c)
+      ∙ h.ends c;
+  hold = λ holds. holds_next (h.hold holds);
+}
+  where
+    h : CutsTouches n touches ((k, touch) ∷ rest) before now
+    h = subst (λ (ts : Cells Touch). CutsTouches n touches ts before now) is so_far
+
+    go : (a b : Bool) (chain : Chain) → (if b then cut_from n (if a then cut_from n chain else chain) else (if a then cut_from n chain else chain)) ≡ (if a || b then cut_from n chain else chain)
+    go true true chain = cut_twice n chain
+    go true false chain = refl
+    go false true chain = refl
+    go false false chain = refl
+
+-- all cells that a commit touches were cut
+pub commit_cut :
+    (n : ℕ) (w : ChangeSet) (left : Cells Touch) (before now : Cells Chain) → left ≡ [] → CutsTouches n (touches_of w) left before now → MakesTouched w (cut_from n) before now
+commit_cut n w left before now none h c =
+    ap (λ (ts : Cells Touch). if is_cell_among (cells_of ts) c then cut_from n (chain_at now c) else chain_at now c) (sym none)
+    ∙ h.ends c
+    ∙ ap (λ b. if b then cut_from n (chain_at before c) else chain_at before c) (among_touches w c)

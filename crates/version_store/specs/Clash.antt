@@ -1,5 +1,5 @@
 -- Clashes: first committer wins.
-use Rattle.std.specs.Prelude.{◌≡◌, ℕ, ◌+◌, ◌<◌, max, nat_lt, true, List, [], ◌∷◌, fold, Option, Some, None, if◌then◌else◌}
+use Rattle.std.specs.Prelude.{◌≡◌, ℕ, ◌+◌, ◌<◌, max, nat_lt, Bool, true, List, [], ◌∷◌, fold, Option, Some, None, if◌then◌else◌}
 use Rattle.std.specs.BTreeSet.{insert_key}
 use Rattle.std.specs.declared.cmp.Ordering.TheVariants.{Less}
 use Rattle.prog_tree.specs.declared.cell.Cell.{Cell}
@@ -22,6 +22,12 @@ IsClash ws start w None = (c : Cell) → touches_cell w c ≡ true → IsTouched
 IsClash ws start w (Some clash) =
     (touches_cell w clash.0 ≡ true) × IsTouchedAbove ws start clash.0 × (clash.1 ≡ last_touch clash.0 1 ws)
     × ((c : Cell) → touches_cell w c ≡ true → IsTouchedAbove ws start c → cell_cmp c clash.0 ≡ Less → ⊥)
+
+-- the least cell that passes the test and has a number above the start, with its number; none where there is none
+abbrev pub IsFirst : (Cell → Bool) → (Cell → ℕ) → (start : ℕ) → Option (Cell × ℕ) → Type 0
+IsFirst p number start None = (c : Cell) → p c ≡ true → start < number c → ⊥
+IsFirst p number start (Some x) =
+    (p x.0 ≡ true) × (start < number x.0) × (x.1 ≡ number x.0) × ((c : Cell) → p c ≡ true → start < number c → cell_cmp c x.0 ≡ Less → ⊥)
 
 -- ---- the same as a search
 

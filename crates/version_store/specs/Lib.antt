@@ -5,6 +5,7 @@ pub mod Reading
 pub mod Regions
 pub mod StandsFor
 pub mod Told
+pub mod Touches
 pub mod Trimming
 pub mod Trims
 pub mod Versions

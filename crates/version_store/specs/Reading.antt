@@ -104,9 +104,9 @@ IsGrown n w before after = (c : Cell) → (cut_from n (chain_at after c) ≡ cut
 abbrev pub MakesAt : Cell → (Chain → Chain) → Cells Chain → Cells Chain → Type 0
 MakesAt cell f before after = (c : Cell) → chain_at after c ≡ if is_same_cell cell c then f (chain_at before c) else chain_at before c
 
--- the same for each cell of a list
-abbrev pub MakesAmong : List Cell → (Chain → Chain) → Cells Chain → Cells Chain → Type 0
-MakesAmong cells f before after = (c : Cell) → chain_at after c ≡ if is_cell_among cells c then f (chain_at before c) else chain_at before c
+-- the same for each cell that a commit touches
+abbrev pub MakesTouched : ChangeSet → (Chain → Chain) → Cells Chain → Cells Chain → Type 0
+MakesTouched w f before after = (c : Cell) → chain_at after c ≡ if touches_cell w c then f (chain_at before c) else chain_at before c
 
 -- each chain is what f makes of it at its cell
 abbrev pub MakesEach : (Cell → Chain → Chain) → Cells Chain → Cells Chain → Type 0

@@ -1,10 +1,12 @@
 //! What the store keeps of one cell.
 ghost use Rattle.std.specs.Prelude.{◌≡◌, ◌↔◌, ◌≤◌, ◌+◌, length, [], drop, None, IsTrue, OnOk, OnErr};
 ghost use Rattle.version_store.specs.Reading.{RisesFrom, IsCutAt, value_at, last_version};
-ghost use Rattle.version_store.specs.Reading.{last_mark, last_number, with_version, with_mark, cut_from};
+ghost use Rattle.version_store.specs.Reading.{last_mark, last_number, cut_from};
 ghost use Rattle.version_store.specs.StandsFor.{no_chain, trimmed};
+ghost use Rattle.version_store.specs.Touches.{with_touch};
 ghost use Rattle.version_store.specs.Trimming.{versions_kept, marks_kept};
 
+use crate::touches::Touch;
 use crate::versions::Versions;
 use std::alloc::{AllocError, Global};
 use std::marker::Model;
@@ -71,19 +73,15 @@ impl Chain {
         self.versions.last_number().max(last_mark(&self.marks))
     }
 
-    pub fn add_version(&mut self, number: u64, value: Option<i64>) -> Result<(), AllocError>
-        ensures ok { OnOk result (self.new ≡ with_version number value self.old) }
+    /// Adds a touch behind the others.
+    pub fn add(&mut self, number: u64, touch: Touch) -> Result<(), AllocError>
+        ensures ok { OnOk result (self.new ≡ with_touch number touch self.old) }
         ensures err { OnErr result (self.new ≡ self.old) }
     {
-        self.versions.push(number, value)?;
-        Ok(())
-    }
-
-    pub fn add_mark(&mut self, number: u64) -> Result<(), AllocError>
-        ensures ok { OnOk result (self.new ≡ with_mark number self.old) }
-        ensures err { OnErr result (self.new ≡ self.old) }
-    {
-        self.marks.push(number)?;
+        match touch {
+            Touch::Change(value) => self.versions.push(number, value)?,
+            Touch::Keep => self.marks.push(number)?,
+        }
         Ok(())
     }
 

@@ -1,11 +1,12 @@
 //! First committer wins: the clash of a commit with those above its start.
-ghost use Rattle.std.specs.Prelude.{◌≡◌};
-ghost use Rattle.std.specs.List.Sorted.{IsStrictlySortedBy};
-ghost use Rattle.prog_tree.specs.Table.{cell_cmp, cells_of};
+ghost use Rattle.std.specs.Prelude.{◌≡◌, [], ◌∷◌};
+ghost use Rattle.prog_tree.specs.ChangeSet.{touches_cell};
+ghost use Rattle.version_store.specs.Clash.{IsFirst};
 ghost use Rattle.version_store.specs.Reading.{first_above, lesser, number_at};
 ghost use Rattle.version_store.specs.Told.{told};
 
 use crate::chains::Chains;
+use crate::touches::Touches;
 use prog_tree::{Cell, Changes};
 
 /// A commit above the start changed or kept a cell too.
@@ -17,40 +18,16 @@ pub struct Clash {
     pub number: u64,
 }
 
-// The first of the changed cells that has a number above the start.
-fn changed_clash(chains: &Chains, start: u64, changes: &Changes) -> Option<Clash>
-    ensures first { told result
-        ≡ first_above (number_at chains.now) start (cells_of changes.now.cells) }
-    ensures ordered { IsStrictlySortedBy cell_cmp (cells_of changes.now.cells) }
+// The clash of one cell, where it has a number above the start.
+fn clash_at(chains: &Chains, start: u64, cell: Cell) -> Option<Clash>
+    ensures { told result ≡ first_above (number_at chains.now) start (cell ∷ []) }
 {
-    for (cell, _) in changes.iter() {
-        let number = chains.last_number(cell);
-        if number > start {
-            return Some(Clash {
-                cell: *cell,
-                number,
-            });
-        }
+    let number = chains.last_number(&cell);
+    if number > start {
+        Some(Clash { cell, number })
+    } else {
+        None
     }
-    None
-}
-
-// The first of the kept cells that has a number above the start.
-fn kept_clash(chains: &Chains, start: u64, changes: &Changes) -> Option<Clash>
-    ensures first { told result
-        ≡ first_above (number_at chains.now) start changes.now.kept }
-    ensures ordered { IsStrictlySortedBy cell_cmp changes.now.kept }
-{
-    for cell in changes.kept() {
-        let number = chains.last_number(cell);
-        if number > start {
-            return Some(Clash {
-                cell: *cell,
-                number,
-            });
-        }
-    }
-    None
 }
 
 // The one of two that has the lesser cell.
@@ -65,15 +42,14 @@ fn lesser(one: Option<Clash>, other: Option<Clash>) -> Option<Clash>
     }
 }
 
-/// The first of the changed and kept cells that has a number above the start.
+/// The least of the changed and kept cells that have a number above the start.
 pub fn first_clash(chains: &Chains, start: u64, changes: &Changes) -> Option<Clash>
-    ensures first { told result
-        ≡ lesser (first_above (number_at chains.now) start (cells_of changes.now.cells))
-        (first_above (number_at chains.now) start changes.now.kept) }
-    ensures changed_ordered { IsStrictlySortedBy cell_cmp (cells_of changes.now.cells) }
-    ensures kept_ordered { IsStrictlySortedBy cell_cmp changes.now.kept }
+    ensures { IsFirst (touches_cell changes.now) (number_at chains.now) start (told result) }
 {
-    let changed = changed_clash(chains, start, changes);
-    let kept = kept_clash(chains, start, changes);
-    lesser(changed, kept)
+    let mut least = None;
+    for (cell, _) in Touches::of(changes) {
+        let clash = clash_at(chains, start, cell);
+        least = lesser(least, clash);
+    }
+    least
 }

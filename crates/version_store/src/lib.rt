@@ -4,9 +4,12 @@
 mod chain;
 mod chains;
 mod clash;
+mod found;
 mod laws;
 mod pending;
+mod scan;
 mod store;
+mod touches;
 mod version;
 mod versions;
 

@@ -1,8 +1,8 @@
 //! Which cells the commits above the floor touched.
 ghost use Rattle.std.specs.Prelude.{◌≡◌, [], ◌∷◌, ◌++◌, length, take, IfSome, IfNone, OnOk, OnErr};
-ghost use Rattle.prog_tree.specs.Table.{cells_of};
-ghost use Rattle.version_store.specs.Trimming.{numbered, touches_by, within, beyond, TakesWithin};
+ghost use Rattle.version_store.specs.Trimming.{touches_by, within, beyond, TakesWithin};
 
+use crate::touches::Touches;
 use prog_tree::{Cell, Changes};
 use std::alloc::{AllocError, Global};
 use std::collections::VecDeque;
@@ -54,35 +54,14 @@ impl Pending {
         Ok(())
     }
 
-    // Adds the touches of the changed cells.
-    fn add_changed(&mut self, number: u64, changes: &Changes) -> Result<(), AllocError>
-        ensures ok { OnOk result (self.new ≡ self.old ++ numbered number (cells_of changes.now.cells)) }
-        ensures first { take (length self.old) self.new ≡ self.old }
-    {
-        for (cell, _) in changes.iter() {
-            self.push(number, *cell)?;
-        }
-        Ok(())
-    }
-
-    // Adds the touches of the kept cells.
-    fn add_kept(&mut self, number: u64, changes: &Changes) -> Result<(), AllocError>
-        ensures ok { OnOk result (self.new ≡ self.old ++ numbered number changes.now.kept) }
-        ensures first { take (length self.old) self.new ≡ self.old }
-    {
-        for cell in changes.kept() {
-            self.push(number, *cell)?;
-        }
-        Ok(())
-    }
-
     // Adds the touches of a commit, or some of them.
     fn add_touches(&mut self, number: u64, changes: &Changes) -> Result<(), AllocError>
         ensures ok { OnOk result (self.new ≡ self.old ++ touches_by number changes.now) }
         ensures first { take (length self.old) self.new ≡ self.old }
     {
-        self.add_changed(number, changes)?;
-        self.add_kept(number, changes)?;
+        for (cell, _) in Touches::of(changes) {
+            self.push(number, cell)?;
+        }
         Ok(())
     }
 

@@ -86,8 +86,7 @@ impl Store {
             StandsFor self.now opening ws →
             rows ≡ rows_in region.now (state_at opening ws start)) }
     {
-        let rows = self.chains.scan(start, region)?;
-        Ok(rows)
+        self.chains.scan(start, region)
     }
 
     /// Whether some rows are those of a region after the first `start` commits, but for those of
@@ -110,8 +109,7 @@ impl Store {
             StandsFor self.now opening ws →
             rows ≡ state_at opening ws start) }
     {
-        let rows = self.chains.state(start)?;
-        Ok(rows)
+        self.chains.state(start)
     }
 
     /// The clash of what an instance changes and keeps with the commits above its start.

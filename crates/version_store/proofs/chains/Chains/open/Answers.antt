@@ -10,4 +10,4 @@ loop-cell-preserved c =
     let value = c.in-Some.value.now in
     let fits : FitsSigned w64 value = search rules in
     one_more_entry (λ (value : ℤ). with_version 0 (Some value)) c.args.opening.now c.loop-cell.cell-iterator c.next.new.self c.in-Some.cell.now value [] c.loop-cell.chains
-    c.add_version.new.self c.in-Some.ensures.steps c.loop-cell.invariant (rw (to_z-of_z w64 value fits) at c.in_ok-add_version.ensures.ok) c.add_version.ensures.hold
+    c.add.new.self c.in-Some.ensures.steps c.loop-cell.invariant (rw (to_z-of_z w64 value fits) at c.in_ok-add.ensures.ok) c.add.ensures.hold

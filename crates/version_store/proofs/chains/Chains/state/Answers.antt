@@ -16,5 +16,8 @@ loop-cell-preserved c = λ rise.
     gathers_more (seen_anywhere c.args.start) c.args.self.now c.loop-cell.cell-iterator c.next.new.self c.in-Some.cell.now c.in-Some.chain.now c.loop-cell.rows c.add_found.new.rows rise
     c.in-Some.ensures.steps (c.loop-cell.invariant rise) c.in_ok-add_found.ensures
 
-pub returns-clause-rows : goal.returns-clause-rows
-returns-clause-rows c = λ rise. gathered (seen_anywhere c.args.start) (λ cell. refl) c.args.self.now c.loop-cell.cell-iterator c.loop-cell.rows c.in-None.ensures.steps.0 (c.loop-cell.invariant rise)
+pub returns : goal.returns
+returns c = λ rise. (
+  (c.loop-cell.invariant rise).ordered,
+  gathered (seen_anywhere c.args.start) (λ cell. refl) c.args.self.now c.loop-cell.cell-iterator c.loop-cell.rows c.in-None.ensures.steps.0 (c.loop-cell.invariant rise),
+)

@@ -1,8 +1,8 @@
 use Rattle.std.proofs.Common.{◌≡◌, ◌∙◌, ◌<◌, ◌≤◌, ◌∷◌, ◌++◌, [], ℕ, leb, true, false, ap, sym, subst}
-use Rattle.std.specs.Prelude.{ℤ, Option, List, Some, is_some}
+use Rattle.std.specs.Prelude.{ℤ, Option, List, is_some}
 use Rattle.std.specs.List.{list_all}
 use Rattle.version_store.specs.Newest.{with_newest}
-use Rattle.version_store.specs.Trimming.{versions_kept, shown}
+use Rattle.version_store.specs.Trimming.{versions_kept}
 use Rattle.version_store.proofs.NewestLaws.{kept_behind, kept_newest, shown_value, shown_removal}
 use Rattle.version_store.proofs.TrimLaws.{kept_push}
 use Rattle.version_store.proofs.versions.Versions.trim.Goals as goal

@@ -1,4 +1,4 @@
-use Rattle.std.proofs.Common.{◌≡◌, ◌∙◌, ◌≤◌, ◌<◌, ◌∷◌, ◌++◌, [], leb, false, ap, subst, sym}
+use Rattle.std.proofs.Common.{◌≡◌, ◌∙◌, ◌≤◌, ◌<◌, ◌∷◌, ◌++◌, [], ap, subst, sym}
 use Rattle.std.specs.Prelude.{ℕ, ℤ, Option, None, List}
 use Rattle.std.proofs.lemmas.Bool.{lt-leb}
 use Rattle.version_store.specs.Newest.{with_newest}

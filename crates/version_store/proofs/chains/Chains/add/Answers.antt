@@ -3,60 +3,60 @@ use Rattle.std.specs.Prelude.{IsSome}
 use Rattle.std.specs.BTreeMap.{BTreeMap}
 use Rattle.prog_tree.specs.declared.cell.Cell.{Cell}
 use Rattle.prog_tree.specs.Table.{at_cell}
-use Rattle.version_store.specs.Reading.{with_mark}
+use Rattle.version_store.specs.Touches.{with_touch}
 use Rattle.version_store.specs.StandsFor.{Chain}
 use Rattle.version_store.proofs.ChainsLaws.{IsWritten, made_found, made_absent, same_chains, at_error}
-use Rattle.version_store.proofs.HoldLaws.{hold_found, hold_written, mark_holds}
-use Rattle.version_store.proofs.chains.Chains.add_mark.Goals as goal
+use Rattle.version_store.proofs.HoldLaws.{hold_found, hold_written, touch_holds}
+use Rattle.version_store.proofs.chains.Chains.add.Goals as goal
 
-pub returns-in_err-add_mark-clause-err : goal.returns-in_err-add_mark-clause-err
-returns-in_err-add_mark-clause-err c =
+pub returns-in_err-add-clause-err : goal.returns-in_err-add-clause-err
+returns-in_err-add-clause-err c =
     let m = c.self.inside.chains.entries in
-    let chain = c.add_mark.new.self in
+    let chain = c.add.new.self in
     let n = (c.get_mut.follows.lender chain).entries in
     let written = λ (some : IsSome (at_cell m c.args.cell)). ((c.get_mut.follows.holds chain).3 some).0 in
     rw (← c.self.view_is) (at_error c.from_residual.result
-    (same_chains m n c.args.cell (made_found m n c.args.cell (λ x. x) c.in-Some.chain.now chain c.in-Some.ensures.value c.in_err-add_mark.ensures.err written)))
+    (same_chains m n c.args.cell (made_found m n c.args.cell (λ x. x) c.in-Some.chain.now chain c.in-Some.ensures.value c.in_err-add.ensures.err written)))
 
 pub returns-in-Some-clause-ok : goal.returns-in-Some-clause-ok
 returns-in-Some-clause-ok c =
     let m = c.self.inside.chains.entries in
-    let chain = c.add_mark.new.self in
+    let chain = c.add.new.self in
     let n = (c.get_mut.follows.lender chain).entries in
     let written = λ (some : IsSome (at_cell m c.args.cell)). ((c.get_mut.follows.holds chain).3 some).0 in
-    rw (← c.self.view_is) (made_found m n c.args.cell (with_mark c.args.number) c.in-Some.chain.now chain c.in-Some.ensures.value c.in_ok-add_mark.ensures.ok written)
+    rw (← c.self.view_is) (made_found m n c.args.cell (with_touch c.args.number c.args.touch) c.in-Some.chain.now chain c.in-Some.ensures.value c.in_ok-add.ensures.ok written)
 
 pub returns-clause-ok : goal.returns-clause-ok
 returns-clause-ok c =
     let m = c.self.inside.chains.entries in
-    let chain = c.add_mark-2.new.self in
-    let made = c.in_ok-add_mark-2.ensures.ok ∙ ap (with_mark c.args.number) c.new-chain.ensures in
-    rw (← c.self.view_is) (made_absent m c.insert.new.self.entries c.args.cell (with_mark c.args.number) chain c.in_default.ensures.value made
+    let chain = c.add-2.new.self in
+    let made = c.in_ok-add-2.ensures.ok ∙ ap (with_touch c.args.number c.args.touch) c.new-chain.ensures in
+    rw (← c.self.view_is) (made_absent m c.insert.new.self.entries c.args.cell (with_touch c.args.number c.args.touch) chain c.in_default.ensures.value made
     (subst (λ (old : BTreeMap Cell Chain). IsWritten old.entries c.insert.new.self.entries c.args.cell chain) c.get_mut.follows.holds-at-none c.in_ok-insert.ensures.updates.0))
 
-pub returns-in_err-add_mark-clause-hold : goal.returns-in_err-add_mark-clause-hold
-returns-in_err-add_mark-clause-hold c =
+pub returns-in_err-add-clause-hold : goal.returns-in_err-add-clause-hold
+returns-in_err-add-clause-hold c =
     let m = c.self.inside.chains.entries in
-    let chain = c.add_mark.new.self in
+    let chain = c.add.new.self in
     let n = (c.get_mut.follows.lender chain).entries in
     let written = λ (some : IsSome (at_cell m c.args.cell)). ((c.get_mut.follows.holds chain).3 some).0 in
     rw (← c.self.view_is)
-    (hold_found m n c.args.cell c.in-Some.chain.now chain c.in-Some.ensures.value (λ some none. some (sym c.in_err-add_mark.ensures.err ∙ none)) written)
+    (hold_found m n c.args.cell c.in-Some.chain.now chain c.in-Some.ensures.value (λ some none. some (sym c.in_err-add.ensures.err ∙ none)) written)
 
 pub returns-in-Some-clause-hold : goal.returns-in-Some-clause-hold
 returns-in-Some-clause-hold c =
     let m = c.self.inside.chains.entries in
-    let chain = c.add_mark.new.self in
+    let chain = c.add.new.self in
     let n = (c.get_mut.follows.lender chain).entries in
     let written = λ (some : IsSome (at_cell m c.args.cell)). ((c.get_mut.follows.holds chain).3 some).0 in
     rw (← c.self.view_is)
     (hold_found m n c.args.cell c.in-Some.chain.now chain c.in-Some.ensures.value
-    (λ some none. mark_holds c.args.number c.in-Some.chain.now (sym c.in_ok-add_mark.ensures.ok ∙ none)) written)
+    (λ some none. touch_holds c.args.number c.args.touch c.in-Some.chain.now (sym c.in_ok-add.ensures.ok ∙ none)) written)
 
 pub returns-clause-hold : goal.returns-clause-hold
 returns-clause-hold c =
     let m = c.self.inside.chains.entries in
-    let chain = c.add_mark-2.new.self in
+    let chain = c.add-2.new.self in
     rw (← c.self.view_is)
-    (hold_written m c.insert.new.self.entries c.args.cell chain (λ none. mark_holds c.args.number c.new-chain.result (sym c.in_ok-add_mark-2.ensures.ok ∙ none))
+    (hold_written m c.insert.new.self.entries c.args.cell chain (λ none. touch_holds c.args.number c.args.touch c.new-chain.result (sym c.in_ok-add-2.ensures.ok ∙ none))
     (subst (λ (old : BTreeMap Cell Chain). IsWritten old.entries c.insert.new.self.entries c.args.cell chain) c.get_mut.follows.holds-at-none c.in_ok-insert.ensures.updates.0))

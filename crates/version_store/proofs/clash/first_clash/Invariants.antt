@@ -1,0 +1,8 @@
+use Rattle.version_store.specs.Reading.{number_at}
+use Rattle.version_store.specs.Told.{told}
+use Rattle.version_store.specs.Touches.{touches_left, touches_of}
+use Rattle.version_store.proofs.ClashLaws.{Finds}
+use Rattle.version_store.proofs.clash.first_clash.Given as goal
+
+abbrev pub invariant-loop-cell : goal.invariant-loop-cell
+invariant-loop-cell l = Finds (number_at l.chains) l.start (touches_of l.changes) l.yielded (touches_left l.cell-iterator.changed l.cell-iterator.kept) (told l.least)

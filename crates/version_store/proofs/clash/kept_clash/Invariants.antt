@@ -1,7 +1,0 @@
-use Rattle.std.proofs.Common.{◌≡◌}
-use Rattle.version_store.specs.Reading.{number_at, first_above}
-use Rattle.version_store.proofs.clash.kept_clash.Given as goal
-
--- the rest of the cells decides
-abbrev pub invariant-loop-cell : goal.invariant-loop-cell
-invariant-loop-cell l = first_above (number_at l.chains) l.start l.cell-iterator ≡ first_above (number_at l.chains) l.start l.changes.kept

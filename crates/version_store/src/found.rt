@@ -1,0 +1,84 @@
+//! What is found in the chain of a cell, and the rows that it adds to others.
+ghost use Rattle.std.specs.Prelude.{◌≡◌, ◌↔◌, ◌++◌, Some, OnOk, option_copied};
+ghost use Rattle.prog_tree.specs.Table.{TableState};
+ghost use Rattle.version_store.specs.Reading.{RisesFrom, value_at};
+ghost use Rattle.version_store.specs.Regions.{seen_in, seen_left, with_found, found_row};
+
+use crate::chain::Chain;
+use prog_tree::{Cell, Region, Rows, is_among};
+use std::alloc::AllocError;
+
+/// Adds the row of a cell after the first `start` commits, where it has one.
+pub fn add_found(rows: &mut Rows, start: u64, cell: &Cell, chain: &Chain) -> Result<(), AllocError>
+    ensures { OnOk result (RisesFrom 0 chain.now.versions →
+        rows.new ≡ with_found rows.old cell.now (value_at start chain.now)) }
+{
+    if let Some(value) = chain.value_at(start) {
+        rows.insert(*cell, value)?;
+    }
+    Ok(())
+}
+
+/// What is seen in a region of a cell.
+pub fn seen_in(region: &Region, start: u64, cell: &Cell, chain: &Chain) -> Option<i64>
+    ensures { RisesFrom 0 chain.now.versions →
+        result ≡ seen_in region.now start cell.now chain.now }
+{
+    if !region.contains(cell) {
+        return None;
+    }
+    chain.value_at(start)
+}
+
+/// The same but for some `own` cells.
+pub fn seen_left(
+    region: &Region,
+    own: &[Cell],
+    start: u64,
+    cell: &Cell,
+    chain: &Chain,
+) -> Option<i64>
+    ensures { RisesFrom 0 chain.now.versions →
+        result ≡ seen_left region.now own.now start cell.now chain.now }
+{
+    if is_among(own, cell) {
+        return None;
+    }
+    seen_in(region, start, cell, chain)
+}
+
+/// Adds the row of a cell behind the others, where something is found of it.
+pub fn push_row(
+    rows: &mut Vec<(Cell, i64)>,
+    cell: &Cell,
+    found: Option<i64>,
+) -> Result<(), AllocError>
+    ensures { OnOk result (rows.new.items ≡ rows.old.items ++ found_row cell.now found) }
+{
+    if let Some(value) = found {
+        rows.push((*cell, value))?;
+    }
+    Ok(())
+}
+
+/// The rows behind that of a cell, if any is found of it; none where the first row is another.
+pub fn behind<'r>(
+    rows: &'r [(Cell, i64)],
+    cell: &Cell,
+    found: Option<i64>,
+) -> Option<&'r [(Cell, i64)]>
+    ensures { (rest : TableState) →
+        (option_copied result ≡ Some rest) ↔ (found_row cell.now found ++ rest ≡ rows.now) }
+{
+    let Some(value) = found else {
+        return Some(rows);
+    };
+    let Some(((first, held), rest)) = rows.split_first() else {
+        return None;
+    };
+    if *held == value && cell.cmp(first).is_eq() {
+        Some(rest)
+    } else {
+        None
+    }
+}
