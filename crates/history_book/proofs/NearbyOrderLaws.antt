@@ -1,7 +1,7 @@
 -- What tests of near commits tell of the least order.
-use Rattle.std.proofs.Common.{◌≡◌, ◌≢◌, ℕ, zero, suc, max, ◌+◌, ◌<◌, ◌≤◌, ◌==◌, ◌||◌, Bool, true, false, not, ◌&&◌, List, [], ◌∷◌, ◌++◌, length, set, get_or, replicate, ◌⊎◌, inl, inr, refl, sym, ap, ◌∙◌, subst, arith, Some, slice_index, if◌then◌else◌}
+use Rattle.std.proofs.Common.{◌≡◌, ◌≢◌, ℕ, zero, suc, max, ◌+◌, ◌<◌, ◌≤◌, ◌==◌, ◌||◌, Bool, true, false, List, [], ◌∷◌, ◌++◌, length, set, get_or, replicate, ◌⊎◌, inl, inr, refl, sym, ap, ◌∙◌, subst, arith, Some, slice_index}
 use Rattle.std.specs.Prelude.{option_and_then}
-use Rattle.std.specs.List.{list_all, range_with_len}
+use Rattle.std.specs.List.{range_with_len}
 use Rattle.std.proofs.lemmas.Bool.{cases_lt, false≢true, false_from_ne_true}
 use Rattle.std.proofs.lemmas.Bool.Decides.{eqb_tells}
 use Rattle.std.proofs.lemmas.List.{get_or-set_same, get_or-set_other, length-set, length-replicate}
@@ -10,10 +10,9 @@ use Rattle.history_book.specs.NearbyOrder.{is_marked, AreMarked, IsMarkedBelow, 
 use Rattle.history_book.specs.Orders.{is_one_of, is_free, first_free, placed_by, least_order, IsUpTo}
 use Rattle.history_book.specs.TraceView.{TraceView}
 use Rattle.history_book.specs.Traces.{trace_depends}
-use Rattle.history_book.proofs.InTurn.{IsMember}
 use Rattle.history_book.proofs.LeastFree.{first-free}
 use Rattle.history_book.proofs.NumberLists.{Same, one-push}
-use Rattle.history_book.proofs.OrderLaws.{member_of, is_one_of-member, ranged_up_to, free_by_test, free_tested}
+use Rattle.history_book.proofs.OrderLaws.{member_of, is_one_of-member, free_by_test, free_tested}
 
 -- ---- what is free
 
@@ -193,26 +192,3 @@ holders-place traces marks holders p within are = record {
   holds = are.holds;
   tested = λ n i holder below. marked-set marks p i within (are.tested n i holder below);
 }
-
--- ---- relations that say the same of the numbers from 1 to n
-
-module _ (n : ℕ) (one other : ℕ → ℕ → Bool) (same : (i j : ℕ) → IsUpTo n i → IsUpTo n j → one i j ≡ other i j) where
-  free-alike : (placed : List ℕ) (m : ℕ) → IsUpTo n m → is_free one (range_with_len 1 n) placed m ≡ is_free other (range_with_len 1 n) placed m
-  free-alike placed m up = ap (λ t. not (is_one_of placed m) && t) (all-alike (range_with_len 1 n) (λ i k. ranged_up_to n i k))
-    where
-      all-alike : (ns : List ℕ) → ((i : ℕ) → IsMember i ns → IsUpTo n i) → list_all (λ i. not (one i m) || is_one_of placed i) ns ≡ list_all (λ i. not (other i m) || is_one_of placed i) ns
-      all-alike [] within = refl
-      all-alike (x ∷ xs) within = λ k. (not (same x m (within x (inl refl)) up k) || is_one_of placed x) && all-alike xs (λ i h. within i (inr h)) k
-
-  first-alike : (placed ns : List ℕ) → ((m : ℕ) → IsMember m ns → IsUpTo n m) → first_free one (range_with_len 1 n) placed ns ≡ first_free other (range_with_len 1 n) placed ns
-  first-alike placed [] within = refl
-  first-alike placed (x ∷ xs) within = λ k. if free-alike placed x (within x (inl refl)) k then Some x else first-alike placed xs (λ m h. within m (inr h)) k
-
-  placed-alike : (k : ℕ) (placed : List ℕ) → placed_by one (range_with_len 1 n) k placed ≡ placed_by other (range_with_len 1 n) k placed
-  placed-alike zero placed = refl
-  placed-alike (suc k) placed =
-      (λ t. option_and_then (λ m. placed_by one (range_with_len 1 n) k (placed ++ m ∷ [])) (first-alike placed (range_with_len 1 n) (λ m h. ranged_up_to n m h) t))
-      ∙ (λ t. option_and_then (λ m. placed-alike k (placed ++ m ∷ []) t) (first_free other (range_with_len 1 n) placed (range_with_len 1 n)))
-
-  pub least_order-alike : least_order one n ≡ least_order other n
-  least_order-alike = placed-alike n []

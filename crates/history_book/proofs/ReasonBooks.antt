@@ -8,7 +8,7 @@ use Rattle.history_book.specs.History.{Instance}
 use Rattle.history_book.specs.Orders.{IsUpTo}
 use Rattle.history_book.specs.Reasons.{told_reason, IsReason}
 use Rattle.history_book.specs.TraceView.{TraceView}
-use Rattle.history_book.specs.Traces.{traces_of}
+use Rattle.history_book.specs.Traces.{traces_of, trace_depends}
 use Rattle.history_book.specs.declared.orders.reason.Reason.{Reason}
 use Rattle.history_book.proofs.DependencyLaws.{depends_within}
 use Rattle.history_book.proofs.ReasonLaws.{reason_depends, reason_numbers, told_is_reason, told_tells}
@@ -36,6 +36,10 @@ module _ (set : DraftTree) (opening : TableState) (h : List Instance) where
           absurd (true≢false (sym found ∙ ap is_some told))
       go (Some r) told b is some =
           ap is_some told ∙ sym (reason_of_dependency i j r (subst (λ o. IfSome o (IsReason traces i j)) told some))
+
+  -- what has to stand before what is the same by traces as by evaluations
+  pub traces_tell : trace_depends traces ≡ depends set opening h
+  traces_tell k i j = (sym (told_tells traces i j) ∙ told_where i j) k
 
   none_by : (o : Option Reason) (b : Bool) → is_some o ≡ b → IfNone o (b ≡ false)
   none_by None b is = sym is

@@ -1,5 +1,5 @@
 -- The traces of a history say what depends on what in it.
-use Rattle.std.proofs.Common.{◌≡◌, ◌∙◌, ◌==◌, ℕ, zero, suc, ◌<◌, ◌≤◌, nat_lt, ℤ, Bool, true, false, cond, ◌&&◌, ◌||◌, not, List, [], ◌∷◌, ◌++◌, length, map, refl, ap, sym, subst, arith}
+use Rattle.std.proofs.Common.{◌≡◌, ◌∙◌, ◌==◌, ℕ, zero, suc, ◌<◌, ◌≤◌, nat_lt, ℤ, Bool, true, false, cond, ◌&&◌, ◌||◌, not, List, [], ◌∷◌, ◌++◌, length, map, refl, ap, sym, arith}
 use Rattle.std.specs.Prelude.{nat_le, Option, Some, None, is_some, slice_get}
 use Rattle.std.specs.Option.{option_map}
 use Rattle.std.specs.List.{list_any}
@@ -100,15 +100,6 @@ module _ (set : DraftTree) (opening : TableState) (h : List Instance) where
   depends_same i j first second =
       (λ k. by_traces i j (trace_of_number i first k) (trace_of_number j second k))
       ∙ (λ k. not (i == j) && ((nat_lt i j && same_writes i j k) || ((nat_le i (start_at h j) && same_looks i j k) || (nat_lt (start_at h i) j && same_looks j i k))))
-
-  pub reduced_same : (reduced : ℕ → ℕ → Bool) (n : ℕ) (traces : List TraceView) → traces ≡ traces_of set opening h → IsReduced n reduced (trace_depends traces) → IsReduced n reduced (depends set opening h)
-  reduced_same reduced n traces is r =
-      let h : IsReduced n reduced (trace_depends (traces_of set opening h)) = subst (λ (ts : List TraceView). IsReduced n reduced (trace_depends ts)) is r in
-      record {
-        within = h.within;
-        sound = λ i j wi wj told. sym (depends_same i j wi.0 wj.0) ∙ h.sound i j wi wj told;
-        whole = λ i j wi wj told. h.whole i j wi wj (depends_same i j wi.0 wj.0 ∙ told);
-      }
 
   pub traces_see_earlier : StartsBelow h → SeesEarlier (traces_of set opening h)
   traces_see_earlier below n t found = go (slice_get h n) refl (sym (slice_get-map (trace_in set opening h) h n) ∙ found)

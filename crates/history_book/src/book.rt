@@ -2,11 +2,9 @@
 
 ghost use Rattle.std.specs.Prelude.{◌≡◌, ◌≤◌, ℕ, false, List, Some, None, All, ◌↔◌, IsTrue, IfNone, IfSome, length, IfOk, IfErr, OnOk, OnErr, option_copied};
 ghost use Rattle.prog_tree.specs.Number.{IsI64};
-ghost use Rattle.prog_tree.specs.Table.{IsTableState};
 ghost use Rattle.prog_run.specs.View.{IsTrueRun};
-ghost use Rattle.history_book.specs.Orders.{IsCycle, IsReduced, least_order};
+ghost use Rattle.history_book.specs.Orders.{IsCycle, least_order};
 ghost use Rattle.history_book.specs.Placing.{IsOrderFault};
-ghost use Rattle.history_book.specs.Precedence.{precedes};
 ghost use Rattle.history_book.specs.Reasons.{told_reason, IsReason};
 ghost use Rattle.history_book.specs.Refusals.{HasAborted, IsCommitFault, IsEndFault, IsCellRead, IsRegionRead, IsWithdrawal};
 ghost use Rattle.history_book.specs.Runs.{IsCommitted, IsAborted};
@@ -22,11 +20,9 @@ use crate::instances::active_set::ActiveSet;
 use crate::instances::row::{Ending, HistoryRow};
 use crate::instances::ticket::{Receipt, Ticket};
 use crate::limits::MAX_ENDINGS;
-use crate::orders::nearby::nearby_order;
 use crate::orders::order::OrderFault;
-use crate::orders::precedence::Precedence;
-use crate::orders::readers::reduced;
 use crate::orders::reason::{Reason, are_commits, reason_between};
+use crate::orders::serial::serial_order;
 use crate::orders::trace::Trace;
 use prog_check::ProgramSet;
 use prog_run::Run;
@@ -232,36 +228,7 @@ impl<'a> Book<'a> {
             IsCycle (depends_in self.now) numbers → ⊥) }
         ensures cycle { IfErr result (IsOrderFault (depends_in self.now)) }
     {
-        let nearby = self.nearby_order()?;
-        if let Some(order) = nearby {
-            return Ok(order);
-        }
-        let precedence = self.precedence()?;
-        let order = precedence.order(self.alloc)?;
-        Ok(order)
-    }
-
-    // The least order of the commits, where tests of commits that are near each other find it.
-    fn nearby_order(&self) -> Result<Option<Vec<usize>>, AllocError>
-        ensures order { IfOk result (λ found. IfSome found (λ order.
-            least_order (depends_in self.now) (length self.now.rows) ≡ Some order.items)) }
-        ensures true_book { IsTrueBook self.now }
-        ensures ordered { IsTableState self.now.opening }
-    {
-        let order = nearby_order(self.alloc, &self.traces)?;
-        Ok(order)
-    }
-
-    // What has to stand before what among the commits, in few pairs.
-    fn precedence(&self) -> Result<Precedence, AllocError>
-        ensures commits { IfOk result (λ precedence. length precedence ≡ length self.now.rows) }
-        ensures reduced { IfOk result (λ precedence.
-            IsReduced (length self.now.rows) (precedes precedence) (depends_in self.now)) }
-        ensures true_book { IsTrueBook self.now }
-        ensures ordered { IsTableState self.now.opening }
-    {
-        let precedence = reduced(self.alloc, &self.traces)?;
-        Ok(precedence)
+        serial_order(self.alloc, &self.traces)
     }
 
     /// Why the first of two commits has to stand before the second; none where it need not, or where a
@@ -306,8 +273,7 @@ impl<'a> Book<'a> {
         if let Some(fault) = self.refusal_at(start, program, args) {
             return Err(fault);
         }
-        let ticket = self.admit(start, program, args)?;
-        Ok(ticket)
+        Ok(self.admit(start, program, args)?)
     }
 
     /// Begins an instance that is not refused.
@@ -352,8 +318,7 @@ impl<'a> Book<'a> {
         let Some(active) = self.active_instance(ticket) else {
             return Err(ScanFault::NoSuchTicket);
         };
-        let rows = self.rows_in(active.start, region)?;
-        Ok(rows)
+        Ok(self.rows_in(active.start, region)?)
     }
 
     /// Commits the instance of a ticket by its run, which is ready. The first refusal that applies is answered,

@@ -182,8 +182,7 @@ impl<'a> Book<'a> {
         if let Some(number) = self.foreign_look(active.start, run.looks()) {
             return Err(Refusal::ForeignRun(Place::Look(number)));
         }
-        let row = self.row(active, run)?;
-        Ok(row)
+        Ok(self.row(active, run)?)
     }
 
     // The row of an instance, with the replies of a run.

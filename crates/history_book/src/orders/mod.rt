@@ -7,5 +7,6 @@ pub mod order;
 pub mod precedence;
 pub mod readers;
 pub mod reason;
+pub mod serial;
 pub mod trace;
 pub mod writers;

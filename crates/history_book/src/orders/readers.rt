@@ -41,8 +41,7 @@ fn add_steps(precedence: &mut Precedence, numbers: &[usize]) -> Result<(), Alloc
     let Some((first, rest)) = numbers.split_first() else {
         return Ok(());
     };
-    add_steps_from(precedence, *first, rest)?;
-    Ok(())
+    add_steps_from(precedence, *first, rest)
 }
 
 // Puts each writer of a cell before the next writer of it.
@@ -105,8 +104,7 @@ fn add_reader(
         (Adds (reader_pairs reader start writers.now) precedence.old precedence.new) }
 {
     add_seen(precedence, reader, last_seen(writers, start))?;
-    add_missed(precedence, reader, first_missed(writers, start))?;
-    Ok(())
+    add_missed(precedence, reader, first_missed(writers, start))
 }
 
 // Adds what a look at a cell says of its reader.

@@ -69,8 +69,7 @@ impl Writers {
     fn add_trace(&mut self, trace: &Trace, number: usize) -> Result<(), AllocError>
         ensures { OnOk result (IsAddedAt (changed_at trace.now) number self.old self.new) }
     {
-        self.add_all(trace.changed.as_slice(), number)?;
-        Ok(())
+        self.add_all(trace.changed.as_slice(), number)
     }
 
     // The cells stand in their order.

@@ -1,66 +1,60 @@
-use Rattle.std.proofs.lemmas.Result.{err_from_is_err_and}
-use Rattle.std.proofs.Common.{◌≡◌, ◌∙◌, length, sym, ap}
-use Rattle.std.specs.Prelude.{Some}
+use Rattle.std.proofs.Common.{◌≡◌, ◌∙◌, ℕ, Bool, List, length, ap, subst, sym, rules}
+use Rattle.std.specs.Prelude.{Option, Some, IfOk, IfErr}
 use Rattle.std.proofs.lemmas.List.{length-map}
+use Rattle.std.proofs.lemmas.Result.{IfOk-weaker}
+use Rattle.prog_tree.specs.Table.{IsTableState}
 use Rattle.prog_tree.specs.Tree.{draft_tree}
-use Rattle.history_book.specs.Orders.{least_order}
-use Rattle.history_book.specs.Precedence.{precedes}
-use Rattle.history_book.specs.View.{history_of, instance_of, depends_in}
+use Rattle.history_book.specs.Orders.{least_order, IsCycle}
+use Rattle.history_book.specs.Placing.{IsOrderFault}
+use Rattle.history_book.specs.TraceView.{TraceView}
+use Rattle.history_book.specs.Traces.{SeesEarlier, trace_depends, trace_in}
+use Rattle.history_book.specs.TrueBook.{IsTrueBook}
+use Rattle.history_book.specs.View.{history_of, instance_of, depends_in, traces_in, FitsBook}
 use Rattle.history_book.proofs.FitLaws.{least_order-fits, dependencies_without_cycle}
-use Rattle.history_book.proofs.ReducedLaws.{least_order_same}
-use Rattle.history_book.proofs.TraceLaws.{same_fault}
+use Rattle.history_book.proofs.ReasonBooks.{traces_tell}
+use Rattle.history_book.proofs.TraceLaws.{traces_see_earlier}
 use Rattle.history_book.proofs.book.Book.serial_order.Goals as goal
 
-pub returns-in-Some-clause-fits : goal.returns-in-Some-clause-fits
-returns-in-Some-clause-fits c =
-    let v = c.args.self.now in
-    let h = history_of v.rows in
-    let order = c.in-Some.order.items in
-    let size : length h ≡ length v.rows = length-map v.rows instance_of in
-    let least : least_order (depends_in v) (length v.rows) ≡ Some order = rw c.in-Some.is at c.in_ok-nearby.ensures.order in
-    least_order-fits (draft_tree v.set) v.opening h c.in_ok-nearby.ensures.true_book.lawful c.in_ok-nearby.ensures.ordered order (ap (least_order (depends_in v)) size ∙ least)
+pub serial_order-requires : goal.serial_order-requires
+serial_order-requires c =
+    let inside = c.self.inside in
+    let h = history_of inside.rows.items in
+    subst (λ (ts : List TraceView). SeesEarlier ts) (sym (c.deref.ensures.value ∙ c.self.invariant.2)) (traces_see_earlier (draft_tree inside.set.now) inside.opening h c.self.invariant.0.lawful.starts)
 
-pub returns-in-Some-clause-acyclic : goal.returns-in-Some-clause-acyclic
-returns-in-Some-clause-acyclic c =
-    let v = c.args.self.now in
-    let h = history_of v.rows in
-    let order = c.in-Some.order.items in
-    let size : length h ≡ length v.rows = length-map v.rows instance_of in
-    let least : least_order (depends_in v) (length v.rows) ≡ Some order = rw c.in-Some.is at c.in_ok-nearby.ensures.order in
-    λ numbers. dependencies_without_cycle (draft_tree v.set) v.opening h c.in_ok-nearby.ensures.true_book.lawful order numbers (ap (least_order (depends_in v)) size ∙ least)
-
+-- the book's traces tell its dependencies
 pub returns-clause-order : goal.returns-clause-order
 returns-clause-order c =
     let v = c.args.self.now in
-    let p = precedes c.in_ok-precedence.precedence in
-    sym (least_order_same (length v.rows) p (depends_in v) c.in_ok-precedence.ensures.reduced)
-    ∙ ap (least_order p) (sym c.in_ok-precedence.ensures.commits)
-    ∙ c.in_ok-order.ensures.order
+    let set = draft_tree v.set in
+    let h = history_of v.rows in
+    let is = c.deref.ensures.value ∙ c.self.invariant.2 ∙ ap traces_in c.self.view_is in
+    let tells : trace_depends c.deref.result.now ≡ depends_in v = ap (λ (ts : List TraceView). trace_depends ts) is ∙ traces_tell set v.opening h in
+    let size : length c.deref.result.now ≡ length v.rows =
+    ap (λ (ts : List TraceView). length ts) is ∙ length-map h (trace_in set v.opening h) ∙ length-map v.rows instance_of in
+    subst (λ (o : Option (List ℕ)). IfOk c.serial_order.result (λ order. o ≡ Some order.items)) (λ k. least_order (tells k) (size k)) c.serial_order.ensures.order
 
 pub returns-clause-fits : goal.returns-clause-fits
 returns-clause-fits c =
     let v = c.args.self.now in
     let h = history_of v.rows in
-    let p = precedes c.in_ok-precedence.precedence in
-    let order = c.in_ok-order.order.items in
     let size : length h ≡ length v.rows = length-map v.rows instance_of in
-    let least : least_order (depends_in v) (length v.rows) ≡ Some order =
-    sym (least_order_same (length v.rows) p (depends_in v) c.in_ok-precedence.ensures.reduced) ∙ ap (least_order p) (sym c.in_ok-precedence.ensures.commits) ∙ c.in_ok-order.ensures.order in
-    least_order-fits (draft_tree v.set) v.opening h c.in_ok-precedence.ensures.true_book.lawful c.in_ok-precedence.ensures.ordered order (ap (least_order (depends_in v)) size ∙ least)
+    let book : IsTrueBook v = search rules in
+    let ordered : IsTableState v.opening = search rules in
+    IfOk-weaker c.serial_order.result (λ order. least_order (depends_in v) (length v.rows) ≡ Some order.items) (λ order. FitsBook v order.items)
+    (λ order least. least_order-fits (draft_tree v.set) v.opening h book.lawful ordered order.items (ap (least_order (depends_in v)) size ∙ least)) (returns-clause-order c)
 
 pub returns-clause-acyclic : goal.returns-clause-acyclic
 returns-clause-acyclic c =
     let v = c.args.self.now in
     let h = history_of v.rows in
-    let p = precedes c.in_ok-precedence.precedence in
-    let order = c.in_ok-order.order.items in
     let size : length h ≡ length v.rows = length-map v.rows instance_of in
-    let least : least_order (depends_in v) (length v.rows) ≡ Some order =
-    sym (least_order_same (length v.rows) p (depends_in v) c.in_ok-precedence.ensures.reduced) ∙ ap (least_order p) (sym c.in_ok-precedence.ensures.commits) ∙ c.in_ok-order.ensures.order in
-    λ numbers. dependencies_without_cycle (draft_tree v.set) v.opening h c.in_ok-precedence.ensures.true_book.lawful order numbers (ap (least_order (depends_in v)) size ∙ least)
+    let book : IsTrueBook v = search rules in
+    IfOk-weaker c.serial_order.result (λ order. least_order (depends_in v) (length v.rows) ≡ Some order.items) (λ order. (numbers : List ℕ) → IsCycle (depends_in v) numbers → ⊥)
+    (λ order least numbers. dependencies_without_cycle (draft_tree v.set) v.opening h book.lawful order.items numbers (ap (least_order (depends_in v)) size ∙ least)) (returns-clause-order c)
 
-pub returns-in_err-order-clause-cycle : goal.returns-in_err-order-clause-cycle
-returns-in_err-order-clause-cycle c =
+pub returns-clause-cycle : goal.returns-clause-cycle
+returns-clause-cycle c =
     let v = c.args.self.now in
-    let exit = err_from_is_err_and c.from_residual-in_err-order.result c.from_residual-in_err-order.ensures.1 in
-    rw (exit.1, exit.2) (same_fault (length v.rows) (precedes c.in_ok-precedence.precedence) (depends_in v) c.in_err-order.field-0.0 c.in_ok-precedence.ensures.reduced c.in_err-order.ensures.cycle)
+    let is = c.deref.ensures.value ∙ c.self.invariant.2 ∙ ap traces_in c.self.view_is in
+    let tells : trace_depends c.deref.result.now ≡ depends_in v = ap (λ (ts : List TraceView). trace_depends ts) is ∙ traces_tell (draft_tree v.set) v.opening (history_of v.rows) in
+    subst (λ (r : ℕ → ℕ → Bool). IfErr c.serial_order.result (IsOrderFault r)) tells c.serial_order.ensures.cycle
