@@ -3,3 +3,4 @@ pub mod Reaches
 pub mod Matrix
 pub mod Sample
 pub mod Search
+pub mod Nodes

@@ -7,6 +7,7 @@
 mod closed;
 mod given;
 mod matrix;
+mod nodes;
 mod sample;
 mod search;
 mod steps;
@@ -14,5 +15,6 @@ mod ways;
 
 pub use closed::Closed;
 pub use given::{Facts, check_chain};
+pub use nodes::Nodes;
 pub use sample::Sample;
 pub use steps::{Node, is_plain_step};
