@@ -4,6 +4,9 @@ use Rattle.std.proofs.lemmas.List.{drop_more, drop_all, append-nil}
 use Rattle.prog_paths.specs.declared.places.Placed.{Placed}
 use Rattle.prog_paths.specs.declared.places.Question.{Question as Asked}
 use Rattle.prog_paths.specs.Asked.{asks, question_between, asked_by, asked_among}
+use Rattle.prog_paths.specs.Tally.{of_table}
+use Rattle.prog_paths.specs.Changers.{changers_of}
+use Rattle.prog_paths.proofs.Changing.{seconds_ask}
 use Rattle.prog_paths.proofs.Asked.{if_yes, if_no, asked_by-append, asked_among-next}
 
 -- ---- questions, one more at a time
@@ -38,6 +41,11 @@ among-more old new whole n xs seconds d lt added h =
     ∙ append_assoc old (asked_by (get_or xs n d) seconds) (asked_among (drop (n + 1) xs) seconds)
     ∙ ap (λ (l : List Asked). old ++ l) (sym (asked_among-next n xs seconds d lt))
     ∙ h
+
+-- the same, where only the changers of the access's table are asked
+pub among_changers-more : (old new whole : List Asked) (n : ℕ) (xs seconds changers : List Placed) (d : Placed) → n < length xs → new ≡ old ++ asked_by (get_or xs n d) seconds → seconds ≡ of_table (get_or xs n d).access.table changers → ((table : ℕ) → of_table table changers ≡ changers_of table xs) → old ++ asked_among (drop n xs) xs ≡ whole → new ++ asked_among (drop (n + 1) xs) xs ≡ whole
+among_changers-more old new whole n xs seconds changers d lt added table all h =
+    among-more old new whole n xs xs d lt (added ∙ ap (λ (l : List Asked). old ++ l) (seconds_ask (get_or xs n d) xs changers seconds table all)) h
 
 pub among-end : (old whole : List Asked) (n : ℕ) (xs seconds : List Placed) → length xs ≤ n → old ++ asked_among (drop n xs) seconds ≡ whole → old ≡ whole
 among-end old whole n xs seconds le h = sym (append-nil old) ∙ ap (λ (l : List Placed). old ++ asked_among l seconds) (sym (drop_all n xs le)) ∙ h

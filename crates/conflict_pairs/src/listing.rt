@@ -6,11 +6,11 @@ ghost use Rattle.conflict_pairs.specs.Table.{verdicts_in, StandsFor};
 
 use crate::fault::PairFault;
 use crate::judge::verdicts_of;
-use crate::verdicts::Verdict;
 use crate::shown::{Shown, shown_of};
 use crate::table::PairTable;
+use crate::verdicts::Verdict;
 use prog_check::Path;
-use prog_paths::{Placed, Question, all_places, asks, is_too_large, question_between};
+use prog_paths::{Changers, Placed, Question, all_places, asks, is_too_large, question_between};
 use std::alloc::{AllocError, Global};
 
 /// Adds what one access asks of each.
@@ -30,13 +30,16 @@ fn push_questions(
     Ok(())
 }
 
-/// What each access asks of each, without the verdicts.
+/// What each access asks of each, without the verdicts. Only the changers of its table are looked
+/// through.
 pub fn all_questions(alloc: Global, places: &[Placed]) -> Result<Vec<Question>, AllocError>
     ensures { IfOk result (λ questions. questions.items ≡ asked_among places.now places.now) }
 {
+    let changers = Changers::of(alloc, places)?;
     let mut questions = Vec::new(alloc);
     for first in places {
-        push_questions(first, places, &mut questions)?;
+        let seconds = changers.of_table(first.access.table);
+        push_questions(first, seconds, &mut questions)?;
     }
     Ok(questions)
 }

@@ -26,6 +26,9 @@ pub mod Questions
 pub mod SingleCells
 pub mod Shown
 pub mod Asked
+pub mod Changing
+pub mod Counted
+pub mod Walked
 pub mod Membership
 pub mod Order
 pub mod Numbered

@@ -1,4 +1,5 @@
 pub mod Asked
+pub mod Changers
 pub mod Choices
 pub mod Columns
 pub mod Few
@@ -14,4 +15,5 @@ pub mod Questions
 pub mod Shown
 pub mod Square
 pub mod StaticGraph
+pub mod Tally
 pub mod Trails

@@ -1,61 +1,86 @@
-//! How many questions there are, without memory.
-ghost use Rattle.std.specs.Prelude.{◌≡◌, ◌↔◌, ◌+◌, ◌<◌, ◌≤◌, min, length, IsTrue};
-ghost use Rattle.prog_paths.specs.Asked.{placed_from, all_from, asked_by, asked_among, questions_of, limit};
+//! How many questions there are, without memory: table by table, each in one walk.
+ghost use Rattle.std.specs.Prelude.{◌≡◌, ◌↔◌, ◌+◌, ◌^◌, ◌<◌, ◌++◌, ℕ, List, not, min, length, All, IsTrue};
+ghost use Rattle.prog_paths.specs.declared.places.Placed.{Placed};
+ghost use Rattle.prog_paths.specs.Asked.{placed_from, all_from, asked_among, questions_of, limit};
+ghost use Rattle.prog_paths.specs.Tally.{IsTally, of_table, is_behind, is_before, Rises};
 
 use crate::limits::MAX_QUESTIONS;
-use crate::places::{Placed, asks};
+use crate::tally::{Tally, sum};
 use prog_check::{Access, Path};
 
-/// The count, with what one access asks of those of a node.
-fn count_node(first: &Placed, node: usize, accesses: &[Access], before: usize) -> usize
-    requires { before ≤ limit + 1 }
-    ensures { result
-        ≡ min (before + length (asked_by first.now (placed_from node 0 accesses.now))) (limit + 1) }
+/// The tally of a table with the accesses of one more node.
+fn with_node(table: usize, accesses: &[Access], before: Tally) -> Tally
+    ensures { (node : ℕ) (places : List Placed) → All (λ p. p.node < node) places
+        → IsTally table places before
+        → IsTally table (places ++ placed_from node 0 accesses.now) result }
 {
-    let mut count = before;
-    for (number, access) in accesses.iter().enumerate() {
-        let second = Placed {
-            node,
-            number,
-            access: *access,
-        };
-        if count <= MAX_QUESTIONS && asks(first, &second) {
-            count += 1;
+    let mut tally = before;
+    for access in accesses {
+        if access.table == table {
+            tally = tally.with(access.kind);
         }
     }
-    count
+    tally
 }
 
-/// The count, with what one access asks of those of all nodes.
-fn count_by(first: &Placed, paths: &[Path], before: usize) -> usize
-    requires { before ≤ limit + 1 }
-    ensures { result ≡ min
-        (before + length (asked_by first.now (all_from 0 paths.now))) (limit + 1) }
+/// The tally of a table with the accesses of all nodes.
+fn tally_of(table: usize, paths: &[Path]) -> Tally
+    ensures tally { IsTally table (all_from 0 paths.now) result }
+    ensures fits { table < 2 ^ 64 }
 {
-    let mut count = before;
-    for (node, path) in paths.iter().enumerate() {
-        count = count_node(first, node, path.accesses.as_slice(), count);
+    let mut tally = Tally::new();
+    for path in paths {
+        tally = with_node(table, path.accesses.as_slice(), tally);
     }
-    count
+    tally
 }
 
-/// The count, with what the accesses of a node ask.
-fn count_of(node: usize, accesses: &[Access], paths: &[Path], before: usize) -> usize
-    requires { before ≤ limit + 1 }
-    ensures { result ≡ min
-        (before + length (asked_among (placed_from node 0 accesses.now) (all_from 0 paths.now)))
-        (limit + 1) }
+fn is_behind(last: Option<usize>, table: usize) -> bool
+    ensures { result ≡ is_behind last table }
 {
-    let mut count = before;
-    for (number, access) in accesses.iter().enumerate() {
-        let first = Placed {
-            node,
-            number,
-            access: *access,
-        };
-        count = count_by(&first, paths, count);
+    match last {
+        None => true,
+        Some(last) => last < table,
     }
-    count
+}
+
+fn is_before(next: Option<usize>, table: usize) -> bool
+    ensures { result ≡ is_before next table }
+{
+    match next {
+        None => true,
+        Some(next) => table < next,
+    }
+}
+
+/// The least table behind the last one that one more node uses, or the one that was found.
+fn next_in(accesses: &[Access], last: Option<usize>, found: Option<usize>) -> Option<usize>
+    ensures rises { Rises last found → Rises last result }
+    ensures keeps { (table : ℕ) → is_before found table ≡ not (is_behind last table)
+        → is_before result table ≡ not (is_behind last table) }
+    ensures all { Rises last found
+        → All (λ a. is_before result a.table ≡ not (is_behind last a.table)) accesses.now }
+{
+    let mut next = found;
+    for access in accesses {
+        if is_behind(last, access.table) && is_before(next, access.table) {
+            next = Some(access.table);
+        }
+    }
+    next
+}
+
+/// The least table behind the last one that the paths use.
+fn next_table(paths: &[Path], last: Option<usize>) -> Option<usize>
+    ensures rises { Rises last result }
+    ensures all { All (λ p. is_before result p.access.table ≡ not (is_behind last p.access.table))
+        (all_from 0 paths.now) }
+{
+    let mut next = None;
+    for path in paths {
+        next = next_in(path.accesses.as_slice(), last, next);
+    }
+    next
 }
 
 /// How many questions the paths ask, no further than one above the limit.
@@ -63,8 +88,10 @@ fn count(paths: &[Path]) -> usize
     ensures { result ≡ min (length (questions_of paths.now)) (limit + 1) }
 {
     let mut count = 0;
-    for (node, path) in paths.iter().enumerate() {
-        count = count_of(node, path.accesses.as_slice(), paths, count);
+    let mut next = next_table(paths, None);
+    while let Some(table) = next {
+        count = sum(count, tally_of(table, paths).questions);
+        next = next_table(paths, Some(table));
     }
     count
 }

@@ -3,6 +3,7 @@
 #![tactic(auto)]
 
 mod asking;
+mod changers;
 mod columns;
 mod count;
 mod kinds;
@@ -13,10 +14,12 @@ mod mark;
 mod places;
 mod question;
 mod square;
+mod tally;
 mod trail;
 mod walk;
 
 pub use asking::{asks_read_write, asks_write_read, both_write, may_cover, may_touch};
+pub use changers::Changers;
 pub use count::is_too_large;
 pub use laws::{
     law_of_listing, law_of_own_unknowns, law_of_paths, law_of_questions, law_of_single_changes,

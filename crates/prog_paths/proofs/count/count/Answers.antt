@@ -1,12 +1,28 @@
-use Rattle.std.proofs.Common.{◌+◌, ◌∙◌, ap, arith, length, min}
-use Rattle.prog_paths.specs.Asked.{placed_from, all_from, asked_among, limit}
-use Rattle.prog_paths.proofs.Asked.{counted-all}
+use Rattle.std.proofs.Common.{◌≡◌, ℕ, ◌+◌, ◌<◌, ◌∙◌, List, Option, length, min, ap, sym, subst, arith}
+use Rattle.prog_paths.specs.declared.places.Placed.{Placed}
+use Rattle.prog_paths.specs.Asked.{all_from, asked_among, limit}
+use Rattle.prog_paths.proofs.Walked.{before, left, none_before, before-none, count_more, less_left}
 use Rattle.prog_paths.proofs.count.count.Goals as goal
 
-pub loop-node-preserved : goal.loop-node-preserved
-loop-node-preserved c =
-    let step = c.count_of-count.ensures ∙ ap (λ xs. min (c.loop-node.count + length (asked_among (placed_from c.loop-node.node 0 xs) (all_from 0 c.args.paths.now))) (limit + 1)) c.as_slice.ensures in
-    record {
-      few = omega (arith, step);
-      counted = counted-all c.loop-node.node c.args.paths.now c.index-paths-node.result (all_from 0 c.args.paths.now) c.loop-node.count c.count_of-count.result _ (omega arith) c.index-paths-node.is step c.loop-node.invariant.counted;
-    }
+pub loop-next-init : goal.loop-next-init
+loop-next-init c =
+    let places = all_from 0 c.args.paths.now in
+    let none' = none_before c.next_table-next.result places places c.next_table-next.ensures.all in
+    omega (arith, none')
+
+pub loop-next-preserved : goal.loop-next-preserved
+loop-next-preserved c =
+    let places = all_from 0 c.args.paths.now in
+    let old = subst (λ (n : Option ℕ). c.loop-next.count ≡ min (length (asked_among (before n places) places)) (limit + 1)) c.in-Some.is c.loop-next.invariant in
+    count_more c.in-Some.table c.next_table-next-in-Some.result places c.tally_of.result c.loop-next.count c.sum-count.result c.next_table-next-in-Some.ensures.all c.tally_of.ensures.tally old c.sum-count.ensures
+
+pub loop-next-smaller : goal.loop-next-smaller
+loop-next-smaller c =
+    subst (λ (n : Option ℕ). left c.next_table-next-in-Some.result < left n) (sym c.in-Some.is)
+    (less_left c.in-Some.table c.next_table-next-in-Some.result c.tally_of.ensures.fits c.next_table-next-in-Some.ensures.rises)
+
+pub returns : goal.returns
+returns c =
+    let places = all_from 0 c.args.paths.now in
+    let list = ap (λ (n : Option ℕ). before n places) c.in_default.is ∙ before-none places in
+    c.loop-next.invariant ∙ ap (λ (l : List Placed). min (length (asked_among l places)) (limit + 1)) list

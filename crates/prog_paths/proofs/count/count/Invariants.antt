@@ -1,10 +1,11 @@
-use Rattle.std.proofs.Common.{◌≡◌, ◌≤◌, ◌+◌, drop, min, length}
-use Rattle.prog_paths.specs.Asked.{all_from, asked_among, questions_of, limit}
+use Rattle.std.proofs.Common.{◌≡◌, ◌-◌, ◌+◌, ◌^◌, min, length}
+use Rattle.prog_paths.specs.Asked.{all_from, asked_among, limit}
+use Rattle.prog_paths.proofs.Walked.{before, left}
 use Rattle.prog_paths.proofs.count.count.Given as goal
 
--- the count so far, with what the nodes that are left ask
-abbrev pub invariant-loop-node : goal.invariant-loop-node
-invariant-loop-node l = record {
-  few : l.count ≤ limit + 1;
-  counted : min (l.count + length (asked_among (all_from l.node (drop l.node l.paths)) (all_from 0 l.paths))) (limit + 1) ≡ min (length (questions_of l.paths)) (limit + 1);
-}
+-- what the accesses of the tables before the next one ask
+abbrev pub invariant-loop-next : goal.invariant-loop-next
+invariant-loop-next l = l.count ≡ min (length (asked_among (before l.next (all_from 0 l.paths)) (all_from 0 l.paths))) (limit + 1)
+
+abbrev pub decreases-loop-next : goal.decreases-loop-next
+decreases-loop-next l = left l.next
