@@ -1,8 +1,9 @@
 //! Which accesses take part in most covers of a certificate.
 
+use crate::certificate_faults::wide;
+use prog_check::Path;
 use robust_cert::Entry;
 use std::alloc::{AllocError, Global};
-use std::collections::BTreeMap;
 
 /// An access of a node, and in how many covers it is one of the two.
 #[derive(Clone, Copy)]
@@ -12,31 +13,49 @@ pub struct Covering {
     pub count: u64,
 }
 
+// For each access of each node the number 0.
+fn no_covers(alloc: Global, nodes: &[Path]) -> Result<Vec<Vec<u64>>, AllocError> {
+    let mut counts = Vec::with_capacity(alloc, nodes.len())?;
+    for node in nodes {
+        counts.push(vec![in alloc; 0; node.accesses.len()]?)?;
+    }
+    Ok(counts)
+}
+
 // Notes one cover more of an access, and the most that one has.
 fn note(
-    counts: &mut BTreeMap<(u32, u32), u64>,
+    counts: &mut [Vec<u64>],
     most: Option<Covering>,
     node: u32,
     access: u32,
-) -> Result<Option<Covering>, AllocError> {
-    let before = counts.get(&(node, access)).copied().unwrap_or(0);
-    let count = before.saturating_add(1);
-    counts.insert((node, access), count)?;
+) -> Option<Covering> {
+    let Some(of_node) = counts.get_mut(wide(node)) else {
+        return most;
+    };
+    let Some(place) = of_node.get_mut(wide(access)) else {
+        return most;
+    };
+    let count = place.saturating_add(1);
+    *place = count;
     if let Some(most) = most {
         if most.count >= count {
-            return Ok(Some(most));
+            return Some(most);
         }
     }
-    Ok(Some(Covering {
+    Some(Covering {
         node,
         access,
         count,
-    }))
+    })
 }
 
-/// The access that is one of the two of most covers; none where there is no cover.
-pub fn most_covering(alloc: Global, entries: &[Entry]) -> Result<Option<Covering>, AllocError> {
-    let mut counts = BTreeMap::new(alloc);
+/// The access of these nodes that is one of the two of most covers; none where there is no cover.
+pub fn most_covering(
+    alloc: Global,
+    nodes: &[Path],
+    entries: &[Entry],
+) -> Result<Option<Covering>, AllocError> {
+    let mut counts = no_covers(alloc, nodes)?;
     let mut most = None;
     for entry in entries {
         if let Entry::Cover {
@@ -46,9 +65,9 @@ pub fn most_covering(alloc: Global, entries: &[Entry]) -> Result<Option<Covering
             ..
         } = entry
         {
-            most = note(&mut counts, most, question.x, *mine)?;
+            most = note(&mut counts, most, question.x, *mine);
             if question.x != question.y || *mine != *theirs {
-                most = note(&mut counts, most, question.y, *theirs)?;
+                most = note(&mut counts, most, question.y, *theirs);
             }
         }
     }

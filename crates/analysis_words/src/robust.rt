@@ -52,7 +52,7 @@ fn most_text(
     shown: Shown<'_>,
     certificate: &Certificate,
 ) -> Result<String, AllocError> {
-    let most = most_covering(alloc, certificate.entries.as_slice())?;
+    let most = most_covering(alloc, shown.paths, certificate.entries.as_slice())?;
     let Some(
         Covering {
             node,

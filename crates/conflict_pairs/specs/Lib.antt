@@ -1,4 +1,3 @@
-pub mod Chain
 pub mod Verdicts
 pub mod Search
 pub mod Alike

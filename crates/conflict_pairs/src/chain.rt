@@ -2,18 +2,11 @@
 ghost use Rattle.std.specs.Prelude.{◌≡◌, [], ◌∷◌};
 ghost use Rattle.order_facts.specs.Chain.{IsTight};
 
-use order_facts::Node;
+use order_facts::{Node, Nodes};
 use std::marker::Model;
 
-/// Two nodes, or a list of them.
-#[derive(Debug, Drop)]
-enum Nodes {
-    Two([Node; 2]),
-    Listed(Vec<Node>),
-}
-
-/// Nodes of which each is at most the next, and none could be left out. A chain of two nodes takes
-/// no memory.
+/// Nodes of which each is at most the next, and none could be left out. A chain of up to two nodes
+/// takes no memory.
 #[derive(Debug, Drop)]
 pub struct Chain {
     nodes: Nodes,
@@ -23,13 +16,12 @@ impl Model for Chain {
     ghost use Rattle.std.specs.Prelude.{List};
     ghost use Rattle.order_facts.specs.declared.steps.Node.{Node};
     ghost use Rattle.order_facts.specs.Chain.{IsTight};
-    ghost use Rattle.conflict_pairs.specs.Chain.{nodes_of};
 
     ghost Value = { List Node };
 
-    ghost view = { λ c. nodes_of c.nodes };
+    ghost view = { λ c. c.nodes };
 
-    ghost invariant = { λ c. IsTight (nodes_of c.nodes) };
+    ghost invariant = { λ c. IsTight c.nodes };
 }
 
 impl Chain {
@@ -38,7 +30,7 @@ impl Chain {
         ensures { result ≡ first ∷ last ∷ [] }
     {
         Chain {
-            nodes: Nodes::Two([first, last]),
+            nodes: Nodes::of_two(first, last),
         }
     }
 
@@ -47,7 +39,7 @@ impl Chain {
         ensures { result ≡ nodes.items }
     {
         Chain {
-            nodes: Nodes::Listed(nodes),
+            nodes: Nodes::from_vec(nodes),
         }
     }
 
@@ -55,9 +47,6 @@ impl Chain {
         ensures nodes { result.now ≡ self.now }
         ensures tight { IsTight result.now }
     {
-        match &self.nodes {
-            Nodes::Two(nodes) => nodes.as_slice(),
-            Nodes::Listed(nodes) => nodes.as_slice(),
-        }
+        self.nodes.as_slice()
     }
 }

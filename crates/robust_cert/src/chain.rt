@@ -2,14 +2,15 @@
 ghost use Rattle.std.specs.Prelude.{◌≡◌, ◌↔◌, All, IfSome, IfNone, IsTrue};
 ghost use Rattle.robust_cert.specs.Ranges.{IsOfSmall, NodeFits, ChainFits};
 
-use order_facts::Node;
+use order_facts::{Node, Nodes};
 use std::marker::Model;
 
 /// Nodes of which each is to be at most the next. A parameter or an unknown has a number of `u32`,
-/// as in the text, so each chain can be written and read again.
+/// as in the text, so each chain can be written and read again. A chain of up to two nodes takes no
+/// memory.
 #[derive(Debug, Drop)]
 pub struct Chain {
-    nodes: Vec<Node>,
+    nodes: Nodes,
 }
 
 impl Model for Chain {
@@ -19,9 +20,9 @@ impl Model for Chain {
 
     ghost Value = { List Node };
 
-    ghost view = { λ c. c.nodes.items };
+    ghost view = { λ c. c.nodes };
 
-    ghost invariant = { λ c. ChainFits c.nodes.items };
+    ghost invariant = { λ c. ChainFits c.nodes };
 }
 
 /// Whether the text can say the number of a node.
@@ -56,7 +57,15 @@ impl Chain {
         ensures some { IfSome result (λ chain. chain ≡ nodes.items) }
         ensures none { IfNone result (¬ All IsOfSmall nodes.items) }
     {
-        if all_fit(&nodes) {
+        Chain::from_nodes(Nodes::from_vec(nodes))
+    }
+
+    /// The same of nodes in a row, with no memory of its own.
+    pub fn from_nodes(nodes: Nodes) -> Option<Self>
+        ensures some { IfSome result (λ chain. chain ≡ nodes) }
+        ensures none { IfNone result (¬ All IsOfSmall nodes) }
+    {
+        if all_fit(nodes.as_slice()) {
             Some(Chain { nodes })
         } else {
             None

@@ -9,6 +9,7 @@ ghost use Rattle.si_repair.specs.Telling.{told_question, told_by, told_of, AreLe
 
 use conflict_pairs::{PairTable, Verdict};
 use dep_graph::Graph;
+use order_facts::Nodes;
 use prog_check::Path;
 use prog_tree::Sequence;
 use robust_cert::{Certificate, Chain, Entry, Question, body_size};
@@ -38,8 +39,8 @@ fn copy_of(alloc: Global, chain: &conflict_pairs::Chain) -> Result<Chain, AllocE
     requires { TightFits chain.now }
     ensures { IfOk result (λ copy. copy ≡ chain.now) }
 {
-    let copy = Vec::from_slice(alloc, chain.as_slice())?;
-    match Chain::from_vec(copy) {
+    let copy = Nodes::from_slice(alloc, chain.as_slice())?;
+    match Chain::from_nodes(copy) {
         Some(chain) => Ok(chain),
         None => unreachable!(),
     }
@@ -96,7 +97,7 @@ fn entries_of(alloc: Global, table: &PairTable) -> Result<Vec<Entry>, AllocError
     requires { IsOfFew table.now }
     ensures { IfOk result (λ entries. entries.items ≡ told_of table.now.entries) }
 {
-    let mut entries = Vec::new(alloc);
+    let mut entries = Vec::with_capacity(alloc, table.len())?;
     for n in 0..table.len() {
         push_told(alloc, table.question(n), table.verdict(n), &mut entries)?;
     }

@@ -6,7 +6,7 @@
 use crate::certificate::{Certificate, Entry, Question};
 use crate::chain::Chain;
 use crate::fault::Untaken;
-use order_facts::Node;
+use order_facts::{Node, Nodes};
 use prog_tree::Sequence;
 use std::alloc::Global;
 
@@ -109,12 +109,27 @@ impl Cursor<'_> {
         Ok(node)
     }
 
-    fn nodes(&mut self) -> Result<Vec<Node>, Untaken> {
-        let mut nodes = Vec::with_capacity(self.alloc, 2)?;
+    // Reads nodes, of which one and two take no memory.
+    fn nodes(&mut self) -> Result<Nodes, Untaken> {
+        let first = self.node()?;
+        if !self.has_more()? {
+            return Ok(Nodes::of_one(first));
+        }
+        let second = self.node()?;
+        if !self.has_more()? {
+            return Ok(Nodes::of_two(first, second));
+        }
+        self.nodes_behind(first, second)
+    }
+
+    // Reads the nodes behind two. Each item of a list takes a byte at least, so as many turns as
+    // bytes are left are enough.
+    fn nodes_behind(&mut self, first: Node, second: Node) -> Result<Nodes, Untaken> {
+        let mut nodes = Vec::from_slice(self.alloc, &[first, second])?;
         for _turn in 0..self.rest.len() {
             nodes.push(self.node()?)?;
             if !self.has_more()? {
-                return Ok(nodes);
+                return Ok(Nodes::from_vec(nodes));
             }
         }
         Err(Untaken::Misshapen)
@@ -122,7 +137,7 @@ impl Cursor<'_> {
 
     fn chain(&mut self) -> Result<Chain, Untaken> {
         if self.eat(b"[]") {
-            return chain_of(Vec::new(self.alloc));
+            return chain_of(Nodes::from_vec(Vec::new(self.alloc)));
         }
         self.expect(b"[")?;
         chain_of(self.nodes()?)
@@ -269,8 +284,8 @@ fn signed(digits: u64) -> Result<i64, Untaken> {
     }
 }
 
-fn chain_of(nodes: Vec<Node>) -> Result<Chain, Untaken> {
-    Chain::from_vec(nodes).ok_or(Untaken::Misshapen)
+fn chain_of(nodes: Nodes) -> Result<Chain, Untaken> {
+    Chain::from_nodes(nodes).ok_or(Untaken::Misshapen)
 }
 
 // One zero for each level.

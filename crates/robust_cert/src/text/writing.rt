@@ -235,6 +235,9 @@ fn push_certificate(text: &mut String, certificate: &Certificate) -> Result<(), 
     }
 }
 
+// So many bytes the text of an entry has about.
+const ENTRY_BYTES: usize = 72;
+
 /// The text of a certificate.
 pub fn to_json(alloc: Global, certificate: &Certificate) -> Result<String, AllocError>
     ensures text { IfOk result (λ text. string_bytes text ≡ certificate_text certificate.now) }
@@ -242,7 +245,8 @@ pub fn to_json(alloc: Global, certificate: &Certificate) -> Result<String, Alloc
     // So `from_json` reads it as this certificate.
     ensures reads_back { IfOk result (λ text. IsTextOf certificate.now (string_bytes text)) }
 {
-    let mut text = String::new(alloc);
+    let room = certificate.entries.len().saturating_mul(ENTRY_BYTES);
+    let mut text = String::with_capacity(alloc, room)?;
     push_certificate(&mut text, certificate)?;
     Ok(text)
 }
