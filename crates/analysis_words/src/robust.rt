@@ -11,6 +11,7 @@ use prog_check::ProgramSet;
 use prog_paths::paths;
 use robust_cert::{Certificate, Entry};
 use std::alloc::{AllocError, Global};
+use text_places::push_listed;
 
 // So many nodes are named with their levels.
 const MAX_LEVELS: usize = 8;
@@ -77,8 +78,7 @@ fn levels_text(
     let nodes = shown.paths.len();
     for node in 0..nodes.min(MAX_LEVELS) {
         let level = level_text(alloc, shown, certificate, node)?;
-        let comma = if node == 0 { "" } else { ", " };
-        write!(text, "{comma}{level}")?;
+        push_listed(&mut text, &level)?;
     }
     if nodes > MAX_LEVELS {
         let more = nodes.saturating_sub(MAX_LEVELS);

@@ -3,10 +3,10 @@ ghost use Rattle.std.specs.Prelude.{◌≡◌, IfOk, flat_map, string_bytes};
 ghost use Rattle.prog_tree.specs.Tree.{draft_tree};
 ghost use Rattle.analysis_words.specs.Nodes.{access_of, branches_text, letter_of, node_name, turns_by, turns_text};
 
-use fault_words::{as_text, program_name, table_name};
+use fault_words::program_name;
 use prog_check::{Access, Path, ProgramSet};
 use std::alloc::{AllocError, Global};
-use text_places::{line_number, statement_place};
+use text_places::{as_text, before, behind, line_number, statement_place, table_name};
 
 const MAX_SHOWN: usize = 60;
 
@@ -24,22 +24,22 @@ fn ends_statement(byte: u8) -> bool {
 
 // The statement at a place, to its `;`, to the `{` of its body, or to the end of its line.
 fn statement_at(text: &[u8], place: usize) -> &str {
-    let rest = text.get(place..).unwrap_or(&[]);
+    let rest = behind(text, place);
     let len = rest
         .iter()
         .take_while(|byte| !ends_statement(**byte))
         .count();
-    as_text(rest.get(..len.min(MAX_SHOWN)).unwrap_or(&[])).trim_end()
+    as_text(before(rest, len.min(MAX_SHOWN))).trim_end()
 }
 
 /// The cell or the range that the statement at a place names, with its table.
 pub fn cells_at(text: &[u8], place: usize) -> &str {
-    let rest = text.get(place..).unwrap_or(&[]);
+    let rest = behind(text, place);
     let len = rest.iter().take_while(|byte| **byte != b']').count();
-    let front = rest.get(..len.saturating_add(1)).unwrap_or(rest);
-    let before = front.iter().take_while(|byte| **byte != b'[').count();
-    let start = before.saturating_sub(table_name(front).len());
-    as_text(front.get(start..).unwrap_or(&[]))
+    let front = before(rest, len.saturating_add(1));
+    let key = front.iter().take_while(|byte| **byte != b'[').count();
+    let start = key.saturating_sub(table_name(front).len());
+    as_text(behind(front, start))
 }
 
 // The letter of a branch that a path takes.

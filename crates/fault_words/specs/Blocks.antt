@@ -1,7 +1,7 @@
 -- Which block of a text is left open, and how people are told.
 use Rattle.std.specs.Prelude.{ℕ, zero, suc, ◌==◌, ◌&&◌, ◌||◌, Bool, false, List, [], ◌∷◌, ◌++◌, Option, Some, None, bytes_eq, codes, count_by, drop, length, take, if◌then◌else◌}
 use Rattle.std.specs.Fmt.{decimal}
-use Rattle.text_places.specs.Landmarks.{first_word, stands_free, without_comments}
+use Rattle.text_places.specs.Reading.{short_word, stands_free, without_comments}
 use Rattle.text_places.specs.Places.{line_number}
 
 -- the last place before a bound that passes a test
@@ -38,7 +38,7 @@ head_name word =
 
 -- such a word begins here
 abbrev pub begins_head : (text : List ℕ) → (place : ℕ) → Bool
-begins_head text place = is_head (first_word (drop place text)) && stands_free text place
+begins_head text place = is_head (short_word (drop place text)) && stands_free text place
 
 -- where the last such word before a block begins
 abbrev pub head_before : (text : List ℕ) → (block : Option ℕ) → Option ℕ
@@ -53,5 +53,5 @@ open_head text place =
 -- the block of a head, with the line of the head
 abbrev pub open_text : (text : List ℕ) → (head : ℕ) → List ℕ
 open_text text head =
-    codes "the block of `" ++ (head_name (first_word (drop head (without_comments text))) ++ (codes "` in line "
+    codes "the block of `" ++ (head_name (short_word (drop head (without_comments text))) ++ (codes "` in line "
     ++ (decimal (line_number text head) ++ codes " is still open: a `}` is missing")))

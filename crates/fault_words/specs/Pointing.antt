@@ -1,7 +1,8 @@
 -- What the words of a fault have to show.
-use Rattle.std.specs.Prelude.{ℕ, ◌≡◌, ◌-◌, ◌==◌, ◌||◌, ◌&&◌, ◌⊎◌, ⊤, Bool, true, not, nat_le, List, ◌++◌, Option, Some, None, option_map, codes, drop, length, take}
-use Rattle.std.specs.List.{list_all, prefix_len, suffix_len}
-use Rattle.text_places.specs.Landmarks.{is_word_byte, without_comments, HasNoProgram, HasNoStatement, HasNoTable, IsProgramPlace, IsStatementPlace, IsTablePlace}
+use Rattle.std.specs.Prelude.{ℕ, ◌≡◌, ◌-◌, ◌==◌, ◌&&◌, ◌⊎◌, ⊤, Bool, true, not, nat_le, List, ◌++◌, Option, Some, None, option_map, codes, drop, take}
+use Rattle.std.specs.List.{list_all}
+use Rattle.text_places.specs.Reading.{begins_word, end_before, without_comments}
+use Rattle.text_places.specs.Landmarks.{HasNoProgram, HasNoStatement, HasNoTable, IsProgramPlace, IsStatementPlace, IsTablePlace}
 use Rattle.text_places.specs.Quotes.{pointed_out}
 use Rattle.fault_words.specs.Blocks.{open_head, open_text}
 use Rattle.prog_check.specs.declared.fault.Place.{Place}
@@ -14,14 +15,6 @@ use Rattle.prog_text.specs.declared.fault.TextFault.TheVariants as t
 -- some sentence is said of the place, with the place's own line, column and mark
 abbrev pub PointsAt : (text : List ℕ) → (place : ℕ) → (words : List ℕ) → Type 0
 PointsAt text place words = (sentence : List ℕ) × (words ≡ pointed_out text place sentence)
-
--- what separates words and signs
-abbrev pub is_blank : ℕ → Bool
-is_blank byte = (byte == 32 || byte == 9) || (byte == 10 || byte == 13)
-
--- where the last word or sign before a place ends: behind it stand only blanks and comments
-abbrev pub end_before : (text : List ℕ) → (place : ℕ) → ℕ
-end_before text place = length (take place (without_comments text)) - suffix_len is_blank (take place (without_comments text))
 
 -- the words point at a word or a sign, or where the one before it ends, as where a `;` is missing
 abbrev pub PointsAtToken : (text : List ℕ) → (place : ℕ) → (words : List ℕ) → Type 0
@@ -80,10 +73,6 @@ place_of c.Memory = None
 -- neither a `;` nor a `{`
 abbrev pub goes_on : (byte : ℕ) → Bool
 goes_on byte = not (byte == 59) && not (byte == 123)
-
--- a word begins here
-abbrev pub begins_word : (text : List ℕ) → (place : ℕ) → Bool
-begins_word text place = suffix_len is_word_byte (take place text) == 0 && not (prefix_len is_word_byte (drop place text) == 0)
 
 -- at the mark stands a word of the statement or the test that begins at a place: between them no statement ends, and no
 -- block begins

@@ -1,16 +1,14 @@
 //! What could stand at a place of a text: each word and sign is tried there.
 
 use crate::limits::MAX_TRIED;
-use crate::reading::push_listed;
-use prog_text::{TextFault, parse};
+use prog_text::{TextFault, parse, reserved_words};
 use std::alloc::{AllocError, Global};
+use text_places::push_listed;
 
-// A name, a number, and each word and sign of the language.
-const TRIED: [&str; 45] = [
+// A name, a number, and each sign of the language.
+const SIGNS: [&str; 21] = [
     "NAME", "1", "(", ")", "[", "]", "{", "}", ",", ";", "=", "+", "-", "*", "..", "<", "<=", ">",
-    ">=", "==", "!=", "table", "grow", "program", "let", "get", "need", "count", "sum", "lacks",
-    "put", "insert", "delete", "keep", "if", "else", "each", "reply", "abort", "or", "and", "not",
-    "least", "greatest", "in",
+    ">=", "==", "!=",
 ];
 
 // Whether a word goes on what stands before it.
@@ -35,13 +33,24 @@ fn shown(alloc: Global, word: &str) -> Result<String, AllocError> {
     }
 }
 
-/// The words with which a text could go on: none where that is not known.
-pub fn possible(alloc: Global, before: &[u8]) -> Result<Vec<&'static str>, AllocError> {
+// The signs with which a text could go on.
+fn possible_signs(alloc: Global, before: &[u8]) -> Result<Vec<&'static str>, AllocError> {
     let mut list = Vec::new(alloc);
-    if before.len() > MAX_TRIED {
-        return Ok(list);
+    for sign in SIGNS.iter() {
+        if goes_on(alloc, before, sign)? {
+            list.push(*sign)?;
+        }
     }
-    for word in TRIED.iter() {
+    Ok(list)
+}
+
+/// The signs and the words with which a text could go on: none where that is not known.
+pub fn possible(alloc: Global, before: &[u8]) -> Result<Vec<&'static str>, AllocError> {
+    if before.len() > MAX_TRIED {
+        return Ok(Vec::new(alloc));
+    }
+    let mut list = possible_signs(alloc, before)?;
+    for (word, _sign) in reserved_words() {
         if goes_on(alloc, before, word)? {
             list.push(*word)?;
         }

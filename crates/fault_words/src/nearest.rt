@@ -2,9 +2,9 @@
 ghost use Rattle.std.specs.Prelude.{Contains, IfOk, IfSome};
 
 use crate::limits::{MAX_EDITS, MAX_MEANT};
-use crate::reading::push_listed;
 use std::alloc::{AllocError, Global};
 use strsim::levenshtein;
+use text_places::push_listed;
 
 /// The first of the names with the fewest edits from a word, where these are few. Counting takes as
 /// many steps as both lengths multiplied, so it is not done for a word that is too long.

@@ -1,11 +1,10 @@
 //! The block that is open at a place of a text.
 ghost use Rattle.std.specs.Prelude.{◌≡◌, IfOk, option_map, string_bytes};
-ghost use Rattle.text_places.specs.Landmarks.{first_word, without_comments};
+ghost use Rattle.text_places.specs.Reading.{without_comments};
 ghost use Rattle.fault_words.specs.Blocks.{begins_head, closes, head_before, head_name, is_head, last_before, open_block, open_head, open_text, opens};
 
-use crate::reading::{from_place, last_len, up_to, word_len};
 use std::alloc::{AllocError, Global};
-use text_places::{line_number, without_comments};
+use text_places::{before, behind, line_number, short_word, stands_free, without_comments};
 
 fn opens(byte: u8) -> bool
     ensures { result ≡ opens byte }
@@ -38,14 +37,6 @@ fn open_block(plain: &[u8]) -> Option<usize>
     None
 }
 
-// The word at the front, of which eight bytes tell whether it is the head of a block.
-fn first_word(bytes: &[u8]) -> &[u8]
-    ensures { result.now ≡ first_word bytes.now }
-{
-    let front = up_to(bytes, 8);
-    up_to(front, word_len(front))
-}
-
 fn is_head(word: &[u8]) -> bool
     ensures { result ≡ is_head word.now }
 {
@@ -71,7 +62,7 @@ fn head_name(word: &[u8]) -> &'static str
 fn begins_head(plain: &[u8], place: usize) -> bool
     ensures { result ≡ begins_head plain.now place }
 {
-    is_head(first_word(from_place(plain, place))) && last_len(up_to(plain, place)) == 0
+    is_head(short_word(behind(plain, place))) && stands_free(plain, place)
 }
 
 // Where the last head before a block begins.
@@ -103,7 +94,7 @@ fn open_text(alloc: Global, text: &[u8], plain: &[u8], head: usize) -> Result<St
     requires { plain.now ≡ without_comments text.now }
     ensures { IfOk result (λ words. string_bytes words ≡ open_text text.now head) }
 {
-    let name = head_name(first_word(from_place(plain, head)));
+    let name = head_name(short_word(behind(plain, head)));
     let line = line_number(text, head);
     format!(in alloc; "the block of `{name}` in line {line} is still open: a `}}` is missing")
 }
@@ -114,7 +105,7 @@ pub fn open_words(alloc: Global, text: &[u8], place: usize) -> Result<Option<Str
         ≡ option_map (open_text text.now) (open_head text.now place)) }
 {
     let plain = without_comments(alloc, text)?;
-    match open_head(up_to(&plain, place)) {
+    match open_head(before(&plain, place)) {
         Some(head) => Ok(Some(open_text(alloc, text, &plain, head)?)),
         None => Ok(None),
     }

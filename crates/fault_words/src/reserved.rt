@@ -1,20 +1,9 @@
-//! The reserved words of the language.
-ghost use Rattle.std.specs.Prelude.{◌≡◌, bytes_eq};
-ghost use Rattle.std.specs.List.{list_any};
+//! The words and names of the language.
+ghost use Rattle.std.specs.Prelude.{◌≡◌};
 ghost use Rattle.prog_text.specs.Lexing.{is_letter};
-ghost use Rattle.fault_words.specs.Reserved.{is_name, is_reserved};
+ghost use Rattle.fault_words.specs.Reserved.{is_name};
 
-const RESERVED: [&str; 24] = [
-    "table", "grow", "program", "let", "get", "need", "count", "sum", "lacks", "put", "insert",
-    "delete", "keep", "if", "else", "reply", "abort", "or", "and", "not", "least", "greatest",
-    "each", "in",
-];
-
-// The words with which a table, a program or a statement begins.
-const BEGINNINGS: [&str; 12] = [
-    "table", "program", "let", "lacks", "put", "insert", "delete", "keep", "if", "each", "reply",
-    "abort",
-];
+use prog_text::{is_reserved, reserved_words};
 
 fn begins_name(byte: u8) -> bool
     ensures { result ≡ is_letter byte }
@@ -22,37 +11,19 @@ fn begins_name(byte: u8) -> bool
     byte.is_ascii_alphabetic() || byte == b'_'
 }
 
-fn is_among(words: &[&str], token: &str) -> bool
-    ensures { result ≡ list_any (λ word. bytes_eq word.now token.now) words.now }
-{
-    words.iter().any(|word| *word == token)
-}
-
-/// Whether a token is a reserved word.
-pub fn is_reserved(token: &str) -> bool
-    ensures { result ≡ is_reserved token.now }
-{
-    is_among(&RESERVED, token)
-}
-
 /// Whether a token is a name.
 pub fn is_name(token: &str) -> bool
     ensures { result ≡ is_name token.now }
 {
     match token.as_bytes() {
-        [byte, ..] if begins_name(*byte) => !is_reserved(token),
+        [byte, ..] if begins_name(*byte) => !is_reserved(token.as_bytes()),
         _ => false,
     }
 }
 
-/// Whether a table, a program or a statement begins with a word.
-pub fn begins_statement(word: &str) -> bool {
-    BEGINNINGS.contains(&word)
-}
-
 /// The reserved word that a name is but for the case of its letters.
 pub fn in_lower_case(name: &str) -> Option<&'static str> {
-    for word in RESERVED.iter() {
+    for (word, _sign) in reserved_words() {
         if *word != name && word.eq_ignore_ascii_case(name) {
             return Some(*word);
         }

@@ -2,25 +2,16 @@
 ghost use Rattle.std.specs.Prelude.{◌≡◌, true, slice_get, IfSome};
 ghost use Rattle.fault_words.specs.Reserved.{is_name};
 
-use crate::reading::{begins_word, first_token, from_place, is_word_byte};
 use crate::reserved::is_name;
 use std::alloc::{AllocError, Global};
-
-fn begins_token(bytes: &[u8], place: usize) -> bool {
-    match from_place(bytes, place) {
-        [] => false,
-        [byte, ..] if byte.is_ascii_whitespace() => false,
-        [byte, ..] if is_word_byte(*byte) => begins_word(bytes, place),
-        _ => true,
-    }
-}
+use text_places::{as_text, begins_token, behind, first_token};
 
 /// The words and signs of a text without comments.
 pub fn tokens_of(alloc: Global, bytes: &[u8]) -> Result<Vec<&str>, AllocError> {
     let mut tokens = Vec::new(alloc);
     for place in 0..bytes.len() {
         if begins_token(bytes, place) {
-            tokens.push(first_token(from_place(bytes, place)))?;
+            tokens.push(as_text(first_token(behind(bytes, place))))?;
         }
     }
     Ok(tokens)

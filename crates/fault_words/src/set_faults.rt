@@ -6,7 +6,6 @@ ghost use Rattle.fault_words.specs.Pointing.{goes_on, is_word_of, place_of, HasN
 use crate::naming::{parameter_count, table_names};
 use crate::nearest::known_names;
 use crate::pointing::point_at;
-use crate::reading::{begins_word, behind_word, first_word, from_place, table_name, up_to};
 use crate::reserved::in_lower_case;
 use crate::scope::{
     has_each, is_bound_among, is_of_turn, taken_name, token_place, tokens_of, unknown_name,
@@ -16,7 +15,10 @@ use prog_check::{CheckFault, Place};
 use prog_text::parse;
 use prog_tree::{Arity, Draft, Name};
 use std::alloc::{AllocError, Global};
-use text_places::{program_place, statement_place, table_place, without_comments};
+use text_places::{
+    as_text, before, begins_word, behind, behind_word, first_word, program_place, statement_place,
+    table_name, table_place, without_comments,
+};
 
 // Where a table, a program or a statement begins in a text.
 fn find_place(alloc: Global, text: &[u8], place: Place) -> Result<Option<usize>, AllocError>
@@ -36,7 +38,7 @@ fn draft_of(alloc: Global, text: &[u8]) -> Option<Draft> {
 }
 
 fn unknown_table(alloc: Global, text: &[u8], statement: &[u8]) -> Result<String, AllocError> {
-    let name = table_name(statement);
+    let name = as_text(table_name(statement));
     let Some(draft) = draft_of(alloc, text) else {
         return format!(in alloc; "no table is called `{name}`");
     };
@@ -53,7 +55,7 @@ fn tokens_before<'a>(
     at: usize,
 ) -> Result<Vec<&'a str>, AllocError> {
     let start = program_place(alloc, plain, program)?.unwrap_or(0);
-    tokens_of(alloc, from_place(up_to(plain, at), start))
+    tokens_of(alloc, behind(before(plain, at), start))
 }
 
 // The names that are bound where a statement of a program begins, in a text without comments.
@@ -76,11 +78,11 @@ fn unbound_place(
     at: usize,
 ) -> Result<Option<usize>, AllocError> {
     let visible = names_before(alloc, plain, program, at)?;
-    let statement = tokens_of(alloc, from_place(plain, at))?;
+    let statement = tokens_of(alloc, behind(plain, at))?;
     let Some(number) = unknown_name(&statement, &visible) else {
         return Ok(None);
     };
-    let place = token_place(from_place(plain, at), number).unwrap_or(0);
+    let place = token_place(behind(plain, at), number).unwrap_or(0);
     Ok(Some(at.saturating_add(place)))
 }
 
@@ -103,8 +105,7 @@ fn is_word_of(plain: &[u8], at: usize, mark: usize) -> bool
     ensures { result ≡ is_word_of plain.now at mark }
 {
     at <= mark
-        && (begins_word(plain, mark)
-            && go_on(up_to(from_place(plain, at), mark.saturating_sub(at))))
+        && (begins_word(plain, mark) && go_on(before(behind(plain, at), mark.saturating_sub(at))))
 }
 
 // Where the mark stands, of what begins at a place: at a name that is not bound.
@@ -132,7 +133,7 @@ fn unknown_words(
     at: usize,
     name: &str,
 ) -> Result<String, AllocError> {
-    let statement = tokens_of(alloc, from_place(plain, at))?;
+    let statement = tokens_of(alloc, behind(plain, at))?;
     if is_of_turn(&statement, name) {
         return format!(in alloc;
             "`{name}` is bound in the block of this `each`, and not before it"
@@ -162,7 +163,7 @@ fn unbound_name(
     if mark == at {
         return format!(in alloc; "a name of this statement is not bound");
     }
-    let name = first_word(from_place(text, mark));
+    let name = as_text(first_word(behind(text, mark)));
     if let Some(word) = in_lower_case(name) {
         return format!(in alloc; "`{name}` is a name; the word has small letters: write `{word}`");
     }
@@ -177,7 +178,7 @@ fn name_taken(alloc: Global, text: &[u8], place: Place, at: usize) -> Result<Str
     };
     let plain = without_comments(alloc, text)?;
     let visible = names_before(alloc, &plain, program, at)?;
-    let statement = tokens_of(alloc, from_place(&plain, at))?;
+    let statement = tokens_of(alloc, behind(&plain, at))?;
     let name = taken_name(&statement, &visible);
     if !(&*visible).contains(&name) {
         return format!(in alloc;
@@ -199,7 +200,7 @@ fn arity_of(draft: &Draft, name: &str) -> Option<Arity> {
 }
 
 fn wrong_columns(alloc: Global, text: &[u8], statement: &[u8]) -> Result<String, AllocError> {
-    let name = table_name(statement);
+    let name = as_text(table_name(statement));
     let arity = match draft_of(alloc, text) {
         Some(draft) => arity_of(&draft, name),
         None => None,
@@ -246,7 +247,7 @@ fn repeated_parameter(alloc: Global, text: &[u8], place: Place) -> Result<String
 // That a way through the program that begins at a place has too many accesses.
 fn too_many_accesses(alloc: Global, text: &[u8], at: usize) -> Result<String, AllocError> {
     let plain = without_comments(alloc, text)?;
-    let tokens = tokens_of(alloc, from_place(&plain, at))?;
+    let tokens = tokens_of(alloc, behind(&plain, at))?;
     let bodies = if has_each(&tokens) {
         "; all that stand in the body of an `each` count, once each"
     } else {
@@ -296,8 +297,8 @@ fn sentence(
     at: usize,
     mark: usize,
 ) -> Result<String, AllocError> {
-    let begun = from_place(text, at);
-    let name = first_word(behind_word(begun));
+    let begun = behind(text, at);
+    let name = as_text(first_word(behind_word(begun)));
     match fault {
         CheckFault::DuplicateTable { .. } => {
             format!(in alloc; "an earlier table is called `{name}` too")
@@ -311,7 +312,7 @@ fn sentence(
         CheckFault::NameTaken { place } => name_taken(alloc, text, place, at),
         CheckFault::WrongArity { .. } => wrong_columns(alloc, text, begun),
         CheckFault::GrowTableChanged { .. } => {
-            let table = table_name(begun);
+            let table = as_text(table_name(begun));
             format!(in alloc;
                 "`{table}` is a grow table, whose rows are only ever added, by `insert`"
             )

@@ -1,8 +1,9 @@
 //! Slips that newcomers make, known by the tokens around the first one that cannot stand where it does.
 
-use crate::reading::{first_token, from_place, last_token, second_token, up_to};
-use crate::reserved::{in_lower_case, is_name, is_reserved};
+use crate::reserved::{in_lower_case, is_name};
+use prog_text::is_reserved;
 use std::alloc::{AllocError, Global};
+use text_places::{as_text, before, behind, first_token, last_token, second_token};
 
 /// What stands around a token that cannot stand where it does.
 #[derive(Clone, Copy)]
@@ -103,11 +104,11 @@ const LATE_TABLE: &str = "tables stand before all programs";
 
 /// What stands around a place of a text without comments, at whose end a token ends.
 pub fn tokens_around(plain: &[u8], end: usize, place: usize) -> Around<'_> {
-    let rest = from_place(plain, place);
+    let rest = behind(plain, place);
     Around {
-        before: last_token(up_to(plain, end)),
-        token: first_token(rest),
-        next: second_token(rest),
+        before: as_text(last_token(before(plain, end))),
+        token: as_text(first_token(rest)),
+        next: as_text(second_token(rest)),
     }
 }
 
@@ -172,7 +173,7 @@ fn head_slip(around: Around<'_>, could: &[&str]) -> Option<Slip> {
     }
     match around.token {
         "(" if around.before == "each" => Some(Slip::Said(EACH_BRACKETS)),
-        token if is_reserved(token) => Some(Slip::WordAsName),
+        token if is_reserved(token.as_bytes()) => Some(Slip::WordAsName),
         _ => None,
     }
 }

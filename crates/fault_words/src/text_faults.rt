@@ -5,19 +5,20 @@ ghost use Rattle.fault_words.specs.Pointing.{BeginsBy, PointsAtFault, PointsAtTo
 use crate::expected::{possible, told};
 use crate::open_blocks::open_words;
 use crate::pointing::point_at;
-use crate::reading::{as_text, end_before, first_token, first_word, from_place, up_to};
-use crate::reserved::begins_statement;
 use crate::slips::{Around, Slip, slip_of, slip_words, tokens_around};
-use prog_text::TextFault;
+use prog_text::{TextFault, beginning_of};
 use std::alloc::{AllocError, Global};
-use text_places::{column, line_at, line_number, point_out, without_comments};
+use text_places::{
+    as_text, before, behind, column, end_before, first_token, first_word, line_at, line_number,
+    point_out, without_comments,
+};
 
 // A byte as people are told of it.
 fn byte_text(alloc: Global, bytes: &[u8]) -> Result<String, AllocError> {
     match bytes {
         [byte @ (..=32 | 127..), ..] => format!(in alloc; "the byte {byte}"),
         _ => {
-            let token = first_token(bytes);
+            let token = as_text(first_token(bytes));
             format!(in alloc; "`{token}`")
         }
     }
@@ -76,9 +77,9 @@ fn foreign_comment(line: &str) -> Option<&'static str> {
 }
 
 fn unknown_byte(alloc: Global, text: &[u8], place: usize) -> Result<String, AllocError> {
-    let rest = from_place(text, place);
+    let rest = behind(text, place);
     let column = column(text, place);
-    let line = as_text(up_to(line_at(text, place), column.saturating_add(1)));
+    let line = as_text(before(line_at(text, place), column.saturating_add(1)));
     match foreign_comment(line) {
         Some(sign) => format!(in alloc; "a comment begins with `#`, and not with `{sign}`"),
         None => unknown_sign(alloc, rest),
@@ -137,7 +138,8 @@ fn unexpected_words(
 // Whether a `;` is missing: one could stand here, and the token opens another line or statement.
 fn lacks_semicolon(could: &[&str], token: &str, is_first: bool) -> bool {
     let begins_word = !first_word(token.as_bytes()).is_empty();
-    could.contains(&";") && (token == "}" || begins_statement(token) || (is_first && begins_word))
+    could.contains(&";")
+        && (token == "}" || beginning_of(token.as_bytes()).is_some() || (is_first && begins_word))
 }
 
 fn unexpected(alloc: Global, text: &[u8], place: usize) -> Result<String, AllocError>
@@ -146,7 +148,7 @@ fn unexpected(alloc: Global, text: &[u8], place: usize) -> Result<String, AllocE
     let plain = without_comments(alloc, text)?;
     let end = end_before(alloc, text, place)?;
     let around = tokens_around(&plain, end, place);
-    let could = possible(alloc, up_to(text, place))?;
+    let could = possible(alloc, before(text, place))?;
     let is_first = line_number(text, end) != line_number(text, place);
     if lacks_semicolon(&could, around.token, is_first) {
         return point_at(alloc, text, end, "a `;` is missing here");
@@ -186,7 +188,7 @@ fn too_early(alloc: Global, text: &[u8], place: usize) -> Result<String, AllocEr
 }
 
 fn too_deep(alloc: Global, text: &[u8], place: usize) -> Result<String, AllocError> {
-    match from_place(text, place) {
+    match behind(text, place) {
         [b'+' | b'-' | b'*', ..] => format!(in alloc;
             "the 33rd `+`, `-` or `*` of this statement, which may have 32; bind a part before"
         ),

@@ -9,3 +9,4 @@ pub mod OpenBlocks
 pub mod Printed
 pub mod Reading
 pub mod Spelling
+pub mod Words

@@ -59,8 +59,8 @@ abbrev pub reserved_words : List Token
 reserved_words =
     map t.Sign (
     sign.Table ∷ sign.Grow ∷ sign.Program ∷ sign.Let ∷ sign.Get ∷ sign.Need ∷ sign.Count ∷ sign.Sum ∷
-    sign.Lacks ∷ sign.Put ∷ sign.Insert ∷ sign.Delete ∷ sign.Keep ∷ sign.If ∷ sign.Else ∷ sign.Reply ∷ sign.Abort ∷
-    sign.Or ∷ sign.And ∷ sign.Not ∷ sign.Least ∷ sign.Greatest ∷ sign.Each ∷ sign.In ∷ [])
+    sign.Lacks ∷ sign.Put ∷ sign.Insert ∷ sign.Delete ∷ sign.Keep ∷ sign.If ∷ sign.Else ∷ sign.Each ∷ sign.Reply ∷ sign.Abort ∷
+    sign.Or ∷ sign.And ∷ sign.Not ∷ sign.Least ∷ sign.Greatest ∷ sign.In ∷ [])
 
 -- the signs, those of two bytes first
 abbrev pub signs : List Token

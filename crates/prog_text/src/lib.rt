@@ -10,4 +10,6 @@ mod reading;
 
 pub use canonical::printing::print;
 pub use fault::TextFault;
+pub use lexing::token::Sign;
+pub use lexing::words::{Beginning, beginning_of, is_reserved, reserved_words};
 pub use parsing::parse;

@@ -1,8 +1,8 @@
 -- What the words of a fault of the second part have to show.
 use Rattle.std.specs.Prelude.{ℕ, ◌≡◌, ◌<◌, ⊤, Bool, true, ◌&&◌, ◌||◌, List, ◌++◌, Option, Some, None, bytes_eq, codes, drop, length, nat_eq, take}
 use Rattle.std.specs.List.{starts_with}
-use Rattle.text_places.specs.Landmarks.{ends_line, HasNoRecord, IsRecordPlace}
-use Rattle.text_places.specs.Places.{HasNoLine, IsLineFront}
+use Rattle.text_places.specs.Landmarks.{HasNoRecord, IsRecordPlace}
+use Rattle.text_places.specs.Places.{ends_line, HasNoLine, IsLineFront}
 use Rattle.fault_words.specs.Pointing.{PointsAt}
 use Rattle.history_book.specs.declared.audit.AuditFault.{AuditFault}
 use Rattle.history_book.specs.declared.audit.AuditFault.TheVariants as a

@@ -6,18 +6,16 @@ use fault_words::{cell_text, program_name, region_text};
 use history_book::{Book, HistoryRow, Reason};
 use prog_check::ProgramSet;
 use std::alloc::{AllocError, Global};
+use text_places::push_listed;
 
 // An instance as a call.
 fn call_text(alloc: Global, set: &ProgramSet, row: &HistoryRow) -> Result<String, AllocError> {
     let name = program_name(set, row.program);
-    let mut text = format!(in alloc; "{name}(")?;
-    let mut comma = "";
+    let mut arguments = String::new(alloc);
     for argument in row.args.as_slice() {
-        write!(text, "{comma}{argument}")?;
-        comma = ", ";
+        push_listed(&mut arguments, &format!(in alloc; "{argument}")?)?;
     }
-    text.push_str(")")?;
-    Ok(text)
+    format!(in alloc; "{name}({arguments})")
 }
 
 // The words of a reason: what stands ahead of the second commit's number, and what stands behind it.

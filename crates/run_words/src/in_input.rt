@@ -1,36 +1,18 @@
 //! Places of a part of an input, with their lines in the part and in the whole input.
-ghost use Rattle.std.specs.Prelude.{◌≡◌, ◌≤◌, ◌+◌, IfOk, count_by, length, string_bytes, take};
-ghost use Rattle.text_places.specs.Places.{is_feed, line_number};
+ghost use Rattle.std.specs.Prelude.{◌≡◌, IfOk, string_bytes};
 ghost use Rattle.run_words.specs.InInput.{input_line, input_line_text, numbered_text, PointsInPart};
 
 use std::alloc::{AllocError, Global};
-use text_places::point_out;
-
-fn feeds(bytes: &[u8]) -> usize
-    ensures value { result ≡ count_by is_feed bytes.now }
-    ensures within { result ≤ length bytes.now }
-{
-    bytes.iter().filter(|byte| **byte == b'\n').count()
-}
-
-fn front(part: &[u8], place: usize) -> &[u8]
-    ensures { result.now ≡ take place part.now }
-{
-    if place < part.len() {
-        &part[..place]
-    } else {
-        part
-    }
-}
+use text_places::{before, feeds, point_out};
 
 // The line in the whole input, with the bytes of the input that stand ahead of the part.
 #[tactic(auto, using(crate::proofs::WholeInput::line_behind))]
 fn input_line(ahead: &[u8], part: &[u8], place: usize) -> usize
     ensures { result ≡ input_line ahead.now part.now place }
 {
-    let before = feeds(ahead);
-    let within = feeds(front(part, place));
-    before + within + 1
+    let feeds_ahead = feeds(ahead);
+    let feeds_within = feeds(before(part, place));
+    feeds_ahead + feeds_within + 1
 }
 
 fn numbered_text(alloc: Global, line: usize) -> Result<String, AllocError>

@@ -8,6 +8,7 @@ use prog_check::ProgramSet;
 use prog_tree::Name;
 use si_workers::{Job, JobEnd, JobOutcome};
 use std::alloc::{AllocError, Global};
+use text_places::push_listed;
 use version_store::Clash;
 
 // So many arguments are shown; a program has at most 8.
@@ -21,6 +22,14 @@ fn params_of(set: &ProgramSet, program: usize) -> &[Name] {
     }
 }
 
+// An argument of a call, with the name of its parameter.
+fn argument_text(alloc: Global, param: Option<&Name>, argument: i64) -> Result<String, AllocError> {
+    match param {
+        Some(name) => format!(in alloc; "{name} = {argument}"),
+        None => format!(in alloc; "{argument}"),
+    }
+}
+
 // The arguments of a call, with the names of the parameters.
 fn arguments_text(alloc: Global, params: &[Name], args: &[i64]) -> Result<String, AllocError> {
     let mut text = String::new(alloc);
@@ -29,11 +38,8 @@ fn arguments_text(alloc: Global, params: &[Name], args: &[i64]) -> Result<String
             text.push_str(", ..")?;
             return Ok(text);
         }
-        text.push_str(if index == 0 { "" } else { ", " })?;
-        match params.get(index) {
-            Some(name) => write!(text, "{name} = {argument}")?,
-            None => write!(text, "{argument}")?,
-        }
+        let argument = argument_text(alloc, params.get(index), *argument)?;
+        push_listed(&mut text, &argument)?;
     }
     Ok(text)
 }

@@ -1,18 +1,16 @@
 //! Words of a line, read just far enough to name them.
 
-use fault_words::as_text;
 use std::alloc::{AllocError, Global};
-use text_places::{line_at, line_front};
+use text_places::{as_text, before, behind, line_at, line_front};
 
 fn begins_word(line: &[u8], place: usize) -> bool {
-    let before = line.get(..place).unwrap_or(&[]);
-    line.get(place) != Some(&b' ') && !matches!(before, [.., last] if *last != b' ')
+    line.get(place) != Some(&b' ') && !matches!(before(line, place), [.., last] if *last != b' ')
 }
 
 fn word_at(line: &[u8], place: usize) -> &str {
-    let rest = line.get(place..).unwrap_or(&[]);
+    let rest = behind(line, place);
     let len = rest.iter().take_while(|byte| **byte != b' ').count();
-    as_text(rest.get(..len).unwrap_or(&[]))
+    as_text(before(rest, len))
 }
 
 /// The words of a line, which spaces part.

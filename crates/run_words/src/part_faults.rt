@@ -1,22 +1,11 @@
 //! What is wrong with the parts of an input, in words.
 ghost use Rattle.std.specs.Prelude.{◌≡◌, ◌<◌, IfNone, IfOk, IfSome, length, string_bytes};
-ghost use Rattle.text_places.specs.Landmarks.{ends_line};
 ghost use Rattle.fault_words.specs.Pointing.{PointsAt};
 ghost use Rattle.run_words.specs.PartPointing.{begins_separator, is_separator_at, HasNoSeparator, IsSeparatorPlace, PointsAtSeparator};
 
 use fault_words::point_at;
 use std::alloc::{AllocError, Global};
-use text_places::line_number;
-
-// Whether bytes end a line, as no bytes do.
-fn ends_line(bytes: &[u8]) -> bool
-    ensures { result ≡ ends_line bytes.now }
-{
-    match bytes {
-        [] => true,
-        [.., last] => *last == b'\n',
-    }
-}
+use text_places::{before, behind, ends_line, line_number};
 
 // Whether bytes begin with `%%`, where the line ends.
 fn begins_separator(bytes: &[u8]) -> bool
@@ -35,10 +24,10 @@ fn is_separator_at(input: &[u8], place: usize) -> bool
 
 // Whether a line begins at a place that has `%%` and more.
 fn is_near_separator_at(input: &[u8], place: usize) -> bool {
-    let behind = input.get(place..).unwrap_or(&[]);
-    let before = input.get(..place).unwrap_or(&[]);
-    matches!(behind, [b'%', b'%', ..] | [b' ', b'%', b'%', ..])
-        && !matches!(before, [.., last] if *last != b'\n')
+    matches!(
+        behind(input, place),
+        [b'%', b'%', ..] | [b' ', b'%', b'%', ..]
+    ) && ends_line(before(input, place))
 }
 
 // Where the line begins that was perhaps meant as `%%`.
@@ -66,7 +55,7 @@ pub fn missing_part_words(alloc: Global, input: &[u8], wanted: &str) -> Result<S
     let sentence = match near_separator(input) {
         Some(place) => {
             let line = line_number(input, place);
-            let excess = excess(input.get(place..).unwrap_or(&[]));
+            let excess = excess(behind(input, place));
             format!(in alloc;
                 "no line is `%%`, behind which {wanted} would stand; line {line} has {excess}"
             )?

@@ -11,7 +11,7 @@ use history_book::Book;
 use prog_check::ProgramSet;
 use si_engine::{Event, Reply};
 use std::alloc::{AllocError, Global};
-use text_places::line_front;
+use text_places::{line_front, push_listed};
 
 /// Why no instance begins where there are as many as there may be.
 pub const FULL: &str = "100000 instances have ended or are under way, the most";
@@ -192,17 +192,13 @@ impl Refusals {
 // A program with its parameters.
 fn signature(alloc: Global, set: &ProgramSet, program: usize) -> Result<String, AllocError> {
     let name = program_name(set, program);
-    let mut text = format!(in alloc; "{name}(")?;
-    let mut comma = "";
+    let mut params = String::new(alloc);
     if let Some(program) = set.draft().programs.get(program) {
         for parameter in &program.params {
-            let parameter = parameter.as_str();
-            write!(text, "{comma}{parameter}")?;
-            comma = ", ";
+            push_listed(&mut params, parameter.as_str())?;
         }
     }
-    text.push_str(")")?;
-    Ok(text)
+    format!(in alloc; "{name}({params})")
 }
 
 /// That a program takes another number of arguments.

@@ -1,60 +1,32 @@
 -- Where the tables, programs and statements of a set's text begin, and the records or the jobs of a list.
-use Rattle.std.specs.Prelude.{ℕ, zero, suc, ◌≡◌, ◌≤◌, ◌+◌, ◌-◌, ◌==◌, Bool, true, false, not, ◌&&◌, ◌||◌, List, [], ◌∷◌, codes, bytes_eq, drop, length, nat_le, take, if◌then◌else◌}
-use Rattle.std.specs.List.{list_all, prefix_len, suffix_len}
-use Rattle.text_places.specs.Places.{is_feed}
+use Rattle.std.specs.Prelude.{ℕ, zero, suc, ◌≡◌, ◌≤◌, ◌+◌, Bool, true, false, ◌&&◌, List, Option, Some, codes, bytes_eq, drop, length, if◌then◌else◌}
+use Rattle.prog_text.specs.Words.{beginning_of}
+use Rattle.prog_text.specs.declared.lexing.words.Beginning.{Beginning}
+use Rattle.prog_text.specs.declared.lexing.words.Beginning.TheVariants as b
+use Rattle.text_places.specs.Places.{begins_line}
+use Rattle.text_places.specs.Reading.{short_word, stands_free, without_comments}
 use Rattle.text_places.specs.declared.landmark.Landmark.{Landmark}
 use Rattle.text_places.specs.declared.landmark.Landmark.TheVariants.{Table, Program, Statement, Record, Job}
 
--- a letter, a digit or `_`
-abbrev pub is_word_byte : ℕ → Bool
-is_word_byte b = ((nat_le 65 b && nat_le b 90) || (nat_le 97 b && nat_le b 122)) || ((nat_le 48 b && nat_le b 57) || b == 95)
+abbrev pub is_table : Option Beginning → Bool
+is_table (Some b.Table) = true
+is_table other = false
 
--- a byte belongs to a comment: one is open, or the byte begins one, and no line feed ends it
-abbrev pub is_in_comment : (is_open : Bool) → ℕ → Bool
-is_in_comment is_open byte = not (is_feed byte) && (is_open || byte == 35)
+abbrev pub is_program : Option Beginning → Bool
+is_program (Some b.Program) = true
+is_program other = false
 
--- the bytes with a space for each one of a comment
-abbrev pub blank_from : (is_open : Bool) → List ℕ → List ℕ
-blank_from is_open [] = []
-blank_from is_open (byte ∷ bytes) =
-    (if is_in_comment is_open byte then 32 else byte) ∷ blank_from (is_in_comment is_open byte) bytes
+abbrev pub is_statement : Option Beginning → Bool
+is_statement (Some b.Statement) = true
+is_statement other = false
 
-abbrev pub without_comments : List ℕ → List ℕ
-without_comments text = blank_from false text
-
--- the word begins a statement
-abbrev pub begins_statement : List ℕ → Bool
-begins_statement word =
-    (bytes_eq word (codes "let") || (bytes_eq word (codes "lacks") || bytes_eq word (codes "put")))
-    || ((bytes_eq word (codes "insert") || (bytes_eq word (codes "delete") || bytes_eq word (codes "keep")))
-    || ((bytes_eq word (codes "if") || bytes_eq word (codes "each")) || (bytes_eq word (codes "reply") || bytes_eq word (codes "abort"))))
-
+-- with the word one of a kind begins
 abbrev pub is_sign_of : Landmark → List ℕ → Bool
-is_sign_of Table word = bytes_eq word (codes "table")
-is_sign_of Program word = bytes_eq word (codes "program")
-is_sign_of Statement word = begins_statement word
+is_sign_of Table word = is_table (beginning_of word)
+is_sign_of Program word = is_program (beginning_of word)
+is_sign_of Statement word = is_statement (beginning_of word)
 is_sign_of Record word = bytes_eq word (codes "record")
 is_sign_of Job word = bytes_eq word (codes "job")
-
--- the word at the front, of which eight bytes tell whether it is one of these
-abbrev pub first_word : List ℕ → List ℕ
-first_word bytes = take (prefix_len is_word_byte (take 8 bytes)) (take 8 bytes)
-
--- no word goes on at the place
-abbrev pub stands_free : (text : List ℕ) → (place : ℕ) → Bool
-stands_free text place = suffix_len is_word_byte (take place text) == 0
-
-abbrev pub is_space : ℕ → Bool
-is_space byte = byte == 32
-
--- there are no bytes, or a line feed is the last
-abbrev pub ends_line : List ℕ → Bool
-ends_line bytes = list_all is_feed (drop (length bytes - 1) bytes)
-
--- in its line only spaces stand before the place
-abbrev pub begins_line : (text : List ℕ) → (place : ℕ) → Bool
-begins_line text place =
-    ends_line (take (length (take place text) - suffix_len is_space (take place text)) (take place text))
 
 -- a record and a job are a line each, and what else there is may stand anywhere in one
 abbrev pub begins_here : Landmark → (text : List ℕ) → (place : ℕ) → Bool
@@ -65,7 +37,7 @@ begins_here Record text place = begins_line text place
 begins_here Job text place = begins_line text place
 
 abbrev pub is_landmark : Landmark → (text : List ℕ) → (place : ℕ) → Bool
-is_landmark kind text place = is_sign_of kind (first_word (drop place text)) && begins_here kind text place
+is_landmark kind text place = is_sign_of kind (short_word (drop place text)) && begins_here kind text place
 
 -- how many of a kind begin before a place
 abbrev pub landmarks_before : Landmark → (text : List ℕ) → (place : ℕ) → ℕ

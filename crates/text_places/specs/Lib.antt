@@ -1,3 +1,6 @@
 pub mod Landmarks
+pub mod Listing
 pub mod Places
 pub mod Quotes
+pub mod Reading
+pub mod Tokens

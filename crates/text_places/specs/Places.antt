@@ -1,6 +1,6 @@
 -- Where a byte of a text stands: its line, its column, and the line as people see it.
 use Rattle.std.specs.Prelude.{ℕ, ◌≡◌, ◌<◌, ◌+◌, ◌-◌, ◌==◌, Bool, not, List, count_by, drop, length, take}
-use Rattle.std.specs.List.{before_first, suffix_len}
+use Rattle.std.specs.List.{before_first, list_all, suffix_len}
 
 abbrev pub is_feed : ℕ → Bool
 is_feed byte = byte == 10
@@ -12,6 +12,18 @@ is_inline byte = not (is_feed byte)
 -- lines are counted from 1: one more than the line feeds before the place
 abbrev pub line_number : (text : List ℕ) → (place : ℕ) → ℕ
 line_number text place = count_by is_feed (take place text) + 1
+
+-- there are no bytes, or a line feed is the last
+abbrev pub ends_line : List ℕ → Bool
+ends_line bytes = list_all is_feed (drop (length bytes - 1) bytes)
+
+abbrev pub is_space : ℕ → Bool
+is_space byte = byte == 32
+
+-- in its line only spaces stand before the place
+abbrev pub begins_line : (text : List ℕ) → (place : ℕ) → Bool
+begins_line text place =
+    ends_line (take (length (take place text) - suffix_len is_space (take place text)) (take place text))
 
 -- how many bytes of its line stand before the place
 abbrev pub inset : (text : List ℕ) → (place : ℕ) → ℕ

@@ -1,14 +1,21 @@
-//! Where things stand in a text, for people: lines and columns, a line with a mark under a place, and where
-//! tables, programs, statements, records and jobs begin.
+//! The reading of texts for people, which may have any fault: words, signs, blanks and comments;
+//! lines and columns, a line with a mark under a place; and where tables, programs, statements,
+//! records and jobs begin.
 #![tactic(auto)]
 
 mod landmark;
 mod limits;
+mod listing;
 mod place;
 mod quote;
+mod reading;
+mod tokens;
 
-pub use landmark::{
-    job_place, program_place, record_place, statement_place, table_place, without_comments,
-};
-pub use place::{column, line_at, line_front, line_number};
+pub use landmark::{job_place, program_place, record_place, statement_place, table_place};
+pub use listing::push_listed;
+pub use place::{before, behind, column, ends_line, feeds, line_at, line_front, line_number};
 pub use quote::point_out;
+pub use reading::{
+    begins_word, behind_word, end_before, first_word, short_word, stands_free, without_comments,
+};
+pub use tokens::{as_text, begins_token, first_token, last_token, second_token, table_name};

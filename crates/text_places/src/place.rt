@@ -1,7 +1,7 @@
 //! The line and the column of a place. A place behind the end of a text stands for its end.
-ghost use Rattle.std.specs.Prelude.{◌≡◌, ◌≤◌, drop, length, take, IfNone, IfSome};
-ghost use Rattle.std.specs.List.{before_first, prefix_len};
-ghost use Rattle.text_places.specs.Places.{column, inset, is_feed, is_inline, line_at, line_number, line_start, HasNoLine, IsLineFront};
+ghost use Rattle.std.specs.Prelude.{◌≡◌, ◌≤◌, count_by, drop, length, take, IfNone, IfSome};
+ghost use Rattle.std.specs.List.{before_first, prefix_len, suffix_len};
+ghost use Rattle.text_places.specs.Places.{begins_line, column, ends_line, inset, is_feed, is_inline, is_space, line_at, line_number, line_start, HasNoLine, IsLineFront};
 
 /// The bytes before a place.
 pub fn before(text: &[u8], place: usize) -> &[u8]
@@ -31,15 +31,55 @@ pub fn is_feed(byte: u8) -> bool
     byte == b'\n'
 }
 
+/// How many line feeds there are.
+pub fn feeds(bytes: &[u8]) -> usize
+    ensures value { result ≡ count_by is_feed bytes.now }
+    ensures within { result ≤ length bytes.now }
+{
+    bytes.iter().filter(|byte| is_feed(**byte)).count()
+}
+
 /// The line of a place, from 1.
 pub fn line_number(text: &[u8], place: usize) -> usize
     ensures { result ≡ line_number text.now place }
 {
-    let feeds = before(text, place)
+    feeds(before(text, place)) + 1
+}
+
+/// Whether bytes end a line, as no bytes do.
+pub fn ends_line(bytes: &[u8]) -> bool
+    ensures { result ≡ ends_line bytes.now }
+{
+    match bytes {
+        [] => true,
+        [.., last] => is_feed(*last),
+    }
+}
+
+fn is_space(byte: u8) -> bool
+    ensures { result ≡ is_space byte }
+{
+    byte == b' '
+}
+
+// How many spaces stand at the end.
+fn last_spaces(bytes: &[u8]) -> usize
+    ensures value { result ≡ suffix_len is_space bytes.now }
+    ensures within { result ≤ length bytes.now }
+{
+    bytes
         .iter()
-        .filter(|byte| is_feed(**byte))
-        .count();
-    feeds + 1
+        .rev()
+        .take_while(|byte| is_space(**byte))
+        .count()
+}
+
+/// Whether in its line only spaces stand before a place.
+pub fn begins_line(text: &[u8], place: usize) -> bool
+    ensures { result ≡ begins_line text.now place }
+{
+    let front = before(text, place);
+    ends_line(before(front, front.len() - last_spaces(front)))
 }
 
 /// How many bytes of its line stand before a place.

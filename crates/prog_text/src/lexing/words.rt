@@ -1,39 +1,49 @@
-//! The words of the language.
+//! The reserved words of the language, and what each of them begins.
 
 ghost use Rattle.std.specs.Prelude.{◌≡◌, true, map};
 ghost use Rattle.std.specs.List.{list_all};
 ghost use Rattle.prog_text.specs.Lexing.{is_word_byte, word_token};
-ghost use Rattle.prog_text.specs.Spelling.{sign_in};
+ghost use Rattle.prog_text.specs.Spelling.{reserved_words, sign_in, spelling};
+ghost use Rattle.prog_text.specs.Words.{beginning_of, begun_by, is_reserved};
+ghost use Rattle.prog_text.specs.declared.lexing.token.Token.TheVariants as t;
 ghost use Rattle.prog_text.specs.declared.lexing.words.TheConstants.{RESERVED};
 
 use crate::lexing::token::{Sign, Token, Word};
 
+/// What a word begins in the text of a set.
+#[derive(Clone, Copy, Debug, PartialEq, Eq)]
+pub enum Beginning {
+    Table,
+    Program,
+    Statement,
+}
+
 // The words that are no names.
-const RESERVED: [(&[u8], Sign); 24] = [
-    (b"table", Sign::Table),
-    (b"grow", Sign::Grow),
-    (b"program", Sign::Program),
-    (b"let", Sign::Let),
-    (b"get", Sign::Get),
-    (b"need", Sign::Need),
-    (b"count", Sign::Count),
-    (b"sum", Sign::Sum),
-    (b"lacks", Sign::Lacks),
-    (b"put", Sign::Put),
-    (b"insert", Sign::Insert),
-    (b"delete", Sign::Delete),
-    (b"keep", Sign::Keep),
-    (b"if", Sign::If),
-    (b"else", Sign::Else),
-    (b"reply", Sign::Reply),
-    (b"abort", Sign::Abort),
-    (b"or", Sign::Or),
-    (b"and", Sign::And),
-    (b"not", Sign::Not),
-    (b"least", Sign::Least),
-    (b"greatest", Sign::Greatest),
-    (b"each", Sign::Each),
-    (b"in", Sign::In),
+const RESERVED: [(&str, Sign); 24] = [
+    ("table", Sign::Table),
+    ("grow", Sign::Grow),
+    ("program", Sign::Program),
+    ("let", Sign::Let),
+    ("get", Sign::Get),
+    ("need", Sign::Need),
+    ("count", Sign::Count),
+    ("sum", Sign::Sum),
+    ("lacks", Sign::Lacks),
+    ("put", Sign::Put),
+    ("insert", Sign::Insert),
+    ("delete", Sign::Delete),
+    ("keep", Sign::Keep),
+    ("if", Sign::If),
+    ("else", Sign::Else),
+    ("each", Sign::Each),
+    ("reply", Sign::Reply),
+    ("abort", Sign::Abort),
+    ("or", Sign::Or),
+    ("and", Sign::And),
+    ("not", Sign::Not),
+    ("least", Sign::Least),
+    ("greatest", Sign::Greatest),
+    ("in", Sign::In),
 ];
 
 // Bytes of a word are ASCII, so they are text as they stand.
@@ -45,11 +55,11 @@ fn word(bytes: &[u8]) -> Word<'_>
 }
 
 // The sign that a table has for a word, by its first entry.
-fn lookup(mut table: &[(&[u8], Sign)], bytes: &[u8]) -> Option<Sign>
+fn lookup(mut table: &[(&str, Sign)], bytes: &[u8]) -> Option<Sign>
     ensures { result ≡ sign_in (map (λ entry. (entry.0.now, entry.1)) table.entry.now) bytes.now }
 {
     while let [entry, rest @ ..] = table {
-        if bytes == entry.0 {
+        if bytes == entry.0.as_bytes() {
             return Some(entry.1);
         }
         table = rest;
@@ -65,5 +75,50 @@ pub fn word_token(bytes: &[u8]) -> Token<'_>
     match lookup(&RESERVED, bytes) {
         Some(sign) => Token::Sign(sign),
         None => Token::Name(word(bytes)),
+    }
+}
+
+/// The reserved words, in the order in which people are told of them.
+pub fn reserved_words() -> &'static [(&'static str, Sign)]
+    ensures { map (λ entry. entry.0.now) result.now ≡ map spelling reserved_words }
+{
+    &RESERVED
+}
+
+/// Whether a word is reserved.
+pub fn is_reserved(word: &[u8]) -> bool
+    ensures { result ≡ is_reserved word.now }
+{
+    lookup(&RESERVED, word).is_some()
+}
+
+// What begins with a sign.
+fn begun_by(sign: Sign) -> Option<Beginning>
+    ensures { result ≡ begun_by (t.Sign sign) }
+{
+    match sign {
+        Sign::Table => Some(Beginning::Table),
+        Sign::Program => Some(Beginning::Program),
+        Sign::Let
+        | Sign::Lacks
+        | Sign::Put
+        | Sign::Insert
+        | Sign::Delete
+        | Sign::Keep
+        | Sign::If
+        | Sign::Each
+        | Sign::Reply
+        | Sign::Abort => Some(Beginning::Statement),
+        _ => None,
+    }
+}
+
+/// What a word begins.
+pub fn beginning_of(word: &[u8]) -> Option<Beginning>
+    ensures { result ≡ beginning_of word.now }
+{
+    match lookup(&RESERVED, word) {
+        Some(sign) => begun_by(sign),
+        None => None,
     }
 }

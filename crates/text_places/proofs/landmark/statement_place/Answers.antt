@@ -1,6 +1,7 @@
 use Rattle.std.proofs.Common.{◌≡◌, ◌∙◌, ℕ, List, Option, Some, None, IfNone, subst}
 use Rattle.text_places.specs.declared.landmark.Landmark.TheVariants.{Program, Statement}
-use Rattle.text_places.specs.Landmarks.{without_comments, FewBehind, HasFewer, HasNoStatement, IsNumbered, IsProgramPlace}
+use Rattle.text_places.specs.Reading.{without_comments}
+use Rattle.text_places.specs.Landmarks.{FewBehind, HasFewer, HasNoStatement, IsNumbered, IsProgramPlace}
 use Rattle.text_places.proofs.landmark.statement_place.Goals as goal
 
 few_behind : (text bytes : List ℕ) (program statement start : ℕ) (place : Option ℕ) → IsProgramPlace text program start

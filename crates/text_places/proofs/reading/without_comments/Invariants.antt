@@ -1,6 +1,6 @@
 use Rattle.std.proofs.Common.{◌≡◌, ◌++◌, drop, false}
-use Rattle.text_places.specs.Landmarks.{blank_from}
-use Rattle.text_places.proofs.landmark.without_comments.Given as goal
+use Rattle.text_places.specs.Reading.{blank_from}
+use Rattle.text_places.proofs.reading.without_comments.Given as goal
 
 -- the bytes so far, and what is left
 abbrev pub invariant-loop-byte : goal.invariant-loop-byte

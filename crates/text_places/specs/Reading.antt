@@ -1,0 +1,59 @@
+-- The words, blanks and comments of a text that may have any fault.
+use Rattle.std.specs.Prelude.{ℕ, ◌-◌, ◌==◌, Bool, false, not, ◌&&◌, ◌||◌, List, [], ◌∷◌, drop, length, nat_le, take, if◌then◌else◌}
+use Rattle.std.specs.List.{prefix_len, suffix_len}
+use Rattle.text_places.specs.Places.{is_feed}
+
+-- a letter, a digit or `_`
+abbrev pub is_word_byte : ℕ → Bool
+is_word_byte b = ((nat_le 65 b && nat_le b 90) || (nat_le 97 b && nat_le b 122)) || ((nat_le 48 b && nat_le b 57) || b == 95)
+
+-- what separates words and signs
+abbrev pub is_blank : ℕ → Bool
+is_blank byte = (byte == 32 || byte == 9) || (byte == 10 || byte == 13)
+
+-- a byte belongs to a comment: one is open, or the byte begins one, and no line feed ends it
+abbrev pub is_in_comment : (is_open : Bool) → ℕ → Bool
+is_in_comment is_open byte = not (is_feed byte) && (is_open || byte == 35)
+
+-- the bytes with a space for each one of a comment
+abbrev pub blank_from : (is_open : Bool) → List ℕ → List ℕ
+blank_from is_open [] = []
+blank_from is_open (byte ∷ bytes) =
+    (if is_in_comment is_open byte then 32 else byte) ∷ blank_from (is_in_comment is_open byte) bytes
+
+abbrev pub without_comments : List ℕ → List ℕ
+without_comments text = blank_from false text
+
+abbrev pub behind_blanks : List ℕ → List ℕ
+behind_blanks bytes = drop (prefix_len is_blank bytes) bytes
+
+abbrev pub before_blanks : List ℕ → List ℕ
+before_blanks bytes = take (length bytes - suffix_len is_blank bytes) bytes
+
+-- the word at the front
+abbrev pub first_word : List ℕ → List ℕ
+first_word bytes = take (prefix_len is_word_byte bytes) bytes
+
+-- the word at the front, of which eight bytes tell whether it is one of at most seven
+abbrev pub short_word : List ℕ → List ℕ
+short_word bytes = first_word (take 8 bytes)
+
+-- the word at the end
+abbrev pub last_word : List ℕ → List ℕ
+last_word bytes = drop (length bytes - suffix_len is_word_byte bytes) bytes
+
+-- the bytes behind the word at the front and the blanks that follow it
+abbrev pub behind_word : List ℕ → List ℕ
+behind_word bytes = behind_blanks (drop (prefix_len is_word_byte bytes) bytes)
+
+-- no word goes on at the place
+abbrev pub stands_free : (text : List ℕ) → (place : ℕ) → Bool
+stands_free text place = suffix_len is_word_byte (take place text) == 0
+
+-- a word begins here
+abbrev pub begins_word : (text : List ℕ) → (place : ℕ) → Bool
+begins_word text place = stands_free text place && not (prefix_len is_word_byte (drop place text) == 0)
+
+-- where the last word or sign before a place ends: behind it stand only blanks and comments
+abbrev pub end_before : (text : List ℕ) → (place : ℕ) → ℕ
+end_before text place = length (take place (without_comments text)) - suffix_len is_blank (take place (without_comments text))

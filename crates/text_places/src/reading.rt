@@ -1,0 +1,142 @@
+//! The words, blanks and comments of a text that may have any fault: nothing is refused here.
+ghost use Rattle.std.specs.Prelude.{◌≡◌, ◌≤◌, length, take, IfOk};
+ghost use Rattle.std.specs.List.{prefix_len, suffix_len};
+ghost use Rattle.text_places.specs.Reading.{before_blanks, begins_word, behind_blanks, behind_word, end_before, first_word, is_blank, is_in_comment, is_word_byte, last_word, short_word, stands_free, without_comments};
+
+use crate::place::{before, behind};
+use std::alloc::{AllocError, Global};
+
+pub fn is_word_byte(byte: u8) -> bool
+    ensures { result ≡ is_word_byte byte }
+{
+    byte.is_ascii_alphanumeric() || byte == b'_'
+}
+
+pub fn is_blank(byte: u8) -> bool
+    ensures { result ≡ is_blank byte }
+{
+    (byte == b' ' || byte == b'\t') || (byte == b'\n' || byte == b'\r')
+}
+
+fn is_in_comment(is_open: bool, byte: u8) -> bool
+    ensures { result ≡ is_in_comment is_open byte }
+{
+    byte != b'\n' && (is_open || byte == b'#')
+}
+
+/// The text with spaces for its comments.
+pub fn without_comments(alloc: Global, text: &[u8]) -> Result<Vec<u8>, AllocError>
+    ensures { IfOk result (λ blanked. blanked.items ≡ without_comments text.now) }
+{
+    let mut blanked = Vec::with_capacity(alloc, text.len())?;
+    let mut is_open = false;
+    for byte in text {
+        is_open = is_in_comment(is_open, *byte);
+        blanked.push(if is_open { b' ' } else { *byte })?;
+    }
+    Ok(blanked)
+}
+
+/// How many bytes the word at the front has.
+pub fn word_len(bytes: &[u8]) -> usize
+    ensures value { result ≡ prefix_len is_word_byte bytes.now }
+    ensures within { result ≤ length bytes.now }
+{
+    bytes.iter().take_while(|byte| is_word_byte(**byte)).count()
+}
+
+/// How many bytes the word at the end has.
+pub fn last_len(bytes: &[u8]) -> usize
+    ensures value { result ≡ suffix_len is_word_byte bytes.now }
+    ensures within { result ≤ length bytes.now }
+{
+    bytes
+        .iter()
+        .rev()
+        .take_while(|byte| is_word_byte(**byte))
+        .count()
+}
+
+// How many bytes at the end separate tokens.
+fn last_blanks(bytes: &[u8]) -> usize
+    ensures value { result ≡ suffix_len is_blank bytes.now }
+    ensures within { result ≤ length bytes.now }
+{
+    bytes
+        .iter()
+        .rev()
+        .take_while(|byte| is_blank(**byte))
+        .count()
+}
+
+// How many bytes at the front separate tokens.
+fn first_blanks(bytes: &[u8]) -> usize
+    ensures { result ≡ prefix_len is_blank bytes.now }
+{
+    bytes.iter().take_while(|byte| is_blank(**byte)).count()
+}
+
+/// The bytes behind the blanks at the front.
+pub fn behind_blanks(bytes: &[u8]) -> &[u8]
+    ensures { result.now ≡ behind_blanks bytes.now }
+{
+    behind(bytes, first_blanks(bytes))
+}
+
+/// The bytes before the blanks at the end.
+pub fn before_blanks(bytes: &[u8]) -> &[u8]
+    ensures { result.now ≡ before_blanks bytes.now }
+{
+    before(bytes, bytes.len() - last_blanks(bytes))
+}
+
+/// The word at the front, empty where there is none.
+pub fn first_word(bytes: &[u8]) -> &[u8]
+    ensures { result.now ≡ first_word bytes.now }
+{
+    before(bytes, word_len(bytes))
+}
+
+/// The word at the front, or eight bytes of it: these tell whether it is a word of at most seven.
+pub fn short_word(bytes: &[u8]) -> &[u8]
+    ensures { result.now ≡ short_word bytes.now }
+{
+    first_word(before(bytes, 8))
+}
+
+/// The word at the end, empty where there is none.
+pub fn last_word(bytes: &[u8]) -> &[u8]
+    ensures { result.now ≡ last_word bytes.now }
+{
+    behind(bytes, bytes.len() - last_len(bytes))
+}
+
+/// Whether no word goes on at a place.
+pub fn stands_free(text: &[u8], place: usize) -> bool
+    ensures { result ≡ stands_free text.now place }
+{
+    last_len(before(text, place)) == 0
+}
+
+/// Whether a word begins at a place.
+pub fn begins_word(text: &[u8], place: usize) -> bool
+    ensures { result ≡ begins_word text.now place }
+{
+    stands_free(text, place) && word_len(behind(text, place)) != 0
+}
+
+/// The bytes behind the first word and the blanks that follow it.
+pub fn behind_word(bytes: &[u8]) -> &[u8]
+    ensures { result.now ≡ behind_word bytes.now }
+{
+    behind_blanks(behind(bytes, word_len(bytes)))
+}
+
+/// Where the last word or sign before a place ends, in a text or in one without comments.
+pub fn end_before(alloc: Global, text: &[u8], place: usize) -> Result<usize, AllocError>
+    ensures { IfOk result (λ end. end ≡ end_before text.now place) }
+{
+    let plain = without_comments(alloc, text)?;
+    let front = before(&plain, place);
+    Ok(front.len() - last_blanks(front))
+}
