@@ -1,6 +1,6 @@
 -- The lines of an outcome are those of the run.
 use Rattle.std.proofs.Common.{◌≡◌, List, [], ◌∷◌, ◌++◌, ℕ, length, refl, ap, sym, ◌∙◌, subst, Result, Err, IfOk, Bool, true, false}
-use Rattle.std.specs.Prelude.{Some, Option}
+use Rattle.std.specs.Prelude.{Some}
 use Rattle.std.specs.List.{zip}
 use Rattle.prog_tree.specs.declared.program.Draft.{Draft}
 use Rattle.prog_tree.specs.Syntax.{DraftTree}
@@ -9,17 +9,14 @@ use Rattle.prog_tree.specs.Table.{TableState}
 use Rattle.history_book.specs.Dependencies.{depends}
 use Rattle.history_book.specs.Orders.{least_order}
 use Rattle.si_engine.specs.declared.event.Event.{Event}
-use Rattle.si_engine.specs.declared.output.finding.Finding.{Finding}
 use Rattle.si_engine.specs.declared.output.finding.Finding.TheVariants.{Order}
 use Rattle.si_engine.specs.declared.robust.run.Outcome.{Outcome}
 use Rattle.si_engine.specs.declared.input.script.Script.{Script}
-use Rattle.si_engine.specs.declared.input.script_fault.ScriptFault.{ScriptFault}
 use Rattle.si_engine.specs.Headline.{Headline}
 use Rattle.si_engine.specs.LastLine.{last_line}
 use Rattle.si_engine.specs.Machine.{Machine, new_machine, machine_step, machine_after, replies_of}
 use Rattle.si_engine.specs.Printed.{reply_line}
 use Rattle.si_engine.specs.Runs.{event_lines, exchange_lines, row_lines, outcome_lines, run_lines, history_of_run, Adds, AddsFirst, AddsRun}
-use Rattle.si_engine.specs.Writing.{IsJust, WritesOr}
 
 lines_said : (set : DraftTree) (opening : TableState) (events : List Event) (s : Machine) →
     exchange_lines set.tables (zip events (replies_of set opening events s)) ≡ event_lines set opening events s
@@ -69,12 +66,3 @@ module _ (set given : Draft) (script : Script) (o : Outcome) (first second : Lis
 
   pub first_added : (s t : List ℕ) → AddsFirst handed_on s t → AddsFirst (run_lines (draft_tree set) script) s t
   first_added s t first = adds_first (draft_tree set) script o is_headline s t (subst (λ lines. AddsFirst lines s t) lines_are first)
-
--- what was found is told, where the sink did not fail
-pub found_stays : (lost : ScriptFault) (bytes : List ℕ) (end ended : Result Finding ScriptFault) (failed : Bool) (old new : Option (List ℕ)) →
-    IfOk end (λ finding. finding ≡ Order) → WritesOr (Err lost) (IsJust bytes end) failed old new ended →
-    IfOk ended (λ finding. finding ≡ Order)
-found_stays lost bytes end ended false old new is (written, just, appends) =
-    subst (λ (e : Result Finding ScriptFault). IfOk e (λ finding. finding ≡ Order)) (sym just.1) is
-found_stays lost bytes end ended true old new is (lost_is, written, meant, just, appends) =
-    subst (λ (e : Result Finding ScriptFault). IfOk e (λ finding. finding ≡ Order)) (sym lost_is) tt

@@ -3,6 +3,7 @@ use Rattle.std.specs.Prelude.{ℕ, List, [], ◌∷◌, Option, Result, Ok, Err,
 use Rattle.std.specs.Option.{ok_or}
 use Rattle.prog_tree.specs.Syntax.{DraftTree}
 use Rattle.prog_check.specs.Faults.{program_names}
+use Rattle.si_engine.specs.declared.input.command.ProgramCall.{ProgramCall}
 use Rattle.si_engine.specs.declared.input.command.Command.{Command}
 use Rattle.si_engine.specs.declared.input.command.Command.TheVariants.{Skip, Row, Begin, BeginAt, Step, Commit, Abort, Vacuum}
 use Rattle.si_engine.specs.declared.input.script_fault.LineFault.{LineFault}
@@ -18,22 +19,27 @@ row_command draft line words = do
   row ← row_line_of draft line words
   Ok (Row row)
 
--- the words behind `begin`: PROGRAM ARG*
-unfoldable pub begin_command : DraftTree → (line : ℕ) → List (List ℕ) → Result Command LineFault
-begin_command draft line [] = Err (BadLine line)
-begin_command draft line (name ∷ words) = do
+-- PROGRAM ARG*: a program by its name, and its arguments
+unfoldable pub call_of : DraftTree → (line : ℕ) → List (List ℕ) → Result ProgramCall LineFault
+call_of draft line [] = Err (BadLine line)
+call_of draft line (name ∷ words) = do
   args ← ok_or (numbers_of words) (BadLine line)
   program ← ok_or (number_named (program_names draft) name) (UnknownName line)
-  Ok (Begin program args)
+  Ok (record { program = program; args = args })
+
+-- the words behind `begin`: PROGRAM ARG*
+unfoldable pub begin_command : DraftTree → (line : ℕ) → List (List ℕ) → Result Command LineFault
+begin_command draft line words = do
+  call ← call_of draft line words
+  Ok (Begin call.program call.args)
 
 -- the words behind `begin-at`: START PROGRAM ARG*
 unfoldable pub begin_at_command : DraftTree → (line : ℕ) → List (List ℕ) → Result Command LineFault
-begin_at_command draft line (start ∷ name ∷ words) = do
+begin_at_command draft line [] = Err (BadLine line)
+begin_at_command draft line (start ∷ words) = do
   number ← ok_or (u64_of start) (BadLine line)
-  args ← ok_or (numbers_of words) (BadLine line)
-  program ← ok_or (number_named (program_names draft) name) (UnknownName line)
-  Ok (BeginAt number program args)
-begin_at_command draft line words = Err (BadLine line)
+  call ← call_of draft line words
+  Ok (BeginAt number call.program call.args)
 
 -- the number of an instance
 abbrev pub instance_of : List ℕ → Option ℕ

@@ -6,7 +6,9 @@ use Rattle.prog_tree.specs.ChangeSet.{changed}
 use Rattle.prog_tree.specs.Evaluation.{Evaluation}
 use Rattle.prog_tree.specs.Syntax.{DraftTree}
 use Rattle.prog_tree.specs.Table.{TableState}
+use Rattle.history_book.specs.Dependencies.{depends}
 use Rattle.history_book.specs.History.{eval_found, state_after}
+use Rattle.history_book.specs.Orders.{least_order}
 use Rattle.history_book.specs.Serial.{is_each_once}
 use Rattle.si_engine.specs.declared.event.Event.{Event}
 use Rattle.si_engine.specs.declared.event.Event.TheVariants as event
@@ -92,6 +94,12 @@ pub record Headline (set : DraftTree) (opening : TableState) (events : List Even
   pub once : is_each_once (length o.committed) o.order ≡ true
   pub serial : RunsAlong set (zip events o.replies) o.committed o.table o.order opening
   pub table : o.table ≡ rows_of_machine set opening (machine_after set opening events new_machine)
+
+-- the order is the least serial order of what the machine committed
+abbrev pub IsLeastOrdered : DraftTree → TableState → List Event → Outcome → Type 0
+IsLeastOrdered set opening events o =
+    let h = (machine_after set opening events new_machine).history in
+    least_order (depends set opening h) (length h) ≡ Some o.order
 
 -- ---- the instances that committed
 

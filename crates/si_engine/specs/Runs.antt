@@ -19,6 +19,7 @@ use Rattle.si_engine.specs.Machine.{Machine, new_machine, machine_step, machine_
 use Rattle.si_engine.specs.Printed.{reply_line, row_line}
 use Rattle.si_engine.specs.Reading.{ForInput}
 use Rattle.si_engine.specs.Script.{IsScript, IsScriptFault}
+use Rattle.si_engine.specs.Writing.{WritesOr}
 
 -- one line for each event that the machine is handed: what it answers
 abbrev pub event_lines : DraftTree → TableState → List Event → Machine → List (List ℕ)
@@ -102,3 +103,14 @@ abbrev pub IsOrderedReply :
     DraftTree → (left : Option (List ℕ)) → (failed : Bool) → List ℕ → Result Finding ScriptFault → Type 0
 IsOrderedReply set left failed written ended =
     IsRunReply set left failed written ended × IfOk ended (λ finding. finding ≡ Order)
+
+-- A script is run from a source to a sink: the sink gets what such a run writes, and the run's end is told; or the sink
+-- failed, has some first of it, and that is told.
+abbrev pub IsScriptRun :
+    DraftTree → (left : Option (List ℕ)) → (failed lost : Bool) → (old new : Option (List ℕ)) → Result Finding ScriptFault → Type 0
+IsScriptRun set left failed lost old new ended = WritesOr (Err fault.WriteFault) (IsRunReply set left failed) lost old new ended
+
+-- and so on a robust set, where a run that ends well ends in an order
+abbrev pub IsRobustScriptRun :
+    DraftTree → (left : Option (List ℕ)) → (failed lost : Bool) → (old new : Option (List ℕ)) → Result Finding ScriptFault → Type 0
+IsRobustScriptRun set left failed lost old new ended = WritesOr (Err fault.WriteFault) (IsOrderedReply set left failed) lost old new ended

@@ -131,8 +131,7 @@ impl<'a> Engine<'a> {
         ensures { IfOk result (λ rows. let h = self.now.machine.history in
             rows ≡ state_after (draft_tree self.now.set) self.now.opening h (length h)) }
     {
-        let rows = self.book.table()?;
-        Ok(rows)
+        self.book.table()
     }
 
     fn begin(&mut self, program: usize, args: &[i64]) -> Result<Reply, AllocError>
@@ -251,26 +250,14 @@ impl<'a> Engine<'a> {
         ensures memory { OnErr result (MayLackMemory event.now self.old) }
     {
         match event {
-            Event::Begin { program, args } => {
-                let reply = self.begin(*program, args.as_slice())?;
-                Ok(reply)
-            }
+            Event::Begin { program, args } => self.begin(*program, args.as_slice()),
             Event::BeginAt {
                 start,
                 program,
                 args,
-            } => {
-                let reply = self.begin_at(*start, *program, args.as_slice())?;
-                Ok(reply)
-            }
-            Event::Step(number) => {
-                let reply = self.step(*number)?;
-                Ok(reply)
-            }
-            Event::Commit(number) => {
-                let reply = self.commit(*number)?;
-                Ok(reply)
-            }
+            } => self.begin_at(*start, *program, args.as_slice()),
+            Event::Step(number) => self.step(*number),
+            Event::Commit(number) => self.commit(*number),
             Event::Abort(number) => Ok(self.abort(*number)),
             Event::Vacuum => Ok(self.vacuum()),
         }

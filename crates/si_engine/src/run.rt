@@ -3,7 +3,7 @@ ghost use Rattle.std.specs.Prelude.{◌≡◌, ◌≤◌, ◌+◌, [], false, tr
 ghost use Rattle.prog_tree.specs.Tree.{draft_tree};
 ghost use Rattle.si_engine.specs.Machine.{machine_after};
 ghost use Rattle.si_engine.specs.Reading.{ForInput};
-ghost use Rattle.si_engine.specs.Runs.{event_lines, run_lines, Adds, AddsFirst, AddsRun, IsRunOf, IsUnreadRun, IsRunReply};
+ghost use Rattle.si_engine.specs.Runs.{event_lines, run_lines, Adds, AddsFirst, AddsRun, IsRunOf, IsScriptRun, IsUnreadRun};
 ghost use Rattle.si_engine.specs.View.{StaysOver};
 ghost use Rattle.si_engine.specs.Writing.{IsJust, WritesOr};
 
@@ -85,8 +85,7 @@ fn run_source<S: Source, W: Witness>(
     ensures reads { S.pulls source.new ≤ S.pulls source.old + MAX_READS }
 {
     let script = read_script(alloc, set, source)?;
-    let finding = push_lines(alloc, set, script, out, witness)?;
-    Ok(finding)
+    Ok(push_lines(alloc, set, script, out, witness)?)
 }
 
 /// Writes bytes, and answers with the end that is given, or that the sink failed.
@@ -112,8 +111,7 @@ pub fn run_script_before<S: Source, K: Sink, W: Witness>(
     sink: &mut K,
     witness: &mut W,
 ) -> Result<Finding, ScriptFault>
-    ensures run { WritesOr (Err ScriptFault.WriteFault)
-        (IsRunReply (draft_tree set.now) (S.left source.old) (S.has_failed source.new))
+    ensures run { IsScriptRun (draft_tree set.now) (S.left source.old) (S.has_failed source.new)
         (K.has_failed sink.new) (K.taken sink.old) (K.taken sink.new) result }
     ensures reads { S.pulls source.new ≤ S.pulls source.old + MAX_READS }
 {
@@ -131,8 +129,7 @@ pub fn run_script<S: Source, K: Sink>(
     source: &mut S,
     sink: &mut K,
 ) -> Result<Finding, ScriptFault>
-    ensures run { WritesOr (Err ScriptFault.WriteFault)
-        (IsRunReply (draft_tree set.now) (S.left source.old) (S.has_failed source.new))
+    ensures run { IsScriptRun (draft_tree set.now) (S.left source.old) (S.has_failed source.new)
         (K.has_failed sink.new) (K.taken sink.old) (K.taken sink.new) result }
     ensures reads { S.pulls source.new ≤ S.pulls source.old + MAX_READS }
 {

@@ -1,7 +1,7 @@
 //! Lines of a script as commands.
 ghost use Rattle.std.specs.Prelude.{◌≡◌, Ok};
 ghost use Rattle.prog_tree.specs.Tree.{draft_tree};
-ghost use Rattle.si_engine.specs.Commands.{row_command, instance_of, steps_of, begin_command, begin_at_command, step_command, commit_command, abort_command, vacuum_command, command_of, line_command};
+ghost use Rattle.si_engine.specs.Commands.{row_command, instance_of, steps_of, call_of, begin_command, begin_at_command, step_command, commit_command, abort_command, vacuum_command, command_of, line_command};
 ghost use Rattle.si_engine.specs.RowLines.{Reads};
 
 use crate::input::line_words::{Word, line_words};
@@ -14,6 +14,13 @@ use crate::limits::{MAX_INSTANCE, MAX_STEPS};
 use prog_check::ProgramSet;
 use prog_tree::Sequence;
 use std::alloc::Global;
+
+// A program and its arguments.
+#[derive(Drop)]
+pub struct ProgramCall {
+    program: usize,
+    args: Sequence<i64>,
+}
 
 /// What a line says.
 #[derive(Drop)]
@@ -50,6 +57,24 @@ fn row(set: &ProgramSet, line: usize, words: &[Word<'_>]) -> Result<Command, Lin
     Ok(Command::Row(row))
 }
 
+// A program by its name, and its arguments.
+#[tactic(auto, unfolding(crate::specs::Commands::call_of))]
+fn read_call(
+    alloc: Global,
+    set: &ProgramSet,
+    line: usize,
+    words: &[Word<'_>],
+) -> Result<ProgramCall, LineFault>
+    ensures { Reads (λ call. call) result (call_of (draft_tree set.now) line words.now) }
+{
+    let [name, args @ ..] = words else {
+        return Err(LineFault::BadLine { line });
+    };
+    let args = numbers(alloc, args)?.ok_or(LineFault::BadLine { line })?;
+    let program = program_number(set, name.as_bytes()).ok_or(LineFault::UnknownName { line })?;
+    Ok(ProgramCall { program, args })
+}
+
 #[tactic(auto, unfolding(crate::specs::Commands::begin_command))]
 fn begin(
     alloc: Global,
@@ -60,11 +85,7 @@ fn begin(
     ensures { Reads (λ command. command) result
         (begin_command (draft_tree set.now) line words.now) }
 {
-    let [name, args @ ..] = words else {
-        return Err(LineFault::BadLine { line });
-    };
-    let args = numbers(alloc, args)?.ok_or(LineFault::BadLine { line })?;
-    let program = program_number(set, name.as_bytes()).ok_or(LineFault::UnknownName { line })?;
+    let ProgramCall { program, args } = read_call(alloc, set, line, words)?;
     Ok(Command::Begin { program, args })
 }
 
@@ -78,12 +99,11 @@ fn begin_at(
     ensures { Reads (λ command. command) result
         (begin_at_command (draft_tree set.now) line words.now) }
 {
-    let [start, name, args @ ..] = words else {
+    let [start, words @ ..] = words else {
         return Err(LineFault::BadLine { line });
     };
     let start = unsigned(start.as_bytes()).ok_or(LineFault::BadLine { line })?;
-    let args = numbers(alloc, args)?.ok_or(LineFault::BadLine { line })?;
-    let program = program_number(set, name.as_bytes()).ok_or(LineFault::UnknownName { line })?;
+    let ProgramCall { program, args } = read_call(alloc, set, line, words)?;
     Ok(Command::BeginAt {
         start,
         program,

@@ -81,6 +81,5 @@ pub fn read_part<W: FromLines, S: Source>(
     ensures reads { S.pulls source.new ≤ S.pulls source.old + MAX_READS }
 {
     let part = read_whole(alloc, source)?;
-    let whole = read_lines(alloc, set, &part)?;
-    Ok(whole)
+    Ok(read_lines(alloc, set, &part)?)
 }

@@ -72,8 +72,7 @@ pub fn push_findings_before<W: Witness>(
 {
     let table = book.table()?;
     push_rows(book.set().draft(), &table, out)?;
-    let finding = push_order(book, out, witness)?;
-    Ok(finding)
+    push_order(book, out, witness)
 }
 
 /// Adds the line of each row of a book's table, and then the last line. Where memory runs out, some

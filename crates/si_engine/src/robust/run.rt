@@ -4,11 +4,10 @@ ghost use Rattle.std.specs.List.{zip};
 ghost use Rattle.prog_tree.specs.Tree.{draft_tree};
 ghost use Rattle.prog_check.specs.Paths.{paths_of};
 ghost use Rattle.prog_paths.specs.StaticGraph.{IsDangerous};
-ghost use Rattle.history_book.specs.Dependencies.{depends};
 ghost use Rattle.history_book.specs.Orders.{least_order};
 ghost use Rattle.history_book.specs.View.{depends_in, history_of, FitsBook};
-ghost use Rattle.si_engine.specs.Headline.{Headline, commit_in, commits_said};
-ghost use Rattle.si_engine.specs.Machine.{new_machine, machine_after, replies_of};
+ghost use Rattle.si_engine.specs.Headline.{Headline, IsLeastOrdered, commit_in, commits_said};
+ghost use Rattle.si_engine.specs.Machine.{machine_after, replies_of};
 ghost use Rattle.si_engine.specs.Robustness.{IsHistory};
 ghost use Rattle.si_engine.specs.View.{StaysOver};
 
@@ -103,9 +102,7 @@ pub fn run_robust_before<W: Witness>(
     witness: &mut W,
 ) -> Result<Outcome, AllocError>
     ensures headline { IfOk result (Headline (draft_tree set.now) rows events.now) }
-    ensures least { IfOk result (λ o.
-        let h = (machine_after (draft_tree set.now) rows events.now new_machine).history in
-        least_order (depends (draft_tree set.now) rows h) (length h) ≡ Some o.order) }
+    ensures least { IfOk result (IsLeastOrdered (draft_tree set.now) rows events.now) }
 {
     let mut engine = Engine::open(alloc, set.set(), rows)?;
     let (replies, committed) = apply_events(alloc, &mut engine, events, witness)?;
@@ -128,9 +125,7 @@ pub fn run_robust(
     events: &[Event],
 ) -> Result<Outcome, AllocError>
     ensures headline { IfOk result (Headline (draft_tree set.now) rows events.now) }
-    ensures least { IfOk result (λ o.
-        let h = (machine_after (draft_tree set.now) rows events.now new_machine).history in
-        least_order (depends (draft_tree set.now) rows h) (length h) ≡ Some o.order) }
+    ensures least { IfOk result (IsLeastOrdered (draft_tree set.now) rows events.now) }
 {
     run_robust_before(alloc, set, rows, events, &mut NoWitness)
 }

@@ -1,11 +1,10 @@
 //! Runs of scripts over robust sets.
-ghost use Rattle.std.specs.Prelude.{◌≡◌, ◌≤◌, ◌+◌, ◌++◌, ◌∷◌, [], true, false, Err, string_bytes, IfOk, OnOk, OnErr};
+ghost use Rattle.std.specs.Prelude.{◌≡◌, ◌≤◌, ◌+◌, ◌++◌, ◌∷◌, [], true, false, string_bytes, IfOk, OnOk, OnErr};
 ghost use Rattle.std.specs.List.{zip};
 ghost use Rattle.prog_tree.specs.Tree.{draft_tree};
 ghost use Rattle.si_engine.specs.LastLine.{last_line};
 ghost use Rattle.si_engine.specs.Reading.{ForInput};
-ghost use Rattle.si_engine.specs.Runs.{exchange_lines, outcome_lines, run_lines, Adds, AddsFirst, AddsRun, IsRunOf, IsUnreadRun, IsOrderedReply};
-ghost use Rattle.si_engine.specs.Writing.{WritesOr};
+ghost use Rattle.si_engine.specs.Runs.{exchange_lines, outcome_lines, run_lines, Adds, AddsFirst, AddsRun, IsRobustScriptRun, IsRunOf, IsUnreadRun};
 
 use crate::event::{Event, Reply};
 use crate::input::script::{Script, read_script};
@@ -108,11 +107,10 @@ pub fn run_robust_script_before<S: Source, K: Sink, W: Witness>(
     sink: &mut K,
     witness: &mut W,
 ) -> Result<Finding, ScriptFault>
-    ensures run { WritesOr (Err ScriptFault.WriteFault)
-        (IsOrderedReply (draft_tree set.now) (S.left source.old) (S.has_failed source.new))
+    ensures run { IsRobustScriptRun (draft_tree set.now)
+        (S.left source.old) (S.has_failed source.new)
         (K.has_failed sink.new) (K.taken sink.old) (K.taken sink.new) result }
     ensures reads { S.pulls source.new ≤ S.pulls source.old + MAX_READS }
-    ensures order { IfOk result (λ finding. finding ≡ Finding.Order) }
 {
     let mut lines = String::new(alloc);
     let ended = run_source(alloc, set, source, &mut lines, witness);
@@ -126,11 +124,10 @@ pub fn run_robust_script<S: Source, K: Sink>(
     source: &mut S,
     sink: &mut K,
 ) -> Result<Finding, ScriptFault>
-    ensures run { WritesOr (Err ScriptFault.WriteFault)
-        (IsOrderedReply (draft_tree set.now) (S.left source.old) (S.has_failed source.new))
+    ensures run { IsRobustScriptRun (draft_tree set.now)
+        (S.left source.old) (S.has_failed source.new)
         (K.has_failed sink.new) (K.taken sink.old) (K.taken sink.new) result }
     ensures reads { S.pulls source.new ≤ S.pulls source.old + MAX_READS }
-    ensures order { IfOk result (λ finding. finding ≡ Finding.Order) }
 {
     run_robust_script_before(alloc, set, source, sink, &mut NoWitness)
 }

@@ -22,21 +22,21 @@ returns-in_err-script-clause-unread g c =
     let is : c.in_err-script.field-0.0 ≡ fault.Input input_fault.ReadFault = let told = c.in_err-script.ensures.unread.0 fails in cc in
     run_unread c.in_err-script.field-0.0 (string_bytes c.args.out.now) c.requires is)
 
-pub returns-in_err-finding-clause-run : goal.returns-in_err-finding-clause-run
-returns-in_err-finding-clause-run g c =
-    let exit = err_from_is_err_and c.from_residual-in_err-finding.result c.from_residual-in_err-finding.ensures.1 in
+pub returns-in_err-push_lines-clause-run : goal.returns-in_err-push_lines-clause-run
+returns-in_err-push_lines-clause-run g c =
+    let exit = err_from_is_err_and c.from_residual-in_err-push_lines.result c.from_residual-in_err-push_lines.ensures.1 in
     let set = draft_tree c.args.set.now in
     let script = c.in_ok-script.script in
     let written = string_bytes c.push_lines.new.out in
     rw (exit.1, exit.2)
     (λ works. run_stopped set (g.S.Source.left c.args.source.now) script written c.in_ok-script.ensures.script
-    (subst (λ (text : List ℕ). AddsFirst (run_lines set script) text written) c.requires c.in_err-finding.ensures.err))
+    (subst (λ (text : List ℕ). AddsFirst (run_lines set script) text written) c.requires c.in_err-push_lines.ensures.err))
 
 pub returns-clause-run : goal.returns-clause-run
 returns-clause-run g c =
     let set = draft_tree c.args.set.now in
     let script = c.in_ok-script.script in
-    let finding = c.in_ok-finding.finding in
+    let finding = c.in_ok-push_lines.field-0 in
     let written = string_bytes c.push_lines.new.out in
     λ works. run_done set (g.S.Source.left c.args.source.now) script finding written c.in_ok-script.ensures.script
-    (subst (λ (text : List ℕ). AddsRun set script finding text written) c.requires c.in_ok-finding.ensures.ok)
+    (subst (λ (text : List ℕ). AddsRun set script finding text written) c.requires c.in_ok-push_lines.ensures.ok)

@@ -2,7 +2,6 @@ use Rattle.std.proofs.Common.{Err, List, ℕ, sym, subst}
 use Rattle.prog_tree.specs.Tree.{draft_tree}
 use Rattle.si_engine.specs.Runs.{IsOrderedReply}
 use Rattle.si_engine.specs.declared.input.script_fault.ScriptFault.TheVariants as fault
-use Rattle.si_engine.proofs.OutcomeLaws.{found_stays}
 use Rattle.si_engine.proofs.RunLaws.{run_replies, writes_just}
 use Rattle.si_engine.proofs.robust.script.run_robust_script_before.Goals as goal
 
@@ -15,7 +14,3 @@ returns-clause-run g c =
     let meant = run_replies set left failed _ ended c.run_source-ended.ensures.run c.run_source-ended.ensures.unread in
     writes_just (Err fault.WriteFault) (IsOrderedReply set left failed) c.as_bytes.result.now ended _ _ _ _
     (subst (λ (lines : List ℕ). IsOrderedReply set left failed lines ended) (sym c.as_bytes.ensures.value) (meant, c.run_source-ended.ensures.order)) c.write_end.ensures
-
-pub returns-clause-order : goal.returns-clause-order
-returns-clause-order g c =
-    found_stays fault.WriteFault c.as_bytes.result.now c.run_source-ended.result _ _ _ _ c.run_source-ended.ensures.order c.write_end.ensures
