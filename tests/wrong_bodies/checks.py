@@ -45,6 +45,7 @@ class Said:
 
     text: str  # a line for each message
     seconds: dict
+    was_killed: bool = False  # as where memory is short
 
 
 def crates_of(root):
@@ -113,7 +114,7 @@ def check_of(crate, texts, functions, kept):
                     now = time.monotonic()
                     seconds[ended[1]], since = now - since, now
         # a message goes on in lines that are indented
-        return Said(re.sub(r"\n[ \t]+", " ", "".join(lines)), seconds)
+        return Said(re.sub(r"\n[ \t]+", " ", "".join(lines)), seconds, check.returncode < 0)
 
 
 def said_of(crate, texts, functions, kept):

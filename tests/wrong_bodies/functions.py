@@ -1,4 +1,5 @@
 """Functions of a crate's sources: where each stands, and the name that a check gives it."""
+import functools
 import re
 from dataclasses import dataclass
 
@@ -77,8 +78,9 @@ def home_of(plain, owner, module):
     return tuple(taken[1].removesuffix("::").split("::")) if taken else module
 
 
+@functools.lru_cache(maxsize=512)
 def functions_of(file, text):
-    """Returns the functions of a file, outer ones before those in them."""
+    """Returns the functions of a file, outer ones before those in them; a text is read once."""
     plain, found = blanked(text), []
 
     def walk(start, end, path, is_trait):
@@ -106,7 +108,7 @@ def functions_of(file, text):
             at = behind
 
     walk(0, len(plain), module_of(file), False)
-    return found
+    return tuple(found)
 
 
 def body_of(plain, at):
