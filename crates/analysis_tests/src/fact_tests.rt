@@ -1,6 +1,6 @@
 //! Worked facts, with what they entail told by hand.
 
-use order_facts::{Closed, Facts, Node, check_chain, is_plain_step};
+use order_facts::{Closed, Facts, Node, Nodes, check_chain, is_plain_step};
 use std::alloc::{AllocError, Global};
 
 const KEY: Node = Node::Mine(0);
@@ -143,4 +143,17 @@ fn some_steps_need_no_fact(rt: HostRuntime) {
     for &(a, b, plain) in STEPS.iter() {
         assert!(rt; is_plain_step(a, b) == plain, "from {a:?} to {b:?}");
     }
+}
+
+#[test]
+fn nodes_in_a_row_are_those_that_were_given(rt: HostRuntime) -> Result<(), AllocError> {
+    let one = Nodes::of_one(TWO);
+    assert!(rt; one.as_slice() == [TWO].as_slice());
+    let two = Nodes::of_two(KEY, A);
+    assert!(rt; two.as_slice() == [KEY, A].as_slice());
+    let copy = Nodes::from_slice(rt.alloc(), two.as_slice())?;
+    assert!(rt; copy.as_slice() == [KEY, A].as_slice());
+    let listed = Nodes::from_vec(Vec::from_slice(rt.alloc(), &[ONE, B, C])?);
+    assert!(rt; listed.as_slice() == [ONE, B, C].as_slice());
+    Ok(())
 }

@@ -118,6 +118,24 @@ fn push_changes(changes: &Changes, text: &mut String) -> Result<(), AllocError> 
     Ok(())
 }
 
+/// The changes from `t[2]` on.
+fn push_between(changes: &Changes, text: &mut String) -> Result<(), AllocError> {
+    let low = Cell {
+        table: 0,
+        first: 2,
+        second: 0,
+    };
+    let high = Cell {
+        table: 0,
+        first: 9,
+        second: 0,
+    };
+    for (cell, value) in changes.between(low, high) {
+        write!(text, "from 2 on {} {value:?}; ", cell.first)?;
+    }
+    Ok(())
+}
+
 fn push_kept(changes: &Changes, text: &mut String) -> Result<(), AllocError> {
     for cell in changes.kept() {
         write!(text, "kept {}; ", cell.first)?;
@@ -134,6 +152,7 @@ fn shown_changes(
     compare_changes(rt, changes);
     let mut text = String::new(alloc);
     push_changes(changes, &mut text)?;
+    push_between(changes, &mut text)?;
     push_kept(changes, &mut text)?;
     Ok(text)
 }
@@ -143,7 +162,7 @@ fn changes_are_values_removals_and_marks(rt: HostRuntime) -> Result<(), AllocErr
     let mut changes = Changes::new(rt.alloc());
     let shown = shown_changes(&rt, rt.alloc(), &mut changes);
     drop(changes);
-    let wanted = "1 None; 2 Some(5); kept 2; kept 3; ";
+    let wanted = "1 None; 2 Some(5); from 2 on 2 Some(5); kept 2; kept 3; ";
     is_told(&rt, "changes", shown?.as_str(), wanted);
     Ok(())
 }

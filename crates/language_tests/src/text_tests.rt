@@ -1,7 +1,7 @@
 //! Texts that are read, copied and printed.
 
 use example_sets::SMALL_BANK;
-use prog_text::{TextFault, parse, print};
+use prog_text::{Beginning, TextFault, beginning_of, is_reserved, parse, print, reserved_words};
 use prog_tree::Draft;
 use std::alloc::{AllocError, Global};
 use std::test::Fail;
@@ -46,6 +46,21 @@ program All(a, b) {
   reply n + s + z + w + q;
 }
 ";
+
+#[test]
+fn words_are_reserved_and_begin_what_they_begin(rt: HostRuntime) {
+    for (word, is_word, beginning) in [
+        ("table", true, Some(Beginning::Table)),
+        ("program", true, Some(Beginning::Program)),
+        ("each", true, Some(Beginning::Statement)),
+        ("get", true, None),
+        ("tables", false, None),
+    ] {
+        assert!(rt; is_reserved(word.as_bytes()) == is_word, "{word}");
+        assert!(rt; beginning_of(word.as_bytes()) == beginning, "{word}");
+    }
+    assert!(rt; reserved_words().len() == 24);
+}
 
 #[test]
 fn refusals_have_their_place(rt: HostRuntime) {

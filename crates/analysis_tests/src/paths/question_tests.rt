@@ -1,9 +1,10 @@
 //! The facts of questions.
 
 use crate::examples::paths_of;
-use example_sets::{LEDGER, MOVE, TRANSFER};
+use crate::told::is_told;
+use example_sets::{LEDGER, MOVE, SMALL_BANK, TRANSFER};
 use order_facts::{Closed, Node};
-use prog_paths::{Access, Path, question_facts};
+use prog_paths::{Access, Changers, Path, all_places, question_facts};
 use std::alloc::{AllocError, Global};
 use std::process::Abort;
 use std::test::Fail;
@@ -153,4 +154,24 @@ const MOVED: Example = Example {
 #[test]
 fn an_unknown_is_no_parameter(rt: HostRuntime) -> Result<(), Fail> {
     check(&rt, rt.alloc(), &MOVED)
+}
+
+/// The accesses that change table 0, each by its path and its number there.
+fn shown_changers(alloc: Global, paths: &[Path]) -> Result<String, AllocError> {
+    let mut text = String::new(alloc);
+    let places = all_places(alloc, paths)?;
+    let changers = Changers::of(alloc, &places)?;
+    for place in changers.of_table(0) {
+        write!(text, "{} {}; ", place.node, place.number)?;
+    }
+    Ok(text)
+}
+
+#[test]
+fn the_changers_of_a_table_are_its_writes(rt: HostRuntime) -> Result<(), Fail> {
+    let paths = paths_of(rt.alloc(), SMALL_BANK)?;
+    let shown = shown_changers(rt.alloc(), &paths);
+    drop(paths);
+    is_told(&rt, shown?.as_str(), "2 1; 3 2; ");
+    Ok(())
 }
