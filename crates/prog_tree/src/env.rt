@@ -58,7 +58,7 @@ impl<'a> Env<'a> {
         ensures { result ≡ value_in self.now name.now }
     {
         for binding in self.bindings.iter().rev() {
-            if binding.name.as_str() == name.as_str() {
+            if binding.name.is_same(name) {
                 return Some(binding.value);
             }
         }

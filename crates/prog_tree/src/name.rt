@@ -1,6 +1,7 @@
 //! Names, as bytes.
 
 ghost use Rattle.std.specs.Prelude.{◌≡◌, ◌↔◌, IfOk, IsTrue};
+ghost use Rattle.prog_tree.specs.Value.{same_name};
 
 use std::alloc::{AllocError, Global};
 use std::fmt;
@@ -43,10 +44,13 @@ impl Name {
         })
     }
 
+    /// Names are short: going through their bytes is faster than a comparison of long texts.
     pub fn is_same(&self, other: &Name) -> bool
-        ensures { IsTrue result ↔ (self.now ≡ other.now) }
+        ensures same { IsTrue result ↔ (self.now ≡ other.now) }
+        ensures test { result ≡ same_name self.now other.now }
     {
-        self.as_str() == other.as_str()
+        let (bytes, others) = (self.text.as_bytes(), other.text.as_bytes());
+        bytes.len() == others.len() && bytes.iter().eq(others)
     }
 }
 
