@@ -1,5 +1,5 @@
 -- Questions and places of lists, one element or one part at a time.
-use Rattle.std.proofs.Common.{◌≡◌, ℕ, ◌<◌, ◌≤◌, ◌+◌, Bool, true, false, List, [], ◌∷◌, ◌++◌, length, get_or, drop, min, refl, sym, subst, ap, ◌∙◌, arith, append_assoc, length-append, suc}
+use Rattle.std.proofs.Common.{◌≡◌, ℕ, ◌<◌, ◌≤◌, ◌+◌, Bool, true, false, List, [], ◌∷◌, ◌++◌, length, get_or, drop, refl, sym, subst, ap, ◌∙◌, arith, append_assoc, suc}
 use Rattle.std.specs.Prelude.{Some, slice_get, All, if◌then◌else◌}
 use Rattle.std.proofs.lemmas.Bool.{false≢true}
 use Rattle.std.proofs.lemmas.List.{drop_more, drop_all, append-nil}
@@ -8,7 +8,7 @@ use Rattle.prog_check.specs.declared.path.Access.{Access}
 use Rattle.prog_check.specs.declared.path.Path.{Path}
 use Rattle.prog_paths.specs.declared.places.Placed.{Placed}
 use Rattle.prog_paths.specs.declared.places.Question.{Question as Asked}
-use Rattle.prog_paths.specs.Asked.{asks, question_between, placed_from, all_from, asked_by, asked_among, limit}
+use Rattle.prog_paths.specs.Asked.{asks, question_between, placed_from, all_from, asked_by, asked_among}
 use Rattle.prog_paths.specs.Places.{IsAt}
 
 -- ---- lists of places
@@ -102,24 +102,3 @@ asked_by-append first (x ∷ xs) ys =
 pub asked_among-append : (xs ys seconds : List Placed) → asked_among (xs ++ ys) seconds ≡ asked_among xs seconds ++ asked_among ys seconds
 asked_among-append [] ys seconds = refl
 asked_among-append (x ∷ xs) ys seconds = ap (λ (l : List Asked). asked_by x seconds ++ l) (asked_among-append xs ys seconds) ∙ sym (append_assoc (asked_by x seconds) (asked_among xs seconds) (asked_among ys seconds))
-
--- ---- how many there are
-
-all_from-next : (n : ℕ) (paths : List Path) (path : Path) → n < length paths → path ≡ get_or paths n path → all_from n (drop n paths) ≡ placed_from n 0 path.accesses ++ all_from (n + 1) (drop (n + 1) paths)
-all_from-next n paths path lt is = ap (all_from n) (drop_more paths n path lt ∙ ap (λ (p : Path). p ∷ drop (n + 1) paths) (sym is))
-
-pub counted-node : (first : Placed) (n : ℕ) (paths : List Path) (path : Path) (count new total : ℕ) → n < length paths → path ≡ get_or paths n path → new ≡ min (count + length (asked_by first (placed_from n 0 path.accesses))) (limit + 1) → min (count + length (asked_by first (all_from n (drop n paths)))) (limit + 1) ≡ total → min (new + length (asked_by first (all_from (n + 1) (drop (n + 1) paths)))) (limit + 1) ≡ total
-counted-node first n paths path count new total lt is step h =
-    let parts : length (asked_by first (all_from n (drop n paths))) ≡ length (asked_by first (placed_from n 0 path.accesses)) + length (asked_by first (all_from (n + 1) (drop (n + 1) paths))) =
-    ap (λ (l : List Placed). length (asked_by first l)) (all_from-next n paths path lt is)
-    ∙ ap length (asked_by-append first (placed_from n 0 path.accesses) (all_from (n + 1) (drop (n + 1) paths)))
-    ∙ length-append (asked_by first (placed_from n 0 path.accesses)) (asked_by first (all_from (n + 1) (drop (n + 1) paths))) in
-    omega (arith, parts, step, h)
-
-pub counted-all : (n : ℕ) (paths : List Path) (path : Path) (seconds : List Placed) (count new total : ℕ) → n < length paths → path ≡ get_or paths n path → new ≡ min (count + length (asked_among (placed_from n 0 path.accesses) seconds)) (limit + 1) → min (count + length (asked_among (all_from n (drop n paths)) seconds)) (limit + 1) ≡ total → min (new + length (asked_among (all_from (n + 1) (drop (n + 1) paths)) seconds)) (limit + 1) ≡ total
-counted-all n paths path seconds count new total lt is step h =
-    let parts : length (asked_among (all_from n (drop n paths)) seconds) ≡ length (asked_among (placed_from n 0 path.accesses) seconds) + length (asked_among (all_from (n + 1) (drop (n + 1) paths)) seconds) =
-    ap (λ (l : List Placed). length (asked_among l seconds)) (all_from-next n paths path lt is)
-    ∙ ap length (asked_among-append (placed_from n 0 path.accesses) (all_from (n + 1) (drop (n + 1) paths)) seconds)
-    ∙ length-append (asked_among (placed_from n 0 path.accesses) seconds) (asked_among (all_from (n + 1) (drop (n + 1) paths)) seconds) in
-    omega (arith, parts, step, h)

@@ -1,7 +1,6 @@
 -- How many questions the accesses of a table ask, with one access more behind them.
-use Rattle.std.proofs.Common.{◌≡◌, ℕ, ◌<◌, ◌≤◌, ◌+◌, ◌⊎◌, inl, inr, Bool, true, false, ◌||◌, ◌&&◌, List, [], ◌∷◌, ◌++◌, length, min, refl, sym, subst, ap, ◌∙◌, arith, length-append, cond}
-use Rattle.std.specs.Prelude.{All, if◌then◌else◌, nat_lt, nat_le, ◌==◌}
-use Rattle.std.specs.List.{filter, sum_by}
+use Rattle.std.proofs.Common.{◌≡◌, ℕ, ◌+◌, ◌⊎◌, inl, inr, Bool, true, false, ◌||◌, ◌&&◌, List, [], ◌∷◌, ◌++◌, length, refl, sym, subst, ap, ◌∙◌, arith, length-append, cond}
+use Rattle.std.specs.Prelude.{if◌then◌else◌, nat_lt, nat_le, ◌==◌}
 use Rattle.std.proofs.lemmas.Bool.{cases_eq, eq-eqb, ne_eqb, le-leb, and_from, or_right}
 use Rattle.std.proofs.lemmas.List.{append-nil}
 use Rattle.std.proofs.lemmas.List.Elements.{All-head, All-tail, filter-append}
@@ -10,7 +9,7 @@ use Rattle.prog_check.specs.declared.path.Kind.{Kind}
 use Rattle.prog_check.specs.declared.path.Kind.TheVariants.{Reads, Sees, Lacks, Writes, Adds, Keeps}
 use Rattle.prog_paths.specs.declared.places.Placed.{Placed}
 use Rattle.prog_paths.specs.declared.tally.Tally.{Tally}
-use Rattle.prog_paths.specs.Asked.{asks, kinds_depend, both_write, is_in_order, question_between, asked_by, asked_among, limit}
+use Rattle.prog_paths.specs.Asked.{asks, kinds_depend, both_write, is_in_order, question_between, asked_by, asked_among}
 use Rattle.prog_paths.specs.Tally.{IsTally, StandsBehind, is_read, is_look, is_write, is_add, of_table, count_of, capped}
 use Rattle.prog_paths.proofs.Asked.{asked_by-append, asked_among-append}
 

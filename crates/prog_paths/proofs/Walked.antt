@@ -1,5 +1,5 @@
 -- The accesses of nodes, walked one after another, table by table.
-use Rattle.std.proofs.Common.{◌≡◌, ℕ, ◌<◌, ◌≤◌, ◌+◌, ◌⊎◌, inl, inr, Bool, true, false, ◌||◌, ◌&&◌, List, Option, Some, None, [], ◌∷◌, ◌++◌, length, get_or, take, min, not, refl, sym, subst, ap, ◌∙◌, arith, append_assoc, length-append, cond, suc, ◌-◌, ◌^◌}
+use Rattle.std.proofs.Common.{◌≡◌, ℕ, ◌<◌, ◌≤◌, ◌+◌, ◌⊎◌, inl, inr, Bool, true, false, ◌||◌, ◌&&◌, List, Option, Some, None, [], ◌∷◌, ◌++◌, length, get_or, take, min, not, refl, sym, subst, ap, ◌∙◌, arith, append_assoc, cond, suc, ◌-◌, ◌^◌}
 use Rattle.std.specs.Prelude.{All, nat_lt, nat_le, ◌==◌}
 use Rattle.std.specs.List.{filter}
 use Rattle.std.proofs.lemmas.Bool.{cases_lt, cases_eq, eq-eqb, ne_eqb, lt-ltb, le-ltb, le-leb, lt-leb, ltb-true, ltb-false, true≢false, or_from, or_left, or_right, and_from, and_left, and_right}

@@ -1,4 +1,4 @@
-use Rattle.std.proofs.Common.{◌≡◌, ◌-◌, ◌+◌, ◌^◌, min, length}
+use Rattle.std.proofs.Common.{◌≡◌, ◌+◌, min, length}
 use Rattle.prog_paths.specs.Asked.{all_from, asked_among, limit}
 use Rattle.prog_paths.proofs.Walked.{before, left}
 use Rattle.prog_paths.proofs.count.count.Given as goal

@@ -1,4 +1,4 @@
-use Rattle.std.proofs.Common.{◌≡◌, ℕ, ◌+◌, not, Option, sym, subst, arith, ◌∙◌, take, List}
+use Rattle.std.proofs.Common.{◌≡◌, ℕ, ◌+◌, not, Option, sym, subst, arith, ◌∙◌, List}
 use Rattle.std.specs.Prelude.{All}
 use Rattle.std.proofs.lemmas.Bool.{true≢false}
 use Rattle.std.proofs.lemmas.List.{take_all}

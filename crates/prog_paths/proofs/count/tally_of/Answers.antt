@@ -1,4 +1,4 @@
-use Rattle.std.proofs.Common.{◌++◌, ◌+◌, List, ap, sym, subst, arith, take, ◌∙◌}
+use Rattle.std.proofs.Common.{◌++◌, List, ap, sym, subst, arith, take, ◌∙◌}
 use Rattle.prog_check.specs.declared.path.Access.{Access}
 use Rattle.prog_paths.specs.declared.places.Placed.{Placed}
 use Rattle.prog_paths.specs.Asked.{placed_from, all_from}

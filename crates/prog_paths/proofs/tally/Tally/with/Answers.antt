@@ -1,6 +1,5 @@
-use Rattle.std.proofs.Common.{◌≡◌, ◌+◌, ◌∙◌, arith}
+use Rattle.std.proofs.Common.{◌∙◌, arith}
 use Rattle.prog_check.specs.declared.path.Kind.TheVariants.{Reads, Writes, Adds, Keeps}
-use Rattle.prog_paths.specs.Tally.{capped}
 use Rattle.prog_paths.proofs.Counted.{tally-more, tally-look}
 use Rattle.prog_paths.proofs.tally.Tally.with.Goals as goal
 
