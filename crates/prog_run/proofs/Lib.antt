@@ -1,3 +1,4 @@
+pub mod AgainLaws
 pub mod GrowLemmas
 pub mod LookLemmas
 pub mod OwnLemmas

@@ -1,5 +1,5 @@
 -- What a run asks its snapshot, and what its looks found there.
-use Rattle.std.specs.Prelude.{◌≡◌, List, [], ◌∷◌, Option, Some, None, is_some, filter, not, if◌then◌else◌}
+use Rattle.std.specs.Prelude.{◌≡◌, ◌-◌, List, [], ◌∷◌, length, slice_get, Option, Some, None, is_some, filter, not, if◌then◌else◌}
 use Rattle.prog_tree.specs.declared.cell.Cell.{Cell}
 use Rattle.prog_tree.specs.declared.cell.Region.{Region}
 use Rattle.prog_tree.specs.declared.look.Look.{Look}
@@ -13,6 +13,10 @@ use Rattle.prog_run.specs.declared.next.Question.TheVariants.{One, Range}
 use Rattle.prog_run.specs.Task.{AskedTree, OfCell, OfRegion, TaskTree}
 use Rattle.prog_run.specs.Task as task
 
+-- the last look, if there is one
+abbrev pub last_of : List Look → Option Look
+last_of looks = slice_get looks (length looks - 1)
+
 -- a look found what the table state holds
 abbrev pub IsFound : TableState → Look → Type 0
 IsFound m (look.One cell held) = row_at m cell ≡ held
@@ -22,6 +26,11 @@ IsFound m (look.Range region own rows) = rows_left region own m ≡ rows
 abbrev pub AreFound : TableState → List Look → Type 0
 AreFound m [] = Unit {0}
 AreFound m (l ∷ ls) = IsFound m l × AreFound m ls
+
+-- the rows that the last look found, where it was at just this region and left no cells out
+abbrev pub IsFoundLast : List Look → Region → Option TableState → Type 0
+IsFoundLast looks region (Some rows) = last_of looks ≡ Some (look.Range region [] rows)
+IsFoundLast looks region None = (rows : TableState) → last_of looks ≡ Some (look.Range region [] rows) → ⊥
 
 -- where the looks of q found what a table state holds, those of p did
 abbrev pub FoundBefore : Progress → Progress → Type 0

@@ -1,14 +1,14 @@
 //! What a run sees in a region.
-ghost use Rattle.std.specs.Prelude.{◌≡◌, ◌≤◌, [], ◌++◌, length, IfOk, OnOk, OnErr};
+ghost use Rattle.std.specs.Prelude.{◌≡◌, ◌↔◌, ◌≤◌, [], ◌++◌, length, option_copied, IfOk, IfSome, IsTrue, OnOk, OnErr};
 ghost use Rattle.std.specs.Cow.{cow_slice_items};
 ghost use Rattle.std.specs.List.{list_all};
 ghost use Rattle.std.specs.List.Sorted.{IsStrictlySortedBy};
-ghost use Rattle.prog_tree.specs.Table.{cell_cmp, is_in, is_cell_among, cells_of};
+ghost use Rattle.prog_tree.specs.Table.{TableState, cell_cmp, is_in, is_cell_among, cells_of, rows_in};
 ghost use Rattle.prog_tree.specs.ChangeSet.{changes_in, changed};
 ghost use Rattle.prog_tree.specs.Evaluation.{own_cells, total_of};
 ghost use Rattle.prog_tree.specs.Steps.{looked};
 ghost use Rattle.prog_tree.specs.Value.{exact};
-ghost use Rattle.prog_run.specs.Looks.{rows_without, region_look, seen_rows};
+ghost use Rattle.prog_run.specs.Looks.{AreFound, IsFoundLast, rows_without, region_look, seen_rows};
 ghost use Rattle.prog_run.specs.Seen.{rows_before, AreAbsent, own_row};
 
 use prog_tree::{Cell, Changes, Look, Progress, Region, Sequence, corners};
@@ -20,6 +20,31 @@ pub fn are_in(region: &Region, rows: &[(Cell, i64)]) -> bool
     ensures { result ≡ list_all (λ row. is_in region.now row.0) rows.now }
 {
     rows.iter().all(|(cell, _)| region.contains(cell))
+}
+
+fn is_same_region(region: &Region, other: &Region) -> bool
+    ensures { IsTrue result ↔ (region.now ≡ other.now) }
+{
+    region == other
+}
+
+/// The rows that the last look found, where it was at just this region and left no cells out.
+pub fn found_last<'l>(looks: &'l [Look], region: &Region) -> Option<&'l [(Cell, i64)]>
+    ensures last { IsFoundLast looks.now region.now (option_copied result) }
+    ensures held { IfSome result (λ rows. (m : TableState) →
+        AreFound m looks.now → rows.now ≡ rows_in region.now m) }
+{
+    let Some(last) = looks.last() else {
+        return None;
+    };
+    match last {
+        Look::Range {
+            region: looked,
+            own,
+            rows,
+        } if own.len() == 0 && is_same_region(looked, region) => Some(rows.as_slice()),
+        _ => None,
+    }
 }
 
 /// A run's own changes in a region.

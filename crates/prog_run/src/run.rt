@@ -3,7 +3,8 @@ ghost use Rattle.std.specs.Prelude.{◌≡◌, ◌<◌, Some, None, IfOk, IfSome
 ghost use Rattle.std.specs.Prelude.{length, zip, slice_get, option_copied};
 ghost use Rattle.prog_tree.specs.ChangeSet.{change_at};
 ghost use Rattle.prog_tree.specs.declared.cell.Cell.{Cell};
-ghost use Rattle.prog_run.specs.Looks.{region_look};
+ghost use Rattle.prog_tree.specs.Table.{TableState, rows_in};
+ghost use Rattle.prog_run.specs.Looks.{region_look, AreFound, IsFoundLast};
 ghost use Rattle.prog_run.specs.View.{IsTrueRun, IsAdvance, IsAnswered, SameBegin, begun};
 ghost use Rattle.prog_run.specs.View.{IsRefusedBy, IsBeginRefusedBy};
 ghost use Rattle.prog_run.specs.View.{begin_fault, get_fault, scan_fault};
@@ -13,11 +14,13 @@ use crate::block::OpenBlock;
 use crate::cursor::Cursor;
 use crate::fault::{AnswerFault, RunFault};
 use crate::next::Next;
-use crate::region::are_in;
+use crate::region::{are_in, found_last};
 use crate::statement::answer_cell;
 use crate::task::Asked;
 use prog_check::ProgramSet;
-use prog_tree::{Cell, Changes, End, Env, Look, Name, Program, Progress, Sequence, TableDecl};
+use prog_tree::{
+    Cell, Changes, End, Env, Look, Name, Program, Progress, Region, Sequence, TableDecl,
+};
 use std::alloc::{AllocError, Global};
 use std::marker::Model;
 
@@ -225,6 +228,16 @@ impl<'a> Run<'a> {
         ensures { result.now ≡ self.now.looks }
     {
         self.progress.looks.as_slice()
+    }
+
+    /// The rows of a region, where the last look was at just this one and the run had changed
+    /// nothing there: the snapshot holds what that look found.
+    pub fn rows_again(&self, region: &Region) -> Option<&[(Cell, i64)]>
+        ensures last { IsFoundLast self.now.looks region.now (option_copied result) }
+        ensures held { IfSome result (λ rows. (m : TableState) →
+            AreFound m self.now.looks → rows.now ≡ rows_in region.now m) }
+    {
+        found_last(self.looks(), region)
     }
 
     /// The cells that it has set, removed or kept.

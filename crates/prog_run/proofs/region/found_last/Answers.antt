@@ -1,0 +1,24 @@
+use Rattle.std.proofs.Common.{◌≡◌, [], ap, sym, ◌∙◌}
+use Rattle.std.specs.Prelude.{Some}
+use Rattle.std.proofs.lemmas.List.{nil_from_length}
+use Rattle.prog_tree.specs.declared.look.Look.TheVariants as look
+use Rattle.prog_run.specs.Looks.{last_of}
+use Rattle.prog_run.proofs.AgainLaws.{held_again, same_look}
+use Rattle.prog_run.proofs.region.found_last.Goals as goal
+
+pub returns-in-Range-clause-last : goal.returns-in-Range-clause-last
+returns-in-Range-clause-last c =
+    let range = c.in-Range in
+    let last : last_of c.args.looks.now ≡ Some (look.Range range.looked range.own range.rows) =
+    sym c.in-Some.ensures.value ∙ ap (λ l. Some l) range.is in
+    let none : range.own ≡ [] = nil_from_length range.own (sym c.len.ensures ∙ c.if-len-eq0.true) in
+    same_look c.args.looks.now range.looked c.args.region.now range.own range.rows c.as_slice.result.now last none (c.is_same_region.ensures.0 c.if-is_same_region.true) c.as_slice.ensures
+
+pub returns-in-Range-clause-held : goal.returns-in-Range-clause-held
+returns-in-Range-clause-held c =
+    let range = c.in-Range in
+    let last : last_of c.args.looks.now ≡ Some (look.Range range.looked range.own range.rows) =
+    sym c.in-Some.ensures.value ∙ ap (λ l. Some l) range.is in
+    let none : range.own ≡ [] = nil_from_length range.own (sym c.len.ensures ∙ c.if-len-eq0.true) in
+    held_again c.args.looks.now c.args.region.now c.as_slice.result.now
+    (same_look c.args.looks.now range.looked c.args.region.now range.own range.rows c.as_slice.result.now last none (c.is_same_region.ensures.0 c.if-is_same_region.true) c.as_slice.ensures)
