@@ -6,7 +6,7 @@ ghost use Rattle.prog_run.specs.View.{IsTrueRun};
 ghost use Rattle.history_book.specs.Orders.{IsCycle, least_order};
 ghost use Rattle.history_book.specs.Placing.{IsOrderFault};
 ghost use Rattle.history_book.specs.Reasons.{told_reason, IsReason};
-ghost use Rattle.history_book.specs.Refusals.{HasAborted, IsCommitFault, IsEndFault, IsCellRead, IsRegionRead, IsWithdrawal};
+ghost use Rattle.history_book.specs.Refusals.{HasAborted, IsOfInstance, IsCommitFault, IsOwnCommitFault, IsEndFault, IsCellRead, IsRegionRead, IsWithdrawal};
 ghost use Rattle.history_book.specs.Runs.{IsCommitted, IsAborted};
 ghost use Rattle.history_book.specs.TrueBook.{IsTrueBook};
 ghost use Rattle.history_book.specs.View.{depends_in, traces_in, FitsBook};
@@ -14,7 +14,9 @@ ghost use Rattle.history_book.specs.View.{state_in, new_book, nth_row, held_for,
 ghost use Rattle.history_book.specs.View.{begin_fault_of, begin_at_fault_of, IsBeginRefusedBy, next_ticket, ticket_at, begun_in, begun_at};
 ghost use Rattle.version_store.specs.Versions.{reclaimed};
 
-use crate::fault::{BeginFault, CommitFault, EndFault, NoSuchTicket, ScanFault, Unused};
+use crate::fault::{
+    BeginFault, CommitFault, EndFault, NoSuchTicket, OwnCommitFault, ScanFault, Unused,
+};
 use crate::instances::active::Active;
 use crate::instances::active_set::ActiveSet;
 use crate::instances::row::{Ending, HistoryRow};
@@ -84,6 +86,13 @@ pub(crate) fn is_ready(run: &Run<'_>) -> bool
     matches!(run.end(), Some(End::Ready))
 }
 
+// Whether a run has aborted.
+fn has_aborted(run: &Run<'_>) -> bool
+    ensures { IsTrue result ↔ HasAborted run.now }
+{
+    cause_of(run).is_some()
+}
+
 // Why a run aborted, if it did.
 fn cause_of(run: &Run<'_>) -> Option<Cause>
     ensures none { IfNone result (HasAborted run.now → ⊥) }
@@ -94,6 +103,13 @@ fn cause_of(run: &Run<'_>) -> Option<Cause>
         Some(End::Aborted(cause)) => Some(*cause),
         _ => None,
     }
+}
+
+// A run has come to what its program says, as its type keeps.
+fn read_run(run: &Run<'_>)
+    ensures { IsTrueRun run.now }
+{
+    let _end = run.end();
 }
 
 // Numbers are of i64, as their type says.
@@ -330,23 +346,34 @@ impl<'a> Book<'a> {
             IsCommitFault self.old self.new ticket run.entry fault) }
     {
         let ready = is_ready(&run);
-        let row = match self.ended_row(&ticket, &run, ready) {
-            Ok(row) => row,
-            Err(refusal) => return Err(refusal.of_commit(Unused { ticket, run })),
-        };
-        match self.clash(row.start, run.changes()) {
-            Some(clash) => {
-                let ending = Ending::Clashed { row, clash };
-                match self.conclude(ticket.number, ending) {
-                    Ok(()) => Err(CommitFault::Clashed(clash)),
-                    Err(_) => Err(CommitFault::Memory(Unused { ticket, run })),
-                }
-            }
-            None => match self.install(ticket.number, row, &run) {
-                Ok(number) => Ok(Receipt { commit: number }),
-                Err(_) => Err(CommitFault::Memory(Unused { ticket, run })),
-            },
+        if let Some(refusal) = self.refusal_of(&ticket, &run, ready) {
+            return Err(refusal.of_commit(Unused { ticket, run }));
         }
+        match self.commit_own(&ticket, &run) {
+            Ok(receipt) => Ok(receipt),
+            Err(OwnCommitFault::Clashed(clash)) => Err(CommitFault::Clashed(clash)),
+            Err(OwnCommitFault::Memory) => Err(CommitFault::Memory(Unused { ticket, run })),
+        }
+    }
+
+    /// Commits as `commit` does, for a caller that knows that the run is one of the instance: its
+    /// program and arguments are not compared, and what it looked at is not looked up again.
+    pub fn commit_own(&mut self, ticket: &Ticket, run: &Run<'_>) -> Result<Receipt, OwnCommitFault>
+        requires own { IsOfInstance self.old ticket.now run.now }
+        requires ready { run.now.end ≡ Some End.Ready }
+        ensures ok { IfOk result (λ receipt.
+            IsCommitted self.old self.new ticket.now run.now receipt) }
+        ensures err { IfErr result (λ fault.
+            IsOwnCommitFault self.old self.new ticket.now run.now fault) }
+    {
+        read_run(run);
+        let row = self.own_row(ticket, run)?;
+        if let Some(clash) = self.clash(row.start, run.changes()) {
+            self.conclude(ticket.number, Ending::Clashed { row, clash })?;
+            return Err(OwnCommitFault::Clashed(clash));
+        }
+        let number = self.install(ticket.number, row, run)?;
+        Ok(Receipt { commit: number })
     }
 
     /// Ends the instance of a ticket by its run, which has aborted. The first refusal that applies is
@@ -356,16 +383,30 @@ impl<'a> Book<'a> {
         ensures err { IfErr result (λ fault.
             IsEndFault self.old self.new ticket run.entry fault) }
     {
-        let cause = cause_of(&run);
-        let row = match self.ended_row(&ticket, &run, cause.is_some()) {
-            Ok(row) => row,
-            Err(refusal) => return Err(refusal.of_end(Unused { ticket, run })),
-        };
-        let Some(cause) = cause else { unreachable!() };
-        match self.conclude(ticket.number, Ending::Aborted { row, cause }) {
+        let aborted = has_aborted(&run);
+        if let Some(refusal) = self.refusal_of(&ticket, &run, aborted) {
+            return Err(refusal.of_end(Unused { ticket, run }));
+        }
+        match self.end_own(&ticket, &run) {
             Ok(()) => Ok(()),
             Err(_) => Err(EndFault::Memory(Unused { ticket, run })),
         }
+    }
+
+    /// Ends as `end` does, for a caller that knows that the run is one of the instance: its
+    /// program and arguments are not compared, and what it looked at is not looked up again.
+    pub fn end_own(&mut self, ticket: &Ticket, run: &Run<'_>) -> Result<(), AllocError>
+        requires own { IsOfInstance self.old ticket.now run.now }
+        requires aborted { HasAborted run.now }
+        ensures ok { OnOk result (IsAborted self.old self.new ticket.now run.now) }
+        ensures err { OnErr result (self.new ≡ self.old) }
+    {
+        let Some(cause) = cause_of(run) else {
+            unreachable!()
+        };
+        let row = self.own_row(ticket, run)?;
+        self.conclude(ticket.number, Ending::Aborted { row, cause })?;
+        Ok(())
     }
 
     /// Withdraws the instance of a ticket, which leaves no ending. A ticket of no active instance is handed

@@ -140,6 +140,26 @@ pub enum CommitFault<'a> {
     Clashed(Clash),
 }
 
+/// Why an instance did not commit by its own run.
+#[derive(Clone, Copy, Debug, PartialEq, Eq)]
+pub enum OwnCommitFault {
+    /// There was no memory for it.
+    Memory,
+    /// A commit above the instance's start changed or kept a cell too. The instance has ended.
+    Clashed(Clash),
+}
+
+impl From<AllocError> for OwnCommitFault {
+    ghost use Rattle.std.specs.Prelude.{◌≡◌};
+    ghost use Rattle.history_book.specs.declared.fault.OwnCommitFault.TheVariants.{Memory};
+
+    ghost from_gives = { λ _ e. e ≡ Memory };
+
+    fn from(_: AllocError) -> Self {
+        OwnCommitFault::Memory
+    }
+}
+
 /// Why an instance did not end as an aborted one.
 #[derive(Debug, Drop)]
 pub enum EndFault<'a> {
@@ -162,19 +182,6 @@ pub enum Refusal {
     WrongEnd,
     /// The run is not one of the instance.
     ForeignRun(Place),
-    /// There was no memory for it.
-    Memory,
-}
-
-impl From<AllocError> for Refusal {
-    ghost use Rattle.std.specs.Prelude.{◌≡◌};
-    ghost use Rattle.history_book.specs.declared.fault.Refusal.TheVariants.{Memory};
-
-    ghost from_gives = { λ _ e. e ≡ Memory };
-
-    fn from(_: AllocError) -> Self {
-        Refusal::Memory
-    }
 }
 
 impl Refusal {
@@ -186,7 +193,6 @@ impl Refusal {
             Refusal::NoSuchTicket => CommitFault::NoSuchTicket(unused),
             Refusal::WrongEnd => CommitFault::NotReady(unused),
             Refusal::ForeignRun(place) => CommitFault::ForeignRun(place, unused),
-            Refusal::Memory => CommitFault::Memory(unused),
         }
     }
 
@@ -198,7 +204,6 @@ impl Refusal {
             Refusal::NoSuchTicket => EndFault::NoSuchTicket(unused),
             Refusal::WrongEnd => EndFault::NotAborted(unused),
             Refusal::ForeignRun(place) => EndFault::ForeignRun(place, unused),
-            Refusal::Memory => EndFault::Memory(unused),
         }
     }
 }

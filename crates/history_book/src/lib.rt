@@ -11,7 +11,9 @@ mod orders;
 
 pub use audit::{AuditFault, RowFault, lawful_rows_are_right};
 pub use book::Book;
-pub use fault::{BeginFault, CommitFault, EndFault, NoSuchTicket, Place, ScanFault, Unused};
+pub use fault::{
+    BeginFault, CommitFault, EndFault, NoSuchTicket, OwnCommitFault, Place, ScanFault, Unused,
+};
 pub use instances::replay::taken;
 pub use instances::row::{Ending, HistoryRow};
 pub use instances::ticket::{Receipt, Ticket};

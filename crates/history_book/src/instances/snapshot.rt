@@ -1,13 +1,13 @@
 //! What active instances see, and whether runs are theirs.
 
-ghost use Rattle.std.specs.Prelude.{◌≡◌, ◌≤◌, ◌↔◌, ◌-◌, length, slice_get, Some, true, IfOk, IfErr, IfSome, IsTrue, option_copied, option_map, MatchOption};
+ghost use Rattle.std.specs.Prelude.{◌≡◌, ◌≤◌, ◌↔◌, ◌-◌, length, slice_get, Some, true, IfOk, IfNone, IfSome, IsTrue, option_copied, option_map, MatchOption};
 ghost use Rattle.prog_tree.specs.Evaluation.{rows_left};
 ghost use Rattle.prog_tree.specs.Table.{row_at, rows_in};
 ghost use Rattle.prog_run.specs.Looks.{IsFound, AreFound};
 ghost use Rattle.version_store.specs.Clash.{IsClash};
 ghost use Rattle.prog_tree.specs.Tree.{draft_tree};
 ghost use Rattle.history_book.specs.History.{IsCalled};
-ghost use Rattle.history_book.specs.Refusals.{IsRefusal};
+ghost use Rattle.history_book.specs.Refusals.{IsOfInstance, IsRefusal};
 ghost use Rattle.history_book.specs.Runs.{IsFirstForeign, SameProgram, IsEndedRow, clash_pair};
 ghost use Rattle.history_book.specs.View.{row_of, active_at, commits_in, state_in};
 
@@ -155,33 +155,39 @@ impl<'a> Book<'a> {
         run.program().is_same(program)
     }
 
-    /// The row of the instance that a ticket and its run end; or the first refusal, where `ended` says whether
+    /// The first reason why a ticket and a run do not end an instance, where `ended` says whether
     /// the run has ended as it has to.
-    pub(crate) fn ended_row(
-        &self,
-        ticket: &Ticket,
-        run: &Run<'_>,
-        ended: bool,
-    ) -> Result<HistoryRow, Refusal>
-        ensures refused { IfErr result (λ refusal.
+    pub(crate) fn refusal_of(&self, ticket: &Ticket, run: &Run<'_>, ended: bool) -> Option<Refusal>
+        ensures refused { IfSome result (λ refusal.
             IsRefusal self.now ticket.now run.now ended refusal) }
-        ensures ended { IfOk result (λ row. ended ≡ true) }
+        ensures ended { IfNone result (ended ≡ true) }
+        ensures own { IfNone result (IsOfInstance self.now ticket.now run.now) }
+    {
+        let Some(active) = self.active_instance(ticket) else {
+            return Some(Refusal::NoSuchTicket);
+        };
+        if !ended {
+            return Some(Refusal::WrongEnd);
+        }
+        if !self.has_program(active, run) {
+            return Some(Refusal::ForeignRun(Place::Program));
+        }
+        if let Some(number) = self.foreign_look(active.start, run.looks()) {
+            return Some(Refusal::ForeignRun(Place::Look(number)));
+        }
+        None
+    }
+
+    /// The row of the instance that a ticket and its own run end.
+    pub(crate) fn own_row(&self, ticket: &Ticket, run: &Run<'_>) -> Result<HistoryRow, AllocError>
+        requires { IsOfInstance self.now ticket.now run.now }
         ensures row { IfOk result (λ row. IsEndedRow self.now ticket.now run.now row) }
         ensures above { IfOk result (λ row. self.now.floor ≤ row.start) }
         ensures within { IfOk result (λ row. row.start ≤ length self.now.rows) }
     {
         let Some(active) = self.active_instance(ticket) else {
-            return Err(Refusal::NoSuchTicket);
+            unreachable!()
         };
-        if !ended {
-            return Err(Refusal::WrongEnd);
-        }
-        if !self.has_program(active, run) {
-            return Err(Refusal::ForeignRun(Place::Program));
-        }
-        if let Some(number) = self.foreign_look(active.start, run.looks()) {
-            return Err(Refusal::ForeignRun(Place::Look(number)));
-        }
         Ok(self.row(active, run)?)
     }
 
