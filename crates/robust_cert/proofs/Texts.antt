@@ -13,8 +13,9 @@ use Rattle.robust_cert.specs.declared.certificate.Question.{Question}
 use Rattle.robust_cert.specs.declared.certificate.Entry.{Entry}
 use Rattle.robust_cert.specs.declared.certificate.Entry.TheVariants.{Apart, Cover}
 use Rattle.robust_cert.specs.declared.certificate.Certificate.{Certificate}
-use Rattle.robust_cert.specs.Json.{list_data, whole_data, node_data, chain_data, entry_data, first_data, second_data}
-use Rattle.robust_cert.specs.Helpers.{question_text, shared_text}
+use Rattle.robust_cert.specs.Json.{list_data, whole_data, node_data, chain_data, entry_data, first_data, second_data, QuestionFits, EntryFits}
+use Rattle.robust_cert.specs.Helpers.{shared_text}
+use Rattle.robust_cert.specs.Parts.{asked_by, head_text, second_text, tail_text, TailFits}
 
 -- each thing's text behind a comma
 abbrev pub behind_commas : {A : Type 0} → (A → Data) → List A → List ℕ
@@ -67,17 +68,20 @@ cover_text : (q : Question) (mine theirs : ℕ) (chains : List (List Node))
 unfolding serde_json_on_literals
 cover_text q mine theirs chains = refl
 
--- the pieces of these texts, one pushed behind the other
-pub apart_written : (q : Question) (chain : List Node) (old one two three : List ℕ)
-    → one ≡ old ++ codes "[\"apart\"," → two ≡ one ++ question_text q → three ≡ two ++ compact_text (chain_data chain)
-    → three ++ codes "]" ≡ old ++ compact_text (entry_data (Apart q chain))
-apart_written q chain old one two three e f g = rw (g, f, e, ← apart_text q chain) (simp append_assoc)
+-- an entry's text is that of its three parts
+entry_text : (e : Entry) → head_text e ++ (second_text (asked_by e) ++ tail_text e) ≡ compact_text (entry_data e)
+entry_text (Apart q chain) = rw (← apart_text q chain) (simp append_assoc)
+entry_text (Cover q mine theirs chains) = rw (← cover_text q mine theirs chains) (simp append_assoc)
 
-pub cover_written : (q : Question) (mine theirs : ℕ) (chains : List (List Node)) (old one two three four five : List ℕ)
-    → one ≡ old ++ codes "[\"cover\"," → two ≡ one ++ question_text q → three ≡ two ++ (decimal mine ++ codes ",") → four ≡ three ++ (decimal theirs ++ codes ",")
-    → five ≡ four ++ compact_text (list_data chain_data chains)
-    → five ++ codes "]" ≡ old ++ compact_text (entry_data (Cover q mine theirs chains))
-cover_written q mine theirs chains old one two three four five e f g h k = rw (k, h, g, f, e, ← cover_text q mine theirs chains) (simp append_assoc)
+-- the pieces of this text, one pushed behind the other
+pub entry_written : (e : Entry) (q : Question) (old head tail one two : List ℕ) → q ≡ asked_by e → head ≡ head_text e → tail ≡ tail_text e
+    → one ≡ old ++ head → two ≡ one ++ second_text q
+    → two ++ tail ≡ old ++ compact_text (entry_data e)
+entry_written e q old head tail one two a b d f g = rw (g, f, d, b, a, ← entry_text e) (simp append_assoc)
+
+pub entry_fits : (e : Entry) → QuestionFits (asked_by e) → TailFits e → EntryFits e
+entry_fits (Apart q chain) question tail = (question, tail)
+entry_fits (Cover q mine theirs chains) question tail = (question, tail.0, tail.1, tail.2)
 
 -- a certificate's text in the first version, and in the second
 pub first_whole : (c : Certificate)

@@ -1,5 +1,5 @@
 -- Words of private clauses.
-use Rattle.std.specs.Prelude.{◌≡◌, ◌≢◌, ◌++◌, ℕ, List, All, Some, codes, decimal, String, string_bytes}
+use Rattle.std.specs.Prelude.{◌≡◌, ◌≢◌, ◌++◌, ℕ, List, All, Some, codes, String, string_bytes}
 use Rattle.std.specs.declared.alloc.Global.{Global}
 use Rattle.serde_json.specs.Data.{Num, unsigned, Data, Members, object}
 use Rattle.serde_json.specs.Written.{compact_text}
@@ -33,10 +33,6 @@ fault_of untaken.TheVariants.Memory = Memory
 abbrev pub number_of : Version → Num
 number_of version.TheVariants.First = unsigned 1
 number_of version.TheVariants.Second = unsigned 2
-
--- the text of a question's numbers, each with a comma behind it
-abbrev pub question_text : Question → List ℕ
-question_text q = decimal q.x ++ (codes "," ++ (decimal q.a ++ (codes "," ++ (decimal q.y ++ (codes "," ++ (decimal q.b ++ codes ","))))))
 
 -- the text of the members that both versions have, up to the version
 abbrev pub shared_text : Certificate → List ℕ

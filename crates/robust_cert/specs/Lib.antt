@@ -2,6 +2,7 @@ pub mod Ranges
 pub mod Json
 pub mod Reading
 pub mod Helpers
+pub mod Parts
 pub mod Accepted
 pub mod Refused
 pub mod Law

@@ -2,6 +2,7 @@
 
 pub mod compact;
 pub mod reading;
+pub mod remembered;
 pub mod shape;
 pub mod version;
 pub mod whole;

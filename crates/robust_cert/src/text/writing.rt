@@ -3,12 +3,14 @@
 ghost use Rattle.std.specs.Prelude.{◌≡◌, ◌++◌, ◌==◌, All, IfOk, OnOk, codes, string_bytes};
 ghost use Rattle.std.specs.List.{list_all};
 ghost use Rattle.robust_cert.specs.Ranges.{IsSmall, ChainFits};
-ghost use Rattle.robust_cert.specs.Json.{node_data, chain_data, entry_data, whole_data, list_data, entry_items, apart_items, cover_items, has_no_bodies, first_data, second_data, certificate_data, certificate_text, QuestionFits, EntryFits, CertificateFits};
+ghost use Rattle.robust_cert.specs.Json.{node_data, chain_data, entry_data, whole_data, list_data, has_no_bodies, first_data, second_data, certificate_data, certificate_text, QuestionFits, EntryFits, CertificateFits};
 ghost use Rattle.robust_cert.specs.Reading.{IsTextOf};
-ghost use Rattle.robust_cert.specs.Helpers.{Appends, question_text, shared_text};
+ghost use Rattle.robust_cert.specs.Helpers.{Appends, shared_text};
+ghost use Rattle.robust_cert.specs.Parts.{asked_by, first_text, second_text, head_text, tail_text, apart_tail_text, cover_tail_text, TailFits, ArePartsOf};
 
 use crate::certificate::{Certificate, Entry, Question};
 use crate::chain::Chain;
+use crate::text::remembered::Parts;
 use itoa::{Buffer, Integer};
 use order_facts::Node;
 use std::alloc::{AllocError, Global};
@@ -88,62 +90,103 @@ fn push_chains(text: &mut String, chains: &[Chain]) -> Result<(), AllocError>
     text.push_str("]")
 }
 
-// Adds the numbers of a question, each with a comma behind it.
-fn push_question(text: &mut String, question: Question) -> Result<(), AllocError>
+// Adds the numbers of the first access, each with a comma behind it.
+fn push_first_access(text: &mut String, question: Question) -> Result<(), AllocError>
     ensures { OnOk result
-        (string_bytes text.new ≡ string_bytes text.old ++ question_text question) }
+        (string_bytes text.new ≡ string_bytes text.old ++ first_text question) }
 {
-    let Question { x, a, y, b } = question;
-    push_before(text, x, ",")?;
-    push_before(text, a, ",")?;
-    push_before(text, y, ",")?;
-    push_before(text, b, ",")
+    push_before(text, question.x, ",")?;
+    push_before(text, question.a, ",")
 }
 
-fn push_apart(text: &mut String, question: Question, chain: &[Node]) -> Result<(), AllocError>
-    ensures text { OnOk result (Appends text.old text.new
-        (entry_items (codes "apart") question (apart_items chain.now))) }
-    ensures fits { QuestionFits question }
+/// Adds the kind of an entry and the first access of its question.
+pub(crate) fn push_head(text: &mut String, entry: &Entry) -> Result<(), AllocError>
+    ensures { OnOk result (string_bytes text.new ≡ string_bytes text.old ++ head_text entry.now) }
 {
-    text.push_str("[\"apart\",")?;
-    push_question(text, question)?;
+    match entry {
+        Entry::Apart { question, .. } => {
+            text.push_str("[\"apart\",")?;
+            push_first_access(text, *question)
+        }
+        Entry::Cover { question, .. } => {
+            text.push_str("[\"cover\",")?;
+            push_first_access(text, *question)
+        }
+    }
+}
+
+fn push_apart_tail(text: &mut String, chain: &[Node]) -> Result<(), AllocError>
+    ensures { OnOk result
+        (string_bytes text.new ≡ string_bytes text.old ++ apart_tail_text chain.now) }
+{
+    text.push_str(",")?;
     push_chain(text, chain)?;
     text.push_str("]")
 }
 
-fn push_cover(
+fn push_cover_tail(
     text: &mut String,
-    question: Question,
     mine: u32,
     theirs: u32,
     chains: &[Chain],
 ) -> Result<(), AllocError>
-    ensures text { OnOk result (Appends text.old text.new
-        (entry_items (codes "cover") question (cover_items mine theirs chains.now))) }
-    ensures fits { OnOk result (QuestionFits question × IsSmall mine × IsSmall theirs
-        × All ChainFits chains.now) }
+    ensures text { OnOk result
+        (string_bytes text.new ≡ string_bytes text.old ++ cover_tail_text mine theirs chains.now) }
+    ensures fits { OnOk result (IsSmall mine × IsSmall theirs × All ChainFits chains.now) }
 {
-    text.push_str("[\"cover\",")?;
-    push_question(text, question)?;
+    text.push_str(",")?;
     push_before(text, mine, ",")?;
     push_before(text, theirs, ",")?;
     push_chains(text, chains)?;
     text.push_str("]")
 }
 
-fn push_entry(text: &mut String, entry: &Entry) -> Result<(), AllocError>
-    ensures text { OnOk result (Appends text.old text.new (entry_data entry.now)) }
-    ensures fits { OnOk result (EntryFits entry.now) }
+/// Adds what stands behind the question of an entry.
+pub(crate) fn push_tail(text: &mut String, entry: &Entry) -> Result<(), AllocError>
+    ensures text { OnOk result
+        (string_bytes text.new ≡ string_bytes text.old ++ tail_text entry.now) }
+    ensures fits { OnOk result (TailFits entry.now) }
 {
     match entry {
-        Entry::Apart { question, chain } => push_apart(text, *question, chain.as_slice()),
+        Entry::Apart { chain, .. } => push_apart_tail(text, chain.as_slice()),
         Entry::Cover {
-            question,
             mine,
             theirs,
             chains,
-        } => push_cover(text, *question, *mine, *theirs, chains.as_slice()),
+            ..
+        } => { push_cover_tail(text, *mine, *theirs, chains.as_slice()) }
     }
+}
+
+// Adds the numbers of the second access, with a comma between them.
+fn push_second_access(text: &mut String, question: Question) -> Result<(), AllocError>
+    ensures text { OnOk result
+        (string_bytes text.new ≡ string_bytes text.old ++ second_text question) }
+    ensures fits { QuestionFits question }
+{
+    push_before(text, question.y, ",")?;
+    push_number(text, question.b)
+}
+
+fn asked_by(entry: &Entry) -> Question
+    ensures { result ≡ asked_by entry.now }
+{
+    match entry {
+        Entry::Apart { question, .. } => *question,
+        Entry::Cover { question, .. } => *question,
+    }
+}
+
+// Adds an entry whose head and tail are told.
+fn push_entry(text: &mut String, parts: &Parts, entry: &Entry) -> Result<(), AllocError>
+    requires parts { ArePartsOf entry.now parts.now }
+    requires fits { TailFits entry.now }
+    ensures text { OnOk result (Appends text.old text.new (entry_data entry.now)) }
+    ensures fits { OnOk result (EntryFits entry.now) }
+{
+    text.push_str(parts.head.as_str())?;
+    push_second_access(text, asked_by(entry))?;
+    text.push_str(parts.tail.as_str())
 }
 
 fn push_entries(text: &mut String, entries: &[Entry]) -> Result<(), AllocError>
@@ -153,11 +196,15 @@ fn push_entries(text: &mut String, entries: &[Entry]) -> Result<(), AllocError>
     let [first, others @ ..] = entries else {
         return text.push_str("[]");
     };
+    let mut parts = Parts::of(*text.allocator(), first)?;
+    let mut before = first;
     text.push_str("[")?;
-    push_entry(text, first)?;
+    push_entry(text, &parts, first)?;
     for entry in others {
+        parts.renew(before, entry)?;
         text.push_str(",")?;
-        push_entry(text, entry)?;
+        push_entry(text, &parts, entry)?;
+        before = entry;
     }
     text.push_str("]")
 }

@@ -1,8 +1,0 @@
-use Rattle.std.proofs.Common.{codes, string_bytes}
-use Rattle.robust_cert.proofs.Texts.{apart_written, last_piece}
-use Rattle.robust_cert.proofs.text.writing.push_apart.Goals as goal
-
-pub returns-clause-text : goal.returns-clause-text
-returns-clause-text c =
-    last_piece c.push_str-2.result _ (string_bytes c.push_chain.new.text) (codes "]") _ c.push_str-2.ensures.bytes
-    (apart_written c.args.question c.args.chain.now (string_bytes c.args.text.now) _ _ _ c.in_ok-push_str.ensures.bytes c.in_ok-push_question.ensures c.in_ok-push_chain.ensures)
