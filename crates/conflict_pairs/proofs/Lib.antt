@@ -4,6 +4,7 @@ pub mod Covering
 pub mod Meaning
 pub mod Zipped
 pub mod Likeness
+pub mod OneKind
 pub mod Entries
 pub mod Growing
 pub mod Numbered

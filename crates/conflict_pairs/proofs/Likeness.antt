@@ -9,7 +9,9 @@ use Rattle.order_facts.specs.declared.steps.Fact.{Fact}
 use Rattle.prog_check.specs.declared.path.Access.{Access}
 use Rattle.prog_check.specs.declared.path.Path.{Path}
 use Rattle.prog_paths.specs.declared.places.Question.{Question as Asked}
+use Rattle.prog_paths.specs.declared.places.Placed.{Placed}
 use Rattle.prog_paths.specs.Meeting.{MayCover}
+use Rattle.prog_paths.specs.Places.{IsAt}
 use Rattle.prog_paths.specs.StaticGraph.{IsAccessOf}
 use Rattle.prog_paths.specs.Asked.{ChangesSingleCells, numbers_of}
 use Rattle.prog_paths.specs.Questions.{question_facts}
@@ -19,6 +21,7 @@ use Rattle.conflict_pairs.specs.declared.verdicts.Verdict.TheVariants.{Apart, Co
 use Rattle.conflict_pairs.specs.Verdicts.{IsRight}
 use Rattle.conflict_pairs.specs.Search.{CoversAt, IsJudged}
 use Rattle.conflict_pairs.specs.Alike.{AreAlike, CoverAlike, CoversToo, HaveSameCovers, accesses_in, accesses_at, AreClasses, IsAsked, HasAccess, IsLikeAt, IsLike, IsJudgedAt}
+use Rattle.conflict_pairs.specs.Kinds.{AreOneKind}
 use Rattle.conflict_pairs.proofs.Meaning.{IsRight-from_lists}
 use Rattle.conflict_pairs.proofs.Moving.{single-first, single-second, IsQuestion-asked, IsRight-asked}
 
@@ -31,13 +34,13 @@ unplaced a = record { kind = a.kind; table = a.table; first = a.first; second = 
 same_but_place : (a b : Access) → AreAlike a b → unplaced a ≡ unplaced b
 same_but_place a b h = λ i. record { kind = h.kind i; table = h.table i; first = h.first i; second = h.second i; place = 0; sure = h.sure i }
 
-alike-own : (a : Access) → AreAlike a a
+pub alike-own : (a : Access) → AreAlike a a
 alike-own a = record { kind = refl; table = refl; first = refl; second = refl; sure = refl }
 
-alike-back : (a b : Access) → AreAlike a b → AreAlike b a
+pub alike-back : (a b : Access) → AreAlike a b → AreAlike b a
 alike-back a b h = record { kind = sym h.kind; table = sym h.table; first = sym h.first; second = sym h.second; sure = sym h.sure }
 
-alike-through : (a b c : Access) → AreAlike a b → AreAlike b c → AreAlike a c
+pub alike-through : (a b c : Access) → AreAlike a b → AreAlike b c → AreAlike a c
 alike-through a b c h k = record { kind = h.kind ∙ k.kind; table = h.table ∙ k.table; first = h.first ∙ k.first; second = h.second ∙ k.second; sure = h.sure ∙ k.sure }
 
 -- of accesses that are alike both may cover, or neither
@@ -128,29 +131,18 @@ pub access_unique : (paths : List Path) (x a : ℕ) (one other : Access) → IsA
 access_unique paths x a one other h k =
     same_Some one other (sym h.2 ∙ subst (λ (p : Path). slice_get p.accesses a ≡ Some other) (sym (same_Some h.0 k.0 (sym h.1 ∙ k.1))) k.2)
 
-pub node_within : (paths : List Path) (x a : ℕ) → HasAccess paths x a → x < length paths
-node_within paths x a h = slice_get_within paths x h.1.0 h.1.1
-
--- the access that was read at its numbers
-access_read : (paths : List Path) (x a : ℕ) (p : Path) (xs : List Access) (d : Access) (h : HasAccess paths x a) → xs ≡ (get_or paths x p).accesses → get_or xs a d ≡ h.0
-access_read paths x a p xs d h of_p =
-    ap (λ (l : List Access). get_or l a d) (of_p ∙ ap (λ (z : Path). z.accesses) (get_or_from_slice_get paths x h.1.0 p h.1.1))
-    ∙ get_or_from_slice_get h.1.0.accesses a h.0 d h.1.2
-
--- accesses that were read at their numbers and are alike, at nodes of one class
-pub like_at-read : (paths : List Path) (classes : List ℕ) (x a y b : ℕ) (p q : Path) (xs ys : List Access) (d e : Access) → AreClasses paths classes → HasAccess paths x a → HasAccess paths y b → xs ≡ (get_or paths x p).accesses → ys ≡ (get_or paths y q).accesses → get_or classes x 0 ≡ get_or classes y 0 → AreAlike (get_or xs a d) (get_or ys b e) → IsLikeAt paths x a y b
-like_at-read paths classes x a y b p q xs ys d e classed h k of_p of_q same_class alike = record {
-  mine = h.0;
-  other = k.0;
-  at_mine = h.1;
-  at_other = k.1;
-  alike =
-      subst (λ (z : Access). AreAlike z k.0) (access_read paths x a p xs d h of_p)
-      (subst (λ (z : Access). AreAlike (get_or xs a d) z) (access_read paths y b q ys e k of_q) alike);
+-- accesses of one kind are alike, as the covers of their nodes
+pub like_at-classes : (paths : List Path) (classes : List ℕ) (p q : Placed) → AreClasses paths classes → IsAt paths p → IsAt paths q → AreOneKind classes p q → IsLikeAt paths p.node p.number q.node q.number
+like_at-classes paths classes p q classed at_p at_q h = record {
+  mine = p.access;
+  other = q.access;
+  at_mine = at_p;
+  at_other = at_q;
+  alike = h.alike;
   covers =
-      let within_x = node_within paths x a h in
-      let within_y = node_within paths y b k in
-      one_class paths classes x y classed (omega (arith, within_x, classed.one_each)) (omega (arith, within_y, classed.one_each)) same_class;
+      let within_p = slice_get_within paths p.node at_p.0 at_p.1 in
+      let within_q = slice_get_within paths q.node at_q.0 at_q.1 in
+      one_class paths classes p.node q.node classed (omega (arith, within_p, classed.one_each)) (omega (arith, within_q, classed.one_each)) h.class;
 }
 
 -- ---- what is asked

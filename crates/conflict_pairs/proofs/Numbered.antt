@@ -3,7 +3,7 @@ use Rattle.std.proofs.Common.{◌≡◌, ℕ, ◌<◌, List, [], ◌∷◌, leng
 use Rattle.std.specs.Prelude.{All, Some, slice_get}
 use Rattle.std.specs.List.{AllZip}
 use Rattle.std.proofs.lemmas.List.Elements.{All-nil, All-cons, All-head, All-tail}
-use Rattle.std.proofs.lemmas.Option.{get_or_from_slice_get, slice_get_within, same_Some}
+use Rattle.std.proofs.lemmas.Option.{get_or_from_slice_get, slice_get-get_or, slice_get_within, same_Some}
 use Rattle.prog_check.specs.declared.path.Path.{Path}
 use Rattle.prog_paths.specs.declared.places.Question.{Question as Asked}
 use Rattle.prog_paths.specs.Asked.{ChangesSingleCells, questions_of}
@@ -14,6 +14,10 @@ use Rattle.conflict_pairs.specs.Table.{Table, verdict_at, entry_by, entries_of, 
 use Rattle.conflict_pairs.specs.Alike.{IsAsked, StandsIn, IsJudgedAt, AreJudged}
 use Rattle.conflict_pairs.proofs.Zipped.{AllZip-at, AllZip-lengths}
 use Rattle.conflict_pairs.proofs.Likeness.{judged-like, right-judged}
+
+-- an element that is there doesn't depend on what stands for a missing one
+pub at_any : (l : List Verdict) (n : ℕ) (d e : Verdict) → n < length l → get_or l n d ≡ get_or l n e
+at_any l n d e lt = get_or_from_slice_get l n (get_or l n e) d (slice_get-get_or l n e lt)
 
 module _ (vs : List Verdict) where
   pub entries-length : (qs : List Asked) (ns : List ℕ) → length qs ≡ length ns → length (entries_of vs qs ns) ≡ length qs

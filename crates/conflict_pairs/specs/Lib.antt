@@ -1,5 +1,6 @@
 pub mod Verdicts
 pub mod Search
 pub mod Alike
+pub mod Kinds
 pub mod Table
 pub mod Law

@@ -1,9 +1,9 @@
-//! Questions that are alike: what is said of one is said of the other.
+//! Accesses that are alike, and nodes with the same covers.
 ghost use Rattle.std.specs.Prelude.{◌≡◌, ◌↔◌, ◌<◌, length, IsTrue, IfOk};
-ghost use Rattle.conflict_pairs.specs.Alike.{AreAlike, CoverAlike, HaveSameCovers, accesses_at, AreClasses, IsAsked, HasAccess, IsLikeAt, IsLike};
+ghost use Rattle.conflict_pairs.specs.Alike.{AreAlike, CoverAlike, HaveSameCovers, accesses_at, AreClasses};
 
 use prog_check::{Access, Column, Kind, Path};
-use prog_paths::{Question, may_cover};
+use prog_paths::may_cover;
 use std::alloc::{AllocError, Global};
 
 fn is_same_column(one: Column, other: Column) -> bool
@@ -29,7 +29,7 @@ fn is_same_kind(one: Kind, other: Kind) -> bool
 }
 
 /// Whether two accesses are equal but for their places.
-fn are_alike(one: &Access, other: &Access) -> bool
+pub fn are_alike(one: &Access, other: &Access) -> bool
     ensures { IsTrue result → AreAlike one.now other.now }
 {
     one.table == other.table
@@ -84,27 +84,4 @@ pub fn classes_of(alloc: Global, paths: &[Path]) -> Result<Vec<usize>, AllocErro
         classes.push(class_of(paths, x))?;
     }
     Ok(classes)
-}
-
-/// Whether access `a` of node `x` and access `b` of node `y` are alike, as the covers of the nodes.
-fn is_like_at(paths: &[Path], classes: &[usize], x: usize, a: usize, y: usize, b: usize) -> bool
-    requires classes { AreClasses paths.now classes.now }
-    requires first { HasAccess paths.now x a }
-    requires second { HasAccess paths.now y b }
-    ensures { IsTrue result → IsLikeAt paths.now x a y b }
-{
-    let xs = paths[x].accesses.as_slice();
-    let ys = paths[y].accesses.as_slice();
-    classes[x] == classes[y] && are_alike(&xs[a], &ys[b])
-}
-
-/// Whether two questions are alike.
-pub fn is_like(paths: &[Path], classes: &[usize], one: &Question, other: &Question) -> bool
-    requires classes { AreClasses paths.now classes.now }
-    requires one { IsAsked paths.now one.now }
-    requires other { IsAsked paths.now other.now }
-    ensures { IsTrue result → IsLike paths.now one.now other.now }
-{
-    is_like_at(paths, classes, one.x, one.a, other.x, other.a)
-        && is_like_at(paths, classes, one.y, one.b, other.y, other.b)
 }

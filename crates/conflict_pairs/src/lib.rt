@@ -10,6 +10,7 @@ mod condition;
 mod cover;
 mod fault;
 mod judge;
+mod kinds;
 mod laws;
 mod limits;
 mod listing;

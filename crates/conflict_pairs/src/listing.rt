@@ -2,13 +2,13 @@
 ghost use Rattle.std.specs.Prelude.{◌≡◌, ◌↔◌, ◌++◌, ◌<◌, length, All, IfOk, OnOk, Err};
 ghost use Rattle.conflict_pairs.specs.declared.fault.PairFault as PairFault;
 ghost use Rattle.prog_paths.specs.Asked.{ChangesSingleCells, asked_by, asked_among, questions_of, limit};
-ghost use Rattle.conflict_pairs.specs.Table.{verdicts_in, StandsFor};
+ghost use Rattle.conflict_pairs.specs.Table.{StandsFor};
 
 use crate::fault::PairFault;
 use crate::judge::verdicts_of;
+use crate::kinds::Kinds;
 use crate::shown::{Shown, shown_of};
 use crate::table::PairTable;
-use crate::verdicts::Verdict;
 use prog_check::Path;
 use prog_paths::{Changers, Placed, Question, all_places, asks, is_too_large, question_between};
 use std::alloc::{AllocError, Global};
@@ -44,15 +44,6 @@ pub fn all_questions(alloc: Global, places: &[Placed]) -> Result<Vec<Question>, 
     Ok(questions)
 }
 
-/// The verdicts as one part.
-fn one_part(alloc: Global, verdicts: Vec<Verdict>) -> Result<Vec<Vec<Verdict>>, AllocError>
-    ensures { IfOk result (λ parts. verdicts_in parts.items ≡ verdicts.items) }
-{
-    let mut parts = Vec::new(alloc);
-    parts.push(verdicts)?;
-    Ok(parts)
-}
-
 /// All questions of the paths in order, with their verdicts. They are counted before any memory is
 /// taken.
 pub fn pairs(alloc: Global, paths: &[Path]) -> Result<PairTable, PairFault>
@@ -66,8 +57,8 @@ pub fn pairs(alloc: Global, paths: &[Path]) -> Result<PairTable, PairFault>
     }
     let places = all_places(alloc, paths)?;
     let questions = all_questions(alloc, &places)?;
-    let Shown { judged, numbers } = shown_of(alloc, paths, &questions)?;
+    let kinds = Kinds::of(alloc, paths, &places)?;
+    let Shown { judged, numbers } = shown_of(alloc, &kinds, &questions)?;
     let verdicts = verdicts_of(alloc, paths, &judged)?;
-    let parts = one_part(alloc, verdicts)?;
-    Ok(PairTable::of(paths.len(), questions, numbers, parts))
+    Ok(PairTable::of(paths.len(), questions, numbers, verdicts))
 }

@@ -7,6 +7,7 @@ ghost use Rattle.conflict_pairs.specs.Table.{verdicts_in, StandsFor};
 
 use crate::fault::PairFault;
 use crate::judge::verdicts_of;
+use crate::kinds::Kinds;
 use crate::limits::{EQUAL_PARTS, MIN_QUESTIONS_OF_THREADS};
 use crate::listing::all_questions;
 use crate::shown::{Shown, shown_of};
@@ -51,6 +52,18 @@ fn parts_of(
         .collect::<Result<Vec<Vec<Verdict>>, AllocError>>(rt, alloc)?
 }
 
+/// The verdicts of all parts, one part after the other.
+fn joined(alloc: Global, mut parts: Vec<Vec<Verdict>>) -> Result<Vec<Verdict>, AllocError>
+    ensures { IfOk result (λ verdicts. verdicts.items ≡ verdicts_in parts.items) }
+{
+    let mut verdicts = Vec::new(alloc);
+    while !parts.is_empty() {
+        let mut part = parts.remove(0);
+        verdicts.append(&mut part)?;
+    }
+    Ok(verdicts)
+}
+
 /// All questions of the paths in order, with their verdicts, as `pairs` gives them, by several
 /// threads where there are many. They are counted before any memory is taken.
 pub fn pairs_par(
@@ -68,7 +81,9 @@ pub fn pairs_par(
     }
     let places = all_places(alloc, paths)?;
     let questions = all_questions(alloc, &places)?;
-    let Shown { judged, numbers } = shown_of(alloc, paths, &questions)?;
+    let kinds = Kinds::of(alloc, paths, &places)?;
+    let Shown { judged, numbers } = shown_of(alloc, &kinds, &questions)?;
     let parts = parts_of(rt, alloc, paths, &judged)?;
-    Ok(PairTable::of(paths.len(), questions, numbers, parts))
+    let verdicts = joined(alloc, parts)?;
+    Ok(PairTable::of(paths.len(), questions, numbers, verdicts))
 }

@@ -1,7 +1,7 @@
 //! The table of all questions with their verdicts.
 ghost use Rattle.std.specs.Prelude.{◌≡◌, ◌<◌, ◌↔◌, [], IsTrue, All, Some, length, slice_get};
 ghost use Rattle.conflict_pairs.specs.declared.table.Entry.{Entry};
-ghost use Rattle.conflict_pairs.specs.Table.{verdicts_in, verdict_at, entries_of};
+ghost use Rattle.conflict_pairs.specs.Table.{entries_of};
 
 use crate::verdicts::Verdict;
 use prog_paths::Question;
@@ -21,61 +21,45 @@ pub struct PairTable {
     questions: Vec<Question>,
     // For each question the number of its verdict, which may be that of several.
     numbers: Vec<usize>,
-    // The verdicts in order, in as many parts as were made at once.
-    parts: Vec<Vec<Verdict>>,
-}
-
-/// The verdict of a number.
-fn verdict_in(parts: &[Vec<Verdict>], number: usize) -> &Verdict
-    requires { number < length (verdicts_in parts.now) }
-    ensures { result.now ≡ verdict_at (verdicts_in parts.now) number }
-{
-    let mut left = number;
-    for part in parts {
-        if left < part.len() {
-            return &part[left];
-        }
-        left -= part.len();
-    }
-    unreachable!()
+    verdicts: Vec<Verdict>,
 }
 
 impl Model for PairTable {
     ghost use Rattle.std.specs.Prelude.{◌≡◌, ◌<◌, length, All};
-    ghost use Rattle.conflict_pairs.specs.Table.{Table, verdicts_in, entries_of};
+    ghost use Rattle.conflict_pairs.specs.Table.{Table, entries_of};
 
     ghost Value = { Table };
 
     ghost view = { λ t. record {
       nodes = t.nodes;
-      entries = entries_of (verdicts_in t.parts.items) t.questions.items t.numbers.items;
+      entries = entries_of t.verdicts.items t.questions.items t.numbers.items;
     } };
 
     ghost invariant = { λ t. record {
       one_each : length t.questions.items ≡ length t.numbers.items;
-      within : All (λ n. n < length (verdicts_in t.parts.items)) t.numbers.items;
+      within : All (λ n. n < length t.verdicts.items) t.numbers.items;
     } };
 }
 
 impl PairTable {
-    /// The table of questions with the numbers of their verdicts, which were made in parts.
+    /// The table of questions with the numbers of their verdicts.
     pub(crate) fn of(
         nodes: usize,
         questions: Vec<Question>,
         numbers: Vec<usize>,
-        parts: Vec<Vec<Verdict>>,
+        verdicts: Vec<Verdict>,
     ) -> Self
         requires one_each { length questions.items ≡ length numbers.items }
-        requires within { All (λ n. n < length (verdicts_in parts.items)) numbers.items }
+        requires within { All (λ n. n < length verdicts.items) numbers.items }
         ensures nodes { result.nodes ≡ nodes }
         ensures entries { result.entries
-            ≡ entries_of (verdicts_in parts.items) questions.items numbers.items }
+            ≡ entries_of verdicts.items questions.items numbers.items }
     {
         PairTable {
             nodes,
             questions,
             numbers,
-            parts,
+            verdicts,
         }
     }
 
@@ -112,6 +96,6 @@ impl PairTable {
         requires { n < length self.now.entries }
         ensures { (e : Entry) → slice_get self.now.entries n ≡ Some e → result.now ≡ e.verdict }
     {
-        verdict_in(&self.parts, self.numbers[n])
+        &self.verdicts[self.numbers[n]]
     }
 }

@@ -8,6 +8,6 @@ use Rattle.conflict_pairs.proofs.shown.shown_of.Given as goal
 abbrev pub invariant-loop-question : goal.invariant-loop-question
 invariant-loop-question l = record {
   places : length l.remembered.items ≡ 65521;
-  asked : All (IsAsked l.paths) l.judged.items;
-  stand : AllZip (StandsIn l.paths l.judged.items) (take l.question-index l.questions) l.numbers.items;
+  asked : All (IsAsked l.kinds) l.judged.items;
+  stand : AllZip (StandsIn l.kinds l.judged.items) (take l.question-index l.questions) l.numbers.items;
 }

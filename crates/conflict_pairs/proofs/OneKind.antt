@@ -1,0 +1,154 @@
+-- Kinds of accesses, and where their numbers stand.
+use Rattle.std.proofs.Common.{◌≡◌, ℕ, ◌<◌, ◌≤◌, ◌+◌, List, [], ◌∷◌, ◌++◌, length, get_or, drop, refl, sym, subst, ap, ◌∙◌, arith, append_assoc, length-append, zero, suc}
+use Rattle.std.specs.Prelude.{All, Some, slice_get}
+use Rattle.std.specs.List.{AllZip}
+use Rattle.std.proofs.lemmas.List.{drop_more, drop_all, append-nil}
+use Rattle.std.proofs.lemmas.List.Elements.{All-weaker}
+use Rattle.std.proofs.lemmas.Option.{get_or_from_slice_get, slice_get_within, same_Some}
+use Rattle.prog_check.specs.declared.path.Access.{Access}
+use Rattle.prog_check.specs.declared.path.Path.{Path}
+use Rattle.prog_paths.specs.declared.places.Placed.{Placed}
+use Rattle.prog_paths.specs.Asked.{placed_from, all_from}
+use Rattle.prog_paths.specs.Places.{IsAt}
+use Rattle.prog_paths.specs.StaticGraph.{IsAccessOf}
+use Rattle.prog_paths.proofs.Asked.{placed, all_places_stand}
+use Rattle.conflict_pairs.specs.Alike.{AreAlike, AreClasses, HasAccess, IsLikeAt}
+use Rattle.conflict_pairs.specs.Kinds.{HasClass, AreOneKind, IsOfKind, AreNumbered, starts_from, kind_at, HasKind, AreKinds}
+use Rattle.conflict_pairs.proofs.Zipped.{AllZip-at, AllZip-lengths}
+use Rattle.conflict_pairs.proofs.Likeness.{alike-back, alike-through, like_at-classes}
+
+-- ---- one number, one kind
+
+one_kind : (classes : List ℕ) (firsts : List Placed) (p q : Placed) (m n : ℕ) → IsOfKind classes firsts p m → IsOfKind classes firsts q n → m ≡ n → AreOneKind classes p q
+one_kind classes firsts p q m n h k same =
+    let is : h.first ≡ k.first = same_Some h.first k.first (sym h.at ∙ ap (slice_get firsts) same ∙ k.at) in
+    record {
+      class = h.kind.class ∙ ap (λ (r : Placed). get_or classes r.node 0) is ∙ sym k.kind.class;
+      alike =
+          alike-through p.access h.first.access q.access h.kind.alike
+          (subst (λ (r : Placed). AreAlike r.access q.access) (sym is) (alike-back q.access k.first.access k.kind.alike));
+    }
+
+pub AreNumbered-from : (classes : List ℕ) (firsts places : List Placed) (numbers : List ℕ) → AllZip (IsOfKind classes firsts) places numbers → AreNumbered classes places numbers
+AreNumbered-from classes firsts places numbers h = record {
+  one_each = sym (AllZip-lengths (IsOfKind classes firsts) places numbers h);
+  same = λ i j p q at_p at_q same. one_kind classes firsts p q (get_or numbers i 0) (get_or numbers j 0) (kind i p at_p) (kind j q at_q) same;
+}
+  where
+    kind : (i : ℕ) (p : Placed) → slice_get places i ≡ Some p → IsOfKind classes firsts p (get_or numbers i 0)
+    kind i p at =
+        subst (λ (r : Placed). IsOfKind classes firsts r (get_or numbers i 0)) (get_or_from_slice_get places i p p at)
+        (AllZip-at (IsOfKind classes firsts) places numbers i p 0 h (slice_get_within places i p at))
+
+-- ---- places
+
+pub each_has_class : (paths : List Path) (classes : List ℕ) (places : List Placed) → AreClasses paths classes → places ≡ all_from 0 paths → All (HasClass classes) places
+each_has_class paths classes places classed is =
+    subst (λ (l : List Placed). All (HasClass classes) l) (sym is)
+    (All-weaker (λ p. IsAt paths p) (HasClass classes) (λ p at. has p at) (all_from 0 paths) (all_places_stand paths))
+  where
+    has : (p : Placed) → IsAt paths p → HasClass classes p
+    has p at = let within = slice_get_within paths p.node at.0 at.1 in omega (arith, within, classed.one_each)
+
+placed-length : (node n : ℕ) (xs : List Access) → length (placed_from node n xs) ≡ length xs
+placed-length node n [] = refl
+placed-length node n (x ∷ xs) = ap suc (placed-length node (n + 1) xs)
+
+placed-at : (node n : ℕ) (xs : List Access) (a : ℕ) (x : Access) → slice_get xs a ≡ Some x → slice_get (placed_from node n xs) a ≡ Some (placed node (n + a) x)
+placed-at node n [] a x at = absurd (none a at)
+  where
+    none : (a : ℕ) → slice_get [] a ≡ Some x → ⊥
+    none a h = let lt = slice_get_within [] a x h in omega (arith, lt)
+placed-at node n (y ∷ xs) zero x at =
+    let e : n + 0 ≡ n = omega arith in
+    ap Some ((λ i. placed node n (same_Some y x at i)) ∙ ap (λ (k : ℕ). placed node k x) (sym e))
+placed-at node n (y ∷ xs) (suc a) x at =
+    let e : n + 1 + a ≡ n + suc a = omega arith in
+    placed-at node (n + 1) xs a x at ∙ ap (λ (k : ℕ). Some (placed node k x)) e
+
+at-left : (xs ys : List Placed) (k : ℕ) (p : Placed) → slice_get xs k ≡ Some p → slice_get (xs ++ ys) k ≡ Some p
+at-left [] ys k p at = absurd (none k at)
+  where
+    none : (k : ℕ) → slice_get [] k ≡ Some p → ⊥
+    none k h = let lt = slice_get_within [] k p h in omega (arith, lt)
+at-left (x ∷ xs) ys zero p at = at
+at-left (x ∷ xs) ys (suc k) p at = at-left xs ys k p at
+
+at-right : (xs ys : List Placed) (k : ℕ) (p : Placed) → slice_get ys k ≡ Some p → slice_get (xs ++ ys) (length xs + k) ≡ Some p
+at-right [] ys k p at = let e : 0 + k ≡ k = omega arith in subst (λ (i : ℕ). slice_get ys i ≡ Some p) (sym e) at
+at-right (x ∷ xs) ys k p at =
+    let e : suc (length xs) + k ≡ suc (length xs + k) = omega arith in
+    subst (λ (i : ℕ). slice_get (x ∷ xs ++ ys) i ≡ Some p) (sym e) (at-right xs ys k p at)
+
+-- access `a` of the node `x` from here on stands where its node begins, with those before it
+place-from : (n : ℕ) (paths : List Path) (before : List Placed) (x a : ℕ) (access : Access) → IsAccessOf paths x a access → slice_get (before ++ all_from n paths) (get_or (starts_from (length before) paths) x 0 + a) ≡ Some (placed (n + x) a access)
+place-from n [] before x a access h = absurd (none x h.1)
+  where
+    none : (x : ℕ) → slice_get [] x ≡ Some h.0 → ⊥
+    none x k = let lt = slice_get_within [] x h.0 k in omega (arith, lt)
+place-from n (path ∷ rest) before zero a access h =
+    let is : path ≡ h.0 = same_Some path h.0 h.1 in
+    let e : n + 0 ≡ n = omega arith in
+    let f : 0 + a ≡ a = omega arith in
+    at-right before (placed_from n 0 path.accesses ++ all_from (n + 1) rest) a (placed n a access)
+    (at-left (placed_from n 0 path.accesses) (all_from (n + 1) rest) a (placed n a access)
+    (placed-at n 0 path.accesses a access (ap (λ (p : Path). slice_get p.accesses a) is ∙ h.2) ∙ ap (λ (k : ℕ). Some (placed n k access)) f))
+    ∙ ap (λ (k : ℕ). Some (placed k a access)) (sym e)
+place-from n (path ∷ rest) before (suc x) a access h =
+    let here = placed_from n 0 path.accesses in
+    let long : length (before ++ here) ≡ length before + length path.accesses = length-append before here ∙ ap (λ (k : ℕ). length before + k) (placed-length n 0 path.accesses) in
+    let e : n + 1 + x ≡ n + suc x = omega arith in
+    sym (λ i. slice_get (append_assoc before here (all_from (n + 1) rest) i) (get_or (starts_from (long i) rest) x 0 + a))
+    ∙ place-from (n + 1) rest (before ++ here) x a access (h.0, h.1, h.2)
+    ∙ ap (λ (k : ℕ). Some (placed k a access)) e
+
+starts-length : (start : ℕ) (paths : List Path) → length (starts_from start paths) ≡ length paths
+starts-length start [] = refl
+starts-length start (path ∷ rest) = ap suc (starts-length (start + length path.accesses) rest)
+
+-- ---- one more start
+
+pub starts-more : (old new whole : List ℕ) (start next n : ℕ) (paths : List Path) (path : Path) → n < length paths → path ≡ get_or paths n path → new ≡ old ++ start ∷ [] → next ≡ start + length path.accesses → old ++ starts_from start (drop n paths) ≡ whole → new ++ starts_from next (drop (n + 1) paths) ≡ whole
+starts-more old new whole start next n paths path lt is added step h =
+    (λ i. added i ++ starts_from (step i) (drop (n + 1) paths))
+    ∙ append_assoc old (start ∷ []) (starts_from (start + length path.accesses) (drop (n + 1) paths))
+    ∙ ap (λ (l : List Path). old ++ starts_from start l) (sym (drop_more paths n path lt ∙ ap (λ (p : Path). p ∷ drop (n + 1) paths) (sym is)))
+    ∙ h
+
+pub starts-end : (old whole : List ℕ) (start n : ℕ) (paths : List Path) → length paths ≤ n → old ++ starts_from start (drop n paths) ≡ whole → old ≡ whole
+starts-end old whole start n paths le h = sym (append-nil old) ∙ ap (λ (l : List Path). old ++ starts_from start l) (sym (drop_all n paths le)) ∙ h
+
+-- the accesses of this node and of those that are left
+pub left-more : (n : ℕ) (paths : List Path) (path : Path) → n < length paths → path ≡ get_or paths n path → length (all_from n (drop n paths)) ≡ length path.accesses + length (all_from (n + 1) (drop (n + 1) paths))
+left-more n paths path lt is =
+    ap (λ (l : List Path). length (all_from n l)) (drop_more paths n path lt ∙ ap (λ (p : Path). p ∷ drop (n + 1) paths) (sym is))
+    ∙ length-append (placed_from n 0 path.accesses) (all_from (n + 1) (drop (n + 1) paths))
+    ∙ ap (λ (k : ℕ). k + length (all_from (n + 1) (drop (n + 1) paths))) (placed-length n 0 path.accesses)
+
+-- ---- the kinds of all accesses
+
+module _ (paths : List Path) (classes numbers : List ℕ) (classed : AreClasses paths classes) (numbered : AreNumbered classes (all_from 0 paths) numbers) where
+  starts : List ℕ
+  starts = starts_from 0 paths
+
+  stands : (x a : ℕ) (h : HasAccess paths x a) → slice_get (all_from 0 paths) (get_or starts x 0 + a) ≡ Some (placed x a h.0)
+  unfolding starts
+  stands x a h =
+      let e : 0 + x ≡ x = omega arith in
+      place-from 0 paths [] x a h.0 h.1 ∙ ap (λ (k : ℕ). Some (placed k a h.0)) e
+
+  has : (x a : ℕ) → HasAccess paths x a → HasKind starts numbers x a
+  unfolding starts
+  has x a h =
+      let within = slice_get_within (all_from 0 paths) (get_or starts x 0 + a) (placed x a h.0) (stands x a h) in
+      let node = slice_get_within paths x h.1.0 h.1.1 in
+      record { node = omega (arith, node, starts-length 0 paths); access = omega (arith, within, numbered.one_each) }
+
+  alike : (x a y b : ℕ) → HasAccess paths x a → HasAccess paths y b → kind_at starts numbers x a ≡ kind_at starts numbers y b → IsLikeAt paths x a y b
+  alike x a y b h k same =
+      like_at-classes paths classes (placed x a h.0) (placed y b k.0) classed h.1 k.1
+      (numbered.same (get_or starts x 0 + a) (get_or starts y 0 + b) (placed x a h.0) (placed y b k.0) (stands x a h) (stands y b k) same)
+
+  pub AreKinds-from : (all : List ℕ) → all ≡ starts_from 0 paths → AreKinds paths all numbers
+  unfolding starts
+  AreKinds-from all is = subst (λ (l : List ℕ). AreKinds paths l numbers) (sym is) (record { has = has; alike = alike })
