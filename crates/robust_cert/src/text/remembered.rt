@@ -1,4 +1,5 @@
-//! The head and the tail of an entry's text, which the next entry often has as well, are remembered and copied whole.
+//! The head and the tail of an entry's text. The next entry often has them as well, so they are
+//! remembered and copied whole.
 
 ghost use Rattle.std.specs.Prelude.{◌≡◌, ◌↔◌, IsTrue, IfOk, OnOk};
 ghost use Rattle.robust_cert.specs.Parts.{head_text, tail_text, TailFits, ArePartsOf};
@@ -94,7 +95,7 @@ impl Parts {
         Ok(Parts { head, tail })
     }
 
-    // From the parts of one entry to those of the next.
+    /// From the parts of the entry before to those of this one: what both have alike stays.
     pub(crate) fn renew(&mut self, before: &Entry, entry: &Entry) -> Result<(), AllocError>
         requires text { ArePartsOf before.now self.old }
         requires fits { TailFits before.now }

@@ -90,11 +90,12 @@ fn push_chains(text: &mut String, chains: &[Chain]) -> Result<(), AllocError>
     text.push_str("]")
 }
 
-// Adds the numbers of the first access, each with a comma behind it.
-fn push_first_access(text: &mut String, question: Question) -> Result<(), AllocError>
+// Adds the kind of an entry, with what stands round it, and the numbers of the first access.
+fn push_kind(text: &mut String, kind: &str, question: Question) -> Result<(), AllocError>
     ensures { OnOk result
-        (string_bytes text.new ≡ string_bytes text.old ++ first_text question) }
+        (string_bytes text.new ≡ string_bytes text.old ++ (kind.now ++ first_text question)) }
 {
+    text.push_str(kind)?;
     push_before(text, question.x, ",")?;
     push_before(text, question.a, ",")
 }
@@ -104,14 +105,8 @@ pub(crate) fn push_head(text: &mut String, entry: &Entry) -> Result<(), AllocErr
     ensures { OnOk result (string_bytes text.new ≡ string_bytes text.old ++ head_text entry.now) }
 {
     match entry {
-        Entry::Apart { question, .. } => {
-            text.push_str("[\"apart\",")?;
-            push_first_access(text, *question)
-        }
-        Entry::Cover { question, .. } => {
-            text.push_str("[\"cover\",")?;
-            push_first_access(text, *question)
-        }
+        Entry::Apart { question, .. } => push_kind(text, "[\"apart\",", *question),
+        Entry::Cover { question, .. } => push_kind(text, "[\"cover\",", *question),
     }
 }
 
@@ -177,7 +172,7 @@ fn asked_by(entry: &Entry) -> Question
     }
 }
 
-// Adds an entry whose head and tail are told.
+// Adds an entry, whose parts are at hand.
 fn push_entry(text: &mut String, parts: &Parts, entry: &Entry) -> Result<(), AllocError>
     requires parts { ArePartsOf entry.now parts.now }
     requires fits { TailFits entry.now }
