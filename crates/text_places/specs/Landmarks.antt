@@ -1,5 +1,5 @@
 -- Where the tables, programs and statements of a set's text begin, and the records or the jobs of a list.
-use Rattle.std.specs.Prelude.{ℕ, zero, suc, ◌≡◌, ◌≤◌, ◌+◌, Bool, true, false, ◌&&◌, List, Option, Some, codes, bytes_eq, drop, length, if◌then◌else◌}
+use Rattle.std.specs.Prelude.{ℕ, zero, suc, ◌≡◌, ◌≤◌, ◌+◌, Bool, true, false, ◌&&◌, List, [], ◌∷◌, ◌++◌, Option, Some, codes, bytes_eq, drop, length, map, if◌then◌else◌}
 use Rattle.prog_text.specs.Words.{beginning_of}
 use Rattle.prog_text.specs.declared.lexing.words.Beginning.{Beginning}
 use Rattle.prog_text.specs.declared.lexing.words.Beginning.TheVariants as b
@@ -44,6 +44,20 @@ abbrev pub landmarks_before : Landmark → (text : List ℕ) → (place : ℕ) �
 landmarks_before kind text zero = 0
 landmarks_before kind text (suc place) =
     if is_landmark kind text place then suc (landmarks_before kind text place) else landmarks_before kind text place
+
+-- where those of a kind begin that begin before a place, in order
+abbrev pub places_before : Landmark → (text : List ℕ) → (place : ℕ) → List ℕ
+places_before kind text zero = []
+places_before kind text (suc place) = places_before kind text place ++ (if is_landmark kind text place then place ∷ [] else [])
+
+-- how many statements begin ahead of each program that begins before a place
+abbrev pub statements_ahead : (text : List ℕ) → (place : ℕ) → List ℕ
+statements_ahead text place = map (landmarks_before Statement text) (places_before Program text place)
+
+-- these are the places where the statements of a text begin, and the counts of those that begin ahead of each program
+pub record AreStatementPlaces (text places counts : List ℕ) : Type 0 where
+  pub statements : places ≡ places_before Statement text (length text)
+  pub ahead : counts ≡ statements_ahead text (length text)
 
 -- the one of this number begins at the place; they are counted from 0, and from some place on
 pub record IsNumbered (kind : Landmark) (text : List ℕ) (start : ℕ) (number : ℕ) (place : ℕ) : Type 0 where

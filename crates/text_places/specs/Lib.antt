@@ -1,3 +1,4 @@
+pub mod ByteKinds
 pub mod Landmarks
 pub mod Listing
 pub mod Places

@@ -1,8 +1,8 @@
 //! Where the tables, programs and statements of a set's text begin, and the records or the jobs of
 //! a list. A statement's first word stands nowhere else.
-ghost use Rattle.std.specs.Prelude.{◌≡◌, IfNone, IfOk, IfSome};
-ghost use Rattle.text_places.specs.Landmarks.{begins_here, is_landmark, is_sign_of, HasFewer, HasNoJob, HasNoProgram, HasNoRecord, HasNoStatement, HasNoTable, IsJobPlace, IsNumbered, IsProgramPlace, IsRecordPlace, IsStatementPlace, IsTablePlace};
-ghost use Rattle.text_places.specs.Reading.{without_comments};
+ghost use Rattle.std.specs.Prelude.{◌≡◌, drop, IfNone, IfOk, IfSome};
+ghost use Rattle.text_places.specs.Landmarks.{begins_here, is_landmark, is_sign_of, HasFewer, HasNoJob, HasNoProgram, HasNoRecord, HasNoTable, IsJobPlace, IsNumbered, IsProgramPlace, IsRecordPlace, IsTablePlace};
+ghost use Rattle.text_places.specs.Reading.{short_word, without_comments};
 
 use crate::place::{begins_line, behind};
 use crate::reading::{short_word, stands_free, without_comments};
@@ -40,10 +40,25 @@ fn begins_here(kind: Landmark, text: &[u8], place: usize) -> bool
     }
 }
 
-fn is_landmark(kind: Landmark, text: &[u8], place: usize) -> bool
+// Whether the word of a kind stands at a place.
+fn has_sign(kind: Landmark, text: &[u8], place: usize) -> bool
+    ensures { result ≡ is_sign_of kind (short_word (drop place text.now)) }
+{
+    is_sign_of(kind, short_word(behind(text, place)))
+}
+
+pub fn is_landmark(kind: Landmark, text: &[u8], place: usize) -> bool
     ensures { result ≡ is_landmark kind text.now place }
 {
-    is_sign_of(kind, short_word(behind(text, place))) && begins_here(kind, text, place)
+    match kind {
+        // Most places stand within a word, as the byte before them tells.
+        Landmark::Table | Landmark::Program | Landmark::Statement => {
+            begins_here(kind, text, place) && has_sign(kind, text, place)
+        }
+        Landmark::Record | Landmark::Job => {
+            has_sign(kind, text, place) && begins_here(kind, text, place)
+        }
+    }
 }
 
 // Where the one of this number begins, counted from a place on.
@@ -98,25 +113,6 @@ pub fn program_place(
     ensures none { IfOk result (λ place. IfNone place (HasNoProgram text.now program)) }
 {
     place_in_text(alloc, Landmark::Program, text, program)
-}
-
-/// Where a statement of a program begins.
-pub fn statement_place(
-    alloc: Global,
-    text: &[u8],
-    program: usize,
-    statement: usize,
-) -> Result<Option<usize>, AllocError>
-    ensures found { IfOk result (λ place. IfSome place
-        (IsStatementPlace text.now program statement)) }
-    ensures none { IfOk result (λ place. IfNone place
-        (HasNoStatement text.now program statement)) }
-{
-    let blanked = without_comments(alloc, text)?;
-    let Some(start) = numbered(Landmark::Program, &blanked, 0, program) else {
-        return Ok(None);
-    };
-    Ok(numbered(Landmark::Statement, &blanked, start, statement))
 }
 
 /// Where a record of a list begins.

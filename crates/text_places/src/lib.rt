@@ -3,19 +3,22 @@
 //! records and jobs begin.
 #![tactic(auto)]
 
+mod byte_kind;
 mod landmark;
 mod limits;
 mod listing;
 mod place;
 mod quote;
 mod reading;
+mod set_text;
 mod tokens;
 
-pub use landmark::{job_place, program_place, record_place, statement_place, table_place};
+pub use landmark::{job_place, program_place, record_place, table_place};
 pub use listing::push_listed;
 pub use place::{before, behind, column, ends_line, feeds, line_at, line_front, line_number};
 pub use quote::point_out;
 pub use reading::{
     begins_word, behind_word, end_before, first_word, short_word, stands_free, without_comments,
 };
+pub use set_text::{SetText, statement_place};
 pub use tokens::{as_text, begins_token, first_token, last_token, second_token, table_name};

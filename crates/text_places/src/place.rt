@@ -1,7 +1,9 @@
 //! The line and the column of a place. A place behind the end of a text stands for its end.
 ghost use Rattle.std.specs.Prelude.{◌≡◌, ◌≤◌, count_by, drop, length, take, IfNone, IfSome};
-ghost use Rattle.std.specs.List.{before_first, prefix_len, suffix_len};
+ghost use Rattle.std.specs.List.{before_first, prefix_len};
 ghost use Rattle.text_places.specs.Places.{begins_line, column, ends_line, inset, is_feed, is_inline, is_space, line_at, line_number, line_start, HasNoLine, IsLineFront};
+
+use crate::byte_kind::{ByteKind, last_count};
 
 /// The bytes before a place.
 pub fn before(text: &[u8], place: usize) -> &[u8]
@@ -56,22 +58,10 @@ pub fn ends_line(bytes: &[u8]) -> bool
     }
 }
 
-fn is_space(byte: u8) -> bool
+pub fn is_space(byte: u8) -> bool
     ensures { result ≡ is_space byte }
 {
     byte == b' '
-}
-
-// How many spaces stand at the end.
-fn last_spaces(bytes: &[u8]) -> usize
-    ensures value { result ≡ suffix_len is_space bytes.now }
-    ensures within { result ≤ length bytes.now }
-{
-    bytes
-        .iter()
-        .rev()
-        .take_while(|byte| is_space(**byte))
-        .count()
 }
 
 /// Whether in its line only spaces stand before a place.
@@ -79,7 +69,7 @@ pub fn begins_line(text: &[u8], place: usize) -> bool
     ensures { result ≡ begins_line text.now place }
 {
     let front = before(text, place);
-    ends_line(before(front, front.len() - last_spaces(front)))
+    ends_line(before(front, front.len() - last_count(ByteKind::Space, front)))
 }
 
 /// How many bytes of its line stand before a place.
@@ -87,11 +77,7 @@ pub fn inset(text: &[u8], place: usize) -> usize
     ensures value { result ≡ inset text.now place }
     ensures within { result ≤ length (take place text.now) }
 {
-    before(text, place)
-        .iter()
-        .rev()
-        .take_while(|byte| !is_feed(**byte))
-        .count()
+    last_count(ByteKind::Inline, before(text, place))
 }
 
 /// The column of a place, from 1. Each byte counts, since those before a fault's place are ASCII.

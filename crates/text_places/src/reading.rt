@@ -1,8 +1,9 @@
 //! The words, blanks and comments of a text that may have any fault: nothing is refused here.
 ghost use Rattle.std.specs.Prelude.{◌≡◌, ◌≤◌, length, take, IfOk};
-ghost use Rattle.std.specs.List.{prefix_len, suffix_len};
+ghost use Rattle.std.specs.List.{prefix_len};
 ghost use Rattle.text_places.specs.Reading.{before_blanks, begins_word, behind_blanks, behind_word, end_before, first_word, is_blank, is_in_comment, is_word_byte, last_word, short_word, stands_free, without_comments};
 
+use crate::byte_kind::{ByteKind, last_count};
 use crate::place::{before, behind};
 use std::alloc::{AllocError, Global};
 
@@ -45,30 +46,6 @@ pub fn word_len(bytes: &[u8]) -> usize
     bytes.iter().take_while(|byte| is_word_byte(**byte)).count()
 }
 
-/// How many bytes the word at the end has.
-pub fn last_len(bytes: &[u8]) -> usize
-    ensures value { result ≡ suffix_len is_word_byte bytes.now }
-    ensures within { result ≤ length bytes.now }
-{
-    bytes
-        .iter()
-        .rev()
-        .take_while(|byte| is_word_byte(**byte))
-        .count()
-}
-
-// How many bytes at the end separate tokens.
-fn last_blanks(bytes: &[u8]) -> usize
-    ensures value { result ≡ suffix_len is_blank bytes.now }
-    ensures within { result ≤ length bytes.now }
-{
-    bytes
-        .iter()
-        .rev()
-        .take_while(|byte| is_blank(**byte))
-        .count()
-}
-
 // How many bytes at the front separate tokens.
 fn first_blanks(bytes: &[u8]) -> usize
     ensures { result ≡ prefix_len is_blank bytes.now }
@@ -87,7 +64,7 @@ pub fn behind_blanks(bytes: &[u8]) -> &[u8]
 pub fn before_blanks(bytes: &[u8]) -> &[u8]
     ensures { result.now ≡ before_blanks bytes.now }
 {
-    before(bytes, bytes.len() - last_blanks(bytes))
+    before(bytes, bytes.len() - last_count(ByteKind::Blank, bytes))
 }
 
 /// The word at the front, empty where there is none.
@@ -108,14 +85,17 @@ pub fn short_word(bytes: &[u8]) -> &[u8]
 pub fn last_word(bytes: &[u8]) -> &[u8]
     ensures { result.now ≡ last_word bytes.now }
 {
-    behind(bytes, bytes.len() - last_len(bytes))
+    behind(bytes, bytes.len() - last_count(ByteKind::Word, bytes))
 }
 
 /// Whether no word goes on at a place.
 pub fn stands_free(text: &[u8], place: usize) -> bool
     ensures { result ≡ stands_free text.now place }
 {
-    last_len(before(text, place)) == 0
+    match before(text, place) {
+        [] => true,
+        [.., last] => !is_word_byte(*last),
+    }
 }
 
 /// Whether a word begins at a place.
@@ -138,5 +118,5 @@ pub fn end_before(alloc: Global, text: &[u8], place: usize) -> Result<usize, All
 {
     let plain = without_comments(alloc, text)?;
     let front = before(&plain, place);
-    Ok(front.len() - last_blanks(front))
+    Ok(front.len() - last_count(ByteKind::Blank, front))
 }

@@ -3,10 +3,10 @@ ghost use Rattle.std.specs.Prelude.{◌≡◌, [], IsUtf8};
 ghost use Rattle.std.specs.List.{before_first, prefix_len};
 ghost use Rattle.text_places.specs.Tokens.{begins_by, begins_token, first_token, is_before_key, is_double, last_token, last_token_len, opens_key, second_token, sign_len, table_name, token_len};
 
+use crate::byte_kind::{ByteKind, last_count};
 use crate::place::{before, behind};
 use crate::reading::{
-    before_blanks, behind_blanks, is_blank, is_word_byte, last_len, last_word, stands_free,
-    word_len,
+    before_blanks, behind_blanks, is_blank, is_word_byte, last_word, stands_free, word_len,
 };
 
 /// The bytes as text; empty where they are none.
@@ -63,7 +63,7 @@ pub fn second_token(bytes: &[u8]) -> &[u8]
 fn last_token_len(bytes: &[u8]) -> usize
     ensures { result ≡ last_token_len bytes.now }
 {
-    let len = last_len(bytes);
+    let len = last_count(ByteKind::Word, bytes);
     if len == 0 { 1 } else { len }
 }
 

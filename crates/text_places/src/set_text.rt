@@ -1,0 +1,123 @@
+//! A set's text, of which many statements are asked for.
+ghost use Rattle.std.specs.Prelude.{◌≡◌, ◌++◌, ◌∷◌, ◌+◌, [], length, slice_get, IfNone, IfOk, IfSome, OnOk, if◌then◌else◌};
+ghost use Rattle.text_places.specs.Landmarks.{places_before, statements_ahead, HasNoStatement, IsStatementPlace};
+ghost use Rattle.text_places.specs.Reading.{without_comments};
+ghost use Rattle.text_places.specs.declared.landmark.Landmark.TheVariants.{Statement};
+
+use crate::landmark::{Landmark, is_landmark};
+use crate::reading::without_comments;
+use std::alloc::{AllocError, Global};
+use std::marker::Model;
+
+// Where the statements of a text begin, and how many of them begin ahead of each program.
+#[derive(Drop)]
+struct StatementPlaces {
+    statements: Vec<usize>,
+    ahead: Vec<usize>,
+}
+
+// Adds a number where it belongs to a list.
+fn push_if(numbers: &mut Vec<usize>, belongs: bool, number: usize) -> Result<(), AllocError>
+    ensures { OnOk result (numbers.new.items
+        ≡ numbers.old.items ++ (if belongs then number ∷ [] else [])) }
+{
+    if belongs {
+        numbers.push(number)?;
+    }
+    Ok(())
+}
+
+// Finds the statements of a text without comments.
+fn statement_places(alloc: Global, text: &[u8]) -> Result<StatementPlaces, AllocError>
+    ensures statements { IfOk result (λ places.
+        places.statements.items ≡ places_before Statement text.now (length text.now)) }
+    ensures ahead { IfOk result (λ places.
+        places.ahead.items ≡ statements_ahead text.now (length text.now)) }
+{
+    let mut statements = Vec::new(alloc);
+    let mut ahead = Vec::new(alloc);
+    for place in 0..text.len() {
+        let begins_program = is_landmark(Landmark::Program, text, place);
+        push_if(&mut ahead, begins_program, statements.len())?;
+        let begins_statement = is_landmark(Landmark::Statement, text, place);
+        push_if(&mut statements, begins_statement, place)?;
+    }
+    Ok(StatementPlaces { statements, ahead })
+}
+
+fn nth(numbers: &[usize], index: usize) -> Option<usize>
+    ensures { result ≡ slice_get numbers.now index }
+{
+    numbers.get(index).copied()
+}
+
+// The place of a number, counted behind so many others.
+fn nth_behind(places: &[usize], ahead: usize, number: usize) -> Option<usize>
+    ensures { result ≡ slice_get places.now (ahead + number) }
+{
+    places.get(ahead.saturating_add(number)).copied()
+}
+
+/// The text of a set in which the places of its statements have been found.
+#[derive(Drop)]
+pub struct SetText<'a> {
+    bytes: &'a [u8],
+    places: StatementPlaces,
+}
+
+impl<'a> Model for SetText<'a> {
+    ghost use Rattle.std.specs.Prelude.{ℕ, List};
+    ghost use Rattle.text_places.specs.Landmarks.{AreStatementPlaces};
+    ghost use Rattle.text_places.specs.Reading.{without_comments};
+
+    ghost Value = { List ℕ };
+
+    ghost view = { λ t. t.bytes.now };
+
+    ghost invariant = { λ t. AreStatementPlaces (without_comments t.bytes.now)
+        t.places.statements.items t.places.ahead.items };
+}
+
+impl<'a> SetText<'a> {
+    /// Finds the statements of a text.
+    pub fn new(alloc: Global, bytes: &'a [u8]) -> Result<Self, AllocError>
+        ensures { IfOk result (λ text. text ≡ bytes.now) }
+    {
+        let blanked = without_comments(alloc, bytes)?;
+        let places = statement_places(alloc, &blanked)?;
+        Ok(SetText { bytes, places })
+    }
+
+    pub fn bytes(&self) -> &'a [u8]
+        ensures { result.now ≡ self.now }
+    {
+        self.bytes
+    }
+
+    /// Where a statement of a program begins.
+    pub fn statement_place(&self, program: usize, statement: usize) -> Option<usize>
+        ensures found { IfSome result (IsStatementPlace self.now program statement) }
+        ensures none { IfNone result (HasNoStatement self.now program statement) }
+    {
+        match nth(self.places.ahead.as_slice(), program) {
+            Some(ahead) => nth_behind(self.places.statements.as_slice(), ahead, statement),
+            None => None,
+        }
+    }
+}
+
+/// Where a statement of a program begins in a text of which no other is asked for.
+pub fn statement_place(
+    alloc: Global,
+    text: &[u8],
+    program: usize,
+    statement: usize,
+) -> Result<Option<usize>, AllocError>
+    ensures found { IfOk result (λ place. IfSome place
+        (IsStatementPlace text.now program statement)) }
+    ensures none { IfOk result (λ place. IfNone place
+        (HasNoStatement text.now program statement)) }
+{
+    let text = SetText::new(alloc, text)?;
+    Ok(text.statement_place(program, statement))
+}
