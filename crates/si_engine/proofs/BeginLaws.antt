@@ -1,9 +1,10 @@
 -- What a begin leaves is what the machine leaves.
-use Rattle.std.proofs.Common.{◌≡◌, ℕ, ◌+◌, ◌-◌, ◌≤◌, ◌==◌, nat_lt, ◌||◌, Bool, true, false, not, List, [], ◌∷◌, ◌++◌, length, refl, ap, sym, ◌∙◌, subst, cond, ◌⊎◌, inl, inr, arith, ℤ}
+use Rattle.std.proofs.Common.{◌≡◌, ℕ, ◌+◌, ◌-◌, ◌≤◌, ◌==◌, nat_lt, ◌||◌, Bool, true, false, not, List, [], ◌∷◌, ◌++◌, length, refl, ap, sym, ◌∙◌, subst, cond, ◌⊎◌, inl, inr, arith, ℤ, Box}
 use Rattle.std.specs.Prelude.{nat_le, ◌^◌, slice_get, Option, Some, None, option_map}
 use Rattle.std.proofs.lemmas.Bool.Decides.{nat_tests}
 use Rattle.std.proofs.lemmas.List.{map-append, length-map, length-append}
 use Rattle.std.proofs.lemmas.Option.{slice_get-map}
+use Rattle.std.specs.declared.alloc.Global.{Global}
 use Rattle.prog_tree.specs.declared.program.Draft.{Draft}
 use Rattle.prog_tree.specs.declared.program.Program.{Program}
 use Rattle.prog_tree.specs.Tree.{draft_tree, program_tree}
@@ -125,8 +126,8 @@ module _ (v : BookView) (runs : List (Option ActiveRun)) (kept : IsEngine v runs
 
       -- ---- the instance that was begun
 
-      module _ (run : RunView) (ticket : TicketView) (run_program : slice_get v.set.programs.items program ≡ Some run.program)
-          (run_is : run ≡ begun v.set.tables.items run.program args) (ticket_is : ticket ≡ ticket_at v start) where
+      module _ (run : Box RunView Global) (ticket : TicketView) (run_program : slice_get v.set.programs.items program ≡ Some run.value.program)
+          (run_is : run.value ≡ begun v.set.tables.items run.value.program args) (ticket_is : ticket ≡ ticket_at v start) where
         abbrev fresh : ActiveRun
         fresh = record { program = program; ticket = ticket; run = run; ready = false }
 
@@ -147,14 +148,14 @@ module _ (v : BookView) (runs : List (Option ActiveRun)) (kept : IsEngine v runs
             ∙ ap (λ n. (reply.Begun n start, record machine { begun = begun_of runs ++ Some (at_begin new_instance) ∷ [] })) number
             ∙ sym begins
 
-        fresh_is_true : IsTrueRun run
+        fresh_is_true : IsTrueRun run.value
         fresh_is_true = subst IsTrueRun (sym run_is) (λ m looks. record { deeds = refl; ending = λ end over. absurd (cc) })
 
-        fresh_own : IsOwnRun v (instance_in fresh) run
+        fresh_own : IsOwnRun v (instance_in fresh) run.value
         fresh_own = record {
           same = record {
             tables = ap (λ (r : RunView). r.tables) run_is;
-            program = program_at v.set program run.program run_program;
+            program = program_at v.set program run.value.program run_program;
             args = refl;
           };
           found = subst (λ (r : RunView). AreFound (state_in v ticket.start) r.looks) (sym run_is) tt;

@@ -90,7 +90,7 @@ leaves_committed v number row = record {
         start = omega (arith, more, start);
         own = record {
           same = record { tables = h.own.same.tables; program = h.own.same.program; args = h.own.same.args };
-          found = subst (λ m. AreFound m b.run.looks) (sym (state-push v number row b.ticket.start start)) h.own.found;
+          found = subst (λ m. AreFound m b.run.value.looks) (sym (state-push v number row b.ticket.start start)) h.own.found;
         };
         is_true = h.is_true;
         ready = h.ready;

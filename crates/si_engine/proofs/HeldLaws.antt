@@ -1,75 +1,32 @@
 -- Laws of the active instances of a book.
-use Rattle.std.proofs.Common.{◌≡◌, ℕ, zero, suc, ◌+◌, true, List, [], ◌∷◌, ◌++◌, length, take, refl, ap, sym, ◌∙◌, subst, arith, ℤ}
+use Rattle.std.proofs.Common.{◌≡◌, ◌+◌, true, List, [], ◌∷◌, ◌++◌, length, take, ap, sym, ◌∙◌, subst, arith, ℤ}
 use Rattle.std.specs.Prelude.{slice_get, Some, None}
+use Rattle.std.specs.Box.{with_value}
 use Rattle.std.proofs.lemmas.Option.{slice_get_past}
 use Rattle.std.proofs.lemmas.List.{length-append}
 use Rattle.prog_tree.specs.declared.deed.Cause.{Cause}
 use Rattle.prog_tree.specs.declared.deed.Deed.{Deed}
 use Rattle.prog_tree.specs.declared.deed.End.{End}
 use Rattle.prog_tree.specs.declared.deed.End.TheVariants.{Ready, Aborted}
-use Rattle.prog_tree.specs.declared.look.Look.{Look}
 use Rattle.prog_tree.specs.declared.table.TableDecl.{TableDecl}
 use Rattle.prog_tree.specs.Evaluation.{Evaluation, eval}
-use Rattle.prog_tree.specs.Table.{TableState}
 use Rattle.prog_tree.specs.Tree.{draft_tree, program_tree}
-use Rattle.prog_run.specs.Looks.{IsFound, AreFound}
+use Rattle.prog_run.specs.Looks.{AreFound}
 use Rattle.prog_run.specs.View.{RunView, SameBegin, IsTrueRun, IsTrueAt, meaning, result_of}
 use Rattle.history_book.specs.History.{Instance}
-use Rattle.history_book.specs.Refusals.{IsForeignTo, IsCommitFault, IsEndFault, HasAborted}
-use Rattle.history_book.specs.Runs.{SameProgram, IsOwnRun, IsForeign}
+use Rattle.history_book.specs.Refusals.{IsOfInstance}
+use Rattle.history_book.specs.Runs.{SameProgram, IsOwnRun}
 use Rattle.history_book.specs.Ticket.{TicketView}
 use Rattle.history_book.specs.View.{BookView, active_at, state_in, done_in}
-use Rattle.history_book.specs.declared.fault.CommitFault.{CommitFault}
-use Rattle.history_book.specs.declared.fault.CommitFault.TheVariants as commit
-use Rattle.history_book.specs.declared.fault.EndFault.{EndFault}
-use Rattle.history_book.specs.declared.fault.EndFault.TheVariants as end
-use Rattle.history_book.specs.declared.fault.Place.{Place}
-use Rattle.history_book.specs.declared.fault.Place.TheVariants as place
-use Rattle.history_book.specs.declared.fault.Unused.{Unused}
-use Rattle.version_store.specs.declared.clash.Clash.{Clash}
 use Rattle.history_book.proofs.HistoryLaws.{eval_of-found}
 use Rattle.si_engine.specs.Machine.{stepped, deed_or_end, at_end}
 use Rattle.si_engine.specs.View.{instance_in, active_in, IsHeld, IsActive}
 use Rattle.si_engine.specs.declared.active.ActiveRun.{ActiveRun}
 use Rattle.si_engine.specs.declared.event.Reply.TheVariants as reply
 
--- ---- an instance's own run is refused by no book
-
-found_at : (m : TableState) (looks : List Look) (n : ℕ) (l : Look) → AreFound m looks → slice_get looks n ≡ Some l → IsFound m l
-found_at m [] n l found at = absurd (cc)
-found_at m (k ∷ looks) zero l found at = let one : k ≡ l = cc in subst (IsFound m) one found.0
-found_at m (k ∷ looks) (suc n) l found at = found_at m looks n l found.1 at
-
-own_is_not_foreign : (v : BookView) (i : Instance) (run : RunView) (p : Place) → IsOwnRun v i run → IsForeign v i run p → ⊥
-own_is_not_foreign v i run place.Program own foreign = foreign own.same
-own_is_not_foreign v i run (place.Look n) own foreign =
-    foreign.1.foreign (found_at (state_in v i.start) run.looks n foreign.1.look own.found foreign.1.at)
-
-not_foreign : (v : BookView) (t : TicketView) (i : Instance) (run : RunView) (p : Place) → active_at v t ≡ Some i → IsOwnRun v i run → IsForeignTo v t run p → ⊥
-not_foreign v t i run p active own foreign =
-    let one : i ≡ foreign.instance = cc (foreign.active) in
-    own_is_not_foreign v foreign.instance run p (subst (λ j. IsOwnRun v j run) one own) foreign.foreign
-
--- a commit is refused for want of memory or by a clash alone
-pub no_commit_fault :
-    (v w : BookView) (a : ActiveRun) (f : CommitFault) → IsActive v a → a.run.end ≡ Some Ready → IsCommitFault v w a.ticket a.run f →
-    ((u : Unused) → f ≡ commit.Memory u → ⊥) → ((c : Clash) → f ≡ commit.Clashed c → ⊥) → ⊥
-no_commit_fault v w a (commit.NoSuchTicket u) active ready fault no_memory no_clash = let never : None ≡ Some (instance_in a) = sym fault.1 ∙ active.active in absurd (cc)
-no_commit_fault v w a (commit.NotReady u) active ready fault no_memory no_clash = fault.2 ready
-no_commit_fault v w a (commit.ForeignRun p u) active ready fault no_memory no_clash =
-    not_foreign v a.ticket (instance_in a) a.run p active.active active.held.own fault.2
-no_commit_fault v w a (commit.Memory u) active ready fault no_memory no_clash = no_memory u refl
-no_commit_fault v w a (commit.Clashed c) active ready fault no_memory no_clash = no_clash c refl
-
--- an end is refused for want of memory alone
-pub no_end_fault :
-    (v w : BookView) (a : ActiveRun) (f : EndFault) → IsActive v a → HasAborted a.run → IsEndFault v w a.ticket a.run f →
-    ((u : Unused) → f ≡ end.Memory u → ⊥) → ⊥
-no_end_fault v w a (end.NoSuchTicket u) active aborted fault no_memory = let never : None ≡ Some (instance_in a) = sym fault.1 ∙ active.active in absurd (cc)
-no_end_fault v w a (end.NotAborted u) active aborted fault no_memory = fault.2 aborted
-no_end_fault v w a (end.ForeignRun p u) active aborted fault no_memory =
-    not_foreign v a.ticket (instance_in a) a.run p active.active active.held.own fault.2
-no_end_fault v w a (end.Memory u) active aborted fault no_memory = no_memory u refl
+-- the book's ticket and run of an active instance
+pub of_instance : (v : BookView) (a : ActiveRun) → IsActive v a → IsOfInstance v a.ticket a.run.value
+of_instance v a active = record { instance = instance_in a; active = active.active; own = active.held.own }
 
 -- ---- a run does what its instance does
 
@@ -91,9 +48,9 @@ no_next_deed : (all before : List Deed) → all ≡ before → slice_get all (le
 no_next_deed all before same = ap (λ (ds : List Deed). slice_get ds (length before)) same ∙ slice_get_past before (length before) (omega arith)
 
 -- an active instance a whose run has come to `run`
-module _ (v : BookView) (a : ActiveRun) (run : RunView) (held : IsHeld v a.ticket.number a) (same : SameBegin a.run run) (found : AreFound (state_in v a.ticket.start) run.looks) (is_true : IsTrueRun run) where
+module _ (v : BookView) (a : ActiveRun) (run : RunView) (held : IsHeld v a.ticket.number a) (same : SameBegin a.run.value run) (found : AreFound (state_in v a.ticket.start) run.looks) (is_true : IsTrueRun run) where
   abbrev now : ActiveRun
-  now = record a { run = run }
+  now = record a { run = with_value a.run run }
 
   abbrev does : Evaluation
   does = done_in v (instance_in a)
@@ -108,11 +65,11 @@ module _ (v : BookView) (a : ActiveRun) (run : RunView) (held : IsHeld v a.ticke
     args = same.args;
   }
 
-  was : IsTrueAt a.run (state_in v a.ticket.start)
+  was : IsTrueAt a.run.value (state_in v a.ticket.start)
   was = held.is_true (state_in v a.ticket.start) held.own.found
 
-  was_meaning : meaning a.run (state_in v a.ticket.start) ≡ does
-  was_meaning = meaning_is v (instance_in a) a.run held.own.same
+  was_meaning : meaning a.run.value (state_in v a.ticket.start) ≡ does
+  was_meaning = meaning_is v (instance_in a) a.run.value held.own.same
 
   is_meaning : meaning run (state_in v a.ticket.start) ≡ does
   is_meaning = meaning_is v (instance_in a) run program_stays
@@ -120,7 +77,7 @@ module _ (v : BookView) (a : ActiveRun) (run : RunView) (held : IsHeld v a.ticke
   ended : (e : End) → run.end ≡ Some e → result_of e run ≡ does
   ended e over = (is_true (state_in v a.ticket.start) found).ending e over ∙ is_meaning
 
-  had_ended : (e : End) → a.run.end ≡ Some e → result_of e a.run ≡ does
+  had_ended : (e : End) → a.run.value.end ≡ Some e → result_of e a.run.value ≡ does
   had_ended e over = was.ending e over ∙ was_meaning
 
   pub held_stays : (a.ready ≡ true → run.end ≡ Some Ready) → IsHeld v a.ticket.number now
@@ -133,52 +90,52 @@ module _ (v : BookView) (a : ActiveRun) (run : RunView) (held : IsHeld v a.ticke
   }
 
   -- a deed more
-  module _ (d : Deed) (more : run.deeds ≡ a.run.deeds ++ d ∷ []) where
-    next_is : slice_get does.deeds (length a.run.deeds) ≡ Some d
+  module _ (d : Deed) (more : run.deeds ≡ a.run.value.deeds ++ d ∷ []) where
+    next_is : slice_get does.deeds (length a.run.value.deeds) ≡ Some d
     next_is =
         let first = (is_true (state_in v a.ticket.start) found).deeds in
         let first_of : take (length run.deeds) does.deeds ≡ run.deeds = subst (λ (e : Evaluation). take (length run.deeds) e.deeds ≡ run.deeds) is_meaning first in
-        next_deed does.deeds a.run.deeds d (subst (λ ds. take (length ds) does.deeds ≡ ds) more first_of)
+        next_deed does.deeds a.run.value.deeds d (subst (λ ds. take (length ds) does.deeds ≡ ds) more first_of)
 
     pub did_step : (reply.Did d, Some (active_in now)) ≡ stepped does (active_in a)
     did_step =
-        let steps : length run.deeds ≡ length a.run.deeds + 1 = ap length more ∙ omega (arith, length-append a.run.deeds (d ∷ [])) in
-        let here : Some (active_in now) ≡ Some (record (active_in a) { steps = length a.run.deeds + 1 }) =
+        let steps : length run.deeds ≡ length a.run.value.deeds + 1 = ap length more ∙ omega (arith, length-append a.run.value.deeds (d ∷ [])) in
+        let here : Some (active_in now) ≡ Some (record (active_in a) { steps = length a.run.value.deeds + 1 }) =
         λ j. Some (record { instance = instance_stays j; steps = steps j; ready = a.ready }) in
         ap (λ o. (reply.Did d, o)) here ∙ ap (λ o. deed_or_end o does (active_in a)) (sym next_is)
 
     pub did_held : IsHeld v a.ticket.number now
     did_held = held_stays (λ ready.
-        let all : does.deeds ≡ a.run.deeds = ap (λ (e : Evaluation). e.deeds) (sym (had_ended Ready (held.ready ready))) in
-        let none = no_next_deed does.deeds a.run.deeds all in
+        let all : does.deeds ≡ a.run.value.deeds = ap (λ (e : Evaluation). e.deeds) (sym (had_ended Ready (held.ready ready))) in
+        let none = no_next_deed does.deeds a.run.value.deeds all in
         let never : None ≡ Some d = sym none ∙ next_is in
         absurd (cc))
 
   -- the end
-  module _ (e : End) (over : run.end ≡ Some e) (no_more : run.deeds ≡ a.run.deeds) where
-    none_is : slice_get does.deeds (length a.run.deeds) ≡ None
-    none_is = no_next_deed does.deeds a.run.deeds (ap (λ (x : Evaluation). x.deeds) (sym (ended e over)) ∙ no_more)
+  module _ (e : End) (over : run.end ≡ Some e) (no_more : run.deeds ≡ a.run.value.deeds) where
+    none_is : slice_get does.deeds (length a.run.value.deeds) ≡ None
+    none_is = no_next_deed does.deeds a.run.value.deeds (ap (λ (x : Evaluation). x.deeds) (sym (ended e over)) ∙ no_more)
 
     end_step : at_end e run.replies (active_in a) ≡ stepped does (active_in a)
     end_step =
         ap (λ (x : Evaluation). at_end x.ending x.replies (active_in a)) (ended e over)
         ∙ ap (λ o. deed_or_end o does (active_in a)) (sym none_is)
 
-  pub ready_step : (no_more : run.deeds ≡ a.run.deeds) → run.end ≡ Some Ready →
+  pub ready_step : (no_more : run.deeds ≡ a.run.value.deeds) → run.end ≡ Some Ready →
       (reply.Ready run.replies, Some (active_in (record now { ready = true }))) ≡ stepped does (active_in a)
   ready_step no_more over =
       let here : Some (active_in (record now { ready = true })) ≡ Some (record (active_in a) { ready = true }) =
       λ j. Some (record { instance = instance_stays j; steps = length (no_more j); ready = true }) in
       ap (λ o. (reply.Ready run.replies, o)) here ∙ end_step Ready over no_more
 
-  pub aborted_step : (cause : Cause) → (no_more : run.deeds ≡ a.run.deeds) → run.end ≡ Some (Aborted cause) →
+  pub aborted_step : (cause : Cause) → (no_more : run.deeds ≡ a.run.value.deeds) → run.end ≡ Some (Aborted cause) →
       (reply.Aborted cause, None) ≡ stepped does (active_in a)
   aborted_step cause no_more over = end_step (Aborted cause) over no_more
 
   -- one that has aborted has not answered that it is ready
   pub aborted_held : (cause : Cause) → run.end ≡ Some (Aborted cause) → IsHeld v a.ticket.number now
   aborted_held cause over = held_stays (λ ready.
-      let one : result_of Ready a.run ≡ result_of (Aborted cause) run = had_ended Ready (held.ready ready) ∙ sym (ended (Aborted cause) over) in
+      let one : result_of Ready a.run.value ≡ result_of (Aborted cause) run = had_ended Ready (held.ready ready) ∙ sym (ended (Aborted cause) over) in
       let never : Ready ≡ Aborted cause = ap (λ (x : Evaluation). x.ending) one in
       absurd (cc))
 

@@ -26,11 +26,11 @@ pub record EngineView : Type 0 where
 
 -- the instance of a run
 abbrev pub instance_in : ActiveRun → Instance
-instance_in a = record { program = a.program; args = a.run.args; start = a.ticket.start }
+instance_in a = record { program = a.program; args = a.run.value.args; start = a.ticket.start }
 
 -- how far it has come
 abbrev pub active_in : ActiveRun → Active
-active_in a = record { instance = instance_in a; steps = length a.run.deeds; ready = a.ready }
+active_in a = record { instance = instance_in a; steps = length a.run.value.deeds; ready = a.ready }
 
 -- each instance that was begun, or none where it has ended
 abbrev pub begun_of : List (Option ActiveRun) → List (Option Active)
@@ -52,9 +52,9 @@ machine_of v runs =
 pub record IsHeld (v : BookView) (number : ℕ) (a : ActiveRun) : Type 0 where
   pub place : a.ticket.number ≡ number
   pub start : a.ticket.start ≤ length v.rows
-  pub own : IsOwnRun v (instance_in a) a.run
-  pub is_true : IsTrueRun a.run
-  pub ready : a.ready ≡ true → a.run.end ≡ Some Ready
+  pub own : IsOwnRun v (instance_in a) a.run.value
+  pub is_true : IsTrueRun a.run.value
+  pub ready : a.ready ≡ true → a.run.value.end ≡ Some Ready
 
 -- the book has it among its active instances
 pub record IsActive (v : BookView) (a : ActiveRun) : Type 0 where
@@ -121,6 +121,6 @@ IsAfterStep old new a None = (ending : Ending) × (new ≡ ended_in old a.ticket
 
 -- it has committed or clashed, as is answered
 abbrev pub IsCommitReply : (old new : BookView) → ActiveRun → Reply → Type 0
-IsCommitReply old new a (reply.Committed number) = IsCommitted old new a.ticket a.run number
-IsCommitReply old new a (reply.Clashed clash) = IsClashed old new a.ticket a.run clash
+IsCommitReply old new a (reply.Committed number) = IsCommitted old new a.ticket a.run.value number
+IsCommitReply old new a (reply.Clashed clash) = IsClashed old new a.ticket a.run.value clash
 IsCommitReply old new a _ = ⊥

@@ -2,6 +2,7 @@
 
 ghost use Rattle.std.specs.Prelude.{◌≡◌, Some, None, IfOk, IfErr, OnOk, OnErr, IsSome, option_map};
 ghost use Rattle.prog_tree.specs.declared.deed.End.TheVariants.{Ready};
+ghost use Rattle.prog_tree.specs.Table.{rows_in};
 ghost use Rattle.prog_run.specs.Looks.{AreFound};
 ghost use Rattle.prog_run.specs.Step.{question_after, end_after, deeds_after};
 ghost use Rattle.prog_run.specs.View.{IsTrueRun, SameBegin};
@@ -12,9 +13,9 @@ ghost use Rattle.si_engine.specs.Machine.{stepped};
 ghost use Rattle.si_engine.specs.View.{active_in, instance_in, IsActive, IsAfterStep, IsCommitReply};
 
 use crate::event::Reply;
-use history_book::{Book, CommitFault, EndFault, ScanFault, Ticket, Unused, taken};
+use history_book::{Book, OwnCommitFault, ScanFault, Ticket, taken};
 use prog_run::{Next, Run};
-use prog_tree::{End, Sequence};
+use prog_tree::{Cell, End, Region, Sequence};
 use std::alloc::{AllocError, Global};
 
 /// An instance that has not ended.
@@ -23,14 +24,45 @@ pub struct ActiveRun<'a> {
     /// The number of its program.
     pub program: usize,
     pub ticket: Ticket,
-    pub run: Run<'a>,
+    /// Its run, which stays where it is when the instance is moved.
+    pub run: Box<Run<'a>>,
     /// A step answered that it is ready.
     pub ready: bool,
 }
 
+// The rows of a region, as the ticket's instance sees it. A look that is at once repeated is not
+// read in the book again.
+fn rows_for(
+    alloc: Global,
+    book: &Book<'_>,
+    ticket: &Ticket,
+    run: &Run<'_>,
+    region: &Region,
+) -> Result<Sequence<(Cell, i64)>, AllocError>
+    requires active { IsSome (active_at book.now ticket.now) }
+    requires found { AreFound (state_in book.now ticket.now.start) run.now.looks }
+    ensures { IfOk result (λ rows.
+        rows ≡ rows_in region.now (state_in book.now ticket.now.start)) }
+{
+    if let Some(rows) = run.rows_again(region) {
+        let rows = Vec::from_slice(alloc, rows)?;
+        return Ok(Sequence::from_vec(rows));
+    }
+    match book.scan(ticket, region) {
+        Ok(rows) => Ok(rows),
+        Err(ScanFault::Memory) => Err(AllocError),
+        Err(ScanFault::NoSuchTicket) => unreachable!(),
+    }
+}
+
 // The next store statement of a run, or its end. What it asks for is read in the book, as the
 // ticket's instance sees it.
-fn advance(book: &Book<'_>, ticket: &Ticket, run: &mut Run<'_>) -> Result<Next, AllocError>
+fn advance(
+    alloc: Global,
+    book: &Book<'_>,
+    ticket: &Ticket,
+    run: &mut Run<'_>,
+) -> Result<Next, AllocError>
     requires active { IsSome (active_at book.now ticket.now) }
     requires found { AreFound (state_in book.now ticket.now.start) run.old.looks }
     ensures idle { IfOk result (λ next. question_after next ≡ None) }
@@ -51,11 +83,7 @@ fn advance(book: &Book<'_>, ticket: &Ticket, run: &mut Run<'_>) -> Result<Next, 
             Ok(next)
         }
         Next::Scan(region) => {
-            let rows = match book.scan(ticket, &region) {
-                Ok(rows) => rows,
-                Err(ScanFault::Memory) => return Err(AllocError),
-                Err(ScanFault::NoSuchTicket) => unreachable!(),
-            };
+            let rows = rows_for(alloc, book, ticket, run, &region)?;
             let next = taken(run.answer_scan(rows.as_slice()))?;
             Ok(next)
         }
@@ -67,28 +95,14 @@ impl<'a> ActiveRun<'a> {
     // Ends it in the book, since its run has aborted. Without memory it is handed back.
     fn end(self, book: &mut Book<'a>) -> Result<(), ActiveRun<'a>>
         requires active { IsActive book.old self }
-        requires aborted { HasAborted self.run }
-        ensures ok { OnOk result (IsAborted book.old book.new self.entry.ticket self.entry.run) }
+        requires aborted { HasAborted self.run.value }
+        ensures ok { OnOk result (IsAborted book.old book.new self.entry.ticket self.entry.run.value) }
         ensures err { IfErr result (λ back. back ≡ self.entry) }
         ensures err_book { OnErr result (book.new ≡ book.old) }
     {
-        let ActiveRun {
-            program,
-            ticket,
-            run,
-            ready,
-        } = self;
-        match book.end(ticket, run) {
+        match book.end_own(&self.ticket, &*self.run) {
             Ok(()) => Ok(()),
-            Err(fault) => match fault {
-                EndFault::Memory(Unused { ticket, run }) => Err(ActiveRun {
-                    program,
-                    ticket,
-                    run,
-                    ready,
-                }),
-                _ => unreachable!(),
-            },
+            Err(_) => Err(self),
         }
     }
 
@@ -106,7 +120,7 @@ impl<'a> ActiveRun<'a> {
         ensures err { OnErr result.1 (option_map active_in result.0 ≡ Some (active_in self.entry)) }
     {
         let active = &mut self;
-        match advance(book, &active.ticket, &mut active.run) {
+        match advance(alloc, book, &active.ticket, &mut *active.run) {
             Ok(Next::Did(deed)) => (Some(self), Ok(Reply::Did(deed))),
             Ok(Next::Done(End::Ready)) => match Vec::from_slice(alloc, self.run.replies()) {
                 Ok(replies) => {
@@ -128,29 +142,15 @@ impl<'a> ActiveRun<'a> {
     /// Commits it, or ends it by its clash. Without memory it is handed back.
     pub fn commit(self, book: &mut Book<'a>) -> Result<Reply, ActiveRun<'a>>
         requires active { IsActive book.old self }
-        requires ready { self.run.end ≡ Some Ready }
+        requires ready { self.run.value.end ≡ Some Ready }
         ensures ok { IfOk result (λ reply. IsCommitReply book.old book.new self.entry reply) }
         ensures err { IfErr result (λ back. back ≡ self.entry) }
         ensures err_book { OnErr result (book.new ≡ book.old) }
     {
-        let ActiveRun {
-            program,
-            ticket,
-            run,
-            ready,
-        } = self;
-        match book.commit(ticket, run) {
+        match book.commit_own(&self.ticket, &*self.run) {
             Ok(receipt) => Ok(Reply::Committed(receipt.number() as usize)),
-            Err(fault) => match fault {
-                CommitFault::Clashed(clash) => Ok(Reply::Clashed(clash)),
-                CommitFault::Memory(Unused { ticket, run }) => Err(ActiveRun {
-                    program,
-                    ticket,
-                    run,
-                    ready,
-                }),
-                _ => unreachable!(),
-            },
+            Err(OwnCommitFault::Clashed(clash)) => Ok(Reply::Clashed(clash)),
+            Err(OwnCommitFault::Memory) => Err(self),
         }
     }
 

@@ -44,20 +44,22 @@ impl<'a> Model for Engine<'a> {
     ghost invariant = { λ e. IsEngine e.book e.begun.items };
 }
 
-// A run of a program that is there, with as many arguments as it has parameters.
+// A run of a program that is there, with as many arguments as it has parameters, in a place of its
+// own.
 fn started<'a>(
     alloc: Global,
     set: &'a ProgramSet,
     program: usize,
     args: &[i64],
-) -> Result<Run<'a>, AllocError>
+) -> Result<Box<Run<'a>>, AllocError>
     requires { begin_fault (slice_get set.now.programs.items program) args.now ≡ None }
-    ensures begun { IfOk result (λ run. run ≡ begun set.now.tables.items run.program args.now) }
+    ensures begun { IfOk result (λ run.
+        run.value ≡ begun set.now.tables.items run.value.program args.now) }
     ensures program { IfOk result (λ run.
-        slice_get set.now.programs.items program ≡ Some run.program) }
+        slice_get set.now.programs.items program ≡ Some run.value.program) }
 {
     match Run::new(alloc, set, program, args) {
-        Ok(run) => Ok(run),
+        Ok(run) => Ok(Box::new(alloc, run)?),
         Err(RunFault::Memory) => Err(AllocError),
         Err(_) => unreachable!(),
     }

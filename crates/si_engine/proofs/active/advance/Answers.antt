@@ -5,7 +5,7 @@ use Rattle.prog_run.specs.Step.{question_after}
 use Rattle.prog_run.specs.View.{IsAnswered, asked_cell, asked_region}
 use Rattle.history_book.specs.View.{state_in}
 use Rattle.history_book.proofs.ReplayLaws.{found_cell, found_region, no_scan_fault, memory_alone}
-use Rattle.si_engine.proofs.EvaluateLaws.{held_is, rows_are}
+use Rattle.si_engine.proofs.EvaluateLaws.{held_is}
 use Rattle.si_engine.proofs.active.advance.Goals as goal
 
 pub taken-requires-in-Scan : goal.taken-requires-in-Scan
@@ -13,8 +13,7 @@ taken-requires-in-Scan c =
     let v = c.args.book.now in
     let t = c.args.ticket.now in
     let asked = c.in_ok-next.ensures.advance.asked ∙ ap question_after c.in-Scan.is in
-    let rows = rows_are v t c.in-Scan.region c.in-Ok-scan.rows c.in-Ok-scan.ensures in
-    memory_alone c.answer_scan.result _ (no_scan_fault (state_in v t.start) c.advance.new.self.asked c.in-Scan.region _ asked (c.as_slice.ensures ∙ rows)) c.answer_scan.ensures.refused
+    memory_alone c.answer_scan.result _ (no_scan_fault (state_in v t.start) c.advance.new.self.asked c.in-Scan.region _ asked (c.as_slice.ensures ∙ c.in_ok-rows-in-Scan.ensures)) c.answer_scan.ensures.refused
 
 pub returns-in_ok-next-in-Get-clause-found : goal.returns-in_ok-next-in-Get-clause-found
 returns-in_ok-next-in-Get-clause-found c =
@@ -40,4 +39,4 @@ returns-in_ok-next-in-Scan-clause-found c =
     let asked = c.in_ok-next.ensures.advance.asked ∙ ap question_after c.in-Scan.is in
     let before = subst (AreFound m) (sym c.in_ok-next.ensures.advance.looks) c.requires.found in
     let answered = subst (λ r. IfOk r (λ next. IfSome (asked_region old.asked) (λ region. IsAnswered (region_look old.changes region rows) next old new))) c.in_ok-next-in-Scan.ensures.ok c.answer_scan.ensures.answered in
-    found_region m old new c.in-Scan.region rows c.in_ok-next-in-Scan.next asked (c.as_slice.ensures ∙ rows_are v t c.in-Scan.region c.in-Ok-scan.rows c.in-Ok-scan.ensures) before answered
+    found_region m old new c.in-Scan.region rows c.in_ok-next-in-Scan.next asked (c.as_slice.ensures ∙ c.in_ok-rows-in-Scan.ensures) before answered

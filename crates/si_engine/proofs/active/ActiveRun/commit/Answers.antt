@@ -1,6 +1,8 @@
-use Rattle.si_engine.proofs.HeldLaws.{no_commit_fault}
+use Rattle.std.proofs.Common.{sym, subst}
+use Rattle.history_book.specs.Refusals.{IsOfInstance}
+use Rattle.si_engine.proofs.HeldLaws.{of_instance}
 use Rattle.si_engine.proofs.active.ActiveRun.commit.Goals as goal
 
-pub unreachable-requires : goal.unreachable-requires
-unreachable-requires c =
-    no_commit_fault c.args.book.now c.commit.new.self c.args.self c.in-Err.fault c.requires.active c.requires.ready c.in-Err.ensures.err c.in_default.not-Memory c.in_default.not-Clashed
+pub commit_own-requires-clause-own : goal.commit_own-requires-clause-own
+commit_own-requires-clause-own c =
+    subst (IsOfInstance c.args.book.now c.args.self.ticket) (sym c.deref.ensures) (of_instance c.args.book.now c.args.self c.requires.active)

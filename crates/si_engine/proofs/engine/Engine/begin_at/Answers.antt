@@ -45,7 +45,7 @@ invariant_of-self-2 c =
     let run = c.in_ok-run.run' in
     let ticket = c.in_ok-ticket.ticket in
     let run_program = ap (λ (d : Draft). slice_get d.programs.items c.args.program) (sym c.set.ensures) ∙ c.in_ok-run.ensures.program in
-    let run_is = c.in_ok-run.ensures.begun ∙ ap (λ (d : Draft). begun d.tables.items run.program c.args.args.now) c.set.ensures in
+    let run_is = c.in_ok-run.ensures.begun ∙ ap (λ (d : Draft). begun d.tables.items run.value.program c.args.args.now) c.set.ensures in
     let made =
     engine-begun e.book e.begun.items c.self.invariant c.args.start c.args.program c.args.args.now (sym c.in_default.ensures) run ticket run_program run_is
     c.in_ok-ticket.ensures.ticket c.begin_in.new.book c.in_ok-ticket.ensures.begun in
@@ -59,7 +59,7 @@ returns-clause-step c =
     let run = c.in_ok-run.run' in
     let ticket = c.in_ok-ticket.ticket in
     let run_program = ap (λ (d : Draft). slice_get d.programs.items c.args.program) (sym c.set.ensures) ∙ c.in_ok-run.ensures.program in
-    let run_is = c.in_ok-run.ensures.begun ∙ ap (λ (d : Draft). begun d.tables.items run.program c.args.args.now) c.set.ensures in
+    let run_is = c.in_ok-run.ensures.begun ∙ ap (λ (d : Draft). begun d.tables.items run.value.program c.args.args.now) c.set.ensures in
     let made =
     begin_made e.book e.begun.items c.self.invariant c.args.start c.args.program c.args.args.now (sym c.in_default.ensures) run ticket run_program run_is
     c.in_ok-ticket.ensures.ticket w c.in_ok-ticket.ensures.begun in

@@ -1,5 +1,6 @@
 use Rattle.std.proofs.Common.{◌≡◌, ◌<◌, length, ap, sym, ◌∙◌, subst, set, refl, arith}
 use Rattle.std.specs.Prelude.{Some}
+use Rattle.std.proofs.lemmas.Bool.{not-true, not-false}
 use Rattle.prog_tree.specs.Tree.{draft_tree}
 use Rattle.si_engine.specs.Machine.{machine_step}
 use Rattle.si_engine.specs.View.{EngineView, machine_of, IsEngine, MayLackMemory}
@@ -30,7 +31,7 @@ returns-then-not-active-clause-step c =
     let within : c.args.number < length e.begun.items = omega arith in
     let at = place_at e.begun.items c.args.number c.index_mut-place.result.now within c.index_mut-place.ensures.value ∙ ap Some (sym c.take.ensures.value ∙ c.in-Some.is) in
     subst (λ (w : EngineView). (reply.NotReady, machine_of e.book (set e.begun.items c.args.number (Some c.in-Some.active))) ≡ machine_step (draft_tree w.set) w.opening (event.Commit c.args.number) w.machine)
-    c.self.view_is (commit_early e.book e.begun.items c.self.invariant c.args.number c.in-Some.active at c.if-not-active.true)
+    c.self.view_is (commit_early e.book e.begun.items c.self.invariant c.args.number c.in-Some.active at (not-true c.in-Some.active.ready c.if-not-active.true))
 
 pub commit-requires-clause-active : goal.commit-requires-clause-active
 commit-requires-clause-active c =
@@ -44,7 +45,7 @@ commit-requires-clause-ready c =
     let e = c.self.inside in
     let within : c.args.number < length e.begun.items = omega arith in
     let at = place_at e.begun.items c.args.number c.index_mut-place.result.now within c.index_mut-place.ensures.value ∙ ap Some (sym c.take.ensures.value ∙ c.in-Some.is) in
-    (c.self.invariant.held c.args.number c.in-Some.active at).ready c.if-not-active.false
+    (c.self.invariant.held c.args.number c.in-Some.active at).ready (not-false c.in-Some.active.ready c.if-not-active.false)
 
 pub invariant_of-self-in-Err : goal.invariant_of-self-in-Err
 invariant_of-self-in-Err c =
@@ -67,7 +68,7 @@ returns-clause-step c =
     let w = c.commit.new.book in
     let within : c.args.number < length e.begun.items = omega arith in
     let at = place_at e.begun.items c.args.number c.index_mut-place.result.now within c.index_mut-place.ensures.value ∙ ap Some (sym c.take.ensures.value ∙ c.in-Some.is) in
-    let made = commit_is e.book e.begun.items c.self.invariant w c.args.number c.in-Some.active c.in-Ok.reply at c.if-not-active.false c.in-Ok.ensures.ok in
+    let made = commit_is e.book e.begun.items c.self.invariant w c.args.number c.in-Some.active c.in-Ok.reply at (not-false c.in-Some.active.ready c.if-not-active.false) c.in-Ok.ensures.ok in
     subst (λ (x : EngineView). (c.in-Ok.reply, machine_of w (set e.begun.items c.args.number c.take.new.self)) ≡ machine_step (draft_tree x.set) x.opening (event.Commit c.args.number) x.machine)
     c.self.view_is (ap (λ p. (c.in-Ok.reply, machine_of w (set e.begun.items c.args.number p))) c.take.ensures.after ∙ made)
 
@@ -77,4 +78,4 @@ returns-in-Err-clause-memory c =
     let within : c.args.number < length e.begun.items = omega arith in
     let at = place_at e.begun.items c.args.number c.index_mut-place.result.now within c.index_mut-place.ensures.value ∙ ap Some (sym c.take.ensures.value ∙ c.in-Some.is) in
     subst (MayLackMemory (event.Commit c.args.number)) c.self.view_is
-    (commit_takes_memory e.book e.begun.items c.self.invariant c.args.number c.in-Some.active at c.if-not-active.false)
+    (commit_takes_memory e.book e.begun.items c.self.invariant c.args.number c.in-Some.active at (not-false c.in-Some.active.ready c.if-not-active.false))
