@@ -12,7 +12,7 @@ use history_book::{BeginFault, Clash, CommitFault, EndFault, ScanFault, Ticket, 
 use job_counter::{Counter, Pass};
 use prog_check::ProgramSet;
 use prog_run::{AnswerFault, Next, Run};
-use prog_tree::{Cause, End, Sequence};
+use prog_tree::{Cause, Cell, End, Region, Sequence};
 use std::alloc::Global;
 
 /// What a worker did: its pass, what came of its jobs, and whether memory ran out.
@@ -62,8 +62,33 @@ pub enum Stop {
     NoMemory,
 }
 
+// The rows of a region, which the book is not asked for where the run has just looked at it.
+fn rows_for<'a, D: Desk<'a>>(
+    alloc: Global,
+    desk: &mut D,
+    job: usize,
+    ticket: &Ticket,
+    run: &Run<'a>,
+    region: &Region,
+) -> Result<Sequence<(Cell, i64)>, Stop>
+    ensures { D.ended desk.new ≡ D.ended desk.old }
+{
+    if let Some(rows) = run.rows_again(region) {
+        let Ok(rows) = Vec::from_slice(alloc, rows) else {
+            return Err(Stop::NoMemory);
+        };
+        return Ok(Sequence::from_vec(rows));
+    }
+    match desk.scan(job, ticket, region) {
+        Ok(rows) => Ok(rows),
+        Err(ScanFault::Memory) => Err(Stop::NoMemory),
+        Err(ScanFault::NoSuchTicket) => Err(Stop::Lost),
+    }
+}
+
 // One step of a run, with what it asks for read in the book.
 fn step<'a, D: Desk<'a>>(
+    alloc: Global,
     desk: &mut D,
     job: usize,
     ticket: &Ticket,
@@ -81,11 +106,10 @@ fn step<'a, D: Desk<'a>>(
             };
             run.answer_get(held)
         }
-        Next::Scan(region) => match desk.scan(job, ticket, &region) {
-            Ok(rows) => run.answer_scan(rows.as_slice()),
-            Err(ScanFault::Memory) => return Err(Stop::NoMemory),
-            Err(ScanFault::NoSuchTicket) => return Err(Stop::Lost),
-        },
+        Next::Scan(region) => {
+            let rows = rows_for(alloc, desk, job, ticket, run, &region)?;
+            run.answer_scan(rows.as_slice())
+        }
         next => Ok(next),
     };
     match answered {
@@ -97,6 +121,7 @@ fn step<'a, D: Desk<'a>>(
 
 // Goes on with a run to its end.
 fn finish<'a, D: Desk<'a>>(
+    alloc: Global,
     desk: &mut D,
     job: usize,
     ticket: &Ticket,
@@ -105,7 +130,7 @@ fn finish<'a, D: Desk<'a>>(
     ensures { D.ended desk.new ≡ D.ended desk.old }
 {
     for _turn in 0..u64::MAX {
-        if let Next::Done(end) = step(desk, job, ticket, run)? {
+        if let Next::Done(end) = step(alloc, desk, job, ticket, run)? {
             return Ok(end);
         }
     }
@@ -179,7 +204,7 @@ fn try_once<'a, D: Desk<'a>>(
         desk.withdraw(ticket);
         return Tried::NoMemory;
     };
-    match finish(desk, number, &ticket, &mut run) {
+    match finish(alloc, desk, number, &ticket, &mut run) {
         Ok(End::Ready) => commit(alloc, desk, ticket, run),
         Ok(End::Aborted(cause)) => abort(desk, ticket, run, cause),
         Err(stop) => {
