@@ -96,7 +96,8 @@ impl<'a> ActiveRun<'a> {
     fn end(self, book: &mut Book<'a>) -> Result<(), ActiveRun<'a>>
         requires active { IsActive book.old self }
         requires aborted { HasAborted self.run.value }
-        ensures ok { OnOk result (IsAborted book.old book.new self.entry.ticket self.entry.run.value) }
+        ensures ok { OnOk result
+            (IsAborted book.old book.new self.entry.ticket self.entry.run.value) }
         ensures err { IfErr result (λ back. back ≡ self.entry) }
         ensures err_book { OnErr result (book.new ≡ book.old) }
     {

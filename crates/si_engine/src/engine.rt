@@ -192,8 +192,7 @@ impl<'a> Engine<'a> {
         };
         let (after, reply) = active.step(self.alloc, &mut self.book);
         *place = after;
-        let reply = reply?;
-        Ok(reply)
+        reply
     }
 
     fn commit(&mut self, number: usize) -> Result<Reply, AllocError>
