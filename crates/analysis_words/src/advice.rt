@@ -69,8 +69,8 @@ fn own_cell(
     question: Question,
     place: usize,
 ) -> Result<String, AllocError> {
-    let cells = cells_at(shown.text, place);
-    let line = line_number(shown.text, place);
+    let cells = cells_at(shown.text.bytes(), place);
+    let line = line_number(shown.text.bytes(), place);
     let clashing = clashing(alloc, shown, question)?;
     if has_unknown_key(shown, &question) {
         return format!(in alloc;
@@ -83,11 +83,11 @@ fn own_cell(
 // What makes the two of a question clash: the first keeps the cell that it looks at, or where that
 // is a range, or one of both stands in the body of an `each`, both keep one cell.
 fn repair(alloc: Global, shown: Shown<'_>, question: Question) -> Result<String, AllocError> {
-    let Some(place) = access_place(alloc, shown, question.x, question.a)? else {
+    let Some(place) = access_place(shown, question.x, question.a) else {
         let keepers = keepers(alloc, shown, question)?;
         return format!(in alloc; "a cell that {keepers}");
     };
-    let cells = cells_at(shown.text, place);
+    let cells = cells_at(shown.text.bytes(), place);
     if cells.contains("..") || meets_body(shown, &question) {
         return shared_cell(alloc, shown, question, cells);
     }

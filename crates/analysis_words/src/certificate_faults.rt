@@ -11,6 +11,7 @@ use prog_check::{Path, ProgramSet};
 use prog_paths::paths;
 use robust_cert::{CertFault, Certificate, Entry, JsonFault, Question, body_size, from_json};
 use std::alloc::{AllocError, Global};
+use text_places::SetText;
 
 /// A number of the text of a certificate.
 pub fn wide(number: u32) -> usize
@@ -294,8 +295,9 @@ pub fn certificate_words(
         return Ok(None);
     };
     let paths = paths(alloc, set)?;
+    let text = SetText::new(alloc, text)?;
     let shown = Shown {
-        text,
+        text: &text,
         set,
         paths: &paths,
     };

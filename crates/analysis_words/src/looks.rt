@@ -25,14 +25,10 @@ pub fn first_of_each(
 }
 
 /// The cells that the statement of a look names; nothing where it is not found.
-pub fn looked_at<'a>(
-    alloc: Global,
-    shown: Shown<'a>,
-    question: Question,
-) -> Result<&'a str, AllocError> {
-    match access_place(alloc, shown, question.x, question.a)? {
-        Some(place) => Ok(cells_at(shown.text, place)),
-        None => Ok(""),
+pub fn looked_at(shown: Shown<'_>, question: Question) -> &str {
+    match access_place(shown, question.x, question.a) {
+        Some(place) => cells_at(shown.text.bytes(), place),
+        None => "",
     }
 }
 
@@ -65,16 +61,16 @@ pub fn look_words(
     question: Question,
     what: &str,
 ) -> Result<String, AllocError> {
-    let Some(look) = access_place(alloc, shown, question.x, question.a)? else {
+    let Some(look) = access_place(shown, question.x, question.a) else {
         return Ok(String::new(alloc));
     };
-    let Some(change) = access_place(alloc, shown, question.y, question.b)? else {
+    let Some(change) = access_place(shown, question.y, question.b) else {
         return Ok(String::new(alloc));
     };
-    let line = line_number(shown.text, change);
+    let line = line_number(shown.text.bytes(), change);
     let turns = turns_text(shown, question.y, question.b);
     let sentence = format!(in alloc; "{what} at what line {line} changes{turns}")?;
-    point_out(alloc, shown.text, look, &sentence)
+    point_out(alloc, shown.text.bytes(), look, &sentence)
 }
 
 /// Says of a question that may be none which of its node's statements looks.

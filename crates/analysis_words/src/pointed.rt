@@ -4,7 +4,7 @@ ghost use Rattle.analysis_words.specs.Refusing.{HasNoAccess, PointsAtAccess};
 
 use crate::shown::Shown;
 use std::alloc::{AllocError, Global};
-use text_places::{point_out, statement_place};
+use text_places::point_out;
 
 /// Says a sentence of an access of a node, where its statement begins; nothing where it is not
 /// found.
@@ -27,9 +27,9 @@ pub fn point_at_access(
     let Some(access) = path.accesses.as_slice().get(access) else {
         return Ok(None);
     };
-    let Some(at) = statement_place(alloc, shown.text, path.program, access.place)? else {
+    let Some(at) = shown.text.statement_place(path.program, access.place) else {
         return Ok(None);
     };
-    let words = point_out(alloc, shown.text, at, sentence)?;
+    let words = point_out(alloc, shown.text.bytes(), at, sentence)?;
     Ok(Some(words))
 }

@@ -17,6 +17,7 @@ use prog_check::ProgramSet;
 use prog_paths::paths;
 use si_repair::Plan;
 use std::alloc::{AllocError, Global};
+use text_places::SetText;
 
 // Both edges of a danger, and what follows.
 fn both_words(
@@ -96,8 +97,9 @@ pub fn refusal_words(
         (LacksDanger text.now (paths_of (draft_tree set.now)) danger.now)) }
 {
     let paths = paths(alloc, set)?;
+    let text = SetText::new(alloc, text)?;
     let shown = Shown {
-        text,
+        text: &text,
         set,
         paths: &paths,
     };

@@ -11,6 +11,7 @@ use prog_paths::{Question, paths};
 use prog_tree::{Expr, Key, Name, Stmt};
 use si_repair::{Pair, exposed_questions};
 use std::alloc::{AllocError, Global};
+use text_places::SetText;
 
 // A set with its text, and what a repair made of it, by keeps behind looks or by new tables.
 #[derive(Clone, Copy)]
@@ -104,7 +105,7 @@ fn promoted_words(
     let firsts = first_of_each(alloc, shown, questions)?;
     let mut words = String::new(alloc);
     for question in &firsts {
-        let cells = looked_at(alloc, shown, *question)?;
+        let cells = looked_at(shown, *question);
         let what = format!(in alloc; "`keep {cells};` now stands behind this look")?;
         let look = look_words(alloc, shown, *question, &what)?;
         words.push_str(&look)?;
@@ -161,8 +162,9 @@ pub fn repair_words(
         return Ok(None);
     }
     let paths = paths(alloc, set)?;
+    let text = SetText::new(alloc, text)?;
     let shown = Shown {
-        text,
+        text: &text,
         set,
         paths: &paths,
     };

@@ -11,6 +11,7 @@ use prog_check::ProgramSet;
 use prog_paths::{Question, paths};
 use si_repair::{Pair, RepairFault, exposed_questions};
 use std::alloc::{AllocError, Global};
+use text_places::SetText;
 
 // The first look at a range.
 fn range_look(
@@ -20,7 +21,7 @@ fn range_look(
 ) -> Result<String, AllocError> {
     let firsts = first_of_each(alloc, shown, questions)?;
     for question in &firsts {
-        let cells = looked_at(alloc, shown, *question)?;
+        let cells = looked_at(shown, *question);
         if cells.contains("..") {
             return reason_words(alloc, shown, Some(question));
         }
@@ -94,8 +95,9 @@ fn obstructed_look(
 ) -> Result<String, AllocError> {
     let paths = paths(alloc, set)?;
     let questions = exposed_questions(alloc, &paths, pair)?;
+    let text = SetText::new(alloc, text)?;
     let shown = Shown {
-        text,
+        text: &text,
         set,
         paths: &paths,
     };

@@ -11,7 +11,7 @@ use prog_check::ProgramSet;
 use prog_paths::paths;
 use robust_cert::{Certificate, Entry};
 use std::alloc::{AllocError, Global};
-use text_places::push_listed;
+use text_places::{SetText, push_listed};
 
 // So many nodes are named with their levels.
 const MAX_LEVELS: usize = 8;
@@ -142,8 +142,9 @@ pub fn robust_words(
         (λ words. Says (string_bytes words) (entries_text certificate.now)) }
 {
     let paths = paths(alloc, set)?;
+    let text = SetText::new(alloc, text)?;
     let shown = Shown {
-        text,
+        text: &text,
         set,
         paths: &paths,
     };

@@ -6,14 +6,14 @@ ghost use Rattle.analysis_words.specs.Nodes.{access_of, branches_text, letter_of
 use fault_words::program_name;
 use prog_check::{Access, Path, ProgramSet};
 use std::alloc::{AllocError, Global};
-use text_places::{as_text, before, behind, line_number, statement_place, table_name};
+use text_places::{SetText, as_text, before, behind, line_number, table_name};
 
 const MAX_SHOWN: usize = 60;
 
 /// A set with its text and its paths, which are the nodes.
 #[derive(Clone, Copy)]
 pub struct Shown<'a> {
-    pub text: &'a [u8],
+    pub text: &'a SetText<'a>,
     pub set: &'a ProgramSet,
     pub paths: &'a [Path],
 }
@@ -119,19 +119,10 @@ pub fn is_in_body(shown: Shown<'_>, node: usize, access: usize) -> bool {
 }
 
 /// Where the statement of an access stands.
-pub fn access_place(
-    alloc: Global,
-    shown: Shown<'_>,
-    node: usize,
-    access: usize,
-) -> Result<Option<usize>, AllocError> {
-    let Some(path) = shown.paths.get(node) else {
-        return Ok(None);
-    };
-    match path.accesses.as_slice().get(access) {
-        Some(access) => statement_place(alloc, shown.text, path.program, access.place),
-        None => Ok(None),
-    }
+pub fn access_place(shown: Shown<'_>, node: usize, access: usize) -> Option<usize> {
+    let program = shown.paths.get(node)?.program;
+    let access = access_of(shown, node, access)?;
+    shown.text.statement_place(program, access.place)
 }
 
 /// An access of a node, with its statement and the line of that.
@@ -142,10 +133,10 @@ pub fn access_text(
     access: usize,
 ) -> Result<String, AllocError> {
     let name = node_name(alloc, shown, node)?;
-    match access_place(alloc, shown, node, access)? {
+    match access_place(shown, node, access) {
         Some(place) => {
-            let statement = statement_at(shown.text, place);
-            let line = line_number(shown.text, place);
+            let statement = statement_at(shown.text.bytes(), place);
+            let line = line_number(shown.text.bytes(), place);
             format!(in alloc; "`{statement}` of {name} in line {line}")
         }
         None => format!(in alloc; "access {access} of {name}, which it has not"),

@@ -13,13 +13,13 @@ returns-in_default-get-clause-none c =
     NoneOfNode c.in-Some.path.now (read_at _ _ _ _ refl node.3.0 node.1)
     (rw (← c.as_slice.ensures) (slice_get_past _ _ (c.in_default-get.ensures.lookup.3)))
 
-pub returns-in_default-2-clause-none : goal.returns-in_default-2-clause-none
-returns-in_default-2-clause-none c =
+pub returns-in_default-statement_place-clause-none : goal.returns-in_default-statement_place-clause-none
+returns-in_default-statement_place-clause-none c =
     let node = c.in-Some.ensures.lookup in
     let access = c.in-Some-get.ensures.lookup in
     NoStatement c.in-Some.path.now (read_at _ _ _ _ refl node.3.0 node.1)
     c.in-Some-get.access.now (read_at _ _ _ _ c.as_slice.ensures access.3.0 access.1)
-    (rw c.in_default-2.is at c.in_ok-at.ensures.none)
+    (rw c.in_default-statement_place.is at c.statement_place.ensures.none)
 
 pub returns-clause-said : goal.returns-clause-said
 returns-clause-said c =
@@ -30,7 +30,7 @@ returns-clause-said c =
       of_node = read_at _ _ _ _ refl node.3.0 node.1;
       accessed = c.in-Some-get.access.now;
       of_path = read_at _ _ _ _ c.as_slice.ensures access.3.0 access.1;
-      at = c.in-Some-2.at;
-      stands = rw c.in-Some-2.is at c.in_ok-at.ensures.found;
-      points = c.in_ok-words.ensures;
+      at = c.in-Some-statement_place.at;
+      stands = rw c.in-Some-statement_place.is at c.statement_place.ensures.found;
+      points = rw c.bytes.ensures at c.in_ok-words.ensures;
     }

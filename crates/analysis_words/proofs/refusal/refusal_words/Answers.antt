@@ -13,6 +13,7 @@ pub returns-clause-said : goal.returns-clause-said
 returns-clause-said c =
     let same : c.deref.result.now ≡ paths_of (draft_tree c.args.set.now) = c.deref.ensures.value ∙ c.in_ok-paths.ensures.exact in
     let shown : ShowsDanger c.args.text.now (draft_tree c.args.set.now) c.deref.result.now c.args.danger.now (string_bytes c.in-Some.front) =
+    let said = rw c.in_ok-text.ensures at c.in_ok-front.ensures.said in
     search rules in
     rw (sym same) (shown_more c.args.text.now (draft_tree c.args.set.now) c.deref.result.now c.args.danger.now (string_bytes c.in-Some.front) _ (string_bytes c.in_ok-words.words)
     c.in_ok-words.ensures.ok shown)
@@ -35,4 +36,4 @@ returns-clause-ways c = (
 pub returns-in_default-clause-none : goal.returns-in_default-clause-none
 returns-in_default-clause-none c =
     let same : c.deref.result.now ≡ paths_of (draft_tree c.args.set.now) = c.deref.ensures.value ∙ c.in_ok-paths.ensures.exact in
-    rw (sym same) (unsaid _ (LacksDanger c.args.text.now c.deref.result.now c.args.danger.now) c.in_default.is c.in_ok-front.ensures.none)
+    rw (sym same) (unsaid _ (LacksDanger c.args.text.now c.deref.result.now c.args.danger.now) c.in_default.is (rw c.in_ok-text.ensures at c.in_ok-front.ensures.none))

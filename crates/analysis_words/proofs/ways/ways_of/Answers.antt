@@ -1,4 +1,3 @@
-use Rattle.std.proofs.Common.{rules, ◌≡◌}
 use Rattle.analysis_words.specs.Ways.IsWaysText.{Tried}
 use Rattle.analysis_words.proofs.ways.ways_of.Goals as goal
 
