@@ -27,9 +27,3 @@ first_foreign m looks n l b within is before tells not = record {
   at = slice_get-get_or looks n l within ∙ ap (λ (x : Look). Some x) (sym is);
   foreign = λ found. true≢false (sym (tells.1 found) ∙ not);
 }
-
--- where all looks found what a table state holds, one of them did
-pub one_found : (m : TableState) (looks : List Look) (n : ℕ) (l : Look) → slice_get looks n ≡ Some l → AreFound m looks → IsFound m l
-one_found m [] n l at found = absurd (cc)
-one_found m (k ∷ ks) zero l at found = let same : k ≡ l = cc in subst (IsFound m) same found.0
-one_found m (k ∷ ks) (suc n) l at found = one_found m ks n l at found.1

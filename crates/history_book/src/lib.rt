@@ -22,6 +22,7 @@ pub use laws::{
     forward_orders_run_the_same, least_orders_fit, least_orders_of_reduced_relations,
     orders_are_of_relations_without_a_cycle, reasons_are_of_dependencies,
 };
+pub use limits::MAX_ENDINGS;
 pub use orders::fits::AnyFitFault;
 pub use orders::order::OrderFault;
 pub use orders::reason::Reason;

@@ -16,5 +16,8 @@ mod uses;
 
 pub use fault::{CheckFault, Place};
 pub use laws::soundness;
+pub use limits::{
+    MAX_ACCESSES, MAX_PARAMETERS, MAX_PATHS, MAX_PROGRAMS, MAX_STATEMENTS, MAX_TABLES,
+};
 pub use path::{Access, Accesses, Choices, Column, Kind, Path, Term};
 pub use set::{ProgramSet, check};

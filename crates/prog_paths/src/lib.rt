@@ -24,6 +24,7 @@ pub use count::is_too_large;
 pub use laws::{
     law_of_listing, law_of_own_unknowns, law_of_paths, law_of_questions, law_of_single_changes,
 };
+pub use limits::MAX_QUESTIONS;
 pub use listing::paths;
 pub use mark::{Mark, enter_edges, enter_vulnerable, mark_by};
 pub use places::{Placed, Question, all_places, asks, question_between};

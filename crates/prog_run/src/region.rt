@@ -22,12 +22,6 @@ pub fn are_in(region: &Region, rows: &[(Cell, i64)]) -> bool
     rows.iter().all(|(cell, _)| region.contains(cell))
 }
 
-fn is_same_region(region: &Region, other: &Region) -> bool
-    ensures { IsTrue result ↔ (region.now ≡ other.now) }
-{
-    region == other
-}
-
 /// The rows that the last look found, where it was at just this region and left no cells out.
 pub fn found_last<'l>(looks: &'l [Look], region: &Region) -> Option<&'l [(Cell, i64)]>
     ensures last { IsFoundLast looks.now region.now (option_copied result) }
@@ -42,7 +36,7 @@ pub fn found_last<'l>(looks: &'l [Look], region: &Region) -> Option<&'l [(Cell, 
             region: looked,
             own,
             rows,
-        } if own.len() == 0 && is_same_region(looked, region) => Some(rows.as_slice()),
+        } if own.len() == 0 && looked.is_same(region) => Some(rows.as_slice()),
         _ => None,
     }
 }

@@ -11,8 +11,8 @@ pub const MAX_BYTES: usize = 1_048_576;
 /// The most brackets that may be open.
 pub const MAX_BRACKETS: usize = 16;
 
-// The most operators of a statement.
-const MAX_OPERATORS: usize = 32;
+/// The most operators of a statement.
+pub const MAX_OPERATORS: usize = 32;
 
 /// The most bytes of a name.
 pub const MAX_NAME_BYTES: usize = 32;

@@ -1,6 +1,6 @@
 //! Cells, and regions of them.
 
-ghost use Rattle.std.specs.Prelude.{◌≡◌};
+ghost use Rattle.std.specs.Prelude.{◌≡◌, ◌↔◌, IsTrue};
 ghost use Rattle.prog_tree.specs.Table.{is_cell_among, is_in, lies_between};
 ghost use Rattle.prog_tree.specs.Corners.{AreCorners};
 
@@ -57,6 +57,13 @@ fn is_between(low: i64, x: i64, high: i64) -> bool
 }
 
 impl Region {
+    /// Whether both are of one table and have the same ends.
+    pub fn is_same(&self, other: &Region) -> bool
+        ensures { IsTrue result ↔ (self.now ≡ other.now) }
+    {
+        self == other
+    }
+
     pub fn contains(&self, cell: &Cell) -> bool
         ensures { result ≡ is_in self.now cell.now }
     {

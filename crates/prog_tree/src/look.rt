@@ -19,12 +19,6 @@ pub enum Look {
     },
 }
 
-fn same_regions(region: &Region, other: &Region) -> bool
-    ensures { IsTrue result ↔ (region.now ≡ other.now) }
-{
-    region == other
-}
-
 fn same_cells(cells: &[Cell], others: &[Cell]) -> bool
     ensures { IsTrue result ↔ (cells.now ≡ others.now) }
 {
@@ -52,7 +46,7 @@ impl Look {
                     rows: s,
                 },
             ) => {
-                if !same_regions(region, r) {
+                if !region.is_same(r) {
                     return false;
                 }
                 same_cells(own.as_slice(), o.as_slice()) && same_rows(rows.as_slice(), s.as_slice())

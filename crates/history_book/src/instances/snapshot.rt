@@ -1,9 +1,9 @@
 //! What active instances see, and whether runs are theirs.
 
-ghost use Rattle.std.specs.Prelude.{◌≡◌, ◌≤◌, ◌↔◌, ◌-◌, length, slice_get, Some, true, IfOk, IfNone, IfSome, IsTrue, option_copied, option_map, MatchOption};
+ghost use Rattle.std.specs.Prelude.{◌≡◌, ◌≤◌, ◌↔◌, length, Some, true, IfOk, IfNone, IfSome, IsTrue, option_copied, option_map, MatchOption};
 ghost use Rattle.prog_tree.specs.Evaluation.{rows_left};
 ghost use Rattle.prog_tree.specs.Table.{row_at, rows_in};
-ghost use Rattle.prog_run.specs.Looks.{IsFound, AreFound};
+ghost use Rattle.prog_run.specs.Looks.{IsFound, AreFound, last_of};
 ghost use Rattle.version_store.specs.Clash.{IsClash};
 ghost use Rattle.prog_tree.specs.Tree.{draft_tree};
 ghost use Rattle.history_book.specs.History.{IsCalled};
@@ -29,7 +29,7 @@ pub(crate) fn same_numbers(numbers: &[i64], others: &[i64]) -> bool
 
 // Whether the last of some looks is this one.
 fn is_last(looks: &[Look], look: &Look) -> bool
-    ensures { IsTrue result ↔ (slice_get looks.now (length looks.now - 1) ≡ Some look.now) }
+    ensures { IsTrue result ↔ (last_of looks.now ≡ Some look.now) }
 {
     match looks.last() {
         Some(last) => last.is_same(look),

@@ -12,7 +12,7 @@ returns-in-Range-clause-last c =
     let last : last_of c.args.looks.now ≡ Some (look.Range range.looked range.own range.rows) =
     sym c.in-Some.ensures.value ∙ ap (λ l. Some l) range.is in
     let none : range.own ≡ [] = nil_from_length range.own (sym c.len.ensures ∙ c.if-len-eq0.true) in
-    same_look c.args.looks.now range.looked c.args.region.now range.own range.rows c.as_slice.result.now last none (c.is_same_region.ensures.0 c.if-is_same_region.true) c.as_slice.ensures
+    same_look c.args.looks.now range.looked c.args.region.now range.own range.rows c.as_slice.result.now last none (c.is_same.ensures.0 c.if-is_same.true) c.as_slice.ensures
 
 pub returns-in-Range-clause-held : goal.returns-in-Range-clause-held
 returns-in-Range-clause-held c =
@@ -21,4 +21,4 @@ returns-in-Range-clause-held c =
     sym c.in-Some.ensures.value ∙ ap (λ l. Some l) range.is in
     let none : range.own ≡ [] = nil_from_length range.own (sym c.len.ensures ∙ c.if-len-eq0.true) in
     held_again c.args.looks.now c.args.region.now c.as_slice.result.now
-    (same_look c.args.looks.now range.looked c.args.region.now range.own range.rows c.as_slice.result.now last none (c.is_same_region.ensures.0 c.if-is_same_region.true) c.as_slice.ensures)
+    (same_look c.args.looks.now range.looked c.args.region.now range.own range.rows c.as_slice.result.now last none (c.is_same.ensures.0 c.if-is_same.true) c.as_slice.ensures)

@@ -1,6 +1,6 @@
 use Rattle.std.proofs.Common.{◌-◌, length, refl}
 use Rattle.history_book.specs.View.{state_in}
-use Rattle.history_book.proofs.FoundLaws.{one_found}
+use Rattle.prog_run.proofs.AgainLaws.{one_found}
 use Rattle.history_book.proofs.book.Book.is_found_next.Goals as goal
 
 pub returns-then-is_last : goal.returns-then-is_last

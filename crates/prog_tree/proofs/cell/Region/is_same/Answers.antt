@@ -1,12 +1,12 @@
 use Rattle.std.proofs.Common.{ap}
 use Rattle.std.proofs.lemmas.Bool.Decides.{Decides-eqb, Decides-int_eq, Decides-and, Decides-at, Decides-like}
 use Rattle.prog_tree.specs.declared.cell.Region.{Region}
-use Rattle.prog_tree.proofs.look.same_regions.Goals as goal
+use Rattle.prog_tree.proofs.cell.Region.is_same.Goals as goal
 
 -- regions are equal where each field is
 pub returns : goal.returns
 returns c =
-    let a = c.args.region.now in
+    let a = c.args.self.now in
     let b = c.args.other.now in
     let fields =
     Decides-and _ _ (Decides-eqb a.table b.table)
