@@ -11,5 +11,4 @@ pub mod Placing
 pub mod Exposing
 pub mod Rising
 mod Vectors
-pub mod WordRows
 pub mod Nexts

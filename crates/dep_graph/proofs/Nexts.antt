@@ -3,7 +3,7 @@ use Rattle.std.proofs.Common.{◌≡◌, ℕ, ◌<◌, ◌≤◌, ◌+◌, ◌�
 use Rattle.std.proofs.lemmas.Bool.{cases_lt}
 use Rattle.prog_paths.specs.Square.{Grid, Joins}
 use Rattle.prog_paths.specs.Listing.{IsAtMost}
-use Rattle.dep_graph.specs.Words.{IsNextJoined}
+use Rattle.prog_paths.specs.Words.{IsNextJoined}
 use Rattle.dep_graph.specs.Triple.{ClosesAt, LeastEnd, LeastPair}
 
 module _ (P : ℕ → Type 0) (s : Grid) (from start : ℕ) (joined : (n : ℕ) → P n → Joins s from n) (before : (n : ℕ) → n < start → ¬ P n) where

@@ -6,4 +6,3 @@ pub mod Distances
 pub mod Triple
 pub mod Marks
 pub mod Danger
-pub mod Words

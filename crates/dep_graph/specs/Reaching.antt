@@ -18,12 +18,6 @@ pub record JoinsEachToItself (new old : Grid) : Type 0 where
   pub size : new.size ≡ old.size
   pub entries : (i j : ℕ) → i < old.size → j < old.size → entry new i j ≡ (i == j || entry old i j)
 
--- one row has what row `through` has too, and the other rows are as they were
-pub record JoinsRow (old new : Grid) (row through : ℕ) : Type 0 where
-  pub size : new.size ≡ old.size
-  pub here : (j : ℕ) → j < old.size → entry new row j ≡ (entry old row j || entry old through j)
-  pub others : (i j : ℕ) → i < old.size → j < old.size → ¬ (i ≡ row) → entry new i j ≡ entry old i j
-
 -- whatever is joined to `through` is joined to what that is joined to
 pub record JoinsThrough (old new : Grid) (through : ℕ) : Type 0 where
   pub size : new.size ≡ old.size

@@ -3,11 +3,11 @@
 ghost use Rattle.std.specs.Prelude.{◌<◌, IfOk};
 ghost use Rattle.dep_graph.specs.Reaching.{IsReachOf, JoinsEachToItself, JoinsThrough};
 
-use crate::bit_matrix::BitMatrix;
+use prog_paths::Square;
 use std::alloc::{AllocError, Global};
 
 /// The edges, with each node joined to itself too.
-fn with_itself(alloc: Global, edges: &BitMatrix) -> Result<BitMatrix, AllocError>
+fn with_itself(alloc: Global, edges: &Square) -> Result<Square, AllocError>
     ensures { IfOk result (λ s. JoinsEachToItself s edges.now) }
 {
     let mut reach = edges.copy(alloc)?;
@@ -18,7 +18,7 @@ fn with_itself(alloc: Global, edges: &BitMatrix) -> Result<BitMatrix, AllocError
 }
 
 /// Joins whatever is joined to `through` to what that is joined to.
-fn join(square: &mut BitMatrix, through: usize)
+fn join(square: &mut Square, through: usize)
     requires { through < square.old.size }
     ensures { JoinsThrough square.old square.new through }
 {
@@ -30,7 +30,7 @@ fn join(square: &mut BitMatrix, through: usize)
 }
 
 /// Which node reaches which: each itself, and whatever a walk along edges leads to.
-pub fn close(alloc: Global, edges: &BitMatrix) -> Result<BitMatrix, AllocError>
+pub fn close(alloc: Global, edges: &Square) -> Result<Square, AllocError>
     ensures { IfOk result (λ reach. IsReachOf reach edges.now) }
 {
     let mut reach = with_itself(alloc, edges)?;

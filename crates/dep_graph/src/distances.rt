@@ -3,7 +3,7 @@
 ghost use Rattle.std.specs.Prelude.{◌≡◌, ◌↔◌, ◌<◌, length, Option, Some, IfOk, IfSome, IsTrue};
 ghost use Rattle.dep_graph.specs.Distances.{LeadsToKnown, IsNextDistance, AreNextDistances, KnowsWithin};
 
-use crate::bit_matrix::BitMatrix;
+use prog_paths::Square;
 use std::alloc::{AllocError, Global};
 
 /// Whether the distance is known and is so many steps.
@@ -17,7 +17,7 @@ pub fn is_distance(distance: Option<usize>, steps: usize) -> bool
 }
 
 /// Whether an edge leads from the node to one of known distance.
-fn leads_to_known(edges: &BitMatrix, distances: &[Option<usize>], node: usize) -> bool
+fn leads_to_known(edges: &Square, distances: &[Option<usize>], node: usize) -> bool
     requires node { node < edges.now.size }
     requires size { length distances.now ≡ edges.now.size }
     ensures { IsTrue result ↔ LeadsToKnown edges.now distances.now node }
@@ -34,7 +34,7 @@ fn leads_to_known(edges: &BitMatrix, distances: &[Option<usize>], node: usize) -
 
 /// The node's distance after one more round, in which what leads to a known one becomes known.
 fn next_distance(
-    edges: &BitMatrix,
+    edges: &Square,
     distances: &[Option<usize>],
     node: usize,
     round: usize,
@@ -53,7 +53,7 @@ fn next_distance(
 /// The distances after one more round.
 pub fn next_distances(
     alloc: Global,
-    edges: &BitMatrix,
+    edges: &Square,
     distances: &[Option<usize>],
     round: usize,
 ) -> Result<Vec<Option<usize>>, AllocError>
@@ -70,7 +70,7 @@ pub fn next_distances(
 /// The distances before the first round: the end's alone is known.
 pub fn first_distances(
     alloc: Global,
-    edges: &BitMatrix,
+    edges: &Square,
     end: usize,
 ) -> Result<Vec<Option<usize>>, AllocError>
     requires { end < edges.now.size }

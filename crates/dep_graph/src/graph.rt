@@ -10,13 +10,13 @@ ghost use Rattle.dep_graph.specs.Marks.{has_edge, has_vulnerable};
 ghost use Rattle.dep_graph.specs.Marking.{marks_of};
 ghost use Rattle.dep_graph.specs.Danger.{IsLeastDanger};
 
-use crate::bit_matrix::BitMatrix;
 use crate::closure::close;
 use crate::danger::{Danger, first_exposure};
 use crate::least_way::least_way;
-use crate::mark::{enter_edges, enter_vulnerable, entry_mark};
+use crate::mark::entry_mark;
 use crate::triple::least_triple;
 use conflict_pairs::PairTable;
+use prog_paths::{Square, enter_edges, enter_vulnerable};
 use prog_tree::Sequence;
 use std::alloc::{AllocError, Global};
 use std::marker::Model;
@@ -25,9 +25,9 @@ use std::marker::Model;
 #[derive(Drop)]
 pub struct Graph<'a> {
     table: &'a PairTable,
-    edges: BitMatrix,
-    vulnerable: BitMatrix,
-    reach: BitMatrix,
+    edges: Square,
+    vulnerable: Square,
+    reach: Square,
 }
 
 impl<'a> Model for Graph<'a> {
@@ -52,8 +52,8 @@ impl<'a> Model for Graph<'a> {
 /// Which nodes are joined by an edge, and which by a vulnerable one.
 #[derive(Drop)]
 struct Edges {
-    all: BitMatrix,
-    vulnerable: BitMatrix,
+    all: Square,
+    vulnerable: Square,
 }
 
 /// The edges that a table's questions give.
@@ -63,8 +63,8 @@ fn edges_of(alloc: Global, table: &PairTable) -> Result<Edges, AllocError>
     ensures vulnerable { IfOk result
         (λ e. IsSquareOf e.vulnerable table.now.nodes (has_vulnerable (marks_of table.now).marks)) }
 {
-    let mut all = BitMatrix::new(alloc, table.nodes())?;
-    let mut vulnerable = BitMatrix::new(alloc, table.nodes())?;
+    let mut all = Square::new(alloc, table.nodes())?;
+    let mut vulnerable = Square::new(alloc, table.nodes())?;
     for n in 0..table.len() {
         let mark = entry_mark(table, n);
         enter_edges(&mut all, mark);
@@ -74,7 +74,7 @@ fn edges_of(alloc: Global, table: &PairTable) -> Result<Edges, AllocError>
 }
 
 /// How many nodes are joined to the node.
-fn column_count(matrix: &BitMatrix, to: usize) -> usize
+fn column_count(matrix: &Square, to: usize) -> usize
     requires { to < matrix.now.size }
     ensures count { IsCountOf (λ from. entry matrix.now from to ≡ true) matrix.now.size result }
     ensures within { result ≤ matrix.now.size }

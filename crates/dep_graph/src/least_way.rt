@@ -6,12 +6,12 @@ ghost use Rattle.prog_paths.specs.Square.{Joins};
 ghost use Rattle.dep_graph.specs.Ways.{IsLeastWay};
 ghost use Rattle.dep_graph.specs.Distances.{distance_at, KnowsWithin, IsLeastNearer, StepsNearer};
 
-use crate::bit_matrix::BitMatrix;
 use crate::distances::{first_distances, is_distance, next_distances};
+use prog_paths::Square;
 use std::alloc::{AllocError, Global};
 
 /// The least node that an edge leads to and that is so many steps from the end.
-fn nearer(edges: &BitMatrix, distances: &[Option<usize>], node: usize, steps: usize) -> usize
+fn nearer(edges: &Square, distances: &[Option<usize>], node: usize, steps: usize) -> usize
     requires node { node < edges.now.size }
     requires size { length distances.now ≡ edges.now.size }
     requires some { (w : ℕ) × StepsNearer edges.now distances.now node steps w }
@@ -30,7 +30,7 @@ fn nearer(edges: &BitMatrix, distances: &[Option<usize>], node: usize, steps: us
 /// The way from a node of known distance, always on to the least node that is nearer.
 fn walk(
     alloc: Global,
-    edges: &BitMatrix,
+    edges: &Square,
     distances: &[Option<usize>],
     from: usize,
     steps: usize,
@@ -57,7 +57,7 @@ fn walk(
 /// A shortest way from a node to another that it leads to, the least of these in node order.
 pub fn least_way(
     alloc: Global,
-    edges: &BitMatrix,
+    edges: &Square,
     from: usize,
     end: usize,
 ) -> Result<Vec<usize>, AllocError>

@@ -2,7 +2,6 @@
 //! and the least dangerous structure.
 #![tactic(auto)]
 
-mod bit_matrix;
 mod closure;
 mod danger;
 mod distances;

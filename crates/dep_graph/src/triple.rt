@@ -4,7 +4,7 @@ ghost use Rattle.std.specs.Prelude.{◌≡◌, ℕ, ◌<◌, ◌≤◌, IfSome, 
 ghost use Rattle.prog_paths.specs.Square.{Joins};
 ghost use Rattle.dep_graph.specs.Triple.{ClosesAt, LeastEnd, LeastPair, IsLeastTriple};
 
-use crate::bit_matrix::BitMatrix;
+use prog_paths::Square;
 
 /// Three nodes in a row.
 #[derive(Clone, Copy)]
@@ -15,7 +15,7 @@ pub struct Triple {
 }
 
 /// The least node that closes a dangerous structure behind `x` and `y`.
-fn least_end(vulnerable: &BitMatrix, reach: &BitMatrix, x: usize, y: usize) -> Option<usize>
+fn least_end(vulnerable: &Square, reach: &Square, x: usize, y: usize) -> Option<usize>
     requires first { Joins vulnerable.now x y }
     requires size { reach.now.size ≡ vulnerable.now.size }
     ensures found { IfSome result (λ z. LeastEnd vulnerable.now reach.now x y z) }
@@ -32,7 +32,7 @@ fn least_end(vulnerable: &BitMatrix, reach: &BitMatrix, x: usize, y: usize) -> O
 }
 
 /// The least two nodes that make a dangerous structure behind `x`.
-fn least_pair(vulnerable: &BitMatrix, reach: &BitMatrix, x: usize) -> Option<Triple>
+fn least_pair(vulnerable: &Square, reach: &Square, x: usize) -> Option<Triple>
     requires x { x < vulnerable.now.size }
     requires size { reach.now.size ≡ vulnerable.now.size }
     ensures found { IfSome result (λ t. LeastPair vulnerable.now reach.now x t) }
@@ -50,7 +50,7 @@ fn least_pair(vulnerable: &BitMatrix, reach: &BitMatrix, x: usize) -> Option<Tri
 }
 
 /// The least three nodes that make a dangerous structure.
-pub fn least_triple(vulnerable: &BitMatrix, reach: &BitMatrix) -> Option<Triple>
+pub fn least_triple(vulnerable: &Square, reach: &Square) -> Option<Triple>
     requires { reach.now.size ≡ vulnerable.now.size }
     ensures found { IfSome result (λ t. IsLeastTriple vulnerable.now reach.now t) }
     ensures none { IfNone result

@@ -36,4 +36,5 @@ pub mod Few
 pub mod Edges
 pub mod Elements
 pub mod Grids
+pub mod WordRows
 pub mod Marked

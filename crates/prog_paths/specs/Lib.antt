@@ -14,6 +14,7 @@ pub mod Places
 pub mod Questions
 pub mod Shown
 pub mod Square
+pub mod Words
 pub mod StaticGraph
 pub mod Tally
 pub mod Trails

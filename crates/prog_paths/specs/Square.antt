@@ -36,3 +36,9 @@ pub record RaisesEntry (old new : Grid) (from to : ℕ) : Type 0 where
   pub size : new.size ≡ old.size
   pub here : entry new from to ≡ true
   pub others : (i j : ℕ) → i < old.size → j < old.size → ¬ ((i ≡ from) × (j ≡ to)) → entry new i j ≡ entry old i j
+
+-- one row has what row `through` has too, and the other rows are as they were
+pub record JoinsRow (old new : Grid) (row through : ℕ) : Type 0 where
+  pub size : new.size ≡ old.size
+  pub here : (j : ℕ) → j < old.size → entry new row j ≡ (entry old row j || entry old through j)
+  pub others : (i j : ℕ) → i < old.size → j < old.size → ¬ (i ≡ row) → entry new i j ≡ entry old i j

@@ -1,7 +1,9 @@
-//! Which node is joined to which: a square table with a row and a column for each node.
+//! Which node is joined to which: for each node a row of words, with a bit for each node.
 
-ghost use Rattle.std.specs.Prelude.{◌≡◌, ◌<◌, IfOk};
-ghost use Rattle.prog_paths.specs.Square.{entry, IsEmptySquare, RaisesEntry};
+ghost use Rattle.std.specs.Prelude.{◌≡◌, ◌≢◌, ℕ, ◌+◌, ◌^◌, ◌<◌, ◌≤◌, length, IfOk, IfSome, IfNone};
+ghost use Rattle.std.specs.Int.{bit_at};
+ghost use Rattle.prog_paths.specs.Square.{entry, Joins, IsEmptySquare, RaisesEntry, JoinsRow};
+ghost use Rattle.prog_paths.specs.Words.{JoinsWords, IsNextBit, IsNextJoined};
 
 use std::alloc::{AllocError, Global};
 use std::marker::Model;
@@ -10,41 +12,69 @@ use std::marker::Model;
 #[derive(Drop)]
 pub struct Square {
     size: usize,
-    entries: Vec<bool>,
+    width: usize,
+    words: Vec<u64>,
 }
 
 impl Model for Square {
-    ghost use Rattle.std.specs.Prelude.{◌≡◌, ◌*◌, length};
     ghost use Rattle.prog_paths.specs.Square.{Grid};
+    ghost use Rattle.prog_paths.specs.Words.{grid_of, AreRows};
 
     ghost Value = { Grid };
 
-    ghost view = { λ s. record { size = s.size; entries = s.entries.items } };
+    ghost view = { λ m. grid_of m.size m.width m.words.items };
 
-    ghost invariant = { λ s. length s.entries.items ≡ s.size * s.size };
+    ghost invariant = { λ m. AreRows m.size m.width m.words.items };
+}
+
+/// The least bit of a word from `start` on that is set.
+fn next_bit(word: u64, start: usize) -> Option<usize>
+    requires { start < 64 }
+    ensures found { IfSome result (λ bit. IsNextBit word start bit) }
+    ensures none { IfNone result ((bit : ℕ) → start ≤ bit → bit_at word bit ≡ 0) }
+{
+    let rest = word >> start;
+    if rest == 0 {
+        return None;
+    }
+    Some(start + rest.trailing_zeros() as usize)
+}
+
+/// Sets the bits of so many words in as many others.
+fn join_words(words: &mut Vec<u64>, into: usize, from: usize, count: usize)
+    requires into { into + count ≤ length words.old.items }
+    requires from { from + count ≤ length words.old.items }
+    requires apart { (j k : ℕ) → j < k → k < count → into + j ≢ from + k }
+    ensures { JoinsWords words.old.items words.new.items into from count }
+{
+    for k in 0..count {
+        words[into + k] |= words[from + k];
+    }
 }
 
 impl Square {
     /// A table of so many nodes that joins none of them.
     pub fn new(alloc: Global, size: usize) -> Result<Square, AllocError>
-        ensures { IfOk result (λ s. IsEmptySquare s size) }
+        ensures { IfOk result (λ m. IsEmptySquare m size) }
     {
-        let row = vec![in alloc; false; size]?;
-        let mut entries = Vec::new(alloc);
+        let width = size.div_ceil(64);
+        let row = vec![in alloc; 0; width]?;
+        let mut words = Vec::new(alloc);
         for _ in 0..size {
-            entries.extend_from_slice(&row)?;
+            words.extend_from_slice(&row)?;
         }
-        Ok(Square { size, entries })
+        Ok(Square { size, width, words })
     }
 
     /// The same table once more.
     pub fn copy(&self, alloc: Global) -> Result<Square, AllocError>
-        ensures { IfOk result (λ s. s ≡ self.now) }
+        ensures { IfOk result (λ m. m ≡ self.now) }
     {
-        let entries = Vec::from_slice(alloc, &self.entries)?;
+        let words = Vec::from_slice(alloc, &self.words)?;
         Ok(Square {
             size: self.size,
-            entries,
+            width: self.width,
+            words,
         })
     }
 
@@ -56,7 +86,7 @@ impl Square {
     }
 
     pub fn allocator(&self) -> Global {
-        *self.entries.allocator()
+        *self.words.allocator()
     }
 
     /// Whether it joins the first node to the second.
@@ -65,7 +95,8 @@ impl Square {
         requires to { to < self.now.size }
         ensures { result ≡ entry self.now from to }
     {
-        self.entries[from * self.size + to]
+        let word = self.words[from * self.width + to / 64];
+        word >> (to % 64) & 1 == 1
     }
 
     /// Joins the first node to the second.
@@ -74,7 +105,37 @@ impl Square {
         requires to { to < self.old.size }
         ensures { RaisesEntry self.old self.new from to }
     {
-        let place = from * self.size + to;
-        self.entries[place] = true;
+        let place = from * self.width + to / 64;
+        self.words[place] |= 1 << (to % 64);
+    }
+
+    /// Joins the row's node to what is joined to `through`.
+    pub fn join_row(&mut self, row: usize, through: usize)
+        requires row { row < self.old.size }
+        requires through { through < self.old.size }
+        ensures { JoinsRow self.old self.new row through }
+    {
+        let width = self.width;
+        join_words(&mut self.words, row * width, through * width, width);
+    }
+
+    /// The least node from `start` on that it joins the node to.
+    pub fn next(&self, from: usize, start: usize) -> Option<usize>
+        requires { from < self.now.size }
+        ensures found { IfSome result (λ to. IsNextJoined self.now from start to) }
+        ensures none { IfNone result ((to : ℕ) → start ≤ to → ¬ Joins self.now from to) }
+        ensures fits { IfSome result (λ to. to + 1 < 2 ^ 64) }
+    {
+        let mut at = start;
+        while at < self.size {
+            let word = self.words[from * self.width + at / 64];
+            let first = at / 64 * 64;
+            if let Some(bit) = next_bit(word, at % 64) {
+                let to = first + bit;
+                return if to < self.size { Some(to) } else { None };
+            }
+            at = first + 64;
+        }
+        None
     }
 }

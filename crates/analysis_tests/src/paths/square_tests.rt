@@ -22,6 +22,22 @@ fn a_square_joins_one_way(rt: HostRuntime) -> Result<(), Fail> {
     Ok(())
 }
 
+#[test]
+fn a_row_takes_in_another_and_is_walked(rt: HostRuntime) -> Result<(), Fail> {
+    let mut square = Square::new(rt.alloc(), 70)?;
+    square.raise(0, 69);
+    square.raise(1, 1);
+    square.join_row(1, 0);
+    let walked = [
+        square.next(1, 0),
+        square.next(1, 2),
+        square.next(0, 0),
+        square.next(2, 0),
+    ];
+    assert!(rt; walked == [Some(1), Some(69), Some(69), None]);
+    Ok(())
+}
+
 fn cell(table: usize, second: i64) -> Cell {
     Cell {
         table,

@@ -1,9 +1,9 @@
 use Rattle.std.proofs.Common.{◌≡◌, ◌≤◌, ◌+◌, ◌*◌, ◌/◌, ◌%◌, ℕ, ap, subst, arith}
 use Rattle.std.proofs.lemmas.List.{get_or_read}
 use Rattle.prog_paths.specs.Square.{Grid}
-use Rattle.dep_graph.specs.Words.{IsNextBit}
-use Rattle.dep_graph.proofs.WordRows.{in_words, none-joined, next-missing, next-joined}
-use Rattle.dep_graph.proofs.bit_matrix.BitMatrix.next.Goals as goal
+use Rattle.prog_paths.specs.Words.{IsNextBit}
+use Rattle.prog_paths.proofs.WordRows.{in_words, none-joined, next-missing, next-joined}
+use Rattle.prog_paths.proofs.square.Square.next.Goals as goal
 
 pub returns-then-to-self-clause-found : goal.returns-then-to-self-clause-found
 returns-then-to-self-clause-found c =

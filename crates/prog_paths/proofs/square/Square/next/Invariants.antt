@@ -1,6 +1,6 @@
 use Rattle.std.proofs.Common.{◌≡◌, ℕ, ◌<◌, ◌≤◌, ◌-◌, false}
-use Rattle.dep_graph.specs.Words.{row_bit}
-use Rattle.dep_graph.proofs.bit_matrix.BitMatrix.next.Given as goal
+use Rattle.prog_paths.specs.Words.{row_bit}
+use Rattle.prog_paths.proofs.square.Square.next.Given as goal
 
 -- nothing before is joined
 abbrev pub invariant-loop-at : goal.invariant-loop-at

@@ -1,7 +1,7 @@
 use Rattle.std.proofs.Common.{◌≡◌, ap, arith}
 use Rattle.prog_paths.specs.Square.{Grid}
-use Rattle.dep_graph.proofs.WordRows.{row_inside, rows_apart, row_joined}
-use Rattle.dep_graph.proofs.bit_matrix.BitMatrix.join_row.Goals as goal
+use Rattle.prog_paths.proofs.WordRows.{row_inside, rows_apart, row_joined}
+use Rattle.prog_paths.proofs.square.Square.join_row.Goals as goal
 
 pub join_words-requires-clause-into : goal.join_words-requires-clause-into
 join_words-requires-clause-into c =

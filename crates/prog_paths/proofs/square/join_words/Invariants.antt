@@ -1,5 +1,5 @@
-use Rattle.dep_graph.specs.Words.{JoinsWords}
-use Rattle.dep_graph.proofs.bit_matrix.join_words.Given as goal
+use Rattle.prog_paths.specs.Words.{JoinsWords}
+use Rattle.prog_paths.proofs.square.join_words.Given as goal
 
 -- so many words are joined
 abbrev pub invariant-loop-k : goal.invariant-loop-k

@@ -1,5 +1,5 @@
-use Rattle.dep_graph.proofs.WordRows.{no_bit-from, next_bit-found}
-use Rattle.dep_graph.proofs.bit_matrix.next_bit.Goals as goal
+use Rattle.prog_paths.proofs.WordRows.{no_bit-from, next_bit-found}
+use Rattle.prog_paths.proofs.square.next_bit.Goals as goal
 
 pub returns-then-rest-eq0-clause-none : goal.returns-then-rest-eq0-clause-none
 returns-then-rest-eq0-clause-none c = no_bit-from c.args.word c.args.start c.if-rest-eq0.true

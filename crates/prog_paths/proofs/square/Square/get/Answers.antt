@@ -2,8 +2,8 @@ use Rattle.std.proofs.Common.{◌≡◌, ◌<◌, ◌+◌, ◌*◌, ◌/◌, ◌
 use Rattle.std.specs.Prelude.{◌==◌}
 use Rattle.std.proofs.lemmas.List.{get_or_read}
 use Rattle.prog_paths.specs.Square.{Grid, entry}
-use Rattle.dep_graph.proofs.WordRows.{in_words, bit_read}
-use Rattle.dep_graph.proofs.bit_matrix.BitMatrix.get.Goals as goal
+use Rattle.prog_paths.proofs.WordRows.{in_words, bit_read}
+use Rattle.prog_paths.proofs.square.Square.get.Goals as goal
 
 pub returns : goal.returns
 returns c =

@@ -9,9 +9,8 @@ use Rattle.std.proofs.lemmas.List.{length-set, replicate-append-replicate}
 use Rattle.std.proofs.lemmas.Bool.Decides.{eqb_tells}
 use Rattle.std.proofs.lemmas.List.FromFn.{get_or-map-range_with_len}
 use Rattle.std.proofs.lemmas.Bool.{cases_lt, eq-eqb, false≢true}
-use Rattle.prog_paths.specs.Square.{Grid, entry, Joins, IsEmptySquare, RaisesEntry}
-use Rattle.dep_graph.specs.Reaching.{JoinsRow}
-use Rattle.dep_graph.specs.Words.{has_bit, row_bit, grid_of, AreRows, JoinsWords, IsNextBit, IsNextJoined}
+use Rattle.prog_paths.specs.Square.{Grid, entry, Joins, IsEmptySquare, RaisesEntry, JoinsRow}
+use Rattle.prog_paths.specs.Words.{has_bit, row_bit, grid_of, AreRows, JoinsWords, IsNextBit, IsNextJoined}
 
 -- ---- one word
 

@@ -1,7 +1,7 @@
 use Rattle.std.proofs.Common.{◌<◌, ◌+◌, length, arith}
 use Rattle.std.proofs.lemmas.List.{get_or_read}
-use Rattle.dep_graph.proofs.WordRows.{joins_more}
-use Rattle.dep_graph.proofs.bit_matrix.join_words.Goals as goal
+use Rattle.prog_paths.proofs.WordRows.{joins_more}
+use Rattle.prog_paths.proofs.square.join_words.Goals as goal
 
 pub loop-k-preserved : goal.loop-k-preserved
 loop-k-preserved c =
