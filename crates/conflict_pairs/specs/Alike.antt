@@ -6,7 +6,7 @@ use Rattle.prog_check.specs.declared.path.Access.{Access}
 use Rattle.prog_check.specs.declared.path.Path.{Path}
 use Rattle.prog_paths.specs.declared.places.Placed.{Placed}
 use Rattle.prog_paths.specs.declared.places.Question.{Question as Asked}
-use Rattle.prog_paths.specs.Asked.{asks, question_between}
+use Rattle.prog_paths.specs.Asked.{asks, question_between, questions_of}
 use Rattle.prog_paths.specs.Meeting.{MayCover}
 use Rattle.prog_paths.specs.Places.{IsAt}
 use Rattle.prog_paths.specs.StaticGraph.{IsAccessOf}
@@ -89,6 +89,11 @@ pub record StandsIn (paths : List Path) (judged : List Asked) (q : Asked) (n : �
 pub record AreShown (paths : List Path) (qs judged : List Asked) (numbers : List ℕ) : Type 0 where
   pub asked : All (IsAsked paths) judged
   pub stand : AllZip (StandsIn paths judged) qs numbers
+
+-- all questions of the paths, and which of them are judged
+pub record AreListed (paths : List Path) (qs judged : List Asked) (numbers : List ℕ) : Type 0 where
+  pub all : qs ≡ questions_of paths
+  pub shown : AreShown paths qs judged numbers
 
 -- ---- verdicts
 

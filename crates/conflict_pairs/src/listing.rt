@@ -2,6 +2,7 @@
 ghost use Rattle.std.specs.Prelude.{◌≡◌, ◌↔◌, ◌++◌, ◌<◌, length, All, IfOk, OnOk, Err};
 ghost use Rattle.conflict_pairs.specs.declared.fault.PairFault as PairFault;
 ghost use Rattle.prog_paths.specs.Asked.{ChangesSingleCells, asked_by, asked_among, questions_of, limit};
+ghost use Rattle.conflict_pairs.specs.Alike.{AreJudged, AreListed};
 ghost use Rattle.conflict_pairs.specs.Table.{StandsFor};
 
 use crate::fault::PairFault;
@@ -9,6 +10,7 @@ use crate::judge::verdicts_of;
 use crate::kinds::Kinds;
 use crate::shown::{Shown, shown_of};
 use crate::table::PairTable;
+use crate::verdicts::Verdict;
 use prog_check::Path;
 use prog_paths::{Changers, Placed, Question, all_places, asks, is_too_large, question_between};
 use std::alloc::{AllocError, Global};
@@ -44,6 +46,42 @@ pub fn all_questions(alloc: Global, places: &[Placed]) -> Result<Vec<Question>, 
     Ok(questions)
 }
 
+/// All questions of the paths in order, those of them that are judged, and for each of all the
+/// number of a judged one that is like it.
+#[derive(Drop)]
+pub struct Questions {
+    pub all: Vec<Question>,
+    pub judged: Vec<Question>,
+    pub numbers: Vec<usize>,
+}
+
+/// The questions of a list of paths.
+pub fn questions_of(alloc: Global, paths: &[Path]) -> Result<Questions, AllocError>
+    ensures { IfOk result (λ qs.
+        AreListed paths.now qs.all.items qs.judged.items qs.numbers.items) }
+{
+    let places = all_places(alloc, paths)?;
+    let all = all_questions(alloc, &places)?;
+    let kinds = Kinds::of(alloc, paths, &places)?;
+    let Shown { judged, numbers } = shown_of(alloc, &kinds, &all)?;
+    Ok(Questions {
+        all,
+        judged,
+        numbers,
+    })
+}
+
+/// The table of questions, by the verdicts on those that are judged.
+pub fn table_of(paths: &[Path], questions: Questions, verdicts: Vec<Verdict>) -> PairTable
+    requires single { All ChangesSingleCells paths.now }
+    requires listed { AreListed paths.now questions.all.items questions.judged.items
+        questions.numbers.items }
+    requires judged { AreJudged paths.now questions.judged.items verdicts.items }
+    ensures { StandsFor result paths.now }
+{
+    PairTable::of(paths.len(), questions.all, questions.numbers, verdicts)
+}
+
 /// All questions of the paths in order, with their verdicts. They are counted before any memory is
 /// taken.
 pub fn pairs(alloc: Global, paths: &[Path]) -> Result<PairTable, PairFault>
@@ -55,10 +93,7 @@ pub fn pairs(alloc: Global, paths: &[Path]) -> Result<PairTable, PairFault>
     if is_too_large(paths) {
         return Err(PairFault::TooLarge);
     }
-    let places = all_places(alloc, paths)?;
-    let questions = all_questions(alloc, &places)?;
-    let kinds = Kinds::of(alloc, paths, &places)?;
-    let Shown { judged, numbers } = shown_of(alloc, &kinds, &questions)?;
-    let verdicts = verdicts_of(alloc, paths, &judged)?;
-    Ok(PairTable::of(paths.len(), questions, numbers, verdicts))
+    let questions = questions_of(alloc, paths)?;
+    let verdicts = verdicts_of(alloc, paths, &questions.judged)?;
+    Ok(table_of(paths, questions, verdicts))
 }

@@ -7,14 +7,12 @@ ghost use Rattle.conflict_pairs.specs.Table.{verdicts_in, StandsFor};
 
 use crate::fault::PairFault;
 use crate::judge::verdicts_of;
-use crate::kinds::Kinds;
 use crate::limits::{EQUAL_PARTS, MIN_QUESTIONS_OF_THREADS};
-use crate::listing::all_questions;
-use crate::shown::{Shown, shown_of};
+use crate::listing::{questions_of, table_of};
 use crate::table::PairTable;
 use crate::verdicts::Verdict;
 use prog_check::Path;
-use prog_paths::{Question, all_places, is_too_large};
+use prog_paths::{Question, is_too_large};
 use rayon::prelude::*;
 use std::alloc::{AllocError, Global};
 use std::thread::Threads;
@@ -79,11 +77,8 @@ pub fn pairs_par(
     if is_too_large(paths) {
         return Err(PairFault::TooLarge);
     }
-    let places = all_places(alloc, paths)?;
-    let questions = all_questions(alloc, &places)?;
-    let kinds = Kinds::of(alloc, paths, &places)?;
-    let Shown { judged, numbers } = shown_of(alloc, &kinds, &questions)?;
-    let parts = parts_of(rt, alloc, paths, &judged)?;
+    let questions = questions_of(alloc, paths)?;
+    let parts = parts_of(rt, alloc, paths, &questions.judged)?;
     let verdicts = joined(alloc, parts)?;
-    Ok(PairTable::of(paths.len(), questions, numbers, verdicts))
+    Ok(table_of(paths, questions, verdicts))
 }

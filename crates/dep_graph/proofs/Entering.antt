@@ -5,7 +5,7 @@ use Rattle.std.proofs.lemmas.Bool.{or_cases}
 use Rattle.std.proofs.lemmas.List.Folds.{list_any_more}
 use Rattle.prog_paths.specs.declared.mark.Mark.{Mark}
 use Rattle.prog_paths.specs.StaticGraph.{Leads, IsDangerousAt}
-use Rattle.prog_paths.specs.Square.{Grid, entry, Joins, IsSquareOf, Enters}
+use Rattle.order_facts.specs.Square.{Grid, entry, Joins, IsSquareOf, Enters}
 use Rattle.dep_graph.specs.Reaching.{IsReachOf}
 use Rattle.prog_paths.proofs.Grids.{test-from_joined, joined-from_test}
 use Rattle.dep_graph.specs.Triple.{ClosesAt}

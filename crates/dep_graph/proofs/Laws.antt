@@ -7,7 +7,7 @@ use Rattle.conflict_pairs.specs.Table.{Table, StandsFor}
 use Rattle.dep_graph.specs.declared.triple.Triple.{Triple}
 use Rattle.dep_graph.specs.declared.danger.Danger.{Danger}
 use Rattle.dep_graph.specs.Counting.{IsCountOf}
-use Rattle.prog_paths.specs.Square.{Grid, entry, Joins}
+use Rattle.order_facts.specs.Square.{Grid, entry, Joins}
 use Rattle.dep_graph.specs.Triple.{ClosesAt, IsLeastTriple}
 use Rattle.dep_graph.specs.Ways.{IsLeastWay}
 use Rattle.dep_graph.specs.Marks.{HasEdge}

@@ -1,9 +1,9 @@
 -- What is so of nodes that a node is joined to, found from one to the next.
 use Rattle.std.proofs.Common.{◌≡◌, ℕ, ◌<◌, ◌≤◌, ◌+◌, ◌⊎◌, inl, inr, [], ◌∷◌, refl, sym, subst, arith}
 use Rattle.std.proofs.lemmas.Bool.{cases_lt}
-use Rattle.prog_paths.specs.Square.{Grid, Joins}
+use Rattle.order_facts.specs.Square.{Grid, Joins}
 use Rattle.prog_paths.specs.Listing.{IsAtMost}
-use Rattle.prog_paths.specs.Words.{IsNextJoined}
+use Rattle.order_facts.specs.Words.{IsNextJoined}
 use Rattle.dep_graph.specs.Triple.{ClosesAt, LeastEnd, LeastPair}
 
 module _ (P : ℕ → Type 0) (s : Grid) (from start : ℕ) (joined : (n : ℕ) → P n → Joins s from n) (before : (n : ℕ) → n < start → ¬ P n) where

@@ -1,7 +1,7 @@
 -- Always on to the least node that is nearer: a least way.
 use Rattle.std.proofs.Common.{◌≡◌, ℕ, List, [], ◌∷◌, length, ◌<◌, ◌≤◌, ◌+◌, ◌⊎◌, inl, inr, Option, Some, refl, sym, ap, subst, ◌∙◌, arith}
 use Rattle.std.proofs.lemmas.Bool.{cases_lt}
-use Rattle.prog_paths.specs.Square.{Grid, Joins}
+use Rattle.order_facts.specs.Square.{Grid, Joins}
 use Rattle.prog_paths.specs.Listing.{IsAtMost}
 use Rattle.dep_graph.specs.Ways.{LeadsOn, IsWay, IsLeastWay}
 use Rattle.dep_graph.specs.Distances.{distance_at, IsDistanceOfWay, KnowsWithin, StepsNearer, IsLeastNearer}

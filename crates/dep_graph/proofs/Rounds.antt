@@ -5,7 +5,7 @@ use Rattle.std.proofs.lemmas.Bool.{cases_lt, false≢true}
 use Rattle.std.proofs.lemmas.List.{get_or_past, get_or_append_left, get_or-append-add, get_or-replicate, length-replicate, length-set}
 use Rattle.std.proofs.lemmas.Bool.{cases_eq}
 use Rattle.prog_paths.specs.StaticGraph.{Leads, here, onward}
-use Rattle.prog_paths.specs.Square.{Grid, Joins}
+use Rattle.order_facts.specs.Square.{Grid, Joins}
 use Rattle.dep_graph.specs.Ways.{LeadsOn}
 use Rattle.dep_graph.specs.Distances.{distance_at, LeadsToKnown, IsNewlyKnown, AreNextDistances, IsDistanceOfWay, KnowsWithin}
 

@@ -1,6 +1,6 @@
 -- How many steps lie between each node and the end, as far as it is known.
 use Rattle.std.specs.Prelude.{◌≡◌, ℕ, List, length, ◌<◌, ◌≤◌, ◌⊎◌, Option, Some, None, IsSome, slice_index_or}
-use Rattle.prog_paths.specs.Square.{Grid, Joins}
+use Rattle.order_facts.specs.Square.{Grid, Joins}
 use Rattle.dep_graph.specs.Ways.{LeadsOn}
 
 -- the distance of a node, if it is known

@@ -2,7 +2,7 @@
 use Rattle.std.specs.Prelude.{◌≡◌, ◌↔◌, ℕ, ◌<◌, Bool, true, ◌||◌, ◌&&◌, ◌==◌}
 use Rattle.std.proofs.Common.{zero, suc}
 use Rattle.prog_paths.specs.StaticGraph.{Leads}
-use Rattle.prog_paths.specs.Square.{Grid, entry, Joins}
+use Rattle.order_facts.specs.Square.{Grid, entry, Joins}
 
 -- ---- through the nodes below a bound alone
 
@@ -17,12 +17,6 @@ leads_through edge (suc k) x y = leads_through edge k x y || (leads_through edge
 pub record JoinsEachToItself (new old : Grid) : Type 0 where
   pub size : new.size ≡ old.size
   pub entries : (i j : ℕ) → i < old.size → j < old.size → entry new i j ≡ (i == j || entry old i j)
-
--- whatever is joined to `through` is joined to what that is joined to
-pub record JoinsThrough (old new : Grid) (through : ℕ) : Type 0 where
-  pub size : new.size ≡ old.size
-  pub entries : (i j : ℕ) → i < old.size → j < old.size
-      → entry new i j ≡ (entry old i j || (entry old i through && entry old through j))
 
 -- it joins two nodes just where a walk along the edges leads from the first to the second
 pub record IsReachOf (reach edges : Grid) : Type 0 where

@@ -1,7 +1,7 @@
 -- Three nodes with two vulnerable edges in a row and a way back, and the least of them.
 use Rattle.std.specs.Prelude.{ℕ, [], ◌∷◌, ◌≡◌, ◌≤◌}
 use Rattle.dep_graph.specs.declared.triple.Triple.{Triple}
-use Rattle.prog_paths.specs.Square.{Grid, Joins}
+use Rattle.order_facts.specs.Square.{Grid, Joins}
 use Rattle.prog_paths.specs.Listing.{IsAtMost}
 
 -- a vulnerable edge from x to y, one from y to z, and z reaches x

@@ -1,9 +1,9 @@
 //! Which node reaches which, by any number of edges.
 
-ghost use Rattle.std.specs.Prelude.{◌<◌, IfOk};
-ghost use Rattle.dep_graph.specs.Reaching.{IsReachOf, JoinsEachToItself, JoinsThrough};
+ghost use Rattle.std.specs.Prelude.{IfOk};
+ghost use Rattle.dep_graph.specs.Reaching.{IsReachOf, JoinsEachToItself};
 
-use prog_paths::Square;
+use order_facts::Square;
 use std::alloc::{AllocError, Global};
 
 /// The edges, with each node joined to itself too.
@@ -17,25 +17,13 @@ fn with_itself(alloc: Global, edges: &Square) -> Result<Square, AllocError>
     Ok(reach)
 }
 
-/// Joins whatever is joined to `through` to what that is joined to.
-fn join(square: &mut Square, through: usize)
-    requires { through < square.old.size }
-    ensures { JoinsThrough square.old square.new through }
-{
-    for row in 0..square.size() {
-        if square.get(row, through) {
-            square.join_row(row, through);
-        }
-    }
-}
-
 /// Which node reaches which: each itself, and whatever a walk along edges leads to.
 pub fn close(alloc: Global, edges: &Square) -> Result<Square, AllocError>
     ensures { IfOk result (λ reach. IsReachOf reach edges.now) }
 {
     let mut reach = with_itself(alloc, edges)?;
     for through in 0..edges.size() {
-        join(&mut reach, through);
+        reach.join(through);
     }
     Ok(reach)
 }

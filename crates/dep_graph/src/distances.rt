@@ -3,7 +3,7 @@
 ghost use Rattle.std.specs.Prelude.{◌≡◌, ◌↔◌, ◌<◌, length, Option, Some, IfOk, IfSome, IsTrue};
 ghost use Rattle.dep_graph.specs.Distances.{LeadsToKnown, IsNextDistance, AreNextDistances, KnowsWithin};
 
-use prog_paths::Square;
+use order_facts::Square;
 use std::alloc::{AllocError, Global};
 
 /// Whether the distance is known and is so many steps.

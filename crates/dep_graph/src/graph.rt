@@ -5,7 +5,7 @@ ghost use Rattle.prog_check.specs.declared.path.Path.{Path};
 ghost use Rattle.prog_paths.specs.StaticGraph.{StaticEdge, IsVulnerable, Leads, IsDangerous};
 ghost use Rattle.conflict_pairs.specs.Table.{StandsFor};
 ghost use Rattle.dep_graph.specs.Counting.{IsCountOf};
-ghost use Rattle.prog_paths.specs.Square.{entry, IsSquareOf};
+ghost use Rattle.order_facts.specs.Square.{entry, IsSquareOf};
 ghost use Rattle.dep_graph.specs.Marks.{has_edge, has_vulnerable};
 ghost use Rattle.dep_graph.specs.Marking.{marks_of};
 ghost use Rattle.dep_graph.specs.Danger.{IsLeastDanger};
@@ -16,7 +16,8 @@ use crate::least_way::least_way;
 use crate::mark::entry_mark;
 use crate::triple::least_triple;
 use conflict_pairs::PairTable;
-use prog_paths::{Square, enter_edges, enter_vulnerable};
+use order_facts::Square;
+use prog_paths::{enter_edges, enter_vulnerable};
 use prog_tree::Sequence;
 use std::alloc::{AllocError, Global};
 use std::marker::Model;
@@ -34,7 +35,7 @@ impl<'a> Model for Graph<'a> {
     ghost use Rattle.conflict_pairs.specs.Table.{Table};
     ghost use Rattle.dep_graph.specs.Marks.{has_edge, has_vulnerable};
     ghost use Rattle.dep_graph.specs.Marking.{marks_of};
-    ghost use Rattle.prog_paths.specs.Square.{IsSquareOf};
+    ghost use Rattle.order_facts.specs.Square.{IsSquareOf};
     ghost use Rattle.dep_graph.specs.Reaching.{IsReachOf};
 
     ghost Value = { Table };

@@ -2,12 +2,12 @@
 
 ghost use Rattle.std.specs.Prelude.{◌≡◌, ℕ, ◌<◌, length, Some, IfOk};
 ghost use Rattle.prog_paths.specs.StaticGraph.{Leads};
-ghost use Rattle.prog_paths.specs.Square.{Joins};
+ghost use Rattle.order_facts.specs.Square.{Joins};
 ghost use Rattle.dep_graph.specs.Ways.{IsLeastWay};
 ghost use Rattle.dep_graph.specs.Distances.{distance_at, KnowsWithin, IsLeastNearer, StepsNearer};
 
 use crate::distances::{first_distances, is_distance, next_distances};
-use prog_paths::Square;
+use order_facts::Square;
 use std::alloc::{AllocError, Global};
 
 /// The least node that an edge leads to and that is so many steps from the end.

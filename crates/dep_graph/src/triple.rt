@@ -1,10 +1,10 @@
 //! The least dangerous structure: two vulnerable edges in a row, and a way back.
 
 ghost use Rattle.std.specs.Prelude.{◌≡◌, ℕ, ◌<◌, ◌≤◌, IfSome, IfNone};
-ghost use Rattle.prog_paths.specs.Square.{Joins};
+ghost use Rattle.order_facts.specs.Square.{Joins};
 ghost use Rattle.dep_graph.specs.Triple.{ClosesAt, LeastEnd, LeastPair, IsLeastTriple};
 
-use prog_paths::Square;
+use order_facts::Square;
 
 /// Three nodes in a row.
 #[derive(Clone, Copy)]

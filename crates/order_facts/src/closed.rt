@@ -5,9 +5,10 @@ ghost use Rattle.order_facts.specs.declared.steps.Node.{Node};
 ghost use Rattle.order_facts.specs.Chain.{Entails, IsConsistent, IsOfI64, Meets, HasContradiction, IsChain, IsTight, RunsBetween};
 ghost use Rattle.order_facts.specs.Sample.{sample_number, assignment_of, IsSampled};
 
-use crate::matrix::Matrix;
+use crate::matrix::matrix_of;
 use crate::sample::Sample;
 use crate::search::shortest_chain;
+use crate::square::Square;
 use crate::steps::{Fact, Node};
 use crate::ways::{is_orderly, reaches};
 use std::alloc::{AllocError, Global};
@@ -17,7 +18,7 @@ use std::marker::Model;
 #[derive(Drop)]
 pub struct Closed {
     facts: Vec<Fact>,
-    matrix: Matrix,
+    matrix: Square,
     consistent: bool,
 }
 
@@ -44,7 +45,7 @@ impl Closed {
         ensures { IfOk result (λ closed. closed ≡ facts.now) }
     {
         let facts = Vec::from_slice(alloc, facts)?;
-        let matrix = Matrix::of(alloc, &facts)?;
+        let matrix = matrix_of(alloc, &facts)?;
         let consistent = is_orderly(&facts, &matrix);
         Ok(Closed {
             facts,

@@ -10,6 +10,7 @@ mod matrix;
 mod nodes;
 mod sample;
 mod search;
+mod square;
 mod steps;
 mod ways;
 
@@ -17,4 +18,5 @@ pub use closed::Closed;
 pub use given::{Facts, check_chain};
 pub use nodes::Nodes;
 pub use sample::Sample;
+pub use square::Square;
 pub use steps::{Node, is_plain_step};

@@ -8,7 +8,7 @@ ghost use Rattle.order_facts.specs.Reaches.{reaches};
 ghost use Rattle.order_facts.specs.Matrix.{IsMatrixOf};
 ghost use Rattle.order_facts.specs.Sample.{sample_number, assignment_of, IsSampled, HasChoice};
 
-use crate::matrix::Matrix;
+use crate::square::Square;
 use crate::steps::{Fact, Node, highest, is_same, lowest};
 use crate::ways::{leads_from, leads_to};
 use std::alloc::{AllocError, Global};
@@ -37,7 +37,7 @@ impl Model for Sample {
 }
 
 /// The greatest number that the facts put below the node.
-fn low(facts: &[Fact], matrix: &Matrix, node: Node) -> i64
+fn low(facts: &[Fact], matrix: &Square, node: Node) -> i64
     requires { IsMatrixOf matrix.now facts.now facts.now }
     ensures below { reaches facts.now (Number result) node ≡ true }
     ensures greatest { (k : ℤ) → reaches facts.now (Number k) node ≡ true → k ≤ℤ result }
@@ -53,7 +53,7 @@ fn low(facts: &[Fact], matrix: &Matrix, node: Node) -> i64
 }
 
 /// The least number that the facts put above the node.
-fn high(facts: &[Fact], matrix: &Matrix, node: Node) -> i64
+fn high(facts: &[Fact], matrix: &Square, node: Node) -> i64
     requires { IsMatrixOf matrix.now facts.now facts.now }
     ensures above { reaches facts.now node (Number result) ≡ true }
     ensures least { (k : ℤ) → reaches facts.now node (Number k) ≡ true → result ≤ℤ k }
@@ -69,7 +69,7 @@ fn high(facts: &[Fact], matrix: &Matrix, node: Node) -> i64
 }
 
 /// The number nearest to 0 between the node's bounds.
-fn nearest(facts: &[Fact], matrix: &Matrix, node: Node) -> i64
+fn nearest(facts: &[Fact], matrix: &Square, node: Node) -> i64
     requires matrix { IsMatrixOf matrix.now facts.now facts.now }
     requires consistent { IsConsistent facts.now }
     ensures { IsSampled facts.now node result }
@@ -88,7 +88,7 @@ fn has_choice(choices: &[Choice], node: Node) -> bool
 fn choose(
     choices: &mut Vec<Choice>,
     facts: &[Fact],
-    matrix: &Matrix,
+    matrix: &Square,
     node: Node,
 ) -> Result<(), AllocError>
     requires matrix { IsMatrixOf matrix.now facts.now facts.now }
@@ -109,7 +109,7 @@ fn choose(
 
 impl Sample {
     /// The sample of facts that some assignment meets.
-    pub(crate) fn of(alloc: Global, facts: &[Fact], matrix: &Matrix) -> Result<Sample, AllocError>
+    pub(crate) fn of(alloc: Global, facts: &[Fact], matrix: &Square) -> Result<Sample, AllocError>
         requires matrix { IsMatrixOf matrix.now facts.now facts.now }
         requires consistent { IsConsistent facts.now }
         ensures nearest { IfOk result

@@ -5,11 +5,11 @@ ghost use Rattle.order_facts.specs.Chain.{IsConsistent, HasContradiction};
 ghost use Rattle.order_facts.specs.Reaches.{reaches, fact_at, HasOrderlyRow};
 ghost use Rattle.order_facts.specs.Matrix.{IsMatrixOf};
 
-use crate::matrix::Matrix;
+use crate::square::Square;
 use crate::steps::{Fact, Node, highest, is_below, lowest};
 
 /// Whether the upper node of the fact at `from` is below `y`.
-pub fn leads_to(facts: &[Fact], matrix: &Matrix, from: usize, y: Node) -> bool
+pub fn leads_to(facts: &[Fact], matrix: &Square, from: usize, y: Node) -> bool
     requires matrix { IsMatrixOf matrix.now facts.now facts.now }
     requires from { from < length facts.now }
     ensures { result ≡ reaches facts.now (fact_at facts.now from).hi y }
@@ -26,7 +26,7 @@ pub fn leads_to(facts: &[Fact], matrix: &Matrix, from: usize, y: Node) -> bool
 }
 
 /// Whether `x` is below the lower node of the fact at `to`.
-pub fn leads_from(facts: &[Fact], matrix: &Matrix, x: Node, to: usize) -> bool
+pub fn leads_from(facts: &[Fact], matrix: &Square, x: Node, to: usize) -> bool
     requires matrix { IsMatrixOf matrix.now facts.now facts.now }
     requires to { to < length facts.now }
     ensures { result ≡ reaches facts.now x (fact_at facts.now to).lo }
@@ -43,7 +43,7 @@ pub fn leads_from(facts: &[Fact], matrix: &Matrix, x: Node, to: usize) -> bool
 }
 
 /// Whether `x` is below `y`.
-pub fn reaches(facts: &[Fact], matrix: &Matrix, x: Node, y: Node) -> bool
+pub fn reaches(facts: &[Fact], matrix: &Square, x: Node, y: Node) -> bool
     requires { IsMatrixOf matrix.now facts.now facts.now }
     ensures { result ≡ reaches facts.now x y }
 {
@@ -59,7 +59,7 @@ pub fn reaches(facts: &[Fact], matrix: &Matrix, x: Node, y: Node) -> bool
 }
 
 /// Whether the lower node of the fact at `from` is put below no node that is surely less.
-fn row_is_orderly(facts: &[Fact], matrix: &Matrix, from: usize) -> bool
+fn row_is_orderly(facts: &[Fact], matrix: &Square, from: usize) -> bool
     requires matrix { IsMatrixOf matrix.now facts.now facts.now }
     requires from { from < length facts.now }
     ensures orderly { IsTrue result → HasOrderlyRow facts.now from }
@@ -75,7 +75,7 @@ fn row_is_orderly(facts: &[Fact], matrix: &Matrix, from: usize) -> bool
 }
 
 /// Whether the facts put no node below one that is surely less: whether some assignment meets them.
-pub fn is_orderly(facts: &[Fact], matrix: &Matrix) -> bool
+pub fn is_orderly(facts: &[Fact], matrix: &Square) -> bool
     requires { IsMatrixOf matrix.now facts.now facts.now }
     ensures consistent { IsTrue result ↔ IsConsistent facts.now }
     ensures contradiction { result ≡ false → HasContradiction facts.now }

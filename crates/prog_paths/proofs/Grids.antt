@@ -1,6 +1,6 @@
 -- What a square table joins that joins just those nodes of which a test is true.
 use Rattle.std.proofs.Common.{◌≡◌, ℕ, ◌<◌, Bool, true, sym, ◌∙◌, arith}
-use Rattle.prog_paths.specs.Square.{Grid, Joins, IsSquareOf}
+use Rattle.order_facts.specs.Square.{Grid, Joins, IsSquareOf}
 
 module _ (s : Grid) (size : ℕ) (test : ℕ → ℕ → Bool) (is : IsSquareOf s size test) where
   pub test-from_joined : (x y : ℕ) → Joins s x y → test x y ≡ true

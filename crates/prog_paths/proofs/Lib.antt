@@ -36,5 +36,4 @@ pub mod Few
 pub mod Edges
 pub mod Elements
 pub mod Grids
-pub mod WordRows
 pub mod Marked

@@ -13,8 +13,6 @@ pub mod Own
 pub mod Places
 pub mod Questions
 pub mod Shown
-pub mod Square
-pub mod Words
 pub mod StaticGraph
 pub mod Tally
 pub mod Trails

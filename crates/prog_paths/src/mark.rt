@@ -1,11 +1,11 @@
 //! What a question gives, and how it is entered into square tables.
 ghost use Rattle.std.specs.Prelude.{◌≡◌};
-ghost use Rattle.prog_paths.specs.Square.{Enters};
+ghost use Rattle.order_facts.specs.Square.{Enters};
 ghost use Rattle.prog_paths.specs.Marks.{mark_by, gives_edge, gives_vulnerable};
 
 use crate::asking::{asks_read_write, asks_write_read, both_write};
 use crate::places::Question;
-use crate::square::Square;
+use order_facts::Square;
 
 /// What one question gives: an edge from the node `x` to the node `y`, one back, a vulnerable one.
 #[derive(Clone, Copy)]

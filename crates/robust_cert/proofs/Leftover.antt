@@ -9,7 +9,7 @@ use Rattle.prog_paths.specs.declared.places.Question.{Question as Asked}
 use Rattle.prog_paths.specs.Asked.{numbers_of, questions_of}
 use Rattle.prog_paths.specs.Listing.{IsAskedOf, RiseBy}
 use Rattle.prog_paths.specs.Marks.{gives_edge, gives_vulnerable}
-use Rattle.prog_paths.specs.Square.{Joins}
+use Rattle.order_facts.specs.Square.{Joins}
 use Rattle.prog_paths.proofs.Membership.{law_of_listing}
 use Rattle.prog_paths.proofs.Edges.{HasQuestion-inside, EdgeOf-inside}
 use Rattle.prog_paths.proofs.Elements.{any_in, in_any}

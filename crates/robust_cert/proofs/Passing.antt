@@ -16,7 +16,7 @@ use Rattle.robust_cert.specs.declared.checking.left.Left.{Left}
 use Rattle.prog_paths.specs.declared.mark.Mark.{Mark}
 use Rattle.robust_cert.specs.declared.checking.telling.Telling.{Telling}
 use Rattle.robust_cert.specs.Accepted.{question_of}
-use Rattle.prog_paths.specs.Square.{Grid, entry, IsEmptySquare, IsSquareOf, Enters}
+use Rattle.order_facts.specs.Square.{Grid, entry, IsEmptySquare, IsSquareOf, Enters}
 use Rattle.prog_paths.specs.Marks.{gives_edge, gives_vulnerable}
 use Rattle.robust_cert.specs.Telling.{telling_of, mark_with, mark_under, IsBehind}
 use Rattle.robust_cert.specs.Leaving.{some_edge, some_vulnerable, Leaves, EntersMark, IsReady, Passes}

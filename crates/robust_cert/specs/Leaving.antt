@@ -10,7 +10,7 @@ use Rattle.robust_cert.specs.declared.certificate.Entry.{Entry}
 use Rattle.robust_cert.specs.declared.checking.left.Left.{Left}
 use Rattle.prog_paths.specs.declared.mark.Mark.{Mark}
 use Rattle.robust_cert.specs.Accepted.{question_of}
-use Rattle.prog_paths.specs.Square.{IsSquareOf, Enters}
+use Rattle.order_facts.specs.Square.{IsSquareOf, Enters}
 use Rattle.prog_paths.specs.Marks.{gives_edge, gives_vulnerable}
 use Rattle.robust_cert.specs.Telling.{mark_under, IsBehind}
 

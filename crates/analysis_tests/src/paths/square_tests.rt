@@ -1,6 +1,6 @@
 //! Which node is joined to which, and which cell is one of some.
 
-use prog_paths::Square;
+use order_facts::Square;
 use prog_tree::{Cell, is_among};
 use std::test::Fail;
 

@@ -2,17 +2,16 @@
 ghost use Rattle.std.specs.Prelude.{◌≡◌, [], ◌∷◌, IfOk};
 ghost use Rattle.prog_paths.specs.Asked.{asked_by, asked_among};
 ghost use Rattle.prog_paths.specs.Listing.{RiseBy};
-ghost use Rattle.prog_paths.specs.Square.{Enters};
+ghost use Rattle.order_facts.specs.Square.{Enters};
 ghost use Rattle.robust_cert.specs.Accepted.{question_of};
 ghost use Rattle.robust_cert.specs.Leaving.{some_edge, some_vulnerable, Leaves, EntersMark, IsReady, Passes};
 
 use crate::certificate::Entry;
 use crate::checking::numbers::Numbers;
 use crate::checking::telling::{mark_with, told};
+use order_facts::Square;
 use prog_check::Path;
-use prog_paths::{
-    Mark, Placed, Square, all_places, asks, enter_edges, enter_vulnerable, question_between,
-};
+use prog_paths::{Mark, Placed, all_places, asks, enter_edges, enter_vulnerable, question_between};
 use std::alloc::{AllocError, Global};
 
 /// Which nodes are joined by an edge that is left, and by a vulnerable one.

@@ -1,11 +1,11 @@
 //! Whether the levels rise over the edges that are left.
 ghost use Rattle.std.specs.Prelude.{◌≡◌, ℕ, ◌<◌, ◌≤◌, length, IfSome, IfNone, OnOk, IfErr};
-ghost use Rattle.prog_paths.specs.Square.{Joins};
+ghost use Rattle.order_facts.specs.Square.{Joins};
 ghost use Rattle.robust_cert.specs.Levels.{Falls, FallsFirst, IsLeastFall, Stays, StaysFirst, IsLowestBehind, StaysFirstBy, IsLeastFirstEdge, IsLeastStay, RiseOver, IsLevelFault};
 
 use crate::checking::left::Left;
 use crate::fault::CertFault;
-use prog_paths::Square;
+use order_facts::Square;
 
 /// Two nodes in a row.
 #[derive(Clone, Copy)]

@@ -1,5 +1,5 @@
 use Rattle.std.proofs.Common.{◌≡◌, ℕ, ◌<◌}
-use Rattle.prog_paths.specs.Square.{entry}
+use Rattle.order_facts.specs.Square.{entry}
 use Rattle.dep_graph.specs.Reaching.{leads_through}
 use Rattle.dep_graph.proofs.closure.close.Given as goal
 

@@ -1,6 +1,6 @@
 use Rattle.std.proofs.Common.{◌≡◌, ℕ, ◌<◌, ◌≤◌, ◌||◌}
 use Rattle.std.specs.Prelude.{◌==◌}
-use Rattle.prog_paths.specs.Square.{entry}
+use Rattle.order_facts.specs.Square.{entry}
 use Rattle.dep_graph.proofs.closure.with_itself.Given as goal
 
 abbrev pub invariant-loop-node : goal.invariant-loop-node

@@ -1,6 +1,6 @@
 use Rattle.std.proofs.Common.{◌≡◌, ℕ, Some, rules}
 use Rattle.std.proofs.lemmas.Bool.{false≢true}
-use Rattle.prog_paths.specs.Square.{Joins}
+use Rattle.order_facts.specs.Square.{Joins}
 use Rattle.dep_graph.specs.Distances.{distance_at}
 use Rattle.dep_graph.proofs.Nexts.{next-passed, none-left}
 use Rattle.dep_graph.proofs.distances.leads_to_known.Goals as goal

@@ -1,5 +1,5 @@
 use Rattle.std.proofs.Common.{◌≡◌, ℕ, ◌<◌, ◌-◌, Some}
-use Rattle.prog_paths.specs.Square.{Joins}
+use Rattle.order_facts.specs.Square.{Joins}
 use Rattle.dep_graph.specs.Distances.{distance_at}
 use Rattle.dep_graph.proofs.distances.leads_to_known.Given as goal
 

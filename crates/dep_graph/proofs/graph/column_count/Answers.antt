@@ -1,7 +1,7 @@
 use Rattle.std.proofs.Common.{◌≡◌, true, subst, sym, ◌∙◌, arith}
 use Rattle.std.proofs.lemmas.Bool.{false≢true}
 use Rattle.dep_graph.specs.Counting.{IsCountOf, none}
-use Rattle.prog_paths.specs.Square.{entry}
+use Rattle.order_facts.specs.Square.{entry}
 use Rattle.dep_graph.proofs.Counts.{IsCountOf-counted, IsCountOf-passed}
 use Rattle.dep_graph.proofs.graph.column_count.Goals as goal
 use Rattle.dep_graph.proofs.graph.column_count.Goals.{then-get, else-get}

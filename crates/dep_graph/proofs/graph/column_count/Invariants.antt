@@ -1,5 +1,5 @@
 use Rattle.std.proofs.Common.{◌≡◌, ◌≤◌, true}
-use Rattle.prog_paths.specs.Square.{entry}
+use Rattle.order_facts.specs.Square.{entry}
 use Rattle.dep_graph.specs.Counting.{IsCountOf}
 use Rattle.dep_graph.proofs.graph.column_count.Given as goal
 

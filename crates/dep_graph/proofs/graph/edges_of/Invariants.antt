@@ -1,5 +1,5 @@
 use Rattle.std.proofs.Common.{take}
-use Rattle.prog_paths.specs.Square.{IsSquareOf}
+use Rattle.order_facts.specs.Square.{IsSquareOf}
 use Rattle.dep_graph.specs.Marks.{has_edge, has_vulnerable}
 use Rattle.dep_graph.specs.Marking.{marks_of}
 use Rattle.dep_graph.proofs.graph.edges_of.Given as goal

@@ -1,6 +1,6 @@
 use Rattle.std.proofs.Common.{◌≡◌, ℕ, ◌+◌, ◌-◌, ◌∷◌, [], List, Some, ap, subst, ◌∙◌, arith}
 use Rattle.std.proofs.lemmas.List.{append_assoc, append-nil}
-use Rattle.prog_paths.specs.Square.{Joins}
+use Rattle.order_facts.specs.Square.{Joins}
 use Rattle.dep_graph.specs.Ways.{IsLeastWay}
 use Rattle.dep_graph.proofs.Onward.{some_nearer, IsLeastWay-end, IsLeastWay-onward}
 use Rattle.dep_graph.proofs.least_way.walk.Goals as goal

@@ -1,5 +1,5 @@
 use Rattle.std.proofs.Common.{◌≡◌, ℕ, List, ◌∷◌, ◌++◌, Some}
-use Rattle.prog_paths.specs.Square.{Joins}
+use Rattle.order_facts.specs.Square.{Joins}
 use Rattle.dep_graph.specs.Ways.{IsLeastWay}
 use Rattle.dep_graph.specs.Distances.{distance_at, KnowsWithin}
 use Rattle.dep_graph.proofs.least_way.walk.Given as goal

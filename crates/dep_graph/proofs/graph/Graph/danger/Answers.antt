@@ -4,7 +4,7 @@ use Rattle.prog_paths.specs.StaticGraph.{IsDangerous}
 use Rattle.conflict_pairs.specs.Table.{Table, StandsFor}
 use Rattle.dep_graph.specs.declared.danger.Danger.{Danger}
 use Rattle.dep_graph.specs.Marking.{marks_of}
-use Rattle.prog_paths.specs.Square.{Joins}
+use Rattle.order_facts.specs.Square.{Joins}
 use Rattle.dep_graph.specs.Ways.{IsLeastWay}
 use Rattle.dep_graph.specs.Danger.{IsLeastDanger}
 use Rattle.dep_graph.proofs.Entering.{Keeps}

@@ -1,7 +1,7 @@
 use Rattle.std.proofs.Common.{List, sym, subst, ◌∙◌}
 use Rattle.prog_paths.specs.declared.places.Placed.{Placed}
 use Rattle.prog_paths.specs.Asked.{asked_among}
-use Rattle.prog_paths.specs.Square.{Enters}
+use Rattle.order_facts.specs.Square.{Enters}
 use Rattle.robust_cert.specs.Leaving.{some_edge, some_vulnerable, IsReady}
 use Rattle.robust_cert.proofs.Passing.{all-ready, leaves-from_enters}
 use Rattle.robust_cert.proofs.checking.left.left_of.Goals as goal

@@ -1,6 +1,6 @@
 use Rattle.std.proofs.Common.{◌≡◌, ℕ, ◌<◌, ◌≤◌, List, [], ◌∷◌}
 use Rattle.std.specs.Prelude.{IfSome, IfNone}
-use Rattle.prog_paths.specs.Square.{Grid}
+use Rattle.order_facts.specs.Square.{Grid}
 use Rattle.prog_paths.specs.Listing.{IsAtMost}
 use Rattle.robust_cert.specs.declared.checking.levels.Pair.{Pair}
 use Rattle.robust_cert.specs.Levels.{Stays, StaysBy}

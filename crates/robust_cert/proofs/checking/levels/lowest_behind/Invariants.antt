@@ -1,6 +1,6 @@
 use Rattle.std.proofs.Common.{◌≡◌, ℕ, ◌<◌, ◌≤◌, List}
 use Rattle.std.specs.Prelude.{IfSome, IfNone, slice_index_or}
-use Rattle.prog_paths.specs.Square.{Grid, Joins}
+use Rattle.order_facts.specs.Square.{Grid, Joins}
 use Rattle.robust_cert.proofs.checking.levels.lowest_behind.Given as goal
 
 -- the lowest level that edges lead to from y, to nodes before the end

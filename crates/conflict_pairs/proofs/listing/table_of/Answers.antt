@@ -1,0 +1,27 @@
+use Rattle.std.proofs.Common.{List, sym, subst}
+use Rattle.std.specs.Prelude.{All}
+use Rattle.prog_paths.specs.declared.places.Question.{Question as Asked}
+use Rattle.conflict_pairs.specs.Alike.{IsAsked, StandsIn}
+use Rattle.conflict_pairs.proofs.Zipped.{AllZip-lengths}
+use Rattle.conflict_pairs.proofs.Collecting.{all_asked}
+use Rattle.conflict_pairs.proofs.Numbered.{numbers-within, StandsFor-from}
+use Rattle.conflict_pairs.proofs.listing.table_of.Goals as goal
+
+pub of-requires-clause-one_each : goal.of-requires-clause-one_each
+of-requires-clause-one_each c =
+    let questions = c.args.questions in
+    AllZip-lengths (StandsIn c.args.paths.now questions.judged.items) questions.all.items questions.numbers.items c.requires.listed.shown.stand
+
+pub of-requires-clause-within : goal.of-requires-clause-within
+of-requires-clause-within c =
+    let questions = c.args.questions in
+    let shown = c.requires.listed.shown in
+    numbers-within c.args.paths.now questions.judged.items c.args.verdicts.items shown.asked c.requires.judged questions.all.items questions.numbers.items shown.stand
+
+pub returns : goal.returns
+returns c =
+    let paths = c.args.paths.now in
+    let questions = c.args.questions in
+    let listed = c.requires.listed in
+    StandsFor-from paths questions.judged.items c.args.verdicts.items listed.shown.asked c.requires.judged c.requires.single c.of.result questions.all.items questions.numbers.items
+    (subst (λ (l : List Asked). All (IsAsked paths) l) (sym listed.all) (all_asked paths)) listed.shown.stand c.of.ensures.nodes c.of.ensures.entries listed.all

@@ -1,6 +1,0 @@
-use Rattle.prog_paths.specs.Words.{JoinsWords}
-use Rattle.prog_paths.proofs.square.join_words.Given as goal
-
--- so many words are joined
-abbrev pub invariant-loop-k : goal.invariant-loop-k
-invariant-loop-k l = JoinsWords l.fn.words.items l.words.items l.into l.from l.k
