@@ -1,5 +1,6 @@
 -- The text of a list's value, a part after another.
-use Rattle.std.proofs.Common.{◌≡◌, ◌∷◌, [], ◌++◌, ℕ, ℤ, pos, negsuc, List, map, true, codes, decimal, refl, sym, ap, ◌∙◌, append_assoc, Result, Ok, Err, is_ok, OnOk}
+use Rattle.std.proofs.Common.{◌≡◌, ◌<◌, ◌+◌, ◌∷◌, [], ◌++◌, ℕ, ℤ, pos, negsuc, List, length, get_or, take, map, true, codes, decimal, refl, sym, ap, ◌∙◌, append_assoc, Result, Ok, Err, is_ok, OnOk}
+use Rattle.std.proofs.lemmas.List.{take_more, flat_map_more}
 use Rattle.std.specs.Bool.{if◌then◌else◌}
 use Rattle.std.specs.Fmt.{digits, signed_decimal}
 use Rattle.std.specs.List.{flat_map}
@@ -15,7 +16,7 @@ use Rattle.robust_cert.specs.declared.certificate.Entry.TheVariants.{Apart, Cove
 use Rattle.robust_cert.specs.declared.certificate.Certificate.{Certificate}
 use Rattle.robust_cert.specs.Json.{list_data, whole_data, node_data, chain_data, entry_data, first_data, second_data, QuestionFits, EntryFits}
 use Rattle.robust_cert.specs.Helpers.{shared_text}
-use Rattle.robust_cert.specs.Parts.{asked_by, head_text, second_text, tail_text, TailFits}
+use Rattle.robust_cert.specs.Parts.{asked_by, head_text, tail_text, TailFits, next_head_text, next_entry_text}
 
 -- each thing's text behind a comma
 abbrev pub behind_commas : {A : Type 0} → (A → Data) → List A → List ℕ
@@ -69,15 +70,28 @@ unfolding serde_json_on_literals
 cover_text q mine theirs chains = refl
 
 -- an entry's text is that of its three parts
-entry_text : (e : Entry) → head_text e ++ (second_text (asked_by e) ++ tail_text e) ≡ compact_text (entry_data e)
+entry_text : (e : Entry) → head_text e ++ (decimal (asked_by e).y ++ tail_text e) ≡ compact_text (entry_data e)
 entry_text (Apart q chain) = rw (← apart_text q chain) (simp append_assoc)
 entry_text (Cover q mine theirs chains) = rw (← cover_text q mine theirs chains) (simp append_assoc)
 
 -- the pieces of this text, one pushed behind the other
-pub entry_written : (e : Entry) (q : Question) (old head tail one two : List ℕ) → q ≡ asked_by e → head ≡ head_text e → tail ≡ tail_text e
-    → one ≡ old ++ head → two ≡ one ++ second_text q
-    → two ++ tail ≡ old ++ compact_text (entry_data e)
-entry_written e q old head tail one two a b d f g = rw (g, f, d, b, a, ← entry_text e) (simp append_assoc)
+pub entry_written : (e : Entry) (q : Question) (old one two : List ℕ) → q ≡ asked_by e → one ≡ old ++ head_text e → two ≡ one ++ decimal q.y
+    → two ++ tail_text e ≡ old ++ compact_text (entry_data e)
+entry_written e q old one two a f g = rw (g, f, a, ← entry_text e) (simp append_assoc)
+
+-- and of that of an entry behind another one
+pub next_written : (e : Entry) (q : Question) (old head one two : List ℕ) → q ≡ asked_by e → head ≡ next_head_text e → one ≡ old ++ head → two ≡ one ++ decimal q.y
+    → two ++ tail_text e ≡ old ++ next_entry_text e
+next_written e q old head one two a b f g = rw (g, f, b, a, ← entry_text e) (simp append_assoc)
+
+-- one more entry is written behind the others
+pub one_more_entry : (es : List Entry) (i : ℕ) (e : Entry) (initial before after : List ℕ) → i < length es → e ≡ get_or es i e
+    → before ≡ initial ++ behind_commas entry_data (take i es) → after ≡ before ++ next_entry_text e
+    → after ≡ initial ++ behind_commas entry_data (take (i + 1) es)
+one_more_entry es i e initial before after within here past now =
+    let taken : take (i + 1) es ≡ take i es ++ e ∷ [] = take_more es i e within ∙ ap (λ w. take i es ++ w ∷ []) (sym here) in
+    now ∙ ap (λ s. s ++ next_entry_text e) past ∙ flat_map_more (λ x. 44 ∷ compact_text (entry_data x)) initial (take i es) e
+    ∙ ap (λ xs. initial ++ behind_commas entry_data xs) (sym taken)
 
 pub entry_fits : (e : Entry) → QuestionFits (asked_by e) → TailFits e → EntryFits e
 entry_fits (Apart q chain) question tail = (question, tail)

@@ -1,9 +1,10 @@
 //! The JSON text of a certificate, in both directions.
 
 pub mod compact;
+pub mod heads;
 pub mod reading;
-pub mod remembered;
 pub mod shape;
+pub mod tails;
 pub mod version;
 pub mod whole;
 pub mod writing;

@@ -1,16 +1,17 @@
 //! From a certificate to text.
 
-ghost use Rattle.std.specs.Prelude.{◌≡◌, ◌++◌, ◌==◌, All, IfOk, OnOk, codes, string_bytes};
+ghost use Rattle.std.specs.Prelude.{◌≡◌, ◌++◌, ◌==◌, All, IfOk, OnOk, codes, decimal, string_bytes};
 ghost use Rattle.std.specs.List.{list_all};
 ghost use Rattle.robust_cert.specs.Ranges.{IsSmall, ChainFits};
 ghost use Rattle.robust_cert.specs.Json.{node_data, chain_data, entry_data, whole_data, list_data, has_no_bodies, first_data, second_data, certificate_data, certificate_text, QuestionFits, EntryFits, CertificateFits};
 ghost use Rattle.robust_cert.specs.Reading.{IsTextOf};
 ghost use Rattle.robust_cert.specs.Helpers.{Appends, shared_text};
-ghost use Rattle.robust_cert.specs.Parts.{asked_by, first_text, second_text, head_text, tail_text, apart_tail_text, cover_tail_text, TailFits, ArePartsOf};
+ghost use Rattle.robust_cert.specs.Parts.{asked_by, first_text, head_text, tail_text, apart_tail_text, cover_tail_text, TailFits, next_entry_text};
 
 use crate::certificate::{Certificate, Entry, Question};
 use crate::chain::Chain;
-use crate::text::remembered::Parts;
+use crate::text::heads::Heads;
+use crate::text::tails::Tails;
 use itoa::{Buffer, Integer};
 use order_facts::Node;
 use std::alloc::{AllocError, Global};
@@ -90,8 +91,8 @@ fn push_chains(text: &mut String, chains: &[Chain]) -> Result<(), AllocError>
     text.push_str("]")
 }
 
-// Adds the kind of an entry, with what stands round it, and the numbers of the first access.
-fn push_kind(text: &mut String, kind: &str, question: Question) -> Result<(), AllocError>
+/// Adds the kind of an entry, with what stands round it, and the numbers of the first access.
+pub(crate) fn push_kind(text: &mut String, kind: &str, question: Question) -> Result<(), AllocError>
     ensures { OnOk result
         (string_bytes text.new ≡ string_bytes text.old ++ (kind.now ++ first_text question)) }
 {
@@ -100,8 +101,8 @@ fn push_kind(text: &mut String, kind: &str, question: Question) -> Result<(), Al
     push_before(text, question.a, ",")
 }
 
-/// Adds the kind of an entry and the first access of its question.
-pub(crate) fn push_head(text: &mut String, entry: &Entry) -> Result<(), AllocError>
+// Adds the kind of an entry and the first access of its question.
+fn push_head(text: &mut String, entry: &Entry) -> Result<(), AllocError>
     ensures { OnOk result (string_bytes text.new ≡ string_bytes text.old ++ head_text entry.now) }
 {
     match entry {
@@ -110,57 +111,59 @@ pub(crate) fn push_head(text: &mut String, entry: &Entry) -> Result<(), AllocErr
     }
 }
 
-fn push_apart_tail(text: &mut String, chain: &[Node]) -> Result<(), AllocError>
+fn push_apart_tail(text: &mut String, b: u32, chain: &[Node]) -> Result<(), AllocError>
     ensures { OnOk result
-        (string_bytes text.new ≡ string_bytes text.old ++ apart_tail_text chain.now) }
+        (string_bytes text.new ≡ string_bytes text.old ++ apart_tail_text b chain.now) }
 {
     text.push_str(",")?;
+    push_before(text, b, ",")?;
     push_chain(text, chain)?;
     text.push_str("]")
 }
 
 fn push_cover_tail(
     text: &mut String,
+    b: u32,
     mine: u32,
     theirs: u32,
     chains: &[Chain],
 ) -> Result<(), AllocError>
-    ensures text { OnOk result
-        (string_bytes text.new ≡ string_bytes text.old ++ cover_tail_text mine theirs chains.now) }
+    ensures text { OnOk result (string_bytes text.new
+        ≡ string_bytes text.old ++ cover_tail_text b mine theirs chains.now) }
     ensures fits { OnOk result (IsSmall mine × IsSmall theirs × All ChainFits chains.now) }
 {
     text.push_str(",")?;
+    push_before(text, b, ",")?;
     push_before(text, mine, ",")?;
     push_before(text, theirs, ",")?;
     push_chains(text, chains)?;
     text.push_str("]")
 }
 
-/// Adds what stands behind the question of an entry.
+/// Adds what stands behind the number of the second path of an entry's question.
 pub(crate) fn push_tail(text: &mut String, entry: &Entry) -> Result<(), AllocError>
     ensures text { OnOk result
         (string_bytes text.new ≡ string_bytes text.old ++ tail_text entry.now) }
     ensures fits { OnOk result (TailFits entry.now) }
 {
     match entry {
-        Entry::Apart { chain, .. } => push_apart_tail(text, chain.as_slice()),
+        Entry::Apart { question, chain } => push_apart_tail(text, question.b, chain.as_slice()),
         Entry::Cover {
+            question,
             mine,
             theirs,
             chains,
-            ..
-        } => { push_cover_tail(text, *mine, *theirs, chains.as_slice()) }
+        } => { push_cover_tail(text, question.b, *mine, *theirs, chains.as_slice()) }
     }
 }
 
-// Adds the numbers of the second access, with a comma between them.
-fn push_second_access(text: &mut String, question: Question) -> Result<(), AllocError>
+// Adds the number of the second path.
+fn push_middle(text: &mut String, question: Question) -> Result<(), AllocError>
     ensures text { OnOk result
-        (string_bytes text.new ≡ string_bytes text.old ++ second_text question) }
+        (string_bytes text.new ≡ string_bytes text.old ++ decimal question.y) }
     ensures fits { QuestionFits question }
 {
-    push_before(text, question.y, ",")?;
-    push_number(text, question.b)
+    push_number(text, question.y)
 }
 
 fn asked_by(entry: &Entry) -> Question
@@ -172,16 +175,30 @@ fn asked_by(entry: &Entry) -> Question
     }
 }
 
-// Adds an entry, whose parts are at hand.
-fn push_entry(text: &mut String, parts: &Parts, entry: &Entry) -> Result<(), AllocError>
-    requires parts { ArePartsOf entry.now parts.now }
-    requires fits { TailFits entry.now }
+fn push_entry(text: &mut String, entry: &Entry) -> Result<(), AllocError>
     ensures text { OnOk result (Appends text.old text.new (entry_data entry.now)) }
     ensures fits { OnOk result (EntryFits entry.now) }
 {
-    text.push_str(parts.head.as_str())?;
-    push_second_access(text, asked_by(entry))?;
-    text.push_str(parts.tail.as_str())
+    push_head(text, entry)?;
+    push_middle(text, asked_by(entry))?;
+    push_tail(text, entry)
+}
+
+// Adds an entry behind another one. Its head is at hand, and its tail perhaps.
+fn push_next<'a>(
+    text: &mut String,
+    heads: &Heads,
+    tails: &mut Tails<'a>,
+    entry: &'a Entry,
+) -> Result<(), AllocError>
+    requires { first_text heads.now ≡ first_text (asked_by entry.now) }
+    ensures text { OnOk result
+        (string_bytes text.new ≡ string_bytes text.old ++ next_entry_text entry.now) }
+    ensures fits { OnOk result (EntryFits entry.now) }
+{
+    text.push_str(heads.of_entry(entry))?;
+    push_middle(text, asked_by(entry))?;
+    tails.push(text, entry)
 }
 
 fn push_entries(text: &mut String, entries: &[Entry]) -> Result<(), AllocError>
@@ -191,15 +208,14 @@ fn push_entries(text: &mut String, entries: &[Entry]) -> Result<(), AllocError>
     let [first, others @ ..] = entries else {
         return text.push_str("[]");
     };
-    let mut parts = Parts::of(*text.allocator(), first)?;
-    let mut before = first;
+    let alloc = *text.allocator();
+    let mut heads = Heads::of(alloc, asked_by(first))?;
+    let mut tails = Tails::for_entries(alloc, others.len())?;
     text.push_str("[")?;
-    push_entry(text, &parts, first)?;
+    push_entry(text, first)?;
     for entry in others {
-        parts.renew(before, entry)?;
-        text.push_str(",")?;
-        push_entry(text, &parts, entry)?;
-        before = entry;
+        heads.renew(alloc, asked_by(entry))?;
+        push_next(text, &heads, &mut tails, entry)?;
     }
     text.push_str("]")
 }

@@ -3,18 +3,16 @@ use Rattle.std.proofs.lemmas.List.Elements.{All-more}
 use Rattle.std.proofs.lemmas.Grind.{common_steps}
 use Rattle.robust_cert.specs.Json.{entry_data, EntryFits}
 use Rattle.robust_cert.proofs.Fitting.{all_from_first, on_ok_anyway}
-use Rattle.robust_cert.proofs.Texts.{bracketed_lem}
+use Rattle.robust_cert.proofs.Texts.{bracketed_lem, one_more_entry}
 use Rattle.robust_cert.proofs.text.writing.push_entries.Goals as goal
 
 pub loop-entry-preserved : goal.loop-entry-preserved
 loop-entry-preserved c =
     let others = take (length c.args.entries.now - 1) (drop 1 c.args.entries.now) in
     record {
-      text = grind (arith, common_steps);
+      text = one_more_entry others c.loop-entry.entry-index c.entry-item.result _ _ _ c.loop-entry-test.true c.entry-item.is c.loop-entry.invariant.text c.in_ok-push_next.ensures.text;
       fits = All-more EntryFits others c.loop-entry.entry-index c.entry-item.result c.loop-entry-test.true c.loop-entry.invariant.fits
-          (subst EntryFits c.entry-item.is c.in_ok-push_entry-2.ensures.fits);
-      parts = c.in_ok-renew.ensures.text;
-      told = c.in_ok-renew.ensures.fits;
+          (subst EntryFits c.entry-item.is c.in_ok-push_next.ensures.fits);
     }
 
 pub returns-clause-text : goal.returns-clause-text
