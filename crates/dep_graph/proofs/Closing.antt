@@ -4,8 +4,8 @@ use Rattle.std.specs.Prelude.{◌==◌, ◌≢◌}
 use Rattle.std.proofs.lemmas.Bool.{or_cases, or_left, or_right, and_parts, and_from, eqb-true, eq-eqb, cases_lt}
 use Rattle.std.proofs.lemmas.Bool.Decides.{eqb_tells}
 use Rattle.prog_paths.specs.StaticGraph.{Leads, here, onward}
-use Rattle.order_facts.specs.Square.{Grid, entry, Joins, RaisesEntry}
-use Rattle.dep_graph.specs.Reaching.{JoinsEachToItself, JoinsThrough, IsReachOf}
+use Rattle.order_facts.specs.Square.{Grid, entry, Joins, RaisesEntry, JoinsThrough}
+use Rattle.dep_graph.specs.Reaching.{JoinsEachToItself, IsReachOf}
 use Rattle.dep_graph.specs.Reaching.{leads_through}
 
 pub Leads-trans : {edge : ℕ → ℕ → Type 0} {x y z : ℕ} → Leads edge x y → Leads edge y z → Leads edge x z

@@ -15,7 +15,7 @@ loop-through-preserved c =
     let inside : k < edges.size = omega arith in
     record {
       size = c.join.ensures.size ∙ c.loop-through.invariant.size;
-      entries = entries-next old c.join.new.square edges k c.loop-through.invariant.size inside c.loop-through.invariant.entries c.join.ensures;
+      entries = entries-next old c.join.new.self edges k c.loop-through.invariant.size inside c.loop-through.invariant.entries c.join.ensures;
     }
 
 pub returns : goal.returns
