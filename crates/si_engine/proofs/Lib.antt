@@ -28,9 +28,9 @@ pub mod RowLaws
 pub mod RunLaws
 mod SayingLemmas
 mod ScriptVectors
-pub mod SeamLaws
 pub mod SkewVectors
 mod TextLemmas
 pub mod ToldLaws
 mod TurnVectors
 pub mod VulnerableLaws
+pub mod WritingLaws

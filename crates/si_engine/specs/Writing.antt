@@ -1,5 +1,7 @@
 -- What a write that fails leaves behind.
-use Rattle.std.specs.Prelude.{◌≡◌, ℕ, Bool, true, false, List, ◌++◌, Option, take}
+use Rattle.std.specs.Prelude.{◌≡◌, ℕ, Bool, true, false, List, ◌++◌, Option, Result, Ok, Err, OnOk, OnErr, take, string_bytes}
+use Rattle.std.specs.declared.alloc.AllocError.{AllocError}
+use Rattle.std.specs.declared.string.String.{String}
 use Rattle.std.specs.Io.KnownBytes.{Appends}
 
 -- known bytes grow by some first bytes of bs
@@ -19,3 +21,13 @@ IsJust bytes end written ended = (written ≡ bytes) × (ended ≡ end)
 -- a text still begins as it did
 unfoldable pub Keeps : List ℕ → List ℕ → Type 0
 Keeps before after = (rest : List ℕ) × (after ≡ before ++ rest)
+
+-- these bytes were added to a text; where memory ran out, it still begins as it did
+unfoldable pub Writes : {Z : Type 0} → (old new : String Z) → Result (Unit {0}) AllocError → List ℕ → Type 0
+Writes old new (Ok done) bytes = string_bytes new ≡ string_bytes old ++ bytes
+Writes old new (Err e) bytes = Keeps (string_bytes old) (string_bytes new)
+
+-- these bytes were added to a text; where memory ran out, it is as it was
+pub record AddsOrStays {Z : Type 0} (old new : String Z) (result : Result (Unit {0}) AllocError) (bytes : List ℕ) : Type 0 where
+  pub ok : OnOk result (string_bytes new ≡ string_bytes old ++ bytes)
+  pub err : OnErr result (string_bytes new ≡ string_bytes old)
