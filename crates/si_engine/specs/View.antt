@@ -1,5 +1,6 @@
 -- What contracts see of an engine, and what its fields keep.
-use Rattle.std.specs.Prelude.{◌≡◌, ℕ, ◌+◌, ◌≤◌, Bool, true, false, List, [], ◌∷◌, length, map, Option, Some, None, option_map, slice_get}
+use Rattle.std.specs.Prelude.{◌≡◌, ℕ, ◌+◌, ◌≤◌, Bool, true, false, List, [], ◌∷◌, length, map, Option, Some, None, option_map, slice_get, Result, IfOk, OnErr}
+use Rattle.std.specs.declared.alloc.AllocError.{AllocError}
 use Rattle.prog_tree.specs.declared.deed.End.TheVariants.{Ready}
 use Rattle.prog_tree.specs.declared.program.Draft.{Draft}
 use Rattle.prog_tree.specs.Table.{TableState}
@@ -109,6 +110,14 @@ takes_memory _ = false
 -- the event machine's reply to an event takes memory
 abbrev pub MayLackMemory : Event → EngineView → Type 0
 MayLackMemory event v = takes_memory (machine_step (draft_tree v.set) v.opening event v.machine).0 ≡ true
+
+-- an event was applied, and answered as the event machine answers it; or memory ran out, where the
+-- reply takes some, and nothing has changed
+pub record Applies (event : Event) (old new : EngineView) (result : Result Reply AllocError) : Type 0 where
+  pub over : StaysOver old new
+  pub step : IfOk result (IsAnswerTo event old new)
+  pub err : OnErr result (new ≡ old)
+  pub memory : OnErr result (MayLackMemory event old)
 
 -- ---- what a call on an active instance leaves
 

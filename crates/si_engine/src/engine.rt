@@ -6,7 +6,7 @@ ghost use Rattle.prog_run.specs.View.{begin_fault, begun};
 ghost use Rattle.history_book.specs.History.{state_after};
 ghost use Rattle.history_book.specs.View.{history_of, begin_at_fault_of, ticket_at, begun_at};
 ghost use Rattle.si_engine.specs.Machine.{new_machine};
-ghost use Rattle.si_engine.specs.View.{StaysOver, IsAnswerTo, MayLackMemory, answer_to, numbered};
+ghost use Rattle.si_engine.specs.View.{Applies, StaysOver, IsAnswerTo, MayLackMemory, answer_to, numbered};
 
 use crate::active::ActiveRun;
 use crate::event::{Event, Reply};
@@ -137,11 +137,7 @@ impl<'a> Engine<'a> {
     }
 
     fn begin(&mut self, program: usize, args: &[i64]) -> Result<Reply, AllocError>
-        ensures over { StaysOver self.old self.new }
-        ensures step { IfOk result
-            (IsAnswerTo (event.Begin program args.now) self.old self.new) }
-        ensures err { OnErr result (self.new ≡ self.old) }
-        ensures memory { OnErr result (MayLackMemory (event.Begin program args.now) self.old) }
+        ensures { Applies (event.Begin program args.now) self.old self.new result }
     {
         let commits = self.book.commits();
         let reply = self.begin_at(commits, program, args)?;
@@ -149,12 +145,7 @@ impl<'a> Engine<'a> {
     }
 
     fn begin_at(&mut self, start: u64, program: usize, args: &[i64]) -> Result<Reply, AllocError>
-        ensures over { StaysOver self.old self.new }
-        ensures step { IfOk result
-            (IsAnswerTo (event.BeginAt start program args.now) self.old self.new) }
-        ensures err { OnErr result (self.new ≡ self.old) }
-        ensures memory { OnErr result
-            (MayLackMemory (event.BeginAt start program args.now) self.old) }
+        ensures { Applies (event.BeginAt start program args.now) self.old self.new result }
     {
         if let Some(fault) = self.book.refusal_at(start, program, args) {
             let reply = refused(fault)?;

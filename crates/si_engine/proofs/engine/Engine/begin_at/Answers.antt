@@ -1,4 +1,4 @@
-use Rattle.std.proofs.Common.{◌≡◌, ◌∷◌, [], ◌++◌, length, ap, sym, ◌∙◌, subst, false, arith}
+use Rattle.std.proofs.Common.{◌≡◌, ◌∷◌, [], ◌++◌, length, ap, sym, ◌∙◌, subst, false, arith, rules}
 use Rattle.std.specs.Prelude.{slice_get, Some}
 use Rattle.prog_tree.specs.declared.program.Draft.{Draft}
 use Rattle.prog_tree.specs.Tree.{draft_tree}
@@ -11,33 +11,57 @@ use Rattle.si_engine.proofs.BeginLaws.{begin_refused, begin_takes_memory, begin_
 use Rattle.si_engine.proofs.EngineLaws.{on_err}
 use Rattle.si_engine.proofs.engine.Engine.begin_at.Goals as goal
 
-pub returns-in-Some-clause-step : goal.returns-in-Some-clause-step
-returns-in-Some-clause-step c =
+pub returns-in-Some : goal.returns-in-Some
+returns-in-Some c =
     let e = c.self.inside in
-    subst (λ (x : EngineView). (c.in_ok-reply.reply, x.machine) ≡ begin_at_by (slice_get (draft_tree x.set).programs c.args.program) x.machine c.args.start c.args.program c.args.args.now)
-    c.self.view_is
-    (begin_refused e.book e.begun.items c.self.invariant c.args.start c.args.program c.args.args.now c.in-Some.fault c.in_ok-reply.reply (sym c.in-Some.ensures) c.in_ok-reply.ensures.ok)
+    record {
+      over = search rules;
+      step =
+          subst (λ (x : EngineView). (c.in_ok-reply.reply, x.machine) ≡ begin_at_by (slice_get (draft_tree x.set).programs c.args.program) x.machine c.args.start c.args.program c.args.args.now)
+          c.self.view_is
+          (begin_refused e.book e.begun.items c.self.invariant c.args.start c.args.program c.args.args.now c.in-Some.fault c.in_ok-reply.reply (sym c.in-Some.ensures) c.in_ok-reply.ensures.ok);
+      err = search rules;
+      memory = search rules;
+    }
 
-pub returns-in_err-run-clause-memory : goal.returns-in_err-run-clause-memory
-returns-in_err-run-clause-memory c =
+pub returns-in_err-run : goal.returns-in_err-run
+returns-in_err-run c =
     let e = c.self.inside in
-    on_err _
-    (subst (MayLackMemory (event.BeginAt c.args.start c.args.program c.args.args.now)) c.self.view_is
-    (begin_takes_memory e.book e.begun.items c.self.invariant c.args.start c.args.program c.args.args.now (sym c.in_default.ensures)))
+    record {
+      over = search rules;
+      step = search rules;
+      err = search rules;
+      memory =
+          on_err _
+          (subst (MayLackMemory (event.BeginAt c.args.start c.args.program c.args.args.now)) c.self.view_is
+          (begin_takes_memory e.book e.begun.items c.self.invariant c.args.start c.args.program c.args.args.now (sym c.in_default.ensures)));
+    }
 
-pub returns-in_err-reserve-clause-memory : goal.returns-in_err-reserve-clause-memory
-returns-in_err-reserve-clause-memory c =
+pub returns-in_err-reserve : goal.returns-in_err-reserve
+returns-in_err-reserve c =
     let e = c.self.inside in
-    on_err _
-    (subst (MayLackMemory (event.BeginAt c.args.start c.args.program c.args.args.now)) c.self.view_is
-    (begin_takes_memory e.book e.begun.items c.self.invariant c.args.start c.args.program c.args.args.now (sym c.in_default.ensures)))
+    record {
+      over = search rules;
+      step = search rules;
+      err = search rules;
+      memory =
+          on_err _
+          (subst (MayLackMemory (event.BeginAt c.args.start c.args.program c.args.args.now)) c.self.view_is
+          (begin_takes_memory e.book e.begun.items c.self.invariant c.args.start c.args.program c.args.args.now (sym c.in_default.ensures)));
+    }
 
-pub returns-in_err-ticket-clause-memory : goal.returns-in_err-ticket-clause-memory
-returns-in_err-ticket-clause-memory c =
+pub returns-in_err-ticket : goal.returns-in_err-ticket
+returns-in_err-ticket c =
     let e = c.self.inside in
-    on_err _
-    (subst (MayLackMemory (event.BeginAt c.args.start c.args.program c.args.args.now)) c.self.view_is
-    (begin_takes_memory e.book e.begun.items c.self.invariant c.args.start c.args.program c.args.args.now (sym c.in_default.ensures)))
+    record {
+      over = search rules;
+      step = search rules;
+      err = search rules;
+      memory =
+          on_err _
+          (subst (MayLackMemory (event.BeginAt c.args.start c.args.program c.args.args.now)) c.self.view_is
+          (begin_takes_memory e.book e.begun.items c.self.invariant c.args.start c.args.program c.args.args.now (sym c.in_default.ensures)));
+    }
 
 pub invariant_of-self-2 : goal.invariant_of-self-2
 invariant_of-self-2 c =
@@ -52,8 +76,8 @@ invariant_of-self-2 c =
     let pushed = c.in-Ok.ensures.items ∙ ap (λ ps. ps ++ Some (record { program = c.args.program; ticket = ticket; run = run; ready = false }) ∷ []) c.in_ok-reserve.ensures.items in
     subst (IsEngine c.begin_in.new.book) (sym pushed) made
 
-pub returns-clause-step : goal.returns-clause-step
-returns-clause-step c =
+pub returns : goal.returns
+returns c =
     let e = c.self.inside in
     let w = c.begin_in.new.book in
     let run = c.in_ok-run.run' in
@@ -65,8 +89,14 @@ returns-clause-step c =
     c.in_ok-ticket.ensures.ticket w c.in_ok-ticket.ensures.begun in
     let pushed = c.in-Ok.ensures.items ∙ ap (λ ps. ps ++ Some (record { program = c.args.program; ticket = ticket; run = run; ready = false }) ∷ []) c.in_ok-reserve.ensures.items in
     let number : c.len-instance.result ≡ length e.begun.items = omega arith in
-    subst (λ (x : EngineView). (reply.Begun c.len-instance.result c.args.start, machine_of w c.push.new.self.items) ≡ begin_at_by (slice_get (draft_tree x.set).programs c.args.program) x.machine c.args.start c.args.program c.args.args.now)
-    c.self.view_is
-    (ap (λ n. (reply.Begun n c.args.start, machine_of w c.push.new.self.items)) number
-    ∙ ap (λ ps. (reply.Begun (length e.begun.items) c.args.start, machine_of w ps)) pushed
-    ∙ made)
+    record {
+      over = search rules;
+      step =
+          subst (λ (x : EngineView). (reply.Begun c.len-instance.result c.args.start, machine_of w c.push.new.self.items) ≡ begin_at_by (slice_get (draft_tree x.set).programs c.args.program) x.machine c.args.start c.args.program c.args.args.now)
+          c.self.view_is
+          (ap (λ n. (reply.Begun n c.args.start, machine_of w c.push.new.self.items)) number
+          ∙ ap (λ ps. (reply.Begun (length e.begun.items) c.args.start, machine_of w ps)) pushed
+          ∙ made);
+      err = search rules;
+      memory = search rules;
+    }
