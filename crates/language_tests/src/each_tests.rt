@@ -20,8 +20,10 @@ const PAID: Example = Example {
 advance: Scan(Region { table: 0, first_low: 1, first_high: 3, second_low: 0, second_high: 0 })
 none: not asked
 state: 0 0 [] None
+again: None None
 rows: Did(Listed(Region { table: 0, first_low: 1, first_high: 3, second_low: 0, second_high: 0 }, 2))
 look: [] and 2 others
+again: Some([(Cell { table: 0, first: 1, second: 0 }, 5), (Cell { table: 0, first: 3, second: 0 }, 7)]) None
 rows: not asked
 advance: Did(Put(Cell { table: 0, first: 1, second: 0 }, 7))
 advance: Did(Put(Cell { table: 0, first: 3, second: 0 }, 9))
@@ -45,6 +47,7 @@ advance: Did(Removed(Cell { table: 0, first: 1, second: 0 }))
 advance: Scan(Region { table: 0, first_low: 1, first_high: 3, second_low: 0, second_high: 0 })
 rows: Did(Listed(Region { table: 0, first_low: 1, first_high: 3, second_low: 0, second_high: 0 }, 2))
 look: [Cell { table: 0, first: 1, second: 0 }, Cell { table: 0, first: 2, second: 0 }] and 1 others
+again: None None
 advance: Done(Ready)
 state: 3 1 [2, 8, 3, 7] Some(Ready)",
 };

@@ -3,8 +3,8 @@
 use example_sets::set_of;
 use prog_check::{ProgramSet, soundness};
 use prog_tree::{
-    Cell, Look, evaluations_depend_on_looks, evaluations_write_i64, i64_is_tested, same_looks,
-    same_tables, table_states_stay_i64, table_states_stay_in_order,
+    Cell, Look, Region, evaluations_depend_on_looks, evaluations_write_i64, i64_is_tested,
+    same_looks, same_tables, table_states_stay_i64, table_states_stay_in_order,
 };
 use std::alloc::Global;
 use std::process::Abort;
@@ -86,6 +86,44 @@ fn looks_are_the_same_by_cell_and_value(rt: HostRuntime) {
     assert!(rt; !are_those_looks(&same[..1]));
     let other = [look(1, Some(5)), look(2, Some(0))];
     assert!(rt; !are_those_looks(&other));
+}
+
+/// The cells of `e[1..3, 2..4]`.
+const REGION: Region = Region {
+    table: 0,
+    first_low: 1,
+    first_high: 3,
+    second_low: 2,
+    second_high: 4,
+};
+
+/// Regions that have another table or another end.
+const OTHER_REGIONS: [Region; 5] = [
+    Region { table: 1, ..REGION },
+    Region {
+        first_low: 0,
+        ..REGION
+    },
+    Region {
+        first_high: 4,
+        ..REGION
+    },
+    Region {
+        second_low: 3,
+        ..REGION
+    },
+    Region {
+        second_high: 3,
+        ..REGION
+    },
+];
+
+#[test]
+fn regions_are_the_same_by_table_and_ends(rt: HostRuntime) {
+    assert!(rt; REGION.is_same(&REGION));
+    for other in OTHER_REGIONS {
+        assert!(rt; !REGION.is_same(&other), "{other:?}");
+    }
 }
 
 #[test]

@@ -4,7 +4,7 @@ use crate::told::is_told;
 use example_sets::{SMALL_BANK, set_of};
 use prog_check::ProgramSet;
 use prog_run::{AnswerFault, Look, Next, Run};
-use prog_tree::Cell;
+use prog_tree::{Cell, Region};
 use std::alloc::{AllocError, Global};
 use std::process::Abort;
 use std::test::Fail;
@@ -50,6 +50,24 @@ const CELL_7_4: Cell = Cell {
     second: 4,
 };
 
+/// The cells from 1 to 3 of the first table, which has one key column.
+const ONE_TO_THREE: Region = Region {
+    table: 0,
+    first_low: 1,
+    first_high: 3,
+    second_low: 0,
+    second_high: 0,
+};
+
+/// The cells from 1 to 2.
+const ONE_TO_TWO: Region = Region {
+    table: 0,
+    first_low: 1,
+    first_high: 2,
+    second_low: 0,
+    second_high: 0,
+};
+
 /// The cell that a look found, or the run's own cells that it left out and how many rows it found
 /// in others.
 fn shown_look(alloc: Global, look: &Look) -> Result<String, AllocError> {
@@ -80,6 +98,12 @@ fn shown_state(alloc: Global, run: &Run<'_>) -> Result<String, AllocError> {
     format!(in alloc; "{done} {looks} {:?} {end:?}", run.replies())
 }
 
+/// The rows that the last look found, where it was at the cells from 1 to 3, and where from 1 to 2.
+fn shown_again(alloc: Global, run: &Run<'_>) -> Result<String, AllocError> {
+    let (same, other) = (run.rows_again(&ONE_TO_THREE), run.rows_again(&ONE_TO_TWO));
+    format!(in alloc; "{same:?} {other:?}")
+}
+
 /// The changed cells' first columns with what they were changed to.
 fn shown_changes(alloc: Global, run: &Run<'_>) -> Result<String, AllocError> {
     let mut text = String::new(alloc);
@@ -93,6 +117,7 @@ fn read(alloc: Global, run: &Run<'_>, word: &str) -> Result<String, AllocError> 
     match word {
         "begin" => shown_begin(alloc, run),
         "look" => shown_last_look(alloc, run),
+        "again" => shown_again(alloc, run),
         "changes" => shown_changes(alloc, run),
         _ => shown_state(alloc, run),
     }

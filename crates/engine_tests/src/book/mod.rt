@@ -8,6 +8,7 @@ mod book_tests;
 mod desk;
 mod endings;
 mod order_tests;
+mod own_tests;
 mod reason_tests;
 mod runs;
 mod sets;
