@@ -4,6 +4,7 @@ use Rattle.std.specs.Fmt.{decimal}
 use Rattle.std.specs.List.{prefix_len}
 use Rattle.prog_tree.specs.Syntax.{DraftTree}
 use Rattle.prog_check.specs.declared.path.Path.{Path}
+use Rattle.prog_paths.specs.Asked.{limit}
 use Rattle.robust_cert.specs.Accepted.{body_size}
 use Rattle.robust_cert.specs.Reading.{IsTextOf}
 use Rattle.robust_cert.specs.declared.certificate.Certificate.{Certificate}
@@ -80,7 +81,8 @@ front_of set paths certificate (c.Dangerous x y z) =
     codes "levels " ++ (level_text set paths certificate x ++ (codes ", " ++ (level_text set paths certificate y
     ++ (codes ", " ++ (level_text set paths certificate z ++ codes ": ")))))
 front_of set paths certificate c.PathCount = counts_text set paths certificate
-front_of set paths certificate c.TooLarge = codes "more than 1000000 pairs of accesses would have to be compared"
+front_of set paths certificate c.TooLarge =
+    codes "more than " ++ (decimal limit ++ codes " pairs of accesses would have to be compared")
 front_of set paths certificate c.Memory = codes "memory ran out"
 
 -- the words of a fault of a certificate for a set of these paths

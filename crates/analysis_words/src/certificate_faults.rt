@@ -8,7 +8,7 @@ ghost use Rattle.analysis_words.specs.Saying.{body_size_in, count_text, counts_t
 
 use crate::shown::{Shown, access_text, node_name};
 use prog_check::{Path, ProgramSet};
-use prog_paths::paths;
+use prog_paths::{MAX_QUESTIONS, paths};
 use robust_cert::{CertFault, Certificate, Entry, JsonFault, Question, body_size, from_json};
 use std::alloc::{AllocError, Global};
 use text_places::SetText;
@@ -199,7 +199,7 @@ fn front_of(
         CertFault::Dangerous(x, y, z) => dangerous_text(alloc, shown, certificate, x, y, z),
         CertFault::PathCount => counts_text(alloc, shown, certificate),
         CertFault::TooLarge => format!(in alloc;
-            "more than 1000000 pairs of accesses would have to be compared"
+            "more than {MAX_QUESTIONS} pairs of accesses would have to be compared"
         ),
         CertFault::Memory => format!(in alloc; "memory ran out"),
     }

@@ -1,13 +1,13 @@
 //! Why a set is not repaired, in words.
 ghost use Rattle.std.specs.Prelude.{◌≡◌, IfNone, IfOk, IfSome, codes, string_bytes};
 ghost use Rattle.prog_tree.specs.Tree.{draft_tree};
-ghost use Rattle.analysis_words.specs.Repairs.{NamesBoth, Says, SaysStop};
+ghost use Rattle.analysis_words.specs.Repairs.{NamesBoth, Says, SaysStop, limits_text};
 ghost use Rattle.si_repair.specs.declared.repairs.fault.RepairFault.TheVariants as f;
 
 use crate::looks::{first_of_each, has_unknown_key, looked_at, meets_body, reason_words};
 use crate::pairs::pair_sentence;
 use crate::shown::Shown;
-use prog_check::ProgramSet;
+use prog_check::{MAX_ACCESSES, MAX_STATEMENTS, MAX_TABLES, ProgramSet};
 use prog_paths::{Question, paths};
 use si_repair::{Pair, RepairFault, exposed_questions};
 use std::alloc::{AllocError, Global};
@@ -129,20 +129,25 @@ fn promotion_words(
     Ok(words)
 }
 
+// The limits that a set may pass with the statements for its pairs.
+fn limits_text(alloc: Global) -> Result<String, AllocError>
+    ensures { IfOk result (λ text. string_bytes text ≡ limits_text) }
+{
+    format!(in alloc;
+        "{MAX_TABLES} tables, {MAX_STATEMENTS} statements of a program, {MAX_ACCESSES} accesses on a way through it"
+    )
+}
+
 // The pair with whose statements the set is above a limit.
 fn limit_words(alloc: Global, set: &ProgramSet, pair: Pair) -> Result<String, AllocError>
     ensures { IfOk result (λ words. SaysStop (draft_tree set.now) (f.TooMany pair)
         (string_bytes words)) }
 {
-    let sentence = pair_sentence(
-        alloc,
-        set,
-        pair,
-        "has to be kept apart from",
-        ", and with the statements for that the set is above a limit: 64 tables, \
-        256 statements of a program, 24 accesses on a way through it; have fewer programs, \
-        or merge some",
+    let limits = limits_text(alloc)?;
+    let rest = format!(in alloc;
+        ", and with the statements for that the set is above a limit: {limits}; have fewer programs, or merge some"
     )?;
+    let sentence = pair_sentence(alloc, set, pair, "has to be kept apart from", &rest)?;
     Ok(sentence)
 }
 

@@ -1,5 +1,6 @@
 pub mod Beginnings
 pub mod Blocks
 pub mod Naming
+pub mod Ordinals
 pub mod Pointing
 pub mod Reserved

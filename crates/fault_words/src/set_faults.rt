@@ -5,13 +5,17 @@ ghost use Rattle.fault_words.specs.Pointing.{goes_on, is_word_of, place_of, HasN
 
 use crate::naming::{parameter_count, table_names};
 use crate::nearest::known_names;
+use crate::ordinals::ordinal;
 use crate::pointing::point_at;
 use crate::reserved::in_lower_case;
 use crate::scope::{
     has_each, is_bound_among, is_of_turn, taken_name, token_place, tokens_of, unknown_name,
     visible_names,
 };
-use prog_check::{CheckFault, Place};
+use prog_check::{
+    CheckFault, MAX_ACCESSES, MAX_PARAMETERS, MAX_PATHS, MAX_PROGRAMS, MAX_STATEMENTS, MAX_TABLES,
+    Place,
+};
 use prog_text::parse;
 use prog_tree::{Arity, Draft, Name};
 use std::alloc::{AllocError, Global};
@@ -254,8 +258,14 @@ fn too_many_accesses(alloc: Global, text: &[u8], at: usize) -> Result<String, Al
         ""
     };
     format!(in alloc;
-        "a way through this program makes more than 24 accesses, the most allowed{bodies}"
+        "a way through this program makes more than {MAX_ACCESSES} accesses, the most allowed{bodies}"
     )
+}
+
+// That a table, a program or a statement is the first above a limit.
+fn one_too_many(alloc: Global, part: &str, whole: &str, most: usize) -> Result<String, AllocError> {
+    let number = ordinal(alloc, most.saturating_add(1))?;
+    format!(in alloc; "this is the {number} {part}, and a {whole} has at most {most}")
 }
 
 fn too_much_in_program(
@@ -264,28 +274,26 @@ fn too_much_in_program(
     program: usize,
     at: usize,
 ) -> Result<String, AllocError> {
-    if program > 15 {
-        return format!(in alloc; "this is the 17th program, and a set has at most 16");
+    if program >= MAX_PROGRAMS {
+        return one_too_many(alloc, "program", "set", MAX_PROGRAMS);
     }
     let count = match draft_of(alloc, text) {
         Some(draft) => parameter_count(&draft, program),
         None => 0,
     };
-    if count > 8 {
-        return format!(in alloc; "this program has {count} parameters, and at most 8 are allowed");
+    if count > MAX_PARAMETERS {
+        return format!(in alloc;
+            "this program has {count} parameters, and at most {MAX_PARAMETERS} are allowed"
+        );
     }
     too_many_accesses(alloc, text, at)
 }
 
 fn too_many(alloc: Global, text: &[u8], place: Place, at: usize) -> Result<String, AllocError> {
     match place {
-        Place::Table { .. } => {
-            format!(in alloc; "this is the 65th table, and a set has at most 64")
-        }
+        Place::Table { .. } => one_too_many(alloc, "table", "set", MAX_TABLES),
         Place::Program { program } => too_much_in_program(alloc, text, program, at),
-        Place::Statement { .. } => {
-            format!(in alloc; "this is the 257th statement, and a program has at most 256")
-        }
+        Place::Statement { .. } => one_too_many(alloc, "statement", "program", MAX_STATEMENTS),
     }
 }
 
@@ -323,7 +331,7 @@ fn sentence(
         CheckFault::TooMany { place } => too_many(alloc, text, place, at),
         CheckFault::TooManyPaths { .. } => {
             format!(in alloc;
-                "more than 32 ways through `{name}` commit; each further `if` doubles them"
+                "more than {MAX_PATHS} ways through `{name}` commit; each further `if` doubles them"
             )
         }
         CheckFault::Memory => format!(in alloc; "memory ran out"),

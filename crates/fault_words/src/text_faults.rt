@@ -4,9 +4,10 @@ ghost use Rattle.fault_words.specs.Pointing.{BeginsBy, PointsAtFault, PointsAtTo
 
 use crate::expected::{possible, told};
 use crate::open_blocks::open_words;
+use crate::ordinals::ordinal;
 use crate::pointing::point_at;
 use crate::slips::{Around, Slip, slip_of, slip_words, tokens_around};
-use prog_text::{TextFault, beginning_of};
+use prog_text::{MAX_BRACKETS, MAX_BYTES, MAX_NAME_BYTES, MAX_OPERATORS, TextFault, beginning_of};
 use std::alloc::{AllocError, Global};
 use text_places::{
     as_text, before, behind, column, end_before, first_token, first_word, line_at, line_number,
@@ -187,13 +188,40 @@ fn too_early(alloc: Global, text: &[u8], place: usize) -> Result<String, AllocEr
     point_out(alloc, text, place, &sentence)
 }
 
+// That a statement has an operator too many.
+fn too_many_operators(alloc: Global) -> Result<String, AllocError> {
+    let number = ordinal(alloc, MAX_OPERATORS + 1)?;
+    format!(in alloc;
+        "the {number} `+`, `-` or `*` of this statement, which may have {MAX_OPERATORS}; bind a part before"
+    )
+}
+
+// That a bracket stands inside too many others.
+fn too_many_brackets(alloc: Global) -> Result<String, AllocError> {
+    let number = ordinal(alloc, MAX_BRACKETS + 1)?;
+    format!(in alloc;
+        "this opens a {number} bracket inside {MAX_BRACKETS} others, the most there may be"
+    )
+}
+
 fn too_deep(alloc: Global, text: &[u8], place: usize) -> Result<String, AllocError> {
     match behind(text, place) {
-        [b'+' | b'-' | b'*', ..] => format!(in alloc;
-            "the 33rd `+`, `-` or `*` of this statement, which may have 32; bind a part before"
-        ),
-        _ => format!(in alloc; "this opens a 17th bracket inside 16 others, the most there may be"),
+        [b'+' | b'-' | b'*', ..] => too_many_operators(alloc),
+        _ => too_many_brackets(alloc),
     }
+}
+
+fn out_of_range(alloc: Global) -> Result<String, AllocError> {
+    let greatest = i64::MAX;
+    format!(in alloc; "a number above {greatest}, the greatest there is (`greatest`)")
+}
+
+fn name_too_long(alloc: Global) -> Result<String, AllocError> {
+    format!(in alloc; "a name of more than {MAX_NAME_BYTES} characters, the most a name may have")
+}
+
+fn too_long(alloc: Global) -> Result<String, AllocError> {
+    format!(in alloc; "here the text has {MAX_BYTES} bytes, the most there may be, and it goes on")
 }
 
 /// What a fault of a text means, where it stands, and what could stand there.
@@ -213,28 +241,22 @@ pub fn text_words(alloc: Global, text: &[u8], fault: TextFault) -> Result<String
         }
         TextFault::UnexpectedToken { place } => unexpected(alloc, text, place),
         TextFault::UnexpectedEnd { place } => too_early(alloc, text, place),
-        TextFault::NumberOutOfRange { place } => point_at(
-            alloc,
-            text,
-            place,
-            "a number above 9223372036854775807, the greatest there is (`greatest`)",
-        ),
-        TextFault::NameTooLong { place } => point_at(
-            alloc,
-            text,
-            place,
-            "a name of more than 32 characters, the most a name may have",
-        ),
+        TextFault::NumberOutOfRange { place } => {
+            let sentence = out_of_range(alloc)?;
+            point_at(alloc, text, place, &sentence)
+        }
+        TextFault::NameTooLong { place } => {
+            let sentence = name_too_long(alloc)?;
+            point_at(alloc, text, place, &sentence)
+        }
         TextFault::TooDeep { place } => {
             let sentence = too_deep(alloc, text, place)?;
             point_at(alloc, text, place, &sentence)
         }
-        TextFault::TooLong { place } => point_at(
-            alloc,
-            text,
-            place,
-            "here the text has 1048576 bytes, the most there may be, and it goes on",
-        ),
+        TextFault::TooLong { place } => {
+            let sentence = too_long(alloc)?;
+            point_at(alloc, text, place, &sentence)
+        }
         TextFault::Memory => format!(in alloc; "memory ran out"),
     }
 }

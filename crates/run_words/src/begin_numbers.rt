@@ -2,9 +2,10 @@
 
 use crate::event_lines::EventLines;
 use history_book::{BeginFault, Book};
+use prog_check::MAX_PARAMETERS;
 use std::alloc::{AllocError, Global};
 
-const ZEROS: [i64; 8] = [0; 8];
+const ZEROS: [i64; MAX_PARAMETERS] = [0; MAX_PARAMETERS];
 
 /// From which number to which instances can begin, and the line of the vacuum since which this is so; none where no
 /// vacuum gave a number up.
@@ -55,21 +56,16 @@ impl Vacuums {
     }
 
     /// At which numbers instances can begin in a book, behind the last vacuum.
-    pub fn numbers(
-        &mut self,
-        alloc: Global,
-        part: &[u8],
-        book: &Book<'_>,
-    ) -> Result<Numbers, AllocError> {
+    pub fn numbers(&mut self, part: &[u8], book: &Book<'_>) -> Numbers {
         let vacuum = match self.last {
-            Some(event) => Some(self.lines.line_of(alloc, part, event)?),
+            Some(event) => Some(self.lines.line_of(part, event)),
             None => None,
         };
-        Ok(Numbers {
+        Numbers {
             floor: self.floor,
             commits: book.commits(),
             vacuum,
-        })
+        }
     }
 }
 

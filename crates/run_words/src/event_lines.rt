@@ -1,40 +1,50 @@
 //! The lines on which the events of a script stand.
+ghost use Rattle.std.specs.Prelude.{◌<◌, length};
 
-use crate::line_reading::words_of;
-use std::alloc::{AllocError, Global};
-use text_places::line_at;
+use text_places::{as_text, behind};
 
 /// How far a script was read to find the line of an event.
 #[derive(Clone, Copy)]
 pub struct EventLines {
+    // Where the first line begins that was not read.
     place: usize,
     line: usize,
     // How many events stand on the lines so far.
     events: usize,
 }
 
-// How many events a line of a script is.
-fn event_count(alloc: Global, line: &[u8]) -> Result<usize, AllocError> {
-    let words = words_of(alloc, line)?;
-    match words.as_slice() {
-        ["step", _, times] => Ok(times.parse::<usize>().unwrap_or(1)),
-        [
-            "begin" | "begin-at" | "step" | "commit" | "abort" | "vacuum",
-            ..
-        ] => Ok(1),
-        _ => Ok(0),
+// The bytes before the first separator, and those behind it.
+fn cut(bytes: &[u8], separator: u8) -> (&[u8], &[u8])
+    ensures shorter { 0 < length bytes.now → length result.1.now < length bytes.now }
+{
+    let len = bytes.iter().take_while(|byte| **byte != separator).count();
+    let (first, behind) = bytes.split_at(len);
+    match behind {
+        [] => (first, behind),
+        [_, rest @ ..] => (first, rest),
     }
 }
 
-fn begins_line(part: &[u8], place: usize) -> bool {
-    !matches!(part.get(..place), Some([.., last]) if *last != b'\n')
+// The first word of a line, and what stands behind it.
+fn cut_word(line: &[u8]) -> (&str, &[u8]) {
+    let (word, rest) = cut(line.trim_ascii(), b' ');
+    (as_text(word), rest)
 }
 
-// The line of a place, without what ends it.
-fn whole_line(part: &[u8], place: usize) -> &[u8] {
-    match line_at(part, place) {
-        [rest @ .., b'\r'] => rest,
-        bytes => bytes,
+// How many steps are done by a line with this behind its `step`.
+fn step_count(words: &[u8]) -> usize {
+    let (_instance, rest) = cut_word(words);
+    let (times, _) = cut_word(rest);
+    times.parse::<usize>().unwrap_or(1)
+}
+
+// How many events a line of a script is.
+fn event_count(line: &[u8]) -> usize {
+    let (word, rest) = cut_word(line);
+    match word {
+        "step" => step_count(rest),
+        "begin" | "begin-at" | "commit" | "abort" | "vacuum" => 1,
+        _ => 0,
     }
 }
 
@@ -49,23 +59,15 @@ impl EventLines {
     }
 
     /// The line of an event, which is numbered from 0, and no earlier one than that asked for last.
-    pub fn line_of(
-        &mut self,
-        alloc: Global,
-        part: &[u8],
-        event: usize,
-    ) -> Result<usize, AllocError> {
-        for place in self.place..part.len() {
-            if event < self.events {
-                return Ok(self.line);
-            }
-            if begins_line(part, place) {
-                let count = event_count(alloc, whole_line(part, place))?;
-                self.line = self.line.saturating_add(1);
-                self.events = self.events.saturating_add(count);
-            }
-            self.place = place + 1;
+    pub fn line_of(&mut self, part: &[u8], event: usize) -> usize {
+        let mut rest = behind(part, self.place);
+        while event >= self.events && !rest.is_empty() {
+            let (line, after) = cut(rest, b'\n');
+            self.line = self.line.saturating_add(1);
+            self.events = self.events.saturating_add(event_count(line));
+            rest = after;
         }
-        Ok(self.line)
+        self.place = part.len().saturating_sub(rest.len());
+        self.line
     }
 }

@@ -1,6 +1,7 @@
 //! The forms that lines have.
 
-use si_engine::unsigned;
+use si_engine::{MAX_STEPS, unsigned};
+use std::alloc::{AllocError, Global};
 
 /// What the lines of a part are.
 #[derive(Clone, Copy, Debug, PartialEq, Eq)]
@@ -31,20 +32,35 @@ pub fn command_of(first: &str) -> Option<&'static str> {
     }
 }
 
-/// What stands in a line that begins with a word.
-pub fn form_of(first: &str) -> &'static str {
+// The same of a line in which no number has a limit of its own.
+fn plain_form(first: &str) -> &'static str {
     match first {
         "row" => "`row TABLE KEY = VALUE`, or `row TABLE KEY KEY = VALUE`",
         "begin" => "`begin PROGRAM`, with a number for each parameter behind it",
         "begin-at" => {
             "`begin-at START PROGRAM`, with a number for each parameter behind it; START is a number of commits"
         }
-        "step" => "`step INSTANCE`, or `step INSTANCE TIMES` with 1 to 1000 times",
         "commit" => "`commit INSTANCE`",
         "abort" => "`abort INSTANCE`",
         "vacuum" => "`vacuum`, alone",
-        "job" => "`job RETRIES PROGRAM ARGUMENTS` with 0 to 4294967295 retries",
         _ => "`record PROGRAM ARGUMENTS at START gives REPLIES`",
+    }
+}
+
+/// What stands in a line that begins with a word.
+pub fn form_of(alloc: Global, first: &str) -> Result<String, AllocError> {
+    match first {
+        "step" => format!(in alloc;
+            "`step INSTANCE`, or `step INSTANCE TIMES` with 1 to {MAX_STEPS} times"
+        ),
+        "job" => {
+            let most = u32::MAX;
+            format!(in alloc; "`job RETRIES PROGRAM ARGUMENTS` with 0 to {most} retries")
+        }
+        _ => {
+            let form = plain_form(first);
+            format!(in alloc; "{form}")
+        }
     }
 }
 

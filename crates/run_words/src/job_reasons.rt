@@ -1,7 +1,7 @@
 //! Why a job did not commit, in words.
 
 use crate::record_faults::cause_text;
-use crate::refusals::{FULL, wrong_arguments};
+use crate::refusals::{full_words, wrong_arguments};
 use fault_words::{cell_text, program_name};
 use history_book::BeginFault;
 use prog_check::ProgramSet;
@@ -11,7 +11,7 @@ use std::alloc::{AllocError, Global};
 use text_places::push_listed;
 use version_store::Clash;
 
-// So many arguments are shown; a program has at most 8.
+// So many arguments are shown, more than any program has.
 const MAX_SHOWN: usize = 12;
 
 // The parameters of a program; one that is not there has none.
@@ -64,7 +64,7 @@ fn begin_reason(
         BeginFault::TooOld { .. } | BeginFault::TooNew { .. } => format!(in alloc;
             "no instance can begin at its number of commits"
         ),
-        BeginFault::Full => format!(in alloc; "{FULL}"),
+        BeginFault::Full => full_words(alloc),
         BeginFault::Memory => format!(in alloc; "memory ran out"),
     }
 }

@@ -9,7 +9,7 @@ use crate::line_reading::{line_of, shown, words_of};
 use fault_words::{known_names, table_names};
 use prog_check::ProgramSet;
 use prog_tree::Draft;
-use si_engine::LineFault;
+use si_engine::{LineFault, MAX_EVENTS};
 use std::alloc::{AllocError, Global};
 use text_places::line_front;
 
@@ -46,7 +46,7 @@ fn bad_line(
     if !(&*begins).contains(&first) {
         return other_beginning(alloc, kind, first);
     }
-    let form = form_of(first);
+    let form = form_of(alloc, first)?;
     match no_number(words) {
         Some(word) => {
             let word = shown(word);
@@ -113,7 +113,7 @@ fn sentence(
         LineFault::LateRow { .. } => late_row(alloc, kind),
         LineFault::RepeatedRow { .. } => format!(in alloc; "an earlier row is of this cell too"),
         LineFault::TooManyEvents { .. } => format!(in alloc;
-            "with this line the script has more than 1000000 events, the most it may have"
+            "with this line the script has more than {MAX_EVENTS} events, the most it may have"
         ),
         LineFault::Memory => format!(in alloc; "memory ran out"),
     }

@@ -4,8 +4,8 @@ ghost use Rattle.run_words.specs.PartPointing.{record_of_fault, HasNoRecordOf, P
 
 use crate::in_input::{input_line_text, point_in_part};
 use crate::replay::ending;
-use fault_words::{cell_text, parameter_count, program_name};
-use history_book::{AuditFault, HistoryRow, RowFault};
+use fault_words::{cell_text, ordinal, parameter_count, program_name};
+use history_book::{AuditFault, HistoryRow, MAX_ENDINGS, RowFault};
 use prog_check::ProgramSet;
 use prog_tree::{Cause, Sequence};
 use si_engine::{Bytes, Records, Reply, read_records};
@@ -153,6 +153,12 @@ fn row_sentence(
     }
 }
 
+// That a record is the first above their limit.
+fn too_many_records(alloc: Global) -> Result<String, AllocError> {
+    let number = ordinal(alloc, MAX_ENDINGS + 1)?;
+    format!(in alloc; "this is the {number} record, and there may be at most {MAX_ENDINGS}")
+}
+
 fn sentence(
     alloc: Global,
     set: &ProgramSet,
@@ -160,9 +166,7 @@ fn sentence(
     fault: AuditFault,
 ) -> Result<String, AllocError> {
     match fault {
-        AuditFault::Full => format!(in alloc;
-            "this is the 100001st record, and there may be at most 100000"
-        ),
+        AuditFault::Full => too_many_records(alloc),
         AuditFault::Row { number, fault } => row_sentence(alloc, set, listed, number, fault),
         AuditFault::Memory => format!(in alloc; "memory ran out"),
     }
@@ -173,7 +177,7 @@ fn record_of_fault(fault: AuditFault) -> Option<usize>
     ensures { result ≡ record_of_fault fault }
 {
     match fault {
-        AuditFault::Full => Some(100_000),
+        AuditFault::Full => Some(MAX_ENDINGS),
         AuditFault::Row { number, .. } => Some(number),
         AuditFault::Memory => None,
     }

@@ -7,14 +7,11 @@ use crate::event_lines::EventLines;
 use crate::in_input::point_in_part;
 use crate::record_faults::counted;
 use fault_words::{parameter_count, program_name};
-use history_book::Book;
+use history_book::{Book, MAX_ENDINGS};
 use prog_check::ProgramSet;
 use si_engine::{Event, Reply};
 use std::alloc::{AllocError, Global};
 use text_places::{line_front, push_listed};
-
-/// Why no instance begins where there are as many as there may be.
-pub const FULL: &str = "100000 instances have ended or are under way, the most";
 
 // So many lines are told.
 const MAX_TOLD: usize = 8;
@@ -42,7 +39,6 @@ struct Refused {
 /// more there are.
 #[derive(Drop)]
 pub struct Refusals {
-    alloc: Global,
     // How many events were looked at.
     events: usize,
     lines: EventLines,
@@ -100,7 +96,6 @@ impl Refusals {
     /// Of no event yet.
     pub fn new(alloc: Global) -> Self {
         Refusals {
-            alloc,
             events: 0,
             lines: EventLines::new(),
             vacuums: Vacuums::new(),
@@ -144,7 +139,7 @@ impl Refusals {
         number: usize,
         refusal: Refusal,
     ) -> Result<(), AllocError> {
-        let line = self.lines.line_of(self.alloc, part, number)?;
+        let line = self.lines.line_of(part, number);
         self.add(line, refusal)?;
         Ok(())
     }
@@ -159,7 +154,7 @@ impl Refusals {
         book: &Book<'_>,
     ) -> Result<(), AllocError> {
         if let Some(start) = refused_start(event, reply) {
-            let numbers = self.vacuums.numbers(self.alloc, part, book)?;
+            let numbers = self.vacuums.numbers(part, book);
             return self.add_event(part, number, Refusal::OtherNumber { start, numbers });
         }
         match refusal_of(event, reply) {
@@ -213,6 +208,11 @@ pub fn wrong_arguments(
     format!(in alloc; "`{signature}` takes {wanted}, and here it is given {given}")
 }
 
+/// Why no instance begins where there are as many as there may be.
+pub fn full_words(alloc: Global) -> Result<String, AllocError> {
+    format!(in alloc; "{MAX_ENDINGS} instances have ended or are under way, the most")
+}
+
 // Why a line does nothing.
 fn sentence(alloc: Global, set: &ProgramSet, refusal: Refusal) -> Result<String, AllocError> {
     match refusal {
@@ -221,7 +221,10 @@ fn sentence(alloc: Global, set: &ProgramSet, refusal: Refusal) -> Result<String,
             format!(in alloc; "{words}; no instance begins")
         }
         Refusal::OtherNumber { start, numbers } => number_words(alloc, start, numbers),
-        Refusal::Full => format!(in alloc; "{FULL}; no instance begins"),
+        Refusal::Full => {
+            let words = full_words(alloc)?;
+            format!(in alloc; "{words}; no instance begins")
+        }
         Refusal::NoInstance(instance) => format!(in alloc; "no instance {instance} has begun"),
         Refusal::NotReady(instance) => format!(in alloc;
             "instance {instance} has more steps to do before it can commit"

@@ -4,20 +4,21 @@ use crate::sentences::kept_input::{second_part, set_of, set_text};
 use analysis_words::{certificate_words, refusal_words, robust_words};
 use dep_graph::Danger;
 use prog_check::ProgramSet;
-use prog_paths::paths;
+use prog_paths::{MAX_QUESTIONS, paths};
 use prog_tree::Sequence;
 use robust_cert::{CertFault, Certificate};
 use si_repair::{AnalyseFault, Plan, plan};
 use std::alloc::{AllocError, Global};
 
 /// Why a set is not analysed.
-pub fn analysis_sentence(fault: AnalyseFault) -> Option<&'static str> {
-    match fault {
-        AnalyseFault::TooLarge => Some(
-            "more than 1000000 pairs of accesses would have to be compared: fewer programs, or fewer ways through them\n",
-        ),
-        AnalyseFault::Memory => None,
-    }
+pub fn analysis_sentence(alloc: Global, fault: AnalyseFault) -> Result<Option<String>, AllocError> {
+    let words = match fault {
+        AnalyseFault::TooLarge => format!(in alloc;
+            "more than {MAX_QUESTIONS} pairs of accesses would have to be compared: fewer programs, or fewer ways through them\n"
+        )?,
+        AnalyseFault::Memory => return Ok(None),
+    };
+    Ok(Some(words))
 }
 
 /// Why the certificate in the second part of an input is not accepted.

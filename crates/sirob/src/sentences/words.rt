@@ -16,7 +16,7 @@ use analysis_words::json_words;
 use fault_words::{check_words, text_words};
 use history_book::AuditFault;
 use run_words::{PartKind, extra_part_words, line_fault_words, missing_part_words, record_words};
-use si_engine::{InputFault, LineFault, ScriptFault};
+use si_engine::{InputFault, LineFault, MAX_BYTES, ScriptFault};
 use si_repair::Finding;
 use std::alloc::{AllocError, Global};
 
@@ -48,12 +48,17 @@ fn kind_of(mode: Mode) -> PartKind {
     }
 }
 
-fn input_sentence(fault: InputFault) -> Option<&'static str> {
-    match fault {
-        InputFault::TooLong => Some("the input has more than 16777216 bytes, the most\n"),
-        InputFault::ReadFault => Some("the standard input could not be read to its end\n"),
-        InputFault::Memory => None,
-    }
+fn input_sentence(alloc: Global, fault: InputFault) -> Result<Option<String>, AllocError> {
+    let words = match fault {
+        InputFault::TooLong => {
+            format!(in alloc; "the input has more than {MAX_BYTES} bytes, the most\n")?
+        }
+        InputFault::ReadFault => {
+            format!(in alloc; "the standard input could not be read to its end\n")?
+        }
+        InputFault::Memory => return Ok(None),
+    };
+    Ok(Some(words))
 }
 
 // A sentence that points nowhere.
@@ -104,7 +109,7 @@ fn script_sentence(
     fault: ScriptFault,
 ) -> Result<Option<String>, AllocError> {
     match fault {
-        ScriptFault::Input(fault) => plain(alloc, input_sentence(fault)),
+        ScriptFault::Input(fault) => input_sentence(alloc, fault),
         ScriptFault::Line(fault) => line_sentence(alloc, mode, input, fault),
         ScriptFault::WriteFault => Ok(None),
     }
@@ -140,9 +145,9 @@ fn words_of(
             Ok(Some(words))
         }
         CommandFault::Check(fault) => check_words(alloc, set_text(input), fault),
-        CommandFault::Input(fault) => plain(alloc, input_sentence(fault)),
+        CommandFault::Input(fault) => input_sentence(alloc, fault),
         CommandFault::Parts(fault) => part_sentence(alloc, mode, input, fault),
-        CommandFault::Analysis(fault) => plain(alloc, analysis_sentence(fault)),
+        CommandFault::Analysis(fault) => analysis_sentence(alloc, fault),
         CommandFault::Repair(fault) => repair_fault_sentence(alloc, input, fault),
         CommandFault::Script(fault) => script_sentence(alloc, mode, input, fault),
         CommandFault::Audit(fault) => record_sentence(alloc, input, fault),

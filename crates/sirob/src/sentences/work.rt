@@ -4,7 +4,7 @@ use crate::sentences::kept_input::{ahead_of_second, second_part, set_of};
 use crate::worker_fault::WorkerFault;
 use run_words::{Told, lost_job_words};
 use si_engine::Bytes;
-use si_workers::{JobEnd, JobOutcome, read_jobs};
+use si_workers::{JobEnd, JobOutcome, MAX_JOBS, MAX_WORKERS, read_jobs};
 use std::alloc::{AllocError, Global};
 
 fn has_committed(outcome: &JobOutcome) -> bool {
@@ -42,11 +42,13 @@ pub fn work_sentence(alloc: Global, fault: WorkerFault) -> Result<Option<String>
     let words = match fault {
         WorkerFault::Workers => {
             format!(in alloc;
-                "0 and more than 8 workers are refused: `--workers` takes a number from 1 to 8\n"
+                "0 and more than {MAX_WORKERS} workers are refused: `--workers` takes a number from 1 to {MAX_WORKERS}\n"
             )?
         }
         WorkerFault::TooManyJobs => {
-            format!(in alloc; "more than 100000 jobs are refused: hand them in as several lists\n")?
+            format!(in alloc;
+                "more than {MAX_JOBS} jobs are refused: hand them in as several lists\n"
+            )?
         }
         WorkerFault::NoThread { started: 0 } => {
             format!(in alloc;
