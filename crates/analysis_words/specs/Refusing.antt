@@ -5,7 +5,7 @@ use Rattle.text_places.specs.Quotes.{pointed_out}
 use Rattle.prog_tree.specs.Syntax.{DraftTree}
 use Rattle.prog_check.specs.declared.path.Access.{Access}
 use Rattle.prog_check.specs.declared.path.Path.{Path}
-use Rattle.prog_paths.specs.declared.places.Question.{Question}
+use Rattle.prog_paths.specs.declared.accesses.places.Question.{Question}
 use Rattle.dep_graph.specs.declared.danger.Danger.{Danger}
 use Rattle.dep_graph.specs.declared.danger.Exposure.{Exposure}
 use Rattle.analysis_words.specs.Edges.{change_text, look_text, twin_change_text, twin_look_text, IsRepeated}

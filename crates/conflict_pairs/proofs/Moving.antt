@@ -9,8 +9,8 @@ use Rattle.prog_check.specs.declared.path.Kind.TheVariants.{Writes}
 use Rattle.prog_check.specs.declared.path.Access.{Access}
 use Rattle.prog_check.specs.declared.path.Path.{Path}
 use Rattle.prog_paths.specs.StaticGraph.{Question, IsAccessOf, IsCovered}
-use Rattle.prog_paths.specs.declared.places.Placed.{Placed}
-use Rattle.prog_paths.specs.declared.places.Question.{Question as Asked}
+use Rattle.prog_paths.specs.declared.accesses.places.Placed.{Placed}
+use Rattle.prog_paths.specs.declared.accesses.places.Question.{Question as Asked}
 use Rattle.conflict_pairs.specs.declared.verdicts.Verdict.{Verdict}
 use Rattle.conflict_pairs.specs.declared.verdicts.Verdict.TheVariants.{Apart, Covered, Exposed}
 use Rattle.prog_paths.specs.Asked.{Asks, IsQuestion, ChangesSingleCells, two, between, asks, kinds_depend, both_write, is_in_order, numbers_of}

@@ -4,7 +4,7 @@ use Rattle.std.specs.Prelude.{All}
 use Rattle.std.specs.List.{AllZip, flat_map}
 use Rattle.std.proofs.lemmas.List.Elements.{All-nil, All-cons, All-take, All-drop}
 use Rattle.prog_check.specs.declared.path.Path.{Path}
-use Rattle.prog_paths.specs.declared.places.Question.{Question as Asked}
+use Rattle.prog_paths.specs.declared.accesses.places.Question.{Question as Asked}
 use Rattle.rayon.specs.Lists.{chunks_of, chunks_from}
 use Rattle.rayon.proofs.ToStd.{chunks_of-concat}
 use Rattle.conflict_pairs.specs.declared.verdicts.Verdict.{Verdict}

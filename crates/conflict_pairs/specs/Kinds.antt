@@ -1,7 +1,7 @@
 -- Kinds of accesses: those that are alike, at nodes with the same covers, may have one number.
 use Rattle.std.specs.Prelude.{◌≡◌, ℕ, ◌+◌, ◌<◌, List, [], ◌∷◌, length, Some, slice_get, get_or}
 use Rattle.prog_check.specs.declared.path.Path.{Path}
-use Rattle.prog_paths.specs.declared.places.Placed.{Placed}
+use Rattle.prog_paths.specs.declared.accesses.places.Placed.{Placed}
 use Rattle.conflict_pairs.specs.Alike.{AreAlike, HasAccess, IsLikeAt}
 
 -- ---- kinds, made of the classes of nodes

@@ -1,6 +1,6 @@
 //! Kinds of accesses: what is said of one is said of each other of its kind.
 ghost use Rattle.std.specs.Prelude.{◌≡◌, ◌<◌, ◌^◌, ℕ, Some, slice_get, length, IsTrue, All, IfOk, OnOk};
-ghost use Rattle.prog_paths.specs.declared.places.Placed.{Placed as Place};
+ghost use Rattle.prog_paths.specs.declared.accesses.places.Placed.{Placed as Place};
 ghost use Rattle.prog_paths.specs.Asked.{all_from};
 ghost use Rattle.conflict_pairs.specs.Alike.{HasAccess, IsAsked, IsLikeAt, IsLike};
 ghost use Rattle.conflict_pairs.specs.Kinds.{HasClass, AreOneKind, IsOfKind, AreNumbered, starts_from, kind_at, HasKind};

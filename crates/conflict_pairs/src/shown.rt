@@ -1,6 +1,6 @@
 //! Which questions are judged: one for all that are like it, as far as that is remembered.
 ghost use Rattle.std.specs.Prelude.{◌≡◌, ℕ, ◌<◌, Some, slice_get, IsTrue, All, IfOk, OnOk};
-ghost use Rattle.prog_paths.specs.declared.places.Question.{Question as Asked};
+ghost use Rattle.prog_paths.specs.declared.accesses.places.Question.{Question as Asked};
 ghost use Rattle.conflict_pairs.specs.Alike.{IsAsked, StandsIn, AreShown};
 
 use crate::kinds::Kinds;

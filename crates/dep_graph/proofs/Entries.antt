@@ -2,9 +2,9 @@
 use Rattle.std.proofs.Common.{◌≡◌, ℕ, zero, suc, List, [], ◌∷◌, map, length, ◌<◌, Some, Bool, refl, ◌∙◌, arith}
 use Rattle.std.specs.Prelude.{slice_get}
 use Rattle.conflict_pairs.specs.declared.table.Entry.{Entry}
-use Rattle.prog_paths.specs.declared.places.Question.{Question}
+use Rattle.prog_paths.specs.declared.accesses.places.Question.{Question}
 use Rattle.conflict_pairs.specs.declared.verdicts.Verdict.{Verdict}
-use Rattle.prog_paths.specs.declared.mark.Mark.{Mark}
+use Rattle.prog_paths.specs.declared.accesses.mark.Mark.{Mark}
 use Rattle.dep_graph.specs.Marks.{mark_at}
 use Rattle.prog_paths.specs.Marks.{mark_by}
 use Rattle.dep_graph.specs.Marking.{can_meet, is_exposed, mark_of}

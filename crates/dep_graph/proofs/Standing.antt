@@ -10,8 +10,8 @@ use Rattle.prog_check.specs.declared.path.Access.{Access}
 use Rattle.prog_check.specs.declared.path.Path.{Path}
 use Rattle.prog_paths.specs.Meeting.{CanMeet}
 use Rattle.prog_paths.specs.StaticGraph.{Question, AsksOf, AsksReadWrite, StaticEdge, IsExposed, IsVulnerable}
-use Rattle.prog_paths.specs.declared.places.Question.{Question as Asked}
-use Rattle.prog_paths.specs.declared.mark.Mark.{Mark}
+use Rattle.prog_paths.specs.declared.accesses.places.Question.{Question as Asked}
+use Rattle.prog_paths.specs.declared.accesses.mark.Mark.{Mark}
 use Rattle.prog_paths.specs.Asked.{numbers_of, questions_of}
 use Rattle.prog_paths.specs.Listing.{IsAskedOf, IsBefore}
 use Rattle.prog_paths.specs.Marks.{mark_by, gives_edge, gives_vulnerable}

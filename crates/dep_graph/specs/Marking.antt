@@ -3,7 +3,7 @@ use Rattle.std.specs.Prelude.{map, Bool, true, false}
 use Rattle.conflict_pairs.specs.declared.verdicts.Verdict.{Verdict}
 use Rattle.conflict_pairs.specs.declared.verdicts.Verdict.TheVariants.{Apart, Covered, Exposed}
 use Rattle.conflict_pairs.specs.declared.table.Entry.{Entry}
-use Rattle.prog_paths.specs.declared.mark.Mark.{Mark}
+use Rattle.prog_paths.specs.declared.accesses.mark.Mark.{Mark}
 use Rattle.prog_paths.specs.Marks.{mark_by}
 use Rattle.conflict_pairs.specs.Table.{Table}
 use Rattle.dep_graph.specs.Marks.{Marks}

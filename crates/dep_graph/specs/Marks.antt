@@ -1,7 +1,7 @@
 -- What a table's questions with their verdicts make of the graph.
 use Rattle.std.specs.Prelude.{◌≡◌, ℕ, List, length, ◌<◌, ◌≤◌, Bool, true, false, slice_index_or}
 use Rattle.std.specs.List.{list_any}
-use Rattle.prog_paths.specs.declared.mark.Mark.{Mark}
+use Rattle.prog_paths.specs.declared.accesses.mark.Mark.{Mark}
 use Rattle.prog_paths.specs.Marks.{gives_edge, gives_vulnerable}
 
 -- how many nodes there are, and what each question gives

@@ -13,7 +13,7 @@ use Rattle.prog_tree.proofs.TreeLemmas.{loop_tree}
 use Rattle.prog_check.specs.Accesses.{columns_of, next_unknown, accesses_of}
 use Rattle.prog_check.specs.Paths.{Passed, no_steps, passing, body_passed, routes, statement_count, accesses_along}
 use Rattle.prog_check.specs.Uses.{is_abort, as_count}
-use Rattle.prog_paths.specs.declared.trail.Trail.{Trail}
+use Rattle.prog_paths.specs.declared.path.trail.Trail.{Trail}
 use Rattle.prog_paths.specs.Trails.{alone, passes, unknown_behind, trail_of, past, past_body, along, IsLow}
 use Rattle.prog_paths.proofs.Walking.{unknown_append, accesses_append, statement_low, behind_low, body_short}
 

@@ -9,8 +9,8 @@ use Rattle.prog_check.specs.declared.path.Kind.TheVariants.{Reads, Sees, Lacks, 
 use Rattle.prog_check.specs.declared.path.Access.{Access}
 use Rattle.prog_check.specs.declared.path.Path.{Path}
 use Rattle.prog_paths.specs.StaticGraph.{Question, IsInOrder}
-use Rattle.prog_paths.specs.declared.places.Placed.{Placed}
-use Rattle.prog_paths.specs.declared.places.Question.{Question as Asked}
+use Rattle.prog_paths.specs.declared.accesses.places.Placed.{Placed}
+use Rattle.prog_paths.specs.declared.accesses.places.Question.{Question as Asked}
 use Rattle.prog_paths.specs.Asked.{Asks, asks, kinds_depend, both_write, is_in_order, question_between, placed_from, all_from, asked_by, asked_among, questions_of}
 use Rattle.prog_paths.specs.Asked.{numbers_of}
 use Rattle.prog_paths.specs.Places.{IsAt}

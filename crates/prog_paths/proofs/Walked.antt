@@ -7,8 +7,8 @@ use Rattle.std.proofs.lemmas.List.{append-nil, take_more, length-take-le}
 use Rattle.std.proofs.lemmas.List.Elements.{All-nil, All-cons, All-head, All-tail, All-append, All-weaker, All-more}
 use Rattle.prog_check.specs.declared.path.Access.{Access}
 use Rattle.prog_check.specs.declared.path.Path.{Path}
-use Rattle.prog_paths.specs.declared.places.Placed.{Placed}
-use Rattle.prog_paths.specs.declared.tally.Tally.{Tally}
+use Rattle.prog_paths.specs.declared.accesses.places.Placed.{Placed}
+use Rattle.prog_paths.specs.declared.accesses.tally.Tally.{Tally}
 use Rattle.prog_paths.specs.Asked.{placed_from, all_from, asked_by, asked_among, limit}
 use Rattle.prog_paths.specs.Tally.{IsTally, of_table, is_behind, is_before, Rises}
 use Rattle.prog_paths.proofs.Asked.{placed}

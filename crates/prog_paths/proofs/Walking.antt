@@ -16,7 +16,7 @@ use Rattle.prog_tree.specs.declared.stmt.Stmt.{Stmt}
 use Rattle.prog_tree.specs.declared.stmt.Stmt as t
 use Rattle.prog_tree.specs.Tree.{stmt_tree, block_tree}
 use Rattle.prog_tree.proofs.TreeLemmas.{fork_tree}
-use Rattle.prog_paths.specs.declared.trail.Trail.{Trail}
+use Rattle.prog_paths.specs.declared.path.trail.Trail.{Trail}
 use Rattle.prog_paths.specs.Trails.{alone, commits, unknown_behind, trail_of, choosing_first, along, all_along, IsLow, AreLow}
 
 -- ---- statements and blocks

@@ -6,8 +6,8 @@ use Rattle.prog_check.specs.declared.path.Access.{Access}
 use Rattle.prog_check.specs.declared.path.Path.{Path}
 use Rattle.prog_paths.specs.Meeting.{MayTouch, IsSingle}
 use Rattle.prog_paths.specs.StaticGraph.{Question, AsksOf, AsksReadWrite, AsksWriteRead, AsksWriteWrite}
-use Rattle.prog_paths.specs.declared.places.Placed.{Placed}
-use Rattle.prog_paths.specs.declared.places.Question.{Question as Asked}
+use Rattle.prog_paths.specs.declared.accesses.places.Placed.{Placed}
+use Rattle.prog_paths.specs.declared.accesses.places.Question.{Question as Asked}
 
 -- what the kinds of two accesses ask: whether instances can have some dependency by them
 abbrev pub Asks : Question → Kind → Kind → Type 0

@@ -2,7 +2,7 @@
 use Rattle.std.specs.Prelude.{ℕ, Bool, List, [], ◌∷◌, Option, Some, None}
 use Rattle.prog_check.specs.declared.path.Kind.{Kind}
 use Rattle.prog_check.specs.declared.path.Access.{Access}
-use Rattle.prog_paths.specs.declared.columns.Columns.{Columns}
+use Rattle.prog_paths.specs.declared.path.columns.Columns.{Columns}
 
 -- one, or none
 abbrev pub items_of : {A : Type 0} → Option A → List A

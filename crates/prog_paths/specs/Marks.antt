@@ -1,7 +1,7 @@
 -- What a question gives: an edge from its first node to its second, one back, a vulnerable one.
 use Rattle.std.specs.Prelude.{ℕ, Bool, ◌||◌, ◌&&◌, ◌==◌}
-use Rattle.prog_paths.specs.declared.places.Question.{Question as Asked}
-use Rattle.prog_paths.specs.declared.mark.Mark.{Mark}
+use Rattle.prog_paths.specs.declared.accesses.places.Question.{Question as Asked}
+use Rattle.prog_paths.specs.declared.accesses.mark.Mark.{Mark}
 use Rattle.prog_paths.specs.Asked.{asks_read_write, asks_write_read, both_write}
 
 -- what a question gives, by whether its accesses may meet and whether it counts as exposed

@@ -3,8 +3,8 @@ use Rattle.std.specs.Prelude.{◌≡◌, ℕ, ◌<◌, ⊤, ◌+◌, List, Optio
 use Rattle.std.specs.List.{filter, count_by}
 use Rattle.prog_check.specs.declared.path.Kind.{Kind}
 use Rattle.prog_check.specs.declared.path.Kind.TheVariants.{Reads, Sees, Lacks, Writes, Adds}
-use Rattle.prog_paths.specs.declared.places.Placed.{Placed}
-use Rattle.prog_paths.specs.declared.tally.Tally.{Tally}
+use Rattle.prog_paths.specs.declared.accesses.places.Placed.{Placed}
+use Rattle.prog_paths.specs.declared.accesses.tally.Tally.{Tally}
 use Rattle.prog_paths.specs.Asked.{is_in_order, asked_among, limit}
 
 abbrev pub is_read : Kind → Bool

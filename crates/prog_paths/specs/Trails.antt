@@ -9,7 +9,7 @@ use Rattle.prog_check.specs.declared.path.Path.{Path}
 use Rattle.prog_check.specs.Accesses.{Columns, columns_of, next_unknown, accesses_of, kinds_of}
 use Rattle.prog_check.specs.Paths.{Passed, Route, body_passed, accesses_along}
 use Rattle.prog_check.specs.Uses.{is_abort, as_count}
-use Rattle.prog_paths.specs.declared.trail.Trail.{Trail}
+use Rattle.prog_paths.specs.declared.path.trail.Trail.{Trail}
 
 -- ---- statements
 

@@ -2,30 +2,20 @@
 //! run that ends Ready follows one path, and that facts are met just where accesses meet.
 #![tactic(auto)]
 
-mod asking;
-mod changers;
-mod columns;
-mod count;
-mod kinds;
+mod accesses;
 mod laws;
 mod limits;
-mod listing;
-mod mark;
-mod places;
-mod question;
-mod tally;
-mod trail;
-mod walk;
+mod path;
 
-pub use asking::{asks_read_write, asks_write_read, both_write, may_cover, may_touch};
-pub use changers::Changers;
-pub use count::is_too_large;
+pub use accesses::asking::{asks_read_write, asks_write_read, both_write, may_cover, may_touch};
+pub use accesses::changers::Changers;
+pub use accesses::count::is_too_large;
+pub use accesses::mark::{Mark, enter_edges, enter_vulnerable, mark_by};
+pub use accesses::places::{Placed, Question, all_places, asks, question_between};
+pub use accesses::question::{column_or_zero, mine_node, question_facts, second_terms, their_node};
 pub use laws::{
     law_of_listing, law_of_own_unknowns, law_of_paths, law_of_questions, law_of_single_changes,
 };
 pub use limits::MAX_QUESTIONS;
-pub use listing::paths;
-pub use mark::{Mark, enter_edges, enter_vulnerable, mark_by};
-pub use places::{Placed, Question, all_places, asks, question_between};
+pub use path::listing::paths;
 pub use prog_check::{Access, Accesses, Choices, Column, Kind, Path, Term};
-pub use question::{column_or_zero, mine_node, question_facts, second_terms, their_node};

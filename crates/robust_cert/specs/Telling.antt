@@ -1,7 +1,7 @@
 -- What the entries tell of a question, and what that leaves.
 use Rattle.std.specs.Prelude.{◌≡◌, ℕ, ◌<◌, List, [], ◌∷◌, Bool, true, false, ◌&&◌, ◌==◌, if◌then◌else◌, Some, slice_get}
 use Rattle.prog_paths.specs.StaticGraph.{Question}
-use Rattle.prog_paths.specs.declared.places.Question.{Question as Asked}
+use Rattle.prog_paths.specs.declared.accesses.places.Question.{Question as Asked}
 use Rattle.prog_paths.specs.Asked.{numbers_of}
 use Rattle.prog_paths.specs.Listing.{IsBefore}
 use Rattle.prog_paths.specs.Marks.{mark_by}
@@ -10,7 +10,7 @@ use Rattle.robust_cert.specs.declared.certificate.Entry.TheVariants.{Apart, Cove
 use Rattle.robust_cert.specs.declared.checking.numbers.Numbers.{Numbers}
 use Rattle.robust_cert.specs.declared.checking.telling.Telling.{Telling}
 use Rattle.robust_cert.specs.declared.checking.telling.Telling as telling
-use Rattle.prog_paths.specs.declared.mark.Mark.{Mark}
+use Rattle.prog_paths.specs.declared.accesses.mark.Mark.{Mark}
 use Rattle.robust_cert.specs.Accepted.{question_of}
 
 -- the question of four numbers

@@ -5,7 +5,7 @@ use Rattle.prog_check.specs.declared.path.Access.{Access}
 use Rattle.prog_check.specs.declared.path.Path.{Path}
 use Rattle.prog_paths.specs.Meeting.{CanMeet}
 use Rattle.prog_paths.specs.StaticGraph.{Question, AsksOf, AsksReadWrite, StaticEdge, IsExposed, IsVulnerable}
-use Rattle.prog_paths.specs.declared.places.Question.{Question as Asked}
+use Rattle.prog_paths.specs.declared.accesses.places.Question.{Question as Asked}
 use Rattle.prog_paths.specs.Asked.{Asks, numbers_of}
 use Rattle.prog_paths.proofs.Segments.{IsMember}
 use Rattle.prog_paths.proofs.Edges.{HasQuestion-weaker, EdgeOf-weaker, EdgeOf-inside}

@@ -11,7 +11,7 @@ use Rattle.prog_check.specs.declared.path.Path.{Path}
 use Rattle.prog_paths.specs.Meeting.{IsSingle}
 use Rattle.prog_paths.specs.StaticGraph.{Question, AsksOf}
 use Rattle.prog_paths.specs.Questions.{AreEqualWhereTheyMeet}
-use Rattle.prog_paths.specs.declared.places.Question.{Question as Asked}
+use Rattle.prog_paths.specs.declared.accesses.places.Question.{Question as Asked}
 use Rattle.prog_paths.specs.Asked.{numbers_of, ChangesSingleCells}
 use Rattle.prog_paths.proofs.Questions.{law_of_equal_terms}
 use Rattle.prog_paths.proofs.Shown.{single_at, may_touch-second}

@@ -4,8 +4,8 @@ use Rattle.prog_check.specs.declared.path.Access.{Access}
 use Rattle.prog_check.specs.declared.path.Path.{Path}
 use Rattle.prog_paths.specs.StaticGraph.{IsAccessOf, AsksReadWrite, IsExposed}
 use Rattle.prog_paths.specs.Places.{IsAt}
-use Rattle.prog_paths.specs.declared.places.Placed.{Placed}
-use Rattle.prog_paths.specs.declared.places.Question.{Question as Asked}
+use Rattle.prog_paths.specs.declared.accesses.places.Placed.{Placed}
+use Rattle.prog_paths.specs.declared.accesses.places.Question.{Question as Asked}
 use Rattle.prog_paths.specs.Asked.{numbers_of, question_between}
 use Rattle.repair_laws.specs.Striking.{IsOfProgram}
 

@@ -1,5 +1,5 @@
 use Rattle.std.proofs.Common.{List, subst, take_all, arith}
-use Rattle.prog_paths.specs.declared.places.Placed.{Placed}
+use Rattle.prog_paths.specs.declared.accesses.places.Placed.{Placed}
 use Rattle.std.specs.List.{AllZip}
 use Rattle.std.proofs.lemmas.Grind.{common_steps}
 use Rattle.conflict_pairs.specs.Kinds.{IsOfKind}

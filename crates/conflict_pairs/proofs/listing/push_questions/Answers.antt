@@ -1,5 +1,5 @@
 use Rattle.std.proofs.Common.{◌∙◌, ◌++◌, ◌∷◌, [], Vec, Global, ap, sym, arith}
-use Rattle.prog_paths.specs.declared.places.Question.{Question}
+use Rattle.prog_paths.specs.declared.accesses.places.Question.{Question}
 use Rattle.prog_paths.specs.Asked.{asked_by}
 use Rattle.conflict_pairs.proofs.Entries.{asked-end, asked-yes, asked-no}
 use Rattle.conflict_pairs.proofs.listing.push_questions.Goals as goal

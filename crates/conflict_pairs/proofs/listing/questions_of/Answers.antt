@@ -1,7 +1,7 @@
 use Rattle.std.proofs.Common.{List, sym, subst, ◌∙◌}
 use Rattle.std.specs.Prelude.{All}
 use Rattle.prog_check.specs.declared.path.Path.{Path}
-use Rattle.prog_paths.specs.declared.places.Question.{Question as Asked}
+use Rattle.prog_paths.specs.declared.accesses.places.Question.{Question as Asked}
 use Rattle.prog_paths.specs.Asked.{asked_among}
 use Rattle.conflict_pairs.specs.Alike.{IsAsked, AreShown}
 use Rattle.conflict_pairs.proofs.Collecting.{all_asked}

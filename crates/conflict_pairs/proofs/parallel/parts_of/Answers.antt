@@ -5,7 +5,7 @@ use denote.Param.Send.{sendable}
 use Rattle.rayon.specs.Lists.{chunks_of}
 use Rattle.rayon.proofs.ListFacts.{IfOk-then}
 use Rattle.rayon.proofs.ToStd.{slice-AllZip}
-use Rattle.prog_paths.specs.declared.places.Question.{Question as Asked}
+use Rattle.prog_paths.specs.declared.accesses.places.Question.{Question as Asked}
 use Rattle.conflict_pairs.specs.Alike.{IsAsked, AreJudged}
 use Rattle.conflict_pairs.proofs.Collecting.{gathered}
 use Rattle.conflict_pairs.proofs.Parts.{Part, of_whole, each_chunk_asked}

@@ -1,5 +1,5 @@
 use Rattle.std.proofs.Common.{List, subst, take_all, arith}
-use Rattle.prog_paths.specs.declared.places.Question.{Question}
+use Rattle.prog_paths.specs.declared.accesses.places.Question.{Question}
 use Rattle.std.specs.List.{AllZip}
 use Rattle.std.proofs.lemmas.Grind.{common_steps}
 use Rattle.conflict_pairs.specs.Alike.{StandsIn}

@@ -1,6 +1,6 @@
 use Rattle.std.proofs.Common.{◌<◌, length, subst, arith}
 use Rattle.std.proofs.lemmas.List.{length-map}
-use Rattle.prog_paths.specs.declared.mark.Mark.{Mark}
+use Rattle.prog_paths.specs.declared.accesses.mark.Mark.{Mark}
 use Rattle.order_facts.specs.Square.{Enters}
 use Rattle.prog_paths.specs.Marks.{gives_edge, gives_vulnerable}
 use Rattle.dep_graph.specs.Marking.{mark_of, marks_of}

@@ -1,5 +1,5 @@
 use Rattle.std.proofs.Common.{sym, subst, arith}
-use Rattle.prog_paths.specs.declared.places.Question.{Question}
+use Rattle.prog_paths.specs.declared.accesses.places.Question.{Question}
 use Rattle.conflict_pairs.specs.declared.verdicts.Verdict.{Verdict}
 use Rattle.dep_graph.proofs.Entries.{entry_at}
 use Rattle.si_repair.specs.Telling.{AskedFits, VerdictFits, told_of}

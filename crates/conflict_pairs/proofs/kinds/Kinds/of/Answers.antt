@@ -1,5 +1,5 @@
 use Rattle.std.proofs.Common.{List, ℕ, subst}
-use Rattle.prog_paths.specs.declared.places.Placed.{Placed}
+use Rattle.prog_paths.specs.declared.accesses.places.Placed.{Placed}
 use Rattle.conflict_pairs.specs.Kinds.{AreNumbered}
 use Rattle.conflict_pairs.proofs.OneKind.{each_has_class, AreKinds-from}
 use Rattle.conflict_pairs.proofs.kinds.Kinds.of.Goals as goal

@@ -1,5 +1,5 @@
 use Rattle.std.proofs.Common.{◌∙◌, ◌++◌, List, ap, arith}
-use Rattle.prog_paths.specs.declared.places.Question.{Question}
+use Rattle.prog_paths.specs.declared.accesses.places.Question.{Question}
 use Rattle.si_repair.proofs.Gathering.{more-firsts}
 use Rattle.si_repair.proofs.repairs.exposed.exposed_among.Goals as goal
 

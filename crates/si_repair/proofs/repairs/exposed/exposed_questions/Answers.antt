@@ -1,7 +1,7 @@
 use Rattle.std.proofs.Common.{List, sym, subst}
 use Rattle.std.specs.Prelude.{All}
 use Rattle.prog_paths.specs.Places.{IsAt}
-use Rattle.prog_paths.specs.declared.places.Placed.{Placed}
+use Rattle.prog_paths.specs.declared.accesses.places.Placed.{Placed}
 use Rattle.si_repair.specs.Gathering.{ArePlacesOf}
 use Rattle.si_repair.proofs.Gathering.{places_stand, AreExposed-from_places}
 use Rattle.si_repair.proofs.repairs.exposed.exposed_questions.Goals as goal

@@ -1,6 +1,6 @@
 use Rattle.std.proofs.Common.{◌∙◌, Vec, Global, ap, sym, arith}
 use Rattle.std.proofs.lemmas.Bool.{false≢true}
-use Rattle.prog_paths.specs.declared.places.Placed.{Placed}
+use Rattle.prog_paths.specs.declared.accesses.places.Placed.{Placed}
 use Rattle.si_repair.proofs.Gathering.{listed_within, ArePlacesOf-from_all, AreOfProgram-none, AreOfProgram-more, AreOfProgram-same, AreOfProgram-all}
 use Rattle.si_repair.proofs.repairs.exposed.places_of.Goals as goal
 use Rattle.si_repair.proofs.repairs.exposed.places_of.Goals.{then-is_of_program+in_ok-push, else-is_of_program}

@@ -1,6 +1,6 @@
 use Rattle.std.proofs.Common.{ℕ, ◌∙◌, List, sym, subst}
 use Rattle.std.specs.Prelude.{Option, All}
-use Rattle.prog_paths.specs.declared.places.Question.{Question}
+use Rattle.prog_paths.specs.declared.accesses.places.Question.{Question}
 use Rattle.repair_laws.specs.Keys.{IsKeyOf}
 use Rattle.si_repair.specs.Exposing.{AreExposed}
 use Rattle.si_repair.specs.Forcing.{IsMissed, AreForced}

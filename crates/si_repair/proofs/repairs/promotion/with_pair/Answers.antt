@@ -2,7 +2,7 @@ use Rattle.std.proofs.Common.{List, All, sym, subst}
 use Rattle.prog_tree.specs.Tree.{draft_tree}
 use Rattle.prog_check.specs.declared.path.Path.{Path}
 use Rattle.prog_paths.specs.Asked.{ChangesSingleCells}
-use Rattle.prog_paths.specs.declared.places.Question.{Question}
+use Rattle.prog_paths.specs.declared.accesses.places.Question.{Question}
 use Rattle.prog_paths.proofs.SingleCells.{law_of_single_changes}
 use Rattle.si_repair.specs.Exposing.{AreExposed}
 use Rattle.si_repair.specs.Promoting.{is_marked, AddsReads}

@@ -1,9 +1,0 @@
-use Rattle.std.proofs.Common.{ltb, rules}
-use Rattle.std.proofs.lemmas.List.Sorted.{IsPartitionedBy-ltb, IsPartitionPoint-from_clause}
-use Rattle.prog_paths.specs.declared.places.Placed.{Placed}
-use Rattle.prog_paths.proofs.changers.count_below.Goals as goal
-
-pub returns-clause-cut : goal.returns-clause-cut
-returns-clause-cut c = λ by_table.
-    IsPartitionPoint-from_clause (λ (p : Placed). ltb p.access.table c.args.table) c.args.places.now _ c.partition_point.ensures.partitioned
-    (IsPartitionedBy-ltb (λ (p : Placed). p.access.table) c.args.places.now c.args.table by_table) (λ a r f k. search rules)

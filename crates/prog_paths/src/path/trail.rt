@@ -1,0 +1,97 @@
+//! Ways through a program as far as they have come.
+ghost use Rattle.std.specs.Prelude.{◌≡◌, ◌<◌, ◌++◌, map, IfOk, OnOk};
+ghost use Rattle.prog_tree.specs.Tree.{stmt_tree};
+ghost use Rattle.prog_paths.specs.Kinds.{items_of, access_at};
+ghost use Rattle.prog_paths.specs.Trails.{past, choosing_first};
+
+use crate::path::columns::{Columns, columns_of};
+use crate::path::kinds::{kinds, table_used};
+use prog_check::{Access, Accesses, Choices, Kind, ProgramSet};
+use prog_tree::{Name, Sequence, Stmt};
+use std::alloc::{AllocError, Global};
+
+/// The choices and the accesses of a way so far, and the number of its next unknown.
+#[derive(Drop)]
+pub struct Trail {
+    pub choices: Choices,
+    pub accesses: Accesses,
+    pub unknown: usize,
+}
+
+fn copy_choices(alloc: Global, choices: &Choices) -> Result<Choices, AllocError>
+    ensures { IfOk result (λ copy. copy ≡ choices.now) }
+{
+    let copy = choices.as_slice().to_vec(alloc)?;
+    Ok(Sequence::from_vec(copy))
+}
+
+fn copy_accesses(alloc: Global, accesses: &Accesses) -> Result<Accesses, AllocError>
+    ensures { IfOk result (λ copy. copy ≡ accesses.now) }
+{
+    let copy = accesses.as_slice().to_vec(alloc)?;
+    Ok(Sequence::from_vec(copy))
+}
+
+impl Trail {
+    /// A copy that takes the first block of a branch, or the second.
+    pub fn choosing(&self, alloc: Global, first: bool) -> Result<Trail, AllocError>
+        ensures { IfOk result (λ trail. trail ≡ choosing_first first self.now) }
+    {
+        let mut choices = copy_choices(alloc, &self.choices)?;
+        choices.push(first)?;
+        Ok(Trail {
+            choices,
+            accesses: copy_accesses(alloc, &self.accesses)?,
+            unknown: self.unknown,
+        })
+    }
+}
+
+fn add_access(
+    accesses: &mut Accesses,
+    table: usize,
+    columns: Columns,
+    sure: bool,
+    place: usize,
+    kind: Option<Kind>,
+) -> Result<(), AllocError>
+    ensures { OnOk result (accesses.new
+        ≡ accesses.old ++ map (access_at table columns sure place) (items_of kind)) }
+{
+    if let Some(kind) = kind {
+        accesses.push(Access {
+            kind,
+            table,
+            first: columns.first,
+            second: columns.second,
+            place,
+            sure,
+        })?;
+    }
+    Ok(())
+}
+
+/// Goes past a statement of this number itself, without its blocks. It isn't sure in the body of an
+/// `each`.
+pub fn pass(
+    set: &ProgramSet,
+    params: &[Name],
+    sure: bool,
+    number: usize,
+    stmt: &Stmt,
+    trail: &mut Trail,
+) -> Result<(), AllocError>
+    requires { trail.old.unknown < 1024 }
+    ensures { OnOk result (trail.new
+        ≡ past set.now.tables.items params.now sure number (stmt_tree stmt.now) trail.old) }
+{
+    let Some(columns) = columns_of(params, trail.unknown, stmt) else {
+        return Ok(());
+    };
+    let (table, grow) = table_used(set, stmt);
+    let (kind, second) = kinds(grow, stmt);
+    add_access(&mut trail.accesses, table, columns, sure, number, kind)?;
+    add_access(&mut trail.accesses, table, columns, sure, number, second)?;
+    trail.unknown = columns.next;
+    Ok(())
+}

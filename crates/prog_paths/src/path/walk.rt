@@ -1,0 +1,250 @@
+//! The walk along a program's committing paths. It enters no block that always aborts, so each way
+//! that it keeps is one of the paths that are listed.
+ghost use Rattle.std.specs.Prelude.{◌≡◌, ◌+◌, ◌≤◌, ◌++◌, ◌∷◌, [], true, map, min, IfOk, OnOk};
+ghost use Rattle.prog_tree.specs.Tree.{stmt_tree, block_tree};
+ghost use Rattle.prog_check.specs.Paths.{statement_count, routes};
+ghost use Rattle.prog_paths.specs.Trails.{IsLow, AreLow, alone, passes, commits, past_body, along, all_along};
+
+use crate::limits::MAX_COUNTED;
+use crate::path::trail::{Trail, pass};
+use prog_check::ProgramSet;
+use prog_tree::{Block, Name, Stmt};
+use std::alloc::{AllocError, Global};
+
+/// How many statements a statement is, with those of its blocks, up to 257.
+#[cycle(sizes)]
+fn count_own(stmt: &Stmt) -> usize
+    ensures few { result ≤ MAX_COUNTED }
+    ensures counted { result ≡ min (statement_count (alone (stmt_tree stmt.now))) MAX_COUNTED }
+{
+    match stmt {
+        Stmt::Branch {
+            then,
+            otherwise,
+            ..
+        } => (1 + count_all(then) + count_all(otherwise)).min(MAX_COUNTED),
+        Stmt::Each { body, .. } => (1 + count_all(body)).min(MAX_COUNTED),
+        _ => 1,
+    }
+}
+
+/// How many statements a block has, with those of its blocks, up to 257.
+#[cycle(sizes)]
+fn count_all(block: &Block) -> usize
+    ensures few { result ≤ MAX_COUNTED }
+    ensures counted { result ≡ min (statement_count (block_tree block.now)) MAX_COUNTED }
+{
+    let mut count = 0;
+    for stmt in &block.stmts {
+        count = (count + count_own(stmt)).min(MAX_COUNTED);
+    }
+    count
+}
+
+/// Whether some way leads on behind a statement.
+#[cycle(commits)]
+fn lets_on(stmt: &Stmt) -> bool
+    ensures { result ≡ commits (alone (stmt_tree stmt.now)) }
+{
+    match stmt {
+        Stmt::Branch {
+            then,
+            otherwise,
+            ..
+        } => commits(then) || commits(otherwise),
+        Stmt::Abort => false,
+        _ => true,
+    }
+}
+
+/// Whether some way through a block meets no `abort;`.
+#[cycle(commits)]
+fn commits(block: &Block) -> bool
+    ensures { result ≡ commits (block_tree block.now) }
+{
+    for stmt in &block.stmts {
+        if !lets_on(stmt) {
+            return false;
+        }
+    }
+    true
+}
+
+/// Goes past a statement of this number in the body of an `each`.
+#[cycle(bodies)]
+fn pass_inside(
+    set: &ProgramSet,
+    params: &[Name],
+    number: usize,
+    stmt: &Stmt,
+    trail: Trail,
+) -> Result<Trail, AllocError>
+    requires few { number + statement_count (alone (stmt_tree stmt.now)) ≤ 256 }
+    requires low { IsLow number trail }
+    ensures { IfOk result (λ r. r
+        ≡ past_body set.now.tables.items params.now number (alone (stmt_tree stmt.now)) trail) }
+{
+    let mut trail = trail;
+    pass(set, params, false, number, stmt, &mut trail)?;
+    match stmt {
+        Stmt::Branch {
+            then,
+            otherwise,
+            ..
+        } => {
+            let trail = pass_body(set, params, number + 1, then, trail)?;
+            pass_body(set, params, number + 1 + count_all(then), otherwise, trail)
+        }
+        Stmt::Each { body, .. } => pass_body(set, params, number + 1, body, trail),
+        _ => Ok(trail),
+    }
+}
+
+/// Goes past the body of an `each`, whose first statement has this number.
+#[cycle(bodies)]
+fn pass_body(
+    set: &ProgramSet,
+    params: &[Name],
+    number: usize,
+    body: &Block,
+    trail: Trail,
+) -> Result<Trail, AllocError>
+    requires few { number + statement_count (block_tree body.now) ≤ 256 }
+    requires low { IsLow number trail }
+    ensures { IfOk result (λ r. r
+        ≡ past_body set.now.tables.items params.now number (block_tree body.now) trail) }
+{
+    let mut trail = trail;
+    let mut number = number;
+    for stmt in &body.stmts {
+        trail = pass_inside(set, params, number, stmt, trail)?;
+        number += count_own(stmt);
+    }
+    Ok(trail)
+}
+
+/// Goes past a statement of this number that isn't a branch, and past its body if it has one.
+fn pass_whole(
+    set: &ProgramSet,
+    params: &[Name],
+    number: usize,
+    stmt: &Stmt,
+    trail: Trail,
+) -> Result<Trail, AllocError>
+    requires few { number + statement_count (alone (stmt_tree stmt.now)) ≤ 256 }
+    requires low { IsLow number trail }
+    requires passes { passes (stmt_tree stmt.now) ≡ true }
+    ensures { IfOk result (λ r. r ∷ [] ≡ map (along set.now.tables.items params.now trail)
+        (routes number (alone (stmt_tree stmt.now)))) }
+{
+    let mut trail = trail;
+    pass(set, params, true, number, stmt, &mut trail)?;
+    match stmt {
+        Stmt::Each { body, .. } => {
+            trail = pass_body(set, params, number + 1, body, trail)?;
+            Ok(trail)
+        }
+        _ => Ok(trail),
+    }
+}
+
+/// Takes all trails past a statement of this number that isn't a branch.
+fn pass_all(
+    alloc: Global,
+    set: &ProgramSet,
+    params: &[Name],
+    number: usize,
+    stmt: &Stmt,
+    trails: Vec<Trail>,
+) -> Result<Vec<Trail>, AllocError>
+    requires few { number + statement_count (alone (stmt_tree stmt.now)) ≤ 256 }
+    requires low { AreLow number trails.items }
+    requires passes { passes (stmt_tree stmt.now) ≡ true }
+    ensures { IfOk result (λ r. r.items ≡ all_along set.now.tables.items params.now trails.items
+        (routes number (alone (stmt_tree stmt.now)))) }
+{
+    let mut passed = Vec::new(alloc);
+    for trail in trails {
+        passed.push(pass_whole(set, params, number, stmt, trail)?)?;
+    }
+    Ok(passed)
+}
+
+fn append(trails: &mut Vec<Trail>, more: Vec<Trail>) -> Result<(), AllocError>
+    ensures { OnOk result (trails.new.items ≡ trails.old.items ++ more.items) }
+{
+    for trail in more {
+        trails.push(trail)?;
+    }
+    Ok(())
+}
+
+/// All trails behind a statement of this number.
+#[cycle(walk)]
+fn walk_stmt(
+    alloc: Global,
+    set: &ProgramSet,
+    params: &[Name],
+    number: usize,
+    stmt: &Stmt,
+    trails: Vec<Trail>,
+) -> Result<Vec<Trail>, AllocError>
+    requires few { number + statement_count (alone (stmt_tree stmt.now)) ≤ 256 }
+    requires low { AreLow number trails.items }
+    ensures { IfOk result (λ r. r.items ≡ all_along set.now.tables.items params.now trails.items
+        (routes number (alone (stmt_tree stmt.now)))) }
+{
+    match stmt {
+        Stmt::Branch {
+            then,
+            otherwise,
+            ..
+        } => {
+            let second = number + 1 + count_all(then);
+            let mut passed = Vec::new(alloc);
+            for trail in trails {
+                let on = trail.choosing(alloc, true)?;
+                append(
+                    &mut passed,
+                    walk_block(alloc, set, params, number + 1, then, on)?,
+                )?;
+                let on = trail.choosing(alloc, false)?;
+                append(
+                    &mut passed,
+                    walk_block(alloc, set, params, second, otherwise, on)?,
+                )?;
+            }
+            Ok(passed)
+        }
+        Stmt::Abort => Ok(Vec::new(alloc)),
+        _ => pass_all(alloc, set, params, number, stmt, trails),
+    }
+}
+
+/// The trail's ways on through a block whose first statement has this number.
+#[cycle(walk)]
+pub fn walk_block(
+    alloc: Global,
+    set: &ProgramSet,
+    params: &[Name],
+    number: usize,
+    block: &Block,
+    trail: Trail,
+) -> Result<Vec<Trail>, AllocError>
+    requires few { number + statement_count (block_tree block.now) ≤ 256 }
+    requires low { IsLow number trail }
+    ensures { IfOk result (λ r. r.items ≡ map (along set.now.tables.items params.now trail)
+        (routes number (block_tree block.now))) }
+{
+    let mut trails = Vec::new(alloc);
+    if !commits(block) {
+        return Ok(trails);
+    }
+    trails.push(trail)?;
+    let mut number = number;
+    for stmt in &block.stmts {
+        trails = walk_stmt(alloc, set, params, number, stmt, trails)?;
+        number += count_own(stmt);
+    }
+    Ok(trails)
+}
