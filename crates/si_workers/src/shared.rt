@@ -11,7 +11,8 @@ use history_book::{
 };
 use prog_run::Run;
 use prog_tree::{Cell, Region, Sequence};
-use std::sync::{RwLock, RwLockReadGuard, Wait};
+use std::sync::{RwLock, RwLockReadGuard, RwLockWriteGuard, Wait};
+use std::thread::yield_now;
 
 /// A book under one lock, which reads share and each other call has alone. Whenever the lock is
 /// taken, its value is a book. Each call takes the lock, makes the call of `Book` that it names, and
@@ -59,7 +60,33 @@ fn begin_there(
     book.begin_at(start, program, args)
 }
 
+// How often the lock is tried, with others let run, before a thread sleeps until it is free. A hold
+// takes some ten microseconds, so it is mostly over before a thread would have slept and woken.
+const TRIES: u32 = 2_000;
+
 impl<'a> SharedBook<'a> {
+    // The book to read in.
+    fn reading(&self, rt: &impl Wait) -> RwLockReadGuard<'_, Book<'a>> {
+        for _try in 0..TRIES {
+            if let Some(book) = self.lock.try_read() {
+                return book;
+            }
+            yield_now();
+        }
+        self.lock.read(rt)
+    }
+
+    // The book to change.
+    fn writing(&self, rt: &impl Wait) -> RwLockWriteGuard<'_, Book<'a>> {
+        for _try in 0..TRIES {
+            if let Some(book) = self.lock.try_write() {
+                return book;
+            }
+            yield_now();
+        }
+        self.lock.write(rt)
+    }
+
     /// Shares a book.
     pub fn new(book: Book<'a>) -> Self {
         SharedBook {
@@ -74,7 +101,7 @@ impl<'a> SharedBook<'a> {
         program: usize,
         args: &[i64],
     ) -> Result<Ticket, BeginFault> {
-        self.lock.write(rt).begin(program, args)
+        self.writing(rt).begin(program, args)
     }
 
     /// `Book::begin_at`.
@@ -87,7 +114,7 @@ impl<'a> SharedBook<'a> {
     ) -> Result<Ticket, BeginFault>
         ensures { IsAtNumber start result }
     {
-        let mut book = self.lock.write(rt);
+        let mut book = self.writing(rt);
         begin_there(&mut book, start, program, args)
     }
 
@@ -102,7 +129,7 @@ impl<'a> SharedBook<'a> {
     ) -> Result<Ticket, BeginAfterFault>
         ensures { IsFresh receipt.now result }
     {
-        let mut book = self.lock.write(rt);
+        let mut book = self.writing(rt);
         begin_seeing(&mut book, receipt, program, args)
     }
 
@@ -113,7 +140,7 @@ impl<'a> SharedBook<'a> {
         job: usize,
         gate: &G,
     ) -> RwLockReadGuard<'_, Book<'a>> {
-        let book = self.lock.read(rt);
+        let book = self.reading(rt);
         gate.at(job, Moment::InRead);
         book
     }
@@ -125,7 +152,7 @@ impl<'a> SharedBook<'a> {
         ticket: &Ticket,
         cell: &Cell,
     ) -> Result<Option<i64>, NoSuchTicket> {
-        self.lock.read(rt).get(ticket, cell)
+        self.reading(rt).get(ticket, cell)
     }
 
     // The same, for a job of a worker.
@@ -148,7 +175,7 @@ impl<'a> SharedBook<'a> {
         ticket: &Ticket,
         region: &Region,
     ) -> Result<Sequence<(Cell, i64)>, ScanFault> {
-        self.lock.read(rt).scan(ticket, region)
+        self.reading(rt).scan(ticket, region)
     }
 
     // The same, for a job of a worker.
@@ -171,22 +198,22 @@ impl<'a> SharedBook<'a> {
         ticket: Ticket,
         run: Run<'a>,
     ) -> Result<Receipt, CommitFault<'a>> {
-        self.lock.write(rt).commit(ticket, run)
+        self.writing(rt).commit(ticket, run)
     }
 
     /// `Book::end`.
     pub fn end(&self, rt: &impl Wait, ticket: Ticket, run: Run<'a>) -> Result<(), EndFault<'a>> {
-        self.lock.write(rt).end(ticket, run)
+        self.writing(rt).end(ticket, run)
     }
 
     /// `Book::withdraw`.
     pub fn withdraw(&self, rt: &impl Wait, ticket: Ticket) -> Result<(), Ticket> {
-        self.lock.write(rt).withdraw(ticket)
+        self.writing(rt).withdraw(ticket)
     }
 
     /// `Book::vacuum`.
     pub fn vacuum(&self, rt: &impl Wait) -> u64 {
-        self.lock.write(rt).vacuum()
+        self.writing(rt).vacuum()
     }
 
     /// The book, once nobody shares it.
