@@ -9,7 +9,7 @@ ghost use Rattle.analysis_words.specs.Saying.{body_size_in, count_text, counts_t
 use crate::shown::{Shown, access_text, node_name};
 use prog_check::{Path, ProgramSet};
 use prog_paths::{MAX_QUESTIONS, paths};
-use robust_cert::{CertFault, Certificate, Entry, JsonFault, Question, body_size, from_json};
+use robust_cert::{CertFault, Certificate, JsonFault, Question, body_size, from_json};
 use std::alloc::{AllocError, Global};
 use text_places::SetText;
 
@@ -20,12 +20,6 @@ pub fn wide(number: u32) -> usize
     number as usize
 }
 
-fn question_of(entry: &Entry) -> Question {
-    match entry {
-        Entry::Apart { question, .. } | Entry::Cover { question, .. } => *question,
-    }
-}
-
 // The question of an entry.
 fn question_text(
     alloc: Global,
@@ -33,10 +27,10 @@ fn question_text(
     certificate: &Certificate,
     entry: usize,
 ) -> Result<String, AllocError> {
-    let Some(entry) = certificate.entries.as_slice().get(entry) else {
+    if entry >= certificate.entries.len() {
         return format!(in alloc; "its question");
-    };
-    let Question { x, a, y, b } = question_of(entry);
+    }
+    let Question { x, a, y, b } = certificate.entries.question(entry);
     let mine = access_text(alloc, shown, wide(x), wide(a))?;
     let theirs = access_text(alloc, shown, wide(y), wide(b))?;
     format!(in alloc; "{mine} against {theirs}")

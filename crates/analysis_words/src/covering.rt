@@ -2,7 +2,7 @@
 
 use crate::certificate_faults::wide;
 use prog_check::Path;
-use robust_cert::Entry;
+use robust_cert::{Entries, Reason};
 use std::alloc::{AllocError, Global};
 
 /// An access of a node, and in how many covers it is one of the two.
@@ -53,18 +53,14 @@ fn note(
 pub fn most_covering(
     alloc: Global,
     nodes: &[Path],
-    entries: &[Entry],
+    entries: &Entries,
 ) -> Result<Option<Covering>, AllocError> {
     let mut counts = no_covers(alloc, nodes)?;
     let mut most = None;
-    for entry in entries {
-        if let Entry::Cover {
-            question,
-            mine,
-            theirs,
-            ..
-        } = entry
-        {
+    let (all, reasons) = entries.parts();
+    for told in all {
+        if let Reason::Cover { mine, theirs, .. } = &reasons[told.reason] {
+            let question = told.question;
             most = note(&mut counts, most, question.x, *mine);
             if question.x != question.y || *mine != *theirs {
                 most = note(&mut counts, most, question.y, *theirs);

@@ -1,5 +1,7 @@
 //! What a certificate shows of a robust set, in words.
 ghost use Rattle.std.specs.Prelude.{◌≡◌, IfOk, string_bytes};
+ghost use Rattle.robust_cert.specs.declared.certificate.Question.{Question};
+ghost use Rattle.robust_cert.specs.Sharing.{entry_told, entry_with, IsWithin};
 ghost use Rattle.analysis_words.specs.Repairs.{Says};
 ghost use Rattle.analysis_words.specs.Robust.{apart_count, entries_text, is_apart, reasons_text};
 
@@ -9,27 +11,42 @@ use crate::covering::{Covering, most_covering};
 use crate::shown::{Shown, access_text};
 use prog_check::ProgramSet;
 use prog_paths::paths;
-use robust_cert::{Certificate, Entry};
+use robust_cert::{Certificate, Entries, Reason, Told};
 use std::alloc::{AllocError, Global};
 use text_places::{SetText, push_listed};
 
 // So many nodes are named with their levels.
 const MAX_LEVELS: usize = 8;
 
-fn is_apart(entry: &Entry) -> bool
-    ensures { result ≡ is_apart entry.now }
+// Whether questions with this reason never meet.
+fn is_never(reason: &Reason) -> bool
+    ensures { (question : Question) → result ≡ is_apart (entry_with question reason.now) }
 {
-    match entry {
-        Entry::Apart { .. } => true,
-        Entry::Cover { .. } => false,
+    match reason {
+        Reason::Apart(_) => true,
+        Reason::Cover { .. } => false,
     }
 }
 
+fn is_apart(told: &Told, reasons: &[Reason]) -> bool
+    requires { IsWithin reasons.now told.now }
+    ensures { result ≡ is_apart (entry_told reasons.now told.now) }
+{
+    is_never(&reasons[told.reason])
+}
+
 // Of how many questions the two accesses never meet.
-fn apart_count(entries: &[Entry]) -> usize
+fn apart_count(entries: &Entries) -> usize
     ensures { result ≡ apart_count entries.now }
 {
-    entries.iter().filter(|entry| is_apart(entry)).count()
+    let (all, reasons) = entries.parts();
+    let mut count = 0;
+    for told in all {
+        if is_apart(told, reasons) {
+            count += 1;
+        }
+    }
+    count
 }
 
 fn reasons_text(alloc: Global, apart: usize, covered: usize) -> Result<String, AllocError>
@@ -42,7 +59,7 @@ fn reasons_text(alloc: Global, apart: usize, covered: usize) -> Result<String, A
 fn entries_text(alloc: Global, certificate: &Certificate) -> Result<String, AllocError>
     ensures { IfOk result (λ text. string_bytes text ≡ entries_text certificate.now) }
 {
-    let apart = apart_count(certificate.entries.as_slice());
+    let apart = apart_count(&certificate.entries);
     let covered = certificate.entries.len().saturating_sub(apart);
     reasons_text(alloc, apart, covered)
 }
@@ -53,7 +70,7 @@ fn most_text(
     shown: Shown<'_>,
     certificate: &Certificate,
 ) -> Result<String, AllocError> {
-    let most = most_covering(alloc, shown.paths, certificate.entries.as_slice())?;
+    let most = most_covering(alloc, shown.paths, &certificate.entries)?;
     let Some(
         Covering {
             node,

@@ -7,10 +7,12 @@ use Rattle.std.proofs.lemmas.Option.{get_or_from_slice_get, slice_get-get_or, sl
 use Rattle.prog_check.specs.declared.path.Path.{Path}
 use Rattle.prog_paths.specs.declared.accesses.places.Question.{Question as Asked}
 use Rattle.prog_paths.specs.Asked.{ChangesSingleCells, questions_of}
+use Rattle.prog_paths.specs.Listing.{IsAskedOf}
+use Rattle.prog_paths.proofs.Membership.{Asks-from_asks}
 use Rattle.conflict_pairs.specs.declared.verdicts.Verdict.{Verdict}
 use Rattle.conflict_pairs.specs.declared.verdicts.Verdict.TheVariants.{Apart}
 use Rattle.conflict_pairs.specs.declared.table.Entry.{Entry}
-use Rattle.conflict_pairs.specs.Table.{Table, verdict_at, entry_by, entries_of, IsRightEntry, StandsFor}
+use Rattle.conflict_pairs.specs.Table.{Table, verdict_at, entry_by, entries_of, IsOnQuestion, IsRightEntry, StandsFor}
 use Rattle.conflict_pairs.specs.Alike.{IsAsked, StandsIn, IsJudgedAt, AreJudged}
 use Rattle.conflict_pairs.proofs.Zipped.{AllZip-at, AllZip-lengths}
 use Rattle.conflict_pairs.proofs.Likeness.{judged-like, right-judged}
@@ -50,6 +52,37 @@ module _ (vs : List Verdict) where
   entries-at (x ∷ qs) (m ∷ ns) zero q n e at = sym (same_Some (entry_by vs x m) e at)
   entries-at (x ∷ qs) (m ∷ ns) (suc k) q n e at = entries-at qs ns k q n e at
 
+  -- the question of an entry has a number
+  pub number-within : (qs : List Asked) (ns : List ℕ) (k : ℕ) → length qs ≡ length ns → k < length (entries_of vs qs ns) → k < length ns
+  number-within qs ns k e lt = subst (λ (l : ℕ). k < l) (entries-length qs ns e ∙ e) lt
+
+  -- and at this number its verdict stands
+  pub number-verdict : (qs : List Asked) (ns : List ℕ) (k n : ℕ) (e : Entry) → length qs ≡ length ns → All (λ n. n < length vs) ns → n ≡ get_or ns k n → slice_get (entries_of vs qs ns) k ≡ Some e → slice_get vs n ≡ Some e.verdict
+  number-verdict qs ns k n e one_each within is at =
+      let lt = subst (λ (m : ℕ). m < length vs) (sym is) (within k n (number-within qs ns k one_each (slice_get_within (entries_of vs qs ns) k e at))) in
+      slice_get-get_or vs n (Apart []) lt
+      ∙ ap (λ (m : ℕ). Some (verdict_at vs m)) is
+      ∙ ap (λ (x : Entry). Some x.verdict) (sym (entries-at qs ns k e.question n e at))
+
+-- ---- right verdicts
+
+IsAskedOf-from_asked : (paths : List Path) (q : Asked) → IsAsked paths q → IsAskedOf paths q
+IsAskedOf-from_asked paths q h =
+    let k = Asks-from_asks h.first h.second h.asks_it in
+    subst (λ (r : Asked). IsAskedOf paths r) (sym h.is)
+    (record { mine = h.first.access; theirs = h.second.access; asked = record { at_mine = h.at_first; at_theirs = h.at_second; table = k.0 }; mine_kind = refl; their_kind = refl; asks = k.1 })
+
+-- each verdict is on the question that was judged
+pub verdicts-right : (paths : List Path) → All ChangesSingleCells paths → (judged : List Asked) (vs : List Verdict) → All (IsAsked paths) judged → AreJudged paths judged vs → All (IsOnQuestion paths) vs
+verdicts-right paths single [] [] h k = All-nil (IsOnQuestion paths)
+verdicts-right paths single [] (v ∷ vs) h k = absurd k
+verdicts-right paths single (q ∷ qs) [] h k = absurd k
+verdicts-right paths single (q ∷ qs) (v ∷ vs) h k =
+    let asked = All-head (IsAsked paths) q qs h in
+    All-cons (IsOnQuestion paths) v vs
+    (record { question = q; asked = IsAskedOf-from_asked paths q asked; right = right-judged paths q single asked v k.0 })
+    (verdicts-right paths single qs vs (All-tail (IsAsked paths) q qs h) k.1)
+
 -- ---- right entries
 
 module _ (paths : List Path) (judged : List Asked) (vs : List Verdict) (asked : All (IsAsked paths) judged) (answered : AreJudged paths judged vs) where
@@ -81,9 +114,10 @@ module _ (paths : List Path) (judged : List Asked) (vs : List Verdict) (asked : 
       (entries-right single qs ns (All-tail (IsAsked paths) q qs h) k.1)
 
   -- the table of all questions
-  pub StandsFor-from : All ChangesSingleCells paths → (table : Table) (qs : List Asked) (ns : List ℕ) → All (IsAsked paths) qs → AllZip (StandsIn paths judged) qs ns → table.nodes ≡ length paths → table.entries ≡ entries_of vs qs ns → qs ≡ questions_of paths → StandsFor table paths
-  StandsFor-from single table qs ns h k nodes entries all = record {
+  pub StandsFor-from : All ChangesSingleCells paths → (table : Table) (qs : List Asked) (ns : List ℕ) → All (IsAsked paths) qs → AllZip (StandsIn paths judged) qs ns → table.nodes ≡ length paths → table.verdicts ≡ vs → table.entries ≡ entries_of vs qs ns → qs ≡ questions_of paths → StandsFor table paths
+  StandsFor-from single table qs ns h k nodes verdicts entries all = record {
     nodes = nodes;
     questions = ap (map (λ (e : Entry). e.question)) entries ∙ entries-questions vs qs ns (AllZip-lengths (StandsIn paths judged) qs ns k) ∙ all;
     right = subst (λ (l : List Entry). All (λ e. IsRightEntry paths e) l) (sym entries) (entries-right single qs ns h k);
+    verdicts = subst (λ (l : List Verdict). All (IsOnQuestion paths) l) (sym verdicts) (verdicts-right paths single judged vs asked answered);
   }

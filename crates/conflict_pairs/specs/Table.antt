@@ -9,11 +9,13 @@ use Rattle.conflict_pairs.specs.declared.verdicts.Verdict.TheVariants.{Apart}
 use Rattle.conflict_pairs.specs.declared.table.Entry.{Entry}
 use Rattle.prog_paths.specs.declared.accesses.places.Question.{Question as Asked}
 use Rattle.prog_paths.specs.Asked.{numbers_of, questions_of}
+use Rattle.prog_paths.specs.Listing.{IsAskedOf}
 use Rattle.conflict_pairs.specs.Verdicts.{IsRight}
 
--- how many nodes there are, and the questions with their verdicts
+-- how many nodes there are, the verdicts that questions have, and the questions with their verdicts
 pub record Table : Type 0 where
   pub nodes : ℕ
+  pub verdicts : List Verdict
   pub entries : List Entry
 
 -- the verdicts of parts, one part after the other
@@ -38,8 +40,15 @@ entries_of verdicts (q ∷ qs) (n ∷ numbers) = entry_by verdicts q n ∷ entri
 abbrev pub IsRightEntry : List Path → Entry → Type 0
 IsRightEntry paths e = IsRight paths (numbers_of e.question) e.verdict
 
+-- a verdict is right of some question of the paths
+pub record IsOnQuestion (paths : List Path) (verdict : Verdict) : Type 0 where
+  pub question : Asked
+  pub asked : IsAskedOf paths question
+  pub right : IsRight paths (numbers_of question) verdict
+
 -- the table has a node for each path, all questions of the paths in order, and a right verdict on each
 pub record StandsFor (table : Table) (paths : List Path) : Type 0 where
   pub nodes : table.nodes ≡ length paths
   pub questions : map (λ e. e.question) table.entries ≡ questions_of paths
   pub right : All (λ e. IsRightEntry paths e) table.entries
+  pub verdicts : All (IsOnQuestion paths) table.verdicts

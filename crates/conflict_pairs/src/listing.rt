@@ -1,5 +1,5 @@
 //! All questions of a list of paths.
-ghost use Rattle.std.specs.Prelude.{◌≡◌, ◌↔◌, ◌++◌, ◌<◌, length, All, IfOk, OnOk, Err};
+ghost use Rattle.std.specs.Prelude.{◌≡◌, ◌↔◌, ◌++◌, ◌<◌, ◌≤◌, length, All, IfOk, OnOk, Err};
 ghost use Rattle.conflict_pairs.specs.declared.fault.PairFault as PairFault;
 ghost use Rattle.prog_paths.specs.Asked.{ChangesSingleCells, asked_by, asked_among, questions_of, limit};
 ghost use Rattle.conflict_pairs.specs.Alike.{AreJudged, AreListed};
@@ -52,11 +52,12 @@ pub fn all_questions(alloc: Global, places: &[Placed]) -> Result<Vec<Question>, 
 pub struct Questions {
     pub all: Vec<Question>,
     pub judged: Vec<Question>,
-    pub numbers: Vec<usize>,
+    pub numbers: Vec<u32>,
 }
 
 /// The questions of a list of paths.
 pub fn questions_of(alloc: Global, paths: &[Path]) -> Result<Questions, AllocError>
+    requires { length (questions_of paths.now) ≤ limit }
     ensures { IfOk result (λ qs.
         AreListed paths.now qs.all.items qs.judged.items qs.numbers.items) }
 {

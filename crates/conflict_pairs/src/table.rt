@@ -20,7 +20,7 @@ pub struct PairTable {
     nodes: usize,
     questions: Vec<Question>,
     // For each question the number of its verdict, which may be that of several.
-    numbers: Vec<usize>,
+    numbers: Vec<u32>,
     verdicts: Vec<Verdict>,
 }
 
@@ -32,6 +32,7 @@ impl Model for PairTable {
 
     ghost view = { λ t. record {
       nodes = t.nodes;
+      verdicts = t.verdicts.items;
       entries = entries_of t.verdicts.items t.questions.items t.numbers.items;
     } };
 
@@ -46,12 +47,13 @@ impl PairTable {
     pub(crate) fn of(
         nodes: usize,
         questions: Vec<Question>,
-        numbers: Vec<usize>,
+        numbers: Vec<u32>,
         verdicts: Vec<Verdict>,
     ) -> Self
         requires one_each { length questions.items ≡ length numbers.items }
         requires within { All (λ n. n < length verdicts.items) numbers.items }
         ensures nodes { result.nodes ≡ nodes }
+        ensures verdicts { result.verdicts ≡ verdicts.items }
         ensures entries { result.entries
             ≡ entries_of verdicts.items questions.items numbers.items }
     {
@@ -91,11 +93,28 @@ impl PairTable {
         self.questions[n]
     }
 
+    /// The verdicts that questions have, each maybe that of several.
+    pub fn verdicts(&self) -> &[Verdict]
+        ensures { result.now ≡ self.now.verdicts }
+    {
+        self.verdicts.as_slice()
+    }
+
+    /// Which of these the question of a number has.
+    pub fn verdict_number(&self, n: usize) -> usize
+        requires { n < length self.now.entries }
+        ensures within { result < length self.now.verdicts }
+        ensures verdict { (e : Entry) → slice_get self.now.entries n ≡ Some e
+            → slice_get self.now.verdicts result ≡ Some e.verdict }
+    {
+        self.numbers[n] as usize
+    }
+
     /// The verdict on the question of a number.
     pub fn verdict(&self, n: usize) -> &Verdict
         requires { n < length self.now.entries }
         ensures { (e : Entry) → slice_get self.now.entries n ≡ Some e → result.now ≡ e.verdict }
     {
-        &self.verdicts[self.numbers[n]]
+        &self.verdicts[self.verdict_number(n)]
     }
 }

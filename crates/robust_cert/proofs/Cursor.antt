@@ -1,17 +1,23 @@
 -- The order of questions, and what is told at the cursor.
-use Rattle.std.proofs.Common.{◌≡◌, ℕ, ◌<◌, ◌⊎◌, inl, inr, true, false, List, [], ◌∷◌, length, get_or, refl, sym, subst, ◌∙◌, arith, zero, suc, Some, None, Contains, nat_lt, tests, Bor}
-use Rattle.std.specs.Prelude.{◌==◌, slice_get, All, Option, is_some, IfSome, option_copied}
+use Rattle.std.proofs.Common.{◌≡◌, ℕ, ◌<◌, ◌≤◌, ◌+◌, ◌↔◌, ◌⊎◌, inl, inr, Bool, true, false, List, [], ◌∷◌, length, get_or, refl, sym, subst, ap, ◌∙◌, arith, zero, suc, Some, Contains}
+use Rattle.std.specs.Prelude.{◌==◌, slice_get, All}
 use Rattle.std.proofs.lemmas.Bool.{false≢true, cases_Bool, cases_order, and_parts, and_from, eqb-true, eq-eqb, false_from_ne_true}
 use Rattle.std.proofs.lemmas.List.Elements.{All-head, All-tail}
-use Rattle.std.proofs.lemmas.Option.{same_Some, none-some, slice_get-get_or, slice_get_past, slice_get_read}
+use Rattle.std.proofs.lemmas.Option.{same_Some, none-some, slice_get-get_or, slice_get_past}
 use Rattle.prog_paths.specs.StaticGraph.{Question}
 use Rattle.prog_paths.specs.Listing.{IsPlaceBefore, IsBefore, RiseBy}
 use Rattle.prog_paths.proofs.Order.{rise-between}
 use Rattle.robust_cert.specs.declared.certificate.Entry.{Entry}
 use Rattle.robust_cert.specs.declared.checking.telling.Telling.{Telling}
 use Rattle.robust_cert.specs.declared.checking.telling.Telling as telling
-use Rattle.robust_cert.specs.Accepted.{question_of}
-use Rattle.robust_cert.specs.Telling.{is_same, telling_by, telling_of, IsBehind}
+use Rattle.robust_cert.specs.declared.certificate.Question.{Question as Asked}
+use Rattle.robust_cert.specs.declared.certificate.Entry as entry
+use Rattle.robust_cert.specs.declared.entries.Reason.{Reason}
+use Rattle.robust_cert.specs.declared.entries.Reason.TheVariants.{Apart, Cover}
+use Rattle.robust_cert.specs.Accepted.{numbers_told, question_of}
+use Rattle.robust_cert.specs.Telling.{is_same, telling_by, telling_with, telling_of, IsBehind}
+use Rattle.robust_cert.specs.Sharing.{asked_by, entry_with}
+use Rattle.robust_cert.proofs.Shared.{entry_at}
 
 -- ---- the order of questions
 
@@ -143,9 +149,48 @@ told_cases (d ∷ rest) q = go (cases_Bool (is_same (question_of d) q)) (told_ca
     go (inr h) (inl n) = inl (skipped d rest q h ∙ n)
     go (inr h) (inr (e, t)) = inr (e, record { inside = (suc t.inside.0, omega (arith, t.inside.1), t.inside.2); about = t.about; tells = skipped d rest q h ∙ t.tells })
 
--- ---- reading
+-- ---- the question and the reason at the cursor
 
--- what `get` of a slice returns
-pub got : (found : Option (Bor Entry)) (entries : List Entry) (i : ℕ) → is_some found ≡ nat_lt i (length entries) → IfSome found (λ e. e.now ≡ get_or entries i e.now) → option_copied found ≡ slice_get entries i
-got None entries i e h = sym (slice_get_past entries i (search (tests, arith)))
-got (Some d) entries i e h = sym (slice_get_read entries (length entries) i d.now refl (search (tests, arith)) h)
+pub question-asked : (e : Entry) → question_of e ≡ numbers_told (asked_by e)
+question-asked (entry.TheVariants.Apart q chain) = refl
+question-asked (entry.TheVariants.Cover q mine theirs chains) = refl
+
+pub telling-with : (q : Asked) (reason : Reason) → telling_with reason ≡ telling_by (entry_with q reason)
+telling-with q (Apart chain) = refl
+telling-with q (Cover mine theirs chains) = refl
+
+module _ (entries : List Entry) (at : ℕ) (q : Question) (behind : IsBehind entries at q) (p : Asked) (about : (e : Entry) → slice_get entries at ≡ Some e → p ≡ asked_by e) where
+  asked-here : (e : Entry) → slice_get entries at ≡ Some e → numbers_told p ≡ question_of e
+  asked-here e is = ap numbers_told (about e is) ∙ sym (question-asked e)
+
+  module _ (m : Question) (named : m ≡ numbers_told p) where
+    -- the cursor goes on, where the question stands before
+    pub behind-more : IsBefore m q → IsBehind entries (at + 1) q
+    behind-more before k e lt is = go (cases_order k at)
+      where
+        go : (k ≡ at) ⊎ ((k < at) ⊎ (at < k)) → IsBefore (question_of e) q
+        go (inl same) = subst (λ (o : Question). IsBefore o q) (named ∙ asked-here e (subst (λ (i : ℕ). slice_get entries i ≡ Some e) same is)) before
+        go (inr (inl less)) = behind k e less is
+        go (inr (inr more)) = absurd (omega (arith, lt, more))
+
+    -- and stops, where it doesn't
+    pub stops-here : (b : Bool) → ((b ≡ true) ↔ IsBefore m q) → b ≡ false → (e : Entry) → slice_get entries at ≡ Some e → IsBefore (question_of e) q → ⊥
+    stops-here b says against e is before = false≢true (sym against ∙ says.1 (subst (λ (o : Question). IsBefore o q) (sym (named ∙ asked-here e is)) before))
+
+  -- what the reason tells, where the question is the same
+  pub reason-tells : (r : Reason) → at < length entries → ((e : Entry) → slice_get entries at ≡ Some e → e ≡ entry_with (asked_by e) r) → is_same (numbers_told p) q ≡ true → telling_with r ≡ telling_of entries q
+  reason-tells r lt told same =
+      let w = entry_at entries at lt in
+      telling-with (asked_by w.0) r ∙ ap telling_by (sym (told w.0 w.1))
+      ∙ told-here entries at q behind w.0 w.1 (subst (λ (o : Question). is_same o q ≡ true) (asked-here w.0 w.1) same)
+
+  -- and nothing, where it is another
+  pub other-tells : RiseBy question_of entries → ((e : Entry) → slice_get entries at ≡ Some e → IsBefore (question_of e) q → ⊥) → is_same (numbers_told p) q ≡ false → telling.TheVariants.Nothing ≡ telling_of entries q
+  other-tells rise stops other = told-nowhere entries at q rise behind (λ e is. (stops e is, subst (λ (o : Question). is_same o q ≡ false) (asked-here e is) other))
+
+pub none-past : (entries : List Entry) (at : ℕ) → length entries ≤ at → (e : Entry) → slice_get entries at ≡ Some e → ⊥
+none-past entries at past e is = none-some e (sym (slice_get_past entries at past) ∙ is)
+
+-- behind all entries nothing is told
+pub none-tells : (entries : List Entry) (at : ℕ) (q : Question) → IsBehind entries at q → RiseBy question_of entries → length entries ≤ at → telling.TheVariants.Nothing ≡ telling_of entries q
+none-tells entries at q behind rise past = told-nowhere entries at q rise behind (λ e is. absurd (none-past entries at past e is))

@@ -10,7 +10,7 @@ use Rattle.robust_cert.specs.declared.certificate.Question.{Question}
 use Rattle.robust_cert.specs.declared.certificate.Entry.{Entry}
 use Rattle.robust_cert.specs.declared.certificate.Entry.TheVariants.{Apart, Cover}
 use Rattle.robust_cert.specs.Json.{node_data, chain_data, list_data, entry_data, whole_data}
-use Rattle.robust_cert.proofs.Entries.{kinds_differ}
+use Rattle.robust_cert.proofs.EntryValues.{kinds_differ}
 
 -- ---- a node is in its value
 

@@ -1,28 +1,27 @@
 -- Entry by entry: what stands so far, and which fault is the first.
-use Rattle.std.proofs.Common.{◌≡◌, ℕ, ◌<◌, ◌+◌, ◌↔◌, Bool, true, false, List, [], ◌∷◌, ◌++◌, length, take, get_or, refl, sym, subst, ap, ◌∙◌, arith, zero, suc, Some}
+use Rattle.std.proofs.Common.{◌≡◌, ℕ, ◌<◌, ◌+◌, ◌-◌, ◌↔◌, Bool, true, false, List, [], ◌∷◌, ◌++◌, length, take, get_or, refl, sym, subst, ap, ◌∙◌, arith, zero, suc, Some}
 use Rattle.std.specs.Prelude.{slice_get, All}
 use Rattle.std.proofs.lemmas.List.{take_more, length-take-le}
 use Rattle.std.proofs.lemmas.List.Elements.{All-nil, All-cons, All-head, All-tail, All-more, All-push}
 use Rattle.std.proofs.lemmas.Bool.{false≢true}
-use Rattle.std.proofs.lemmas.Option.{none-some, same_Some, slice_get_read}
+use Rattle.std.proofs.lemmas.Option.{none-some}
 use Rattle.prog_check.specs.declared.path.Access.{Access}
 use Rattle.prog_check.specs.declared.path.Path.{Path}
 use Rattle.prog_paths.specs.StaticGraph.{Question}
 use Rattle.prog_paths.specs.Asked.{IsQuestion}
 use Rattle.prog_paths.specs.Listing.{IsBefore, RiseBy}
+use Rattle.robust_cert.specs.declared.certificate.Question.{Question as Asked}
 use Rattle.robust_cert.specs.declared.certificate.Entry.{Entry}
 use Rattle.robust_cert.specs.declared.certificate.Certificate.{Certificate}
+use Rattle.robust_cert.specs.declared.entries.Reason.{Reason}
 use Rattle.robust_cert.specs.declared.fault.CertFault.{CertFault}
 use Rattle.robust_cert.specs.declared.fault.CertFault.TheVariants.{TooLarge, PathCount, NoSuchEntry, EntryOrder, BadChain, BadCover, LevelFalls, Dangerous, Memory}
-use Rattle.robust_cert.specs.Accepted.{question_of, IsFitting, ChainsHold, Holds}
+use Rattle.robust_cert.specs.Accepted.{numbers_told, question_of, IsFitting, ChainsHold, Holds}
 use Rattle.robust_cert.specs.Refused.{StandTo, IsAtFault, IsBehindLast, IsFirstFault}
 use Rattle.robust_cert.specs.Flaws.{IsAskedPair, StandsAt, IsFaultOf, IsFaultAt}
-use Rattle.robust_cert.proofs.Cursor.{before_trans}
-
-entry_at : (entries : List Entry) (k : ℕ) → k < length entries → (e : Entry) × (slice_get entries k ≡ Some e) × (get_or entries k e ≡ e)
-entry_at [] k lt = absurd (omega arith)
-entry_at (e ∷ rest) zero lt = (e, refl, refl)
-entry_at (e ∷ rest) (suc k) lt = entry_at rest k (omega (arith, lt))
+use Rattle.robust_cert.specs.Sharing.{asked_by, entry_with}
+use Rattle.robust_cert.proofs.Cursor.{before_trans, question-asked}
+use Rattle.robust_cert.proofs.Shared.{entry_at}
 
 slice_get-take : (k : ℕ) (xs : List Entry) (j : ℕ) (x : Entry) → slice_get (take k xs) j ≡ Some x → slice_get xs j ≡ Some x
 slice_get-take zero xs j x h = absurd (none-some x h)
@@ -91,26 +90,48 @@ module _ (nodes : List Path) (c : Certificate) (k : ℕ) (inside : k < length c.
 
 -- ---- one entry
 
-module _ (nodes : List Path) (entries : List Entry) (k : ℕ) (x : Entry) (inside : k < length entries) (is : x ≡ get_or entries k x) (q : Question) (named : q ≡ question_of x) (mine theirs : Access) (pair : IsAskedPair nodes q mine theirs)
-    (behind : Bool) (says : (e : Entry) → slice_get entries k ≡ Some e → (behind ≡ true) ↔ IsBehindLast entries k e) where
-  same_entry : (e : Entry) → slice_get entries k ≡ Some e → x ≡ e
-  same_entry e at = same_Some x e (sym (slice_get_read entries (length entries) k x refl inside is) ∙ at)
+-- an entry is about no question
+pub no-question : (nodes : List Path) (entries : List Entry) (k : ℕ) (p : Asked) → ((e : Entry) → slice_get entries k ≡ Some e → p ≡ asked_by e) → (q : Question) → q ≡ numbers_told p → (IsQuestion nodes q → ⊥) → IsFaultAt nodes entries k (NoSuchEntry k)
+no-question nodes entries k p about q named against e at = (refl, λ h. against (subst (IsQuestion nodes) (question-asked e ∙ ap numbers_told (sym (about e at)) ∙ sym named) h))
 
+-- an entry that isn't the first stands behind the one before it, if their questions do
+module _ (entries : List Entry) (k : ℕ) (inside : k < length entries) (later : 0 < k) (o p : Asked) (before : (e : Entry) → slice_get entries (k - 1) ≡ Some e → o ≡ asked_by e) (about : (e : Entry) → slice_get entries k ≡ Some e → p ≡ asked_by e)
+    (m n : Question) (first : m ≡ numbers_told o) (second : n ≡ numbers_told p) (b : Bool) (says : (b ≡ true) ↔ IsBefore m n) (e : Entry) (at : slice_get entries k ≡ Some e) where
+  second_is : n ≡ question_of e
+  second_is = second ∙ ap numbers_told (about e at) ∙ sym (question-asked e)
+
+  first_is : (last : Entry) → slice_get entries (k - 1) ≡ Some last → m ≡ question_of last
+  first_is last is = first ∙ ap numbers_told (before last is) ∙ sym (question-asked last)
+
+  pub behind-last : (b ≡ true) ↔ IsBehindLast entries k e
+  behind-last = (
+    λ h j last next is. let place : j ≡ k - 1 = omega (arith, next, later) in
+        subst (λ (r : Question). IsBefore r (question_of e)) (first_is last (subst (λ (i : ℕ). slice_get entries i ≡ Some last) place is)) (subst (IsBefore m) second_is (says.0 h)),
+    λ h. let w = entry_at entries (k - 1) (omega (arith, inside, later)) in
+        says.1 (subst (IsBefore m) (sym second_is) (subst (λ (r : Question). IsBefore r (question_of e)) (sym (first_is w.0 w.1)) (h (k - 1) w.0 (omega (arith, later)) w.1))),
+  )
+
+module _ (nodes : List Path) (entries : List Entry) (k : ℕ) (p : Asked) (about : (e : Entry) → slice_get entries k ≡ Some e → p ≡ asked_by e)
+    (q : Question) (named : q ≡ numbers_told p) (mine theirs : Access) (pair : IsAskedPair nodes q mine theirs) (behind : Bool) (says : (e : Entry) → slice_get entries k ≡ Some e → (behind ≡ true) ↔ IsBehindLast entries k e) where
   asked : (e : Entry) → slice_get entries k ≡ Some e → IsQuestion nodes (question_of e)
-  asked e at = subst (λ (f : Entry). IsQuestion nodes (question_of f)) (same_entry e at) (subst (IsQuestion nodes) named (record { mine = mine; theirs = theirs; asked = pair.asked; asks = pair.asks }))
+  asked e at =
+      subst (IsQuestion nodes) (named ∙ ap numbers_told (about e at) ∙ sym (question-asked e)) (record { mine = mine; theirs = theirs; asked = pair.asked; asks = pair.asks })
 
   pub order-fault : behind ≡ false → IsFaultAt nodes entries k (EntryOrder k)
   order-fault against e at = (refl, asked e at, λ b. false≢true (sym against ∙ (says e at).1 b))
 
-  module _ (yes : behind ≡ true) where
-    pub entry-stands : IsFitting nodes x → ChainsHold nodes x → StandsAt nodes entries k
+  module _ (r : Reason) (told : (e : Entry) → slice_get entries k ≡ Some e → e ≡ entry_with (asked_by e) r) (yes : behind ≡ true) where
+    same_entry : (e : Entry) → slice_get entries k ≡ Some e → entry_with p r ≡ e
+    same_entry e at = ap (λ (o : Asked). entry_with o r) (about e at) ∙ sym (told e at)
+
+    pub entry-stands : IsFitting nodes (entry_with p r) → ChainsHold nodes (entry_with p r) → StandsAt nodes entries k
     entry-stands fitting chains e at = (
       record { question = asked e at; fitting = subst (IsFitting nodes) (same_entry e at) fitting; chains = subst (ChainsHold nodes) (same_entry e at) chains },
       (says e at).0 yes,
     )
 
-    pub cover-fault : (IsFitting nodes x → ⊥) → IsFaultAt nodes entries k (BadCover k)
+    pub cover-fault : (IsFitting nodes (entry_with p r) → ⊥) → IsFaultAt nodes entries k (BadCover k)
     cover-fault against e at = (refl, asked e at, (says e at).0 yes, λ f. against (subst (IsFitting nodes) (sym (same_entry e at)) f))
 
-    pub chain-fault : IsFitting nodes x × (ChainsHold nodes x → ⊥) → IsFaultAt nodes entries k (BadChain k)
+    pub chain-fault : IsFitting nodes (entry_with p r) × (ChainsHold nodes (entry_with p r) → ⊥) → IsFaultAt nodes entries k (BadChain k)
     chain-fault (fitting, against) e at = (refl, asked e at, (says e at).0 yes, subst (IsFitting nodes) (same_entry e at) fitting, λ h. against (subst (ChainsHold nodes) (sym (same_entry e at)) h))

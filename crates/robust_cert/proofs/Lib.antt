@@ -1,6 +1,8 @@
+pub mod Shared
 pub mod Texts
+mod TailTexts
 pub mod Shapes
-pub mod Entries
+pub mod EntryValues
 pub mod Members
 pub mod Distinct
 pub mod Outcomes

@@ -12,11 +12,16 @@ use Rattle.serde_json.specs.Written.{compact_text, items_text}
 use Rattle.serde_json.proofs.OnLiterals.{serde_json_on_literals}
 use Rattle.robust_cert.specs.declared.certificate.Question.{Question}
 use Rattle.robust_cert.specs.declared.certificate.Entry.{Entry}
-use Rattle.robust_cert.specs.declared.certificate.Entry.TheVariants.{Apart, Cover}
+use Rattle.robust_cert.specs.declared.certificate.Entry as entry
+use Rattle.robust_cert.specs.declared.entries.Reason.{Reason}
+use Rattle.robust_cert.specs.declared.entries.Reason.TheVariants.{Apart, Cover}
+use Rattle.robust_cert.specs.declared.entries.Told.{Told}
 use Rattle.robust_cert.specs.declared.certificate.Certificate.{Certificate}
-use Rattle.robust_cert.specs.Json.{list_data, whole_data, node_data, chain_data, entry_data, first_data, second_data, QuestionFits, EntryFits}
+use Rattle.robust_cert.specs.Json.{list_data, whole_data, node_data, chain_data, entry_data, first_data, second_data}
 use Rattle.robust_cert.specs.Helpers.{shared_text}
-use Rattle.robust_cert.specs.Parts.{asked_by, head_text, tail_text, TailFits, next_head_text, next_entry_text}
+use Rattle.robust_cert.specs.Parts.{kind_text, first_text, head_text, second_text, tail_text, next_head_text, next_entry_text}
+use Rattle.robust_cert.specs.Sharing.{entry_with, reason_at, entry_told, entries_told}
+use Rattle.robust_cert.proofs.Shared.{told-push}
 
 -- each thing's text behind a comma
 abbrev pub behind_commas : {A : Type 0} → (A → Data) → List A → List ℕ
@@ -59,43 +64,50 @@ integer_text (pos n) = refl
 integer_text (negsuc n) = refl
 
 apart_text : (q : Question) (chain : List Node)
-    → codes "[\"apart\"," ++ (decimal q.x ++ (codes "," ++ (decimal q.a ++ (codes "," ++ (decimal q.y ++ (codes "," ++ (decimal q.b ++ (codes "," ++ (compact_text (chain_data chain) ++ codes "]"))))))))) ≡ compact_text (entry_data (Apart q chain))
+    → codes "[\"apart\"," ++ (decimal q.x ++ (codes "," ++ (decimal q.a ++ (codes "," ++ (decimal q.y ++ (codes "," ++ (decimal q.b ++ (codes "," ++ (compact_text (chain_data chain) ++ codes "]"))))))))) ≡ compact_text (entry_data (entry.TheVariants.Apart q chain))
 unfolding serde_json_on_literals
 apart_text q chain = refl
 
 cover_text : (q : Question) (mine theirs : ℕ) (chains : List (List Node))
     → codes "[\"cover\"," ++ (decimal q.x ++ (codes "," ++ (decimal q.a ++ (codes "," ++ (decimal q.y ++ (codes "," ++ (decimal q.b ++ (codes "," ++ (decimal mine ++ (codes "," ++ (decimal theirs ++ (codes "," ++ (compact_text (list_data chain_data chains) ++ codes "]")))))))))))))
-    ≡ compact_text (entry_data (Cover q mine theirs chains))
+    ≡ compact_text (entry_data (entry.TheVariants.Cover q mine theirs chains))
 unfolding serde_json_on_literals
 cover_text q mine theirs chains = refl
 
 -- an entry's text is that of its three parts
-entry_text : (e : Entry) → head_text e ++ (decimal (asked_by e).y ++ tail_text e) ≡ compact_text (entry_data e)
-entry_text (Apart q chain) = rw (← apart_text q chain) (simp append_assoc)
-entry_text (Cover q mine theirs chains) = rw (← cover_text q mine theirs chains) (simp append_assoc)
+entry_text : (q : Question) (r : Reason) → head_text q r ++ (second_text q ++ tail_text r) ≡ compact_text (entry_data (entry_with q r))
+entry_text q (Apart chain) = rw (← apart_text q chain) (simp append_assoc)
+entry_text q (Cover mine theirs chains) = rw (← cover_text q mine theirs chains) (simp append_assoc)
 
 -- the pieces of this text, one pushed behind the other
-pub entry_written : (e : Entry) (q : Question) (old one two : List ℕ) → q ≡ asked_by e → one ≡ old ++ head_text e → two ≡ one ++ decimal q.y
-    → two ++ tail_text e ≡ old ++ compact_text (entry_data e)
-entry_written e q old one two a f g = rw (g, f, a, ← entry_text e) (simp append_assoc)
+pub entry_written : (q : Question) (r : Reason) (old one two : List ℕ) → one ≡ old ++ head_text q r → two ≡ one ++ second_text q
+    → two ++ tail_text r ≡ old ++ compact_text (entry_data (entry_with q r))
+entry_written q r old one two f g =
+    ap (λ (s : List ℕ). s ++ tail_text r) (g ∙ ap (λ (s : List ℕ). s ++ second_text q) f)
+    ∙ append_assoc (old ++ head_text q r) (second_text q) (tail_text r)
+    ∙ append_assoc old (head_text q r) (second_text q ++ tail_text r)
+    ∙ ap (λ (s : List ℕ). old ++ s) (entry_text q r)
 
--- and of that of an entry behind another one
-pub next_written : (e : Entry) (q : Question) (old head one two : List ℕ) → q ≡ asked_by e → head ≡ next_head_text e → one ≡ old ++ head → two ≡ one ++ decimal q.y
-    → two ++ tail_text e ≡ old ++ next_entry_text e
-next_written e q old head one two a b f g = rw (g, f, b, a, ← entry_text e) (simp append_assoc)
+-- and of that of an entry behind another one, of which the head is that of a question with the same first access
+pub next_written : (p q : Question) (r : Reason) (old head one two tail : List ℕ) → first_text p ≡ first_text q → head ≡ next_head_text p r → one ≡ old ++ head → two ≡ one ++ second_text q → tail ≡ tail_text r
+    → two ++ tail ≡ old ++ next_entry_text q r
+next_written p q r old head one two tail same a f g t =
+    let heads : head ≡ 44 ∷ head_text q r = a ∙ ap (λ (s : List ℕ). 44 ∷ (kind_text r ++ s)) same in
+    ap (λ (s : List ℕ). s ++ tail) (g ∙ ap (λ (s : List ℕ). s ++ second_text q) (f ∙ ap (λ (s : List ℕ). old ++ s) heads))
+    ∙ ap (λ (s : List ℕ). ((old ++ (44 ∷ head_text q r)) ++ second_text q) ++ s) t
+    ∙ append_assoc (old ++ (44 ∷ head_text q r)) (second_text q) (tail_text r)
+    ∙ append_assoc old (44 ∷ head_text q r) (second_text q ++ tail_text r)
+    ∙ ap (λ (s : List ℕ). old ++ (44 ∷ s)) (entry_text q r)
 
 -- one more entry is written behind the others
-pub one_more_entry : (es : List Entry) (i : ℕ) (e : Entry) (initial before after : List ℕ) → i < length es → e ≡ get_or es i e
-    → before ≡ initial ++ behind_commas entry_data (take i es) → after ≡ before ++ next_entry_text e
-    → after ≡ initial ++ behind_commas entry_data (take (i + 1) es)
-one_more_entry es i e initial before after within here past now =
-    let taken : take (i + 1) es ≡ take i es ++ e ∷ [] = take_more es i e within ∙ ap (λ w. take i es ++ w ∷ []) (sym here) in
-    now ∙ ap (λ s. s ++ next_entry_text e) past ∙ flat_map_more (λ x. 44 ∷ compact_text (entry_data x)) initial (take i es) e
-    ∙ ap (λ xs. initial ++ behind_commas entry_data xs) (sym taken)
-
-pub entry_fits : (e : Entry) → QuestionFits (asked_by e) → TailFits e → EntryFits e
-entry_fits (Apart q chain) question tail = (question, tail)
-entry_fits (Cover q mine theirs chains) question tail = (question, tail.0, tail.1, tail.2)
+pub one_more_entry : (rs : List Reason) (ts : List Told) (i : ℕ) (t : Told) (initial before after : List ℕ) → i < length ts
+    → before ≡ initial ++ behind_commas entry_data (entries_told rs (take i ts)) → after ≡ before ++ next_entry_text (get_or ts i t).question (reason_at rs (get_or ts i t).reason)
+    → after ≡ initial ++ behind_commas entry_data (entries_told rs (take (i + 1) ts))
+one_more_entry rs ts i t initial before after within past now =
+    let more : entries_told rs (take (i + 1) ts) ≡ entries_told rs (take i ts) ++ entry_told rs (get_or ts i t) ∷ [] = ap (entries_told rs) (take_more ts i t within) ∙ told-push rs (take i ts) (get_or ts i t) in
+    now ∙ ap (λ s. s ++ next_entry_text (get_or ts i t).question (reason_at rs (get_or ts i t).reason)) past
+    ∙ flat_map_more (λ x. 44 ∷ compact_text (entry_data x)) initial (entries_told rs (take i ts)) (entry_told rs (get_or ts i t))
+    ∙ ap (λ xs. initial ++ behind_commas entry_data xs) (sym more)
 
 -- a certificate's text in the first version, and in the second
 pub first_whole : (c : Certificate)

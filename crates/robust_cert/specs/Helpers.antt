@@ -1,10 +1,12 @@
 -- Words of private clauses.
 use Rattle.std.specs.Prelude.{◌≡◌, ◌≢◌, ◌++◌, ℕ, List, All, Some, codes, String, string_bytes}
 use Rattle.std.specs.declared.alloc.Global.{Global}
-use Rattle.serde_json.specs.Data.{Num, unsigned, Data, Members, object}
+use Rattle.serde_json.specs.Data.{Num, unsigned, Data, string, Items, Members, object}
 use Rattle.serde_json.specs.Written.{compact_text}
 use Rattle.robust_cert.specs.declared.certificate.Question.{Question}
 use Rattle.robust_cert.specs.declared.certificate.Entry.{Entry}
+use Rattle.robust_cert.specs.declared.entries.Reason.{Reason}
+use Rattle.robust_cert.specs.declared.entries.Reason.TheVariants.{Apart, Cover}
 use Rattle.robust_cert.specs.declared.fault.JsonFault.{JsonFault}
 use Rattle.robust_cert.specs.declared.fault.JsonFault.TheVariants.{WrongShape, Memory}
 use Rattle.robust_cert.specs.declared.fault.Untaken.{Untaken}
@@ -12,7 +14,7 @@ use Rattle.robust_cert.specs.declared.fault.Untaken as untaken
 use Rattle.robust_cert.specs.declared.certificate.Certificate.{Certificate}
 use Rattle.robust_cert.specs.declared.text.version.Version.{Version}
 use Rattle.robust_cert.specs.declared.text.version.Version as version
-use Rattle.robust_cert.specs.Json.{whole_data, list_data, entry_data, members_data, EntryFits}
+use Rattle.robust_cert.specs.Json.{whole_data, list_data, apart_items, cover_items, entry_data, members_data, EntryFits}
 use Rattle.robust_cert.specs.Ranges.{IsSmall}
 use Rattle.robust_cert.specs.Reading.{version_of}
 
@@ -23,6 +25,19 @@ Appends old new d = string_bytes new ≡ string_bytes old ++ compact_text d
 -- four values are the numbers of a question
 abbrev pub IsQuestion : Question → Data → Data → Data → Data → Type 0
 IsQuestion q x a y b = (x ≡ whole_data q.x) × (a ≡ whole_data q.a) × (y ≡ whole_data q.y) × (b ≡ whole_data q.b)
+
+-- the word for a reason, and the items that tell it
+abbrev pub reason_kind : Reason → List ℕ
+reason_kind (Apart chain) = codes "apart"
+reason_kind (Cover mine theirs chains) = codes "cover"
+
+abbrev pub reason_items : Reason → Items
+reason_items (Apart chain) = apart_items chain
+reason_items (Cover mine theirs chains) = cover_items mine theirs chains
+
+-- a reason has this word and these items
+abbrev pub IsTold : Reason → Data → Items → Type 0
+IsTold reason kind items = (kind ≡ string (reason_kind reason)) × (items ≡ reason_items reason)
 
 -- which fault a part that is not taken is of the whole
 abbrev pub fault_of : Untaken → JsonFault

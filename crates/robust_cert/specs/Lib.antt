@@ -1,3 +1,4 @@
+pub mod Sharing
 pub mod Ranges
 pub mod Json
 pub mod Reading

@@ -7,6 +7,8 @@ use Rattle.prog_paths.specs.Listing.{IsBefore}
 use Rattle.prog_paths.specs.Marks.{mark_by}
 use Rattle.robust_cert.specs.declared.certificate.Entry.{Entry}
 use Rattle.robust_cert.specs.declared.certificate.Entry.TheVariants.{Apart, Cover}
+use Rattle.robust_cert.specs.declared.entries.Reason.{Reason}
+use Rattle.robust_cert.specs.declared.entries.Reason as reason
 use Rattle.robust_cert.specs.declared.checking.numbers.Numbers.{Numbers}
 use Rattle.robust_cert.specs.declared.checking.telling.Telling.{Telling}
 use Rattle.robust_cert.specs.declared.checking.telling.Telling as telling
@@ -25,6 +27,11 @@ is_same p q = p.x == q.x && (p.a == q.a && (p.y == q.y && p.b == q.b))
 abbrev pub telling_by : Entry → Telling
 telling_by (Apart q chain) = telling.TheVariants.Apart
 telling_by (Cover q mine theirs chains) = telling.TheVariants.Cover
+
+-- what a reason tells of its question
+abbrev pub telling_with : Reason → Telling
+telling_with (reason.TheVariants.Apart chain) = telling.TheVariants.Apart
+telling_with (reason.TheVariants.Cover mine theirs chains) = telling.TheVariants.Cover
 
 -- what the entries tell of a question
 abbrev pub telling_of : List Entry → Question → Telling

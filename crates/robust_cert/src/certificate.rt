@@ -1,6 +1,7 @@
 //! What a certificate is.
 
 use crate::chain::Chain;
+use crate::entries::Entries;
 use prog_tree::Sequence;
 
 /// Access `a` of node `x` against access `b` of node `y`.
@@ -12,7 +13,7 @@ pub struct Question {
     pub b: u32,
 }
 
-/// Why a question leaves nothing to fear.
+/// Why a question leaves nothing to fear, as contracts list it: `Entries` holds such entries.
 #[derive(Debug, Drop)]
 pub enum Entry {
     /// The two accesses never meet.
@@ -33,7 +34,7 @@ pub enum Entry {
 /// What shows that a set is robust.
 #[derive(Debug, Drop)]
 pub struct Certificate {
-    pub entries: Sequence<Entry>,
+    pub entries: Entries,
     /// One for each node.
     pub levels: Sequence<u32>,
     /// For each node, how many of its accesses stand in the body of an `each`.

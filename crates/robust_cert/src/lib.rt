@@ -8,6 +8,7 @@
 mod certificate;
 mod chain;
 mod checking;
+mod entries;
 mod fault;
 mod laws;
 mod robust;
@@ -17,6 +18,7 @@ pub use certificate::{Certificate, Entry, Question};
 pub use chain::Chain;
 pub use checking::bodies::body_size;
 pub use checking::checker::verify;
+pub use entries::{Entries, Reason, Told};
 pub use fault::{CertFault, JsonFault};
 pub use laws::accepted_is_safe;
 pub use robust::RobustSet;

@@ -1,8 +1,9 @@
 -- The numbers of what is told are small.
-use Rattle.std.proofs.Common.{◌≡◌, ℕ, Bool, true, false, not, get_or, ◌<◌, ◌≤◌, ◌+◌, List, [], ◌∷◌, ◌++◌, drop, length, ◌⊎◌, inl, inr, sym, subst, ap, ◌∙◌, arith, append_assoc}
+use Rattle.std.proofs.Common.{◌≡◌, ℕ, Bool, true, false, not, get_or, ◌<◌, ◌≤◌, ◌+◌, List, [], ◌∷◌, ◌++◌, drop, length, ◌⊎◌, inl, inr, refl, sym, subst, ap, ◌∙◌, arith, append_assoc}
 use Rattle.std.specs.Prelude.{All, filter, if◌then◌else◌, Some, slice_get, slice_index_or}
-use Rattle.std.proofs.lemmas.List.{drop_more, drop_all, append-nil, get_or_append_left, get_or_push}
+use Rattle.std.proofs.lemmas.List.{drop_more, drop_all, append-nil, get_or_append_left, get_or_push, map-append}
 use Rattle.std.proofs.lemmas.Bool.{cases_lt}
+use Rattle.std.proofs.lemmas.List.Elements.{All-nil, All-cons, All-append, All-weaker}
 use Rattle.std.proofs.lemmas.Option.{slice_get_within, get_or_from_slice_get}
 use Rattle.prog_check.specs.declared.path.Access.{Access}
 use Rattle.prog_check.specs.declared.path.Path.{Path}
@@ -16,13 +17,17 @@ use Rattle.prog_paths.specs.Listing.{IsAskedOf}
 use Rattle.conflict_pairs.specs.declared.verdicts.Verdict.{Verdict}
 use Rattle.conflict_pairs.specs.declared.verdicts.Verdict.TheVariants.{Apart, Covered, Exposed}
 use Rattle.conflict_pairs.specs.declared.table.Entry.{Entry as Judged}
-use Rattle.conflict_pairs.specs.Table.{Table}
+use Rattle.conflict_pairs.specs.Table.{Table, IsOnQuestion}
 use Rattle.conflict_pairs.specs.Verdicts.{IsRight}
 use Rattle.dep_graph.specs.Counting.{IsCountOf, none, counted, passed}
 use Rattle.robust_cert.specs.declared.certificate.Entry.{Entry}
+use Rattle.robust_cert.specs.declared.entries.Reason.{Reason}
+use Rattle.robust_cert.specs.declared.entries.Told.{Told}
 use Rattle.robust_cert.specs.Accepted.{body_size}
 use Rattle.robust_cert.specs.Ranges.{IsSmall}
-use Rattle.si_repair.specs.Telling.{told_by, told_of, IsOfFew, AskedFits, VerdictFits}
+use Rattle.robust_cert.specs.Sharing.{entry_with, reason_at, entry_told, entries_told, IsWithin}
+use Rattle.si_repair.specs.Telling.{told_question, told_by, told_of, reason_of, told_numbered, IsGivenBy, IsOfFew, AskedFits, VerdictFits}
+use Rattle.si_repair.proofs.Remembered.{given-reason, given-within}
 use Rattle.si_repair.proofs.Telling.{IsEntryOf, entries_stand}
 use Rattle.si_repair.proofs.Smallness.{AreEndsSmall, question-small, falls-small, chains-small, pairs-below, access-below}
 
@@ -85,10 +90,13 @@ verdict_fits paths q (Covered m t chains) few asked right =
     )
 verdict_fits paths q (Exposed sample) few asked right = tt
 
-pub entry_fits : (t : Table) → IsOfFew t → (n : ℕ) (e : Judged) → slice_get t.entries n ≡ Some e → AskedFits e.question × VerdictFits e.verdict
+pub entry_fits : (t : Table) → IsOfFew t → (n : ℕ) (e : Judged) → slice_get t.entries n ≡ Some e → AskedFits e.question
 entry_fits t f n e at =
     let stands = subst (λ (d : Judged). IsEntryOf f.paths d) (get_or_from_slice_get t.entries n e e at) (entries_stand t f.paths f.stands n e (slice_get_within t.entries n e at)) in
-    (question_fits f.paths e.question f.few stands.asked, verdict_fits f.paths e.question e.verdict f.few stands.asked stands.right)
+    question_fits f.paths e.question f.few stands.asked
+
+pub verdicts_fit : (t : Table) → IsOfFew t → All VerdictFits t.verdicts
+verdicts_fit t f = All-weaker (IsOnQuestion f.paths) VerdictFits (λ v of_question. verdict_fits f.paths of_question.question v f.few of_question.asked of_question.right) t.verdicts f.stands.verdicts
 
 -- ---- one more entry
 
@@ -104,6 +112,30 @@ told_more old new whole es n e q v at asked judged added h =
 
 pub told_end : (old whole : List Entry) (es : List Judged) (n : ℕ) → length es ≤ n → old ++ told_of (drop n es) ≡ whole → old ≡ whole
 told_end old whole es n past h = sym (append-nil old) ∙ ap (λ (l : List Judged). old ++ told_of l) (sym (drop_all n es past)) ∙ h
+
+-- ---- one more question that has the number of its reason
+
+-- what it tells is what is told of it with its verdict
+numbered_tells : (rs : List Reason) (q : Asked) (v : Verdict) (n : ℕ) → reason_at rs n ≡ reason_of v → entries_told rs (told_numbered q v n) ≡ told_by q v
+numbered_tells rs q (Apart chain) n is = ap (λ (r : Reason). entry_with (told_question q) r ∷ []) is
+numbered_tells rs q (Covered m t chains) n is = ap (λ (r : Reason). entry_with (told_question q) r ∷ []) is
+numbered_tells rs q (Exposed sample) n is = refl
+
+numbered_within : (rs : List Reason) (q : Asked) (v : Verdict) (n : ℕ) → n < length rs → All (IsWithin rs) (told_numbered q v n)
+numbered_within rs q (Apart chain) n lt = All-cons (IsWithin rs) (record { question = told_question q; reason = n }) [] lt (All-nil (IsWithin rs))
+numbered_within rs q (Covered m t chains) n lt = All-cons (IsWithin rs) (record { question = told_question q; reason = n }) [] lt (All-nil (IsWithin rs))
+numbered_within rs q (Exposed sample) n lt = All-nil (IsWithin rs)
+
+pub numbered_more : (old new : List Told) (rs : List Reason) (q : Asked) (v : Verdict) (n : ℕ) → IsGivenBy rs v n → new ≡ old ++ told_numbered q v n → entries_told rs new ≡ entries_told rs old ++ told_by q v
+numbered_more old new rs q v n given added =
+    ap (entries_told rs) added
+    ∙ map-append (entry_told rs) old (told_numbered q v n)
+    ∙ ap (λ (l : List Entry). entries_told rs old ++ l) (numbered_tells rs q v n (given-reason rs v n given))
+
+pub within_more : (old new : List Told) (rs : List Reason) (q : Asked) (v : Verdict) (n : ℕ) → IsGivenBy rs v n → new ≡ old ++ told_numbered q v n → All (IsWithin rs) old → All (IsWithin rs) new
+within_more old new rs q v n given added h =
+    subst (λ (l : List Told). All (IsWithin rs) l) (sym added)
+    (All-append (IsWithin rs) old (told_numbered q v n) h (numbered_within rs q v n (given-within rs v n given)))
 
 -- ---- one more level
 

@@ -1,3 +1,4 @@
+pub mod Remembered
 pub mod Members
 pub mod Telling
 pub mod Leaving

@@ -1,6 +1,6 @@
 -- What a certificate tells of the entries of a table: words of private clauses.
-use Rattle.std.specs.Prelude.{◌≡◌, ℕ, ◌<◌, List, [], ◌∷◌, length, slice_index_or, All}
-use Rattle.std.specs.List.{flat_map}
+use Rattle.std.specs.Prelude.{◌≡◌, ℕ, ◌<◌, List, [], ◌∷◌, length, Some, slice_get, slice_index_or, All}
+use Rattle.std.specs.List.{flat_map, AllZip}
 use Rattle.order_facts.specs.declared.steps.Node.{Node}
 use Rattle.order_facts.specs.Chain.{IsTight}
 use Rattle.prog_check.specs.declared.path.Path.{Path}
@@ -17,6 +17,9 @@ use Rattle.dep_graph.specs.Counting.{IsCountOf}
 use Rattle.robust_cert.specs.declared.certificate.Question.{Question}
 use Rattle.robust_cert.specs.declared.certificate.Entry.{Entry}
 use Rattle.robust_cert.specs.declared.certificate.Entry as told
+use Rattle.robust_cert.specs.declared.entries.Reason.{Reason}
+use Rattle.robust_cert.specs.declared.entries.Reason as reason
+use Rattle.robust_cert.specs.declared.entries.Told.{Told}
 use Rattle.robust_cert.specs.Ranges.{IsSmall, IsOfSmall}
 use Rattle.robust_cert.specs.Json.{QuestionFits}
 use Rattle.si_repair.specs.declared.fault.AnalyseFault.{AnalyseFault}
@@ -42,6 +45,28 @@ told_by q (Exposed sample) = []
 -- what is told of the entries of a table, in order
 abbrev pub told_of : List Judged → List Entry
 told_of = flat_map (λ e. told_by e.question e.verdict)
+
+-- ---- entries that share their reasons
+
+-- the reason that a verdict gives; what stands for that of an exposed question is never told
+abbrev pub reason_of : Verdict → Reason
+reason_of (Apart chain) = reason.TheVariants.Apart chain
+reason_of (Covered m t chains) = reason.TheVariants.Cover m t chains
+reason_of (Exposed sample) = reason.TheVariants.Cover 0 0 []
+
+-- a reason of that number is the one that a verdict gives
+abbrev pub IsGivenBy : List Reason → Verdict → ℕ → Type 0
+IsGivenBy reasons verdict n = slice_get reasons n ≡ Some (reason_of verdict)
+
+-- numbers of the reasons that verdicts give, one each
+abbrev pub AreGiven : List Verdict → List Reason → List ℕ → Type 0
+AreGiven verdicts reasons numbers = AllZip (IsGivenBy reasons) verdicts numbers
+
+-- what is told of a question with its verdict, by the number of its reason
+abbrev pub told_numbered : Asked → Verdict → ℕ → List Told
+told_numbered q (Apart chain) n = record { question = told_question q; reason = n } ∷ []
+told_numbered q (Covered m t chains) n = record { question = told_question q; reason = n } ∷ []
+told_numbered q (Exposed sample) n = []
 
 -- ---- levels
 

@@ -6,6 +6,7 @@ mod analysis;
 mod fault;
 mod finding;
 mod plans;
+mod reasons;
 mod repairs;
 mod writing;
 

@@ -5,18 +5,19 @@ ghost use Rattle.prog_paths.specs.Few.{AreFew};
 ghost use Rattle.conflict_pairs.specs.Table.{StandsFor};
 ghost use Rattle.robust_cert.specs.Accepted.{body_size};
 ghost use Rattle.robust_cert.specs.Ranges.{IsSmall};
-ghost use Rattle.si_repair.specs.Telling.{told_question, told_by, told_of, AreLevels, IsOfFew, AskedFits, TightFits, VerdictFits};
+ghost use Rattle.robust_cert.specs.Sharing.{entries_told, IsWithin};
+ghost use Rattle.si_repair.specs.Telling.{told_question, told_of, told_numbered, AreGiven, AreLevels, IsOfFew, AskedFits};
 
+use crate::reasons::{SharedReasons, reasons_of};
 use conflict_pairs::{PairTable, Verdict};
 use dep_graph::Graph;
-use order_facts::Nodes;
 use prog_check::Path;
 use prog_tree::Sequence;
-use robust_cert::{Certificate, Chain, Entry, Question, body_size};
+use robust_cert::{Certificate, Entries, Question, Told, body_size};
 use std::alloc::{AllocError, Global};
 
 /// A number as a certificate has it.
-fn small(number: usize) -> u32
+pub(crate) fn small(number: usize) -> u32
     requires { IsSmall number }
     ensures { result ≡ number }
 {
@@ -35,73 +36,58 @@ fn told_question(asked: conflict_pairs::Question) -> Question
     }
 }
 
-fn copy_of(alloc: Global, chain: &conflict_pairs::Chain) -> Result<Chain, AllocError>
-    requires { TightFits chain.now }
-    ensures { IfOk result (λ copy. copy ≡ chain.now) }
-{
-    let copy = Nodes::from_slice(alloc, chain.as_slice())?;
-    match Chain::from_nodes(copy) {
-        Some(chain) => Ok(chain),
-        None => unreachable!(),
-    }
-}
-
-fn copies_of(alloc: Global, chains: &[conflict_pairs::Chain]) -> Result<Sequence<Chain>, AllocError>
-    requires { All TightFits chains.now }
-    ensures { IfOk result (λ copies. copies ≡ chains.now) }
-{
-    let mut copies = Vec::with_capacity(alloc, chains.len())?;
-    for chain in chains {
-        copies.push(copy_of(alloc, chain)?)?;
-    }
-    Ok(Sequence::from_vec(copies))
-}
-
-/// Adds what is told of a question with its verdict.
+/// Adds a question with the number of its reason, unless it is exposed.
 fn push_told(
-    alloc: Global,
     asked: conflict_pairs::Question,
     verdict: &Verdict,
-    entries: &mut Vec<Entry>,
+    number: usize,
+    told: &mut Vec<Told>,
 ) -> Result<(), AllocError>
-    requires question { AskedFits asked }
-    requires verdict { VerdictFits verdict.now }
-    ensures { OnOk result (entries.new.items ≡ entries.old.items ++ told_by asked verdict.now) }
+    requires { AskedFits asked }
+    ensures { OnOk result
+        (told.new.items ≡ told.old.items ++ told_numbered asked verdict.now number) }
 {
-    let question = told_question(asked);
     match verdict {
-        Verdict::Apart(chain) => {
-            let chain = copy_of(alloc, chain)?;
-            entries.push(Entry::Apart { question, chain })?;
-        }
-        Verdict::Covered {
-            mine,
-            theirs,
-            chains,
-        } => {
-            let chains = copies_of(alloc, chains.as_slice())?;
-            entries.push(Entry::Cover {
+        Verdict::Exposed(_) => {}
+        _ => {
+            let question = told_question(asked);
+            told.push(Told {
                 question,
-                mine: small(*mine),
-                theirs: small(*theirs),
-                chains,
+                reason: number,
             })?;
         }
-        Verdict::Exposed(_) => {}
     }
     Ok(())
 }
 
-/// What is told of the questions of a table.
-fn entries_of(alloc: Global, table: &PairTable) -> Result<Vec<Entry>, AllocError>
-    requires { IsOfFew table.now }
-    ensures { IfOk result (λ entries. entries.items ≡ told_of table.now.entries) }
+/// The questions of a table that are not exposed, with the numbers of their reasons.
+fn questions_of(
+    alloc: Global,
+    table: &PairTable,
+    given: &SharedReasons,
+) -> Result<Vec<Told>, AllocError>
+    requires few { IsOfFew table.now }
+    requires given { AreGiven table.now.verdicts given.now.reasons.items given.now.numbers.items }
+    ensures entries { IfOk result (λ told.
+        entries_told given.now.reasons.items told.items ≡ told_of table.now.entries) }
+    ensures within { IfOk result (λ told. All (IsWithin given.now.reasons.items) told.items) }
 {
-    let mut entries = Vec::with_capacity(alloc, table.len())?;
+    let mut told = Vec::with_capacity(alloc, table.len())?;
     for n in 0..table.len() {
-        push_told(alloc, table.question(n), table.verdict(n), &mut entries)?;
+        let number = given.numbers[table.verdict_number(n)];
+        push_told(table.question(n), table.verdict(n), number, &mut told)?;
     }
-    Ok(entries)
+    Ok(told)
+}
+
+/// What is told of the questions of a table.
+fn entries_of(alloc: Global, table: &PairTable) -> Result<Entries, AllocError>
+    requires { IsOfFew table.now }
+    ensures { IfOk result (λ entries. entries ≡ told_of table.now.entries) }
+{
+    let given = reasons_of(alloc, table.verdicts())?;
+    let told = questions_of(alloc, table, &given)?;
+    Ok(Entries::of(told, given.reasons))
 }
 
 /// The level of each node.
@@ -144,7 +130,7 @@ pub fn certificate_of(
     ensures bodies { IfOk result (λ c. c.bodies ≡ map body_size paths.now) }
 {
     Ok(Certificate {
-        entries: Sequence::from_vec(entries_of(alloc, table)?),
+        entries: entries_of(alloc, table)?,
         levels: Sequence::from_vec(levels_of(alloc, graph)?),
         bodies: Sequence::from_vec(bodies_of(alloc, paths)?),
     })

@@ -3,7 +3,7 @@
 use crate::examples::KEPT_PAYS;
 use order_facts::Node;
 use prog_tree::Sequence;
-use robust_cert::{Certificate, Chain, Entry, JsonFault, Question, from_json, to_json};
+use robust_cert::{Certificate, Chain, Entries, JsonFault, Question, Reason, from_json, to_json};
 use std::alloc::Global;
 use std::process::Abort;
 use std::test::Fail;
@@ -240,24 +240,21 @@ fn chains(alloc: Global, mine: Node, theirs: Node) -> Result<Sequence<Chain>, Fa
 }
 
 /// The only entry of the certificate of the report set.
-fn report_entry(alloc: Global) -> Result<Entry, Fail> {
+fn report_entries(alloc: Global) -> Result<Entries, Fail> {
     let question = Question {
         x: 2,
         a: 2,
         y: 0,
         b: 2,
     };
-    Ok(Entry::Cover {
-        question,
+    let reason = Reason::Cover {
         mine: 0,
         theirs: 0,
         chains: chains(alloc, Node::Mine(0), Node::Theirs(0))?,
-    })
-}
-
-fn report_entries(alloc: Global) -> Result<Sequence<Entry>, Fail> {
-    let entry = report_entry(alloc)?;
-    Ok(Sequence::from_vec(Vec::from_array(alloc, [entry])?))
+    };
+    let mut entries = Entries::new(alloc);
+    entries.push(question, reason)?;
+    Ok(entries)
 }
 
 /// The certificate of the report set, with these numbers of accesses that stand in bodies.
@@ -290,6 +287,47 @@ fn a_certificate_is_built_and_written(rt: HostRuntime) -> Result<(), Fail> {
     for (bodies, written) in [([0, 0, 0], REPORT), ([0, 0, 6], REPORT_WITH_BODIES)] {
         let is_written = is_report_written(rt.alloc(), bodies, written)?;
         assert!(rt; is_written, "{written}");
+    }
+    Ok(())
+}
+
+/// Two questions, which two numbers answer.
+const ASKED: [Question; 2] = [
+    Question {
+        x: 0,
+        a: 0,
+        y: 0,
+        b: 1,
+    },
+    Question {
+        x: 0,
+        a: 2,
+        y: 3,
+        b: 1,
+    },
+];
+
+/// Whether a reason is that the accesses never meet, by this chain.
+fn is_apart_by(reason: &Reason, nodes: &[Node]) -> bool {
+    match reason {
+        Reason::Apart(chain) => chain.as_slice() == nodes,
+        Reason::Cover { .. } => false,
+    }
+}
+
+#[test]
+fn entries_may_share_a_reason(rt: HostRuntime) -> Result<(), Fail> {
+    let nodes = [Node::Number(2), Node::Number(1)];
+    let reason = Reason::Apart(chain(rt.alloc(), nodes)?);
+    let mut entries = Entries::new(rt.alloc());
+    assert!(rt; entries.is_empty());
+    entries.push(ASKED[0], reason)?;
+    assert!(rt; entries.len() == 1);
+    entries.push_like(ASKED[1], 0)?;
+    assert!(rt; entries.len() == 2);
+    for k in 0..2 {
+        assert!(rt; entries.question(k) == ASKED[k], "{k}");
+        assert!(rt; is_apart_by(entries.reason(k), &nodes), "{k}");
     }
     Ok(())
 }

@@ -207,6 +207,25 @@ fn transfers_are_covered(rt: HostRuntime) -> Result<(), Fail> {
     Ok(())
 }
 
+/// The verdict on the question of a number, found by the verdict's own number.
+fn numbered_verdict(alloc: Global, table: &PairTable, n: usize) -> Result<String, AllocError> {
+    let mut text = String::new(alloc);
+    if n < table.len() {
+        push_verdict(&mut text, &table.verdicts()[table.verdict_number(n)])?;
+    }
+    Ok(text)
+}
+
+#[test]
+fn a_verdict_is_found_by_its_number(rt: HostRuntime) -> Result<(), Fail> {
+    let paths = paths_of(rt.alloc(), TRANSFER)?;
+    let table = table_of(&rt, rt.alloc(), &paths);
+    drop(paths);
+    let told = numbered_verdict(rt.alloc(), &table?, 2)?;
+    is_told(&rt, told.as_str(), "exposed 0 0 0 0 0 0");
+    Ok(())
+}
+
 #[test]
 fn more_than_a_million_questions_are_too_many(rt: HostRuntime) -> Result<(), Fail> {
     let paths = wide_paths(rt.alloc(), 2)?;

@@ -23,6 +23,21 @@ fn a_square_joins_one_way(rt: HostRuntime) -> Result<(), Fail> {
 }
 
 #[test]
+fn joins_reach_further_node_by_node(rt: HostRuntime) -> Result<(), Fail> {
+    let mut square = Square::new(rt.alloc(), 4)?;
+    square.raise(3, 1);
+    square.raise(1, 0);
+    square.raise(0, 2);
+    square.join(1);
+    let through_one = [square.get(3, 0), square.get(3, 2)];
+    square.join(0);
+    let through_both = [square.get(3, 2), square.get(1, 2), square.get(2, 3)];
+    assert!(rt; through_one == [true, false]);
+    assert!(rt; through_both == [true, true, false]);
+    Ok(())
+}
+
+#[test]
 fn a_row_takes_in_another_and_is_walked(rt: HostRuntime) -> Result<(), Fail> {
     let mut square = Square::new(rt.alloc(), 70)?;
     square.raise(0, 69);

@@ -39,7 +39,7 @@ fn check_left(alloc: Global, paths: &[Path], certificate: &Certificate) -> Resul
     ensures accepted { OnOk result (IsAccepted paths.now certificate.now) }
     ensures fault { IfErr result (λ fault. IsFirstFault paths.now certificate.now fault) }
 {
-    let left = left_of(alloc, paths, certificate.entries.as_slice())?;
+    let left = left_of(alloc, paths, &certificate.entries)?;
     check_levels(&left, certificate.levels.as_slice())
 }
 

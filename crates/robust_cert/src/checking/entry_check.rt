@@ -5,35 +5,39 @@ ghost use Rattle.robust_cert.specs.declared.certificate.Certificate.{Certificate
 ghost use Rattle.robust_cert.specs.Refused.{IsOfSize, StandTo, IsBehindLast, IsFirstFault};
 ghost use Rattle.robust_cert.specs.Flaws.{StandsAt, IsFaultAt};
 
-use crate::certificate::{Certificate, Entry};
+use crate::certificate::Certificate;
 use crate::checking::flaw::{Flaw, asked_pair, check_reason};
 use crate::checking::numbers::Numbers;
+use crate::entries::Entries;
 use crate::fault::CertFault;
 use prog_check::Path;
 
 /// Whether the entry of a number stands behind the one before it.
-fn is_behind_last(entries: &[Entry], k: usize) -> bool
+fn is_behind_last(entries: &Entries, k: usize) -> bool
     requires { k < length entries.now }
     ensures { (e : Entry) → slice_get entries.now k ≡ Some e
         → (IsTrue result ↔ IsBehindLast entries.now k e) }
 {
-    k == 0 || Numbers::of_entry(&entries[k - 1]).is_before(Numbers::of_entry(&entries[k]))
+    k == 0
+        || Numbers::of_told(entries.question(k - 1)).is_before(Numbers::of_told(entries.question(
+            k,
+        )))
 }
 
 /// Whether the entry of a number is about a question, stands behind the last, and says what holds.
-fn check_entry(paths: &[Path], entries: &[Entry], k: usize) -> Result<(), CertFault>
+fn check_entry(paths: &[Path], entries: &Entries, k: usize) -> Result<(), CertFault>
     requires { k < length entries.now }
     ensures stands { OnOk result (StandsAt paths.now entries.now k) }
     ensures fault { IfErr result (λ fault. IsFaultAt paths.now entries.now k fault) }
 {
-    let entry = &entries[k];
-    let Some(asked) = asked_pair(paths, Numbers::of_entry(entry)) else {
+    let question = entries.question(k);
+    let Some(asked) = asked_pair(paths, Numbers::of_told(question)) else {
         return Err(CertFault::NoSuchEntry(k));
     };
     if !is_behind_last(entries, k) {
         return Err(CertFault::EntryOrder(k));
     }
-    match check_reason(paths, asked, entry) {
+    match check_reason(paths, question, asked, entries.reason(k)) {
         Ok(()) => Ok(()),
         Err(Flaw::Cover) => Err(CertFault::BadCover(k)),
         Err(Flaw::Chain) => Err(CertFault::BadChain(k)),
@@ -47,9 +51,8 @@ pub fn check_entries(paths: &[Path], certificate: &Certificate) -> Result<(), Ce
         (StandTo paths.now certificate.now (length certificate.now.entries)) }
     ensures fault { IfErr result (λ fault. IsFirstFault paths.now certificate.now fault) }
 {
-    let entries = certificate.entries.as_slice();
-    for k in 0..entries.len() {
-        check_entry(paths, entries, k)?;
+    for k in 0..certificate.entries.len() {
+        check_entry(paths, &certificate.entries, k)?;
     }
     Ok(())
 }

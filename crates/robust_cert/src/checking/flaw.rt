@@ -6,14 +6,16 @@ ghost use Rattle.prog_paths.specs.Asked.{IsQuestion};
 ghost use Rattle.prog_paths.specs.Kinds.{items_of};
 ghost use Rattle.prog_paths.specs.Questions.{mine_node, their_node};
 ghost use Rattle.prog_paths.specs.Shown.{Runs, key_pairs, ShowEqual};
-ghost use Rattle.robust_cert.specs.Accepted.{question_of, IsFitting, ChainsHold};
+ghost use Rattle.robust_cert.specs.Accepted.{numbers_told, IsFitting, ChainsHold};
+ghost use Rattle.robust_cert.specs.Sharing.{entry_with};
 ghost use Rattle.robust_cert.specs.Telling.{question_with};
 ghost use Rattle.robust_cert.specs.Flaws.{facts_between, IsAskedPair, CoversWith, IsFlawOf};
 
-use crate::certificate::Entry;
+use crate::certificate::Question;
 use crate::chain::Chain;
 use crate::checking::by_facts::{falls, runs};
 use crate::checking::numbers::Numbers;
+use crate::entries::Reason;
 use order_facts::Node;
 use prog_check::{Access, Path, Term};
 use prog_paths::{Placed, asks, asks_read_write, may_cover, mine_node, second_terms, their_node};
@@ -141,28 +143,33 @@ fn covers_with<'a>(
     }
 }
 
-/// Whether an entry, whose question asks of two accesses, says what holds.
-pub fn check_reason(paths: &[Path], asked: (&Access, &Access), entry: &Entry) -> Result<(), Flaw>
-    requires { IsAskedPair paths.now (question_of entry.now) asked.0.now asked.1.now }
-    ensures fitting { OnOk result (IsFitting paths.now entry.now) }
-    ensures chains { OnOk result (ChainsHold paths.now entry.now) }
-    ensures flaw { IfErr result (λ flaw. IsFlawOf paths.now entry.now flaw) }
+/// Whether the reason of a question, which asks of two accesses, says what holds.
+pub fn check_reason(
+    paths: &[Path],
+    question: Question,
+    asked: (&Access, &Access),
+    reason: &Reason,
+) -> Result<(), Flaw>
+    requires { IsAskedPair paths.now (numbers_told question) asked.0.now asked.1.now }
+    ensures fitting { OnOk result (IsFitting paths.now (entry_with question reason.now)) }
+    ensures chains { OnOk result (ChainsHold paths.now (entry_with question reason.now)) }
+    ensures flaw { IfErr result
+        (λ flaw. IsFlawOf paths.now (entry_with question reason.now) flaw) }
 {
-    match entry {
-        Entry::Apart { chain, .. } => {
+    match reason {
+        Reason::Apart(chain) => {
             if falls(asked, chain.as_slice()) {
                 Ok(())
             } else {
                 Err(Flaw::Chain)
             }
         }
-        Entry::Cover {
+        Reason::Cover {
             mine,
             theirs,
             chains,
-            ..
         } => {
-            let question = Numbers::of_entry(entry);
+            let question = Numbers::of_told(question);
             let cover = (*mine as usize, *theirs as usize);
             let Some((mine, theirs)) = covers_with(paths, question, asked, cover, chains.len())
             else {

@@ -6,9 +6,9 @@ ghost use Rattle.order_facts.specs.Square.{Enters};
 ghost use Rattle.robust_cert.specs.Accepted.{question_of};
 ghost use Rattle.robust_cert.specs.Leaving.{some_edge, some_vulnerable, Leaves, EntersMark, IsReady, Passes};
 
-use crate::certificate::Entry;
 use crate::checking::numbers::Numbers;
 use crate::checking::telling::{mark_with, told};
+use crate::entries::Entries;
 use order_facts::Square;
 use prog_check::Path;
 use prog_paths::{Mark, Placed, all_places, asks, enter_edges, enter_vulnerable, question_between};
@@ -31,7 +31,7 @@ fn enter(left: &mut Left, mark: Mark)
 /// Enters what an access asks of another, where it asks.
 fn enter_question(
     left: &mut Left,
-    entries: &[Entry],
+    entries: &Entries,
     cursor: usize,
     first: &Placed,
     second: &Placed,
@@ -52,7 +52,7 @@ fn enter_question(
 /// Enters what one access asks of each.
 fn enter_asked(
     left: &mut Left,
-    entries: &[Entry],
+    entries: &Entries,
     cursor: usize,
     first: &Placed,
     places: &[Placed],
@@ -68,7 +68,7 @@ fn enter_asked(
 }
 
 /// Enters what each asks of each.
-fn enter_all(left: &mut Left, entries: &[Entry], places: &[Placed])
+fn enter_all(left: &mut Left, entries: &Entries, places: &[Placed])
     requires { IsReady entries.now (asked_among places.now places.now) 0 }
     ensures edges { Enters left.old.edges left.new.edges
         (some_edge entries.now (asked_among places.now places.now)) }
@@ -82,7 +82,7 @@ fn enter_all(left: &mut Left, entries: &[Entry], places: &[Placed])
 }
 
 /// What the entries leave of the paths' questions. Both rise, so one pass over both is enough.
-pub fn left_of(alloc: Global, paths: &[Path], entries: &[Entry]) -> Result<Left, AllocError>
+pub fn left_of(alloc: Global, paths: &[Path], entries: &Entries) -> Result<Left, AllocError>
     requires { RiseBy question_of entries.now }
     ensures { IfOk result (λ left. Leaves paths.now entries.now left) }
 {

@@ -2,10 +2,10 @@
 ghost use Rattle.std.specs.Prelude.{◌≡◌, ◌↔◌, IsTrue};
 ghost use Rattle.prog_paths.specs.Asked.{numbers_of};
 ghost use Rattle.prog_paths.specs.Listing.{IsPlaceBefore, IsBefore};
-ghost use Rattle.robust_cert.specs.Accepted.{question_of};
+ghost use Rattle.robust_cert.specs.Accepted.{numbers_told};
 ghost use Rattle.robust_cert.specs.Telling.{question_with, is_same};
 
-use crate::certificate::Entry;
+use crate::certificate;
 use prog_paths::Question;
 
 /// Access `a` of node `x` against access `b` of node `y`.
@@ -24,11 +24,10 @@ fn is_place_before(x: usize, a: usize, y: usize, b: usize) -> bool
 }
 
 impl Numbers {
-    /// Those of the question that an entry is about.
-    pub fn of_entry(entry: &Entry) -> Numbers
-        ensures { question_with result ≡ question_of entry.now }
+    /// Those that a certificate tells of a question.
+    pub fn of_told(question: certificate::Question) -> Numbers
+        ensures { question_with result ≡ numbers_told question }
     {
-        let (Entry::Apart { question, .. } | Entry::Cover { question, .. }) = entry;
         Numbers {
             x: question.x as usize,
             a: question.a as usize,

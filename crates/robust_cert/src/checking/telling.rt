@@ -3,10 +3,10 @@ ghost use Rattle.std.specs.Prelude.{◌≡◌, Some, slice_get};
 ghost use Rattle.prog_paths.specs.Listing.{IsBefore, RiseBy};
 ghost use Rattle.robust_cert.specs.declared.certificate.Entry.{Entry};
 ghost use Rattle.robust_cert.specs.Accepted.{question_of};
-ghost use Rattle.robust_cert.specs.Telling.{question_with, telling_by, telling_of, IsBehind, may_meet, may_be_exposed, mark_with};
+ghost use Rattle.robust_cert.specs.Telling.{question_with, telling_with, telling_of, IsBehind, may_meet, may_be_exposed, mark_with};
 
-use crate::certificate::Entry;
 use crate::checking::numbers::Numbers;
+use crate::entries::{Entries, Reason};
 use prog_paths::{Mark, Question, mark_by};
 
 /// What is told of a question.
@@ -19,40 +19,41 @@ pub enum Telling {
     Cover,
 }
 
-fn told_by(entry: &Entry) -> Telling
-    ensures { result ≡ telling_by entry.now }
+fn told_by(reason: &Reason) -> Telling
+    ensures { result ≡ telling_with reason.now }
 {
-    match entry {
-        Entry::Apart { .. } => Telling::Apart,
-        Entry::Cover { .. } => Telling::Cover,
+    match reason {
+        Reason::Apart(_) => Telling::Apart,
+        Reason::Cover { .. } => Telling::Cover,
     }
 }
 
 /// The first entry from the cursor on that stands not before the question.
-fn advanced(entries: &[Entry], cursor: usize, question: Numbers) -> usize
+fn advanced(entries: &Entries, cursor: usize, question: Numbers) -> usize
     requires { IsBehind entries.now cursor (question_with question) }
     ensures passed { IsBehind entries.now result (question_with question) }
     ensures stops { (e : Entry) → slice_get entries.now result ≡ Some e
         → ¬ IsBefore (question_of e) (question_with question) }
 {
     let mut at = cursor;
-    while at < entries.len() && Numbers::of_entry(&entries[at]).is_before(question) {
+    while at < entries.len() && Numbers::of_told(entries.question(at)).is_before(question) {
         at += 1;
     }
     at
 }
 
 /// What the entries tell of the question, and the cursor for the questions behind it.
-pub fn told(entries: &[Entry], cursor: usize, question: Numbers) -> (Telling, usize)
+pub fn told(entries: &Entries, cursor: usize, question: Numbers) -> (Telling, usize)
     requires rising { RiseBy question_of entries.now }
     requires behind { IsBehind entries.now cursor (question_with question) }
     ensures telling { result.0 ≡ telling_of entries.now (question_with question) }
     ensures behind { IsBehind entries.now result.1 (question_with question) }
 {
     let at = advanced(entries, cursor, question);
-    match entries.get(at) {
-        Some(entry) if Numbers::of_entry(entry).is_same(question) => (told_by(entry), at),
-        _ => (Telling::Nothing, at),
+    if at < entries.len() && Numbers::of_told(entries.question(at)).is_same(question) {
+        (told_by(entries.reason(at)), at)
+    } else {
+        (Telling::Nothing, at)
     }
 }
 

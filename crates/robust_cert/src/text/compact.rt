@@ -3,9 +3,11 @@
 //! This is for speed alone. What is read here is written again and compared with the bytes, so
 //! nothing is promised of it: a text of another form is misshapen here, and is read as JSON.
 
-use crate::certificate::{Certificate, Entry, Question};
+use crate::certificate::{Certificate, Question};
 use crate::chain::Chain;
+use crate::entries::{Entries, Reason};
 use crate::fault::Untaken;
+use crate::text::seen::Seen;
 use order_facts::{Node, Nodes};
 use prog_tree::Sequence;
 use std::alloc::Global;
@@ -17,7 +19,7 @@ struct Cursor<'a> {
     rest: &'a [u8],
 }
 
-impl Cursor<'_> {
+impl<'a> Cursor<'a> {
     // Reads a piece, where it comes next.
     fn eat(&mut self, piece: &[u8]) -> bool {
         match self.rest.strip_prefix(piece) {
@@ -167,45 +169,61 @@ impl Cursor<'_> {
         })
     }
 
-    fn entry(&mut self) -> Result<Entry, Untaken> {
+    // Reads an entry. A reason that was read before is not read again, but shared.
+    fn entry(&mut self, entries: &mut Entries, seen: &mut Seen<'a>) -> Result<(), Untaken> {
+        let is_apart = self.is_apart()?;
+        let question = self.question()?;
+        let text = self.rest;
+        if let Some((k, rest)) = seen.find(text) {
+            if k < entries.len() {
+                entries.push_like(question, k)?;
+                self.rest = rest;
+                return Ok(());
+            }
+        }
+        let reason = if is_apart {
+            self.apart()?
+        } else {
+            self.cover()?
+        };
+        self.expect(b"]")?;
+        seen.keep(text, self.rest.len(), entries.len());
+        entries.push(question, reason)?;
+        Ok(())
+    }
+
+    // Reads the kind of an entry.
+    fn is_apart(&mut self) -> Result<bool, Untaken> {
         if self.eat(b"[\"apart\",") {
-            return self.apart();
+            return Ok(true);
         }
         self.expect(b"[\"cover\",")?;
-        self.cover()
+        Ok(false)
     }
 
-    fn apart(&mut self) -> Result<Entry, Untaken> {
-        let question = self.question()?;
-        let chain = self.chain()?;
-        self.expect(b"]")?;
-        Ok(Entry::Apart { question, chain })
+    fn apart(&mut self) -> Result<Reason, Untaken> {
+        Ok(Reason::Apart(self.chain()?))
     }
 
-    fn cover(&mut self) -> Result<Entry, Untaken> {
-        let question = self.question()?;
-        let mine = self.small_before_comma()?;
-        let theirs = self.small_before_comma()?;
-        let chains = self.chains()?;
-        self.expect(b"]")?;
-        Ok(Entry::Cover {
-            question,
-            mine,
-            theirs,
-            chains,
+    fn cover(&mut self) -> Result<Reason, Untaken> {
+        Ok(Reason::Cover {
+            mine: self.small_before_comma()?,
+            theirs: self.small_before_comma()?,
+            chains: self.chains()?,
         })
     }
 
-    fn entries(&mut self) -> Result<Sequence<Entry>, Untaken> {
-        let mut entries = Vec::new(self.alloc);
+    fn entries(&mut self) -> Result<Entries, Untaken> {
+        let mut entries = Entries::new(self.alloc);
         if self.eat(b"[]") {
-            return Ok(Sequence::from_vec(entries));
+            return Ok(entries);
         }
         self.expect(b"[")?;
+        let mut seen = Seen::for_bytes(self.alloc, self.rest.len())?;
         for _turn in 0..self.rest.len() {
-            entries.push(self.entry()?)?;
+            self.entry(&mut entries, &mut seen)?;
             if !self.has_more()? {
-                return Ok(Sequence::from_vec(entries));
+                return Ok(entries);
             }
         }
         Err(Untaken::Misshapen)
@@ -227,7 +245,7 @@ impl Cursor<'_> {
     }
 
     // Reads the entries and the levels, with their names.
-    fn shared(&mut self) -> Result<(Sequence<Entry>, Sequence<u32>), Untaken> {
+    fn shared(&mut self) -> Result<(Entries, Sequence<u32>), Untaken> {
         self.expect(b"\"entries\":")?;
         let entries = self.entries()?;
         self.expect(b",\"levels\":")?;

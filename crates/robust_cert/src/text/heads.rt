@@ -2,9 +2,10 @@
 //! written once and copied.
 
 ghost use Rattle.std.specs.Prelude.{◌≡◌, ◌++◌, codes, string_bytes, IsTrue, IfOk, OnOk};
-ghost use Rattle.robust_cert.specs.Parts.{asked_by, first_text, next_head_text};
+ghost use Rattle.robust_cert.specs.Parts.{first_text, next_head_text};
 
-use crate::certificate::{Entry, Question};
+use crate::certificate::Question;
+use crate::entries::Reason;
 use crate::text::writing::push_kind;
 use std::alloc::{AllocError, Global};
 use std::marker::Model;
@@ -67,13 +68,12 @@ impl Heads {
     }
 
     /// The head of an entry that has this first access, behind a comma.
-    pub(crate) fn of_entry(&self, entry: &Entry) -> &str
-        requires { first_text self.now ≡ first_text (asked_by entry.now) }
-        ensures { result.now ≡ next_head_text entry.now }
+    pub(crate) fn with_reason(&self, reason: &Reason) -> &str
+        ensures { result.now ≡ next_head_text self.now reason.now }
     {
-        match entry {
-            Entry::Apart { .. } => self.apart.as_str(),
-            Entry::Cover { .. } => self.cover.as_str(),
+        match reason {
+            Reason::Apart(_) => self.apart.as_str(),
+            Reason::Cover { .. } => self.cover.as_str(),
         }
     }
 }

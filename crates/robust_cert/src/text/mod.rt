@@ -3,6 +3,7 @@
 pub mod compact;
 pub mod heads;
 pub mod reading;
+pub mod seen;
 pub mod shape;
 pub mod tails;
 pub mod version;

@@ -8,12 +8,16 @@ ghost use Rattle.serde_json.specs.View.{view, items_view};
 ghost use Rattle.order_facts.specs.declared.steps.Node.{Node};
 ghost use Rattle.robust_cert.specs.declared.certificate.Question.{Question};
 ghost use Rattle.robust_cert.specs.declared.certificate.Entry.{Entry};
+ghost use Rattle.robust_cert.specs.declared.entries.Reason.{Reason};
 ghost use Rattle.robust_cert.specs.Ranges.{IsSmall, NodeFits, ChainFits};
-ghost use Rattle.robust_cert.specs.Json.{whole_data, node_data, chain_data, QuestionFits, list_data, entry_data, entry_items, EntryFits, apart_items, cover_items};
-ghost use Rattle.robust_cert.specs.Helpers.{IsQuestion};
+ghost use Rattle.robust_cert.specs.Json.{whole_data, node_data, chain_data, QuestionFits, list_data, entry_data, EntryFits, apart_items, cover_items};
+ghost use Rattle.robust_cert.specs.Helpers.{IsQuestion, IsTold};
+ghost use Rattle.robust_cert.specs.Parts.{ReasonFits};
+ghost use Rattle.robust_cert.specs.Sharing.{entry_with};
 
-use crate::certificate::{Entry, Question};
+use crate::certificate::Question;
 use crate::chain::Chain;
+use crate::entries::{Entries, Reason};
 use crate::fault::Untaken;
 use order_facts::Node;
 use prog_tree::Sequence;
@@ -113,35 +117,34 @@ fn question_of(x: &Value, a: &Value, y: &Value, b: &Value) -> Option<Question>
     })
 }
 
-fn apart_of(alloc: Global, question: Question, reason: &[Value]) -> Result<Entry, Untaken>
-    ensures ok { IfOk result (λ entry. (QuestionFits question → EntryFits entry)
-        × (entry_data entry ≡ entry_items (codes "apart") question (items_view reason.now))) }
+fn apart_of(alloc: Global, items: &[Value]) -> Result<Reason, Untaken>
+    ensures ok { IfOk result (λ reason. ReasonFits reason
+        × IsTold reason (string (codes "apart")) (items_view items.now)) }
     ensures misshapen { result ≡ Err Untaken.Misshapen
-        → (chain : List Node) → ChainFits chain → items_view reason.now ≢ apart_items chain }
+        → (chain : List Node) → ChainFits chain → items_view items.now ≢ apart_items chain }
 {
-    let [chain] = reason else {
+    let [chain] = items else {
         return Err(Untaken::Misshapen);
     };
     let chain = chain_of(alloc, chain)?;
-    Ok(Entry::Apart { question, chain })
+    Ok(Reason::Apart(chain))
 }
 
-fn cover_of(alloc: Global, question: Question, reason: &[Value]) -> Result<Entry, Untaken>
-    ensures ok { IfOk result (λ entry. (QuestionFits question → EntryFits entry)
-        × (entry_data entry ≡ entry_items (codes "cover") question (items_view reason.now))) }
+fn cover_of(alloc: Global, items: &[Value]) -> Result<Reason, Untaken>
+    ensures ok { IfOk result (λ reason. ReasonFits reason
+        × IsTold reason (string (codes "cover")) (items_view items.now)) }
     ensures misshapen { result ≡ Err Untaken.Misshapen
         → (m t : ℕ) (cs : List (List Node)) → IsSmall m → IsSmall t → All ChainFits cs
-        → items_view reason.now ≢ cover_items m t cs }
+        → items_view items.now ≢ cover_items m t cs }
 {
-    let [mine, theirs, chains] = reason else {
+    let [mine, theirs, chains] = items else {
         return Err(Untaken::Misshapen);
     };
     let (Some(mine), Some(theirs)) = (small_of(mine), small_of(theirs)) else {
         return Err(Untaken::Misshapen);
     };
     let chains = chains_of(alloc, chains)?;
-    Ok(Entry::Cover {
-        question,
+    Ok(Reason::Cover {
         mine,
         theirs,
         chains,
@@ -154,43 +157,56 @@ fn is_text(value: &Value, text: &str) -> bool
     value.as_str() == Some(text)
 }
 
-fn entry_of(alloc: Global, value: &Value) -> Result<Entry, Untaken>
-    ensures ok { IfOk result (λ entry. EntryFits entry × (view value.now ≡ entry_data entry)) }
+fn reason_of(alloc: Global, kind: &Value, items: &[Value]) -> Result<Reason, Untaken>
+    ensures ok { IfOk result (λ reason. ReasonFits reason
+        × IsTold reason (view kind.now) (items_view items.now)) }
+    ensures misshapen { result ≡ Err Untaken.Misshapen
+        → (reason : Reason) → ReasonFits reason
+        → ¬ IsTold reason (view kind.now) (items_view items.now) }
+{
+    if is_text(kind, "apart") {
+        apart_of(alloc, items)
+    } else if is_text(kind, "cover") {
+        cover_of(alloc, items)
+    } else {
+        Err(Untaken::Misshapen)
+    }
+}
+
+// The question of an entry, and its reason.
+fn entry_of(alloc: Global, value: &Value) -> Result<(Question, Reason), Untaken>
+    ensures ok { IfOk result (λ p. EntryFits (entry_with p.0 p.1)
+        × (view value.now ≡ entry_data (entry_with p.0 p.1))) }
     ensures misshapen { result ≡ Err Untaken.Misshapen
         → (entry : Entry) → EntryFits entry → view value.now ≢ entry_data entry }
 {
     let Value::Array(items) = value else {
         return Err(Untaken::Misshapen);
     };
-    let [kind, x, a, y, b, reason @ ..] = items.as_slice() else {
+    let [kind, x, a, y, b, others @ ..] = items.as_slice() else {
         return Err(Untaken::Misshapen);
     };
     let Some(question) = question_of(x, a, y, b) else {
         return Err(Untaken::Misshapen);
     };
-    if is_text(kind, "apart") {
-        apart_of(alloc, question, reason)
-    } else if is_text(kind, "cover") {
-        cover_of(alloc, question, reason)
-    } else {
-        Err(Untaken::Misshapen)
-    }
+    let reason = reason_of(alloc, kind, others)?;
+    Ok((question, reason))
 }
 
 /// The entries of a certificate. Each value is dropped once it is taken, while it is still in the cache.
-pub fn entries_of(alloc: Global, items: Vec<Value>) -> Result<Sequence<Entry>, Untaken>
+pub fn entries_of(alloc: Global, items: Vec<Value>) -> Result<Entries, Untaken>
     ensures ok { IfOk result (λ entries. All EntryFits entries
         × (array (items_view items.items) ≡ list_data entry_data entries)) }
     ensures misshapen { result ≡ Err Untaken.Misshapen
         → (entries : List Entry) → All EntryFits entries
         → array (items_view items.items) ≢ list_data entry_data entries }
 {
-    let mut entries = Vec::with_capacity(alloc, items.len())?;
+    let mut entries = Entries::new(alloc);
     for item in items {
-        let entry = entry_of(alloc, &item)?;
-        entries.push(entry)?;
+        let (question, reason) = entry_of(alloc, &item)?;
+        entries.push(question, reason)?;
     }
-    Ok(Sequence::from_vec(entries))
+    Ok(entries)
 }
 
 /// Whole numbers below 2^32, as levels are.

@@ -8,7 +8,8 @@ ghost use Rattle.robust_cert.specs.Json.{IsValueOf, members_data};
 ghost use Rattle.robust_cert.specs.Reading.{version_of};
 ghost use Rattle.robust_cert.specs.Helpers.{number_of, IsShared, IsNotShared};
 
-use crate::certificate::{Certificate, Entry};
+use crate::certificate::Certificate;
+use crate::entries::Entries;
 use crate::fault::Untaken;
 use crate::text::shape::{entries_of, numbers_of};
 use crate::text::version::Version;
@@ -52,7 +53,7 @@ fn parts_of(mut members: Map<String, Value>) -> Option<(Value, Value)>
 fn shared_of(
     alloc: Global,
     members: Map<String, Value>,
-) -> Result<(Sequence<Entry>, Sequence<u32>), Untaken>
+) -> Result<(Entries, Sequence<u32>), Untaken>
     ensures ok { IfOk result (λ p. IsShared p.0 p.1 (members_view members.entries)) }
     ensures misshapen { result ≡ Err Untaken.Misshapen
         → IsNotShared (members_view members.entries) }

@@ -6,12 +6,14 @@ ghost use Rattle.robust_cert.specs.Ranges.{IsSmall, ChainFits};
 ghost use Rattle.robust_cert.specs.Json.{node_data, chain_data, entry_data, whole_data, list_data, has_no_bodies, first_data, second_data, certificate_data, certificate_text, QuestionFits, EntryFits, CertificateFits};
 ghost use Rattle.robust_cert.specs.Reading.{IsTextOf};
 ghost use Rattle.robust_cert.specs.Helpers.{Appends, shared_text};
-ghost use Rattle.robust_cert.specs.Parts.{asked_by, first_text, head_text, tail_text, apart_tail_text, cover_tail_text, TailFits, next_entry_text};
+ghost use Rattle.robust_cert.specs.Parts.{first_text, head_text, second_text, AreTailsOf, next_entry_text};
+ghost use Rattle.robust_cert.specs.Sharing.{entry_with, reason_at, entry_told, entries_told, IsWithin};
 
-use crate::certificate::{Certificate, Entry, Question};
+use crate::certificate::{Certificate, Question};
 use crate::chain::Chain;
+use crate::entries::{Entries, Reason, Told};
 use crate::text::heads::Heads;
-use crate::text::tails::Tails;
+use crate::text::tails::{push_tail, tail_at, tails_of};
 use itoa::{Buffer, Integer};
 use order_facts::Node;
 use std::alloc::{AllocError, Global};
@@ -30,8 +32,12 @@ fn push_whole(text: &mut String, number: u32) -> Result<(), AllocError>
     push_number(text, number)
 }
 
-// Adds a number, and a piece behind it.
-fn push_before<I: Integer>(text: &mut String, number: I, piece: &str) -> Result<(), AllocError>
+/// Adds a number, and a piece behind it.
+pub(crate) fn push_before<I: Integer>(
+    text: &mut String,
+    number: I,
+    piece: &str,
+) -> Result<(), AllocError>
     ensures { OnOk result
         (string_bytes text.new ≡ string_bytes text.old ++ (I.text number ++ piece.now)) }
 {
@@ -60,7 +66,7 @@ fn push_node(text: &mut String, node: Node) -> Result<(), AllocError>
     }
 }
 
-fn push_chain(text: &mut String, chain: &[Node]) -> Result<(), AllocError>
+pub(crate) fn push_chain(text: &mut String, chain: &[Node]) -> Result<(), AllocError>
     ensures { OnOk result (Appends text.old text.new (chain_data chain.now)) }
 {
     let [first, others @ ..] = chain else {
@@ -75,7 +81,7 @@ fn push_chain(text: &mut String, chain: &[Node]) -> Result<(), AllocError>
     text.push_str("]")
 }
 
-fn push_chains(text: &mut String, chains: &[Chain]) -> Result<(), AllocError>
+pub(crate) fn push_chains(text: &mut String, chains: &[Chain]) -> Result<(), AllocError>
     ensures text { OnOk result (Appends text.old text.new (list_data chain_data chains.now)) }
     ensures fits { OnOk result (All ChainFits chains.now) }
 {
@@ -101,123 +107,86 @@ pub(crate) fn push_kind(text: &mut String, kind: &str, question: Question) -> Re
     push_before(text, question.a, ",")
 }
 
-// Adds the kind of an entry and the first access of its question.
-fn push_head(text: &mut String, entry: &Entry) -> Result<(), AllocError>
-    ensures { OnOk result (string_bytes text.new ≡ string_bytes text.old ++ head_text entry.now) }
-{
-    match entry {
-        Entry::Apart { question, .. } => push_kind(text, "[\"apart\",", *question),
-        Entry::Cover { question, .. } => push_kind(text, "[\"cover\",", *question),
-    }
-}
-
-fn push_apart_tail(text: &mut String, b: u32, chain: &[Node]) -> Result<(), AllocError>
-    ensures { OnOk result
-        (string_bytes text.new ≡ string_bytes text.old ++ apart_tail_text b chain.now) }
-{
-    text.push_str(",")?;
-    push_before(text, b, ",")?;
-    push_chain(text, chain)?;
-    text.push_str("]")
-}
-
-fn push_cover_tail(
-    text: &mut String,
-    b: u32,
-    mine: u32,
-    theirs: u32,
-    chains: &[Chain],
-) -> Result<(), AllocError>
-    ensures text { OnOk result (string_bytes text.new
-        ≡ string_bytes text.old ++ cover_tail_text b mine theirs chains.now) }
-    ensures fits { OnOk result (IsSmall mine × IsSmall theirs × All ChainFits chains.now) }
-{
-    text.push_str(",")?;
-    push_before(text, b, ",")?;
-    push_before(text, mine, ",")?;
-    push_before(text, theirs, ",")?;
-    push_chains(text, chains)?;
-    text.push_str("]")
-}
-
-/// Adds what stands behind the number of the second path of an entry's question.
-pub(crate) fn push_tail(text: &mut String, entry: &Entry) -> Result<(), AllocError>
+// Adds the numbers of the second access.
+fn push_second_access(text: &mut String, question: Question) -> Result<(), AllocError>
     ensures text { OnOk result
-        (string_bytes text.new ≡ string_bytes text.old ++ tail_text entry.now) }
-    ensures fits { OnOk result (TailFits entry.now) }
-{
-    match entry {
-        Entry::Apart { question, chain } => push_apart_tail(text, question.b, chain.as_slice()),
-        Entry::Cover {
-            question,
-            mine,
-            theirs,
-            chains,
-        } => { push_cover_tail(text, question.b, *mine, *theirs, chains.as_slice()) }
-    }
-}
-
-// Adds the number of the second path.
-fn push_middle(text: &mut String, question: Question) -> Result<(), AllocError>
-    ensures text { OnOk result
-        (string_bytes text.new ≡ string_bytes text.old ++ decimal question.y) }
+        (string_bytes text.new ≡ string_bytes text.old ++ second_text question) }
     ensures fits { QuestionFits question }
 {
-    push_number(text, question.y)
+    push_before(text, question.y, ",")?;
+    push_number(text, question.b)
 }
 
-fn asked_by(entry: &Entry) -> Question
-    ensures { result ≡ asked_by entry.now }
+// Adds the kind of an entry and the first access of its question.
+fn push_head(text: &mut String, question: Question, reason: &Reason) -> Result<(), AllocError>
+    ensures { OnOk result
+        (string_bytes text.new ≡ string_bytes text.old ++ head_text question reason.now) }
 {
-    match entry {
-        Entry::Apart { question, .. } => *question,
-        Entry::Cover { question, .. } => *question,
+    match reason {
+        Reason::Apart(_) => push_kind(text, "[\"apart\",", question),
+        Reason::Cover { .. } => push_kind(text, "[\"cover\",", question),
     }
 }
 
-fn push_entry(text: &mut String, entry: &Entry) -> Result<(), AllocError>
-    ensures text { OnOk result (Appends text.old text.new (entry_data entry.now)) }
-    ensures fits { OnOk result (EntryFits entry.now) }
+// Adds an entry that stands behind none.
+fn push_entry(text: &mut String, question: Question, reason: &Reason) -> Result<(), AllocError>
+    ensures text { OnOk result
+        (Appends text.old text.new (entry_data (entry_with question reason.now))) }
+    ensures fits { OnOk result (EntryFits (entry_with question reason.now)) }
 {
-    push_head(text, entry)?;
-    push_middle(text, asked_by(entry))?;
-    push_tail(text, entry)
+    push_head(text, question, reason)?;
+    push_second_access(text, question)?;
+    push_tail(text, reason)
 }
 
-// Adds an entry behind another one. Its head is at hand, and its tail perhaps.
-fn push_next<'a>(
+// Adds an entry behind another one. Its head and its tail are at hand.
+fn push_next(
     text: &mut String,
     heads: &Heads,
-    tails: &mut Tails<'a>,
-    entry: &'a Entry,
+    told: Told,
+    reasons: &[Reason],
+    tails: &[String],
 ) -> Result<(), AllocError>
-    requires { first_text heads.now ≡ first_text (asked_by entry.now) }
-    ensures text { OnOk result
-        (string_bytes text.new ≡ string_bytes text.old ++ next_entry_text entry.now) }
-    ensures fits { OnOk result (EntryFits entry.now) }
+    requires head { first_text heads.now ≡ first_text told.question }
+    requires tails { AreTailsOf reasons.now tails.now }
+    requires within { IsWithin reasons.now told }
+    ensures text { OnOk result (string_bytes text.new ≡ string_bytes text.old
+        ++ next_entry_text told.question (reason_at reasons.now told.reason)) }
+    ensures fits { OnOk result (EntryFits (entry_told reasons.now told)) }
 {
-    text.push_str(heads.of_entry(entry))?;
-    push_middle(text, asked_by(entry))?;
-    tails.push(text, entry)
+    text.push_str(heads.with_reason(&reasons[told.reason]))?;
+    push_second_access(text, told.question)?;
+    text.push_str(tail_at(reasons, tails, told.reason))
 }
 
-fn push_entries(text: &mut String, entries: &[Entry]) -> Result<(), AllocError>
-    ensures text { OnOk result (Appends text.old text.new (list_data entry_data entries.now)) }
-    ensures fits { OnOk result (All EntryFits entries.now) }
+// Adds the entries of questions that have the numbers of their reasons.
+fn push_told(text: &mut String, told: &[Told], reasons: &[Reason]) -> Result<(), AllocError>
+    requires { All (IsWithin reasons.now) told.now }
+    ensures text { OnOk result (Appends text.old text.new
+        (list_data entry_data (entries_told reasons.now told.now))) }
+    ensures fits { OnOk result (All EntryFits (entries_told reasons.now told.now)) }
 {
-    let [first, others @ ..] = entries else {
+    let [first, others @ ..] = told else {
         return text.push_str("[]");
     };
     let alloc = *text.allocator();
-    let mut heads = Heads::of(alloc, asked_by(first))?;
-    let mut tails = Tails::for_entries(alloc, others.len())?;
+    let mut heads = Heads::of(alloc, first.question)?;
+    let tails = tails_of(alloc, reasons)?;
     text.push_str("[")?;
-    push_entry(text, first)?;
-    for entry in others {
-        heads.renew(alloc, asked_by(entry))?;
-        push_next(text, &heads, &mut tails, entry)?;
+    push_entry(text, first.question, &reasons[first.reason])?;
+    for next in others {
+        heads.renew(alloc, next.question)?;
+        push_next(text, &heads, *next, reasons, &tails)?;
     }
     text.push_str("]")
+}
+
+fn push_entries(text: &mut String, entries: &Entries) -> Result<(), AllocError>
+    ensures text { OnOk result (Appends text.old text.new (list_data entry_data entries.now)) }
+    ensures fits { OnOk result (All EntryFits entries.now) }
+{
+    let (told, reasons) = entries.parts();
+    push_told(text, told, reasons)
 }
 
 fn push_numbers(text: &mut String, numbers: &[u32]) -> Result<(), AllocError>
@@ -244,7 +213,7 @@ fn push_shared(text: &mut String, certificate: &Certificate) -> Result<(), Alloc
         × All IsSmall certificate.now.levels) }
 {
     text.push_str("\"entries\":")?;
-    push_entries(text, certificate.entries.as_slice())?;
+    push_entries(text, &certificate.entries)?;
     text.push_str(",\"levels\":")?;
     push_numbers(text, certificate.levels.as_slice())
 }

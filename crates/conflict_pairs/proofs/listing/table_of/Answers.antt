@@ -24,4 +24,4 @@ returns c =
     let questions = c.args.questions in
     let listed = c.requires.listed in
     StandsFor-from paths questions.judged.items c.args.verdicts.items listed.shown.asked c.requires.judged c.requires.single c.of.result questions.all.items questions.numbers.items
-    (subst (λ (l : List Asked). All (IsAsked paths) l) (sym listed.all) (all_asked paths)) listed.shown.stand c.of.ensures.nodes c.of.ensures.entries listed.all
+    (subst (λ (l : List Asked). All (IsAsked paths) l) (sym listed.all) (all_asked paths)) listed.shown.stand c.of.ensures.nodes c.of.ensures.verdicts c.of.ensures.entries listed.all

@@ -14,6 +14,7 @@ loop-question-preserved c =
     let new = c.number_of.new.judged.items in
     record {
       places = grind (arith, common_steps, c.loop-question.invariant.places);
+      few = omega (arith, c.loop-question.invariant.few, c.in_ok-number.ensures.grows);
       asked = c.in_ok-number.ensures.judged;
       stand =
           AllZip-more (StandsIn kinds new) c.args.questions.now c.loop-question.numbers.items c.push.new.self.items c.loop-question.question-index _ _ (omega arith) c.in_ok-push.ensures.items c.in_ok-number.ensures.number

@@ -8,7 +8,7 @@ use Rattle.robust_cert.proofs.text.shape.entries_of.Given as goal
 -- the items so far are taken, and the others are left
 abbrev pub invariant-loop-item : goal.invariant-loop-item
 invariant-loop-item l = record {
-  fits : All EntryFits l.entries.items;
-  same : map view l.yielded ≡ map entry_data l.entries.items;
+  fits : All EntryFits l.entries;
+  same : map view l.yielded ≡ map entry_data l.entries;
   whole : l.fn.items.items ≡ l.yielded ++ into_iter_items l.item-iterator;
 }

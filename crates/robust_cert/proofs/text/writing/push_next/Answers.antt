@@ -1,11 +1,16 @@
-use Rattle.std.proofs.Common.{◌∙◌, string_bytes}
-use Rattle.std.proofs.lemmas.Result.{on_ok_weaker}
-use Rattle.robust_cert.proofs.Texts.{next_written}
+use Rattle.std.proofs.Common.{string_bytes, ap, ◌∙◌}
+use Rattle.robust_cert.specs.declared.entries.Reason.{Reason}
+use Rattle.robust_cert.specs.Parts.{next_head_text}
+use Rattle.robust_cert.specs.Sharing.{reason_at}
+use Rattle.robust_cert.proofs.Shared.{reason_any}
+use Rattle.robust_cert.proofs.Texts.{next_written, last_piece}
 use Rattle.robust_cert.proofs.text.writing.push_next.Goals as goal
 
 pub returns-clause-text : goal.returns-clause-text
 returns-clause-text c =
-    on_ok_weaker c.push.result
-    (λ e. e ∙ next_written c.args.entry.now c.asked_by.result (string_bytes c.args.text.now) _ _ _ c.asked_by.ensures c.of_entry.ensures
-    c.in_ok-push_str.ensures.bytes c.in_ok-push_middle.ensures.text)
-    c.push.ensures.text
+    let rs = c.args.reasons.now in
+    let n = c.args.told.reason in
+    let head = c.with_reason.ensures ∙ ap (λ (r : Reason). next_head_text c.args.heads.now r) (c.index-reasons-told.is ∙ reason_any rs n c.index-reasons-told.result c.requires.within) in
+    last_piece c.push_str-2.result _ (string_bytes c.push_second_access.new.text) c.tail_at.result.now _ c.push_str-2.ensures.bytes
+    (next_written c.args.heads.now c.args.told.question (reason_at rs n) (string_bytes c.args.text.now) _ _ _ _ c.requires.head head
+    c.in_ok-push_str.ensures.bytes c.in_ok-push_second_access.ensures.text c.tail_at.ensures.text)

@@ -1,4 +1,4 @@
-use Rattle.std.proofs.Common.{◌∙◌, string_bytes}
+use Rattle.std.proofs.Common.{refl, ◌∙◌, string_bytes}
 use Rattle.std.proofs.lemmas.Result.{on_ok_weaker}
 use Rattle.robust_cert.proofs.Texts.{shared_written}
 use Rattle.robust_cert.proofs.text.writing.push_shared.Goals as goal
@@ -6,6 +6,6 @@ use Rattle.robust_cert.proofs.text.writing.push_shared.Goals as goal
 pub returns-clause-text : goal.returns-clause-text
 returns-clause-text c =
     on_ok_weaker c.push_numbers.result
-    (λ e. e ∙ shared_written c.args.certificate.now c.as_slice.result.now c.as_slice-2.result.now (string_bytes c.args.text.now) _ _ _ c.as_slice.ensures c.as_slice-2.ensures
+    (λ e. e ∙ shared_written c.args.certificate.now c.args.certificate.now.entries c.as_slice.result.now (string_bytes c.args.text.now) _ _ _ refl c.as_slice.ensures
     c.in_ok-push_str.ensures.bytes c.in_ok-push_entries.ensures.text c.in_ok-push_str-2.ensures.bytes)
     c.push_numbers.ensures.text

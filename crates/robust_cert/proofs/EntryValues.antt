@@ -1,33 +1,44 @@
 -- What the value of an entry shows of its parts.
 use Rattle.std.proofs.Common.{◌≡◌, ◌≢◌, ◌≤◌, ◌<◌, ◌-◌, ◌∷◌, [], ℕ, List, length, get_or, take, drop, codes, option_map, slice_index, refl, ap, sym, ◌∙◌, Vec, arith}
-use Rattle.std.specs.Prelude.{All}
 use Rattle.std.specs.declared.alloc.Global.{Global}
 use Rattle.std.proofs.lemmas.List.{take_all}
-use Rattle.serde_json.specs.Data.{item, array, string}
+use Rattle.serde_json.specs.Data.{item, array}
 use Rattle.serde_json.specs.Find.{as_array}
 use Rattle.serde_json.specs.Events.{items_len}
 use Rattle.serde_json.specs.View.{view, items_view}
 use Rattle.serde_json.specs.declared.value.Value.{Value, Array}
 use Rattle.serde_json.proofs.Views.{view-Array, items_len-items_view}
-use Rattle.order_facts.specs.declared.steps.Node.{Node}
 use Rattle.robust_cert.specs.declared.certificate.Question.{Question}
 use Rattle.robust_cert.specs.declared.certificate.Entry.{Entry}
-use Rattle.robust_cert.specs.declared.certificate.Entry.TheVariants.{Apart, Cover}
-use Rattle.robust_cert.specs.Ranges.{IsSmall, ChainFits}
-use Rattle.robust_cert.specs.Json.{EntryFits, entry_items, apart_items, cover_items, entry_data}
-use Rattle.robust_cert.specs.Helpers.{IsQuestion}
+use Rattle.robust_cert.specs.declared.certificate.Entry as entry
+use Rattle.robust_cert.specs.declared.entries.Reason.{Reason}
+use Rattle.robust_cert.specs.declared.entries.Reason.TheVariants.{Apart, Cover}
+use Rattle.robust_cert.specs.Json.{QuestionFits, EntryFits, entry_items, entry_data}
+use Rattle.robust_cert.specs.Helpers.{IsQuestion, reason_kind, reason_items, IsTold}
+use Rattle.robust_cert.specs.Parts.{ReasonFits}
+use Rattle.robust_cert.specs.Sharing.{entry_with}
 
 shown : (value : Value) (items : Vec Value Global) (seen : List Value) → value ≡ Array items → seen ≡ items.items → view value ≡ array (items_view seen)
 shown value items seen is here = ap view is ∙ view-Array items ∙ ap (λ vs. array (items_view vs)) (sym here)
 
 -- fewer than five items are no entry
 pub not_short : (value : Value) (items : Vec Value Global) (seen : List Value) → value ≡ Array items → seen ≡ items.items → length seen < 5 → (entry : Entry) → view value ≢ entry_data entry
-not_short value items seen is here short (Apart q chain) e =
+not_short value items seen is here short (entry.TheVariants.Apart q chain) e =
     let n : items_len (items_view seen) ≡ 6 = cc (ap (λ d. option_map items_len (as_array d)) (sym (shown value items seen is here) ∙ e)) in
     omega (arith, items_len-items_view seen)
-not_short value items seen is here short (Cover q mine theirs chains) e =
+not_short value items seen is here short (entry.TheVariants.Cover q mine theirs chains) e =
     let n : items_len (items_view seen) ≡ 8 = cc (ap (λ d. option_map items_len (as_array d)) (sym (shown value items seen is here) ∙ e)) in
     omega (arith, items_len-items_view seen)
+
+-- the value of an entry, by the word and the items of its reason
+told_data : (q : Question) (reason : Reason) → entry_data (entry_with q reason) ≡ entry_items (reason_kind reason) q (reason_items reason)
+told_data q (Apart chain) = refl
+told_data q (Cover mine theirs chains) = refl
+
+-- a question in its range and a reason in its own make an entry in its own
+pub entry_fits : (q : Question) (reason : Reason) → QuestionFits q → ReasonFits reason → EntryFits (entry_with q reason)
+entry_fits q (Apart chain) f g = (f, g)
+entry_fits q (Cover mine theirs chains) f g = (f, g.0, g.1, g.2)
 
 pub kinds_differ : codes "apart" ≢ codes "cover"
 kinds_differ e = let h : ◌≡◌ {A = ℕ} 97 99 = ap (λ (s : List ℕ). slice_index s 0) e in omega (arith, h)
@@ -63,15 +74,9 @@ module _ (value : Value) (items : Vec Value Global) (seen : List Value) (k x a y
   whole : view value ≡ array (item (view k) (item (view x) (item (view a) (item (view y) (item (view b) (items_view (behind seen)))))))
   whole = shown value items seen p.is p.here ∙ ap array (five seen k x a y b p.enough p.first p.second p.third p.fourth p.fifth)
 
-  pub entry_taken : (kind : List ℕ) (q : Question) (entry : Entry) → view k ≡ string kind → IsQuestion q (view x) (view a) (view y) (view b)
-      → entry_data entry ≡ entry_items kind q (items_view (behind seen)) → view value ≡ entry_data entry
-  entry_taken kind q entry e f g = whole ∙ rw (e, f.0, f.1, f.2, f.3) (sym g)
+  pub entry_taken : (q : Question) (reason : Reason) → IsQuestion q (view x) (view a) (view y) (view b) → IsTold reason (view k) (items_view (behind seen)) → view value ≡ entry_data (entry_with q reason)
+  entry_taken q reason e f = whole ∙ rw (e.0, e.1, e.2, e.3, f.0, f.1) (sym (told_data q reason))
 
-  pub not_apart : view k ≡ string (codes "apart") → ((chain : List Node) → ChainFits chain → items_view (behind seen) ≢ apart_items chain) → (entry : Entry) → EntryFits entry → view value ≢ entry_data entry
-  not_apart e none (Apart q chain) fits g = none chain fits.1 (cc (sym whole ∙ g))
-  not_apart e none (Cover q mine theirs chains) fits g = absurd (kinds_differ (cc (sym e, sym whole ∙ g)))
-
-  pub not_cover : view k ≡ string (codes "cover")
-      → ((m t : ℕ) (cs : List (List Node)) → IsSmall m → IsSmall t → All ChainFits cs → items_view (behind seen) ≢ cover_items m t cs) → (entry : Entry) → EntryFits entry → view value ≢ entry_data entry
-  not_cover e none (Apart q chain) fits g = absurd (kinds_differ (cc (sym e, sym whole ∙ g)))
-  not_cover e none (Cover q mine theirs chains) fits g = none mine theirs chains fits.1 fits.2 fits.3 (cc (sym whole ∙ g))
+  pub not_entry : ((reason : Reason) → ReasonFits reason → ¬ IsTold reason (view k) (items_view (behind seen))) → (entry : Entry) → EntryFits entry → view value ≢ entry_data entry
+  not_entry none (entry.TheVariants.Apart q chain) fits g = none (Apart chain) fits.1 (cc (sym whole ∙ g), cc (sym whole ∙ g))
+  not_entry none (entry.TheVariants.Cover q mine theirs chains) fits g = none (Cover mine theirs chains) (fits.1, fits.2, fits.3) (cc (sym whole ∙ g), cc (sym whole ∙ g))

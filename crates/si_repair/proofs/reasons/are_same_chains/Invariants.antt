@@ -1,5 +1,5 @@
 use Rattle.std.proofs.Common.{◌≡◌, ◌↔◌, length}
-use Rattle.robust_cert.proofs.text.tails.are_same_chains.Given as goal
+use Rattle.si_repair.proofs.reasons.are_same_chains.Given as goal
 
 -- as many chains are left in both, and they are the same exactly where all are
 abbrev pub invariant-loop-chain : goal.invariant-loop-chain

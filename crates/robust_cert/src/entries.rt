@@ -1,0 +1,132 @@
+//! The entries of a certificate. There are many, and few different reasons, so entries may share one.
+ghost use Rattle.std.specs.Prelude.{◌≡◌, ◌<◌, ◌↔◌, [], ◌∷◌, ◌++◌, All, IsTrue, OnOk, OnErr, Some, length, slice_get};
+ghost use Rattle.robust_cert.specs.declared.certificate.Entry.{Entry};
+ghost use Rattle.robust_cert.specs.Sharing.{asked_by, asked_anew, entry_with, entries_told, IsWithin};
+
+use crate::certificate::Question;
+use crate::chain::Chain;
+use prog_tree::Sequence;
+use std::alloc::{AllocError, Global};
+use std::marker::Model;
+
+/// Why a question leaves nothing to fear.
+#[derive(Debug, Drop)]
+pub enum Reason {
+    /// The two accesses never meet.
+    Apart(Chain),
+    /// Where they meet, `mine` of `x` and `theirs` of `y` write one cell. The chains say so, column by column: mine to
+    /// theirs, then theirs to mine.
+    Cover {
+        mine: u32,
+        theirs: u32,
+        chains: Sequence<Chain>,
+    },
+}
+
+/// A question, and the number of its reason in a list of them.
+#[derive(Clone, Copy, Debug)]
+pub struct Told {
+    pub question: Question,
+    pub reason: usize,
+}
+
+/// The entries of a certificate in order.
+#[derive(Debug, Drop)]
+pub struct Entries {
+    told: Vec<Told>,
+    reasons: Vec<Reason>,
+}
+
+impl Model for Entries {
+    ghost use Rattle.std.specs.Prelude.{List, All};
+    ghost use Rattle.robust_cert.specs.declared.certificate.Entry.{Entry};
+    ghost use Rattle.robust_cert.specs.Sharing.{entries_told, IsWithin};
+
+    ghost Value = { List Entry };
+
+    ghost view = { λ e. entries_told e.reasons.items e.told.items };
+
+    ghost invariant = { λ e. All (IsWithin e.reasons.items) e.told.items };
+}
+
+impl Entries {
+    pub fn new(alloc: Global) -> Self
+        ensures { result ≡ [] }
+    {
+        Entries {
+            told: Vec::new(alloc),
+            reasons: Vec::new(alloc),
+        }
+    }
+
+    /// The entries of questions that have the numbers of their reasons.
+    pub fn of(told: Vec<Told>, reasons: Vec<Reason>) -> Self
+        requires { All (IsWithin reasons.items) told.items }
+        ensures { result ≡ entries_told reasons.items told.items }
+    {
+        Entries { told, reasons }
+    }
+
+    pub fn len(&self) -> usize
+        ensures { result ≡ length self.now }
+    {
+        self.told.len()
+    }
+
+    pub fn is_empty(&self) -> bool
+        ensures { IsTrue result ↔ (self.now ≡ []) }
+    {
+        self.told.is_empty()
+    }
+
+    /// Adds an entry with a reason of its own.
+    pub fn push(&mut self, question: Question, reason: Reason) -> Result<(), AllocError>
+        ensures ok { OnOk result (self.new ≡ self.old ++ entry_with question reason ∷ []) }
+        ensures err { OnErr result (self.new ≡ self.old) }
+    {
+        let number = self.reasons.len();
+        self.reasons.push(reason)?;
+        self.told.push(Told {
+            question,
+            reason: number,
+        })?;
+        Ok(())
+    }
+
+    /// Adds an entry that shares the reason of another one.
+    pub fn push_like(&mut self, question: Question, k: usize) -> Result<(), AllocError>
+        requires { k < length self.old }
+        ensures ok { OnOk result ((e : Entry) → slice_get self.old k ≡ Some e
+            → self.new ≡ self.old ++ asked_anew question e ∷ []) }
+        ensures err { OnErr result (self.new ≡ self.old) }
+    {
+        let Told { reason, .. } = self.told[k];
+        self.told.push(Told { question, reason })?;
+        Ok(())
+    }
+
+    /// The question of the entry of a number.
+    pub fn question(&self, k: usize) -> Question
+        requires { k < length self.now }
+        ensures { (e : Entry) → slice_get self.now k ≡ Some e → result ≡ asked_by e }
+    {
+        self.told[k].question
+    }
+
+    /// The reason of the entry of a number.
+    pub fn reason(&self, k: usize) -> &Reason
+        requires { k < length self.now }
+        ensures { (e : Entry) → slice_get self.now k ≡ Some e
+            → e ≡ entry_with (asked_by e) result.now }
+    {
+        &self.reasons[self.told[k].reason]
+    }
+
+    /// The questions with the numbers of their reasons, and the reasons: for what is done once for each reason.
+    pub fn parts(&self) -> (&[Told], &[Reason])
+        ensures entries { self.now ≡ entries_told result.1.now result.0.now }
+        ensures within { All (IsWithin result.1.now) result.0.now }
+    {
+        (self.told.as_slice(), self.reasons.as_slice())
+    }
+}

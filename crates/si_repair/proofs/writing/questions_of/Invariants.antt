@@ -1,0 +1,12 @@
+use Rattle.std.proofs.Common.{◌≡◌, ◌++◌, drop}
+use Rattle.std.specs.Prelude.{All}
+use Rattle.robust_cert.specs.Sharing.{entries_told, IsWithin}
+use Rattle.si_repair.specs.Telling.{told_of}
+use Rattle.si_repair.proofs.writing.questions_of.Given as goal
+
+-- what is told so far, with what the entries that are left tell
+abbrev pub invariant-loop-n : goal.invariant-loop-n
+invariant-loop-n l = record {
+  entries : entries_told l.given.reasons.items l.told.items ++ told_of (drop l.n l.table.entries) ≡ told_of l.table.entries;
+  within : All (IsWithin l.given.reasons.items) l.told.items;
+}

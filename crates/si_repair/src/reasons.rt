@@ -1,0 +1,213 @@
+//! The reasons that verdicts give. There are few different ones, so each is made once, as far as
+//! that is remembered.
+ghost use Rattle.std.specs.Prelude.{◌≡◌, ◌<◌, ℕ, Some, slice_get, All, IsTrue, IfOk, OnOk};
+ghost use Rattle.robust_cert.specs.declared.entries.Reason.{Reason};
+ghost use Rattle.si_repair.specs.Telling.{reason_of, IsGivenBy, AreGiven, TightFits, VerdictFits};
+
+use crate::writing::small;
+use conflict_pairs::Verdict;
+use order_facts::{Node, Nodes};
+use prog_tree::Sequence;
+use robust_cert::{Chain, Reason};
+use std::alloc::{AllocError, Global};
+
+/// Reasons, and for each verdict the number of the one that it gives.
+#[derive(Drop)]
+pub struct SharedReasons {
+    pub reasons: Vec<Reason>,
+    pub numbers: Vec<usize>,
+}
+
+// How many reasons are remembered. It is a prime.
+const REMEMBERED: usize = 4_093;
+
+// A chain as a certificate has it.
+fn copy_of(alloc: Global, chain: &conflict_pairs::Chain) -> Result<Chain, AllocError>
+    requires { TightFits chain.now }
+    ensures { IfOk result (λ copy. copy ≡ chain.now) }
+{
+    let copy = Nodes::from_slice(alloc, chain.as_slice())?;
+    match Chain::from_nodes(copy) {
+        Some(chain) => Ok(chain),
+        None => unreachable!(),
+    }
+}
+
+fn copies_of(alloc: Global, chains: &[conflict_pairs::Chain]) -> Result<Sequence<Chain>, AllocError>
+    requires { All TightFits chains.now }
+    ensures { IfOk result (λ copies. copies ≡ chains.now) }
+{
+    let mut copies = Vec::with_capacity(alloc, chains.len())?;
+    for chain in chains {
+        copies.push(copy_of(alloc, chain)?)?;
+    }
+    Ok(Sequence::from_vec(copies))
+}
+
+/// The reason that a verdict gives. An exposed question has no entry, so what stands for its reason
+/// is never told.
+fn reason_of(alloc: Global, verdict: &Verdict) -> Result<Reason, AllocError>
+    requires { VerdictFits verdict.now }
+    ensures { IfOk result (λ reason. reason ≡ reason_of verdict.now) }
+{
+    match verdict {
+        Verdict::Apart(chain) => Ok(Reason::Apart(copy_of(alloc, chain)?)),
+        Verdict::Covered {
+            mine,
+            theirs,
+            chains,
+        } => Ok(Reason::Cover {
+            mine: small(*mine),
+            theirs: small(*theirs),
+            chains: copies_of(alloc, chains.as_slice())?,
+        }),
+        Verdict::Exposed(_) => Ok(Reason::Cover {
+            mine: 0,
+            theirs: 0,
+            chains: Sequence::from_vec(Vec::new(alloc)),
+        }),
+    }
+}
+
+fn are_same_nodes(nodes: &[Node], others: &[Node]) -> bool
+    ensures { IsTrue result → nodes.now ≡ others.now }
+{
+    nodes == others
+}
+
+fn are_same_chains(chains: &[Chain], others: &[conflict_pairs::Chain]) -> bool
+    ensures { IsTrue result → chains.now ≡ others.now }
+{
+    if chains.len() != others.len() {
+        return false;
+    }
+    for (chain, other) in chains.iter().zip(others) {
+        if !are_same_nodes(chain.as_slice(), other.as_slice()) {
+            return false;
+        }
+    }
+    true
+}
+
+// Whether a reason is the one that a verdict gives.
+fn is_given(reason: &Reason, verdict: &Verdict) -> bool
+    ensures { IsTrue result → reason.now ≡ reason_of verdict.now }
+{
+    match (reason, verdict) {
+        (Reason::Apart(chain), Verdict::Apart(other)) => {
+            are_same_nodes(chain.as_slice(), other.as_slice())
+        }
+        (
+            Reason::Cover {
+                mine,
+                theirs,
+                chains,
+            },
+            Verdict::Covered {
+                mine: m,
+                theirs: t,
+                chains: c,
+            },
+        ) => {
+            *mine as usize == *m
+                && *theirs as usize == *t
+                && are_same_chains(chains.as_slice(), c.as_slice())
+        }
+        _ => false,
+    }
+}
+
+// Whether the reason of a number is the one that a verdict gives.
+fn is_remembered(reasons: &[Reason], number: usize, verdict: &Verdict) -> bool
+    ensures { IsTrue result → IsGivenBy reasons.now verdict.now number }
+{
+    number < reasons.len() && is_given(&reasons[number], verdict)
+}
+
+// The number of the reason that a verdict gives: the remembered one, or that of a new one.
+fn number_of(
+    alloc: Global,
+    verdict: &Verdict,
+    remembered: usize,
+    reasons: &mut Vec<Reason>,
+) -> Result<usize, AllocError>
+    requires { VerdictFits verdict.now }
+    ensures number { IfOk result (λ number. IsGivenBy reasons.new.items verdict.now number) }
+    ensures keeps { OnOk result ((k : ℕ) (r : Reason)
+        → slice_get reasons.old.items k ≡ Some r → slice_get reasons.new.items k ≡ Some r) }
+{
+    if is_remembered(reasons, remembered, verdict) {
+        return Ok(remembered);
+    }
+    let number = reasons.len();
+    reasons.push(reason_of(alloc, verdict)?)?;
+    Ok(number)
+}
+
+// A number for what was seen and one thing more.
+fn mixed(seen: usize, number: usize) -> usize {
+    seen.wrapping_mul(2_531).wrapping_add(number)
+}
+
+fn node_mark(node: Node) -> usize {
+    match node {
+        Node::Mine(index) => mixed(1, index),
+        Node::MineUnknown(index) => mixed(2, index),
+        Node::Theirs(index) => mixed(3, index),
+        Node::TheirsUnknown(index) => mixed(4, index),
+        Node::Number(number) => number.unsigned_abs() as usize,
+    }
+}
+
+// Of the first two nodes.
+fn chain_mark(chain: &conflict_pairs::Chain) -> usize {
+    match chain.as_slice() {
+        [] => 0,
+        [only] => node_mark(*only),
+        [first, second, ..] => mixed(node_mark(*first), node_mark(*second)),
+    }
+}
+
+// Of the first and the last chain.
+fn chains_mark(chains: &[conflict_pairs::Chain]) -> usize {
+    match chains {
+        [] => 0,
+        [only] => chain_mark(only),
+        [first, .., last] => mixed(chain_mark(first), chain_mark(last)),
+    }
+}
+
+// The slot for reasons like the one that a verdict gives.
+fn slot_of(verdict: &Verdict) -> usize
+    ensures { result < 4093 }
+{
+    let mark = match verdict {
+        Verdict::Apart(chain) => chain_mark(chain),
+        Verdict::Covered {
+            mine,
+            theirs,
+            chains,
+        } => mixed(mixed(*mine, *theirs), chains_mark(chains.as_slice())),
+        Verdict::Exposed(_) => 0,
+    };
+    mark % REMEMBERED
+}
+
+/// The reasons that some verdicts give. A slot holds the number of the last one that came there,
+/// which is tested before it is taken.
+pub fn reasons_of(alloc: Global, verdicts: &[Verdict]) -> Result<SharedReasons, AllocError>
+    requires { All VerdictFits verdicts.now }
+    ensures { IfOk result (λ given.
+        AreGiven verdicts.now given.reasons.items given.numbers.items) }
+{
+    let mut remembered = vec![in alloc; 0; REMEMBERED]?;
+    let mut reasons = Vec::new(alloc);
+    let mut numbers = Vec::with_capacity(alloc, verdicts.len())?;
+    for verdict in verdicts {
+        let at = slot_of(verdict);
+        let number = number_of(alloc, verdict, remembered[at], &mut reasons)?;
+        remembered[at] = number;
+        numbers.push(number)?;
+    }
+    Ok(SharedReasons { reasons, numbers })
+}
