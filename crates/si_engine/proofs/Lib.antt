@@ -17,8 +17,10 @@ pub mod KeepLaws
 pub mod KindLaws
 mod LineLemmas
 mod MachineVectors
+mod MarkLaws
 pub mod MissedLaws
 pub mod NodeLaws
+mod NumberLaws
 pub mod OutcomeLaws
 pub mod OutputLaws
 pub mod PlaceLaws

@@ -22,15 +22,20 @@ abbrev pub integer_of : List ℕ → Option ℤ
 integer_of [] = None
 integer_of (b ∷ bs) = if b == 45 then option_map (λ n. neg_ℤ (pos n)) (natural_of bs) else option_map pos (natural_of (b ∷ bs))
 
--- a number that is one of i64
-abbrev pub i64_of : List ℕ → Option ℤ
-i64_of word = option_and_then exact (integer_of word)
-
 -- a number from low to high
 abbrev pub between : (low high : ℕ) → ℤ → Option ℕ
 between low high (pos n) = if nat_le low n && nat_le n high then Some n else None
 between low high z = None
 
+-- a number with one more digit behind it, where the byte is one and the number is still one of u64
+abbrev pub with_digit : ℕ → ℕ → Option ℕ
+with_digit value byte = if is_digit byte then between 0 18446744073709551615 (pos (10 * value + (byte - 48))) else None
+
+-- a number that is one of i64
+abbrev pub i64_of : List ℕ → Option ℤ
+i64_of word = option_and_then exact (integer_of word)
+
+-- a number from low to high that a word is
 abbrev pub number_between : (low high : ℕ) → List ℕ → Option ℕ
 number_between low high word = option_and_then (between low high) (i64_of word)
 

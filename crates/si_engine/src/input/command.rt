@@ -1,13 +1,14 @@
 //! Lines of a script as commands.
-ghost use Rattle.std.specs.Prelude.{◌≡◌, Ok};
+ghost use Rattle.std.specs.Prelude.{◌≡◌, ◌∷◌, Ok, option_map};
 ghost use Rattle.prog_tree.specs.Tree.{draft_tree};
-ghost use Rattle.si_engine.specs.Commands.{row_command, instance_of, steps_of, call_of, begin_command, begin_at_command, step_command, commit_command, abort_command, vacuum_command, command_of, line_command};
+ghost use Rattle.si_engine.specs.Commands.{row_command, instance_of, only_instance, steps_of, step_of, call_of, begin_command, begin_at_command, step_command, commit_command, abort_command, vacuum_command, command_of, line_command};
+ghost use Rattle.si_engine.specs.Lines.{words_of};
 ghost use Rattle.si_engine.specs.RowLines.{Reads};
 
-use crate::input::line_words::{Word, line_words};
+use crate::input::line_words::{first_word, line_words};
 use crate::input::lines::is_skipped;
 use crate::input::names::program_number;
-use crate::input::number::{number_between, numbers, unsigned};
+use crate::input::number::{number_between, numbers_in, unsigned};
 use crate::input::row_line::{RowLine, row_line};
 use crate::input::script_fault::LineFault;
 use crate::limits::{MAX_INSTANCE, MAX_STEPS};
@@ -50,10 +51,12 @@ pub enum Command {
 }
 
 #[tactic(auto, unfolding(crate::specs::Commands::row_command))]
-fn row(set: &ProgramSet, line: usize, words: &[Word<'_>]) -> Result<Command, LineFault>
-    ensures { result ≡ row_command (draft_tree set.now) line words.now }
+fn row(alloc: Global, set: &ProgramSet, line: usize, bytes: &[u8]) -> Result<Command, LineFault>
+    ensures { Reads (λ command. command) result
+        (row_command (draft_tree set.now) line (words_of bytes.now)) }
 {
-    let row = row_line(set, line, words)?;
+    let words = line_words(alloc, bytes)?;
+    let row = row_line(set, line, &words)?;
     Ok(Command::Row(row))
 }
 
@@ -63,29 +66,25 @@ fn read_call(
     alloc: Global,
     set: &ProgramSet,
     line: usize,
-    words: &[Word<'_>],
+    bytes: &[u8],
 ) -> Result<ProgramCall, LineFault>
-    ensures { Reads (λ call. call) result (call_of (draft_tree set.now) line words.now) }
+    ensures { Reads (λ call. call) result
+        (call_of (draft_tree set.now) line (words_of bytes.now)) }
 {
-    let [name, args @ ..] = words else {
+    let Some((name, behind)) = first_word(bytes) else {
         return Err(LineFault::BadLine { line });
     };
-    let args = numbers(alloc, args)?.ok_or(LineFault::BadLine { line })?;
-    let program = program_number(set, name.as_bytes()).ok_or(LineFault::UnknownName { line })?;
+    let args = numbers_in(alloc, behind)?.ok_or(LineFault::BadLine { line })?;
+    let program = program_number(set, name).ok_or(LineFault::UnknownName { line })?;
     Ok(ProgramCall { program, args })
 }
 
 #[tactic(auto, unfolding(crate::specs::Commands::begin_command))]
-fn begin(
-    alloc: Global,
-    set: &ProgramSet,
-    line: usize,
-    words: &[Word<'_>],
-) -> Result<Command, LineFault>
+fn begin(alloc: Global, set: &ProgramSet, line: usize, bytes: &[u8]) -> Result<Command, LineFault>
     ensures { Reads (λ command. command) result
-        (begin_command (draft_tree set.now) line words.now) }
+        (begin_command (draft_tree set.now) line (words_of bytes.now)) }
 {
-    let ProgramCall { program, args } = read_call(alloc, set, line, words)?;
+    let ProgramCall { program, args } = read_call(alloc, set, line, bytes)?;
     Ok(Command::Begin { program, args })
 }
 
@@ -94,16 +93,16 @@ fn begin_at(
     alloc: Global,
     set: &ProgramSet,
     line: usize,
-    words: &[Word<'_>],
+    bytes: &[u8],
 ) -> Result<Command, LineFault>
     ensures { Reads (λ command. command) result
-        (begin_at_command (draft_tree set.now) line words.now) }
+        (begin_at_command (draft_tree set.now) line (words_of bytes.now)) }
 {
-    let [start, words @ ..] = words else {
+    let Some((start, behind)) = first_word(bytes) else {
         return Err(LineFault::BadLine { line });
     };
-    let start = unsigned(start.as_bytes()).ok_or(LineFault::BadLine { line })?;
-    let ProgramCall { program, args } = read_call(alloc, set, line, words)?;
+    let start = unsigned(start).ok_or(LineFault::BadLine { line })?;
+    let ProgramCall { program, args } = read_call(alloc, set, line, behind)?;
     Ok(Command::BeginAt {
         start,
         program,
@@ -112,61 +111,112 @@ fn begin_at(
 }
 
 // The number of an instance.
-fn instance(word: &Word<'_>) -> Option<usize>
+fn instance(word: &[u8]) -> Option<usize>
     ensures { result ≡ instance_of word.now }
 {
-    number_between(0, MAX_INSTANCE, word.as_bytes())
+    number_between(0, MAX_INSTANCE, word)
 }
 
-fn steps(instance: &Word<'_>, times: &Word<'_>) -> Option<Command>
+fn steps(instance: &[u8], times: &[u8]) -> Option<Command>
     ensures { result ≡ steps_of instance.now times.now }
 {
     let instance = self::instance(instance)?;
-    let times = number_between(1, MAX_STEPS, times.as_bytes())?;
+    let times = number_between(1, MAX_STEPS, times)?;
     Some(Command::Step { instance, times })
 }
 
-#[tactic(auto, unfolding(crate::specs::Commands::step_command))]
-fn step(line: usize, words: &[Word<'_>]) -> Result<Command, LineFault>
-    ensures { result ≡ step_command line words.now }
+fn one_step(instance: &[u8]) -> Option<Command>
+    ensures { result ≡ option_map (λ i. Command.Step i 1) (instance_of instance.now) }
 {
-    let step = match words {
-        [word] => instance(word).map(|instance| Command::Step { instance, times: 1 }),
-        [word, times] => steps(word, times),
-        _ => None,
-    };
-    step.ok_or(LineFault::BadLine { line })
+    let instance = self::instance(instance)?;
+    Some(Command::Step { instance, times: 1 })
+}
+
+// The steps of an instance, if no word is left.
+#[tactic(auto, unfolding(crate::specs::Commands::step_of))]
+fn last_steps(instance: &[u8], times: &[u8], bytes: &[u8]) -> Option<Command>
+    ensures { result ≡ step_of (instance.now ∷ times.now ∷ words_of bytes.now) }
+{
+    match first_word(bytes) {
+        None => steps(instance, times),
+        Some(_) => None,
+    }
+}
+
+// The steps of an instance, if the words behind it are N or none.
+#[tactic(auto, unfolding(crate::specs::Commands::step_of))]
+fn steps_behind(instance: &[u8], bytes: &[u8]) -> Option<Command>
+    ensures { result ≡ step_of (instance.now ∷ words_of bytes.now) }
+{
+    match first_word(bytes) {
+        None => one_step(instance),
+        Some((times, behind)) => last_steps(instance, times, behind),
+    }
+}
+
+// The steps that the words ask for.
+#[tactic(auto, unfolding(crate::specs::Commands::step_of))]
+fn step_words(bytes: &[u8]) -> Option<Command>
+    ensures { result ≡ step_of (words_of bytes.now) }
+{
+    match first_word(bytes) {
+        None => None,
+        Some((instance, behind)) => steps_behind(instance, behind),
+    }
+}
+
+#[tactic(auto, unfolding(crate::specs::Commands::step_command))]
+fn step(line: usize, bytes: &[u8]) -> Result<Command, LineFault>
+    ensures { result ≡ step_command line (words_of bytes.now) }
+{
+    step_words(bytes).ok_or(LineFault::BadLine { line })
+}
+
+// The number of an instance, if no word is left.
+#[tactic(auto, unfolding(crate::specs::Commands::only_instance))]
+fn last_instance(instance: &[u8], bytes: &[u8]) -> Option<usize>
+    ensures { result ≡ only_instance (instance.now ∷ words_of bytes.now) }
+{
+    match first_word(bytes) {
+        None => self::instance(instance),
+        Some(_) => None,
+    }
+}
+
+// The number of the instance that is the only word.
+#[tactic(auto, unfolding(crate::specs::Commands::only_instance))]
+fn only_instance(bytes: &[u8]) -> Option<usize>
+    ensures { result ≡ only_instance (words_of bytes.now) }
+{
+    match first_word(bytes) {
+        None => None,
+        Some((instance, behind)) => last_instance(instance, behind),
+    }
 }
 
 #[tactic(auto, unfolding(crate::specs::Commands::commit_command))]
-fn commit(line: usize, words: &[Word<'_>]) -> Result<Command, LineFault>
-    ensures { result ≡ commit_command line words.now }
+fn commit(line: usize, bytes: &[u8]) -> Result<Command, LineFault>
+    ensures { result ≡ commit_command line (words_of bytes.now) }
 {
-    let [word] = words else {
-        return Err(LineFault::BadLine { line });
-    };
-    let instance = instance(word).ok_or(LineFault::BadLine { line })?;
+    let instance = only_instance(bytes).ok_or(LineFault::BadLine { line })?;
     Ok(Command::Commit(instance))
 }
 
 #[tactic(auto, unfolding(crate::specs::Commands::abort_command))]
-fn abort(line: usize, words: &[Word<'_>]) -> Result<Command, LineFault>
-    ensures { result ≡ abort_command line words.now }
+fn abort(line: usize, bytes: &[u8]) -> Result<Command, LineFault>
+    ensures { result ≡ abort_command line (words_of bytes.now) }
 {
-    let [word] = words else {
-        return Err(LineFault::BadLine { line });
-    };
-    let instance = instance(word).ok_or(LineFault::BadLine { line })?;
+    let instance = only_instance(bytes).ok_or(LineFault::BadLine { line })?;
     Ok(Command::Abort(instance))
 }
 
 #[tactic(auto, unfolding(crate::specs::Commands::vacuum_command))]
-fn vacuum(line: usize, words: &[Word<'_>]) -> Result<Command, LineFault>
-    ensures { result ≡ vacuum_command line words.now }
+fn vacuum(line: usize, bytes: &[u8]) -> Result<Command, LineFault>
+    ensures { result ≡ vacuum_command line (words_of bytes.now) }
 {
-    match words {
-        [] => Ok(Command::Vacuum),
-        _ => Err(LineFault::BadLine { line }),
+    match first_word(bytes) {
+        None => Ok(Command::Vacuum),
+        Some(_) => Err(LineFault::BadLine { line }),
     }
 }
 
@@ -175,16 +225,16 @@ fn words_command(
     alloc: Global,
     set: &ProgramSet,
     line: usize,
-    words: &[Word<'_>],
+    bytes: &[u8],
 ) -> Result<Command, LineFault>
-    ensures { Reads (λ command. command) result (command_of (draft_tree set.now) line words.now) }
+    ensures { Reads (λ command. command) result
+        (command_of (draft_tree set.now) line (words_of bytes.now)) }
 {
-    let [first, rest @ ..] = words else {
+    let Some((first, rest)) = first_word(bytes) else {
         return Err(LineFault::BadLine { line });
     };
-    let first = first.as_bytes();
     if first == b"row".as_slice() {
-        row(set, line, rest)
+        row(alloc, set, line, rest)
     } else if first == b"begin".as_slice() {
         begin(alloc, set, line, rest)
     } else if first == b"begin-at".as_slice() {
@@ -215,6 +265,5 @@ pub fn line_command(
     if is_skipped(bytes) {
         return Ok(Command::Skip);
     }
-    let words = line_words(alloc, bytes)?;
-    words_command(alloc, set, line, &words)
+    words_command(alloc, set, line, bytes)
 }

@@ -1,5 +1,5 @@
 //! Words of a line.
-ghost use Rattle.std.specs.Prelude.{◌≡◌, IfOk};
+ghost use Rattle.std.specs.Prelude.{◌≡◌, ◌<◌, [], ◌∷◌, length, IfOk, IfSome, MatchOption};
 ghost use Rattle.si_engine.specs.Lines.{words_of};
 
 use crate::input::lines::cut;
@@ -32,6 +32,23 @@ impl<'a> Word<'a> {
     {
         self.bytes
     }
+}
+
+/// The first word of a line, and what stands behind it.
+pub fn first_word(line: &[u8]) -> Option<(&[u8], &[u8])>
+    ensures words { MatchOption result (words_of line.now ≡ [])
+        (λ found. words_of line.now ≡ found.0.now ∷ words_of found.1.now) }
+    ensures shorter { IfSome result (λ found. length found.1.now < length line.now) }
+{
+    let mut rest = line;
+    while !rest.is_empty() {
+        let (word, behind) = cut(rest, b' ');
+        if !word.is_empty() {
+            return Some((word, behind));
+        }
+        rest = behind;
+    }
+    None
 }
 
 /// The words of a line, in their order.

@@ -1,29 +1,20 @@
 //! Words as numbers: decimal, with leading zeros or a minus sign before them as it pleases.
-ghost use Rattle.std.specs.Prelude.{◌≡◌, ◌-◌, ◌^◌, min, pos, option_and_then, IfOk};
-ghost use Rattle.std.specs.List.{list_all};
-ghost use Rattle.si_engine.specs.Numbers.{is_digit, digits_value, natural_of, between, i64_of, number_between, u64_of, numbers_of};
+ghost use Rattle.std.specs.Prelude.{◌≡◌, pos, option_and_then, IfOk};
+ghost use Rattle.si_engine.specs.Lines.{words_of};
+ghost use Rattle.si_engine.specs.Numbers.{with_digit, natural_of, between, i64_of, number_between, u64_of, numbers_of};
 
-use crate::input::line_words::Word;
+use crate::input::line_words::{Word, first_word};
 use prog_tree::Sequence;
 use std::alloc::{AllocError, Global};
 
-// The value of digits, or the greatest number of 128 bits.
-fn value(digits: &[u8]) -> u128
-    ensures { result ≡ min (digits_value digits.now) (2 ^ 128 - 1) }
+// A number with one more digit behind it, if the byte is one and the number is still one of u64.
+fn with_digit(value: u64, byte: u8) -> Option<u64>
+    ensures { result ≡ with_digit value byte }
 {
-    let mut value: u128 = 0;
-    for byte in digits {
-        value = value
-            .saturating_mul(10)
-            .saturating_add(u128::from(byte.saturating_sub(b'0')));
+    if !byte.is_ascii_digit() {
+        return None;
     }
-    value
-}
-
-fn are_digits(bytes: &[u8]) -> bool
-    ensures { result ≡ list_all is_digit bytes.now }
-{
-    bytes.iter().all(|byte| byte.is_ascii_digit())
+    value.checked_mul(10)?.checked_add(u64::from(byte - b'0'))
 }
 
 // The u64 that digits are, of which there is at least one.
@@ -31,10 +22,14 @@ fn natural(bytes: &[u8]) -> Option<u64>
     ensures { result
         ≡ option_and_then (λ n. between 0 18446744073709551615 (pos n)) (natural_of bytes.now) }
 {
-    if bytes.is_empty() || !are_digits(bytes) {
+    if bytes.is_empty() {
         return None;
     }
-    u64::try_from(value(bytes)).ok()
+    let mut value = 0;
+    for byte in bytes {
+        value = with_digit(value, *byte)?;
+    }
+    Some(value)
 }
 
 /// The i64 that a word is.
@@ -79,6 +74,22 @@ pub fn numbers(alloc: Global, words: &[Word<'_>]) -> Result<Option<Sequence<i64>
             return Ok(None);
         };
         numbers.push(number)?;
+    }
+    Ok(Some(numbers))
+}
+
+/// The numbers of the words of bytes, if all are such.
+pub fn numbers_in(alloc: Global, bytes: &[u8]) -> Result<Option<Sequence<i64>>, AllocError>
+    ensures { IfOk result (λ numbers. numbers ≡ numbers_of (words_of bytes.now)) }
+{
+    let mut numbers = Sequence::new(alloc);
+    let mut rest = bytes;
+    while let Some((word, behind)) = first_word(rest) {
+        let Some(number) = number(word) else {
+            return Ok(None);
+        };
+        numbers.push(number)?;
+        rest = behind;
     }
     Ok(Some(numbers))
 }

@@ -3,7 +3,7 @@
 #![tactic(auto, using(crate::proofs::WritingLaws::writing_steps))]
 
 ghost use Rattle.std.specs.Fmt.{signed_decimal};
-ghost use Rattle.std.specs.Prelude.{◌≡◌, ◌++◌, codes};
+ghost use Rattle.std.specs.Prelude.{◌≡◌, ◌<◌, ◌++◌, [], ◌∷◌, codes};
 ghost use Rattle.std.specs.List.{flat_map};
 ghost use Rattle.si_engine.specs.Printed.{table_head, cell_text, region_in, region_text, value_text};
 ghost use Rattle.si_engine.specs.Writing.{Writes};
@@ -17,6 +17,14 @@ pub fn push_word(text: &mut String, word: &str) -> Result<(), AllocError>
     ensures { Writes text.old text.new result word.now }
 {
     text.push_str(word)
+}
+
+/// Adds a character of one byte.
+pub fn push_mark(text: &mut String, mark: char) -> Result<(), AllocError>
+    requires { mark < 128 }
+    ensures { Writes text.old text.new result (mark ∷ []) }
+{
+    text.push(mark)
 }
 
 /// Adds the digits of a number, behind a sign where it is negative.
@@ -44,7 +52,8 @@ fn push_opening(text: &mut String, name: &str, first: i64) -> Result<(), AllocEr
     ensures { Writes text.old text.new result (name.now ++ (codes "[" ++ signed_decimal first)) }
 {
     push_word(text, name)?;
-    push_with_number(text, "[", first)
+    push_mark(text, '[')?;
+    push_number(text, first)
 }
 
 /// Adds numbers, each behind a space.
@@ -53,7 +62,7 @@ pub fn push_numbers<I: Integer>(text: &mut String, numbers: &[I]) -> Result<(), 
     ensures { Writes text.old text.new result (flat_map (λ n. codes " " ++ I.text n) numbers.now) }
 {
     for number in numbers {
-        push_word(text, " ")?;
+        push_mark(text, ' ')?;
         push_number(text, *number)?;
     }
     Ok(())
@@ -72,7 +81,7 @@ fn push_value(text: &mut String, value: Option<i64>) -> Result<(), AllocError>
 pub fn push_behind(text: &mut String, value: Option<i64>) -> Result<(), AllocError>
     ensures { Writes text.old text.new result (codes " " ++ value_text value) }
 {
-    push_word(text, " ")?;
+    push_mark(text, ' ')?;
     push_value(text, value)
 }
 
@@ -94,10 +103,10 @@ fn push_cell(text: &mut String, tables: &[TableDecl], cell: &Cell) -> Result<(),
     let Cell { first, second, .. } = *cell;
     push_opening(text, name, first)?;
     match arity {
-        Arity::One => push_word(text, "]"),
+        Arity::One => push_mark(text, ']'),
         Arity::Two => {
             push_with_number(text, ", ", second)?;
-            push_word(text, "]")
+            push_mark(text, ']')
         }
     }
 }
@@ -122,7 +131,7 @@ fn push_range(text: &mut String, word: &str, low: i64, high: i64) -> Result<(), 
 {
     push_with_number(text, word, low)?;
     push_with_number(text, "..", high)?;
-    push_word(text, "]")
+    push_mark(text, ']')
 }
 
 fn push_region_in(

@@ -11,8 +11,8 @@ ghost use Rattle.si_engine.specs.Writing.{AddsOrStays, Writes};
 use crate::event::{Event, Reply};
 use crate::output::finding::Finding;
 use crate::output::pieces::{
-    push_behind, push_found, push_number, push_numbers, push_with_cell, push_with_number,
-    push_word, table_head,
+    push_behind, push_found, push_mark, push_number, push_numbers, push_with_cell,
+    push_with_number, push_word, table_head,
 };
 use prog_tree::{Arity, Cause, Cell, Deed, TableDecl};
 use std::alloc::AllocError;
@@ -91,7 +91,7 @@ fn push_subject(text: &mut String, event: &Event) -> Result<(), AllocError>
         Event::Begin { .. } | Event::BeginAt { .. } | Event::Vacuum => Ok(()),
         Event::Step(instance) | Event::Commit(instance) | Event::Abort(instance) => {
             push_number(text, *instance)?;
-            push_word(text, " ")
+            push_mark(text, ' ')
         }
     }
 }
@@ -106,7 +106,7 @@ fn write_reply_line(
 {
     push_subject(text, event)?;
     push_reply(text, tables, reply)?;
-    push_word(text, "\n")
+    push_mark(text, '\n')
 }
 
 // Hands on what a write ended with, and cuts off what it left behind where it stopped half way.
@@ -156,7 +156,7 @@ fn push_row_end(text: &mut String, value: i64) -> Result<(), AllocError>
         (codes " = " ++ (signed_decimal value ++ codes "\n")) }
 {
     push_with_number(text, " = ", value)?;
-    push_word(text, "\n")
+    push_mark(text, '\n')
 }
 
 // Adds the second number of a row, its value, and the end of its line.
@@ -218,7 +218,7 @@ fn write_numbers_line(text: &mut String, word: &str, numbers: &[usize]) -> Resul
 {
     push_word(text, word)?;
     push_numbers(text, numbers)?;
-    push_word(text, "\n")
+    push_mark(text, '\n')
 }
 
 fn write_last_line(text: &mut String, finding: Finding, numbers: &[usize]) -> Result<(), AllocError>
