@@ -1,9 +1,10 @@
 -- What a begin leaves is what the machine leaves.
-use Rattle.std.proofs.Common.{◌≡◌, ℕ, ◌+◌, ◌-◌, ◌≤◌, ◌==◌, nat_lt, ◌||◌, Bool, true, false, not, List, [], ◌∷◌, ◌++◌, length, refl, ap, sym, ◌∙◌, subst, cond, ◌⊎◌, inl, inr, arith, ℤ, Box}
+use Rattle.std.proofs.Common.{◌≡◌, ℕ, ◌+◌, ◌-◌, ◌≤◌, ◌==◌, nat_lt, ◌||◌, Bool, true, false, not, List, [], ◌∷◌, ◌++◌, length, refl, ap, sym, ◌∙◌, subst, cond, ◌⊎◌, inl, inr, arith, ℤ, Box, Result, IfOk, OnErr}
 use Rattle.std.specs.Prelude.{nat_le, ◌^◌, slice_get, Option, Some, None, option_map}
 use Rattle.std.proofs.lemmas.Bool.Decides.{nat_tests}
 use Rattle.std.proofs.lemmas.List.{map-append, length-map, length-append}
 use Rattle.std.proofs.lemmas.Option.{slice_get-map}
+use Rattle.std.specs.declared.alloc.AllocError.{AllocError}
 use Rattle.std.specs.declared.alloc.Global.{Global}
 use Rattle.prog_tree.specs.declared.program.Draft.{Draft}
 use Rattle.prog_tree.specs.declared.program.Program.{Program}
@@ -19,10 +20,13 @@ use Rattle.history_book.specs.View.{BookView, state_in, instance_of, history_of,
 use Rattle.history_book.specs.declared.fault.BeginFault.{BeginFault}
 use Rattle.history_book.specs.declared.fault.BeginFault.TheVariants.{WrongArguments, TooOld, TooNew, Full}
 use Rattle.si_engine.specs.Machine.{Active, Machine, active_of, is_full, at_begin, begin_at_by}
-use Rattle.si_engine.specs.View.{instance_in, active_in, begun_of, machine_of, IsHeld, IsEngine, numbered, answer_to, takes_memory}
+use Rattle.si_engine.specs.View.{EngineView, instance_in, active_in, begun_of, machine_of, IsHeld, IsEngine, StaysOver, IsAnswerTo, MayLackMemory, Applies, numbered, answer_to, takes_memory}
 use Rattle.si_engine.specs.declared.active.ActiveRun.{ActiveRun}
+use Rattle.si_engine.specs.declared.event.Event.{Event}
+use Rattle.si_engine.specs.declared.event.Event.TheVariants as event
 use Rattle.si_engine.specs.declared.event.Reply.{Reply}
 use Rattle.si_engine.specs.declared.event.Reply.TheVariants as reply
+use Rattle.si_engine.proofs.EngineLaws.{view_of, on_err}
 use Rattle.si_engine.proofs.PlaceLaws.{get-push, numbered-push, length-numbered}
 
 -- ---- what is wrong with a begin
@@ -105,8 +109,17 @@ module _ (v : BookView) (runs : List (Option ActiveRun)) (kept : IsEngine v runs
       begins = subst (λ f. IsAnswered machine start program args f asked) free answered
 
       -- what is not refused takes memory
-      pub begin_takes_memory : takes_memory asked.0 ≡ true
+      begin_takes_memory : takes_memory asked.0 ≡ true
       begin_takes_memory = ap (λ (x : Reply × Machine). takes_memory x.0) begins
+
+      abbrev begin_event : Event
+      begin_event = event.BeginAt start program args
+
+      -- which may run out
+      pub begin_lacks : {old new : EngineView} {r : Result Reply AllocError} → view_of v runs ≡ old → StaysOver old new →
+          IfOk r (IsAnswerTo begin_event old new) → OnErr r (new ≡ old) → Applies begin_event old new r
+      begin_lacks {r = r} seen over step same =
+          record { over = over; step = step; err = same; memory = on_err r (subst (MayLackMemory begin_event) seen begin_takes_memory) }
 
       -- and its start is not above the number of commits
       start_within : start ≤ length v.rows

@@ -1,6 +1,7 @@
 -- What a commit leaves is what the machine leaves.
-use Rattle.std.proofs.Common.{◌≡◌, ℕ, ◌+◌, true, false, List, [], ◌∷◌, ◌++◌, length, set, refl, ap, sym, ◌∙◌, subst, cond, arith}
+use Rattle.std.proofs.Common.{◌≡◌, ℕ, ◌+◌, true, false, List, [], ◌∷◌, ◌++◌, length, set, refl, ap, sym, ◌∙◌, subst, cond, arith, Ok, Err}
 use Rattle.std.specs.Prelude.{slice_get, Option, Some, None}
+use Rattle.std.specs.declared.alloc.AllocError.{AllocError}
 use Rattle.std.proofs.lemmas.List.{length-map, length-append}
 use Rattle.prog_tree.specs.declared.cell.Cell.{Cell}
 use Rattle.prog_tree.specs.Tree.{draft_tree}
@@ -11,14 +12,14 @@ use Rattle.history_book.specs.View.{BookView, instance_of, history_of, active_at
 use Rattle.history_book.specs.declared.instances.row.Ending.{Ending}
 use Rattle.history_book.specs.declared.instances.row.Ending.TheVariants as ending
 use Rattle.si_engine.specs.Machine.{Machine, with_begun, commit_by, machine_step}
-use Rattle.si_engine.specs.View.{instance_in, machine_of, IsEngine, IsCommitReply, takes_memory}
+use Rattle.si_engine.specs.View.{instance_in, machine_of, IsEngine, Applies, IsCommitReply, takes_memory}
 use Rattle.si_engine.specs.declared.active.ActiveRun.{ActiveRun}
 use Rattle.si_engine.specs.declared.event.Event.TheVariants as event
 use Rattle.si_engine.specs.declared.event.Reply.{Reply}
 use Rattle.si_engine.specs.declared.event.Reply.TheVariants as reply
 use Rattle.si_engine.proofs.ClashLaws.{clash_is}
-use Rattle.si_engine.proofs.EngineLaws.{Leaves, leaves_ended, leaves_committed, history-push, begun-set, with_active_is, is_active, engine-leaves}
-use Rattle.si_engine.proofs.PlaceLaws.{set-same}
+use Rattle.si_engine.proofs.EngineLaws.{view_of, answered, lacked, Leaves, leaves_ended, leaves_committed, history-push, begun-set, with_active_is, is_active, engine-leaves}
+use Rattle.si_engine.proofs.PlaceLaws.{set-same, put-back}
 
 module _ (v : BookView) (runs : List (Option ActiveRun)) (kept : IsEngine v runs) where
   abbrev machine : Machine
@@ -34,15 +35,8 @@ module _ (v : BookView) (runs : List (Option ActiveRun)) (kept : IsEngine v runs
   commit_event i a at =
       sym (with_active_is v runs kept i a (λ b. cond b.ready (commit_by (clash_here b.instance) machine i b.instance) (reply.NotReady, machine)) at)
 
-  pub commit_early : (i : ℕ) (a : ActiveRun) → slice_get runs i ≡ Some (Some a) → a.ready ≡ false →
-      (reply.NotReady, machine_of v (set runs i (Some a))) ≡ machine_step (draft_tree v.set) v.opening (event.Commit i) machine
-  commit_early i a at early =
-      ap (λ ps. (reply.NotReady, machine_of v ps)) (set-same runs i (Some a) at)
-      ∙ ap (λ b. cond b (commit_by (clash_here (instance_in a)) machine i (instance_in a)) (reply.NotReady, machine)) (sym early)
-      ∙ commit_event i a at
-
   -- a commit of an instance that is ready takes memory
-  pub commit_takes_memory : (i : ℕ) (a : ActiveRun) → slice_get runs i ≡ Some (Some a) → a.ready ≡ true →
+  commit_takes_memory : (i : ℕ) (a : ActiveRun) → slice_get runs i ≡ Some (Some a) → a.ready ≡ true →
       takes_memory (machine_step (draft_tree v.set) v.opening (event.Commit i) machine).0 ≡ true
   commit_takes_memory i a at ready =
       ap (λ (x : Reply × Machine). takes_memory x.0)
@@ -95,21 +89,48 @@ module _ (v : BookView) (runs : List (Option ActiveRun)) (kept : IsEngine v runs
       ∙ ap (λ o. commit_by o machine i (instance_in a)) some
   by_commit w i a _ at h = absurd h
 
-  pub commit_is : (w : BookView) (i : ℕ) (a : ActiveRun) (r : Reply) → slice_get runs i ≡ Some (Some a) → a.ready ≡ true → IsCommitReply v w a r →
+  commit_is : (w : BookView) (i : ℕ) (a : ActiveRun) (r : Reply) → slice_get runs i ≡ Some (Some a) → a.ready ≡ true → IsCommitReply v w a r →
       (r, machine_of w (set runs i None)) ≡ machine_step (draft_tree v.set) v.opening (event.Commit i) machine
   commit_is w i a r at ready h =
       by_commit w i a r at h
       ∙ ap (λ b. cond b (commit_by (clash_here (instance_in a)) machine i (instance_in a)) (reply.NotReady, machine)) (sym ready)
       ∙ commit_event i a at
 
-  pub engine-committed : (w : BookView) (i : ℕ) (a : ActiveRun) (r : Reply) → slice_get runs i ≡ Some (Some a) → IsCommitReply v w a r → IsEngine w (set runs i None)
-  engine-committed w i a (reply.Committed n) at h =
-      engine-leaves v runs kept w i a at (subst (λ x. Leaves v x a.ticket.number) (sym h.after) (leaves_committed v a.ticket.number (row_in v h.instance)))
-  engine-committed w i a (reply.Clashed clash) at h =
-      engine-leaves v runs kept w i a at (subst (λ x. Leaves v x a.ticket.number) (sym h.after) (leaves_ended v a.ticket.number (ending.Clashed (row_in v h.instance) clash)))
-  engine-committed w i a _ at h = absurd h
+  over_commit : (w : BookView) (a : ActiveRun) (r : Reply) → IsCommitReply v w a r → (w.set ≡ v.set) × (w.opening ≡ v.opening)
+  over_commit w a (reply.Committed n) h = (ap (λ (x : BookView). x.set) h.after, ap (λ (x : BookView). x.opening) h.after)
+  over_commit w a (reply.Clashed clash) h = (ap (λ (x : BookView). x.set) h.after, ap (λ (x : BookView). x.opening) h.after)
+  over_commit w a _ h = absurd h
 
-  pub engine-back : (w : BookView) (i : ℕ) (a b : ActiveRun) → slice_get runs i ≡ Some (Some a) → w ≡ v → b ≡ a → IsEngine w (set runs i (Some b))
-  engine-back w i a b at same back =
-      subst (λ x. IsEngine x (set runs i (Some b))) (sym same)
-      (subst (λ ps. IsEngine v ps) (sym (ap (λ x. set runs i (Some x)) back ∙ set-same runs i (Some a) at)) kept)
+  leaves_commit : (w : BookView) (a : ActiveRun) (r : Reply) → IsCommitReply v w a r → Leaves v w a.ticket.number
+  leaves_commit w a (reply.Committed n) h = subst (λ x. Leaves v x a.ticket.number) (sym h.after) (leaves_committed v a.ticket.number (row_in v h.instance))
+  leaves_commit w a (reply.Clashed clash) h =
+      subst (λ x. Leaves v x a.ticket.number) (sym h.after) (leaves_ended v a.ticket.number (ending.Clashed (row_in v h.instance) clash))
+  leaves_commit w a _ h = absurd h
+
+  -- ---- an instance was taken out of its place
+
+  module _ (i : ℕ) (a : ActiveRun) (at : slice_get runs i ≡ Some (Some a)) (ps : List (Option ActiveRun)) (taken : ps ≡ set runs i None) where
+    pub engine-committed : (w : BookView) (r : Reply) → IsCommitReply v w a r → IsEngine w ps
+    engine-committed w r h = subst (IsEngine w) (sym taken) (engine-leaves v runs kept w i a at (leaves_commit w a r h))
+
+    pub commit_applies : (w : BookView) (r : Reply) → a.ready ≡ true → IsCommitReply v w a r → Applies (event.Commit i) (view_of v runs) (view_of w ps) (Ok r)
+    commit_applies w r ready h =
+        answered (over_commit w a r h) (ap (λ qs. (r, machine_of w qs)) taken ∙ commit_is w i a r at ready h)
+
+    -- or is put back
+    back_again : (b : ActiveRun) → b ≡ a → set ps i (Some b) ≡ runs
+    back_again b back = put-back runs ps i None (Some b) taken ∙ ap (λ x. set runs i (Some x)) back ∙ set-same runs i (Some a) at
+
+    pub engine-back : (w : BookView) (b : ActiveRun) → w ≡ v → b ≡ a → IsEngine w (set ps i (Some b))
+    engine-back w b same back = subst (λ x. IsEngine x (set ps i (Some b))) (sym same) (subst (IsEngine v) (sym (back_again b back)) kept)
+
+    pub commit_early : a.ready ≡ false → Applies (event.Commit i) (view_of v runs) (view_of v (set ps i (Some a))) (Ok reply.NotReady)
+    commit_early early =
+        answered (refl, refl)
+        (ap (λ qs. (reply.NotReady, machine_of v qs)) (back_again a refl)
+        ∙ ap (λ b. cond b (commit_by (clash_here (instance_in a)) machine i (instance_in a)) (reply.NotReady, machine)) (sym early)
+        ∙ commit_event i a at)
+
+    pub commit_lacks : (w : BookView) (b : ActiveRun) (f : AllocError) → a.ready ≡ true → w ≡ v → b ≡ a → Applies (event.Commit i) (view_of v runs) (view_of w (set ps i (Some b))) (Err f)
+    commit_lacks w b f ready same back =
+        lacked (ap (λ x. view_of x (set ps i (Some b))) same ∙ ap (view_of v) (back_again b back)) (commit_takes_memory i a at ready)

@@ -1,12 +1,13 @@
 -- What an engine does is what the machine does.
-use Rattle.std.proofs.Common.{◌≡◌, ℕ, ◌+◌, ◌<◌, ◌≤◌, ◌==◌, Bool, true, false, List, [], ◌∷◌, ◌++◌, length, set, get_or, refl, ap, sym, ◌∙◌, subst, cond, ◌⊎◌, inl, inr, arith, Result, Ok, Err, OnErr}
+use Rattle.std.proofs.Common.{◌≡◌, ℕ, ◌+◌, ◌<◌, ◌≤◌, ◌==◌, Bool, true, false, List, [], ◌∷◌, ◌++◌, length, set, refl, ap, sym, ◌∙◌, subst, cond, ◌⊎◌, inl, inr, arith, Result, Ok, Err, IfOk, OnErr}
 use Rattle.std.specs.Prelude.{slice_get, Option, Some, None, is_none, option_map}
 use Rattle.std.specs.BTreeMap.{is_at}
 use Rattle.std.specs.Map.{lookup}
 use Rattle.std.specs.Ordering.{nat_cmp}
 use Rattle.std.proofs.lemmas.Bool.Decides.{nat_tests}
 use Rattle.std.proofs.lemmas.List.{map-append, map-set, length-map, length-set, length-append}
-use Rattle.std.proofs.lemmas.Option.{slice_get-map, slice_get-get_or}
+use Rattle.std.proofs.lemmas.Option.{slice_get-map, slice_get_within}
+use Rattle.std.specs.declared.alloc.AllocError.{AllocError}
 use Rattle.prog_tree.specs.declared.deed.Deed.{Deed}
 use Rattle.prog_tree.specs.declared.deed.End.{End}
 use Rattle.prog_tree.specs.declared.deed.End.TheVariants.{Ready, Aborted}
@@ -22,16 +23,36 @@ use Rattle.history_book.specs.declared.instances.row.Ending.{Ending}
 use Rattle.history_book.specs.declared.instances.row.HistoryRow.{HistoryRow}
 use Rattle.history_book.proofs.HistoryLaws.{state_after-push}
 use Rattle.si_engine.specs.Machine.{Active, Machine, least_start, at_end, deed_or_end, stepped, with_begun, if_active, with_active, machine_step}
-use Rattle.si_engine.specs.View.{EngineView, instance_in, active_in, begun_of, machine_of, IsHeld, IsActive, IsEngine, IsAfterStep, numbered, takes_memory}
+use Rattle.si_engine.specs.View.{EngineView, instance_in, active_in, begun_of, machine_of, IsHeld, IsActive, IsEngine, StaysOver, IsAnswerTo, answer_without, MayLackMemory, Applies, IsAfterStep, numbered, takes_memory}
 use Rattle.si_engine.specs.declared.active.ActiveRun.{ActiveRun}
+use Rattle.si_engine.specs.declared.event.Event.{Event}
 use Rattle.si_engine.specs.declared.event.Event.TheVariants as event
 use Rattle.si_engine.specs.declared.event.Reply.{Reply}
 use Rattle.si_engine.specs.declared.event.Reply.TheVariants as reply
-use Rattle.si_engine.proofs.PlaceLaws.{get-set_same, get-set_other, set-same, same_number, numbered-stays, numbered-ends, numbered-found, least-numbered}
+use Rattle.si_engine.proofs.PlaceLaws.{get-set_same, get-set_other, set-same, put-back, same_number, numbered-stays, numbered-ends, numbered-found, least-numbered}
 
--- the place of a number
-pub place_at : (runs : List (Option ActiveRun)) (i : ℕ) (p : Option ActiveRun) → i < length runs → p ≡ get_or runs i p → slice_get runs i ≡ Some p
-place_at runs i p within is = slice_get-get_or runs i p within ∙ ap (λ (x : Option ActiveRun). Some x) (sym is)
+-- ---- what an event leaves
+
+-- what contracts see of an engine
+abbrev pub view_of : BookView → List (Option ActiveRun) → EngineView
+view_of w ps = record { set = w.set; opening = w.opening; machine = machine_of w ps }
+
+-- what an event does to the view of an engine, it does to what contracts see of it
+pub applied : {e : Event} {before old new : EngineView} {r : Result Reply AllocError} → before ≡ old → Applies e before new r → Applies e old new r
+applied {e = e} {new = new} {r = r} seen applies = subst (λ (x : EngineView). Applies e x new r) seen applies
+
+-- an event was answered
+pub answered : {e : Event} {old new : EngineView} {r : Reply} → StaysOver old new → IsAnswerTo e old new r → Applies e old new (Ok r)
+answered over step = record { over = over; step = step; err = tt; memory = tt }
+
+-- an event was not, since memory ran out
+pub lacked : {e : Event} {old new : EngineView} {f : AllocError} → new ≡ old → MayLackMemory e old → Applies e old new (Err f)
+lacked same memory = record { over = (ap (λ (x : EngineView). x.set) same, ap (λ (x : EngineView). x.opening) same); step = tt; err = same; memory = memory }
+
+-- a fact that holds holds after an error
+pub on_err : {T E P : Type 0} (r : Result T E) → P → OnErr r P
+on_err (Ok x) holds = tt
+on_err (Err e) holds = holds
 
 -- ---- what a book keeps where an instance leaves it
 
@@ -179,27 +200,28 @@ module _ (v : BookView) (runs : List (Option ActiveRun)) (kept : IsEngine v runs
   pub with_active_is : (i : ℕ) (a : ActiveRun) (go : Active → Reply × Machine) → slice_get runs i ≡ Some (Some a) → with_active (machine_of v runs) i go ≡ go (active_in a)
   with_active_is i a go at = ap (λ o. if_active o (machine_of v runs) go) (begun_at runs i (Some a) at)
 
-  -- and else has ended
-  ended_is : (i : ℕ) (p : Option ActiveRun) (go : Active → Reply × Machine) → slice_get runs i ≡ Some None → p ≡ None → (reply.Ended, machine_of v (set runs i p)) ≡ with_active (machine_of v runs) i go
-  ended_is i p go at none =
-      ap (λ ps. (reply.Ended, machine_of v ps)) (ap (set runs i) none ∙ set-same runs i None at)
-      ∙ sym (ap (λ o. if_active o (machine_of v runs) go) (begun_at runs i None at))
+  -- and else there is none
+  without_is : (i : ℕ) (r : Reply) (ps : List (Option ActiveRun)) (go : Active → Reply × Machine) → answer_without (slice_get runs i) ≡ Some r → ps ≡ runs →
+      (r, machine_of v ps) ≡ with_active (machine_of v runs) i go
+  without_is i r ps go none same =
+      ap (λ qs. (r, machine_of v qs)) same
+      ∙ by_place (slice_get runs i) none
+      ∙ ap (λ o. if_active o (machine_of v runs) go) (sym (slice_get-map (option_map active_in) runs i))
+    where
+      by_place : (found : Option (Option ActiveRun)) → answer_without found ≡ Some r → (r, machine_of v runs) ≡ if_active (option_map (option_map active_in) found) (machine_of v runs) go
+      by_place None is = let one : r ≡ reply.NoSuchInstance = cc in ap (λ q. (q, machine_of v runs)) one
+      by_place (Some None) is = let one : r ≡ reply.Ended = cc in ap (λ q. (q, machine_of v runs)) one
+      by_place (Some (Some a)) is = absurd (cc)
 
   abbrev step_event : event.the_data → Reply × Machine
   step_event e = machine_step (draft_tree v.set) v.opening e (machine_of v runs)
 
-  pub step_ended : (i : ℕ) (p : Option ActiveRun) → slice_get runs i ≡ Some None → p ≡ None → (reply.Ended, machine_of v (set runs i p)) ≡ step_event (event.Step i)
-  step_ended i p at none = ended_is i p _ at none
-
-  pub commit_ended : (i : ℕ) (p : Option ActiveRun) → slice_get runs i ≡ Some None → p ≡ None → (reply.Ended, machine_of v (set runs i p)) ≡ step_event (event.Commit i)
-  commit_ended i p at none = ended_is i p _ at none
-
-  pub abort_ended : (i : ℕ) (p : Option ActiveRun) → slice_get runs i ≡ Some None → p ≡ None → (reply.Ended, machine_of v (set runs i p)) ≡ step_event (event.Abort i)
-  abort_ended i p at none = ended_is i p _ at none
+  pub abort_without : (i : ℕ) (r : Reply) (ps : List (Option ActiveRun)) → answer_without (slice_get runs i) ≡ Some r → ps ≡ runs → Applies (event.Abort i) (view_of v runs) (view_of v ps) (Ok r)
+  abort_without i r ps none same = answered (refl, refl) (without_is i r ps _ none same)
 
   -- ---- an event on an active instance
 
-  pub step_takes_memory : (i : ℕ) (a : ActiveRun) → slice_get runs i ≡ Some (Some a) → takes_memory (step_event (event.Step i)).0 ≡ true
+  step_takes_memory : (i : ℕ) (a : ActiveRun) → slice_get runs i ≡ Some (Some a) → takes_memory (step_event (event.Step i)).0 ≡ true
   step_takes_memory i a at =
       let s = machine_of v runs in
       ap (λ (x : Reply × Machine). takes_memory x.0)
@@ -213,7 +235,7 @@ module _ (v : BookView) (runs : List (Option ActiveRun)) (kept : IsEngine v runs
   machine-set w i p ends history floor endings =
       λ j. record { history = history j; begun = begun-set runs i p j; endings = endings j; floor = floor j }
 
-  pub stepped_is :
+  stepped_is :
       (w : BookView) (i : ℕ) (a : ActiveRun) (after : Option ActiveRun) (r : Reply) → slice_get runs i ≡ Some (Some a) →
       (r, option_map active_in after) ≡ stepped (done_in v (instance_in a)) (active_in a) → IsAfterStep v w a after →
       (r, machine_of w (set runs i after)) ≡ step_event (event.Step i)
@@ -230,19 +252,59 @@ module _ (v : BookView) (runs : List (Option ActiveRun)) (kept : IsEngine v runs
           let more : length (v.endings ++ h.0 ∷ []) ≡ length v.endings + 1 = omega (arith, length-append v.endings (h.0 ∷ [])) in
           machine-set w i None true (ap (λ (x : BookView). history_of x.rows) h.1) (ap (λ (x : BookView). x.floor) h.1) (ap (λ (x : BookView). length x.endings) h.1 ∙ more)
 
-  pub engine-stepped : (w : BookView) (i : ℕ) (a : ActiveRun) (after : Option ActiveRun) → slice_get runs i ≡ Some (Some a) → IsAfterStep v w a after → IsEngine w (set runs i after)
-  engine-stepped w i a (Some b) at left = subst (λ x. IsEngine x (set runs i (Some b))) (sym left.0) (engine-stays i a b at left.1 left.2)
-  engine-stepped w i a None at left = engine-leaves w i a at (subst (λ x. Leaves v x a.ticket.number) (sym left.1) (leaves_ended v a.ticket.number left.0))
+  stays_over : (w : BookView) (a : ActiveRun) (after : Option ActiveRun) → IsAfterStep v w a after → (w.set ≡ v.set) × (w.opening ≡ v.opening)
+  stays_over w a (Some b) left = (ap (λ (x : BookView). x.set) left.0, ap (λ (x : BookView). x.opening) left.0)
+  stays_over w a None left = (ap (λ (x : BookView). x.set) left.1, ap (λ (x : BookView). x.opening) left.1)
 
-  pub aborted_is : (w : BookView) (i : ℕ) (a : ActiveRun) → slice_get runs i ≡ Some (Some a) → w ≡ withdrawn_in v a.ticket.number →
+  unchanged : (w : BookView) (i : ℕ) (a : ActiveRun) (after : Option ActiveRun) → slice_get runs i ≡ Some (Some a) → IsAfterStep v w a after →
+      option_map active_in after ≡ Some (active_in a) → view_of w (set runs i after) ≡ view_of v runs
+  unchanged w i a (Some b) at left same =
+      let begun : begun_of (set runs i (Some b)) ≡ begun_of runs =
+      begun-set runs i (Some b)
+      ∙ ap (set (begun_of runs) i) same
+      ∙ set-same (begun_of runs) i (Some (active_in a)) (begun_at runs i (Some a) at) in
+      ap (λ x. view_of x (set runs i (Some b))) left.0
+      ∙ ap (λ bs. record { set = v.set; opening = v.opening; machine = record (machine_of v runs) { begun = bs } }) begun
+  unchanged w i a None at left same = absurd (cc)
+
+  engine-after : (w : BookView) (i : ℕ) (a : ActiveRun) (after : Option ActiveRun) → slice_get runs i ≡ Some (Some a) → IsAfterStep v w a after → IsEngine w (set runs i after)
+  engine-after w i a (Some b) at left = subst (λ x. IsEngine x (set runs i (Some b))) (sym left.0) (engine-stays i a b at left.1 left.2)
+  engine-after w i a None at left = engine-leaves w i a at (subst (λ x. Leaves v x a.ticket.number) (sym left.1) (leaves_ended v a.ticket.number left.0))
+
+  aborted_is : (w : BookView) (i : ℕ) (a : ActiveRun) → slice_get runs i ≡ Some (Some a) → w ≡ withdrawn_in v a.ticket.number →
       (reply.Withdrawn, machine_of w (set runs i None)) ≡ step_event (event.Abort i)
   aborted_is w i a at left =
       let machine = machine-set w i None false (ap (λ (x : BookView). history_of x.rows) left) (ap (λ (x : BookView). x.floor) left) (ap (λ (x : BookView). length x.endings) left) in
       ap (λ m. (reply.Withdrawn, m)) machine
       ∙ sym (with_active_is i a (λ b. (reply.Withdrawn, with_begun (machine_of v runs) i None false)) at)
 
-  pub engine-aborted : (w : BookView) (i : ℕ) (a : ActiveRun) → slice_get runs i ≡ Some (Some a) → w ≡ withdrawn_in v a.ticket.number → IsEngine w (set runs i None)
-  engine-aborted w i a at left = engine-leaves w i a at (subst (λ x. Leaves v x a.ticket.number) (sym left) (leaves_withdrawn v a.ticket.number))
+  -- ---- an instance was taken out of its place
+
+  module _ (i : ℕ) (a : ActiveRun) (at : slice_get runs i ≡ Some (Some a)) (ps : List (Option ActiveRun)) (taken : ps ≡ set runs i None) where
+    pub still_within : i < length ps
+    still_within = let within = slice_get_within runs i (Some a) at in omega (arith, ap length taken, length-set runs i None, within)
+
+    pub engine-stepped : (w : BookView) (after : Option ActiveRun) → IsAfterStep v w a after → IsEngine w (set ps i after)
+    engine-stepped w after left = subst (IsEngine w) (sym (put-back runs ps i None after taken)) (engine-after w i a after at left)
+
+    pub step_applies : (w : BookView) (after : Option ActiveRun) (r : Result Reply AllocError) → IsAfterStep v w a after →
+        IfOk r (λ told. (told, option_map active_in after) ≡ stepped (done_in v (instance_in a)) (active_in a)) →
+        OnErr r (option_map active_in after ≡ Some (active_in a)) →
+        Applies (event.Step i) (view_of v runs) (view_of w (set ps i after)) r
+    step_applies w after (Ok told) left step same =
+        answered (stays_over w a after left)
+        (ap (λ qs. (told, machine_of w qs)) (put-back runs ps i None after taken) ∙ stepped_is w i a after told at step left)
+    step_applies w after (Err f) left step same =
+        lacked (ap (view_of w) (put-back runs ps i None after taken) ∙ unchanged w i a after at left same) (step_takes_memory i a at)
+
+    pub engine-aborted : (w : BookView) → w ≡ withdrawn_in v a.ticket.number → IsEngine w ps
+    engine-aborted w left =
+        subst (IsEngine w) (sym taken) (engine-leaves w i a at (subst (λ x. Leaves v x a.ticket.number) (sym left) (leaves_withdrawn v a.ticket.number)))
+
+    pub abort_applies : (w : BookView) → w ≡ withdrawn_in v a.ticket.number → Applies (event.Abort i) (view_of v runs) (view_of w ps) (Ok reply.Withdrawn)
+    abort_applies w left =
+        answered (ap (λ (x : BookView). x.set) left, ap (λ (x : BookView). x.opening) left)
+        (ap (λ qs. (reply.Withdrawn, machine_of w qs)) taken ∙ aborted_is w i a at left)
 
   pub machine-vacuum : (w : BookView) → w ≡ record v { floor = book.least_start (length v.rows) v.active } →
       machine_of w runs ≡ record (machine_of v runs) { floor = least_start (length (machine_of v runs).history) (machine_of v runs).begun }
@@ -265,23 +327,3 @@ module _ (v : BookView) (runs : List (Option ActiveRun)) (kept : IsEngine v runs
         is_true = h.is_true;
         ready = h.ready;
       }
-
-  -- what contracts see of an engine
-  abbrev view_of : BookView → List (Option ActiveRun) → EngineView
-  view_of w ps = record { set = w.set; opening = w.opening; machine = machine_of w ps }
-
-  pub unchanged : (w : BookView) (i : ℕ) (a : ActiveRun) (after : Option ActiveRun) → slice_get runs i ≡ Some (Some a) → IsAfterStep v w a after →
-      option_map active_in after ≡ Some (active_in a) → view_of w (set runs i after) ≡ view_of v runs
-  unchanged w i a (Some b) at left same =
-      let begun : begun_of (set runs i (Some b)) ≡ begun_of runs =
-      begun-set runs i (Some b)
-      ∙ ap (set (begun_of runs) i) same
-      ∙ set-same (begun_of runs) i (Some (active_in a)) (begun_at runs i (Some a) at) in
-      ap (λ x. view_of x (set runs i (Some b))) left.0
-      ∙ ap (λ bs. record { set = v.set; opening = v.opening; machine = record (machine_of v runs) { begun = bs } }) begun
-  unchanged w i a None at left same = absurd (cc)
-
--- a fact that holds holds after an error
-pub on_err : {T E P : Type 0} (r : Result T E) → P → OnErr r P
-on_err (Ok x) holds = tt
-on_err (Err e) holds = holds

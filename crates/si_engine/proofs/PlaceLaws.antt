@@ -5,6 +5,7 @@ use Rattle.std.specs.BTreeMap.{is_at}
 use Rattle.std.specs.Map.{lookup}
 use Rattle.std.specs.Ordering.{nat_cmp}
 use Rattle.std.proofs.lemmas.Bool.Decides.{nat_tests}
+use Rattle.std.proofs.lemmas.List.{set-set}
 use Rattle.history_book.specs.View.{without}
 use Rattle.history_book.specs.View as book
 use Rattle.si_engine.specs.Machine.{Active, active_of, least_start}
@@ -28,6 +29,10 @@ pub set-same : {X : Type 0} (xs : List X) (i : ℕ) (x : X) → slice_get xs i �
 set-same [] i x at = refl
 set-same (z ∷ xs) zero x at = let one : z ≡ x = cc in ap (λ y. y ∷ xs) (sym one)
 set-same (z ∷ xs) (suc i) x at = ap (λ ys. z ∷ ys) (set-same xs i x at)
+
+-- taken out of its place, and another put there
+pub put-back : {X : Type 0} (xs ys : List X) (i : ℕ) (x y : X) → ys ≡ set xs i x → set ys i y ≡ set xs i y
+put-back xs ys i x y taken = ap (λ zs. set zs i y) taken ∙ set-set xs i x y
 
 -- an element of a list with one more is one of the list, or that one
 pub get-push : {X : Type 0} (xs : List X) (x y : X) (i : ℕ) → slice_get (xs ++ x ∷ []) i ≡ Some y → (slice_get xs i ≡ Some y) ⊎ ((i ≡ length xs) × (x ≡ y))

@@ -1,10 +1,11 @@
 -- Laws on what is added to a text, part by part.
-use Rattle.std.proofs.Common.{◌≡◌, List, [], ◌++◌, ℕ, refl, sym, ap, subst, ◌∙◌, append_assoc, append-nil, string_bytes, Result, Ok, Err, OnOk, OnErr}
+use Rattle.std.proofs.Common.{◌≡◌, List, [], ◌++◌, ℕ, length, take, refl, sym, ap, subst, ◌∙◌, append_assoc, append-nil, string_bytes, Result, Ok, Err, OnOk, OnErr}
 use Rattle.std.proofs.lemmas.Grind.{common_steps}
+use Rattle.std.specs.Str.{IsCharBoundary}
 use Rattle.std.specs.declared.alloc.AllocError.{AllocError}
 use Rattle.std.specs.declared.string.String.{String}
-use Rattle.si_engine.specs.Writing.{Keeps, Writes}
-use Rattle.si_engine.proofs.KeepLaws.{keeps_added, keeps_same, keeps_trans}
+use Rattle.si_engine.specs.Writing.{AddsOrStays, Keeps, Writes}
+use Rattle.si_engine.proofs.KeepLaws.{cut_back, kept_place, keeps_added, keeps_same, keeps_trans}
 
 -- a word goes in as a whole, or not at all
 pub writes_word : {Z : Type 0} (old new : String Z) (r : Result (Unit {0}) AllocError) (bytes : List ℕ) → OnOk r (string_bytes new ≡ string_bytes old ++ bytes) → OnErr r (string_bytes new ≡ string_bytes old) → Writes old new r bytes
@@ -46,15 +47,26 @@ pub ruleset writing_steps = (writes_word, writes_nothing, writes_part, writes_bo
 pub ruleset growing_steps = (writing_steps, common_steps)
 
 -- a text still begins as it did
-pub writes_keeps : {Z : Type 0} (old new : String Z) (r : Result (Unit {0}) AllocError) (bytes : List ℕ) → Writes old new r bytes → Keeps (string_bytes old) (string_bytes new)
+writes_keeps : {Z : Type 0} (old new : String Z) (r : Result (Unit {0}) AllocError) (bytes : List ℕ) → Writes old new r bytes → Keeps (string_bytes old) (string_bytes new)
 unfolding Writes
 writes_keeps old new (Ok done) bytes added = keeps_added (string_bytes old) (string_bytes new) bytes added
 writes_keeps old new (Err e) bytes kept = kept
 
--- cut back where it stopped, it has all of the bytes or is as it was
-pub whole : {Z : Type 0} (old middle new : String Z) (r q : Result (Unit {0}) AllocError) (bytes : List ℕ) → Writes old middle r bytes → q ≡ r → OnOk q (string_bytes new ≡ string_bytes middle) → OnOk q (string_bytes new ≡ string_bytes old ++ bytes)
+-- where it did not stop, all was added
+all_added : {Z : Type 0} (old middle new : String Z) (r : Result (Unit {0}) AllocError) (bytes : List ℕ) → Writes old middle r bytes → OnOk r (string_bytes new ≡ string_bytes middle) → OnOk r (string_bytes new ≡ string_bytes old ++ bytes)
 unfolding Writes
-whole old middle new r (Ok done) bytes written is same =
-    let added : string_bytes middle ≡ string_bytes old ++ bytes = subst (λ (x : Result (Unit {0}) AllocError). Writes old middle x bytes) (sym is) written in
-    same ∙ added
-whole old middle new r (Err e) bytes written is same = tt
+all_added old middle new (Ok done) bytes added same = same ∙ added
+all_added old middle new (Err e) bytes kept same = tt
+
+-- ---- bytes were written behind a text, which is cut back where they stopped half way
+
+module _ {Z : Type 0} (old middle : String Z) (r : Result (Unit {0}) AllocError) (bytes : List ℕ) (written : Writes old middle r bytes) (start : ℕ) (began : start ≡ length (string_bytes old)) where
+  pub may_be_cut : IsCharBoundary (string_bytes middle) start
+  may_be_cut = kept_place old middle start began (writes_keeps old middle r bytes written)
+
+  pub is_cut_back : (new : String Z) (q : Result (Unit {0}) AllocError) → q ≡ r →
+      OnOk q (string_bytes new ≡ string_bytes middle) → OnErr q (string_bytes new ≡ take start (string_bytes middle)) → AddsOrStays old new q bytes
+  is_cut_back new q same ok err = record {
+    ok = all_added old middle new q bytes (subst (λ x. Writes old middle x bytes) (sym same) written) ok;
+    err = cut_back q (string_bytes old) (string_bytes middle) (string_bytes new) start began (writes_keeps old middle r bytes written) err;
+  }

@@ -97,6 +97,12 @@ answer_to (fault.TooNew commits) = Some (reply.TooNew commits)
 answer_to fault.Full = Some reply.Full
 answer_to fault.Memory = None
 
+-- what is answered of the place of a number where no active instance stands
+abbrev pub answer_without : Option (Option ActiveRun) → Option Reply
+answer_without None = Some reply.NoSuchInstance
+answer_without (Some None) = Some reply.Ended
+answer_without (Some (Some active)) = None
+
 -- a reply that takes memory: more is kept of an instance or in the book, or replies are given out
 abbrev pub takes_memory : Reply → Bool
 takes_memory (reply.Begun instance start) = true

@@ -1,12 +1,12 @@
 //! The engine: instances over a book, moved by events.
 
-ghost use Rattle.std.specs.Prelude.{◌≡◌, length, Some, None, IfOk, OnOk, OnErr, slice_get};
+ghost use Rattle.std.specs.Prelude.{◌≡◌, length, Some, None, Ok, IfOk, IfErr, OnOk, OnErr, slice_get, slice_set};
 ghost use Rattle.prog_tree.specs.Tree.{draft_tree};
 ghost use Rattle.prog_run.specs.View.{begin_fault, begun};
 ghost use Rattle.history_book.specs.History.{state_after};
 ghost use Rattle.history_book.specs.View.{history_of, begin_at_fault_of, ticket_at, begun_at};
 ghost use Rattle.si_engine.specs.Machine.{new_machine};
-ghost use Rattle.si_engine.specs.View.{Applies, StaysOver, IsAnswerTo, MayLackMemory, answer_to, numbered};
+ghost use Rattle.si_engine.specs.View.{Applies, answer_to, answer_without, numbered};
 
 use crate::active::ActiveRun;
 use crate::event::{Event, Reply};
@@ -99,6 +99,26 @@ fn begin_in<'a>(
     }
 }
 
+// Takes the active instance of a number out of its place, or tells that there is none.
+fn take_active<'a>(
+    begun: &mut Vec<Option<ActiveRun<'a>>>,
+    number: usize,
+) -> Result<ActiveRun<'a>, Reply>
+    ensures found { IfOk result (λ active. slice_get begun.old.items number ≡ Some (Some active)) }
+    ensures taken { OnOk result (begun.new.items ≡ slice_set begun.old.items number None) }
+    ensures none { IfErr result (λ reply.
+        answer_without (slice_get begun.old.items number) ≡ Some reply) }
+    ensures same { OnErr result (begun.new.items ≡ begun.old.items) }
+{
+    if number >= begun.len() {
+        return Err(Reply::NoSuchInstance);
+    }
+    match begun[number].take() {
+        Some(active) => Ok(active),
+        None => Err(Reply::Ended),
+    }
+}
+
 impl<'a> Engine<'a> {
     ghost use Rattle.si_engine.specs.declared.event.Event.TheVariants as event;
 
@@ -169,77 +189,58 @@ impl<'a> Engine<'a> {
     }
 
     fn step(&mut self, number: usize) -> Result<Reply, AllocError>
-        ensures over { StaysOver self.old self.new }
-        ensures step { IfOk result (IsAnswerTo (event.Step number) self.old self.new) }
-        ensures err { OnErr result (self.new ≡ self.old) }
-        ensures memory { OnErr result (MayLackMemory (event.Step number) self.old) }
+        ensures { Applies (event.Step number) self.old self.new result }
     {
-        if number >= self.begun.len() {
-            return Ok(Reply::NoSuchInstance);
-        }
-        let place = &mut self.begun[number];
-        let Some(active) = place.take() else {
-            return Ok(Reply::Ended);
+        let active = match take_active(&mut self.begun, number) {
+            Ok(active) => active,
+            Err(reply) => return Ok(reply),
         };
         let (after, reply) = active.step(self.alloc, &mut self.book);
-        *place = after;
+        self.begun[number] = after;
         reply
     }
 
     fn commit(&mut self, number: usize) -> Result<Reply, AllocError>
-        ensures over { StaysOver self.old self.new }
-        ensures step { IfOk result (IsAnswerTo (event.Commit number) self.old self.new) }
-        ensures err { OnErr result (self.new ≡ self.old) }
-        ensures memory { OnErr result (MayLackMemory (event.Commit number) self.old) }
+        ensures { Applies (event.Commit number) self.old self.new result }
     {
-        if number >= self.begun.len() {
-            return Ok(Reply::NoSuchInstance);
-        }
-        let place = &mut self.begun[number];
-        let Some(active) = place.take() else {
-            return Ok(Reply::Ended);
+        let active = match take_active(&mut self.begun, number) {
+            Ok(active) => active,
+            Err(reply) => return Ok(reply),
         };
         if !active.ready {
-            *place = Some(active);
+            self.begun[number] = Some(active);
             return Ok(Reply::NotReady);
         }
-        let reply = match active.commit(&mut self.book) {
-            Ok(reply) => reply,
+        match active.commit(&mut self.book) {
+            Ok(reply) => Ok(reply),
             Err(back) => {
-                *place = Some(back);
-                return Err(AllocError);
+                self.begun[number] = Some(back);
+                Err(AllocError)
             }
-        };
-        Ok(reply)
+        }
     }
 
     fn abort(&mut self, number: usize) -> Reply
-        ensures over { StaysOver self.old self.new }
-        ensures step { IsAnswerTo (event.Abort number) self.old self.new result }
+        ensures { Applies (event.Abort number) self.old self.new (Ok result) }
     {
-        if number >= self.begun.len() {
-            return Reply::NoSuchInstance;
+        match take_active(&mut self.begun, number) {
+            Ok(active) => {
+                active.withdraw(&mut self.book);
+                Reply::Withdrawn
+            }
+            Err(reply) => reply,
         }
-        let Some(active) = self.begun[number].take() else {
-            return Reply::Ended;
-        };
-        active.withdraw(&mut self.book);
-        Reply::Withdrawn
     }
 
     fn vacuum(&mut self) -> Reply
-        ensures over { StaysOver self.old self.new }
-        ensures step { IsAnswerTo event.Vacuum self.old self.new result }
+        ensures { Applies event.Vacuum self.old self.new (Ok result) }
     {
         Reply::Vacuumed(self.book.vacuum())
     }
 
     /// One event. After want of memory the same event may be sent again.
     pub fn apply(&mut self, event: &Event) -> Result<Reply, AllocError>
-        ensures over { StaysOver self.old self.new }
-        ensures step { IfOk result (IsAnswerTo event.now self.old self.new) }
-        ensures err { OnErr result (self.new ≡ self.old) }
-        ensures memory { OnErr result (MayLackMemory event.now self.old) }
+        ensures { Applies event.now self.old self.new result }
     {
         match event {
             Event::Begin { program, args } => self.begin(*program, args.as_slice()),

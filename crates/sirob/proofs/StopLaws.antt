@@ -38,7 +38,7 @@ use Rattle.sirob.specs.declared.command_fault.CommandFault.TheVariants as fault
 use Rattle.sirob.specs.declared.status.Status.{Status}
 use Rattle.sirob.specs.declared.status.Status.TheVariants as status
 use Rattle.sirob.specs.FaultLines.{fault_line, is_memory}
-use Rattle.sirob.specs.Output.{parts_wanted, Gives, IsAnalysedFor, IsRobust, GivesPart, GivesFirstPart, HasSet, MayEnd, MayRun, IsAudited, IsChecked, IsRefused, IsRefusedInput, IsRefusedPart, StopsBehind, at_once, behind_lines, memory_line, IsAnswer, done, refused, stopped, IsUnread, IsReply, Writes}
+use Rattle.sirob.specs.Output.{parts_wanted, Gives, IsAnalysedFor, IsRobust, GivesPart, GivesFirstPart, HasSet, MayEnd, MayRun, IsAudited, IsChecked, IsRefused, IsRefusedInput, IsRefusedPart, StopsBehind, at_once, behind_lines, memory_line, IsAnswer, done, refused, stopped, IsUnread, IsReply, WritesWithStatus}
 use Rattle.sirob.specs.Output as u
 use Rattle.sirob.specs.Status.{status_of}
 use Rattle.sirob.specs.Stops.{IsUnanalysedBy, IsUnrepairedBy, IsStop, IsReadFault, Ends, well, in_fault, in_memory, IsJust, IsSetAndPart, IsPartStop, IsPartDone, IsRefusedJobs, IsInputDone, IsSourceDone, as_command, write_lost}
@@ -319,7 +319,7 @@ part_is_input mode input set part two has written (Err f) given = (
 
 -- what is written so is written so too
 pub writes_as : (P Q : List ℕ → Status → Type 0) (failed : Bool) (old new : Option (List ℕ)) (status : Status)
-    → ((written : List ℕ) (ended : Status) → P written ended → Q written ended) → Writes P failed old new status → Writes Q failed old new status
+    → ((written : List ℕ) (ended : Status) → P written ended → Q written ended) → WritesWithStatus P failed old new status → WritesWithStatus Q failed old new status
 writes_as P Q false old new status turn (written, is, appends) = (written, turn written status is, appends)
 writes_as P Q true old new status turn (faulty, written, meant, is, appends) = (faulty, written, meant, turn written meant is, appends)
 
@@ -331,20 +331,20 @@ writes_or_as g lost P Q true old new ended turn (lost_is, written, meant, is, ap
 
 -- just these bytes and this status were meant, and they are so
 pub writes_just : (P : List ℕ → Status → Type 0) (bytes : List ℕ) (given : Status) (failed : Bool) (old new : Option (List ℕ)) (status : Status)
-    → P bytes given → Writes (IsJust bytes given) failed old new status → Writes P failed old new status
+    → P bytes given → WritesWithStatus (IsJust bytes given) failed old new status → WritesWithStatus P failed old new status
 writes_just P bytes given failed old new status is writes =
     writes_as (IsJust bytes given) P failed old new status
     (λ written ended just. subst (λ w. P w ended) (sym just.0) (subst (λ s. P bytes s) (sym just.1) is)) writes
 
 -- all of the bytes were written
 pub wrote_all : (bytes : List ℕ) (given : Status) (failed : Bool) (old new : Option (List ℕ))
-    → failed ≡ false → Appends old new bytes → Writes (IsJust bytes given) failed old new given
+    → failed ≡ false → Appends old new bytes → WritesWithStatus (IsJust bytes given) failed old new given
 wrote_all bytes given false old new works appends = (bytes, (refl, refl), appends)
 wrote_all bytes given true old new works appends = absurd (cc)
 
 -- some first of the bytes were written
 pub wrote_front : (bytes : List ℕ) (given : Status) (failed : Bool) (old new : Option (List ℕ))
-    → failed ≡ true → AppendsFront old new bytes → Writes (IsJust bytes given) failed old new status.Faulty
+    → failed ≡ true → AppendsFront old new bytes → WritesWithStatus (IsJust bytes given) failed old new status.Faulty
 wrote_front bytes given false old new fails appends = absurd (cc)
 wrote_front bytes given true old new fails appends = (refl, bytes, given, (refl, refl), appends)
 
@@ -406,7 +406,7 @@ some_end (Err f) = (memory_line, status.Memory, in_memory f)
 
 -- the sink failed on the way
 pub lost : (mode : Mode) (left : Option (List ℕ)) (source_failed failed : Bool) (old new : Option (List ℕ)) (ended : Result Status CommandFault)
-    → failed ≡ true → WritesOr (Err write_lost) (IsSourceDone mode left source_failed) failed old new ended → Writes (IsReply mode left source_failed) failed old new status.Faulty
+    → failed ≡ true → WritesOr (Err write_lost) (IsSourceDone mode left source_failed) failed old new ended → WritesWithStatus (IsReply mode left source_failed) failed old new status.Faulty
 lost mode left source_failed false old new ended fails writes = absurd (cc)
 lost mode left source_failed true old new ended fails (lost_is, lines, meant, given, appends) =
     let behind = some_end meant in
@@ -414,8 +414,8 @@ lost mode left source_failed true old new ended fails (lost_is, lines, meant, gi
 
 -- the sink took all lines
 pub whole : (mode : Mode) (left : Option (List ℕ)) (source_failed mid_failed failed : Bool) (old mid new : Option (List ℕ)) (ended : Result Status CommandFault) (end : Status)
-    → mid_failed ≡ false → WritesOr (Err write_lost) (IsSourceDone mode left source_failed) mid_failed old mid ended → Writes (Ends ended) failed mid new end
-    → Writes (IsReply mode left source_failed) failed old new end
+    → mid_failed ≡ false → WritesOr (Err write_lost) (IsSourceDone mode left source_failed) mid_failed old mid ended → WritesWithStatus (Ends ended) failed mid new end
+    → WritesWithStatus (IsReply mode left source_failed) failed old new end
 whole mode left source_failed true failed old mid new ended end works given behind = absurd (cc)
 whole mode left source_failed false false old mid new ended end works (lines, given, appends) (written, ends, more) =
     (lines ++ written, replied mode left source_failed lines ended written end given ends, Appends-trans old mid new lines written appends more)
@@ -429,7 +429,7 @@ some_reply mode (Some bytes) false = (bytes, refl, stopped [] at_once)
 some_reply mode left true = u.stopped
 
 -- the sink failed before
-pub not_begun : (mode : Mode) (left : Option (List ℕ)) (source_failed failed : Bool) (old : Option (List ℕ)) → failed ≡ true → Writes (IsReply mode left source_failed) failed old old status.Faulty
+pub not_begun : (mode : Mode) (left : Option (List ℕ)) (source_failed failed : Bool) (old : Option (List ℕ)) → failed ≡ true → WritesWithStatus (IsReply mode left source_failed) failed old old status.Faulty
 not_begun mode left source_failed false old fails = absurd (cc)
 not_begun mode left source_failed true old fails = (refl, memory_line, status.Memory, some_reply mode left source_failed, (0, Appends-nil old))
 

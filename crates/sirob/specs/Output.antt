@@ -1,6 +1,5 @@
 -- What the commands write.
 use Rattle.std.specs.Prelude.{◌≡◌, ◌⊎◌, ℕ, Bool, true, false, ◌<◌, ◌≤◌, All, List, [], ◌∷◌, ◌++◌, length, codes, Option, Some, None, Ok, Err}
-use Rattle.std.specs.Io.KnownBytes.{Appends}
 use Rattle.prog_tree.specs.declared.program.Draft.{Draft}
 use Rattle.prog_tree.specs.Syntax.{DraftTree}
 use Rattle.prog_tree.specs.Tree.{draft_tree}
@@ -42,7 +41,7 @@ use Rattle.si_engine.specs.Reading.{ForInput, input_limit}
 use Rattle.si_engine.specs.Records.{records_of}
 use Rattle.si_engine.specs.Runs.{run_lines, end_lines, AddsFirst, AddsEnd, AddsRun}
 use Rattle.si_engine.specs.Script.{script_of}
-use Rattle.si_engine.specs.Writing.{AppendsFront}
+use Rattle.si_engine.specs.Writing.{WritesOr}
 use Rattle.si_workers.specs.declared.fault.WorkFault.{WorkFault}
 use Rattle.si_workers.specs.declared.job.JobOutcome.{JobOutcome}
 use Rattle.si_workers.specs.declared.job_list.JobList.{JobList}
@@ -395,6 +394,5 @@ IsReply mode left true written status = IsUnread written status
 
 -- such bytes were written, and such a status is given; a sink that failed has some first of such bytes,
 -- and the status is that of a fault
-abbrev pub Writes : (List ℕ → Status → Type 0) → (failed : Bool) → Option (List ℕ) → Option (List ℕ) → Status → Type 0
-Writes P false old new status = (written : List ℕ) × P written status × Appends old new written
-Writes P true old new status = (status ≡ Faulty) × (written : List ℕ) × (meant : Status) × P written meant × AppendsFront old new written
+abbrev pub WritesWithStatus : (List ℕ → Status → Type 0) → (failed : Bool) → Option (List ℕ) → Option (List ℕ) → Status → Type 0
+WritesWithStatus = WritesOr Faulty

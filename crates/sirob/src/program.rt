@@ -2,7 +2,7 @@
 ghost use Rattle.std.specs.Prelude.{◌≡◌, ◌≤◌, ◌+◌, [], true, map, string_bytes, IfOk, IfErr};
 ghost use Rattle.std.specs.IoError.{error_kind};
 ghost use Rattle.clap.specs.Words.{kind_of};
-ghost use Rattle.sirob.specs.Output.{IsReply, Writes, memory_line};
+ghost use Rattle.sirob.specs.Output.{IsReply, WritesWithStatus, memory_line};
 ghost use Rattle.sirob.specs.Program.{is_text, IsRefusal, IsWordless, IsEnd};
 ghost use Rattle.sirob.specs.Stops.{IsJust};
 
@@ -28,10 +28,10 @@ pub fn carry_out<S: Source, K: Sink>(
     source: &mut S,
     sink: &mut K,
 ) -> Status
-    ensures words { IfOk arguments.now (λ words. Writes
+    ensures words { IfOk arguments.now (λ words. WritesWithStatus
         (IsEnd (map string_bytes words.items) (S.left source.old) (S.has_failed source.new))
         (K.has_failed sink.new) (K.taken sink.old) (K.taken sink.new) result) }
-    ensures none { IfErr arguments.now (λ error. Writes (IsWordless (error_kind error))
+    ensures none { IfErr arguments.now (λ error. WritesWithStatus (IsWordless (error_kind error))
         (K.has_failed sink.new) (K.taken sink.old) (K.taken sink.new) result) }
     ensures reads { S.pulls source.new ≤ S.pulls source.old + MAX_READS }
 {
@@ -48,7 +48,7 @@ fn run_mode<S: Source, K: Sink>(
     source: &mut S,
     sink: &mut K,
 ) -> Status
-    ensures reply { Writes (IsReply mode (S.left source.old) (S.has_failed source.new))
+    ensures reply { WritesWithStatus (IsReply mode (S.left source.old) (S.has_failed source.new))
         (K.has_failed sink.new) (K.taken sink.old) (K.taken sink.new) result }
     ensures reads { S.pulls source.new ≤ S.pulls source.old + MAX_READS }
 {
@@ -70,7 +70,7 @@ fn follow<S: Source, K: Sink>(
     source: &mut S,
     sink: &mut K,
 ) -> Status
-    ensures end { Writes (IsEnd (map string_bytes words.now) (S.left source.old)
+    ensures end { WritesWithStatus (IsEnd (map string_bytes words.now) (S.left source.old)
         (S.has_failed source.new))
         (K.has_failed sink.new) (K.taken sink.old) (K.taken sink.new) result }
     ensures reads { S.pulls source.new ≤ S.pulls source.old + MAX_READS }
@@ -83,7 +83,7 @@ fn follow<S: Source, K: Sink>(
 
 // Shows the text that words ask for, or tells what is wrong with them.
 fn refuse_words<K: Sink>(rt: &(impl AllocGlobal + Eprint), error: &Error, sink: &mut K) -> Status
-    ensures { Writes (IsRefusal (kind_of error.now))
+    ensures { WritesWithStatus (IsRefusal (kind_of error.now))
         (K.has_failed sink.new) (K.taken sink.old) (K.taken sink.new) result }
 {
     if error.kind() == ErrorKind::OutOfMemory {
@@ -98,7 +98,7 @@ fn refuse_words<K: Sink>(rt: &(impl AllocGlobal + Eprint), error: &Error, sink: 
 
 fn show<K: Sink>(alloc: Global, error: &Error, sink: &mut K) -> Status
     requires { is_text (kind_of error.now) ≡ true }
-    ensures { Writes (IsRefusal (kind_of error.now))
+    ensures { WritesWithStatus (IsRefusal (kind_of error.now))
         (K.has_failed sink.new) (K.taken sink.old) (K.taken sink.new) result }
 {
     match error.to_string(alloc) {
@@ -109,7 +109,7 @@ fn show<K: Sink>(alloc: Global, error: &Error, sink: &mut K) -> Status
 
 // Tells that an argument is no text, or that memory ran out.
 fn refuse_arguments<K: Sink>(rt: &impl Eprint, error: &io::Error, sink: &mut K) -> Status
-    ensures { Writes (IsWordless (error_kind error.now))
+    ensures { WritesWithStatus (IsWordless (error_kind error.now))
         (K.has_failed sink.new) (K.taken sink.old) (K.taken sink.new) result }
 {
     if error.kind() == io::ErrorKind::OutOfMemory {
@@ -120,7 +120,7 @@ fn refuse_arguments<K: Sink>(rt: &impl Eprint, error: &io::Error, sink: &mut K) 
 }
 
 fn tell_memory<K: Sink>(sink: &mut K) -> Status
-    ensures { Writes (IsJust memory_line Status.Memory)
+    ensures { WritesWithStatus (IsJust memory_line Status.Memory)
         (K.has_failed sink.new) (K.taken sink.old) (K.taken sink.new) result }
 {
     write_last(sink, MEMORY_LINE, Status::Memory)
@@ -128,7 +128,7 @@ fn tell_memory<K: Sink>(sink: &mut K) -> Status
 
 // Nothing is for the standard output.
 fn tell_nothing<K: Sink>(sink: &mut K) -> Status
-    ensures { Writes (IsJust [] Status.Faulty)
+    ensures { WritesWithStatus (IsJust [] Status.Faulty)
         (K.has_failed sink.new) (K.taken sink.old) (K.taken sink.new) result }
 {
     write_last(sink, b"", Status::Faulty)

@@ -3,7 +3,7 @@ ghost use Rattle.std.specs.Prelude.{◌≡◌, ◌≤◌, ◌+◌, false, Err, l
 ghost use Rattle.si_engine.specs.Reading.{input_limit};
 ghost use Rattle.si_engine.specs.Writing.{WritesOr};
 ghost use Rattle.sirob.specs.FaultLines.{is_memory};
-ghost use Rattle.sirob.specs.Output.{is_work, parts_wanted, IsReply, Writes, memory_line};
+ghost use Rattle.sirob.specs.Output.{is_work, parts_wanted, IsReply, WritesWithStatus, memory_line};
 ghost use Rattle.sirob.specs.Stops.{IsInputDone, IsSourceDone, Ends, IsJust, write_lost};
 
 use crate::command_fault::{CommandFault, fault_line};
@@ -97,7 +97,7 @@ fn answer_source<S: Source, K: Sink>(
 
 /// Writes the last bytes; the status is the one given, or that of a failed write.
 pub fn write_last<K: Sink>(sink: &mut K, bytes: &[u8], status: Status) -> Status
-    ensures { Writes (IsJust bytes.now status)
+    ensures { WritesWithStatus (IsJust bytes.now status)
         (K.has_failed sink.new) (K.taken sink.old) (K.taken sink.new) result }
 {
     match write_whole(sink, bytes) {
@@ -108,7 +108,7 @@ pub fn write_last<K: Sink>(sink: &mut K, bytes: &[u8], status: Status) -> Status
 
 // Writes the line of a fault, alone.
 fn write_fault<K: Sink>(alloc: Global, sink: &mut K, fault: CommandFault) -> Status
-    ensures { Writes (Ends (Err fault))
+    ensures { WritesWithStatus (Ends (Err fault))
         (K.has_failed sink.new) (K.taken sink.old) (K.taken sink.new) result }
 {
     if fault.is_memory() {
@@ -127,7 +127,7 @@ pub fn write_end<K: Sink>(
     sink: &mut K,
     ended: Result<Status, CommandFault>,
 ) -> Status
-    ensures { Writes (Ends ended)
+    ensures { WritesWithStatus (Ends ended)
         (K.has_failed sink.new) (K.taken sink.old) (K.taken sink.new) result }
 {
     match ended {
@@ -146,7 +146,7 @@ pub fn run_command<S: Source, K: Sink>(
     sink: &mut K,
 ) -> Status
     requires { is_work mode ≡ false }
-    ensures reply { Writes (IsReply mode (S.left source.old) (S.has_failed source.new))
+    ensures reply { WritesWithStatus (IsReply mode (S.left source.old) (S.has_failed source.new))
         (K.has_failed sink.new) (K.taken sink.old) (K.taken sink.new) result }
     ensures reads { S.pulls source.new ≤ S.pulls source.old + MAX_READS }
 {

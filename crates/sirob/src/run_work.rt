@@ -2,7 +2,7 @@
 ghost use Rattle.std.specs.Prelude.{◌≡◌, ◌≤◌, ◌+◌, false, Err, length};
 ghost use Rattle.si_engine.specs.Reading.{input_limit};
 ghost use Rattle.si_engine.specs.Writing.{WritesOr};
-ghost use Rattle.sirob.specs.Output.{IsReply, Writes};
+ghost use Rattle.sirob.specs.Output.{IsReply, WritesWithStatus};
 ghost use Rattle.sirob.specs.Stops.{IsInputDone, IsSourceDone, write_lost};
 ghost use Rattle.sirob.specs.declared.command_line.Mode.TheVariants as mode;
 
@@ -80,7 +80,7 @@ pub fn run_work<
     S: Source,
     K: Sink,
 >(rt: &R, workers: u8, source: &mut S, sink: &mut K) -> Status
-    ensures reply { Writes
+    ensures reply { WritesWithStatus
         (IsReply (mode.Work workers) (S.left source.old) (S.has_failed source.new))
         (K.has_failed sink.new) (K.taken sink.old) (K.taken sink.new) result }
     ensures reads { S.pulls source.new ≤ S.pulls source.old + MAX_READS }

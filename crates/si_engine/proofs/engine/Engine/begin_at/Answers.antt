@@ -4,11 +4,9 @@ use Rattle.prog_tree.specs.declared.program.Draft.{Draft}
 use Rattle.prog_tree.specs.Tree.{draft_tree}
 use Rattle.prog_run.specs.View.{begun}
 use Rattle.si_engine.specs.Machine.{begin_at_by}
-use Rattle.si_engine.specs.View.{EngineView, machine_of, IsEngine, MayLackMemory}
-use Rattle.si_engine.specs.declared.event.Event.TheVariants as event
+use Rattle.si_engine.specs.View.{EngineView, machine_of, IsEngine}
 use Rattle.si_engine.specs.declared.event.Reply.TheVariants as reply
-use Rattle.si_engine.proofs.BeginLaws.{begin_refused, begin_takes_memory, begin_made, engine-begun}
-use Rattle.si_engine.proofs.EngineLaws.{on_err}
+use Rattle.si_engine.proofs.BeginLaws.{begin_refused, begin_lacks, begin_made, engine-begun}
 use Rattle.si_engine.proofs.engine.Engine.begin_at.Goals as goal
 
 pub returns-in-Some : goal.returns-in-Some
@@ -27,41 +25,20 @@ returns-in-Some c =
 pub returns-in_err-run : goal.returns-in_err-run
 returns-in_err-run c =
     let e = c.self.inside in
-    record {
-      over = search rules;
-      step = search rules;
-      err = search rules;
-      memory =
-          on_err _
-          (subst (MayLackMemory (event.BeginAt c.args.start c.args.program c.args.args.now)) c.self.view_is
-          (begin_takes_memory e.book e.begun.items c.self.invariant c.args.start c.args.program c.args.args.now (sym c.in_default.ensures)));
-    }
+    begin_lacks e.book e.begun.items c.self.invariant c.args.start c.args.program c.args.args.now (sym c.in_default.ensures) c.self.view_is
+    (search rules) (search rules) (search rules)
 
 pub returns-in_err-reserve : goal.returns-in_err-reserve
 returns-in_err-reserve c =
     let e = c.self.inside in
-    record {
-      over = search rules;
-      step = search rules;
-      err = search rules;
-      memory =
-          on_err _
-          (subst (MayLackMemory (event.BeginAt c.args.start c.args.program c.args.args.now)) c.self.view_is
-          (begin_takes_memory e.book e.begun.items c.self.invariant c.args.start c.args.program c.args.args.now (sym c.in_default.ensures)));
-    }
+    begin_lacks e.book e.begun.items c.self.invariant c.args.start c.args.program c.args.args.now (sym c.in_default.ensures) c.self.view_is
+    (search rules) (search rules) (search rules)
 
 pub returns-in_err-ticket : goal.returns-in_err-ticket
 returns-in_err-ticket c =
     let e = c.self.inside in
-    record {
-      over = search rules;
-      step = search rules;
-      err = search rules;
-      memory =
-          on_err _
-          (subst (MayLackMemory (event.BeginAt c.args.start c.args.program c.args.args.now)) c.self.view_is
-          (begin_takes_memory e.book e.begun.items c.self.invariant c.args.start c.args.program c.args.args.now (sym c.in_default.ensures)));
-    }
+    begin_lacks e.book e.begun.items c.self.invariant c.args.start c.args.program c.args.args.now (sym c.in_default.ensures) c.self.view_is
+    (search rules) (search rules) (search rules)
 
 pub invariant_of-self-2 : goal.invariant_of-self-2
 invariant_of-self-2 c =
