@@ -9,4 +9,4 @@ pub returns : goal.returns
 returns c =
     let told = c.args.told.now in
     c.is_never.ensures told.question
-    ∙ ap (λ (r : Reason). is_apart (entry_with told.question r)) (c.index-reasons-told.ensures ∙ reason_any c.args.reasons.now told.reason c.index-reasons-told.result.now c.requires)
+    ∙ ap (λ (r : Reason). is_apart (entry_with told.question r)) (c.index-reasons-told.is ∙ reason_any c.args.reasons.now told.reason c.index-reasons-told.result c.requires)
