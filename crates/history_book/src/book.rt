@@ -132,7 +132,7 @@ impl<'a> Book<'a> {
     pub fn open(alloc: Global, set: &'a ProgramSet, opening: Rows) -> Result<Self, AllocError>
         ensures { IfOk result (λ book. book ≡ new_book set.now opening) }
     {
-        let store = Store::open(alloc, opening.copy()?)?;
+        let store = Store::open(alloc, &opening)?;
         Ok(Book {
             alloc,
             set,

@@ -41,11 +41,11 @@ impl Model for Store {
 
 impl Store {
     /// A store of opening rows, which have the number 0.
-    pub fn open(alloc: Global, opening: Rows) -> Result<Self, AllocError>
-        ensures stands { IfOk result (λ store. StandsFor store opening []) }
+    pub fn open(alloc: Global, opening: &Rows) -> Result<Self, AllocError>
+        ensures stands { IfOk result (λ store. StandsFor store opening.now []) }
     {
         Ok(Store {
-            chains: Chains::open(alloc, &opening)?,
+            chains: Chains::open(alloc, opening)?,
             commits: 0,
             floor: 0,
             versions: opening.len() as u64,

@@ -41,7 +41,7 @@ pub fn open(rt: &impl Abort, alloc: Global, given: &[(i64, i64)]) -> Store {
     for (first, value) in given {
         rows.insert(cell(*first), *value).expect(rt, "memory");
     }
-    Store::open(alloc, rows).expect(rt, "memory")
+    Store::open(alloc, &rows).expect(rt, "memory")
 }
 
 /// Installs a commit.

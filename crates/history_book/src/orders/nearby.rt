@@ -153,16 +153,13 @@ fn first_unplaced(placed: &[bool], from: usize) -> usize
 }
 
 /// The least order of the commits, found by tests of commits that are near each other. None where
-/// that takes too many steps, where no commit looked at a region, or where there is no order.
+/// that takes too many steps, or where there is no order.
 pub fn nearby_order(alloc: Global, traces: &[Trace]) -> Result<Option<Vec<usize>>, AllocError>
     requires { SeesEarlier traces.now }
     ensures { IfOk result (λ found. IfSome found (λ order.
         least_order (trace_depends traces.now) (length traces.now) ≡ Some order.items)) }
 {
     let mut left = budget(traces);
-    if left == 0 {
-        return Ok(None);
-    }
     let horizons = horizons(alloc, traces)?;
     let mut placed = vec![in alloc; false; traces.len() + 1]?;
     let mut holders = vec![in alloc; 0; traces.len() + 1]?;
