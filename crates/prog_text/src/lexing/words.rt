@@ -1,6 +1,6 @@
 //! The reserved words of the language, and what each of them begins.
 
-ghost use Rattle.std.specs.Prelude.{◌≡◌, true, map};
+ghost use Rattle.std.specs.Prelude.{◌≡◌, true, bytes_eq, map};
 ghost use Rattle.std.specs.List.{list_all};
 ghost use Rattle.prog_text.specs.Lexing.{is_word_byte, word_token};
 ghost use Rattle.prog_text.specs.Spelling.{reserved_words, sign_in, spelling};
@@ -54,12 +54,19 @@ fn word(bytes: &[u8]) -> Word<'_>
     Word::new(unsafe { str::from_utf8_unchecked(bytes) })
 }
 
+// Words are short: going through their bytes is faster than a comparison of long texts.
+fn is_same(word: &[u8], other: &[u8]) -> bool
+    ensures { result ≡ bytes_eq word.now other.now }
+{
+    word.len() == other.len() && word.iter().eq(other)
+}
+
 // The sign that a table has for a word, by its first entry.
 fn lookup(mut table: &[(&str, Sign)], bytes: &[u8]) -> Option<Sign>
     ensures { result ≡ sign_in (map (λ entry. (entry.0.now, entry.1)) table.entry.now) bytes.now }
 {
     while let [entry, rest @ ..] = table {
-        if bytes == entry.0.as_bytes() {
+        if is_same(bytes, entry.0.as_bytes()) {
             return Some(entry.1);
         }
         table = rest;
@@ -80,7 +87,8 @@ pub fn word_token(bytes: &[u8]) -> Token<'_>
 
 /// The reserved words, in the order in which people are told of them.
 pub fn reserved_words() -> &'static [(&'static str, Sign)]
-    ensures { map (λ entry. entry.0.now) result.now ≡ map spelling reserved_words }
+    ensures words { map (λ entry. entry.0.now) result.now ≡ map spelling reserved_words }
+    ensures signs { map (λ entry. t.Sign entry.1) result.now ≡ reserved_words }
 {
     &RESERVED
 }
