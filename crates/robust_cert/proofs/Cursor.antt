@@ -16,7 +16,7 @@ use Rattle.robust_cert.specs.declared.entries.Reason.{Reason}
 use Rattle.robust_cert.specs.declared.entries.Reason.TheVariants.{Apart, Cover}
 use Rattle.robust_cert.specs.Accepted.{numbers_told, question_of}
 use Rattle.robust_cert.specs.Telling.{is_same, telling_by, telling_with, telling_of, IsBehind}
-use Rattle.robust_cert.specs.Sharing.{asked_by, entry_with}
+use Rattle.robust_cert.specs.Sharing.{question_told, entry_with}
 use Rattle.robust_cert.proofs.Shared.{entry_at}
 
 -- ---- the order of questions
@@ -151,7 +151,7 @@ told_cases (d ∷ rest) q = go (cases_Bool (is_same (question_of d) q)) (told_ca
 
 -- ---- the question and the reason at the cursor
 
-pub question-asked : (e : Entry) → question_of e ≡ numbers_told (asked_by e)
+pub question-asked : (e : Entry) → question_of e ≡ numbers_told (question_told e)
 question-asked (entry.TheVariants.Apart q chain) = refl
 question-asked (entry.TheVariants.Cover q mine theirs chains) = refl
 
@@ -159,7 +159,7 @@ pub telling-with : (q : Asked) (reason : Reason) → telling_with reason ≡ tel
 telling-with q (Apart chain) = refl
 telling-with q (Cover mine theirs chains) = refl
 
-module _ (entries : List Entry) (at : ℕ) (q : Question) (behind : IsBehind entries at q) (p : Asked) (about : (e : Entry) → slice_get entries at ≡ Some e → p ≡ asked_by e) where
+module _ (entries : List Entry) (at : ℕ) (q : Question) (behind : IsBehind entries at q) (p : Asked) (about : (e : Entry) → slice_get entries at ≡ Some e → p ≡ question_told e) where
   asked-here : (e : Entry) → slice_get entries at ≡ Some e → numbers_told p ≡ question_of e
   asked-here e is = ap numbers_told (about e is) ∙ sym (question-asked e)
 
@@ -178,10 +178,10 @@ module _ (entries : List Entry) (at : ℕ) (q : Question) (behind : IsBehind ent
     stops-here b says against e is before = false≢true (sym against ∙ says.1 (subst (λ (o : Question). IsBefore o q) (sym (named ∙ asked-here e is)) before))
 
   -- what the reason tells, where the question is the same
-  pub reason-tells : (r : Reason) → at < length entries → ((e : Entry) → slice_get entries at ≡ Some e → e ≡ entry_with (asked_by e) r) → is_same (numbers_told p) q ≡ true → telling_with r ≡ telling_of entries q
+  pub reason-tells : (r : Reason) → at < length entries → ((e : Entry) → slice_get entries at ≡ Some e → e ≡ entry_with (question_told e) r) → is_same (numbers_told p) q ≡ true → telling_with r ≡ telling_of entries q
   reason-tells r lt told same =
       let w = entry_at entries at lt in
-      telling-with (asked_by w.0) r ∙ ap telling_by (sym (told w.0 w.1))
+      telling-with (question_told w.0) r ∙ ap telling_by (sym (told w.0 w.1))
       ∙ told-here entries at q behind w.0 w.1 (subst (λ (o : Question). is_same o q ≡ true) (asked-here w.0 w.1) same)
 
   -- and nothing, where it is another

@@ -14,7 +14,7 @@ use Rattle.robust_cert.specs.declared.certificate.Entry as entry
 use Rattle.robust_cert.specs.declared.entries.Reason.{Reason}
 use Rattle.robust_cert.specs.declared.entries.Reason.TheVariants.{Apart, Cover}
 use Rattle.robust_cert.specs.Json.{QuestionFits, EntryFits, entry_items, entry_data}
-use Rattle.robust_cert.specs.Helpers.{IsQuestion, reason_kind, reason_items, IsTold}
+use Rattle.robust_cert.specs.Helpers.{AreNumbersOf, reason_kind, reason_items, IsWordedAs}
 use Rattle.robust_cert.specs.Parts.{ReasonFits}
 use Rattle.robust_cert.specs.Sharing.{entry_with}
 
@@ -74,9 +74,9 @@ module _ (value : Value) (items : Vec Value Global) (seen : List Value) (k x a y
   whole : view value ≡ array (item (view k) (item (view x) (item (view a) (item (view y) (item (view b) (items_view (behind seen)))))))
   whole = shown value items seen p.is p.here ∙ ap array (five seen k x a y b p.enough p.first p.second p.third p.fourth p.fifth)
 
-  pub entry_taken : (q : Question) (reason : Reason) → IsQuestion q (view x) (view a) (view y) (view b) → IsTold reason (view k) (items_view (behind seen)) → view value ≡ entry_data (entry_with q reason)
+  pub entry_taken : (q : Question) (reason : Reason) → AreNumbersOf q (view x) (view a) (view y) (view b) → IsWordedAs reason (view k) (items_view (behind seen)) → view value ≡ entry_data (entry_with q reason)
   entry_taken q reason e f = whole ∙ rw (e.0, e.1, e.2, e.3, f.0, f.1) (sym (told_data q reason))
 
-  pub not_entry : ((reason : Reason) → ReasonFits reason → ¬ IsTold reason (view k) (items_view (behind seen))) → (entry : Entry) → EntryFits entry → view value ≢ entry_data entry
+  pub not_entry : ((reason : Reason) → ReasonFits reason → ¬ IsWordedAs reason (view k) (items_view (behind seen))) → (entry : Entry) → EntryFits entry → view value ≢ entry_data entry
   not_entry none (entry.TheVariants.Apart q chain) fits g = none (Apart chain) fits.1 (cc (sym whole ∙ g), cc (sym whole ∙ g))
   not_entry none (entry.TheVariants.Cover q mine theirs chains) fits g = none (Cover mine theirs chains) (fits.1, fits.2, fits.3) (cc (sym whole ∙ g), cc (sym whole ∙ g))

@@ -18,8 +18,8 @@ use Rattle.robust_cert.specs.declared.fault.CertFault.{CertFault}
 use Rattle.robust_cert.specs.declared.fault.CertFault.TheVariants.{TooLarge, PathCount, NoSuchEntry, EntryOrder, BadChain, BadCover, LevelFalls, Dangerous, Memory}
 use Rattle.robust_cert.specs.Accepted.{numbers_told, question_of, IsFitting, ChainsHold, Holds}
 use Rattle.robust_cert.specs.Refused.{StandTo, IsAtFault, IsBehindLast, IsFirstFault}
-use Rattle.robust_cert.specs.Flaws.{IsAskedPair, StandsAt, IsFaultOf, IsFaultAt}
-use Rattle.robust_cert.specs.Sharing.{asked_by, entry_with}
+use Rattle.robust_cert.specs.Flaws.{IsAskedPair, StandsAt, IsEntryFault, IsFaultAt}
+use Rattle.robust_cert.specs.Sharing.{question_told, entry_with}
 use Rattle.robust_cert.proofs.Cursor.{before_trans, question-asked}
 use Rattle.robust_cert.proofs.Shared.{entry_at}
 
@@ -77,7 +77,7 @@ module _ (nodes : List Path) (c : Certificate) (k : ℕ) (inside : k < length c.
       last : (n : ℕ) → n ≡ k → IsBehindLast c.entries k e → IsBehindLast c.entries n e
       last n is b = subst (λ (m : ℕ). IsBehindLast c.entries m e) (sym is) b
 
-      go : (fault : CertFault) → IsFaultOf nodes c.entries k e fault → IsFirstFault nodes c fault
+      go : (fault : CertFault) → IsEntryFault nodes c.entries k e fault → IsFirstFault nodes c fault
       go (NoSuchEntry n) (is, against) = (e, at n is, against)
       go (EntryOrder n) (is, q, against) = (e, at n is, q, λ b. against (subst (λ (m : ℕ). IsBehindLast c.entries m e) is b))
       go (BadCover n) (is, q, b, against) = (e, at n is, q, last n is b, against)
@@ -91,11 +91,11 @@ module _ (nodes : List Path) (c : Certificate) (k : ℕ) (inside : k < length c.
 -- ---- one entry
 
 -- an entry is about no question
-pub no-question : (nodes : List Path) (entries : List Entry) (k : ℕ) (p : Asked) → ((e : Entry) → slice_get entries k ≡ Some e → p ≡ asked_by e) → (q : Question) → q ≡ numbers_told p → (IsQuestion nodes q → ⊥) → IsFaultAt nodes entries k (NoSuchEntry k)
+pub no-question : (nodes : List Path) (entries : List Entry) (k : ℕ) (p : Asked) → ((e : Entry) → slice_get entries k ≡ Some e → p ≡ question_told e) → (q : Question) → q ≡ numbers_told p → (IsQuestion nodes q → ⊥) → IsFaultAt nodes entries k (NoSuchEntry k)
 no-question nodes entries k p about q named against e at = (refl, λ h. against (subst (IsQuestion nodes) (question-asked e ∙ ap numbers_told (sym (about e at)) ∙ sym named) h))
 
 -- an entry that isn't the first stands behind the one before it, if their questions do
-module _ (entries : List Entry) (k : ℕ) (inside : k < length entries) (later : 0 < k) (o p : Asked) (before : (e : Entry) → slice_get entries (k - 1) ≡ Some e → o ≡ asked_by e) (about : (e : Entry) → slice_get entries k ≡ Some e → p ≡ asked_by e)
+module _ (entries : List Entry) (k : ℕ) (inside : k < length entries) (later : 0 < k) (o p : Asked) (before : (e : Entry) → slice_get entries (k - 1) ≡ Some e → o ≡ question_told e) (about : (e : Entry) → slice_get entries k ≡ Some e → p ≡ question_told e)
     (m n : Question) (first : m ≡ numbers_told o) (second : n ≡ numbers_told p) (b : Bool) (says : (b ≡ true) ↔ IsBefore m n) (e : Entry) (at : slice_get entries k ≡ Some e) where
   second_is : n ≡ question_of e
   second_is = second ∙ ap numbers_told (about e at) ∙ sym (question-asked e)
@@ -111,7 +111,7 @@ module _ (entries : List Entry) (k : ℕ) (inside : k < length entries) (later :
         says.1 (subst (IsBefore m) (sym second_is) (subst (λ (r : Question). IsBefore r (question_of e)) (sym (first_is w.0 w.1)) (h (k - 1) w.0 (omega (arith, later)) w.1))),
   )
 
-module _ (nodes : List Path) (entries : List Entry) (k : ℕ) (p : Asked) (about : (e : Entry) → slice_get entries k ≡ Some e → p ≡ asked_by e)
+module _ (nodes : List Path) (entries : List Entry) (k : ℕ) (p : Asked) (about : (e : Entry) → slice_get entries k ≡ Some e → p ≡ question_told e)
     (q : Question) (named : q ≡ numbers_told p) (mine theirs : Access) (pair : IsAskedPair nodes q mine theirs) (behind : Bool) (says : (e : Entry) → slice_get entries k ≡ Some e → (behind ≡ true) ↔ IsBehindLast entries k e) where
   asked : (e : Entry) → slice_get entries k ≡ Some e → IsQuestion nodes (question_of e)
   asked e at =
@@ -120,7 +120,7 @@ module _ (nodes : List Path) (entries : List Entry) (k : ℕ) (p : Asked) (about
   pub order-fault : behind ≡ false → IsFaultAt nodes entries k (EntryOrder k)
   order-fault against e at = (refl, asked e at, λ b. false≢true (sym against ∙ (says e at).1 b))
 
-  module _ (r : Reason) (told : (e : Entry) → slice_get entries k ≡ Some e → e ≡ entry_with (asked_by e) r) (yes : behind ≡ true) where
+  module _ (r : Reason) (told : (e : Entry) → slice_get entries k ≡ Some e → e ≡ entry_with (question_told e) r) (yes : behind ≡ true) where
     same_entry : (e : Entry) → slice_get entries k ≡ Some e → entry_with p r ≡ e
     same_entry e at = ap (λ (o : Asked). entry_with o r) (about e at) ∙ sym (told e at)
 

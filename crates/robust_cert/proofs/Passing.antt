@@ -8,8 +8,11 @@ use Rattle.prog_check.specs.declared.path.Path.{Path}
 use Rattle.prog_paths.specs.declared.accesses.places.Placed.{Placed}
 use Rattle.prog_paths.specs.declared.accesses.places.Question.{Question as Asked}
 use Rattle.prog_paths.specs.Asked.{asked_by, asked_among, questions_of, numbers_of}
+use Rattle.prog_paths.specs.Changers.{changers_of}
+use Rattle.prog_paths.specs.Tally.{of_table}
 use Rattle.prog_paths.specs.Listing.{IsBefore, RiseBy}
 use Rattle.prog_paths.proofs.Asked.{asked_by-append, asked_among-append}
+use Rattle.prog_paths.proofs.Changing.{seconds_ask}
 use Rattle.prog_paths.proofs.Order.{law_of_order}
 use Rattle.robust_cert.specs.declared.certificate.Entry.{Entry}
 use Rattle.robust_cert.specs.declared.checking.left.Left.{Left}
@@ -141,7 +144,7 @@ module _ (entries : List Entry) where
   among-one x rest seconds = refl
 
   module _ (firsts seconds : List Placed) (n : ℕ) (d : Placed) (lt : n < length firsts) (from at : ℕ) (old now : Left) where
-    pub among-ready : IsReady entries (asked_among firsts seconds) from → Passes entries (asked_among (take n firsts) seconds) from at old now → IsReady entries (asked_by (get_or firsts n d) seconds) at
+    among-ready : IsReady entries (asked_among firsts seconds) from → Passes entries (asked_among (take n firsts) seconds) from at old now → IsReady entries (asked_by (get_or firsts n d) seconds) at
     among-ready r p =
         let rest = drop (n + 1) firsts in
         let x = get_or firsts n d in
@@ -149,7 +152,7 @@ module _ (entries : List Entry) where
         let behind = ready-right (asked_among (take n firsts) seconds) (asked_among (x ∷ rest) seconds) from at old now (subst (λ (l : List Asked). IsReady entries l from) (sym whole) r) p in
         ready-left (asked_by x seconds) (asked_among rest seconds) at behind
 
-    pub among-more : (to : ℕ) (new : Left) → Passes entries (asked_among (take n firsts) seconds) from at old now → Passes entries (asked_by (get_or firsts n d) seconds) at to now new → Passes entries (asked_among (take (n + 1) firsts) seconds) from to old new
+    among-more : (to : ℕ) (new : Left) → Passes entries (asked_among (take n firsts) seconds) from at old now → Passes entries (asked_by (get_or firsts n d) seconds) at to now new → Passes entries (asked_among (take (n + 1) firsts) seconds) from to old new
     among-more to new p q =
         let x = get_or firsts n d in
         let parts : asked_among (take n firsts) seconds ++ asked_by x seconds ≡ asked_among (take (n + 1) firsts) seconds =
@@ -157,6 +160,17 @@ module _ (entries : List Entry) where
         ∙ sym (asked_among-append (take n firsts) (x ∷ []) seconds)
         ∙ ap (λ (l : List Placed). asked_among l seconds) (sym (take_more firsts n d lt)) in
         subst (λ (l : List Asked). Passes entries l from to old new) parts (Passes-append (asked_among (take n firsts) seconds) (asked_by x seconds) from at to old now new p q)
+
+  -- the changers of its table stand for all
+  module _ (places changers seconds : List Placed) (n : ℕ) (d : Placed) (lt : n < length places) (from at : ℕ) (old now : Left) (are_seconds : seconds ≡ of_table (get_or places n d).access.table changers) (are_changers : (table : ℕ) → of_table table changers ≡ changers_of table places) where
+    same : asked_by (get_or places n d) seconds ≡ asked_by (get_or places n d) places
+    same = seconds_ask (get_or places n d) places changers seconds are_seconds are_changers
+
+    pub seconds-ready : IsReady entries (asked_among places places) from → Passes entries (asked_among (take n places) places) from at old now → IsReady entries (asked_by (get_or places n d) seconds) at
+    seconds-ready r p = subst (λ (l : List Asked). IsReady entries l at) (sym same) (among-ready places places n d lt from at old now r p)
+
+    pub seconds-more : (to : ℕ) (new : Left) → Passes entries (asked_among (take n places) places) from at old now → Passes entries (asked_by (get_or places n d) seconds) at to now new → Passes entries (asked_among (take (n + 1) places) places) from to old new
+    seconds-more to new p q = among-more places places n d lt from at old now to new p (subst (λ (l : List Asked). Passes entries l at to now new) same q)
 
   -- ---- the whole
 

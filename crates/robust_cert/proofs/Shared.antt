@@ -9,11 +9,11 @@ use Rattle.robust_cert.specs.declared.certificate.Entry.{Entry}
 use Rattle.robust_cert.specs.declared.entries.Reason.{Reason}
 use Rattle.robust_cert.specs.declared.entries.Reason.TheVariants.{Apart, Cover}
 use Rattle.robust_cert.specs.declared.entries.Told.{Told}
-use Rattle.robust_cert.specs.Sharing.{asked_by, asked_anew, entry_with, reason_at, entry_told, entries_told, IsWithin}
+use Rattle.robust_cert.specs.Sharing.{question_told, asked_anew, entry_with, reason_at, entry_told, entries_told, IsWithin}
 
 -- ---- a question with its reason
 
-pub asked-with : (q : Question) (reason : Reason) → asked_by (entry_with q reason) ≡ q
+pub asked-with : (q : Question) (reason : Reason) → question_told (entry_with q reason) ≡ q
 asked-with q (Apart chain) = refl
 asked-with q (Cover mine theirs chains) = refl
 
@@ -47,10 +47,10 @@ module _ (rs : List Reason) where
   told-at (u ∷ ts) zero t e at = sym (same_Some (entry_told rs u) e at)
   told-at (u ∷ ts) (suc k) t e at = told-at ts k t e at
 
-  pub asked-at : (ts : List Told) (k : ℕ) (t : Told) (e : Entry) → slice_get (entries_told rs ts) k ≡ Some e → asked_by e ≡ (get_or ts k t).question
-  asked-at ts k t e at = ap asked_by (told-at ts k t e at) ∙ asked-with (get_or ts k t).question (reason_at rs (get_or ts k t).reason)
+  pub asked-at : (ts : List Told) (k : ℕ) (t : Told) (e : Entry) → slice_get (entries_told rs ts) k ≡ Some e → question_told e ≡ (get_or ts k t).question
+  asked-at ts k t e at = ap question_told (told-at ts k t e at) ∙ asked-with (get_or ts k t).question (reason_at rs (get_or ts k t).reason)
 
-  pub reason-at : (ts : List Told) (k : ℕ) (t : Told) (e : Entry) → slice_get (entries_told rs ts) k ≡ Some e → e ≡ entry_with (asked_by e) (reason_at rs (get_or ts k t).reason)
+  pub reason-at : (ts : List Told) (k : ℕ) (t : Told) (e : Entry) → slice_get (entries_told rs ts) k ≡ Some e → e ≡ entry_with (question_told e) (reason_at rs (get_or ts k t).reason)
   reason-at ts k t e at = told-at ts k t e at ∙ ap (λ (q : Question). entry_with q (reason_at rs (get_or ts k t).reason)) (sym (asked-at ts k t e at))
 
   -- an entry like another one

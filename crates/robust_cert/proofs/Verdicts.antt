@@ -14,7 +14,7 @@ use Rattle.robust_cert.specs.declared.fault.CertFault.TheVariants.{TooLarge, Pat
 use Rattle.robust_cert.specs.Accepted.{question_of, Holds, IsLeft, IsLeftVulnerable, level_of, IsAccepted}
 use Rattle.robust_cert.specs.Refused.{StandTo, IsFirstFault, FallsAt, StaysAt}
 use Rattle.robust_cert.specs.Leaving.{Leaves}
-use Rattle.robust_cert.specs.Levels.{Falls, Stays, RiseOver, IsLevelFault}
+use Rattle.robust_cert.specs.Levels.{FallsAlong, Stays, RiseOver, IsLevelFault}
 use Rattle.robust_cert.proofs.Cursor.{behind-entry}
 use Rattle.robust_cert.proofs.Leftover.{left-from_joins, joins-from_left, vulnerable-from_joins, joins-from_vulnerable}
 
@@ -28,10 +28,10 @@ module _ (nodes : List Path) (c : Certificate) (s : StandTo nodes c (length c.en
   all-hold = subst (λ (l : List Entry). All (Holds nodes) l) (take_all (length c.entries) c.entries (omega arith)) s.holds
 
   module _ (left : Left) (l : Leaves nodes c.entries left) where
-    falls-at : (x y : ℕ) → Falls left.edges c.levels x y → FallsAt nodes c x y
+    falls-at : (x y : ℕ) → FallsAlong left.edges c.levels x y → FallsAt nodes c x y
     falls-at x y f = record { edge = left-from_joins nodes c.entries all-rise left l x y f.edge; falls = f.falls }
 
-    falls : (x y : ℕ) → FallsAt nodes c x y → Falls left.edges c.levels x y
+    falls : (x y : ℕ) → FallsAt nodes c x y → FallsAlong left.edges c.levels x y
     falls x y f = record { edge = joins-from_left nodes c.entries all-rise left l x y f.edge; falls = f.falls }
 
     stays-at : (x y z : ℕ) → Stays left.vulnerable c.levels x y z → StaysAt nodes c x y z

@@ -1,6 +1,5 @@
 -- What is wrong with one entry.
 use Rattle.std.specs.Prelude.{◌≡◌, ℕ, ℤ, ◌<ℤ◌, ◌*◌, List, length, Some, slice_get}
-use Rattle.std.specs.Borrow.{Bor}
 use Rattle.order_facts.specs.declared.steps.Node.{Node}
 use Rattle.order_facts.specs.declared.steps.Node.TheVariants.{Number}
 use Rattle.order_facts.specs.declared.steps.Fact.{Fact}
@@ -12,6 +11,7 @@ use Rattle.prog_paths.specs.Asked.{Asks, IsQuestion}
 use Rattle.prog_paths.specs.Questions.{question_facts}
 use Rattle.prog_paths.specs.Shown.{key_pairs}
 use Rattle.robust_cert.specs.declared.certificate.Entry.{Entry}
+use Rattle.robust_cert.specs.declared.checking.by_facts.AskedPair.{AskedPair}
 use Rattle.robust_cert.specs.declared.checking.flaw.Flaw.{Flaw}
 use Rattle.robust_cert.specs.declared.checking.flaw.Flaw as flaw
 use Rattle.robust_cert.specs.declared.fault.CertFault.{CertFault}
@@ -25,8 +25,8 @@ pub record IsAskedPair (nodes : List Path) (q : Question) (mine theirs : Access)
   pub asks : Asks q mine.kind theirs.kind
 
 -- the facts of the question between two accesses
-abbrev pub facts_between : Bor Access × Bor Access → List Fact
-facts_between asked = question_facts asked.0.now asked.1.now
+abbrev pub facts_between : AskedPair → List Fact
+facts_between asked = question_facts asked.mine.now asked.theirs.now
 
 -- the nodes begin with a number and end with a smaller one
 pub record RunsDown (chain : List Node) : Type 0 where
@@ -50,16 +50,16 @@ abbrev pub StandsAt : List Path → List Entry → ℕ → Type 0
 StandsAt nodes entries k = (e : Entry) → slice_get entries k ≡ Some e → Holds nodes e × IsBehindLast entries k e
 
 -- which fault the entry of a number has
-abbrev pub IsFaultOf : List Path → List Entry → ℕ → Entry → CertFault → Type 0
-IsFaultOf nodes entries k e (NoSuchEntry n) = (n ≡ k) × ¬ IsQuestion nodes (question_of e)
-IsFaultOf nodes entries k e (EntryOrder n) =
+abbrev pub IsEntryFault : List Path → List Entry → ℕ → Entry → CertFault → Type 0
+IsEntryFault nodes entries k e (NoSuchEntry n) = (n ≡ k) × ¬ IsQuestion nodes (question_of e)
+IsEntryFault nodes entries k e (EntryOrder n) =
     (n ≡ k) × IsQuestion nodes (question_of e) × ¬ IsBehindLast entries k e
-IsFaultOf nodes entries k e (BadCover n) =
+IsEntryFault nodes entries k e (BadCover n) =
     (n ≡ k) × IsQuestion nodes (question_of e) × IsBehindLast entries k e × ¬ IsFitting nodes e
-IsFaultOf nodes entries k e (BadChain n) =
+IsEntryFault nodes entries k e (BadChain n) =
     (n ≡ k) × IsQuestion nodes (question_of e) × IsBehindLast entries k e × IsFitting nodes e
     × ¬ ChainsHold nodes e
-IsFaultOf nodes entries k e _ = ⊥
+IsEntryFault nodes entries k e _ = ⊥
 
 abbrev pub IsFaultAt : List Path → List Entry → ℕ → CertFault → Type 0
-IsFaultAt nodes entries k fault = (e : Entry) → slice_get entries k ≡ Some e → IsFaultOf nodes entries k e fault
+IsFaultAt nodes entries k fault = (e : Entry) → slice_get entries k ≡ Some e → IsEntryFault nodes entries k e fault

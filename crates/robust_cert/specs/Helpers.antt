@@ -23,8 +23,8 @@ abbrev pub Appends : String Global → String Global → Data → Type 0
 Appends old new d = string_bytes new ≡ string_bytes old ++ compact_text d
 
 -- four values are the numbers of a question
-abbrev pub IsQuestion : Question → Data → Data → Data → Data → Type 0
-IsQuestion q x a y b = (x ≡ whole_data q.x) × (a ≡ whole_data q.a) × (y ≡ whole_data q.y) × (b ≡ whole_data q.b)
+abbrev pub AreNumbersOf : Question → Data → Data → Data → Data → Type 0
+AreNumbersOf q x a y b = (x ≡ whole_data q.x) × (a ≡ whole_data q.a) × (y ≡ whole_data q.y) × (b ≡ whole_data q.b)
 
 -- the word for a reason, and the items that tell it
 abbrev pub reason_kind : Reason → List ℕ
@@ -36,8 +36,8 @@ reason_items (Apart chain) = apart_items chain
 reason_items (Cover mine theirs chains) = cover_items mine theirs chains
 
 -- a reason has this word and these items
-abbrev pub IsTold : Reason → Data → Items → Type 0
-IsTold reason kind items = (kind ≡ string (reason_kind reason)) × (items ≡ reason_items reason)
+abbrev pub IsWordedAs : Reason → Data → Items → Type 0
+IsWordedAs reason kind items = (kind ≡ string (reason_kind reason)) × (items ≡ reason_items reason)
 
 -- which fault a part that is not taken is of the whole
 abbrev pub fault_of : Untaken → JsonFault

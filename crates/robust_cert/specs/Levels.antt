@@ -9,19 +9,19 @@ use Rattle.order_facts.specs.Square.{Grid, Joins}
 use Rattle.prog_paths.specs.Listing.{IsAtMost}
 
 -- the level falls along an edge
-pub record Falls (edges : Grid) (levels : List ℕ) (x y : ℕ) : Type 0 where
+pub record FallsAlong (edges : Grid) (levels : List ℕ) (x y : ℕ) : Type 0 where
   pub edge : Joins edges x y
   pub falls : slice_index_or levels y 0 < slice_index_or levels x 0
 
 -- the least node to which the level falls from x
 pub record FallsFirst (edges : Grid) (levels : List ℕ) (x y : ℕ) : Type 0 where
-  pub falls : Falls edges levels x y
-  pub least : (other : ℕ) → Falls edges levels x other → y ≤ other
+  pub falls : FallsAlong edges levels x y
+  pub least : (other : ℕ) → FallsAlong edges levels x other → y ≤ other
 
 -- the least edge along which it falls
 pub record IsLeastFall (edges : Grid) (levels : List ℕ) (p : Pair) : Type 0 where
-  pub falls : Falls edges levels p.x p.y
-  pub least : (x y : ℕ) → Falls edges levels x y → IsAtMost (p.x ∷ p.y ∷ []) (x ∷ y ∷ [])
+  pub falls : FallsAlong edges levels p.x p.y
+  pub least : (x y : ℕ) → FallsAlong edges levels x y → IsAtMost (p.x ∷ p.y ∷ []) (x ∷ y ∷ [])
 
 -- the level doesn't rise over two vulnerable edges
 pub record Stays (vulnerable : Grid) (levels : List ℕ) (x y z : ℕ) : Type 0 where
@@ -60,13 +60,13 @@ pub record IsLeastStay (vulnerable : Grid) (levels : List ℕ) (t : Triple) : Ty
 
 -- the levels never fall along an edge, and rise over two vulnerable ones
 pub record RiseOver (left : Left) (levels : List ℕ) : Type 0 where
-  pub never_fall : (x y : ℕ) → ¬ Falls left.edges levels x y
+  pub never_fall : (x y : ℕ) → ¬ FallsAlong left.edges levels x y
   pub rise : (x y z : ℕ) → ¬ Stays left.vulnerable levels x y z
 
 -- which fault the levels have
 abbrev pub IsLevelFault : Left → List ℕ → CertFault → Type 0
 IsLevelFault left levels (LevelFalls x y) = IsLeastFall left.edges levels (record { x = x; y = y })
 IsLevelFault left levels (Dangerous x y z) =
-    ((u v : ℕ) → ¬ Falls left.edges levels u v)
+    ((u v : ℕ) → ¬ FallsAlong left.edges levels u v)
     × IsLeastStay left.vulnerable levels (record { x = x; y = y; z = z })
 IsLevelFault left levels _ = ⊥

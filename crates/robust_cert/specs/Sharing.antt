@@ -10,9 +10,9 @@ use Rattle.robust_cert.specs.declared.entries.Told.{Told}
 -- ---- an entry is a question with its reason
 
 -- the question that an entry answers
-abbrev pub asked_by : Entry → Question
-asked_by (entry.TheVariants.Apart q chain) = q
-asked_by (entry.TheVariants.Cover q mine theirs chains) = q
+abbrev pub question_told : Entry → Question
+question_told (entry.TheVariants.Apart q chain) = q
+question_told (entry.TheVariants.Cover q mine theirs chains) = q
 
 -- a question with this reason
 abbrev pub entry_with : Question → Reason → Entry

@@ -21,8 +21,8 @@ pub enum Entry {
         question: Question,
         chain: Chain,
     },
-    /// Where they meet, `mine` of `x` and `theirs` of `y` write one cell. The chains say so, column by column: mine to
-    /// theirs, then theirs to mine.
+    /// Where they meet, `mine` of `x` and `theirs` of `y` write one cell. The chains say so, column
+    /// by column: mine to theirs, then theirs to mine.
     Cover {
         question: Question,
         mine: u32,

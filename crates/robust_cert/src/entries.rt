@@ -1,7 +1,8 @@
-//! The entries of a certificate. There are many, and few different reasons, so entries may share one.
+//! The entries of a certificate. There are many, and few different reasons, so entries may share
+//! one.
 ghost use Rattle.std.specs.Prelude.{◌≡◌, ◌<◌, ◌↔◌, [], ◌∷◌, ◌++◌, All, IsTrue, OnOk, OnErr, Some, length, slice_get};
 ghost use Rattle.robust_cert.specs.declared.certificate.Entry.{Entry};
-ghost use Rattle.robust_cert.specs.Sharing.{asked_by, asked_anew, entry_with, entries_told, IsWithin};
+ghost use Rattle.robust_cert.specs.Sharing.{question_told, asked_anew, entry_with, entries_told, IsWithin};
 
 use crate::certificate::Question;
 use crate::chain::Chain;
@@ -14,8 +15,8 @@ use std::marker::Model;
 pub enum Reason {
     /// The two accesses never meet.
     Apart(Chain),
-    /// Where they meet, `mine` of `x` and `theirs` of `y` write one cell. The chains say so, column by column: mine to
-    /// theirs, then theirs to mine.
+    /// Where they meet, `mine` of `x` and `theirs` of `y` write one cell. The chains say so, column
+    /// by column: mine to theirs, then theirs to mine.
     Cover {
         mine: u32,
         theirs: u32,
@@ -108,7 +109,7 @@ impl Entries {
     /// The question of the entry of a number.
     pub fn question(&self, k: usize) -> Question
         requires { k < length self.now }
-        ensures { (e : Entry) → slice_get self.now k ≡ Some e → result ≡ asked_by e }
+        ensures { (e : Entry) → slice_get self.now k ≡ Some e → result ≡ question_told e }
     {
         self.told[k].question
     }
@@ -117,12 +118,13 @@ impl Entries {
     pub fn reason(&self, k: usize) -> &Reason
         requires { k < length self.now }
         ensures { (e : Entry) → slice_get self.now k ≡ Some e
-            → e ≡ entry_with (asked_by e) result.now }
+            → e ≡ entry_with (question_told e) result.now }
     {
         &self.reasons[self.told[k].reason]
     }
 
-    /// The questions with the numbers of their reasons, and the reasons: for what is done once for each reason.
+    /// The questions with the numbers of their reasons, and the reasons: for what is done once for
+    /// each reason.
     pub fn parts(&self) -> (&[Told], &[Reason])
         ensures entries { self.now ≡ entries_told result.1.now result.0.now }
         ensures within { All (IsWithin result.1.now) result.0.now }

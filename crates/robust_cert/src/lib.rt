@@ -1,8 +1,10 @@
-//! Certificates that a set of programs is robust: what they are, their JSON text, how that is read, and their checker.
+//! Certificates that a set of programs is robust: what they are, their JSON text, how that is read,
+//! and their checker.
 //!
-//! A `Certificate` lists the questions between accesses that leave no dependency to fear, each with its reason, gives
-//! each node a level, and says how many of its accesses stand in the body of an `each`. `to_json` writes one,
-//! `from_json` reads it again, and `verify` accepts it for a set or tells its first fault.
+//! A `Certificate` lists the questions between accesses that leave no dependency to fear, each with
+//! its reason, gives each node a level, and says how many of its accesses stand in the body of an
+//! `each`. `to_json` writes one, `from_json` reads it again, and `verify` accepts it for a set or
+//! tells its first fault.
 #![tactic(auto)]
 
 mod certificate;

@@ -3,7 +3,9 @@
 use crate::examples::KEPT_PAYS;
 use order_facts::Node;
 use prog_tree::Sequence;
-use robust_cert::{Certificate, Chain, Entries, JsonFault, Question, Reason, from_json, to_json};
+use robust_cert::{
+    Certificate, Chain, Entries, JsonFault, Question, Reason, Told, from_json, to_json,
+};
 use std::alloc::Global;
 use std::process::Abort;
 use std::test::Fail;
@@ -291,21 +293,32 @@ fn a_certificate_is_built_and_written(rt: HostRuntime) -> Result<(), Fail> {
     Ok(())
 }
 
-/// Two questions, which two numbers answer.
-const ASKED: [Question; 2] = [
-    Question {
-        x: 0,
-        a: 0,
-        y: 0,
-        b: 1,
-    },
-    Question {
-        x: 0,
-        a: 2,
-        y: 3,
-        b: 1,
-    },
-];
+/// Two numbers, of which the first is greater.
+const FALLING: [Node; 2] = [Node::Number(2), Node::Number(1)];
+
+/// A question that such numbers answer.
+const FIRST: Question = Question {
+    x: 0,
+    a: 0,
+    y: 0,
+    b: 1,
+};
+
+/// Another one that they answer.
+const SECOND: Question = Question {
+    x: 0,
+    a: 2,
+    y: 3,
+    b: 1,
+};
+
+/// One that has the second access of the first.
+const THIRD: Question = Question {
+    x: 1,
+    a: 0,
+    y: 0,
+    b: 1,
+};
 
 /// Whether a reason is that the accesses never meet, by this chain.
 fn is_apart_by(reason: &Reason, nodes: &[Node]) -> bool {
@@ -317,18 +330,121 @@ fn is_apart_by(reason: &Reason, nodes: &[Node]) -> bool {
 
 #[test]
 fn entries_may_share_a_reason(rt: HostRuntime) -> Result<(), Fail> {
-    let nodes = [Node::Number(2), Node::Number(1)];
-    let reason = Reason::Apart(chain(rt.alloc(), nodes)?);
+    let reason = Reason::Apart(chain(rt.alloc(), FALLING)?);
     let mut entries = Entries::new(rt.alloc());
     assert!(rt; entries.is_empty());
-    entries.push(ASKED[0], reason)?;
+    entries.push(FIRST, reason)?;
     assert!(rt; entries.len() == 1);
-    entries.push_like(ASKED[1], 0)?;
+    entries.push_like(SECOND, 0)?;
     assert!(rt; entries.len() == 2);
     for k in 0..2 {
-        assert!(rt; entries.question(k) == ASKED[k], "{k}");
-        assert!(rt; is_apart_by(entries.reason(k), &nodes), "{k}");
+        assert!(rt; entries.question(k) == [FIRST, SECOND][k], "{k}");
+        assert!(rt; is_apart_by(entries.reason(k), &FALLING), "{k}");
     }
+    Ok(())
+}
+
+/// Three questions with the numbers of two reasons.
+const SHARING: [Told; 3] = [
+    Told {
+        question: FIRST,
+        reason: 1,
+    },
+    Told {
+        question: SECOND,
+        reason: 0,
+    },
+    Told {
+        question: THIRD,
+        reason: 1,
+    },
+];
+
+/// What is written of these entries alone.
+const SHARED: &str =
+    "{\"entries\":[[\"cover\",0,0,0,1,4,7,[[[\"m\",0],[\"t\",0]],[[\"t\",0],[\"m\",0]]]],\
+    [\"apart\",0,2,3,1,[[\"n\",2],[\"n\",1]]],\
+    [\"cover\",1,0,0,1,4,7,[[[\"m\",0],[\"t\",0]],[[\"t\",0],[\"m\",0]]]]],\
+    \"levels\":[],\"version\":1}";
+
+/// Entries of which the first and the last share a reason.
+fn sharing_entries(alloc: Global) -> Result<Entries, Fail> {
+    let apart = Reason::Apart(chain(alloc, FALLING)?);
+    let cover = Reason::Cover {
+        mine: 4,
+        theirs: 7,
+        chains: chains(alloc, Node::Mine(0), Node::Theirs(0))?,
+    };
+    let told = Vec::from_array(alloc, SHARING)?;
+    let reasons = Vec::from_array(alloc, [apart, cover])?;
+    Ok(Entries::of(told, reasons))
+}
+
+/// Whether these are the same questions, with the same numbers of reasons.
+fn are_same(told: &[Told], other: &[Told]) -> bool {
+    let mut pairs = told.iter().zip(other);
+    told.len() == other.len()
+        && pairs.all(|(t, o)| t.question == o.question && t.reason == o.reason)
+}
+
+/// The certificate of entries alone.
+fn certificate_of(alloc: Global, entries: Entries) -> Certificate {
+    Certificate {
+        entries,
+        levels: Sequence::from_vec(Vec::new(alloc)),
+        bodies: Sequence::from_vec(Vec::new(alloc)),
+    }
+}
+
+#[test]
+fn entries_are_made_of_parts(rt: HostRuntime) -> Result<(), Fail> {
+    let entries = sharing_entries(rt.alloc())?;
+    let (told, reasons) = entries.parts();
+    assert!(rt; are_same(told, &SHARING));
+    let [apart, cover] = reasons else {
+        return Err(Fail::new("other reasons"));
+    };
+    assert!(rt; is_apart_by(apart, &FALLING));
+    assert!(rt; !is_apart_by(cover, &FALLING));
+    let certificate = certificate_of(rt.alloc(), entries);
+    assert!(rt; is_written_of(rt.alloc(), SHARED, &certificate));
+    drop(certificate);
+    Ok(())
+}
+
+/// Many times a pair of entries.
+fn pairs_of_entries(alloc: Global, count: usize) -> Result<Entries, Fail> {
+    let mut entries = Entries::new(alloc);
+    for _turn in 0..count {
+        entries.push(FIRST, Reason::Apart(chain(alloc, FALLING)?))?;
+        entries.push(SECOND, Reason::Apart(chain(alloc, FALLING)?))?;
+    }
+    Ok(entries)
+}
+
+/// What is written of such a pair.
+const PAIR: &str =
+    "[\"apart\",0,0,0,1,[[\"n\",2],[\"n\",1]]],[\"apart\",0,2,3,1,[[\"n\",2],[\"n\",1]]]";
+
+/// What is written of many.
+fn pairs_text(alloc: Global, count: usize) -> Result<String, Fail> {
+    let mut text = String::from_str(alloc, "{\"entries\":[")?;
+    for turn in 0..count {
+        if turn > 0 {
+            text.push_str(",")?;
+        }
+        text.push_str(PAIR)?;
+    }
+    text.push_str("],\"levels\":[],\"version\":1}")?;
+    Ok(text)
+}
+
+#[test]
+fn many_entries_are_written(rt: HostRuntime) -> Result<(), Fail> {
+    let certificate = certificate_of(rt.alloc(), pairs_of_entries(rt.alloc(), 600)?);
+    let written = pairs_text(rt.alloc(), 600)?;
+    assert!(rt; is_written_of(rt.alloc(), written.as_str(), &certificate));
+    drop(certificate);
     Ok(())
 }
 

@@ -6,63 +6,38 @@ ghost use Rattle.prog_paths.specs.Shown.{Falls, Runs};
 ghost use Rattle.robust_cert.specs.Flaws.{facts_between, RunsDown};
 
 use order_facts::{Node, is_plain_step};
-use prog_check::{Access, Column, Term};
+use prog_check::{Access, Column};
+use prog_paths::{column_or_zero, mine_node, their_node};
+
+/// The two accesses of a question.
+#[derive(Clone, Copy)]
+pub struct AskedPair<'a> {
+    pub mine: &'a Access,
+    pub theirs: &'a Access,
+}
 
 fn is_node(a: Node, b: Node) -> bool
     ensures { IsTrue result ↔ (a ≡ b) }
 {
-    match (a, b) {
-        (Node::Mine(a), Node::Mine(b)) | (Node::Theirs(a), Node::Theirs(b)) => a == b,
-        (Node::MineUnknown(a), Node::MineUnknown(b)) => a == b,
-        (Node::TheirsUnknown(a), Node::TheirsUnknown(b)) => a == b,
-        (Node::Number(a), Node::Number(b)) => a == b,
-        _ => false,
-    }
-}
-
-/// Whether facts call a term of the first access so.
-fn is_mine(term: Term, node: Node) -> bool
-    ensures { IsTrue result ↔ (mine_node term ≡ node) }
-{
-    match (term, node) {
-        (Term::Param(a), Node::Mine(b)) | (Term::Unknown(a), Node::MineUnknown(b)) => a == b,
-        (Term::Literal(a), Node::Number(b)) => a == b,
-        _ => false,
-    }
-}
-
-/// Whether facts call a term of the second access so.
-fn is_theirs(term: Term, node: Node) -> bool
-    ensures { IsTrue result ↔ (their_node term ≡ node) }
-{
-    match (term, node) {
-        (Term::Param(a), Node::Theirs(b)) | (Term::Unknown(a), Node::TheirsUnknown(b)) => a == b,
-        (Term::Literal(a), Node::Number(b)) => a == b,
-        _ => false,
-    }
+    a == b
 }
 
 /// Whether a pair of nodes is a fact of one column.
 fn is_column_fact(mine: Column, theirs: Column, lo: Node, hi: Node) -> bool
     ensures { IsTrue result ↔ Contains (column_facts mine theirs) record { lo = lo; hi = hi } }
 {
-    (is_mine(mine.low, lo) && is_theirs(theirs.low, hi))
-        || (is_theirs(theirs.low, lo) && is_mine(mine.high, hi))
+    (is_node(mine_node(mine.low), lo) && is_node(their_node(theirs.low), hi))
+        || (is_node(their_node(theirs.low), lo) && is_node(mine_node(mine.high), hi))
 }
 
 /// Whether it is one of the second columns, where their table has one.
 fn is_second_fact(mine: Option<Column>, theirs: Option<Column>, lo: Node, hi: Node) -> bool
     ensures { IsTrue result ↔ Contains (second_facts mine theirs) record { lo = lo; hi = hi } }
 {
-    let zero = Column {
-        low: Term::Literal(0),
-        high: Term::Literal(0),
-    };
     match (mine, theirs) {
         (None, None) => false,
-        (None, Some(theirs)) => is_column_fact(zero, theirs, lo, hi),
-        (Some(mine), None) => is_column_fact(mine, zero, lo, hi),
-        (Some(mine), Some(theirs)) => is_column_fact(mine, theirs, lo, hi),
+        (None, Some(theirs)) => is_column_fact(column_or_zero(None), theirs, lo, hi),
+        (Some(mine), theirs) => is_column_fact(mine, column_or_zero(theirs), lo, hi),
     }
 }
 
@@ -76,14 +51,14 @@ fn is_fact(mine: &Access, theirs: &Access, lo: Node, hi: Node) -> bool
 }
 
 /// Whether `b` may stand behind `a` in a chain.
-fn is_step(asked: (&Access, &Access), a: Node, b: Node) -> bool
+fn is_step(asked: AskedPair<'_>, a: Node, b: Node) -> bool
     ensures { IsTrue result ↔ IsStep (facts_between asked.entry) a b }
 {
-    is_fact(asked.0, asked.1, a, b) || is_plain_step(a, b)
+    is_fact(asked.mine, asked.theirs, a, b) || is_plain_step(a, b)
 }
 
 /// Whether each node is a step from the one before, and there is one.
-fn is_chain(asked: (&Access, &Access), chain: &[Node]) -> bool
+fn is_chain(asked: AskedPair<'_>, chain: &[Node]) -> bool
     ensures { IsTrue result ↔ IsChain (facts_between asked.entry) chain.now }
 {
     if chain.is_empty() {
@@ -124,14 +99,14 @@ fn runs_between(from: Node, to: Node, chain: &[Node]) -> bool
 }
 
 /// Whether a chain runs from a number to a smaller one.
-pub fn falls(asked: (&Access, &Access), chain: &[Node]) -> bool
+pub fn falls(asked: AskedPair<'_>, chain: &[Node]) -> bool
     ensures { IsTrue result ↔ Falls (facts_between asked.entry) chain.now }
 {
     runs_down(chain) && is_chain(asked, chain)
 }
 
 /// Whether a chain runs from one node to another.
-pub fn runs(asked: (&Access, &Access), from: Node, to: Node, chain: &[Node]) -> bool
+pub fn runs(asked: AskedPair<'_>, from: Node, to: Node, chain: &[Node]) -> bool
     ensures { IsTrue result ↔ Runs (facts_between asked.entry) from to chain.now }
 {
     runs_between(from, to, chain) && is_chain(asked, chain)

@@ -13,7 +13,7 @@ ghost use Rattle.robust_cert.specs.Flaws.{facts_between, IsAskedPair, CoversWith
 
 use crate::certificate::Question;
 use crate::chain::Chain;
-use crate::checking::by_facts::{falls, runs};
+use crate::checking::by_facts::{AskedPair, falls, runs};
 use crate::checking::numbers::Numbers;
 use crate::entries::Reason;
 use order_facts::Node;
@@ -35,9 +35,9 @@ fn access_at(paths: &[Path], node: usize, number: usize) -> Option<&Access>
 }
 
 /// The two accesses of a question, if the paths ask it.
-pub fn asked_pair(paths: &[Path], question: Numbers) -> Option<(&Access, &Access)>
+pub fn asked_pair(paths: &[Path], question: Numbers) -> Option<AskedPair<'_>>
     ensures some { IfSome result (λ pair.
-        IsAskedPair paths.now (question_with question) pair.0.now pair.1.now) }
+        IsAskedPair paths.now (question_with question) pair.mine.now pair.theirs.now) }
     ensures none { IfNone result (¬ IsQuestion paths.now (question_with question)) }
 {
     let mine = access_at(paths, question.x, question.a)?;
@@ -53,20 +53,14 @@ pub fn asked_pair(paths: &[Path], question: Numbers) -> Option<(&Access, &Access
         access: *theirs,
     };
     if asks(&first, &second) {
-        Some((mine, theirs))
+        Some(AskedPair { mine, theirs })
     } else {
         None
     }
 }
 
 /// Whether a chain runs from a term of the first access to one of the second, and another back.
-fn run_both(
-    asked: (&Access, &Access),
-    mine: Term,
-    theirs: Term,
-    there: &[Node],
-    back: &[Node],
-) -> bool
+fn run_both(asked: AskedPair<'_>, mine: Term, theirs: Term, there: &[Node], back: &[Node]) -> bool
     ensures { IsTrue result
         ↔ (Runs (facts_between asked.entry) (mine_node mine) (their_node theirs) there.now
         × Runs (facts_between asked.entry) (their_node theirs) (mine_node mine) back.now) }
@@ -76,7 +70,7 @@ fn run_both(
     runs(asked, mine, theirs, there) && runs(asked, theirs, mine, back)
 }
 
-fn show_second(asked: (&Access, &Access), terms: Option<(Term, Term)>, chains: &[Chain]) -> bool
+fn show_second(asked: AskedPair<'_>, terms: Option<(Term, Term)>, chains: &[Chain]) -> bool
     ensures { IsTrue result ↔ ShowEqual (facts_between asked.entry) (items_of terms) chains.now }
 {
     match (terms, chains) {
@@ -89,7 +83,7 @@ fn show_second(asked: (&Access, &Access), terms: Option<(Term, Term)>, chains: &
 }
 
 /// Whether the chains show the two cells equal, column by column.
-fn show_equal(asked: (&Access, &Access), mine: &Access, theirs: &Access, chains: &[Chain]) -> bool
+fn show_equal(asked: AskedPair<'_>, mine: &Access, theirs: &Access, chains: &[Chain]) -> bool
     ensures { IsTrue result
         ↔ ShowEqual (facts_between asked.entry) (key_pairs mine.now theirs.now) chains.now }
 {
@@ -119,11 +113,11 @@ fn column_count(mine: &Access, theirs: &Access) -> usize
 fn covers_with<'a>(
     paths: &'a [Path],
     question: Numbers,
-    asked: (&Access, &Access),
+    asked: AskedPair<'_>,
     cover: (usize, usize),
     count: usize,
 ) -> Option<(&'a Access, &'a Access)>
-    requires { IsAskedPair paths.now (question_with question) asked.0.now asked.1.now }
+    requires { IsAskedPair paths.now (question_with question) asked.mine.now asked.theirs.now }
     ensures some { IfSome result (λ pair. CoversWith paths.now (question_with question)
         cover.0 cover.1 count pair.0.now pair.1.now) }
     ensures none { IfNone result ((of_mine of_theirs : Access) → ¬ CoversWith paths.now
@@ -131,7 +125,7 @@ fn covers_with<'a>(
 {
     let mine = access_at(paths, question.x, cover.0)?;
     let theirs = access_at(paths, question.y, cover.1)?;
-    if asks_read_write(asked.0.kind, asked.1.kind)
+    if asks_read_write(asked.mine.kind, asked.theirs.kind)
         && may_cover(mine)
         && may_cover(theirs)
         && mine.table == theirs.table
@@ -147,10 +141,10 @@ fn covers_with<'a>(
 pub fn check_reason(
     paths: &[Path],
     question: Question,
-    asked: (&Access, &Access),
+    asked: AskedPair<'_>,
     reason: &Reason,
 ) -> Result<(), Flaw>
-    requires { IsAskedPair paths.now (numbers_told question) asked.0.now asked.1.now }
+    requires { IsAskedPair paths.now (numbers_told question) asked.mine.now asked.theirs.now }
     ensures fitting { OnOk result (IsFitting paths.now (entry_with question reason.now)) }
     ensures chains { OnOk result (ChainsHold paths.now (entry_with question reason.now)) }
     ensures flaw { IfErr result

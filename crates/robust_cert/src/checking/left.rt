@@ -1,5 +1,5 @@
 //! The edges that the entries leave.
-ghost use Rattle.std.specs.Prelude.{◌≡◌, [], ◌∷◌, IfOk};
+ghost use Rattle.std.specs.Prelude.{◌≡◌, [], ◌∷◌, IfOk, OnOk};
 ghost use Rattle.prog_paths.specs.Asked.{asked_by, asked_among};
 ghost use Rattle.prog_paths.specs.Listing.{RiseBy};
 ghost use Rattle.order_facts.specs.Square.{Enters};
@@ -11,7 +11,9 @@ use crate::checking::telling::{mark_with, told};
 use crate::entries::Entries;
 use order_facts::Square;
 use prog_check::Path;
-use prog_paths::{Mark, Placed, all_places, asks, enter_edges, enter_vulnerable, question_between};
+use prog_paths::{
+    Changers, Mark, Placed, all_places, asks, enter_edges, enter_vulnerable, question_between,
+};
 use std::alloc::{AllocError, Global};
 
 /// Which nodes are joined by an edge that is left, and by a vulnerable one.
@@ -67,18 +69,26 @@ fn enter_asked(
     at
 }
 
-/// Enters what each asks of each.
-fn enter_all(left: &mut Left, entries: &Entries, places: &[Placed])
+/// Enters what each asks of each. Only the changers of its table are looked through.
+fn enter_all(
+    alloc: Global,
+    left: &mut Left,
+    entries: &Entries,
+    places: &[Placed],
+) -> Result<(), AllocError>
     requires { IsReady entries.now (asked_among places.now places.now) 0 }
-    ensures edges { Enters left.old.edges left.new.edges
-        (some_edge entries.now (asked_among places.now places.now)) }
-    ensures vulnerable { Enters left.old.vulnerable left.new.vulnerable
-        (some_vulnerable entries.now (asked_among places.now places.now)) }
+    ensures edges { OnOk result (Enters left.old.edges left.new.edges
+        (some_edge entries.now (asked_among places.now places.now))) }
+    ensures vulnerable { OnOk result (Enters left.old.vulnerable left.new.vulnerable
+        (some_vulnerable entries.now (asked_among places.now places.now))) }
 {
+    let changers = Changers::of(alloc, places)?;
     let mut at = 0;
     for first in places {
-        at = enter_asked(left, entries, at, first, places);
+        let seconds = changers.of_table(first.access.table);
+        at = enter_asked(left, entries, at, first, seconds);
     }
+    Ok(())
 }
 
 /// What the entries leave of the paths' questions. Both rise, so one pass over both is enough.
@@ -91,6 +101,6 @@ pub fn left_of(alloc: Global, paths: &[Path], entries: &Entries) -> Result<Left,
         edges: Square::new(alloc, paths.len())?,
         vulnerable: Square::new(alloc, paths.len())?,
     };
-    enter_all(&mut left, entries, &places);
+    enter_all(alloc, &mut left, entries, &places)?;
     Ok(left)
 }

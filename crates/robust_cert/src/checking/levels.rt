@@ -1,7 +1,7 @@
 //! Whether the levels rise over the edges that are left.
 ghost use Rattle.std.specs.Prelude.{◌≡◌, ℕ, ◌<◌, ◌≤◌, length, IfSome, IfNone, OnOk, IfErr};
 ghost use Rattle.order_facts.specs.Square.{Joins};
-ghost use Rattle.robust_cert.specs.Levels.{Falls, FallsFirst, IsLeastFall, Stays, StaysFirst, IsLowestBehind, StaysFirstBy, IsLeastFirstEdge, IsLeastStay, RiseOver, IsLevelFault};
+ghost use Rattle.robust_cert.specs.Levels.{FallsAlong, FallsFirst, IsLeastFall, Stays, StaysFirst, IsLowestBehind, StaysFirstBy, IsLeastFirstEdge, IsLeastStay, RiseOver, IsLevelFault};
 
 use crate::checking::left::Left;
 use crate::fault::CertFault;
@@ -27,7 +27,7 @@ fn first_fall(edges: &Square, levels: &[u32], x: usize) -> Option<usize>
     requires x { x < edges.now.size }
     requires size { length levels.now ≡ edges.now.size }
     ensures found { IfSome result (λ y. FallsFirst edges.now levels.now x y) }
-    ensures none { IfNone result ((y : ℕ) → ¬ Falls edges.now levels.now x y) }
+    ensures none { IfNone result ((y : ℕ) → ¬ FallsAlong edges.now levels.now x y) }
 {
     for y in 0..edges.size() {
         if edges.get(x, y) && levels[y] < levels[x] {
@@ -41,7 +41,7 @@ fn first_fall(edges: &Square, levels: &[u32], x: usize) -> Option<usize>
 fn least_fall(edges: &Square, levels: &[u32]) -> Option<Pair>
     requires { length levels.now ≡ edges.now.size }
     ensures found { IfSome result (λ pair. IsLeastFall edges.now levels.now pair) }
-    ensures none { IfNone result ((x y : ℕ) → ¬ Falls edges.now levels.now x y) }
+    ensures none { IfNone result ((x y : ℕ) → ¬ FallsAlong edges.now levels.now x y) }
 {
     for x in 0..edges.size() {
         if let Some(y) = first_fall(edges, levels, x) {

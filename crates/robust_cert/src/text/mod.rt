@@ -2,6 +2,7 @@
 
 pub mod compact;
 pub mod heads;
+pub mod middles;
 pub mod reading;
 pub mod seen;
 pub mod shape;

@@ -11,7 +11,7 @@ ghost use Rattle.robust_cert.specs.declared.certificate.Entry.{Entry};
 ghost use Rattle.robust_cert.specs.declared.entries.Reason.{Reason};
 ghost use Rattle.robust_cert.specs.Ranges.{IsSmall, NodeFits, ChainFits};
 ghost use Rattle.robust_cert.specs.Json.{whole_data, node_data, chain_data, QuestionFits, list_data, entry_data, EntryFits, apart_items, cover_items};
-ghost use Rattle.robust_cert.specs.Helpers.{IsQuestion, IsTold};
+ghost use Rattle.robust_cert.specs.Helpers.{AreNumbersOf, IsWordedAs};
 ghost use Rattle.robust_cert.specs.Parts.{ReasonFits};
 ghost use Rattle.robust_cert.specs.Sharing.{entry_with};
 
@@ -105,9 +105,9 @@ fn chains_of(alloc: Global, value: &Value) -> Result<Sequence<Chain>, Untaken>
 
 fn question_of(x: &Value, a: &Value, y: &Value, b: &Value) -> Option<Question>
     ensures some { IfSome result (λ q. QuestionFits q
-        × IsQuestion q (view x.now) (view a.now) (view y.now) (view b.now)) }
+        × AreNumbersOf q (view x.now) (view a.now) (view y.now) (view b.now)) }
     ensures none { IfNone result ((q : Question) → QuestionFits q
-        → ¬ IsQuestion q (view x.now) (view a.now) (view y.now) (view b.now)) }
+        → ¬ AreNumbersOf q (view x.now) (view a.now) (view y.now) (view b.now)) }
 {
     Some(Question {
         x: small_of(x)?,
@@ -119,7 +119,7 @@ fn question_of(x: &Value, a: &Value, y: &Value, b: &Value) -> Option<Question>
 
 fn apart_of(alloc: Global, items: &[Value]) -> Result<Reason, Untaken>
     ensures ok { IfOk result (λ reason. ReasonFits reason
-        × IsTold reason (string (codes "apart")) (items_view items.now)) }
+        × IsWordedAs reason (string (codes "apart")) (items_view items.now)) }
     ensures misshapen { result ≡ Err Untaken.Misshapen
         → (chain : List Node) → ChainFits chain → items_view items.now ≢ apart_items chain }
 {
@@ -132,7 +132,7 @@ fn apart_of(alloc: Global, items: &[Value]) -> Result<Reason, Untaken>
 
 fn cover_of(alloc: Global, items: &[Value]) -> Result<Reason, Untaken>
     ensures ok { IfOk result (λ reason. ReasonFits reason
-        × IsTold reason (string (codes "cover")) (items_view items.now)) }
+        × IsWordedAs reason (string (codes "cover")) (items_view items.now)) }
     ensures misshapen { result ≡ Err Untaken.Misshapen
         → (m t : ℕ) (cs : List (List Node)) → IsSmall m → IsSmall t → All ChainFits cs
         → items_view items.now ≢ cover_items m t cs }
@@ -159,10 +159,10 @@ fn is_text(value: &Value, text: &str) -> bool
 
 fn reason_of(alloc: Global, kind: &Value, items: &[Value]) -> Result<Reason, Untaken>
     ensures ok { IfOk result (λ reason. ReasonFits reason
-        × IsTold reason (view kind.now) (items_view items.now)) }
+        × IsWordedAs reason (view kind.now) (items_view items.now)) }
     ensures misshapen { result ≡ Err Untaken.Misshapen
         → (reason : Reason) → ReasonFits reason
-        → ¬ IsTold reason (view kind.now) (items_view items.now) }
+        → ¬ IsWordedAs reason (view kind.now) (items_view items.now) }
 {
     if is_text(kind, "apart") {
         apart_of(alloc, items)
@@ -193,7 +193,8 @@ fn entry_of(alloc: Global, value: &Value) -> Result<(Question, Reason), Untaken>
     Ok((question, reason))
 }
 
-/// The entries of a certificate. Each value is dropped once it is taken, while it is still in the cache.
+/// The entries of a certificate. Each value is dropped once it is taken, while it is still in the
+/// cache.
 pub fn entries_of(alloc: Global, items: Vec<Value>) -> Result<Entries, Untaken>
     ensures ok { IfOk result (λ entries. All EntryFits entries
         × (array (items_view items.items) ≡ list_data entry_data entries)) }

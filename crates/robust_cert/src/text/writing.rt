@@ -13,6 +13,7 @@ use crate::certificate::{Certificate, Question};
 use crate::chain::Chain;
 use crate::entries::{Entries, Reason, Told};
 use crate::text::heads::Heads;
+use crate::text::middles::Middles;
 use crate::text::tails::{push_tail, tail_at, tails_of};
 use itoa::{Buffer, Integer};
 use order_facts::Node;
@@ -107,8 +108,8 @@ pub(crate) fn push_kind(text: &mut String, kind: &str, question: Question) -> Re
     push_before(text, question.a, ",")
 }
 
-// Adds the numbers of the second access.
-fn push_second_access(text: &mut String, question: Question) -> Result<(), AllocError>
+/// Adds the numbers of the second access.
+pub(crate) fn push_second_access(text: &mut String, question: Question) -> Result<(), AllocError>
     ensures text { OnOk result
         (string_bytes text.new ≡ string_bytes text.old ++ second_text question) }
     ensures fits { QuestionFits question }
@@ -139,10 +140,11 @@ fn push_entry(text: &mut String, question: Question, reason: &Reason) -> Result<
     push_tail(text, reason)
 }
 
-// Adds an entry behind another one. Its head and its tail are at hand.
+// Adds an entry behind another one. Its head and its tail are at hand, and mostly its middle.
 fn push_next(
     text: &mut String,
     heads: &Heads,
+    middles: &mut Middles,
     told: Told,
     reasons: &[Reason],
     tails: &[String],
@@ -155,7 +157,7 @@ fn push_next(
     ensures fits { OnOk result (EntryFits (entry_told reasons.now told)) }
 {
     text.push_str(heads.with_reason(&reasons[told.reason]))?;
-    push_second_access(text, told.question)?;
+    middles.push(text, told.question)?;
     text.push_str(tail_at(reasons, tails, told.reason))
 }
 
@@ -171,12 +173,13 @@ fn push_told(text: &mut String, told: &[Told], reasons: &[Reason]) -> Result<(),
     };
     let alloc = *text.allocator();
     let mut heads = Heads::of(alloc, first.question)?;
+    let mut middles = Middles::for_entries(alloc, told.len())?;
     let tails = tails_of(alloc, reasons)?;
     text.push_str("[")?;
     push_entry(text, first.question, &reasons[first.reason])?;
     for next in others {
         heads.renew(alloc, next.question)?;
-        push_next(text, &heads, *next, reasons, &tails)?;
+        push_next(text, &heads, &mut middles, *next, reasons, &tails)?;
     }
     text.push_str("]")
 }

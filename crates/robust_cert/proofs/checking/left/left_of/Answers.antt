@@ -17,5 +17,5 @@ returns c =
     let places = c.deref.ensures.value ∙ c.in_ok-places.ensures in
     let new = c.enter_all.new.left in
     leaves-from_enters es c.args.paths.now _ new c.in_ok-new.ensures c.in_ok-new-2.ensures
-    (subst (λ (ps : List Placed). Enters c.in_ok-new.field-0 new.edges (some_edge es (asked_among ps ps))) places c.enter_all.ensures.edges)
-    (subst (λ (ps : List Placed). Enters c.in_ok-new-2.field-0 new.vulnerable (some_vulnerable es (asked_among ps ps))) places c.enter_all.ensures.vulnerable)
+    (subst (λ (ps : List Placed). Enters c.in_ok-new.field-0 new.edges (some_edge es (asked_among ps ps))) places c.in_ok-enter_all.ensures.edges)
+    (subst (λ (ps : List Placed). Enters c.in_ok-new-2.field-0 new.vulnerable (some_vulnerable es (asked_among ps ps))) places c.in_ok-enter_all.ensures.vulnerable)
