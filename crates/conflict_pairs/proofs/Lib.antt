@@ -6,7 +6,7 @@ pub mod Zipped
 pub mod Likeness
 pub mod OneKind
 pub mod Entries
-pub mod Growing
+pub mod Serving
 pub mod Numbered
 pub mod Collecting
 pub mod Parts

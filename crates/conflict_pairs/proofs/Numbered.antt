@@ -13,7 +13,9 @@ use Rattle.conflict_pairs.specs.declared.verdicts.Verdict.{Verdict}
 use Rattle.conflict_pairs.specs.declared.verdicts.Verdict.TheVariants.{Apart}
 use Rattle.conflict_pairs.specs.declared.table.Entry.{Entry}
 use Rattle.conflict_pairs.specs.Table.{Table, verdict_at, entry_by, entries_of, IsOnQuestion, IsRightEntry, StandsFor}
-use Rattle.conflict_pairs.specs.Alike.{IsAsked, StandsIn, IsJudgedAt, AreJudged}
+use Rattle.conflict_pairs.specs.Interning.{IsServed}
+use Rattle.conflict_pairs.specs.Alike.{IsAsked, IsLike, IsJudgedAt, AreJudged}
+use Rattle.conflict_pairs.proofs.Serving.{served-within}
 use Rattle.conflict_pairs.proofs.Zipped.{AllZip-at, AllZip-lengths}
 use Rattle.conflict_pairs.proofs.Likeness.{judged-like, right-judged}
 
@@ -86,26 +88,23 @@ verdicts-right paths single (q ∷ qs) (v ∷ vs) h k =
 -- ---- right entries
 
 module _ (paths : List Path) (judged : List Asked) (vs : List Verdict) (asked : All (IsAsked paths) judged) (answered : AreJudged paths judged vs) where
-  within_judged : (q : Asked) (n : ℕ) → StandsIn paths judged q n → n < length judged
-  within_judged q n h = slice_get_within judged n h.question h.at
-
   -- the verdict on the question that stands for another says what the facts say of this one
-  stands-judged : (q : Asked) (n : ℕ) → StandsIn paths judged q n → IsJudgedAt paths q (verdict_at vs n)
+  stands-judged : (q : Asked) (n : ℕ) → IsServed (IsLike paths) judged q n → IsJudgedAt paths q (verdict_at vs n)
   stands-judged q n h =
-      judged-like paths q h.question (verdict_at vs n) h.like
-      (subst (λ (r : Asked). IsJudgedAt paths r (verdict_at vs n)) (get_or_from_slice_get judged n h.question h.question h.at)
-      (AllZip-at (IsJudgedAt paths) judged vs n h.question (Apart []) answered (within_judged q n h)))
+      judged-like paths q h.value (verdict_at vs n) h.serves
+      (subst (λ (r : Asked). IsJudgedAt paths r (verdict_at vs n)) (get_or_from_slice_get judged n h.value h.value h.at)
+      (AllZip-at (IsJudgedAt paths) judged vs n h.value (Apart []) answered (served-within (IsLike paths) judged q n h)))
 
-  pub numbers-within : (qs : List Asked) (ns : List ℕ) → AllZip (StandsIn paths judged) qs ns → All (λ n. n < length vs) ns
+  pub numbers-within : (qs : List Asked) (ns : List ℕ) → AllZip (IsServed (IsLike paths) judged) qs ns → All (λ n. n < length vs) ns
   numbers-within [] [] h = All-nil (λ n. n < length vs)
   numbers-within [] (n ∷ ns) h = absurd h
   numbers-within (q ∷ qs) [] h = absurd h
   numbers-within (q ∷ qs) (n ∷ ns) h =
       All-cons (λ n. n < length vs) n ns
-      (subst (λ (k : ℕ). n < k) (AllZip-lengths (IsJudgedAt paths) judged vs answered) (within_judged q n h.0))
+      (subst (λ (k : ℕ). n < k) (AllZip-lengths (IsJudgedAt paths) judged vs answered) (served-within (IsLike paths) judged q n h.0))
       (numbers-within qs ns h.1)
 
-  pub entries-right : All ChangesSingleCells paths → (qs : List Asked) (ns : List ℕ) → All (IsAsked paths) qs → AllZip (StandsIn paths judged) qs ns → All (λ e. IsRightEntry paths e) (entries_of vs qs ns)
+  pub entries-right : All ChangesSingleCells paths → (qs : List Asked) (ns : List ℕ) → All (IsAsked paths) qs → AllZip (IsServed (IsLike paths) judged) qs ns → All (λ e. IsRightEntry paths e) (entries_of vs qs ns)
   entries-right single [] ns h k = All-nil (λ (e : Entry). IsRightEntry paths e)
   entries-right single (q ∷ qs) [] h k = absurd k
   entries-right single (q ∷ qs) (n ∷ ns) h k =
@@ -114,10 +113,10 @@ module _ (paths : List Path) (judged : List Asked) (vs : List Verdict) (asked : 
       (entries-right single qs ns (All-tail (IsAsked paths) q qs h) k.1)
 
   -- the table of all questions
-  pub StandsFor-from : All ChangesSingleCells paths → (table : Table) (qs : List Asked) (ns : List ℕ) → All (IsAsked paths) qs → AllZip (StandsIn paths judged) qs ns → table.nodes ≡ length paths → table.verdicts ≡ vs → table.entries ≡ entries_of vs qs ns → qs ≡ questions_of paths → StandsFor table paths
+  pub StandsFor-from : All ChangesSingleCells paths → (table : Table) (qs : List Asked) (ns : List ℕ) → All (IsAsked paths) qs → AllZip (IsServed (IsLike paths) judged) qs ns → table.nodes ≡ length paths → table.verdicts ≡ vs → table.entries ≡ entries_of vs qs ns → qs ≡ questions_of paths → StandsFor table paths
   StandsFor-from single table qs ns h k nodes verdicts entries all = record {
     nodes = nodes;
-    questions = ap (map (λ (e : Entry). e.question)) entries ∙ entries-questions vs qs ns (AllZip-lengths (StandsIn paths judged) qs ns k) ∙ all;
+    questions = ap (map (λ (e : Entry). e.question)) entries ∙ entries-questions vs qs ns (AllZip-lengths (IsServed (IsLike paths) judged) qs ns k) ∙ all;
     right = subst (λ (l : List Entry). All (λ e. IsRightEntry paths e) l) (sym entries) (entries-right single qs ns h k);
     verdicts = subst (λ (l : List Verdict). All (IsOnQuestion paths) l) (sym verdicts) (verdicts-right paths single judged vs asked answered);
   }

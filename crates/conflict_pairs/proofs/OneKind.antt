@@ -4,7 +4,7 @@ use Rattle.std.specs.Prelude.{All, Some, slice_get}
 use Rattle.std.specs.List.{AllZip}
 use Rattle.std.proofs.lemmas.List.{drop_more, drop_all, append-nil}
 use Rattle.std.proofs.lemmas.List.Elements.{All-weaker}
-use Rattle.std.proofs.lemmas.Option.{get_or_from_slice_get, slice_get_within, same_Some}
+use Rattle.std.proofs.lemmas.Option.{slice_get_within, same_Some}
 use Rattle.prog_check.specs.declared.path.Access.{Access}
 use Rattle.prog_check.specs.declared.path.Path.{Path}
 use Rattle.prog_paths.specs.declared.accesses.places.Placed.{Placed}
@@ -13,32 +13,32 @@ use Rattle.prog_paths.specs.Places.{IsAt}
 use Rattle.prog_paths.specs.StaticGraph.{IsAccessOf}
 use Rattle.prog_paths.proofs.Asked.{placed, all_places_stand}
 use Rattle.conflict_pairs.specs.Alike.{AreAlike, AreClasses, HasAccess, IsLikeAt}
-use Rattle.conflict_pairs.specs.Kinds.{HasClass, AreOneKind, IsOfKind, AreNumbered, starts_from, kind_at, HasKind, AreKinds}
-use Rattle.conflict_pairs.proofs.Zipped.{AllZip-at, AllZip-lengths}
+use Rattle.conflict_pairs.specs.Interning.{IsServed}
+use Rattle.conflict_pairs.specs.Kinds.{HasClass, AreOneKind, AreNumbered, starts_from, kind_at, HasKind, AreKinds}
+use Rattle.conflict_pairs.proofs.Serving.{served-at}
+use Rattle.conflict_pairs.proofs.Zipped.{AllZip-lengths}
 use Rattle.conflict_pairs.proofs.Likeness.{alike-back, alike-through, like_at-classes}
 
 -- ---- one number, one kind
 
-one_kind : (classes : List ℕ) (firsts : List Placed) (p q : Placed) (m n : ℕ) → IsOfKind classes firsts p m → IsOfKind classes firsts q n → m ≡ n → AreOneKind classes p q
+one_kind : (classes : List ℕ) (firsts : List Placed) (p q : Placed) (m n : ℕ) → IsServed (AreOneKind classes) firsts p m → IsServed (AreOneKind classes) firsts q n → m ≡ n → AreOneKind classes p q
 one_kind classes firsts p q m n h k same =
-    let is : h.first ≡ k.first = same_Some h.first k.first (sym h.at ∙ ap (slice_get firsts) same ∙ k.at) in
+    let is : h.value ≡ k.value = same_Some h.value k.value (sym h.at ∙ ap (slice_get firsts) same ∙ k.at) in
     record {
-      class = h.kind.class ∙ ap (λ (r : Placed). get_or classes r.node 0) is ∙ sym k.kind.class;
+      class = h.serves.class ∙ ap (λ (r : Placed). get_or classes r.node 0) is ∙ sym k.serves.class;
       alike =
-          alike-through p.access h.first.access q.access h.kind.alike
-          (subst (λ (r : Placed). AreAlike r.access q.access) (sym is) (alike-back q.access k.first.access k.kind.alike));
+          alike-through p.access h.value.access q.access h.serves.alike
+          (subst (λ (r : Placed). AreAlike r.access q.access) (sym is) (alike-back q.access k.value.access k.serves.alike));
     }
 
-pub AreNumbered-from : (classes : List ℕ) (firsts places : List Placed) (numbers : List ℕ) → AllZip (IsOfKind classes firsts) places numbers → AreNumbered classes places numbers
+pub AreNumbered-from : (classes : List ℕ) (firsts places : List Placed) (numbers : List ℕ) → AllZip (IsServed (AreOneKind classes) firsts) places numbers → AreNumbered classes places numbers
 AreNumbered-from classes firsts places numbers h = record {
-  one_each = sym (AllZip-lengths (IsOfKind classes firsts) places numbers h);
+  one_each = sym (AllZip-lengths (IsServed (AreOneKind classes) firsts) places numbers h);
   same = λ i j p q at_p at_q same. one_kind classes firsts p q (get_or numbers i 0) (get_or numbers j 0) (kind i p at_p) (kind j q at_q) same;
 }
   where
-    kind : (i : ℕ) (p : Placed) → slice_get places i ≡ Some p → IsOfKind classes firsts p (get_or numbers i 0)
-    kind i p at =
-        subst (λ (r : Placed). IsOfKind classes firsts r (get_or numbers i 0)) (get_or_from_slice_get places i p p at)
-        (AllZip-at (IsOfKind classes firsts) places numbers i p 0 h (slice_get_within places i p at))
+    kind : (i : ℕ) (p : Placed) → slice_get places i ≡ Some p → IsServed (AreOneKind classes) firsts p (get_or numbers i 0)
+    kind i p at = served-at (AreOneKind classes) firsts places numbers i p (get_or numbers i 0) 0 h at refl
 
 -- ---- places
 

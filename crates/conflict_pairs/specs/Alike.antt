@@ -1,6 +1,6 @@
 -- When one verdict serves two questions: their accesses are equal but for their places, and so are the covers of their
 -- paths.
-use Rattle.std.specs.Prelude.{◌≡◌, ℕ, ◌<◌, List, [], length, All, Option, Some, None, slice_get, get_or, true}
+use Rattle.std.specs.Prelude.{◌≡◌, ℕ, ◌<◌, List, [], length, Option, Some, None, slice_get, get_or, true}
 use Rattle.std.specs.List.{AllZip}
 use Rattle.prog_check.specs.declared.path.Access.{Access}
 use Rattle.prog_check.specs.declared.path.Path.{Path}
@@ -11,6 +11,7 @@ use Rattle.prog_paths.specs.Meeting.{MayCover}
 use Rattle.prog_paths.specs.Places.{IsAt}
 use Rattle.prog_paths.specs.StaticGraph.{IsAccessOf}
 use Rattle.conflict_pairs.specs.declared.verdicts.Verdict.{Verdict}
+use Rattle.conflict_pairs.specs.Interning.{AreInterned}
 use Rattle.conflict_pairs.specs.Search.{IsJudged}
 
 -- ---- accesses
@@ -79,16 +80,9 @@ pub record IsLikeAt (paths : List Path) (x a y b : ℕ) : Type 0 where
 abbrev pub IsLike : List Path → Asked → Asked → Type 0
 IsLike paths q r = IsLikeAt paths q.x q.a r.x r.a × IsLikeAt paths q.y q.b r.y r.b
 
--- the question of this number is like another
-pub record StandsIn (paths : List Path) (judged : List Asked) (q : Asked) (n : ℕ) : Type 0 where
-  pub question : Asked
-  pub at : slice_get judged n ≡ Some question
-  pub like : IsLike paths q question
-
--- questions that are asked, and for each of others the number of one that is like it
-pub record AreShown (paths : List Path) (qs judged : List Asked) (numbers : List ℕ) : Type 0 where
-  pub asked : All (IsAsked paths) judged
-  pub stand : AllZip (StandsIn paths judged) qs numbers
+-- questions that are judged, and for each of others the number of one that is like it
+abbrev pub AreShown : List Path → List Asked → List Asked → List ℕ → Type 0
+AreShown paths = AreInterned (IsAsked paths) (IsLike paths)
 
 -- all questions of the paths, and which of them are judged
 pub record AreListed (paths : List Path) (qs judged : List Asked) (numbers : List ℕ) : Type 0 where

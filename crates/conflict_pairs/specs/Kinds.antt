@@ -15,12 +15,6 @@ pub record AreOneKind (classes : List ℕ) (p q : Placed) : Type 0 where
   pub class : get_or classes p.node 0 ≡ get_or classes q.node 0
   pub alike : AreAlike p.access q.access
 
--- an access is of one kind with the first one of a number
-pub record IsOfKind (classes : List ℕ) (firsts : List Placed) (p : Placed) (n : ℕ) : Type 0 where
-  pub first : Placed
-  pub at : slice_get firsts n ≡ Some first
-  pub kind : AreOneKind classes p first
-
 -- each access has a number, and those with one number are of one kind
 pub record AreNumbered (classes : List ℕ) (places : List Placed) (numbers : List ℕ) : Type 0 where
   pub one_each : length numbers ≡ length places

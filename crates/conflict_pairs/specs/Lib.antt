@@ -1,3 +1,4 @@
+pub mod Interning
 pub mod Verdicts
 pub mod Search
 pub mod Alike

@@ -1,12 +1,11 @@
 //! Kinds of accesses: what is said of one is said of each other of its kind.
-ghost use Rattle.std.specs.Prelude.{◌≡◌, ◌<◌, ◌^◌, ℕ, Some, slice_get, length, IsTrue, All, IfOk, OnOk};
-ghost use Rattle.prog_paths.specs.declared.accesses.places.Placed.{Placed as Place};
+ghost use Rattle.std.specs.Prelude.{◌≡◌, ◌<◌, ◌^◌, length, IsTrue, All, IfOk};
 ghost use Rattle.prog_paths.specs.Asked.{all_from};
 ghost use Rattle.conflict_pairs.specs.Alike.{HasAccess, IsAsked, IsLikeAt, IsLike};
-ghost use Rattle.conflict_pairs.specs.Kinds.{HasClass, AreOneKind, IsOfKind, AreNumbered, starts_from, kind_at, HasKind};
+ghost use Rattle.conflict_pairs.specs.Kinds.{HasClass, AreOneKind, AreNumbered, starts_from, kind_at, HasKind};
 
 use crate::alike::{are_alike, classes_of};
-use crate::limits::{REMEMBERED, REMEMBERED_KINDS};
+use crate::interning::{Interner, intern_all};
 use prog_check::Path;
 use prog_paths::{Placed, Question};
 use std::alloc::{AllocError, Global};
@@ -34,55 +33,37 @@ impl<'a> Model for Kinds<'a> {
     ghost invariant = { λ k. AreKinds k.paths.now k.starts.items k.numbers.items };
 }
 
-/// Whether two accesses are alike, at nodes of one class.
-fn is_one_kind(classes: &[usize], one: &Placed, other: &Placed) -> bool
-    requires one { HasClass classes.now one.now }
-    requires other { HasClass classes.now other.now }
-    ensures { IsTrue result → AreOneKind classes.now one.now other.now }
-{
-    classes[one.node] == classes[other.node] && are_alike(&one.access, &other.access)
+/// Gives one number to the accesses of one kind.
+#[derive(Drop)]
+struct Numbering<'a> {
+    classes: &'a [usize],
 }
 
-/// Whether an access is of the kind of this number.
-fn is_kind(classes: &[usize], place: &Placed, firsts: &[Placed], number: usize) -> bool
-    requires place { HasClass classes.now place.now }
-    requires firsts { All (HasClass classes.now) firsts.now }
-    ensures { IsTrue result → IsOfKind classes.now firsts.now place.now number }
-{
-    number < firsts.len() && is_one_kind(classes, place, &firsts[number])
-}
+impl<'a> Interner for Numbering<'a> {
+    type Key = Placed;
 
-/// The number of an access's kind: the remembered one, or that of a new kind, whose first access it
-/// is.
-fn kind_of(
-    classes: &[usize],
-    place: &Placed,
-    remembered: usize,
-    firsts: &mut Vec<Placed>,
-) -> Result<usize, AllocError>
-    requires place { HasClass classes.now place.now }
-    requires firsts { All (HasClass classes.now) firsts.old.items }
-    ensures firsts { OnOk result (All (HasClass classes.now) firsts.new.items) }
-    ensures number { IfOk result
-        (λ number. IsOfKind classes.now firsts.new.items place.now number) }
-    ensures keeps { OnOk result ((k : ℕ) (p : Place)
-        → slice_get firsts.old.items k ≡ Some p → slice_get firsts.new.items k ≡ Some p) }
-{
-    if is_kind(classes, place, firsts, remembered) {
-        return Ok(remembered);
+    type Value = Placed;
+
+    ghost takes = { λ numbering place. HasClass numbering.classes.now place };
+
+    ghost is_sound = { λ numbering first. HasClass numbering.classes.now first };
+
+    ghost serves = { λ numbering place first. AreOneKind numbering.classes.now place first };
+
+    fn hash(&self, place: &Placed) -> usize {
+        self.classes[place.node]
+            .wrapping_mul(32)
+            .wrapping_add(place.number)
     }
-    let number = firsts.len();
-    firsts.push(*place)?;
-    Ok(number)
-}
 
-/// Where the number for accesses like this one is remembered.
-fn slot(classes: &[usize], place: &Placed) -> usize
-    requires { HasClass classes.now place.now }
-    ensures { result < 4093 }
-{
-    let class = classes[place.node];
-    class.wrapping_mul(32).wrapping_add(place.number) % REMEMBERED_KINDS
+    fn is_served(&self, place: &Placed, first: &Placed) -> bool {
+        self.classes[place.node] == self.classes[first.node]
+            && are_alike(&place.access, &first.access)
+    }
+
+    fn make(&self, _: Global, place: &Placed) -> Result<Placed, AllocError> {
+        Ok(*place)
+    }
 }
 
 /// For each access the number of its kind, as far as kinds are remembered.
@@ -90,16 +71,7 @@ fn numbers_of(alloc: Global, classes: &[usize], places: &[Placed]) -> Result<Vec
     requires { All (HasClass classes.now) places.now }
     ensures { IfOk result (λ numbers. AreNumbered classes.now places.now numbers.items) }
 {
-    let mut remembered = vec![in alloc; 0; REMEMBERED_KINDS]?;
-    let mut firsts = Vec::new(alloc);
-    let mut numbers = Vec::with_capacity(alloc, places.len())?;
-    for place in places {
-        let at = slot(classes, place);
-        let number = kind_of(classes, place, remembered[at], &mut firsts)?;
-        remembered[at] = number;
-        numbers.push(number)?;
-    }
-    Ok(numbers)
+    Ok(intern_all(alloc, &Numbering { classes }, places)?.numbers)
 }
 
 /// For each node where its accesses begin among all.
@@ -140,17 +112,6 @@ impl<'a> Kinds<'a> {
         })
     }
 
-    /// A slot for what is remembered of questions like this one. The factor is near the golden
-    /// section of the slots, which keeps small numbers apart.
-    pub fn slot(&self, question: &Question) -> usize
-        requires { IsAsked self.now question.now }
-        ensures { result < 65521 }
-    {
-        let first = kind_at(&self.starts, &self.numbers, question.x, question.a);
-        let second = kind_at(&self.starts, &self.numbers, question.y, question.b);
-        first.wrapping_mul(40_494).wrapping_add(second) % REMEMBERED
-    }
-
     /// Whether access `a` of node `x` and access `b` of node `y` are of one kind.
     fn is_same(&self, x: usize, a: usize, y: usize, b: usize) -> bool
         requires first { HasAccess self.now x a }
@@ -159,13 +120,31 @@ impl<'a> Kinds<'a> {
     {
         kind_at(&self.starts, &self.numbers, x, a) == kind_at(&self.starts, &self.numbers, y, b)
     }
+}
 
-    /// Whether two questions are of accesses of the same kinds.
-    pub fn is_like(&self, one: &Question, other: &Question) -> bool
-        requires one { IsAsked self.now one.now }
-        requires other { IsAsked self.now other.now }
-        ensures { IsTrue result → IsLike self.now one.now other.now }
-    {
-        self.is_same(one.x, one.a, other.x, other.a) && self.is_same(one.y, one.b, other.y, other.b)
+impl<'a> Interner for Kinds<'a> {
+    type Key = Question;
+
+    type Value = Question;
+
+    ghost takes = { λ paths question. IsAsked paths question };
+
+    ghost is_sound = { λ paths judged. IsAsked paths judged };
+
+    ghost serves = { λ paths question judged. IsLike paths question judged };
+
+    fn hash(&self, question: &Question) -> usize {
+        let first = kind_at(&self.starts, &self.numbers, question.x, question.a);
+        let second = kind_at(&self.starts, &self.numbers, question.y, question.b);
+        first.wrapping_mul(65_536).wrapping_add(second)
+    }
+
+    fn is_served(&self, question: &Question, judged: &Question) -> bool {
+        self.is_same(question.x, question.a, judged.x, judged.a)
+            && self.is_same(question.y, question.b, judged.y, judged.b)
+    }
+
+    fn make(&self, _: Global, question: &Question) -> Result<Question, AllocError> {
+        Ok(*question)
     }
 }

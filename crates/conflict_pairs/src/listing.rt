@@ -6,9 +6,9 @@ ghost use Rattle.conflict_pairs.specs.Alike.{AreJudged, AreListed};
 ghost use Rattle.conflict_pairs.specs.Table.{StandsFor};
 
 use crate::fault::PairFault;
+use crate::interning::{Interned, intern_all};
 use crate::judge::verdicts_of;
 use crate::kinds::Kinds;
-use crate::shown::{Shown, shown_of};
 use crate::table::PairTable;
 use crate::verdicts::Verdict;
 use prog_check::Path;
@@ -52,7 +52,7 @@ pub fn all_questions(alloc: Global, places: &[Placed]) -> Result<Vec<Question>, 
 pub struct Questions {
     pub all: Vec<Question>,
     pub judged: Vec<Question>,
-    pub numbers: Vec<u32>,
+    pub numbers: Vec<usize>,
 }
 
 /// The questions of a list of paths.
@@ -64,10 +64,10 @@ pub fn questions_of(alloc: Global, paths: &[Path]) -> Result<Questions, AllocErr
     let places = all_places(alloc, paths)?;
     let all = all_questions(alloc, &places)?;
     let kinds = Kinds::of(alloc, paths, &places)?;
-    let Shown { judged, numbers } = shown_of(alloc, &kinds, &all)?;
+    let Interned { values, numbers } = intern_all(alloc, &kinds, &all)?;
     Ok(Questions {
         all,
-        judged,
+        judged: values,
         numbers,
     })
 }

@@ -20,7 +20,7 @@ pub struct PairTable {
     nodes: usize,
     questions: Vec<Question>,
     // For each question the number of its verdict, which may be that of several.
-    numbers: Vec<u32>,
+    numbers: Vec<usize>,
     verdicts: Vec<Verdict>,
 }
 
@@ -47,7 +47,7 @@ impl PairTable {
     pub(crate) fn of(
         nodes: usize,
         questions: Vec<Question>,
-        numbers: Vec<u32>,
+        numbers: Vec<usize>,
         verdicts: Vec<Verdict>,
     ) -> Self
         requires one_each { length questions.items ≡ length numbers.items }
@@ -107,7 +107,7 @@ impl PairTable {
         ensures verdict { (e : Entry) → slice_get self.now.entries n ≡ Some e
             → slice_get self.now.verdicts result ≡ Some e.verdict }
     {
-        self.numbers[n] as usize
+        self.numbers[n]
     }
 
     /// The verdict on the question of a number.

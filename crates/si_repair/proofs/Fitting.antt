@@ -17,8 +17,10 @@ use Rattle.prog_paths.specs.Listing.{IsAskedOf}
 use Rattle.conflict_pairs.specs.declared.verdicts.Verdict.{Verdict}
 use Rattle.conflict_pairs.specs.declared.verdicts.Verdict.TheVariants.{Apart, Covered, Exposed}
 use Rattle.conflict_pairs.specs.declared.table.Entry.{Entry as Judged}
+use Rattle.conflict_pairs.specs.Interning.{IsServed}
 use Rattle.conflict_pairs.specs.Table.{Table, IsOnQuestion}
 use Rattle.conflict_pairs.specs.Verdicts.{IsRight}
+use Rattle.conflict_pairs.proofs.Serving.{served-within}
 use Rattle.dep_graph.specs.Counting.{IsCountOf, none, counted, passed}
 use Rattle.robust_cert.specs.declared.certificate.Entry.{Entry}
 use Rattle.robust_cert.specs.declared.entries.Reason.{Reason}
@@ -26,8 +28,7 @@ use Rattle.robust_cert.specs.declared.entries.Told.{Told}
 use Rattle.robust_cert.specs.Accepted.{body_size}
 use Rattle.robust_cert.specs.Ranges.{IsSmall}
 use Rattle.robust_cert.specs.Sharing.{entry_with, reason_at, entry_told, entries_told, IsWithin}
-use Rattle.si_repair.specs.Telling.{told_question, told_by, told_of, reason_of, told_numbered, IsGivenBy, IsOfFew, AskedFits, VerdictFits}
-use Rattle.si_repair.proofs.Remembered.{given-reason, given-within}
+use Rattle.si_repair.specs.Telling.{told_question, told_by, told_of, reason_of, told_numbered, Gives, IsOfFew, AskedFits, VerdictFits}
 use Rattle.si_repair.proofs.Telling.{IsEntryOf, entries_stand}
 use Rattle.si_repair.proofs.Smallness.{AreEndsSmall, question-small, falls-small, chains-small, pairs-below, access-below}
 
@@ -126,16 +127,16 @@ numbered_within rs q (Apart chain) n lt = All-cons (IsWithin rs) (record { quest
 numbered_within rs q (Covered m t chains) n lt = All-cons (IsWithin rs) (record { question = told_question q; reason = n }) [] lt (All-nil (IsWithin rs))
 numbered_within rs q (Exposed sample) n lt = All-nil (IsWithin rs)
 
-pub numbered_more : (old new : List Told) (rs : List Reason) (q : Asked) (v : Verdict) (n : ℕ) → IsGivenBy rs v n → new ≡ old ++ told_numbered q v n → entries_told rs new ≡ entries_told rs old ++ told_by q v
+pub numbered_more : (old new : List Told) (rs : List Reason) (q : Asked) (v : Verdict) (n : ℕ) → IsServed Gives rs v n → new ≡ old ++ told_numbered q v n → entries_told rs new ≡ entries_told rs old ++ told_by q v
 numbered_more old new rs q v n given added =
     ap (entries_told rs) added
     ∙ map-append (entry_told rs) old (told_numbered q v n)
-    ∙ ap (λ (l : List Entry). entries_told rs old ++ l) (numbered_tells rs q v n (given-reason rs v n given))
+    ∙ ap (λ (l : List Entry). entries_told rs old ++ l) (numbered_tells rs q v n (get_or_from_slice_get rs n given.value _ given.at ∙ given.serves))
 
-pub within_more : (old new : List Told) (rs : List Reason) (q : Asked) (v : Verdict) (n : ℕ) → IsGivenBy rs v n → new ≡ old ++ told_numbered q v n → All (IsWithin rs) old → All (IsWithin rs) new
+pub within_more : (old new : List Told) (rs : List Reason) (q : Asked) (v : Verdict) (n : ℕ) → IsServed Gives rs v n → new ≡ old ++ told_numbered q v n → All (IsWithin rs) old → All (IsWithin rs) new
 within_more old new rs q v n given added h =
     subst (λ (l : List Told). All (IsWithin rs) l) (sym added)
-    (All-append (IsWithin rs) old (told_numbered q v n) h (numbered_within rs q v n (given-within rs v n given)))
+    (All-append (IsWithin rs) old (told_numbered q v n) h (numbered_within rs q v n (served-within Gives rs v n given)))
 
 -- ---- one more level
 

@@ -1,4 +1,3 @@
-pub mod Remembered
 pub mod Members
 pub mod Telling
 pub mod Leaving

@@ -1,6 +1,6 @@
 -- What a certificate tells of the entries of a table: words of private clauses.
-use Rattle.std.specs.Prelude.{◌≡◌, ℕ, ◌<◌, List, [], ◌∷◌, length, Some, slice_get, slice_index_or, All}
-use Rattle.std.specs.List.{flat_map, AllZip}
+use Rattle.std.specs.Prelude.{◌≡◌, ℕ, ◌<◌, List, [], ◌∷◌, length, slice_index_or, All}
+use Rattle.std.specs.List.{flat_map}
 use Rattle.order_facts.specs.declared.steps.Node.{Node}
 use Rattle.order_facts.specs.Chain.{IsTight}
 use Rattle.prog_check.specs.declared.path.Path.{Path}
@@ -12,6 +12,7 @@ use Rattle.conflict_pairs.specs.declared.verdicts.Verdict.TheVariants.{Apart, Co
 use Rattle.conflict_pairs.specs.declared.table.Entry.{Entry as Judged}
 use Rattle.conflict_pairs.specs.declared.fault.PairFault.{PairFault}
 use Rattle.conflict_pairs.specs.declared.fault.PairFault as pairs
+use Rattle.conflict_pairs.specs.Interning.{AreInterned}
 use Rattle.conflict_pairs.specs.Table.{Table, StandsFor}
 use Rattle.dep_graph.specs.Counting.{IsCountOf}
 use Rattle.robust_cert.specs.declared.certificate.Question.{Question}
@@ -54,13 +55,13 @@ reason_of (Apart chain) = reason.TheVariants.Apart chain
 reason_of (Covered m t chains) = reason.TheVariants.Cover m t chains
 reason_of (Exposed sample) = reason.TheVariants.Cover 0 0 []
 
--- a reason of that number is the one that a verdict gives
-abbrev pub IsGivenBy : List Reason → Verdict → ℕ → Type 0
-IsGivenBy reasons verdict n = slice_get reasons n ≡ Some (reason_of verdict)
+-- a verdict gives a reason
+abbrev pub Gives : Verdict → Reason → Type 0
+Gives verdict reason = reason ≡ reason_of verdict
 
--- numbers of the reasons that verdicts give, one each
+-- reasons, and for each verdict the number of the one that it gives
 abbrev pub AreGiven : List Verdict → List Reason → List ℕ → Type 0
-AreGiven verdicts reasons numbers = AllZip (IsGivenBy reasons) verdicts numbers
+AreGiven = AreInterned (λ reason. Unit {0}) Gives
 
 -- what is told of a question with its verdict, by the number of its reason
 abbrev pub told_numbered : Asked → Verdict → ℕ → List Told

@@ -1,25 +1,13 @@
-//! The reasons that verdicts give. There are few different ones, so each is made once, as far as
-//! that is remembered.
-ghost use Rattle.std.specs.Prelude.{◌≡◌, ◌<◌, ℕ, Some, slice_get, All, IsTrue, IfOk, OnOk};
-ghost use Rattle.robust_cert.specs.declared.entries.Reason.{Reason};
-ghost use Rattle.si_repair.specs.Telling.{reason_of, IsGivenBy, AreGiven, TightFits, VerdictFits};
+//! The reasons that verdicts give. There are few different ones, so verdicts share them.
+ghost use Rattle.std.specs.Prelude.{◌≡◌, All, IsTrue, IfOk};
+ghost use Rattle.si_repair.specs.Telling.{reason_of, Gives, AreGiven, TightFits, VerdictFits};
 
 use crate::writing::small;
-use conflict_pairs::Verdict;
+use conflict_pairs::{Interned, Interner, Verdict, intern_all};
 use order_facts::{Node, Nodes};
 use prog_tree::Sequence;
 use robust_cert::{Chain, Reason};
 use std::alloc::{AllocError, Global};
-
-/// Reasons, and for each verdict the number of the one that it gives.
-#[derive(Drop)]
-pub struct SharedReasons {
-    pub reasons: Vec<Reason>,
-    pub numbers: Vec<usize>,
-}
-
-// How many reasons are remembered. It is a prime.
-const REMEMBERED: usize = 4_093;
 
 // A chain as a certificate has it.
 fn copy_of(alloc: Global, chain: &conflict_pairs::Chain) -> Result<Chain, AllocError>
@@ -117,33 +105,6 @@ fn is_given(reason: &Reason, verdict: &Verdict) -> bool
     }
 }
 
-// Whether the reason of a number is the one that a verdict gives.
-fn is_remembered(reasons: &[Reason], number: usize, verdict: &Verdict) -> bool
-    ensures { IsTrue result → IsGivenBy reasons.now verdict.now number }
-{
-    number < reasons.len() && is_given(&reasons[number], verdict)
-}
-
-// The number of the reason that a verdict gives: the remembered one, or that of a new one.
-fn number_of(
-    alloc: Global,
-    verdict: &Verdict,
-    remembered: usize,
-    reasons: &mut Vec<Reason>,
-) -> Result<usize, AllocError>
-    requires { VerdictFits verdict.now }
-    ensures number { IfOk result (λ number. IsGivenBy reasons.new.items verdict.now number) }
-    ensures keeps { OnOk result ((k : ℕ) (r : Reason)
-        → slice_get reasons.old.items k ≡ Some r → slice_get reasons.new.items k ≡ Some r) }
-{
-    if is_remembered(reasons, remembered, verdict) {
-        return Ok(remembered);
-    }
-    let number = reasons.len();
-    reasons.push(reason_of(alloc, verdict)?)?;
-    Ok(number)
-}
-
 // A number for what was seen and one thing more.
 fn mixed(seen: usize, number: usize) -> usize {
     seen.wrapping_mul(2_531).wrapping_add(number)
@@ -177,11 +138,9 @@ fn chains_mark(chains: &[conflict_pairs::Chain]) -> usize {
     }
 }
 
-// The slot for reasons like the one that a verdict gives.
-fn slot_of(verdict: &Verdict) -> usize
-    ensures { result < 4093 }
-{
-    let mark = match verdict {
+// Of the reason that a verdict gives.
+fn reason_mark(verdict: &Verdict) -> usize {
+    match verdict {
         Verdict::Apart(chain) => chain_mark(chain),
         Verdict::Covered {
             mine,
@@ -189,25 +148,42 @@ fn slot_of(verdict: &Verdict) -> usize
             chains,
         } => mixed(mixed(*mine, *theirs), chains_mark(chains.as_slice())),
         Verdict::Exposed(_) => 0,
-    };
-    mark % REMEMBERED
+    }
 }
 
-/// The reasons that some verdicts give. A slot holds the number of the last one that came there,
-/// which is tested before it is taken.
-pub fn reasons_of(alloc: Global, verdicts: &[Verdict]) -> Result<SharedReasons, AllocError>
+/// Makes the reasons that verdicts give.
+#[derive(Drop)]
+struct Reasoning;
+
+impl Interner for Reasoning {
+    type Key = Verdict;
+
+    type Value = Reason;
+
+    ghost takes = { λ reasoning verdict. VerdictFits verdict };
+
+    ghost is_sound = { λ reasoning reason. Unit };
+
+    ghost serves = { λ reasoning verdict reason. Gives verdict reason };
+
+    fn hash(&self, verdict: &Verdict) -> usize {
+        reason_mark(verdict)
+    }
+
+    fn is_served(&self, verdict: &Verdict, reason: &Reason) -> bool {
+        is_given(reason, verdict)
+    }
+
+    fn make(&self, alloc: Global, verdict: &Verdict) -> Result<Reason, AllocError> {
+        reason_of(alloc, verdict)
+    }
+}
+
+/// The reasons that some verdicts give.
+pub fn reasons_of(alloc: Global, verdicts: &[Verdict]) -> Result<Interned<Reason>, AllocError>
     requires { All VerdictFits verdicts.now }
     ensures { IfOk result (λ given.
-        AreGiven verdicts.now given.reasons.items given.numbers.items) }
+        AreGiven verdicts.now given.values.items given.numbers.items) }
 {
-    let mut remembered = vec![in alloc; 0; REMEMBERED]?;
-    let mut reasons = Vec::new(alloc);
-    let mut numbers = Vec::with_capacity(alloc, verdicts.len())?;
-    for verdict in verdicts {
-        let at = slot_of(verdict);
-        let number = number_of(alloc, verdict, remembered[at], &mut reasons)?;
-        remembered[at] = number;
-        numbers.push(number)?;
-    }
-    Ok(SharedReasons { reasons, numbers })
+    intern_all(alloc, &Reasoning, verdicts)
 }

@@ -8,12 +8,12 @@ ghost use Rattle.robust_cert.specs.Ranges.{IsSmall};
 ghost use Rattle.robust_cert.specs.Sharing.{entries_told, IsWithin};
 ghost use Rattle.si_repair.specs.Telling.{told_question, told_of, told_numbered, AreGiven, AreLevels, IsOfFew, AskedFits};
 
-use crate::reasons::{SharedReasons, reasons_of};
-use conflict_pairs::{PairTable, Verdict};
+use crate::reasons::reasons_of;
+use conflict_pairs::{Interned, PairTable, Verdict};
 use dep_graph::Graph;
 use prog_check::Path;
 use prog_tree::Sequence;
-use robust_cert::{Certificate, Entries, Question, Told, body_size};
+use robust_cert::{Certificate, Entries, Question, Reason, Told, body_size};
 use std::alloc::{AllocError, Global};
 
 /// A number as a certificate has it.
@@ -64,13 +64,13 @@ fn push_told(
 fn questions_of(
     alloc: Global,
     table: &PairTable,
-    given: &SharedReasons,
+    given: &Interned<Reason>,
 ) -> Result<Vec<Told>, AllocError>
     requires few { IsOfFew table.now }
-    requires given { AreGiven table.now.verdicts given.now.reasons.items given.now.numbers.items }
+    requires given { AreGiven table.now.verdicts given.now.values.items given.now.numbers.items }
     ensures entries { IfOk result (λ told.
-        entries_told given.now.reasons.items told.items ≡ told_of table.now.entries) }
-    ensures within { IfOk result (λ told. All (IsWithin given.now.reasons.items) told.items) }
+        entries_told given.now.values.items told.items ≡ told_of table.now.entries) }
+    ensures within { IfOk result (λ told. All (IsWithin given.now.values.items) told.items) }
 {
     let mut told = Vec::with_capacity(alloc, table.len())?;
     for n in 0..table.len() {
@@ -87,7 +87,7 @@ fn entries_of(alloc: Global, table: &PairTable) -> Result<Entries, AllocError>
 {
     let given = reasons_of(alloc, table.verdicts())?;
     let told = questions_of(alloc, table, &given)?;
-    Ok(Entries::of(told, given.reasons))
+    Ok(Entries::of(told, given.values))
 }
 
 /// The level of each node.

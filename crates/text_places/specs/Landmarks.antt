@@ -1,5 +1,5 @@
 -- Where the tables, programs and statements of a set's text begin, and the records or the jobs of a list.
-use Rattle.std.specs.Prelude.{ℕ, zero, suc, ◌≡◌, ◌≤◌, ◌+◌, Bool, true, false, ◌&&◌, List, [], ◌∷◌, ◌++◌, Option, Some, codes, bytes_eq, drop, length, map, if◌then◌else◌}
+use Rattle.std.specs.Prelude.{ℕ, zero, suc, ◌≡◌, ◌≤◌, ◌+◌, Bool, true, false, ◌&&◌, List, [], ◌∷◌, ◌++◌, Option, Some, None, codes, bytes_eq, drop, length, map, if◌then◌else◌}
 use Rattle.prog_text.specs.Words.{beginning_of}
 use Rattle.prog_text.specs.declared.lexing.words.Beginning.{Beginning}
 use Rattle.prog_text.specs.declared.lexing.words.Beginning.TheVariants as b
@@ -19,6 +19,10 @@ is_program other = false
 abbrev pub is_statement : Option Beginning → Bool
 is_statement (Some b.Statement) = true
 is_statement other = false
+
+-- what begins at a place: nothing within a word
+abbrev pub begun_at : (text : List ℕ) → (place : ℕ) → Option Beginning
+begun_at text place = if stands_free text place then beginning_of (short_word (drop place text)) else None
 
 -- with the word one of a kind begins
 abbrev pub is_sign_of : Landmark → List ℕ → Bool

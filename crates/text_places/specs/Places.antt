@@ -1,5 +1,5 @@
 -- Where a byte of a text stands: its line, its column, and the line as people see it.
-use Rattle.std.specs.Prelude.{ℕ, ◌≡◌, ◌<◌, ◌+◌, ◌-◌, ◌==◌, Bool, not, List, count_by, drop, length, take}
+use Rattle.std.specs.Prelude.{ℕ, ◌≡◌, ◌<◌, ◌≤◌, ◌+◌, ◌-◌, ◌==◌, Bool, not, List, count_by, drop, length, take}
 use Rattle.std.specs.List.{before_first, list_all, suffix_len}
 
 abbrev pub is_feed : ℕ → Bool
@@ -43,6 +43,7 @@ line_at text place = before_first is_feed (drop (line_start text place) text)
 
 -- the first byte of the line of this number stands at the place, or would if the line had one
 pub record IsLineFront (text : List ℕ) (line : ℕ) (place : ℕ) : Type 0 where
+  pub within : place ≤ length text
   pub numbered : line_number text place ≡ line
   pub front : column text place ≡ 1
 

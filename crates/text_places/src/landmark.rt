@@ -1,13 +1,27 @@
 //! Where the tables, programs and statements of a set's text begin, and the records or the jobs of
 //! a list. A statement's first word stands nowhere else.
-ghost use Rattle.std.specs.Prelude.{◌≡◌, drop, IfNone, IfOk, IfSome};
-ghost use Rattle.text_places.specs.Landmarks.{begins_here, is_landmark, is_sign_of, HasFewer, HasNoJob, HasNoProgram, HasNoRecord, HasNoTable, IsJobPlace, IsNumbered, IsProgramPlace, IsRecordPlace, IsTablePlace};
+ghost use Rattle.std.specs.Prelude.{◌≡◌, ◌≤◌, ◌&&◌, bytes_eq, drop, IfNone, IfOk, IfSome};
+ghost use Rattle.text_places.specs.Landmarks.{begun_at, is_landmark, HasFewer, HasNoJob, HasNoProgram, HasNoRecord, HasNoTable, IsJobPlace, IsNumbered, IsProgramPlace, IsRecordPlace, IsTablePlace};
+ghost use Rattle.text_places.specs.Places.{begins_line};
 ghost use Rattle.text_places.specs.Reading.{short_word, without_comments};
+ghost use Rattle.text_places.specs.declared.landmark.Landmark.TheVariants.{Job};
 
 use crate::place::{begins_line, behind};
 use crate::reading::{short_word, stands_free, without_comments};
 use prog_text::{Beginning, beginning_of};
 use std::alloc::{AllocError, Global};
+
+/// What begins at a place.
+pub fn begun_at(text: &[u8], place: usize) -> Option<Beginning>
+    ensures { result ≡ begun_at text.now place }
+{
+    // Most places stand within a word, as the byte before them tells.
+    if stands_free(text, place) {
+        beginning_of(short_word(behind(text, place)))
+    } else {
+        None
+    }
+}
 
 /// What has a word of its own at its front.
 #[derive(Clone, Copy, Debug, PartialEq, Eq)]
@@ -19,51 +33,30 @@ pub enum Landmark {
     Job,
 }
 
-fn is_sign_of(kind: Landmark, word: &[u8]) -> bool
-    ensures { result ≡ is_sign_of kind word.now }
+// Whether a word stands at a place, and before it in its line only spaces.
+fn begins_line_with(word: &[u8], text: &[u8], place: usize) -> bool
+    ensures { result ≡ (bytes_eq (short_word (drop place text.now)) word.now
+        && begins_line text.now place) }
 {
-    match kind {
-        Landmark::Table => matches!(beginning_of(word), Some(Beginning::Table)),
-        Landmark::Program => matches!(beginning_of(word), Some(Beginning::Program)),
-        Landmark::Statement => matches!(beginning_of(word), Some(Beginning::Statement)),
-        Landmark::Record => word == b"record".as_slice(),
-        Landmark::Job => word == b"job".as_slice(),
-    }
+    short_word(behind(text, place)) == word && begins_line(text, place)
 }
 
-fn begins_here(kind: Landmark, text: &[u8], place: usize) -> bool
-    ensures { result ≡ begins_here kind text.now place }
-{
-    match kind {
-        Landmark::Table | Landmark::Program | Landmark::Statement => stands_free(text, place),
-        Landmark::Record | Landmark::Job => begins_line(text, place),
-    }
-}
-
-// Whether the word of a kind stands at a place.
-fn has_sign(kind: Landmark, text: &[u8], place: usize) -> bool
-    ensures { result ≡ is_sign_of kind (short_word (drop place text.now)) }
-{
-    is_sign_of(kind, short_word(behind(text, place)))
-}
-
-pub fn is_landmark(kind: Landmark, text: &[u8], place: usize) -> bool
+fn is_landmark(kind: Landmark, text: &[u8], place: usize) -> bool
     ensures { result ≡ is_landmark kind text.now place }
 {
     match kind {
-        // Most places stand within a word, as the byte before them tells.
-        Landmark::Table | Landmark::Program | Landmark::Statement => {
-            begins_here(kind, text, place) && has_sign(kind, text, place)
-        }
-        Landmark::Record | Landmark::Job => {
-            has_sign(kind, text, place) && begins_here(kind, text, place)
-        }
+        Landmark::Table => matches!(begun_at(text, place), Some(Beginning::Table)),
+        Landmark::Program => matches!(begun_at(text, place), Some(Beginning::Program)),
+        Landmark::Statement => matches!(begun_at(text, place), Some(Beginning::Statement)),
+        Landmark::Record => begins_line_with(b"record".as_slice(), text, place),
+        Landmark::Job => begins_line_with(b"job".as_slice(), text, place),
     }
 }
 
 // Where the one of this number begins, counted from a place on.
 fn numbered(kind: Landmark, text: &[u8], start: usize, number: usize) -> Option<usize>
     ensures found { IfSome result (IsNumbered kind text.now start number) }
+    ensures behind { IfSome result (λ place. start ≤ place) }
     ensures none { IfNone result (HasFewer kind text.now start number) }
 {
     let mut left = number;
@@ -129,4 +122,13 @@ pub fn job_place(list: &[u8], number: usize) -> Option<usize>
     ensures none { IfNone result (HasNoJob list.now number) }
 {
     numbered(Landmark::Job, list, 0, number)
+}
+
+/// Where a job of a list begins, counted from a place on.
+pub fn job_place_from(list: &[u8], start: usize, number: usize) -> Option<usize>
+    ensures found { IfSome result (IsNumbered Job list.now start number) }
+    ensures behind { IfSome result (λ place. start ≤ place) }
+    ensures none { IfNone result (HasFewer Job list.now start number) }
+{
+    numbered(Landmark::Job, list, start, number)
 }

@@ -30,6 +30,15 @@ fn push_visible(out: &mut String, bytes: &[u8]) -> Result<(), AllocError>
     Ok(())
 }
 
+/// Bytes as a terminal may show them.
+pub fn visible_text(alloc: Global, bytes: &[u8]) -> Result<String, AllocError>
+    ensures { IfOk result (λ text. string_bytes text ≡ map visible bytes.now) }
+{
+    let mut text = String::new(alloc);
+    push_visible(&mut text, bytes)?;
+    Ok(text)
+}
+
 fn push_spaces(out: &mut String, count: usize) -> Result<(), AllocError>
     ensures { OnOk result (string_bytes out.new ≡ string_bytes out.old ++ replicate count 32) }
 {

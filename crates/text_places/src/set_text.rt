@@ -1,11 +1,12 @@
 //! A set's text, of which many statements are asked for.
-ghost use Rattle.std.specs.Prelude.{◌≡◌, ◌++◌, ◌∷◌, ◌+◌, [], length, slice_get, IfNone, IfOk, IfSome, OnOk, if◌then◌else◌};
+ghost use Rattle.std.specs.Prelude.{◌≡◌, ◌+◌, length, slice_get, IfNone, IfOk, IfSome};
 ghost use Rattle.text_places.specs.Landmarks.{places_before, statements_ahead, HasNoStatement, IsStatementPlace};
 ghost use Rattle.text_places.specs.Reading.{without_comments};
 ghost use Rattle.text_places.specs.declared.landmark.Landmark.TheVariants.{Statement};
 
-use crate::landmark::{Landmark, is_landmark};
+use crate::landmark::begun_at;
 use crate::reading::without_comments;
+use prog_text::Beginning;
 use std::alloc::{AllocError, Global};
 use std::marker::Model;
 
@@ -14,17 +15,6 @@ use std::marker::Model;
 struct StatementPlaces {
     statements: Vec<usize>,
     ahead: Vec<usize>,
-}
-
-// Adds a number where it belongs to a list.
-fn push_if(numbers: &mut Vec<usize>, belongs: bool, number: usize) -> Result<(), AllocError>
-    ensures { OnOk result (numbers.new.items
-        ≡ numbers.old.items ++ (if belongs then number ∷ [] else [])) }
-{
-    if belongs {
-        numbers.push(number)?;
-    }
-    Ok(())
 }
 
 // Finds the statements of a text without comments.
@@ -37,10 +27,14 @@ fn statement_places(alloc: Global, text: &[u8]) -> Result<StatementPlaces, Alloc
     let mut statements = Vec::new(alloc);
     let mut ahead = Vec::new(alloc);
     for place in 0..text.len() {
-        let begins_program = is_landmark(Landmark::Program, text, place);
-        push_if(&mut ahead, begins_program, statements.len())?;
-        let begins_statement = is_landmark(Landmark::Statement, text, place);
-        push_if(&mut statements, begins_statement, place)?;
+        let Some(beginning) = begun_at(text, place) else {
+            continue;
+        };
+        match beginning {
+            Beginning::Table => continue,
+            Beginning::Program => ahead.push(statements.len())?,
+            Beginning::Statement => statements.push(place)?,
+        }
     }
     Ok(StatementPlaces { statements, ahead })
 }
@@ -62,11 +56,12 @@ fn nth_behind(places: &[usize], ahead: usize, number: usize) -> Option<usize>
 #[derive(Drop)]
 pub struct SetText<'a> {
     bytes: &'a [u8],
+    plain: Vec<u8>,
     places: StatementPlaces,
 }
 
 impl<'a> Model for SetText<'a> {
-    ghost use Rattle.std.specs.Prelude.{ℕ, List};
+    ghost use Rattle.std.specs.Prelude.{ℕ, ◌≡◌, List};
     ghost use Rattle.text_places.specs.Landmarks.{AreStatementPlaces};
     ghost use Rattle.text_places.specs.Reading.{without_comments};
 
@@ -74,7 +69,8 @@ impl<'a> Model for SetText<'a> {
 
     ghost view = { λ t. t.bytes.now };
 
-    ghost invariant = { λ t. AreStatementPlaces (without_comments t.bytes.now)
+    ghost invariant = { λ t. (t.plain.items ≡ without_comments t.bytes.now)
+        × AreStatementPlaces (without_comments t.bytes.now)
         t.places.statements.items t.places.ahead.items };
 }
 
@@ -83,15 +79,26 @@ impl<'a> SetText<'a> {
     pub fn new(alloc: Global, bytes: &'a [u8]) -> Result<Self, AllocError>
         ensures { IfOk result (λ text. text ≡ bytes.now) }
     {
-        let blanked = without_comments(alloc, bytes)?;
-        let places = statement_places(alloc, &blanked)?;
-        Ok(SetText { bytes, places })
+        let plain = without_comments(alloc, bytes)?;
+        let places = statement_places(alloc, &plain)?;
+        Ok(SetText {
+            bytes,
+            plain,
+            places,
+        })
     }
 
     pub fn bytes(&self) -> &'a [u8]
         ensures { result.now ≡ self.now }
     {
         self.bytes
+    }
+
+    /// The text with spaces for its comments.
+    pub fn plain(&self) -> &[u8]
+        ensures { result.now ≡ without_comments self.now }
+    {
+        self.plain.as_slice()
     }
 
     /// Where a statement of a program begins.

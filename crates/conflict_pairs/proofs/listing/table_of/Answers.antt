@@ -1,7 +1,8 @@
 use Rattle.std.proofs.Common.{List, sym, subst}
 use Rattle.std.specs.Prelude.{All}
 use Rattle.prog_paths.specs.declared.accesses.places.Question.{Question as Asked}
-use Rattle.conflict_pairs.specs.Alike.{IsAsked, StandsIn}
+use Rattle.conflict_pairs.specs.Interning.{IsServed}
+use Rattle.conflict_pairs.specs.Alike.{IsAsked, IsLike}
 use Rattle.conflict_pairs.proofs.Zipped.{AllZip-lengths}
 use Rattle.conflict_pairs.proofs.Collecting.{all_asked}
 use Rattle.conflict_pairs.proofs.Numbered.{numbers-within, StandsFor-from}
@@ -10,18 +11,18 @@ use Rattle.conflict_pairs.proofs.listing.table_of.Goals as goal
 pub of-requires-clause-one_each : goal.of-requires-clause-one_each
 of-requires-clause-one_each c =
     let questions = c.args.questions in
-    AllZip-lengths (StandsIn c.args.paths.now questions.judged.items) questions.all.items questions.numbers.items c.requires.listed.shown.stand
+    AllZip-lengths (IsServed (IsLike c.args.paths.now) questions.judged.items) questions.all.items questions.numbers.items c.requires.listed.shown.served
 
 pub of-requires-clause-within : goal.of-requires-clause-within
 of-requires-clause-within c =
     let questions = c.args.questions in
     let shown = c.requires.listed.shown in
-    numbers-within c.args.paths.now questions.judged.items c.args.verdicts.items shown.asked c.requires.judged questions.all.items questions.numbers.items shown.stand
+    numbers-within c.args.paths.now questions.judged.items c.args.verdicts.items shown.sound c.requires.judged questions.all.items questions.numbers.items shown.served
 
 pub returns : goal.returns
 returns c =
     let paths = c.args.paths.now in
     let questions = c.args.questions in
     let listed = c.requires.listed in
-    StandsFor-from paths questions.judged.items c.args.verdicts.items listed.shown.asked c.requires.judged c.requires.single c.of.result questions.all.items questions.numbers.items
-    (subst (λ (l : List Asked). All (IsAsked paths) l) (sym listed.all) (all_asked paths)) listed.shown.stand c.of.ensures.nodes c.of.ensures.verdicts c.of.ensures.entries listed.all
+    StandsFor-from paths questions.judged.items c.args.verdicts.items listed.shown.sound c.requires.judged c.requires.single c.of.result questions.all.items questions.numbers.items
+    (subst (λ (l : List Asked). All (IsAsked paths) l) (sym listed.all) (all_asked paths)) listed.shown.served c.of.ensures.nodes c.of.ensures.verdicts c.of.ensures.entries listed.all

@@ -1,12 +1,13 @@
 use Rattle.std.proofs.Common.{sym, subst, arith, ◌∙◌, ap}
 use Rattle.std.specs.Prelude.{Some}
 use Rattle.prog_paths.specs.declared.accesses.places.Question.{Question}
+use Rattle.conflict_pairs.specs.Interning.{IsServed}
+use Rattle.conflict_pairs.proofs.Serving.{served-at}
 use Rattle.conflict_pairs.proofs.Zipped.{AllZip-lengths}
 use Rattle.dep_graph.proofs.Entries.{entry_at}
 use Rattle.robust_cert.specs.Sharing.{entries_told}
-use Rattle.si_repair.specs.Telling.{AskedFits, told_of, IsGivenBy}
+use Rattle.si_repair.specs.Telling.{AskedFits, told_of, Gives}
 use Rattle.si_repair.proofs.Fitting.{entry_fits, told_more, told_end, numbered_more, within_more}
-use Rattle.si_repair.proofs.Remembered.{given-at}
 use Rattle.si_repair.proofs.writing.questions_of.Goals as goal
 
 pub push_told-requires : goal.push_told-requires
@@ -17,19 +18,19 @@ push_told-requires c =
 pub index-number-requires : goal.index-number-requires
 index-number-requires c =
     let given = c.args.given.now in
-    let each = AllZip-lengths (IsGivenBy given.reasons.items) c.args.table.now.verdicts given.numbers.items c.requires.given in
+    let each = AllZip-lengths (IsServed Gives given.values.items) c.args.table.now.verdicts given.numbers.items c.requires.given.served in
     omega (arith, each, c.verdict_number.ensures.within)
 
 pub loop-n-preserved : goal.loop-n-preserved
 loop-n-preserved c =
     let table = c.args.table.now in
     let given = c.args.given.now in
-    let reasons = given.reasons.items in
+    let reasons = given.values.items in
     let old = c.loop-n.told.items in
     let new = c.push_told.new.told.items in
     let at = entry_at table.entries c.loop-n.n (omega arith) in
     let judged = c.verdict.ensures at.entry at.is in
-    let its = given-at table.verdicts reasons given.numbers.items c.verdict_number.result c.verdict.result.now c.index-number.result.now c.index-number.result.now c.requires.given (c.verdict_number.ensures.verdict at.entry at.is ∙ ap Some (sym judged)) c.index-number.ensures in
+    let its = served-at Gives reasons table.verdicts given.numbers.items c.verdict_number.result c.verdict.result.now c.index-number.result.now c.index-number.result.now c.requires.given.served (c.verdict_number.ensures.verdict at.entry at.is ∙ ap Some (sym judged)) c.index-number.ensures in
     record {
       entries =
           told_more (entries_told reasons old) (entries_told reasons new) (told_of table.entries) table.entries c.loop-n.n at.entry c.question.result c.verdict.result.now at.is (c.question.ensures at.entry at.is) judged
@@ -40,4 +41,4 @@ loop-n-preserved c =
 pub returns-clause-entries : goal.returns-clause-entries
 returns-clause-entries c =
     let table = c.args.table.now in
-    told_end (entries_told c.args.given.now.reasons.items c.loop-n.told.items) (told_of table.entries) table.entries c.loop-n.n (omega arith) c.loop-n.invariant.entries
+    told_end (entries_told c.args.given.now.values.items c.loop-n.told.items) (told_of table.entries) table.entries c.loop-n.n (omega arith) c.loop-n.invariant.entries

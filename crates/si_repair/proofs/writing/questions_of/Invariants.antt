@@ -7,6 +7,6 @@ use Rattle.si_repair.proofs.writing.questions_of.Given as goal
 -- what is told so far, with what the entries that are left tell
 abbrev pub invariant-loop-n : goal.invariant-loop-n
 invariant-loop-n l = record {
-  entries : entries_told l.given.reasons.items l.told.items ++ told_of (drop l.n l.table.entries) ≡ told_of l.table.entries;
-  within : All (IsWithin l.given.reasons.items) l.told.items;
+  entries : entries_told l.given.values.items l.told.items ++ told_of (drop l.n l.table.entries) ≡ told_of l.table.entries;
+  within : All (IsWithin l.given.values.items) l.told.items;
 }

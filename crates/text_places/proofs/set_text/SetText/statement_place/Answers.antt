@@ -9,18 +9,18 @@ in_same xs ys index found other same got is = ap (λ list. slice_get list index)
 
 pub returns-in-Some-clause-found : goal.returns-in-Some-clause-found
 returns-in-Some-clause-found c =
-    let ahead = in_same _ _ c.args.program _ _ (c.as_slice.ensures.value ∙ c.self.invariant.ahead) c.nth.ensures c.in-Some.is in
-    let place = sym (in_same _ _ (c.in-Some.ahead + c.args.statement) _ _ (c.as_slice-in-Some.ensures.value ∙ c.self.invariant.statements) c.nth_behind.ensures refl) in
+    let ahead = in_same _ _ c.args.program _ _ (c.as_slice.ensures.value ∙ c.self.invariant.1.ahead) c.nth.ensures c.in-Some.is in
+    let place = sym (in_same _ _ (c.in-Some.ahead + c.args.statement) _ _ (c.as_slice-in-Some.ensures.value ∙ c.self.invariant.1.statements) c.nth_behind.ensures refl) in
     let bytes = c.self.inside.bytes.now in
     rw (← c.self.view_is) (is_place bytes c.args.program c.args.statement c.in-Some.ahead (length (without_comments bytes)) c.nth_behind.result ahead place)
 
 pub returns-in-Some-clause-none : goal.returns-in-Some-clause-none
 returns-in-Some-clause-none c =
-    let ahead = in_same _ _ c.args.program _ _ (c.as_slice.ensures.value ∙ c.self.invariant.ahead) c.nth.ensures c.in-Some.is in
-    let place = sym (in_same _ _ (c.in-Some.ahead + c.args.statement) _ _ (c.as_slice-in-Some.ensures.value ∙ c.self.invariant.statements) c.nth_behind.ensures refl) in
+    let ahead = in_same _ _ c.args.program _ _ (c.as_slice.ensures.value ∙ c.self.invariant.1.ahead) c.nth.ensures c.in-Some.is in
+    let place = sym (in_same _ _ (c.in-Some.ahead + c.args.statement) _ _ (c.as_slice-in-Some.ensures.value ∙ c.self.invariant.1.statements) c.nth_behind.ensures refl) in
     rw (← c.self.view_is) (has_none c.self.inside.bytes.now c.args.program c.args.statement c.in-Some.ahead c.nth_behind.result ahead place)
 
 pub returns-in-None-clause-none : goal.returns-in-None-clause-none
 returns-in-None-clause-none c =
-    let none = in_same _ _ c.args.program _ _ (c.as_slice.ensures.value ∙ c.self.invariant.ahead) c.nth.ensures c.in-None.is in
+    let none = in_same _ _ c.args.program _ _ (c.as_slice.ensures.value ∙ c.self.invariant.1.ahead) c.nth.ensures c.in-None.is in
     rw (← c.self.view_is) (has_no_program c.self.inside.bytes.now c.args.program c.args.statement none)

@@ -2,7 +2,7 @@ use Rattle.std.proofs.Common.{List, sym, subst}
 use Rattle.prog_check.specs.declared.path.Path.{Path}
 use Rattle.conflict_pairs.specs.Alike.{HasAccess}
 use Rattle.conflict_pairs.proofs.Likeness.{has-first, has-second}
-use Rattle.conflict_pairs.proofs.kinds.Kinds.slot.Goals as goal
+use Rattle.conflict_pairs.proofs.kinds.KindsInterner.hash.Goals as goal
 
 pub kind_at-first-requires : goal.kind_at-first-requires
 kind_at-first-requires c =

@@ -1,0 +1,29 @@
+use Rattle.std.proofs.Common.{List, subst, take_all, arith}
+use Rattle.std.specs.List.{AllZip}
+use Rattle.std.proofs.lemmas.Grind.{common_steps}
+use Rattle.conflict_pairs.specs.Interning.{IsServed}
+use Rattle.conflict_pairs.proofs.Zipped.{AllZip-more, AllZip-then}
+use Rattle.conflict_pairs.proofs.Serving.{served-kept}
+use Rattle.conflict_pairs.proofs.interning.intern_all.Goals as goal
+
+pub loop-key-preserved : goal.loop-key-preserved
+loop-key-preserved g c =
+    let serves = g.I.Interner.serves c.args.interner.now in
+    let old = c.loop-key.values.items in
+    let new = c.number_of.new.values.items in
+    record {
+      places = grind (arith, common_steps, c.loop-key.invariant.places);
+      sound = c.in_ok-number.ensures.sound;
+      served =
+          AllZip-more (IsServed serves new) c.args.keys.now c.loop-key.numbers.items c.push.new.self.items c.loop-key.key-index c.key-item.result _ (omega arith) c.in_ok-push.ensures.items
+          (subst (λ (k : g.row.I-Key.Denot). IsServed serves new k c.in_ok-number.number) c.key-item.is c.in_ok-number.ensures.served)
+          (AllZip-then (IsServed serves old) (IsServed serves new) (served-kept serves old new c.in_ok-number.ensures.keeps) _ _ c.loop-key.invariant.served);
+    }
+
+pub returns : goal.returns
+returns g c = record {
+  sound = c.loop-key.invariant.sound;
+  served =
+      subst (λ (l : List g.row.I-Key.Denot). AllZip (IsServed (g.I.Interner.serves c.args.interner.now) c.loop-key.values.items) l c.loop-key.numbers.items)
+      (take_all c.loop-key.key-index c.args.keys.now (omega arith)) c.loop-key.invariant.served;
+}

@@ -1,5 +1,0 @@
-use Rattle.conflict_pairs.proofs.Likeness.{has-second}
-use Rattle.conflict_pairs.proofs.kinds.Kinds.is_like.Goals as goal
-
-pub is_same-requires-then-is_same-clause-second : goal.is_same-requires-then-is_same-clause-second
-is_same-requires-then-is_same-clause-second c = has-second c.args.self.now c.args.other.now c.requires.other

@@ -1,0 +1,116 @@
+//! One value for all keys that are alike, as far as the slots remember it.
+ghost use Rattle.std.specs.Prelude.{◌≡◌, ◌<◌, ℕ, Some, slice_get, IsTrue, All, IfOk, OnOk};
+ghost use Rattle.conflict_pairs.specs.Interning.{IsServed, AreInterned};
+
+use std::alloc::{AllocError, Global};
+
+/// Makes values for keys, one for many keys that are alike.
+pub trait Interner {
+    type Key;
+
+    type Value: Drop;
+
+    /// Which keys it takes.
+    ghost takes: { Self → Self.Key → Type 0 };
+
+    /// What holds of each value that it makes.
+    ghost is_sound: { Self → Self.Value → Type 0 };
+
+    /// Which values are right for a key.
+    ghost serves: { Self → Self.Key → Self.Value → Type 0 };
+
+    /// The same number for keys that are alike, mostly another for others.
+    fn hash(&self, key: &Self::Key) -> usize
+        requires { takes self.now key.now };
+
+    /// Whether a value that was made for another key serves this one too.
+    fn is_served(&self, key: &Self::Key, value: &Self::Value) -> bool
+        requires takes { takes self.now key.now }
+        requires sound { is_sound self.now value.now }
+        ensures { IsTrue result → serves self.now key.now value.now };
+
+    fn make(&self, alloc: Global, key: &Self::Key) -> Result<Self::Value, AllocError>
+        requires { takes self.now key.now }
+        ensures sound { IfOk result (λ value. is_sound self.now value) }
+        ensures serves { IfOk result (λ value. serves self.now key.now value) };
+}
+
+/// Values, and for each key the number of one that serves it.
+#[derive(Drop)]
+pub struct Interned<V> {
+    pub values: Vec<V>,
+    pub numbers: Vec<usize>,
+}
+
+// How many numbers of values are remembered. It is a prime.
+const SLOTS: usize = 16_381;
+
+// The golden section of all numbers, which sets near ones far apart.
+const SPREAD: usize = 0x9E37_79B9_7F4A_7C15;
+
+fn slot_of(hash: usize) -> usize
+    ensures { result < 16381 }
+{
+    (hash.wrapping_mul(SPREAD) >> 32) % SLOTS
+}
+
+/// Whether the value of a number serves a key.
+fn is_remembered<I: Interner>(
+    interner: &I,
+    key: &I::Key,
+    values: &[I::Value],
+    number: usize,
+) -> bool
+    requires takes { I.takes interner.now key.now }
+    requires sound { All (I.is_sound interner.now) values.now }
+    ensures { IsTrue result → IsServed (I.serves interner.now) values.now key.now number }
+{
+    number < values.len() && interner.is_served(key, &values[number])
+}
+
+/// The number of a value that serves a key: the remembered one, or that of a new value.
+fn number_of<I: Interner>(
+    alloc: Global,
+    interner: &I,
+    key: &I::Key,
+    remembered: usize,
+    values: &mut Vec<I::Value>,
+) -> Result<usize, AllocError>
+    requires takes { I.takes interner.now key.now }
+    requires sound { All (I.is_sound interner.now) values.old.items }
+    ensures sound { OnOk result (All (I.is_sound interner.now) values.new.items) }
+    ensures served { IfOk result
+        (λ number. IsServed (I.serves interner.now) values.new.items key.now number) }
+    ensures keeps { OnOk result ((k : ℕ) (v : I.Value)
+        → slice_get values.old.items k ≡ Some v → slice_get values.new.items k ≡ Some v) }
+{
+    if is_remembered(interner, key, values, remembered) {
+        return Ok(remembered);
+    }
+    let number = values.len();
+    values.push(interner.make(alloc, key)?)?;
+    Ok(number)
+}
+
+/// Values for some keys, and which one serves each key. A slot holds the number of the last value
+/// that came there, which is tested before it is taken.
+pub fn intern_all<I: Interner>(
+    alloc: Global,
+    interner: &I,
+    keys: &[I::Key],
+) -> Result<Interned<I::Value>, AllocError>
+    requires { All (I.takes interner.now) keys.now }
+    ensures { IfOk result (λ interned. AreInterned (I.is_sound interner.now)
+        (I.serves interner.now) keys.now interned.values.items interned.numbers.items) }
+{
+    let mut slots = vec![in alloc; 0; SLOTS]?;
+    let mut values = Vec::new(alloc);
+    let mut numbers = Vec::with_capacity(alloc, keys.len())?;
+    for key in keys {
+        let slot = slot_of(interner.hash(key));
+        let number = number_of(alloc, interner, key, slots[slot], &mut values)?;
+        slots[slot] = number;
+        numbers.push(number)?;
+    }
+    Ok(Interned { values, numbers })
+}
