@@ -6,7 +6,7 @@ use Rattle.prog_tree.specs.Syntax.{DraftTree}
 use Rattle.prog_tree.specs.Table.{TableState, row_at, with_row}
 use Rattle.prog_check.specs.Faults.{program_names}
 use Rattle.history_book.specs.declared.instances.row.HistoryRow.{HistoryRow}
-use Rattle.si_engine.specs.declared.input.record_line.Outcome.{Outcome}
+use Rattle.si_engine.specs.declared.input.record_line.RecordOutcome.{RecordOutcome}
 use Rattle.si_engine.specs.declared.input.record_line.RecordLine.{RecordLine}
 use Rattle.si_engine.specs.declared.input.record_line.RecordLine.TheVariants.{Skip, Row, Record}
 use Rattle.si_engine.specs.declared.input.record_line.RecordWords.{RecordWords}
@@ -29,12 +29,12 @@ abbrev pub is_gives : List ℕ → Bool
 is_gives word = bytes_eq word (codes "gives")
 
 -- a start and replies
-abbrev pub outcome_with : List ℕ → List (List ℕ) → Option Outcome
+abbrev pub outcome_with : List ℕ → List (List ℕ) → Option RecordOutcome
 outcome_with start replies =
     option_and_then (λ n. option_map (λ ns. record { start = n; replies = ns }) (numbers_of replies)) (u64_of start)
 
 -- START gives REPLY*
-abbrev pub outcome_of : List (List ℕ) → Option Outcome
+abbrev pub outcome_of : List (List ℕ) → Option RecordOutcome
 outcome_of (start ∷ sign ∷ replies) = if is_gives sign then outcome_with start replies else None
 outcome_of words = None
 

@@ -12,7 +12,7 @@ use Rattle.std.proofs.lemmas.Slice.Eq.{slice_eq-Decides}
 use Rattle.history_book.specs.declared.instances.row.Ending.{Ending}
 use Rattle.history_book.specs.declared.instances.row.Ending.TheVariants.{Committed, Clashed, Aborted}
 use Rattle.si_workers.specs.Calls.{Call, call_of, called_in, is_same_call}
-use Rattle.si_workers.specs.Counting.{Tidings, is_clash_of, clashes_in, clashes_of, clashes_kept, clashes_told}
+use Rattle.si_workers.specs.Counting.{Tidings, is_clash_of, tries_in, clashes_of, clashes_kept, clashes_told}
 use Rattle.si_workers.specs.Outcomes.{AreAsMany, AreClashesTold, IsClashTold}
 use Rattle.si_workers.specs.declared.job.Job.{Job}
 use Rattle.si_workers.specs.declared.job.JobOutcome.{JobOutcome}
@@ -57,7 +57,7 @@ kept-told call E T (e ∷ es) h =
 told-step : (P : Type 0) (call : Call) (t : Job × Option JobOutcome) (ts : Tidings) → P ⊎ (is_same_call call (call_of t.0) ≡ false) → P ⊎ (clashes_told call ts ≡ 0) → P ⊎ (clashes_told call (t ∷ ts) ≡ 0)
 told-step P call t ts (inl h) more = inl h
 told-step P call t ts (inr none) (inl h) = inl h
-told-step P call t ts (inr none) (inr rest) = inr (sum_by-cons (clashes_of call) t ts ∙ (λ i. cond (none i) (clashes_in t.1) 0 + rest i))
+told-step P call t ts (inr none) (inr rest) = inr (sum_by-cons (clashes_of call) t ts ∙ (λ i. cond (none i) (tries_in t.1) 0 + rest i))
 
 told-kept : (call : Call) (E : List Ending) (T : Tidings) (ts : Tidings) → All (λ t. AreAsMany E T (call_of t.0)) ts → (AreAsMany E T call) ⊎ (clashes_told call ts ≡ 0)
 told-kept call E T [] h = inr refl

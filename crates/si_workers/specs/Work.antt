@@ -34,13 +34,13 @@ IsTried before after tried.Lost = after ≡ before
 IsTried before after tried.NoMemory = after ≡ before
 
 -- a commit has the replies of its run
-abbrev pub IsCommitOf : RunView → Tried → Type 0
-IsCommitOf run (tried.Committed number replies) = replies ≡ run.replies
-IsCommitOf run (tried.Aborted cause) = ⊤
-IsCommitOf run (tried.Refused why) = ⊤
-IsCommitOf run (tried.Clashed clash) = ⊤
-IsCommitOf run tried.Lost = ⊤
-IsCommitOf run tried.NoMemory = ⊤
+abbrev pub HasRepliesOf : RunView → Tried → Type 0
+HasRepliesOf run (tried.Committed number replies) = replies ≡ run.replies
+HasRepliesOf run (tried.Aborted cause) = ⊤
+HasRepliesOf run (tried.Refused why) = ⊤
+HasRepliesOf run (tried.Clashed clash) = ⊤
+HasRepliesOf run tried.Lost = ⊤
+HasRepliesOf run tried.NoMemory = ⊤
 
 -- how many instances a job ended beside those that clashed before its last try
 abbrev pub last_try : JobEnd → ℕ
@@ -50,12 +50,12 @@ last_try (end.Clashed clash) = 0
 last_try (end.Refused why) = 0
 
 -- a job has as many tries as its outcome says, and ended just so many instances; without an outcome no more
-abbrev pub IsOver : Job → (before after : ℕ) → Came → Type 0
-IsOver job before after (came.Ended outcome) =
+abbrev pub TellsTries : Job → (before after : ℕ) → Came → Type 0
+TellsTries job before after (came.Ended outcome) =
     AreRightTries job.retries outcome.clashes outcome.job_end
     × (after ≡ before + outcome.clashes + last_try outcome.job_end)
-IsOver job before after came.Lost = after ≤ before + job.retries + 1
-IsOver job before after came.NoMemory = after ≤ before + job.retries + 1
+TellsTries job before after came.Lost = after ≤ before + job.retries + 1
+TellsTries job before after came.NoMemory = after ≤ before + job.retries + 1
 
 -- the number of the job that ended was drawn; where none did no number is lost
 abbrev pub IsDrawn : (before after : List ℕ) → Drawn → Type 0

@@ -61,6 +61,7 @@ impl<'c> Counts<'c> {
         ensures { IfOk result (λ counts.
             counts ≡ record { commits = commits; endings = endings.now; tidings = tidings.now }) }
     {
+        // The endings can be counted, with one more.
         let _more = endings.len() + 1;
         let commits = told_commits(alloc, commits, tidings)?;
         let aborts = aborts_in(alloc, endings)?;

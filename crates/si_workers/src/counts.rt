@@ -3,7 +3,7 @@
 ghost use Rattle.std.specs.Prelude.{◌≡◌, ◌<◌, ◌≤◌, ◌+◌, ◌==◌, ℕ, IfOk, OnOk, count_by, length};
 ghost use Rattle.si_workers.specs.Counts.{most};
 ghost use Rattle.si_workers.specs.Calls.{call_of, is_same_call};
-ghost use Rattle.si_workers.specs.Counting.{aborts_kept, aborts_told, clashes_kept, clashes_told, clashes_in as tries_in, commits_told, names, is_abort, is_clash_of, is_clash_on, tells_abort};
+ghost use Rattle.si_workers.specs.Counting.{aborts_kept, aborts_told, clashes_kept, clashes_told, tries_in, commits_told, names, is_abort, is_clash_of, is_clash_on, tells_abort};
 ghost use Rattle.si_workers.specs.Keys.{TalliesAborts, TalliesCalls, TalliesClashes, TalliesNumbers, aborts_at, calls_at, clashes_at, noted_at, counted_if, call_at, cause_at, clash_at};
 ghost use Rattle.si_workers.specs.declared.call.AbortKey.{AbortKey};
 ghost use Rattle.si_workers.specs.declared.call.CallKey.{CallKey};

@@ -199,6 +199,7 @@ pub fn run_jobs<'a, R: Threads + Wait + Sync, G: Gate + Sync>(
     let shared = SharedBook::new(book);
     let ran = run_threads(rt, alloc, set.set(), &shared, jobs, workers, gate);
     let book = shared.into_book();
+    // What the book holds is true, as its type says.
     let _commits = book.commits();
     let Ok(done) = ran else {
         return Err(WorkFault::Memory { book: Some(book) });

@@ -3,7 +3,7 @@
 ghost use Rattle.std.specs.Prelude.{◌≡◌, ◌+◌, ◌<◌, ◌≤◌, ◌^◌, ◌*◌, ⊤, [], map, take, length, Some, IfOk, IfSome};
 ghost use Rattle.prog_tree.specs.declared.deed.End.TheVariants.{Ready};
 ghost use Rattle.job_counter.specs.Passes.{counter_of, name_of, numbers_of};
-ghost use Rattle.si_workers.specs.Work.{IsTried, IsOver, IsCommitOf, IsDrawn, AreDrawn};
+ghost use Rattle.si_workers.specs.Work.{IsTried, TellsTries, HasRepliesOf, IsDrawn, AreDrawn};
 
 use crate::desk::Desk;
 use crate::job::{Job, JobEnd, JobOutcome};
@@ -141,7 +141,7 @@ fn finish<'a, D: Desk<'a>>(
 fn commit<'a, D: Desk<'a>>(alloc: Global, desk: &mut D, ticket: Ticket, run: Run<'a>) -> Tried
     requires { D.ended desk.old < 2 ^ 63 }
     ensures ended { IsTried (D.ended desk.old) (D.ended desk.new) result }
-    ensures replies { IsCommitOf run.entry result }
+    ensures replies { HasRepliesOf run.entry result }
 {
     let Ok(replies) = Vec::from_slice(alloc, run.replies()) else {
         desk.withdraw(ticket);
@@ -226,7 +226,7 @@ pub(crate) fn run_job<'a, D: Desk<'a>>(
     job: &Job,
 ) -> Came
     requires { D.ended desk.old + 2 ^ 32 ≤ 2 ^ 63 }
-    ensures over { IsOver job.now (D.ended desk.old) (D.ended desk.new) result }
+    ensures over { TellsTries job.now (D.ended desk.old) (D.ended desk.new) result }
     ensures few { D.ended desk.new ≤ D.ended desk.old + 2 ^ 32 }
 {
     let tries = u64::from(job.retries) + 1;

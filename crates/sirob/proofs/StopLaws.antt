@@ -27,8 +27,7 @@ use Rattle.si_engine.specs.Runs.{end_lines, AddsEnd, AddsFirst, IsRunOf, IsRunRe
 use Rattle.si_engine.specs.Runs as r
 use Rattle.si_engine.specs.Sayings.{IsPartFault}
 use Rattle.si_engine.specs.Script.{script_of}
-use Rattle.si_engine.specs.Writing.{AppendsFront, WritesOr}
-use Rattle.si_engine.specs.Writing as w
+use Rattle.si_engine.specs.Writing.{AppendsFront, IsJust, WritesOr}
 use Rattle.si_workers.specs.declared.job_list.JobList.{JobList}
 use Rattle.si_workers.specs.JobLines.{jobs_of, IsJobs, IsJobsFault}
 use Rattle.sirob.specs.declared.command_line.Mode.{Mode}
@@ -41,7 +40,7 @@ use Rattle.sirob.specs.FaultLines.{fault_line, is_memory}
 use Rattle.sirob.specs.Output.{parts_wanted, Gives, IsAnalysedFor, IsRobust, GivesPart, GivesFirstPart, HasSet, MayEnd, MayRun, IsAudited, IsChecked, IsRefused, IsRefusedInput, IsRefusedPart, StopsBehind, at_once, behind_lines, memory_line, IsAnswer, done, refused, stopped, IsUnread, IsReply, WritesWithStatus}
 use Rattle.sirob.specs.Output as u
 use Rattle.sirob.specs.Status.{status_of}
-use Rattle.sirob.specs.Stops.{IsUnanalysedBy, IsUnrepairedBy, IsStop, IsReadFault, Ends, well, in_fault, in_memory, IsJust, IsSetAndPart, IsPartStop, IsPartDone, IsRefusedJobs, IsInputDone, IsSourceDone, as_command, write_lost}
+use Rattle.sirob.specs.Stops.{IsUnanalysedBy, IsUnrepairedBy, IsStop, IsReadFault, Ends, well, in_fault, in_memory, IsSetAndPart, IsPartStop, IsPartDone, IsRefusedJobs, IsInputDone, IsSourceDone, as_command, write_lost}
 
 -- ---- how reading an input stops
 
@@ -368,9 +367,9 @@ front_behind old mid new first second appends (n, more) =
 
 -- lines were written, and this end was given
 pub wrote_lines : (P : List ℕ → Result Status CommandFault → Type 0) (lines : List ℕ) (given : Result Status CommandFault) (failed : Bool) (old new : Option (List ℕ)) (ended : Result Status CommandFault)
-    → P lines given → WritesOr (Err write_lost) (w.IsJust lines given) failed old new ended → WritesOr (Err write_lost) P failed old new ended
+    → P lines given → WritesOr (Err write_lost) (IsJust lines given) failed old new ended → WritesOr (Err write_lost) P failed old new ended
 wrote_lines P lines given failed old new ended is writes =
-    writes_or_as (λ (e : Result Status CommandFault). e) (Err write_lost) (w.IsJust lines given) P failed old new ended
+    writes_or_as (λ (e : Result Status CommandFault). e) (Err write_lost) (IsJust lines given) P failed old new ended
     (λ written end just. subst (λ (l : List ℕ). P l end) (sym just.0) (subst (P lines) (sym just.1) is)) writes
 
 -- ---- what a command replies

@@ -20,10 +20,6 @@ use Rattle.sirob.specs.FaultLines.{fault_line, is_memory}
 use Rattle.sirob.specs.Output.{HasPart, Gives, GivesPart, GivesFirstPart, GivesRefusal, IsRobust, IsUnanalysed, IsUnrepaired, IsRefused, IsRefusedPart, StopsBehind, memory_line}
 use Rattle.sirob.specs.Status.{status_of}
 
--- these bytes and this status
-abbrev pub IsJust : List ℕ → Status → List ℕ → Status → Type 0
-IsJust bytes status written ended = (written ≡ bytes) × (ended ≡ status)
-
 -- the sink failed
 abbrev pub write_lost : CommandFault
 write_lost = fault.Script script_fault.WriteFault

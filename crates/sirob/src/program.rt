@@ -4,7 +4,7 @@ ghost use Rattle.std.specs.IoError.{error_kind};
 ghost use Rattle.clap.specs.Words.{kind_of};
 ghost use Rattle.sirob.specs.Output.{IsReply, WritesWithStatus, memory_line};
 ghost use Rattle.sirob.specs.Program.{is_text, IsRefusal, IsWordless, IsEnd};
-ghost use Rattle.sirob.specs.Stops.{IsJust};
+ghost use Rattle.si_engine.specs.Writing.{IsJust};
 
 use crate::command_line::{Mode, read_words};
 use crate::progress::Watched;

@@ -1,10 +1,10 @@
 //! Carries out what the words ask for, from a source to a sink.
 ghost use Rattle.std.specs.Prelude.{◌≡◌, ◌≤◌, ◌+◌, false, Err, length};
 ghost use Rattle.si_engine.specs.Reading.{input_limit};
-ghost use Rattle.si_engine.specs.Writing.{WritesOr};
+ghost use Rattle.si_engine.specs.Writing.{IsJust, WritesOr};
 ghost use Rattle.sirob.specs.FaultLines.{is_memory};
 ghost use Rattle.sirob.specs.Output.{is_work, parts_wanted, IsReply, WritesWithStatus, memory_line};
-ghost use Rattle.sirob.specs.Stops.{IsInputDone, IsSourceDone, Ends, IsJust, write_lost};
+ghost use Rattle.sirob.specs.Stops.{IsInputDone, IsSourceDone, Ends, write_lost};
 
 use crate::command_fault::{CommandFault, fault_line};
 use crate::command_line::Mode;

@@ -18,7 +18,7 @@ use std::alloc::{AllocError, Global};
 
 // The words behind `at`: how many commits the instance saw, and what it replied.
 #[derive(Drop)]
-pub struct Outcome {
+pub struct RecordOutcome {
     start: u64,
     replies: Sequence<i64>,
 }
@@ -27,7 +27,7 @@ pub struct Outcome {
 #[derive(Drop)]
 pub struct RecordWords {
     args: Sequence<i64>,
-    outcome: Outcome,
+    outcome: RecordOutcome,
 }
 
 /// What a line says.
@@ -62,7 +62,7 @@ fn args_len(words: &[Word<'_>]) -> usize
 }
 
 // The outcome, if the words are START gives REPLY*.
-fn read_outcome(alloc: Global, words: &[Word<'_>]) -> Result<Option<Outcome>, AllocError>
+fn read_outcome(alloc: Global, words: &[Word<'_>]) -> Result<Option<RecordOutcome>, AllocError>
     ensures { IfOk result (λ found. found ≡ outcome_of words.now) }
 {
     let [start, sign, replies @ ..] = words else {
@@ -77,7 +77,7 @@ fn read_outcome(alloc: Global, words: &[Word<'_>]) -> Result<Option<Outcome>, Al
     let Some(replies) = numbers(alloc, replies)? else {
         return Ok(None);
     };
-    Ok(Some(Outcome { start, replies }))
+    Ok(Some(RecordOutcome { start, replies }))
 }
 
 // The words before the first `at`, and those behind it; none if there is no `at`.
@@ -123,7 +123,7 @@ fn record_row(
     let RecordWords { args, outcome } = read_record(alloc, words)?.ok_or(LineFault::BadLine {
         line,
     })?;
-    let Outcome { start, replies } = outcome;
+    let RecordOutcome { start, replies } = outcome;
     let program = program_number(set, name.as_bytes()).ok_or(LineFault::UnknownName { line })?;
     Ok(HistoryRow {
         program,
