@@ -7,6 +7,7 @@ mod plan;
 
 pub use laws::{
     law_of_as_many_questions, law_of_edges_kept, law_of_materialising, law_of_meaning,
-    law_of_paths_with_keeps, law_of_plan_steps, law_of_plans, law_of_promoting, law_of_sizes,
+    law_of_one_plan, law_of_paths_with_keeps, law_of_plan_steps, law_of_plans, law_of_promoting,
+    law_of_sizes,
 };
 pub use plan::Pair;
