@@ -9,9 +9,9 @@ use Rattle.prog_check.specs.declared.path.Path.{Path}
 use Rattle.prog_paths.specs.StaticGraph.{IsAccessOf, AsksOf}
 use Rattle.prog_paths.specs.declared.accesses.places.Placed.{Placed}
 use Rattle.prog_paths.specs.declared.accesses.places.Question.{Question as Asked}
-use Rattle.prog_paths.specs.Asked.{asks, numbers_of, question_between, placed_from, all_from}
+use Rattle.prog_paths.specs.Asked.{asks, numbers_of, question_between, placed_from, all_from, asked_by, asked_among, questions_of}
 use Rattle.prog_paths.specs.Places.{IsAt}
-use Rattle.prog_paths.proofs.Asked.{placed, all_places_stand}
+use Rattle.prog_paths.proofs.Asked.{placed, all_places_stand, if_yes, asked_by-append, asked_among-append}
 use Rattle.prog_paths.proofs.Membership.{asks-from_Asks}
 use Rattle.prog_paths.proofs.Segments.{IsMember, member_left, member_right}
 use Rattle.conflict_pairs.specs.declared.verdicts.Verdict.{Verdict}
@@ -21,9 +21,10 @@ use Rattle.conflict_pairs.proofs.Exactness.{law_of_verdicts}
 use Rattle.repair_laws.specs.declared.plan.Pair.{Pair}
 use Rattle.repair_laws.specs.Striking.{IsOfProgram}
 use Rattle.repair_laws.specs.Keys.{ExposedOf}
-use Rattle.si_repair.specs.Exposing.{AreExposed}
-use Rattle.si_repair.specs.Gathering.{HasAccess, AreOfProgram, ArePlacesOf, MayMiss, IsExposedTo, IsExposedOf, AreExposedAmong}
+use Rattle.si_repair.specs.Exposing.{IsPart, AreExposed}
+use Rattle.si_repair.specs.Gathering.{HasAccess, ArePlacesOf, MayMiss, IsExposedTo, IsExposedOf, AreExposedAmong}
 use Rattle.si_repair.proofs.Members.{Contains-from_member}
+use Rattle.si_repair.proofs.Parts.{part-none, part-whole, part-append, part-trans, part-among}
 
 -- ---- elements
 
@@ -94,8 +95,15 @@ in_places nodes p at =
     let z : 0 + p.node ≡ p.node = omega arith in
     Contains-from_member (all_from 0 nodes) p (subst (λ (m : ℕ). IsMember (placed m p.number p.access) (all_from 0 nodes)) z (in_all 0 nodes p.node at.0 p.number p.access at.1 at.2))
 
+-- of these accesses, those on paths of a program, in order
+pub record AreOfProgram (nodes : List Path) (program : ℕ) (all places : List Placed) : Type 0 where
+  pub part : IsPart all places
+  pub only : (p : Placed) → Contains places p → Contains all p × IsOfProgram nodes program p.node
+  pub each : (p : Placed) → Contains all p → IsOfProgram nodes program p.node → Contains places p
+
 pub ArePlacesOf-from_all : (nodes : List Path) (program : ℕ) (all places : List Placed) → all ≡ all_from 0 nodes → AreOfProgram nodes program all places → ArePlacesOf nodes program places
 ArePlacesOf-from_all nodes program all places is h = record {
+  part = subst (λ (l : List Placed). IsPart l places) is h.part;
   only = λ p c. let k = h.only p c in (All-contains (λ (q : Placed). IsAt nodes q) (all_from 0 nodes) p (all_places_stand nodes) (subst (λ (l : List Placed). Contains l p) is k.0), k.1);
   each = λ p at of. h.each p (subst (λ (l : List Placed). Contains l p) (sym is) (in_places nodes p at)) of;
 }
@@ -114,8 +122,13 @@ program-of nodes x program d h = ap (λ (p : Path). p.program) (get_or_from_slic
 
 module _ (nodes : List Path) (program : ℕ) (all places : List Placed) (n : ℕ) (d : Placed) (lt : n < length all) (h : AreOfProgram nodes program (take n all) places) where
   pub AreOfProgram-more : (more : List Placed) → IsOfProgram nodes program (get_or all n d).node → more ≡ places ++ get_or all n d ∷ [] → AreOfProgram nodes program (take (n + 1) all) more
-  AreOfProgram-more more here added = subst (λ (l : List Placed). AreOfProgram nodes program (take (n + 1) all) l) (sym added) (record { only = only; each = each })
+  AreOfProgram-more more here added = subst (λ (l : List Placed). AreOfProgram nodes program (take (n + 1) all) l) (sym added) (record { part = part; only = only; each = each })
     where
+      part : IsPart (take (n + 1) all) (places ++ get_or all n d ∷ [])
+      part =
+          subst (λ (l : List Placed). IsPart l (places ++ get_or all n d ∷ [])) (sym (take_more all n d lt))
+          (part-append (take n all) (get_or all n d ∷ []) places (get_or all n d ∷ []) h.part (part-whole (get_or all n d ∷ [])))
+
       only : (p : Placed) → Contains (places ++ get_or all n d ∷ []) p → Contains (take (n + 1) all) p × IsOfProgram nodes program p.node
       only p c = go (Contains-push_cases places (get_or all n d) p c)
         where
@@ -131,8 +144,14 @@ module _ (nodes : List Path) (program : ℕ) (all places : List Placed) (n : ℕ
           go (inr k) = subst (λ (q : Placed). Contains (places ++ get_or all n d ∷ []) q) k (Contains-push places (get_or all n d))
 
   pub AreOfProgram-same : (more : List Placed) → (IsOfProgram nodes program (get_or all n d).node → ⊥) → more ≡ places → AreOfProgram nodes program (take (n + 1) all) more
-  AreOfProgram-same more other is = subst (λ (l : List Placed). AreOfProgram nodes program (take (n + 1) all) l) (sym is) (record { only = λ p c. let o = h.only p c in (still_first n all d p lt o.0, o.1); each = each })
+  AreOfProgram-same more other is = subst (λ (l : List Placed). AreOfProgram nodes program (take (n + 1) all) l) (sym is) (record { part = part; only = λ p c. let o = h.only p c in (still_first n all d p lt o.0, o.1); each = each })
     where
+      part : IsPart (take (n + 1) all) places
+      part =
+          subst (λ (l : List Placed). IsPart l places) (sym (take_more all n d lt))
+          (subst (λ (l : List Placed). IsPart (take n all ++ get_or all n d ∷ []) l) (append-nil places)
+          (part-append (take n all) (get_or all n d ∷ []) places [] h.part (part-none (get_or all n d ∷ []))))
+
       each : (p : Placed) → Contains (take (n + 1) all) p → IsOfProgram nodes program p.node → Contains places p
       each p c of = go (among_first n all d p lt c)
         where
@@ -141,7 +160,7 @@ module _ (nodes : List Path) (program : ℕ) (all places : List Placed) (n : ℕ
           go (inr k) = absurd (other (subst (λ (q : Placed). IsOfProgram nodes program q.node) (sym k) of))
 
 pub AreOfProgram-none : (nodes : List Path) (program : ℕ) (all places : List Placed) → places ≡ [] → AreOfProgram nodes program (take 0 all) places
-AreOfProgram-none nodes program all places is = subst (λ (l : List Placed). AreOfProgram nodes program [] l) (sym is) (record { only = λ p c. absurd (nothing p c); each = λ p c of. absurd (nothing p c) })
+AreOfProgram-none nodes program all places is = subst (λ (l : List Placed). AreOfProgram nodes program [] l) (sym is) (record { part = refl; only = λ p c. absurd (nothing p c); each = λ p c of. absurd (nothing p c) })
 
 pub AreOfProgram-all : (nodes : List Path) (program : ℕ) (all places : List Placed) (n : ℕ) → length all ≤ n → AreOfProgram nodes program (take n all) places → AreOfProgram nodes program all places
 AreOfProgram-all nodes program all places n le h = subst (λ (l : List Placed). AreOfProgram nodes program l places) (take_all n all le) h
@@ -167,19 +186,21 @@ exposed-from_verdict nodes first second v at_first at_second misses right =
 
 module _ (nodes : List Path) where
   pub among-no_firsts : (ys : List Placed) → AreExposedAmong nodes [] ys []
-  among-no_firsts ys = record { only = λ q c. absurd (nothing q c); each = λ x y i j e. absurd (nothing x i) }
+  among-no_firsts ys = record { part = refl; only = λ q c. absurd (nothing q c); each = λ x y i j e. absurd (nothing x i) }
 
   pub among-no_seconds : (xs : List Placed) → AreExposedAmong nodes xs [] []
-  among-no_seconds xs = record { only = λ q c. absurd (nothing q c); each = λ x y i j e. absurd (nothing y j) }
+  among-no_seconds xs = record { part = part-none (asked_among xs []); only = λ q c. absurd (nothing q c); each = λ x y i j e. absurd (nothing y j) }
 
   pub among-exposed : (x y : Placed) → IsExposedTo nodes x y → AreExposedAmong nodes (x ∷ []) (y ∷ []) (question_between x y ∷ [])
   among-exposed x y e = record {
+    part = subst (λ (l : List Asked). IsPart (l ++ []) (question_between x y ∷ [])) (sym (if_yes (asks x y) (question_between x y) [] (asks-from_misses x y e.misses))) (part-whole (question_between x y ∷ []));
     only = λ q c. record { first = x; second = y; in_firsts = just_one x; in_seconds = just_one y; exposed = e; is = sym (only_one (question_between x y) q c) };
     each = λ v w i j h. subst (λ (p : Placed). Contains (question_between x y ∷ []) (question_between p w)) (only_one x v i) (subst (λ (p : Placed). Contains (question_between x y ∷ []) (question_between x p)) (only_one y w j) (just_one (question_between x y)));
   }
 
   pub among-unexposed : (x y : Placed) → (IsExposedTo nodes x y → ⊥) → AreExposedAmong nodes (x ∷ []) (y ∷ []) []
   among-unexposed x y n = record {
+    part = part-none (asked_among (x ∷ []) (y ∷ []));
     only = λ q c. absurd (nothing q c);
     each = λ v w i j h. absurd (n (subst (λ (p : Placed). IsExposedTo nodes p y) (sym (only_one x v i)) (subst (λ (p : Placed). IsExposedTo nodes v p) (sym (only_one y w j)) h)));
   }
@@ -191,8 +212,13 @@ module _ (nodes : List Path) where
   second_moved xs ys zs q move e = record { first = e.first; second = e.second; in_firsts = e.in_firsts; in_seconds = move e.second e.in_seconds; exposed = e.exposed; is = e.is }
 
   pub among-firsts : (xs ys zs : List Placed) (qs rs : List Asked) → AreExposedAmong nodes xs zs qs → AreExposedAmong nodes ys zs rs → AreExposedAmong nodes (xs ++ ys) zs (qs ++ rs)
-  among-firsts xs ys zs qs rs h k = record { only = only; each = each }
+  among-firsts xs ys zs qs rs h k = record { part = part; only = only; each = each }
     where
+      part : IsPart (asked_among (xs ++ ys) zs) (qs ++ rs)
+      part =
+          subst (λ (l : List Asked). IsPart l (qs ++ rs)) (sym (asked_among-append xs ys zs))
+          (part-append (asked_among xs zs) (asked_among ys zs) qs rs h.part k.part)
+
       only : (q : Asked) → Contains (qs ++ rs) q → IsExposedOf nodes (xs ++ ys) zs q
       only q c = go (Contains-append_cases qs rs q c)
         where
@@ -207,9 +233,23 @@ module _ (nodes : List Path) where
           go (inl l) = Contains-append_left qs rs _ (h.each first second l j e)
           go (inr r) = Contains-append_right qs rs _ (k.each first second r j e)
 
-  pub among-seconds : (xs ys zs : List Placed) (qs rs : List Asked) → AreExposedAmong nodes xs ys qs → AreExposedAmong nodes xs zs rs → AreExposedAmong nodes xs (ys ++ zs) (qs ++ rs)
-  among-seconds xs ys zs qs rs h k = record { only = only; each = each }
+  -- what one access asks
+  asked-alone : (x : Placed) (ys : List Placed) → asked_among (x ∷ []) ys ≡ asked_by x ys
+  asked-alone x ys = append-nil (asked_by x ys)
+
+  pub among-seconds : (x : Placed) (ys zs : List Placed) (qs rs : List Asked) → AreExposedAmong nodes (x ∷ []) ys qs → AreExposedAmong nodes (x ∷ []) zs rs → AreExposedAmong nodes (x ∷ []) (ys ++ zs) (qs ++ rs)
+  among-seconds x ys zs qs rs h k = record { part = part; only = only; each = each }
     where
+      xs : List Placed
+      xs = x ∷ []
+
+      part : IsPart (asked_among (x ∷ []) (ys ++ zs)) (qs ++ rs)
+      part =
+          subst (λ (l : List Asked). IsPart l (qs ++ rs)) (sym (asked-alone x (ys ++ zs) ∙ asked_by-append x ys zs))
+          (part-append (asked_by x ys) (asked_by x zs) qs rs
+          (subst (λ (l : List Asked). IsPart l qs) (asked-alone x ys) h.part)
+          (subst (λ (l : List Asked). IsPart l rs) (asked-alone x zs) k.part))
+
       only : (q : Asked) → Contains (qs ++ rs) q → IsExposedOf nodes xs (ys ++ zs) q
       only q c = go (Contains-append_cases qs rs q c)
         where
@@ -229,13 +269,13 @@ module _ (nodes : List Path) where
   more-exposed x n ys d qs more lt e added h =
       subst (λ (l : List Placed). AreExposedAmong nodes (x ∷ []) l more) (sym (take_more ys n d lt))
       (subst (λ (l : List Asked). AreExposedAmong nodes (x ∷ []) (take n ys ++ get_or ys n d ∷ []) l) (sym added)
-      (among-seconds (x ∷ []) (take n ys) (get_or ys n d ∷ []) qs (question_between x (get_or ys n d) ∷ []) h (among-exposed x (get_or ys n d) e)))
+      (among-seconds x (take n ys) (get_or ys n d ∷ []) qs (question_between x (get_or ys n d) ∷ []) h (among-exposed x (get_or ys n d) e)))
 
   pub more-unexposed : (x : Placed) (n : ℕ) (ys : List Placed) (d : Placed) (qs more : List Asked) → n < length ys → (IsExposedTo nodes x (get_or ys n d) → ⊥) → more ≡ qs → AreExposedAmong nodes (x ∷ []) (take n ys) qs → AreExposedAmong nodes (x ∷ []) (take (n + 1) ys) more
   more-unexposed x n ys d qs more lt e is h =
       subst (λ (l : List Placed). AreExposedAmong nodes (x ∷ []) l more) (sym (take_more ys n d lt))
       (subst (λ (l : List Asked). AreExposedAmong nodes (x ∷ []) (take n ys ++ get_or ys n d ∷ []) l) (append-nil qs ∙ sym is)
-      (among-seconds (x ∷ []) (take n ys) (get_or ys n d ∷ []) qs [] h (among-unexposed x (get_or ys n d) e)))
+      (among-seconds x (take n ys) (get_or ys n d ∷ []) qs [] h (among-unexposed x (get_or ys n d) e)))
 
   -- one more access at the end of the firsts
   pub more-firsts : (n : ℕ) (xs ys : List Placed) (d : Placed) (qs rs more : List Asked) → n < length xs → AreExposedAmong nodes (get_or xs n d ∷ []) ys rs → more ≡ qs ++ rs → AreExposedAmong nodes (take n xs) ys qs → AreExposedAmong nodes (take (n + 1) xs) ys more
@@ -247,8 +287,11 @@ module _ (nodes : List Path) where
   -- ---- the questions of a pair
 
   pub AreExposed-from_places : (pair : Pair) (xs ys : List Placed) (qs : List Asked) → ArePlacesOf nodes pair.from xs → ArePlacesOf nodes pair.to ys → AreExposedAmong nodes xs ys qs → AreExposed nodes pair qs
-  AreExposed-from_places pair xs ys qs firsts seconds h = record { only = only; each = each }
+  AreExposed-from_places pair xs ys qs firsts seconds h = record { part = part; only = only; each = each }
     where
+      part : IsPart (questions_of nodes) qs
+      part = part-trans (questions_of nodes) (asked_among xs ys) qs (part-among (all_from 0 nodes) xs ys firsts.part seconds.part) h.part
+
       only : (q : Asked) → Contains qs q → (e : ExposedOf nodes pair) × (e.question.question ≡ numbers_of q)
       only q c =
           let b = h.only q c in

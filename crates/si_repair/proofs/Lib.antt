@@ -1,4 +1,5 @@
 pub mod Members
+pub mod Parts
 pub mod Telling
 pub mod Leaving
 pub mod Accepting
@@ -12,6 +13,7 @@ pub mod Gathering
 pub mod Ranking
 pub mod Marking
 pub mod Naming
+pub mod Repaired
 pub mod Putting
 pub mod Meetings
 pub mod Behind

@@ -14,26 +14,20 @@ use Rattle.prog_check.specs.Faults.{table_names, first_fault}
 use Rattle.prog_check.specs.Names.{is_among}
 use Rattle.prog_check.specs.Paths.{paths_of}
 use Rattle.prog_check.specs.Sound.{IsSound}
-use Rattle.prog_paths.specs.Asked.{questions_of}
-use Rattle.prog_paths.specs.StaticGraph.{IsDangerous}
 use Rattle.repair_laws.specs.declared.plan.Pair.{Pair}
 use Rattle.repair_laws.specs.Keys.{IsKeyOf, IsLeastForced}
 use Rattle.repair_laws.specs.Materialised.{Met, mat_name, IsLeastFree, AreLeastFree, params_of, HasKey, AreMet, all_with_front, materialised_by, IsMaterialised}
-use Rattle.repair_laws.specs.Plans.{IsPlan}
 use Rattle.repair_laws.specs.Refusals.{IsTooLarge, IsTooLargeBy, Reason, StopsMaterialising, IsFirstStop}
 use Rattle.repair_laws.specs.Refusals as why
 use Rattle.repair_laws.specs.Sizes.{IsOfSize, IsOfSizeAlone}
-use Rattle.repair_laws.proofs.Counting.{law_of_as_many_questions}
-use Rattle.repair_laws.proofs.GraphLaws.{law_of_struck_pairs}
 use Rattle.repair_laws.proofs.Materialising.{law_of_materialising}
-use Rattle.repair_laws.proofs.Meanings.{law_of_meaning}
-use Rattle.repair_laws.proofs.PathLaws.{law_of_paths_kept}
 use Rattle.repair_laws.proofs.RightLaws.{law_of_repair_sizes}
 use Rattle.si_repair.specs.declared.repairs.fault.RepairFault.{RepairFault}
 use Rattle.si_repair.specs.declared.repairs.fault.RepairFault.TheVariants as fault
 use Rattle.si_repair.specs.Carrying.{new_names, taken_names}
 use Rattle.si_repair.specs.Checking.{IsRefusedAt}
-use Rattle.si_repair.specs.Repairing.{KeepsAllMeaning, StopsNowhere, IsRepairFault}
+use Rattle.si_repair.specs.Repairing.{IsSafeRepair, StopsNowhere, IsRepairFault}
+use Rattle.si_repair.proofs.Repaired.{safe_repair}
 
 -- ---- one name and one key
 
@@ -197,16 +191,5 @@ place_next items plan n d e inside = subst (λ (l : List Pair). slice_get l n �
 
 -- ---- what is promised of the result
 
-pub record IsGoodRepair (draft : DraftTree) (plan : List Pair) (result : DraftTree) : Type 0 where
-  pub meaning : KeepsAllMeaning draft result
-  pub robust : IsPlan (paths_of draft) plan → IsDangerous (paths_of result) → ⊥
-  pub questions : length (questions_of (paths_of result)) ≡ length (questions_of (paths_of draft))
-
-pub good_repair : (draft : DraftTree) (plan : List Pair) (result : DraftTree) → IsSound draft → IsMaterialised draft plan result → IsGoodRepair draft plan result
-good_repair draft plan result sound made =
-    let repairs = law_of_materialising draft plan result sound made in
-    let paths = law_of_paths_kept draft result sound repairs.is_repair in record {
-      meaning = law_of_meaning draft result sound repairs.is_repair;
-      robust = λ is_plan dangerous. law_of_struck_pairs (paths_of draft) (paths_of result) plan paths is_plan repairs.has_none dangerous;
-      questions = law_of_as_many_questions (paths_of draft) (paths_of result) paths;
-    }
+pub materialised_safe : (draft : DraftTree) (plan : List Pair) (result : DraftTree) → IsSound draft → IsMaterialised draft plan result → IsSafeRepair draft plan result
+materialised_safe draft plan result sound made = safe_repair draft plan result sound (law_of_materialising draft plan result sound made)

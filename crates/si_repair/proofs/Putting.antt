@@ -14,7 +14,7 @@ use Rattle.prog_check.specs.declared.path.Path.{Path}
 use Rattle.prog_check.specs.Paths.{paths_of}
 use Rattle.repair_laws.specs.declared.plan.Pair.{Pair}
 use Rattle.repair_laws.specs.Keys.{IsKeyOf}
-use Rattle.repair_laws.specs.Materialised.{Met, first_of, second_of, is_one, keeps_for, in_front, count_params, params_of, with_front, all_with_front, HasKey}
+use Rattle.repair_laws.specs.Materialised.{Met, first_of, second_of, is_one, keeps_for, in_front, count_params, params_of, with_front, all_with_front, HasKey, kept_columns}
 use Rattle.si_repair.specs.declared.repairs.keeps.Meeting.{Meeting}
 use Rattle.si_repair.specs.Carrying.{met_of, all_met, IsColumn, HasColumns, HaveColumns}
 
@@ -101,7 +101,7 @@ second-inside nodes pair firsts seconds (Some k) h = h.second_inside
 
 -- so each program has the parameters that it keeps
 columns_of : (draft : DraftTree) (n : ℕ) (p : ProgramTree) → slice_get draft.programs n ≡ Some p → (m : Met) → HasKey draft m → HasColumns n (length p.params) m
-columns_of draft n p at m key = go (m.pair.from == n) refl (m.pair.to == n) refl (is_one m.key)
+columns_of draft n p at m key = go (m.pair.from == n) refl (m.pair.to == n) refl
   where
     own : params_of draft n ≡ length p.params
     own = ap count_params at
@@ -115,13 +115,15 @@ columns_of draft n p at m key = go (m.pair.from == n) refl (m.pair.to == n) refl
     one : (column : Option ℕ) → IsColumn (length p.params) column → All (IsColumn (length p.params)) (column ∷ [])
     one column h = All-cons (IsColumn (length p.params)) column [] h (All-nil (IsColumn (length p.params)))
 
-    go : (a : Bool) → (m.pair.from == n) ≡ a → (b : Bool) → (m.pair.to == n) ≡ b → (c : Bool)
-        → All (IsColumn (length p.params)) (if a then (if b then (if c then first_of m.key ∷ [] else first_of m.key ∷ second_of m.key ∷ []) else first_of m.key ∷ []) else (if b then second_of m.key ∷ [] else []))
-    go true e true f true = one (first_of m.key) (first e)
-    go true e true f false = All-cons (IsColumn (length p.params)) (first_of m.key) (second_of m.key ∷ []) (first e) (one (second_of m.key) (second f))
-    go true e false f c = one (first_of m.key) (first e)
-    go false e true f c = one (second_of m.key) (second f)
-    go false e false f c = All-nil (IsColumn (length p.params))
+    both : (m.pair.from == n) ≡ true → (m.pair.to == n) ≡ true → (c : Bool) → All (IsColumn (length p.params)) (if c then first_of m.key ∷ [] else first_of m.key ∷ second_of m.key ∷ [])
+    both e f true = one (first_of m.key) (first e)
+    both e f false = All-cons (IsColumn (length p.params)) (first_of m.key) (second_of m.key ∷ []) (first e) (one (second_of m.key) (second f))
+
+    go : (a : Bool) → (m.pair.from == n) ≡ a → (b : Bool) → (m.pair.to == n) ≡ b → All (IsColumn (length p.params)) (kept_columns a b m.key)
+    go true e true f = both e f (is_one m.key)
+    go true e false f = one (first_of m.key) (first e)
+    go false e true f = one (second_of m.key) (second f)
+    go false e false f = All-nil (IsColumn (length p.params))
 
 pub columns_from_keys : (draft : DraftTree) (made : List Met) → All (HasKey draft) made → HaveColumns draft.programs made
 columns_from_keys draft made keys n p at = All-weaker (HasKey draft) (HasColumns n (length p.params)) (columns_of draft n p at) made keys

@@ -13,30 +13,23 @@ use Rattle.prog_check.specs.declared.fault.CheckFault.TheVariants.{DuplicateTabl
 use Rattle.prog_check.specs.Faults.{first_fault}
 use Rattle.prog_check.specs.Paths.{paths_of}
 use Rattle.prog_check.specs.Sound.{IsSound}
-use Rattle.prog_paths.specs.Asked.{questions_of}
-use Rattle.prog_paths.specs.StaticGraph.{IsDangerous}
 use Rattle.repair_laws.specs.declared.plan.Pair.{Pair}
 use Rattle.repair_laws.specs.Promoted.{MarksExposed, promoted_by, IsPromoted}
 use Rattle.repair_laws.specs.Refusals.{HasRangeRead, HasUnknownRead, HasBodyRead, IsTooLarge, IsTooLargeBy, Reason, StopsPromotion, IsFirstStop}
 use Rattle.repair_laws.specs.Refusals as why
-use Rattle.repair_laws.specs.Plans.{IsPlan}
-use Rattle.repair_laws.specs.PathsKept.{ArePathsKept}
 use Rattle.repair_laws.specs.Safety.{MayPromote, Repairs}
 use Rattle.repair_laws.specs.Sizes.{IsOfSize, IsOfSizeAlone}
-use Rattle.repair_laws.proofs.Meanings.{law_of_meaning}
-use Rattle.repair_laws.proofs.PathLaws.{law_of_paths_kept}
-use Rattle.repair_laws.proofs.GraphLaws.{law_of_struck_pairs}
 use Rattle.repair_laws.proofs.Promoting.{law_of_promoting}
-use Rattle.repair_laws.proofs.Counting.{law_of_as_many_questions}
 use Rattle.repair_laws.proofs.RightLaws.{law_of_repair_sizes}
 use Rattle.si_repair.specs.declared.repairs.fault.RepairFault.{RepairFault}
 use Rattle.si_repair.specs.declared.repairs.fault.RepairFault.TheVariants as fault
 use Rattle.si_repair.specs.Exposing.{IsObstacle}
 use Rattle.si_repair.specs.Checking.{IsRefusedAt}
 use Rattle.si_repair.specs.Promoting.{AddsReads, HasFewStatements, IsObstacleFault}
-use Rattle.si_repair.specs.Repairing.{KeepsAllMeaning, StopsNowhere, IsRepairFault}
+use Rattle.si_repair.specs.Repairing.{IsSafeRepair, StopsNowhere, IsRepairFault}
 use Rattle.si_repair.proofs.Behind.{none_marked, promoted-none}
 use Rattle.si_repair.proofs.Marks.{marks-none, marks-more, marks-same}
+use Rattle.si_repair.proofs.Repaired.{safe_repair}
 
 -- a plan has one promoted draft
 pub one_promoted : (draft : DraftTree) (plan : List Pair) (a b : DraftTree) → IsPromoted draft plan a → IsPromoted draft plan b → a ≡ b
@@ -286,23 +279,9 @@ repairs_whole draft plan n marked result sound all h =
     (subst (λ (l : List Pair). MayPromote draft l) (take_all n plan all) (may_promote draft plan n h.passed))
     (promoted_whole draft plan n marked result all h)
 
-pub whole_meaning : (draft : DraftTree) (plan : List Pair) (n : ℕ) (marked : ℕ → ℕ → Bool) (result : DraftTree) → IsSound draft → length plan ≤ n → IsPromotedTo draft plan n marked result
-    → KeepsAllMeaning draft result
-whole_meaning draft plan n marked result sound all h = law_of_meaning draft result sound (repairs_whole draft plan n marked result sound all h).is_repair
-
-paths_kept : (draft : DraftTree) (plan : List Pair) (result : DraftTree) → IsSound draft → Repairs draft plan result → ArePathsKept (paths_of draft) (paths_of result)
-paths_kept draft plan result sound r = law_of_paths_kept draft result sound r.is_repair
-
-pub whole_robust : (draft : DraftTree) (plan : List Pair) (n : ℕ) (marked : ℕ → ℕ → Bool) (result : DraftTree) → IsSound draft → length plan ≤ n → IsPromotedTo draft plan n marked result
-    → IsPlan (paths_of draft) plan → IsDangerous (paths_of result) → ⊥
-whole_robust draft plan n marked result sound all h is_plan =
-    let r = repairs_whole draft plan n marked result sound all h in
-    law_of_struck_pairs (paths_of draft) (paths_of result) plan (paths_kept draft plan result sound r) is_plan r.has_none
-
-pub whole_questions : (draft : DraftTree) (plan : List Pair) (n : ℕ) (marked : ℕ → ℕ → Bool) (result : DraftTree) → IsSound draft → length plan ≤ n → IsPromotedTo draft plan n marked result
-    → length (questions_of (paths_of result)) ≡ length (questions_of (paths_of draft))
-whole_questions draft plan n marked result sound all h =
-    law_of_as_many_questions (paths_of draft) (paths_of result) (paths_kept draft plan result sound (repairs_whole draft plan n marked result sound all h))
+pub promoted_safe : (draft : DraftTree) (plan : List Pair) (n : ℕ) (marked : ℕ → ℕ → Bool) (result : DraftTree) → IsSound draft → length plan ≤ n → IsPromotedTo draft plan n marked result
+    → IsSafeRepair draft plan result
+promoted_safe draft plan n marked result sound all h = safe_repair draft plan result sound (repairs_whole draft plan n marked result sound all h)
 
 -- ---- programs of a sound draft
 

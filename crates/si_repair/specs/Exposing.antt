@@ -1,17 +1,24 @@
 -- The exposed questions of a pair of programs, as a list.
-use Rattle.std.specs.Prelude.{◌≡◌, List, Contains, Option, Some, None}
+use Rattle.std.specs.Prelude.{◌≡◌, ◌⊎◌, List, [], ◌∷◌, Contains, Option, Some, None}
 use Rattle.prog_tree.specs.Syntax.{DraftTree}
 use Rattle.prog_check.specs.declared.path.Path.{Path}
 use Rattle.prog_paths.specs.declared.accesses.places.Question.{Question as Asked}
-use Rattle.prog_paths.specs.Asked.{numbers_of}
+use Rattle.prog_paths.specs.Asked.{numbers_of, questions_of}
 use Rattle.repair_laws.specs.declared.plan.Pair.{Pair}
 use Rattle.repair_laws.specs.Keys.{ExposedOf}
 use Rattle.repair_laws.specs.Refusals.{HasRangeRead, HasUnknownRead, HasBodyRead}
 use Rattle.si_repair.specs.declared.repairs.reads.Obstacle.{Obstacle}
 use Rattle.si_repair.specs.declared.repairs.reads.Obstacle.TheVariants.{RangeRead, UnknownKey, BodyRead}
 
--- these are the exposed questions of the pair: each one listed is, and each is listed
+-- a part of a list has some of its elements, in its order
+abbrev pub IsPart : {A : Type 0} → (whole part : List A) → Type 0
+IsPart [] part = part ≡ []
+IsPart {A = A} (x ∷ rest) part = IsPart rest part ⊎ ((tail : List A) × (part ≡ x ∷ tail) × IsPart rest tail)
+
+-- these are the exposed questions of the pair: some of all questions of the paths, in their order; each one listed is
+-- exposed, and each is listed
 pub record AreExposed (nodes : List Path) (pair : Pair) (questions : List Asked) : Type 0 where
+  pub part : IsPart (questions_of nodes) questions
   pub only : (q : Asked) → Contains questions q → (e : ExposedOf nodes pair) × (e.question.question ≡ numbers_of q)
   pub each : (e : ExposedOf nodes pair) → (q : Asked) × Contains questions q × (e.question.question ≡ numbers_of q)
 

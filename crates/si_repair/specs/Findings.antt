@@ -1,19 +1,21 @@
 -- What an analysis has to find of a list of paths.
-use Rattle.std.specs.Prelude.{◌⊎◌, ℕ, ◌<◌, List, length, All}
+use Rattle.std.specs.Prelude.{◌⊎◌, ℕ, ◌<◌, ◌≤◌, List, length, slice_index_or, All}
+use Rattle.prog_tree.specs.Syntax.{DraftTree}
 use Rattle.prog_check.specs.declared.path.Access.{Access}
 use Rattle.prog_check.specs.declared.path.Path.{Path}
+use Rattle.prog_check.specs.Paths.{paths_of}
 use Rattle.prog_paths.specs.Meeting.{CanMeet}
 use Rattle.prog_paths.specs.StaticGraph.{AsksOf, AsksReadWrite, IsCovered, StaticEdge, Leads}
 use Rattle.prog_paths.specs.StaticGraph as graph
 use Rattle.prog_paths.specs.Questions.{question_facts}
-use Rattle.prog_paths.specs.Asked.{IsQuestion}
+use Rattle.prog_paths.specs.Asked.{IsQuestion, questions_of, limit}
 use Rattle.conflict_pairs.specs.Verdicts.{FallsShortest, IsShortest, IsLeastCover}
 use Rattle.dep_graph.specs.Counting.{IsCountOf}
 use Rattle.dep_graph.specs.Danger.{IsLeastDanger}
 use Rattle.robust_cert.specs.declared.certificate.Entry.{Entry}
 use Rattle.robust_cert.specs.declared.certificate.Entry.TheVariants.{Apart, Cover}
 use Rattle.robust_cert.specs.declared.certificate.Certificate.{Certificate}
-use Rattle.robust_cert.specs.Accepted.{numbers_told, IsTold, level_of, IsAccepted}
+use Rattle.robust_cert.specs.Accepted.{numbers_told, IsTold, IsAccepted}
 use Rattle.si_repair.specs.declared.finding.Finding.{Finding}
 use Rattle.si_repair.specs.declared.finding.Finding.TheVariants.{Robust, Refused}
 
@@ -21,6 +23,14 @@ use Rattle.si_repair.specs.declared.finding.Finding.TheVariants.{Robust, Refused
 abbrev pub IsHarmless : List Path → graph.Question → Access → Access → Type 0
 IsHarmless nodes q mine theirs =
     (CanMeet mine theirs → ⊥) ⊎ (AsksReadWrite q mine.kind theirs.kind × IsCovered nodes q.x q.y mine theirs)
+
+-- a set asks no more questions than an analysis answers
+abbrev pub AsksFew : DraftTree → Type 0
+AsksFew draft = length (questions_of (paths_of draft)) ≤ limit
+
+-- it asks more
+abbrev pub AsksTooMany : DraftTree → Type 0
+AsksTooMany draft = limit < length (questions_of (paths_of draft))
 
 -- an entry says apart of a question that can't meet, and else names the least cover; its chains have the fewest nodes
 abbrev pub IsOwnEntry : List Path → Entry → Type 0
@@ -38,12 +48,16 @@ TellsEach nodes entries =
     (q : graph.Question) → IsQuestion nodes q → (mine theirs : Access) → AsksOf nodes q mine theirs
     → IsHarmless nodes q mine theirs → IsTold entries q
 
--- the certificate of a list of paths: an entry for each harmless question, and for each node the number of nodes that
--- lead to it, itself counted
+-- for each node the number of nodes that lead to it, itself counted
+abbrev pub AreCounted : List Path → (levels : List ℕ) → Type 0
+AreCounted nodes levels =
+    (x : ℕ) → x < length nodes → IsCountOf (λ u. Leads (StaticEdge nodes) u x) (length nodes) (slice_index_or levels x 0)
+
+-- the certificate of a list of paths: an entry for each harmless question, and the levels of the nodes
 pub record IsCertificateOf (nodes : List Path) (c : Certificate) : Type 0 where
   pub own : All (IsOwnEntry nodes) c.entries
   pub each : TellsEach nodes c.entries
-  pub levels : (x : ℕ) → x < length nodes → IsCountOf (λ u. Leads (StaticEdge nodes) u x) (length nodes) (level_of c x)
+  pub levels : AreCounted nodes c.levels
 
 -- the checker accepts the certificate, which is that of the paths; or the structure is the least dangerous one
 abbrev pub IsRightFinding : List Path → Finding → Type 0

@@ -6,8 +6,9 @@ use Rattle.prog_paths.specs.StaticGraph.{IsAccessOf, AsksReadWrite, IsExposed}
 use Rattle.prog_paths.specs.Places.{IsAt}
 use Rattle.prog_paths.specs.declared.accesses.places.Placed.{Placed}
 use Rattle.prog_paths.specs.declared.accesses.places.Question.{Question as Asked}
-use Rattle.prog_paths.specs.Asked.{numbers_of, question_between}
+use Rattle.prog_paths.specs.Asked.{numbers_of, question_between, all_from, asked_among}
 use Rattle.repair_laws.specs.Striking.{IsOfProgram}
+use Rattle.si_repair.specs.Exposing.{IsPart}
 
 -- the access of this number on the path of this node is there
 abbrev pub HasAccess : List Path → ℕ → ℕ → Type 0
@@ -21,13 +22,9 @@ HasRead nodes q = HasAccess nodes q.x q.a
 abbrev pub HasBoth : List Path → Asked → Type 0
 HasBoth nodes q = HasAccess nodes q.x q.a × HasAccess nodes q.y q.b
 
--- of these accesses, those on paths of a program
-pub record AreOfProgram (nodes : List Path) (program : ℕ) (all places : List Placed) : Type 0 where
-  pub only : (p : Placed) → Contains places p → Contains all p × IsOfProgram nodes program p.node
-  pub each : (p : Placed) → Contains all p → IsOfProgram nodes program p.node → Contains places p
-
--- the accesses on a program's paths, at their places
+-- the accesses on a program's paths, at their places and in order
 pub record ArePlacesOf (nodes : List Path) (program : ℕ) (places : List Placed) : Type 0 where
+  pub part : IsPart (all_from 0 nodes) places
   pub only : (p : Placed) → Contains places p → IsAt nodes p × IsOfProgram nodes program p.node
   pub each : (p : Placed) → IsAt nodes p → IsOfProgram nodes program p.node → Contains places p
 
@@ -50,8 +47,9 @@ pub record IsExposedOf (nodes : List Path) (firsts seconds : List Placed) (q : A
   pub exposed : IsExposedTo nodes first second
   pub is : q ≡ question_between first second
 
--- all such questions
+-- all such questions, by the first access and then by the second
 pub record AreExposedAmong (nodes : List Path) (firsts seconds : List Placed) (questions : List Asked) : Type 0 where
+  pub part : IsPart (asked_among firsts seconds) questions
   pub only : (q : Asked) → Contains questions q → IsExposedOf nodes firsts seconds q
   pub each : (first second : Placed) → Contains firsts first → Contains seconds second → IsExposedTo nodes first second
       → Contains questions (question_between first second)

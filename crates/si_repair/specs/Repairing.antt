@@ -3,8 +3,12 @@ use Rattle.std.specs.Prelude.{◌≡◌, ℕ, ℤ, ◌<◌, List, length, Some, 
 use Rattle.prog_tree.specs.Syntax.{ProgramTree, DraftTree}
 use Rattle.prog_tree.specs.Table.{TableState}
 use Rattle.prog_tree.specs.Evaluation.{eval}
+use Rattle.prog_check.specs.Paths.{paths_of}
+use Rattle.prog_paths.specs.Asked.{questions_of}
+use Rattle.prog_paths.specs.StaticGraph.{IsDangerous}
 use Rattle.repair_laws.specs.declared.plan.Pair.{Pair}
 use Rattle.repair_laws.specs.Meaning.{KeepsMeaning}
+use Rattle.repair_laws.specs.Plans.{IsPlan}
 use Rattle.repair_laws.specs.Refusals.{Reason, IsFirstStop}
 use Rattle.repair_laws.specs.Refusals as why
 use Rattle.si_repair.specs.declared.repairs.fault.RepairFault.{RepairFault}
@@ -20,6 +24,12 @@ KeepsAllMeaning old new =
     (number : ℕ) (p q : ProgramTree) → slice_get old.programs number ≡ Some p → slice_get new.programs number ≡ Some q
     → (args : List ℤ) (m : TableState) → length p.params ≡ length args
     → KeepsMeaning (eval old.tables p args m) (eval new.tables q args m)
+
+-- the new set means the same, is robust if the plan is the old one's, and asks as many questions
+pub record IsSafeRepair (old : DraftTree) (plan : List Pair) (new : DraftTree) : Type 0 where
+  pub meaning : KeepsAllMeaning old new
+  pub robust : IsPlan (paths_of old) plan → ¬ IsDangerous (paths_of new)
+  pub questions : length (questions_of (paths_of new)) ≡ length (questions_of (paths_of old))
 
 -- no pair of the plan stops it
 abbrev pub StopsNowhere : (Stops : ℕ → Pair → Reason → Type 0) → List Pair → Type 0

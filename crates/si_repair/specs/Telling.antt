@@ -1,10 +1,9 @@
 -- What a certificate tells of the entries of a table: words of private clauses.
-use Rattle.std.specs.Prelude.{◌≡◌, ℕ, ◌<◌, List, [], ◌∷◌, length, slice_index_or, All}
+use Rattle.std.specs.Prelude.{◌≡◌, ℕ, List, [], ◌∷◌, length, All}
 use Rattle.std.specs.List.{flat_map}
 use Rattle.order_facts.specs.declared.steps.Node.{Node}
 use Rattle.order_facts.specs.Chain.{IsTight}
 use Rattle.prog_check.specs.declared.path.Path.{Path}
-use Rattle.prog_paths.specs.StaticGraph.{StaticEdge, Leads}
 use Rattle.prog_paths.specs.Few.{AreFew}
 use Rattle.prog_paths.specs.declared.accesses.places.Question.{Question as Asked}
 use Rattle.conflict_pairs.specs.declared.verdicts.Verdict.{Verdict}
@@ -14,7 +13,6 @@ use Rattle.conflict_pairs.specs.declared.fault.PairFault.{PairFault}
 use Rattle.conflict_pairs.specs.declared.fault.PairFault as pairs
 use Rattle.conflict_pairs.specs.Interning.{AreInterned}
 use Rattle.conflict_pairs.specs.Table.{Table, StandsFor}
-use Rattle.dep_graph.specs.Counting.{IsCountOf}
 use Rattle.robust_cert.specs.declared.certificate.Question.{Question}
 use Rattle.robust_cert.specs.declared.certificate.Entry.{Entry}
 use Rattle.robust_cert.specs.declared.certificate.Entry as told
@@ -25,6 +23,7 @@ use Rattle.robust_cert.specs.Ranges.{IsSmall, IsOfSmall}
 use Rattle.robust_cert.specs.Json.{QuestionFits}
 use Rattle.si_repair.specs.declared.fault.AnalyseFault.{AnalyseFault}
 use Rattle.si_repair.specs.declared.fault.AnalyseFault as faults
+use Rattle.si_repair.specs.Findings.{AreCounted}
 
 -- why a set is not analysed whose questions have no table
 abbrev pub fault_of : PairFault → AnalyseFault
@@ -71,11 +70,10 @@ told_numbered q (Exposed sample) n = []
 
 -- ---- levels
 
--- for each node the number of nodes that lead to it, itself counted
+-- a level for each node, which counts the nodes that lead to it
 pub record AreLevels (paths : List Path) (levels : List ℕ) : Type 0 where
   pub one_each : length levels ≡ length paths
-  pub counted : (x : ℕ) → x < length paths
-      → IsCountOf (λ u. Leads (StaticEdge paths) u x) (length paths) (slice_index_or levels x 0)
+  pub counted : AreCounted paths levels
 
 -- ---- numbers
 

@@ -1,12 +1,12 @@
 //! The analysis of a set.
-ghost use Rattle.std.specs.Prelude.{◌≡◌, ◌<◌, ◌≤◌, length, IfOk, OnOk, Err};
+ghost use Rattle.std.specs.Prelude.{◌≡◌, ◌≤◌, length, IfOk, OnOk, Err};
 ghost use Rattle.prog_tree.specs.Tree.{draft_tree};
 ghost use Rattle.prog_check.specs.Paths.{paths_of};
 ghost use Rattle.prog_paths.specs.Asked.{questions_of, limit};
 ghost use Rattle.prog_paths.specs.Few.{AreFew};
 ghost use Rattle.conflict_pairs.specs.Table.{StandsFor};
 ghost use Rattle.si_repair.specs.declared.fault.AnalyseFault as AnalyseFault;
-ghost use Rattle.si_repair.specs.Findings.{IsRightFinding};
+ghost use Rattle.si_repair.specs.Findings.{AsksFew, AsksTooMany, IsRightFinding};
 
 use crate::fault::AnalyseFault;
 use crate::finding::Finding;
@@ -36,10 +36,8 @@ fn finding_of(alloc: Global, paths: &[Path], table: &PairTable) -> Result<Findin
 pub fn certify(alloc: Global, set: &ProgramSet) -> Result<Finding, AnalyseFault>
     ensures finding { IfOk result
         (λ finding. IsRightFinding (paths_of (draft_tree set.now)) finding) }
-    ensures in_bounds { OnOk result
-        (length (questions_of (paths_of (draft_tree set.now))) ≤ limit) }
-    ensures too_large { result ≡ Err AnalyseFault.TooLarge
-        → limit < length (questions_of (paths_of (draft_tree set.now))) }
+    ensures in_bounds { OnOk result (AsksFew (draft_tree set.now)) }
+    ensures too_large { result ≡ Err AnalyseFault.TooLarge → AsksTooMany (draft_tree set.now) }
 {
     let paths = paths(alloc, set)?;
     let table = pairs(alloc, &paths)?;
@@ -55,10 +53,8 @@ pub fn certify_par(
 ) -> Result<Finding, AnalyseFault>
     ensures finding { IfOk result
         (λ finding. IsRightFinding (paths_of (draft_tree set.now)) finding) }
-    ensures in_bounds { OnOk result
-        (length (questions_of (paths_of (draft_tree set.now))) ≤ limit) }
-    ensures too_large { result ≡ Err AnalyseFault.TooLarge
-        → limit < length (questions_of (paths_of (draft_tree set.now))) }
+    ensures in_bounds { OnOk result (AsksFew (draft_tree set.now)) }
+    ensures too_large { result ≡ Err AnalyseFault.TooLarge → AsksTooMany (draft_tree set.now) }
 {
     let paths = paths(alloc, set)?;
     let table = pairs_par(rt, alloc, &paths)?;

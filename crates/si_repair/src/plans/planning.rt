@@ -1,10 +1,10 @@
 //! The plan of a set.
-ghost use Rattle.std.specs.Prelude.{◌≡◌, ◌<◌, ◌≤◌, length, All, IfOk, OnOk, Err};
+ghost use Rattle.std.specs.Prelude.{◌≡◌, All, IfOk, OnOk, Err};
 ghost use Rattle.prog_tree.specs.Tree.{draft_tree};
 ghost use Rattle.prog_check.specs.Paths.{paths_of};
-ghost use Rattle.prog_paths.specs.Asked.{questions_of, limit};
 ghost use Rattle.repair_laws.specs.Plans.{IsPlan, IsEnough};
 ghost use Rattle.si_repair.specs.declared.fault.AnalyseFault as AnalyseFault;
+ghost use Rattle.si_repair.specs.Findings.{AsksFew, AsksTooMany};
 ghost use Rattle.si_repair.specs.Repairing.{IsInRange};
 
 use crate::fault::AnalyseFault;
@@ -24,10 +24,8 @@ pub fn plan(alloc: Global, set: &ProgramSet) -> Result<Plan, AnalyseFault>
     ensures plan { IfOk result (λ plan. IsPlan (paths_of (draft_tree set.now)) plan.pairs) }
     ensures enough { IfOk result (λ plan. IsEnough (paths_of (draft_tree set.now)) plan.pairs) }
     ensures in_range { IfOk result (λ plan. All (IsInRange (draft_tree set.now)) plan.pairs) }
-    ensures in_bounds { OnOk result
-        (length (questions_of (paths_of (draft_tree set.now))) ≤ limit) }
-    ensures too_large { result ≡ Err AnalyseFault.TooLarge
-        → limit < length (questions_of (paths_of (draft_tree set.now))) }
+    ensures in_bounds { OnOk result (AsksFew (draft_tree set.now)) }
+    ensures too_large { result ≡ Err AnalyseFault.TooLarge → AsksTooMany (draft_tree set.now) }
 {
     let paths = paths(alloc, set)?;
     let table = pairs(alloc, &paths)?;

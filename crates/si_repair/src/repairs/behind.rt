@@ -8,6 +8,7 @@ ghost use Rattle.prog_check.specs.Sound.{IsSound};
 ghost use Rattle.repair_laws.specs.Promoted.{keep_of, with_keeps, all_with_keeps, promoted_by};
 ghost use Rattle.si_repair.specs.Promoting.{is_marked, cell_read_by, count_by, with_keeps_in, HasFewStatements, promoted_program};
 
+use crate::repairs::copies::{copy_names, copy_tables};
 use crate::repairs::counts::count_block;
 use crate::repairs::marks::{Mark, is_marked};
 use prog_tree::{Block, Draft, Key, Name, Program, Stmt};
@@ -28,7 +29,7 @@ struct NumberedBlock {
 }
 
 /// The statement that keeps a cell, alone.
-fn keep(alloc: Global, table: &Name, key: &Key) -> Result<Vec<Stmt>, AllocError>
+fn keep_alone(alloc: Global, table: &Name, key: &Key) -> Result<Vec<Stmt>, AllocError>
     ensures { IfOk result (λ keeps.
         map stmt_tree keeps.items ≡ Plain (s.Keep table.now (key_tree key.now)) ∷ []) }
 {
@@ -47,10 +48,10 @@ fn keep_of(alloc: Global, stmt: &Stmt) -> Result<Vec<Stmt>, AllocError>
         ≡ map Plain (keep_of (cell_read_by (stmt_tree stmt.now)))) }
 {
     match stmt {
-        Stmt::Get { table, key, .. } => keep(alloc, table, key),
-        Stmt::Need { table, key, .. } => keep(alloc, table, key),
-        Stmt::Lacks { table, key } => keep(alloc, table, key),
-        Stmt::Insert { table, key, .. } => keep(alloc, table, key),
+        Stmt::Get { table, key, .. } => keep_alone(alloc, table, key),
+        Stmt::Need { table, key, .. } => keep_alone(alloc, table, key),
+        Stmt::Lacks { table, key } => keep_alone(alloc, table, key),
+        Stmt::Insert { table, key, .. } => keep_alone(alloc, table, key),
         Stmt::Bind { .. }
         | Stmt::Count { .. }
         | Stmt::Sum { .. }
@@ -160,10 +161,9 @@ fn promoted_program(
         ≡ promoted_program (is_marked marks.now number) (program_tree program.now)) }
 {
     let kept = keeps_in_block(alloc, marks, number, 0, &program.body)?;
-    let Program { name, params, .. } = program.copy()?;
     Ok(Program {
-        name,
-        params,
+        name: program.name.copy()?,
+        params: copy_names(alloc, &program.params)?,
         body: kept.block,
     })
 }
@@ -191,7 +191,8 @@ pub fn promoted_draft(alloc: Global, draft: &Draft, marks: &[Mark]) -> Result<Dr
     ensures { IfOk result (λ kept. draft_tree kept
         ≡ promoted_by (draft_tree draft.now) (is_marked marks.now)) }
 {
-    let programs = promoted_programs(alloc, marks, &draft.programs)?;
-    let Draft { tables, .. } = draft.copy()?;
-    Ok(Draft { tables, programs })
+    Ok(Draft {
+        tables: copy_tables(alloc, &draft.tables)?,
+        programs: promoted_programs(alloc, marks, &draft.programs)?,
+    })
 }

@@ -141,8 +141,8 @@ fn exposed_among(
     Ok(questions)
 }
 
-/// The exposed questions of a pair: its first program may miss what its second changes, and no two
-/// accesses cover it.
+/// The exposed questions of a pair, in order: its first program may miss what its second changes,
+/// and no two accesses cover it.
 pub fn exposed_questions(
     alloc: Global,
     paths: &[Path],

@@ -6,6 +6,7 @@ ghost use Rattle.prog_tree.specs.Tree.{stmt_tree, program_tree, draft_tree};
 ghost use Rattle.repair_laws.specs.Materialised.{plain_table, keeps_for, with_front, all_with_front, HasKey, materialised_by};
 ghost use Rattle.si_repair.specs.Carrying.{all_met, HasColumns, HaveColumns};
 
+use crate::repairs::copies::copy_tables;
 use crate::repairs::keeps::{Meeting, keeps_for};
 use prog_tree::{Arity, Block, Draft, Name, Program, Stmt, TableDecl};
 use std::alloc::{AllocError, Global};
@@ -30,24 +31,6 @@ fn with_tables(
     Ok(all)
 }
 
-fn copy_tables(alloc: Global, tables: &[TableDecl]) -> Result<Vec<TableDecl>, AllocError>
-    ensures { IfOk result (λ copies. copies.items ≡ tables.now) }
-{
-    let mut copies = Vec::with_capacity(alloc, tables.len())?;
-    for table in tables {
-        copies.push(table.copy()?)?;
-    }
-    Ok(copies)
-}
-
-/// The statements of a vector, and then those of another.
-fn joined(mut stmts: Vec<Stmt>, more: Vec<Stmt>) -> Result<Vec<Stmt>, AllocError>
-    ensures { IfOk result (λ all. all.items ≡ stmts.items ++ more.items) }
-{
-    stmts.extend(more)?;
-    Ok(stmts)
-}
-
 /// What a program of these parameters keeps for all pairs, the first pair's keeps first.
 fn front_of(
     alloc: Global,
@@ -61,7 +44,8 @@ fn front_of(
 {
     let mut front = Vec::new(alloc);
     for meeting in made {
-        front = joined(front, keeps_for(alloc, program, params, meeting)?)?;
+        let mut keeps = keeps_for(alloc, program, params, meeting)?;
+        front.append(&mut keeps)?;
     }
     Ok(front)
 }
@@ -77,15 +61,14 @@ fn with_front(
     ensures { IfOk result (λ repaired. program_tree repaired
         ≡ with_front (all_met made.now) number (program_tree program.now)) }
 {
-    let front = front_of(alloc, number, &program.params, made)?;
+    let mut stmts = front_of(alloc, number, &program.params, made)?;
     let Program { name, params, body } = program.copy()?;
-    let Block { stmts } = body;
+    let mut own = body.stmts;
+    stmts.append(&mut own)?;
     Ok(Program {
         name,
         params,
-        body: Block {
-            stmts: joined(front, stmts)?,
-        },
+        body: Block { stmts },
     })
 }
 

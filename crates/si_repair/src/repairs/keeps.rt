@@ -55,7 +55,7 @@ fn columns_for(
 }
 
 /// The statement that keeps the row of a parameter, or of the key 0.
-fn keep(table: &Name, params: &[Name], column: Option<usize>) -> Result<Stmt, AllocError>
+fn keep_in(table: &Name, params: &[Name], column: Option<usize>) -> Result<Stmt, AllocError>
     requires { IsColumn (length params.now) column }
     ensures { IfOk result (λ stmt. IsPlain stmt (keep_in table.now params.now column)) }
 {
@@ -83,7 +83,7 @@ pub(crate) fn keeps_for(
     let columns = columns_for(alloc, program, meeting)?;
     let mut keeps = Vec::with_capacity(alloc, columns.len())?;
     for column in &columns {
-        keeps.push(keep(&meeting.table, params, *column)?)?;
+        keeps.push(keep_in(&meeting.table, params, *column)?)?;
     }
     Ok(keeps)
 }

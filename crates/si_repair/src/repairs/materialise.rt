@@ -1,15 +1,12 @@
 //! Repairs by new tables: both programs of a pair keep one row of a table of their own.
-ghost use Rattle.std.specs.Prelude.{◌≡◌, List, [], ◌∷◌, ◌++◌, length, IfErr, IfOk, OnOk};
+ghost use Rattle.std.specs.Prelude.{◌≡◌, List, [], ◌∷◌, ◌++◌, IfErr, IfOk, OnOk};
 ghost use Rattle.prog_tree.specs.Tree.{draft_tree};
 ghost use Rattle.prog_check.specs.Paths.{paths_of};
-ghost use Rattle.prog_paths.specs.Asked.{questions_of};
-ghost use Rattle.prog_paths.specs.StaticGraph.{IsDangerous};
 ghost use Rattle.repair_laws.specs.Materialised.{params_of, AreMet, IsMaterialised};
-ghost use Rattle.repair_laws.specs.Plans.{IsPlan};
 ghost use Rattle.repair_laws.specs.Refusals.{StopsMaterialising};
 ghost use Rattle.repair_laws.specs.declared.plan.Pair.{Pair as OfPrograms};
 ghost use Rattle.si_repair.specs.Carrying.{all_met};
-ghost use Rattle.si_repair.specs.Repairing.{KeepsAllMeaning, StopsNowhere, IsRepairFault};
+ghost use Rattle.si_repair.specs.Repairing.{IsSafeRepair, StopsNowhere, IsRepairFault};
 
 use crate::plans::Plan;
 use crate::repairs::checked::checked;
@@ -60,11 +57,8 @@ fn met_with(
 pub fn materialise(alloc: Global, set: &ProgramSet, plan: &Plan) -> Result<ProgramSet, RepairFault>
     ensures made { IfOk result
         (λ s. IsMaterialised (draft_tree set.now) plan.now.pairs (draft_tree s)) }
-    ensures meaning { IfOk result (λ s. KeepsAllMeaning (draft_tree set.now) (draft_tree s)) }
-    ensures robust { IfOk result (λ s. IsPlan (paths_of (draft_tree set.now)) plan.now.pairs
-        → ¬ IsDangerous (paths_of (draft_tree s))) }
-    ensures questions { IfOk result (λ s. length (questions_of (paths_of (draft_tree s)))
-        ≡ length (questions_of (paths_of (draft_tree set.now)))) }
+    ensures safe { IfOk result
+        (λ s. IsSafeRepair (draft_tree set.now) plan.now.pairs (draft_tree s)) }
     ensures goes { OnOk result (StopsNowhere
         (StopsMaterialising IsMaterialised (draft_tree set.now) plan.now.pairs) plan.now.pairs) }
     ensures refused { IfErr result (λ fault. IsRepairFault

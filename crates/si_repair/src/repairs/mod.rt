@@ -2,6 +2,7 @@
 
 mod behind;
 mod checked;
+mod copies;
 mod counts;
 mod exposed;
 mod fault;

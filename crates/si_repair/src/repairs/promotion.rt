@@ -1,15 +1,12 @@
 //! Repairs by promotion: a program keeps the cell that it read.
-ghost use Rattle.std.specs.Prelude.{◌≡◌, length, IfOk, OnOk, IfErr, None};
+ghost use Rattle.std.specs.Prelude.{◌≡◌, IfOk, OnOk, IfErr, None};
 ghost use Rattle.prog_tree.specs.Tree.{draft_tree};
 ghost use Rattle.prog_check.specs.Paths.{paths_of};
-ghost use Rattle.prog_paths.specs.Asked.{questions_of};
-ghost use Rattle.prog_paths.specs.StaticGraph.{IsDangerous};
-ghost use Rattle.repair_laws.specs.Plans.{IsPlan};
 ghost use Rattle.repair_laws.specs.Promoted.{IsPromoted};
 ghost use Rattle.repair_laws.specs.Refusals.{StopsPromotion};
 ghost use Rattle.si_repair.specs.Exposing.{AreExposed, IsObstacle};
 ghost use Rattle.si_repair.specs.Promoting.{is_marked, IsObstacleFault, AddsReads};
-ghost use Rattle.si_repair.specs.Repairing.{KeepsAllMeaning, StopsNowhere, IsRepairFault};
+ghost use Rattle.si_repair.specs.Repairing.{IsSafeRepair, StopsNowhere, IsRepairFault};
 
 use crate::plans::Plan;
 use crate::repairs::behind::promoted_draft;
@@ -69,11 +66,8 @@ fn with_pair(
 pub fn promote(alloc: Global, set: &ProgramSet, plan: &Plan) -> Result<ProgramSet, RepairFault>
     ensures made { IfOk result
         (λ s. IsPromoted (draft_tree set.now) plan.now.pairs (draft_tree s)) }
-    ensures meaning { IfOk result (λ s. KeepsAllMeaning (draft_tree set.now) (draft_tree s)) }
-    ensures robust { IfOk result (λ s. IsPlan (paths_of (draft_tree set.now)) plan.now.pairs
-        → ¬ IsDangerous (paths_of (draft_tree s))) }
-    ensures questions { IfOk result (λ s. length (questions_of (paths_of (draft_tree s)))
-        ≡ length (questions_of (paths_of (draft_tree set.now)))) }
+    ensures safe { IfOk result
+        (λ s. IsSafeRepair (draft_tree set.now) plan.now.pairs (draft_tree s)) }
     ensures goes { OnOk result (StopsNowhere
         (StopsPromotion IsPromoted (draft_tree set.now) plan.now.pairs) plan.now.pairs) }
     ensures refused { IfErr result (λ fault. IsRepairFault

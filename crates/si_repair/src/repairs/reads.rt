@@ -82,7 +82,7 @@ fn ranges_of(alloc: Global, draft: &Draft, program: usize) -> Result<Vec<bool>, 
     Ok(marks)
 }
 
-fn is_marked(marks: &[bool], number: usize) -> bool
+fn is_range(marks: &[bool], number: usize) -> bool
     ensures { result ≡ slice_index_or marks.now number false }
 {
     number < marks.len() && marks[number]
@@ -95,7 +95,7 @@ fn reads_marked(paths: &[Path], marks: &[bool], questions: &[Question]) -> bool
 {
     for question in questions {
         let read = access_at(paths, question.x, question.a);
-        if is_marked(marks, read.place) {
+        if is_range(marks, read.place) {
             return true;
         }
     }

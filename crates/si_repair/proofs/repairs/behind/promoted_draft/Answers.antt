@@ -5,4 +5,4 @@ use Rattle.si_repair.proofs.Turning.{few_statements}
 use Rattle.si_repair.proofs.repairs.behind.promoted_draft.Goals as goal
 
 pub promoted_programs-requires : goal.promoted_programs-requires
-promoted_programs-requires c = subst (λ (l : List Program). All HasFewStatements l) (sym c.deref.ensures.value) (few_statements c.args.draft.now c.requires)
+promoted_programs-requires c = subst (λ (l : List Program). All HasFewStatements l) (sym c.deref-2.ensures.value) (few_statements c.args.draft.now c.requires)

@@ -1,5 +1,5 @@
 use Rattle.std.proofs.Common.{take}
-use Rattle.si_repair.specs.Gathering.{AreOfProgram}
+use Rattle.si_repair.proofs.Gathering.{AreOfProgram}
 use Rattle.si_repair.proofs.repairs.exposed.places_of.Given as goal
 
 -- those of the accesses so far

@@ -12,6 +12,6 @@ returns c =
     let number = c.args.number in
     let program = c.args.program.now in
     let same = c.in_ok-name.ensures in
-    let kept = c.in_ok-front.ensures ∙ ap (λ (params : List Name). map Plain (flat_map (keeps_for number params) made)) c.deref.ensures.value in
-    let body = program_front made number c.in_ok-name.field-0 program c.in_ok-front.front.items c.in_ok-joined.field-0.items same kept c.in_ok-joined.ensures in
+    let kept = c.in_ok-stmts.ensures ∙ ap (λ (params : List Name). map Plain (flat_map (keeps_for number params) made)) c.deref.ensures.value in
+    let body = program_front made number c.in_ok-name.field-0 program c.in_ok-stmts.stmts.items c.append.new.self.items same kept c.in_ok-append.ensures.items in
     λ i. record { name = (same i).name; params = (same i).params; body = body i }

@@ -6,7 +6,7 @@ use Rattle.prog_tree.specs.Tree.{draft_tree}
 use Rattle.repair_laws.specs.Materialised.{HasKey, AreMet, materialised_by}
 use Rattle.si_repair.specs.declared.repairs.keeps.Meeting.{Meeting}
 use Rattle.si_repair.specs.Carrying.{all_met}
-use Rattle.si_repair.proofs.Meetings.{none_met, nothing_made, met_next, met_all, place_next, small_more, small_all, stops_nowhere, refused_at, good_repair}
+use Rattle.si_repair.proofs.Meetings.{none_met, nothing_made, met_next, met_all, place_next, small_more, small_all, stops_nowhere, refused_at, materialised_safe}
 use Rattle.si_repair.proofs.repairs.materialise.materialise.Goals as goal
 
 pub loop-pair-init : goal.loop-pair-init
@@ -51,29 +51,13 @@ loop-pair-preserved c =
       small = small_more draft plan n (draft_tree c.in_ok-materialised.field-0) c.loop-pair.invariant.small (made, met, own) checked.1;
     }
 
-pub returns-clause-meaning : goal.returns-clause-meaning
-returns-clause-meaning c =
+pub returns-clause-safe : goal.returns-clause-safe
+returns-clause-safe c =
     let draft = draft_tree c.args.set.now in
     let plan = c.args.plan.now.pairs in
     let made = all_met c.loop-pair.made.items in
     let met = met_all draft c.as_slice-pair-items.result.now plan c.loop-pair.pair-index made c.as_slice-pair-items.ensures c.loop-pair-test.false c.loop-pair.invariant.met in
-    (good_repair draft plan (draft_tree c.loop-pair.repaired) c.draft-draft.ensures.sound (made, met, c.loop-pair.invariant.repaired)).meaning
-
-pub returns-clause-robust : goal.returns-clause-robust
-returns-clause-robust c =
-    let draft = draft_tree c.args.set.now in
-    let plan = c.args.plan.now.pairs in
-    let made = all_met c.loop-pair.made.items in
-    let met = met_all draft c.as_slice-pair-items.result.now plan c.loop-pair.pair-index made c.as_slice-pair-items.ensures c.loop-pair-test.false c.loop-pair.invariant.met in
-    (good_repair draft plan (draft_tree c.loop-pair.repaired) c.draft-draft.ensures.sound (made, met, c.loop-pair.invariant.repaired)).robust
-
-pub returns-clause-questions : goal.returns-clause-questions
-returns-clause-questions c =
-    let draft = draft_tree c.args.set.now in
-    let plan = c.args.plan.now.pairs in
-    let made = all_met c.loop-pair.made.items in
-    let met = met_all draft c.as_slice-pair-items.result.now plan c.loop-pair.pair-index made c.as_slice-pair-items.ensures c.loop-pair-test.false c.loop-pair.invariant.met in
-    (good_repair draft plan (draft_tree c.loop-pair.repaired) c.draft-draft.ensures.sound (made, met, c.loop-pair.invariant.repaired)).questions
+    materialised_safe draft plan (draft_tree c.loop-pair.repaired) c.draft-draft.ensures.sound (made, met, c.loop-pair.invariant.repaired)
 
 pub returns-clause-goes : goal.returns-clause-goes
 returns-clause-goes c =

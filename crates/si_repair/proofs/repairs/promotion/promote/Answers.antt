@@ -7,7 +7,7 @@ use Rattle.repair_laws.specs.declared.plan.Pair.{Pair}
 use Rattle.repair_laws.specs.Promoted.{promoted_by}
 use Rattle.si_repair.specs.declared.repairs.marks.Mark.{Mark}
 use Rattle.si_repair.specs.Promoting.{is_marked}
-use Rattle.si_repair.proofs.Turning.{IsPromotedTo, promoted_first, turn_made, turn_stopped, turn_fault, obstacle_fault, promoted_whole, whole_meaning, whole_robust, whole_questions, stops_nowhere}
+use Rattle.si_repair.proofs.Turning.{IsPromotedTo, promoted_first, turn_made, turn_stopped, turn_fault, obstacle_fault, promoted_whole, promoted_safe, stops_nowhere}
 use Rattle.si_repair.proofs.repairs.promotion.promote.Goals as goal
 
 pub loop-pair-init : goal.loop-pair-init
@@ -58,20 +58,10 @@ returns-clause-made c =
     let all = subst (λ (l : List Pair). length l ≤ c.loop-pair.pair-index) c.as_slice-pair-items.ensures c.loop-pair-test.false in
     promoted_whole (draft_tree c.args.set.now) c.args.plan.now.pairs c.loop-pair.pair-index (is_marked c.loop-pair.marks.items) (draft_tree c.loop-pair.promoted) all c.loop-pair.invariant
 
-pub returns-clause-meaning : goal.returns-clause-meaning
-returns-clause-meaning c =
+pub returns-clause-safe : goal.returns-clause-safe
+returns-clause-safe c =
     let all = subst (λ (l : List Pair). length l ≤ c.loop-pair.pair-index) c.as_slice-pair-items.ensures c.loop-pair-test.false in
-    whole_meaning (draft_tree c.args.set.now) c.args.plan.now.pairs c.loop-pair.pair-index (is_marked c.loop-pair.marks.items) (draft_tree c.loop-pair.promoted) c.draft-draft.ensures.sound all c.loop-pair.invariant
-
-pub returns-clause-robust : goal.returns-clause-robust
-returns-clause-robust c =
-    let all = subst (λ (l : List Pair). length l ≤ c.loop-pair.pair-index) c.as_slice-pair-items.ensures c.loop-pair-test.false in
-    whole_robust (draft_tree c.args.set.now) c.args.plan.now.pairs c.loop-pair.pair-index (is_marked c.loop-pair.marks.items) (draft_tree c.loop-pair.promoted) c.draft-draft.ensures.sound all c.loop-pair.invariant
-
-pub returns-clause-questions : goal.returns-clause-questions
-returns-clause-questions c =
-    let all = subst (λ (l : List Pair). length l ≤ c.loop-pair.pair-index) c.as_slice-pair-items.ensures c.loop-pair-test.false in
-    whole_questions (draft_tree c.args.set.now) c.args.plan.now.pairs c.loop-pair.pair-index (is_marked c.loop-pair.marks.items) (draft_tree c.loop-pair.promoted) c.draft-draft.ensures.sound all c.loop-pair.invariant
+    promoted_safe (draft_tree c.args.set.now) c.args.plan.now.pairs c.loop-pair.pair-index (is_marked c.loop-pair.marks.items) (draft_tree c.loop-pair.promoted) c.draft-draft.ensures.sound all c.loop-pair.invariant
 
 pub returns-clause-goes : goal.returns-clause-goes
 returns-clause-goes c =
