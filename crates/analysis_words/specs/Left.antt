@@ -16,12 +16,12 @@ further_text set pair = codes ", " ++ pair_text set pair
 abbrev pub more_text : (count : ℕ) → List ℕ
 more_text count = if count == 0 then [] else codes ", and " ++ (decimal count ++ codes " more")
 
-abbrev pub count_text : (count : ℕ) → List ℕ
-count_text count = if count == 1 then codes "one pair of programs has" else decimal count ++ codes " pairs of programs have"
+abbrev pub pair_count_text : (count : ℕ) → List ℕ
+pair_count_text count = if count == 1 then codes "one pair of programs has" else decimal count ++ codes " pairs of programs have"
 
 -- how many pairs there are, and the first eight
 abbrev pub left_text : DraftTree → List Pair → List ℕ
 left_text set [] = []
 left_text set (first ∷ others) =
-    codes "for the whole set " ++ (count_text (length (first ∷ others)) ++ (codes " to be kept apart: "
+    codes "for the whole set " ++ (pair_count_text (length (first ∷ others)) ++ (codes " to be kept apart: "
     ++ (pair_text set first ++ (flat_map (further_text set) (take 7 others) ++ (more_text (length others - 7) ++ codes "\n")))))

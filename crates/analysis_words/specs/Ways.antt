@@ -1,5 +1,5 @@
 -- What is said of how a whole set is repaired.
-use Rattle.std.specs.Prelude.{ℕ, ◌≡◌, ◌↔◌, Bool, true, false, List, [], codes, IsTrue}
+use Rattle.std.specs.Prelude.{ℕ, ◌≡◌, ◌≢◌, ◌↔◌, Bool, true, false, List, [], codes, IsTrue}
 use Rattle.prog_tree.specs.Syntax.{DraftTree}
 use Rattle.repair_laws.specs.declared.plan.Pair.{Pair}
 use Rattle.repair_laws.specs.Materialised.{IsMaterialised}
@@ -30,5 +30,5 @@ ways_text false false =
 -- the text says which of both repairs carry the plan out; of an empty plan nothing is known
 pub data IsWaysText (set : DraftTree) (plan : List Pair) (text : List ℕ) : Type 0 where
   Untried : plan ≡ [] → text ≡ untried_text → IsWaysText set plan text
-  Tried : (by_tables by_keeps : Bool) → (IsTrue by_tables ↔ IsRepairedByTables set plan)
+  Tried : plan ≢ [] → (by_tables by_keeps : Bool) → (IsTrue by_tables ↔ IsRepairedByTables set plan)
       → (IsTrue by_keeps ↔ IsRepairedByKeeps set plan) → text ≡ ways_text by_tables by_keeps → IsWaysText set plan text

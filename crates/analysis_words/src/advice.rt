@@ -69,7 +69,7 @@ fn own_cell(
     question: Question,
     place: usize,
 ) -> Result<String, AllocError> {
-    let cells = cells_at(shown.text.bytes(), place);
+    let cells = cells_at(alloc, shown.text, place)?;
     let line = line_number(shown.text.bytes(), place);
     let clashing = clashing(alloc, shown, question)?;
     if has_unknown_key(shown, &question) {
@@ -87,9 +87,9 @@ fn repair(alloc: Global, shown: Shown<'_>, question: Question) -> Result<String,
         let keepers = keepers(alloc, shown, question)?;
         return format!(in alloc; "a cell that {keepers}");
     };
-    let cells = cells_at(shown.text.bytes(), place);
+    let cells = cells_at(alloc, shown.text, place)?;
     if cells.contains("..") || meets_body(shown, &question) {
-        return shared_cell(alloc, shown, question, cells);
+        return shared_cell(alloc, shown, question, &cells);
     }
     own_cell(alloc, shown, question, place)
 }

@@ -1,7 +1,7 @@
 //! What a repair of a whole set keeps apart.
 ghost use Rattle.std.specs.Prelude.{◌≡◌, IfOk, flat_map, string_bytes, take};
 ghost use Rattle.prog_tree.specs.Tree.{draft_tree};
-ghost use Rattle.analysis_words.specs.Left.{count_text, further_text, left_text, more_text, pair_text};
+ghost use Rattle.analysis_words.specs.Left.{further_text, left_text, more_text, pair_count_text, pair_text};
 
 use crate::pairs::{other, quoted_name};
 use prog_check::ProgramSet;
@@ -62,8 +62,9 @@ fn more_text(alloc: Global, count: usize) -> Result<String, AllocError>
     format!(in alloc; ", and {count} more")
 }
 
-fn count_text(alloc: Global, count: usize) -> Result<String, AllocError>
-    ensures { IfOk result (λ text. string_bytes text ≡ count_text count) }
+// How many pairs there are.
+fn pair_count_text(alloc: Global, count: usize) -> Result<String, AllocError>
+    ensures { IfOk result (λ text. string_bytes text ≡ pair_count_text count) }
 {
     if count == 1 {
         return format!(in alloc; "one pair of programs has");
@@ -78,7 +79,7 @@ pub fn left_text(alloc: Global, set: &ProgramSet, pairs: &[Pair]) -> Result<Stri
     let [first, others @ ..] = pairs else {
         return Ok(String::new(alloc));
     };
-    let count = count_text(alloc, pairs.len())?;
+    let count = pair_count_text(alloc, pairs.len())?;
     let first = pair_text(alloc, set, *first)?;
     let further = further_pairs(alloc, set, named(others))?;
     let more = more_text(alloc, others.len().saturating_sub(MAX_FURTHER))?;

@@ -25,10 +25,14 @@ pub fn first_of_each(
 }
 
 /// The cells that the statement of a look names; nothing where it is not found.
-pub fn looked_at(shown: Shown<'_>, question: Question) -> &str {
+pub fn looked_at(
+    alloc: Global,
+    shown: Shown<'_>,
+    question: Question,
+) -> Result<String, AllocError> {
     match access_place(shown, question.x, question.a) {
-        Some(place) => cells_at(shown.text.bytes(), place),
-        None => "",
+        Some(place) => cells_at(alloc, shown.text, place),
+        None => Ok(String::new(alloc)),
     }
 }
 

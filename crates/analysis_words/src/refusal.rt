@@ -19,6 +19,9 @@ use si_repair::Plan;
 use std::alloc::{AllocError, Global};
 use text_places::SetText;
 
+const NO_ORDER: &str =
+    "a run of this set may have no serial order, since two changes in a row can be missed\n";
+
 // Both edges of a danger, and what follows.
 fn both_words(
     alloc: Global,
@@ -37,9 +40,7 @@ fn both_words(
         return Ok(None);
     };
     let advice = advice(alloc, shown, danger)?;
-    let words = format!(in alloc;
-        "a run of this set may have no serial order, since two changes in a row can be missed\n{first}and\n{second}{advice}"
-    )?;
+    let words = format!(in alloc; "{NO_ORDER}{first}and\n{second}{advice}")?;
     Ok(Some(words))
 }
 
@@ -54,9 +55,7 @@ fn one_words(alloc: Global, shown: Shown<'_>, danger: &Danger) -> Result<Option<
         return Ok(None);
     };
     let advice = twin_advice(alloc, shown, danger)?;
-    let words = format!(in alloc;
-        "a run of this set may have no serial order, since two changes in a row can be missed\n{edge}{advice}"
-    )?;
+    let words = format!(in alloc; "{NO_ORDER}{edge}{advice}")?;
     Ok(Some(words))
 }
 

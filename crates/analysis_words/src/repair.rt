@@ -105,7 +105,7 @@ fn promoted_words(
     let firsts = first_of_each(alloc, shown, questions)?;
     let mut words = String::new(alloc);
     for question in &firsts {
-        let cells = looked_at(shown, *question);
+        let cells = looked_at(alloc, shown, *question)?;
         let what = format!(in alloc; "`keep {cells};` now stands behind this look")?;
         let look = look_words(alloc, shown, *question, &what)?;
         words.push_str(&look)?;

@@ -21,7 +21,7 @@ fn range_look(
 ) -> Result<String, AllocError> {
     let firsts = first_of_each(alloc, shown, questions)?;
     for question in &firsts {
-        let cells = looked_at(shown, *question);
+        let cells = looked_at(alloc, shown, *question)?;
         if cells.contains("..") {
             return reason_words(alloc, shown, Some(question));
         }

@@ -6,7 +6,7 @@ ghost use Rattle.analysis_words.specs.Nodes.{access_of, branches_text, letter_of
 use fault_words::program_name;
 use prog_check::{Access, Path, ProgramSet};
 use std::alloc::{AllocError, Global};
-use text_places::{SetText, as_text, before, behind, line_number, table_name};
+use text_places::{SetText, as_text, before, behind, line_number, table_name, visible_text};
 
 const MAX_SHOWN: usize = 60;
 
@@ -22,24 +22,37 @@ fn ends_statement(byte: u8) -> bool {
     byte == b';' || byte == b'{' || byte == b'\n'
 }
 
-// The statement at a place, to its `;`, to the `{` of its body, or to the end of its line.
-fn statement_at(text: &[u8], place: usize) -> &str {
-    let rest = behind(text, place);
+// Bytes in one line, with a space in place of each run of blanks.
+fn in_one_line(alloc: Global, bytes: &[u8]) -> Result<String, AllocError> {
+    let mut line = String::new(alloc);
+    for word in as_text(bytes).split_ascii_whitespace() {
+        if !line.is_empty() {
+            line.push(' ')?;
+        }
+        line.push_str(&visible_text(alloc, word.as_bytes())?)?;
+    }
+    Ok(line)
+}
+
+// The statement at a place of a text without comments, to its `;`, to the `{` of its body, or to
+// the end of its line.
+fn statement_at(alloc: Global, plain: &[u8], place: usize) -> Result<String, AllocError> {
+    let rest = behind(plain, place);
     let len = rest
         .iter()
         .take_while(|byte| !ends_statement(**byte))
         .count();
-    as_text(before(rest, len.min(MAX_SHOWN))).trim_end()
+    in_one_line(alloc, before(rest, len.min(MAX_SHOWN)))
 }
 
-/// The cell or the range that the statement at a place names, with its table.
-pub fn cells_at(text: &[u8], place: usize) -> &str {
-    let rest = behind(text, place);
+/// The cell or the range that the statement at a place of a set's text names, with its table.
+pub fn cells_at(alloc: Global, text: &SetText<'_>, place: usize) -> Result<String, AllocError> {
+    let rest = behind(text.plain(), place);
     let len = rest.iter().take_while(|byte| **byte != b']').count();
     let front = before(rest, len.saturating_add(1));
     let key = front.iter().take_while(|byte| **byte != b'[').count();
     let start = key.saturating_sub(table_name(front).len());
-    as_text(behind(front, start))
+    in_one_line(alloc, behind(front, start))
 }
 
 // The letter of a branch that a path takes.
@@ -135,7 +148,7 @@ pub fn access_text(
     let name = node_name(alloc, shown, node)?;
     match access_place(shown, node, access) {
         Some(place) => {
-            let statement = statement_at(shown.text.bytes(), place);
+            let statement = statement_at(alloc, shown.text.plain(), place)?;
             let line = line_number(shown.text.bytes(), place);
             format!(in alloc; "`{statement}` of {name} in line {line}")
         }

@@ -1,3 +1,4 @@
 pub mod Lines
 mod LostLines
+mod Unsaid
 mod WholeInput

@@ -1,4 +1,7 @@
 pub mod Cycles
 pub mod InInput
+pub mod JobSpots
 pub mod LostJobs
 pub mod PartPointing
+pub mod Shown
+pub mod ToldLines

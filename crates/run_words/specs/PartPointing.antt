@@ -66,10 +66,10 @@ PointsAtSeparator input words = (place : ℕ) × IsSeparatorPlace input place ×
 abbrev pub HasNoSeparator : (input : List ℕ) → Type 0
 HasNoSeparator input = (place : ℕ) → place < length input → ¬ IsSeparatorPlace input place
 
--- the words begin with what is said of a line
-abbrev pub BeginsAtLine : (ahead part : List ℕ) → (words : List ℕ) → Type 0
-BeginsAtLine ahead part words =
-    (line : ℕ) × (first rest : List ℕ) × PointsAtLineIn ahead part (Some line) first × (words ≡ first ++ rest)
+-- the words begin with what is said of this line
+abbrev pub BeginsAtLine : (ahead part : List ℕ) → Option ℕ → (words : List ℕ) → Type 0
+BeginsAtLine ahead part line words =
+    (first rest : List ℕ) × PointsAtLineIn ahead part line first × (words ≡ first ++ rest)
 
 -- something is added
 abbrev pub Extends : (before : List ℕ) → (after : List ℕ) → Type 0

@@ -1,5 +1,6 @@
 //! Why a job did not commit, in words.
 
+use crate::limits::MAX_ARGUMENTS;
 use crate::record_faults::cause_text;
 use crate::refusals::{full_words, wrong_arguments};
 use fault_words::{cell_text, program_name};
@@ -10,9 +11,6 @@ use si_workers::{Job, JobEnd, JobOutcome};
 use std::alloc::{AllocError, Global};
 use text_places::push_listed;
 use version_store::Clash;
-
-// So many arguments are shown, more than any program has.
-const MAX_SHOWN: usize = 12;
 
 // The parameters of a program; one that is not there has none.
 fn params_of(set: &ProgramSet, program: usize) -> &[Name] {
@@ -34,7 +32,7 @@ fn argument_text(alloc: Global, param: Option<&Name>, argument: i64) -> Result<S
 fn arguments_text(alloc: Global, params: &[Name], args: &[i64]) -> Result<String, AllocError> {
     let mut text = String::new(alloc);
     for (index, argument) in args.iter().enumerate() {
-        if index == MAX_SHOWN {
+        if index == MAX_ARGUMENTS {
             text.push_str(", ..")?;
             return Ok(text);
         }

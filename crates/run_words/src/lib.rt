@@ -9,6 +9,8 @@ mod event_lines;
 mod forms;
 mod in_input;
 mod job_reasons;
+mod job_spots;
+mod limits;
 mod line_faults;
 mod line_reading;
 mod lost_jobs;
@@ -19,7 +21,7 @@ mod replay;
 
 pub use cycle::cycle_words;
 pub use line_faults::{PartKind, line_fault_words};
-pub use lost_jobs::{Told, lost_job_words};
+pub use lost_jobs::{ToldJobs, lost_job_words};
 pub use part_faults::{extra_part_words, missing_part_words};
 pub use record_faults::record_words;
 pub use refusals::{Refusals, refused_words};

@@ -23,7 +23,7 @@ fn other_beginning(alloc: Global, kind: PartKind, first: &str) -> Result<String,
         );
     }
     let known = known_names(alloc, first, begins)?;
-    let first = shown(first);
+    let first = shown(alloc, first)?;
     format!(in alloc; "no line begins with `{first}`; {known}")
 }
 
@@ -49,7 +49,7 @@ fn bad_line(
     let form = form_of(alloc, first)?;
     match no_number(words) {
         Some(word) => {
-            let word = shown(word);
+            let word = shown(alloc, word)?;
             format!(in alloc; "`{word}` is no number that can stand here; the form is {form}")
         }
         None => format!(in alloc; "this is not of the form {form}"),
@@ -74,7 +74,7 @@ fn unknown_name(alloc: Global, set: &ProgramSet, words: &[&str]) -> Result<Strin
         _ => return format!(in alloc; "the name is not known"),
     };
     let known = known_names(alloc, name, &names)?;
-    let name = shown(name);
+    let name = shown(alloc, name)?;
     format!(in alloc; "no {what} is called `{name}`; {known}")
 }
 

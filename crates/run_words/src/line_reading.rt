@@ -1,7 +1,10 @@
 //! Words of a line, read just far enough to name them.
+ghost use Rattle.std.specs.Prelude.{IfOk, string_bytes};
+ghost use Rattle.run_words.specs.Shown.{IsShownWord};
 
+use crate::limits::MAX_WORD;
 use std::alloc::{AllocError, Global};
-use text_places::{as_text, before, behind, line_at, line_front};
+use text_places::{as_text, before, behind, line_at, line_front, visible_text};
 
 fn begins_word(line: &[u8], place: usize) -> bool {
     line.get(place) != Some(&b' ') && !matches!(before(line, place), [.., last] if *last != b' ')
@@ -35,8 +38,10 @@ pub fn line_of(part: &[u8], line: usize) -> &[u8] {
     }
 }
 
-/// A word as people are told of it.
-pub fn shown(word: &str) -> &str {
-    let end = word.len().min(40);
-    word.get(..end).unwrap_or(word)
+/// A word as people are told of it: of a long one a first part.
+pub fn shown(alloc: Global, word: &str) -> Result<String, AllocError>
+    ensures { IfOk result (λ text. IsShownWord word.now (string_bytes text)) }
+{
+    let end = word.floor_char_boundary(MAX_WORD);
+    visible_text(alloc, before(word.as_bytes(), end))
 }

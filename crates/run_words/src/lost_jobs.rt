@@ -1,16 +1,16 @@
 //! The jobs that did not commit, in words.
-ghost use Rattle.std.specs.Prelude.{◌≡◌, ◌++◌, [], ◌∷◌, List, ℕ, IfOk, OnOk, slice_get, string_bytes, take, if◌then◌else◌};
+ghost use Rattle.std.specs.Prelude.{◌≡◌, ◌++◌, [], ◌∷◌, List, ℕ, IfNone, IfOk, IfSome, OnOk, slice_get, string_bytes, take, if◌then◌else◌};
+ghost use Rattle.text_places.specs.Landmarks.{HasNoJob, IsJobPlace};
 ghost use Rattle.run_words.specs.LostJobs.{heading, is_loss, is_lost_by, more_text, numbers_lost, place_text, IsJobText, TellsJob, TellsJobs, TellsLosses, TellsLost};
 
 use crate::in_input::input_line_text;
 use crate::job_reasons::job_sentence;
+use crate::job_spots::{FRONT, Spot, spot_of};
+use crate::limits::MAX_TOLD;
 use prog_check::ProgramSet;
 use si_workers::{Job, JobEnd, JobOutcome};
 use std::alloc::{AllocError, Global};
-use text_places::{job_place, line_number};
-
-// So many jobs of a kind are told.
-const MAX_TOLD: usize = 8;
+use text_places::line_number;
 
 /// How a job ended that did not commit.
 #[derive(Clone, Copy, Debug, PartialEq, Eq)]
@@ -71,7 +71,7 @@ fn numbers_lost(
 
 /// A list of jobs with what came of each, in a part that stands behind other bytes of the input.
 #[derive(Clone, Copy)]
-pub struct Told<'a> {
+pub struct ToldJobs<'a> {
     pub ahead: &'a [u8],
     pub part: &'a [u8],
     pub jobs: &'a [Job],
@@ -87,11 +87,19 @@ fn place_text(alloc: Global, ahead: &[u8], part: &[u8], place: usize) -> Result<
 }
 
 // Where the job of a number stands.
-fn job_text(alloc: Global, ahead: &[u8], part: &[u8], number: usize) -> Result<String, AllocError>
+fn job_text(
+    alloc: Global,
+    ahead: &[u8],
+    part: &[u8],
+    number: usize,
+    spot: Option<Spot>,
+) -> Result<String, AllocError>
+    requires job { IfSome spot (λ spot. IsJobPlace part.now number spot.place) }
+    requires none { IfNone spot (HasNoJob part.now number) }
     ensures { IfOk result (λ text. IsJobText ahead.now part.now number (string_bytes text)) }
 {
-    match job_place(part, number) {
-        Some(place) => place_text(alloc, ahead, part, place),
+    match spot {
+        Some(spot) => place_text(alloc, ahead, part, spot.place),
         None => format!(in alloc; "job {number}"),
     }
 }
@@ -102,11 +110,14 @@ fn job_line(
     ahead: &[u8],
     part: &[u8],
     number: usize,
+    spot: Option<Spot>,
     sentence: &str,
 ) -> Result<String, AllocError>
+    requires job { IfSome spot (λ spot. IsJobPlace part.now number spot.place) }
+    requires none { IfNone spot (HasNoJob part.now number) }
     ensures { IfOk result (λ line. TellsJob ahead.now part.now number (string_bytes line)) }
 {
-    let text = job_text(alloc, ahead, part, number)?;
+    let text = job_text(alloc, ahead, part, number, spot)?;
     let line = format!(in alloc; "  {text}: {sentence}\n")?;
     Ok(line)
 }
@@ -115,7 +126,7 @@ fn job_line(
 fn push_jobs(
     alloc: Global,
     set: &ProgramSet,
-    told: Told<'_>,
+    told: ToldJobs<'_>,
     numbers: &[usize],
     out: &mut String,
 ) -> Result<(), AllocError>
@@ -123,11 +134,14 @@ fn push_jobs(
         × TellsJobs told.entry.ahead.now told.entry.part.now numbers.now lines
         × (string_bytes out.new ≡ string_bytes out.old ++ lines)) }
 {
+    let mut last = FRONT;
     for index in 0..numbers.len() {
         let number = numbers[index];
+        let spot = spot_of(told.part, last, number);
         let sentence = job_sentence(alloc, set, told.jobs.get(number), told.outcomes.get(number))?;
-        let line = job_line(alloc, told.ahead, told.part, number, &sentence)?;
+        let line = job_line(alloc, told.ahead, told.part, number, spot, &sentence)?;
         out.push_str(&line)?;
+        last = spot.unwrap_or(last);
     }
     Ok(())
 }
@@ -167,7 +181,7 @@ fn first_ones(numbers: &[usize]) -> &[usize]
 fn first_lines(
     alloc: Global,
     set: &ProgramSet,
-    told: Told<'_>,
+    told: ToldJobs<'_>,
     numbers: &[usize],
 ) -> Result<String, AllocError>
     ensures { IfOk result (λ lines. TellsJobs told.entry.ahead.now told.entry.part.now
@@ -182,7 +196,7 @@ fn first_lines(
 fn lost_text(
     alloc: Global,
     set: &ProgramSet,
-    told: Told<'_>,
+    told: ToldJobs<'_>,
     kind: Loss,
     numbers: &[usize],
 ) -> Result<String, AllocError>
@@ -203,7 +217,7 @@ fn lost_text(
 fn jobs_lost(
     alloc: Global,
     set: &ProgramSet,
-    told: Told<'_>,
+    told: ToldJobs<'_>,
     kind: Loss,
 ) -> Result<String, AllocError>
     ensures { IfOk result (λ words. TellsLost told.entry.ahead.now told.entry.part.now
@@ -215,7 +229,11 @@ fn jobs_lost(
 
 /// Which jobs were refused, which aborted and which clashed for good: of each kind how many, and the
 /// first eight; nothing where all committed.
-pub fn lost_job_words(alloc: Global, set: &ProgramSet, told: Told<'_>) -> Result<String, AllocError>
+pub fn lost_job_words(
+    alloc: Global,
+    set: &ProgramSet,
+    told: ToldJobs<'_>,
+) -> Result<String, AllocError>
     ensures { IfOk result (λ words. TellsLosses told.entry.ahead.now told.entry.part.now
         told.entry.outcomes.now (string_bytes words)) }
 {

@@ -1,10 +1,13 @@
 //! The lines of a script that do nothing, in words.
-ghost use Rattle.std.specs.Prelude.{◌≡◌, ◌↔◌, ◌++◌, [], List, ℕ, Some, IsTrue, IfOk, IfSome, OnOk, string_bytes};
-ghost use Rattle.run_words.specs.PartPointing.{BeginsAtLine, Extends, PointsAtLineIn};
+ghost use Rattle.std.specs.Prelude.{◌≡◌, ◌↔◌, [], Some, IsTrue, IfNone, IfOk, IfSome, OnOk, slice_get, string_bytes};
+ghost use Rattle.text_places.specs.Places.{HasNoLine};
+ghost use Rattle.run_words.specs.PartPointing.{BeginsAtLine, Extends, HasNoLineOf, PointsAtLineIn};
+ghost use Rattle.run_words.specs.ToldLines.{first_told, told_lines};
 
 use crate::begin_numbers::{Numbers, Vacuums, number_words};
 use crate::event_lines::EventLines;
 use crate::in_input::point_in_part;
+use crate::limits::MAX_TOLD;
 use crate::record_faults::counted;
 use fault_words::{parameter_count, program_name};
 use history_book::{Book, MAX_ENDINGS};
@@ -12,9 +15,6 @@ use prog_check::ProgramSet;
 use si_engine::{Event, Reply};
 use std::alloc::{AllocError, Global};
 use text_places::{line_front, push_listed};
-
-// So many lines are told.
-const MAX_TOLD: usize = 8;
 
 // Why an event does nothing.
 #[derive(Clone, Copy, Debug, PartialEq, Eq)]
@@ -163,11 +163,29 @@ impl Refusals {
         }
     }
 
+    // The lines that are told; none where memory ran out for them.
+    fn told_lines(&self) -> &[Refused]
+        ensures { result.now ≡ told_lines self.now }
+    {
+        if self.is_lost {
+            &[]
+        } else {
+            self.told.as_slice()
+        }
+    }
+
+    // The first of them.
+    fn first(&self) -> Option<Refused>
+        ensures { result ≡ slice_get (told_lines self.now) 0 }
+    {
+        self.told_lines().first().copied()
+    }
+
     /// Whether no line is told.
     pub fn is_empty(&self) -> bool
-        ensures { IsTrue result ↔ (self.now.told.items ≡ []) }
+        ensures { IsTrue result ↔ (told_lines self.now ≡ []) }
     {
-        self.told.is_empty()
+        self.told_lines().is_empty()
     }
 
     /// Looks at the next event of the script that a part is, with its reply and the book behind it.
@@ -241,8 +259,9 @@ fn line_words(
     part: &[u8],
     refused: Refused,
 ) -> Result<Option<String>, AllocError>
-    ensures { IfOk result (λ said. IfSome said (λ words.
+    ensures said { IfOk result (λ said. IfSome said (λ words.
         PointsAtLineIn ahead.now part.now (Some refused.line) (string_bytes words))) }
+    ensures none { IfOk result (λ said. IfNone said (HasNoLine part.now refused.line)) }
 {
     let Some(front) = line_front(part, refused.line) else {
         return Ok(None);
@@ -250,6 +269,14 @@ fn line_words(
     let sentence = sentence(alloc, set, refused.refusal)?;
     let words = point_in_part(alloc, ahead, part, front, &sentence)?;
     Ok(Some(words))
+}
+
+// All but the first.
+fn behind_first(lines: &[Refused]) -> &[Refused] {
+    match lines {
+        [_, others @ ..] => others,
+        [] => &[],
+    }
 }
 
 // Adds lines that do nothing.
@@ -287,8 +314,32 @@ fn counts(alloc: Global, refusals: &Refusals) -> Result<String, AllocError> {
     Ok(text)
 }
 
-/// Which lines of a script do nothing, and why; nothing where each line does something, and where
-/// memory ran out for them.
+// The lines that are told, from the first on, and how many more there are; nothing where the first
+// is not found.
+fn told_words(
+    alloc: Global,
+    set: &ProgramSet,
+    ahead: &[u8],
+    part: &[u8],
+    refusals: &Refusals,
+    first: Refused,
+) -> Result<Option<String>, AllocError>
+    ensures said { IfOk result (λ said. IfSome said (λ words.
+        BeginsAtLine ahead.now part.now (Some first.line) (string_bytes words))) }
+    ensures none { IfOk result (λ said. IfNone said (HasNoLine part.now first.line)) }
+{
+    let Some(mut words) = line_words(alloc, set, ahead, part, first)? else {
+        return Ok(None);
+    };
+    let others = behind_first(refusals.told_lines());
+    push_lines(alloc, set, ahead, part, others, &mut words)?;
+    let counts = counts(alloc, refusals)?;
+    words.push_str(&counts)?;
+    Ok(Some(words))
+}
+
+/// Which lines of a script do nothing, and why; nothing where none is told, or the first of them is
+/// not found.
 pub fn refused_words(
     alloc: Global,
     set: &ProgramSet,
@@ -296,20 +347,13 @@ pub fn refused_words(
     part: &[u8],
     refusals: &Refusals,
 ) -> Result<Option<String>, AllocError>
-    ensures { IfOk result (λ said. IfSome said (λ words.
-        BeginsAtLine ahead.now part.now (string_bytes words))) }
+    ensures said { IfOk result (λ said. IfSome said (λ words.
+        BeginsAtLine ahead.now part.now (first_told refusals.now) (string_bytes words))) }
+    ensures none { IfOk result (λ said. IfNone said
+        (HasNoLineOf part.now (first_told refusals.now))) }
 {
-    if refusals.is_lost {
-        return Ok(None);
+    match refusals.first() {
+        Some(first) => told_words(alloc, set, ahead, part, refusals, first),
+        None => Ok(None),
     }
-    let [first, others @ ..] = refusals.told.as_slice() else {
-        return Ok(None);
-    };
-    let Some(mut words) = line_words(alloc, set, ahead, part, *first)? else {
-        return Ok(None);
-    };
-    push_lines(alloc, set, ahead, part, others, &mut words)?;
-    let counts = counts(alloc, refusals)?;
-    words.push_str(&counts)?;
-    Ok(Some(words))
 }

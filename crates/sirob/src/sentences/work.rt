@@ -2,7 +2,7 @@
 
 use crate::sentences::kept_input::{ahead_of_second, second_part, set_of};
 use crate::worker_fault::WorkerFault;
-use run_words::{Told, lost_job_words};
+use run_words::{ToldJobs, lost_job_words};
 use si_engine::Bytes;
 use si_workers::{JobEnd, JobOutcome, MAX_JOBS, MAX_WORKERS, read_jobs};
 use std::alloc::{AllocError, Global};
@@ -27,7 +27,7 @@ pub fn lost_sentence(
     let Some(list) = read_jobs(alloc, &set, &mut Bytes::new(part)).ok() else {
         return Ok(None);
     };
-    let told = Told {
+    let told = ToldJobs {
         ahead: ahead_of_second(input),
         part,
         jobs: list.jobs.as_slice(),

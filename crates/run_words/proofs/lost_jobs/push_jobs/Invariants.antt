@@ -1,9 +1,10 @@
 use Rattle.std.proofs.Common.{ℕ, ◌≡◌, ◌++◌, List, string_bytes, take}
+use Rattle.run_words.specs.JobSpots.{IsSpot}
 use Rattle.run_words.specs.LostJobs.{TellsJobs}
 use Rattle.run_words.proofs.lost_jobs.push_jobs.Given as goal
 
--- the lines so far are added
+-- the lines so far are added, and before the last spot begin as many jobs as it says
 abbrev pub invariant-loop-index : goal.invariant-loop-index
 invariant-loop-index l =
     (lines : List ℕ) × TellsJobs l.told.ahead.now l.told.part.now (take l.index l.numbers) lines
-    × (string_bytes l.out ≡ string_bytes l.fn.out ++ lines)
+    × (string_bytes l.out ≡ string_bytes l.fn.out ++ lines) × IsSpot l.told.part.now l.last

@@ -1,15 +1,21 @@
-use Rattle.std.proofs.Common.{◌++◌, ◌∙◌, ap, append_assoc, string_bytes}
+use Rattle.std.proofs.Common.{◌≡◌, ◌∙◌, ℕ, None, Option, Some, IfNone, IfOk, IfSome, ap, string_bytes, subst, sym}
+use Rattle.run_words.specs.PartPointing.{BeginsAtLine, HasNoLineOf}
+use Rattle.run_words.specs.ToldLines.{first_told, line_of}
 use Rattle.run_words.proofs.refusals.refused_words.Goals as goal
 
-pub returns : goal.returns
-returns c =
-    let points = rw c.in-Some.is at c.in_ok-words.ensures in
-    let first = string_bytes c.in-Some.words in
-    let more = c.in_ok-push_lines.ensures in
-    let counts = c.deref.result.now in (
-      _,
-      first,
-      more.0 ++ counts,
-      points,
-      c.in_ok-push_str.ensures.bytes ∙ ap (λ out. out ++ counts) more.1 ∙ append_assoc first more.0 counts,
-    )
+pub returns-in-Some-clause-said : goal.returns-in-Some-clause-said
+returns-in-Some-clause-said c =
+    let told : first_told c.args.refusals.now ≡ Some c.in-Some.first.line = ap line_of (sym c.first.ensures ∙ c.in-Some.is) in
+    subst (λ (line : Option ℕ). IfOk c.told_words.result (λ said. IfSome said (λ words. BeginsAtLine c.args.ahead.now c.args.part.now line (string_bytes words))))
+    (sym told) c.told_words.ensures.said
+
+pub returns-in-Some-clause-none : goal.returns-in-Some-clause-none
+returns-in-Some-clause-none c =
+    let told : first_told c.args.refusals.now ≡ Some c.in-Some.first.line = ap line_of (sym c.first.ensures ∙ c.in-Some.is) in
+    subst (λ (line : Option ℕ). IfOk c.told_words.result (λ said. IfNone said (HasNoLineOf c.args.part.now line)))
+    (sym told) c.told_words.ensures.none
+
+pub returns-in-None-clause-none : goal.returns-in-None-clause-none
+returns-in-None-clause-none c =
+    let told : first_told c.args.refusals.now ≡ None = ap line_of (sym c.first.ensures ∙ c.in-None.is) in
+    subst (λ (line : Option ℕ). HasNoLineOf c.args.part.now line) (sym told) tt

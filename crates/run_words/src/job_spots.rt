@@ -1,0 +1,46 @@
+//! Where the jobs of a list begin that are asked for one after another: each is looked for behind
+//! the last one.
+ghost use Rattle.std.specs.Prelude.{◌≡◌, ◌+◌, IfNone, IfSome};
+ghost use Rattle.text_places.specs.Landmarks.{HasNoJob, IsJobPlace};
+ghost use Rattle.run_words.specs.JobSpots.{IsSpot};
+
+use text_places::job_place_from;
+
+/// A place of a list of jobs, and how many of them begin before it.
+#[derive(Clone, Copy)]
+pub struct Spot {
+    pub place: usize,
+    pub jobs: usize,
+}
+
+/// The front of each list.
+pub const FRONT: Spot = Spot { place: 0, jobs: 0 };
+
+// Where the job of a number begins, which has so many between a spot and it.
+fn spot_behind(list: &[u8], from: Spot, between: usize, number: usize) -> Option<Spot>
+    requires from { IsSpot list.now from }
+    requires number { from.jobs + between ≡ number }
+    ensures job { IfSome result (λ spot. IsJobPlace list.now number spot.place) }
+    ensures spot { IfSome result (IsSpot list.now) }
+    ensures none { IfNone result (HasNoJob list.now number) }
+{
+    let place = job_place_from(list, from.place, between)?;
+    Some(Spot {
+        place,
+        jobs: number,
+    })
+}
+
+/// Where the job of a number begins, given where an earlier one does; one before that is looked for
+/// from the front.
+pub fn spot_of(list: &[u8], last: Spot, number: usize) -> Option<Spot>
+    requires { IsSpot list.now last }
+    ensures job { IfSome result (λ spot. IsJobPlace list.now number spot.place) }
+    ensures spot { IfSome result (IsSpot list.now) }
+    ensures none { IfNone result (HasNoJob list.now number) }
+{
+    match number.checked_sub(last.jobs) {
+        Some(between) => spot_behind(list, last, between, number),
+        None => spot_behind(list, FRONT, number, number),
+    }
+}
