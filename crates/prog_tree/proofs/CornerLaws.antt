@@ -1,11 +1,11 @@
 -- Laws of the corners of a region.
-use Rattle.std.proofs.Common.{◌≡◌, ◌∙◌, ◌==◌, ℕ, ℤ, pos, negsuc, Bool, true, false, cond, not, ◌&&◌, leb, refl, ap, sym, arith}
+use Rattle.std.proofs.Common.{◌≡◌, ◌∙◌, ◌==◌, ℕ, ℤ, suc, pos, negsuc, Bool, true, false, cond, not, ◌&&◌, leb, refl, ap, sym, arith}
 use Rattle.std.specs.Prelude.{int_lt, int_le, Some, None}
 use Rattle.std.specs.Cmp.{tied_itself, nat_cmp_total}
 use Rattle.std.specs.declared.cmp.Ordering.{Ordering}
 use Rattle.std.specs.declared.cmp.Ordering.TheVariants.{Less, Equal, Greater}
 use Rattle.std.specs.Ordering.{int_cmp, is_gt, is_le, is_lt, ordering_then}
-use Rattle.std.proofs.lemmas.Bool.{eqb-true, and_from, and_parts}
+use Rattle.std.proofs.lemmas.Bool.{eqb-true, eq-eqb, and_from, and_parts}
 use Rattle.std.proofs.lemmas.Bool.Decides.{nat_tests}
 use Rattle.prog_tree.specs.declared.cell.Cell.{Cell}
 use Rattle.prog_tree.specs.declared.cell.Region.{Region}
@@ -107,9 +107,33 @@ between r c h =
     (ap (λ t. is_le (cell_cmp (corner t r.first_low r.second_low) c)) h.table ∙ le_from_not_gt _ low)
     (ap (λ t. not (is_lt (cell_cmp (corner t r.first_high r.second_high) c))) h.table ∙ ap not high)
 
--- the corners of a region whose ends are in order
+-- ---- the corners of a region whose ends are in order
+
+in_order : (x y : ℤ) → int_lt y x ≡ false → int_le x y ≡ true
+in_order (pos a) (pos b) h = let fact : leb (suc b) a ≡ false = h in grind (arith, nat_tests)
+in_order (pos a) (negsuc b) h = absurd (cc)
+in_order (negsuc a) (pos b) h = refl
+in_order (negsuc a) (negsuc b) h = let fact : leb (suc a) b ≡ false = h in grind (arith, nat_tests)
+
+not_above_itself : (x : ℤ) → int_le x x ≡ true
+not_above_itself (pos a) = let fact : leb (suc a) a ≡ false = grind (arith, nat_tests) in in_order (pos a) (pos a) fact
+not_above_itself (negsuc a) = let fact : leb (suc a) a ≡ false = grind (arith, nat_tests) in in_order (negsuc a) (negsuc a) fact
+
+-- a column's ends lie between themselves
+ends_within : (x y : ℤ) → int_lt y x ≡ false → lies_between x x y ≡ true × lies_between x y y ≡ true
+ends_within x y h = (and_from _ _ (not_above_itself x) (in_order x y h), and_from _ _ (in_order x y h) (not_above_itself y))
+
 pub corners_of : (r : Region) → int_lt r.first_high r.first_low ≡ false → int_lt r.second_high r.second_low ≡ false → AreCorners r (Some (low_corner r, high_corner r))
-corners_of r first second = (not_gt r.table r.first_low r.second_low r.first_high r.second_high first second, λ c h. between r c (within r c h))
+corners_of r first second =
+    let firsts = ends_within r.first_low r.first_high first in
+    let seconds = ends_within r.second_low r.second_high second in (
+      (
+        and_from _ _ (eq-eqb r.table r.table refl) (and_from _ _ firsts.0 seconds.0),
+        and_from _ _ (eq-eqb r.table r.table refl) (and_from _ _ firsts.1 seconds.1),
+        not_gt r.table r.first_low r.second_low r.first_high r.second_high first second,
+      ),
+      λ c h. between r c (within r c h),
+    )
 
 -- a region whose ends are not in order has no cell
 pub no_cell_first : (r : Region) → int_lt r.first_high r.first_low ≡ true → AreCorners r None

@@ -13,9 +13,13 @@ is_between low high c = is_le (cell_cmp low c) && not (is_lt (cell_cmp high c))
 abbrev pub AreInOrder : Cell → Cell → Type 0
 AreInOrder low high = is_gt (cell_cmp low high) ≡ false
 
--- two cells in order between which all of a region lies; none where the region has no cell
+-- both are cells of a region, in order
+abbrev pub AreCellsOf : Region → Cell → Cell → Type 0
+AreCellsOf region low high = is_in region low ≡ true × is_in region high ≡ true × AreInOrder low high
+
+-- the least and the greatest cell of a region; none where it has no cell
 abbrev pub AreCorners : Region → Option (Cell × Cell) → Type 0
 AreCorners region None = (c : Cell) → is_in region c ≡ false
 AreCorners region (Some corners) =
-    AreInOrder corners.0 corners.1
+    AreCellsOf region corners.0 corners.1
     × ((c : Cell) → is_in region c ≡ true → is_between corners.0 corners.1 c ≡ true)

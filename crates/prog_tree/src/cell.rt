@@ -29,8 +29,8 @@ pub fn is_among(cells: &[Cell], cell: &Cell) -> bool
     cells.iter().any(|other| cell.cmp(other).is_eq())
 }
 
-/// The least and the greatest cell that a region can have, or none where it has no cell. Between
-/// them stand cells beside the region too.
+/// The least and the greatest cell of a region, or none where it has no cell. Between them stand
+/// cells beside the region too.
 pub fn corners(region: Region) -> Option<(Cell, Cell)>
     ensures { AreCorners region result }
 {

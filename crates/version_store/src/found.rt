@@ -5,7 +5,8 @@ ghost use Rattle.version_store.specs.Reading.{RisesFrom, value_at};
 ghost use Rattle.version_store.specs.Regions.{seen_in, seen_left, with_found, found_row};
 
 use crate::chain::Chain;
-use prog_tree::{Cell, Region, Rows, is_among};
+use crate::own::OwnCells;
+use prog_tree::{Cell, Region, Rows};
 use std::alloc::AllocError;
 
 /// Adds the row of a cell after the first `start` commits, where it has one.
@@ -33,7 +34,7 @@ pub fn seen_in(region: &Region, start: u64, cell: &Cell, chain: &Chain) -> Optio
 /// The same but for some `own` cells.
 pub fn seen_left(
     region: &Region,
-    own: &[Cell],
+    own: &OwnCells,
     start: u64,
     cell: &Cell,
     chain: &Chain,
@@ -41,7 +42,7 @@ pub fn seen_left(
     ensures { RisesFrom 0 chain.now.versions →
         result ≡ seen_left region.now own.now start cell.now chain.now }
 {
-    if is_among(own, cell) {
+    if own.has(cell) {
         return None;
     }
     seen_in(region, start, cell, chain)

@@ -6,6 +6,7 @@ mod chains;
 mod clash;
 mod found;
 mod laws;
+mod own;
 mod pending;
 mod scan;
 mod store;
@@ -15,4 +16,5 @@ mod versions;
 
 pub use clash::Clash;
 pub use laws::{clashes_are_found, retained_versions_stay};
+pub use own::OwnCells;
 pub use store::Store;

@@ -6,6 +6,7 @@ ghost use Rattle.version_store.specs.Regions.{seen_anywhere, seen_in, seen_left,
 
 use crate::chains::Chains;
 use crate::found::{add_found, behind, push_row, seen_in, seen_left};
+use crate::own::OwnCells;
 use prog_tree::{Cell, Region, Rows, Sequence, corners};
 use std::alloc::AllocError;
 
@@ -36,9 +37,10 @@ impl Chains {
         let Some((low, high)) = corners(*region) else {
             return rows.is_empty();
         };
+        let own_cells = OwnCells::of(own);
         let mut rest = rows;
         for (cell, chain) in self.chains.range(low..=high) {
-            let found = seen_left(region, own, start, cell, chain);
+            let found = seen_left(region, &own_cells, start, cell, chain);
             let Some(after) = behind(rest, cell, found) else {
                 return false;
             };

@@ -5,7 +5,7 @@ use crate::store::twin::{Deed, cell, rows_after};
 use prog_tree::{Cell, Region, corners};
 use std::alloc::Global;
 use std::process::Abort;
-use version_store::{Clash, Store};
+use version_store::{Clash, OwnCells, Store};
 
 /// Versions and vacuums, over `t[1] = 0`.
 const VERSIONS: &[(Call, Answer)] = &[
@@ -167,6 +167,22 @@ fn scans_are_those_of_the_list(rt: HostRuntime) {
         check_scans(&rt, rt.alloc(), &store, low, high);
     }
     drop(store);
+}
+
+/// Own cells, a cell that is looked for among them, and whether it is found.
+const OWN: [(&[Cell], Cell, bool); 5] = [
+    (&[FIRST, THIRD], THIRD, true),
+    (&[FIRST, THIRD], SECOND, false),
+    (&[THIRD, FIRST], THIRD, true),
+    (&[THIRD, FIRST], SECOND, false),
+    (&[], FIRST, false),
+];
+
+#[test]
+fn own_cells_are_found_in_any_order(rt: HostRuntime) {
+    for (own, cell, is_found) in OWN {
+        assert!(rt; OwnCells::of(own).has(&cell) == is_found);
+    }
 }
 
 #[test]

@@ -12,8 +12,9 @@ ghost use Rattle.history_book.specs.Precedence.{precedes};
 use crate::orders::precedence::Precedence;
 use crate::orders::trace::{Sight, Trace};
 use crate::orders::writers::{Writers, first_missed, last_seen};
-use prog_tree::{Cell, Region, corners, is_among};
+use prog_tree::{Cell, Region, corners};
 use std::alloc::{AllocError, Global};
+use version_store::OwnCells;
 
 // Puts a number and each of the next before the one behind it.
 fn add_steps_from(
@@ -127,13 +128,13 @@ fn add_cell(
 }
 
 // Whether a region has a cell that is not one of the reader's own.
-fn takes_in(region: &Region, own: &[Cell], cell: &Cell) -> bool
+fn takes_in(region: &Region, own: &OwnCells, cell: &Cell) -> bool
     ensures { result ≡ takes_in (Sight.Range region.now own.now) cell.now }
 {
     if !region.contains(cell) {
         return false;
     }
-    !is_among(own, cell)
+    !own.has(cell)
 }
 
 // Adds what a look at a region says of its reader.
@@ -153,8 +154,9 @@ fn add_region(
     let Some((low, high)) = corners(*region) else {
         return Ok(());
     };
+    let own_cells = OwnCells::of(own);
     for (cell, numbers) in writers.cells.range(low..=high) {
-        if takes_in(region, own, cell) {
+        if takes_in(region, &own_cells, cell) {
             add_reader(precedence, reader, start, numbers.as_slice())?;
         }
     }
