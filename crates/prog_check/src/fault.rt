@@ -3,7 +3,8 @@
 use std::alloc::{AllocError, AllocFailed};
 use thiserror::Error;
 
-/// Where a fault lies, by numbers from 0. Statements are numbered within their program, a branch before its blocks.
+/// Where a fault lies, by numbers from 0. Statements are numbered within their program, a branch or an `each` before its
+/// blocks.
 #[derive(Clone, Copy, Debug, PartialEq, Eq, Error)]
 pub enum Place {
     #[error("table {table}")]
@@ -27,10 +28,10 @@ pub enum CheckFault {
     DuplicateParameter { place: Place },
     #[error("C4 {place}")]
     UnknownTable { place: Place },
-    /// A name is used that is neither a parameter nor a visible `let`.
+    /// A name is used that is neither a parameter nor visible by a `let` or an `each`.
     #[error("C5 {place}")]
     UnknownName { place: Place },
-    /// A `let` has a name that is visible already.
+    /// A `let` or an `each` gives a name that is visible already.
     #[error("C6 {place}")]
     NameTaken { place: Place },
     /// A key or a range has another number of columns than its table.
