@@ -5,7 +5,8 @@ use text_places::{
     SetText, as_text, before, begins_token, begins_word, behind, behind_word, column, end_before,
     ends_line, feeds, first_token, first_word, job_place, last_token, line_at, line_front,
     line_number, point_out, program_place, push_listed, record_place, second_token, short_word,
-    stands_free, statement_place, table_name, table_place, without_comments,
+    stands_free, statement_place, table_name, table_place, visible_text,
+    without_comments,
 };
 
 #[test]
@@ -120,7 +121,8 @@ fn tables_programs_and_lines_of_lists_are_found(rt: HostRuntime) -> Result<(), F
         );
     }
     assert!(rt; record_place(b"# rows\nrecord Look 1 at 0 gives\n", 0) == Some(7));
-    assert!(rt; job_place(b"job Look 1\n job Set 1 2\n", 1) == Some(12));
+    assert!(rt; job_place(b"job Look 1\n job Set 1 2\n", 0, 1) == Some(12));
+    assert!(rt; job_place(b"job Look 1\n job Set 1 2\n", 11, 0) == Some(12));
     Ok(())
 }
 
@@ -151,6 +153,9 @@ fn comments_are_read_as_blanks(rt: HostRuntime) -> Result<(), Fail> {
     let text = b"x # y\nz";
     assert!(rt; without_comments(rt.alloc(), text)?.as_slice() == b"x    \nz".as_slice());
     assert!(rt; end_before(rt.alloc(), text, 6)? == 1);
+    let set = SetText::new(rt.alloc(), text)?;
+    assert!(rt; set.plain() == b"x    \nz".as_slice());
+    drop(set);
     Ok(())
 }
 
@@ -162,5 +167,6 @@ fn lists_and_places_are_told(rt: HostRuntime) -> Result<(), Fail> {
     assert!(rt; list.as_str() == "t, u");
     let told = point_out(rt.alloc(), LINES.as_bytes(), 17, "no table u")?;
     assert!(rt; told.as_str() == "line 2, column 7: no table u\n    get u[7]\n        ^\n");
+    assert!(rt; visible_text(rt.alloc(), b"t\x1b[2m\xc3\tu")?.as_str() == "t?[2m? u");
     Ok(())
 }

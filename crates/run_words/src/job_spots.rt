@@ -4,7 +4,7 @@ ghost use Rattle.std.specs.Prelude.{◌≡◌, ◌+◌, IfNone, IfSome};
 ghost use Rattle.text_places.specs.Landmarks.{HasNoJob, IsJobPlace};
 ghost use Rattle.run_words.specs.JobSpots.{IsSpot};
 
-use text_places::job_place_from;
+use text_places::job_place;
 
 /// A place of a list of jobs, and how many of them begin before it.
 #[derive(Clone, Copy)]
@@ -24,7 +24,7 @@ fn spot_behind(list: &[u8], from: Spot, between: usize, number: usize) -> Option
     ensures spot { IfSome result (IsSpot list.now) }
     ensures none { IfNone result (HasNoJob list.now number) }
 {
-    let place = job_place_from(list, from.place, between)?;
+    let place = job_place(list, from.place, between)?;
     Some(Spot {
         place,
         jobs: number,

@@ -1,7 +1,7 @@
 //! Where the tables, programs and statements of a set's text begin, and the records or the jobs of
 //! a list. A statement's first word stands nowhere else.
 ghost use Rattle.std.specs.Prelude.{◌≡◌, ◌≤◌, ◌&&◌, bytes_eq, drop, IfNone, IfOk, IfSome};
-ghost use Rattle.text_places.specs.Landmarks.{begun_at, is_landmark, HasFewer, HasNoJob, HasNoProgram, HasNoRecord, HasNoTable, IsJobPlace, IsNumbered, IsProgramPlace, IsRecordPlace, IsTablePlace};
+ghost use Rattle.text_places.specs.Landmarks.{begun_at, is_landmark, HasFewer, HasNoProgram, HasNoRecord, HasNoTable, IsNumbered, IsProgramPlace, IsRecordPlace, IsTablePlace};
 ghost use Rattle.text_places.specs.Places.{begins_line};
 ghost use Rattle.text_places.specs.Reading.{short_word, without_comments};
 ghost use Rattle.text_places.specs.declared.landmark.Landmark.TheVariants.{Job};
@@ -116,16 +116,8 @@ pub fn record_place(list: &[u8], number: usize) -> Option<usize>
     numbered(Landmark::Record, list, 0, number)
 }
 
-/// Where a job of a list begins.
-pub fn job_place(list: &[u8], number: usize) -> Option<usize>
-    ensures found { IfSome result (IsJobPlace list.now number) }
-    ensures none { IfNone result (HasNoJob list.now number) }
-{
-    numbered(Landmark::Job, list, 0, number)
-}
-
 /// Where a job of a list begins, counted from a place on.
-pub fn job_place_from(list: &[u8], start: usize, number: usize) -> Option<usize>
+pub fn job_place(list: &[u8], start: usize, number: usize) -> Option<usize>
     ensures found { IfSome result (IsNumbered Job list.now start number) }
     ensures behind { IfSome result (λ place. start ≤ place) }
     ensures none { IfNone result (HasFewer Job list.now start number) }

@@ -13,7 +13,7 @@ mod reading;
 mod set_text;
 mod tokens;
 
-pub use landmark::{job_place, job_place_from, program_place, record_place, table_place};
+pub use landmark::{job_place, program_place, record_place, table_place};
 pub use listing::push_listed;
 pub use place::{before, behind, column, ends_line, feeds, line_at, line_front, line_number};
 pub use quote::{point_out, visible_text};

@@ -82,6 +82,7 @@ fn check_ledger(rt: &impl Abort, graph: &Graph) {
     assert!(rt; graph.edge(2, 0) && graph.edge(0, 1));
     assert!(rt; graph.reaches(2, 1) && !graph.edge(2, 1));
     assert!(rt; !graph.reaches(1, 2));
+    assert!(rt; graph.vulnerable(2, 0) && graph.vulnerable(0, 1) && !graph.vulnerable(0, 2));
 }
 
 fn check_ledger_table(rt: &impl Abort, alloc: Global, table: &PairTable) -> Result<(), AllocError> {

@@ -1,13 +1,16 @@
 //! Plans of sets, and what is made of plans of a caller's own.
 
-use crate::examples::{SKEW, wide_text};
+use crate::examples::{SKEW, paths_of, wide_text};
 use crate::repairs::sets::MOVE_IN_A_BODY;
+use conflict_pairs::changes_single_cells;
 use example_sets::{KEPT_PAY, MOVE, PAY, REPORT, SMALL_BANK, TRANSFER, set_of};
 use prog_check::ProgramSet;
+use prog_paths::Question;
 use prog_text::print;
 use prog_tree::Sequence;
-use si_repair::{Pair, Plan, RepairFault, materialise, plan, promote};
+use si_repair::{Pair, Plan, RepairFault, exposed_questions, materialise, plan, promote};
 use std::alloc::{AllocError, Global};
+use std::process::Abort;
 use std::test::Fail;
 
 /// Sets, and the pairs of their plans.
@@ -37,6 +40,43 @@ fn plans_have_the_pairs_that_are_needed(rt: HostRuntime) -> Result<(), Fail> {
     for &(text, wanted) in PLANS.iter() {
         let plan = plan_of(rt.alloc(), text)?;
         assert!(rt; plan.pairs.as_slice() == wanted);
+    }
+    Ok(())
+}
+
+/// Pairs of programs, and the first and second accesses of their exposed questions.
+const EXPOSED: [(&str, Pair, &[[usize; 4]]); 3] = [
+    (
+        SMALL_BANK,
+        Pair { from: 4, to: 2 },
+        &[[4, 0, 2, 1], [5, 0, 2, 1]],
+    ),
+    (SKEW, Pair { from: 1, to: 0 }, &[[1, 0, 0, 2]]),
+    (TRANSFER, ITSELF, &[]),
+];
+
+/// The exposed questions of a pair of the programs of a text.
+fn exposed_of(
+    rt: &impl Abort,
+    alloc: Global,
+    text: &str,
+    pair: Pair,
+) -> Result<Vec<Question>, Fail> {
+    let paths = paths_of(alloc, text)?;
+    assert!(rt; paths.iter().all(|path| changes_single_cells(path)));
+    let exposed = exposed_questions(alloc, &paths, pair);
+    drop(paths);
+    Ok(exposed?)
+}
+
+#[test]
+fn what_is_not_covered_is_exposed(rt: HostRuntime) -> Result<(), Fail> {
+    for &(text, pair, wanted) in EXPOSED.iter() {
+        let exposed = exposed_of(&rt, rt.alloc(), text, pair)?;
+        assert!(rt; exposed.len() == wanted.len());
+        for (question, numbers) in exposed.iter().zip(wanted) {
+            assert!(rt; [question.x, question.a, question.y, question.b] == *numbers);
+        }
     }
     Ok(())
 }
