@@ -13,8 +13,7 @@ use Rattle.robust_cert.specs.declared.certificate.Entry.{Entry}
 use Rattle.robust_cert.specs.declared.certificate.Entry as entry
 use Rattle.robust_cert.specs.declared.entries.Reason.{Reason}
 use Rattle.robust_cert.specs.declared.entries.Reason.TheVariants.{Apart, Cover}
-use Rattle.robust_cert.specs.Json.{QuestionFits, EntryFits, entry_items, entry_data}
-use Rattle.robust_cert.specs.Helpers.{AreNumbersOf, reason_kind, reason_items, IsWordedAs}
+use Rattle.robust_cert.specs.Json.{QuestionFits, EntryFits, entry_items, entry_data, AreNumbersOf, reason_kind, reason_items, IsWordedAs}
 use Rattle.robust_cert.specs.Parts.{ReasonFits}
 use Rattle.robust_cert.specs.Sharing.{entry_with}
 

@@ -17,7 +17,7 @@ use Rattle.robust_cert.specs.declared.entries.Reason.{Reason}
 use Rattle.robust_cert.specs.declared.fault.CertFault.{CertFault}
 use Rattle.robust_cert.specs.declared.fault.CertFault.TheVariants.{TooLarge, PathCount, NoSuchEntry, EntryOrder, BadChain, BadCover, LevelFalls, Dangerous, Memory}
 use Rattle.robust_cert.specs.Accepted.{numbers_told, question_of, IsFitting, ChainsHold, Holds}
-use Rattle.robust_cert.specs.Refused.{StandTo, IsAtFault, IsBehindLast, IsFirstFault}
+use Rattle.robust_cert.specs.Refused.{StandTo, IsAtFault, IsBehindLast, IsOutOfOrder, HasBadCover, HasBadChain, IsFirstFault}
 use Rattle.robust_cert.specs.Flaws.{IsAskedPair, StandsAt, IsEntryFault, IsFaultAt}
 use Rattle.robust_cert.specs.Sharing.{question_told, entry_with}
 use Rattle.robust_cert.proofs.Cursor.{before_trans, question-asked}
@@ -74,14 +74,11 @@ module _ (nodes : List Path) (c : Certificate) (k : ℕ) (inside : k < length c.
       at : (n : ℕ) → n ≡ k → IsAtFault nodes c n e
       at n is = subst (λ (m : ℕ). IsAtFault nodes c m e) (sym is) (record { before = s; at = w.1 })
 
-      last : (n : ℕ) → n ≡ k → IsBehindLast c.entries k e → IsBehindLast c.entries n e
-      last n is b = subst (λ (m : ℕ). IsBehindLast c.entries m e) (sym is) b
-
       go : (fault : CertFault) → IsEntryFault nodes c.entries k e fault → IsFirstFault nodes c fault
-      go (NoSuchEntry n) (is, against) = (e, at n is, against)
-      go (EntryOrder n) (is, q, against) = (e, at n is, q, λ b. against (subst (λ (m : ℕ). IsBehindLast c.entries m e) is b))
-      go (BadCover n) (is, q, b, against) = (e, at n is, q, last n is b, against)
-      go (BadChain n) (is, q, b, f, against) = (e, at n is, q, last n is b, f, against)
+      go (NoSuchEntry n) (is, wrong) = (e, at n is, wrong)
+      go (EntryOrder n) (is, wrong) = (e, at n is, subst (λ (m : ℕ). IsOutOfOrder nodes c.entries m e) (sym is) wrong)
+      go (BadCover n) (is, wrong) = (e, at n is, subst (λ (m : ℕ). HasBadCover nodes c.entries m e) (sym is) wrong)
+      go (BadChain n) (is, wrong) = (e, at n is, subst (λ (m : ℕ). HasBadChain nodes c.entries m e) (sym is) wrong)
       go Memory h = absurd h
       go TooLarge h = absurd h
       go PathCount h = absurd h
@@ -118,7 +115,7 @@ module _ (nodes : List Path) (entries : List Entry) (k : ℕ) (p : Asked) (about
       subst (IsQuestion nodes) (named ∙ ap numbers_told (about e at) ∙ sym (question-asked e)) (record { mine = mine; theirs = theirs; asked = pair.asked; asks = pair.asks })
 
   pub order-fault : behind ≡ false → IsFaultAt nodes entries k (EntryOrder k)
-  order-fault against e at = (refl, asked e at, λ b. false≢true (sym against ∙ (says e at).1 b))
+  order-fault against e at = (refl, (asked e at, λ b. false≢true (sym against ∙ (says e at).1 b)))
 
   module _ (r : Reason) (told : (e : Entry) → slice_get entries k ≡ Some e → e ≡ entry_with (question_told e) r) (yes : behind ≡ true) where
     same_entry : (e : Entry) → slice_get entries k ≡ Some e → entry_with p r ≡ e
@@ -131,7 +128,7 @@ module _ (nodes : List Path) (entries : List Entry) (k : ℕ) (p : Asked) (about
     )
 
     pub cover-fault : (IsFitting nodes (entry_with p r) → ⊥) → IsFaultAt nodes entries k (BadCover k)
-    cover-fault against e at = (refl, asked e at, (says e at).0 yes, λ f. against (subst (IsFitting nodes) (sym (same_entry e at)) f))
+    cover-fault against e at = (refl, (asked e at, (says e at).0 yes, λ f. against (subst (IsFitting nodes) (sym (same_entry e at)) f)))
 
     pub chain-fault : IsFitting nodes (entry_with p r) × (ChainsHold nodes (entry_with p r) → ⊥) → IsFaultAt nodes entries k (BadChain k)
-    chain-fault (fitting, against) e at = (refl, asked e at, (says e at).0 yes, subst (IsFitting nodes) (same_entry e at) fitting, λ h. against (subst (ChainsHold nodes) (sym (same_entry e at)) h))
+    chain-fault (fitting, against) e at = (refl, (asked e at, (says e at).0 yes, subst (IsFitting nodes) (same_entry e at) fitting, λ h. against (subst (ChainsHold nodes) (sym (same_entry e at)) h)))

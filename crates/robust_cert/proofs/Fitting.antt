@@ -1,8 +1,8 @@
--- Numbers in their ranges, and what was found.
+-- Numbers in their ranges, and what is so anyway.
 use Rattle.std.proofs.Common.{◌≡◌, ◌≤◌, ◌-◌, ℕ, List, [], ◌∷◌, length, take, drop, get_or, subst, arith, Result, Ok, Err, OnOk, OnErr}
 use Rattle.std.proofs.lemmas.Grind.{common_steps}
 use Rattle.std.proofs.lemmas.List.Elements.{All-cons}
-use Rattle.std.specs.Prelude.{All, Option, Some, IfSome}
+use Rattle.std.specs.Prelude.{All}
 use Rattle.order_facts.specs.declared.steps.Node.{Node}
 use Rattle.order_facts.specs.declared.steps.Node.TheVariants.{Mine, MineUnknown, Theirs, TheirsUnknown, Number}
 use Rattle.robust_cert.specs.Ranges.{IsOfSmall, NodeFits}
@@ -16,10 +16,6 @@ small_from_fits (Number k) h = tt
 
 pub all_small : (nodes : List Node) → All NodeFits nodes → All IsOfSmall nodes
 all_small nodes h n d inside = small_from_fits (get_or nodes n d) (h n d inside)
-
--- what is so of a thing that was found
-pub IfSome_at : {A : Type 0} (o : Option A) (x : A) (P : A → Type 0) → o ≡ Some x → IfSome o P → P x
-IfSome_at o x P e h = subst (λ (p : Option _). IfSome p P) e h
 
 -- what is so of the first thing and of each behind it is so of all
 pub all_from_first : {A : Type 0} (P : A → Type 0) (xs : List A) (x : A) (i : ℕ) → 1 ≤ length xs → x ≡ get_or xs 0 x → length (take (length xs - 1) (drop 1 xs)) ≤ i

@@ -1,6 +1,7 @@
 -- How a pass goes on, part by part.
 use Rattle.std.proofs.Common.{◌≡◌, ℕ, ◌<◌, ◌+◌, Bool, true, false, ◌||◌, List, [], ◌∷◌, ◌++◌, length, get_or, take, drop, refl, sym, subst, ap, ◌∙◌, arith}
 use Rattle.std.specs.Prelude.{All}
+use Rattle.std.proofs.Math.Bool.{or_assoc, or-false}
 use Rattle.std.proofs.lemmas.List.{take-append-drop, drop_more, take_more, append-nil}
 use Rattle.std.proofs.lemmas.List.Folds.{list_any-append}
 use Rattle.std.proofs.lemmas.List.Elements.{All-nil, All-cons, All-head, All-tail}
@@ -52,14 +53,6 @@ rise-across (x ∷ xs) ys r k d lt =
 
 -- ---- tables
 
-or_assoc : (a b c : Bool) → ((a || b) || c) ≡ (a || (b || c))
-or_assoc true b c = refl
-or_assoc false b c = refl
-
-or_none : (a : Bool) → a ≡ (a || false)
-or_none true = refl
-or_none false = refl
-
 Enters-append : (old mid new : Grid) (f g h : ℕ → ℕ → Bool) → ((i j : ℕ) → h i j ≡ (f i j || g i j)) → Enters old mid f → Enters mid new g → Enters old new h
 Enters-append old mid new f g h both first second = record {
   size = second.size ∙ first.size;
@@ -72,7 +65,7 @@ Enters-append old mid new f g h both first second = record {
 }
 
 Enters-nothing : (s : Grid) → Enters s s (λ i j. false)
-Enters-nothing s = record { size = refl; entries = λ i j p q. or_none (entry s i j) }
+Enters-nothing s = record { size = refl; entries = λ i j p q. sym (or-false (entry s i j)) }
 
 Enters-alike : (old new : Grid) (f g : ℕ → ℕ → Bool) → ((i j : ℕ) → f i j ≡ g i j) → Enters old new f → Enters old new g
 Enters-alike old new f g same e = record { size = e.size; entries = λ i j p q. e.entries i j p q ∙ ap (λ (b : Bool). entry old i j || b) (same i j) }
@@ -93,8 +86,8 @@ module _ (entries : List Entry) where
 
   pub Passes-one : (q : Asked) (told : Telling) (m : Mark) (from to : ℕ) (old new : Left) → told ≡ telling_of entries (numbers_of q) → m ≡ mark_with q told → EntersMark old new m → IsBehind entries to (numbers_of q) → Passes entries (q ∷ []) from to old new
   Passes-one q told m from to old new tells is e behind = record {
-    edges = Enters-alike old.edges new.edges (λ x y. gives_edge x y m) (some_edge entries (q ∷ [])) (λ x y. ap (λ (n : Mark). gives_edge x y n) own ∙ or_none (gives_edge x y (mark_under entries q))) e.edges;
-    vulnerable = Enters-alike old.vulnerable new.vulnerable (λ x y. gives_vulnerable x y m) (some_vulnerable entries (q ∷ [])) (λ x y. ap (λ (n : Mark). gives_vulnerable x y n) own ∙ or_none (gives_vulnerable x y (mark_under entries q))) e.vulnerable;
+    edges = Enters-alike old.edges new.edges (λ x y. gives_edge x y m) (some_edge entries (q ∷ [])) (λ x y. ap (λ (n : Mark). gives_edge x y n) own ∙ sym (or-false (gives_edge x y (mark_under entries q)))) e.edges;
+    vulnerable = Enters-alike old.vulnerable new.vulnerable (λ x y. gives_vulnerable x y m) (some_vulnerable entries (q ∷ [])) (λ x y. ap (λ (n : Mark). gives_vulnerable x y n) own ∙ sym (or-false (gives_vulnerable x y (mark_under entries q)))) e.vulnerable;
     cursor = λ r _ all k d lt at. before_trans (question_of d) (numbers_of q) r (behind k d lt at) (All-head (λ p. IsBefore (numbers_of p) r) q [] all);
   }
     where

@@ -17,8 +17,7 @@ use Rattle.robust_cert.specs.declared.entries.Reason.{Reason}
 use Rattle.robust_cert.specs.declared.entries.Reason.TheVariants.{Apart, Cover}
 use Rattle.robust_cert.specs.declared.entries.Told.{Told}
 use Rattle.robust_cert.specs.declared.certificate.Certificate.{Certificate}
-use Rattle.robust_cert.specs.Json.{list_data, whole_data, node_data, chain_data, entry_data, first_data, second_data}
-use Rattle.robust_cert.specs.Helpers.{shared_text}
+use Rattle.robust_cert.specs.Json.{list_data, whole_data, node_data, chain_data, entry_data, first_data, second_data, shared_text}
 use Rattle.robust_cert.specs.Parts.{kind_text, first_text, head_text, second_text, tail_text, next_head_text, next_entry_text}
 use Rattle.robust_cert.specs.Sharing.{entry_with, reason_at, entry_told, entries_told}
 use Rattle.robust_cert.proofs.Shared.{told-push}

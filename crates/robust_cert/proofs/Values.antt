@@ -9,8 +9,7 @@ use Rattle.robust_cert.specs.declared.certificate.Entry.{Entry}
 use Rattle.robust_cert.specs.declared.certificate.Certificate.{Certificate}
 use Rattle.robust_cert.specs.Ranges.{IsSmall}
 use Rattle.robust_cert.specs.Json.{has_no_bodies, first_data, second_data, IsValueOf}
-use Rattle.robust_cert.specs.Reading.{version_of}
-use Rattle.robust_cert.specs.Helpers.{IsShared}
+use Rattle.robust_cert.specs.Reading.{version_of, IsShared}
 use Rattle.robust_cert.proofs.Distinct.{same_entries, same_numbers}
 
 -- ---- versions

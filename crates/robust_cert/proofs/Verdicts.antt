@@ -90,9 +90,9 @@ module _ (nodes : List Path) (c : Certificate) (a : IsAccepted nodes c) where
   only_memory TooLarge h = let few = a.few in absurd (omega (arith, few, h))
   only_memory PathCount h = absurd (h.1 (a.levels, a.bodies))
   only_memory (NoSuchEntry k) (e, f, against) = absurd (against (held k e f.at).question)
-  only_memory (EntryOrder k) (e, f, q, against) = absurd (against (λ j last at is. behind-entry c.entries k e a.rising f.at j last (omega (arith, at)) is))
-  only_memory (BadCover k) (e, f, q, b, against) = absurd (against (held k e f.at).fitting)
-  only_memory (BadChain k) (e, f, q, b, fits, against) = absurd (against (held k e f.at).chains)
+  only_memory (EntryOrder k) (e, f, (q, against)) = absurd (against (λ j last at is. behind-entry c.entries k e a.rising f.at j last (omega (arith, at)) is))
+  only_memory (BadCover k) (e, f, (q, b, against)) = absurd (against (held k e f.at).fitting)
+  only_memory (BadChain k) (e, f, (q, b, fits, against)) = absurd (against (held k e f.at).chains)
   only_memory (LevelFalls x y) (s, f, _) = let up = a.levels_rise.never_fall x y f.edge in let down = f.falls in absurd (omega (arith, up, down))
   only_memory (Dangerous x y z) (s, n, f, _) = let up = a.levels_rise.rise x y z f.first f.second in let down = f.stays in absurd (omega (arith, up, down))
   only_memory Memory h = refl

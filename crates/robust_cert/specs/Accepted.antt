@@ -28,7 +28,8 @@ question_of (Cover q mine theirs chains) = numbers_told q
 -- ---- when an entry holds
 
 -- the question asks for a read-write dependency; two accesses, one of each of its nodes, change or keep, in one table
-pub record IsCoverOf (nodes : List Path) (q : graph.Question) (m t : ℕ) (of_mine of_theirs : Access) : Type 0 where
+pub record IsCoverOf (nodes : List Path) (q : graph.Question) (m t : ℕ)
+    (of_mine of_theirs : Access) : Type 0 where
   pub mine : Access
   pub theirs : Access
   pub asked : AsksOf nodes q mine theirs

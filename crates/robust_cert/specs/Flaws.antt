@@ -7,7 +7,7 @@ use Rattle.order_facts.specs.Chain.{RunsBetween}
 use Rattle.prog_check.specs.declared.path.Access.{Access}
 use Rattle.prog_check.specs.declared.path.Path.{Path}
 use Rattle.prog_paths.specs.StaticGraph.{Question, AsksOf}
-use Rattle.prog_paths.specs.Asked.{Asks, IsQuestion}
+use Rattle.prog_paths.specs.Asked.{Asks}
 use Rattle.prog_paths.specs.Questions.{question_facts}
 use Rattle.prog_paths.specs.Shown.{key_pairs}
 use Rattle.robust_cert.specs.declared.certificate.Entry.{Entry}
@@ -16,8 +16,8 @@ use Rattle.robust_cert.specs.declared.checking.flaw.Flaw.{Flaw}
 use Rattle.robust_cert.specs.declared.checking.flaw.Flaw as flaw
 use Rattle.robust_cert.specs.declared.fault.CertFault.{CertFault}
 use Rattle.robust_cert.specs.declared.fault.CertFault.TheVariants.{NoSuchEntry, EntryOrder, BadChain, BadCover}
-use Rattle.robust_cert.specs.Accepted.{question_of, IsCoverOf, IsFitting, ChainsHold, Holds}
-use Rattle.robust_cert.specs.Refused.{IsBehindLast}
+use Rattle.robust_cert.specs.Accepted.{IsCoverOf, IsFitting, ChainsHold, Holds}
+use Rattle.robust_cert.specs.Refused.{IsBehindLast, IsNoQuestion, IsOutOfOrder, HasBadCover, HasBadChain}
 
 -- the two accesses are those of a question of the paths
 pub record IsAskedPair (nodes : List Path) (q : Question) (mine theirs : Access) : Type 0 where
@@ -36,7 +36,8 @@ pub record RunsDown (chain : List Node) : Type 0 where
   pub runs : RunsBetween (Number greater) (Number smaller) chain
 
 -- two accesses cover the question, with so many chains
-pub record CoversWith (nodes : List Path) (q : Question) (m t count : ℕ) (of_mine of_theirs : Access) : Type 0 where
+pub record CoversWith (nodes : List Path) (q : Question) (m t count : ℕ)
+    (of_mine of_theirs : Access) : Type 0 where
   pub cover : IsCoverOf nodes q m t of_mine of_theirs
   pub enough : count ≡ 2 * length (key_pairs of_mine of_theirs)
 
@@ -47,19 +48,17 @@ IsFlawOf nodes e flaw.TheVariants.Chain = IsFitting nodes e × ¬ ChainsHold nod
 
 -- the entry of a number holds, and stands behind the one before it
 abbrev pub StandsAt : List Path → List Entry → ℕ → Type 0
-StandsAt nodes entries k = (e : Entry) → slice_get entries k ≡ Some e → Holds nodes e × IsBehindLast entries k e
+StandsAt nodes entries k =
+    (e : Entry) → slice_get entries k ≡ Some e → Holds nodes e × IsBehindLast entries k e
 
 -- which fault the entry of a number has
 abbrev pub IsEntryFault : List Path → List Entry → ℕ → Entry → CertFault → Type 0
-IsEntryFault nodes entries k e (NoSuchEntry n) = (n ≡ k) × ¬ IsQuestion nodes (question_of e)
-IsEntryFault nodes entries k e (EntryOrder n) =
-    (n ≡ k) × IsQuestion nodes (question_of e) × ¬ IsBehindLast entries k e
-IsEntryFault nodes entries k e (BadCover n) =
-    (n ≡ k) × IsQuestion nodes (question_of e) × IsBehindLast entries k e × ¬ IsFitting nodes e
-IsEntryFault nodes entries k e (BadChain n) =
-    (n ≡ k) × IsQuestion nodes (question_of e) × IsBehindLast entries k e × IsFitting nodes e
-    × ¬ ChainsHold nodes e
+IsEntryFault nodes entries k e (NoSuchEntry n) = (n ≡ k) × IsNoQuestion nodes e
+IsEntryFault nodes entries k e (EntryOrder n) = (n ≡ k) × IsOutOfOrder nodes entries k e
+IsEntryFault nodes entries k e (BadCover n) = (n ≡ k) × HasBadCover nodes entries k e
+IsEntryFault nodes entries k e (BadChain n) = (n ≡ k) × HasBadChain nodes entries k e
 IsEntryFault nodes entries k e _ = ⊥
 
 abbrev pub IsFaultAt : List Path → List Entry → ℕ → CertFault → Type 0
-IsFaultAt nodes entries k fault = (e : Entry) → slice_get entries k ≡ Some e → IsEntryFault nodes entries k e fault
+IsFaultAt nodes entries k fault =
+    (e : Entry) → slice_get entries k ≡ Some e → IsEntryFault nodes entries k e fault

@@ -1,6 +1,7 @@
 -- The JSON value of a certificate, and its text.
-use Rattle.std.specs.Prelude.{◌≡◌, ℕ, List, length, map, codes, All, Bool, ◌&&◌, ◌==◌, if◌then◌else◌, IsTrue, ◌⊎◌}
+use Rattle.std.specs.Prelude.{◌≡◌, ◌++◌, ℕ, List, length, map, codes, String, string_bytes, All, Bool, ◌&&◌, ◌==◌, if◌then◌else◌, IsTrue, ◌⊎◌}
 use Rattle.std.specs.List.{list_all}
+use Rattle.std.specs.declared.alloc.Global.{Global}
 use Rattle.order_facts.specs.declared.steps.Node.{Node}
 use Rattle.order_facts.specs.declared.steps.Node.TheVariants.{Mine, MineUnknown, Theirs, TheirsUnknown, Number}
 use Rattle.serde_json.specs.Data.{Num, unsigned, Data, number, string, array, object, Items, no_items, item, Members, no_members, member}
@@ -11,6 +12,8 @@ use Rattle.robust_cert.specs.declared.certificate.Question.{Question}
 use Rattle.robust_cert.specs.declared.certificate.Entry.{Entry}
 use Rattle.robust_cert.specs.declared.certificate.Entry.TheVariants.{Apart, Cover}
 use Rattle.robust_cert.specs.declared.certificate.Certificate.{Certificate}
+use Rattle.robust_cert.specs.declared.entries.Reason.{Reason}
+use Rattle.robust_cert.specs.declared.entries.Reason as reason
 use Rattle.robust_cert.specs.Ranges.{IsSmall, ChainFits}
 
 -- a whole number that isn't negative
@@ -39,26 +42,50 @@ chain_data = list_data node_data
 -- ---- an entry is its kind, the four numbers of its question, and its reason
 
 abbrev pub entry_items : List ℕ → Question → Items → Data
-entry_items kind q reason = array (item (string kind) (item (whole_data q.x) (item (whole_data q.a) (item (whole_data q.y) (item (whole_data q.b) reason)))))
+entry_items kind q reason =
+    array (item (string kind) (item (whole_data q.x) (item (whole_data q.a)
+    (item (whole_data q.y) (item (whole_data q.b) reason)))))
 
 abbrev pub apart_items : List Node → Items
 apart_items chain = item (chain_data chain) no_items
 
 abbrev pub cover_items : ℕ → ℕ → List (List Node) → Items
-cover_items mine theirs chains = item (whole_data mine) (item (whole_data theirs) (item (list_data chain_data chains) no_items))
+cover_items mine theirs chains =
+    item (whole_data mine) (item (whole_data theirs) (item (list_data chain_data chains) no_items))
 
 abbrev pub entry_data : Entry → Data
 entry_data (Apart q chain) = entry_items (codes "apart") q (apart_items chain)
 entry_data (Cover q mine theirs chains) = entry_items (codes "cover") q (cover_items mine theirs chains)
 
+-- four values are the numbers of a question
+abbrev pub AreNumbersOf : Question → Data → Data → Data → Data → Type 0
+AreNumbersOf q x a y b =
+    (x ≡ whole_data q.x) × (a ≡ whole_data q.a) × (y ≡ whole_data q.y) × (b ≡ whole_data q.b)
+
+-- the word for a reason, and the items that tell it
+abbrev pub reason_kind : Reason → List ℕ
+reason_kind (reason.TheVariants.Apart chain) = codes "apart"
+reason_kind (reason.TheVariants.Cover mine theirs chains) = codes "cover"
+
+abbrev pub reason_items : Reason → Items
+reason_items (reason.TheVariants.Apart chain) = apart_items chain
+reason_items (reason.TheVariants.Cover mine theirs chains) = cover_items mine theirs chains
+
+-- a reason has this word and these items
+abbrev pub IsWordedAs : Reason → Data → Items → Type 0
+IsWordedAs r kind items = (kind ≡ string (reason_kind r)) × (items ≡ reason_items r)
+
 -- ---- the whole
 
 -- the members that both versions have, of which the last is the version
 abbrev pub members_data : Data → Data → Num → Members
-members_data entries levels version = member (codes "entries") entries (member (codes "levels") levels (member (codes "version") (number version) no_members))
+members_data entries levels version =
+    member (codes "entries") entries (member (codes "levels") levels
+    (member (codes "version") (number version) no_members))
 
 abbrev pub shared_members : Certificate → Num → Members
-shared_members c version = members_data (list_data entry_data c.entries) (list_data whole_data c.levels) version
+shared_members c version =
+    members_data (list_data entry_data c.entries) (list_data whole_data c.levels) version
 
 -- no access stands in the body of an `each`: one zero for each level
 abbrev pub has_no_bodies : Certificate → Bool
@@ -69,7 +96,8 @@ abbrev pub first_data : Certificate → Data
 first_data c = object (shared_members c (unsigned 1))
 
 abbrev pub second_data : Certificate → Data
-second_data c = object (member (codes "bodies") (list_data whole_data c.bodies) (shared_members c (unsigned 2)))
+second_data c =
+    object (member (codes "bodies") (list_data whole_data c.bodies) (shared_members c (unsigned 2)))
 
 -- the value that is written: of the first version, where it says all
 abbrev pub certificate_data : Certificate → Data
@@ -78,6 +106,16 @@ certificate_data c = if has_no_bodies c then first_data c else second_data c
 -- its text, with no space
 abbrev pub certificate_text : Certificate → List ℕ
 certificate_text c = compact_text (certificate_data c)
+
+-- the text of the members that both versions have, up to the version
+abbrev pub shared_text : Certificate → List ℕ
+shared_text c =
+    codes "\"entries\":" ++ (compact_text (list_data entry_data c.entries)
+    ++ (codes ",\"levels\":" ++ compact_text (list_data whole_data c.levels)))
+
+-- a text has grown by that of a value
+abbrev pub Appends : String Global → String Global → Data → Type 0
+Appends old new d = string_bytes new ≡ string_bytes old ++ compact_text d
 
 -- ---- the numbers are in their ranges, as they are in every certificate that a program holds
 

@@ -41,7 +41,8 @@ pub record IsReady (entries : List Entry) (questions : List Asked) (cursor : ℕ
   pub behind : All (λ q. IsBehind entries cursor (numbers_of q)) questions
 
 -- what the questions give is entered, and the cursor stands behind no question that follows
-pub record Passes (entries : List Entry) (questions : List Asked) (from to : ℕ) (old new : Left) : Type 0 where
+pub record Passes (entries : List Entry) (questions : List Asked) (from to : ℕ)
+    (old new : Left) : Type 0 where
   pub edges : Enters old.edges new.edges (some_edge entries questions)
   pub vulnerable : Enters old.vulnerable new.vulnerable (some_vulnerable entries questions)
   pub cursor : (q : Question) → IsBehind entries from q → All (λ p. IsBefore (numbers_of p) q) questions

@@ -2,7 +2,6 @@ pub mod Sharing
 pub mod Ranges
 pub mod Json
 pub mod Reading
-pub mod Helpers
 pub mod Parts
 pub mod Accepted
 pub mod Refused

@@ -1,4 +1,5 @@
--- The text of an entry in three parts: the head and the tail are those of other entries as well, and between them stand two numbers.
+-- The text of an entry in three parts: the head and the tail are those of other entries as well, and between them
+-- stand two numbers.
 use Rattle.std.specs.Prelude.{◌≡◌, ◌++◌, ℕ, List, All, codes, decimal, map, String, string_bytes}
 use Rattle.std.specs.declared.alloc.Global.{Global}
 use Rattle.order_facts.specs.declared.steps.Node.{Node}
@@ -28,7 +29,9 @@ next_head_text q reason = codes "," ++ head_text q reason
 
 -- both heads that entries with this first access have, behind a comma
 abbrev pub AreHeadsOf : Question → String Global → String Global → Type 0
-AreHeadsOf q apart cover = (string_bytes apart ≡ codes ",[\"apart\"," ++ first_text q) × (string_bytes cover ≡ codes ",[\"cover\"," ++ first_text q)
+AreHeadsOf q apart cover =
+    (string_bytes apart ≡ codes ",[\"apart\"," ++ first_text q)
+    × (string_bytes cover ≡ codes ",[\"cover\"," ++ first_text q)
 
 -- ---- the middle: the second access
 
@@ -41,7 +44,9 @@ abbrev pub apart_tail_text : List Node → List ℕ
 apart_tail_text chain = codes "," ++ (compact_text (chain_data chain) ++ codes "]")
 
 abbrev pub cover_tail_text : ℕ → ℕ → List (List Node) → List ℕ
-cover_tail_text mine theirs chains = codes "," ++ (decimal mine ++ (codes "," ++ (decimal theirs ++ (codes "," ++ (compact_text (list_data chain_data chains) ++ codes "]")))))
+cover_tail_text mine theirs chains =
+    codes "," ++ (decimal mine ++ (codes "," ++ (decimal theirs ++ (codes ","
+    ++ (compact_text (list_data chain_data chains) ++ codes "]")))))
 
 abbrev pub tail_text : Reason → List ℕ
 tail_text (Apart chain) = apart_tail_text chain

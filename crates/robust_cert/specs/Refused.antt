@@ -31,7 +31,28 @@ pub record IsAtFault (nodes : List Path) (c : Certificate) (k : ℕ) (e : Entry)
 -- the question of the entry stands behind that of the entry before it
 abbrev pub IsBehindLast : List Entry → ℕ → Entry → Type 0
 IsBehindLast entries k e =
-    (j : ℕ) (last : Entry) → j + 1 ≡ k → slice_get entries j ≡ Some last → IsBefore (question_of last) (question_of e)
+    (j : ℕ) (last : Entry) → j + 1 ≡ k → slice_get entries j ≡ Some last
+    → IsBefore (question_of last) (question_of e)
+
+-- ---- what is wrong with an entry: first its question, then its place, then its cover, then its chains
+
+-- it is about no question
+abbrev pub IsNoQuestion : List Path → Entry → Type 0
+IsNoQuestion nodes e = ¬ IsQuestion nodes (question_of e)
+
+-- it is about a question, and not behind the last
+abbrev pub IsOutOfOrder : List Path → List Entry → ℕ → Entry → Type 0
+IsOutOfOrder nodes entries k e = IsQuestion nodes (question_of e) × ¬ IsBehindLast entries k e
+
+-- it stands where it may, and names no two accesses that may cover with so many chains
+abbrev pub HasBadCover : List Path → List Entry → ℕ → Entry → Type 0
+HasBadCover nodes entries k e =
+    IsQuestion nodes (question_of e) × IsBehindLast entries k e × ¬ IsFitting nodes e
+
+-- it names such two, and its chains don't show what they have to
+abbrev pub HasBadChain : List Path → List Entry → ℕ → Entry → Type 0
+HasBadChain nodes entries k e =
+    IsQuestion nodes (question_of e) × IsBehindLast entries k e × IsFitting nodes e × ¬ ChainsHold nodes e
 
 -- ---- the edges that are left
 
@@ -54,15 +75,10 @@ IsFirstFault nodes c TooLarge = limit < length (questions_of nodes)
 IsFirstFault nodes c PathCount =
     (length (questions_of nodes) ≤ limit)
     × ((length c.levels ≡ length nodes) × (c.bodies ≡ map body_size nodes) → ⊥)
-IsFirstFault nodes c (NoSuchEntry k) = (e : Entry) × IsAtFault nodes c k e × (IsQuestion nodes (question_of e) → ⊥)
-IsFirstFault nodes c (EntryOrder k) =
-    (e : Entry) × IsAtFault nodes c k e × IsQuestion nodes (question_of e) × (IsBehindLast c.entries k e → ⊥)
-IsFirstFault nodes c (BadCover k) =
-    (e : Entry) × IsAtFault nodes c k e × IsQuestion nodes (question_of e) × IsBehindLast c.entries k e
-    × (IsFitting nodes e → ⊥)
-IsFirstFault nodes c (BadChain k) =
-    (e : Entry) × IsAtFault nodes c k e × IsQuestion nodes (question_of e) × IsBehindLast c.entries k e
-    × IsFitting nodes e × (ChainsHold nodes e → ⊥)
+IsFirstFault nodes c (NoSuchEntry k) = (e : Entry) × IsAtFault nodes c k e × IsNoQuestion nodes e
+IsFirstFault nodes c (EntryOrder k) = (e : Entry) × IsAtFault nodes c k e × IsOutOfOrder nodes c.entries k e
+IsFirstFault nodes c (BadCover k) = (e : Entry) × IsAtFault nodes c k e × HasBadCover nodes c.entries k e
+IsFirstFault nodes c (BadChain k) = (e : Entry) × IsAtFault nodes c k e × HasBadChain nodes c.entries k e
 IsFirstFault nodes c (LevelFalls x y) =
     StandTo nodes c (length c.entries) × FallsAt nodes c x y
     × ((u v : ℕ) → FallsAt nodes c u v → IsAtMost (x ∷ y ∷ []) (u ∷ v ∷ []))

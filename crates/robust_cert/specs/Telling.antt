@@ -40,7 +40,8 @@ telling_of (e ∷ rest) q = if is_same (question_of e) q then telling_by e else 
 
 -- the entries before this one stand before the question
 abbrev pub IsBehind : List Entry → ℕ → Question → Type 0
-IsBehind entries cursor q = (k : ℕ) (e : Entry) → k < cursor → slice_get entries k ≡ Some e → IsBefore (question_of e) q
+IsBehind entries cursor q =
+    (k : ℕ) (e : Entry) → k < cursor → slice_get entries k ≡ Some e → IsBefore (question_of e) q
 
 -- ---- what a question gives
 

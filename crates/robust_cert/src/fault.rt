@@ -76,7 +76,7 @@ impl<T: Drop> From<AllocFailed<T>> for Untaken {
 }
 
 impl From<Untaken> for JsonFault {
-    ghost use Rattle.robust_cert.specs.Helpers.{fault_of};
+    ghost use Rattle.robust_cert.specs.Reading.{fault_of};
 
     ghost from_gives = { λ untaken fault. fault ≡ fault_of untaken };
 

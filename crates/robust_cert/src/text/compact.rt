@@ -8,6 +8,7 @@ use crate::chain::Chain;
 use crate::entries::{Entries, Reason};
 use crate::fault::Untaken;
 use crate::text::seen::Seen;
+use crate::text::whole::no_bodies;
 use order_facts::{Node, Nodes};
 use prog_tree::Sequence;
 use std::alloc::Global;
@@ -304,12 +305,6 @@ fn signed(digits: u64) -> Result<i64, Untaken> {
 
 fn chain_of(nodes: Nodes) -> Result<Chain, Untaken> {
     Chain::from_nodes(nodes).ok_or(Untaken::Misshapen)
-}
-
-// One zero for each level.
-fn no_bodies(alloc: Global, levels: &Sequence<u32>) -> Result<Sequence<u32>, Untaken> {
-    let zeros = vec![in alloc; 0; levels.len()]?;
-    Ok(Sequence::from_vec(zeros))
 }
 
 /// A certificate whose text the bytes may be. They are looked at from their end first.

@@ -5,8 +5,7 @@ ghost use Rattle.serde_json.specs.View.{view};
 ghost use Rattle.robust_cert.specs.declared.certificate.Certificate.{Certificate};
 ghost use Rattle.robust_cert.specs.declared.fault.JsonFault.{JsonFault};
 ghost use Rattle.robust_cert.specs.Json.{IsValueOf};
-ghost use Rattle.robust_cert.specs.Reading.{ReadsAs, IsTextOf, IsFaultOf, HasFault, Answers, version_of};
-ghost use Rattle.robust_cert.specs.Helpers.{number_of};
+ghost use Rattle.robust_cert.specs.Reading.{ReadsAs, IsTextOf, IsFaultOf, HasFault, Answers, version_of, number_of};
 
 use crate::certificate::Certificate;
 use crate::fault::{JsonFault, Untaken};

@@ -47,8 +47,8 @@ impl<'a> Seen<'a> {
         Ok(Seen { slots })
     }
 
-    /// An entry that has the reason with which the bytes begin, if it was seen, and the bytes behind
-    /// it.
+    /// An entry that has the reason with which the bytes begin, if it was seen, and the bytes
+    /// behind it.
     pub(crate) fn find(&self, bytes: &'a [u8]) -> Option<(usize, &'a [u8])> {
         let slot = (*self.slots.get(slot_of(bytes))?)?;
         let rest = bytes.strip_prefix(slot.text)?;

@@ -10,8 +10,7 @@ ghost use Rattle.robust_cert.specs.declared.certificate.Question.{Question};
 ghost use Rattle.robust_cert.specs.declared.certificate.Entry.{Entry};
 ghost use Rattle.robust_cert.specs.declared.entries.Reason.{Reason};
 ghost use Rattle.robust_cert.specs.Ranges.{IsSmall, NodeFits, ChainFits};
-ghost use Rattle.robust_cert.specs.Json.{whole_data, node_data, chain_data, QuestionFits, list_data, entry_data, EntryFits, apart_items, cover_items};
-ghost use Rattle.robust_cert.specs.Helpers.{AreNumbersOf, IsWordedAs};
+ghost use Rattle.robust_cert.specs.Json.{whole_data, node_data, chain_data, QuestionFits, list_data, entry_data, EntryFits, apart_items, cover_items, AreNumbersOf, IsWordedAs};
 ghost use Rattle.robust_cert.specs.Parts.{ReasonFits};
 ghost use Rattle.robust_cert.specs.Sharing.{entry_with};
 

@@ -5,8 +5,7 @@ ghost use Rattle.serde_json.specs.Data.{Data, Num, Items, Members, unsigned, arr
 ghost use Rattle.serde_json.specs.View.{view, items_view, members_view};
 ghost use Rattle.robust_cert.specs.declared.certificate.Certificate.{Certificate};
 ghost use Rattle.robust_cert.specs.Json.{IsValueOf, members_data};
-ghost use Rattle.robust_cert.specs.Reading.{version_of};
-ghost use Rattle.robust_cert.specs.Helpers.{number_of, IsShared, IsNotShared};
+ghost use Rattle.robust_cert.specs.Reading.{version_of, number_of, IsShared, IsNotShared};
 
 use crate::certificate::Certificate;
 use crate::entries::Entries;
@@ -69,8 +68,8 @@ fn shared_of(
     Ok((entries, levels))
 }
 
-// One zero for each level.
-fn no_bodies(alloc: Global, levels: &Sequence<u32>) -> Result<Sequence<u32>, AllocError>
+/// One zero for each level.
+pub fn no_bodies(alloc: Global, levels: &Sequence<u32>) -> Result<Sequence<u32>, AllocError>
     ensures { IfOk result (λ bodies. bodies ≡ replicate (length levels.now) 0) }
 {
     let zeros = vec![in alloc; 0; levels.len()]?;

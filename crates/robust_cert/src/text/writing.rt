@@ -3,9 +3,8 @@
 ghost use Rattle.std.specs.Prelude.{◌≡◌, ◌++◌, ◌==◌, All, IfOk, OnOk, codes, decimal, string_bytes};
 ghost use Rattle.std.specs.List.{list_all};
 ghost use Rattle.robust_cert.specs.Ranges.{IsSmall, ChainFits};
-ghost use Rattle.robust_cert.specs.Json.{node_data, chain_data, entry_data, whole_data, list_data, has_no_bodies, first_data, second_data, certificate_data, certificate_text, QuestionFits, EntryFits, CertificateFits};
+ghost use Rattle.robust_cert.specs.Json.{node_data, chain_data, entry_data, whole_data, list_data, has_no_bodies, first_data, second_data, certificate_data, certificate_text, QuestionFits, EntryFits, CertificateFits, Appends, shared_text};
 ghost use Rattle.robust_cert.specs.Reading.{IsTextOf};
-ghost use Rattle.robust_cert.specs.Helpers.{Appends, shared_text};
 ghost use Rattle.robust_cert.specs.Parts.{first_text, head_text, second_text, AreTailsOf, next_entry_text};
 ghost use Rattle.robust_cert.specs.Sharing.{entry_with, reason_at, entry_told, entries_told, IsWithin};
 

@@ -1,7 +1,8 @@
 use Rattle.robust_cert.specs.Ranges.{NodeFits}
 use Rattle.robust_cert.specs.Json.{node_data}
 use Rattle.robust_cert.proofs.Shapes.{not_list, list_taken}
-use Rattle.robust_cert.proofs.Fitting.{all_small, IfSome_at}
+use Rattle.std.proofs.lemmas.Option.{MatchOption-at_some}
+use Rattle.robust_cert.proofs.Fitting.{all_small}
 use Rattle.robust_cert.proofs.text.shape.chain_of.Goals as goal
 
 pub returns-in_default-node_of-clause-misshapen : goal.returns-in_default-node_of-clause-misshapen
@@ -14,6 +15,6 @@ unreachable-requires c = c.in-None.ensures.none (all_small c.loop-item.nodes.ite
 
 pub returns-clause-ok : goal.returns-clause-ok
 returns-clause-ok c =
-    let made = IfSome_at c.from_vec.result c.in-Some-from_vec.chain _ c.in-Some-from_vec.is c.from_vec.ensures.some in
+    let made = MatchOption-at_some _ _ c.in-Some-from_vec.chain c.in-Some-from_vec.is c.from_vec.ensures.some in
     list_taken node_data NodeFits c.args.value.now c.in-Array.items c.deref-item-items.result.now c.loop-item.item-index c.in-Array.is c.deref-item-items.ensures.value
     c.loop-item.nodes.items c.in-Some-from_vec.chain c.loop-item-test.false c.loop-item.invariant.same made c.loop-item.invariant.fits
