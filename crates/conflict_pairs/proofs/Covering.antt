@@ -1,6 +1,6 @@
 -- Chains of a cover, pair by pair.
 use Rattle.std.proofs.Common.{◌≡◌, ℕ, ◌<◌, ◌≤◌, ◌+◌, ◌⊎◌, inl, inr, List, [], ◌∷◌, ◌++◌, length, get_or, sym, subst, ap, ◌∙◌, arith}
-use Rattle.std.specs.Prelude.{All, Option, Some, IfSome, slice_get}
+use Rattle.std.specs.Prelude.{All, Some, slice_get}
 use Rattle.std.proofs.lemmas.Bool.{cases_lt}
 use Rattle.std.proofs.lemmas.List.Elements.{All-push}
 use Rattle.std.proofs.lemmas.Option.{slice_get-get_or, slice_get_within, same_Some}
@@ -31,10 +31,6 @@ ShowEqual-two facts old mid new p from to there back is_from is_to first second 
     subst (λ (c : List (List Node)). ShowEqual facts (pairs ++ p ∷ []) c) (sym (second ∙ ap (λ (c : List (List Node)). c ++ back ∷ []) first)) (ShowEqual-push facts pairs old p there back run turn h)
 
 -- ---- chains with the fewest nodes
-
--- what is so of a thing that was found
-pub IfSome_at : {A : Type 0} (o : Option A) (x : A) (P : A → Type 0) → o ≡ Some x → IfSome o P → P x
-IfSome_at o x P e h = subst (λ (p : Option _). IfSome p P) e h
 
 pub IsShortest-from_fewest : (facts : List Fact) (from to : Node) (chain : List Node) → RunsBetween from to chain → ((other : List Node) → IsChain facts other → RunsBetween from to other → length chain ≤ length other) → IsShortest facts chain
 IsShortest-from_fewest facts from to [] r fewest x y other s o = absurd r

@@ -59,7 +59,8 @@ pub record CoversFirst (facts : List Fact) (xs ys : List Access) (m t : ℕ) : T
   pub least : (i j : ℕ) → CoversAt facts xs ys i j → (m < i) ⊎ ((m ≡ i) × (t ≤ j))
 
 -- such a pair is found for a question that asks for a read-write dependency and can meet
-pub record IsCoverFound (facts : List Fact) (mine theirs : Kind) (xs ys : List Access) (m t : ℕ) : Type 0 where
+pub record IsCoverFound (facts : List Fact) (mine theirs : Kind) (xs ys : List Access)
+    (m t : ℕ) : Type 0 where
   pub consistent : IsConsistent facts
   pub asks : (q : Question) → AsksReadWrite q mine theirs
   pub first : CoversFirst facts xs ys m t

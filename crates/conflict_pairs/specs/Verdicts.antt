@@ -87,7 +87,8 @@ theirs_of sample = record {
 }
 
 -- the accesses meet under the sample, and no pair covers what may be a read-write dependency
-pub record IsExposedBy (nodes : List Path) (q : Question) (mine theirs : Access) (sample : List Choice) : Type 0 where
+pub record IsExposedBy (nodes : List Path) (q : Question) (mine theirs : Access)
+    (sample : List Choice) : Type 0 where
   pub meets : MeetsUnder (mine_of sample) (theirs_of sample) mine theirs
   pub nearest : (n : Node) → IsSampled (question_facts mine theirs) n (sample_number sample n)
   pub uncovered : AsksReadWrite q mine.kind theirs.kind → ¬ IsCovered nodes q.x q.y mine theirs
@@ -96,10 +97,12 @@ pub record IsExposedBy (nodes : List Path) (q : Question) (mine theirs : Access)
 
 -- a verdict is right of the question between these two accesses
 abbrev pub IsRightOf : List Path → Question → Access → Access → Verdict → Type 0
-IsRightOf nodes q mine theirs (Apart chain) = ¬ CanMeet mine theirs × FallsShortest (question_facts mine theirs) chain
+IsRightOf nodes q mine theirs (Apart chain) =
+    ¬ CanMeet mine theirs × FallsShortest (question_facts mine theirs) chain
 IsRightOf nodes q mine theirs (Covered m t chains) = IsCoveredBy nodes q mine theirs m t chains
 IsRightOf nodes q mine theirs (Exposed sample) = IsExposedBy nodes q mine theirs sample
 
 -- a verdict is right of a question of the paths
 abbrev pub IsRight : List Path → Question → Verdict → Type 0
-IsRight nodes q verdict = (mine theirs : Access) → AsksOf nodes q mine theirs → IsRightOf nodes q mine theirs verdict
+IsRight nodes q verdict =
+    (mine theirs : Access) → AsksOf nodes q mine theirs → IsRightOf nodes q mine theirs verdict

@@ -1,6 +1,6 @@
-//! What the facts say of each question between two accesses: that the two never meet, that a pair of
-//! single cells covers it, or that it is exposed; and the table of all questions of a list of paths
-//! with their verdicts.
+//! What the facts say of each question between two accesses: that the two never meet, that a pair
+//! of single cells covers it, or that it is exposed; and the table of all questions of a list of
+//! paths with their verdicts.
 #![tactic(auto)]
 
 mod alike;

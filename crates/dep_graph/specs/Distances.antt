@@ -27,7 +27,8 @@ pub record IsNextDistance (edges : Grid) (old : List (Option ℕ)) (round node :
   pub all : LeadsToKnown edges old node → IsSome new
 
 -- the distances of all nodes after a round
-pub record AreNextDistances (edges : Grid) (old : List (Option ℕ)) (round : ℕ) (new : List (Option ℕ)) : Type 0 where
+pub record AreNextDistances (edges : Grid) (old : List (Option ℕ)) (round : ℕ)
+    (new : List (Option ℕ)) : Type 0 where
   pub size : length new ≡ length old
   pub each : (node : ℕ) → node < length old → IsNextDistance edges old round node (distance_at new node)
 
@@ -41,7 +42,8 @@ pub record IsDistanceOfWay (edges : Grid) (end rounds node steps : ℕ) : Type 0
 -- known are just the distances of at most `rounds`, and each is that of a shortest way
 pub record KnowsWithin (edges : Grid) (end : ℕ) (distances : List (Option ℕ)) (rounds : ℕ) : Type 0 where
   pub size : length distances ≡ edges.size
-  pub right : (node steps : ℕ) → distance_at distances node ≡ Some steps → IsDistanceOfWay edges end rounds node steps
+  pub right : (node steps : ℕ) → distance_at distances node ≡ Some steps
+      → IsDistanceOfWay edges end rounds node steps
   pub all : (node : ℕ) (nodes : List ℕ) → LeadsOn (Joins edges) node nodes end → length nodes ≤ rounds
       → (steps : ℕ) × (distance_at distances node ≡ Some steps) × (steps ≤ length nodes)
 

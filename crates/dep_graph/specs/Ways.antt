@@ -16,4 +16,5 @@ IsWay edge from end (node ∷ rest) = (node ≡ from) × LeadsOn edge node rest 
 pub record IsLeastWay (edge : ℕ → ℕ → Type 0) (from end : ℕ) (nodes : List ℕ) : Type 0 where
   pub way : IsWay edge from end nodes
   pub shortest : (others : List ℕ) → IsWay edge from end others → length nodes ≤ length others
-  pub least : (others : List ℕ) → IsWay edge from end others → length others ≡ length nodes → IsAtMost nodes others
+  pub least : (others : List ℕ) → IsWay edge from end others → length others ≡ length nodes
+      → IsAtMost nodes others
