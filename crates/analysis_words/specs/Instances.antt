@@ -5,8 +5,9 @@ use Rattle.order_facts.specs.Sample.{sample_number}
 use Rattle.order_facts.specs.declared.sample.Choice.{Choice}
 use Rattle.order_facts.specs.declared.steps.Node.{Node}
 use Rattle.order_facts.specs.declared.steps.Node.TheVariants.{Mine, Theirs}
-use Rattle.prog_tree.specs.Syntax.{Name, ProgramTree, DraftTree}
+use Rattle.prog_tree.specs.Syntax.{Name, DraftTree}
 use Rattle.prog_check.specs.declared.path.Path.{Path}
+use Rattle.fault_words.specs.Naming.{program_params}
 use Rattle.analysis_words.specs.Nodes.{node_name}
 
 -- a parameter of the first or of the second instance
@@ -34,18 +35,10 @@ abbrev pub numbers_text : List Choice → (is_first : Bool) → List Name → Li
 numbers_text sample is_first [] = []
 numbers_text sample is_first (name ∷ names) = given_from sample is_first 0 (name ∷ names) ++ codes ")"
 
--- the parameters of a program; one that is not there has none
-abbrev pub params_of : Option ProgramTree → List Name
-params_of None = []
-params_of (Some program) = program.params
-
-abbrev pub params_in : DraftTree → (program : ℕ) → List Name
-params_in set program = params_of (slice_get set.programs program)
-
 -- the parameters of a path's program
 abbrev pub params_by : DraftTree → Option Path → List Name
 params_by set None = []
-params_by set (Some path) = params_in set path.program
+params_by set (Some path) = program_params set path.program
 
 abbrev pub params_along : DraftTree → List Path → (node : ℕ) → List Name
 params_along set paths node = params_by set (slice_get paths node)

@@ -1,16 +1,16 @@
 //! Instances of programs with the numbers that samples give their parameters.
 ghost use Rattle.std.specs.Prelude.{◌≡◌, IfOk, string_bytes};
 ghost use Rattle.prog_tree.specs.Tree.{draft_tree};
-ghost use Rattle.analysis_words.specs.Instances.{given, given_from, instance_text, node_of, numbers_of, numbers_text, opening, params_along, params_in};
+ghost use Rattle.analysis_words.specs.Instances.{given, given_from, instance_text, node_of, numbers_of, numbers_text, opening, params_along};
 
 use crate::shown::{Shown, node_name};
+use fault_words::program_params;
 use order_facts::{Node, Sample};
-use prog_check::ProgramSet;
 use prog_tree::Name;
 use std::alloc::{AllocError, Global};
 
-// A parameter of the first or of the second instance.
-fn node_of(is_first: bool, number: usize) -> Node
+/// A parameter of the first or of the second instance.
+pub fn node_of(is_first: bool, number: usize) -> Node
     ensures { result ≡ node_of is_first number }
 {
     if is_first {
@@ -78,23 +78,13 @@ fn numbers_text(
     format!(in alloc; "{listed})")
 }
 
-// The parameters of a program; one that is not there has none.
-fn params_in(set: &ProgramSet, program: usize) -> &[Name]
-    ensures { result.now ≡ params_in (draft_tree set.now) program }
-{
-    match set.draft().programs.get(program) {
-        Some(program) => program.params.as_slice(),
-        None => &[],
-    }
-}
-
 // The parameters of a node's program.
 fn params_along<'a>(shown: Shown<'a>, node: usize) -> &'a [Name]
     ensures { result.now
         ≡ params_along (draft_tree shown.entry.set.now) shown.entry.paths.now node }
 {
     match shown.paths.get(node) {
-        Some(path) => params_in(shown.set, path.program),
+        Some(path) => program_params(shown.set.draft(), path.program),
         None => &[],
     }
 }

@@ -21,7 +21,9 @@ mod shown;
 mod ways;
 
 pub use certificate_faults::{certificate_words, json_words};
+pub use instances::node_of;
 pub use refusal::refusal_words;
 pub use repair::repair_words;
 pub use repair_faults::repair_fault_words;
 pub use robust::robust_words;
+pub use shown::branches_text;

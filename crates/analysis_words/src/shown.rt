@@ -72,8 +72,9 @@ fn letters(alloc: Global, choices: &[bool]) -> Result<String, AllocError>
     Ok(text)
 }
 
-// A letter for each branch of a path.
-fn branches_text(alloc: Global, choices: &[bool]) -> Result<String, AllocError>
+/// A letter for each branch of a path, `t` where it takes the first block and `e` else, behind a
+/// colon; nothing where there is no branch.
+pub fn branches_text(alloc: Global, choices: &[bool]) -> Result<String, AllocError>
     ensures { IfOk result (λ text. string_bytes text ≡ branches_text choices.now) }
 {
     let [first, others @ ..] = choices else {

@@ -1,10 +1,10 @@
 //! What the tables, programs and cells of a set are called.
 ghost use Rattle.std.specs.Prelude.{◌≡◌};
 ghost use Rattle.prog_tree.specs.Tree.{draft_tree};
-ghost use Rattle.fault_words.specs.Naming.{program_name};
+ghost use Rattle.fault_words.specs.Naming.{program_name, program_params};
 
 use prog_check::ProgramSet;
-use prog_tree::{Arity, Cell, Draft, Region};
+use prog_tree::{Arity, Cell, Draft, Name, Region};
 use std::alloc::{AllocError, Global};
 
 /// The names of the tables.
@@ -26,11 +26,13 @@ pub fn program_name(set: &ProgramSet, program: usize) -> &str
     }
 }
 
-/// How many parameters a program has.
-pub fn parameter_count(draft: &Draft, program: usize) -> usize {
+/// The parameters of the program of a number; none where there is none.
+pub fn program_params(draft: &Draft, program: usize) -> &[Name]
+    ensures { result.now ≡ program_params (draft_tree draft.now) program }
+{
     match draft.programs.get(program) {
-        Some(program) => program.params.len(),
-        None => 0,
+        Some(program) => program.params.as_slice(),
+        None => &[],
     }
 }
 

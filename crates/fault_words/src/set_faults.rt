@@ -3,7 +3,7 @@ ghost use Rattle.std.specs.Prelude.{◌≡◌, IfNone, IfOk, IfSome, string_byte
 ghost use Rattle.std.specs.List.{list_all};
 ghost use Rattle.fault_words.specs.Pointing.{goes_on, is_word_of, place_of, HasNone, HasNoPlace, IsMark, IsPlaceOf, PointsAtFlaw};
 
-use crate::naming::{parameter_count, table_names};
+use crate::naming::{program_params, table_names};
 use crate::nearest::known_names;
 use crate::ordinals::ordinal;
 use crate::pointing::point_at;
@@ -278,7 +278,7 @@ fn too_much_in_program(
         return one_too_many(alloc, "program", "set", MAX_PROGRAMS);
     }
     let count = match draft_of(alloc, text) {
-        Some(draft) => parameter_count(&draft, program),
+        Some(draft) => program_params(&draft, program).len(),
         None => 0,
     };
     if count > MAX_PARAMETERS {

@@ -3,7 +3,7 @@
 use crate::limits::MAX_ARGUMENTS;
 use crate::record_faults::cause_text;
 use crate::refusals::{full_words, wrong_arguments};
-use fault_words::{cell_text, program_name};
+use fault_words::{cell_text, program_name, program_params};
 use history_book::BeginFault;
 use prog_check::ProgramSet;
 use prog_tree::Name;
@@ -11,14 +11,6 @@ use si_workers::{Job, JobEnd, JobOutcome};
 use std::alloc::{AllocError, Global};
 use text_places::push_listed;
 use version_store::Clash;
-
-// The parameters of a program; one that is not there has none.
-fn params_of(set: &ProgramSet, program: usize) -> &[Name] {
-    match set.draft().programs.get(program) {
-        Some(program) => program.params.as_slice(),
-        None => &[],
-    }
-}
 
 // An argument of a call, with the name of its parameter.
 fn argument_text(alloc: Global, param: Option<&Name>, argument: i64) -> Result<String, AllocError> {
@@ -43,9 +35,10 @@ fn arguments_text(alloc: Global, params: &[Name], args: &[i64]) -> Result<String
 }
 
 // The call of a job, as `Transfer(from = 3, to = 5, amount = 20)`.
-fn call_text(alloc: Global, set: &ProgramSet, job: &Job) -> Result<String, AllocError> {
+fn named_call(alloc: Global, set: &ProgramSet, job: &Job) -> Result<String, AllocError> {
     let name = program_name(set, job.program);
-    let arguments = arguments_text(alloc, params_of(set, job.program), job.args.as_slice())?;
+    let params = program_params(set.draft(), job.program);
+    let arguments = arguments_text(alloc, params, job.args.as_slice())?;
     format!(in alloc; "`{name}({arguments})`")
 }
 
@@ -107,7 +100,7 @@ pub fn job_sentence(
     let (Some(job), Some(outcome)) = (job, outcome) else {
         return format!(in alloc; "it did not commit");
     };
-    let call = call_text(alloc, set, job)?;
+    let call = named_call(alloc, set, job)?;
     let reason = reason(alloc, set, job, outcome)?;
     format!(in alloc; "{call}, {reason}")
 }

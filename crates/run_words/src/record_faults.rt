@@ -4,7 +4,7 @@ ghost use Rattle.run_words.specs.PartPointing.{record_of_fault, HasNoRecordOf, P
 
 use crate::in_input::{input_line_text, point_in_part};
 use crate::replay::ending;
-use fault_words::{cell_text, ordinal, parameter_count, program_name};
+use fault_words::{cell_text, ordinal, program_name, program_params};
 use history_book::{AuditFault, HistoryRow, MAX_ENDINGS, RowFault};
 use prog_check::ProgramSet;
 use prog_tree::{Cause, Sequence};
@@ -93,7 +93,7 @@ pub fn counted(alloc: Global, count: usize, what: &str) -> Result<String, AllocE
 
 fn argument_count(alloc: Global, set: &ProgramSet, row: &HistoryRow) -> Result<String, AllocError> {
     let name = program_name(set, row.program);
-    let count = parameter_count(set.draft(), row.program);
+    let count = program_params(set.draft(), row.program).len();
     let wanted = counted(alloc, count, "parameter")?;
     let given = counted(alloc, row.args.len(), "argument")?;
     format!(in alloc; "`{name}` has {wanted}, and here it is given {given}")

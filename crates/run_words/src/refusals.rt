@@ -9,7 +9,7 @@ use crate::event_lines::EventLines;
 use crate::in_input::point_in_part;
 use crate::limits::MAX_TOLD;
 use crate::record_faults::counted;
-use fault_words::{parameter_count, program_name};
+use fault_words::{program_name, program_params};
 use history_book::{Book, MAX_ENDINGS};
 use prog_check::ProgramSet;
 use si_engine::{Event, Reply};
@@ -222,7 +222,11 @@ pub fn wrong_arguments(
     given: usize,
 ) -> Result<String, AllocError> {
     let signature = signature(alloc, set, program)?;
-    let wanted = counted(alloc, parameter_count(set.draft(), program), "argument")?;
+    let wanted = counted(
+        alloc,
+        program_params(set.draft(), program).len(),
+        "argument",
+    )?;
     format!(in alloc; "`{signature}` takes {wanted}, and here it is given {given}")
 }
 

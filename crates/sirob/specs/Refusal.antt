@@ -4,24 +4,15 @@ use Rattle.std.specs.Fmt.{decimal, signed_decimal}
 use Rattle.std.specs.List.{flat_map, range_with_len}
 use Rattle.order_facts.specs.Sample.{sample_number}
 use Rattle.order_facts.specs.declared.sample.Choice.{Choice}
-use Rattle.order_facts.specs.declared.steps.Node.TheVariants.{Mine, Theirs}
 use Rattle.prog_tree.specs.Syntax.{Name, ProgramTree, DraftTree}
 use Rattle.prog_check.specs.declared.path.Path.{Path}
 use Rattle.prog_check.specs.Paths.{paths_of}
+use Rattle.analysis_words.specs.Nodes.{branches_text}
+use Rattle.analysis_words.specs.Instances.{node_of}
 use Rattle.dep_graph.specs.declared.danger.Danger.{Danger}
 use Rattle.dep_graph.specs.declared.danger.Exposure.{Exposure}
 
 -- ---- nodes
-
--- where a path takes a branch's first block, and where its second
-abbrev pub branch_text : Bool → List ℕ
-branch_text true = codes "t"
-branch_text false = codes "e"
-
--- behind the program's name: `:` and a letter for each branch, and nothing where there is none
-abbrev pub branches_text : List Bool → List ℕ
-branches_text [] = []
-branches_text (first ∷ others) = codes ":" ++ (branch_text first ++ flat_map branch_text others)
 
 -- the name of a program and how many parameters it has; one that is not there has no name and none
 abbrev pub head_of : Option ProgramTree → Name × ℕ
@@ -49,17 +40,16 @@ abbrev pub bracketed : List ℤ → List ℕ
 bracketed [] = codes "()"
 bracketed (first ∷ others) = codes "(" ++ (signed_decimal first ++ (further_numbers others ++ codes ")"))
 
--- the numbers that a sample gives so many parameters of the first of two nodes, and of the second
-abbrev pub mine_numbers : List Choice → ℕ → List ℤ
-mine_numbers sample count = map (λ i. sample_number sample (Mine i)) (range_with_len 0 count)
-
-abbrev pub their_numbers : List Choice → ℕ → List ℤ
-their_numbers sample count = map (λ i. sample_number sample (Theirs i)) (range_with_len 0 count)
+-- the numbers that a sample gives so many parameters of the first or of the second of two nodes
+abbrev pub sample_numbers : List Choice → (is_first : Bool) → ℕ → List ℤ
+sample_numbers sample is_first count =
+    map (λ i. sample_number sample (node_of is_first i)) (range_with_len 0 count)
 
 -- the parameters of both nodes of a question, so many of each, as `(0) (0, 7)`
 abbrev pub sample_text : List Choice → ℕ → ℕ → List ℕ
 sample_text sample mine theirs =
-    bracketed (mine_numbers sample mine) ++ (codes " " ++ bracketed (their_numbers sample theirs))
+    bracketed (sample_numbers sample true mine)
+    ++ (codes " " ++ bracketed (sample_numbers sample false theirs))
 
 -- ---- the whole
 

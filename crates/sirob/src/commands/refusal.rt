@@ -1,44 +1,16 @@
 //! The text that refuses a set.
-ghost use Rattle.std.specs.Prelude.{◌≡◌, IfOk, flat_map, map, slice_get, string_bytes};
+ghost use Rattle.std.specs.Prelude.{◌≡◌, IfOk, map, slice_get, string_bytes};
 ghost use Rattle.prog_tree.specs.Tree.{draft_tree, program_tree};
-ghost use Rattle.sirob.specs.Refusal.{branch_text, branches_text, head_of, node_head, access_text, further_numbers, bracketed, mine_numbers, their_numbers, sample_text, exposure_text, nodes_text, refusal_text};
+ghost use Rattle.sirob.specs.Refusal.{head_of, node_head, access_text, further_numbers, bracketed, sample_numbers, sample_text, exposure_text, nodes_text, refusal_text};
 
+use analysis_words::{branches_text, node_of};
 use conflict_pairs::Question;
 use dep_graph::{Danger, Exposure};
-use order_facts::{Node, Sample};
+use order_facts::Sample;
 use prog_check::{Path, ProgramSet};
 use prog_paths::paths;
 use prog_tree::Program;
 use std::alloc::{AllocError, Global};
-
-// The letter of a branch that a path takes.
-fn branch_text(takes_first: bool) -> &'static str
-    ensures { result.now ≡ branch_text takes_first }
-{
-    if takes_first { "t" } else { "e" }
-}
-
-// A letter for each branch of a path.
-fn branches_text(alloc: Global, choices: &[bool]) -> Result<String, AllocError>
-    ensures { IfOk result (λ text. string_bytes text ≡ branches_text choices.now) }
-{
-    let [first, others @ ..] = choices else {
-        return Ok(String::new(alloc));
-    };
-    let first = branch_text(*first);
-    let others = letters(alloc, others)?;
-    format!(in alloc; ":{first}{others}")
-}
-
-fn letters(alloc: Global, choices: &[bool]) -> Result<String, AllocError>
-    ensures { IfOk result (λ text. string_bytes text ≡ flat_map branch_text choices.now) }
-{
-    let mut text = String::new(alloc);
-    for choice in choices {
-        text.push_str(branch_text(*choice))?;
-    }
-    Ok(text)
-}
 
 // The name of a program, and how many parameters it has.
 fn program_head(programs: &[Program], number: usize) -> (&str, usize)
@@ -101,24 +73,18 @@ fn bracketed(alloc: Global, numbers: &[i64]) -> Result<String, AllocError>
     format!(in alloc; "({first}{others})")
 }
 
-// The numbers that a sample gives the parameters of the first of its nodes.
-fn mine_numbers(alloc: Global, sample: &Sample, count: usize) -> Result<Vec<i64>, AllocError>
-    ensures { IfOk result (λ numbers. numbers.items ≡ mine_numbers sample.now count) }
+// The numbers that a sample gives the parameters of the first or of the second of its nodes.
+fn sample_numbers(
+    alloc: Global,
+    sample: &Sample,
+    is_first: bool,
+    count: usize,
+) -> Result<Vec<i64>, AllocError>
+    ensures { IfOk result (λ numbers. numbers.items ≡ sample_numbers sample.now is_first count) }
 {
     let mut numbers = Vec::with_capacity(alloc, count)?;
     for i in 0..count {
-        numbers.push(sample.get(Node::Mine(i)))?;
-    }
-    Ok(numbers)
-}
-
-// And those of the second.
-fn their_numbers(alloc: Global, sample: &Sample, count: usize) -> Result<Vec<i64>, AllocError>
-    ensures { IfOk result (λ numbers. numbers.items ≡ their_numbers sample.now count) }
-{
-    let mut numbers = Vec::with_capacity(alloc, count)?;
-    for i in 0..count {
-        numbers.push(sample.get(Node::Theirs(i)))?;
+        numbers.push(sample.get(node_of(is_first, i)))?;
     }
     Ok(numbers)
 }
@@ -132,9 +98,9 @@ fn sample_text(
 ) -> Result<String, AllocError>
     ensures { IfOk result (λ text. string_bytes text ≡ sample_text sample.now mine theirs) }
 {
-    let mine = mine_numbers(alloc, sample, mine)?;
+    let mine = sample_numbers(alloc, sample, true, mine)?;
     let mine = bracketed(alloc, mine.as_slice())?;
-    let theirs = their_numbers(alloc, sample, theirs)?;
+    let theirs = sample_numbers(alloc, sample, false, theirs)?;
     let theirs = bracketed(alloc, theirs.as_slice())?;
     format!(in alloc; "{mine} {theirs}")
 }
