@@ -5,8 +5,7 @@ use text_places::{
     SetText, as_text, before, begins_token, begins_word, behind, behind_word, column, end_before,
     ends_line, feeds, first_token, first_word, job_place, last_token, line_at, line_front,
     line_number, point_out, program_place, push_listed, record_place, second_token, short_word,
-    stands_free, statement_place, table_name, table_place, visible_text,
-    without_comments,
+    stands_free, statement_place, table_name, table_place, visible_text, without_comments,
 };
 
 #[test]

@@ -1,5 +1,6 @@
 //! Verdicts, tables of questions and their graphs.
 
 mod graph_tests;
+mod interning_tests;
 mod sets;
 mod verdict_tests;
