@@ -1,8 +1,9 @@
 -- The numbers of what is told are small.
 use Rattle.std.proofs.Common.{◌≡◌, ℕ, Bool, true, false, not, get_or, ◌<◌, ◌≤◌, ◌+◌, List, [], ◌∷◌, ◌++◌, drop, length, ◌⊎◌, inl, inr, refl, sym, subst, ap, ◌∙◌, arith, append_assoc}
-use Rattle.std.specs.Prelude.{All, filter, if◌then◌else◌, Some, slice_get, slice_index_or}
+use Rattle.std.specs.Prelude.{All, Some, slice_get, slice_index_or}
 use Rattle.std.proofs.lemmas.List.{drop_more, drop_all, append-nil, get_or_append_left, get_or_push, map-append}
 use Rattle.std.proofs.lemmas.Bool.{cases_lt}
+use Rattle.std.proofs.lemmas.List.Sums.{length-filter, count_by-le-length}
 use Rattle.std.proofs.lemmas.List.Elements.{All-nil, All-cons, All-append, All-weaker}
 use Rattle.std.proofs.lemmas.Option.{slice_get_within, get_or_from_slice_get}
 use Rattle.prog_check.specs.declared.path.Access.{Access}
@@ -44,20 +45,13 @@ pub small_from : (n : ℕ) → n ≤ 512 → IsSmall n
 small_from n h = omega (arith, h)
 
 -- a path has no more accesses in bodies than it has
-filtered-within : {A : Type 0} (f : A → Bool) (xs : List A) → length (filter f xs) ≤ length xs
-filtered-within f [] = omega arith
-filtered-within {A = A} f (x ∷ xs) = go (f x) (filtered-within f xs)
-  where
-    go : (b : Bool) → length (filter f xs) ≤ length xs → length (if b then x ∷ filter f xs else filter f xs) ≤ length (x ∷ xs)
-    go true h = omega (arith, h)
-    go false h = omega (arith, h)
-
 pub body-small : (paths : List Path) (k : ℕ) (d : Path) (n : ℕ) → AreFew paths → k < length paths → n ≡ body_size (get_or paths k d) → IsSmall n
 body-small paths k d n few inside is =
     let path : Path = get_or paths k d in
-    let fewer = filtered-within (λ (a : Access). not a.sure) path.accesses in
+    let total = length-filter (λ (a : Access). not a.sure) path.accesses in
+    let fewer = count_by-le-length (λ (a : Access). not a.sure) path.accesses in
     let own : length path.accesses ≤ 24 = few.accesses k d inside in
-    small_from n (omega (arith, is, fewer, own))
+    small_from n (omega (arith, is, total, fewer, own))
 
 access_small : (paths : List Path) (x a : ℕ) (access : Access) → AreFew paths → IsAccessOf paths x a access → IsSmall x × IsSmall a
 access_small paths x a access few at =

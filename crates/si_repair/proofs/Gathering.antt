@@ -22,8 +22,9 @@ use Rattle.repair_laws.specs.declared.plan.Pair.{Pair}
 use Rattle.repair_laws.specs.Striking.{IsOfProgram}
 use Rattle.repair_laws.specs.Keys.{ExposedOf}
 use Rattle.si_repair.specs.Exposing.{IsPart, AreExposed}
-use Rattle.si_repair.specs.Gathering.{HasAccess, ArePlacesOf, MayMiss, IsExposedTo, IsExposedOf, AreExposedAmong}
-use Rattle.si_repair.proofs.Members.{Contains-from_member}
+use Rattle.conflict_pairs.specs.Alike.{HasAccess}
+use Rattle.si_repair.specs.Gathering.{ArePlacesOf, MayMiss, IsExposedTo, IsExposedOf, AreExposedAmong}
+use Rattle.si_repair.proofs.Members.{Contains-from_member, just_one}
 use Rattle.si_repair.proofs.Parts.{part-none, part-whole, part-append, part-trans, part-among}
 
 -- ---- elements
@@ -37,9 +38,6 @@ only_one x y c = go (Contains-push_cases [] x y c)
     go : Contains [] y ⊎ (x ≡ y) → x ≡ y
     go (inl n) = absurd (nothing y n)
     go (inr e) = e
-
-pub just_one : {A : Type 0} (x : A) → Contains (x ∷ []) x
-just_one x = (0, omega arith, refl)
 
 -- an element among the first ones is one of the list
 pub among_first : {A : Type 0} (n : ℕ) (xs : List A) (d x : A) → n < length xs → Contains (take (n + 1) xs) x → Contains (take n xs) x ⊎ (get_or xs n d ≡ x)

@@ -1,13 +1,14 @@
 -- What the told entries leave is what can meet, and what is exposed.
 use Rattle.std.proofs.Common.{◌≡◌, ℕ, ◌<◌, List, length, inl, inr, refl, sym, subst}
 use Rattle.std.specs.Prelude.{Contains}
+use Rattle.std.proofs.lemmas.List.Elements.{All-contains}
 use Rattle.prog_check.specs.declared.path.Access.{Access}
 use Rattle.prog_check.specs.declared.path.Path.{Path}
 use Rattle.prog_paths.specs.Meeting.{CanMeet}
 use Rattle.prog_paths.specs.StaticGraph.{Question, AsksOf, AsksReadWrite, StaticEdge, IsExposed, IsVulnerable}
 use Rattle.prog_paths.specs.declared.accesses.places.Question.{Question as Asked}
 use Rattle.prog_paths.specs.Asked.{Asks, numbers_of}
-use Rattle.prog_paths.proofs.Segments.{IsMember}
+use Rattle.prog_paths.proofs.Elements.{from_mapped}
 use Rattle.prog_paths.proofs.Edges.{HasQuestion-weaker, EdgeOf-weaker, EdgeOf-inside}
 use Rattle.prog_paths.proofs.Membership.{law_of_listing}
 use Rattle.conflict_pairs.specs.declared.verdicts.Verdict.{Verdict}
@@ -20,7 +21,7 @@ use Rattle.robust_cert.specs.declared.certificate.Entry as told
 use Rattle.robust_cert.specs.Accepted.{IsTold, IsToldApart, IsLeft, IsLeftVulnerable}
 use Rattle.si_repair.specs.Findings.{IsHarmless, TellsEach}
 use Rattle.si_repair.specs.Telling.{told_question, told_by, told_of}
-use Rattle.si_repair.proofs.Members.{Contains-from_member, All-member, entry_with, told_member}
+use Rattle.si_repair.proofs.Members.{just_one, told_one}
 
 abbrev Meets : Question → Access → Access → Type 0
 Meets q mine theirs = CanMeet mine theirs
@@ -33,30 +34,30 @@ record IsJudged (paths : List Path) (entries : List Entry) (q : Question) : Type
   is : numbers_of asked ≡ q
   verdict : Verdict
   right : IsRight paths q verdict
-  all_told : (x : Entry) → IsMember x (told_by asked verdict) → IsMember x entries
+  all_told : (x : Entry) → Contains (told_by asked verdict) x → Contains entries x
 
 module _ (paths : List Path) (entries : List Entry) (q : Question) (mine theirs : Access) where
-  meets : (asked : Asked) → numbers_of asked ≡ q → (v : Verdict) → ((x : Entry) → IsMember x (told_by asked v) → IsMember x entries) → IsRightOf paths q mine theirs v → (IsToldApart entries q → ⊥) → CanMeet mine theirs
+  meets : (asked : Asked) → numbers_of asked ≡ q → (v : Verdict) → ((x : Entry) → Contains (told_by asked v) x → Contains entries x) → IsRightOf paths q mine theirs v → (IsToldApart entries q → ⊥) → CanMeet mine theirs
   meets asked is (Apart chain) all_told r none =
       let e = told.TheVariants.Apart (told_question asked) chain in
-      absurd (none (e, Contains-from_member entries e (all_told e (inl refl)), is))
+      absurd (none (e, all_told e (just_one e), is))
   meets asked is (Covered m t chains) all_told r none = r.can_meet
   meets asked is (Exposed sample) all_told r none = (mine_of sample, theirs_of sample, r.meets)
 
-  exposed : (asked : Asked) → numbers_of asked ≡ q → (v : Verdict) → ((x : Entry) → IsMember x (told_by asked v) → IsMember x entries) → IsRightOf paths q mine theirs v → AsksReadWrite q mine.kind theirs.kind → (IsTold entries q → ⊥) → IsExposed paths q mine theirs
+  exposed : (asked : Asked) → numbers_of asked ≡ q → (v : Verdict) → ((x : Entry) → Contains (told_by asked v) x → Contains entries x) → IsRightOf paths q mine theirs v → AsksReadWrite q mine.kind theirs.kind → (IsTold entries q → ⊥) → IsExposed paths q mine theirs
   exposed asked is (Apart chain) all_told r asks none =
       let e = told.TheVariants.Apart (told_question asked) chain in
-      absurd (none (e, Contains-from_member entries e (all_told e (inl refl)), is))
+      absurd (none (e, all_told e (just_one e), is))
   exposed asked is (Covered m t chains) all_told r asks none =
       let e = told.TheVariants.Cover (told_question asked) m t chains in
-      absurd (none (e, Contains-from_member entries e (all_told e (inl refl)), is))
+      absurd (none (e, all_told e (just_one e), is))
   exposed asked is (Exposed sample) all_told r asks none = ((mine_of sample, theirs_of sample, r.meets), r.uncovered asks)
 
-  is_told : (asked : Asked) → numbers_of asked ≡ q → (v : Verdict) → ((x : Entry) → IsMember x (told_by asked v) → IsMember x entries) → IsRightOf paths q mine theirs v → IsHarmless paths q mine theirs → IsTold entries q
+  is_told : (asked : Asked) → numbers_of asked ≡ q → (v : Verdict) → ((x : Entry) → Contains (told_by asked v) x → Contains entries x) → IsRightOf paths q mine theirs v → IsHarmless paths q mine theirs → IsTold entries q
   is_told asked is (Apart chain) all_told r h =
-      let e = told.TheVariants.Apart (told_question asked) chain in (e, Contains-from_member entries e (all_told e (inl refl)), is)
+      let e = told.TheVariants.Apart (told_question asked) chain in (e, all_told e (just_one e), is)
   is_told asked is (Covered m t chains) all_told r h =
-      let e = told.TheVariants.Cover (told_question asked) m t chains in (e, Contains-from_member entries e (all_told e (inl refl)), is)
+      let e = told.TheVariants.Cover (told_question asked) m t chains in (e, all_told e (just_one e), is)
   is_told asked is (Exposed sample) all_told r (inl apart) = absurd (apart (mine_of sample, theirs_of sample, r.meets))
   is_told asked is (Exposed sample) all_told r (inr covered) = absurd (r.uncovered covered.0 covered.1)
 
@@ -69,19 +70,19 @@ module _ (t : Table) (paths : List Path) (s : StandsFor t paths) where
       asked : Asked
       asked = record { x = q.x; a = q.a; y = q.y; b = q.b; mine = mine.kind; theirs = theirs.kind }
 
-      found : (e : Judged) × IsMember e t.entries × (e.question ≡ asked)
+      found : (e : Judged) × Contains t.entries e × (e.question ≡ asked)
       found =
-          entry_with t.entries asked
+          from_mapped (λ (e : Judged). e.question) t.entries asked
           (subst (λ (qs : List Asked). Contains qs asked) (sym s.questions)
           ((law_of_listing paths asked).1 (record { mine = mine; theirs = theirs; asked = of_question; mine_kind = refl; their_kind = refl; asks = asks })))
 
-      made : (e : Judged) → IsMember e t.entries → e.question ≡ asked → IsJudged paths (told_of t.entries) q
+      made : (e : Judged) → Contains t.entries e → e.question ≡ asked → IsJudged paths (told_of t.entries) q
       made e i is = record {
         asked = asked;
         is = refl;
         verdict = e.verdict;
-        right = subst (λ (p : Asked). IsRight paths (numbers_of p) e.verdict) is (All-member (λ d. IsRightEntry paths d) t.entries e s.right i);
-        all_told = λ x m. told_member t.entries e x i (subst (λ (p : Asked). IsMember x (told_by p e.verdict)) (sym is) m);
+        right = subst (λ (p : Asked). IsRight paths (numbers_of p) e.verdict) is (All-contains (λ d. IsRightEntry paths d) t.entries e s.right i);
+        all_told = λ x m. told_one t.entries e x i (subst (λ (p : Asked). Contains (told_by p e.verdict) x) (sym is) m);
       }
 
   left_meets : (q : Question) (mine theirs : Access) → AsksOf paths q mine theirs → Asks q mine.kind theirs.kind → (IsToldApart (told_of t.entries) q → ⊥) → CanMeet mine theirs

@@ -1,7 +1,8 @@
 -- Which statements are marked for the pairs of a plan.
 use Rattle.std.proofs.Common.{◌≡◌, ◌↔◌, ℕ, ◌<◌, ◌⊎◌, inl, inr, Bool, true, false, ◌||◌, ◌&&◌, ◌==◌, List, [], ◌∷◌, ◌++◌, Contains, refl, sym, ap, subst, ◌∙◌, arith, tests}
 use Rattle.std.specs.List.{list_any}
-use Rattle.std.proofs.lemmas.Bool.{false≢true, eqb-true}
+use Rattle.std.proofs.lemmas.Bool.{false≢true, eqb-true, eq-eqb, and_parts, and_from, or_cases, or_left, or_right}
+use Rattle.std.proofs.lemmas.Bool.Decides.{same_from_decides}
 use Rattle.std.proofs.lemmas.List.Folds.{Any-from_list_any, list_any-from_Any}
 use Rattle.std.proofs.lemmas.List.Elements.{Contains-push_cases, Contains-append_left, Contains-push}
 use Rattle.prog_check.specs.declared.path.Access.{Access}
@@ -9,35 +10,11 @@ use Rattle.prog_check.specs.declared.path.Path.{Path}
 use Rattle.prog_paths.specs.StaticGraph.{IsAccessOf, Question}
 use Rattle.prog_paths.specs.Asked.{numbers_of}
 use Rattle.prog_paths.specs.declared.accesses.places.Question.{Question as Asked}
-use Rattle.prog_paths.proofs.Membership.{both_true, either_true}
 use Rattle.repair_laws.specs.declared.plan.Pair.{Pair}
 use Rattle.repair_laws.specs.Keys.{ExposedOf}
 use Rattle.repair_laws.specs.Promoted.{IsExposedAt, MarksExposed}
 use Rattle.si_repair.specs.Exposing.{AreExposed}
 use Rattle.si_repair.specs.Promoting.{place_in, access_at, place_of, reads_at, HasExposedRead, AddsReads}
-
--- ---- truth values
-
-either-left : (a b : Bool) → a ≡ true → (a || b) ≡ true
-either-left true b e = refl
-either-left false b e = absurd (false≢true e)
-
-either-right : (a b : Bool) → b ≡ true → (a || b) ≡ true
-either-right true b e = refl
-either-right false b e = e
-
-both-are : (a b : Bool) → a ≡ true → b ≡ true → (a && b) ≡ true
-both-are true b e f = f
-both-are false b e f = absurd (false≢true e)
-
--- truth values that are true together are the same
-pub same_truth : (a b : Bool) → (a ≡ true) ↔ (b ≡ true) → a ≡ b
-same_truth true b h = sym (h.0 refl)
-same_truth false true h = absurd (false≢true (h.1 refl))
-same_truth false false h = refl
-
-same_number : (n : ℕ) → (n == n) ≡ true
-same_number n = search (tests, arith)
 
 -- ---- the statement of a question
 
@@ -56,7 +33,7 @@ module _ (nodes : List Path) (pair : Pair) (questions : List Asked) (exposed : A
   read-exposed h =
       let any = Any-from_list_any (reads_at nodes pair program number) questions h in
       let q = any.1 in
-      let parts = both_true (pair.from == program) (place_of nodes q == number) any.4 in
+      let parts = and_parts (pair.from == program) (place_of nodes q == number) any.4 in
       let e = exposed.only q (any.0, any.2, any.3) in
       (eqb-true pair.from program parts.0, e.0, sym (place-is nodes q e.0.question.mine (exposed-access nodes pair q e.0 e.1)) ∙ eqb-true (place_of nodes q) number parts.1)
 
@@ -67,7 +44,7 @@ module _ (nodes : List Path) (pair : Pair) (questions : List Asked) (exposed : A
       let at = found.1 in
       let place : place_of nodes q ≡ number = place-is nodes q h.1.question.mine (exposed-access nodes pair q h.1 found.2) ∙ h.2 in
       list_any-from_Any (reads_at nodes pair program number) questions
-      (at.0, q, at.1, at.2, both-are (pair.from == program) (place_of nodes q == number) (subst (λ n. (pair.from == n) ≡ true) h.0 (same_number pair.from)) (subst (λ n. (place_of nodes q == n) ≡ true) place (same_number (place_of nodes q))))
+      (at.0, q, at.1, at.2, and_from (pair.from == program) (place_of nodes q == number) (eq-eqb pair.from program h.0) (eq-eqb (place_of nodes q) number place))
 
 -- marks that are the old ones and those of each question add the reads of the pair
 pub adds-reads : (nodes : List Path) (pair : Pair) (questions : List Asked) (old new : ℕ → ℕ → Bool) → AreExposed nodes pair questions
@@ -76,15 +53,15 @@ pub adds-reads : (nodes : List Path) (pair : Pair) (questions : List Asked) (old
 adds-reads nodes pair questions old new exposed is program number = (to, from)
   where
     to : new program number ≡ true → (old program number ≡ true) ⊎ HasExposedRead nodes pair program number
-    to e = go (either_true (old program number) (list_any (reads_at nodes pair program number) questions) (sym (is program number) ∙ e))
+    to e = go (or_cases (old program number) (list_any (reads_at nodes pair program number) questions) (sym (is program number) ∙ e))
       where
         go : (old program number ≡ true) ⊎ (list_any (reads_at nodes pair program number) questions ≡ true) → (old program number ≡ true) ⊎ HasExposedRead nodes pair program number
         go (inl o) = inl o
         go (inr r) = inr (read-exposed nodes pair questions exposed program number r)
 
     from : (old program number ≡ true) ⊎ HasExposedRead nodes pair program number → new program number ≡ true
-    from (inl o) = is program number ∙ either-left (old program number) (list_any (reads_at nodes pair program number) questions) o
-    from (inr h) = is program number ∙ either-right (old program number) (list_any (reads_at nodes pair program number) questions) (exposed-read nodes pair questions exposed program number h)
+    from (inl o) = is program number ∙ or_left (old program number) (list_any (reads_at nodes pair program number) questions) o
+    from (inr h) = is program number ∙ or_right (old program number) (list_any (reads_at nodes pair program number) questions) (exposed-read nodes pair questions exposed program number h)
 
 -- ---- the statements of a plan
 
@@ -120,4 +97,4 @@ marks-more nodes plan pair old new marks adds program number = (to, from)
 
 -- a plan marks the same statements, whoever marks them
 pub marks-same : (nodes : List Path) (plan : List Pair) (a b : ℕ → ℕ → Bool) → MarksExposed nodes plan a → MarksExposed nodes plan b → a ≡ b
-marks-same nodes plan a b h k = λ i program number. same_truth (a program number) (b program number) (λ e. (k program number).1 ((h program number).0 e), λ e. (h program number).1 ((k program number).0 e)) i
+marks-same nodes plan a b h k = λ i program number. same_from_decides (a program number) (b program number) (h program number) (k program number) i

@@ -1,9 +1,9 @@
 -- Names of new tables: which are taken, and that one of the first is free.
 use Rattle.std.proofs.Common.{◌≡◌, ℕ, zero, suc, ◌+◌, ◌<◌, ◌≤◌, ◌^◌, ◌⊎◌, inl, inr, Bool, true, false, ◌||◌, List, [], ◌∷◌, ◌++◌, length, refl, sym, ap, subst, ◌∙◌, arith}
 use Rattle.std.specs.List.{list_any, AllByRecursion, IsDistinct}
-use Rattle.std.specs.Prelude.{Option, Some, None, is_some, Result, Ok, Err, IfOk, decimal}
+use Rattle.std.specs.Prelude.{Option, Some, None, is_some, decimal}
 use Rattle.std.specs.Cmp.Lexicographic.{nat_list_eq_equiv, same_text}
-use Rattle.std.proofs.lemmas.Bool.{true≢false, cases_lt}
+use Rattle.std.proofs.lemmas.Bool.{true≢false, false_from_ne_true, cases_lt}
 use Rattle.std.proofs.lemmas.Fmt.{decimal_injective}
 use Rattle.std.proofs.lemmas.List.{length-append, length-map}
 use Rattle.std.proofs.lemmas.List.Folds.{list_any-append, list_any_at}
@@ -36,11 +36,8 @@ place-taken names x true e = found (place_among names x) refl e
     found : (place : Option ℕ) → place_among names x ≡ place → is_some place ≡ true → is_among names x ≡ true
     found None at e = absurd (true≢false (sym e))
     found (Some i) at e = let inside = position-Some (same_name x) names i x at in list_any_at (same_name x) names i x inside.0 inside.1
-place-taken names x false e = missing (is_among names x) refl
-  where
-    missing : (b : Bool) → is_among names x ≡ b → b ≡ false
-    missing false h = refl
-    missing true h = let place = has_place names x h in absurd (true≢false (sym (ap is_some place.1) ∙ e))
+place-taken names x false e =
+    false_from_ne_true (is_among names x) (λ h. let place = has_place names x h in true≢false (sym (ap is_some place.1) ∙ e))
 
 pub taken_first : (names more : List Name) (x : Name) → is_some (place_among names x) ≡ true → is_among (names ++ more) x ≡ true
 taken_first names more x e = list_any-append (same_name x) names more ∙ ap (λ b. b || is_among more x) (place-taken names x true e)
@@ -63,11 +60,9 @@ same_numbers : (m n : ℕ) → m < 2 ^ 64 → n < 2 ^ 64 → mat_name m ≡ mat_
 same_numbers m n below within e = let digits : decimal m ≡ decimal n = cc in decimal_injective m n below within digits
 
 apart : (m n : ℕ) → m < n → n < 2 ^ 64 → same_name (mat_name n) (mat_name m) ≡ false
-apart m n less small = go (same_name (mat_name n) (mat_name m)) refl
-  where
-    go : (b : Bool) → same_name (mat_name n) (mat_name m) ≡ b → b ≡ false
-    go false e = refl
-    go true e = let equal = same_numbers n m small (omega arith) (same_text (mat_name n) (mat_name m) (sym e)) in absurd (omega arith)
+apart m n less small =
+    false_from_ne_true (same_name (mat_name n) (mat_name m))
+    (λ e. let equal = same_numbers n m small (omega arith) (same_text (mat_name n) (mat_name m) (sym e)) in omega arith)
 
 others : (top n : ℕ) → n ≤ top → top < 2 ^ 64 → AllByRecursion (λ y. same_name (mat_name top) y ≡ false) (first_names n)
 others top zero less small = tt
@@ -94,10 +89,6 @@ taken_many taken n small each =
 -- the first name that isn't taken
 pub first_free : (taken : List Name) (n : ℕ) (name : Name) → name ≡ mat_name n → is_among taken name ≡ false → ((k : ℕ) → k < n → is_among taken (mat_name k) ≡ true) → IsLeastFree taken name
 first_free taken n name e free each = (n, e, free, each)
-
-pub if_ok : {T E : Type 0} (P Q : T → Type 0) → ((x : T) → P x → Q x) → (r : Result T E) → IfOk r P → IfOk r Q
-if_ok P Q f (Ok x) h = f x h
-if_ok P Q f (Err e) h = tt
 
 -- not all of the first names are taken, of which there is one more than names that are
 pub one_free : (draft : DraftTree) (made : List Meeting) (n : ℕ) → length draft.tables + length made ≡ n → n < 2 ^ 64

@@ -1,11 +1,11 @@
 -- Statements in front of programs.
 use Rattle.std.proofs.Common.{◌≡◌, ℕ, zero, suc, ◌+◌, ◌<◌, Bool, true, false, List, [], ◌∷◌, ◌++◌, map, length, get_or, take, refl, sym, ap, subst, ◌∙◌, arith}
-use Rattle.std.specs.Prelude.{Option, Some, None, slice_get, if◌then◌else◌, ◌==◌, All}
+use Rattle.std.specs.Prelude.{Option, Some, None, option_map, slice_get, if◌then◌else◌, ◌==◌, All}
 use Rattle.std.specs.List.{flat_map}
 use Rattle.std.proofs.lemmas.Bool.{eqb-true}
 use Rattle.std.proofs.lemmas.List.Elements.{All-nil, All-cons, All-weaker}
 use Rattle.std.proofs.lemmas.List.{get_or-map, length-map, length-take-le, map-append, take_more}
-use Rattle.std.proofs.lemmas.Option.{none-some, same_Some, slice_get-get_or}
+use Rattle.std.proofs.lemmas.Option.{slice_get-get_or, slice_get-map}
 use Rattle.prog_tree.specs.Syntax.{StatementTree, BlockTree, BlockEnd, Plain, block_from, ProgramTree, DraftTree}
 use Rattle.prog_tree.specs.Tree.{stmt_tree, with_stmt, with_stmts, stmts_tree, program_tree}
 use Rattle.prog_tree.specs.declared.stmt.Stmt.{Stmt}
@@ -16,13 +16,10 @@ use Rattle.repair_laws.specs.declared.plan.Pair.{Pair}
 use Rattle.repair_laws.specs.Keys.{IsKeyOf}
 use Rattle.repair_laws.specs.Materialised.{Met, first_of, second_of, is_one, keeps_for, in_front, count_params, params_of, with_front, all_with_front, HasKey, kept_columns}
 use Rattle.si_repair.specs.declared.repairs.keeps.Meeting.{Meeting}
+use Rattle.si_repair.proofs.Behind.{with_stmts-append}
 use Rattle.si_repair.specs.Carrying.{met_of, all_met, IsColumn, HasColumns, HaveColumns}
 
 -- ---- statements in front of a block
-
-with_stmts-append : (ss ts : List Stmt) (rest : BlockTree) → with_stmts (ss ++ ts) rest ≡ with_stmts ss (with_stmts ts rest)
-with_stmts-append [] ts rest = refl
-with_stmts-append (s ∷ ss) ts rest = ap (with_stmt s) (with_stmts-append ss ts rest)
 
 -- statements that mean these stand in front as these do
 front-is : (ss : List Stmt) (xs : List StatementTree) (rest : BlockTree) → map stmt_tree ss ≡ map Plain xs → with_stmts ss rest ≡ in_front xs rest
@@ -59,13 +56,8 @@ all_with_front-push made n (q ∷ ps) p =
 
 -- ---- columns
 
-get-mapped : {A B : Type 0} (f : A → B) (xs : List A) (n : ℕ) (x : A) → slice_get xs n ≡ Some x → slice_get (map f xs) n ≡ Some (f x)
-get-mapped f [] n x at = absurd (none-some x at)
-get-mapped f (y ∷ ys) zero x at = ap (λ z. Some (f z)) (same_Some y x at)
-get-mapped f (y ∷ ys) (suc n) x at = get-mapped f ys n x at
-
 pub columns_at : (programs : List Program) (made : List Met) (n : ℕ) (p : Program) → HaveColumns (map program_tree programs) made → n < length programs → p ≡ get_or programs n p → All (HasColumns n (length p.params.items)) made
-columns_at programs made n p have inside at = have n (program_tree p) (get-mapped program_tree programs n p (slice_get-get_or programs n p inside ∙ ap Some (sym at)))
+columns_at programs made n p have inside at = have n (program_tree p) (slice_get-map program_tree programs n ∙ ap (option_map program_tree) (slice_get-get_or programs n p inside ∙ ap Some (sym at)))
 
 -- what holds of all pairs holds of one
 pub met_at : (P : Met → Type 0) (made : List Meeting) (n : ℕ) (m : Meeting) → n < length made → m ≡ get_or made n m → All P (all_met made) → P (met_of m)

@@ -15,7 +15,7 @@ use Rattle.prog_check.specs.Paths.{paths_of}
 use Rattle.prog_check.specs.Sound.{IsSound}
 use Rattle.repair_laws.specs.declared.plan.Pair.{Pair}
 use Rattle.repair_laws.specs.Promoted.{MarksExposed, promoted_by, IsPromoted}
-use Rattle.repair_laws.specs.Refusals.{HasRangeRead, HasUnknownRead, HasBodyRead, IsTooLarge, IsTooLargeBy, Reason, StopsPromotion, IsFirstStop}
+use Rattle.repair_laws.specs.Refusals.{HasRangeRead, HasUnknownRead, IsCoverable, IsTooLarge, IsTooLargeBy, Reason, StopsPromotion, IsFirstStop}
 use Rattle.repair_laws.specs.Refusals as why
 use Rattle.repair_laws.specs.Safety.{MayPromote, Repairs}
 use Rattle.repair_laws.specs.Sizes.{IsOfSize, IsOfSizeAlone}
@@ -23,7 +23,6 @@ use Rattle.repair_laws.proofs.Promoting.{law_of_promoting}
 use Rattle.repair_laws.proofs.RightLaws.{law_of_repair_sizes}
 use Rattle.si_repair.specs.declared.repairs.fault.RepairFault.{RepairFault}
 use Rattle.si_repair.specs.declared.repairs.fault.RepairFault.TheVariants as fault
-use Rattle.si_repair.specs.Exposing.{IsObstacle}
 use Rattle.si_repair.specs.Checking.{IsRefusedAt}
 use Rattle.si_repair.specs.Promoting.{AddsReads, HasFewStatements, IsObstacleFault}
 use Rattle.si_repair.specs.Repairing.{IsSafeRepair, StopsNowhere, IsRepairFault}
@@ -63,7 +62,7 @@ faultless-fits draft none large = none-some (TooMany large.0) (sym none ∙ larg
 -- a turn that is made
 pub promoted_more : (draft : DraftTree) (plan : List Pair) (n : ℕ) (pair : Pair) (marked more : ℕ → ℕ → Bool) (old new : DraftTree)
     → slice_get plan n ≡ Some pair → IsPromotedTo draft plan n marked old → AddsReads (paths_of draft) pair marked more
-    → IsObstacle draft pair None → new ≡ promoted_by draft more → first_fault new ≡ None
+    → IsCoverable draft pair → new ≡ promoted_by draft more → first_fault new ≡ None
     → IsPromotedTo draft plan (n + 1) more new
 promoted_more draft plan n pair marked more old new at before adds covered is faultless = record {
   marks = marks;
@@ -79,7 +78,7 @@ promoted_more draft plan n pair marked more old new at before adds covered is fa
     stops_not why.UnknownKey h = covered.1 h.1
     stops_not why.BodyRead h = covered.2 h.2
     stops_not why.TooLarge h =
-        let large = h.3 in
+        let large = h.1 in
         faultless-fits new faultless (subst (λ (d : DraftTree). IsTooLarge d) (one_promoted draft (take (n + 1) plan) large.0 new large.1 (more, marks, is)) large.2)
 
     passed : StopsBefore draft plan (n + 1)
@@ -105,31 +104,30 @@ abbrev pub IsTurnFault : DraftTree → Pair → (marked : ℕ → ℕ → Bool) 
 IsTurnFault draft pair marked (fault.RangeRead p) = IsObstacleFault draft pair (fault.RangeRead p)
 IsTurnFault draft pair marked (fault.UnknownKey p) = IsObstacleFault draft pair (fault.UnknownKey p)
 IsTurnFault draft pair marked (fault.BodyRead p) = IsObstacleFault draft pair (fault.BodyRead p)
-IsTurnFault draft pair marked (fault.TooMany p) = (p ≡ pair) × IsObstacle draft pair None × IsTooMuchWith draft pair marked
+IsTurnFault draft pair marked (fault.TooMany p) = (p ≡ pair) × IsCoverable draft pair × IsTooMuchWith draft pair marked
 IsTurnFault draft pair marked fault.Memory = Unit {0}
 
 -- ---- where no pair stops
 
 -- the pairs before a place may be promoted
 pub may_promote : (draft : DraftTree) (plan : List Pair) (n : ℕ) → StopsBefore draft plan n → MayPromote draft (take n plan)
-may_promote draft plan n passed = record { ranges = ranges; unknowns = unknowns; bodies = bodies }
+may_promote draft plan n passed pair c = (ranges, unknowns, λ h. passed c.0 pair why.BodyRead before at (ranges, unknowns, h))
   where
-    standing : (pair : Pair) → Contains (take n plan) pair → (k : ℕ) × (k < n) × (slice_get plan k ≡ Some pair)
-    standing pair c =
+    before : c.0 < n
+    before = let size = length-take n plan in let inside = c.1 in omega (arith, size, inside)
+
+    at : slice_get plan c.0 ≡ Some pair
+    at =
         let size = length-take n plan in
         let inside = c.1 in
-        let before : c.0 < n = omega (arith, size, inside) in
         let within : c.0 < length plan = omega (arith, size, inside) in
-        (c.0, before, slice_get-get_or plan c.0 pair within ∙ ap Some (sym (get_or-take n plan c.0 pair before) ∙ c.2))
+        slice_get-get_or plan c.0 pair within ∙ ap Some (sym (get_or-take n plan c.0 pair before) ∙ c.2)
 
-    ranges : (pair : Pair) → Contains (take n plan) pair → HasRangeRead draft pair → ⊥
-    ranges pair c h = let at = standing pair c in passed at.0 pair why.RangeRead at.1 at.2 h
+    ranges : HasRangeRead draft pair → ⊥
+    ranges h = passed c.0 pair why.RangeRead before at h
 
-    unknowns : (pair : Pair) → Contains (take n plan) pair → HasUnknownRead draft pair → ⊥
-    unknowns pair c h = let at = standing pair c in passed at.0 pair why.UnknownKey at.1 at.2 (λ r. ranges pair c r, h)
-
-    bodies : (pair : Pair) → Contains (take n plan) pair → HasBodyRead draft pair → ⊥
-    bodies pair c h = let at = standing pair c in passed at.0 pair why.BodyRead at.1 at.2 (λ r. ranges pair c r, λ u. unknowns pair c u, h)
+    unknowns : HasUnknownRead draft pair → ⊥
+    unknowns h = passed c.0 pair why.UnknownKey before at (ranges, h)
 
 -- ---- a turn that stops
 
@@ -152,37 +150,14 @@ size-fault draft found is alone = go found is (subst (λ (o : Option CheckFault)
 
 module _ (draft : DraftTree) (sound : IsSound draft) (plan : List Pair) (n : ℕ) (pair : Pair) (at : slice_get plan n ≡ Some pair) where
   -- the pairs up to one that has no obstacle may be promoted
-  may_with : StopsBefore draft plan n → IsObstacle draft pair None → MayPromote draft (take (n + 1) plan)
-  may_with passed covered = record { ranges = ranges; unknowns = unknowns; bodies = bodies }
-    where
-      before : MayPromote draft (take n plan)
-      before = may_promote draft plan n passed
+  may_with : StopsBefore draft plan n → IsCoverable draft pair → MayPromote draft (take (n + 1) plan)
+  may_with passed covered p c =
+      elim (Contains-push_cases (take n plan) pair p (subst (λ (l : List Pair). Contains l p) (next_pair plan n pair at) c)) [
+        | inl k ↦ may_promote draft plan n passed p k
+        | inr e ↦ subst (λ (q : Pair). IsCoverable draft q) e covered
+      ]
 
-      split : (p : Pair) → Contains (take (n + 1) plan) p → Contains (take n plan) p ⊎ (pair ≡ p)
-      split p c = Contains-push_cases (take n plan) pair p (subst (λ (l : List Pair). Contains l p) (next_pair plan n pair at) c)
-
-      ranges : (p : Pair) → Contains (take (n + 1) plan) p → HasRangeRead draft p → ⊥
-      ranges p c h = go (split p c)
-        where
-          go : Contains (take n plan) p ⊎ (pair ≡ p) → ⊥
-          go (inl k) = before.ranges p k h
-          go (inr e) = covered.0 (subst (λ (q : Pair). HasRangeRead draft q) (sym e) h)
-
-      unknowns : (p : Pair) → Contains (take (n + 1) plan) p → HasUnknownRead draft p → ⊥
-      unknowns p c h = go (split p c)
-        where
-          go : Contains (take n plan) p ⊎ (pair ≡ p) → ⊥
-          go (inl k) = before.unknowns p k h
-          go (inr e) = covered.1 (subst (λ (q : Pair). HasUnknownRead draft q) (sym e) h)
-
-      bodies : (p : Pair) → Contains (take (n + 1) plan) p → HasBodyRead draft p → ⊥
-      bodies p c h = go (split p c)
-        where
-          go : Contains (take n plan) p ⊎ (pair ≡ p) → ⊥
-          go (inl k) = before.bodies p k h
-          go (inr e) = covered.2 (subst (λ (q : Pair). HasBodyRead draft q) (sym e) h)
-
-  too_large : (marked : ℕ → ℕ → Bool) (old : DraftTree) → IsPromotedTo draft plan n marked old → IsObstacle draft pair None
+  too_large : (marked : ℕ → ℕ → Bool) (old : DraftTree) → IsPromotedTo draft plan n marked old → IsCoverable draft pair
       → IsTooMuchWith draft pair marked → IsTooLargeBy IsPromoted draft plan (n + 1)
   too_large marked old before covered much =
       let more = much.0 in
@@ -207,12 +182,12 @@ module _ (draft : DraftTree) (sound : IsSound draft) (plan : List Pair) (n : ℕ
   turn_refused marked old before (fault.RangeRead p) h =
       subst (λ (q : Pair). IsFirstStop (StopsPromotion IsPromoted draft plan) plan q why.RangeRead) (sym h.0) (stopped why.RangeRead before.passed h.1)
   turn_refused marked old before (fault.UnknownKey p) h =
-      subst (λ (q : Pair). IsFirstStop (StopsPromotion IsPromoted draft plan) plan q why.UnknownKey) (sym h.0) (stopped why.UnknownKey before.passed (h.1, h.2))
+      subst (λ (q : Pair). IsFirstStop (StopsPromotion IsPromoted draft plan) plan q why.UnknownKey) (sym h.0) (stopped why.UnknownKey before.passed h.1)
   turn_refused marked old before (fault.BodyRead p) h =
-      subst (λ (q : Pair). IsFirstStop (StopsPromotion IsPromoted draft plan) plan q why.BodyRead) (sym h.0) (stopped why.BodyRead before.passed (h.1, h.2, h.3))
+      subst (λ (q : Pair). IsFirstStop (StopsPromotion IsPromoted draft plan) plan q why.BodyRead) (sym h.0) (stopped why.BodyRead before.passed h.1)
   turn_refused marked old before (fault.TooMany p) h =
       subst (λ (q : Pair). IsFirstStop (StopsPromotion IsPromoted draft plan) plan q why.TooLarge) (sym h.0)
-      (stopped why.TooLarge before.passed (h.1.0, h.1.1, h.1.2, too_large marked old before h.1 h.2))
+      (stopped why.TooLarge before.passed (h.1, too_large marked old before h.1 h.2))
   turn_refused marked old before fault.Memory h = tt
 
 -- ---- the whole plan
@@ -230,13 +205,13 @@ standing_at plan items n d same inside = ap (λ (l : List Pair). slice_get l n) 
 
 pub turn_made : (draft seen : DraftTree) (plan items : List Pair) (n : ℕ) (d : Pair) → seen ≡ draft → items ≡ plan → n < length items
     → (marked more : ℕ → ℕ → Bool) (old new : DraftTree) → IsPromotedTo draft plan n marked old → AddsReads (paths_of seen) (get_or items n d) marked more
-    → IsObstacle seen (get_or items n d) None → new ≡ promoted_by seen more → first_fault new ≡ None
+    → IsCoverable seen (get_or items n d) → new ≡ promoted_by seen more → first_fault new ≡ None
     → IsPromotedTo draft plan (n + 1) more new
 turn_made draft seen plan items n d same all inside marked more old new before adds covered is faultless =
     let pair = get_or items n d in
     promoted_more draft plan n pair marked more old new (standing_at plan items n d all inside) before
     (subst (λ (e : DraftTree). AddsReads (paths_of e) pair marked more) same adds)
-    (subst (λ (e : DraftTree). IsObstacle e pair None) same covered)
+    (subst (λ (e : DraftTree). IsCoverable e pair) same covered)
     (is ∙ ap (λ (e : DraftTree). promoted_by e more) same) faultless
 
 pub turn_stopped : (draft seen : DraftTree) (plan items : List Pair) (n : ℕ) (d : Pair) → seen ≡ draft → items ≡ plan → n < length items → IsSound draft
@@ -256,7 +231,7 @@ obstacle_fault draft pair marked fault.Memory h = tt
 
 -- what the check refuses of a turn
 pub turn_fault : (draft : DraftTree) (pair : Pair) (marked more : ℕ → ℕ → Bool) (made : DraftTree) (f : RepairFault)
-    → IsObstacle draft pair None → AddsReads (paths_of draft) pair marked more → made ≡ promoted_by draft more → IsRefusedAt made pair f
+    → IsCoverable draft pair → AddsReads (paths_of draft) pair marked more → made ≡ promoted_by draft more → IsRefusedAt made pair f
     → IsTurnFault draft pair marked f
 turn_fault draft pair marked more made (fault.TooMany p) covered adds is h =
     (h.0, covered, (more, adds, h.1, sym (ap first_fault is) ∙ h.2))

@@ -1,7 +1,7 @@
 -- A plan is made pair by pair: what each turn keeps.
 use Rattle.std.proofs.Common.{◌≡◌, ◌↔◌, ℕ, ◌+◌, ◌<◌, ◌≤◌, ◌⊎◌, inl, inr, Bool, true, false, ltb, eqb, ◌&&◌, ◌||◌, List, [], ◌∷◌, ◌++◌, length, Contains, refl, sym, subst, ap, arith}
 use Rattle.std.specs.Prelude.{All}
-use Rattle.std.proofs.lemmas.Bool.{cases_lt, cases_order, or_cases, and_parts, and_from, ltb-true, lt-ltb, eqb-true, eq-eqb}
+use Rattle.std.proofs.lemmas.Bool.{cases_lt, cases_order, or_cases, or_left, or_right, and_parts, and_from, ltb-true, lt-ltb, eqb-true, eq-eqb}
 use Rattle.std.proofs.lemmas.List.Elements.{Contains-append_left, Contains-push, Contains-push_cases}
 use Rattle.std.proofs.lemmas.Option.{slice_get_within}
 use Rattle.prog_tree.specs.Syntax.{DraftTree}
@@ -50,13 +50,9 @@ before-from_test turn p h = go (or_cases (ltb p.from turn.from) (eqb p.from turn
     go (inl k) = inl (ltb-true p.from turn.from k)
     go (inr k) = let both = and_parts (eqb p.from turn.from) (ltb p.to turn.to) k in inr (eqb-true p.from turn.from both.0, ltb-true p.to turn.to both.1)
 
-or_right : (a b : Bool) → b ≡ true → (a || b) ≡ true
-or_right true b h = refl
-or_right false b h = h
-
 test-from_before : (turn p : Pair) → IsBeforeTurn turn p → is_before turn p ≡ true
 unfolding is_before
-test-from_before turn p (inl l) = ap (λ b. b || (eqb p.from turn.from && ltb p.to turn.to)) (lt-ltb p.from turn.from l)
+test-from_before turn p (inl l) = or_left (ltb p.from turn.from) (eqb p.from turn.from && ltb p.to turn.to) (lt-ltb p.from turn.from l)
 test-from_before turn p (inr (e, l)) = or_right (ltb p.from turn.from) (eqb p.from turn.from && ltb p.to turn.to) (and_from (eqb p.from turn.from) (ltb p.to turn.to) (eq-eqb p.from turn.from e) (lt-ltb p.to turn.to l))
 
 module _ (nodes : List Path) where

@@ -35,4 +35,5 @@ HasColumns program count m = All (IsColumn count) (columns_for program m)
 -- each program has the parameters that it keeps
 abbrev pub HaveColumns : List ProgramTree → List Met → Type 0
 HaveColumns programs made =
-    (number : ℕ) (p : ProgramTree) → slice_get programs number ≡ Some p → All (HasColumns number (length p.params)) made
+    (number : ℕ) (p : ProgramTree) → slice_get programs number ≡ Some p
+    → All (HasColumns number (length p.params)) made

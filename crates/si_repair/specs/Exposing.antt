@@ -6,7 +6,7 @@ use Rattle.prog_paths.specs.declared.accesses.places.Question.{Question as Asked
 use Rattle.prog_paths.specs.Asked.{numbers_of, questions_of}
 use Rattle.repair_laws.specs.declared.plan.Pair.{Pair}
 use Rattle.repair_laws.specs.Keys.{ExposedOf}
-use Rattle.repair_laws.specs.Refusals.{HasRangeRead, HasUnknownRead, HasBodyRead}
+use Rattle.repair_laws.specs.Refusals.{HasRangeRead, IsCoverable, StopsAtKey, StopsAtBody}
 use Rattle.si_repair.specs.declared.repairs.reads.Obstacle.{Obstacle}
 use Rattle.si_repair.specs.declared.repairs.reads.Obstacle.TheVariants.{RangeRead, UnknownKey, BodyRead}
 
@@ -19,14 +19,14 @@ IsPart {A = A} (x ∷ rest) part = IsPart rest part ⊎ ((tail : List A) × (par
 -- exposed, and each is listed
 pub record AreExposed (nodes : List Path) (pair : Pair) (questions : List Asked) : Type 0 where
   pub part : IsPart (questions_of nodes) questions
-  pub only : (q : Asked) → Contains questions q → (e : ExposedOf nodes pair) × (e.question.question ≡ numbers_of q)
-  pub each : (e : ExposedOf nodes pair) → (q : Asked) × Contains questions q × (e.question.question ≡ numbers_of q)
+  pub only : (q : Asked) → Contains questions q
+      → (e : ExposedOf nodes pair) × (e.question.question ≡ numbers_of q)
+  pub each : (e : ExposedOf nodes pair)
+      → (q : Asked) × Contains questions q × (e.question.question ≡ numbers_of q)
 
 -- which reads of the pair no keep covers: a range comes before an unknown key, and that before an access in a body
 abbrev pub IsObstacle : DraftTree → Pair → Option Obstacle → Type 0
-IsObstacle draft pair None =
-    (HasRangeRead draft pair → ⊥) × (HasUnknownRead draft pair → ⊥) × (HasBodyRead draft pair → ⊥)
+IsObstacle draft pair None = IsCoverable draft pair
 IsObstacle draft pair (Some RangeRead) = HasRangeRead draft pair
-IsObstacle draft pair (Some UnknownKey) = (HasRangeRead draft pair → ⊥) × HasUnknownRead draft pair
-IsObstacle draft pair (Some BodyRead) =
-    (HasRangeRead draft pair → ⊥) × (HasUnknownRead draft pair → ⊥) × HasBodyRead draft pair
+IsObstacle draft pair (Some UnknownKey) = StopsAtKey draft pair
+IsObstacle draft pair (Some BodyRead) = StopsAtBody draft pair

@@ -51,7 +51,8 @@ TellsEach nodes entries =
 -- for each node the number of nodes that lead to it, itself counted
 abbrev pub AreCounted : List Path → (levels : List ℕ) → Type 0
 AreCounted nodes levels =
-    (x : ℕ) → x < length nodes → IsCountOf (λ u. Leads (StaticEdge nodes) u x) (length nodes) (slice_index_or levels x 0)
+    (x : ℕ) → x < length nodes
+    → IsCountOf (λ u. Leads (StaticEdge nodes) u x) (length nodes) (slice_index_or levels x 0)
 
 -- the certificate of a list of paths: an entry for each harmless question, and the levels of the nodes
 pub record IsCertificateOf (nodes : List Path) (c : Certificate) : Type 0 where

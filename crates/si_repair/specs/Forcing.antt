@@ -63,7 +63,8 @@ all_pairs zero seconds = []
 all_pairs (suc n) seconds = all_pairs n seconds ++ pairs_of n seconds
 
 -- the pairs of parameters that the questions force equal, in order
-pub record AreForced (nodes : List Path) (questions : List Asked) (firsts seconds : ℕ) (pairs : List (ℕ × ℕ)) : Type 0 where
+pub record AreForced (nodes : List Path) (questions : List Asked) (firsts seconds : ℕ)
+    (pairs : List (ℕ × ℕ)) : Type 0 where
   pub only : (i j : ℕ) → Contains pairs (i, j) → (i < firsts) × (j < seconds) × ForceEqual nodes questions i j
   pub each : (i j : ℕ) → i < firsts → j < seconds → ForceEqual nodes questions i j → Contains pairs (i, j)
   pub rise : ArePairsRising pairs

@@ -1,18 +1,14 @@
 -- The accesses of a program, and which of them are exposed to those of another: words of private clauses.
 use Rattle.std.specs.Prelude.{◌≡◌, ℕ, List, Contains}
-use Rattle.prog_check.specs.declared.path.Access.{Access}
 use Rattle.prog_check.specs.declared.path.Path.{Path}
-use Rattle.prog_paths.specs.StaticGraph.{IsAccessOf, AsksReadWrite, IsExposed}
+use Rattle.prog_paths.specs.StaticGraph.{AsksReadWrite, IsExposed}
 use Rattle.prog_paths.specs.Places.{IsAt}
 use Rattle.prog_paths.specs.declared.accesses.places.Placed.{Placed}
 use Rattle.prog_paths.specs.declared.accesses.places.Question.{Question as Asked}
 use Rattle.prog_paths.specs.Asked.{numbers_of, question_between, all_from, asked_among}
+use Rattle.conflict_pairs.specs.Alike.{HasAccess}
 use Rattle.repair_laws.specs.Striking.{IsOfProgram}
 use Rattle.si_repair.specs.Exposing.{IsPart}
-
--- the access of this number on the path of this node is there
-abbrev pub HasAccess : List Path → ℕ → ℕ → Type 0
-HasAccess nodes x a = (access : Access) × IsAccessOf nodes x a access
 
 -- the first access of a question is there
 abbrev pub HasRead : List Path → Asked → Type 0
@@ -48,8 +44,9 @@ pub record IsExposedOf (nodes : List Path) (firsts seconds : List Placed) (q : A
   pub is : q ≡ question_between first second
 
 -- all such questions, by the first access and then by the second
-pub record AreExposedAmong (nodes : List Path) (firsts seconds : List Placed) (questions : List Asked) : Type 0 where
+pub record AreExposedAmong (nodes : List Path) (firsts seconds : List Placed)
+    (questions : List Asked) : Type 0 where
   pub part : IsPart (asked_among firsts seconds) questions
   pub only : (q : Asked) → Contains questions q → IsExposedOf nodes firsts seconds q
-  pub each : (first second : Placed) → Contains firsts first → Contains seconds second → IsExposedTo nodes first second
-      → Contains questions (question_between first second)
+  pub each : (first second : Placed) → Contains firsts first → Contains seconds second
+      → IsExposedTo nodes first second → Contains questions (question_between first second)

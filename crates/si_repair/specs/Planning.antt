@@ -58,7 +58,8 @@ Adds old new P = (t : Triple) → Contains new t ↔ (Contains old t ⊎ P t)
 abbrev pub AreClosing : List Path → ℕ → List Triple → Type 0
 AreClosing nodes programs triples =
     (t : Triple)
-    → Contains triples t ↔ ((t.first < programs) × (t.second < programs) × (t.third < programs) × ClosesTriple nodes t)
+    → Contains triples t
+    ↔ ((t.first < programs) × (t.second < programs) × (t.third < programs) × ClosesTriple nodes t)
 
 -- ---- turns
 
@@ -88,7 +89,8 @@ IsOutside plan t = (Contains plan (first_pair t) → ⊥) × (Contains plan (sec
 
 -- The list is the plan as far as these pairs go, and the triples are those that close a structure without it. Each has a
 -- pair whose turn is still to come.
-pub record IsPartialPlan (nodes : List Path) (plan : List Pair) (triples : List Triple) (done : Pair → Type 0) : Type 0 where
+pub record IsPartialPlan (nodes : List Path) (plan : List Pair) (triples : List Triple)
+    (done : Pair → Type 0) : Type 0 where
   pub is_plan : IsPlanFor nodes plan done
   pub are_left : (t : Triple) → Contains triples t ↔ (ClosesTriple nodes t × IsOutside plan t)
   pub ahead : (t : Triple) → Contains triples t → done (first_pair t) → done (second_pair t) → ⊥

@@ -11,7 +11,7 @@ use Rattle.prog_paths.specs.declared.accesses.places.Question.{Question as Asked
 use Rattle.repair_laws.specs.declared.plan.Pair.{Pair}
 use Rattle.repair_laws.specs.Keys.{ExposedOf}
 use Rattle.repair_laws.specs.Promoted.{cell_read, with_keeps}
-use Rattle.repair_laws.specs.Refusals.{HasRangeRead, HasUnknownRead, HasBodyRead}
+use Rattle.repair_laws.specs.Refusals.{HasRangeRead, StopsAtKey, StopsAtBody}
 use Rattle.si_repair.specs.declared.repairs.fault.RepairFault.{RepairFault}
 use Rattle.si_repair.specs.declared.repairs.fault.RepairFault.TheVariants.{RangeRead, UnknownKey, BodyRead, TooMany, Memory}
 use Rattle.si_repair.specs.declared.repairs.marks.Mark.{Mark}
@@ -88,8 +88,7 @@ promoted_program marked p = record { name = p.name; params = p.params; body = wi
 -- no keep covers some exposed read of the pair, or memory is wanting
 abbrev pub IsObstacleFault : DraftTree → Pair → RepairFault → Type 0
 IsObstacleFault draft pair (RangeRead p) = (p ≡ pair) × HasRangeRead draft pair
-IsObstacleFault draft pair (UnknownKey p) = (p ≡ pair) × (HasRangeRead draft pair → ⊥) × HasUnknownRead draft pair
-IsObstacleFault draft pair (BodyRead p) =
-    (p ≡ pair) × (HasRangeRead draft pair → ⊥) × (HasUnknownRead draft pair → ⊥) × HasBodyRead draft pair
+IsObstacleFault draft pair (UnknownKey p) = (p ≡ pair) × StopsAtKey draft pair
+IsObstacleFault draft pair (BodyRead p) = (p ≡ pair) × StopsAtBody draft pair
 IsObstacleFault draft pair (TooMany p) = ⊥
 IsObstacleFault draft pair Memory = Unit {0}

@@ -21,7 +21,8 @@ IsInRange draft pair = (pair.from < length draft.programs) × (pair.to < length 
 -- each program has its old meaning, on every table state and with any arguments
 abbrev pub KeepsAllMeaning : DraftTree → DraftTree → Type 0
 KeepsAllMeaning old new =
-    (number : ℕ) (p q : ProgramTree) → slice_get old.programs number ≡ Some p → slice_get new.programs number ≡ Some q
+    (number : ℕ) (p q : ProgramTree) → slice_get old.programs number ≡ Some p
+    → slice_get new.programs number ≡ Some q
     → (args : List ℤ) (m : TableState) → length p.params ≡ length args
     → KeepsMeaning (eval old.tables p args m) (eval new.tables q args m)
 

@@ -8,9 +8,9 @@ ghost use Rattle.conflict_pairs.specs.Table.{StandsFor};
 ghost use Rattle.si_repair.specs.declared.fault.AnalyseFault as AnalyseFault;
 ghost use Rattle.si_repair.specs.Findings.{AsksFew, AsksTooMany, IsRightFinding};
 
+use crate::certificate::certificate_of;
 use crate::fault::AnalyseFault;
 use crate::finding::Finding;
-use crate::writing::certificate_of;
 use conflict_pairs::{PairTable, pairs, pairs_par};
 use dep_graph::Graph;
 use prog_check::{Path, ProgramSet};

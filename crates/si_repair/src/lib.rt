@@ -3,12 +3,12 @@
 #![tactic(auto)]
 
 mod analysis;
+mod certificate;
 mod fault;
 mod finding;
 mod plans;
 mod reasons;
 mod repairs;
-mod writing;
 
 pub use analysis::{certify, certify_par};
 pub use fault::AnalyseFault;

@@ -2,7 +2,7 @@
 ghost use Rattle.std.specs.Prelude.{◌≡◌, All, IsTrue, IfOk};
 ghost use Rattle.si_repair.specs.Telling.{reason_of, Gives, AreGiven, TightFits, VerdictFits};
 
-use crate::writing::small;
+use crate::certificate::small;
 use conflict_pairs::{Interned, Interner, Verdict, intern_all};
 use order_facts::{Node, Nodes};
 use prog_tree::Sequence;

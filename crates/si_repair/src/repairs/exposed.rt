@@ -7,7 +7,8 @@ ghost use Rattle.conflict_pairs.specs.Law.{IsExposedVerdict};
 ghost use Rattle.conflict_pairs.specs.Verdicts.{IsRight};
 ghost use Rattle.repair_laws.specs.Striking.{IsOfProgram};
 ghost use Rattle.si_repair.specs.Exposing.{AreExposed};
-ghost use Rattle.si_repair.specs.Gathering.{HasAccess, ArePlacesOf, MayMiss, IsExposedTo, AreExposedAmong};
+ghost use Rattle.conflict_pairs.specs.Alike.{HasAccess};
+ghost use Rattle.si_repair.specs.Gathering.{ArePlacesOf, MayMiss, IsExposedTo, AreExposedAmong};
 
 use conflict_pairs::{Verdict, verdict};
 use prog_check::{Access, Path};

@@ -3,8 +3,8 @@ ghost use Rattle.std.specs.Prelude.{◌≡◌, IfOk, OnOk, IfErr, None};
 ghost use Rattle.prog_tree.specs.Tree.{draft_tree};
 ghost use Rattle.prog_check.specs.Paths.{paths_of};
 ghost use Rattle.repair_laws.specs.Promoted.{IsPromoted};
-ghost use Rattle.repair_laws.specs.Refusals.{StopsPromotion};
-ghost use Rattle.si_repair.specs.Exposing.{AreExposed, IsObstacle};
+ghost use Rattle.repair_laws.specs.Refusals.{IsCoverable, StopsPromotion};
+ghost use Rattle.si_repair.specs.Exposing.{AreExposed};
 ghost use Rattle.si_repair.specs.Promoting.{is_marked, IsObstacleFault, AddsReads};
 ghost use Rattle.si_repair.specs.Repairing.{IsSafeRepair, StopsNowhere, IsRepairFault};
 
@@ -31,7 +31,7 @@ fn refuse_obstacle(
 ) -> Result<(), RepairFault>
     requires paths { paths.now ≡ paths_of (draft_tree draft.now) }
     requires exposed { AreExposed paths.now pair questions.now }
-    ensures passed { OnOk result (IsObstacle (draft_tree draft.now) pair None) }
+    ensures passed { OnOk result (IsCoverable (draft_tree draft.now) pair) }
     ensures refused { IfErr result (λ fault. IsObstacleFault (draft_tree draft.now) pair fault) }
 {
     match first_obstacle(alloc, draft, paths, pair, questions)? {
@@ -53,7 +53,7 @@ fn with_pair(
     requires { paths.now ≡ paths_of (draft_tree draft.now) }
     ensures reads { IfOk result (λ more. AddsReads (paths_of (draft_tree draft.now)) pair
         (is_marked marks.items) (is_marked more.items)) }
-    ensures passed { OnOk result (IsObstacle (draft_tree draft.now) pair None) }
+    ensures passed { OnOk result (IsCoverable (draft_tree draft.now) pair) }
     ensures refused { IfErr result (λ fault. IsObstacleFault (draft_tree draft.now) pair fault) }
 {
     let questions = exposed_questions(alloc, paths, pair)?;

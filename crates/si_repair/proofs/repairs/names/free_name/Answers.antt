@@ -1,12 +1,13 @@
 use Rattle.std.proofs.Common.{◌≡◌, ◌+◌, true, false, length, sym, ap, ◌∙◌, arith}
 use Rattle.std.specs.Prelude.{vec_len}
+use Rattle.std.proofs.lemmas.Result.{IfOk-weaker}
 use Rattle.prog_tree.specs.declared.program.Draft.{Draft}
 use Rattle.prog_tree.specs.Syntax.{Name}
 use Rattle.prog_tree.specs.Tree.{draft_tree}
 use Rattle.prog_check.specs.Names.{is_among}
 use Rattle.repair_laws.specs.Materialised.{mat_name, IsLeastFree}
 use Rattle.si_repair.specs.Carrying.{all_met, taken_names}
-use Rattle.si_repair.proofs.Naming.{first_free, if_ok, one_free}
+use Rattle.si_repair.proofs.Naming.{first_free, one_free}
 use Rattle.si_repair.proofs.repairs.names.free_name.Goals as goal
 use Rattle.si_repair.proofs.repairs.names.free_name.Goals.{else-loop-number-test, then-loop-number-test+in_ok-name+else-not-is_taken+else-number-counter-taken}
 
@@ -18,8 +19,8 @@ returns-then-not-is_taken c =
     let spelled : tested ≡ mat_name n = c.as_str.ensures.value ∙ c.in_ok-name.ensures.ok in
     let free : is_among taken (mat_name n) ≡ false = ap (is_among taken) (sym spelled) ∙ sym c.is_taken.ensures ∙ c.if-not-is_taken.true in
     let again : c.as_str-then-not-is_taken.result.now ≡ mat_name n = c.as_str-then-not-is_taken.ensures.value ∙ c.in_ok-name.ensures.ok in
-    if_ok (λ (name : Name). name ≡ c.as_str-then-not-is_taken.result.now) (IsLeastFree taken)
-    (λ name e. first_free taken n name (e ∙ again) (ap (is_among taken) (e ∙ again) ∙ free) c.loop-number.invariant) c.new.result c.new.ensures
+    IfOk-weaker c.new.result (λ (name : Name). name ≡ c.as_str-then-not-is_taken.result.now) (IsLeastFree taken)
+    (λ name e. first_free taken n name (e ∙ again) (ap (is_among taken) (e ∙ again) ∙ free) c.loop-number.invariant) c.new.ensures
 
 pub unreachable-requires : goal.unreachable-requires
 unreachable-requires c = elim c.loop-number-test.branch [

@@ -8,7 +8,7 @@ use Rattle.dep_graph.proofs.Entries.{entry_at}
 use Rattle.robust_cert.specs.Sharing.{entries_told}
 use Rattle.si_repair.specs.Telling.{AskedFits, told_of, Gives}
 use Rattle.si_repair.proofs.Fitting.{entry_fits, told_more, told_end, numbered_more, within_more}
-use Rattle.si_repair.proofs.writing.questions_of.Goals as goal
+use Rattle.si_repair.proofs.certificate.all_told.Goals as goal
 
 pub push_told-requires : goal.push_told-requires
 push_told-requires c =

@@ -2,7 +2,7 @@ use Rattle.std.proofs.Common.{◌≡◌, ◌++◌, drop}
 use Rattle.std.specs.Prelude.{All}
 use Rattle.robust_cert.specs.Sharing.{entries_told, IsWithin}
 use Rattle.si_repair.specs.Telling.{told_of}
-use Rattle.si_repair.proofs.writing.questions_of.Given as goal
+use Rattle.si_repair.proofs.certificate.all_told.Given as goal
 
 -- what is told so far, with what the entries that are left tell
 abbrev pub invariant-loop-n : goal.invariant-loop-n

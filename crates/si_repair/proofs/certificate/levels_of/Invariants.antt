@@ -4,7 +4,7 @@ use Rattle.prog_check.specs.declared.path.Path.{Path}
 use Rattle.prog_paths.specs.StaticGraph.{StaticEdge, Leads}
 use Rattle.conflict_pairs.specs.Table.{StandsFor}
 use Rattle.dep_graph.specs.Counting.{IsCountOf}
-use Rattle.si_repair.proofs.writing.levels_of.Given as goal
+use Rattle.si_repair.proofs.certificate.levels_of.Given as goal
 
 abbrev pub invariant-loop-x : goal.invariant-loop-x
 invariant-loop-x l = record {

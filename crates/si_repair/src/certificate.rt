@@ -60,8 +60,8 @@ fn push_told(
     Ok(())
 }
 
-/// The questions of a table that are not exposed, with the numbers of their reasons.
-fn questions_of(
+/// What is told of the questions of a table that are not exposed, by the numbers of their reasons.
+fn all_told(
     alloc: Global,
     table: &PairTable,
     given: &Interned<Reason>,
@@ -86,7 +86,7 @@ fn entries_of(alloc: Global, table: &PairTable) -> Result<Entries, AllocError>
     ensures { IfOk result (λ entries. entries ≡ told_of table.now.entries) }
 {
     let given = reasons_of(alloc, table.verdicts())?;
-    let told = questions_of(alloc, table, &given)?;
+    let told = all_told(alloc, table, &given)?;
     Ok(Entries::of(told, given.values))
 }
 

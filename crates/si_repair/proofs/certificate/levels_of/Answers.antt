@@ -2,7 +2,7 @@ use Rattle.std.proofs.Common.{length, arith}
 use Rattle.prog_paths.specs.StaticGraph.{StaticEdge, Leads}
 use Rattle.dep_graph.specs.Counting.{IsCountOf}
 use Rattle.si_repair.proofs.Fitting.{count-within, small_from, pushed}
-use Rattle.si_repair.proofs.writing.levels_of.Goals as goal
+use Rattle.si_repair.proofs.certificate.levels_of.Goals as goal
 
 pub small-requires : goal.small-requires
 small-requires c =
