@@ -12,7 +12,7 @@ use Rattle.std.proofs.lemmas.Slice.Eq.{slice_eq-Decides}
 use Rattle.history_book.specs.declared.instances.row.Ending.{Ending}
 use Rattle.history_book.specs.declared.instances.row.Ending.TheVariants.{Committed, Clashed, Aborted}
 use Rattle.si_workers.specs.Calls.{Call, call_of, called_in, is_same_call}
-use Rattle.si_workers.specs.Counting.{Tidings, is_clash_of, tries_in, clashes_of, clashes_kept, clashes_told}
+use Rattle.si_workers.specs.KeptAndTold.{Tidings, is_clash_of, tries_in, clashes_of, clashes_kept, clashes_told}
 use Rattle.si_workers.specs.Outcomes.{AreAsMany, AreClashesTold, IsClashTold}
 use Rattle.si_workers.specs.declared.job.Job.{Job}
 use Rattle.si_workers.specs.declared.job.JobOutcome.{JobOutcome}

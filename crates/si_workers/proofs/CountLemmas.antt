@@ -1,15 +1,11 @@
 -- Counts of what passes a test, as far as a u64 can tell.
-use Rattle.std.proofs.Common.{◌≡◌, ◌↔◌, ℕ, zero, suc, ◌+◌, ◌<◌, ◌≤◌, min, refl, sym, subst, cond, Bool, true, false, ◌||◌, List, [], ◌∷◌, length, true≢false, arith, nat_lt, ◌==◌, ◌⊎◌, inl, inr}
-use Rattle.std.specs.Prelude.{IsTrue, Option, Some, None, slice_get}
-use Rattle.std.specs.Option.{IsSomeAnd}
-use Rattle.std.proofs.lemmas.Option.{slice_get_within}
+use Rattle.std.proofs.Common.{◌≡◌, ◌↔◌, ℕ, ◌+◌, ◌<◌, ◌≤◌, min, refl, sym, subst, cond, Bool, true, false, ◌||◌, List, [], ◌∷◌, length, true≢false, arith, nat_lt, ◌==◌, ◌⊎◌, inl, inr}
+use Rattle.std.specs.Prelude.{IsTrue}
 use Rattle.std.proofs.lemmas.Bool.{cases_lt}
 use Rattle.std.proofs.lemmas.Bool.Decides.{Decides-eqb, Decides-ltb}
 use Rattle.std.specs.List.{count_by, list_any}
 use Rattle.std.proofs.lemmas.List.Sums.{sum_by-cons, count_by-le-length}
-use Rattle.history_book.specs.View.{nth_row}
-use Rattle.history_book.specs.declared.instances.row.HistoryRow.{HistoryRow}
-use Rattle.si_workers.specs.Counts.{most}
+use Rattle.si_workers.specs.Tally.{most}
 
 some-step : (b any : Bool) (n : ℕ) → (any ≡ true → 0 < n) → (b || any) ≡ true → 0 < cond b 1 0 + n
 some-step true any n h e = omega arith
@@ -71,11 +67,8 @@ below_more P n below here k l = go (cases_lt k n)
     go (inl before) = below k before
     go (inr past) = let same : n ≡ k = omega arith in subst P same here
 
--- a commit that there is has a number from 1 up to how many there are
-pub within_rows : (rows : List HistoryRow) (number : ℕ) (P : HistoryRow → Type 0) → IsSomeAnd (nth_row rows number) P → (0 < number) × (number ≤ length rows)
-within_rows rows zero P there = absurd there
-within_rows rows (suc n) P there = (omega arith, inside (slice_get rows n) refl there)
-  where
-    inside : (found : Option HistoryRow) → slice_get rows n ≡ found → IsSomeAnd found P → suc n ≤ length rows
-    inside None at none = absurd none
-    inside (Some row) at some = let below = slice_get_within rows n row at in omega (arith, below)
+-- a count is 1 where it is told as 1
+pub one_told : (n count : ℕ) → count ≡ min n most → IsTrue (count == 1) ↔ (n ≡ 1)
+one_told n count e =
+    let d = Decides-eqb count 1 in
+    (λ t. let k = d.0 t in omega arith, λ s. d.1 (omega arith))

@@ -6,7 +6,7 @@ use Rattle.std.proofs.lemmas.Bool.Decides.{nat_tests}
 use Rattle.std.proofs.lemmas.List.{append-nil, append_assoc, length-map}
 use Rattle.std.proofs.lemmas.List.Concat.{flat_map-append}
 use Rattle.std.proofs.lemmas.Option.{slice_get-map, slice_get_past}
-use Rattle.si_workers.specs.Counting.{Tidings}
+use Rattle.si_workers.specs.KeptAndTold.{Tidings}
 use Rattle.si_workers.specs.Gathered.{with_one, with_all, AreToldMore}
 use Rattle.si_workers.specs.OutcomeIn.{outcome_in}
 use Rattle.si_workers.specs.Told.{Report, outcomes_of, only, AreTold}

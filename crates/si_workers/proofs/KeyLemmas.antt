@@ -1,20 +1,17 @@
--- Keys that compare equal, and tallies of them.
-use Rattle.std.proofs.Common.{◌≡◌, ℕ, ◌+◌, ◌<◌, ◌≤◌, length, take, get_or, min, refl, sym, ap, ◌∙◌, Bool, true, false, ◌&&◌, ◌==◌, List, [], ◌∷◌, ℤ, arith, if◌then◌else◌}
+-- Keys that compare equal, and what is noted at them.
+use Rattle.std.proofs.Common.{◌≡◌, ℕ, refl, ap, ◌∙◌, Bool, ◌&&◌, ◌==◌, List, [], ◌∷◌, ℤ, arith, if◌then◌else◌}
 use Rattle.std.specs.Cmp.Lexicographic.{slice_cmp, pointwise}
 use Rattle.std.specs.Ordering.{nat_cmp, int_cmp, int_eq, ordering_then, is_eq}
 use Rattle.std.specs.declared.cmp.Ordering.{Ordering}
 use Rattle.std.specs.declared.cmp.Ordering.TheVariants.{Less, Equal, Greater}
 use Rattle.std.proofs.lemmas.Bool.Decides.{nat_tests}
 use Rattle.std.proofs.lemmas.Cmp.{int_eq_equiv, eq_by_cmp_equiv, lists_equiv}
-use Rattle.std.specs.List.{sum_by}
-use Rattle.std.proofs.lemmas.List.Sums.{sum_by_more}
 use Rattle.prog_tree.proofs.TableLemmas.{cell_total}
 use Rattle.prog_tree.specs.Table.{cell_cmp}
 use Rattle.prog_tree.specs.declared.deed.Cause.{Cause}
 use Rattle.version_store.specs.declared.clash.Clash.{Clash}
 use Rattle.si_workers.specs.Calls.{Call, is_same_call, is_same_cause, is_same_clash}
-use Rattle.si_workers.specs.Counts.{more, most}
-use Rattle.si_workers.specs.Keys.{call_at, cause_at, clash_at, call_cmp, cause_cmp, counted_if, abort_cmp, clash_cmp}
+use Rattle.si_workers.specs.Keys.{call_at, cause_at, clash_at, call_cmp, cause_cmp, abort_cmp, clash_cmp}
 use Rattle.si_workers.specs.declared.call.AbortKey.{AbortKey}
 use Rattle.si_workers.specs.declared.call.CallKey.{CallKey}
 use Rattle.si_workers.specs.declared.call.CauseKey.{CauseKey}
@@ -76,36 +73,16 @@ clash-tie a b =
     ∙ both _ _ _ _ (call-tie a.call b.call)
     (then-tie (cell_cmp a.cell b.cell) (nat_cmp a.number b.number) ∙ both _ _ _ _ ((eq_by_cmp_equiv cell_total).symm a.cell b.cell) (nat-tie a.number b.number))
 
--- ---- counts on the way
+-- ---- what is noted
 
--- where so many more are counted by a test, so are they in the sum
-pub counted_more : (old new sum times : ℕ) (test : Bool) → old ≡ min sum most → new ≡ counted_if test times old → new ≡ min (sum + (if test then times else 0)) most
-counted_more old new sum times true e f = omega arith
-counted_more old new sum times false e f = omega arith
+-- a key is noted where its test finds it the same
+pub call_noted : (key q : CallKey) (call : Call) (times : ℕ) → call_at key ≡ call → (if is_eq (call_cmp key q) then times else 0) ≡ (if is_same_call (call_at q) call then times else 0)
+call_noted key q call times is = ap (λ b. if b then times else 0) (call-tie key q ∙ ap (is_same_call (call_at q)) is)
 
--- an abort of a call by a cause was noted
-pub abort_noted : (key q : AbortKey) (call : Call) (by : Cause) (old new : ℕ) (test : Bool) → call_at key.call ≡ call → cause_at key.cause ≡ by → test ≡ (is_same_call (call_at q.call) call && is_same_cause (cause_at q.cause) by) → new ≡ more abort_cmp key 1 q old → new ≡ counted_if test 1 old
-abort_noted key q call by old new test e f t n =
-    n ∙ ap (λ b. counted_if b 1 old) (abort-tie key q ∙ (λ i. is_same_call (call_at q.call) (e i) && is_same_cause (cause_at q.cause) (f i)) ∙ sym t)
+pub abort_noted : (key q : AbortKey) (call : Call) (by : Cause) (times : ℕ) → call_at key.call ≡ call → cause_at key.cause ≡ by → (if is_eq (abort_cmp key q) then times else 0) ≡ (if is_same_call (call_at q.call) call && is_same_cause (cause_at q.cause) by then times else 0)
+abort_noted key q call by times is cause =
+    ap (λ b. if b then times else 0) (abort-tie key q ∙ (λ i. is_same_call (call_at q.call) (is i) && is_same_cause (cause_at q.cause) (cause i)))
 
--- a call was noted
-pub call_noted : (key q : CallKey) (call : Call) (times old new : ℕ) (test : Bool) → call_at key ≡ call → test ≡ is_same_call (call_at q) call → new ≡ more call_cmp key times q old → new ≡ counted_if test times old
-call_noted key q call times old new test e t n = n ∙ ap (λ b. counted_if b times old) (call-tie key q ∙ ap (is_same_call (call_at q)) e ∙ sym t)
-
--- a clash of a call was noted
-pub clash_noted : (key q : ClashKey) (call : Call) (on : Clash) (old new : ℕ) (test : Bool) → call_at key.call ≡ call → clash_at key ≡ on → test ≡ (is_same_call (call_at q.call) call && is_same_clash (clash_at q) on) → new ≡ more clash_cmp key 1 q old → new ≡ counted_if test 1 old
-clash_noted key q call on old new test e f t n =
-    n ∙ ap (λ b. counted_if b 1 old) (clash-tie key q ∙ (λ i. is_same_call (call_at q.call) (e i) && is_same_clash (clash_at q) (f i)) ∙ sym t)
-
--- nothing is counted more where it is noted no times
-pub none_noted : (test : Bool) (times count : ℕ) → times ≡ 0 → count ≤ most → count ≡ counted_if test times count
-none_noted true times count none few = omega arith
-none_noted false times count none few = refl
-
--- one more element of a list was counted
-pub tally-step : {X : Type 0} (test : X → Bool) (times : X → ℕ) (xs : List X) (i : ℕ) (x : X) (old new : ℕ) → i < length xs → x ≡ get_or xs i x → old ≡ min (sum_by (λ x. if test x then times x else 0) (take i xs)) most → new ≡ counted_if (test x) (times x) old → new ≡ min (sum_by (λ x. if test x then times x else 0) (take (i + 1) xs)) most
-tally-step {X} test times xs i x old new lt at e f =
-    let term : X → ℕ = λ x. if test x then times x else 0 in
-    counted_more old new (sum_by term (take i xs)) (times x) (test x) e f
-    ∙ ap (λ n. min (sum_by term (take i xs) + n) most) (ap term at)
-    ∙ ap (λ s. min s most) (sym (sum_by_more term xs i x lt))
+pub clash_noted : (key q : ClashKey) (call : Call) (on : Clash) (times : ℕ) → call_at key.call ≡ call → clash_at key ≡ on → (if is_eq (clash_cmp key q) then times else 0) ≡ (if is_same_call (call_at q.call) call && is_same_clash (clash_at q) on then times else 0)
+clash_noted key q call on times is clash =
+    ap (λ b. if b then times else 0) (clash-tie key q ∙ (λ i. is_same_call (call_at q.call) (is i) && is_same_clash (clash_at q) (clash i)))

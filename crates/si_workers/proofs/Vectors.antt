@@ -12,7 +12,7 @@ use Rattle.history_book.specs.declared.instances.row.Ending.TheVariants as endin
 use Rattle.history_book.specs.declared.instances.row.HistoryRow.{HistoryRow}
 use Rattle.history_book.proofs.Vectors.{cell, opening}
 use Rattle.si_workers.specs.Calls.{Call, call_of, is_same_call}
-use Rattle.si_workers.specs.Counting.{Tidings}
+use Rattle.si_workers.specs.KeptAndTold.{Tidings}
 use Rattle.si_workers.specs.Outcomes.{AreRightTries, Correspond, IsBroken, IsOfSomeJob, Stands}
 use Rattle.si_workers.specs.declared.job.Job.{Job}
 use Rattle.si_workers.specs.declared.job.JobEnd.{JobEnd}

@@ -1,18 +1,9 @@
--- How often keys were noted.
-use Rattle.std.specs.Prelude.{ℕ, ◌+◌, ◌-◌, ◌^◌, min, List, if◌then◌else◌}
-use Rattle.std.specs.BTreeMap.{is_at}
-use Rattle.std.specs.Map.{lookup}
-use Rattle.std.specs.Option.{unwrap_or}
-use Rattle.std.specs.declared.cmp.Ordering.{Ordering}
+-- What is counted.
+use Rattle.std.specs.Prelude.{List}
+use Rattle.history_book.specs.declared.instances.row.Ending.{Ending}
+use Rattle.si_workers.specs.KeptAndTold.{Tidings}
 
--- the greatest u64
-abbrev pub most : ℕ
-most = 2 ^ 64 - 1
-
--- how often a key was noted
-abbrev pub count_in : {K : Type 0} → (K → K → Ordering) → List (K × ℕ) → K → ℕ
-count_in cmp t q = unwrap_or (lookup (is_at (cmp q)) t) 0
-
--- what a count comes to where another key is noted so many times
-abbrev pub more : {K : Type 0} → (K → K → Ordering) → K → ℕ → K → ℕ → ℕ
-more cmp key times q count = if is_at (cmp key) q then min (count + times) most else count
+-- the endings of a book, and what is told of jobs
+pub record Counted : Type 0 where
+  pub endings : List Ending
+  pub tidings : Tidings

@@ -25,12 +25,12 @@ abbrev pub begun_and_withdrawn : BookView → BookView
 begun_and_withdrawn v = record v { begun = v.begun + 1 }
 
 -- a begin, and where it doesn't see the commit its withdrawal
-abbrev pub IsBeginAfter : (old new : BookView) → (commit program : ℕ) → List ℤ → Result TicketView BeginAfterFault → Type 0
-IsBeginAfter old new commit program args (Ok ticket) =
+abbrev pub IsBeginAfter : (old new : BookView) → (program : ℕ) → List ℤ → Result TicketView BeginAfterFault → Type 0
+IsBeginAfter old new program args (Ok ticket) =
     (begin_fault_of old program args ≡ None) × (ticket ≡ next_ticket old) × (new ≡ begun_in old program args)
-IsBeginAfter old new commit program args (Err (Behind commits)) =
+IsBeginAfter old new program args (Err (Behind commits)) =
     (begin_fault_of old program args ≡ None) × (commits ≡ length old.rows) × (new ≡ begun_and_withdrawn old)
-IsBeginAfter old new commit program args (Err (Refused begin.Memory)) =
+IsBeginAfter old new program args (Err (Refused begin.Memory)) =
     (begin_fault_of old program args ≡ None) × (new ≡ old)
-IsBeginAfter old new commit program args (Err (Refused fault)) =
+IsBeginAfter old new program args (Err (Refused fault)) =
     (begin_fault_of old program args ≡ Some fault) × (new ≡ old)

@@ -1,14 +1,14 @@
 pub mod Calls
-pub mod Counted
-pub mod Counting
 pub mod Counts
 pub mod Ended
 pub mod Freshness
 pub mod Gathered
 pub mod JobLines
+pub mod KeptAndTold
 pub mod Keys
 pub mod OutcomeIn
 pub mod Outcomes
 pub mod Settled
+pub mod Tally
 pub mod Told
 pub mod Work

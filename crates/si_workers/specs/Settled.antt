@@ -5,12 +5,12 @@ use Rattle.prog_tree.specs.declared.program.Draft.{Draft}
 use Rattle.prog_tree.specs.Table.{TableState}
 use Rattle.history_book.specs.Orders.{least_order}
 use Rattle.history_book.specs.View.{BookView, FitsBook, depends_in}
-use Rattle.si_workers.specs.Counting.{Tidings}
+use Rattle.si_workers.specs.KeptAndTold.{Tidings}
 use Rattle.si_workers.specs.Outcomes.{Correspond, IsBroken}
 use Rattle.si_workers.specs.Told.{Report, AreTold}
 use Rattle.si_workers.specs.Work.{jobs_by, outcome_at}
 use Rattle.si_workers.specs.declared.fault.WorkFault.{WorkFault}
-use Rattle.si_workers.specs.declared.fault.WorkFault.TheVariants.{Workers, TooManyJobs, NoThread, Broken, Memory}
+use Rattle.si_workers.specs.declared.fault.WorkFault.TheVariants.{NoThread, Broken, Memory}
 use Rattle.si_workers.specs.declared.job.Job.{Job}
 use Rattle.si_workers.specs.declared.job.JobOutcome.{JobOutcome}
 use Rattle.si_workers.specs.declared.run.Compared.{Compared}
@@ -44,12 +44,10 @@ pub record IsOrderOf (v : BookView) (order : List ℕ) : Type 0 where
 abbrev pub IsConcluded : (workers started : ℕ) → List JobOutcome → BookView → Result Finished WorkFault → Type 0
 IsConcluded workers started outcomes v (Ok finished) =
     (workers ≤ started) × (finished.outcomes ≡ outcomes) × (finished.book ≡ v) × IsOrderOf v finished.order
-IsConcluded workers started outcomes v (Err Workers) = ⊥
-IsConcluded workers started outcomes v (Err TooManyJobs) = ⊥
 IsConcluded workers started outcomes v (Err (NoThread number told book)) =
     (started < workers) × (number ≡ started) × (told ≡ outcomes) × (book ≡ v)
-IsConcluded workers started outcomes v (Err (Broken job outcome book)) = ⊥
 IsConcluded workers started outcomes v (Err (Memory book)) = book ≡ Some v
+IsConcluded workers started outcomes v (Err other) = ⊥
 
 -- the outcomes that the workers told correspond to the book
 pub record AreToldRight (set : Draft) (opening : TableState) (jobs : List Job) (done : List Done) (v : BookView) (outcomes : List JobOutcome) : Type 0
@@ -72,11 +70,10 @@ abbrev pub IsSettled : Draft → TableState → List Job → (workers : ℕ) →
 IsSettled set opening jobs workers done v (Ok finished) =
     (lack_memory done ≡ false) × (workers ≤ length done) × (finished.book ≡ v)
     × AreToldRight set opening jobs done v finished.outcomes × IsOrderOf v finished.order
-IsSettled set opening jobs workers done v (Err Workers) = ⊥
-IsSettled set opening jobs workers done v (Err TooManyJobs) = ⊥
 IsSettled set opening jobs workers done v (Err (NoThread started outcomes book)) =
     (lack_memory done ≡ false) × (started ≡ length done) × (started < workers) × (book ≡ v)
     × AreToldRight set opening jobs done v outcomes
 IsSettled set opening jobs workers done v (Err (Broken job outcome book)) =
     (lack_memory done ≡ false) × (book ≡ v) × AreToldWrong set opening jobs done v job outcome
 IsSettled set opening jobs workers done v (Err (Memory book)) = book ≡ Some v
+IsSettled set opening jobs workers done v (Err other) = ⊥

@@ -1,6 +1,6 @@
 -- What workers tell of jobs.
 use Rattle.std.specs.Prelude.{◌≡◌, ℕ, ◌==◌, List, [], ◌∷◌, flat_map, map, Option, Some, None, slice_get, if◌then◌else◌}
-use Rattle.si_workers.specs.Counting.{Tidings}
+use Rattle.si_workers.specs.KeptAndTold.{Tidings}
 use Rattle.si_workers.specs.declared.job.Job.{Job}
 use Rattle.si_workers.specs.declared.job.JobOutcome.{JobOutcome}
 

@@ -1,12 +1,11 @@
 -- What a worker does, and what comes of work.
-use Rattle.std.specs.Prelude.{◌≡◌, ⊤, ℕ, zero, suc, ◌+◌, ◌-◌, ◌<◌, ◌≤◌, ◌^◌, ◌⊎◌, List, [], ◌∷◌, ◌++◌, length, map, take, Option, Some, None, slice_get, IfSome}
+use Rattle.std.specs.Prelude.{◌≡◌, ⊤, ℕ, zero, suc, ◌+◌, ◌-◌, ◌<◌, ◌≤◌, ◌^◌, ◌⊎◌, ℤ, List, [], ◌∷◌, ◌++◌, length, map, take, Option, Some, Result, Ok, Err, slice_get, IfSome}
 use Rattle.std.specs.Option.{option_and_then}
 use Rattle.prog_tree.specs.declared.program.Draft.{Draft}
 use Rattle.prog_tree.specs.Table.{TableState}
-use Rattle.prog_run.specs.View.{RunView}
 use Rattle.history_book.specs.TrueBook.{IsTrueBook}
 use Rattle.history_book.specs.View.{BookView}
-use Rattle.si_workers.specs.Counting.{Tidings}
+use Rattle.si_workers.specs.KeptAndTold.{Tidings}
 use Rattle.si_workers.specs.Outcomes.{AreRightTries, OutcomesCorrespond, IsBroken}
 use Rattle.si_workers.specs.Told.{Report}
 use Rattle.si_workers.specs.declared.fault.WorkFault.{WorkFault}
@@ -15,53 +14,32 @@ use Rattle.si_workers.specs.declared.job.Job.{Job}
 use Rattle.si_workers.specs.declared.job.JobEnd.{JobEnd}
 use Rattle.si_workers.specs.declared.job.JobEnd.TheVariants as end
 use Rattle.si_workers.specs.declared.job.JobOutcome.{JobOutcome}
-use Rattle.si_workers.specs.declared.worker.Tried.{Tried}
-use Rattle.si_workers.specs.declared.worker.Tried.TheVariants as tried
-use Rattle.si_workers.specs.declared.worker.Came.{Came}
-use Rattle.si_workers.specs.declared.worker.Came.TheVariants as came
-use Rattle.si_workers.specs.declared.worker.Drawn.{Drawn}
-use Rattle.si_workers.specs.declared.worker.Drawn.TheVariants as drawn
+use Rattle.si_workers.specs.declared.worker.Stop.{Stop}
 
 -- ---- a worker
 
--- how many instances a try ended in the book, where it tells
-abbrev pub IsTried : (before after : ℕ) → Tried → Type 0
-IsTried before after (tried.Committed number replies) = after ≡ before + 1
-IsTried before after (tried.Aborted cause) = after ≡ before + 1
-IsTried before after (tried.Refused why) = after ≡ before
-IsTried before after (tried.Clashed clash) = after ≡ before + 1
-IsTried before after tried.Lost = after ≡ before
-IsTried before after tried.NoMemory = after ≡ before
-
--- a commit has the replies of its run
-abbrev pub HasRepliesOf : RunView → Tried → Type 0
-HasRepliesOf run (tried.Committed number replies) = replies ≡ run.replies
-HasRepliesOf run (tried.Aborted cause) = ⊤
-HasRepliesOf run (tried.Refused why) = ⊤
-HasRepliesOf run (tried.Clashed clash) = ⊤
-HasRepliesOf run tried.Lost = ⊤
-HasRepliesOf run tried.NoMemory = ⊤
+-- a commit has these replies
+abbrev pub HasReplies : List ℤ → JobEnd → Type 0
+HasReplies replies (end.Committed number told) = told ≡ replies
+HasReplies replies other = ⊤
 
 -- how many instances a job ended beside those that clashed before its last try
 abbrev pub last_try : JobEnd → ℕ
-last_try (end.Committed number replies) = 1
-last_try (end.Aborted cause) = 1
 last_try (end.Clashed clash) = 0
 last_try (end.Refused why) = 0
+last_try other = 1
 
 -- a job has as many tries as its outcome says, and ended just so many instances; without an outcome no more
-abbrev pub TellsTries : Job → (before after : ℕ) → Came → Type 0
-TellsTries job before after (came.Ended outcome) =
+abbrev pub TellsTries : Job → (before after : ℕ) → Result JobOutcome Stop → Type 0
+TellsTries job before after (Ok outcome) =
     AreRightTries job.retries outcome.clashes outcome.job_end
     × (after ≡ before + outcome.clashes + last_try outcome.job_end)
-TellsTries job before after came.Lost = after ≤ before + job.retries + 1
-TellsTries job before after came.NoMemory = after ≤ before + job.retries + 1
+TellsTries job before after (Err stop) = after ≤ before + job.retries + 1
 
--- the number of the job that ended was drawn; where none did no number is lost
-abbrev pub IsDrawn : (before after : List ℕ) → Drawn → Type 0
-IsDrawn before after (drawn.Ended number outcome) = after ≡ before ++ number ∷ []
-IsDrawn before after drawn.Nothing = (more : List ℕ) × (after ≡ before ++ more)
-IsDrawn before after drawn.NoMemory = (more : List ℕ) × (after ≡ before ++ more)
+-- the number of the job that is reported was drawn; where none is no number is lost
+abbrev pub IsDrawn : (before after : List ℕ) → Result (Option Report) Stop → Type 0
+IsDrawn before after (Ok (Some report)) = after ≡ before ++ report.0 ∷ []
+IsDrawn before after nothing = (more : List ℕ) × (after ≡ before ++ more)
 
 -- the reports are of the first numbers that the pass drew, in their order
 abbrev pub AreDrawn : List Report → List ℕ → Type 0

@@ -1,22 +1,22 @@
 //! What workers tell of jobs, compared with a book.
 
 ghost use Rattle.std.specs.Prelude.{◌≡◌, ◌↔◌, ℕ, All, IsTrue, IfOk, IfNone, IfSome, length};
-ghost use Rattle.si_workers.specs.Counted.{AreCountsOf};
-ghost use Rattle.si_workers.specs.Counting.{commits_told};
+ghost use Rattle.si_workers.specs.KeptAndTold.{commits_told};
 ghost use Rattle.si_workers.specs.Calls.{call_of};
 ghost use Rattle.si_workers.specs.Outcomes.{AreAsMany, AreClashesTold, AreCommitsTold, AreRightTries, Correspond, IsAllOfJobs, IsBroken, IsClashTold, IsCommitOf, IsFirstFallen, IsNamedOnce, IsOfSomeJob, IsOver, IsRecordOf, IsRightEnd, IsRightRefusal, Stands};
 
 use crate::call::CallKey;
-use crate::counted::Counts;
+use crate::counts::Counts;
 use crate::job::{Job, JobEnd};
+use crate::limits::MAX_WORKERS;
 use crate::told::Tiding;
-use history_book::{BeginFault, Book, Ending, HistoryRow};
+use history_book::{BeginFault, Book, Ending, HistoryRow, MAX_ENDINGS};
 use prog_check::ProgramSet;
 use prog_tree::Rows;
 use std::alloc::{AllocError, Global};
 
 /// So many endings let a begin be refused as full while seven other workers are active.
-const NEARLY_FULL: usize = 99_993;
+const NEARLY_FULL: usize = MAX_ENDINGS - (MAX_WORKERS - 1);
 
 // ---- one outcome
 
@@ -55,7 +55,6 @@ fn is_own_commit(
     job: &Job,
     replies: &[i64],
 ) -> bool
-    requires of_book { AreCountsOf book.now counts.now }
     ensures { IsTrue result ↔ (IsCommitOf book.now.rows number job.now replies.now
         × IsNamedOnce counts.now.tidings number) }
 {
@@ -81,7 +80,7 @@ fn is_right_refusal(book: &Book<'_>, job: &Job, fault: BeginFault) -> bool
 }
 
 fn is_right_end<'c>(book: &Book<'_>, counts: &Counts<'c>, job: &'c Job, end: &JobEnd) -> bool
-    requires of_book { AreCountsOf book.now counts.now }
+    requires endings { counts.now.endings ≡ book.now.endings }
     ensures { IsTrue result ↔ IsRightEnd book.now counts.now.tidings job.now end.now }
 {
     match end {
@@ -105,7 +104,7 @@ fn are_right_tries(retries: u32, clashes: u64, end: &JobEnd) -> bool
 }
 
 fn stands<'c>(book: &Book<'_>, counts: &Counts<'c>, tiding: &Tiding<'c>) -> bool
-    requires of_book { AreCountsOf book.now counts.now }
+    requires endings { counts.now.endings ≡ book.now.endings }
     ensures { IsTrue result ↔ Stands book.now counts.now.tidings tiding.now }
 {
     let Some(outcome) = tiding.outcome() else {
@@ -118,7 +117,7 @@ fn stands<'c>(book: &Book<'_>, counts: &Counts<'c>, tiding: &Tiding<'c>) -> bool
 
 // The first job whose outcome does not stand.
 fn first_fallen<'c>(book: &Book<'_>, counts: &Counts<'c>, tidings: &[Tiding<'c>]) -> Option<usize>
-    requires of_book { AreCountsOf book.now counts.now }
+    requires endings { counts.now.endings ≡ book.now.endings }
     requires tidings { counts.now.tidings ≡ tidings.now }
     ensures none { IfNone result (All (Stands book.now tidings.now) tidings.now) }
     ensures fallen { IfSome result (λ job. IsFirstFallen book.now tidings.now job) }
@@ -134,11 +133,10 @@ fn first_fallen<'c>(book: &Book<'_>, counts: &Counts<'c>, tidings: &[Tiding<'c>]
 // ---- all of them
 
 fn are_all_commits_told(book: &Book<'_>, counts: &Counts<'_>) -> bool
-    requires of_book { AreCountsOf book.now counts.now }
     ensures { IsTrue result ↔ AreCommitsTold book.now.rows counts.now.tidings }
 {
     for n in 0..book.commits() {
-        if !counts.is_named(n) {
+        if !counts.is_named(n + 1) {
             return false;
         }
     }
@@ -221,7 +219,7 @@ fn are_all_clashes_told<'c>(
 }
 
 fn is_whole<'c>(book: &'c Book<'_>, counts: &Counts<'c>, tidings: &[Tiding<'c>]) -> bool
-    requires of_book { AreCountsOf book.now counts.now }
+    requires endings { counts.now.endings ≡ book.now.endings }
     requires tidings { counts.now.tidings ≡ tidings.now }
     ensures { IsTrue result ↔ IsAllOfJobs book.now tidings.now }
 {
@@ -257,8 +255,7 @@ pub fn broken<'c>(
     ensures some { IfOk result (λ named. IfSome named
         (λ job. IsBroken set.now opening.now tidings.now book.now job)) }
 {
-    let commits = book.commits() as usize;
-    let counts = Counts::of(alloc, commits, book.endings(), tidings)?;
+    let counts = Counts::of(alloc, book.endings(), tidings)?;
     if let Some(job) = first_fallen(book, &counts, tidings) {
         return Ok(Some(job));
     }

@@ -1,229 +1,129 @@
-//! What jobs and a book come to, counted once.
+//! What jobs and a book come to, counted once and looked up.
 
-ghost use Rattle.std.specs.Prelude.{◌≡◌, ◌<◌, ◌≤◌, ◌+◌, ◌==◌, ℕ, IfOk, OnOk, count_by, length};
-ghost use Rattle.si_workers.specs.Counts.{most};
-ghost use Rattle.si_workers.specs.Calls.{call_of, is_same_call};
-ghost use Rattle.si_workers.specs.Counting.{aborts_kept, aborts_told, clashes_kept, clashes_told, tries_in, commits_told, names, is_abort, is_clash_of, is_clash_on, tells_abort};
-ghost use Rattle.si_workers.specs.Keys.{TalliesAborts, TalliesCalls, TalliesClashes, TalliesNumbers, aborts_at, calls_at, clashes_at, noted_at, counted_if, call_at, cause_at, clash_at};
-ghost use Rattle.si_workers.specs.declared.call.AbortKey.{AbortKey};
-ghost use Rattle.si_workers.specs.declared.call.CallKey.{CallKey};
-ghost use Rattle.si_workers.specs.declared.call.ClashKey.{ClashKey};
+ghost use Rattle.std.specs.Prelude.{◌≡◌, ◌↔◌, ◌<◌, IsTrue, IfOk};
+ghost use Rattle.si_workers.specs.KeptAndTold.{aborts_told, commits_told};
+ghost use Rattle.si_workers.specs.Keys.{call_at};
+ghost use Rattle.si_workers.specs.Outcomes.{AreAbortsTold, AreAsMany, IsClashKept, IsNamedOnce};
 
 use crate::call::{AbortKey, CallKey, ClashKey};
-use crate::job::JobEnd;
 use crate::tally::Tally;
 use crate::told::Tiding;
-use history_book::Ending;
+use history_book::{Clash, Ending};
+use prog_tree::Cause;
 use std::alloc::{AllocError, Global};
+use std::marker::Model;
 
-// ---- endings of a book
-
-fn note_abort<'c>(tally: &mut Tally<AbortKey<'c>>, ending: &'c Ending) -> Result<(), AllocError>
-    ensures { OnOk result ((q : AbortKey) → aborts_at tally.new q
-        ≡ counted_if (is_abort (call_at q.call) (cause_at q.cause) ending.now) 1
-        (aborts_at tally.old q)) }
-{
-    match ending {
-        Ending::Aborted { row, cause } => {
-            tally.note(AbortKey::of(CallKey::row(row), *cause), 1)?;
-            Ok(())
-        }
-        Ending::Committed(_) | Ending::Clashed { .. } => Ok(()),
-    }
-}
-
-/// How often each call aborted by each cause.
-pub fn aborts_in<'c>(
-    alloc: Global,
+/// How often each call ended in each way, by the endings of a book and by what is told of jobs.
+#[derive(Drop)]
+pub struct Counts<'c> {
     endings: &'c [Ending],
-) -> Result<Tally<AbortKey<'c>>, AllocError>
-    ensures { IfOk result (λ tally.
-        TalliesAborts (λ call cause. aborts_kept call cause endings.now) tally) }
-{
-    let mut tally = Tally::new(alloc);
-    for ending in endings {
-        note_abort(&mut tally, ending)?;
-    }
-    Ok(tally)
-}
-
-fn note_clash<'c>(tally: &mut Tally<CallKey<'c>>, ending: &'c Ending) -> Result<(), AllocError>
-    ensures { OnOk result ((q : CallKey) → calls_at tally.new q
-        ≡ counted_if (is_clash_of (call_at q) ending.now) 1
-        (calls_at tally.old q)) }
-{
-    match ending {
-        Ending::Clashed { row, clash: _ } => {
-            tally.note(CallKey::row(row), 1)?;
-            Ok(())
-        }
-        Ending::Committed(_) | Ending::Aborted { .. } => Ok(()),
-    }
-}
-
-/// How often each call clashed.
-pub fn clashes_by_call<'c>(
-    alloc: Global,
-    endings: &'c [Ending],
-) -> Result<Tally<CallKey<'c>>, AllocError>
-    ensures { IfOk result (λ tally.
-        TalliesCalls (λ call. clashes_kept call endings.now) tally) }
-{
-    let mut tally = Tally::new(alloc);
-    for ending in endings {
-        note_clash(&mut tally, ending)?;
-    }
-    Ok(tally)
-}
-
-fn note_clash_on<'c>(tally: &mut Tally<ClashKey<'c>>, ending: &'c Ending) -> Result<(), AllocError>
-    ensures { OnOk result ((q : ClashKey) → clashes_at tally.new q
-        ≡ counted_if (is_clash_on (call_at q.call) (clash_at q) ending.now) 1
-        (clashes_at tally.old q)) }
-{
-    match ending {
-        Ending::Clashed { row, clash } => {
-            tally.note(ClashKey::of(CallKey::row(row), *clash), 1)?;
-            Ok(())
-        }
-        Ending::Committed(_) | Ending::Aborted { .. } => Ok(()),
-    }
-}
-
-/// How often each call had each clash.
-pub fn clashes_in<'c>(
-    alloc: Global,
-    endings: &'c [Ending],
-) -> Result<Tally<ClashKey<'c>>, AllocError>
-    ensures { IfOk result (λ tally.
-        TalliesClashes (λ call clash. count_by (is_clash_on call clash) endings.now) tally) }
-{
-    let mut tally = Tally::new(alloc);
-    for ending in endings {
-        note_clash_on(&mut tally, ending)?;
-    }
-    Ok(tally)
-}
-
-// ---- what is told of jobs
-
-fn note_abort_told<'c>(
-    tally: &mut Tally<AbortKey<'c>>,
-    tiding: &'c Tiding<'c>,
-) -> Result<(), AllocError>
-    ensures { OnOk result ((q : AbortKey) → aborts_at tally.new q
-        ≡ counted_if (tells_abort (call_at q.call) (cause_at q.cause) tiding.now) 1
-        (aborts_at tally.old q)) }
-{
-    let Some(outcome) = tiding.outcome() else {
-        return Ok(());
-    };
-    match &outcome.job_end {
-        JobEnd::Aborted(cause) => {
-            tally.note(AbortKey::of(CallKey::job(tiding.job), *cause), 1)?;
-            Ok(())
-        }
-        JobEnd::Committed { .. } | JobEnd::Clashed(_) | JobEnd::Refused(_) => Ok(()),
-    }
-}
-
-/// How often jobs tell an abort of each call by each cause.
-pub fn told_aborts<'c>(
-    alloc: Global,
     tidings: &'c [Tiding<'c>],
-) -> Result<Tally<AbortKey<'c>>, AllocError>
-    ensures { IfOk result (λ tally.
-        TalliesAborts (λ call cause. aborts_told call cause tidings.now) tally) }
-{
-    let mut tally = Tally::new(alloc);
-    for tiding in tidings {
-        note_abort_told(&mut tally, tiding)?;
-    }
-    Ok(tally)
+    // the commits that jobs name
+    commits: Tally<u64>,
+    aborts: Tally<AbortKey<'c>>,
+    told_aborts: Tally<AbortKey<'c>>,
+    clashes: Tally<ClashKey<'c>>,
+    clashes_of: Tally<CallKey<'c>>,
+    told_clashes: Tally<CallKey<'c>>,
 }
 
-// The tries of a job that clashed.
-fn tries_told(tiding: &Tiding<'_>) -> u64
-    ensures { result ≡ tries_in tiding.now.1 }
-{
-    match tiding.outcome() {
-        Some(outcome) => outcome.clashes,
-        None => 0,
-    }
+impl<'c> Model for Counts<'c> {
+    ghost use Rattle.std.specs.Prelude.{◌<◌, count_by, length};
+    ghost use Rattle.std.specs.Ordering.{nat_cmp};
+    ghost use Rattle.si_workers.specs.Counts.{Counted};
+    ghost use Rattle.si_workers.specs.KeptAndTold.{aborts_kept, aborts_told, clashes_kept};
+    ghost use Rattle.si_workers.specs.KeptAndTold.{clashes_told, commits_told, is_clash_on};
+    ghost use Rattle.si_workers.specs.Keys.{abort_cmp, call_at, call_cmp, cause_at, clash_at, clash_cmp};
+    ghost use Rattle.si_workers.specs.Tally.{Tallies, most};
+
+    ghost Value = { Counted };
+
+    ghost view = { λ c. record { endings = c.endings.now; tidings = c.tidings.now } };
+
+    // A u64 tells each count of the endings.
+    ghost invariant = { λ c. (length c.endings.now < most)
+        × Tallies nat_cmp (λ number. commits_told number c.tidings.now) c.commits
+        × Tallies abort_cmp (λ q.
+        aborts_kept (call_at q.call) (cause_at q.cause) c.endings.now) c.aborts
+        × Tallies abort_cmp (λ q.
+        aborts_told (call_at q.call) (cause_at q.cause) c.tidings.now) c.told_aborts
+        × Tallies clash_cmp (λ q.
+        count_by (is_clash_on (call_at q.call) (clash_at q)) c.endings.now) c.clashes
+        × Tallies call_cmp (λ q. clashes_kept (call_at q) c.endings.now) c.clashes_of
+        × Tallies call_cmp (λ q. clashes_told (call_at q) c.tidings.now) c.told_clashes };
 }
 
-// Notes the tries of a job that clashed. Most jobs have none.
-fn note_clashes_told<'c>(
-    tally: &mut Tally<CallKey<'c>>,
-    tiding: &'c Tiding<'c>,
-) -> Result<(), AllocError>
-    ensures { OnOk result ((q : CallKey) → calls_at tally.old q ≤ most → calls_at tally.new q
-        ≡ counted_if (is_same_call (call_at q) (call_of tiding.now.0)) (tries_in tiding.now.1)
-        (calls_at tally.old q)) }
-{
-    let clashes = tries_told(tiding);
-    if clashes == 0 {
-        return Ok(());
+impl<'c> Counts<'c> {
+    /// Counts what the endings and the tidings come to.
+    pub fn of(
+        alloc: Global,
+        endings: &'c [Ending],
+        tidings: &'c [Tiding<'c>],
+    ) -> Result<Self, AllocError>
+        ensures { IfOk result (λ counts.
+            counts ≡ record { endings = endings.now; tidings = tidings.now }) }
+    {
+        // The endings can be counted, with one more.
+        let _more = endings.len() + 1;
+        let commits = Tally::of(alloc, tidings)?;
+        let aborts = Tally::of(alloc, endings)?;
+        let told_aborts = Tally::of(alloc, tidings)?;
+        let clashes = Tally::of(alloc, endings)?;
+        let clashes_of = Tally::of(alloc, endings)?;
+        let told_clashes = Tally::of(alloc, tidings)?;
+        Ok(Counts {
+            endings,
+            tidings,
+            commits,
+            aborts,
+            told_aborts,
+            clashes,
+            clashes_of,
+            told_clashes,
+        })
     }
-    tally.note(CallKey::job(tiding.job), clashes)?;
-    Ok(())
-}
 
-/// How many tries of each call clashed, as jobs tell.
-pub fn told_clashes<'c>(
-    alloc: Global,
-    tidings: &'c [Tiding<'c>],
-) -> Result<Tally<CallKey<'c>>, AllocError>
-    ensures { IfOk result (λ tally.
-        TalliesCalls (λ call. clashes_told call tidings.now) tally) }
-{
-    let mut tally = Tally::new(alloc);
-    for tiding in tidings {
-        note_clashes_told(&mut tally, tiding)?;
+    /// Whether some job names the commit of a number.
+    pub fn is_named(&self, number: u64) -> bool
+        ensures { IsTrue result ↔ (0 < commits_told number self.now.tidings) }
+    {
+        self.commits.count(&number) > 0
     }
-    Ok(tally)
-}
 
-// One job more names the commit of a number. A number of no commit goes.
-fn note_number(counts: &mut Vec<u64>, number: u64)
-    ensures long { length counts.new.items ≡ length counts.old.items }
-    ensures noted { (n : ℕ) → n < length counts.old.items → noted_at counts.new.items n
-        ≡ counted_if ((n + 1) == number) 1 (noted_at counts.old.items n) }
-{
-    if number == 0 || number > counts.len() as u64 {
-        return;
+    /// Whether just one job names the commit of a number.
+    pub fn is_named_once(&self, number: u64) -> bool
+        ensures { IsTrue result ↔ IsNamedOnce self.now.tidings number }
+    {
+        self.commits.count(&number) == 1
     }
-    let at = (number - 1) as usize;
-    counts[at] = counts[at].saturating_add(1);
-}
 
-fn note_commit_told(counts: &mut Vec<u64>, tiding: &Tiding<'_>)
-    ensures long { length counts.new.items ≡ length counts.old.items }
-    ensures noted { (n : ℕ) → n < length counts.old.items → noted_at counts.new.items n
-        ≡ counted_if (names (n + 1) tiding.now.1) 1 (noted_at counts.old.items n) }
-{
-    let Some(outcome) = tiding.outcome() else {
-        return;
-    };
-    match &outcome.job_end {
-        JobEnd::Committed { number, .. } => note_number(counts, *number),
-        JobEnd::Aborted(_) | JobEnd::Clashed(_) | JobEnd::Refused(_) => {}
+    /// Whether some job of a call tells an abort by a cause.
+    pub fn is_abort_told(&self, call: CallKey<'c>, cause: Cause) -> bool
+        ensures { IsTrue result ↔ (0 < aborts_told (call_at call.entry) cause self.now.tidings) }
+    {
+        self.told_aborts.count(&AbortKey::of(call, cause)) > 0
     }
-}
 
-/// How many jobs name each of so many commits, the first of which has number 1.
-pub fn told_commits(
-    alloc: Global,
-    commits: usize,
-    tidings: &[Tiding<'_>],
-) -> Result<Vec<u64>, AllocError>
-    ensures long { IfOk result (λ counts. length counts.items ≡ commits) }
-    ensures told { IfOk result (λ counts.
-        TalliesNumbers (λ number. commits_told number tidings.now) counts.items) }
-{
-    let mut counts = vec![in alloc; 0; commits]?;
-    for tiding in tidings {
-        note_commit_told(&mut counts, tiding);
+    /// Whether as many instances of a call aborted by a cause as jobs tell.
+    pub fn are_aborts_told(&self, call: CallKey<'c>, cause: Cause) -> bool
+        ensures { IsTrue result
+            ↔ AreAbortsTold self.now.endings self.now.tidings (call_at call.entry) cause }
+    {
+        let key = AbortKey::of(call, cause);
+        self.aborts.count(&key) == self.told_aborts.count(&key)
     }
-    Ok(counts)
+
+    /// Whether an instance of a call clashed so.
+    pub fn is_clash_kept(&self, call: CallKey<'c>, clash: Clash) -> bool
+        ensures { IsTrue result ↔ IsClashKept self.now.endings (call_at call.entry) clash }
+    {
+        self.clashes.count(&ClashKey::of(call, clash)) > 0
+    }
+
+    /// Whether as many instances of a call clashed as its jobs tell.
+    pub fn are_clashes_told(&self, call: CallKey<'c>) -> bool
+        ensures { IsTrue result ↔ AreAsMany self.now.endings self.now.tidings (call_at call.entry) }
+    {
+        self.clashes_of.count(&call) == self.told_clashes.count(&call)
+    }
 }

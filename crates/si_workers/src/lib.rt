@@ -4,7 +4,6 @@
 
 mod call;
 mod comparing;
-mod counted;
 mod counts;
 mod desk;
 mod fault;
@@ -13,6 +12,7 @@ mod job;
 mod job_line;
 mod job_list;
 mod limits;
+mod notes;
 mod run;
 mod shared;
 mod tally;

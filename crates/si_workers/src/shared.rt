@@ -5,7 +5,6 @@ ghost use Rattle.history_book.specs.View.{begin_fault_of, next_ticket, begun_in}
 ghost use Rattle.si_workers.specs.Freshness.{IsAtNumber, IsBeginAfter, IsFresh};
 
 use crate::fault::BeginAfterFault;
-use crate::gate::{Gate, Moment};
 use history_book::{
     BeginFault, Book, CommitFault, EndFault, NoSuchTicket, Receipt, ScanFault, Ticket,
 };
@@ -32,7 +31,7 @@ pub(crate) fn begin_seeing<'a>(
     args: &[i64],
 ) -> Result<Ticket, BeginAfterFault>
     ensures fresh { IsFresh receipt.now result }
-    ensures step { IsBeginAfter book.old book.new receipt.now program args.now result }
+    ensures step { IsBeginAfter book.old book.new program args.now result }
 {
     let commits = book.commits();
     let ticket = match book.begin(program, args) {
@@ -66,7 +65,7 @@ const TRIES: u32 = 2_000;
 
 impl<'a> SharedBook<'a> {
     // The book to read in.
-    fn reading(&self, rt: &impl Wait) -> RwLockReadGuard<'_, Book<'a>> {
+    pub(crate) fn reading(&self, rt: &impl Wait) -> RwLockReadGuard<'_, Book<'a>> {
         for _try in 0..TRIES {
             if let Some(book) = self.lock.try_read() {
                 return book;
@@ -133,18 +132,6 @@ impl<'a> SharedBook<'a> {
         begin_seeing(&mut book, receipt, program, args)
     }
 
-    // The book for a read that a worker makes for a job. The gate is called under the lock.
-    fn read_at<G: Gate>(
-        &self,
-        rt: &impl Wait,
-        job: usize,
-        gate: &G,
-    ) -> RwLockReadGuard<'_, Book<'a>> {
-        let book = self.reading(rt);
-        gate.at(job, Moment::InRead);
-        book
-    }
-
     /// `Book::get`.
     pub fn get(
         &self,
@@ -155,19 +142,6 @@ impl<'a> SharedBook<'a> {
         self.reading(rt).get(ticket, cell)
     }
 
-    // The same, for a job of a worker.
-    pub(crate) fn get_at<G: Gate>(
-        &self,
-        rt: &impl Wait,
-        job: usize,
-        gate: &G,
-        ticket: &Ticket,
-        cell: &Cell,
-    ) -> Result<Option<i64>, NoSuchTicket> {
-        let book = self.read_at(rt, job, gate);
-        book.get(ticket, cell)
-    }
-
     /// `Book::scan`.
     pub fn scan(
         &self,
@@ -176,19 +150,6 @@ impl<'a> SharedBook<'a> {
         region: &Region,
     ) -> Result<Sequence<(Cell, i64)>, ScanFault> {
         self.reading(rt).scan(ticket, region)
-    }
-
-    // The same, for a job of a worker.
-    pub(crate) fn scan_at<G: Gate>(
-        &self,
-        rt: &impl Wait,
-        job: usize,
-        gate: &G,
-        ticket: &Ticket,
-        region: &Region,
-    ) -> Result<Sequence<(Cell, i64)>, ScanFault> {
-        let book = self.read_at(rt, job, gate);
-        book.scan(ticket, region)
     }
 
     /// `Book::commit`.

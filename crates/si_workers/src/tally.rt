@@ -1,11 +1,20 @@
 //! How often things were noted.
 
-ghost use Rattle.std.specs.Prelude.{◌≡◌, [], OnOk};
-ghost use Rattle.si_workers.specs.Counts.{count_in, more};
+ghost use Rattle.std.specs.Prelude.{◌≡◌, ℕ, [], IfOk, OnOk, sum_by};
+ghost use Rattle.si_workers.specs.Tally.{Tallies, count_in, more, times_noted};
 
 use std::alloc::{AllocError, Global};
 use std::collections::BTreeMap;
 use std::marker::Model;
+
+/// What notes a key so many times, or none.
+pub trait Notes<'c, K: Ord> {
+    /// How often it notes each key.
+    ghost times: { Self → K → ℕ };
+
+    fn noted(&'c self) -> Option<(K, u64)>
+        ensures { (q : K) → times_noted K.cmp result q ≡ times self.now q };
+}
 
 /// How often each key was noted, as far as a u64 can tell.
 #[derive(Debug, Drop)]
@@ -45,5 +54,18 @@ impl<K: Ord + Drop> Tally<K> {
         let count = self.count(&key).saturating_add(times);
         self.counts.insert(key, count)?;
         Ok(())
+    }
+
+    /// How often each key is noted by some things.
+    pub fn of<'c, X: Notes<'c, K>>(alloc: Global, things: &'c [X]) -> Result<Self, AllocError>
+        ensures { IfOk result (Tallies K.cmp (λ q. sum_by (λ x. X.times x q) things.now)) }
+    {
+        let mut tally = Tally::new(alloc);
+        for thing in things {
+            if let Some((key, times)) = thing.noted() {
+                tally.note(key, times)?;
+            }
+        }
+        Ok(tally)
     }
 }

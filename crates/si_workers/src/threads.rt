@@ -65,7 +65,8 @@ fn start_all<'s, 'e: 's, 'a: 'e, R: Threads + Wait + Sync, G: Gate + Sync>(
         pass = rest;
         let started = scope.spawn(
             move || -> Done
-                requires { (counter_of mine ≡ name_of counter.now) × (numbers_of mine ≡ []) × (length jobs.now ≤ 100000) }
+                requires { (counter_of mine ≡ name_of counter.now) × (numbers_of mine ≡ [])
+                    × (length jobs.now ≤ 100000) }
             { work_shared(rt, alloc, set, shared, jobs, counter, mine, gate) },
         );
         let Ok(handle) = started else {
@@ -97,7 +98,8 @@ pub(crate) fn run_threads<'a, R: Threads + Wait + Sync, G: Gate + Sync>(
         thread::scope_env(),
         rt,
         |scope|
-            requires { (counter_of pass ≡ name_of lent.now) × (workers * length jobs.now ≤ left_of pass) × (length jobs.now ≤ 100000) }
+            requires { (counter_of pass ≡ name_of lent.now)
+                × (workers * length jobs.now ≤ left_of pass) × (length jobs.now ≤ 100000) }
         {
             start_all(
                 scope,

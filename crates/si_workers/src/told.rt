@@ -115,8 +115,8 @@ fn tell_all(told: &mut Vec<Told>, reports: Vec<(usize, JobOutcome)>)
 
 // All that workers tell came in.
 fn all_told(alloc: Global, jobs: &[Job], done: Vec<Done>) -> Result<Vec<Told>, AllocError>
-    ensures { IfOk result (λ told.
-        AreToldMore (map (λ job. Nothing) jobs.now) told.items (flat_map (λ one. one.reports.items) done.items)) }
+    ensures { IfOk result (λ told. AreToldMore (map (λ job. Nothing) jobs.now) told.items
+        (flat_map (λ one. one.reports.items) done.items)) }
 {
     let mut told = nothing_told(alloc, jobs)?;
     for one in done {
@@ -130,7 +130,8 @@ fn all_told(alloc: Global, jobs: &[Job], done: Vec<Done>) -> Result<Vec<Told>, A
 fn tidings(alloc: Global, jobs: &[Job], told: Vec<Told>) -> Result<Vec<Tiding<'_>>, AllocError>
     requires { length jobs.now ≡ length told.items }
     ensures jobs { IfOk result (λ tidings. map (λ t. t.0) tidings.items ≡ jobs.now) }
-    ensures told { IfOk result (λ tidings. map (λ t. t.1) tidings.items ≡ map outcome_in told.items) }
+    ensures told { IfOk result (λ tidings.
+        map (λ t. t.1) tidings.items ≡ map outcome_in told.items) }
 {
     let mut tidings = Vec::new(alloc);
     for one in told {

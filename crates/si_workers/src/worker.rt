@@ -1,14 +1,15 @@
 //! One worker: the jobs that it draws, one after another.
 
-ghost use Rattle.std.specs.Prelude.{◌≡◌, ◌+◌, ◌<◌, ◌≤◌, ◌^◌, ◌*◌, ⊤, [], map, take, length, Some, IfOk, IfSome};
+ghost use Rattle.std.specs.Prelude.{◌≡◌, ◌+◌, ◌<◌, ◌≤◌, ◌^◌, ◌*◌, ⊤, [], map, take, length, Some, IfOk};
 ghost use Rattle.prog_tree.specs.declared.deed.End.TheVariants.{Ready};
 ghost use Rattle.job_counter.specs.Passes.{counter_of, name_of, numbers_of};
-ghost use Rattle.si_workers.specs.Work.{IsTried, TellsTries, HasRepliesOf, IsDrawn, AreDrawn};
+ghost use Rattle.si_workers.specs.Ended.{ended_by_try};
+ghost use Rattle.si_workers.specs.Work.{AreDrawn, HasReplies, IsDrawn, TellsTries};
 
 use crate::desk::Desk;
 use crate::job::{Job, JobEnd, JobOutcome};
 use crate::limits::VACUUM_AFTER;
-use history_book::{BeginFault, Clash, CommitFault, EndFault, ScanFault, Ticket, Unused};
+use history_book::{BeginFault, CommitFault, EndFault, ScanFault, Ticket, Unused};
 use job_counter::{Counter, Pass};
 use prog_check::ProgramSet;
 use prog_run::{AnswerFault, Next, Run};
@@ -23,41 +24,11 @@ pub struct Done {
     pub no_memory: bool,
 }
 
-/// What came of one try of a job.
-#[derive(Drop)]
-pub enum Tried {
-    Committed { number: u64, replies: Sequence<i64> },
-    Aborted(Cause),
-    Refused(BeginFault),
-    Clashed(Clash),
-    /// The book does not know the instance, or takes the run for a foreign one: there is no outcome.
-    Lost,
-    NoMemory,
-}
-
-/// What came of a job.
-#[derive(Drop)]
-pub enum Came {
-    Ended(JobOutcome),
-    /// There is no outcome.
-    Lost,
-    NoMemory,
-}
-
-/// What came of drawing a job.
-#[derive(Drop)]
-pub enum Drawn {
-    /// The job of this number ended so.
-    Ended { number: usize, outcome: JobOutcome },
-    /// There was no job left, or there is no outcome of it.
-    Nothing,
-    NoMemory,
-}
-
-/// Why a run did not get to its end.
+/// Why a job has no outcome.
 #[derive(Clone, Copy, PartialEq, Eq)]
 pub enum Stop {
-    /// The book does not know the ticket, or the run did not take the answer.
+    /// The book does not know the instance, or takes the run for a foreign one; or the run did not
+    /// take an answer.
     Lost,
     NoMemory,
 }
@@ -138,48 +109,58 @@ fn finish<'a, D: Desk<'a>>(
 }
 
 // Commits a run that is ready, with the replies that it has.
-fn commit<'a, D: Desk<'a>>(alloc: Global, desk: &mut D, ticket: Ticket, run: Run<'a>) -> Tried
+fn commit<'a, D: Desk<'a>>(
+    alloc: Global,
+    desk: &mut D,
+    ticket: Ticket,
+    run: Run<'a>,
+) -> Result<JobEnd, Stop>
     requires { D.ended desk.old < 2 ^ 63 }
-    ensures ended { IsTried (D.ended desk.old) (D.ended desk.new) result }
-    ensures replies { HasRepliesOf run.entry result }
+    ensures ended { D.ended desk.new ≡ D.ended desk.old + ended_by_try result }
+    ensures replies { IfOk result (HasReplies run.entry.replies) }
 {
     let Ok(replies) = Vec::from_slice(alloc, run.replies()) else {
         desk.withdraw(ticket);
-        return Tried::NoMemory;
+        return Err(Stop::NoMemory);
     };
     let replies = Sequence::from_vec(replies);
     match desk.commit(ticket, run) {
-        Ok(number) => Tried::Committed { number, replies },
+        Ok(number) => Ok(JobEnd::Committed { number, replies }),
         Err(fault) => match fault {
-            CommitFault::Clashed(clash) => Tried::Clashed(clash),
+            CommitFault::Clashed(clash) => Ok(JobEnd::Clashed(clash)),
             CommitFault::Memory(Unused { ticket, run }) => {
                 drop(run);
                 desk.withdraw(ticket);
-                Tried::NoMemory
+                Err(Stop::NoMemory)
             }
             CommitFault::NoSuchTicket(_unused)
             | CommitFault::NotReady(_unused)
-            | CommitFault::ForeignRun(_, _unused) => Tried::Lost,
+            | CommitFault::ForeignRun(_, _unused) => Err(Stop::Lost),
         },
     }
 }
 
 // Ends a run that has aborted.
-fn abort<'a, D: Desk<'a>>(desk: &mut D, ticket: Ticket, run: Run<'a>, cause: Cause) -> Tried
+fn abort<'a, D: Desk<'a>>(
+    desk: &mut D,
+    ticket: Ticket,
+    run: Run<'a>,
+    cause: Cause,
+) -> Result<JobEnd, Stop>
     requires { D.ended desk.old < 2 ^ 63 }
-    ensures ended { IsTried (D.ended desk.old) (D.ended desk.new) result }
+    ensures { D.ended desk.new ≡ D.ended desk.old + ended_by_try result }
 {
     match desk.end(ticket, run) {
-        Ok(()) => Tried::Aborted(cause),
+        Ok(()) => Ok(JobEnd::Aborted(cause)),
         Err(fault) => match fault {
             EndFault::Memory(Unused { ticket, run }) => {
                 drop(run);
                 desk.withdraw(ticket);
-                Tried::NoMemory
+                Err(Stop::NoMemory)
             }
             EndFault::NoSuchTicket(_unused)
             | EndFault::NotAborted(_unused)
-            | EndFault::ForeignRun(_, _unused) => Tried::Lost,
+            | EndFault::ForeignRun(_, _unused) => Err(Stop::Lost),
         },
     }
 }
@@ -191,28 +172,25 @@ fn try_once<'a, D: Desk<'a>>(
     desk: &mut D,
     number: usize,
     job: &Job,
-) -> Tried
+) -> Result<JobEnd, Stop>
     requires { D.ended desk.old < 2 ^ 63 }
-    ensures ended { IsTried (D.ended desk.old) (D.ended desk.new) result }
+    ensures { D.ended desk.new ≡ D.ended desk.old + ended_by_try result }
 {
     let ticket = match desk.begin(number, job.program, job.args.as_slice()) {
         Ok(ticket) => ticket,
-        Err(BeginFault::Memory) => return Tried::NoMemory,
-        Err(fault) => return Tried::Refused(fault),
+        Err(BeginFault::Memory) => return Err(Stop::NoMemory),
+        Err(fault) => return Ok(JobEnd::Refused(fault)),
     };
     let Ok(mut run) = Run::new(alloc, set, job.program, job.args.as_slice()) else {
         desk.withdraw(ticket);
-        return Tried::NoMemory;
+        return Err(Stop::NoMemory);
     };
     match finish(alloc, desk, number, &ticket, &mut run) {
         Ok(End::Ready) => commit(alloc, desk, ticket, run),
         Ok(End::Aborted(cause)) => abort(desk, ticket, run, cause),
         Err(stop) => {
             desk.withdraw(ticket);
-            match stop {
-                Stop::Lost => Tried::Lost,
-                Stop::NoMemory => Tried::NoMemory,
-            }
+            Err(stop)
         }
     }
 }
@@ -224,35 +202,33 @@ pub(crate) fn run_job<'a, D: Desk<'a>>(
     desk: &mut D,
     number: usize,
     job: &Job,
-) -> Came
+) -> Result<JobOutcome, Stop>
     requires { D.ended desk.old + 2 ^ 32 ≤ 2 ^ 63 }
     ensures over { TellsTries job.now (D.ended desk.old) (D.ended desk.new) result }
     ensures few { D.ended desk.new ≤ D.ended desk.old + 2 ^ 32 }
 {
     let tries = u64::from(job.retries) + 1;
     for clashes in 0..tries {
-        let job_end = match try_once(alloc, set, desk, number, job) {
-            Tried::Committed { number, replies } => JobEnd::Committed { number, replies },
-            Tried::Aborted(cause) => JobEnd::Aborted(cause),
-            Tried::Refused(fault) => JobEnd::Refused(fault),
-            Tried::Clashed(clash) => {
+        let job_end = try_once(alloc, set, desk, number, job)?;
+        match job_end {
+            JobEnd::Clashed(_) => {
                 if clashes + 1 < tries {
                     continue;
                 }
-                return Came::Ended(JobOutcome {
-                    job_end: JobEnd::Clashed(clash),
+                return Ok(JobOutcome {
+                    job_end,
                     clashes: tries,
                 });
             }
-            Tried::Lost => return Came::Lost,
-            Tried::NoMemory => return Came::NoMemory,
-        };
-        return Came::Ended(JobOutcome { job_end, clashes });
+            JobEnd::Committed { .. } | JobEnd::Aborted(_) | JobEnd::Refused(_) => {
+                return Ok(JobOutcome { job_end, clashes });
+            }
+        }
     }
-    Came::Lost
+    Err(Stop::Lost)
 }
 
-// Draws a job and runs it.
+// Draws a job and runs it, if there is one left.
 fn draw_job<'a, D: Desk<'a>>(
     alloc: Global,
     set: &'a ProgramSet,
@@ -260,7 +236,7 @@ fn draw_job<'a, D: Desk<'a>>(
     jobs: &[Job],
     counter: &Counter,
     pass: &mut Pass,
-) -> Drawn
+) -> Result<Option<(usize, JobOutcome)>, Stop>
     requires counter { counter_of pass.old ≡ name_of counter.now }
     requires room { D.ended desk.old + 2 ^ 32 ≤ 2 ^ 63 }
     ensures counter { counter_of pass.new ≡ counter_of pass.old }
@@ -268,20 +244,15 @@ fn draw_job<'a, D: Desk<'a>>(
     ensures drawn { IsDrawn (numbers_of pass.old) (numbers_of pass.new) result }
 {
     let Some(drawn) = counter.draw(pass) else {
-        return Drawn::Nothing;
+        return Ok(None);
     };
     let number = drawn as usize;
     let Some(job) = jobs.get(number) else {
-        return Drawn::Nothing;
+        return Ok(None);
     };
-    match run_job(alloc, set, desk, number, job) {
-        Came::Ended(outcome) => {
-            desk.finished(number);
-            Drawn::Ended { number, outcome }
-        }
-        Came::Lost => Drawn::Nothing,
-        Came::NoMemory => Drawn::NoMemory,
-    }
+    let outcome = run_job(alloc, set, desk, number, job)?;
+    desk.finished(number);
+    Ok(Some((number, outcome)))
 }
 
 /// Draws jobs and runs them, until none is left.
@@ -309,22 +280,20 @@ pub(crate) fn work<'a, D: Desk<'a>>(
                 no_memory: true,
             };
         }
-        let no_memory = match draw_job(alloc, set, desk, jobs, counter, &mut pass) {
-            Drawn::Ended { number, outcome } => {
-                reports.push_reserved((number, outcome));
-                if reports.len() % VACUUM_AFTER == 0 {
-                    desk.vacuum();
-                }
-                continue;
+        match draw_job(alloc, set, desk, jobs, counter, &mut pass) {
+            Ok(Some(report)) => reports.push_reserved(report),
+            Ok(None) | Err(Stop::Lost) => break,
+            Err(Stop::NoMemory) => {
+                return Done {
+                    pass,
+                    reports,
+                    no_memory: true,
+                };
             }
-            Drawn::Nothing => false,
-            Drawn::NoMemory => true,
-        };
-        return Done {
-            pass,
-            reports,
-            no_memory,
-        };
+        }
+        if reports.len() % VACUUM_AFTER == 0 {
+            desk.vacuum();
+        }
     }
     Done {
         pass,

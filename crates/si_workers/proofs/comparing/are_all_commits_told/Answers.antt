@@ -1,5 +1,5 @@
 use Rattle.std.proofs.Common.{◌<◌, ◌+◌, rules}
-use Rattle.si_workers.specs.Counting.{commits_told}
+use Rattle.si_workers.specs.KeptAndTold.{commits_told}
 use Rattle.si_workers.proofs.CountLemmas.{below_more}
 use Rattle.si_workers.proofs.comparing.are_all_commits_told.Goals as goal
 

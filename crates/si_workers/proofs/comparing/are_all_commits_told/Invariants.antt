@@ -1,5 +1,5 @@
 use Rattle.std.proofs.Common.{◌<◌, ◌+◌, ℕ}
-use Rattle.si_workers.specs.Counting.{commits_told}
+use Rattle.si_workers.specs.KeptAndTold.{commits_told}
 use Rattle.si_workers.proofs.comparing.are_all_commits_told.Given as goal
 
 abbrev pub invariant-loop-n : goal.invariant-loop-n

@@ -12,7 +12,7 @@ returns-in-Aborted c =
     let T = c.args.counts.now.tidings in
     let by = c.in-Aborted.cause in
     subst (λ (e : JobEnd). IsTrue r ↔ IsRightEnd c.args.book.now T c.args.job.now e) (sym c.in-Aborted.is)
-    (subst (λ (es : List Ending). IsTrue r ↔ AreAbortsTold es T (call_of c.args.job.now) by) c.requires.of_book.same_endings
+    (subst (λ (es : List Ending). IsTrue r ↔ AreAbortsTold es T (call_of c.args.job.now) by) c.requires.endings
     (subst (λ (call : Call). IsTrue r ↔ AreAbortsTold c.args.counts.now.endings T call by) c.job.ensures c.are_aborts_told.ensures))
 
 pub returns-in-Clashed : goal.returns-in-Clashed
@@ -20,5 +20,5 @@ returns-in-Clashed c =
     let r = c.is_clash_kept.result in
     let on = c.in-Clashed.clash in
     subst (λ (e : JobEnd). IsTrue r ↔ IsRightEnd c.args.book.now c.args.counts.now.tidings c.args.job.now e) (sym c.in-Clashed.is)
-    (subst (λ (es : List Ending). IsTrue r ↔ IsClashKept es (call_of c.args.job.now) on) c.requires.of_book.same_endings
+    (subst (λ (es : List Ending). IsTrue r ↔ IsClashKept es (call_of c.args.job.now) on) c.requires.endings
     (subst (λ (call : Call). IsTrue r ↔ IsClashKept c.args.counts.now.endings call on) c.job-in-Clashed.ensures c.is_clash_kept.ensures))

@@ -2,7 +2,7 @@ use Rattle.std.proofs.Common.{◌≡◌, ◌↔◌, ◌∙◌, sym, subst, rules
 use Rattle.std.specs.List.{All}
 use Rattle.std.specs.Prelude.{IsTrue}
 use Rattle.history_book.specs.declared.instances.row.Ending.{Ending}
-use Rattle.si_workers.specs.Counting.{Tidings}
+use Rattle.si_workers.specs.KeptAndTold.{Tidings}
 use Rattle.si_workers.specs.Outcomes.{AreClashesTold, AreCommitsTold, IsOfSomeJob}
 use Rattle.si_workers.proofs.comparing.is_whole.Goals as goal
 
