@@ -13,6 +13,7 @@ import time
 from dataclasses import dataclass, field
 
 from batches import all_functions
+from crates import below, uses_of_crates
 from functions import functions_of
 
 KIT = os.path.dirname(os.path.dirname(os.path.realpath(shutil.which("rt"))))
@@ -50,15 +51,7 @@ class Said:
 
 def crates_of(root):
     """Returns the crates of crates.txt with the words of their checks, in the file's order."""
-    uses = {}
-    with open(f"{root}/crates.txt", encoding="utf-8") as lines:
-        for line in lines:
-            head, found, tail = line.partition("#")[0].partition(":")
-            if found:
-                uses[head.split()[0]] = tail.split()
-
-    def below(name):
-        return dict.fromkeys(it for dep in uses[name] if dep in uses for it in (*below(dep), dep))
+    uses = uses_of_crates(root)
 
     def words(name):
         root_file = "src/main.rt" if os.path.isfile(f"{root}/crates/{name}/src/main.rt") else "src/lib.rt"
@@ -67,12 +60,12 @@ def crates_of(root):
         found = ["--crate-name", name, root_file, "--links", f"{name}="]
         for it in built:
             found += ["--extern", f"{os.path.basename(it).removesuffix('.rlib')}={it}"]
-        for it in (f"{KIT}/rlibs", *(f"{root}/crates/{dep}/out/rlib" for dep in below(name))):
+        for it in (f"{KIT}/rlibs", *(f"{root}/crates/{dep}/out/rlib" for dep in below(uses, name))):
             found += ["-L", f"dependency={it}"]
         logic = ["--antt-project", f"{KIT}/rattle/logic/antt-project.json", "--logic-built", f"{KIT}/logic_built"]
         return [*found, *logic]
 
-    return [Crate(name, f"{root}/crates/{name}", words(name), set(below(name))) for name in uses]
+    return [Crate(name, f"{root}/crates/{name}", words(name), set(below(uses, name))) for name in uses]
 
 
 def with_holes(crate, texts, kept):

@@ -1,0 +1,28 @@
+"""The crates of the repository, as crates.txt has them, and the memory for their checks."""
+
+
+def lines_of_crates(root):
+    """Returns the line of each crate, by its name, in the file's order."""
+    lines = {}
+    with open(f"{root}/crates.txt", encoding="utf-8") as text:
+        for line in text:
+            head, found, _ = line.partition("#")[0].partition(":")
+            if found:
+                lines[head.split()[0]] = line
+    return lines
+
+
+def uses_of_crates(root):
+    """Returns what each crate uses: crates of the repository, and of the toolchain."""
+    return {name: line.partition("#")[0].partition(":")[2].split() for name, line in lines_of_crates(root).items()}
+
+
+def below(uses, name):
+    """Returns the repository's crates below one, each behind those that it uses."""
+    return dict.fromkeys(it for dep in uses[name] if dep in uses for it in (*below(uses, dep), dep))
+
+
+def free_memory():
+    """Returns the bytes that are free, with what the system keeps of files, which it gives back."""
+    with open("/proc/meminfo", encoding="ascii") as lines:
+        return next(int(line.split()[1]) for line in lines if line.startswith("MemAvailable")) * 1024
