@@ -7,7 +7,7 @@ use Rattle.std.proofs.lemmas.List.Sums.{sum_by-append, sum_by_push, sum_by-le-su
 use mathlib.Core.Option.{some}
 use lib.ListN.{get_elem?}
 use Rattle.job_counter.specs.declared.holding.Holding.{Holding}
-use Rattle.job_counter.specs.Holdings.{times, AreBelow, AreDistinct, left_of_all, numbers_of_all, IsAccount, holding, after_draw, both_of}
+use Rattle.job_counter.specs.Holdings.{times, AreEachOnceBelow, AreDistinct, left_of_all, numbers_of_all, IsAccount, holding, after_draw, both_of}
 use Rattle.job_counter.proofs.Totals.{total_set, total_least, numbers_total}
 
 -- The account pass by pass: a step changes one or two terms of each sum
@@ -82,7 +82,7 @@ module _ (budget n : ℕ) (ps : List Holding) (i : ℕ) (p : Holding) (a : IsAcc
       same_account budget n ps _ a (same (λ r. r.left) refl refl) (same (λ r. length r.numbers) (length-append p.numbers q.numbers) refl) (λ x. same (λ r. times x r.numbers) (sum_by-append (λ y. cond (y == x) 1 0) p.numbers q.numbers) refl)
 
   -- where pass i has the whole budget, the others have none of it
-  pub below_where_whole : length p.numbers + p.left ≡ budget → AreBelow p.numbers n
+  pub below_where_whole : length p.numbers + p.left ≡ budget → AreEachOnceBelow p.numbers n
   below_where_whole whole x =
       let s = summed budget n ps a in
       let none = holding 0 [] in

@@ -6,32 +6,34 @@ use lib.ListN.{get_elem?}
 use Rattle.atomic_table.specs.Table.{State, keeps, Allows, Splits, Joins}
 use Rattle.atomic_table.proofs.Lists.{set_again}
 use Rattle.job_counter.specs.declared.holding.Holding.{Holding}
-use Rattle.job_counter.specs.Holdings.{AreBelow, AreDistinct, IsAccount, IsInAccount, IsKept, holding, after_draw, both_of}
+use Rattle.job_counter.specs.Holdings.{AreEachOnceBelow, AreDistinct, IsAccount, IsInAccount, IsCounterRule, holding, after_draw, both_of}
 use Rattle.job_counter.proofs.Totals.{contains_at, get_set}
 use Rattle.job_counter.proofs.Accounts.{left_fits, distinct, account_draw, account_split, account_join, below_where_whole}
 
 module _ (budget i : ℕ) (p : Holding) where
   abbrev Rule : State ℕ Holding → Type 0
-  Rule s = IsKept budget s.words s.views
+  Rule s = IsCounterRule budget s.words s.views
 
-  pub draws : (slots : ℕ) (c : List (ℕ × ℕ)) → 0 < p.left
-      → Allows Rule slots i (p, c) 0 (λ n. (n + 1) % 2 ^ 64) (λ n after. (after ≡ (after_draw p n, c)) × AreDistinct after.0.numbers)
-  draws slots c some_left s rule len at small =
+  pub draws : (slots most : ℕ) (c : List (ℕ × ℕ)) → most ≡ budget → 0 < p.left
+      → Allows Rule slots i (p, c) 0 (λ n. (n + 1) % 2 ^ 64) (λ n after. (after ≡ (after_draw p n, c)) × AreDistinct after.0.numbers × (n < most))
+  draws slots most c whole some_left s rule len at small =
       let n = rule.count in
       let drawn = account_draw budget n s.views i p rule.account at some_left in
       let next : (n + 1) % 2 ^ 64 ≡ n + 1 = omega (arith, rule.fits, drawn.adds_up, drawn.drawn) in
-      let P : List ℕ → Type 0 = λ ws. IsKept budget (slice_set ws 0 ((slice_index ws 0 + 1) % 2 ^ 64)) (set s.views i (after_draw p (slice_index ws 0))) in
-      let Q : List ℕ → Type 0 = λ ws. AreDistinct (after_draw p (slice_index ws 0)).numbers in (
+      let P : List ℕ → Type 0 = λ ws. IsCounterRule budget (slice_set ws 0 ((slice_index ws 0 + 1) % 2 ^ 64)) (set s.views i (after_draw p (slice_index ws 0))) in
+      let Q : List ℕ → Type 0 = λ ws. AreDistinct (after_draw p (slice_index ws 0)).numbers × (slice_index ws 0 < most) in
+      let below : n < most = omega (arith, whole, drawn.adds_up, drawn.drawn) in
+      let told = subst Q (sym rule.word) (distinct budget (n + 1) _ i (after_draw p n) drawn (get_set s.views i p (after_draw p n) at), below) in (
         after_draw p (slice_index s.words 0),
         keeps,
         tt,
         subst P (sym rule.word) (record { fits = rule.fits; count = n + 1; word = ap (λ (k : ℕ). k ∷ []) next; account = drawn }),
-        (refl, subst Q (sym rule.word) (distinct budget (n + 1) _ i (after_draw p n) drawn (get_set s.views i p (after_draw p n) at))),
+        (refl, told.0, told.1),
       )
 
   pub looks : (slots : ℕ) (c : List (ℕ × ℕ)) → Allows Rule slots i (p, c) 0 (λ n. n) (λ n after. (after ≡ (p, c)) × (after.0.left < 2 ^ 64) × AreDistinct after.0.numbers)
   looks slots c s rule len at small =
-      let P : List ℕ → Type 0 = λ ws. IsKept budget (slice_set ws 0 (slice_index ws 0)) s.views in (
+      let P : List ℕ → Type 0 = λ ws. IsCounterRule budget (slice_set ws 0 (slice_index ws 0)) s.views in (
         p,
         keeps,
         tt,
@@ -56,7 +58,7 @@ module _ (budget i : ℕ) (p : Holding) where
   closes s ws n rule at words found = (s.views, subst (λ k. IsAccount budget k s.views) (count_closed s ws n rule words found) rule.account, contains_at s.views i p at)
 
   pub closes_whole : (s : State ℕ Holding) (ws : List ℕ) (n : ℕ) → Rule s → get_elem? s.views i ≡ some p → s.words ≡ ws → get_elem? ws 0 ≡ some n
-      → length p.numbers + p.left ≡ budget → AreBelow p.numbers n
+      → length p.numbers + p.left ≡ budget → AreEachOnceBelow p.numbers n
   closes_whole s ws n rule at words found whole =
       let account = subst (λ k. IsAccount budget k s.views) (count_closed s ws n rule words found) rule.account in
       below_where_whole budget n s.views i p account at whole

@@ -7,8 +7,8 @@ abbrev pub times : ℕ → List ℕ → ℕ
 times x xs = count_by (λ y. y == x) xs
 
 -- the numbers below n, each once, in any order
-abbrev pub AreBelow : List ℕ → ℕ → Type 0
-AreBelow xs n = (x : ℕ) → times x xs ≡ (if nat_lt x n then 1 else 0)
+abbrev pub AreEachOnceBelow : List ℕ → ℕ → Type 0
+AreEachOnceBelow xs n = (x : ℕ) → times x xs ≡ (if nat_lt x n then 1 else 0)
 
 -- no number stands twice
 abbrev pub AreDistinct : List ℕ → Type 0
@@ -22,18 +22,19 @@ left_of_all passes = sum_by (λ p. p.left) passes
 abbrev pub numbers_of_all : List Holding → List ℕ
 numbers_of_all passes = flat_map (λ p. p.numbers) passes
 
--- The account of all passes, of which n numbers were drawn: these and the draws left are the budget, and the numbers below n are held, each once, by one pass
+-- The account of all passes, of which n numbers were drawn: these and the draws left are the
+-- budget, and the numbers below n are held, each once, by one pass
 pub record IsAccount (budget n : ℕ) (passes : List Holding) : Type 0 where
   pub drawn : length (numbers_of_all passes) ≡ n
   pub adds_up : length (numbers_of_all passes) + left_of_all passes ≡ budget
-  pub once : AreBelow (numbers_of_all passes) n
+  pub once : AreEachOnceBelow (numbers_of_all passes) n
 
 -- what one of the passes holds that keep such an account together
 abbrev pub IsInAccount : ℕ → ℕ → Holding → Type 0
 IsInAccount budget n pass = (passes : List Holding) × IsAccount budget n passes × Contains passes pass
 
 -- The rule of the counter: its one word is how many numbers were drawn
-pub record IsKept (budget : ℕ) (words : List ℕ) (passes : List Holding) : Type 0 where
+pub record IsCounterRule (budget : ℕ) (words : List ℕ) (passes : List Holding) : Type 0 where
   pub fits : budget < 2 ^ 64
   pub count : ℕ
   pub word : words ≡ count ∷ []

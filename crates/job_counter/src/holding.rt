@@ -18,22 +18,32 @@ pub struct Account;
 
 impl TableRule<u8, Holding, u64> for Account {
     ghost use Rattle.std.specs.Prelude.{[]};
-    ghost use Rattle.job_counter.specs.Holdings.{IsKept, holding};
+    ghost use Rattle.job_counter.specs.Holdings.{IsCounterRule, holding};
 
-    ghost holds = { λ budget s. IsKept budget s.words s.views };
+    ghost holds = { λ budget s. IsCounterRule budget s.words s.views };
 
     ghost first = { λ budget. holding budget [] };
 }
 
-// A step that draws the number that it finds, which the pass didn't hold yet.
-pub struct Draws;
+// A number that each call picks.
+pub trait Amount {
+    ghost amount: { ℕ };
+}
 
-impl Play<u8, Holding> for Draws {
-    ghost use Rattle.std.specs.Prelude.{◌≡◌};
+impl Amount for Brand {
+    ghost amount = { 0 };
+}
+
+// A step that draws the number that it finds, which the pass didn't hold yet. B is the budget.
+pub struct Draws<B: Amount>(PhantomData<B>);
+
+impl<B: Amount> Play<u8, Holding> for Draws<B> {
+    ghost use Rattle.std.specs.Prelude.{◌≡◌, ◌<◌};
     ghost use Rattle.job_counter.specs.Holdings.{AreDistinct, after_draw};
 
     ghost then = { λ s before found after.
-        (after ≡ (after_draw before.0 found, before.1)) × AreDistinct after.0.numbers };
+        (after ≡ (after_draw before.0 found, before.1)) × AreDistinct after.0.numbers
+        × (found < B.amount) };
 }
 
 // A step that changes nothing, and tells what the account says of one pass.
@@ -47,25 +57,16 @@ impl Play<u8, Holding> for Looks {
         (after ≡ before) × (after.0.left < 2 ^ 64) × AreDistinct after.0.numbers };
 }
 
-// How many draws are given away. Each call of `split` picks it.
-pub trait Amount {
-    ghost give: { ℕ };
-}
-
-impl Amount for Brand {
-    ghost give = { 0 };
-}
-
-// Gives draws to a new pass. The numbers stay.
+// Gives draws to a new pass, G many. The numbers stay.
 pub struct Gives<G: Amount>(PhantomData<G>);
 
 impl<G: Amount> Split<Holding> for Gives<G> {
     ghost use Rattle.std.specs.Prelude.{◌-◌, []};
     ghost use Rattle.job_counter.specs.Holdings.{holding};
 
-    ghost left = { λ p. holding (p.left - G.give) p.numbers };
+    ghost left = { λ p. holding (p.left - G.amount) p.numbers };
 
-    ghost right = { λ p. holding G.give [] };
+    ghost right = { λ p. holding G.amount [] };
 }
 
 // Makes two passes one. The second is left with nothing.

@@ -11,7 +11,7 @@ use atomic_table::{Seat, Table};
 use std::alloc::{AllocError, Global};
 use std::marker::Brand;
 
-/// The numbers below a budget, in order. Each is drawn once.
+/// The numbers below a budget, in order. No number is drawn twice.
 #[derive(Drop)]
 pub struct Counter {
     table: Table<u8, Holding, u64, Account, Global>,
@@ -30,7 +30,7 @@ pub struct Pass {
 }
 
 impl Counter {
-    ghost use Rattle.job_counter.specs.Holdings.{AreBelow, AreDistinct, IsInAccount};
+    ghost use Rattle.job_counter.specs.Holdings.{AreDistinct, AreEachOnceBelow, IsInAccount, after_draw, holding};
     ghost use Rattle.job_counter.specs.Passes.{counter_of, holding_of, left_of, numbers_of, name_of, budget_of};
 
     /// A counter, and the pass with the whole budget.
@@ -52,6 +52,7 @@ impl Counter {
         ensures none { IsNone result ↔ (left_of pass.old ≡ 0) }
         ensures same { IfNone result (pass.new ≡ pass.old) }
 
+        ensures below { IfSome result (λ n. n < budget_of self.now) }
         ensures left { IfSome result (λ n. left_of pass.new + 1 ≡ left_of pass.old) }
         ensures numbers { IfSome result (λ n. numbers_of pass.new ≡ numbers_of pass.old ++ n ∷ []) }
         ensures distinct { IfSome result (λ n. AreDistinct (numbers_of pass.new)) }
@@ -59,9 +60,22 @@ impl Counter {
         if pass.left == 0 {
             return None;
         }
-        let number = self.table.shared.fetch_add::<Draws>(&mut pass.seat, 0, 1);
+        let number = self.draw_by::<Brand>(&mut pass.seat);
         pass.left -= 1;
         Some(number)
+    }
+
+    // The step of `draw`, for a type that says the budget, as the table's step asks.
+    fn draw_by<B: Amount>(&self, seat: &mut Seat<u8, Holding>) -> u64
+        requires counter { seat.old.table_id ≡ name_of self.now }
+        requires some_left { 0 < seat.old.me.0.left }
+        requires budget { B.amount ≡ budget_of self.now }
+        ensures counter { seat.new.table_id ≡ seat.old.table_id }
+        ensures below { result < budget_of self.now }
+        ensures drawn { seat.new.me ≡ (after_draw seat.old.me.0 result, seat.old.me.1) }
+        ensures distinct { AreDistinct seat.new.me.0.numbers }
+    {
+        self.table.shared.fetch_add::<Draws<B>>(seat, 0, 1)
     }
 
     /// How many draws the pass has left.
@@ -92,13 +106,11 @@ impl Counter {
     fn split_by<G: Amount>(&self, pass: Pass, give: u64) -> (Pass, Pass)
         requires counter { counter_of pass ≡ name_of self.now }
         requires room { give ≤ left_of pass }
-        requires amount { G.give ≡ give }
+        requires amount { G.amount ≡ give }
         ensures first { counter_of result.0 ≡ counter_of pass }
         ensures second { counter_of result.1 ≡ counter_of pass }
-        ensures kept { left_of result.0 + give ≡ left_of pass }
-        ensures numbers { numbers_of result.0 ≡ numbers_of pass }
-        ensures given { left_of result.1 ≡ give }
-        ensures bare { numbers_of result.1 ≡ [] }
+        ensures kept { holding_of result.0 ≡ holding (left_of pass - give) (numbers_of pass) }
+        ensures given { holding_of result.1 ≡ holding give [] }
     {
         let Pass { left, mut seat } = pass;
         let other = self.table.shared.split_seat::<Gives<G>>(&mut seat);
@@ -145,7 +157,7 @@ impl Counter {
 
         // A pass that has the whole budget, held or left, holds all numbers that were drawn.
         ensures whole { length (numbers_of pass) + left_of pass ≡ budget_of self
-            → AreBelow (numbers_of pass) result }
+            → AreEachOnceBelow (numbers_of pass) result }
     {
         let Counter { table } = self;
         let Pass { left: _, seat } = pass;

@@ -1,4 +1,4 @@
 use Rattle.job_counter.proofs.Counter.split.Given as goal
 
 abbrev pub ghosts-split_by : goal.ghosts-split_by
-ghosts-split_by a = record { give = a.give }
+ghosts-split_by a = record { amount = a.give }
