@@ -1,6 +1,6 @@
-//! How many bytes of a kind stand at the end of others.
+//! How many bytes of a kind stand at the front or at the end of others.
 ghost use Rattle.std.specs.Prelude.{◌≡◌, ◌≤◌, length};
-ghost use Rattle.std.specs.List.{suffix_len};
+ghost use Rattle.std.specs.List.{prefix_len, suffix_len};
 ghost use Rattle.text_places.specs.ByteKinds.{is_of};
 
 use crate::place::{is_feed, is_space};
@@ -27,6 +27,14 @@ fn is_of(kind: ByteKind, byte: u8) -> bool
         ByteKind::Space => is_space(byte),
         ByteKind::Inline => !is_feed(byte),
     }
+}
+
+/// How many bytes of a kind stand at the front.
+pub fn first_count(kind: ByteKind, bytes: &[u8]) -> usize
+    ensures value { result ≡ prefix_len (is_of kind) bytes.now }
+    ensures within { result ≤ length bytes.now }
+{
+    bytes.iter().take_while(|byte| is_of(kind, **byte)).count()
 }
 
 /// How many bytes of a kind stand at the end.

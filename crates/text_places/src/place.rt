@@ -1,9 +1,9 @@
 //! The line and the column of a place. A place behind the end of a text stands for its end.
 ghost use Rattle.std.specs.Prelude.{◌≡◌, ◌≤◌, count_by, drop, length, take, IfNone, IfSome};
-ghost use Rattle.std.specs.List.{before_first, prefix_len};
-ghost use Rattle.text_places.specs.Places.{begins_line, column, ends_line, inset, is_feed, is_inline, is_space, line_at, line_number, line_start, HasNoLine, IsLineFront};
+ghost use Rattle.std.specs.List.{before_first};
+ghost use Rattle.text_places.specs.Places.{begins_line, column, ends_line, inset, is_feed, is_space, line_at, line_number, line_start, HasNoLine, IsLineFront};
 
-use crate::byte_kind::{ByteKind, last_count};
+use crate::byte_kind::{ByteKind, first_count, last_count};
 
 /// The bytes before a place.
 pub fn before(text: &[u8], place: usize) -> &[u8]
@@ -94,18 +94,11 @@ fn line_start(text: &[u8], place: usize) -> usize
     before(text, place).len() - inset(text, place)
 }
 
-// How many bytes stand before the first line feed.
-fn first_len(text: &[u8]) -> usize
-    ensures { result ≡ prefix_len is_inline text.now }
-{
-    text.iter().take_while(|byte| !is_feed(**byte)).count()
-}
-
 // The bytes before the first line feed.
 fn first_line(text: &[u8]) -> &[u8]
     ensures { result.now ≡ before_first is_feed text.now }
 {
-    before(text, first_len(text))
+    before(text, first_count(ByteKind::Inline, text))
 }
 
 /// The line in which a place stands, without its line feed.

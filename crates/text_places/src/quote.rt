@@ -1,6 +1,6 @@
 //! A place of a text as people see it.
 ghost use Rattle.std.specs.Prelude.{◌≡◌, ◌<◌, ◌++◌, IfOk, OnOk, map, replicate, string_bytes};
-ghost use Rattle.text_places.specs.Quotes.{left_out, mark, pointed_out, position, quote, shown_line, visible};
+ghost use Rattle.text_places.specs.Quotes.{left_out, mark, pointed_out, position, quote, visible};
 
 use crate::limits::{MAX_BEFORE, MAX_SHOWN};
 use crate::place::{before, behind, column, inset, line_at, line_number};

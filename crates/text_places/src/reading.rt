@@ -1,9 +1,9 @@
 //! The words, blanks and comments of a text that may have any fault: nothing is refused here.
-ghost use Rattle.std.specs.Prelude.{◌≡◌, ◌≤◌, length, take, IfOk};
+ghost use Rattle.std.specs.Prelude.{◌≡◌, ◌≤◌, length, IfOk};
 ghost use Rattle.std.specs.List.{prefix_len};
 ghost use Rattle.text_places.specs.Reading.{before_blanks, begins_word, behind_blanks, behind_word, end_before, first_word, is_blank, is_in_comment, is_word_byte, last_word, short_word, stands_free, without_comments};
 
-use crate::byte_kind::{ByteKind, last_count};
+use crate::byte_kind::{ByteKind, first_count, last_count};
 use crate::place::{before, behind};
 use std::alloc::{AllocError, Global};
 
@@ -43,21 +43,14 @@ pub fn word_len(bytes: &[u8]) -> usize
     ensures value { result ≡ prefix_len is_word_byte bytes.now }
     ensures within { result ≤ length bytes.now }
 {
-    bytes.iter().take_while(|byte| is_word_byte(**byte)).count()
-}
-
-// How many bytes at the front separate tokens.
-fn first_blanks(bytes: &[u8]) -> usize
-    ensures { result ≡ prefix_len is_blank bytes.now }
-{
-    bytes.iter().take_while(|byte| is_blank(**byte)).count()
+    first_count(ByteKind::Word, bytes)
 }
 
 /// The bytes behind the blanks at the front.
 pub fn behind_blanks(bytes: &[u8]) -> &[u8]
     ensures { result.now ≡ behind_blanks bytes.now }
 {
-    behind(bytes, first_blanks(bytes))
+    behind(bytes, first_count(ByteKind::Blank, bytes))
 }
 
 /// The bytes before the blanks at the end.
