@@ -1,3 +1,4 @@
 mod FirstTokens
 mod FirstWords
 mod LastBefore
+mod Nearer

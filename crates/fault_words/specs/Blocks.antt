@@ -1,5 +1,5 @@
 -- Which block of a text is left open, and how people are told.
-use Rattle.std.specs.Prelude.{ℕ, zero, suc, ◌==◌, ◌&&◌, ◌||◌, Bool, false, List, [], ◌∷◌, ◌++◌, Option, Some, None, bytes_eq, codes, count_by, drop, length, take, if◌then◌else◌}
+use Rattle.std.specs.Prelude.{ℕ, zero, suc, ◌==◌, ◌&&◌, Bool, false, List, [], ◌∷◌, ◌++◌, Option, Some, None, is_some, unwrap_or, bytes_eq, codes, count_by, drop, length, take, if◌then◌else◌}
 use Rattle.std.specs.Fmt.{decimal}
 use Rattle.text_places.specs.Reading.{short_word, stands_free, without_comments}
 use Rattle.text_places.specs.Places.{line_number}
@@ -24,21 +24,17 @@ is_left_open (byte ∷ bytes) = opens byte && count_by opens bytes == count_by c
 abbrev pub open_block : (text : List ℕ) → Option ℕ
 open_block text = last_before (λ place. is_left_open (drop place text)) (length text)
 
--- the words of which one stands before each block
-abbrev pub is_head : (word : List ℕ) → Bool
-is_head word =
-    (bytes_eq word (codes "program") || bytes_eq word (codes "if"))
-    || (bytes_eq word (codes "else") || bytes_eq word (codes "each"))
-
--- which of them a word is
-abbrev pub head_name : (word : List ℕ) → List ℕ
-head_name word =
-    if bytes_eq word (codes "program") then codes "program"
-    else (if bytes_eq word (codes "if") then codes "if" else (if bytes_eq word (codes "else") then codes "else" else codes "each"))
+-- which word a word is of those of which one stands before each block
+abbrev pub head_of : (word : List ℕ) → Option (List ℕ)
+head_of word =
+    if bytes_eq word (codes "program") then Some (codes "program")
+    else (if bytes_eq word (codes "if") then Some (codes "if")
+    else (if bytes_eq word (codes "else") then Some (codes "else")
+    else (if bytes_eq word (codes "each") then Some (codes "each") else None)))
 
 -- such a word begins here
 abbrev pub begins_head : (text : List ℕ) → (place : ℕ) → Bool
-begins_head text place = is_head (short_word (drop place text)) && stands_free text place
+begins_head text place = is_some (head_of (short_word (drop place text))) && stands_free text place
 
 -- where the last such word before a block begins
 abbrev pub head_before : (text : List ℕ) → (block : Option ℕ) → Option ℕ
@@ -53,5 +49,5 @@ open_head text place =
 -- the block of a head, with the line of the head
 abbrev pub open_text : (text : List ℕ) → (head : ℕ) → List ℕ
 open_text text head =
-    codes "the block of `" ++ (head_name (short_word (drop head (without_comments text))) ++ (codes "` in line "
+    codes "the block of `" ++ (unwrap_or (head_of (short_word (drop head (without_comments text)))) [] ++ (codes "` in line "
     ++ (decimal (line_number text head) ++ codes " is still open: a `}` is missing")))

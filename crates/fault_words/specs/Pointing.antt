@@ -1,9 +1,9 @@
 -- What the words of a fault have to show.
-use Rattle.std.specs.Prelude.{ℕ, ◌≡◌, ◌-◌, ◌==◌, ◌&&◌, ◌⊎◌, ⊤, Bool, true, not, nat_le, List, ◌++◌, Option, Some, None, option_map, codes, drop, take}
+use Rattle.std.specs.Prelude.{ℕ, ◌≡◌, ◌-◌, ◌==◌, ◌&&◌, ◌⊎◌, ⊤, Bool, true, not, nat_le, List, ◌++◌, Option, Some, None, option_map, codes, drop, map, take}
 use Rattle.std.specs.List.{list_all}
 use Rattle.text_places.specs.Reading.{begins_word, end_before, without_comments}
 use Rattle.text_places.specs.Landmarks.{HasNoProgram, HasNoStatement, HasNoTable, IsProgramPlace, IsStatementPlace, IsTablePlace}
-use Rattle.text_places.specs.Quotes.{pointed_out}
+use Rattle.text_places.specs.Quotes.{pointed_out, visible}
 use Rattle.fault_words.specs.Blocks.{open_head, open_text}
 use Rattle.prog_check.specs.declared.fault.Place.{Place}
 use Rattle.prog_check.specs.declared.fault.Place.TheVariants.{Table, Program, Statement}
@@ -12,13 +12,17 @@ use Rattle.prog_check.specs.declared.fault.CheckFault.TheVariants as c
 use Rattle.prog_text.specs.declared.fault.TextFault.{TextFault}
 use Rattle.prog_text.specs.declared.fault.TextFault.TheVariants as t
 
--- some sentence is said of the place, with the place's own line, column and mark
+-- some sentence is said of the place, in one line, with the place's own line, column and mark
 abbrev pub PointsAt : (text : List ℕ) → (place : ℕ) → (words : List ℕ) → Type 0
-PointsAt text place words = (sentence : List ℕ) × (words ≡ pointed_out text place sentence)
+PointsAt text place words = (sentence : List ℕ) × (words ≡ pointed_out text place (map visible sentence))
 
--- the words point at a word or a sign, or where the one before it ends, as where a `;` is missing
+-- that a `;` is missing, where the word or the sign before ends
+abbrev pub missing_semicolon : (text : List ℕ) → (place : ℕ) → List ℕ
+missing_semicolon text place = pointed_out text (end_before text place) (codes "a `;` is missing here")
+
+-- the words point at a word or a sign, or tell that a `;` is missing before it
 abbrev pub PointsAtToken : (text : List ℕ) → (place : ℕ) → (words : List ℕ) → Type 0
-PointsAtToken text place words = PointsAt text place words ⊎ PointsAt text (end_before text place) words
+PointsAtToken text place words = PointsAt text place words ⊎ (words ≡ missing_semicolon text place)
 
 -- a sentence begins with what there is to say first, where there is something
 abbrev pub BeginsBy : (first : Option (List ℕ)) → (sentence : List ℕ) → Type 0

@@ -11,13 +11,13 @@ const SIGNS: [&str; 21] = [
     ">=", "==", "!=",
 ];
 
-// Whether a word goes on what stands before it.
-fn goes_on(alloc: Global, before: &[u8], word: &str) -> Result<bool, AllocError> {
-    let mut text = Vec::new(alloc);
-    text.extend_from_slice(before)?;
-    text.push(b' ')?;
+// Whether a word goes on a text, which is left as it was.
+fn goes_on(alloc: Global, text: &mut Vec<u8>, word: &str) -> Result<bool, AllocError> {
+    let len = text.len();
     text.extend_from_slice(word.as_bytes())?;
-    match parse(alloc, &text) {
+    let parsed = parse(alloc, text);
+    text.truncate(len);
+    match parsed {
         Ok(_) | Err(TextFault::UnexpectedEnd { .. }) => Ok(true),
         Err(TextFault::Memory) => Err(AllocError),
         Err(_) => Ok(false),
@@ -34,10 +34,10 @@ fn shown(alloc: Global, word: &str) -> Result<String, AllocError> {
 }
 
 // The signs with which a text could go on.
-fn possible_signs(alloc: Global, before: &[u8]) -> Result<Vec<&'static str>, AllocError> {
+fn possible_signs(alloc: Global, text: &mut Vec<u8>) -> Result<Vec<&'static str>, AllocError> {
     let mut list = Vec::new(alloc);
     for sign in SIGNS.iter() {
-        if goes_on(alloc, before, sign)? {
+        if goes_on(alloc, text, sign)? {
             list.push(*sign)?;
         }
     }
@@ -49,9 +49,12 @@ pub fn possible(alloc: Global, before: &[u8]) -> Result<Vec<&'static str>, Alloc
     if before.len() > MAX_TRIED {
         return Ok(Vec::new(alloc));
     }
-    let mut list = possible_signs(alloc, before)?;
+    let mut text = Vec::new(alloc);
+    text.extend_from_slice(before)?;
+    text.push(b' ')?;
+    let mut list = possible_signs(alloc, &mut text)?;
     for (word, _sign) in reserved_words() {
-        if goes_on(alloc, before, word)? {
+        if goes_on(alloc, &mut text, word)? {
             list.push(*word)?;
         }
     }

@@ -12,8 +12,8 @@ ghost use Rattle.prog_check.specs.Paths.{statement_count};
 ghost use Rattle.fault_words.specs.Beginnings.{beginnings_among, draft_beginnings, firsts_of, is_first};
 
 /// The words by which tables, programs and statements are found in a text are those with which the
-/// grammar begins them. So where they are counted, each statement is met at its number: in the order
-/// of the text, a branch and an `each` before their blocks.
+/// grammar begins them. So where they are counted, each statement is met at its number: in the
+/// order of the text, a branch and an `each` before their blocks.
 pub fn beginnings_are_those_of_the_grammar()
     // Among the tokens of a set such words stand for each table, program and statement, and for
     // nothing else.

@@ -1,7 +1,7 @@
 //! The block that is open at a place of a text.
 ghost use Rattle.std.specs.Prelude.{◌≡◌, IfOk, option_map, string_bytes};
 ghost use Rattle.text_places.specs.Reading.{without_comments};
-ghost use Rattle.fault_words.specs.Blocks.{begins_head, closes, head_before, head_name, is_head, last_before, open_block, open_head, open_text, opens};
+ghost use Rattle.fault_words.specs.Blocks.{begins_head, closes, head_before, head_of, last_before, open_block, open_head, open_text, opens};
 
 use std::alloc::{AllocError, Global};
 use text_places::{before, behind, line_number, short_word, stands_free, without_comments};
@@ -37,32 +37,27 @@ fn open_block(plain: &[u8]) -> Option<usize>
     None
 }
 
-fn is_head(word: &[u8]) -> bool
-    ensures { result ≡ is_head word.now }
-{
-    (word == b"program".as_slice() || word == b"if".as_slice())
-        || (word == b"else".as_slice() || word == b"each".as_slice())
-}
-
-// Which head a word is.
-fn head_name(word: &[u8]) -> &'static str
-    ensures { result.now ≡ head_name word.now }
+// Which of the words before blocks a word is; nothing where it is none.
+fn head_of(word: &[u8]) -> Option<&'static str>
+    ensures { option_map (λ name. name.now) result ≡ head_of word.now }
 {
     if word == b"program".as_slice() {
-        "program"
+        Some("program")
     } else if word == b"if".as_slice() {
-        "if"
+        Some("if")
     } else if word == b"else".as_slice() {
-        "else"
+        Some("else")
+    } else if word == b"each".as_slice() {
+        Some("each")
     } else {
-        "each"
+        None
     }
 }
 
 fn begins_head(plain: &[u8], place: usize) -> bool
     ensures { result ≡ begins_head plain.now place }
 {
-    is_head(short_word(behind(plain, place))) && stands_free(plain, place)
+    head_of(short_word(behind(plain, place))).is_some() && stands_free(plain, place)
 }
 
 // Where the last head before a block begins.
@@ -94,7 +89,7 @@ fn open_text(alloc: Global, text: &[u8], plain: &[u8], head: usize) -> Result<St
     requires { plain.now ≡ without_comments text.now }
     ensures { IfOk result (λ words. string_bytes words ≡ open_text text.now head) }
 {
-    let name = head_name(short_word(behind(plain, head)));
+    let name = head_of(short_word(behind(plain, head))).unwrap_or("");
     let line = line_number(text, head);
     format!(in alloc; "the block of `{name}` in line {line} is still open: a `}}` is missing")
 }

@@ -3,9 +3,10 @@ ghost use Rattle.std.specs.Prelude.{IfOk, string_bytes};
 ghost use Rattle.fault_words.specs.Pointing.{PointsAt};
 
 use std::alloc::{AllocError, Global};
-use text_places::point_out;
+use text_places::{point_out, visible_text};
 
-/// As `point_out`; its contract says only where the words point.
+/// Says a sentence of a place in one line, as `point_out` does; its contract says only where the
+/// words point.
 pub fn point_at(
     alloc: Global,
     text: &[u8],
@@ -14,6 +15,7 @@ pub fn point_at(
 ) -> Result<String, AllocError>
     ensures { IfOk result (λ words. PointsAt text.now place (string_bytes words)) }
 {
-    let words = point_out(alloc, text, place, sentence)?;
+    let shown = visible_text(alloc, sentence.as_bytes())?;
+    let words = point_out(alloc, text, place, &shown)?;
     Ok(words)
 }

@@ -23,10 +23,7 @@ pub fn is_name(token: &str) -> bool
 
 /// The reserved word that a name is but for the case of its letters.
 pub fn in_lower_case(name: &str) -> Option<&'static str> {
-    for (word, _sign) in reserved_words() {
-        if *word != name && word.eq_ignore_ascii_case(name) {
-            return Some(*word);
-        }
-    }
-    None
+    let found = reserved_words().iter().find(|entry| entry.0 != name
+        && entry.0.eq_ignore_ascii_case(name))?;
+    Some(found.0)
 }

@@ -1,10 +1,18 @@
 //! The names that a statement may use, and one that it may not.
 ghost use Rattle.std.specs.Prelude.{◌≡◌, true, slice_get, IfSome};
+ghost use Rattle.fault_words.specs.Pointing.{goes_on};
 ghost use Rattle.fault_words.specs.Reserved.{is_name};
 
 use crate::reserved::is_name;
 use std::alloc::{AllocError, Global};
-use text_places::{as_text, begins_token, behind, first_token};
+use text_places::{as_text, before, begins_token, behind, first_token, short_word, stands_free};
+
+/// Whether a statement or a test goes on behind a byte.
+pub fn goes_on(byte: u8) -> bool
+    ensures { result ≡ goes_on byte }
+{
+    byte != b';' && byte != b'{'
+}
 
 /// The words and signs of a text without comments.
 pub fn tokens_of(alloc: Global, bytes: &[u8]) -> Result<Vec<&str>, AllocError> {
@@ -15,6 +23,14 @@ pub fn tokens_of(alloc: Global, bytes: &[u8]) -> Result<Vec<&str>, AllocError> {
         }
     }
     Ok(tokens)
+}
+
+/// The words and signs of the statement or the test that begins at a place of a text without
+/// comments, with the `;` or the `{` behind it.
+pub fn statement_tokens(alloc: Global, plain: &[u8], at: usize) -> Result<Vec<&str>, AllocError> {
+    let rest = behind(plain, at);
+    let len = rest.iter().take_while(|byte| goes_on(**byte)).count();
+    tokens_of(alloc, before(rest, len.saturating_add(1)))
 }
 
 /// Where the token of a number begins.
@@ -140,18 +156,17 @@ pub fn is_of_turn(statement: &[&str], name: &str) -> bool {
 
 /// Whether a `let` or an `each` among tokens binds a name, in whichever block.
 pub fn is_bound_among(tokens: &[&str], name: &str) -> bool {
-    for index in 0..tokens.len() {
-        if binds_name(&tokens[index..], name) {
-            return true;
-        }
-    }
-    false
+    (0..tokens.len()).any(|index| binds_name(tokens.get(index..).unwrap_or(&[]), name))
 }
 
-/// Whether an `each` stands in the program with which tokens begin.
-pub fn has_each(tokens: &[&str]) -> bool {
-    for token in tokens.get(1..).unwrap_or(&[]) {
-        match *token {
+/// Whether an `each` stands in the program that begins at a place of a text without comments.
+pub fn has_each(plain: &[u8], at: usize) -> bool {
+    let program = behind(plain, at);
+    for place in 1..program.len() {
+        if !stands_free(program, place) {
+            continue;
+        }
+        match as_text(short_word(behind(program, place))) {
             "program" => return false,
             "each" => return true,
             _ => {}

@@ -9,8 +9,8 @@ use crate::ordinals::ordinal;
 use crate::pointing::point_at;
 use crate::reserved::in_lower_case;
 use crate::scope::{
-    has_each, is_bound_among, is_of_turn, taken_name, token_place, tokens_of, unknown_name,
-    visible_names,
+    goes_on, has_each, is_bound_among, is_of_turn, statement_tokens, taken_name, token_place,
+    tokens_of, unknown_name, visible_names,
 };
 use prog_check::{
     CheckFault, MAX_ACCESSES, MAX_PARAMETERS, MAX_PATHS, MAX_PROGRAMS, MAX_STATEMENTS, MAX_TABLES,
@@ -82,19 +82,12 @@ fn unbound_place(
     at: usize,
 ) -> Result<Option<usize>, AllocError> {
     let visible = names_before(alloc, plain, program, at)?;
-    let statement = tokens_of(alloc, behind(plain, at))?;
+    let statement = statement_tokens(alloc, plain, at)?;
     let Some(number) = unknown_name(&statement, &visible) else {
         return Ok(None);
     };
     let place = token_place(behind(plain, at), number).unwrap_or(0);
     Ok(Some(at.saturating_add(place)))
-}
-
-// Whether a statement or a test goes on behind a byte.
-fn goes_on(byte: u8) -> bool
-    ensures { result ≡ goes_on byte }
-{
-    byte != b';' && byte != b'{'
 }
 
 // Whether all of these bytes may stand in a statement or a test.
@@ -137,7 +130,7 @@ fn unknown_words(
     at: usize,
     name: &str,
 ) -> Result<String, AllocError> {
-    let statement = tokens_of(alloc, behind(plain, at))?;
+    let statement = statement_tokens(alloc, plain, at)?;
     if is_of_turn(&statement, name) {
         return format!(in alloc;
             "`{name}` is bound in the block of this `each`, and not before it"
@@ -182,7 +175,7 @@ fn name_taken(alloc: Global, text: &[u8], place: Place, at: usize) -> Result<Str
     };
     let plain = without_comments(alloc, text)?;
     let visible = names_before(alloc, &plain, program, at)?;
-    let statement = tokens_of(alloc, behind(&plain, at))?;
+    let statement = statement_tokens(alloc, &plain, at)?;
     let name = taken_name(&statement, &visible);
     if !(&*visible).contains(&name) {
         return format!(in alloc;
@@ -251,8 +244,7 @@ fn repeated_parameter(alloc: Global, text: &[u8], place: Place) -> Result<String
 // That a way through the program that begins at a place has too many accesses.
 fn too_many_accesses(alloc: Global, text: &[u8], at: usize) -> Result<String, AllocError> {
     let plain = without_comments(alloc, text)?;
-    let tokens = tokens_of(alloc, behind(&plain, at))?;
-    let bodies = if has_each(&tokens) {
+    let bodies = if has_each(&plain, at) {
         "; all that stand in the body of an `each` count, once each"
     } else {
         ""

@@ -1,4 +1,5 @@
-//! Slips that newcomers make, known by the tokens around the first one that cannot stand where it does.
+//! Slips that newcomers make, known by the tokens around the first one that cannot stand where it
+//! does.
 
 use crate::reserved::{in_lower_case, is_name};
 use prog_text::is_reserved;

@@ -152,7 +152,7 @@ fn unexpected(alloc: Global, text: &[u8], place: usize) -> Result<String, AllocE
     let could = possible(alloc, before(text, place))?;
     let is_first = line_number(text, end) != line_number(text, place);
     if lacks_semicolon(&could, around.token, is_first) {
-        return point_at(alloc, text, end, "a `;` is missing here");
+        return point_out(alloc, text, end, "a `;` is missing here");
     }
     let sentence = unexpected_words(alloc, text, place, &could, around)?;
     point_at(alloc, text, place, &sentence)

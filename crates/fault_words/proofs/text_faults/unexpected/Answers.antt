@@ -1,8 +1,10 @@
-use Rattle.std.proofs.Common.{inr}
+use Rattle.std.proofs.Common.{◌∙◌, List, ℕ, ap, codes, inr}
 use Rattle.std.proofs.lemmas.Result.{IfOk-weaker}
+use Rattle.text_places.specs.Quotes.{pointed_out}
 use Rattle.fault_words.proofs.text_faults.unexpected.Goals as goal
 
 -- the words point where the token before ends
 pub returns-then-lacks_semicolon : goal.returns-then-lacks_semicolon
 returns-then-lacks_semicolon c =
-    IfOk-weaker c.point_at.result _ _ (λ words points. inr (rw c.in_ok-end.ensures at points)) c.point_at.ensures
+    let at_end : ℕ → List ℕ = λ place. pointed_out c.args.text.now place (codes "a `;` is missing here") in
+    IfOk-weaker c.point_out.result _ _ (λ words is. inr (is ∙ ap at_end c.in_ok-end.ensures)) c.point_out.ensures
