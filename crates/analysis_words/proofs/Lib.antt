@@ -1,6 +1,6 @@
+mod AlongWay
 mod Listing
-mod MoreBehind
 mod NoCertificate
-mod Parts
+mod TellsMore
 mod Stopped
 mod Unsaid

@@ -1,5 +1,5 @@
 -- What the words of a refusal have to show.
-use Rattle.std.specs.Prelude.{ℕ, ◌≡◌, ◌⊎◌, List, ◌++◌, Some, None, slice_get}
+use Rattle.std.specs.Prelude.{ℕ, ◌≡◌, ◌⊎◌, List, [], ◌∷◌, ◌++◌, Some, None, codes, slice_get}
 use Rattle.text_places.specs.Landmarks.{HasNoStatement, IsStatementPlace}
 use Rattle.text_places.specs.Quotes.{pointed_out}
 use Rattle.prog_tree.specs.Syntax.{DraftTree}
@@ -8,7 +8,11 @@ use Rattle.prog_check.specs.declared.path.Path.{Path}
 use Rattle.prog_paths.specs.declared.accesses.places.Question.{Question}
 use Rattle.dep_graph.specs.declared.danger.Danger.{Danger}
 use Rattle.dep_graph.specs.declared.danger.Exposure.{Exposure}
-use Rattle.analysis_words.specs.Edges.{change_text, look_text, twin_change_text, twin_look_text, IsRepeated}
+use Rattle.repair_laws.specs.declared.plan.Pair.{Pair}
+use Rattle.analysis_words.specs.Edges.{change_text, look_text, other_run, twin_change_text, twin_look_text, IsRepeated}
+use Rattle.analysis_words.specs.Left.{left_text}
+use Rattle.analysis_words.specs.Nodes.{node_name}
+use Rattle.analysis_words.specs.Ways.{IsWaysText}
 
 -- the words say this sentence of the statement of this access of a node
 pub record PointsAtAccess (text : List ℕ) (paths : List Path) (node access : ℕ) (sentence words : List ℕ) : Type 0 where
@@ -36,22 +40,70 @@ abbrev pub ShowsTwins : (text : List ℕ) → DraftTree → List Path → Exposu
 ShowsTwins text set paths edge words =
     ShowsQuestion text paths edge.question (twin_look_text set paths edge) (twin_change_text set paths edge) words
 
--- the words show both edges of a dangerous structure, the first before the second
+-- what is said first of a set that is refused
+abbrev pub no_order : List ℕ
+no_order = codes "a run of this set may have no serial order, since two changes in a row can be missed\n"
+
+-- the next node of a way from a node
+abbrev pub step_text : DraftTree → List Path → (last next : ℕ) → List ℕ
+step_text set paths last next = codes ", that before " ++ (other_run last next ++ node_name set paths next)
+
+-- a way from a node along these
+abbrev pub way_text : DraftTree → List Path → (last : ℕ) → (nodes : List ℕ) → List ℕ
+way_text set paths last [] = []
+way_text set paths last (node ∷ nodes) = step_text set paths last node ++ way_text set paths node nodes
+
+-- the circle of a dangerous structure: from its first node to the middle one, and then along the way back
+abbrev pub circle_text : DraftTree → List Path → Danger → List ℕ
+circle_text set paths danger =
+    node_name set paths danger.x ++ (codes " would have to stand before " ++ (other_run danger.x danger.y
+    ++ (node_name set paths danger.y ++ way_text set paths danger.y danger.back)))
+
+-- that neither edge is hindered, which circle closes, and what helps against either edge
+abbrev pub advice_text : (circle first second : List ℕ) → List ℕ
+advice_text circle first second =
+    codes "the two of each pair can be under way at once: no cell is sure to be changed or kept by both, so neither has to clash\nin a serial order "
+    ++ (circle ++ (codes "\nwhat helps: " ++ (first ++ (codes "; or " ++ (second ++ codes "\n")))))
+
+-- the words say so of the circle of a dangerous structure
+abbrev pub IsAdvice : DraftTree → List Path → Danger → (words : List ℕ) → Type 0
+IsAdvice set paths danger words =
+    (first second : List ℕ) × (words ≡ advice_text (circle_text set paths danger) first second)
+
+-- the same where both edges are one
+abbrev pub twin_advice_text : (help : List ℕ) → List ℕ
+twin_advice_text help =
+    codes "each can miss the other's change so, and both can be under way at once: no cell is sure to be changed or kept by both, so neither has to clash\nin a serial order each would have to stand before the other\nwhat helps: "
+    ++ (help ++ codes "\n")
+
+abbrev pub IsTwinAdvice : (words : List ℕ) → Type 0
+IsTwinAdvice words = (help : List ℕ) × (words ≡ twin_advice_text help)
+
+-- the words show both edges of a dangerous structure, the first before the second, and then what follows
 abbrev pub ShowsBoth : (text : List ℕ) → DraftTree → List Path → Danger → (words : List ℕ) → Type 0
 ShowsBoth text set paths danger words =
-    (before first between second behind : List ℕ) × ShowsEdge text set paths danger.first first
-    × ShowsEdge text set paths danger.second second × (words ≡ before ++ (first ++ (between ++ (second ++ behind))))
+    (first second advice : List ℕ) × ShowsEdge text set paths danger.first first
+    × ShowsEdge text set paths danger.second second × IsAdvice set paths danger advice
+    × (words ≡ no_order ++ (first ++ (codes "and\n" ++ (second ++ advice))))
 
--- the words show the one edge that is both
+-- the words show the one edge that is both, and then what follows
 abbrev pub ShowsOne : (text : List ℕ) → DraftTree → List Path → Danger → (words : List ℕ) → Type 0
 ShowsOne text set paths danger words =
-    (before edge behind : List ℕ) × ShowsTwins text set paths danger.first edge × (words ≡ before ++ (edge ++ behind))
+    (edge advice : List ℕ) × ShowsTwins text set paths danger.first edge × IsTwinAdvice advice
+    × (words ≡ no_order ++ (edge ++ advice))
 
 -- the words show a dangerous structure: once what is there twice
 abbrev pub ShowsDanger : (text : List ℕ) → DraftTree → List Path → Danger → (words : List ℕ) → Type 0
 ShowsDanger text set paths danger words =
     (IsRepeated set paths danger × ShowsOne text set paths danger words)
     ⊎ ((¬ IsRepeated set paths danger) × ShowsBoth text set paths danger words)
+
+-- the words show a dangerous structure, then which pairs a repair by the plan keeps apart, and then which repairs go
+-- through
+abbrev pub ShowsRefusal : (text : List ℕ) → DraftTree → List Path → Danger → (plan : List Pair) → (words : List ℕ) → Type 0
+ShowsRefusal text set paths danger plan words =
+    (shown ways : List ℕ) × ShowsDanger text set paths danger shown × IsWaysText set plan ways
+    × (words ≡ shown ++ (left_text set plan ++ ways))
 
 -- there is no such node, no such access of it, or no statement of its number in the text
 pub data HasNoAccess (text : List ℕ) (paths : List Path) (node access : ℕ) : Type 0 where

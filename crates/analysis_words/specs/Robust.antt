@@ -1,9 +1,13 @@
 -- What the words of a certificate have to say.
-use Rattle.std.specs.Prelude.{ℕ, ◌-◌, Bool, true, false, List, ◌++◌, codes, filter, length}
+use Rattle.std.specs.Prelude.{ℕ, zero, suc, ◌≡◌, ◌-◌, ◌==◌, ◌⊎◌, Bool, true, false, List, [], ◌++◌, codes, filter, if◌then◌else◌, length, min}
 use Rattle.std.specs.Fmt.{decimal}
+use Rattle.prog_tree.specs.Syntax.{DraftTree}
+use Rattle.prog_check.specs.declared.path.Path.{Path}
 use Rattle.robust_cert.specs.declared.certificate.Certificate.{Certificate}
 use Rattle.robust_cert.specs.declared.certificate.Entry.{Entry}
 use Rattle.robust_cert.specs.declared.certificate.Entry.TheVariants.{Apart, Cover}
+use Rattle.analysis_words.specs.Left.{more_text}
+use Rattle.analysis_words.specs.Saying.{level_text}
 
 abbrev pub is_apart : Entry → Bool
 is_apart (Apart question chain) = true
@@ -20,3 +24,39 @@ reasons_text apart covered = decimal apart ++ (codes " never do, " ++ (decimal c
 abbrev pub entries_text : Certificate → List ℕ
 entries_text certificate =
     reasons_text (apart_count certificate.entries) (length certificate.entries - apart_count certificate.entries)
+
+-- what stands before the level of a node: nothing before the first
+abbrev pub comma_before : (node : ℕ) → List ℕ
+comma_before node = if node == 0 then [] else codes ", "
+
+abbrev pub listed_level : DraftTree → List Path → Certificate → (node : ℕ) → List ℕ
+listed_level set paths certificate node = comma_before node ++ level_text set paths certificate node
+
+-- the levels of so many nodes
+abbrev pub first_levels : DraftTree → List Path → Certificate → (count : ℕ) → List ℕ
+first_levels set paths certificate zero = []
+first_levels set paths certificate (suc node) =
+    first_levels set paths certificate node ++ listed_level set paths certificate node
+
+-- the levels of the first eight nodes, and how many nodes there are more
+abbrev pub levels_text : DraftTree → List Path → Certificate → List ℕ
+levels_text set paths certificate =
+    first_levels set paths certificate (min 8 (length paths)) ++ more_text (length paths - 8)
+
+-- how many questions are covered by the access that covers most, and which it is; nothing where none covers
+abbrev pub IsMostText : (text : List ℕ) → Type 0
+IsMostText text =
+    (text ≡ []) ⊎ ((count : ℕ) × (access : List ℕ) × (text ≡ codes " (" ++ (decimal count ++ (codes " of them by " ++ (access ++ codes ")")))))
+
+-- the line of the questions: how many there are, which reasons they have, and how many are left for the levels
+abbrev pub questions_text : Certificate → (asked : ℕ) → (most : List ℕ) → List ℕ
+questions_text certificate asked most =
+    codes "each run of this set has a serial order: of " ++ (decimal asked
+    ++ (codes " pairs of accesses that could touch one row, " ++ (entries_text certificate ++ (most ++ (codes ", and "
+    ++ (decimal (asked - length certificate.entries) ++ codes " are in order by the levels\n"))))))
+
+-- the words have the line of the questions and that of the levels
+abbrev pub SaysRobust : DraftTree → List Path → Certificate → (words : List ℕ) → Type 0
+SaysRobust set paths certificate words =
+    (asked : ℕ) × (most : List ℕ) × IsMostText most
+    × (words ≡ questions_text certificate asked most ++ (codes "levels: " ++ (levels_text set paths certificate ++ codes "\n")))

@@ -23,7 +23,7 @@ ways_text true true =
     codes "`sirob repair` does it: by a row of a new table that both `keep`, or with `--promote` by a `keep` behind each look\n"
 ways_text true false =
     codes "`sirob repair` does it, by a row of a new table that both `keep`; with `--promote` it would be refused\n"
-ways_text false true = codes "`sirob repair --promote` does it, by a `keep` behind each look; new tables would be too many\n"
+ways_text false true = codes "`sirob repair --promote` does it, by a `keep` behind each look; with new tables the set gets above a limit\n"
 ways_text false false =
     codes "`sirob repair` would be refused, since the set gets above a limit: have fewer programs, or merge some\n"
 

@@ -1,4 +1,7 @@
 //! What follows from a dangerous structure, and what helps.
+ghost use Rattle.std.specs.Prelude.{◌≡◌, IfOk, string_bytes};
+ghost use Rattle.prog_tree.specs.Tree.{draft_tree};
+ghost use Rattle.analysis_words.specs.Refusing.{IsAdvice, IsTwinAdvice, advice_text, circle_text, step_text, twin_advice_text, way_text};
 
 use crate::edges::other_run;
 use crate::looks::{has_unknown_key, meets_body};
@@ -8,20 +11,51 @@ use prog_paths::Question;
 use std::alloc::{AllocError, Global};
 use text_places::line_number;
 
-// The circle along both edges and the way back.
-fn circle_text(alloc: Global, shown: Shown<'_>, danger: &Danger) -> Result<String, AllocError> {
-    let first = node_name(alloc, shown, danger.x)?;
-    let other = other_run(danger.x, danger.y);
-    let middle = node_name(alloc, shown, danger.y)?;
-    let mut text = format!(in alloc; "{first} would have to stand before {other}{middle}")?;
-    let mut last = danger.y;
-    for node in danger.back.as_slice() {
-        let other = other_run(last, *node);
-        let next = node_name(alloc, shown, *node)?;
-        write!(text, ", that before {other}{next}")?;
+// The next node of a way from a node.
+fn step_text(
+    alloc: Global,
+    shown: Shown<'_>,
+    last: usize,
+    next: usize,
+) -> Result<String, AllocError>
+    ensures { IfOk result (λ text. string_bytes text
+        ≡ step_text (draft_tree shown.entry.set.now) shown.entry.paths.now last next) }
+{
+    let other = other_run(last, next);
+    let next = node_name(alloc, shown, next)?;
+    format!(in alloc; ", that before {other}{next}")
+}
+
+// A way from a node along these.
+fn way_text(
+    alloc: Global,
+    shown: Shown<'_>,
+    from: usize,
+    nodes: &[usize],
+) -> Result<String, AllocError>
+    ensures { IfOk result (λ text. string_bytes text
+        ≡ way_text (draft_tree shown.entry.set.now) shown.entry.paths.now from nodes.now) }
+{
+    let mut text = String::new(alloc);
+    let mut last = from;
+    for node in nodes {
+        let step = step_text(alloc, shown, last, *node)?;
+        text.push_str(&step)?;
         last = *node;
     }
     Ok(text)
+}
+
+// The circle along both edges and the way back.
+fn circle_text(alloc: Global, shown: Shown<'_>, danger: &Danger) -> Result<String, AllocError>
+    ensures { IfOk result (λ text. string_bytes text
+        ≡ circle_text (draft_tree shown.entry.set.now) shown.entry.paths.now danger.now) }
+{
+    let first = node_name(alloc, shown, danger.x)?;
+    let other = other_run(danger.x, danger.y);
+    let middle = node_name(alloc, shown, danger.y)?;
+    let way = way_text(alloc, shown, danger.y, danger.back.as_slice())?;
+    format!(in alloc; "{first} would have to stand before {other}{middle}{way}")
 }
 
 // The two of a question, as those that keep one cell.
@@ -94,11 +128,11 @@ fn repair(alloc: Global, shown: Shown<'_>, question: Question) -> Result<String,
     own_cell(alloc, shown, question, place)
 }
 
-/// Why nothing hinders both edges, how the circle closes, and what to do about it.
-pub fn advice(alloc: Global, shown: Shown<'_>, danger: &Danger) -> Result<String, AllocError> {
-    let circle = circle_text(alloc, shown, danger)?;
-    let first = repair(alloc, shown, danger.first.question)?;
-    let second = repair(alloc, shown, danger.second.question)?;
+// Why nothing hinders both edges, how the circle closes, and what helps against either edge.
+fn advice_text(alloc: Global, circle: &str, first: &str, second: &str) -> Result<String, AllocError>
+    ensures { IfOk result (λ words. string_bytes words
+        ≡ advice_text circle.now first.now second.now) }
+{
     format!(in alloc;
         "the two of each pair can be under way at once: \
         no cell is sure to be changed or kept by both, so neither has to clash\n\
@@ -106,12 +140,34 @@ pub fn advice(alloc: Global, shown: Shown<'_>, danger: &Danger) -> Result<String
     )
 }
 
-/// The same where both edges are one.
-pub fn twin_advice(alloc: Global, shown: Shown<'_>, danger: &Danger) -> Result<String, AllocError> {
-    let repair = repair(alloc, shown, danger.first.question)?;
+// The same where both edges are one.
+fn twin_advice_text(alloc: Global, help: &str) -> Result<String, AllocError>
+    ensures { IfOk result (λ words. string_bytes words ≡ twin_advice_text help.now) }
+{
     format!(in alloc;
         "each can miss the other's change so, and both can be under way at once: \
         no cell is sure to be changed or kept by both, so neither has to clash\n\
-        in a serial order each would have to stand before the other\nwhat helps: {repair}\n"
+        in a serial order each would have to stand before the other\nwhat helps: {help}\n"
     )
+}
+
+/// Why nothing hinders both edges, how the circle closes, and what to do about it.
+pub fn advice(alloc: Global, shown: Shown<'_>, danger: &Danger) -> Result<String, AllocError>
+    ensures { IfOk result (λ words. IsAdvice (draft_tree shown.entry.set.now)
+        shown.entry.paths.now danger.now (string_bytes words)) }
+{
+    let circle = circle_text(alloc, shown, danger)?;
+    let first = repair(alloc, shown, danger.first.question)?;
+    let second = repair(alloc, shown, danger.second.question)?;
+    let words = advice_text(alloc, &circle, &first, &second)?;
+    Ok(words)
+}
+
+/// The same where both edges are one.
+pub fn twin_advice(alloc: Global, shown: Shown<'_>, danger: &Danger) -> Result<String, AllocError>
+    ensures { IfOk result (λ words. IsTwinAdvice (string_bytes words)) }
+{
+    let help = repair(alloc, shown, danger.first.question)?;
+    let words = twin_advice_text(alloc, &help)?;
+    Ok(words)
 }

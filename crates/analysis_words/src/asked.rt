@@ -3,20 +3,13 @@
 use prog_check::{Kind, Path};
 
 // How many accesses of one table there are of each kind that asks something or is asked.
-#[derive(Clone, Copy)]
+#[derive(Clone, Copy, Default)]
 struct Kinds {
     reads: usize,
     finds: usize,
     writes: usize,
     adds: usize,
 }
-
-const NONE: Kinds = Kinds {
-    reads: 0,
-    finds: 0,
-    writes: 0,
-    adds: 0,
-};
 
 fn with_one(mut kinds: Kinds, kind: Kind) -> Kinds {
     match kind {
@@ -29,8 +22,7 @@ fn with_one(mut kinds: Kinds, kind: Kind) -> Kinds {
     kinds
 }
 
-fn kinds_along(kinds: Kinds, path: &Path, table: usize) -> Kinds {
-    let mut kinds = kinds;
+fn kinds_along(mut kinds: Kinds, path: &Path, table: usize) -> Kinds {
     for access in path.accesses.as_slice() {
         if access.table == table {
             kinds = with_one(kinds, access.kind);
@@ -40,7 +32,7 @@ fn kinds_along(kinds: Kinds, path: &Path, table: usize) -> Kinds {
 }
 
 fn kinds_of(paths: &[Path], table: usize) -> Kinds {
-    let mut kinds = NONE;
+    let mut kinds = Kinds::default();
     for path in paths {
         kinds = kinds_along(kinds, path, table);
     }

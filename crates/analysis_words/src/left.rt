@@ -52,8 +52,8 @@ fn named(pairs: &[Pair]) -> &[Pair]
     }
 }
 
-// How many are not named.
-fn more_text(alloc: Global, count: usize) -> Result<String, AllocError>
+/// How many are not named.
+pub fn more_text(alloc: Global, count: usize) -> Result<String, AllocError>
     ensures { IfOk result (λ text. string_bytes text ≡ more_text count) }
 {
     if count == 0 {

@@ -1,6 +1,6 @@
-//! What an analysis and the checker of its certificates find, in words, for people: faults of a certificate with the
-//! entry or the nodes that they are about, what a certificate shows, the refusal of a set with its statements, and its
-//! repairs.
+//! What an analysis and the checker of its certificates find, in words, for people: faults of a
+//! certificate with the entry or the nodes that they are about, what a certificate shows, the
+//! refusal of a set with its statements, and its repairs.
 #![tactic(auto)]
 
 mod advice;
@@ -10,6 +10,7 @@ mod covering;
 mod edges;
 mod instances;
 mod left;
+mod limits;
 mod looks;
 mod pairs;
 mod pointed;

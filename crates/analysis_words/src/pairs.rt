@@ -1,7 +1,7 @@
 //! Sentences of the two programs of a pair.
 ghost use Rattle.std.specs.Prelude.{◌≡◌, IfOk, string_bytes};
 ghost use Rattle.prog_tree.specs.Tree.{draft_tree};
-ghost use Rattle.analysis_words.specs.Repairs.{NamesBoth, Says, other_text, quoted_name};
+ghost use Rattle.analysis_words.specs.Repairs.{other_text, pair_sentence, quoted_name};
 
 use fault_words::program_name;
 use prog_check::ProgramSet;
@@ -31,13 +31,11 @@ pub fn pair_sentence(
     verb: &str,
     rest: &str,
 ) -> Result<String, AllocError>
-    ensures names { IfOk result (λ words.
-        NamesBoth (draft_tree set.now) (string_bytes words) pair) }
-    ensures rest { IfOk result (λ words. Says (string_bytes words) rest.now) }
+    ensures { IfOk result (λ words. string_bytes words
+        ≡ pair_sentence (draft_tree set.now) pair verb.now rest.now) }
 {
     let first = quoted_name(alloc, set, pair.from)?;
     let second = quoted_name(alloc, set, pair.to)?;
     let other = other(pair);
-    let words = format!(in alloc; "{first} {verb} {other}{second}{rest}\n")?;
-    Ok(words)
+    format!(in alloc; "{first} {verb} {other}{second}{rest}\n")
 }

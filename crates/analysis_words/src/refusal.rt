@@ -1,11 +1,8 @@
 //! The refusal of a set in words.
-ghost use Rattle.std.specs.Prelude.{ℕ, IfNone, IfOk, IfSome, List, string_bytes};
+ghost use Rattle.std.specs.Prelude.{IfNone, IfOk, IfSome, string_bytes};
 ghost use Rattle.prog_tree.specs.Tree.{draft_tree};
 ghost use Rattle.prog_check.specs.Paths.{paths_of};
-ghost use Rattle.analysis_words.specs.Left.{left_text};
-ghost use Rattle.analysis_words.specs.Refusing.{LacksDanger, ShowsBoth, ShowsDanger, ShowsOne};
-ghost use Rattle.analysis_words.specs.Repairs.{Says};
-ghost use Rattle.analysis_words.specs.Ways.{IsWaysText};
+ghost use Rattle.analysis_words.specs.Refusing.{LacksDanger, ShowsBoth, ShowsDanger, ShowsOne, ShowsRefusal};
 
 use crate::advice::{advice, twin_advice};
 use crate::edges::{edge_words, is_repeated, twin_words};
@@ -86,12 +83,9 @@ pub fn refusal_words(
     danger: &Danger,
     plan: &Plan,
 ) -> Result<Option<String>, AllocError>
-    ensures said { IfOk result (λ said. IfSome said (λ words. ShowsDanger text.now
-        (draft_tree set.now) (paths_of (draft_tree set.now)) danger.now (string_bytes words))) }
-    ensures left { IfOk result (λ said. IfSome said (λ words.
-        Says (string_bytes words) (left_text (draft_tree set.now) plan.now.pairs))) }
-    ensures ways { IfOk result (λ said. IfSome said (λ words. (text : List ℕ)
-        × IsWaysText (draft_tree set.now) plan.now.pairs text × Says (string_bytes words) text)) }
+    ensures said { IfOk result (λ said. IfSome said (λ words. ShowsRefusal text.now
+        (draft_tree set.now) (paths_of (draft_tree set.now)) danger.now plan.now.pairs
+        (string_bytes words))) }
     ensures none { IfOk result (λ said. IfNone said
         (LacksDanger text.now (paths_of (draft_tree set.now)) danger.now)) }
 {

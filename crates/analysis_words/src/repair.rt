@@ -1,7 +1,7 @@
 //! What a repair puts into a set, in words.
-ghost use Rattle.std.specs.Prelude.{◌≡◌, [], All, IfNone, IfOk, IfSome, string_bytes};
+ghost use Rattle.std.specs.Prelude.{◌≡◌, [], IfNone, IfOk, IfSome, string_bytes};
 ghost use Rattle.prog_tree.specs.Tree.{draft_tree};
-ghost use Rattle.analysis_words.specs.Repairs.{NamesBoth};
+ghost use Rattle.analysis_words.specs.Repairs.{TellsPair, TellsRepair};
 
 use crate::looks::{first_of_each, look_words, looked_at, reason_words};
 use crate::pairs::{pair_sentence, quoted_name};
@@ -133,14 +133,15 @@ fn pair_words(
     pair: Pair,
     questions: &[Question],
 ) -> Result<String, AllocError>
-    ensures { IfOk result (λ words. NamesBoth (draft_tree repair.entry.shown.set.now)
-        (string_bytes words) pair) }
+    ensures { IfOk result (λ words. TellsPair (draft_tree repair.entry.shown.set.now) pair
+        (string_bytes words)) }
 {
     let put = put_text(alloc, repair, number, pair)?;
     let verb = "could miss a change of";
     let sentence = pair_sentence(alloc, repair.shown.set, pair, verb, &put)?;
     let reasons = reasons(alloc, repair, questions)?;
-    format!(in alloc; "{sentence}{reasons}")
+    let words = format!(in alloc; "{sentence}{reasons}")?;
+    Ok(words)
 }
 
 /// What a repair has put into a set for each pair of its plan, in order, and why; nothing where
@@ -154,7 +155,7 @@ pub fn repair_words(
     promoting: bool,
 ) -> Result<Option<String>, AllocError>
     ensures said { IfOk result (λ said. IfSome said (λ words.
-        All (NamesBoth (draft_tree set.now) (string_bytes words)) pairs.now)) }
+        TellsRepair (draft_tree set.now) pairs.now (string_bytes words))) }
     ensures some { IfOk result (λ said. IfSome said (λ words. ¬ (pairs.now ≡ []))) }
     ensures none { IfOk result (λ said. IfNone said (pairs.now ≡ [])) }
 {

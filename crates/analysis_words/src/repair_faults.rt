@@ -1,7 +1,7 @@
 //! Why a set is not repaired, in words.
-ghost use Rattle.std.specs.Prelude.{◌≡◌, IfNone, IfOk, IfSome, codes, string_bytes};
+ghost use Rattle.std.specs.Prelude.{◌≡◌, IfNone, IfOk, IfSome, string_bytes};
 ghost use Rattle.prog_tree.specs.Tree.{draft_tree};
-ghost use Rattle.analysis_words.specs.Repairs.{NamesBoth, Says, SaysStop, limits_text};
+ghost use Rattle.analysis_words.specs.Repairs.{SaysObstacle, SaysStop, limits_text, obstacle_reason, obstacle_verb};
 ghost use Rattle.si_repair.specs.declared.repairs.fault.RepairFault.TheVariants as f;
 
 use crate::looks::{first_of_each, has_unknown_key, looked_at, meets_body, reason_words};
@@ -66,14 +66,18 @@ enum Obstacle {
 
 impl Obstacle {
     // What the first program of a pair does, before the name of the second.
-    fn verb(self) -> &'static str {
+    fn verb(self) -> &'static str
+        ensures { result.now ≡ obstacle_verb self }
+    {
         match self {
             Obstacle::Range => "looks at a range that can be changed by",
             Obstacle::UnknownKey | Obstacle::Body => "looks at a row that can be changed by",
         }
     }
 
-    fn reason(self) -> &'static str {
+    fn reason(self) -> &'static str
+        ensures { result.now ≡ obstacle_reason self }
+    {
         match self {
             Obstacle::Range => "; no `keep` covers a range",
             Obstacle::UnknownKey => ", and no parameters and numbers tell its key",
@@ -116,10 +120,8 @@ fn promotion_words(
     pair: Pair,
     obstacle: Obstacle,
 ) -> Result<String, AllocError>
-    ensures names { IfOk result (λ words.
-        NamesBoth (draft_tree set.now) (string_bytes words) pair) }
-    ensures advice { IfOk result (λ words.
-        Says (string_bytes words) (codes "repair without `--promote`")) }
+    ensures { IfOk result (λ words.
+        SaysObstacle (draft_tree set.now) obstacle pair (string_bytes words)) }
 {
     let reason = obstacle.reason();
     let rest = format!(in alloc; "{reason}: repair without `--promote`")?;

@@ -1,19 +1,21 @@
 //! What a certificate shows of a robust set, in words.
 ghost use Rattle.std.specs.Prelude.{◌≡◌, IfOk, string_bytes};
+ghost use Rattle.prog_tree.specs.Tree.{draft_tree};
+ghost use Rattle.prog_check.specs.Paths.{paths_of};
 ghost use Rattle.robust_cert.specs.declared.certificate.Question.{Question};
 ghost use Rattle.robust_cert.specs.Sharing.{entry_told, entry_with, IsWithin};
-ghost use Rattle.analysis_words.specs.Repairs.{Says};
-ghost use Rattle.analysis_words.specs.Robust.{apart_count, entries_text, is_apart, reasons_text};
+ghost use Rattle.analysis_words.specs.Robust.{apart_count, comma_before, entries_text, first_levels, is_apart, IsMostText, levels_text, listed_level, questions_text, reasons_text, SaysRobust};
 
 use crate::asked::asked_in;
 use crate::certificate_faults::{level_text, wide};
 use crate::covering::{Covering, most_covering};
+use crate::left::more_text;
 use crate::shown::{Shown, access_text};
 use prog_check::ProgramSet;
 use prog_paths::paths;
 use robust_cert::{Certificate, Entries, Reason, Told};
 use std::alloc::{AllocError, Global};
-use text_places::{SetText, push_listed};
+use text_places::SetText;
 
 // So many nodes are named with their levels.
 const MAX_LEVELS: usize = 8;
@@ -64,12 +66,22 @@ fn entries_text(alloc: Global, certificate: &Certificate) -> Result<String, Allo
     reasons_text(alloc, apart, covered)
 }
 
+// How many covers an access takes part in, and which it is.
+fn covering_text(alloc: Global, count: u64, access: &str) -> Result<String, AllocError>
+    ensures { IfOk result (λ text. IsMostText (string_bytes text)) }
+{
+    let text = format!(in alloc; " ({count} of them by {access})")?;
+    Ok(text)
+}
+
 // The access that takes part in most covers.
 fn most_text(
     alloc: Global,
     shown: Shown<'_>,
     certificate: &Certificate,
-) -> Result<String, AllocError> {
+) -> Result<String, AllocError>
+    ensures { IfOk result (λ text. IsMostText (string_bytes text)) }
+{
     let most = most_covering(alloc, shown.paths, &certificate.entries)?;
     let Some(
         Covering {
@@ -82,7 +94,46 @@ fn most_text(
         return Ok(String::new(alloc));
     };
     let access = access_text(alloc, shown, wide(node), wide(access))?;
-    format!(in alloc; " ({count} of them by {access})")
+    covering_text(alloc, count, &access)
+}
+
+// What stands before the level of a node.
+fn comma_before(node: usize) -> &'static str
+    ensures { result.now ≡ comma_before node }
+{
+    if node == 0 { "" } else { ", " }
+}
+
+fn listed_level(
+    alloc: Global,
+    shown: Shown<'_>,
+    certificate: &Certificate,
+    node: usize,
+) -> Result<String, AllocError>
+    ensures { IfOk result (λ text. string_bytes text ≡ listed_level
+        (draft_tree shown.entry.set.now) shown.entry.paths.now certificate.now node) }
+{
+    let comma = comma_before(node);
+    let level = level_text(alloc, shown, certificate, node)?;
+    format!(in alloc; "{comma}{level}")
+}
+
+// The levels of so many nodes.
+fn first_levels(
+    alloc: Global,
+    shown: Shown<'_>,
+    certificate: &Certificate,
+    count: usize,
+) -> Result<String, AllocError>
+    ensures { IfOk result (λ text. string_bytes text ≡ first_levels
+        (draft_tree shown.entry.set.now) shown.entry.paths.now certificate.now count) }
+{
+    let mut text = String::new(alloc);
+    for node in 0..count {
+        let level = listed_level(alloc, shown, certificate, node)?;
+        text.push_str(&level)?;
+    }
+    Ok(text)
 }
 
 // The levels of the first nodes, and how many nodes there are more.
@@ -90,44 +141,38 @@ fn levels_text(
     alloc: Global,
     shown: Shown<'_>,
     certificate: &Certificate,
-) -> Result<String, AllocError> {
-    let mut text = String::new(alloc);
+) -> Result<String, AllocError>
+    ensures { IfOk result (λ text. string_bytes text ≡ levels_text
+        (draft_tree shown.entry.set.now) shown.entry.paths.now certificate.now) }
+{
     let nodes = shown.paths.len();
-    for node in 0..nodes.min(MAX_LEVELS) {
-        let level = level_text(alloc, shown, certificate, node)?;
-        push_listed(&mut text, &level)?;
-    }
-    if nodes > MAX_LEVELS {
-        let more = nodes.saturating_sub(MAX_LEVELS);
-        write!(text, ", and {more} more")?;
-    }
-    Ok(text)
-}
-
-// How many questions have no entry.
-fn left_count(shown: Shown<'_>, certificate: &Certificate) -> (usize, usize) {
-    let tables = shown.set.draft().tables.len();
-    let asked = asked_in(shown.paths, tables);
-    (asked, asked.saturating_sub(certificate.entries.len()))
+    let first = first_levels(alloc, shown, certificate, nodes.min(MAX_LEVELS))?;
+    let more = more_text(alloc, nodes.saturating_sub(MAX_LEVELS))?;
+    format!(in alloc; "{first}{more}")
 }
 
 // How many questions are asked.
-fn asked_text(alloc: Global, asked: usize) -> Result<String, AllocError> {
-    format!(in alloc;
-        "each run of this set has a serial order: of {asked} pairs of accesses that could touch one row, "
-    )
+fn asked_count(shown: Shown<'_>) -> usize {
+    let tables = shown.set.draft().tables.len();
+    asked_in(shown.paths, tables)
 }
 
-// What is said behind the reasons of questions.
-fn rest_text(
+// How many questions there are, which reasons they have, and how many are left for the levels.
+fn questions_text(
     alloc: Global,
-    shown: Shown<'_>,
     certificate: &Certificate,
-    left: usize,
-) -> Result<String, AllocError> {
-    let most = most_text(alloc, shown, certificate)?;
-    let levels = levels_text(alloc, shown, certificate)?;
-    format!(in alloc; "{most}, and {left} are in order by the levels\nlevels: {levels}\n")
+    asked: usize,
+    most: &str,
+) -> Result<String, AllocError>
+    ensures { IfOk result (λ text. string_bytes text
+        ≡ questions_text certificate.now asked most.now) }
+{
+    let entries = entries_text(alloc, certificate)?;
+    let left = asked.saturating_sub(certificate.entries.len());
+    format!(in alloc;
+        "each run of this set has a serial order: of {asked} pairs of accesses that could touch one row, \
+        {entries}{most}, and {left} are in order by the levels\n"
+    )
 }
 
 // What is said of a set whose nodes are these.
@@ -136,14 +181,14 @@ fn sentence(
     shown: Shown<'_>,
     certificate: &Certificate,
 ) -> Result<String, AllocError>
-    ensures { IfOk result
-        (λ words. Says (string_bytes words) (entries_text certificate.now)) }
+    ensures { IfOk result (λ words. SaysRobust (draft_tree shown.entry.set.now)
+        shown.entry.paths.now certificate.now (string_bytes words)) }
 {
-    let (asked, left) = left_count(shown, certificate);
-    let front = asked_text(alloc, asked)?;
-    let entries = entries_text(alloc, certificate)?;
-    let rest = rest_text(alloc, shown, certificate, left)?;
-    let words = format!(in alloc; "{front}{entries}{rest}")?;
+    let most = most_text(alloc, shown, certificate)?;
+    let asked = asked_count(shown);
+    let questions = questions_text(alloc, certificate, asked, &most)?;
+    let levels = levels_text(alloc, shown, certificate)?;
+    let words = format!(in alloc; "{questions}levels: {levels}\n")?;
     Ok(words)
 }
 
@@ -155,8 +200,8 @@ pub fn robust_words(
     set: &ProgramSet,
     certificate: &Certificate,
 ) -> Result<String, AllocError>
-    ensures { IfOk result
-        (λ words. Says (string_bytes words) (entries_text certificate.now)) }
+    ensures { IfOk result (λ words. SaysRobust (draft_tree set.now)
+        (paths_of (draft_tree set.now)) certificate.now (string_bytes words)) }
 {
     let paths = paths(alloc, set)?;
     let text = SetText::new(alloc, text)?;

@@ -3,12 +3,11 @@ ghost use Rattle.std.specs.Prelude.{◌≡◌, IfOk, flat_map, string_bytes};
 ghost use Rattle.prog_tree.specs.Tree.{draft_tree};
 ghost use Rattle.analysis_words.specs.Nodes.{access_of, branches_text, letter_of, node_name, turns_by, turns_text};
 
+use crate::limits::MAX_STATEMENT;
 use fault_words::program_name;
 use prog_check::{Access, Path, ProgramSet};
 use std::alloc::{AllocError, Global};
 use text_places::{SetText, as_text, before, behind, line_number, table_name, visible_text};
-
-const MAX_SHOWN: usize = 60;
 
 /// A set with its text and its paths, which are the nodes.
 #[derive(Clone, Copy)]
@@ -42,7 +41,7 @@ fn statement_at(alloc: Global, plain: &[u8], place: usize) -> Result<String, All
         .iter()
         .take_while(|byte| !ends_statement(**byte))
         .count();
-    in_one_line(alloc, before(rest, len.min(MAX_SHOWN)))
+    in_one_line(alloc, before(rest, len.min(MAX_STATEMENT)))
 }
 
 /// The cell or the range that the statement at a place of a set's text names, with its table.

@@ -56,7 +56,7 @@ fn ways_text(by_tables: bool, by_keeps: bool) -> &'static str
         (true, false) =>
             "`sirob repair` does it, by a row of a new table that both `keep`; with `--promote` it would be refused\n",
         (false, true) =>
-            "`sirob repair --promote` does it, by a `keep` behind each look; new tables would be too many\n",
+            "`sirob repair --promote` does it, by a `keep` behind each look; with new tables the set gets above a limit\n",
         (false, false) =>
             "`sirob repair` would be refused, since the set gets above a limit: have fewer programs, or merge some\n",
     }

@@ -1,17 +1,16 @@
-use Rattle.std.proofs.Common.{rules, codes, inl, inr, string_bytes}
+use Rattle.std.proofs.Common.{rules, inl, inr, string_bytes}
 use Rattle.analysis_words.specs.Refusing.{LacksQuestion}
 use Rattle.analysis_words.proofs.Unsaid.{unsaid}
 use Rattle.analysis_words.proofs.refusal.both_words.Goals as goal
 
 pub returns-clause-said : goal.returns-clause-said
 returns-clause-said c = (
-  codes "a run of this set may have no serial order, since two changes in a row can be missed\n",
   string_bytes c.in-Some.first,
-  codes "and\n",
   string_bytes c.in-Some-2.second,
   string_bytes c.in_ok-advice.advice,
   search rules,
   search rules,
+  c.in_ok-advice.ensures,
   search rules,
 )
 

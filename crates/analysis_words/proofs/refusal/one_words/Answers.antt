@@ -1,14 +1,14 @@
-use Rattle.std.proofs.Common.{rules, codes, inl, string_bytes}
+use Rattle.std.proofs.Common.{rules, inl, string_bytes}
 use Rattle.analysis_words.specs.Refusing.{LacksQuestion}
 use Rattle.analysis_words.proofs.Unsaid.{unsaid}
 use Rattle.analysis_words.proofs.refusal.one_words.Goals as goal
 
 pub returns-clause-said : goal.returns-clause-said
 returns-clause-said c = (
-  codes "a run of this set may have no serial order, since two changes in a row can be missed\n",
   string_bytes c.in-Some.edge,
   string_bytes c.in_ok-advice.advice,
   search rules,
+  c.in_ok-advice.ensures,
   search rules,
 )
 

@@ -1,11 +1,8 @@
-use Rattle.std.proofs.Common.{rules, ◌≡◌, ◌∙◌, ap, List, ℕ, string_bytes, subst, sym}
+use Rattle.std.proofs.Common.{rules, ◌≡◌, ◌∙◌, ◌++◌, ap, string_bytes, sym}
 use Rattle.prog_tree.specs.Tree.{draft_tree}
 use Rattle.prog_check.specs.Paths.{paths_of}
 use Rattle.analysis_words.specs.Left.{left_text}
 use Rattle.analysis_words.specs.Refusing.{LacksDanger, ShowsDanger}
-use Rattle.analysis_words.specs.Repairs.{Says}
-use Rattle.analysis_words.proofs.MoreBehind.{shown_more}
-use Rattle.analysis_words.proofs.Parts.{says_last}
 use Rattle.analysis_words.proofs.Unsaid.{unsaid}
 use Rattle.analysis_words.proofs.refusal.refusal_words.Goals as goal
 
@@ -15,23 +12,14 @@ returns-clause-said c =
     let shown : ShowsDanger c.args.text.now (draft_tree c.args.set.now) c.deref.result.now c.args.danger.now (string_bytes c.in-Some.front) =
     let said = rw c.in_ok-text.ensures at c.in_ok-front.ensures.said in
     search rules in
-    rw (sym same) (shown_more c.args.text.now (draft_tree c.args.set.now) c.deref.result.now c.args.danger.now (string_bytes c.in-Some.front) _ (string_bytes c.in_ok-words.words)
-    c.in_ok-words.ensures.ok shown)
-
-pub returns-clause-left : goal.returns-clause-left
-returns-clause-left c =
-    let says : Says (string_bytes c.in_ok-words.words) (string_bytes c.in_ok-left.left) =
-    (string_bytes c.in-Some.front, _, c.in_ok-words.ensures.ok) in
-    let told = c.in_ok-left.ensures ∙ ap (left_text (draft_tree c.args.set.now)) c.as_slice.ensures in
-    subst (λ (part : List ℕ). Says (string_bytes c.in_ok-words.words) part) told says
-
-pub returns-clause-ways : goal.returns-clause-ways
-returns-clause-ways c = (
-  c.in_ok-ways.ways.now,
-  c.in_ok-ways.ensures,
-  says_last (string_bytes c.in_ok-words.words) (string_bytes c.in-Some.front) (string_bytes c.in_ok-left.left) c.in_ok-ways.ways.now
-      c.in_ok-words.ensures.ok,
-)
+    let left = c.in_ok-left.ensures ∙ ap (left_text (draft_tree c.args.set.now)) c.as_slice.ensures in
+    rw (sym same) (
+      string_bytes c.in-Some.front,
+      c.in_ok-ways.ways.now,
+      shown,
+      c.in_ok-ways.ensures,
+      c.in_ok-words.ensures.ok ∙ ap (λ l. string_bytes c.in-Some.front ++ (l ++ c.in_ok-ways.ways.now)) left,
+    )
 
 pub returns-in_default-clause-none : goal.returns-in_default-clause-none
 returns-in_default-clause-none c =

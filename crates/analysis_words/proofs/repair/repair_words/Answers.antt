@@ -6,8 +6,8 @@ use Rattle.prog_check.specs.declared.path.Path.{Path}
 use Rattle.prog_paths.specs.Asked.{ChangesSingleCells}
 use Rattle.prog_paths.proofs.SingleCells.{law_of_single_changes}
 use Rattle.repair_laws.specs.declared.plan.Pair.{Pair}
-use Rattle.analysis_words.specs.Repairs.{NamesBoth}
-use Rattle.analysis_words.proofs.Parts.{names_more}
+use Rattle.analysis_words.specs.Repairs.{TellsRepair, heading}
+use Rattle.analysis_words.proofs.TellsMore.{tells_more}
 use Rattle.analysis_words.proofs.repair.repair_words.Goals as goal
 
 pub exposed_questions-requires : goal.exposed_questions-requires
@@ -17,12 +17,13 @@ exposed_questions-requires c =
 
 pub loop-number-preserved : goal.loop-number-preserved
 loop-number-preserved c =
-    names_more (draft_tree c.args.set.now) c.args.pairs.now c.loop-number.number _ (string_bytes c.loop-number.words)
-    (string_bytes c.push_str.new.self) (string_bytes c.in_ok-said.said) c.loop-number-test.true
+    tells_more (draft_tree c.args.set.now) c.args.pairs.now c.loop-number.number _ heading c.loop-number.invariant.0
+    (string_bytes c.loop-number.words) (string_bytes c.push_str.new.self) (string_bytes c.in_ok-said.said) c.loop-number-test.true
+    c.loop-number.invariant.2
     (c.in_ok-push_str.ensures.bytes ∙ ap (λ l. string_bytes c.loop-number.words ++ l) c.deref-in-loop-number-3.ensures)
-    c.loop-number.invariant c.in_ok-said.ensures
+    c.loop-number.invariant.1 c.in_ok-said.ensures
 
 pub returns-clause-said : goal.returns-clause-said
 returns-clause-said c =
-    subst (λ (l : List Pair). All (NamesBoth (draft_tree c.args.set.now) (string_bytes c.loop-number.words)) l)
+    subst (λ (l : List Pair). TellsRepair (draft_tree c.args.set.now) l (string_bytes c.loop-number.words))
     (take_all c.loop-number.number c.args.pairs.now (omega (arith, c.loop-number-test.false))) c.loop-number.invariant
