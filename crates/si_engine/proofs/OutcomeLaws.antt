@@ -9,7 +9,7 @@ use Rattle.prog_tree.specs.Table.{TableState}
 use Rattle.history_book.specs.Dependencies.{depends}
 use Rattle.history_book.specs.Orders.{least_order}
 use Rattle.si_engine.specs.declared.event.Event.{Event}
-use Rattle.si_engine.specs.declared.output.finding.Finding.TheVariants.{Order}
+use Rattle.si_engine.specs.declared.output.finding.Serializability.TheVariants.{Order}
 use Rattle.si_engine.specs.declared.robust.run.Outcome.{Outcome}
 use Rattle.si_engine.specs.declared.input.script.Script.{Script}
 use Rattle.si_engine.specs.Headline.{Headline}

@@ -3,7 +3,7 @@ use Rattle.std.proofs.Common.{◌≡◌, pos, neg_ℤ, ◌^◌, ◌-◌, [], ◌
 use Rattle.std.specs.Fmt.{digits}
 use Rattle.prog_tree.specs.declared.table.Arity.TheVariants.{One}
 use Rattle.prog_tree.specs.Syntax.{DraftTree, BlockEnd}
-use Rattle.si_engine.specs.declared.output.finding.Finding.TheVariants.{Order, Cycle}
+use Rattle.si_engine.specs.declared.output.finding.Serializability.TheVariants.{Order, Cycle}
 use Rattle.si_engine.specs.declared.input.record_line.RecordLine.TheVariants.{Skip, Record}
 use Rattle.si_engine.specs.declared.input.script_fault.LineFault.TheVariants as f
 use Rattle.si_engine.specs.LastLine.{last_line}

@@ -7,7 +7,7 @@ use Rattle.prog_tree.specs.Syntax.{DraftTree}
 use Rattle.prog_tree.specs.Table.{TableState}
 use Rattle.si_engine.specs.declared.event.Event.{Event}
 use Rattle.si_engine.specs.declared.event.Reply.{Reply}
-use Rattle.si_engine.specs.declared.output.finding.Finding.{Finding}
+use Rattle.si_engine.specs.declared.output.finding.Serializability.{Serializability}
 use Rattle.si_engine.specs.declared.input.script.Script.{Script}
 use Rattle.prog_tree.specs.Tree.{draft_tree}
 use Rattle.prog_tree.specs.declared.program.Draft.{Draft}
@@ -59,7 +59,7 @@ module _ (set : DraftTree) (script : Script) (opening : TableState) (events : Li
 
   module _ (s t u : List ℕ) (d : DraftTree) (o : TableState) (history : List Instance) (same_set : d ≡ set) (same : o ≡ script.rows) (is_history : history ≡ history_of_run set script) (h : Adds (event_lines set opening events m) s t) where
     -- all lines of the events, and all that a history ends with
-    pub all_lines : (finding : Finding) → AddsEnd d o history finding t u → AddsRun set script finding s u
+    pub all_lines : (finding : Serializability) → AddsEnd d o history finding t u → AddsRun set script finding s u
     all_lines finding end = go (subst (λ i. AddsEnd set script.rows i finding t u) is_history (subst (λ p. AddsEnd set p history finding t u) same (subst (λ e. AddsEnd e o history finding t u) same_set end))) where
       go : AddsEnd set script.rows (history_of_run set script) finding t u → AddsRun set script finding s u
       go (last, found, added) = (
@@ -105,12 +105,12 @@ module _ (set : DraftTree) (left : Option (List ℕ)) where
       → ForInput left (λ part. IsRunOf set part written (Err (fault.Input input_fault.Memory)))
   run_stopped script written (part, can, is) first = (part, can, stopped script is written first)
 
-  pub run_done : (script : Script) (finding : Finding) (written : List ℕ) → ForInput left (λ part. IsScript set part script) → AddsRun set script finding [] written
+  pub run_done : (script : Script) (finding : Serializability) (written : List ℕ) → ForInput left (λ part. IsScript set part script) → AddsRun set script finding [] written
       → ForInput left (λ part. IsRunOf set part written (Ok finding))
   run_done script finding written (part, can, is) all = (part, can, done script is finding written all)
 
   -- what a run replies, whether or not the source failed
-  pub run_replies : (failed : Bool) (written : List ℕ) (ended : Result Finding ScriptFault)
+  pub run_replies : (failed : Bool) (written : List ℕ) (ended : Result Serializability ScriptFault)
       → (failed ≡ false → ForInput left (λ part. IsRunOf set part written ended)) → (failed ≡ true → IsUnreadRun written ended)
       → IsRunReply set left failed written ended
   run_replies false written ended run none = run refl

@@ -7,24 +7,24 @@ use Rattle.prog_tree.specs.Table.{TableState}
 use Rattle.history_book.specs.Dependencies.{depends}
 use Rattle.history_book.specs.History.{Instance}
 use Rattle.history_book.specs.Orders.{least_order, IsCycle}
-use Rattle.si_engine.specs.declared.output.finding.Finding.{Finding}
-use Rattle.si_engine.specs.declared.output.finding.Finding.TheVariants.{Order, Cycle}
+use Rattle.si_engine.specs.declared.output.finding.Serializability.{Serializability}
+use Rattle.si_engine.specs.declared.output.finding.Serializability.TheVariants.{Order, Cycle}
 
 -- commit numbers, each behind a space
 abbrev pub commits_text : List ℕ → List ℕ
 commits_text numbers = flat_map (λ n. codes " " ++ decimal n) numbers
 
 -- `order 2 1` or `cycle 1 2`; `order` alone where nothing was committed
-abbrev pub last_line : Finding → List ℕ → List ℕ
+abbrev pub last_line : Serializability → List ℕ → List ℕ
 last_line Order numbers = codes "order" ++ (commits_text numbers ++ codes "\n")
 last_line Cycle numbers = codes "cycle" ++ (commits_text numbers ++ codes "\n")
 
 -- the least serial order of a history, or a cycle of its commits
-abbrev pub IsFound : DraftTree → TableState → List Instance → Finding → List ℕ → Type 0
+abbrev pub IsFound : DraftTree → TableState → List Instance → Serializability → List ℕ → Type 0
 IsFound set opening h Order numbers = least_order (depends set opening h) (length h) ≡ Some numbers
 IsFound set opening h Cycle numbers = IsCycle (depends set opening h) numbers
 
 -- the last line after a history
-abbrev pub IsLastLine : DraftTree → TableState → List Instance → Finding → List ℕ → Type 0
+abbrev pub IsLastLine : DraftTree → TableState → List Instance → Serializability → List ℕ → Type 0
 IsLastLine set opening h finding line =
     (numbers : List ℕ) × IsFound set opening h finding numbers × (line ≡ last_line finding numbers)

@@ -13,5 +13,6 @@ pub mod RowLines
 pub mod Runs
 pub mod Sayings
 pub mod Script
+pub mod Texts
 pub mod View
 pub mod Writing

@@ -6,8 +6,8 @@ use Rattle.prog_tree.specs.Syntax.{DraftTree}
 use Rattle.prog_tree.specs.Table.{TableState}
 use Rattle.history_book.specs.History.{Instance, state_after}
 use Rattle.si_engine.specs.declared.event.Event.{Event}
-use Rattle.si_engine.specs.declared.output.finding.Finding.{Finding}
-use Rattle.si_engine.specs.declared.output.finding.Finding.TheVariants.{Order}
+use Rattle.si_engine.specs.declared.output.finding.Serializability.{Serializability}
+use Rattle.si_engine.specs.declared.output.finding.Serializability.TheVariants.{Order}
 use Rattle.si_engine.specs.declared.robust.run.Outcome.{Outcome}
 use Rattle.si_engine.specs.declared.input.script.Script.{Script}
 use Rattle.si_engine.specs.declared.input.script_fault.ScriptFault.{ScriptFault}
@@ -64,22 +64,22 @@ AddsFirst lines before after =
     (done : List (List ℕ)) × (rest : List (List ℕ)) × (lines ≡ done ++ rest) × Adds done before after
 
 -- after a history: the rows that are left, one line each, and the last line
-abbrev pub AddsEnd : DraftTree → TableState → List Instance → Finding → List ℕ → List ℕ → Type 0
+abbrev pub AddsEnd : DraftTree → TableState → List Instance → Serializability → List ℕ → List ℕ → Type 0
 AddsEnd set opening h finding before after =
     (last : List ℕ) × IsLastLine set opening h finding last
     × Adds (end_lines set opening h ++ last ∷ []) before after
 
 -- all lines of a script, and the last line
-abbrev pub AddsRun : DraftTree → Script → Finding → List ℕ → List ℕ → Type 0
+abbrev pub AddsRun : DraftTree → Script → Serializability → List ℕ → List ℕ → Type 0
 AddsRun set script finding before after =
     (last : List ℕ) × IsLastLine set script.rows (history_of_run set script) finding last
     × Adds (run_lines set script ++ last ∷ []) before after
 
 -- what a run of these bytes writes, and how it ends
-pub data IsRunOf (set : DraftTree) (part : List ℕ) : List ℕ → Result Finding ScriptFault → Type 0 where
+pub data IsRunOf (set : DraftTree) (part : List ℕ) : List ℕ → Result Serializability ScriptFault → Type 0 where
   -- all lines of the script that the bytes are, and the last line
   done :
-      (script : Script) → IsScript set part script → (finding : Finding) → (written : List ℕ) →
+      (script : Script) → IsScript set part script → (finding : Serializability) → (written : List ℕ) →
       AddsRun set script finding [] written → IsRunOf set part written (Ok finding)
   -- nothing, and the first fault
   refused : (f : ScriptFault) → IsScriptFault set part f → IsRunOf set part [] (Err f)
@@ -89,28 +89,28 @@ pub data IsRunOf (set : DraftTree) (part : List ℕ) : List ℕ → Result Findi
       AddsFirst (run_lines set script) [] written → IsRunOf set part written (Err (fault.Input input_fault.Memory))
 
 -- what a run of a source that failed writes, and how it ends
-pub data IsUnreadRun : List ℕ → Result Finding ScriptFault → Type 0 where
+pub data IsUnreadRun : List ℕ → Result Serializability ScriptFault → Type 0 where
   unread : IsUnreadRun [] (Err (fault.Input input_fault.ReadFault))
 
 -- what a run of a source writes, and how it ends: that of bytes that the source can give, or that it failed
 abbrev pub IsRunReply :
-    DraftTree → (left : Option (List ℕ)) → (failed : Bool) → List ℕ → Result Finding ScriptFault → Type 0
+    DraftTree → (left : Option (List ℕ)) → (failed : Bool) → List ℕ → Result Serializability ScriptFault → Type 0
 IsRunReply set left false written ended = ForInput left (λ part. IsRunOf set part written ended)
 IsRunReply set left true written ended = IsUnreadRun written ended
 
 -- and that of a run on a robust set, which ends in an order
 abbrev pub IsOrderedReply :
-    DraftTree → (left : Option (List ℕ)) → (failed : Bool) → List ℕ → Result Finding ScriptFault → Type 0
+    DraftTree → (left : Option (List ℕ)) → (failed : Bool) → List ℕ → Result Serializability ScriptFault → Type 0
 IsOrderedReply set left failed written ended =
     IsRunReply set left failed written ended × IfOk ended (λ finding. finding ≡ Order)
 
 -- A script is run from a source to a sink: the sink gets what such a run writes, and the run's end is told; or the sink
 -- failed, has some first of it, and that is told.
 abbrev pub IsScriptRun :
-    DraftTree → (left : Option (List ℕ)) → (failed lost : Bool) → (old new : Option (List ℕ)) → Result Finding ScriptFault → Type 0
+    DraftTree → (left : Option (List ℕ)) → (failed lost : Bool) → (old new : Option (List ℕ)) → Result Serializability ScriptFault → Type 0
 IsScriptRun set left failed lost old new ended = WritesOr (Err fault.WriteFault) (IsRunReply set left failed) lost old new ended
 
 -- and so on a robust set, where a run that ends well ends in an order
 abbrev pub IsRobustScriptRun :
-    DraftTree → (left : Option (List ℕ)) → (failed lost : Bool) → (old new : Option (List ℕ)) → Result Finding ScriptFault → Type 0
+    DraftTree → (left : Option (List ℕ)) → (failed lost : Bool) → (old new : Option (List ℕ)) → Result Serializability ScriptFault → Type 0
 IsRobustScriptRun set left failed lost old new ended = WritesOr (Err fault.WriteFault) (IsOrderedReply set left failed) lost old new ended

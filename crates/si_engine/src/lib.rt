@@ -26,7 +26,7 @@ pub use input::script::{Script, read_script};
 pub use input::script_fault::{LineFault, ScriptFault};
 pub use input::source::{DeviceFault, InputFault, Source, read_whole};
 pub use limits::{MAX_BYTES, MAX_EVENTS, MAX_INSTANCE, MAX_READS, MAX_STEPS};
-pub use output::finding::{Finding, push_findings, push_findings_before, push_rows};
+pub use output::finding::{Serializability, push_findings, push_findings_before, push_rows};
 pub use output::sink::{Sink, write_whole};
 pub use port::Port;
 pub use robust::laws::{

@@ -5,8 +5,8 @@ use crate::input::source::{DeviceFault, Source};
 use crate::output::sink::Sink;
 use std::io::{Read, Write};
 
-/// A reader or a writer. After a fault it keeps failing, and so it does where its answered pulls
-/// can't be counted on.
+/// A reader or a writer. After a fault it keeps failing and lets the device alone, and so it does
+/// where its answered pulls can't be counted on.
 #[derive(Drop)]
 pub struct Port<T> {
     inner: T,
@@ -17,6 +17,7 @@ pub struct Port<T> {
 impl<T> Port<T> {
     pub fn new(inner: T) -> Port<T>
         ensures inner { result.inner ≡ inner }
+        ensures pulls { result.pulls ≡ 0 }
         ensures whole { result.broken ≡ false }
     {
         Port {
@@ -42,7 +43,10 @@ impl<T: Read> Source for Port<T> {
     ghost pulls = { λ p. p.pulls };
 
     fn pull(&mut self, buffer: &mut [u8]) -> Result<usize, DeviceFault> {
-        if self.broken || self.pulls == u64::MAX {
+        if self.broken {
+            return Err(DeviceFault);
+        }
+        if self.pulls == u64::MAX {
             self.broken = true;
             return Err(DeviceFault);
         }

@@ -13,7 +13,7 @@ use crate::input::script::{Script, read_script};
 use crate::input::script_fault::ScriptFault;
 use crate::input::source::Source;
 use crate::limits::MAX_READS;
-use crate::output::finding::{Finding, push_findings_before};
+use crate::output::finding::{Serializability, push_findings_before};
 use crate::output::printed::push_reply_line;
 use crate::output::sink::{Sink, write_whole};
 use crate::witness::{NoWitness, Witness};
@@ -56,7 +56,7 @@ fn push_lines<W: Witness>(
     script: Script,
     out: &mut String,
     witness: &mut W,
-) -> Result<Finding, AllocError>
+) -> Result<Serializability, AllocError>
     ensures ok { IfOk result (λ finding. AddsRun (draft_tree set.now) script finding
         (string_bytes out.old) (string_bytes out.new)) }
     ensures err { OnErr result (AddsFirst (run_lines (draft_tree set.now) script)
@@ -76,7 +76,7 @@ fn run_source<S: Source, W: Witness>(
     source: &mut S,
     out: &mut String,
     witness: &mut W,
-) -> Result<Finding, ScriptFault>
+) -> Result<Serializability, ScriptFault>
     requires { string_bytes out.old ≡ [] }
     ensures run { S.has_failed source.new ≡ false
         → ForInput (S.left source.old) (λ part.
@@ -92,8 +92,8 @@ fn run_source<S: Source, W: Witness>(
 pub(crate) fn write_end<K: Sink>(
     sink: &mut K,
     bytes: &[u8],
-    ended: Result<Finding, ScriptFault>,
-) -> Result<Finding, ScriptFault>
+    ended: Result<Serializability, ScriptFault>,
+) -> Result<Serializability, ScriptFault>
     ensures { WritesOr (Err ScriptFault.WriteFault) (IsJust bytes.now ended)
         (K.has_failed sink.new) (K.taken sink.old) (K.taken sink.new) result }
 {
@@ -110,7 +110,7 @@ pub fn run_script_before<S: Source, K: Sink, W: Witness>(
     source: &mut S,
     sink: &mut K,
     witness: &mut W,
-) -> Result<Finding, ScriptFault>
+) -> Result<Serializability, ScriptFault>
     ensures run { IsScriptRun (draft_tree set.now) (S.left source.old) (S.has_failed source.new)
         (K.has_failed sink.new) (K.taken sink.old) (K.taken sink.new) result }
     ensures reads { S.pulls source.new ≤ S.pulls source.old + MAX_READS }
@@ -128,7 +128,7 @@ pub fn run_script<S: Source, K: Sink>(
     set: &ProgramSet,
     source: &mut S,
     sink: &mut K,
-) -> Result<Finding, ScriptFault>
+) -> Result<Serializability, ScriptFault>
     ensures run { IsScriptRun (draft_tree set.now) (S.left source.old) (S.has_failed source.new)
         (K.has_failed sink.new) (K.taken sink.old) (K.taken sink.new) result }
     ensures reads { S.pulls source.new ≤ S.pulls source.old + MAX_READS }

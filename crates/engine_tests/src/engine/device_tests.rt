@@ -3,7 +3,7 @@
 use crate::engine::fakes::{SlowSink, SlowSource};
 use example_sets::set_of;
 use prog_check::ProgramSet;
-use si_engine::{Bytes, Finding, InputFault, LineFault, Port, ScriptFault, run_script};
+use si_engine::{Bytes, InputFault, LineFault, Port, ScriptFault, Serializability, run_script};
 use std::alloc::Global;
 use std::process::Abort;
 use std::test::Fail;
@@ -32,7 +32,7 @@ vacuumed 0
 order 1
 ";
 
-type Ended = Result<Finding, ScriptFault>;
+type Ended = Result<Serializability, ScriptFault>;
 
 #[test]
 fn ports_are_devices(rt: HostRuntime) -> Result<(), Fail> {
@@ -40,7 +40,7 @@ fn ports_are_devices(rt: HostRuntime) -> Result<(), Fail> {
     let mut sink = Port::new(Vec::new(rt.alloc()));
     let ended = run_script(rt.alloc(), &set, &mut Port::new(LOOK), &mut sink);
     drop(set);
-    assert!(rt; ended == Ok(Finding::Order));
+    assert!(rt; ended == Ok(Serializability::Order));
     assert!(rt; sink.into_inner().as_slice() == LOOKED);
     Ok(())
 }
@@ -78,7 +78,7 @@ fn check_each_push(rt: &impl Abort, alloc: Global, set: &ProgramSet) {
 #[test]
 fn slow_devices_change_nothing_and_failing_ones_are_told(rt: HostRuntime) -> Result<(), Fail> {
     let set = set_of(rt.alloc(), SET)?;
-    let whole = (NEVER, NEVER, Ok(Finding::Order), LOOKED.len());
+    let whole = (NEVER, NEVER, Ok(Serializability::Order), LOOKED.len());
     check_run(&rt, rt.alloc(), &set, whole);
     check_each_pull(&rt, rt.alloc(), &set);
     check_each_push(&rt, rt.alloc(), &set);

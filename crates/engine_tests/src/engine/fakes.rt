@@ -31,7 +31,10 @@ impl Source for SlowSource<'_> {
     ghost pulls = { λ s. 2 ^ 64 - s.pulls_left };
 
     fn pull(&mut self, buffer: &mut [u8]) -> Result<usize, DeviceFault> {
-        if self.broken || self.pulls_left == 0 {
+        if self.broken {
+            return Err(DeviceFault);
+        }
+        if self.pulls_left == 0 {
             self.broken = true;
             return Err(DeviceFault);
         }
@@ -80,7 +83,10 @@ impl Sink for SlowSink {
     ghost has_failed = { λ s. s.broken };
 
     fn push(&mut self, bytes: &[u8]) -> Result<usize, DeviceFault> {
-        if self.broken || self.pushes_left == 0 {
+        if self.broken {
+            return Err(DeviceFault);
+        }
+        if self.pushes_left == 0 {
             self.broken = true;
             return Err(DeviceFault);
         }

@@ -2,7 +2,7 @@
 
 use example_sets::set_of;
 use history_book::Book;
-use si_engine::{Bytes, Event, Finding, Port, Reply, Witness, run_script_before};
+use si_engine::{Bytes, Event, Port, Reply, Serializability, Witness, run_script_before};
 use std::test::Fail;
 
 const SET: &str = "table duty 1;
@@ -56,7 +56,7 @@ fn a_witness_is_told_each_reply_and_the_cycle(rt: HostRuntime) -> Result<(), Fai
     let source = &mut Bytes::new(BOTH_LEAVE);
     let ended = run_script_before(alloc, &set, source, &mut sink, &mut listener);
     drop(set);
-    assert!(rt; ended == Ok(Finding::Cycle));
+    assert!(rt; ended == Ok(Serializability::Cycle));
     assert!(rt; listener.replies == 10 && listener.commits == 2);
     assert!(rt; listener.cycle.as_slice() == [1, 2].as_slice());
     Ok(())

@@ -35,6 +35,9 @@ impl Source for Bytes<'_> {
     ghost pulls = { λ s. s.pulls };
 
     fn pull(&mut self, buffer: &mut [u8]) -> Result<usize, DeviceFault> {
+        if self.broken {
+            return Err(DeviceFault);
+        }
         if self.pulls == u64::MAX {
             self.broken = true;
             return Err(DeviceFault);

@@ -2,32 +2,47 @@
 
 use crate::input::source::InputFault;
 use std::alloc::{AllocError, AllocFailed};
-use thiserror::Error;
+use std::error::Error;
+use std::fmt;
 
 /// What is wrong with a script, and in which line, from 1.
-#[derive(Clone, Copy, Debug, PartialEq, Eq, Error)]
+#[derive(Clone, Copy, Debug, PartialEq, Eq)]
 pub enum LineFault {
     /// The line has none of the known forms, or a number is none or outside its range.
-    #[error("S1 line {line}")]
     BadLine { line: usize },
     /// A table or a program is unknown.
-    #[error("S2 line {line}")]
     UnknownName { line: usize },
     /// A row has another number of keys than its table has key columns.
-    #[error("S3 line {line}")]
     WrongKeys { line: usize },
     /// A row stands behind a line of another kind.
-    #[error("S4 line {line}")]
     LateRow { line: usize },
     /// An earlier row has the cell.
-    #[error("S5 line {line}")]
     RepeatedRow { line: usize },
     /// The line brings the events above 1,000,000.
-    #[error("S6 line {line}")]
     TooManyEvents { line: usize },
-    #[error("memory")]
     Memory,
 }
+
+impl fmt::Display for LineFault {
+    ghost use Rattle.std.specs.Prelude.{Some};
+    ghost use Rattle.si_engine.specs.Texts.{line_fault_text};
+
+    ghost output = { λ fault. Some (line_fault_text fault) };
+
+    fn fmt<W: fmt::Write>(&self, f: &mut fmt::Formatter<W>) -> fmt::Result {
+        match self {
+            LineFault::BadLine { line } => write!(f, "S1 line {line}"),
+            LineFault::UnknownName { line } => write!(f, "S2 line {line}"),
+            LineFault::WrongKeys { line } => write!(f, "S3 line {line}"),
+            LineFault::LateRow { line } => write!(f, "S4 line {line}"),
+            LineFault::RepeatedRow { line } => write!(f, "S5 line {line}"),
+            LineFault::TooManyEvents { line } => write!(f, "S6 line {line}"),
+            LineFault::Memory => f.write_str("memory"),
+        }
+    }
+}
+
+impl Error for LineFault {}
 
 /// Why a script is not read, or not run.
 #[derive(Clone, Copy, Debug, PartialEq, Eq)]

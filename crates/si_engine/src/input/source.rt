@@ -21,10 +21,12 @@ pub trait Source {
     ghost pulls: { Self → ℕ };
 
     /// Some bytes, at the front of the buffer. None only at the end, or where the buffer is empty.
+    /// A source that has failed keeps failing, and stays as it is.
     fn pull(&mut self, buffer: &mut [u8]) -> Result<usize, DeviceFault>
         ensures bound { IfOk result (λ n. n ≤ length buffer.new) }
         ensures bytes { ReadConsumes (left self.old) (left self.new) result buffer.new }
         ensures fault { IsErr result ↔ (has_failed self.new ≡ true) }
+        ensures stays { has_failed self.old ≡ true → self.new ≡ self.old }
         ensures counted { OnOk result (pulls self.new ≡ pulls self.old + 1) }
         ensures uncounted { OnErr result (pulls self.new ≡ pulls self.old) };
 

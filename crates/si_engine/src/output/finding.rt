@@ -13,7 +13,7 @@ use std::alloc::AllocError;
 
 /// What the last line says of the commits of a book.
 #[derive(Clone, Copy, Debug, PartialEq, Eq)]
-pub enum Finding {
+pub enum Serializability {
     /// They have a serial order.
     Order,
     /// Some of them form a cycle of dependencies.
@@ -38,7 +38,7 @@ fn push_order<W: Witness>(
     book: &Book<'_>,
     out: &mut String,
     witness: &mut W,
-) -> Result<Finding, AllocError>
+) -> Result<Serializability, AllocError>
     ensures ok { IfOk result (λ finding. (last : List ℕ)
         × IsLastLine (draft_tree book.now.set) book.now.opening (history_of book.now.rows)
         finding last
@@ -47,13 +47,13 @@ fn push_order<W: Witness>(
 {
     match book.serial_order() {
         Ok(order) => {
-            push_last_line(out, Finding::Order, &order)?;
-            Ok(Finding::Order)
+            push_last_line(out, Serializability::Order, &order)?;
+            Ok(Serializability::Order)
         }
         Err(OrderFault::Cycle(cycle)) => {
-            push_last_line(out, Finding::Cycle, &cycle)?;
+            push_last_line(out, Serializability::Cycle, &cycle)?;
             witness.cycle(book, &cycle);
-            Ok(Finding::Cycle)
+            Ok(Serializability::Cycle)
         }
         Err(OrderFault::Memory) => Err(AllocError),
     }
@@ -64,7 +64,7 @@ pub fn push_findings_before<W: Witness>(
     book: &Book<'_>,
     out: &mut String,
     witness: &mut W,
-) -> Result<Finding, AllocError>
+) -> Result<Serializability, AllocError>
     ensures ok { IfOk result (λ finding. AddsEnd (draft_tree book.now.set) book.now.opening
         (history_of book.now.rows) finding (string_bytes out.old) (string_bytes out.new)) }
     ensures err { OnErr result (AddsFirst (end_lines (draft_tree book.now.set) book.now.opening
@@ -77,7 +77,7 @@ pub fn push_findings_before<W: Witness>(
 
 /// Adds the line of each row of a book's table, and then the last line. Where memory runs out, some
 /// first lines of rows were added.
-pub fn push_findings(book: &Book<'_>, out: &mut String) -> Result<Finding, AllocError>
+pub fn push_findings(book: &Book<'_>, out: &mut String) -> Result<Serializability, AllocError>
     ensures ok { IfOk result (λ finding. AddsEnd (draft_tree book.now.set) book.now.opening
         (history_of book.now.rows) finding (string_bytes out.old) (string_bytes out.new)) }
     ensures err { OnErr result (AddsFirst (end_lines (draft_tree book.now.set) book.now.opening

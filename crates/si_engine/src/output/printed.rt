@@ -9,7 +9,7 @@ ghost use Rattle.si_engine.specs.Printed.{deed_text, cause_text, reply_text, sub
 ghost use Rattle.si_engine.specs.Writing.{AddsOrStays, Writes};
 
 use crate::event::{Event, Reply};
-use crate::output::finding::Finding;
+use crate::output::finding::Serializability;
 use crate::output::pieces::{
     push_behind, push_found, push_mark, push_number, push_numbers, push_with_cell,
     push_with_number, push_word, table_head,
@@ -221,19 +221,23 @@ fn write_numbers_line(text: &mut String, word: &str, numbers: &[usize]) -> Resul
     push_mark(text, '\n')
 }
 
-fn write_last_line(text: &mut String, finding: Finding, numbers: &[usize]) -> Result<(), AllocError>
+fn write_last_line(
+    text: &mut String,
+    finding: Serializability,
+    numbers: &[usize],
+) -> Result<(), AllocError>
     ensures { Writes text.old text.new result (last_line finding numbers.now) }
 {
     match finding {
-        Finding::Order => write_numbers_line(text, "order", numbers),
-        Finding::Cycle => write_numbers_line(text, "cycle", numbers),
+        Serializability::Order => write_numbers_line(text, "order", numbers),
+        Serializability::Cycle => write_numbers_line(text, "cycle", numbers),
     }
 }
 
 /// Adds the last line of a run or an audit; a text without memory for the line stays as it is.
 pub fn push_last_line(
     text: &mut String,
-    finding: Finding,
+    finding: Serializability,
     numbers: &[usize],
 ) -> Result<(), AllocError>
     ensures { AddsOrStays text.old text.new result (last_line finding numbers.now) }

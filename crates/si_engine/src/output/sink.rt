@@ -12,12 +12,14 @@ pub trait Sink {
 
     ghost has_failed: { Self → Bool };
 
-    /// Takes some bytes from the front, at least one of them where there is one.
+    /// Takes some bytes from the front, at least one of them where there is one. A sink that has
+    /// failed keeps failing, and stays as it is.
     fn push(&mut self, bytes: &[u8]) -> Result<usize, DeviceFault>
         ensures bound { IfOk result (λ n. n ≤ length bytes.now) }
         ensures some { IfOk result (λ n. 0 < length bytes.now → 0 < n) }
         ensures bytes { WriteAppends (taken self.old) (taken self.new) result bytes.now }
-        ensures fault { IsErr result ↔ (has_failed self.new ≡ true) };
+        ensures fault { IsErr result ↔ (has_failed self.new ≡ true) }
+        ensures stays { has_failed self.old ≡ true → self.new ≡ self.old };
 
     fn failed(&self) -> bool
         ensures { result ≡ has_failed self.now };

@@ -11,7 +11,7 @@ use crate::input::script::{Script, read_script};
 use crate::input::script_fault::ScriptFault;
 use crate::input::source::Source;
 use crate::limits::MAX_READS;
-use crate::output::finding::{Finding, push_rows};
+use crate::output::finding::{Serializability, push_rows};
 use crate::output::printed::{push_last_line, push_reply_line};
 use crate::output::sink::Sink;
 use crate::robust::run::{Outcome, run_robust_before};
@@ -48,7 +48,7 @@ fn list_outcome(
 ) -> Result<(), AllocError>
     ensures ok { OnOk result (Adds
         (outcome_lines (draft_tree set.now) events.now outcome.now
-        ++ last_line Finding.Order outcome.now.order ∷ [])
+        ++ last_line Serializability.Order outcome.now.order ∷ [])
         (string_bytes out.old) (string_bytes out.new)) }
     ensures err { OnErr result (AddsFirst
         (outcome_lines (draft_tree set.now) events.now outcome.now)
@@ -56,7 +56,7 @@ fn list_outcome(
 {
     list_replies(&set.tables, events, outcome.replies.as_slice(), out)?;
     push_rows(set, &outcome.table, out)?;
-    push_last_line(out, Finding::Order, outcome.order.as_slice())
+    push_last_line(out, Serializability::Order, outcome.order.as_slice())
 }
 
 // Adds the lines of a script, and the order. Where memory runs out, some first lines before that
@@ -68,7 +68,7 @@ fn push_lines<W: Witness>(
     out: &mut String,
     witness: &mut W,
 ) -> Result<(), AllocError>
-    ensures ok { OnOk result (AddsRun (draft_tree set.now) script Finding.Order
+    ensures ok { OnOk result (AddsRun (draft_tree set.now) script Serializability.Order
         (string_bytes out.old) (string_bytes out.new)) }
     ensures err { OnErr result (AddsFirst (run_lines (draft_tree set.now) script)
         (string_bytes out.old) (string_bytes out.new)) }
@@ -85,18 +85,18 @@ fn run_source<S: Source, W: Witness>(
     source: &mut S,
     out: &mut String,
     witness: &mut W,
-) -> Result<Finding, ScriptFault>
+) -> Result<Serializability, ScriptFault>
     requires { string_bytes out.old ≡ [] }
     ensures run { S.has_failed source.new ≡ false
         → ForInput (S.left source.old) (λ part.
         IsRunOf (draft_tree set.now) part (string_bytes out.new) result) }
     ensures unread { S.has_failed source.new ≡ true → IsUnreadRun (string_bytes out.new) result }
     ensures reads { S.pulls source.new ≤ S.pulls source.old + MAX_READS }
-    ensures order { IfOk result (λ finding. finding ≡ Finding.Order) }
+    ensures order { IfOk result (λ finding. finding ≡ Serializability.Order) }
 {
     let script = read_script(alloc, set.set(), source)?;
     push_lines(alloc, set, script, out, witness)?;
-    Ok(Finding::Order)
+    Ok(Serializability::Order)
 }
 
 /// As `run_robust_script`, before a witness, which is told each reply.
@@ -106,7 +106,7 @@ pub fn run_robust_script_before<S: Source, K: Sink, W: Witness>(
     source: &mut S,
     sink: &mut K,
     witness: &mut W,
-) -> Result<Finding, ScriptFault>
+) -> Result<Serializability, ScriptFault>
     ensures run { IsRobustScriptRun (draft_tree set.now)
         (S.left source.old) (S.has_failed source.new)
         (K.has_failed sink.new) (K.taken sink.old) (K.taken sink.new) result }
@@ -123,7 +123,7 @@ pub fn run_robust_script<S: Source, K: Sink>(
     set: &RobustSet,
     source: &mut S,
     sink: &mut K,
-) -> Result<Finding, ScriptFault>
+) -> Result<Serializability, ScriptFault>
     ensures run { IsRobustScriptRun (draft_tree set.now)
         (S.left source.old) (S.has_failed source.new)
         (K.has_failed sink.new) (K.taken sink.old) (K.taken sink.new) result }

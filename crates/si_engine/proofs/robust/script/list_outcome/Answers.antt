@@ -2,7 +2,7 @@ use Rattle.std.proofs.Common.{◌≡◌, List, ℕ, ◌++◌, ◌∙◌, ap, sub
 use Rattle.std.specs.List.{zip}
 use Rattle.std.proofs.lemmas.Result.{err_from_is_err_and}
 use Rattle.prog_tree.specs.Tree.{draft_tree}
-use Rattle.si_engine.specs.declared.output.finding.Finding.TheVariants.{Order}
+use Rattle.si_engine.specs.declared.output.finding.Serializability.TheVariants.{Order}
 use Rattle.si_engine.specs.LastLine.{last_line}
 use Rattle.si_engine.specs.Runs.{exchange_lines, row_lines, Adds, AddsFirst}
 use Rattle.si_engine.proofs.OutputLaws.{adds_all, adds_both, adds_line, adds_behind, adds_first_of}

@@ -4,7 +4,7 @@ use Rattle.prog_tree.specs.declared.program.Draft.{Draft}
 use Rattle.prog_tree.specs.Tree.{draft_tree}
 use Rattle.si_engine.specs.Reading.{ForInput}
 use Rattle.si_engine.specs.Script.{IsScript, IsScriptFault}
-use Rattle.si_engine.specs.declared.output.finding.Finding.TheVariants.{Order}
+use Rattle.si_engine.specs.declared.output.finding.Serializability.TheVariants.{Order}
 use Rattle.si_engine.specs.Runs.{run_lines, AddsFirst, AddsRun}
 use Rattle.si_engine.specs.declared.input.script_fault.ScriptFault.TheVariants as fault
 use Rattle.si_engine.specs.declared.input.source.InputFault.TheVariants as input_fault
