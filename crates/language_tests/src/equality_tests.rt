@@ -97,33 +97,38 @@ const REGION: Region = Region {
     second_high: 4,
 };
 
-/// Regions that have another table or another end.
-const OTHER_REGIONS: [Region; 5] = [
-    Region { table: 1, ..REGION },
-    Region {
+/// Whether regions are the same that have another table or another end.
+fn are_others_the_same() -> [bool; 5] {
+    let table = Region { table: 1, ..REGION };
+    let first_low = Region {
         first_low: 0,
         ..REGION
-    },
-    Region {
+    };
+    let first_high = Region {
         first_high: 4,
         ..REGION
-    },
-    Region {
+    };
+    let second_low = Region {
         second_low: 3,
         ..REGION
-    },
-    Region {
+    };
+    let second_high = Region {
         second_high: 3,
         ..REGION
-    },
-];
+    };
+    [
+        REGION.is_same(&table),
+        REGION.is_same(&first_low),
+        REGION.is_same(&first_high),
+        REGION.is_same(&second_low),
+        REGION.is_same(&second_high),
+    ]
+}
 
 #[test]
 fn regions_are_the_same_by_table_and_ends(rt: HostRuntime) {
     assert!(rt; REGION.is_same(&REGION));
-    for other in OTHER_REGIONS {
-        assert!(rt; !REGION.is_same(&other), "{other:?}");
-    }
+    assert!(rt; are_others_the_same() == [false; 5]);
 }
 
 #[test]

@@ -1,5 +1,7 @@
 //! The reading of texts for people: words and signs, lines and columns, and where things begin.
 
+use std::alloc::{AllocError, Global};
+use std::process::Abort;
 use std::test::Fail;
 use text_places::{
     SetText, as_text, before, begins_token, begins_word, behind, behind_word, column, end_before,
@@ -8,26 +10,23 @@ use text_places::{
     stands_free, statement_place, table_name, table_place, visible_text, without_comments,
 };
 
+/// What is cut out of a text: its first word, what is behind that, and its first, second and last
+/// token.
+fn cut_out(text: &[u8]) -> [&str; 5] {
+    [
+        as_text(first_word(text)),
+        as_text(behind_word(text)),
+        as_text(first_token(text)),
+        as_text(second_token(text)),
+        as_text(last_token(text)),
+    ]
+}
+
 #[test]
 fn words_and_signs_are_cut_out(rt: HostRuntime) {
-    for (text, word, others, first, second, last) in [
-        ("put t[k] = v", "put", "t[k] = v", "put", "t", "v"),
-        ("..9]", "", "..9]", "..", "9", "]"),
-        ("k_2", "k_2", "", "k_2", "", "k_2"),
-    ] {
-        let bytes = text.as_bytes();
-        assert!(rt; as_text(first_word(bytes)) == word, "{text}: first word");
-        assert!(rt;
-            as_text(behind_word(bytes)) == others,
-            "{text}: behind the first word"
-        );
-        assert!(rt; as_text(first_token(bytes)) == first, "{text}: first token");
-        assert!(rt;
-            as_text(second_token(bytes)) == second,
-            "{text}: second token"
-        );
-        assert!(rt; as_text(last_token(bytes)) == last, "{text}: last token");
-    }
+    assert!(rt; cut_out(b"put t[k] = v") == ["put", "t[k] = v", "put", "t", "v"]);
+    assert!(rt; cut_out(b"..9]") == ["", "..9]", "..", "9", "]"]);
+    assert!(rt; cut_out(b"k_2") == ["k_2", "", "k_2", "", "k_2"]);
 }
 
 #[test]
@@ -40,37 +39,54 @@ fn names_are_cut_out(rt: HostRuntime) {
 /// Two lines, the second inset by two spaces.
 const LINES: &str = "table t 1;\n  get u[7]\n";
 
+/// A place's line, by its number, the place's column in it, and the line's text.
+fn line_of(text: &[u8], place: usize) -> (usize, usize, &str) {
+    (
+        line_number(text, place),
+        column(text, place),
+        as_text(line_at(text, place)),
+    )
+}
+
 #[test]
 fn places_have_lines_and_columns(rt: HostRuntime) {
     let text = LINES.as_bytes();
-    for (place, number, at, line) in [
-        (0, 1, 1, "table t 1;"),
-        (10, 1, 11, "table t 1;"),
-        (11, 2, 1, "  get u[7]"),
-        (17, 2, 7, "  get u[7]"),
-        (22, 3, 1, ""),
-    ] {
-        assert!(rt; line_number(text, place) == number, "{place}: line");
-        assert!(rt; column(text, place) == at, "{place}: column");
-        assert!(rt; as_text(line_at(text, place)) == line, "{place}: its line");
-    }
+    assert!(rt; line_of(text, 0) == (1, 1, "table t 1;"));
+    assert!(rt; line_of(text, 10) == (1, 11, "table t 1;"));
+    assert!(rt; line_of(text, 11) == (2, 1, "  get u[7]"));
+    assert!(rt; line_of(text, 17) == (2, 7, "  get u[7]"));
+    assert!(rt; line_of(text, 22) == (3, 1, ""));
+}
+
+/// Whether a place stands free, and whether a word or a token begins there.
+fn beginnings(text: &[u8], place: usize) -> [bool; 3] {
+    [
+        stands_free(text, place),
+        begins_word(text, place),
+        begins_token(text, place),
+    ]
 }
 
 #[test]
 fn words_and_signs_begin_at_places(rt: HostRuntime) {
     let text = LINES.as_bytes();
-    for (place, is_free, begins_a_word, begins_one) in [
-        (13, true, true, true),
-        (14, false, false, false),
-        (16, false, false, false),
-        (18, false, false, true),
-        (19, true, true, true),
-        (22, true, false, false),
-    ] {
-        assert!(rt; stands_free(text, place) == is_free, "{place}: free");
-        assert!(rt; begins_word(text, place) == begins_a_word, "{place}: word");
-        assert!(rt; begins_token(text, place) == begins_one, "{place}: token");
-    }
+    assert!(rt; beginnings(text, 13) == [true, true, true]);
+    assert!(rt; beginnings(text, 14) == [false, false, false]);
+    assert!(rt; beginnings(text, 16) == [false, false, false]);
+    assert!(rt; beginnings(text, 18) == [false, false, true]);
+    assert!(rt; beginnings(text, 19) == [true, true, true]);
+    assert!(rt; beginnings(text, 22) == [true, false, false]);
+}
+
+/// Where the first lines begin, by their numbers from 0.
+fn fronts(text: &[u8]) -> [Option<usize>; 5] {
+    [
+        line_front(text, 0),
+        line_front(text, 1),
+        line_front(text, 2),
+        line_front(text, 3),
+        line_front(text, 4),
+    ]
 }
 
 #[test]
@@ -80,15 +96,7 @@ fn lines_begin_behind_line_feeds(rt: HostRuntime) {
     assert!(rt; ends_line(text));
     assert!(rt; !ends_line(before(text, 10)));
     assert!(rt; as_text(behind(text, 13)) == "get u[7]\n");
-    for (line, front) in [
-        (0, None),
-        (1, Some(0)),
-        (2, Some(11)),
-        (3, Some(22)),
-        (4, None),
-    ] {
-        assert!(rt; line_front(text, line) == front, "line {line}");
-    }
+    assert!(rt; fronts(text) == [None, Some(0), Some(11), Some(22), None]);
 }
 
 /// A set with comments.
@@ -102,49 +110,59 @@ program Look(k) {
 program Set(k, v) { put u[k] = v; }
 ";
 
+/// Where the table and the program of a number begin.
+fn places(alloc: Global, text: &[u8], number: usize) -> Result<[Option<usize>; 2], AllocError> {
+    let table = table_place(alloc, text, number)?;
+    let program = program_place(alloc, text, number)?;
+    Ok([table, program])
+}
+
 #[test]
-fn tables_programs_and_lines_of_lists_are_found(rt: HostRuntime) -> Result<(), Fail> {
+fn tables_and_programs_are_found(rt: HostRuntime) {
     let text = SET.as_bytes();
-    for (number, table, program) in [
-        (0, Some(15), Some(37)),
-        (1, Some(26), Some(113)),
-        (2, None, None),
-    ] {
-        assert!(rt;
-            table_place(rt.alloc(), text, number)? == table,
-            "table {number}"
-        );
-        assert!(rt;
-            program_place(rt.alloc(), text, number)? == program,
-            "program {number}"
-        );
-    }
+    assert!(rt; places(rt.alloc(), text, 0) == Ok([Some(15), Some(37)]));
+    assert!(rt; places(rt.alloc(), text, 1) == Ok([Some(26), Some(113)]));
+    assert!(rt; places(rt.alloc(), text, 2) == Ok([None, None]));
+}
+
+#[test]
+fn lines_of_lists_are_found(rt: HostRuntime) {
     assert!(rt; record_place(b"# rows\nrecord Look 1 at 0 gives\n", 0) == Some(7));
     assert!(rt; job_place(b"job Look 1\n job Set 1 2\n", 0, 1) == Some(12));
     assert!(rt; job_place(b"job Look 1\n job Set 1 2\n", 11, 0) == Some(12));
+}
+
+/// Statements, each by its program and its number there, and where they begin.
+const STATEMENTS: [(usize, usize, Option<usize>); 5] = [
+    (0, 0, Some(57)),
+    (0, 1, Some(85)),
+    (1, 0, Some(133)),
+    (1, 1, None),
+    (2, 0, None),
+];
+
+fn check_statements(rt: &impl Abort, set: &SetText<'_>) {
+    for (program, statement, place) in &STATEMENTS {
+        let found = set.statement_place(*program, *statement);
+        assert!(rt; found == *place, "{program} {statement}");
+    }
+}
+
+#[test]
+fn statements_of_a_set_are_found(rt: HostRuntime) -> Result<(), AllocError> {
+    let set = SetText::new(rt.alloc(), SET.as_bytes())?;
+    assert!(rt; set.bytes() == SET.as_bytes());
+    check_statements(&rt, &set);
+    drop(set);
     Ok(())
 }
 
 #[test]
-fn statements_are_found(rt: HostRuntime) -> Result<(), Fail> {
-    let set = SetText::new(rt.alloc(), SET.as_bytes())?;
-    assert!(rt; set.bytes() == SET.as_bytes());
-    for (program, statement, place) in [
-        (0, 0, Some(57)),
-        (0, 1, Some(85)),
-        (1, 0, Some(133)),
-        (1, 1, None),
-        (2, 0, None),
-    ] {
-        assert!(rt;
-            set.statement_place(program, statement) == place,
-            "{program} {statement}"
-        );
-        let found = statement_place(rt.alloc(), SET.as_bytes(), program, statement)?;
-        assert!(rt; found == place, "{program} {statement} alone");
+fn statements_are_found_alone(rt: HostRuntime) {
+    for (program, statement, place) in &STATEMENTS {
+        let found = statement_place(rt.alloc(), SET.as_bytes(), *program, *statement);
+        assert!(rt; found == Ok(*place), "{program} {statement}");
     }
-    drop(set);
-    Ok(())
 }
 
 #[test]
@@ -159,13 +177,23 @@ fn comments_are_read_as_blanks(rt: HostRuntime) -> Result<(), Fail> {
 }
 
 #[test]
-fn lists_and_places_are_told(rt: HostRuntime) -> Result<(), Fail> {
+fn words_are_listed(rt: HostRuntime) {
     let mut list = String::new(rt.alloc());
-    push_listed(&mut list, "t")?;
-    push_listed(&mut list, "u")?;
+    push_listed(&mut list, "t").expect(&rt, "memory");
+    push_listed(&mut list, "u").expect(&rt, "memory");
     assert!(rt; list.as_str() == "t, u");
+}
+
+#[test]
+fn places_are_pointed_out(rt: HostRuntime) -> Result<(), AllocError> {
     let told = point_out(rt.alloc(), LINES.as_bytes(), 17, "no table u")?;
     assert!(rt; told.as_str() == "line 2, column 7: no table u\n    get u[7]\n        ^\n");
-    assert!(rt; visible_text(rt.alloc(), b"t\x1b[2m\xc3\tu")?.as_str() == "t?[2m? u");
+    Ok(())
+}
+
+#[test]
+fn what_a_terminal_would_obey_is_made_visible(rt: HostRuntime) -> Result<(), AllocError> {
+    let shown = visible_text(rt.alloc(), b"t\x1b[2m\xc3\tu")?;
+    assert!(rt; shown.as_str() == "t?[2m? u");
     Ok(())
 }

@@ -102,33 +102,24 @@ fn lines_come_to_their_values(rt: HostRuntime) -> Result<(), Fail> {
     checked
 }
 
-/// What a name has where it is bound to 1, then to 3, and behind the cut of the second, and how
-/// many bindings are left there.
-type Bound = (Option<i64>, Option<i64>, usize);
-
-fn bound_twice(alloc: Global, name: &Name, same: &Name) -> Result<Bound, AllocError> {
+/// A name is bound to 1, then to 3, and its copy is asked for, behind the cut of the second too.
+fn check_bindings(rt: &impl Abort, alloc: Global, name: &Name, same: &Name) {
     let mut env = Env::new(alloc);
-    env.bind(name, 1)?;
-    env.bind(name, 3)?;
-    let last = env.get(same);
+    env.bind(name, 1).expect(rt, "memory");
+    env.bind(name, 3).expect(rt, "memory");
+    assert!(rt; env.get(same) == Some(3));
     env.cut(1);
-    Ok((last, env.get(same), env.len()))
-}
-
-/// The same of a name and of its copy, and whether the copy is `x` too.
-fn bound_and_copied(alloc: Global, name: &Name) -> Result<(Bound, bool), AllocError> {
-    let same = name.copy()?;
-    let is_copied = same.as_str() == "x";
-    let bound = bound_twice(alloc, name, &same);
-    drop(same);
-    Ok((bound?, is_copied))
+    assert!(rt; env.get(same) == Some(1));
+    assert!(rt; env.len() == 1);
+    drop(env);
 }
 
 #[test]
-fn the_last_binding_of_a_name_counts(rt: HostRuntime) -> Result<(), AllocError> {
-    let x = Name::new(rt.alloc(), "x")?;
-    let bound = bound_and_copied(rt.alloc(), &x);
+fn the_last_binding_of_a_name_counts(rt: HostRuntime) {
+    let x = Name::new(rt.alloc(), "x").expect(&rt, "memory");
+    let same = x.copy().expect(&rt, "memory");
+    assert!(rt; same.as_str() == "x");
+    check_bindings(&rt, rt.alloc(), &x, &same);
+    drop(same);
     drop(x);
-    assert!(rt; bound? == ((Some(3), Some(1), 1), true));
-    Ok(())
 }

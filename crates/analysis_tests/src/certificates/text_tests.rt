@@ -6,9 +6,8 @@ use prog_tree::Sequence;
 use robust_cert::{
     Certificate, Chain, Entries, JsonFault, Question, Reason, Told, from_json, to_json,
 };
-use std::alloc::Global;
+use std::alloc::{AllocError, Global};
 use std::process::Abort;
-use std::test::Fail;
 
 /// A set without programs.
 const EMPTY: &str = "{\"entries\":[],\"levels\":[],\"version\":1}";
@@ -226,23 +225,20 @@ fn certificates_are_written_as_they_were_read(rt: HostRuntime) {
     }
 }
 
-fn chain(alloc: Global, nodes: [Node; 2]) -> Result<Chain, Fail> {
-    let nodes = Vec::from_array(alloc, nodes)?;
-    match Chain::from_vec(nodes) {
-        Some(chain) => Ok(chain),
-        None => Err(Fail::new("a number that no text can say")),
-    }
+fn chain(rt: &impl Abort, alloc: Global, nodes: [Node; 2]) -> Chain {
+    let nodes = Vec::from_array(alloc, nodes).expect(rt, "memory");
+    Chain::from_vec(nodes).expect(rt, "numbers that a text can say")
 }
 
 /// The chains of a cover, from a node of mine to one of theirs and back.
-fn chains(alloc: Global, mine: Node, theirs: Node) -> Result<Sequence<Chain>, Fail> {
-    let there = chain(alloc, [mine, theirs])?;
-    let back = chain(alloc, [theirs, mine])?;
-    Ok(Sequence::from_vec(Vec::from_array(alloc, [there, back])?))
+fn chains(rt: &impl Abort, alloc: Global, mine: Node, theirs: Node) -> Sequence<Chain> {
+    let there = chain(rt, alloc, [mine, theirs]);
+    let back = chain(rt, alloc, [theirs, mine]);
+    Sequence::from_vec(Vec::from_array(alloc, [there, back]).expect(rt, "memory"))
 }
 
 /// The only entry of the certificate of the report set.
-fn report_entries(alloc: Global) -> Result<Entries, Fail> {
+fn report_entries(rt: &impl Abort, alloc: Global) -> Entries {
     let question = Question {
         x: 2,
         a: 2,
@@ -252,31 +248,32 @@ fn report_entries(alloc: Global) -> Result<Entries, Fail> {
     let reason = Reason::Cover {
         mine: 0,
         theirs: 0,
-        chains: chains(alloc, Node::Mine(0), Node::Theirs(0))?,
+        chains: chains(rt, alloc, Node::Mine(0), Node::Theirs(0)),
     };
     let mut entries = Entries::new(alloc);
-    entries.push(question, reason)?;
-    Ok(entries)
+    entries.push(question, reason).expect(rt, "memory");
+    entries
+}
+
+fn numbers(rt: &impl Abort, alloc: Global, given: [u32; 3]) -> Sequence<u32> {
+    Sequence::from_vec(Vec::from_array(alloc, given).expect(rt, "memory"))
 }
 
 /// The certificate of the report set, with these numbers of accesses that stand in bodies.
-fn report(alloc: Global, bodies: [u32; 3]) -> Result<Certificate, Fail> {
-    let levels = Sequence::from_vec(Vec::from_array(alloc, [3, 3, 3])?);
-    let bodies = Sequence::from_vec(Vec::from_array(alloc, bodies)?);
-    let entries = report_entries(alloc)?;
-    Ok(Certificate {
-        entries,
-        levels,
-        bodies,
-    })
+fn report(rt: &impl Abort, alloc: Global, bodies: [u32; 3]) -> Certificate {
+    Certificate {
+        entries: report_entries(rt, alloc),
+        levels: numbers(rt, alloc, [3, 3, 3]),
+        bodies: numbers(rt, alloc, bodies),
+    }
 }
 
 /// Whether this is written of it.
-fn is_report_written(alloc: Global, bodies: [u32; 3], written: &str) -> Result<bool, Fail> {
-    let certificate = report(alloc, bodies)?;
+fn is_report_written(rt: &impl Abort, alloc: Global, bodies: [u32; 3], written: &str) -> bool {
+    let certificate = report(rt, alloc, bodies);
     let is_written = is_written_of(alloc, written, &certificate);
     drop(certificate);
-    Ok(is_written)
+    is_written
 }
 
 /// What is written of the report set's certificate if its last program had six such accesses.
@@ -285,12 +282,9 @@ const REPORT_WITH_BODIES: &str =
     [[\"t\",0],[\"m\",0]]]]],\"levels\":[3,3,3],\"version\":2}";
 
 #[test]
-fn a_certificate_is_built_and_written(rt: HostRuntime) -> Result<(), Fail> {
-    for (bodies, written) in [([0, 0, 0], REPORT), ([0, 0, 6], REPORT_WITH_BODIES)] {
-        let is_written = is_report_written(rt.alloc(), bodies, written)?;
-        assert!(rt; is_written, "{written}");
-    }
-    Ok(())
+fn a_certificate_is_built_and_written(rt: HostRuntime) {
+    assert!(rt; is_report_written(&rt, rt.alloc(), [0, 0, 0], REPORT));
+    assert!(rt; is_report_written(&rt, rt.alloc(), [0, 0, 6], REPORT_WITH_BODIES));
 }
 
 /// Two numbers, of which the first is greater.
@@ -329,19 +323,18 @@ fn is_apart_by(reason: &Reason, nodes: &[Node]) -> bool {
 }
 
 #[test]
-fn entries_may_share_a_reason(rt: HostRuntime) -> Result<(), Fail> {
-    let reason = Reason::Apart(chain(rt.alloc(), FALLING)?);
+fn entries_may_share_a_reason(rt: HostRuntime) {
+    let reason = Reason::Apart(chain(&rt, rt.alloc(), FALLING));
     let mut entries = Entries::new(rt.alloc());
     assert!(rt; entries.is_empty());
-    entries.push(FIRST, reason)?;
+    entries.push(FIRST, reason).expect(&rt, "memory");
     assert!(rt; entries.len() == 1);
-    entries.push_like(SECOND, 0)?;
+    entries.push_like(SECOND, 0).expect(&rt, "memory");
     assert!(rt; entries.len() == 2);
-    for k in 0..2 {
-        assert!(rt; entries.question(k) == [FIRST, SECOND][k], "{k}");
-        assert!(rt; is_apart_by(entries.reason(k), &FALLING), "{k}");
-    }
-    Ok(())
+    assert!(rt; entries.question(0) == FIRST && entries.question(1) == SECOND);
+    assert!(rt; is_apart_by(entries.reason(0), &FALLING));
+    assert!(rt; is_apart_by(entries.reason(1), &FALLING));
+    drop(entries);
 }
 
 /// Three questions with the numbers of two reasons.
@@ -368,14 +361,14 @@ const SHARED: &str =
     \"levels\":[],\"version\":1}";
 
 /// Entries of which the first and the last share a reason.
-fn sharing_entries(alloc: Global) -> Result<Entries, Fail> {
-    let apart = Reason::Apart(chain(alloc, FALLING)?);
+fn sharing_entries(rt: &impl Abort, alloc: Global) -> Result<Entries, AllocError> {
+    let told = Vec::from_array(alloc, SHARING)?;
+    let apart = Reason::Apart(chain(rt, alloc, FALLING));
     let cover = Reason::Cover {
         mine: 4,
         theirs: 7,
-        chains: chains(alloc, Node::Mine(0), Node::Theirs(0))?,
+        chains: chains(rt, alloc, Node::Mine(0), Node::Theirs(0)),
     };
-    let told = Vec::from_array(alloc, SHARING)?;
     let reasons = Vec::from_array(alloc, [apart, cover])?;
     Ok(Entries::of(told, reasons))
 }
@@ -396,30 +389,39 @@ fn certificate_of(alloc: Global, entries: Entries) -> Certificate {
     }
 }
 
-#[test]
-fn entries_are_made_of_parts(rt: HostRuntime) -> Result<(), Fail> {
-    let entries = sharing_entries(rt.alloc())?;
+fn check_parts(rt: &impl Abort, entries: &Entries) {
     let (told, reasons) = entries.parts();
     assert!(rt; are_same(told, &SHARING));
     let [apart, cover] = reasons else {
-        return Err(Fail::new("other reasons"));
+        panic!(rt; "other reasons")
     };
     assert!(rt; is_apart_by(apart, &FALLING));
     assert!(rt; !is_apart_by(cover, &FALLING));
+}
+
+#[test]
+fn entries_are_made_of_parts(rt: HostRuntime) {
+    let entries = sharing_entries(&rt, rt.alloc()).expect(&rt, "memory");
+    check_parts(&rt, &entries);
     let certificate = certificate_of(rt.alloc(), entries);
     assert!(rt; is_written_of(rt.alloc(), SHARED, &certificate));
     drop(certificate);
-    Ok(())
+}
+
+fn push_pair(rt: &impl Abort, alloc: Global, entries: &mut Entries) {
+    let first = Reason::Apart(chain(rt, alloc, FALLING));
+    entries.push(FIRST, first).expect(rt, "memory");
+    let second = Reason::Apart(chain(rt, alloc, FALLING));
+    entries.push(SECOND, second).expect(rt, "memory");
 }
 
 /// Many times a pair of entries.
-fn pairs_of_entries(alloc: Global, count: usize) -> Result<Entries, Fail> {
+fn pairs_of_entries(rt: &impl Abort, alloc: Global, count: usize) -> Entries {
     let mut entries = Entries::new(alloc);
     for _turn in 0..count {
-        entries.push(FIRST, Reason::Apart(chain(alloc, FALLING)?))?;
-        entries.push(SECOND, Reason::Apart(chain(alloc, FALLING)?))?;
+        push_pair(rt, alloc, &mut entries);
     }
-    Ok(entries)
+    entries
 }
 
 /// What is written of such a pair.
@@ -427,25 +429,24 @@ const PAIR: &str =
     "[\"apart\",0,0,0,1,[[\"n\",2],[\"n\",1]]],[\"apart\",0,2,3,1,[[\"n\",2],[\"n\",1]]]";
 
 /// What is written of many.
-fn pairs_text(alloc: Global, count: usize) -> Result<String, Fail> {
-    let mut text = String::from_str(alloc, "{\"entries\":[")?;
+fn push_pairs(text: &mut String, count: usize) -> Result<(), AllocError> {
+    text.push_str("{\"entries\":[")?;
     for turn in 0..count {
         if turn > 0 {
             text.push_str(",")?;
         }
         text.push_str(PAIR)?;
     }
-    text.push_str("],\"levels\":[],\"version\":1}")?;
-    Ok(text)
+    text.push_str("],\"levels\":[],\"version\":1}")
 }
 
 #[test]
-fn many_entries_are_written(rt: HostRuntime) -> Result<(), Fail> {
-    let certificate = certificate_of(rt.alloc(), pairs_of_entries(rt.alloc(), 600)?);
-    let written = pairs_text(rt.alloc(), 600)?;
+fn many_entries_are_written(rt: HostRuntime) {
+    let certificate = certificate_of(rt.alloc(), pairs_of_entries(&rt, rt.alloc(), 600));
+    let mut written = String::new(rt.alloc());
+    push_pairs(&mut written, 600).expect(&rt, "memory");
     assert!(rt; is_written_of(rt.alloc(), written.as_str(), &certificate));
     drop(certificate);
-    Ok(())
 }
 
 /// Nodes with a number that no text can say.
@@ -457,15 +458,15 @@ const PAST: [Node; 4] = [
 ];
 
 #[test]
-fn a_chain_holds_numbers_that_a_text_can_say(rt: HostRuntime) -> Result<(), Fail> {
+fn a_chain_holds_numbers_that_a_text_can_say(rt: HostRuntime) {
     let nodes = [Node::TheirsUnknown(4294967295), Node::Number(i64::MIN)];
-    let greatest = chain(rt.alloc(), nodes)?;
+    let greatest = chain(&rt, rt.alloc(), nodes);
     assert!(rt; greatest.as_slice() == &nodes[..]);
-    for &node in PAST.iter() {
-        let past = Vec::from_array(rt.alloc(), [Node::Mine(0), node])?;
+    drop(greatest);
+    for node in &PAST {
+        let past = Vec::from_array(rt.alloc(), [Node::Mine(0), *node]).expect(&rt, "memory");
         assert!(rt; Chain::from_vec(past).is_none(), "{node:?}");
     }
-    Ok(())
 }
 
 fn fault_of(alloc: Global, bytes: &[u8]) -> Option<JsonFault> {
