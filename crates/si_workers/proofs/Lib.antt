@@ -6,4 +6,5 @@ mod GatherLaws
 mod JobVectors
 pub mod KeyLemmas
 mod RunLaws
+mod SharedLaws
 mod Vectors

@@ -1,6 +1,5 @@
 -- What was told and settled gives what is promised of work.
 use Rattle.std.proofs.Common.{◌≡◌, ◌<◌, ℕ, zero, suc, false, refl, sym, subst, arith, List, length, Option, Some, None, Result, Ok, Err, IfOk, IfErr}
-use Rattle.prog_tree.specs.declared.program.Draft.{Draft}
 use Rattle.prog_tree.specs.Table.{TableState}
 use Rattle.prog_tree.specs.Tree.{draft_tree}
 use Rattle.prog_tree.specs.Syntax.{DraftTree}
@@ -19,7 +18,7 @@ use Rattle.si_workers.specs.declared.run.Finished.{Finished}
 use Rattle.si_workers.specs.declared.worker.Done.{Done}
 
 -- a book over a set without a dangerous structure is over such a set
-pub safe-over : (set : Draft) (opening : TableState) (v : BookView) → IsOver set opening v → (IsDangerous (paths_of (draft_tree set)) → ⊥) → IsDangerous (paths_of (draft_tree v.set)) → ⊥
+pub safe-over : (set : DraftTree) (opening : TableState) (v : BookView) → IsOver set opening v → (IsDangerous (paths_of set) → ⊥) → IsDangerous (paths_of (draft_tree v.set)) → ⊥
 safe-over set opening v over safe = subst (λ (t : DraftTree). IsDangerous (paths_of t) → ⊥) (sym over.same_set) safe
 
 -- where some thread started all jobs were done
@@ -27,22 +26,22 @@ jobs-some : (n : ℕ) (jobs : List Job) → 0 < n → jobs_by n jobs ≡ jobs
 jobs-some zero jobs some = absurd (omega arith)
 jobs-some (suc n) jobs some = refl
 
-module _ (set : Draft) (opening : TableState) (jobs : List Job) (workers : ℕ) (done : List Done) (v : BookView) where
+module _ (set : DraftTree) (opening : TableState) (jobs : List Job) (workers : ℕ) (done : List Done) (v : BookView) where
   -- outcomes that the workers told are those of the jobs that were done
-  outcomes-told : (outcomes : List JobOutcome) → AreToldRight set opening jobs done v outcomes → OutcomesCorrespond set opening (jobs_by (length done) jobs) outcomes v
+  outcomes-told : (outcomes : List JobOutcome) → AreToldRight workers set opening jobs done v outcomes → OutcomesCorrespond workers set opening (jobs_by (length done) jobs) outcomes v
   outcomes-told outcomes right = (right.ts, record { of_jobs = right.told.of_jobs; of_outcomes = right.one_each }, right.correspond)
 
   -- likewise a job that is broken
-  named-told : (job : ℕ) (outcome : Option JobOutcome) → AreToldWrong set opening jobs done v job outcome → IsNamed set opening (jobs_by (length done) jobs) job outcome v
+  named-told : (job : ℕ) (outcome : Option JobOutcome) → AreToldWrong workers set opening jobs done v job outcome → IsNamed workers set opening (jobs_by (length done) jobs) job outcome v
   named-told job outcome wrong = record { ts = wrong.ts; of_jobs = wrong.told.of_jobs; broken = wrong.broken; its_outcome = wrong.its_outcome }
 
   -- outcomes that the workers told right settle their work, however it is concluded
-  pub conclude-settled : (outcomes : List JobOutcome) (r : Result Finished WorkFault) → lack_memory done ≡ false → AreToldRight set opening jobs done v outcomes → IsConcluded workers (length done) outcomes v r → IsSettled set opening jobs workers done v r
+  pub conclude-settled : (outcomes : List JobOutcome) (r : Result Finished WorkFault) → lack_memory done ≡ false → AreToldRight workers set opening jobs done v outcomes → IsConcluded workers (length done) outcomes v r → IsSettled set opening jobs workers done v r
   conclude-settled outcomes (Ok finished) lack right concluded = (
     lack,
     concluded.0,
     concluded.2,
-    subst (AreToldRight set opening jobs done v) (sym concluded.1) right,
+    subst (AreToldRight workers set opening jobs done v) (sym concluded.1) right,
     concluded.3,
   )
   conclude-settled outcomes (Err Workers) lack right concluded = absurd concluded
@@ -52,17 +51,17 @@ module _ (set : Draft) (opening : TableState) (jobs : List Job) (workers : ℕ) 
     concluded.1,
     subst (λ (n : ℕ). n < workers) (sym concluded.1) concluded.0,
     concluded.3,
-    subst (AreToldRight set opening jobs done v) (sym concluded.2) right,
+    subst (AreToldRight workers set opening jobs done v) (sym concluded.2) right,
   )
   conclude-settled outcomes (Err (Broken job outcome book)) lack right concluded = absurd concluded
   conclude-settled outcomes (Err (Memory book)) lack right concluded = concluded
 
   -- outcomes and book correspond where work is settled well
-  correspond-settled : (r : Result Finished WorkFault) → 0 < workers → IsSettled set opening jobs workers done v r → IfOk r (λ finished. OutcomesCorrespond set opening jobs finished.outcomes finished.book)
+  correspond-settled : (r : Result Finished WorkFault) → 0 < workers → IsSettled set opening jobs workers done v r → IfOk r (λ finished. OutcomesCorrespond workers set opening jobs finished.outcomes finished.book)
   correspond-settled (Ok finished) some settled =
       let all = jobs-some (length done) jobs (omega (arith, some, settled.1)) in
-      subst (λ (book : BookView). OutcomesCorrespond set opening jobs finished.outcomes book) (sym settled.2)
-      (subst (λ (js : List Job). OutcomesCorrespond set opening js finished.outcomes v) all (outcomes-told finished.outcomes settled.3))
+      subst (λ (book : BookView). OutcomesCorrespond workers set opening jobs finished.outcomes book) (sym settled.2)
+      (subst (λ (js : List Job). OutcomesCorrespond workers set opening js finished.outcomes v) all (outcomes-told finished.outcomes settled.3))
   correspond-settled (Err fault) some settled = tt
 
   -- what is handed out where work is settled by a fault
@@ -74,14 +73,14 @@ module _ (set : Draft) (opening : TableState) (jobs : List Job) (workers : ℕ) 
     taken,
     subst IsTrueBook (sym settled.3) holds,
     settled.2,
-    subst (λ (n : ℕ). OutcomesCorrespond set opening (jobs_by n jobs) outcomes book) (sym settled.1)
-        (subst (λ (b : BookView). OutcomesCorrespond set opening (jobs_by (length done) jobs) outcomes b) (sym settled.3) (outcomes-told outcomes settled.4)),
+    subst (λ (n : ℕ). OutcomesCorrespond workers set opening (jobs_by n jobs) outcomes book) (sym settled.1)
+        (subst (λ (b : BookView). OutcomesCorrespond workers set opening (jobs_by (length done) jobs) outcomes b) (sym settled.3) (outcomes-told outcomes settled.4)),
   )
   fault-settled (Err (Broken job outcome book)) taken holds settled = (
     taken,
     subst IsTrueBook (sym settled.1) holds,
     length done,
-    subst (IsNamed set opening (jobs_by (length done) jobs) job outcome) (sym settled.1) (named-told job outcome settled.2),
+    subst (IsNamed workers set opening (jobs_by (length done) jobs) job outcome) (sym settled.1) (named-told job outcome settled.2),
   )
   fault-settled (Err (Memory None)) taken holds settled = absurd (cc)
   fault-settled (Err (Memory (Some book))) taken holds settled = (taken, subst IsTrueBook (sym (some-same book v settled)) holds)
@@ -91,9 +90,9 @@ module _ (set : Draft) (opening : TableState) (jobs : List Job) (workers : ℕ) 
 
 -- what is promised of work that was settled over rows that are those it was opened with
 pub promised :
-    (set : Draft) (opening kept : TableState) (jobs : List Job) (workers : ℕ) (done : List Done) (v : BookView) (r : Result Finished WorkFault) →
+    (set : DraftTree) (opening kept : TableState) (jobs : List Job) (workers : ℕ) (done : List Done) (v : BookView) (r : Result Finished WorkFault) →
     kept ≡ opening → AreTaken workers jobs → IsTrueBook v → IsSettled set kept jobs workers done v r →
-    IfOk r (λ finished. OutcomesCorrespond set opening jobs finished.outcomes finished.book) × IfErr r (IsWorkFault set opening jobs workers)
+    IfOk r (λ finished. OutcomesCorrespond workers set opening jobs finished.outcomes finished.book) × IfErr r (IsWorkFault set opening jobs workers)
 promised set opening kept jobs workers done v r same taken holds over_kept =
     let settled = subst (λ (o : TableState). IsSettled set o jobs workers done v r) same over_kept in (
       correspond-settled set opening jobs workers done v r taken.number.0 settled,

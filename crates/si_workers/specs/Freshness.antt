@@ -7,11 +7,17 @@ use Rattle.history_book.specs.declared.fault.BeginFault.TheVariants as begin
 use Rattle.si_workers.specs.declared.fault.BeginAfterFault.{BeginAfterFault}
 use Rattle.si_workers.specs.declared.fault.BeginAfterFault.TheVariants.{Behind, Refused}
 
+-- a begin that names no number is not refused for one
+abbrev pub IsOfNoNumber : BeginFault → Type 0
+IsOfNoNumber (begin.TooOld floor) = ⊥
+IsOfNoNumber (begin.TooNew commits) = ⊥
+IsOfNoNumber other = ⊤
+
 -- the instance sees the commit, or the book has fewer commits
 abbrev pub IsFresh : (commit : ℕ) → Result TicketView BeginAfterFault → Type 0
 IsFresh commit (Ok ticket) = commit ≤ ticket.start
 IsFresh commit (Err (Behind commits)) = commits < commit
-IsFresh commit (Err (Refused fault)) = ⊤
+IsFresh commit (Err (Refused fault)) = IsOfNoNumber fault
 
 -- the instance sees the commits up to the number; or a vacuum gave the number up, or there are fewer commits
 abbrev pub IsAtNumber : (start : ℕ) → Result TicketView BeginFault → Type 0

@@ -3,9 +3,11 @@ pub mod Counts
 pub mod Ended
 pub mod Freshness
 pub mod Gathered
+pub mod HandedIn
 pub mod JobLines
 pub mod KeptAndTold
 pub mod Keys
+pub mod LastAnswer
 pub mod OutcomeIn
 pub mod Outcomes
 pub mod Settled

@@ -1,13 +1,16 @@
 -- What a worker does, and what comes of work.
-use Rattle.std.specs.Prelude.{◌≡◌, ⊤, ℕ, zero, suc, ◌+◌, ◌-◌, ◌<◌, ◌≤◌, ◌^◌, ◌⊎◌, ℤ, List, [], ◌∷◌, ◌++◌, length, map, take, Option, Some, Result, Ok, Err, slice_get, IfSome}
-use Rattle.std.specs.Option.{option_and_then}
-use Rattle.prog_tree.specs.declared.program.Draft.{Draft}
+use Rattle.std.specs.Prelude.{◌≡◌, ⊤, ℕ, zero, suc, ◌+◌, ◌<◌, ◌≤◌, ◌⊎◌, ℤ, List, [], ◌∷◌, ◌++◌, length, map, take, Option, Some, None, Result, Ok, Err, slice_get, IfSome}
+use Rattle.std.specs.Option.{IsSomeAnd, option_and_then}
+use Rattle.prog_tree.specs.declared.deed.Cause.{Cause}
+use Rattle.prog_tree.specs.Syntax.{DraftTree}
 use Rattle.prog_tree.specs.Table.{TableState}
 use Rattle.history_book.specs.TrueBook.{IsTrueBook}
 use Rattle.history_book.specs.View.{BookView}
 use Rattle.si_workers.specs.KeptAndTold.{Tidings}
+use Rattle.si_workers.specs.LastAnswer.{IsLastAnswer}
 use Rattle.si_workers.specs.Outcomes.{AreRightTries, OutcomesCorrespond, IsBroken}
 use Rattle.si_workers.specs.Told.{Report}
+use Rattle.si_workers.specs.declared.desk.Answer.{Answer}
 use Rattle.si_workers.specs.declared.fault.WorkFault.{WorkFault}
 use Rattle.si_workers.specs.declared.fault.WorkFault.TheVariants as fault
 use Rattle.si_workers.specs.declared.job.Job.{Job}
@@ -23,6 +26,11 @@ abbrev pub HasReplies : List ℤ → JobEnd → Type 0
 HasReplies replies (end.Committed number told) = told ≡ replies
 HasReplies replies other = ⊤
 
+-- an abort has this cause
+abbrev pub HasCause : Cause → JobEnd → Type 0
+HasCause cause (end.Aborted told) = told ≡ cause
+HasCause cause other = ⊤
+
 -- how many instances a job ended beside those that clashed before its last try
 abbrev pub last_try : JobEnd → ℕ
 last_try (end.Clashed clash) = 0
@@ -35,6 +43,18 @@ TellsTries job before after (Ok outcome) =
     AreRightTries job.retries outcome.clashes outcome.job_end
     × (after ≡ before + outcome.clashes + last_try outcome.job_end)
 TellsTries job before after (Err stop) = after ≤ before + job.retries + 1
+
+-- the outcome is of a run of the job: of as many tries as it says, the last of which ended so
+abbrev pub IsRunOf : (before after : ℕ) → (last : Option Answer) → JobOutcome → Job → Type 0
+IsRunOf before after last outcome job =
+    TellsTries job before after (Ok outcome) × IsLastAnswer last outcome.job_end
+
+-- the outcome that is reported is of a run of the job of its number; where no job is drawn no instance ends
+abbrev pub IsReported : List Job → (before after : ℕ) → (last : Option Answer) → Result (Option Report) Stop → Type 0
+IsReported jobs before after last (Ok (Some report)) =
+    IsSomeAnd (slice_get jobs report.0) (IsRunOf before after last report.1)
+IsReported jobs before after last (Ok None) = after ≡ before
+IsReported jobs before after last (Err stop) = ⊤
 
 -- the number of the job that is reported was drawn; where none is no number is lost
 abbrev pub IsDrawn : (before after : List ℕ) → Result (Option Report) Stop → Type 0
@@ -52,11 +72,11 @@ abbrev pub outcome_at : Tidings → ℕ → Option JobOutcome
 outcome_at ts job = option_and_then (λ t. t.1) (slice_get ts job)
 
 -- what is told of some jobs does not correspond to the book, and this job is named with its outcome
-pub record IsNamed (set : Draft) (opening : TableState) (jobs : List Job) (job : ℕ) (outcome : Option JobOutcome) (v : BookView) : Type 0
+pub record IsNamed (workers : ℕ) (set : DraftTree) (opening : TableState) (jobs : List Job) (job : ℕ) (outcome : Option JobOutcome) (v : BookView) : Type 0
   where
     pub ts : Tidings
     pub of_jobs : map (λ t. t.0) ts ≡ jobs
-    pub broken : IsBroken set opening ts v job
+    pub broken : IsBroken workers set opening ts v job
     pub its_outcome : outcome ≡ outcome_at ts job
 
 -- a number of workers that is refused, and one that is not
@@ -81,12 +101,13 @@ jobs_by zero jobs = []
 jobs_by (suc n) jobs = jobs
 
 -- why work was refused, or what is wrong with it; a book that is handed out is a true book
-abbrev pub IsWorkFault : Draft → TableState → List Job → (workers : ℕ) → WorkFault → Type 0
+abbrev pub IsWorkFault : DraftTree → TableState → List Job → (workers : ℕ) → WorkFault → Type 0
 IsWorkFault set opening jobs workers fault.Workers = IsWrongNumber workers
 IsWorkFault set opening jobs workers fault.TooManyJobs = IsRightNumber workers × AreTooMany jobs
 IsWorkFault set opening jobs workers (fault.NoThread started outcomes book) =
     AreTaken workers jobs × IsTrueBook book × (started < workers)
-    × OutcomesCorrespond set opening (jobs_by started jobs) outcomes book
+    × OutcomesCorrespond workers set opening (jobs_by started jobs) outcomes book
 IsWorkFault set opening jobs workers (fault.Broken job outcome book) =
-    AreTaken workers jobs × IsTrueBook book × (started : ℕ) × IsNamed set opening (jobs_by started jobs) job outcome book
+    AreTaken workers jobs × IsTrueBook book × (started : ℕ)
+    × IsNamed workers set opening (jobs_by started jobs) job outcome book
 IsWorkFault set opening jobs workers (fault.Memory book) = AreTaken workers jobs × IfSome book IsTrueBook

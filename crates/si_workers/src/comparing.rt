@@ -1,22 +1,25 @@
 //! What workers tell of jobs, compared with a book.
 
-ghost use Rattle.std.specs.Prelude.{◌≡◌, ◌↔◌, ℕ, All, IsTrue, IfOk, IfNone, IfSome, length};
-ghost use Rattle.si_workers.specs.KeptAndTold.{commits_told};
+ghost use Rattle.std.specs.Prelude.{◌≡◌, ◌↔◌, All, IsTrue, IfOk, IfNone, IfSome};
+ghost use Rattle.prog_tree.specs.Tree.{draft_tree};
 ghost use Rattle.si_workers.specs.Calls.{call_of};
-ghost use Rattle.si_workers.specs.Outcomes.{AreAsMany, AreClashesTold, AreCommitsTold, AreRightTries, Correspond, IsAllOfJobs, IsBroken, IsClashTold, IsCommitOf, IsFirstFallen, IsNamedOnce, IsOfSomeJob, IsOver, IsRecordOf, IsRightEnd, IsRightRefusal, Stands};
+ghost use Rattle.si_workers.specs.Outcomes.{AreAsMany, AreClashesTold, AreCommitsTold, AreRightTries, Correspond, IsAllOfJobs, IsBroken, IsClashTold, IsCommitOf, IsFirstFallen, IsNamedOnce, IsOfSomeJob, IsOver, IsRecordOf, IsRightEnd, IsRightRefusal, Stands, nearly_full};
 
 use crate::call::CallKey;
 use crate::counts::Counts;
 use crate::job::{Job, JobEnd};
-use crate::limits::MAX_WORKERS;
 use crate::told::Tiding;
 use history_book::{BeginFault, Book, Ending, HistoryRow, MAX_ENDINGS};
 use prog_check::ProgramSet;
 use prog_tree::Rows;
 use std::alloc::{AllocError, Global};
 
-/// So many endings let a begin be refused as full while seven other workers are active.
-const NEARLY_FULL: usize = MAX_ENDINGS - (MAX_WORKERS - 1);
+// So many endings let a begin be refused as full while all other workers are active.
+fn nearly_full(workers: usize) -> usize
+    ensures { result ≡ nearly_full workers }
+{
+    MAX_ENDINGS.saturating_sub(workers.saturating_sub(1))
+}
 
 // ---- one outcome
 
@@ -64,8 +67,8 @@ fn is_own_commit(
     counts.is_named_once(number)
 }
 
-fn is_right_refusal(book: &Book<'_>, job: &Job, fault: BeginFault) -> bool
-    ensures { IsTrue result ↔ IsRightRefusal book.now job.now fault }
+fn is_right_refusal(workers: usize, book: &Book<'_>, job: &Job, fault: BeginFault) -> bool
+    ensures { IsTrue result ↔ IsRightRefusal workers book.now job.now fault }
 {
     let program = book.set().draft().programs.get(job.program);
     match fault {
@@ -74,14 +77,20 @@ fn is_right_refusal(book: &Book<'_>, job: &Job, fault: BeginFault) -> bool
             Some(found) => found.params.len() != job.args.len(),
             None => false,
         },
-        BeginFault::Full => book.endings().len() >= NEARLY_FULL,
+        BeginFault::Full => book.endings().len() >= nearly_full(workers),
         BeginFault::TooOld { .. } | BeginFault::TooNew { .. } | BeginFault::Memory => false,
     }
 }
 
-fn is_right_end<'c>(book: &Book<'_>, counts: &Counts<'c>, job: &'c Job, end: &JobEnd) -> bool
+fn is_right_end<'c>(
+    workers: usize,
+    book: &Book<'_>,
+    counts: &Counts<'c>,
+    job: &'c Job,
+    end: &JobEnd,
+) -> bool
     requires endings { counts.now.endings ≡ book.now.endings }
-    ensures { IsTrue result ↔ IsRightEnd book.now counts.now.tidings job.now end.now }
+    ensures { IsTrue result ↔ IsRightEnd workers book.now counts.now.tidings job.now end.now }
 {
     match end {
         JobEnd::Committed { number, replies } => {
@@ -89,7 +98,7 @@ fn is_right_end<'c>(book: &Book<'_>, counts: &Counts<'c>, job: &'c Job, end: &Jo
         }
         JobEnd::Aborted(cause) => counts.are_aborts_told(CallKey::job(job), *cause),
         JobEnd::Clashed(clash) => counts.is_clash_kept(CallKey::job(job), *clash),
-        JobEnd::Refused(fault) => is_right_refusal(book, job, *fault),
+        JobEnd::Refused(fault) => is_right_refusal(workers, book, job, *fault),
     }
 }
 
@@ -103,27 +112,32 @@ fn are_right_tries(retries: u32, clashes: u64, end: &JobEnd) -> bool
     }
 }
 
-fn stands<'c>(book: &Book<'_>, counts: &Counts<'c>, tiding: &Tiding<'c>) -> bool
+fn stands<'c>(workers: usize, book: &Book<'_>, counts: &Counts<'c>, tiding: &Tiding<'c>) -> bool
     requires endings { counts.now.endings ≡ book.now.endings }
-    ensures { IsTrue result ↔ Stands book.now counts.now.tidings tiding.now }
+    ensures { IsTrue result ↔ Stands workers book.now counts.now.tidings tiding.now }
 {
     let Some(outcome) = tiding.outcome() else {
         return false;
     };
-    let right = is_right_end(book, counts, tiding.job, &outcome.job_end);
+    let right = is_right_end(workers, book, counts, tiding.job, &outcome.job_end);
     let tries = are_right_tries(tiding.job.retries, outcome.clashes, &outcome.job_end);
     right && tries
 }
 
 // The first job whose outcome does not stand.
-fn first_fallen<'c>(book: &Book<'_>, counts: &Counts<'c>, tidings: &[Tiding<'c>]) -> Option<usize>
+fn first_fallen<'c>(
+    workers: usize,
+    book: &Book<'_>,
+    counts: &Counts<'c>,
+    tidings: &[Tiding<'c>],
+) -> Option<usize>
     requires endings { counts.now.endings ≡ book.now.endings }
     requires tidings { counts.now.tidings ≡ tidings.now }
-    ensures none { IfNone result (All (Stands book.now tidings.now) tidings.now) }
-    ensures fallen { IfSome result (λ job. IsFirstFallen book.now tidings.now job) }
+    ensures none { IfNone result (All (Stands workers book.now tidings.now) tidings.now) }
+    ensures fallen { IfSome result (λ job. IsFirstFallen workers book.now tidings.now job) }
 {
     for (job, tiding) in tidings.iter().enumerate() {
-        if !stands(book, counts, tiding) {
+        if !stands(workers, book, counts, tiding) {
             return Some(job);
         }
     }
@@ -233,7 +247,7 @@ fn is_whole<'c>(book: &'c Book<'_>, counts: &Counts<'c>, tidings: &[Tiding<'c>])
 }
 
 fn is_over(set: &ProgramSet, opening: &Rows, book: &Book<'_>) -> bool
-    ensures { IsTrue result ↔ IsOver set.now opening.now book.now }
+    ensures { IsTrue result ↔ IsOver (draft_tree set.now) opening.now book.now }
 {
     if !book.set().draft().is_same(set.draft()) {
         return false;
@@ -241,22 +255,23 @@ fn is_over(set: &ProgramSet, opening: &Rows, book: &Book<'_>) -> bool
     book.opening().is_same(opening)
 }
 
-/// The job that is named where what is told of the jobs does not correspond to the book: the least
-/// one whose outcome does not stand, or job 0 where all stand.
+/// The job that is named where what so many workers tell of the jobs does not correspond to the
+/// book: the least one whose outcome does not stand, or job 0 where all stand.
 pub fn broken<'c>(
     alloc: Global,
+    workers: usize,
     set: &ProgramSet,
     opening: &Rows,
     tidings: &'c [Tiding<'c>],
     book: &'c Book<'_>,
 ) -> Result<Option<usize>, AllocError>
     ensures none { IfOk result (λ named. IfNone named
-        (Correspond set.now opening.now tidings.now book.now)) }
+        (Correspond workers (draft_tree set.now) opening.now tidings.now book.now)) }
     ensures some { IfOk result (λ named. IfSome named
-        (λ job. IsBroken set.now opening.now tidings.now book.now job)) }
+        (λ job. IsBroken workers (draft_tree set.now) opening.now tidings.now book.now job)) }
 {
     let counts = Counts::of(alloc, book.endings(), tidings)?;
-    if let Some(job) = first_fallen(book, &counts, tidings) {
+    if let Some(job) = first_fallen(workers, book, &counts, tidings) {
         return Ok(Some(job));
     }
     if !is_over(set, opening, book) {

@@ -78,14 +78,16 @@ fn into_outcome(mut tidings: Vec<Tiding<'_>>, job: usize) -> Option<JobOutcome>
 
 fn compare(
     alloc: Global,
+    workers: usize,
     set: &ProgramSet,
     opening: &Rows,
     tidings: Vec<Tiding<'_>>,
     book: &Book<'_>,
 ) -> Result<Compared, AllocError>
-    ensures { IfOk result (IsCompared set.now opening.now tidings.entry.items book.now) }
+    ensures { IfOk result (IsCompared workers (draft_tree set.now) opening.now
+        tidings.entry.items book.now) }
 {
-    let named = broken(alloc, set, opening, &tidings, book)?;
+    let named = broken(alloc, workers, set, opening, &tidings, book)?;
     match named {
         Some(job) => {
             let outcome = into_outcome(tidings, job);
@@ -151,7 +153,8 @@ fn settle<'a>(
     done: Vec<Done>,
     book: Book<'a>,
 ) -> Result<Finished<'a>, WorkFault<'a>>
-    ensures { IsSettled set.now opening.now jobs.now workers done.items book.entry result }
+    ensures { IsSettled (draft_tree set.now) opening.now jobs.now workers
+        done.items book.entry result }
 {
     if lack_memory(&done) {
         return Err(WorkFault::Memory { book: Some(book) });
@@ -160,7 +163,7 @@ fn settle<'a>(
     let Ok(tidings) = gather(alloc, jobs_by(started, jobs), done) else {
         return Err(WorkFault::Memory { book: Some(book) });
     };
-    match compare(alloc, set.set(), opening, tidings, &book) {
+    match compare(alloc, workers, set.set(), opening, tidings, &book) {
         Ok(Compared::Correspond(outcomes)) => conclude(workers, started, outcomes, book),
         Ok(Compared::Broken { job, outcome }) => Err(WorkFault::Broken { job, outcome, book }),
         Err(AllocError) => Err(WorkFault::Memory { book: Some(book) }),
@@ -180,9 +183,10 @@ pub fn run_jobs<'a, R: Threads + Wait + Sync, G: Gate + Sync>(
     ensures taken { IfOk result (λ finished. AreTaken workers jobs.now) }
     ensures true_book { IfOk result (λ finished. IsTrueBook finished.book) }
     ensures correspond { IfOk result (λ finished.
-        OutcomesCorrespond set.now opening jobs.now finished.outcomes finished.book) }
+        OutcomesCorrespond workers (draft_tree set.now) opening jobs.now
+        finished.outcomes finished.book) }
     ensures order { IfOk result (λ finished. IsOrderOf finished.book finished.order) }
-    ensures fault { IfErr result (IsWorkFault set.now opening jobs.now workers) }
+    ensures fault { IfErr result (IsWorkFault (draft_tree set.now) opening jobs.now workers) }
 {
     if workers == 0 || workers > MAX_WORKERS {
         return Err(WorkFault::Workers);
@@ -199,8 +203,6 @@ pub fn run_jobs<'a, R: Threads + Wait + Sync, G: Gate + Sync>(
     let shared = SharedBook::new(book);
     let ran = run_threads(rt, alloc, set.set(), &shared, jobs, workers, gate);
     let book = shared.into_book();
-    // What the book holds is true, as its type says.
-    let _commits = book.commits();
     let Ok(done) = ran else {
         return Err(WorkFault::Memory { book: Some(book) });
     };

@@ -1,8 +1,9 @@
 //! A book that threads share.
 
-ghost use Rattle.std.specs.Prelude.{◌≡◌, ◌≤◌, IfOk, IfErr, OnOk, OnErr, length};
-ghost use Rattle.history_book.specs.View.{begin_fault_of, next_ticket, begun_in};
-ghost use Rattle.si_workers.specs.Freshness.{IsAtNumber, IsBeginAfter, IsFresh};
+ghost use Rattle.std.specs.Prelude.{◌≡◌, IfErr};
+ghost use Rattle.history_book.specs.TrueBook.{IsTrueBook};
+ghost use Rattle.si_workers.specs.Freshness.{IsAtNumber, IsBeginAfter, IsFresh, IsOfNoNumber};
+ghost use Rattle.si_workers.specs.HandedIn.{IsCommitAnswer, IsEndAnswer};
 
 use crate::fault::BeginAfterFault;
 use history_book::{
@@ -16,7 +17,7 @@ use std::thread::yield_now;
 /// A book under one lock, which reads share and each other call has alone. Whenever the lock is
 /// taken, its value is a book. Each call takes the lock, makes the call of `Book` that it names, and
 /// lets go. No clause can name a value under a lock, so what a call does to the book is said by the
-/// contract of `Book`.
+/// contract of `Book`, and here only what holds of its arguments and its result.
 #[derive(Drop)]
 pub struct SharedBook<'a> {
     lock: RwLock<Book<'a>>,
@@ -47,6 +48,13 @@ pub(crate) fn begin_seeing<'a>(
     Ok(ticket)
 }
 
+// Begins an instance at the newest number.
+fn begin_newest(book: &mut Book<'_>, program: usize, args: &[i64]) -> Result<Ticket, BeginFault>
+    ensures { IfErr result IsOfNoNumber }
+{
+    book.begin(program, args)
+}
+
 // Begins an instance at a number.
 fn begin_there(
     book: &mut Book<'_>,
@@ -57,6 +65,31 @@ fn begin_there(
     ensures { IsAtNumber start result }
 {
     book.begin_at(start, program, args)
+}
+
+// Commits the instance of a ticket by its run.
+fn commit_there<'a>(
+    book: &mut Book<'a>,
+    ticket: Ticket,
+    run: Run<'a>,
+) -> Result<Receipt, CommitFault<'a>>
+    ensures { IsCommitAnswer ticket run.entry result }
+{
+    book.commit(ticket, run)
+}
+
+// Ends the instance of a ticket by its run.
+fn end_there<'a>(book: &mut Book<'a>, ticket: Ticket, run: Run<'a>) -> Result<(), EndFault<'a>>
+    ensures { IsEndAnswer ticket run.entry result }
+{
+    book.end(ticket, run)
+}
+
+// Withdraws the instance of a ticket.
+fn withdraw_there(book: &mut Book<'_>, ticket: Ticket) -> Result<(), Ticket>
+    ensures { IfErr result (λ back. back ≡ ticket) }
+{
+    book.withdraw(ticket)
 }
 
 // How often the lock is tried, with others let run, before a thread sleeps until it is free. A hold
@@ -94,13 +127,11 @@ impl<'a> SharedBook<'a> {
     }
 
     /// `Book::begin`.
-    pub fn begin(
-        &self,
-        rt: &impl Wait,
-        program: usize,
-        args: &[i64],
-    ) -> Result<Ticket, BeginFault> {
-        self.writing(rt).begin(program, args)
+    pub fn begin(&self, rt: &impl Wait, program: usize, args: &[i64]) -> Result<Ticket, BeginFault>
+        ensures { IfErr result IsOfNoNumber }
+    {
+        let mut book = self.writing(rt);
+        begin_newest(&mut book, program, args)
     }
 
     /// `Book::begin_at`.
@@ -158,18 +189,27 @@ impl<'a> SharedBook<'a> {
         rt: &impl Wait,
         ticket: Ticket,
         run: Run<'a>,
-    ) -> Result<Receipt, CommitFault<'a>> {
-        self.writing(rt).commit(ticket, run)
+    ) -> Result<Receipt, CommitFault<'a>>
+        ensures { IsCommitAnswer ticket run.entry result }
+    {
+        let mut book = self.writing(rt);
+        commit_there(&mut book, ticket, run)
     }
 
     /// `Book::end`.
-    pub fn end(&self, rt: &impl Wait, ticket: Ticket, run: Run<'a>) -> Result<(), EndFault<'a>> {
-        self.writing(rt).end(ticket, run)
+    pub fn end(&self, rt: &impl Wait, ticket: Ticket, run: Run<'a>) -> Result<(), EndFault<'a>>
+        ensures { IsEndAnswer ticket run.entry result }
+    {
+        let mut book = self.writing(rt);
+        end_there(&mut book, ticket, run)
     }
 
     /// `Book::withdraw`.
-    pub fn withdraw(&self, rt: &impl Wait, ticket: Ticket) -> Result<(), Ticket> {
-        self.writing(rt).withdraw(ticket)
+    pub fn withdraw(&self, rt: &impl Wait, ticket: Ticket) -> Result<(), Ticket>
+        ensures { IfErr result (λ back. back ≡ ticket) }
+    {
+        let mut book = self.writing(rt);
+        withdraw_there(&mut book, ticket)
     }
 
     /// `Book::vacuum`.
@@ -178,8 +218,13 @@ impl<'a> SharedBook<'a> {
     }
 
     /// The book, once nobody shares it.
-    pub fn into_book(self) -> Book<'a> {
+    pub fn into_book(self) -> Book<'a>
+        ensures { IsTrueBook result }
+    {
         let SharedBook { lock } = self;
-        lock.into_inner()
+        let book = lock.into_inner();
+        // What the book holds is true, as its type says.
+        let _commits = book.commits();
+        book
     }
 }

@@ -1,6 +1,6 @@
 //! The threads that workers run in.
 
-ghost use Rattle.std.specs.Prelude.{◌≡◌, ◌≤◌, ◌<◌, ◌+◌, ◌*◌, [], length, vec_len};
+ghost use Rattle.std.specs.Prelude.{◌≡◌, ◌≤◌, ◌<◌, ◌+◌, ◌*◌, [], length};
 ghost use Rattle.job_counter.specs.Passes.{counter_of, left_of, name_of, numbers_of};
 
 use crate::desk::Locked;
@@ -35,6 +35,7 @@ fn work_shared<'r, 'a, R: Wait, G: Gate>(
         shared,
         gate,
         ended: 0,
+        last: None,
     };
     work(alloc, set, &mut desk, jobs, counter, pass)
 }

@@ -1,6 +1,6 @@
 //! What workers tell of jobs.
 
-ghost use Rattle.std.specs.Prelude.{◌≡◌, ◌<◌, ◌++◌, ◌∷◌, [], length, IfOk, OnOk, OnErr, Some, None, map, flat_map, option_copied};
+ghost use Rattle.std.specs.Prelude.{◌≡◌, ◌<◌, ◌∷◌, [], length, IfOk, Some, None, map, flat_map, option_copied};
 ghost use Rattle.si_workers.specs.declared.told.Told.TheVariants.{Nothing};
 ghost use Rattle.si_workers.specs.Gathered.{AreToldMore, with_one};
 ghost use Rattle.si_workers.specs.OutcomeIn.{outcome_in};

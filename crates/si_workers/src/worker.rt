@@ -1,10 +1,11 @@
 //! One worker: the jobs that it draws, one after another.
 
-ghost use Rattle.std.specs.Prelude.{◌≡◌, ◌+◌, ◌<◌, ◌≤◌, ◌^◌, ◌*◌, ⊤, [], map, take, length, Some, IfOk};
+ghost use Rattle.std.specs.Prelude.{◌≡◌, ◌+◌, ◌<◌, ◌≤◌, ◌^◌, [], take, length, Some, IfOk};
 ghost use Rattle.prog_tree.specs.declared.deed.End.TheVariants.{Ready};
 ghost use Rattle.job_counter.specs.Passes.{counter_of, name_of, numbers_of};
 ghost use Rattle.si_workers.specs.Ended.{ended_by_try};
-ghost use Rattle.si_workers.specs.Work.{AreDrawn, HasReplies, IsDrawn, TellsTries};
+ghost use Rattle.si_workers.specs.LastAnswer.{IsLastAnswer};
+ghost use Rattle.si_workers.specs.Work.{AreDrawn, HasCause, HasReplies, IsDrawn, IsReported, TellsTries};
 
 use crate::desk::Desk;
 use crate::job::{Job, JobEnd, JobOutcome};
@@ -117,6 +118,7 @@ fn commit<'a, D: Desk<'a>>(
 ) -> Result<JobEnd, Stop>
     requires { D.ended desk.old < 2 ^ 63 }
     ensures ended { D.ended desk.new ≡ D.ended desk.old + ended_by_try result }
+    ensures last { IfOk result (IsLastAnswer (D.last desk.new)) }
     ensures replies { IfOk result (HasReplies run.entry.replies) }
 {
     let Ok(replies) = Vec::from_slice(alloc, run.replies()) else {
@@ -148,7 +150,9 @@ fn abort<'a, D: Desk<'a>>(
     cause: Cause,
 ) -> Result<JobEnd, Stop>
     requires { D.ended desk.old < 2 ^ 63 }
-    ensures { D.ended desk.new ≡ D.ended desk.old + ended_by_try result }
+    ensures ended { D.ended desk.new ≡ D.ended desk.old + ended_by_try result }
+    ensures last { IfOk result (IsLastAnswer (D.last desk.new)) }
+    ensures cause { IfOk result (HasCause cause) }
 {
     match desk.end(ticket, run) {
         Ok(()) => Ok(JobEnd::Aborted(cause)),
@@ -174,7 +178,8 @@ fn try_once<'a, D: Desk<'a>>(
     job: &Job,
 ) -> Result<JobEnd, Stop>
     requires { D.ended desk.old < 2 ^ 63 }
-    ensures { D.ended desk.new ≡ D.ended desk.old + ended_by_try result }
+    ensures ended { D.ended desk.new ≡ D.ended desk.old + ended_by_try result }
+    ensures last { IfOk result (IsLastAnswer (D.last desk.new)) }
 {
     let ticket = match desk.begin(number, job.program, job.args.as_slice()) {
         Ok(ticket) => ticket,
@@ -205,6 +210,7 @@ pub(crate) fn run_job<'a, D: Desk<'a>>(
 ) -> Result<JobOutcome, Stop>
     requires { D.ended desk.old + 2 ^ 32 ≤ 2 ^ 63 }
     ensures over { TellsTries job.now (D.ended desk.old) (D.ended desk.new) result }
+    ensures last { IfOk result (λ outcome. IsLastAnswer (D.last desk.new) outcome.job_end) }
     ensures few { D.ended desk.new ≤ D.ended desk.old + 2 ^ 32 }
 {
     let tries = u64::from(job.retries) + 1;
@@ -242,6 +248,8 @@ fn draw_job<'a, D: Desk<'a>>(
     ensures counter { counter_of pass.new ≡ counter_of pass.old }
     ensures few { D.ended desk.new ≤ D.ended desk.old + 2 ^ 32 }
     ensures drawn { IsDrawn (numbers_of pass.old) (numbers_of pass.new) result }
+    ensures reported { IsReported jobs.now
+        (D.ended desk.old) (D.ended desk.new) (D.last desk.new) result }
 {
     let Some(drawn) = counter.draw(pass) else {
         return Ok(None);

@@ -1,8 +1,9 @@
-//! Two workers really at once: a gate lets each job go on only once the other has come so far.
+//! Two workers really at once: a gate lets each job go on only once another has come so far.
 
 use crate::jobs::lists::{Call, jobs_of, run};
 use crate::jobs::meeting::{Hold, Meeting};
 use crate::jobs::outcomes::{Came, check_outcomes};
+use crate::jobs::overtaking::Overtaking;
 use crate::sets::{LOOK, REGISTERS, SET, robust};
 use history_book::Clash;
 use prog_tree::Cell;
@@ -37,12 +38,14 @@ fn cross<R: Threads + Wait + Clock + Abort + Sync>(
     drop(finished);
 }
 
+const CELL: Cell = Cell {
+    table: 0,
+    first: 1,
+    second: 0,
+};
+
 const CLASH: Clash = Clash {
-    cell: Cell {
-        table: 0,
-        first: 1,
-        second: 0,
-    },
+    cell: CELL,
     number: 1,
 };
 
@@ -76,6 +79,37 @@ fn jobs_at_once_look_clash_and_are_begun_anew(rt: HostRuntime) -> Result<(), Fai
     for (calls, wanted) in &CASES {
         cross(&rt, rt.alloc(), &set, calls, wanted);
     }
+    drop(set);
+    Ok(())
+}
+
+/// Job 0 may be begun anew once, and a commit goes before each of its tries.
+const OVERTAKEN: [Call; 3] = [(SET, &[1, 6], 1), (SET, &[1, 5], 0), (SET, &[1, 7], 0)];
+
+const SECOND_CLASH: Clash = Clash {
+    cell: CELL,
+    number: 2,
+};
+
+const OVERTAKEN_ENDS: [(Came, u64); 3] = [
+    (Came::Clashed(SECOND_CLASH), 2),
+    (Came::Committed(1, None), 0),
+    (Came::Committed(2, None), 0),
+];
+
+fn overtake<R: Threads + Wait + Clock + Abort + Sync>(rt: &R, alloc: Global, set: &RobustSet) {
+    let jobs = jobs_of(alloc, &OVERTAKEN).expect(rt, "memory");
+    let gate = Overtaking::new(rt);
+    let finished = run(rt, alloc, set, &[], &jobs, 2, &gate);
+    assert!(rt; gate.was_kept(2));
+    check_outcomes(rt, finished.outcomes.as_slice(), &OVERTAKEN_ENDS);
+    drop(finished);
+}
+
+#[test]
+fn a_job_is_told_the_clash_of_its_last_try(rt: HostRuntime) -> Result<(), Fail> {
+    let set = robust(rt.alloc(), &REGISTERS)?;
+    overtake(&rt, rt.alloc(), &set);
     drop(set);
     Ok(())
 }

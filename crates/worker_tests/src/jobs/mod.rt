@@ -6,5 +6,6 @@ mod lists;
 mod meeting;
 mod memory_tests;
 mod outcomes;
+mod overtaking;
 mod reader_tests;
 mod transfer_tests;

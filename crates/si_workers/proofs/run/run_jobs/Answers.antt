@@ -1,4 +1,5 @@
 use Rattle.std.proofs.Common.{arith}
+use Rattle.prog_tree.specs.Tree.{draft_tree}
 use Rattle.si_workers.specs.Work.{AreTaken}
 use Rattle.si_workers.proofs.RunLaws.{promised}
 use Rattle.si_workers.proofs.run.run_jobs.Goals as goal
@@ -9,7 +10,7 @@ returns-clause-fault g c =
       number = (omega (arith, c.if-workers-eq0.false), omega (arith, c.if-workers-gt-MAX_WORKERS.false));
       few = omega (arith, c.if-jobs-gt-MAX_JOBS.false);
     } in
-    (promised c.args.set.now c.args.opening _ c.args.jobs.now c.args.workers c.in-Ok-ran.done.items _ c.settle.result c.in-Ok.ensures taken c.commits-commits.ensures.true_book c.settle.ensures).1
+    (promised (draft_tree c.args.set.now) c.args.opening _ c.args.jobs.now c.args.workers c.in-Ok-ran.done.items _ c.settle.result c.in-Ok.ensures taken c.into_book-book.ensures c.settle.ensures).1
 
 pub returns-clause-correspond : goal.returns-clause-correspond
 returns-clause-correspond g c =
@@ -17,4 +18,4 @@ returns-clause-correspond g c =
       number = (omega (arith, c.if-workers-eq0.false), omega (arith, c.if-workers-gt-MAX_WORKERS.false));
       few = omega (arith, c.if-jobs-gt-MAX_JOBS.false);
     } in
-    (promised c.args.set.now c.args.opening _ c.args.jobs.now c.args.workers c.in-Ok-ran.done.items _ c.settle.result c.in-Ok.ensures taken c.commits-commits.ensures.true_book c.settle.ensures).0
+    (promised (draft_tree c.args.set.now) c.args.opening _ c.args.jobs.now c.args.workers c.in-Ok-ran.done.items _ c.settle.result c.in-Ok.ensures taken c.into_book-book.ensures c.settle.ensures).0

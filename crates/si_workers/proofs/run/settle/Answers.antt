@@ -1,29 +1,29 @@
-use Rattle.std.proofs.Common.{◌≡◌, ◌∙◌, ℕ, false, length, List, flat_map, subst, rules, arith}
+use Rattle.std.proofs.Common.{◌≡◌, ℕ, false, length, List, flat_map, subst, rules, arith}
 use Rattle.prog_tree.specs.declared.program.Draft.{Draft}
-use Rattle.si_workers.specs.Settled.{AreToldRight, IsCompared, IsConcluded, lack_memory}
+use Rattle.prog_tree.specs.Tree.{draft_tree}
+use Rattle.si_workers.specs.Settled.{IsCompared, IsConcluded, lack_memory}
 use Rattle.si_workers.specs.Told.{AreTold}
 use Rattle.si_workers.specs.Work.{jobs_by}
 use Rattle.si_workers.specs.declared.job.Job.{Job}
-use Rattle.si_workers.specs.declared.run.Compared.{Compared}
 use Rattle.si_workers.specs.declared.run.Compared.TheVariants.{Correspond}
 use Rattle.si_workers.proofs.RunLaws.{conclude-settled, safe-over}
 use Rattle.si_workers.proofs.run.settle.Goals as goal
 use Rattle.si_workers.proofs.run.settle.Goals.{In-Ok-Correspond}
 
 -- what the comparison said of the set that work was begun with
-compared-right : (c : In-Ok-Correspond) → IsCompared c.args.set.now c.args.opening.now c.in-Ok.tidings.items c.args.book (Correspond c.in-Ok-Correspond.outcomes)
+compared-right : (c : In-Ok-Correspond) → IsCompared c.args.workers (draft_tree c.args.set.now) c.args.opening.now c.in-Ok.tidings.items c.args.book (Correspond c.in-Ok-Correspond.outcomes)
 compared-right c =
-    subst (λ (d : Draft). IsCompared d c.args.opening.now c.in-Ok.tidings.items c.args.book (Correspond c.in-Ok-Correspond.outcomes)) c.set.ensures.same
-    (subst (IsCompared c.set.result.now c.args.opening.now c.in-Ok.tidings.items c.args.book) c.in-Ok-Correspond.field-0-is c.in-Ok-Correspond.ensures)
+    subst (λ (d : Draft). IsCompared c.args.workers (draft_tree d) c.args.opening.now c.in-Ok.tidings.items c.args.book (Correspond c.in-Ok-Correspond.outcomes)) c.set.ensures.same
+    (subst (IsCompared c.args.workers (draft_tree c.set.result.now) c.args.opening.now c.in-Ok.tidings.items c.args.book) c.in-Ok-Correspond.field-0-is c.in-Ok-Correspond.ensures)
 
 pub conclude-requires : goal.conclude-requires
 conclude-requires c =
     let right = compared-right c in
-    record { safe = safe-over c.args.set.now c.args.opening.now c.args.book right.0.over c.set.ensures.safe }
+    record { safe = safe-over (draft_tree c.args.set.now) c.args.opening.now c.args.book right.0.over c.set.ensures.safe }
 
 pub returns-in-Ok-Correspond : goal.returns-in-Ok-Correspond
 returns-in-Ok-Correspond c =
-    let set = c.args.set.now in
+    let set = draft_tree c.args.set.now in
     let opening = c.args.opening.now in
     let jobs = c.args.jobs.now in
     let done = c.args.done.items in

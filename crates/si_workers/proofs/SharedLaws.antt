@@ -1,0 +1,77 @@
+-- What the contracts of a book say of the arguments and the results of its calls alone.
+use Rattle.std.proofs.Common.{◌≡◌, ℕ, ◌==◌, Bool, true, false, not, cond, List, length, Option, Some, None, Result, Ok, Err, IfOk, IfErr, sym, arith}
+use Rattle.std.specs.Prelude.{ℤ, OnOk}
+use Rattle.prog_tree.specs.declared.program.Program.{Program}
+use Rattle.prog_run.specs.View.{RunView}
+use Rattle.history_book.specs.Refusals.{IsCommitFault, IsEndFault, IsWithdrawal, HandsBack}
+use Rattle.history_book.specs.Runs.{IsAborted, IsCommitted}
+use Rattle.history_book.specs.Ticket.{TicketView}
+use Rattle.history_book.specs.View.{BookView, begin_fault_of, fault_by, full_fault, is_full, IsBeginRefusedBy}
+use Rattle.history_book.specs.declared.fault.BeginFault.{BeginFault}
+use Rattle.history_book.specs.declared.fault.BeginFault.TheVariants as begin
+use Rattle.history_book.specs.declared.fault.CommitFault.{CommitFault}
+use Rattle.history_book.specs.declared.fault.CommitFault.TheVariants as commit
+use Rattle.history_book.specs.declared.fault.EndFault.{EndFault}
+use Rattle.history_book.specs.declared.fault.EndFault.TheVariants as end
+use Rattle.history_book.specs.declared.fault.Unused.{Unused}
+use Rattle.si_workers.specs.Freshness.{IsOfNoNumber}
+use Rattle.si_workers.specs.HandedIn.{IsHandedBack, IsCommitAnswer, IsEndAnswer}
+
+-- ---- begins
+
+full-of-no-number : (v : BookView) (fault : BeginFault) → full_fault v ≡ Some fault → IsOfNoNumber fault
+full-of-no-number v fault is = go (is_full v) is
+  where
+    go : (b : Bool) → cond b (Some begin.Full) None ≡ Some fault → IsOfNoNumber fault
+    go true e = let same : begin.Full ≡ fault = cc in rw (sym same) tt
+    go false e = absurd (cc)
+
+found-of-no-number : (v : BookView) (found : Option Program) (args : List ℤ) (fault : BeginFault) → fault_by v found args ≡ Some fault → IsOfNoNumber fault
+found-of-no-number v None args fault is = let same : begin.NoSuchProgram ≡ fault = cc in rw (sym same) tt
+found-of-no-number v (Some p) args fault is = go (not (length p.params.items == length args)) is
+  where
+    go : (b : Bool) → cond b (Some begin.WrongArguments) (full_fault v) ≡ Some fault → IsOfNoNumber fault
+    go true e = let same : begin.WrongArguments ≡ fault = cc in rw (sym same) tt
+    go false e = full-of-no-number v fault e
+
+-- a begin at the newest number is refused by no number
+pub newest-of-no-number :
+    (v : BookView) (program : ℕ) (args : List ℤ) (r : Result TicketView BeginFault) →
+    IsBeginRefusedBy (begin_fault_of v program args) r → IfErr r IsOfNoNumber
+newest-of-no-number v program args (Ok t) refused = tt
+newest-of-no-number v program args (Err begin.Memory) refused = tt
+newest-of-no-number v program args (Err begin.NoSuchProgram) refused = tt
+newest-of-no-number v program args (Err begin.WrongArguments) refused = tt
+newest-of-no-number v program args (Err begin.Full) refused = tt
+newest-of-no-number v program args (Err (begin.TooOld floor)) refused = found-of-no-number v _ args (begin.TooOld floor) refused
+newest-of-no-number v program args (Err (begin.TooNew commits)) refused = found-of-no-number v _ args (begin.TooNew commits) refused
+
+-- ---- commits, ends and withdrawals
+
+back : (old new : BookView) (t : TicketView) (run : RunView) (unused : Unused) → HandsBack old new t run unused → IsHandedBack t run unused
+back old new t run unused hands = record { same_ticket = hands.same_ticket; same_run = hands.same_run }
+
+pub commit-answered :
+    (old new : BookView) (t : TicketView) (run : RunView) (r : Result ℕ CommitFault) →
+    IfOk r (IsCommitted old new t run) → IfErr r (IsCommitFault old new t run) → IsCommitAnswer t run r
+commit-answered old new t run (Ok number) ok err = (ok.ready, omega (arith, ok.number))
+commit-answered old new t run (Err (commit.Clashed clash)) ok err = err.ready
+commit-answered old new t run (Err (commit.NoSuchTicket unused)) ok err = back old new t run unused err.0
+commit-answered old new t run (Err (commit.NotReady unused)) ok err = (back old new t run unused err.0, err.2)
+commit-answered old new t run (Err (commit.ForeignRun place unused)) ok err = (back old new t run unused err.0, err.1)
+commit-answered old new t run (Err (commit.Memory unused)) ok err = (back old new t run unused err.0, err.1)
+
+pub end-answered :
+    (old new : BookView) (t : TicketView) (run : RunView) (r : Result (Unit {0}) EndFault) →
+    OnOk r (IsAborted old new t run) → IfErr r (IsEndFault old new t run) → IsEndAnswer t run r
+end-answered old new t run (Ok done) ok err = (ok.cause, ok.aborted)
+end-answered old new t run (Err (end.NoSuchTicket unused)) ok err = back old new t run unused err.0
+end-answered old new t run (Err (end.NotAborted unused)) ok err = (back old new t run unused err.0, err.2)
+end-answered old new t run (Err (end.ForeignRun place unused)) ok err = (back old new t run unused err.0, err.1)
+end-answered old new t run (Err (end.Memory unused)) ok err = (back old new t run unused err.0, err.1)
+
+pub withdrawn-back :
+    (old new : BookView) (t : TicketView) (r : Result (Unit {0}) TicketView) →
+    IsWithdrawal old new t r → IfErr r (λ back. back ≡ t)
+withdrawn-back old new t (Ok done) withdrawn = tt
+withdrawn-back old new t (Err ticket) withdrawn = withdrawn.1
