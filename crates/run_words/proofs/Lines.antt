@@ -1,20 +1,28 @@
--- One more line behind others.
-use Rattle.std.proofs.Common.{◌≡◌, ℕ, List, [], ◌∷◌, ◌++◌, refl, sym, ap, subst, ◌∙◌, append_assoc}
-use Rattle.std.proofs.lemmas.List.{append-nil}
-use Rattle.run_words.specs.Cycles.{first_or, IsLineOf, HasLines}
+-- One line of a cycle more, or one argument.
+use Rattle.std.proofs.Common.{◌≡◌, ◌<◌, ◌≤◌, ◌+◌, ℕ, ℤ, List, [], ◌++◌, drop, get_or, length, take, sym, ap, ◌∙◌, append_assoc}
+use Rattle.std.specs.List.{flat_map}
+use Rattle.std.proofs.lemmas.List.{append-nil, drop_all, drop_more, flat_map_more, take_more}
+use Rattle.history_book.specs.View.{BookView}
+use Rattle.run_words.specs.Cycles.{first_or, further_argument, line_text, lines_text}
 
--- what stands first is the same with one more behind, where that one came next
-first-append : (numbers : List ℕ) (number end : ℕ) → first_or (numbers ++ number ∷ []) end ≡ first_or numbers number
-first-append [] number end = refl
-first-append (first ∷ numbers) number end = refl
+pub line_more : (book : BookView) (cycle : List ℕ) (index d end : ℕ) (whole old new line : List ℕ) → index < length cycle
+    → line ≡ line_text book (get_or cycle index d) (first_or (drop (index + 1) cycle) end) → new ≡ old ++ line
+    → old ++ lines_text book (drop index cycle) end ≡ whole → new ++ lines_text book (drop (index + 1) cycle) end ≡ whole
+line_more book cycle index d end whole old new line within told is before =
+    let rest = lines_text book (drop (index + 1) cycle) end in
+    ap (λ l. l ++ rest) is ∙ append_assoc old line rest ∙ ap (λ l. old ++ (l ++ rest)) told
+    ∙ ap (λ l. old ++ lines_text book l end) (sym (drop_more cycle index d within)) ∙ before
 
-pub HasLines-append : (numbers : List ℕ) (number end : ℕ) (lines line : List ℕ) → HasLines numbers number lines → IsLineOf number end line → HasLines (numbers ++ number ∷ []) end (lines ++ line)
-HasLines-append [] number end lines line none is =
-    (line, [], is, refl, ap (λ front. front ++ line) none ∙ sym (append-nil line))
-HasLines-append (first ∷ numbers) number end lines line has is = (
-  has.0,
-  has.1 ++ line,
-  subst (λ (next : ℕ). IsLineOf first next has.0) (sym (first-append numbers number end)) has.2,
-  HasLines-append numbers number end has.1 line has.3 is,
-  ap (λ front. front ++ line) has.4 ∙ append_assoc has.0 has.1 line,
-)
+pub lines_at_end : (book : BookView) (cycle : List ℕ) (index end : ℕ) (whole text : List ℕ) → length cycle ≤ index
+    → text ++ lines_text book (drop index cycle) end ≡ whole → text ≡ whole
+lines_at_end book cycle index end whole text past is =
+    sym (append-nil text) ∙ ap (λ l. text ++ lines_text book l end) (sym (drop_all index cycle past)) ∙ is
+
+-- one further argument of a call
+pub arguments_more : (args : List ℤ) (index : ℕ) (d : ℤ) (old new : List ℕ) → index < length args
+    → new ≡ old ++ further_argument (get_or args index d) → old ≡ flat_map further_argument (take index args)
+    → new ≡ flat_map further_argument (take (index + 1) args)
+arguments_more args index d old new within is before =
+    let argument = get_or args index d in
+    is ∙ ap (λ l. l ++ further_argument argument) before ∙ flat_map_more further_argument [] (take index args) argument
+    ∙ ap (flat_map further_argument) (sym (take_more args index d within))

@@ -1,17 +1,64 @@
--- What the words of a cycle have to show.
-use Rattle.std.specs.Prelude.{ℕ, ◌≡◌, List, [], ◌∷◌, ◌++◌, codes}
-use Rattle.std.specs.Fmt.{decimal}
+-- What the words of a cycle say.
+use Rattle.std.specs.Prelude.{ℕ, ℤ, List, [], ◌∷◌, ◌++◌, Option, Some, None, codes}
+use Rattle.std.specs.Fmt.{decimal, signed_decimal}
+use Rattle.std.specs.List.{flat_map}
+use Rattle.prog_tree.specs.Syntax.{DraftTree}
+use Rattle.prog_tree.specs.Tree.{draft_tree}
+use Rattle.history_book.specs.Reasons.{told_reason}
+use Rattle.history_book.specs.View.{BookView, nth_row, traces_in}
+use Rattle.history_book.specs.declared.instances.row.HistoryRow.{HistoryRow}
+use Rattle.history_book.specs.declared.orders.reason.Reason.{Reason}
+use Rattle.history_book.specs.declared.orders.reason.Reason.TheVariants.{Both, Saw, Missed, MissedIn}
+use Rattle.fault_words.specs.Naming.{cell_text, program_name, region_text}
 
 -- what is said of the whole
 abbrev pub heading : List ℕ
 heading =
     codes "no serial order: each of these commits has to stand before the next, and the last before the first\n"
 
--- the line begins with the commit that it is about, and names the one that stands next
-abbrev pub IsLineOf : (number next : ℕ) → (line : List ℕ) → Type 0
-IsLineOf number next line =
-    (ahead behind : List ℕ)
-    × (line ≡ codes "commit " ++ (decimal number ++ (ahead ++ (codes " commit " ++ (decimal next ++ (behind ++ codes "\n"))))))
+abbrev pub further_argument : (argument : ℤ) → List ℕ
+further_argument argument = codes ", " ++ signed_decimal argument
+
+-- arguments with commas between them
+abbrev pub arguments_text : List ℤ → List ℕ
+arguments_text [] = []
+arguments_text (first ∷ others) = signed_decimal first ++ flat_map further_argument others
+
+-- an instance as a call, as `Transfer(3, 5, 20)`
+abbrev pub call_text : DraftTree → HistoryRow → List ℕ
+call_text set row = program_name set row.program ++ (codes "(" ++ (arguments_text row.args ++ codes ")"))
+
+-- a number that is of no commit has no call
+abbrev pub call_of : DraftTree → Option HistoryRow → List ℕ
+call_of set None = []
+call_of set (Some row) = call_text set row
+
+-- what the first of two commits did, before the number of the second
+abbrev pub ahead_text : DraftTree → Option Reason → List ℕ
+ahead_text set (Some (Both cell)) = codes "changed " ++ (cell_text set cell ++ codes " before")
+ahead_text set (Some (Saw cell)) = codes "changed " ++ (cell_text set cell ++ codes ", and")
+ahead_text set (Some (Missed cell)) = codes "looked at " ++ (cell_text set cell ++ codes ", and missed what")
+ahead_text set (Some (MissedIn region cell)) = codes "looked at " ++ (region_text set region ++ codes ", and missed what")
+ahead_text set None = codes "stands before"
+
+-- what the second did, behind its number
+abbrev pub behind_text : DraftTree → Option Reason → List ℕ
+behind_text set (Some (Both cell)) = codes " did"
+behind_text set (Some (Saw cell)) = codes " saw it"
+behind_text set (Some (Missed cell)) = codes " changed there"
+behind_text set (Some (MissedIn region cell)) = codes " changed at " ++ cell_text set cell
+behind_text set None = []
+
+-- the line of a commit, with its call and why it has to stand before the next
+abbrev pub commits_text : DraftTree → (call : List ℕ) → Option Reason → (number next : ℕ) → List ℕ
+commits_text set call reason number next =
+    codes "commit " ++ (decimal number ++ (codes ", `" ++ (call ++ (codes "`, " ++ (ahead_text set reason
+    ++ (codes " commit " ++ (decimal next ++ (behind_text set reason ++ codes "\n"))))))))
+
+abbrev pub line_text : BookView → (number next : ℕ) → List ℕ
+line_text book number next =
+    commits_text (draft_tree book.set) (call_of (draft_tree book.set) (nth_row book.rows number))
+    (told_reason (traces_in book) number next) number next
 
 -- the first of some numbers, or another where there is none
 abbrev pub first_or : (numbers : List ℕ) → (other : ℕ) → ℕ
@@ -19,13 +66,10 @@ first_or [] other = other
 first_or (number ∷ numbers) other = number
 
 -- a line for each commit, in their order; the last of them stands before the commit `end`
-abbrev pub HasLines : (numbers : List ℕ) → (end : ℕ) → (lines : List ℕ) → Type 0
-HasLines [] end lines = lines ≡ []
-HasLines (number ∷ numbers) end lines =
-    (line rest : List ℕ) × IsLineOf number (first_or numbers end) line × HasLines numbers end rest × (lines ≡ line ++ rest)
+abbrev pub lines_text : BookView → (numbers : List ℕ) → (end : ℕ) → List ℕ
+lines_text book [] end = []
+lines_text book (number ∷ numbers) end = line_text book number (first_or numbers end) ++ lines_text book numbers end
 
--- the words have a line for each commit of a cycle, along it, and no more behind a heading; the last stands before the
--- first
-abbrev pub ShowsCycle : (numbers : List ℕ) → (words : List ℕ) → Type 0
-ShowsCycle numbers words =
-    (lines : List ℕ) × HasLines numbers (first_or numbers 0) lines × (words ≡ heading ++ lines)
+-- a line for each commit of a cycle, along it, behind a heading; the last stands before the first
+abbrev pub cycle_text : BookView → (numbers : List ℕ) → List ℕ
+cycle_text book numbers = heading ++ lines_text book numbers (first_or numbers 0)

@@ -1,9 +1,10 @@
 -- What the words of jobs that did not commit have to show.
-use Rattle.std.specs.Prelude.{ℕ, ◌≡◌, ◌-◌, ◌==◌, ◌⊎◌, Bool, true, false, List, [], ◌∷◌, ◌++◌, Option, Some, None, codes, filter, length, slice_get, take, if◌then◌else◌}
+use Rattle.std.specs.Prelude.{ℕ, ◌≡◌, ◌-◌, ◌==◌, ◌⊎◌, Bool, true, false, List, [], ◌∷◌, ◌++◌, Option, Some, None, codes, filter, length, map, slice_get, take, if◌then◌else◌}
 use Rattle.std.specs.Fmt.{decimal}
 use Rattle.std.specs.List.{range_with_len}
 use Rattle.text_places.specs.Landmarks.{HasNoJob, IsJobPlace}
 use Rattle.text_places.specs.Places.{line_number}
+use Rattle.text_places.specs.Quotes.{visible}
 use Rattle.si_workers.specs.declared.job.JobEnd.{JobEnd}
 use Rattle.si_workers.specs.declared.job.JobEnd.TheVariants as end
 use Rattle.si_workers.specs.declared.job.JobOutcome.{JobOutcome}
@@ -44,11 +45,11 @@ IsJobText ahead part number text =
     ((place : ℕ) × IsJobPlace part number place × (text ≡ place_text ahead part place))
     ⊎ (HasNoJob part number × (text ≡ codes "job " ++ decimal number))
 
--- the line tells where the job of this number stands, and then what there is to say of it
+-- the one line tells where the job of this number stands, and then what there is to say of it
 abbrev pub TellsJob : (ahead part : List ℕ) → (number : ℕ) → (line : List ℕ) → Type 0
 TellsJob ahead part number line =
     (text sentence : List ℕ) × IsJobText ahead part number text
-    × (line ≡ codes "  " ++ (text ++ (codes ": " ++ (sentence ++ codes "\n"))))
+    × (line ≡ codes "  " ++ (text ++ (codes ": " ++ (map visible sentence ++ codes "\n"))))
 
 -- a line for each of these jobs, in their order
 abbrev pub TellsJobs : (ahead part : List ℕ) → (numbers : List ℕ) → (lines : List ℕ) → Type 0

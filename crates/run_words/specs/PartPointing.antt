@@ -58,9 +58,14 @@ is_separator_at input place = ends_line (take place input) && begins_separator (
 abbrev pub IsSeparatorPlace : (input : List ℕ) → (place : ℕ) → Type 0
 IsSeparatorPlace input place = is_separator_at input place ≡ true
 
--- the words point at a line `%%`
+-- the last line `%%` begins here
+pub record IsLastSeparator (input : List ℕ) (place : ℕ) : Type 0 where
+  pub stands : IsSeparatorPlace input place
+  pub last : (other : ℕ) → place < other → other < length input → ¬ IsSeparatorPlace input other
+
+-- the words point at the last line `%%`
 abbrev pub PointsAtSeparator : (input : List ℕ) → (words : List ℕ) → Type 0
-PointsAtSeparator input words = (place : ℕ) × IsSeparatorPlace input place × PointsAt input place words
+PointsAtSeparator input words = (place : ℕ) × IsLastSeparator input place × PointsAt input place words
 
 -- no line is `%%`
 abbrev pub HasNoSeparator : (input : List ℕ) → Type 0

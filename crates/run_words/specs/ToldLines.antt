@@ -1,5 +1,7 @@
 -- The lines of a script that do nothing, as they are told.
-use Rattle.std.specs.Prelude.{ℕ, List, [], Option, Some, None, if◌then◌else◌, slice_get}
+use Rattle.std.specs.Prelude.{ℕ, ◌≡◌, ◌⊎◌, Bool, true, false, List, [], ◌∷◌, ◌++◌, Option, Some, None, if◌then◌else◌, slice_get}
+use Rattle.si_engine.specs.declared.event.Reply.{Reply}
+use Rattle.si_engine.specs.declared.event.Reply.TheVariants as reply
 use Rattle.run_words.specs.declared.refusals.Refusals.{Refusals}
 use Rattle.run_words.specs.declared.refusals.Refused.{Refused}
 
@@ -14,3 +16,22 @@ line_of (Some refused) = Some refused.line
 -- the line in the script of the first that is told
 abbrev pub first_told : Refusals → Option ℕ
 first_told refusals = line_of (slice_get (told_lines refusals) 0)
+
+-- an event that is answered by this does nothing, and its line may be told
+abbrev pub is_refusal : Reply → Bool
+is_refusal reply.WrongArguments = true
+is_refusal (reply.TooOld floor) = true
+is_refusal (reply.TooNew commits) = true
+is_refusal reply.Full = true
+is_refusal reply.NoSuchInstance = true
+is_refusal reply.NotReady = true
+is_refusal reply.Ended = true
+is_refusal other = false
+
+-- the lines stay, or one more stands behind them
+abbrev pub IsOneMore : (before after : List Refused) → Type 0
+IsOneMore before after = (after ≡ before) ⊎ ((refused : Refused) × (after ≡ before ++ refused ∷ []))
+
+-- at most one line more is told, behind those before; where memory runs out for them, none is told any more
+abbrev pub TellsOneMore : (before after : Refusals) → Type 0
+TellsOneMore before after = IsOneMore (told_lines before) (told_lines after) ⊎ (after.is_lost ≡ true)

@@ -7,8 +7,8 @@ use std::alloc::{AllocError, Global};
 
 const ZEROS: [i64; MAX_PARAMETERS] = [0; MAX_PARAMETERS];
 
-/// From which number to which instances can begin, and the line of the vacuum since which this is so; none where no
-/// vacuum gave a number up.
+/// From which number to which instances can begin, and the line of the vacuum since which this is
+/// so; none where no vacuum gave a number up.
 #[derive(Clone, Copy, Debug, PartialEq, Eq)]
 pub struct Numbers {
     floor: u64,

@@ -1,101 +1,135 @@
 //! The cycle that the commits of a book form, in words.
-ghost use Rattle.std.specs.Prelude.{◌≡◌, ◌++◌, List, ℕ, IfOk, OnOk, string_bytes};
-ghost use Rattle.run_words.specs.Cycles.{first_or, HasLines, IsLineOf, ShowsCycle};
+ghost use Rattle.std.specs.Prelude.{◌≡◌, ◌++◌, IfOk, OnOk, flat_map, option_copied, string_bytes};
+ghost use Rattle.prog_tree.specs.Tree.{draft_tree};
+ghost use Rattle.run_words.specs.Cycles.{ahead_text, arguments_text, behind_text, call_of, call_text, commits_text, cycle_text, first_or, further_argument, line_text, lines_text};
 
 use fault_words::{cell_text, program_name, region_text};
 use history_book::{Book, HistoryRow, Reason};
 use prog_check::ProgramSet;
 use std::alloc::{AllocError, Global};
-use text_places::push_listed;
+
+fn further_argument(alloc: Global, argument: i64) -> Result<String, AllocError>
+    ensures { IfOk result (λ text. string_bytes text ≡ further_argument argument) }
+{
+    format!(in alloc; ", {argument}")
+}
+
+fn further_arguments(alloc: Global, args: &[i64]) -> Result<String, AllocError>
+    ensures { IfOk result (λ text. string_bytes text ≡ flat_map further_argument args.now) }
+{
+    let mut text = String::new(alloc);
+    for argument in args {
+        let further = further_argument(alloc, *argument)?;
+        text.push_str(&further)?;
+    }
+    Ok(text)
+}
+
+// Arguments with commas between them.
+fn arguments_text(alloc: Global, args: &[i64]) -> Result<String, AllocError>
+    ensures { IfOk result (λ text. string_bytes text ≡ arguments_text args.now) }
+{
+    let [first, others @ ..] = args else {
+        return Ok(String::new(alloc));
+    };
+    let further = further_arguments(alloc, others)?;
+    format!(in alloc; "{first}{further}")
+}
 
 // An instance as a call.
-fn call_text(alloc: Global, set: &ProgramSet, row: &HistoryRow) -> Result<String, AllocError> {
+fn call_text(alloc: Global, set: &ProgramSet, row: &HistoryRow) -> Result<String, AllocError>
+    ensures { IfOk result (λ text. string_bytes text ≡ call_text (draft_tree set.now) row.now) }
+{
     let name = program_name(set, row.program);
-    let mut arguments = String::new(alloc);
-    for argument in row.args.as_slice() {
-        push_listed(&mut arguments, &format!(in alloc; "{argument}")?)?;
-    }
+    let arguments = arguments_text(alloc, row.args.as_slice())?;
     format!(in alloc; "{name}({arguments})")
 }
 
-// The words of a reason: what stands ahead of the second commit's number, and what stands behind it.
-struct Words {
-    ahead: String,
-    behind: String,
-}
-
-// What the first of two commits and the second did to a cell.
-fn reason_words(
-    alloc: Global,
-    set: &ProgramSet,
-    reason: Option<Reason>,
-) -> Result<Words, AllocError> {
-    match reason {
-        Some(Reason::Both(cell)) => {
-            let cell = cell_text(alloc, set, cell)?;
-            Ok(Words {
-                ahead: format!(in alloc; "changed {cell} before")?,
-                behind: format!(in alloc; " did")?,
-            })
-        }
-        Some(Reason::Saw(cell)) => {
-            let cell = cell_text(alloc, set, cell)?;
-            Ok(Words {
-                ahead: format!(in alloc; "changed {cell}, and")?,
-                behind: format!(in alloc; " saw it")?,
-            })
-        }
-        Some(Reason::Missed(cell)) => {
-            let cell = cell_text(alloc, set, cell)?;
-            Ok(Words {
-                ahead: format!(in alloc; "looked at {cell}, and missed what")?,
-                behind: format!(in alloc; " changed there")?,
-            })
-        }
-        Some(Reason::MissedIn(region, cell)) => {
-            let region = region_text(alloc, set, region)?;
-            let cell = cell_text(alloc, set, cell)?;
-            Ok(Words {
-                ahead: format!(in alloc; "looked at {region}, and missed what")?,
-                behind: format!(in alloc; " changed at {cell}")?,
-            })
-        }
-        None => Ok(Words {
-            ahead: format!(in alloc; "stands before")?,
-            behind: String::new(alloc),
-        }),
+// The call of an instance, where there is one.
+fn call_of(alloc: Global, set: &ProgramSet, row: Option<&HistoryRow>) -> Result<String, AllocError>
+    ensures { IfOk result (λ text. string_bytes text
+        ≡ call_of (draft_tree set.now) (option_copied row.entry)) }
+{
+    match row {
+        Some(row) => call_text(alloc, set, row),
+        None => Ok(String::new(alloc)),
     }
 }
 
-// What is said of two commits, of which the first has to stand before the second.
-fn of_commits(
-    alloc: Global,
-    first: usize,
-    ahead: &str,
-    second: usize,
-    behind: &str,
-) -> Result<String, AllocError>
-    ensures { IfOk result (λ line. IsLineOf first second (string_bytes line)) }
+// What the first of two commits did, before the number of the second.
+fn ahead_text(alloc: Global, set: &ProgramSet, reason: Option<Reason>) -> Result<String, AllocError>
+    ensures { IfOk result (λ text. string_bytes text ≡ ahead_text (draft_tree set.now) reason) }
 {
-    format!(in alloc; "commit {first}{ahead} commit {second}{behind}\n")
+    match reason {
+        Some(Reason::Both(cell)) => {
+            let cell = cell_text(alloc, set, cell)?;
+            format!(in alloc; "changed {cell} before")
+        }
+        Some(Reason::Saw(cell)) => {
+            let cell = cell_text(alloc, set, cell)?;
+            format!(in alloc; "changed {cell}, and")
+        }
+        Some(Reason::Missed(cell)) => {
+            let cell = cell_text(alloc, set, cell)?;
+            format!(in alloc; "looked at {cell}, and missed what")
+        }
+        Some(Reason::MissedIn(region, _)) => {
+            let region = region_text(alloc, set, region)?;
+            format!(in alloc; "looked at {region}, and missed what")
+        }
+        None => format!(in alloc; "stands before"),
+    }
 }
 
-// The line of a commit: its instance, and why it has to stand before the next one.
-fn line_of(
+// What the second did, behind its number.
+fn behind_text(
+    alloc: Global,
+    set: &ProgramSet,
+    reason: Option<Reason>,
+) -> Result<String, AllocError>
+    ensures { IfOk result (λ text. string_bytes text ≡ behind_text (draft_tree set.now) reason) }
+{
+    match reason {
+        Some(Reason::Both(_)) => format!(in alloc; " did"),
+        Some(Reason::Saw(_)) => format!(in alloc; " saw it"),
+        Some(Reason::Missed(_)) => format!(in alloc; " changed there"),
+        Some(Reason::MissedIn(_, cell)) => {
+            let cell = cell_text(alloc, set, cell)?;
+            format!(in alloc; " changed at {cell}")
+        }
+        None => Ok(String::new(alloc)),
+    }
+}
+
+// The line of a commit, with its call and why it has to stand before the next.
+fn commits_text(
+    alloc: Global,
+    set: &ProgramSet,
+    call: &str,
+    reason: Option<Reason>,
+    first: usize,
+    second: usize,
+) -> Result<String, AllocError>
+    ensures { IfOk result (λ line. string_bytes line
+        ≡ commits_text (draft_tree set.now) call.now reason first second) }
+{
+    let ahead = ahead_text(alloc, set, reason)?;
+    let behind = behind_text(alloc, set, reason)?;
+    format!(in alloc; "commit {first}, `{call}`, {ahead} commit {second}{behind}\n")
+}
+
+fn line_text(
     alloc: Global,
     book: &Book<'_>,
     first: usize,
     second: usize,
 ) -> Result<String, AllocError>
-    ensures { IfOk result (λ line. IsLineOf first second (string_bytes line)) }
+    ensures { IfOk result (λ line. string_bytes line ≡ line_text book.now first second) }
 {
-    let call = match book.nth_commit(u64::try_from(first).unwrap_or(0)) {
-        Some(row) => call_text(alloc, book.set(), row)?,
-        None => String::new(alloc),
-    };
-    let Words { ahead, behind } = reason_words(alloc, book.set(), book.reason(first, second))?;
-    let ahead = format!(in alloc; ", `{call}`, {ahead}")?;
-    of_commits(alloc, first, &ahead, second, &behind)
+    let set = book.set();
+    let call = call_of(alloc, set, book.nth_commit(first as u64))?;
+    let reason = book.reason(first, second);
+    commits_text(alloc, set, &call, reason, first, second)
 }
 
 // The first of some commits, or another where there is none.
@@ -115,13 +149,13 @@ fn push_lines(
     cycle: &[usize],
     out: &mut String,
 ) -> Result<(), AllocError>
-    ensures { OnOk result ((lines : List ℕ) × HasLines cycle.now (first_or cycle.now 0) lines
-        × (string_bytes out.new ≡ string_bytes out.old ++ lines)) }
+    ensures { OnOk result (string_bytes out.new
+        ≡ string_bytes out.old ++ lines_text book.now cycle.now (first_or cycle.now 0)) }
 {
     let first = first_or(cycle, 0);
     for index in 0..cycle.len() {
         let next = first_or(&cycle[index + 1..], first);
-        let line = line_of(alloc, book, cycle[index], next)?;
+        let line = line_text(alloc, book, cycle[index], next)?;
         out.push_str(&line)?;
     }
     Ok(())
@@ -130,7 +164,7 @@ fn push_lines(
 /// Why the commits of a book have no serial order: the cycle that its `serial_order` answers, commit
 /// by commit.
 pub fn cycle_words(alloc: Global, book: &Book<'_>, cycle: &[usize]) -> Result<String, AllocError>
-    ensures { IfOk result (λ words. ShowsCycle cycle.now (string_bytes words)) }
+    ensures { IfOk result (λ words. string_bytes words ≡ cycle_text book.now cycle.now) }
 {
     let mut words = format!(in alloc;
         "no serial order: each of these commits has to stand before the next, and the last before the first\n"

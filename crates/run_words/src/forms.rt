@@ -1,6 +1,6 @@
 //! The forms that lines have.
 
-use si_engine::{MAX_STEPS, unsigned};
+use si_engine::{MAX_STEPS, number, unsigned};
 use std::alloc::{AllocError, Global};
 
 /// What the lines of a part are.
@@ -64,20 +64,17 @@ pub fn form_of(alloc: Global, first: &str) -> Result<String, AllocError> {
     }
 }
 
+// Whether a word is a number that may stand behind another word: one of commits behind `at`.
 fn is_number(word: &str, before: &str) -> bool {
-    if word.starts_with('+') {
-        return false;
-    }
     if before == "at" {
         unsigned(word.as_bytes()).is_some()
     } else {
-        word.parse::<i64>().is_ok()
+        number(word.as_bytes()).is_some()
     }
 }
 
 fn is_retries(word: &str) -> bool {
-    let number = word.parse::<i64>().unwrap_or(-1);
-    is_number(word, "") && u32::try_from(number).is_ok()
+    number(word.as_bytes()).is_some_and(|number| u32::try_from(number).is_ok())
 }
 
 // The first word from a place on that stands in the place of a number and is none.

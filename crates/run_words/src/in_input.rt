@@ -3,7 +3,7 @@ ghost use Rattle.std.specs.Prelude.{◌≡◌, IfOk, string_bytes};
 ghost use Rattle.run_words.specs.InInput.{input_line, input_line_text, numbered_text, PointsInPart};
 
 use std::alloc::{AllocError, Global};
-use text_places::{before, feeds, point_out};
+use text_places::{before, feeds, point_out, visible_text};
 
 // The line in the whole input, with the bytes of the input that stand ahead of the part.
 #[tactic(auto, using(crate::proofs::WholeInput::line_behind))]
@@ -37,8 +37,8 @@ pub fn input_line_text(
     numbered_text(alloc, input_line(ahead, part, place))
 }
 
-/// Says a sentence of a place of a part, as `point_out` does, and behind it the line in the whole
-/// input.
+/// Says a sentence of a place of a part in one line, as `point_out` does, and behind it the line in
+/// the whole input.
 pub fn point_in_part(
     alloc: Global,
     ahead: &[u8],
@@ -49,7 +49,8 @@ pub fn point_in_part(
     ensures { IfOk result (λ words. PointsInPart ahead.now part.now place (string_bytes words)) }
 {
     let line = input_line_text(alloc, ahead, part, place)?;
-    let sentence = format!(in alloc; "{sentence}{line}")?;
+    let shown = visible_text(alloc, sentence.as_bytes())?;
+    let sentence = format!(in alloc; "{shown}{line}")?;
     let words = point_out(alloc, part, place, &sentence)?;
     Ok(words)
 }

@@ -1,8 +1,8 @@
 //! Why a job did not commit, in words.
 
 use crate::limits::MAX_ARGUMENTS;
-use crate::record_faults::cause_text;
 use crate::refusals::{full_words, wrong_arguments};
+use crate::shared_words::cause_text;
 use fault_words::{cell_text, program_name, program_params};
 use history_book::BeginFault;
 use prog_check::ProgramSet;

@@ -1,6 +1,6 @@
-//! What runs, audits and work have to say in words, for people: what is wrong with the parts of their input, with a line
-//! of a script, of a list of records or of a list of jobs, and with a record; which jobs did not commit; and why commits
-//! have no serial order.
+//! What runs, audits and work have to say in words, for people: what is wrong with the parts of
+//! their input, with a line of a script, of a list of records or of a list of jobs, and with a
+//! record; which jobs did not commit; and why commits have no serial order.
 #![tactic(auto)]
 
 mod begin_numbers;
@@ -18,6 +18,7 @@ mod part_faults;
 mod record_faults;
 mod refusals;
 mod replay;
+mod shared_words;
 
 pub use cycle::cycle_words;
 pub use line_faults::{PartKind, line_fault_words};

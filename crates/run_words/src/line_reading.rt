@@ -3,26 +3,15 @@ ghost use Rattle.std.specs.Prelude.{IfOk, string_bytes};
 ghost use Rattle.run_words.specs.Shown.{IsShownWord};
 
 use crate::limits::MAX_WORD;
+use si_engine::line_words;
 use std::alloc::{AllocError, Global};
-use text_places::{as_text, before, behind, line_at, line_front, visible_text};
+use text_places::{as_text, before, line_at, line_front, visible_text};
 
-fn begins_word(line: &[u8], place: usize) -> bool {
-    line.get(place) != Some(&b' ') && !matches!(before(line, place), [.., last] if *last != b' ')
-}
-
-fn word_at(line: &[u8], place: usize) -> &str {
-    let rest = behind(line, place);
-    let len = rest.iter().take_while(|byte| **byte != b' ').count();
-    as_text(before(rest, len))
-}
-
-/// The words of a line, which spaces part.
+/// The words of a line, which spaces part; empty where one is no text.
 pub fn words_of(alloc: Global, line: &[u8]) -> Result<Vec<&str>, AllocError> {
     let mut words = Vec::new(alloc);
-    for place in 0..line.len() {
-        if begins_word(line, place) {
-            words.push(word_at(line, place))?;
-        }
+    for word in line_words(alloc, line)?.iter() {
+        words.push(as_text(word.as_bytes()))?;
     }
     Ok(words)
 }

@@ -10,7 +10,7 @@ use crate::limits::MAX_TOLD;
 use prog_check::ProgramSet;
 use si_workers::{Job, JobEnd, JobOutcome};
 use std::alloc::{AllocError, Global};
-use text_places::line_number;
+use text_places::{line_number, visible_text};
 
 /// How a job ended that did not commit.
 #[derive(Clone, Copy, Debug, PartialEq, Eq)]
@@ -118,7 +118,8 @@ fn job_line(
     ensures { IfOk result (λ line. TellsJob ahead.now part.now number (string_bytes line)) }
 {
     let text = job_text(alloc, ahead, part, number, spot)?;
-    let line = format!(in alloc; "  {text}: {sentence}\n")?;
+    let shown = visible_text(alloc, sentence.as_bytes())?;
+    let line = format!(in alloc; "  {text}: {shown}\n")?;
     Ok(line)
 }
 

@@ -1,7 +1,7 @@
 //! What is wrong with the parts of an input, in words.
 ghost use Rattle.std.specs.Prelude.{◌≡◌, ◌<◌, IfNone, IfOk, IfSome, length, string_bytes};
 ghost use Rattle.fault_words.specs.Pointing.{PointsAt};
-ghost use Rattle.run_words.specs.PartPointing.{begins_separator, is_separator_at, HasNoSeparator, IsSeparatorPlace, PointsAtSeparator};
+ghost use Rattle.run_words.specs.PartPointing.{begins_separator, is_separator_at, HasNoSeparator, IsLastSeparator, PointsAtSeparator};
 
 use fault_words::point_at;
 use std::alloc::{AllocError, Global};
@@ -67,7 +67,7 @@ pub fn missing_part_words(alloc: Global, input: &[u8], wanted: &str) -> Result<S
 
 // The last line `%%`, which is one too many.
 fn last_separator(input: &[u8]) -> Option<usize>
-    ensures found { IfSome result (IsSeparatorPlace input.now) }
+    ensures found { IfSome result (IsLastSeparator input.now) }
     ensures none { IfNone result (HasNoSeparator input.now) }
 {
     for tried in 0..input.len() {

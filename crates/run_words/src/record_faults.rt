@@ -4,10 +4,11 @@ ghost use Rattle.run_words.specs.PartPointing.{record_of_fault, HasNoRecordOf, P
 
 use crate::in_input::{input_line_text, point_in_part};
 use crate::replay::ending;
+use crate::shared_words::{cause_text, counted};
 use fault_words::{cell_text, ordinal, program_name, program_params};
 use history_book::{AuditFault, HistoryRow, MAX_ENDINGS, RowFault};
 use prog_check::ProgramSet;
-use prog_tree::{Cause, Sequence};
+use prog_tree::Sequence;
 use si_engine::{Bytes, Records, Reply, read_records};
 use std::alloc::{AllocError, Global};
 use text_places::{line_number, record_place};
@@ -45,22 +46,6 @@ fn numbers_text(alloc: Global, numbers: &[i64]) -> Result<String, AllocError> {
     Ok(text)
 }
 
-/// Why an instance aborts.
-pub fn cause_text(alloc: Global, set: &ProgramSet, cause: Cause) -> Result<String, AllocError> {
-    match cause {
-        Cause::Asked => format!(in alloc; "by an `abort;`"),
-        Cause::Missing(cell) => {
-            let cell = cell_text(alloc, set, cell)?;
-            format!(in alloc; "since {cell} is absent there")
-        }
-        Cause::Present(cell) => {
-            let cell = cell_text(alloc, set, cell)?;
-            format!(in alloc; "since {cell} is there already")
-        }
-        Cause::Overflow => format!(in alloc; "since a result is outside the numbers there are"),
-    }
-}
-
 // How the instance of a record ends, in words.
 fn ending_text(alloc: Global, set: &ProgramSet, cut: Cut) -> Result<String, AllocError> {
     let Cut { records, row } = cut;
@@ -83,12 +68,6 @@ fn ending_text(alloc: Global, set: &ProgramSet, cut: Cut) -> Result<String, Allo
         }
         _ => format!(in alloc; "on the rows that it saw `{name}` does something else"),
     }
-}
-
-/// So many of something.
-pub fn counted(alloc: Global, count: usize, what: &str) -> Result<String, AllocError> {
-    let ending = if count == 1 { "" } else { "s" };
-    format!(in alloc; "{count} {what}{ending}")
 }
 
 fn argument_count(alloc: Global, set: &ProgramSet, row: &HistoryRow) -> Result<String, AllocError> {
@@ -133,6 +112,21 @@ fn clash_text(
     }
 }
 
+// What is wrong with a record, which was read.
+fn read_row_sentence(
+    alloc: Global,
+    set: &ProgramSet,
+    number: usize,
+    cut: Cut,
+    fault: RowFault,
+) -> Result<String, AllocError> {
+    match fault {
+        RowFault::WrongArguments => argument_count(alloc, set, &cut.row),
+        RowFault::StartTooLate => late_start(alloc, number, cut.row.start),
+        _ => ending_text(alloc, set, cut),
+    }
+}
+
 // What is wrong with a record.
 fn row_sentence(
     alloc: Global,
@@ -141,15 +135,16 @@ fn row_sentence(
     number: usize,
     fault: RowFault,
 ) -> Result<String, AllocError> {
-    let Some(cut) = cut_at(alloc, set, listed.part, number) else {
-        return format!(in alloc; "no run of the set can have left this record");
-    };
     match fault {
         RowFault::NoSuchProgram => format!(in alloc; "the set has no such program"),
-        RowFault::WrongArguments => argument_count(alloc, set, &cut.row),
-        RowFault::StartTooLate => late_start(alloc, number, cut.row.start),
-        RowFault::NotReady | RowFault::WrongReplies => ending_text(alloc, set, cut),
         RowFault::Clashed(clash) => clash_text(alloc, set, listed, clash),
+        RowFault::WrongArguments
+        | RowFault::StartTooLate
+        | RowFault::NotReady
+        | RowFault::WrongReplies => match cut_at(alloc, set, listed.part, number) {
+            Some(cut) => read_row_sentence(alloc, set, number, cut, fault),
+            None => format!(in alloc; "no run of the set can have left this record"),
+        },
     }
 }
 

@@ -1,14 +1,14 @@
 //! The lines of a script that do nothing, in words.
-ghost use Rattle.std.specs.Prelude.{◌≡◌, ◌↔◌, [], Some, IsTrue, IfNone, IfOk, IfSome, OnOk, slice_get, string_bytes};
+ghost use Rattle.std.specs.Prelude.{◌≡◌, ◌↔◌, [], false, None, Some, IsOk, IsTrue, IfNone, IfOk, IfSome, OnOk, slice_get, string_bytes};
 ghost use Rattle.text_places.specs.Places.{HasNoLine};
 ghost use Rattle.run_words.specs.PartPointing.{BeginsAtLine, Extends, HasNoLineOf, PointsAtLineIn};
-ghost use Rattle.run_words.specs.ToldLines.{first_told, told_lines};
+ghost use Rattle.run_words.specs.ToldLines.{first_told, is_refusal, told_lines, IsOneMore, TellsOneMore};
 
 use crate::begin_numbers::{Numbers, Vacuums, number_words};
 use crate::event_lines::EventLines;
 use crate::in_input::point_in_part;
 use crate::limits::MAX_TOLD;
-use crate::record_faults::counted;
+use crate::shared_words::counted;
 use fault_words::{program_name, program_params};
 use history_book::{Book, MAX_ENDINGS};
 use prog_check::ProgramSet;
@@ -54,7 +54,9 @@ pub struct Refusals {
     is_lost: bool,
 }
 
-fn refusal_of_instance(instance: usize, reply: &Reply) -> Option<Refusal> {
+fn refusal_of_instance(instance: usize, reply: &Reply) -> Option<Refusal>
+    ensures { is_refusal reply.now ≡ false → result ≡ None }
+{
     match reply {
         Reply::NoSuchInstance => Some(Refusal::NoInstance(instance)),
         Reply::NotReady => Some(Refusal::NotReady(instance)),
@@ -63,7 +65,9 @@ fn refusal_of_instance(instance: usize, reply: &Reply) -> Option<Refusal> {
     }
 }
 
-fn refusal_of_begin(program: usize, given: usize, reply: &Reply) -> Option<Refusal> {
+fn refusal_of_begin(program: usize, given: usize, reply: &Reply) -> Option<Refusal>
+    ensures { is_refusal reply.now ≡ false → result ≡ None }
+{
     match reply {
         Reply::WrongArguments => Some(Refusal::WrongArguments { program, given }),
         Reply::Full => Some(Refusal::Full),
@@ -72,7 +76,9 @@ fn refusal_of_begin(program: usize, given: usize, reply: &Reply) -> Option<Refus
 }
 
 // Why an event that was answered by this does nothing, but for a begin at another number.
-fn refusal_of(event: &Event, reply: &Reply) -> Option<Refusal> {
+fn refusal_of(event: &Event, reply: &Reply) -> Option<Refusal>
+    ensures { is_refusal reply.now ≡ false → result ≡ None }
+{
     match event {
         Event::Begin { program, args } | Event::BeginAt { program, args, .. } => {
             refusal_of_begin(*program, args.len(), reply)
@@ -85,7 +91,9 @@ fn refusal_of(event: &Event, reply: &Reply) -> Option<Refusal> {
 }
 
 // The number at which an event asks an instance to begin, where none can begin there.
-fn refused_start(event: &Event, reply: &Reply) -> Option<u64> {
+fn refused_start(event: &Event, reply: &Reply) -> Option<u64>
+    ensures { is_refusal reply.now ≡ false → result ≡ None }
+{
     match (event, reply) {
         (Event::BeginAt { start, .. }, Reply::TooOld { .. } | Reply::TooNew { .. }) => Some(*start),
         _ => None,
@@ -94,7 +102,10 @@ fn refused_start(event: &Event, reply: &Reply) -> Option<u64> {
 
 impl Refusals {
     /// Of no event yet.
-    pub fn new(alloc: Global) -> Self {
+    pub fn new(alloc: Global) -> Self
+        ensures none { told_lines result ≡ [] }
+        ensures held { result.is_lost ≡ false }
+    {
         Refusals {
             events: 0,
             lines: EventLines::new(),
@@ -109,7 +120,10 @@ impl Refusals {
     }
 
     // Adds a line, once.
-    fn add(&mut self, line: usize, refusal: Refusal) -> Result<(), AllocError> {
+    fn add(&mut self, line: usize, refusal: Refusal) -> Result<(), AllocError>
+        ensures more { OnOk result (IsOneMore self.old.told.items self.new.told.items) }
+        ensures held { self.new.is_lost ≡ self.old.is_lost }
+    {
         if line == self.last {
             return Ok(());
         }
@@ -133,12 +147,10 @@ impl Refusals {
     }
 
     // Adds the line of the event of a number.
-    fn add_event(
-        &mut self,
-        part: &[u8],
-        number: usize,
-        refusal: Refusal,
-    ) -> Result<(), AllocError> {
+    fn add_event(&mut self, part: &[u8], number: usize, refusal: Refusal) -> Result<(), AllocError>
+        ensures more { OnOk result (IsOneMore self.old.told.items self.new.told.items) }
+        ensures held { self.new.is_lost ≡ self.old.is_lost }
+    {
         let line = self.lines.line_of(part, number);
         self.add(line, refusal)?;
         Ok(())
@@ -152,7 +164,11 @@ impl Refusals {
         event: &Event,
         reply: &Reply,
         book: &Book<'_>,
-    ) -> Result<(), AllocError> {
+    ) -> Result<(), AllocError>
+        ensures stays { is_refusal reply.now ≡ false → IsOk result × (self.new ≡ self.old) }
+        ensures more { OnOk result (IsOneMore self.old.told.items self.new.told.items) }
+        ensures held { self.new.is_lost ≡ self.old.is_lost }
+    {
         if let Some(start) = refused_start(event, reply) {
             let numbers = self.vacuums.numbers(part, book);
             return self.add_event(part, number, Refusal::OtherNumber { start, numbers });
@@ -189,7 +205,10 @@ impl Refusals {
     }
 
     /// Looks at the next event of the script that a part is, with its reply and the book behind it.
-    pub fn look(&mut self, part: &[u8], event: &Event, reply: &Reply, book: &Book<'_>) {
+    pub fn look(&mut self, part: &[u8], event: &Event, reply: &Reply, book: &Book<'_>)
+        ensures stays { is_refusal reply.now ≡ false → told_lines self.new ≡ told_lines self.old }
+        ensures more { TellsOneMore self.old self.new }
+    {
         let number = self.events;
         self.events = number.saturating_add(1);
         if let Event::Vacuum = event {

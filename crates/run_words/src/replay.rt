@@ -6,9 +6,6 @@ use prog_tree::{Rows, Sequence};
 use si_engine::{Engine, Event, Reply};
 use std::alloc::{AllocError, Global};
 
-// More than a run has steps: each gives a deed, which the run keeps.
-const MAX_STEPS: usize = usize::MAX;
-
 // The begin of a row's instance.
 fn begin_of(alloc: Global, row: &HistoryRow) -> Result<Event, AllocError> {
     let mut args = Sequence::new(alloc);
@@ -39,7 +36,8 @@ fn rows_behind(
 
 // Steps an instance of an engine to its end, and tells how it ends.
 fn run_to_end(engine: &mut Engine<'_>, instance: usize) -> Result<Option<Reply>, AllocError> {
-    for _turn in 0..MAX_STEPS {
+    // More turns than a run has steps: each gives a deed, which the run keeps.
+    for _turn in 0..usize::MAX {
         match engine.apply(&Event::Step(instance))? {
             Reply::Did(_) => {}
             reply => return Ok(Some(reply)),

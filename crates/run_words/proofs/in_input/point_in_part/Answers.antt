@@ -1,10 +1,12 @@
-use Rattle.std.proofs.Common.{◌∙◌, ◌++◌, ap}
-use Rattle.text_places.specs.Quotes.{pointed_out}
+use Rattle.std.proofs.Common.{◌∙◌, ◌++◌, ap, map}
+use Rattle.text_places.specs.Quotes.{pointed_out, visible}
 use Rattle.run_words.proofs.in_input.point_in_part.Goals as goal
 
 pub returns : goal.returns
-returns c = (
-  c.args.sentence.now,
-  c.in_ok-words.ensures ∙ ap (λ s. pointed_out c.args.part.now c.args.place s)
-      (c.deref.ensures ∙ c.in_ok-sentence.ensures.ok ∙ ap (λ l. c.args.sentence.now ++ l) c.in_ok-line.ensures),
-)
+returns c =
+    let shown = c.in_ok-shown.ensures ∙ ap (map visible) c.as_bytes.ensures.value in
+    let line = c.in_ok-line.ensures in (
+      c.args.sentence.now,
+      c.in_ok-words.ensures ∙ ap (pointed_out c.args.part.now c.args.place)
+          (c.deref.ensures ∙ c.in_ok-sentence.ensures.ok ∙ (λ i. shown i ++ line i)),
+    )

@@ -1,0 +1,28 @@
+//! Words that several kinds of faults have.
+
+use fault_words::cell_text;
+use prog_check::ProgramSet;
+use prog_tree::Cause;
+use std::alloc::{AllocError, Global};
+
+/// Why an instance aborts.
+pub fn cause_text(alloc: Global, set: &ProgramSet, cause: Cause) -> Result<String, AllocError> {
+    match cause {
+        Cause::Asked => format!(in alloc; "by an `abort;`"),
+        Cause::Missing(cell) => {
+            let cell = cell_text(alloc, set, cell)?;
+            format!(in alloc; "since {cell} is absent there")
+        }
+        Cause::Present(cell) => {
+            let cell = cell_text(alloc, set, cell)?;
+            format!(in alloc; "since {cell} is there already")
+        }
+        Cause::Overflow => format!(in alloc; "since a result is outside the numbers there are"),
+    }
+}
+
+/// So many of something.
+pub fn counted(alloc: Global, count: usize, what: &str) -> Result<String, AllocError> {
+    let ending = if count == 1 { "" } else { "s" };
+    format!(in alloc; "{count} {what}{ending}")
+}
