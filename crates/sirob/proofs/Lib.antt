@@ -4,4 +4,5 @@ pub mod PartLemmas
 pub mod RefusalLemmas
 pub mod RefusalVectors
 pub mod RepairLemmas
+pub mod SeparatorLaws
 pub mod StopLaws

@@ -6,7 +6,8 @@ use Rattle.std.proofs.Math.Seq.{take-add}
 use Rattle.std.proofs.lemmas.Grind.{common_steps}
 use Rattle.std.specs.Prelude.{MatchOption, is_some}
 use Rattle.std.specs.Borrow.{Bor}
-use Rattle.sirob.specs.Parts.{before_lines, full_lines_of, parts_of, parts_in, before_parts, is_separator}
+use Rattle.run_words.specs.PartPointing.{begins_separator}
+use Rattle.sirob.specs.Parts.{before_lines, full_lines_of, parts_of, parts_in, before_parts}
 
 -- up to the first line feed
 pub line_to_feed : (bs : List ℕ) (n : ℕ) → n < length bs → ((k : ℕ) → k < n → get_or bs k 0 ≢ 10) → get_or bs n 0 ≡ 10
@@ -32,7 +33,7 @@ line_to_end (b ∷ c ∷ bs) some below =
 -- there is always a part
 pub has_part : (lines : List (List ℕ)) → 0 < length (parts_in lines)
 has_part [] = omega arith
-has_part (line ∷ lines) = go (is_separator line) (parts_in lines)
+has_part (line ∷ lines) = go (begins_separator line) (parts_in lines)
   where
     go : (b : Bool) (ps : List (List ℕ)) → 0 < length (cond b ([] ∷ ps) (before_parts line ps))
     go true ps = omega arith
@@ -53,13 +54,13 @@ before_parts-twice a b [] = refl
 before_parts-twice a b (p ∷ ps) = ap (λ (l : List ℕ). l ∷ ps) (sym (append_assoc a b p))
 
 -- a first line that is no separator begins the first part
-pub parts_of-line : (bs line : List ℕ) → full_lines_of bs ≡ line ∷ full_lines_of (drop (length line) bs) → is_separator line ≡ false
+pub parts_of-line : (bs line : List ℕ) → full_lines_of bs ≡ line ∷ full_lines_of (drop (length line) bs) → begins_separator line ≡ false
     → parts_of bs ≡ before_parts line (parts_of (drop (length line) bs))
 parts_of-line bs line first plain = ap parts_in first ∙ rw plain refl
 
 -- the text so far takes one more line
 pub one_more_line : (bs line : List ℕ) (at : ℕ) → parts_of bs ≡ before_parts (take at bs) (parts_of (drop at bs))
-    → full_lines_of (drop at bs) ≡ line ∷ full_lines_of (drop (length line) (drop at bs)) → is_separator line ≡ false → line ≡ take (length line) (drop at bs)
+    → full_lines_of (drop at bs) ≡ line ∷ full_lines_of (drop (length line) (drop at bs)) → begins_separator line ≡ false → line ≡ take (length line) (drop at bs)
     → parts_of bs ≡ before_parts (take (at + length line) bs) (parts_of (drop (at + length line) bs))
 one_more_line bs line at same first plain front =
     let next = parts_of-line (drop at bs) line first plain in

@@ -12,7 +12,7 @@ use Rattle.history_book.specs.Audit.{audited}
 use Rattle.history_book.specs.TrueBook.{IsTrueBook}
 use Rattle.history_book.specs.View.{BookView, history_of}
 use Rattle.std.specs.List.{range_with_len}
-use Rattle.si_engine.specs.declared.output.finding.Finding.{Finding}
+use Rattle.si_engine.specs.declared.output.finding.Serializability.{Serializability}
 use Rattle.si_engine.specs.declared.input.records.Records.{Records}
 use Rattle.si_engine.specs.declared.input.script_fault.LineFault.{LineFault}
 use Rattle.si_engine.specs.declared.input.script_fault.LineFault.TheVariants as l
@@ -160,7 +160,7 @@ part_fails read part Q within told s.WriteFault wrong no_memory = absurd wrong
 
 -- a run of the script that a part is
 script_done : (robust : Bool) (set : DraftTree) (part : List ℕ) → MayRun robust set → length part ≤ 16777216
-    → (written : List ℕ) (inner : Result Finding ScriptFault) → IsRunOf set part written inner → IfOk inner (MayEnd robust)
+    → (written : List ℕ) (inner : Result Serializability ScriptFault) → IsRunOf set part written inner → IfOk inner (MayEnd robust)
     → IsPartDone (Run robust) set part written (as_command inner)
 script_done robust set part may within _ _ (r.done script is finding written adds) ends = (inl (may, (finding, ends, script, is.read, adds, refl)), tt)
 script_done robust set part may within _ _ (r.refused f wrong) ends =
@@ -169,18 +169,18 @@ script_done robust set part may within _ _ (r.refused f wrong) ends =
 script_done robust set part may within _ _ (r.stopped script is written first) ends = (tt, ((λ no_memory. absurd (cc)), (λ memory. inr (may, script, is.read, first))))
 
 -- what a run writes of the bytes at hand
-abbrev IsReplyOn : (robust : Bool) → DraftTree → List ℕ → (broken : Bool) → List ℕ → Result Finding ScriptFault → Type 0
+abbrev IsReplyOn : (robust : Bool) → DraftTree → List ℕ → (broken : Bool) → List ℕ → Result Serializability ScriptFault → Type 0
 IsReplyOn false set left broken = IsRunReply set (Some left) broken
 IsReplyOn true set left broken = IsOrderedReply set (Some left) broken
 
 -- of a run on any set no end is asked
-ends_freely : (inner : Result Finding ScriptFault) → IfOk inner (MayEnd false)
+ends_freely : (inner : Result Serializability ScriptFault) → IfOk inner (MayEnd false)
 ends_freely (Ok finding) = tt
 ends_freely (Err f) = tt
 
 -- a run of the bytes at hand
 reply_done : (robust : Bool) (set : DraftTree) (left part : List ℕ) → MayRun robust set → left ≡ part → length part ≤ 16777216
-    → (written : List ℕ) (inner : Result Finding ScriptFault) → IsReplyOn robust set left false written inner → IsPartDone (Run robust) set part written (as_command inner)
+    → (written : List ℕ) (inner : Result Serializability ScriptFault) → IsReplyOn robust set left false written inner → IsPartDone (Run robust) set part written (as_command inner)
 reply_done false set left part may same within written inner (input, is, run) =
     script_done false set part may within written inner (subst (λ (p : List ℕ). IsRunOf set p written inner) (is ∙ same) run) (ends_freely inner)
 reply_done true set left part may same within written inner ((input, is, run), order) =
@@ -239,7 +239,7 @@ audit_sound set part records book read is is_true =
     record { read = read; few = omega (arith, v.few, count); lawful = v.lawful; replies = v.rows }
 
 -- its rows and the last line were added to nothing
-pub audit_given : (set : Draft) (part : List ℕ) (records : Records) (book : BookView) (finding : Finding) (before written : List ℕ)
+pub audit_given : (set : Draft) (part : List ℕ) (records : Records) (book : BookView) (finding : Serializability) (before written : List ℕ)
     → records_of (draft_tree set) part ≡ Ok records → book ≡ audited set records.rows records.records → IsTrueBook book → before ≡ []
     → AddsEnd (draft_tree book.set) book.opening (history_of book.rows) finding before written → GivesPart Audit (draft_tree set) part written (status_of finding)
 audit_given set part records book finding before written read is is_true none adds =
@@ -439,7 +439,7 @@ pub not_broken : (broken : Bool) (pulls before : ℕ) → (broken ≡ true → p
 not_broken false pulls before counted few none = refl
 not_broken true pulls before counted few none = let all = counted refl in absurd (omega (arith, all, few, none))
 
-pub part_run : (robust : Bool) (set : DraftTree) (left part : List ℕ) (broken failed : Bool) (old new : Option (List ℕ)) (inner : Result Finding ScriptFault)
+pub part_run : (robust : Bool) (set : DraftTree) (left part : List ℕ) (broken failed : Bool) (old new : Option (List ℕ)) (inner : Result Serializability ScriptFault)
     → MayRun robust set → left ≡ part → length part ≤ 16777216 → broken ≡ false → WritesOr (Err s.WriteFault) (IsReplyOn robust set left broken) failed old new inner
     → WritesOr (Err write_lost) (IsPartDone (Run robust) set part) failed old new (as_command inner)
 part_run robust set left part true failed old new inner may same within works writes = absurd (cc)

@@ -24,8 +24,7 @@ use Rattle.si_repair.specs.declared.repairs.fault.RepairFault.TheVariants as u
 use Rattle.repair_laws.specs.declared.plan.Pair.{Pair}
 use Rattle.si_engine.specs.declared.input.script_fault.ScriptFault.{ScriptFault}
 use Rattle.si_engine.specs.declared.input.script_fault.ScriptFault.TheVariants as script
-use Rattle.si_engine.specs.declared.input.script_fault.LineFault.{LineFault}
-use Rattle.si_engine.specs.declared.input.script_fault.LineFault.TheVariants as s
+use Rattle.si_engine.specs.Texts.{line_fault_text}
 use Rattle.si_engine.specs.declared.input.source.InputFault.TheVariants as i
 use Rattle.sirob.specs.declared.worker_fault.WorkerFault.{WorkerFault}
 use Rattle.sirob.specs.declared.worker_fault.WorkerFault.TheVariants as w
@@ -106,23 +105,10 @@ certificate_fault (k.Dangerous x y z) = codes "K7" ++ (spaced x ++ (spaced y ++ 
 certificate_fault k.TooLarge = codes "K8"
 certificate_fault k.Memory = codes "memory"
 
--- a code and a line of the second part, from 1
-abbrev pub in_line : List ℕ → ℕ → List ℕ
-in_line code line = code ++ (codes " line " ++ decimal line)
-
-abbrev pub line_fault : LineFault → List ℕ
-line_fault (s.BadLine line) = in_line (codes "S1") line
-line_fault (s.UnknownName line) = in_line (codes "S2") line
-line_fault (s.WrongKeys line) = in_line (codes "S3") line
-line_fault (s.LateRow line) = in_line (codes "S4") line
-line_fault (s.RepeatedRow line) = in_line (codes "S5") line
-line_fault (s.TooManyEvents line) = in_line (codes "S6") line
-line_fault s.Memory = codes "memory"
-
 -- a fault of the sink is never told
 abbrev pub script_fault : ScriptFault → List ℕ
 script_fault (script.Input fault) = code_of fault
-script_fault (script.Line fault) = line_fault fault
+script_fault (script.Line fault) = line_fault_text fault
 script_fault script.WriteFault = codes "I5"
 
 abbrev pub row_code : RowFault → List ℕ

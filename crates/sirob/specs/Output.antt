@@ -1,8 +1,6 @@
 -- What the commands write.
 use Rattle.std.specs.Prelude.{◌≡◌, ◌⊎◌, ℕ, Bool, true, false, ◌<◌, ◌≤◌, All, List, [], ◌∷◌, ◌++◌, length, codes, Option, Some, None, Ok, Err}
-use Rattle.prog_tree.specs.declared.program.Draft.{Draft}
 use Rattle.prog_tree.specs.Syntax.{DraftTree}
-use Rattle.prog_tree.specs.Tree.{draft_tree}
 use Rattle.prog_text.specs.Answer.{Accepts, Refuses}
 use Rattle.prog_text.specs.Canonical.{canonical}
 use Rattle.prog_check.specs.Faults.{first_fault}
@@ -30,8 +28,8 @@ use Rattle.history_book.specs.Audit.{IsAuditFault}
 use Rattle.history_book.specs.History.{IsLawful}
 use Rattle.history_book.specs.TrueBook.{IsTrueBook, IsTrueRow}
 use Rattle.history_book.specs.View.{BookView, history_of, most_endings}
-use Rattle.si_engine.specs.declared.output.finding.Finding.{Finding}
-use Rattle.si_engine.specs.declared.output.finding.Finding.TheVariants.{Order}
+use Rattle.si_engine.specs.declared.output.finding.Serializability.{Serializability}
+use Rattle.si_engine.specs.declared.output.finding.Serializability.TheVariants.{Order}
 use Rattle.si_engine.specs.declared.input.records.Records.{Records}
 use Rattle.si_engine.specs.declared.input.script.Script.{Script}
 use Rattle.si_engine.specs.declared.input.script_fault.LineFault.{LineFault}
@@ -209,10 +207,8 @@ pub record IsUndone (workers : ℕ) (set : DraftTree) (part : List ℕ) (told : 
   pub robust : IsRobust set
   pub list : JobList
   pub read : jobs_of set part ≡ Ok list
-  pub draft : Draft
-  pub same_set : draft_tree draft ≡ set
   pub f : WorkFault
-  pub wrong : IsWorkFault draft list.rows list.jobs workers f
+  pub wrong : IsWorkFault set list.rows list.jobs workers f
   pub named : told_of f ≡ told
 
 -- the first fault of a set with a second part: of the analysis that comes before its lines; of its lines, of its records
@@ -293,20 +289,20 @@ pub record ShowsRobust (set : DraftTree) (part : List ℕ) : Type 0 where
   pub accepted : IsAccepted (paths_of set) certificate
 
 -- how a run may end: on a robust set in an order, and else in an order or a cycle
-abbrev pub MayEnd : (robust : Bool) → Finding → Type 0
+abbrev pub MayEnd : (robust : Bool) → Serializability → Type 0
 MayEnd false finding = Unit {0}
 MayEnd true finding = finding ≡ Order
 
 -- all lines of the script that the part is
 abbrev pub GivesRun : (robust : Bool) → DraftTree → List ℕ → List ℕ → Status → Type 0
 GivesRun robust set part written status =
-    (finding : Finding) × MayEnd robust finding × (script : Script) × (script_of set part ≡ Ok script)
+    (finding : Serializability) × MayEnd robust finding × (script : Script) × (script_of set part ≡ Ok script)
     × AddsRun set script finding [] written × (status ≡ status_of finding)
 
 -- the lines of the rows that audited records leave, and the last line
 abbrev pub GivesAudit : DraftTree → List ℕ → List ℕ → Status → Type 0
 GivesAudit set part written status =
-    (finding : Finding) × (records : Records) × IsAudited set part records
+    (finding : Serializability) × (records : Records) × IsAudited set part records
     × AddsEnd set records.rows (history_of records.records) finding [] written × (status ≡ status_of finding)
 
 -- so many workers may do the jobs that the part is, and these are the counts and the rows that outcomes of all of them
@@ -315,12 +311,10 @@ pub record GivesWork (workers : ℕ) (set : DraftTree) (part written : List ℕ)
   pub list : JobList
   pub read : jobs_of set part ≡ Ok list
   pub taken : AreTaken workers list.jobs
-  pub draft : Draft
-  pub same_set : draft_tree draft ≡ set
   pub outcomes : List JobOutcome
   pub book : BookView
   pub true_book : IsTrueBook book
-  pub correspond : OutcomesCorrespond draft list.rows list.jobs outcomes book
+  pub correspond : OutcomesCorrespond workers set list.rows list.jobs outcomes book
   pub text : written ≡ work_text outcomes book
 
 -- all that a second part without a fault means was written, and this is the status behind it; a set that may not run

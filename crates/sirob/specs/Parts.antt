@@ -1,6 +1,6 @@
 -- The parts of the input, which separator lines divide.
-use Rattle.std.specs.Prelude.{ℕ, Bool, List, [], ◌∷◌, ◌++◌, ◌==◌, ◌||◌, if◌then◌else◌, codes}
-use Rattle.std.specs.Str.{bytes_eq}
+use Rattle.std.specs.Prelude.{ℕ, List, [], ◌∷◌, ◌++◌, ◌==◌, if◌then◌else◌}
+use Rattle.run_words.specs.PartPointing.{begins_separator}
 
 -- a byte before a list of lines belongs to the first of them
 abbrev pub before_lines : ℕ → List (List ℕ) → List (List ℕ)
@@ -13,10 +13,6 @@ full_lines_of [] = []
 full_lines_of (byte ∷ bytes) =
     if byte == 10 then (byte ∷ []) ∷ full_lines_of bytes else before_lines byte (full_lines_of bytes)
 
--- the line is `%%`
-abbrev pub is_separator : List ℕ → Bool
-is_separator line = bytes_eq line (codes "%%") || bytes_eq line (codes "%%" ++ 10 ∷ [])
-
 -- a line before a list of parts belongs to the first of them
 abbrev pub before_parts : List ℕ → List (List ℕ) → List (List ℕ)
 before_parts line [] = line ∷ []
@@ -26,7 +22,7 @@ before_parts line (part ∷ parts) = (line ++ part) ∷ parts
 abbrev pub parts_in : List (List ℕ) → List (List ℕ)
 parts_in [] = [] ∷ []
 parts_in (line ∷ lines) =
-    if is_separator line then [] ∷ parts_in lines else before_parts line (parts_in lines)
+    if begins_separator line then [] ∷ parts_in lines else before_parts line (parts_in lines)
 
 -- the parts of a text
 abbrev pub parts_of : List ℕ → List (List ℕ)

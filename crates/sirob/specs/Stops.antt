@@ -3,7 +3,7 @@ use Rattle.std.specs.Prelude.{◌≡◌, ◌⊎◌, ℕ, ◌≤◌, Bool, true, 
 use Rattle.prog_tree.specs.declared.program.Draft.{Draft}
 use Rattle.prog_tree.specs.Syntax.{DraftTree}
 use Rattle.prog_tree.specs.Tree.{draft_tree}
-use Rattle.si_engine.specs.declared.output.finding.Finding.{Finding}
+use Rattle.si_engine.specs.declared.output.finding.Serializability.{Serializability}
 use Rattle.si_engine.specs.declared.input.script_fault.ScriptFault.{ScriptFault}
 use Rattle.si_engine.specs.declared.input.script_fault.ScriptFault.TheVariants as script_fault
 use Rattle.si_engine.specs.declared.input.source.InputFault.TheVariants as input_fault
@@ -67,7 +67,7 @@ IsRefusedJobs set part (fault.Script (script_fault.Line f)) = jobs_of set part �
 IsRefusedJobs set part f = ⊥
 
 -- the end of a script's run as that of a command
-abbrev pub as_command : Result Finding ScriptFault → Result Status CommandFault
+abbrev pub as_command : Result Serializability ScriptFault → Result Status CommandFault
 as_command (Ok finding) = Ok (status_of finding)
 as_command (Err f) = Err (fault.Script f)
 

@@ -12,27 +12,19 @@ use Rattle.si_workers.specs.declared.job.JobOutcome.{JobOutcome}
 -- how a job ended
 abbrev pub is_committed : JobEnd → Bool
 is_committed (end.Committed number replies) = true
-is_committed (end.Aborted cause) = false
-is_committed (end.Clashed clash) = false
-is_committed (end.Refused why) = false
+is_committed other = false
 
 abbrev pub is_aborted : JobEnd → Bool
-is_aborted (end.Committed number replies) = false
 is_aborted (end.Aborted cause) = true
-is_aborted (end.Clashed clash) = false
-is_aborted (end.Refused why) = false
+is_aborted other = false
 
 abbrev pub is_clashed : JobEnd → Bool
-is_clashed (end.Committed number replies) = false
-is_clashed (end.Aborted cause) = false
 is_clashed (end.Clashed clash) = true
-is_clashed (end.Refused why) = false
+is_clashed other = false
 
 abbrev pub is_refused : JobEnd → Bool
-is_refused (end.Committed number replies) = false
-is_refused (end.Aborted cause) = false
-is_refused (end.Clashed clash) = false
 is_refused (end.Refused why) = true
+is_refused other = false
 
 -- how many jobs ended so
 abbrev pub ends_in : (JobEnd → Bool) → List JobOutcome → ℕ

@@ -1,7 +1,7 @@
 //! What keeps a command from its work, and the line that says so.
 ghost use Rattle.std.specs.Prelude.{◌≡◌, IfOk, string_bytes};
 ghost use Rattle.sirob.specs.Faults.{code_of, part_code};
-ghost use Rattle.sirob.specs.FaultLines.{text_fault, place_text, in_set, check_fault, line_fault, script_fault, row_code, audit_fault, fault_line, is_memory};
+ghost use Rattle.sirob.specs.FaultLines.{text_fault, place_text, in_set, check_fault, script_fault, row_code, audit_fault, fault_line, is_memory};
 
 use crate::analysis_fault::{analyse_fault, certificate_fault, json_fault, repair_fault};
 use crate::parts::PartFault;
@@ -108,28 +108,13 @@ fn check_fault(alloc: Global, fault: CheckFault) -> Result<String, AllocError>
     }
 }
 
-// A fault of a line of the second part, by its code and its line.
-fn line_fault(alloc: Global, fault: LineFault) -> Result<String, AllocError>
-    ensures { IfOk result (λ text. string_bytes text ≡ line_fault fault) }
-{
-    match fault {
-        LineFault::BadLine { line } => format!(in alloc; "S1 line {line}"),
-        LineFault::UnknownName { line } => format!(in alloc; "S2 line {line}"),
-        LineFault::WrongKeys { line } => format!(in alloc; "S3 line {line}"),
-        LineFault::LateRow { line } => format!(in alloc; "S4 line {line}"),
-        LineFault::RepeatedRow { line } => format!(in alloc; "S5 line {line}"),
-        LineFault::TooManyEvents { line } => format!(in alloc; "S6 line {line}"),
-        LineFault::Memory => format!(in alloc; "memory"),
-    }
-}
-
 // A fault of the second part. That of the sink is never told.
 fn script_fault(alloc: Global, fault: ScriptFault) -> Result<String, AllocError>
     ensures { IfOk result (λ text. string_bytes text ≡ script_fault fault) }
 {
     match fault {
         ScriptFault::Input(fault) => input_fault(alloc, fault),
-        ScriptFault::Line(fault) => line_fault(alloc, fault),
+        ScriptFault::Line(fault) => format!(in alloc; "{fault}"),
         ScriptFault::WriteFault => format!(in alloc; "I5"),
     }
 }

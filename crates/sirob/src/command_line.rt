@@ -178,32 +178,20 @@ fn mode_in(matches: &ArgMatches<'_>) -> Mode
     requires { NamesMode (subcommand_rows_of matches.now) }
     ensures { IsNamedBy result (subcommand_rows_of matches.now) }
 {
-    if matches.subcommand_matches("check").is_some() {
-        return Mode::Check;
-    }
-    if matches.subcommand_matches("certify").is_some() {
-        return Mode::Certify;
-    }
-    if matches.subcommand_matches("verify").is_some() {
-        return Mode::Verify;
-    }
-    if let Some(repair) = matches.subcommand_matches("repair") {
-        return Mode::Repair {
+    match matches.subcommand() {
+        Some(("check", _)) => Mode::Check,
+        Some(("certify", _)) => Mode::Certify,
+        Some(("verify", _)) => Mode::Verify,
+        Some(("repair", repair)) => Mode::Repair {
             promote: has_flag(repair, "promote"),
-        };
-    }
-    if let Some(run) = matches.subcommand_matches("run") {
-        return Mode::Run {
+        },
+        Some(("run", run)) => Mode::Run {
             robust: has_flag(run, "robust"),
-        };
-    }
-    if matches.subcommand_matches("audit").is_some() {
-        return Mode::Audit;
-    }
-    if let Some(work) = matches.subcommand_matches("work") {
-        return Mode::Work {
+        },
+        Some(("audit", _)) => Mode::Audit,
+        Some(("work", work)) => Mode::Work {
             workers: byte_of(work, "workers"),
-        };
+        },
+        _ => unreachable!(),
     }
-    unreachable!()
 }

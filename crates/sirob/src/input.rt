@@ -32,7 +32,8 @@ pub fn read_text(alloc: Global, input: &[u8]) -> Result<ProgramSet, CommandFault
     read_set(alloc, text)
 }
 
-/// The set that the first part of an input spells, where it has no fault, and the bytes of the second part.
+/// The set that the first part of an input spells, where it has no fault, and the bytes of the
+/// second part.
 pub fn read_text_and_part(alloc: Global, input: &[u8]) -> Result<(ProgramSet, &[u8]), CommandFault>
     requires { length input.now ≤ input_limit }
     ensures ok { IfOk result (λ r. IsSetAndPart input.now (draft_tree r.0) r.1.now) }

@@ -7,6 +7,7 @@ mod command_fault;
 mod command_line;
 mod commands;
 mod input;
+mod limits;
 mod lines;
 mod parts;
 mod program;

@@ -1,6 +1,7 @@
 //! The parts of the input.
-ghost use Rattle.std.specs.Prelude.{◌≡◌, ◌<◌, ◌≤◌, ◌+◌, ◌++◌, ◌↔◌, [], ◌∷◌, IsTrue, IsOk, IfOk, IfErr, IsErrOf, IfSome, IfNone, MatchOption, ℕ, ◌≢◌, length, slice_index, take, drop};
-ghost use Rattle.sirob.specs.Parts.{is_separator, full_lines_of, parts_of};
+ghost use Rattle.std.specs.Prelude.{◌≡◌, ◌<◌, ◌≤◌, ◌+◌, ◌↔◌, [], ◌∷◌, IsOk, IfOk, IfErr, IsErrOf, IfSome, IfNone, MatchOption, ℕ, ◌≢◌, length, slice_index, take, drop};
+ghost use Rattle.run_words.specs.PartPointing.{begins_separator};
+ghost use Rattle.sirob.specs.Parts.{full_lines_of, parts_of};
 
 /// The input hasn't the parts that are asked for.
 #[derive(Clone, Copy, Debug, PartialEq, Eq)]
@@ -109,7 +110,7 @@ fn first_feed(bytes: &[u8]) -> Option<usize>
 }
 
 fn is_separator(line: &[u8]) -> bool
-    ensures { result ≡ is_separator line.now }
+    ensures { result ≡ begins_separator line.now }
 {
-    line == b"%%".as_slice() || line == b"%%\n".as_slice()
+    line == b"%%".as_slice() || line.starts_with(b"%%\n")
 }

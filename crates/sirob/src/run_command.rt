@@ -3,7 +3,7 @@ ghost use Rattle.std.specs.Prelude.{◌≡◌, ◌≤◌, ◌+◌, false, Err, l
 ghost use Rattle.si_engine.specs.Reading.{input_limit};
 ghost use Rattle.si_engine.specs.Writing.{IsJust, WritesOr};
 ghost use Rattle.sirob.specs.FaultLines.{is_memory};
-ghost use Rattle.sirob.specs.Output.{is_work, parts_wanted, IsReply, WritesWithStatus, memory_line};
+ghost use Rattle.sirob.specs.Output.{is_work, parts_wanted, IsReply, WritesWithStatus};
 ghost use Rattle.sirob.specs.Stops.{IsInputDone, IsSourceDone, Ends, write_lost};
 
 use crate::command_fault::{CommandFault, fault_line};

@@ -15,10 +15,7 @@ use crate::run_command::write_end;
 use crate::sentences::kept::Kept;
 use crate::sentences::words::explain;
 use crate::status::Status;
-use prog_tree::Sequence;
 use si_engine::{MAX_READS, Sink, Source, read_whole};
-use si_repair::Finding;
-use si_workers::JobOutcome;
 use std::rt::Clock;
 use std::sync::Wait;
 use std::thread::Threads;
@@ -29,8 +26,7 @@ fn work_input<R: AllocGlobal + Eprint + Clock + Watched + Threads + Wait + Sync,
     workers: u8,
     input: &[u8],
     sink: &mut K,
-    found: &mut Option<Finding>,
-    came: &mut Sequence<JobOutcome>,
+    kept: &mut Kept,
 ) -> Result<Status, CommandFault>
     requires short { length input.now ≤ input_limit }
     requires working { K.has_failed sink.old ≡ false }
@@ -38,7 +34,7 @@ fn work_input<R: AllocGlobal + Eprint + Clock + Watched + Threads + Wait + Sync,
         (K.has_failed sink.new) (K.taken sink.old) (K.taken sink.new) result }
 {
     let (set, part) = read_text_and_part(rt.alloc(), input)?;
-    work_part(rt, workers, set, part, sink, found, came)
+    work_part(rt, workers, set, part, sink, kept)
 }
 
 // Reads all of a source, keeps it, and does its jobs.
@@ -60,14 +56,7 @@ fn work_source<
     ensures reads { S.pulls source.new ≤ S.pulls source.old + MAX_READS }
 {
     let input = read_whole(rt.alloc(), source)?;
-    let ended = work_input(
-        rt,
-        workers,
-        &input,
-        sink,
-        &mut kept.found,
-        &mut kept.outcomes,
-    );
+    let ended = work_input(rt, workers, &input, sink, kept);
     kept.input = input;
     ended
 }

@@ -3,15 +3,15 @@ ghost use Rattle.std.specs.Prelude.{◌≡◌};
 ghost use Rattle.std.specs.Process.{exit_status};
 ghost use Rattle.sirob.specs.Status.{status_number, status_of};
 
-use si_engine::Finding;
+use si_engine::Serializability;
 use std::process::ExitCode;
 
 /// How a run ended, as the program's exit status tells it.
 #[derive(Clone, Copy, Debug, PartialEq, Eq)]
 pub enum Status {
     Done,
-    /// The set is refused; or no serial order gives the same, since the commits depend on one another
-    /// in a cycle.
+    /// The set is refused; or no serial order gives the same, since the commits depend on one
+    /// another in a cycle.
     Unserializable,
     /// The words or the input are faulty, or a read or a write failed.
     Faulty,
@@ -20,12 +20,12 @@ pub enum Status {
 
 impl Status {
     /// The status of a history that leaves this finding.
-    pub fn of(finding: Finding) -> Self
+    pub fn of(finding: Serializability) -> Self
         ensures { result ≡ status_of finding }
     {
         match finding {
-            Finding::Order => Status::Done,
-            Finding::Cycle => Status::Unserializable,
+            Serializability::Order => Status::Done,
+            Serializability::Cycle => Status::Unserializable,
         }
     }
 

@@ -28,18 +28,12 @@ fn repair_set(alloc: Global, promoting: bool, set: &ProgramSet) -> Result<Repair
         → IsUnrepairedBy promoting (draft_tree set.now) fault) }
 {
     let plan = plan(alloc, set)?;
-    if promoting {
-        let promoted = promote(alloc, set, &plan)?;
-        return Ok(Repair {
-            plan,
-            repaired: promoted,
-        });
-    }
-    let materialised = materialise(alloc, set, &plan)?;
-    Ok(Repair {
-        plan,
-        repaired: materialised,
-    })
+    let repaired = if promoting {
+        promote(alloc, set, &plan)?
+    } else {
+        materialise(alloc, set, &plan)?
+    };
+    Ok(Repair { plan, repaired })
 }
 
 // The canonical text of the set that an input spells, repaired. The repair is kept.

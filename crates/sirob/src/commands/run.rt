@@ -4,7 +4,7 @@ ghost use Rattle.prog_tree.specs.Tree.{draft_tree};
 ghost use Rattle.si_engine.specs.Reading.{input_limit};
 ghost use Rattle.si_engine.specs.Writing.{WritesOr};
 ghost use Rattle.sirob.specs.Output.{IsRobust};
-ghost use Rattle.sirob.specs.Stops.{IsPartDone, write_lost};
+ghost use Rattle.sirob.specs.Stops.{IsPartDone, as_command, write_lost};
 ghost use Rattle.sirob.specs.declared.command_line.Mode.TheVariants as mode;
 
 use crate::command_fault::CommandFault;
@@ -15,9 +15,18 @@ use crate::sentences::runs::Keeper;
 use crate::status::Status;
 use prog_check::ProgramSet;
 use robust_cert::RobustSet;
-use si_engine::{Bytes, Sink, run_robust_script_before, run_script_before};
+use si_engine::{
+    Bytes, ScriptFault, Serializability, Sink, run_robust_script_before, run_script_before,
+};
 use std::alloc::Global;
 use std::thread::Threads;
+
+// The end of a script's run as that of a command.
+fn as_command(ran: Result<Serializability, ScriptFault>) -> Result<Status, CommandFault>
+    ensures { result ≡ as_command ran }
+{
+    Ok(Status::of(ran?))
+}
 
 /// Runs the script that the bytes of a part are. Each event writes a line, then each row, and last
 /// the order or the cycle; where memory runs out, some first lines were written. What there is to
@@ -34,10 +43,8 @@ pub fn run_part<K: Sink>(
         (K.has_failed sink.new) (K.taken sink.old) (K.taken sink.new) result }
 {
     let mut keeper = Keeper { alloc, part, kept };
-    match run_script_before(alloc, set, &mut Bytes::new(part), sink, &mut keeper) {
-        Ok(finding) => Ok(Status::of(finding)),
-        Err(fault) => Err(CommandFault::Script(fault)),
-    }
+    let ran = run_script_before(alloc, set, &mut Bytes::new(part), sink, &mut keeper);
+    as_command(ran)
 }
 
 // Runs the script on a set that was found robust.
@@ -54,10 +61,8 @@ fn run_verified<K: Sink>(
         (K.has_failed sink.new) (K.taken sink.old) (K.taken sink.new) result }
 {
     let mut keeper = Keeper { alloc, part, kept };
-    match run_robust_script_before(alloc, set, &mut Bytes::new(part), sink, &mut keeper) {
-        Ok(finding) => Ok(Status::of(finding)),
-        Err(fault) => Err(CommandFault::Script(fault)),
-    }
+    let ran = run_robust_script_before(alloc, set, &mut Bytes::new(part), sink, &mut keeper);
+    as_command(ran)
 }
 
 /// As `run_part`, where the set is robust; else writes its refusal, and keeps what refuses it.

@@ -30,7 +30,8 @@ fn check_certificate(alloc: Global, set: ProgramSet, part: &[u8]) -> Result<(), 
     }
 }
 
-/// Writes that a set is robust, where the bytes of a part are a certificate that is accepted for it.
+/// Writes that a set is robust, where the bytes of a part are a certificate that is accepted for
+/// it.
 pub fn verify_part<K: Sink>(
     alloc: Global,
     set: ProgramSet,

@@ -1,9 +1,7 @@
 //! The command `work`: from the bytes of a list of jobs to what came of them.
-ghost use Rattle.std.specs.Prelude.{◌≡◌, ◌≤◌, ◌++◌, false, true, Ok, Err, length, IfOk, IfErr, OnOk, string_bytes};
+ghost use Rattle.std.specs.Prelude.{◌≡◌, ◌≤◌, false, Ok, Err, length, IfOk, IfErr, string_bytes};
 ghost use Rattle.prog_tree.specs.Tree.{draft_tree};
-ghost use Rattle.history_book.specs.View.{history_of};
 ghost use Rattle.si_engine.specs.Reading.{input_limit};
-ghost use Rattle.si_engine.specs.Runs.{end_lines};
 ghost use Rattle.si_engine.specs.Writing.{WritesOr};
 ghost use Rattle.si_workers.specs.JobLines.{jobs_of};
 ghost use Rattle.sirob.specs.FaultLines.{is_memory};
@@ -16,13 +14,13 @@ use crate::command_fault::CommandFault;
 use crate::commands::robust::{Verified, assess};
 use crate::lines::write_lines;
 use crate::progress::{Progress, Watched};
+use crate::sentences::kept::Kept;
 use crate::status::Status;
 use history_book::Book;
 use prog_check::ProgramSet;
 use prog_tree::Sequence;
 use robust_cert::RobustSet;
 use si_engine::{Bytes, Sink, push_rows};
-use si_repair::Finding;
 use si_workers::{Finished, JobEnd, JobList, JobOutcome, read_jobs, run_jobs};
 use std::alloc::{AllocError, Global};
 use std::rt::Clock;
@@ -124,7 +122,7 @@ fn jobs_in(alloc: Global, set: &ProgramSet, part: &[u8]) -> Result<JobList, Comm
 
 // What came of jobs, and the text that says so.
 #[derive(Drop)]
-struct Done {
+struct WorkAnswer {
     text: String,
     outcomes: Sequence<JobOutcome>,
 }
@@ -135,7 +133,7 @@ fn work_verified<R: AllocGlobal + Eprint + Clock + Watched + Threads + Wait + Sy
     workers: u8,
     set: &RobustSet,
     part: &[u8],
-) -> Result<Done, CommandFault>
+) -> Result<WorkAnswer, CommandFault>
     requires short { length part.now ≤ input_limit }
     requires robust { IsRobust (draft_tree set.now) }
     ensures ok { IfOk result (λ done. GivesWork workers (draft_tree set.now) part.now
@@ -156,7 +154,7 @@ fn work_verified<R: AllocGlobal + Eprint + Clock + Watched + Threads + Wait + Sy
         &gate,
     )?;
     let text = work_text(alloc, outcomes.as_slice(), &book)?;
-    Ok(Done { text, outcomes })
+    Ok(WorkAnswer { text, outcomes })
 }
 
 /// Does the jobs that the bytes of a part are, where the set is robust, and writes what came of
@@ -167,18 +165,17 @@ pub fn work_part<R: AllocGlobal + Eprint + Clock + Watched + Threads + Wait + Sy
     set: ProgramSet,
     part: &[u8],
     sink: &mut K,
-    found: &mut Option<Finding>,
-    came: &mut Sequence<JobOutcome>,
+    kept: &mut Kept,
 ) -> Result<Status, CommandFault>
     requires short { length part.now ≤ input_limit }
     requires working { K.has_failed sink.old ≡ false }
     ensures { WritesOr (Err write_lost) (IsPartDone (mode.Work workers) (draft_tree set) part.now)
         (K.has_failed sink.new) (K.taken sink.old) (K.taken sink.new) result }
 {
-    match assess(rt, set, found)? {
+    match assess(rt, set, &mut kept.found)? {
         Verified::Robust(set) => {
-            let Done { text, outcomes } = work_verified(rt, workers, &set, part)?;
-            *came = outcomes;
+            let WorkAnswer { text, outcomes } = work_verified(rt, workers, &set, part)?;
+            kept.outcomes = outcomes;
             write_lines(sink, text.as_bytes(), Ok(Status::Done))
         }
         Verified::Refused(text) => {

@@ -1,6 +1,7 @@
 //! What an analysis and the checker of certificates find, as it is said to people.
 
-use crate::sentences::kept_input::{second_part, set_of, set_text};
+use crate::limits::MAX_PLANNED_NODES;
+use crate::sentences::kept_input::KeptInput;
 use analysis_words::{certificate_words, refusal_words, robust_words};
 use dep_graph::Danger;
 use prog_check::ProgramSet;
@@ -24,17 +25,14 @@ pub fn analysis_sentence(alloc: Global, fault: AnalyseFault) -> Result<Option<St
 /// Why the certificate in the second part of an input is not accepted.
 pub fn certificate_sentence(
     alloc: Global,
-    input: &[u8],
+    input: KeptInput<'_>,
     fault: CertFault,
 ) -> Result<Option<String>, AllocError> {
-    let Some(set) = set_of(alloc, input) else {
+    let Some(set) = input.set(alloc) else {
         return Ok(None);
     };
-    certificate_words(alloc, set_text(input), &set, second_part(input), fault)
+    certificate_words(alloc, input.text, &set, input.part, fault)
 }
-
-// A set of more nodes is not planned for its words alone: that would take as long as its analysis.
-const MAX_PLANNED_NODES: usize = 32;
 
 // The plan of a small set.
 fn small_plan(alloc: Global, set: &ProgramSet) -> Option<Plan> {
@@ -58,25 +56,25 @@ fn known_plan(alloc: Global, set: &ProgramSet) -> Plan {
 /// Why the set of an input is refused, by what an analysis found.
 pub fn refusal_sentence(
     alloc: Global,
-    input: &[u8],
+    input: KeptInput<'_>,
     danger: &Danger,
 ) -> Result<Option<String>, AllocError> {
-    let Some(set) = set_of(alloc, input) else {
+    let Some(set) = input.set(alloc) else {
         return Ok(None);
     };
     let plan = known_plan(alloc, &set);
-    refusal_words(alloc, set_text(input), &set, danger, &plan)
+    refusal_words(alloc, input.text, &set, danger, &plan)
 }
 
 /// What the certificate of the set of an input shows.
 pub fn robust_sentence(
     alloc: Global,
-    input: &[u8],
+    input: KeptInput<'_>,
     certificate: &Certificate,
 ) -> Result<Option<String>, AllocError> {
-    let Some(set) = set_of(alloc, input) else {
+    let Some(set) = input.set(alloc) else {
         return Ok(None);
     };
-    let words = robust_words(alloc, set_text(input), &set, certificate)?;
+    let words = robust_words(alloc, input.text, &set, certificate)?;
     Ok(Some(words))
 }

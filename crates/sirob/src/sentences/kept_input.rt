@@ -5,30 +5,39 @@ use prog_check::{ProgramSet, check};
 use prog_text::parse;
 use std::alloc::Global;
 
-/// The text of the set in an input.
-pub fn set_text(input: &[u8]) -> &[u8] {
-    match two_parts(input) {
-        Ok(parts) => parts.text,
-        Err(_) => input,
+/// An input, and its parts where there are two; else it is all the text of a set.
+#[derive(Clone, Copy)]
+pub struct KeptInput<'a> {
+    pub whole: &'a [u8],
+    /// The text of the set.
+    pub text: &'a [u8],
+    /// What stands ahead of the second part: the set, and the line `%%`.
+    pub ahead: &'a [u8],
+    /// What stands behind the line `%%`.
+    pub part: &'a [u8],
+}
+
+impl<'a> KeptInput<'a> {
+    pub fn of(input: &'a [u8]) -> Self {
+        match two_parts(input) {
+            Ok(parts) => KeptInput {
+                whole: input,
+                text: parts.text,
+                ahead: &input[..input.len() - parts.rest.len()],
+                part: parts.rest,
+            },
+            Err(_) => KeptInput {
+                whole: input,
+                text: input,
+                ahead: input,
+                part: &[],
+            },
+        }
     }
-}
 
-/// What stands behind the line `%%`.
-pub fn second_part(input: &[u8]) -> &[u8] {
-    match two_parts(input) {
-        Ok(parts) => parts.rest,
-        Err(_) => &[],
+    /// The set, which has no fault.
+    pub fn set(self, alloc: Global) -> Option<ProgramSet> {
+        let draft = parse(alloc, self.text).ok()?;
+        check(alloc, draft).ok()
     }
-}
-
-/// What stands ahead of the second part: the set, and the line `%%`.
-pub fn ahead_of_second(input: &[u8]) -> &[u8] {
-    let len = input.len().saturating_sub(second_part(input).len());
-    input.get(..len).unwrap_or(&[])
-}
-
-/// The set of an input whose set has no fault.
-pub fn set_of(alloc: Global, input: &[u8]) -> Option<ProgramSet> {
-    let draft = parse(alloc, set_text(input)).ok()?;
-    check(alloc, draft).ok()
 }

@@ -1,7 +1,7 @@
 //! What is said to people of repairs.
 
 use crate::sentences::kept::Kept;
-use crate::sentences::kept_input::{set_of, set_text};
+use crate::sentences::kept_input::KeptInput;
 use analysis_words::{repair_fault_words, repair_words};
 use si_repair::RepairFault;
 use std::alloc::{AllocError, Global};
@@ -9,13 +9,13 @@ use std::alloc::{AllocError, Global};
 /// Why the set of an input is not repaired.
 pub fn repair_fault_sentence(
     alloc: Global,
-    input: &[u8],
+    input: KeptInput<'_>,
     fault: RepairFault,
 ) -> Result<Option<String>, AllocError> {
-    let Some(set) = set_of(alloc, input) else {
+    let Some(set) = input.set(alloc) else {
         return Ok(None);
     };
-    repair_fault_words(alloc, set_text(input), &set, fault)
+    repair_fault_words(alloc, input.text, &set, fault)
 }
 
 /// What a repair has put into the set of an input.
@@ -24,14 +24,13 @@ pub fn repair_sentence(
     kept: &Kept,
     promoting: bool,
 ) -> Result<Option<String>, AllocError> {
-    let input = kept.input.as_slice();
-    let Some(set) = set_of(alloc, input) else {
-        return Ok(None);
-    };
     let Some(repair) = &kept.repair else {
         return Ok(None);
     };
+    let input = KeptInput::of(&kept.input);
+    let Some(set) = input.set(alloc) else {
+        return Ok(None);
+    };
     let pairs = repair.plan.pairs.as_slice();
-    let text = set_text(input);
-    repair_words(alloc, text, &set, &repair.repaired, pairs, promoting)
+    repair_words(alloc, input.text, &set, &repair.repaired, pairs, promoting)
 }

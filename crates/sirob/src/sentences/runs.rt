@@ -1,13 +1,13 @@
-//! What a run or an audit comes to, as it is said to people: the cycle in which its commits end, and the lines of a
-//! script that do nothing.
+//! What a run or an audit comes to, as it is said to people: the cycle in which its commits end,
+//! and the lines of a script that do nothing.
 
-ghost use Rattle.std.specs.Prelude.{IfSome, string_bytes};
+ghost use Rattle.std.specs.Prelude.{◌≡◌, IfSome, string_bytes};
 ghost use Rattle.history_book.specs.Orders.{IsCycle};
 ghost use Rattle.history_book.specs.View.{depends_in};
-ghost use Rattle.run_words.specs.Cycles.{ShowsCycle};
+ghost use Rattle.run_words.specs.Cycles.{cycle_text};
 
 use crate::sentences::kept::Kept;
-use crate::sentences::kept_input::{ahead_of_second, second_part, set_of};
+use crate::sentences::kept_input::KeptInput;
 use history_book::Book;
 use run_words::{cycle_words, refused_words};
 use si_engine::{Event, Reply, Witness};
@@ -24,7 +24,7 @@ pub struct Keeper<'k, 'p> {
 // A cycle of the commits of a book in words, unless memory runs out for them.
 fn told_cycle(alloc: Global, book: &Book<'_>, cycle: &[usize]) -> Option<String>
     requires { IsCycle (depends_in book.now) cycle.now }
-    ensures { IfSome result (λ words. ShowsCycle cycle.now (string_bytes words)) }
+    ensures { IfSome result (λ words. string_bytes words ≡ cycle_text book.now cycle.now) }
 {
     match cycle_words(alloc, book, cycle) {
         Ok(words) => Some(words),
@@ -47,9 +47,9 @@ pub fn refused_sentence(alloc: Global, kept: &Kept) -> Result<Option<String>, Al
     if kept.refusals.is_empty() {
         return Ok(None);
     }
-    let Some(set) = set_of(alloc, &kept.input) else {
+    let input = KeptInput::of(&kept.input);
+    let Some(set) = input.set(alloc) else {
         return Ok(None);
     };
-    let ahead = ahead_of_second(&kept.input);
-    refused_words(alloc, &set, ahead, second_part(&kept.input), &kept.refusals)
+    refused_words(alloc, &set, input.ahead, input.part, &kept.refusals)
 }

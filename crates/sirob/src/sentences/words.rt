@@ -7,7 +7,7 @@ use crate::sentences::analysis::{
     analysis_sentence, certificate_sentence, refusal_sentence, robust_sentence,
 };
 use crate::sentences::kept::Kept;
-use crate::sentences::kept_input::{ahead_of_second, second_part, set_of, set_text};
+use crate::sentences::kept_input::KeptInput;
 use crate::sentences::repair::{repair_fault_sentence, repair_sentence};
 use crate::sentences::runs::refused_sentence;
 use crate::sentences::work::{lost_sentence, work_sentence};
@@ -73,18 +73,18 @@ fn plain(alloc: Global, sentence: Option<&str>) -> Result<Option<String>, AllocE
 fn part_sentence(
     alloc: Global,
     mode: Mode,
-    input: &[u8],
+    input: KeptInput<'_>,
     fault: PartFault,
 ) -> Result<Option<String>, AllocError> {
     match fault {
         PartFault::MissingPart => {
             let second = second_wanted(mode).unwrap_or("nothing");
-            let words = missing_part_words(alloc, input, second)?;
+            let words = missing_part_words(alloc, input.whole, second)?;
             Ok(Some(words))
         }
         PartFault::ExtraPart => {
             let wanted = wanted_parts(alloc, mode)?;
-            extra_part_words(alloc, input, &wanted)
+            extra_part_words(alloc, input.whole, &wanted)
         }
     }
 }
@@ -92,20 +92,20 @@ fn part_sentence(
 fn line_sentence(
     alloc: Global,
     mode: Mode,
-    input: &[u8],
+    input: KeptInput<'_>,
     fault: LineFault,
 ) -> Result<Option<String>, AllocError> {
-    let Some(set) = set_of(alloc, input) else {
+    let Some(set) = input.set(alloc) else {
         return Ok(None);
     };
-    let ahead = ahead_of_second(input);
-    line_fault_words(alloc, kind_of(mode), &set, ahead, second_part(input), fault)
+    let kind = kind_of(mode);
+    line_fault_words(alloc, kind, &set, input.ahead, input.part, fault)
 }
 
 fn script_sentence(
     alloc: Global,
     mode: Mode,
-    input: &[u8],
+    input: KeptInput<'_>,
     fault: ScriptFault,
 ) -> Result<Option<String>, AllocError> {
     match fault {
@@ -117,34 +117,28 @@ fn script_sentence(
 
 fn record_sentence(
     alloc: Global,
-    input: &[u8],
+    input: KeptInput<'_>,
     fault: AuditFault,
 ) -> Result<Option<String>, AllocError> {
-    let Some(set) = set_of(alloc, input) else {
+    let Some(set) = input.set(alloc) else {
         return Ok(None);
     };
-    record_words(
-        alloc,
-        &set,
-        ahead_of_second(input),
-        second_part(input),
-        fault,
-    )
+    record_words(alloc, &set, input.ahead, input.part, fault)
 }
 
 // A fault in words.
 fn words_of(
     alloc: Global,
     mode: Mode,
-    input: &[u8],
+    input: KeptInput<'_>,
     fault: CommandFault,
 ) -> Result<Option<String>, AllocError> {
     match fault {
         CommandFault::Text(fault) => {
-            let words = text_words(alloc, set_text(input), fault)?;
+            let words = text_words(alloc, input.text, fault)?;
             Ok(Some(words))
         }
-        CommandFault::Check(fault) => check_words(alloc, set_text(input), fault),
+        CommandFault::Check(fault) => check_words(alloc, input.text, fault),
         CommandFault::Input(fault) => input_sentence(alloc, fault),
         CommandFault::Parts(fault) => part_sentence(alloc, mode, input, fault),
         CommandFault::Analysis(fault) => analysis_sentence(alloc, fault),
@@ -160,7 +154,7 @@ fn words_of(
 // Why no serial order is sure, or why there is none.
 fn unserializable_sentence(alloc: Global, kept: &Kept) -> Result<Option<String>, AllocError> {
     if let Some(Finding::Refused(danger)) = &kept.found {
-        return refusal_sentence(alloc, &kept.input, danger);
+        return refusal_sentence(alloc, KeptInput::of(&kept.input), danger);
     }
     let cycle = kept.cycle.as_ref();
     plain(alloc, cycle.map(|words| words.as_str()))
@@ -169,7 +163,9 @@ fn unserializable_sentence(alloc: Global, kept: &Kept) -> Result<Option<String>,
 // What a certificate shows that was found.
 fn found_sentence(alloc: Global, kept: &Kept) -> Result<Option<String>, AllocError> {
     match &kept.found {
-        Some(Finding::Robust(certificate)) => robust_sentence(alloc, &kept.input, certificate),
+        Some(Finding::Robust(certificate)) => {
+            robust_sentence(alloc, KeptInput::of(&kept.input), certificate)
+        }
         _ => Ok(None),
     }
 }
@@ -195,7 +191,7 @@ fn ending_words(
         Ok(Status::Unserializable) => unserializable_sentence(alloc, kept),
         Ok(Status::Done) => done_sentence(alloc, mode, kept),
         Ok(Status::Faulty | Status::Memory) => Ok(None),
-        Err(fault) => words_of(alloc, mode, &kept.input, fault),
+        Err(fault) => words_of(alloc, mode, KeptInput::of(&kept.input), fault),
     }
 }
 

@@ -1,6 +1,6 @@
 //! What keeps workers from doing jobs, and which jobs did not commit, as it is said to people.
 
-use crate::sentences::kept_input::{ahead_of_second, second_part, set_of};
+use crate::sentences::kept_input::KeptInput;
 use crate::worker_fault::WorkerFault;
 use run_words::{ToldJobs, lost_job_words};
 use si_engine::Bytes;
@@ -20,16 +20,16 @@ pub fn lost_sentence(
     if outcomes.iter().all(has_committed) {
         return Ok(None);
     }
-    let Some(set) = set_of(alloc, input) else {
+    let input = KeptInput::of(input);
+    let Some(set) = input.set(alloc) else {
         return Ok(None);
     };
-    let part = second_part(input);
-    let Some(list) = read_jobs(alloc, &set, &mut Bytes::new(part)).ok() else {
+    let Some(list) = read_jobs(alloc, &set, &mut Bytes::new(input.part)).ok() else {
         return Ok(None);
     };
     let told = ToldJobs {
-        ahead: ahead_of_second(input),
-        part,
+        ahead: input.ahead,
+        part: input.part,
         jobs: list.jobs.as_slice(),
         outcomes,
     };

@@ -21,3 +21,6 @@ returns-in-Err-clause-end g c =
     let failed = g.S.Source.has_failed c.args.source.now in
     let kind = kind_of c.in-Err.error in
     writes_as (IsRefusal kind) (IsEnd words left failed) _ _ _ _ (refused kind c.in-Err.ensures.fault) c.refuse_words.ensures
+
+pub returns-in-Ok-clause-unread : goal.returns-in-Ok-clause-unread
+returns-in-Ok-clause-unread g c = λ faulty. absurd (faulty c.in-Ok.ensures.fault)

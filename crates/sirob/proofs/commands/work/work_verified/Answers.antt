@@ -24,7 +24,7 @@ returns-in_err-rows-clause-err g c =
 pub returns-in_err-outcomes-clause-err : goal.returns-in_err-outcomes-clause-err
 returns-in_err-outcomes-clause-err g c =
     let exit = err_from_is_err_and c.from_residual-in_err-outcomes.result c.from_residual-in_err-outcomes.ensures.1 in
-    let set = c.args.set.now in
+    let set = draft_tree c.args.set.now in
     let part = c.args.part.now in
     let list = c.in_ok-rows.field-0 in
     let f = c.in_err-outcomes.field-0.0 in
@@ -38,8 +38,6 @@ returns-in_err-outcomes-clause-err g c =
         robust = c.requires.robust;
         list = list;
         read = read;
-        draft = set;
-        same_set = refl;
         f = f;
         wrong = wrong;
         named = refl;
@@ -53,20 +51,19 @@ returns-in_err-text-clause-err g c =
 
 pub returns-clause-ok : goal.returns-clause-ok
 returns-clause-ok g c =
-    let set = c.args.set.now in
+    let set = draft_tree c.args.set.now in
     let part = c.args.part.now in
     let list = c.in_ok-rows.field-0 in
     let finished = c.in_ok-outcomes.field-0 in
     let taken = subst (λ (n : ℕ). AreTaken n c.as_slice.result.now) c.from.ensures c.in_ok-outcomes.ensures.taken in
+    let correspond = subst (λ (n : ℕ). OutcomesCorrespond n set list.rows c.as_slice.result.now finished.outcomes finished.book) c.from.ensures c.in_ok-outcomes.ensures.correspond in
     record {
       list = list;
       read = subst (λ (s : Draft). jobs_of (draft_tree s) part ≡ Ok list) c.set.ensures.same c.in_ok-rows.ensures.ok;
       taken = subst (λ (jobs : List Job). AreTaken c.args.workers jobs) c.as_slice.ensures taken;
-      draft = set;
-      same_set = refl;
       outcomes = finished.outcomes;
       book = finished.book;
       true_book = c.in_ok-outcomes.ensures.true_book;
-      correspond = subst (λ (jobs : List Job). OutcomesCorrespond set list.rows jobs finished.outcomes finished.book) c.as_slice.ensures c.in_ok-outcomes.ensures.correspond;
+      correspond = subst (λ (jobs : List Job). OutcomesCorrespond c.args.workers set list.rows jobs finished.outcomes finished.book) c.as_slice.ensures correspond;
       text = c.in_ok-text.ensures ∙ ap (λ (outcomes : List JobOutcome). work_text outcomes finished.book) c.as_slice-2.ensures;
     }
