@@ -25,6 +25,7 @@ use Rattle.repair_laws.specs.declared.plan.Pair.{Pair}
 use Rattle.si_engine.specs.declared.input.script_fault.ScriptFault.{ScriptFault}
 use Rattle.si_engine.specs.declared.input.script_fault.ScriptFault.TheVariants as script
 use Rattle.si_engine.specs.Texts.{line_fault_text}
+use Rattle.si_engine.specs.declared.input.script_fault.LineFault.TheVariants as line
 use Rattle.si_engine.specs.declared.input.source.InputFault.TheVariants as i
 use Rattle.sirob.specs.declared.worker_fault.WorkerFault.{WorkerFault}
 use Rattle.sirob.specs.declared.worker_fault.WorkerFault.TheVariants as w
@@ -160,7 +161,7 @@ is_memory (Repair u.Memory) = true
 is_memory (Json j.Memory) = true
 is_memory (Certificate k.Memory) = true
 is_memory (Script (script.Input i.Memory)) = true
-is_memory (Script (script.Line s.Memory)) = true
+is_memory (Script (script.Line line.Memory)) = true
 is_memory (Audit a.Memory) = true
 is_memory (Work w.Memory) = true
 is_memory fault = false
