@@ -7,18 +7,14 @@ use Rattle.prog_tree.specs.declared.look.Look.{Look}
 use Rattle.prog_tree.specs.declared.look.Look.TheVariants as look
 use Rattle.prog_tree.specs.Evaluation.{rows_left}
 use Rattle.prog_tree.specs.Table.{TableState, rows_in}
-use Rattle.prog_run.specs.Looks.{IsFound, AreFound, rows_without, last_of}
+use Rattle.prog_run.specs.Looks.{IsFound, AreFound, last_of}
+use Rattle.prog_run.proofs.OwnLemmas.{all_left}
 
 -- where all looks found what a table state holds, one of them did
 pub one_found : (m : TableState) (looks : List Look) (n : ℕ) (l : Look) → slice_get looks n ≡ Some l → AreFound m looks → IsFound m l
 one_found m [] n l at found = absurd (cc)
 one_found m (k ∷ ks) zero l at found = let same : k ≡ l = cc in subst (IsFound m) same found.0
 one_found m (k ∷ ks) (suc n) l at found = one_found m ks n l at found.1
-
--- without cells of its own all rows are left
-all_left : (rows : TableState) → rows_without [] rows ≡ rows
-all_left [] = refl
-all_left (row ∷ rows) = ap (λ rs. row ∷ rs) (all_left rows)
 
 -- a look whose parts are these
 pub same_look : (looks : List Look) (looked region : Region) (own : List Cell) (rows told : TableState) → last_of looks ≡ Some (look.Range looked own rows) → own ≡ [] → looked ≡ region → told ≡ rows →

@@ -1,4 +1,5 @@
 pub mod AgainLaws
+pub mod FrontLemmas
 pub mod GrowLemmas
 pub mod LookLemmas
 pub mod OwnLemmas

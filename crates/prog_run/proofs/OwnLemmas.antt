@@ -7,7 +7,8 @@ use Rattle.prog_tree.specs.declared.look.Look.TheVariants as look
 use Rattle.prog_tree.specs.Corners.{is_between, AreCorners}
 use Rattle.prog_tree.specs.Table.{cells_of, is_in, TableState}
 use Rattle.prog_tree.specs.ChangeSet.{ChangedCells, ChangeSet, changes_between, changes_in, changed}
-use Rattle.prog_run.specs.Looks.{rows_without, region_look, seen_rows}
+use Rattle.prog_tree.specs.Evaluation.{rows_without}
+use Rattle.prog_run.specs.Looks.{region_look, seen_rows}
 
 -- ---- the changes between the corners of a region
 
@@ -32,7 +33,8 @@ in_between r low high corners (e ∷ es) = go (is_between low high e.0) (is_in r
 
 -- ---- a look at a region in which the run has changed nothing
 
-all_left : (rows : TableState) → rows_without [] rows ≡ rows
+-- without cells of its own all rows are left
+pub all_left : (rows : TableState) → rows_without [] rows ≡ rows
 all_left [] = refl
 all_left (row ∷ rows) = ap (λ m. row ∷ m) (all_left rows)
 

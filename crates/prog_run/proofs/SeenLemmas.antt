@@ -14,18 +14,13 @@ use Rattle.prog_tree.specs.declared.cell.Cell.{Cell}
 use Rattle.prog_tree.specs.declared.cell.Region.{Region}
 use Rattle.prog_tree.specs.Table.{cell_cmp, is_in, is_same_cell, is_cell_among, cells_of, at_cell, TableState, row_at, with_row, without_row}
 use Rattle.prog_tree.specs.ChangeSet.{ChangedCells, changes_in, changed_row, changed}
-use Rattle.prog_tree.specs.Evaluation.{own_cells, total_of}
-use Rattle.prog_tree.proofs.TableLemmas.{cell_total, find_is}
+use Rattle.prog_tree.specs.Evaluation.{own_cells, total_of, rows_without}
+use Rattle.prog_tree.proofs.TableLemmas.{cell_total, find_is, absent_rest}
 use Rattle.prog_tree.proofs.TableStates.{cell_is}
 use Rattle.prog_tree.proofs.ChangedLemmas.{row_at-changed}
-use Rattle.prog_run.specs.Looks.{rows_without}
 use Rattle.prog_run.specs.Seen.{rows_before, AreAbsent, own_row}
 
 -- ---- rows of cells that were not changed
-
-absent_rest : (c : Cell) (row : Cell × ℤ) (m : TableState) → row_at (row ∷ m) c ≡ None → row_at m c ≡ None
-absent_rest c row m absent =
-    (elim (is_same_cell c row.0) as (λ b. cond b (Some row.1) (row_at m c) ≡ None → row_at m c ≡ None) [ true ↦ λ found. cc | false ↦ λ rest. rest ]) absent
 
 without_absent : (c : Cell) (m : TableState) → row_at m c ≡ None → without_row m c ≡ m
 without_absent c [] absent = refl
@@ -88,22 +83,22 @@ all_among (e ∷ es) = (among_itself e.0 (cells_of es), among_more e.0 (cells_of
 pub own_absent : (m : TableState) (own : ChangedCells) → AreAbsent (rows_without (cells_of own) m) own
 own_absent m own = are_absent (cells_of own) m own (all_among own)
 
+both_false : (b : Bool) → (b && false) ≡ false
+both_false true = refl
+both_false false = refl
+
 -- a cell is one of the own cells of a region if it lies there and was changed
-pub own_among : (r : Region) (es : ChangedCells) (c : Cell) → is_cell_among (own_cells r es) c ≡ (is_some (at_cell es c) && is_in r c)
-own_among r [] c = refl
+pub own_among : (r : Region) (es : ChangedCells) (c : Cell) → is_cell_among (own_cells r es) c ≡ (is_in r c && is_some (at_cell es c))
+own_among r [] c = sym (both_false (is_in r c))
 own_among r (e ∷ es) c = by (is_same_cell c e.0) refl (is_in r e.0) refl (own_among r es c)
   where
-    by : (b : Bool) → is_same_cell c e.0 ≡ b → (d : Bool) → is_in r e.0 ≡ d → is_cell_among (own_cells r es) c ≡ (is_some (at_cell es c) && is_in r c) →
-        is_cell_among (cells_of (cond d (e ∷ changes_in r es) (changes_in r es))) c ≡ (is_some (cond b (Some e.1) (at_cell es c)) && is_in r c)
-    by true is true lies rest = ap (λ b. b || is_cell_among (own_cells r es) c) is ∙ sym lies ∙ sym (ap (is_in r) (cell_is c e.0 is))
-    by true is false lies rest = rest ∙ ap (λ b. is_some (at_cell es c) && b) out ∙ both_false (is_some (at_cell es c)) ∙ sym out
+    by : (b : Bool) → is_same_cell c e.0 ≡ b → (d : Bool) → is_in r e.0 ≡ d → is_cell_among (own_cells r es) c ≡ (is_in r c && is_some (at_cell es c)) →
+        is_cell_among (cells_of (cond d (e ∷ changes_in r es) (changes_in r es))) c ≡ (is_in r c && is_some (cond b (Some e.1) (at_cell es c)))
+    by true is true lies rest = ap (λ b. b || is_cell_among (own_cells r es) c) is ∙ sym (ap (λ b. b && true) (ap (is_in r) (cell_is c e.0 is) ∙ lies))
+    by true is false lies rest = rest ∙ ap (λ b. b && is_some (at_cell es c)) out ∙ sym (ap (λ b. b && true) out)
       where
         out : is_in r c ≡ false
         out = ap (is_in r) (cell_is c e.0 is) ∙ lies
-
-        both_false : (b : Bool) → (b && false) ≡ false
-        both_false true = refl
-        both_false false = refl
     by false is true lies rest = ap (λ b. b || is_cell_among (own_cells r es) c) is ∙ rest
     by false is false lies rest = rest
 

@@ -18,12 +18,12 @@ use Rattle.prog_tree.specs.Value.{Bindings, value_of}
 use Rattle.prog_tree.specs.Table.{TableState}
 use Rattle.prog_tree.specs.ChangeSet.{change_at}
 use Rattle.prog_tree.specs.Steps.{did, looked}
-use Rattle.prog_tree.specs.Evaluation.{Flow, GoesOn, Stops, with_value, seen_or, cell_of, region_of, own_cells, rows_seen, run_statement}
+use Rattle.prog_tree.specs.Evaluation.{Flow, GoesOn, Stops, with_value, seen_or, cell_of, region_of, own_cells, rows_seen, run_statement, rows_without}
 use Rattle.prog_run.specs.Cursor.{needs_store}
-use Rattle.prog_run.specs.Looks.{AreFound, FoundBefore, rows_without, region_look, seen_rows}
+use Rattle.prog_run.specs.Looks.{AreFound, FoundBefore, region_look, seen_rows}
 use Rattle.prog_run.specs.Task.{UseTree, RegionUseTree, Lists, OfCell, OfRegion, TaskTree, task_of, listing_task, next_task, use_flow, rows_flow, task_flow}
 use Rattle.prog_run.specs.Task as task
-use Rattle.prog_run.specs.Statement.{IsFlow, IsBegun}
+use Rattle.prog_run.specs.Statement.{changes_with, IsFlow, IsBegun}
 use Rattle.prog_run.specs.declared.next.Step.{Step}
 use Rattle.prog_run.specs.declared.next.Step.TheVariants.{Asks, Did, Over}
 use Rattle.prog_run.proofs.LookLemmas.{found_last}
@@ -31,8 +31,8 @@ use Rattle.prog_run.proofs.LookLemmas.{found_last}
 -- what was to be done was done, on each table state that holds what the looks found
 abbrev pub IsDoneBy : (TableState → Flow) → Step → Progress → Progress → Type 0
 IsDoneBy flow (Asks asked) p q = ⊥
-IsDoneBy flow (Did deed) p q = ((m : TableState) → AreFound m q.looks → flow m ≡ GoesOn q) × FoundBefore p q × (q.deeds ≡ p.deeds ++ deed ∷ [])
-IsDoneBy flow (Over (Aborted cause)) p q = ((m : TableState) → AreFound m q.looks → flow m ≡ Stops cause q) × FoundBefore p q × (q.deeds ≡ p.deeds)
+IsDoneBy flow (Did deed) p q = ((m : TableState) → AreFound m q.looks → flow m ≡ GoesOn q) × FoundBefore p q × (q.deeds ≡ p.deeds ++ deed ∷ []) × (q.changes ≡ changes_with deed p.changes) × (q.replies ≡ p.replies)
+IsDoneBy flow (Over (Aborted cause)) p q = ((m : TableState) → AreFound m q.looks → flow m ≡ Stops cause q) × FoundBefore p q × (q.deeds ≡ p.deeds) × (q.changes ≡ p.changes) × (q.replies ≡ p.replies)
 IsDoneBy flow (Over Ready) p q = ⊥
 
 -- ---- a statement does what its task does
@@ -171,8 +171,8 @@ first_listing tables (Each k block rest) env l body region is =
 -- by a flow that needs no look
 pub begun_done : (t : TaskTree) (n : Step) (p q : Progress) → ((m : TableState) → IsFlow (task_flow m t p) n p q) → IsDoneBy (λ m. task_flow m t p) n p q
 begun_done t (Asks asked) p q h = absurd (h [])
-begun_done t (Did deed) p q h = (λ m f. (h m).0, λ m f. subst (AreFound m) (h m).2 f, (h []).1)
-begun_done t (Over (Aborted cause)) p q h = (λ m f. (h m).0, λ m f. subst (AreFound m) (h m).2 f, (h []).1)
+begun_done t (Did deed) p q h = (λ m f. (h m).0, λ m f. subst (AreFound m) (h m).2 f, (h []).1, (h []).3, (h []).4)
+begun_done t (Over (Aborted cause)) p q h = (λ m f. (h m).0, λ m f. subst (AreFound m) (h m).2 f, (h []).1, (h []).3, (h []).4)
 begun_done t (Over Ready) p q h = absurd (h [])
 
 -- to begin a task is no look
@@ -204,10 +204,10 @@ module _ (l : Look) (p : Progress) (flow : TableState → Flow) (half : Flow) (i
   halves (Asks asked) r h = absurd h
   halves (Did deed) r h =
       let found : (m : TableState) → AreFound m r.looks → AreFound m p.looks × AreFound m (l ∷ []) = λ m f. found_last m p.looks l (subst (AreFound m) h.2 f) in
-      (λ m f. is m (found m f).1 ∙ h.0, λ m f. (found m f).0, h.1)
+      (λ m f. is m (found m f).1 ∙ h.0, λ m f. (found m f).0, h.1, h.3, h.4)
   halves (Over (Aborted cause)) r h =
       let found : (m : TableState) → AreFound m r.looks → AreFound m p.looks × AreFound m (l ∷ []) = λ m f. found_last m p.looks l (subst (AreFound m) h.2 f) in
-      (λ m f. is m (found m f).1 ∙ h.0, λ m f. (found m f).0, h.1)
+      (λ m f. is m (found m f).1 ∙ h.0, λ m f. (found m f).0, h.1, h.3, h.4)
   halves (Over Ready) r h = absurd h
 
 -- a look at a cell that the run has not changed

@@ -15,14 +15,14 @@ use Rattle.prog_tree.specs.Syntax.{ListingTree, StatementTree, BlockTree, Then, 
 use Rattle.prog_tree.specs.ChangeSet.{change_at}
 use Rattle.prog_tree.specs.Steps.{did, looked}
 use Rattle.prog_tree.specs.Table.{TableState}
-use Rattle.prog_tree.specs.Evaluation.{Flow, with_value, and_then, ended, turns_of, own_cells, run_statement}
+use Rattle.prog_tree.specs.Evaluation.{Flow, with_value, and_then, ended, turns_of, own_cells, run_statement, rows_without}
 use Rattle.prog_run.specs.Todo.{TurnsTree, CursorTree, listed, with_rest, todo}
-use Rattle.prog_run.specs.Cursor.{is_store_stmt, is_store, SameTodo, KeepsStore, IsOver}
+use Rattle.prog_run.specs.Cursor.{BeginsWith, is_store_stmt, is_store, SameTodo, KeepsStore, IsOver}
 use Rattle.prog_run.specs.Task.{UseTree, RegionUseTree, Counts, Sums, Lists, AskedTree, OfCell, OfRegion, TaskTree, asked_tree, use_tree, task_of, task_of_stmt, next_task, use_flow, rows_flow, task_flow}
 use Rattle.prog_run.specs.Task as task
-use Rattle.prog_run.specs.Looks.{AreFound, asked_by, rows_without, region_look, seen_rows}
-use Rattle.prog_run.specs.Statement.{IsFlow, IsBegun}
-use Rattle.prog_run.specs.Step.{next_of, asked_after, question_after, end_after, deeds_after, rest_after, cursor_after, cursor_behind, IsAt, IsStep}
+use Rattle.prog_run.specs.Looks.{AreFound, asked_by, region_look, seen_rows}
+use Rattle.prog_run.specs.Statement.{changes_with, IsFlow, IsBegun}
+use Rattle.prog_run.specs.Step.{next_of, asked_after, question_after, end_after, deeds_after, changes_after, rest_after, cursor_after, cursor_behind, IsAt, IsStep}
 use Rattle.prog_run.specs.View.{IsTrueTo, IsWaiting, asked_region, question_in}
 use Rattle.prog_run.specs.declared.next.Next.TheVariants.{Get}
 use Rattle.prog_run.specs.declared.next.Question.{Question}
@@ -31,6 +31,7 @@ use Rattle.prog_run.specs.declared.next.Step.{Step}
 use Rattle.prog_run.specs.declared.next.Step.TheVariants.{Asks, Did, Over}
 use Rattle.prog_run.specs.declared.task.Asked.{Asked}
 use Rattle.prog_run.specs.declared.task.Asked.TheVariants as asked
+use Rattle.prog_run.proofs.FrontLemmas.{begins_same, begins_on}
 use Rattle.prog_run.proofs.LookLemmas.{found_last, found_same, asked_unchanged}
 use Rattle.prog_run.proofs.StatementLemmas.{IsDoneBy, lists, task_law, task_store, listing_is, no_listing, first_statement, first_listing, begun_done, listing_asks, listing_goes_on, cell_done, rows_done}
 use Rattle.prog_run.proofs.TodoLemmas.{todo_then, listing_goes, listing_stops}
@@ -40,7 +41,7 @@ asks_step : (tables : List TableDecl) (c d : CursorTree) (p q : Progress) (t : T
 asks_step tables c d p q t next a at h = (
   λ m f i. todo tables m (at i) (h.0 i),
   found_same p q (ap (λ (r : Progress). r.looks) h.0),
-  record { deeds = ap (λ (r : Progress). r.deeds) h.0; changes = ap (λ (r : Progress). r.changes) h.0; looks = ap (λ (r : Progress). r.looks) h.0 },
+  record { deeds = ap (λ (r : Progress). r.deeds) h.0; changes = ap (λ (r : Progress). r.changes) h.0; looks = ap (λ (r : Progress). r.looks) h.0; replies = begins_same (ap (λ (r : Progress). r.replies) h.0) },
   (
     (λ i. next_task tables (at i).here.rest (h.0 i).env) ∙ next ∙ ap Some h.1,
     ap (λ (r : Progress). asked_by r.changes (task.Look (asked_tree a))) h.0 ∙ ap (asked_by p.changes) (sym h.1) ∙ h.2,
@@ -52,9 +53,9 @@ module _ (tables : List TableDecl) (statement : StatementTree) (rest : BlockTree
   done : (n : Step) → d ≡ cursor_after n c → (flow : TableState → Flow) → ((m : TableState) → run_statement tables m statement p ≡ flow m) → IsDoneBy flow n p q → IsStep tables n c p d q
   done (Asks a) at flow same h = absurd h
   done (Did deed) at flow same h =
-      (λ m f. ap (λ k. todo tables m k q) (at ∙ ap (λ b. with_rest (rest_after b) c) is) ∙ sym (todo_then tables m statement rest c p is ∙ ap (λ r. and_then r (todo tables m (with_rest rest c))) (same m ∙ h.0 m f)), h.1, h.2)
+      (λ m f. ap (λ k. todo tables m k q) (at ∙ ap (λ b. with_rest (rest_after b) c) is) ∙ sym (todo_then tables m statement rest c p is ∙ ap (λ r. and_then r (todo tables m (with_rest rest c))) (same m ∙ h.0 m f)), h.1, h.2, h.3, begins_same h.4)
   done (Over (Aborted cause)) at flow same h =
-      (λ m f. ap ended (todo_then tables m statement rest c p is ∙ ap (λ r. and_then r (todo tables m (with_rest rest c))) (same m ∙ h.0 m f)), h.1, h.2)
+      (λ m f. ap ended (todo_then tables m statement rest c p is ∙ ap (λ r. and_then r (todo tables m (with_rest rest c))) (same m ∙ h.0 m f)), h.1, h.2, h.3, begins_same h.4)
   done (Over Ready) at flow same h = absurd h
 
   module _ (t : TaskTree) (has : task_of tables statement p.env ≡ Some t) where
@@ -76,10 +77,10 @@ pub step_without : (tables : List TableDecl) (x : StmtTree) (rest : BlockTree) (
     task_of_stmt tables x p.env ≡ None → IsStep tables (Over (Aborted Overflow)) c p d p
 step_without tables (Plain statement) rest c d p is store none =
     let flow = λ (m : TableState). task_law tables m statement p store ∙ ap (λ o. with_value o p (λ t. task_flow m t p)) none in
-    (λ m f. ap ended (todo_then tables m statement rest c p is ∙ ap (λ r. and_then r (todo tables m (with_rest rest c))) (flow m)), λ m f. f, refl)
+    (λ m f. ap ended (todo_then tables m statement rest c p is ∙ ap (λ r. and_then r (todo tables m (with_rest rest c))) (flow m)), λ m f. f, refl, refl, begins_same refl)
 step_without tables (Fork test a b) rest c d p is store none = absurd (cc)
 step_without tables (Loop l body) rest c d p is store none =
-    (λ m f. ap ended (listing_stops tables m l body rest c p is (no_listing tables l body p.env none)), λ m f. f, refl)
+    (λ m f. ap ended (listing_stops tables m l body rest c p is (no_listing tables l body p.env none)), λ m f. f, refl, refl, begins_same refl)
 
 -- any statement of the store that is begun
 pub step_of_stmt : (tables : List TableDecl) (x : StmtTree) (rest : BlockTree) (c d : CursorTree) (p q : Progress) → c.here.rest ≡ block_from x rest →
@@ -136,6 +137,8 @@ module _ (tables : List TableDecl) (c d : CursorTree) (p q : Progress) where
         λ m f. (λ i. todo tables m (opened i) (sym same i)) ∙ listing_goes tables m l body first.rest region c p first.at first.found (rows_without own rows) (found m f).1.0,
         λ m f. (found m f).0,
         flow.1,
+        flow.3,
+        begins_same flow.4,
       )
 
   -- a statement whose region's rows are known
@@ -148,10 +151,10 @@ module _ (tables : List TableDecl) (c d : CursorTree) (p q : Progress) where
 
 -- what an answer adds, and that it asks nothing
 pub answer_adds : (l : Look) (f : Flow) (n : Step) (p q : Progress) → IsFlow f n (looked l p) q →
-    (q.deeds ≡ deeds_after (next_of n) p.deeds) × (q.looks ≡ p.looks ++ l ∷ []) × (question_after (next_of n) ≡ None)
+    (q.deeds ≡ deeds_after (next_of n) p.deeds) × (q.looks ≡ p.looks ++ l ∷ []) × (question_after (next_of n) ≡ None) × (q.changes ≡ changes_after (next_of n) p.changes) × (q.replies ≡ p.replies)
 answer_adds l f (Asks a) p q h = absurd h
-answer_adds l f (Did deed) p q h = (h.1, h.2, refl)
-answer_adds l f (Over (Aborted cause)) p q h = (h.1, h.2, refl)
+answer_adds l f (Did deed) p q h = (h.1, h.2, refl, h.3, h.4)
+answer_adds l f (Over (Aborted cause)) p q h = (h.1, h.2, refl, h.3, h.4)
 answer_adds l f (Over Ready) p q h = absurd h
 
 -- what is so of the region that a run asks for
@@ -165,15 +168,15 @@ module _ (tables : List TableDecl) (c b d : CursorTree) (p r q : Progress) (same
   settled_then (Asks a) h = (
     λ m f. h.0 m f ∙ same tables m,
     λ m f. found_same p r k.looks m (h.1 m f),
-    record { deeds = h.2.deeds ∙ k.deeds; changes = h.2.changes ∙ k.changes; looks = h.2.looks ∙ k.looks },
+    record { deeds = h.2.deeds ∙ k.deeds; changes = h.2.changes ∙ k.changes; looks = h.2.looks ∙ k.looks; replies = begins_on q.replies k.replies h.2.replies },
     h.3,
   )
-  settled_then (Did deed) h = (λ m f. h.0 m f ∙ same tables m, λ m f. found_same p r k.looks m (h.1 m f), h.2 ∙ ap (λ ds. ds ++ deed ∷ []) k.deeds)
-  settled_then (Over end) h = (λ m f. ap ended (sym (same tables m)) ∙ h.0 m f, λ m f. found_same p r k.looks m (h.1 m f), h.2 ∙ k.deeds)
+  settled_then (Did deed) h = (λ m f. h.0 m f ∙ same tables m, λ m f. found_same p r k.looks m (h.1 m f), h.2 ∙ ap (λ ds. ds ++ deed ∷ []) k.deeds, h.3 ∙ ap (changes_with deed) k.changes, begins_on q.replies k.replies h.4)
+  settled_then (Over end) h = (λ m f. ap ended (sym (same tables m)) ∙ h.0 m f, λ m f. found_same p r k.looks m (h.1 m f), h.2 ∙ k.deeds, h.3 ∙ k.changes, begins_on q.replies k.replies h.4)
 
 pub settled_over : (tables : List TableDecl) (end : End) (c d : CursorTree) (p q : Progress) →
     IsOver end c p q → KeepsStore p q → IsStep tables (Over end) c p d q
-settled_over tables end c d p q over k = (λ m f. over tables m, found_same p q k.looks, k.deeds)
+settled_over tables end c d p q over k = (λ m f. over tables m, found_same p q k.looks, k.deeds, k.changes, k.replies)
 
 -- ---- a run after a step
 
@@ -214,6 +217,19 @@ step_deeds tables c d p q (Asks (asked.OfCell cell usage)) h = h.2.deeds
 step_deeds tables c d p q (Asks (asked.OfRegion region usage)) h = h.2.deeds
 step_deeds tables c d p q (Did deed) h = h.2
 step_deeds tables c d p q (Over end) h = h.2
+
+-- what a step changes
+pub step_changes : (tables : List TableDecl) (c d : CursorTree) (p q : Progress) (n : Step) → IsStep tables n c p d q → q.changes ≡ changes_after (next_of n) p.changes
+step_changes tables c d p q (Asks (asked.OfCell cell usage)) h = h.2.changes
+step_changes tables c d p q (Asks (asked.OfRegion region usage)) h = h.2.changes
+step_changes tables c d p q (Did deed) h = h.3
+step_changes tables c d p q (Over end) h = h.3
+
+-- its replies come behind those before
+pub step_replies : (tables : List TableDecl) (c d : CursorTree) (p q : Progress) (n : Step) → IsStep tables n c p d q → BeginsWith p.replies q.replies
+step_replies tables c d p q (Asks asked) h = h.2.replies
+step_replies tables c d p q (Did deed) h = h.4
+step_replies tables c d p q (Over end) h = h.4
 
 -- the question that a caller sees
 pub step_question : (n : Step) → question_in (asked_after n) ≡ question_after (next_of n)

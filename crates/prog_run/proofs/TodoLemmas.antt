@@ -19,6 +19,7 @@ use Rattle.prog_tree.specs.Evaluation.{Flow, GoesOn, Stops, and_then, Turn, turn
 use Rattle.prog_run.specs.Todo.{TurnsTree, OpenTree, CursorTree, named, head_of, finish_turns, finish_block, finish_all, todo, weight, turns_weight, open_weight, weight_of_all, weight_left, entered, listed, next_turn, in_turn, with_rest}
 use Rattle.prog_run.specs.Cursor.{IsLocalStep, SameTodo, KeepsStore}
 use Rattle.prog_run.specs.declared.cursor.Standing.TheVariants.{Moved, Over}
+use Rattle.prog_run.proofs.FrontLemmas.{begins_same}
 
 pub and_then_assoc : (f : Flow) (g h : Progress → Flow) → and_then (and_then f g) h ≡ and_then f (λ q. and_then (g q) h)
 and_then_assoc (GoesOn p) g h = refl
@@ -169,7 +170,7 @@ branch_weight test a b rest scope c v is =
 pub nothing_done : (c d : CursorTree) (p q : Progress) → d ≡ c → q ≡ p → SameTodo c p d q × KeepsStore p q
 nothing_done c d p q at is = (
   λ tables m i. todo tables m (at i) (is i),
-  record { deeds = ap (λ (r : Progress). r.deeds) is; changes = ap (λ (r : Progress). r.changes) is; looks = ap (λ (r : Progress). r.looks) is },
+  record { deeds = ap (λ (r : Progress). r.deeds) is; changes = ap (λ (r : Progress). r.changes) is; looks = ap (λ (r : Progress). r.looks) is; replies = begins_same (ap (λ (r : Progress). r.replies) is) },
 )
 
 -- to enter the block that the test chooses is a step
@@ -178,7 +179,7 @@ pub branch_moves : (test : TestTree) (a b rest : BlockTree) (c d : CursorTree) (
     d ≡ entered (if v then a else b) (length p.env) rest c → IsLocalStep Moved c p d p
 branch_moves test a b rest c d p v is holds e =
     subst (λ d. IsLocalStep Moved c p d p) (sym e)
-    (λ tables m. branch_todo tables m test a b rest c p v is holds, branch_weight test a b rest (length p.env) c v is, record { deeds = refl; changes = refl; looks = refl })
+    (λ tables m. branch_todo tables m test a b rest c p v is holds, branch_weight test a b rest (length p.env) c v is, record { deeds = refl; changes = refl; looks = refl; replies = begins_same refl })
 
 -- ---- turns
 
@@ -217,7 +218,7 @@ begun_moves l turn c p ends next = by_turns c.here.turns refl
             let is_now : next_cursor c p ≡ record c { here = record { rest = t.body; scope = names; turns = Some (record t { left = later }) } } = λ i. record c { here = here i } in (
               λ tables m. (λ i. todo tables m (is_now i) (begun_turn (sym head i) (sym one i) q)) ∙ turn_goes tables m t first later c p ends is has,
               subst (λ e. weight_left e < weight_left c) (sym is_now) (turn_weight t first later names c ends is has),
-              record { deeds = refl; changes = refl; looks = refl },
+              record { deeds = refl; changes = refl; looks = refl; replies = begins_same refl },
             )
 
 -- to cut the names and to begin the next turn is a step
@@ -238,7 +239,7 @@ block_moves outer b c p q ends none was cut = subst (λ r. IsLocalStep Moved c p
       sym (ap (λ (k : Progress → Flow). k (closed c.here.scope p)) (fold-append (finish_block tables m) GoesOn outer (b ∷ [])))
       ∙ ap (λ bs. finish_all tables m bs (closed c.here.scope p)) (sym was) ∙ sym (end_goes tables m c p ends none),
   lighter,
-  record { deeds = refl; changes = refl; looks = refl },
+  record { deeds = refl; changes = refl; looks = refl; replies = begins_same refl },
 )
   where
     lighter : weight_left (record { here = b; outer = outer }) < weight_left c
@@ -250,14 +251,14 @@ block_moves outer b c p q ends none was cut = subst (λ r. IsLocalStep Moved c p
 pub block_over : (c d : CursorTree) (p q : Progress) → c.here.rest ≡ BlockEnd → next_turn c.here ≡ None → c.outer ≡ [] → q ≡ closed c.here.scope p → IsLocalStep (Over Ready) c p d q
 block_over c d p q ends none last cut = subst (λ r. IsLocalStep (Over Ready) c p d r) (sym cut) (
   λ tables m. ap ended (end_goes tables m c p ends none ∙ ap (λ bs. finish_all tables m bs (closed c.here.scope p)) last),
-  record { deeds = refl; changes = refl; looks = refl },
+  record { deeds = refl; changes = refl; looks = refl; replies = begins_same refl },
 )
 
 -- where a turn could not be begun, what is left is the same
 pub turn_waits : (c d : CursorTree) (p q : Progress) → c.here.rest ≡ BlockEnd → d ≡ c → q ≡ closed c.here.scope p → SameTodo c p d q × KeepsStore p q
 turn_waits c d p q ends same cut = (
   λ tables m. (λ i. todo tables m (same i) (cut i)) ∙ waits tables m,
-  record { deeds = ap (λ (r : Progress). r.deeds) cut; changes = ap (λ (r : Progress). r.changes) cut; looks = ap (λ (r : Progress). r.looks) cut },
+  record { deeds = ap (λ (r : Progress). r.deeds) cut; changes = ap (λ (r : Progress). r.changes) cut; looks = ap (λ (r : Progress). r.looks) cut; replies = begins_same (ap (λ (r : Progress). r.replies) cut) },
 )
   where
     twice : closed c.here.scope (closed c.here.scope p) ≡ closed c.here.scope p

@@ -1,13 +1,13 @@
 -- Where a run stands, and what a step without the store does.
-use Rattle.std.specs.Prelude.{◌≡◌, ◌<◌, ℤ, Bool, true, false, Option, Some, None, option_map, List, map}
+use Rattle.std.specs.Prelude.{◌≡◌, ◌<◌, ℤ, Bool, true, false, Option, Some, None, is_some, option_map, List, map, take, length}
 use Rattle.prog_tree.specs.declared.deed.End.{End}
 use Rattle.prog_tree.specs.declared.progress.Progress.{Progress}
 use Rattle.prog_tree.specs.declared.table.TableDecl.{TableDecl}
 use Rattle.prog_tree.specs.Syntax.{ListingTree, StatementTree, BlockTree, BlockEnd, Then, Branch, Each, StmtTree, Plain, Fork, Loop}
-use Rattle.prog_tree.specs.Syntax as s
 use Rattle.prog_tree.specs.Tree.{stmts_tree, block_tree}
 use Rattle.prog_tree.specs.Table.{TableState}
 use Rattle.prog_tree.specs.Evaluation.{as_evaluation, ended}
+use Rattle.prog_check.specs.Uses.{used_table}
 use Rattle.prog_run.specs.Todo.{TurnsTree, named, OpenTree, CursorTree, todo, weight_left}
 use Rattle.prog_run.specs.declared.block.Turns.{Turns}
 use Rattle.prog_run.specs.declared.block.Turn.{Turn}
@@ -32,26 +32,20 @@ cursor_tree c = record { here = open_tree c.here; outer = map open_tree c.outer.
 abbrev pub turn_tree : Turn → ListingTree × (ℤ × ℤ)
 turn_tree t = (named t.names.key.now t.names.value.now, (t.key, t.value))
 
--- the store part of what the run has done stays: deeds, changes and looks
+-- a list begins with another one
+abbrev pub BeginsWith : {A : Type 0} → (front whole : List A) → Type 0
+BeginsWith front whole = take (length front) whole ≡ front
+
+-- the store part of what the run has done stays: deeds, changes and looks; its replies only grow
 pub record KeepsStore (old new : Progress) : Type 0 where
   pub deeds : new.deeds ≡ old.deeds
   pub changes : new.changes ≡ old.changes
   pub looks : new.looks ≡ old.looks
+  pub replies : BeginsWith old.replies new.replies
 
--- whether a statement without blocks is one of the store
+-- whether a statement without blocks is one of the store: it uses a table
 abbrev pub needs_store : StatementTree → Bool
-needs_store (s.Bind name value) = false
-needs_store (s.Get name table key otherwise) = true
-needs_store (s.Need name table key) = true
-needs_store (s.Count name table range) = true
-needs_store (s.Sum name table range) = true
-needs_store (s.Lacks table key) = true
-needs_store (s.Put table key value) = true
-needs_store (s.Insert table key value) = true
-needs_store (s.Delete table key) = true
-needs_store (s.Keep table key) = true
-needs_store (s.Reply value) = false
-needs_store s.Abort = false
+needs_store s = is_some (used_table s)
 
 -- whether a statement is one of the store: an `each` is, a branch is not
 abbrev pub is_store_stmt : StmtTree → Bool

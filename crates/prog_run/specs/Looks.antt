@@ -1,13 +1,13 @@
 -- What a run asks its snapshot, and what its looks found there.
-use Rattle.std.specs.Prelude.{◌≡◌, ◌-◌, List, [], ◌∷◌, length, slice_get, Option, Some, None, is_some, filter, not, if◌then◌else◌}
+use Rattle.std.specs.Prelude.{◌≡◌, ◌-◌, List, [], ◌∷◌, length, slice_get, Option, Some, None, is_some, if◌then◌else◌}
 use Rattle.prog_tree.specs.declared.cell.Cell.{Cell}
 use Rattle.prog_tree.specs.declared.cell.Region.{Region}
 use Rattle.prog_tree.specs.declared.look.Look.{Look}
 use Rattle.prog_tree.specs.declared.look.Look.TheVariants as look
 use Rattle.prog_tree.specs.declared.progress.Progress.{Progress}
-use Rattle.prog_tree.specs.Table.{is_cell_among, TableState, row_at}
+use Rattle.prog_tree.specs.Table.{TableState, row_at}
 use Rattle.prog_tree.specs.ChangeSet.{ChangeSet, change_at}
-use Rattle.prog_tree.specs.Evaluation.{rows_left, own_cells, rows_seen}
+use Rattle.prog_tree.specs.Evaluation.{rows_without, rows_left, own_cells, rows_seen}
 use Rattle.prog_run.specs.declared.next.Question.{Question}
 use Rattle.prog_run.specs.declared.next.Question.TheVariants.{One, Range}
 use Rattle.prog_run.specs.Task.{AskedTree, OfCell, OfRegion, TaskTree}
@@ -50,10 +50,6 @@ abbrev pub asked_by : ChangeSet → TaskTree → Option Question
 asked_by changes (task.Look (OfCell cell usage)) = asked_for changes cell
 asked_by changes (task.Look (OfRegion region usage)) = Some (Range region)
 asked_by changes _ = None
-
--- rows but for those of some cells
-abbrev pub rows_without : List Cell → TableState → TableState
-rows_without own rows = filter (λ row. not (is_cell_among own row.0)) rows
 
 -- a look at a region, of a run with these changes, that found these rows; those of the cells that it had changed are left out
 abbrev pub region_look : ChangeSet → Region → TableState → Look

@@ -8,7 +8,8 @@ use Rattle.prog_tree.specs.declared.deed.End.TheVariants.{Ready, Aborted}
 use Rattle.prog_tree.specs.declared.look.Look.{Look}
 use Rattle.prog_tree.specs.declared.look.Look.TheVariants as look
 use Rattle.prog_tree.specs.declared.progress.Progress.{Progress}
-use Rattle.prog_tree.specs.Steps.{looked, wrote, keeps}
+use Rattle.prog_tree.specs.ChangeSet.{ChangeSet, with_change, with_kept}
+use Rattle.prog_tree.specs.Steps.{looked}
 use Rattle.prog_tree.specs.Table.{TableState}
 use Rattle.prog_tree.specs.Evaluation.{Flow, GoesOn, Stops}
 use Rattle.prog_run.specs.Task.{UseTree, RegionUseTree, TaskTree, asked_tree, use_flow, rows_flow, task_flow}
@@ -17,18 +18,22 @@ use Rattle.prog_run.specs.Looks.{asked_by, question_of, region_look, seen_rows}
 use Rattle.prog_run.specs.declared.next.Step.{Step}
 use Rattle.prog_run.specs.declared.next.Step.TheVariants.{Asks, Did, Over}
 
--- what a run has done so far, with what a deed changes: a set, removed or kept cell
-abbrev pub written_by : Deed → Progress → Progress
-written_by (Put cell v) p = wrote cell (Some v) p
-written_by (Removed cell) p = wrote cell None p
-written_by (Kept cell) p = keeps cell p
-written_by _ p = p
+-- changes with what a deed changes: a set, removed or kept cell
+abbrev pub changes_with : Deed → ChangeSet → ChangeSet
+changes_with (Put cell v) changes = with_change changes cell (Some v)
+changes_with (Removed cell) changes = with_change changes cell None
+changes_with (Kept cell) changes = with_kept changes cell
+changes_with _ changes = changes
 
--- what was to be done was done, without a further look
+-- what a run has done so far, with what a deed changes
+abbrev pub written_by : Deed → Progress → Progress
+written_by deed p = record p { changes = changes_with deed p.changes }
+
+-- what was to be done was done, without a further look or a reply
 abbrev pub IsFlow : Flow → Step → Progress → Progress → Type 0
 IsFlow f (Asks asked) p q = ⊥
-IsFlow f (Did deed) p q = (f ≡ GoesOn q) × (q.deeds ≡ p.deeds ++ deed ∷ []) × (q.looks ≡ p.looks)
-IsFlow f (Over (Aborted cause)) p q = (f ≡ Stops cause q) × (q.deeds ≡ p.deeds) × (q.looks ≡ p.looks)
+IsFlow f (Did deed) p q = (f ≡ GoesOn q) × (q.deeds ≡ p.deeds ++ deed ∷ []) × (q.looks ≡ p.looks) × (q.changes ≡ changes_with deed p.changes) × (q.replies ≡ p.replies)
+IsFlow f (Over (Aborted cause)) p q = (f ≡ Stops cause q) × (q.deeds ≡ p.deeds) × (q.looks ≡ p.looks) × (q.changes ≡ p.changes) × (q.replies ≡ p.replies)
 IsFlow f (Over Ready) p q = ⊥
 
 -- a look was noted, and then this was done

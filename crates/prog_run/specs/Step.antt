@@ -6,12 +6,13 @@ use Rattle.prog_tree.specs.declared.deed.End.{End}
 use Rattle.prog_tree.specs.declared.progress.Progress.{Progress}
 use Rattle.prog_tree.specs.declared.table.TableDecl.{TableDecl}
 use Rattle.prog_tree.specs.Syntax.{BlockTree, BlockEnd, Then, Branch, Each}
+use Rattle.prog_tree.specs.ChangeSet.{ChangeSet}
 use Rattle.prog_tree.specs.Table.{TableState}
 use Rattle.prog_tree.specs.Evaluation.{turns_of, as_evaluation, ended}
 use Rattle.prog_run.specs.Todo.{CursorTree, listed, with_rest, todo}
-use Rattle.prog_run.specs.Cursor.{KeepsStore}
+use Rattle.prog_run.specs.Cursor.{BeginsWith, KeepsStore}
 use Rattle.prog_run.specs.Task.{RegionUseTree, Lists, AskedTree, Look, asked_tree, next_task, rows_flow}
-use Rattle.prog_run.specs.Statement.{IsFlow}
+use Rattle.prog_run.specs.Statement.{changes_with, IsFlow}
 use Rattle.prog_run.specs.Looks.{AreFound, FoundBefore, asked_by, question_of}
 use Rattle.prog_run.specs.declared.next.Next.{Next}
 use Rattle.prog_run.specs.declared.next.Next.TheVariants.{Get, Scan, Did, Done}
@@ -48,6 +49,11 @@ question_after _ = None
 abbrev pub deeds_after : Next → List Deed → List Deed
 deeds_after (Did deed) deeds = deeds ++ deed ∷ []
 deeds_after _ deeds = deeds
+
+-- the changes after a step
+abbrev pub changes_after : Next → ChangeSet → ChangeSet
+changes_after (Did deed) changes = changes_with deed changes
+changes_after _ changes = changes
 
 -- the end after a step, if it was the last
 abbrev pub end_after : Next → Option End
@@ -94,5 +100,5 @@ IsAt tables asked c p = (next_task tables c.here.rest p.env ≡ Some (Look asked
 abbrev pub IsStep : List TableDecl → Step → CursorTree → Progress → CursorTree → Progress → Type 0
 -- nothing is done at the store
 IsStep tables (step.Asks asked) c p d q = GoesTo tables c p d q × FoundBefore p q × KeepsStore p q × IsAt tables (asked_tree asked) d q
-IsStep tables (step.Did deed) c p d q = GoesTo tables c p d q × FoundBefore p q × (q.deeds ≡ p.deeds ++ deed ∷ [])
-IsStep tables (step.Over end) c p d q = EndsAs tables end c p q × FoundBefore p q × (q.deeds ≡ p.deeds)
+IsStep tables (step.Did deed) c p d q = GoesTo tables c p d q × FoundBefore p q × (q.deeds ≡ p.deeds ++ deed ∷ []) × (q.changes ≡ changes_with deed p.changes) × BeginsWith p.replies q.replies
+IsStep tables (step.Over end) c p d q = EndsAs tables end c p q × FoundBefore p q × (q.deeds ≡ p.deeds) × (q.changes ≡ p.changes) × BeginsWith p.replies q.replies

@@ -17,7 +17,8 @@ use Rattle.prog_tree.specs.Tree.{program_tree}
 use Rattle.prog_run.specs.Todo.{CursorTree, todo}
 use Rattle.prog_run.specs.Task.{asked_tree}
 use Rattle.prog_run.specs.Looks.{AreFound, question_of}
-use Rattle.prog_run.specs.Step.{IsAt, deeds_after, question_after, end_after}
+use Rattle.prog_run.specs.Cursor.{BeginsWith}
+use Rattle.prog_run.specs.Step.{IsAt, deeds_after, changes_after, question_after, end_after}
 use Rattle.prog_run.specs.declared.fault.AnswerFault.{AnswerFault}
 use Rattle.prog_run.specs.declared.fault.AnswerFault.TheVariants.{NotAsked, BadRows, Memory}
 use Rattle.prog_run.specs.declared.fault.RunFault.{RunFault}
@@ -49,9 +50,10 @@ meaning v m = eval v.tables (program_tree v.program) v.args m
 abbrev pub result_of : End → RunView → Evaluation
 result_of end v = record { ending = end; deeds = v.deeds; replies = v.replies; changes = v.changes; looks = v.looks }
 
--- On a table state that holds what its looks found, the run does what the program means: its deeds are the first of the program's, and at its end all is the program's.
+-- On a table state that holds what its looks found, the run does what the program means: its deeds and its replies are the first of the program's, and at its end all is the program's.
 pub record IsTrueAt (v : RunView) (m : TableState) : Type 0 where
   pub deeds : take (length v.deeds) (meaning v m).deeds ≡ v.deeds
+  pub replies : take (length v.replies) (meaning v m).replies ≡ v.replies
   pub ending : (end : End) → v.end ≡ Some end → result_of end v ≡ meaning v m
 
 -- this holds on every such table state
@@ -77,16 +79,20 @@ pub record SameBegin (old new : RunView) : Type 0 where
   pub program : new.program ≡ old.program
   pub args : new.args ≡ old.args
 
--- a step without an answer has no look, and one that finishes a statement finishes just one
+-- A step without an answer has no look. One that finishes a statement finishes just one, and changes what its deed tells. Replies only come behind those before.
 pub record IsAdvance (next : Next) (old new : RunView) : Type 0 where
   pub deeds : new.deeds ≡ deeds_after next old.deeds
+  pub changes : new.changes ≡ changes_after next old.changes
+  pub replies : BeginsWith old.replies new.replies
   pub looks : new.looks ≡ old.looks
   pub asked : new.asked ≡ question_after next
   pub end : new.end ≡ end_after next
 
--- an answer adds its look, and finishes the statement or the run
+-- an answer adds its look, and finishes the statement or the run; it makes no reply
 pub record IsAnswered (look : Look) (next : Next) (old new : RunView) : Type 0 where
   pub deeds : new.deeds ≡ deeds_after next old.deeds
+  pub changes : new.changes ≡ changes_after next old.changes
+  pub replies : new.replies ≡ old.replies
   pub looks : new.looks ≡ old.looks ++ look ∷ []
   pub asked : new.asked ≡ None
   pub finished : question_after next ≡ None

@@ -57,12 +57,8 @@ impl<'a> OpenBlock<'a> {
     pub fn next_turn(&self) -> Option<Turn<'a>>
         ensures { option_map turn_tree result ≡ next_turn (open_tree self.now) }
     {
-        let Some(turns) = &self.turns else {
-            return None;
-        };
-        let Some(row) = turns.left.front() else {
-            return None;
-        };
+        let turns = self.turns.as_ref()?;
+        let row = turns.left.front()?;
         Some(Turn {
             names: turns.names,
             key: row.0,

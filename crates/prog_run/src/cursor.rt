@@ -11,7 +11,7 @@ ghost use Rattle.prog_run.specs.Step.{cursor_after, cursor_behind, IsStep, IsUse
 
 use crate::block::{Names, OpenBlock, Turns, turns_over};
 use crate::next::Step;
-use crate::notes::{cut, note_turn};
+use crate::notes::note_turn;
 use crate::region::look_at_region;
 use crate::statement::{begin, count_rows, sum_rows};
 use crate::task::{RegionUse, task_of};
@@ -157,7 +157,6 @@ impl<'a> Cursor<'a> {
     /// Does the statement of the store at which the run stands, or asks what it has to know.
     fn store_step(
         &mut self,
-        alloc: Global,
         set: &ProgramSet,
         progress: &mut Progress<'a>,
     ) -> Result<Step<'a>, AllocError>
@@ -175,7 +174,7 @@ impl<'a> Cursor<'a> {
         let Some(task) = task_of(set, stmt, &progress.env) else {
             return Ok(Step::Over(End::Aborted(Cause::Overflow)));
         };
-        let step = begin(alloc, progress, task)?;
+        let step = begin(progress, task)?;
         self.go_on(step);
         Ok(step)
     }
@@ -191,7 +190,6 @@ impl<'a> Cursor<'a> {
     /// Goes on to the next statement of the store, and does it or asks for what it needs.
     pub fn step(
         &mut self,
-        alloc: Global,
         set: &ProgramSet,
         progress: &mut Progress<'a>,
     ) -> Result<Step<'a>, AllocError>
@@ -206,7 +204,7 @@ impl<'a> Cursor<'a> {
         if let Some(end) = self.settle(progress)? {
             return Ok(Step::Over(end));
         }
-        self.store_step(alloc, set, progress)
+        self.store_step(set, progress)
     }
 
     /// Finishes a statement that has asked for a region's rows; of an `each` the turns are opened.
@@ -231,7 +229,7 @@ impl<'a> Cursor<'a> {
         let looks = progress.looks.len();
         let seen = look_at_region(alloc, progress, region, rows)?;
         let Ok(step) = self.use_rows(alloc, progress, region, usage, seen.as_slice()) else {
-            cut(alloc, &mut progress.looks, looks);
+            progress.looks.truncate(looks);
             return Err(AllocError);
         };
         Ok(step)
@@ -300,7 +298,7 @@ impl<'a> Cursor<'a> {
         progress.deeds.push(deed)?;
         let rest = self.here.behind();
         let Ok(()) = self.enter(block, rest) else {
-            cut(alloc, &mut progress.deeds, deeds);
+            progress.deeds.truncate(deeds);
             return Err(AllocError);
         };
         Ok(Step::Did(deed))

@@ -1,23 +1,13 @@
 //! What statements note in the progress of a run. Want of memory leaves it as it was.
-ghost use Rattle.std.specs.Prelude.{◌≡◌, take, OnOk, OnErr};
+ghost use Rattle.std.specs.Prelude.{◌≡◌, OnOk, OnErr};
 ghost use Rattle.prog_tree.specs.Steps.{bound, did};
 ghost use Rattle.prog_tree.specs.Evaluation.{begun_turn};
 ghost use Rattle.prog_run.specs.Statement.{written_by};
 ghost use Rattle.prog_run.specs.Todo.{named};
 
 use crate::block::Turn;
-use prog_tree::{Deed, Name, Progress, Sequence};
-use std::alloc::{AllocError, Global};
-use std::mem;
-
-/// Keeps the first `len` items.
-pub fn cut<T: Drop>(alloc: Global, sequence: &mut Sequence<T>, len: usize)
-    ensures { sequence.new ≡ take len sequence.old }
-{
-    let mut items = mem::replace(sequence, Sequence::new(alloc)).into_vec();
-    items.truncate(len);
-    *sequence = Sequence::from_vec(items);
-}
+use prog_tree::{Deed, Name, Progress};
+use std::alloc::AllocError;
 
 /// A look at the store gave a value, which a name is bound to.
 pub fn note_found<'a>(
@@ -55,7 +45,7 @@ pub fn note_turn<'a>(progress: &mut Progress<'a>, turn: Turn<'a>) -> Result<(), 
 }
 
 /// A deed of the store is done: what it changes is changed, and it is told.
-pub fn note_deed(alloc: Global, progress: &mut Progress<'_>, deed: Deed) -> Result<(), AllocError>
+pub fn note_deed(progress: &mut Progress<'_>, deed: Deed) -> Result<(), AllocError>
     ensures ok { OnOk result (progress.new ≡ did deed (written_by deed progress.old)) }
     ensures err { OnErr result (progress.new ≡ progress.old) }
 {
@@ -68,7 +58,7 @@ pub fn note_deed(alloc: Global, progress: &mut Progress<'_>, deed: Deed) -> Resu
         _ => Ok(()),
     };
     let Ok(()) = written else {
-        cut(alloc, &mut progress.deeds, deeds);
+        progress.deeds.truncate(deeds);
         return Err(AllocError);
     };
     Ok(())

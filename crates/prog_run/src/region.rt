@@ -5,10 +5,10 @@ ghost use Rattle.std.specs.List.{list_all};
 ghost use Rattle.std.specs.List.Sorted.{IsStrictlySortedBy};
 ghost use Rattle.prog_tree.specs.Table.{TableState, cell_cmp, is_in, is_cell_among, cells_of, rows_in};
 ghost use Rattle.prog_tree.specs.ChangeSet.{changes_in, changed};
-ghost use Rattle.prog_tree.specs.Evaluation.{own_cells, total_of};
+ghost use Rattle.prog_tree.specs.Evaluation.{own_cells, total_of, rows_without};
 ghost use Rattle.prog_tree.specs.Steps.{looked};
 ghost use Rattle.prog_tree.specs.Value.{exact};
-ghost use Rattle.prog_run.specs.Looks.{AreFound, IsFoundLast, rows_without, region_look, seen_rows};
+ghost use Rattle.prog_run.specs.Looks.{AreFound, IsFoundLast, region_look, seen_rows};
 ghost use Rattle.prog_run.specs.Seen.{rows_before, AreAbsent, own_row};
 
 use prog_tree::{Cell, Changes, Look, Progress, Region, Sequence, corners};
@@ -36,7 +36,7 @@ pub fn found_last<'l>(looks: &'l [Look], region: &Region) -> Option<&'l [(Cell, 
             region: looked,
             own,
             rows,
-        } if own.len() == 0 && looked.is_same(region) => Some(rows.as_slice()),
+        } if own.is_empty() && looked.is_same(region) => Some(rows.as_slice()),
         _ => None,
     }
 }
@@ -86,9 +86,7 @@ fn remove_own(rows: &mut Vec<(Cell, i64)>, region: &Region, changes: &Changes)
 fn is_own(region: &Region, changes: &Changes, cell: &Cell) -> bool
     ensures { result ≡ is_cell_among (own_cells region.now changes.now.cells) cell.now }
 {
-    let changed = changes.get(cell).is_some();
-    let inside = region.contains(cell);
-    changed && inside
+    region.contains(cell) && changes.get(cell).is_some()
 }
 
 // How many rows stand in front whose cells come before this one.
@@ -173,11 +171,11 @@ fn note_look(
         (progress.new ≡ looked (region_look progress.old.changes region rows.now) progress.old) }
     ensures err { OnErr result (progress.new ≡ progress.old) }
 {
-    let rows = Vec::from_slice(alloc, rows)?;
+    let rows = Sequence::from_slice(alloc, rows)?;
     let look = Look::Range {
         region,
         own: Sequence::new(alloc),
-        rows: Sequence::from_vec(rows),
+        rows,
     };
     progress.looks.push(look)?;
     Ok(())

@@ -4,6 +4,7 @@ ghost use Rattle.std.specs.Prelude.{length, zip, slice_get, option_copied};
 ghost use Rattle.prog_tree.specs.ChangeSet.{change_at};
 ghost use Rattle.prog_tree.specs.declared.cell.Cell.{Cell};
 ghost use Rattle.prog_tree.specs.Table.{TableState, rows_in};
+ghost use Rattle.prog_run.specs.Cursor.{BeginsWith};
 ghost use Rattle.prog_run.specs.Looks.{region_look, AreFound, IsFoundLast};
 ghost use Rattle.prog_run.specs.View.{IsTrueRun, IsAdvance, IsAnswered, SameBegin, begun};
 ghost use Rattle.prog_run.specs.View.{IsRefusedBy, IsBeginRefusedBy};
@@ -77,13 +78,6 @@ fn bind_all<'a>(alloc: Global, params: &'a [Name], args: &[i64]) -> Result<Env<'
     Ok(env)
 }
 
-/// A copy of the arguments, which the run keeps.
-fn copy_args(alloc: Global, args: &[i64]) -> Result<Sequence<i64>, AllocError>
-    ensures { IfOk result (λ copy. copy ≡ args.now) }
-{
-    Ok(Sequence::from_vec(Vec::from_slice(alloc, args)?))
-}
-
 impl<'a> Run<'a> {
     /// A run of the program of a number, before its first statement.
     pub fn new(
@@ -109,7 +103,7 @@ impl<'a> Run<'a> {
             alloc,
             set,
             program,
-            args: copy_args(alloc, args)?,
+            args: Sequence::from_slice(alloc, args)?,
             cursor: Cursor {
                 here: OpenBlock {
                     rest: program.body.stmts.as_slice(),
@@ -135,6 +129,7 @@ impl<'a> Run<'a> {
         ensures true_run { IsTrueRun self.new }
         ensures same { SameBegin self.old self.new }
         ensures err { OnErr result (self.new ≡ record self.old { replies = self.new.replies }) }
+        ensures err_replies { OnErr result (BeginsWith self.old.replies self.new.replies) }
     {
         if let Some(asked) = self.asked {
             return Ok(asked.next());
@@ -142,7 +137,7 @@ impl<'a> Run<'a> {
         if let Some(end) = self.end {
             return Ok(Next::Done(end));
         }
-        let step = self.cursor.step(self.alloc, self.set, &mut self.progress)?;
+        let step = self.cursor.step(self.set, &mut self.progress)?;
         self.asked = step.asked();
         self.end = step.end();
         Ok(step.next())
@@ -161,7 +156,7 @@ impl<'a> Run<'a> {
         let Some(Asked::OfCell { cell, usage }) = self.asked else {
             return Err(AnswerFault::NotAsked);
         };
-        let step = answer_cell(self.alloc, &mut self.progress, cell, usage, held)?;
+        let step = answer_cell(&mut self.progress, cell, usage, held)?;
         self.cursor.go_on(step);
         self.asked = None;
         self.end = step.end();

@@ -8,20 +8,16 @@ ghost use Rattle.prog_run.specs.Task.{use_flow, rows_flow};
 ghost use Rattle.prog_run.specs.Statement.{written_by, IsFlow, IsBegun, IsCellAnswered};
 
 use crate::next::Step;
-use crate::notes::{cut, note_deed, note_found};
+use crate::notes::{note_deed, note_found};
 use crate::region::{add_rows, exact_i64};
 use crate::task::{Asked, CellUse, Task};
 use prog_tree::{Cause, Cell, Deed, End, Expr, Look, Name, Progress, Region};
-use std::alloc::{AllocError, Global};
+use std::alloc::AllocError;
 
 const OVERFLOW: End = End::Aborted(Cause::Overflow);
 
 /// Does a task, or says what it asks: a cell that the run has changed is not asked.
-pub fn begin<'a>(
-    alloc: Global,
-    progress: &mut Progress<'a>,
-    task: Task<'a>,
-) -> Result<Step<'a>, AllocError>
+pub fn begin<'a>(progress: &mut Progress<'a>, task: Task<'a>) -> Result<Step<'a>, AllocError>
     ensures begun { IfOk result (λ s. IsBegun (task_tree task.entry) s progress.old progress.new) }
     ensures err { OnErr result (progress.new ≡ progress.old) }
 {
@@ -30,28 +26,27 @@ pub fn begin<'a>(
             let Some(own) = progress.changes.get(&cell) else {
                 return Ok(Step::Asks(Asked::OfCell { cell, usage }));
             };
-            use_cell(alloc, progress, cell, usage, own)
+            use_cell(progress, cell, usage, own)
         }
         Task::Look(asked) => Ok(Step::Asks(asked)),
-        Task::Put { cell, value } => write(alloc, progress, Deed::Put(cell, value)),
-        Task::Remove { cell } => write(alloc, progress, Deed::Removed(cell)),
-        Task::Keep { cell } => write(alloc, progress, Deed::Kept(cell)),
+        Task::Put { cell, value } => write(progress, Deed::Put(cell, value)),
+        Task::Remove { cell } => write(progress, Deed::Removed(cell)),
+        Task::Keep { cell } => write(progress, Deed::Kept(cell)),
     }
 }
 
 // Does a deed that writes to the store.
-fn write<'a>(alloc: Global, progress: &mut Progress<'a>, deed: Deed) -> Result<Step<'a>, AllocError>
+fn write<'a>(progress: &mut Progress<'a>, deed: Deed) -> Result<Step<'a>, AllocError>
     ensures step { IfOk result (λ s. s ≡ Step.Did deed) }
     ensures ok { OnOk result (progress.new ≡ did deed (written_by deed progress.old)) }
     ensures err { OnErr result (progress.new ≡ progress.old) }
 {
-    note_deed(alloc, progress, deed)?;
+    note_deed(progress, deed)?;
     Ok(Step::Did(deed))
 }
 
 /// Finishes a statement that has asked for a cell.
 pub fn answer_cell<'a>(
-    alloc: Global,
     progress: &mut Progress<'a>,
     cell: Cell,
     usage: CellUse<'a>,
@@ -63,8 +58,8 @@ pub fn answer_cell<'a>(
 {
     let looks = progress.looks.len();
     progress.looks.push(Look::One(cell, held))?;
-    let Ok(step) = use_cell(alloc, progress, cell, usage, held) else {
-        cut(alloc, &mut progress.looks, looks);
+    let Ok(step) = use_cell(progress, cell, usage, held) else {
+        progress.looks.truncate(looks);
         return Err(AllocError);
     };
     Ok(step)
@@ -72,7 +67,6 @@ pub fn answer_cell<'a>(
 
 // Goes on with what is known of a cell.
 fn use_cell<'a>(
-    alloc: Global,
     progress: &mut Progress<'a>,
     cell: Cell,
     usage: CellUse<'a>,
@@ -87,7 +81,7 @@ fn use_cell<'a>(
         CellUse::Get { name, otherwise } => get(progress, cell, held, name, otherwise),
         CellUse::Need { name } => need(progress, cell, held, name),
         CellUse::Lacks => lacks(progress, cell, held),
-        CellUse::Insert { value } => insert(alloc, progress, cell, held, value),
+        CellUse::Insert { value } => insert(progress, cell, held, value),
     }
 }
 
@@ -151,7 +145,6 @@ fn lacks<'a>(
 }
 
 fn insert<'a>(
-    alloc: Global,
     progress: &mut Progress<'a>,
     cell: Cell,
     held: Option<i64>,
@@ -164,7 +157,7 @@ fn insert<'a>(
     let None = held else {
         return Ok(Step::Over(End::Aborted(Cause::Present(cell))));
     };
-    write(alloc, progress, Deed::Put(cell, value))
+    write(progress, Deed::Put(cell, value))
 }
 
 /// Binds the number of the rows that the run sees in a region.

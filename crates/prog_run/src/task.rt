@@ -144,8 +144,11 @@ pub fn task_of<'a>(set: &ProgramSet, stmt: &'a Stmt, env: &Env) -> Option<Task<'
         Stmt::Need { name, table, key } => look_at(set, table, key, env, CellUse::Need { name }),
         Stmt::Lacks { table, key } => look_at(set, table, key, env, CellUse::Lacks),
         Stmt::Insert { table, key, value } => {
-            let value = value.value(env)?;
-            look_at(set, table, key, env, CellUse::Insert { value })
+            let cell = cell_at(set, table, key, env)?;
+            let usage = CellUse::Insert {
+                value: value.value(env)?,
+            };
+            Some(Task::Look(Asked::OfCell { cell, usage }))
         }
         Stmt::Count { name, table, range } => {
             look_in(set, table, range, env, RegionUse::Count { name })

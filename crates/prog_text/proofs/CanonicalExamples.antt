@@ -2,9 +2,9 @@
 use Rattle.std.proofs.Common.{◌≡◌, pos, negsuc, List, ℕ, [], ◌∷◌, refl, codes}
 use Rattle.std.specs.Prelude.{true, false}
 use Rattle.std.specs.Fmt.{digits}
+use Rattle.prog_tree.specs.Number.{least as least_number, greatest as greatest_number}
 use Rattle.prog_tree.specs.Syntax.{ExprTree, Literal, Named, Plus, Minus, Times, Less, Equal, TestTree, TwoRange, Count, Reply, Abort, BlockTree, BlockEnd, Then, Branch}
 use Rattle.prog_tree.specs.declared.table.Arity.TheVariants as arity
-use Rattle.prog_text.specs.Grammar.{least_number, greatest_number}
 use Rattle.prog_text.specs.Canonical.{bytes_of, expr_marks, test_marks, block_marks, canonical}
 
 abbrev expr_text : ExprTree → List ℕ

@@ -3,13 +3,14 @@ use Rattle.std.proofs.Common.{ℕ, zero, suc, pos, negsuc, List, [], ◌∷◌, 
 use Rattle.std.specs.List.{flat_map}
 use Rattle.std.specs.Ordering.{int_eq}
 use Rattle.std.proofs.lemmas.List.{append-nil}
+use Rattle.prog_tree.specs.Number.{least as least_number, greatest as greatest_number}
 use Rattle.prog_tree.specs.Syntax as s
 use Rattle.prog_tree.specs.Syntax.{Name, ExprTree, RelationSign, ComparisonTree, TestTree, KeyTree, RangeTree, StatementTree, BlockTree, BlockEnd, Then, Branch, ProgramTree, DraftTree}
 use Rattle.prog_tree.specs.declared.table.TableDecl.{TableDecl}
 use Rattle.prog_text.specs.declared.lexing.token.Token.{Token}
 use Rattle.prog_text.specs.declared.lexing.token.Sign.TheVariants as sign
 use Rattle.prog_text.specs.declared.lexing.token.Token.TheVariants as t
-use Rattle.prog_text.specs.Grammar.{Many, none, more, Led, led, Separated, separated, least_number, greatest_number, IsFactor, number, negative, least, greatest, name, bracketed, IsProduct, factor, times, IsExpr, product, plus, minus, IsRelation, IsComparison, plain, negated, IsConjunction, IsTest, IsKey, IsRange, IsStatement, bind, get, need, count, sum, lacks, put, insert, delete, keep, reply, abort, IsStatements, nothing, branch, IsBlock, block, IsElse, missing, present, IsArity, IsTable, grows, IsName, IsParams, some, IsProgram, program, IsSet, set}
+use Rattle.prog_text.specs.Grammar.{Many, none, more, Led, led, Separated, separated, IsFactor, number, negative, least, greatest, name, bracketed, IsProduct, factor, times, IsExpr, product, plus, minus, IsRelation, IsComparison, plain, negated, IsConjunction, IsTest, IsKey, IsRange, IsStatement, bind, get, need, count, sum, lacks, put, insert, delete, keep, reply, abort, IsStatements, nothing, branch, IsBlock, block, IsElse, missing, present, IsArity, IsTable, grows, IsName, IsParams, some, IsProgram, program, IsSet, set}
 use Rattle.prog_text.specs.Grammar as g
 use Rattle.prog_text.specs.Canonical.{Mark, Word, Space, LineEnd, spaced, leading, is_sum, expr_marks, relation_token, comparison_marks, each_behind, joined_by, conjunction_marks, test_marks, comma, inside_key, key_marks, ends_marks, range_marks, let_marks, statement_marks, line, with_semicolon, else_line, close_line, else_marks, block_marks, arity_number, table_marks, name_marks, program_marks, draft_marks}
 use Rattle.prog_text.proofs.Breaks.{IsLexed}

@@ -2,6 +2,7 @@
 use Rattle.std.proofs.Common.{◌≡◌, ℕ, zero, suc, pos, List, [], ◌∷◌, ◌++◌, Some, None, refl, codes, arith}
 use Rattle.std.specs.Prelude.{false}
 use Rattle.std.specs.Fmt.{digits}
+use Rattle.prog_tree.specs.Number.{least as least_number, greatest as greatest_number}
 use Rattle.prog_tree.specs.Syntax.{Name, ExprTree, Literal, Named, Plus, Times, One, OneRange, TwoRange, ListingTree, Put, Reply, BlockTree, BlockEnd, Then, Each, DraftTree}
 use Rattle.prog_tree.specs.declared.table.Arity.TheVariants as arity
 use Rattle.prog_text.specs.declared.fault.TextFault.TheVariants as f
@@ -10,7 +11,7 @@ use Rattle.prog_text.specs.declared.lexing.token.Sign.TheVariants as sign
 use Rattle.prog_text.specs.declared.lexing.token.Token.TheVariants as t
 use Rattle.prog_text.specs.Answer.{Accepts, Refuses}
 use Rattle.prog_text.specs.Canonical.{canonical}
-use Rattle.prog_text.specs.Grammar.{IsFactor, IsExpr, IsStatements, least_number, greatest_number}
+use Rattle.prog_text.specs.Grammar.{IsFactor, IsExpr, IsStatements}
 use Rattle.prog_text.specs.Grammar as g
 use Rattle.prog_text.specs.Lexing.{kinds, tokens_from, piece_at, word_at, number_at, sign_at}
 use Rattle.prog_text.specs.Limits.{too_deep}

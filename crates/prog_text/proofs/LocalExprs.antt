@@ -1,10 +1,11 @@
 -- Readers of expressions, tests, keys and ranges look no further than where they stop.
 use Rattle.std.proofs.Common.{ℕ, zero, suc, List, ◌∷◌, Bool, true, false, Ok, sym, ◌∙◌, arith}
+use Rattle.prog_tree.specs.Number.{least as least_number, greatest as greatest_number}
 use Rattle.prog_tree.specs.Syntax.{Name, ExprTree, Literal, Named, Plus, Minus, Times, One, Two, OneRange, TwoRange}
 use Rattle.prog_text.specs.declared.lexing.token.Token.{Token}
 use Rattle.prog_text.specs.declared.lexing.token.Sign.TheVariants as sign
 use Rattle.prog_text.specs.declared.lexing.token.Token.TheVariants as t
-use Rattle.prog_text.specs.Grammar.{IsExpr, least_number, greatest_number}
+use Rattle.prog_text.specs.Grammar.{IsExpr}
 use Rattle.prog_text.specs.Reading.{Reading, ◌>>=◌, after_sign, behind_sign, expect, name_at, negative_at, factor_at, product_from, product_at, sum_from, sum_at, expr_within, expr_at, compared_at, comparison_at, conjunction_at, test_at, key_from, key_at, high_at, range_from, range_at}
 use Rattle.prog_text.proofs.Alike.{Local, LocalAt, then_local, done_local, fault_local, matched, unfit, by_first, behind_sign_local, turns_local, separated_local}
 use Rattle.prog_text.proofs.Sound.{Sound}

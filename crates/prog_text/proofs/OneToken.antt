@@ -1,6 +1,7 @@
 -- Single tokens: what is found and read of them.
 use Rattle.std.proofs.Common.{◌≡◌, List, [], ◌∷◌, Bool, true, false, if◌then◌else◌, Option, Some, None, Ok, ap, refl}
 use denote.Enum.Bare.{same_true}
+use Rattle.prog_tree.specs.Number.{least as least_number}
 use Rattle.prog_tree.specs.Syntax.{Name, ExprTree, Literal}
 use Rattle.prog_text.specs.contracts.lexing.token.Sign.{the_type}
 use Rattle.prog_text.specs.declared.lexing.token.Sign.{Sign}
@@ -8,7 +9,6 @@ use Rattle.prog_text.specs.declared.lexing.token.Token.{Token}
 use Rattle.prog_text.specs.declared.lexing.token.Sign.TheVariants as sign
 use Rattle.prog_text.specs.declared.lexing.token.Token.TheVariants as t
 use Rattle.prog_text.specs.Canonical.{relation_token}
-use Rattle.prog_text.specs.Grammar.{least_number}
 use Rattle.prog_text.specs.Reading.{same_sign, behind_sign, unexpected, after_sign, expect, name_at, relation_at}
 use Rattle.prog_text.proofs.Sound.{IsOne, IsBehind}
 

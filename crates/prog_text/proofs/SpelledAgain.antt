@@ -3,11 +3,12 @@ use Rattle.std.proofs.Common.{◌≡◌, ◌∙◌, ℕ, ℤ, zero, suc, pos, ne
 use Rattle.std.specs.Ordering.{int_eq}
 use Rattle.std.proofs.lemmas.Bool.Decides.{Decides-int_eq}
 use Rattle.std.proofs.lemmas.List.Elements.{filter_map-append}
+use Rattle.prog_tree.specs.Number.{least as least_number, greatest as greatest_number}
 use Rattle.prog_tree.specs.Syntax.{ExprTree, Literal, Named, Plus, Minus, Times}
 use Rattle.prog_text.specs.declared.lexing.token.Token.{Token}
 use Rattle.prog_text.specs.declared.lexing.token.Sign.TheVariants as sign
 use Rattle.prog_text.specs.declared.lexing.token.Token.TheVariants as t
-use Rattle.prog_text.specs.Grammar.{least_number, greatest_number, IsFactor, number, negative, least, greatest, name, bracketed, IsProduct, factor, times, IsExpr, product, plus, minus}
+use Rattle.prog_text.specs.Grammar.{IsFactor, number, negative, least, greatest, name, bracketed, IsProduct, factor, times, IsExpr, product, plus, minus}
 use Rattle.prog_text.specs.Limits.{brackets_after}
 use Rattle.prog_text.specs.Canonical.{Mark, Word, mark_token, words_of, spaced, is_sum, is_product, in_brackets_if, expr_marks}
 use Rattle.prog_text.proofs.Lighter.{behind_by, Lighter, same_lighter, behind_lighter, lighter_trans, sides_lighter, ended_lighter, Balanced, balanced_append, balanced_brackets, bare_lighter}

@@ -1,7 +1,8 @@
 -- The grammar. Each family below is one line of it, and each constructor one way to read that line:
 -- a value of `IsExpr ts e` shows how the tokens ts spell the expression e.
-use Rattle.std.specs.Prelude.{ℕ, ℤ, pos, negsuc, ◌-◌, ◌^◌, List, [], ◌∷◌, ◌++◌, true, false}
+use Rattle.std.specs.Prelude.{ℕ, pos, List, [], ◌∷◌, ◌++◌, true, false}
 use Rattle.std.proofs.Common.{neg_ℤ}
+use Rattle.prog_tree.specs.Number.{least as least_number, greatest as greatest_number}
 use Rattle.prog_tree.specs.Syntax.{Name, ExprTree, Literal, Named, Plus, Minus, Times, RelationSign, Less, LessEqual, Greater, GreaterEqual, Equal, NotEqual, ComparisonTree, TestTree, KeyTree, One, Two, RangeTree, OneRange, TwoRange, StatementTree, Bind, Get, Need, Count, Sum, Lacks, Put, Insert, Delete, Keep, Reply, Abort, BlockTree, BlockEnd, Then, Branch, Each, ProgramTree, DraftTree}
 use Rattle.prog_tree.specs.declared.table.TableDecl.{TableDecl}
 use Rattle.prog_tree.specs.declared.table.Arity.{Arity}
@@ -32,13 +33,6 @@ pub data Separated {A : Type 0} (u : Token) (P : List Token → A → Type 0) : 
       → Separated u P (ts ++ us) (x ∷ xs)
 
 -- ---- expressions
-
--- the two ends of i64
-abbrev pub least_number : ℤ
-least_number = negsuc (2 ^ 63 - 1)
-
-abbrev pub greatest_number : ℤ
-greatest_number = pos (2 ^ 63 - 1)
 
 mutual
   -- factor = NUMBER | "-" NUMBER | "least" | "greatest" | NAME | "(" expr ")"

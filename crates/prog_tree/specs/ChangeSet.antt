@@ -49,7 +49,7 @@ abbrev pub changed_row : TableState → Cell → Option ℤ → TableState
 changed_row m c (Some v) = with_row m c v
 changed_row m c None = without_row m c
 
--- a state with changes made
+-- a state with changes made, the last one first; each cell stands once, so their order doesn't matter
 abbrev pub changed : TableState → ChangedCells → TableState
 changed m [] = m
 changed m (entry ∷ entries) = changed_row (changed m entries) entry.0 entry.1

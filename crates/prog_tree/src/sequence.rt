@@ -1,6 +1,6 @@
 //! Lists of items.
 
-ghost use Rattle.std.specs.Prelude.{◌≡◌, [], ◌∷◌, ◌++◌, length, OnOk, OnErr};
+ghost use Rattle.std.specs.Prelude.{◌≡◌, ◌↔◌, [], ◌∷◌, ◌++◌, length, take, IfOk, IsTrue, OnOk, OnErr};
 
 use std::alloc::{AllocError, Global};
 use std::marker::Model;
@@ -47,10 +47,26 @@ impl<T> Sequence<T> {
         self.items.len()
     }
 
+    pub fn is_empty(&self) -> bool
+        ensures { IsTrue result ↔ (self.now ≡ []) }
+    {
+        self.items.is_empty()
+    }
+
     pub fn as_slice(&self) -> &[T]
         ensures { result.now ≡ self.now }
     {
         self.items.as_slice()
+    }
+}
+
+impl<T: Copy> Sequence<T> {
+    pub fn from_slice(alloc: Global, items: &[T]) -> Result<Self, AllocError>
+        ensures { IfOk result (λ copy. copy ≡ items.now) }
+    {
+        Ok(Sequence {
+            items: Vec::from_slice(alloc, items)?,
+        })
     }
 }
 
@@ -61,5 +77,12 @@ impl<T: Drop> Sequence<T> {
     {
         self.items.push(item)?;
         Ok(())
+    }
+
+    /// Keeps the first `len` items, or all where there are fewer.
+    pub fn truncate(&mut self, len: usize)
+        ensures { self.new ≡ take len self.old }
+    {
+        self.items.truncate(len);
     }
 }

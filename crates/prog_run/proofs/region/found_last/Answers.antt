@@ -1,6 +1,5 @@
 use Rattle.std.proofs.Common.{◌≡◌, [], ap, sym, ◌∙◌}
 use Rattle.std.specs.Prelude.{Some}
-use Rattle.std.proofs.lemmas.List.{nil_from_length}
 use Rattle.prog_tree.specs.declared.look.Look.TheVariants as look
 use Rattle.prog_run.specs.Looks.{last_of}
 use Rattle.prog_run.proofs.AgainLaws.{held_again, same_look}
@@ -11,7 +10,7 @@ returns-in-Range-clause-last c =
     let range = c.in-Range in
     let last : last_of c.args.looks.now ≡ Some (look.Range range.looked range.own range.rows) =
     sym c.in-Some.ensures.value ∙ ap (λ l. Some l) range.is in
-    let none : range.own ≡ [] = nil_from_length range.own (sym c.len.ensures ∙ c.if-len-eq0.true) in
+    let none : range.own ≡ [] = c.is_empty.ensures.0 c.if-is_empty.true in
     same_look c.args.looks.now range.looked c.args.region.now range.own range.rows c.as_slice.result.now last none (c.is_same.ensures.0 c.if-is_same.true) c.as_slice.ensures
 
 pub returns-in-Range-clause-held : goal.returns-in-Range-clause-held
@@ -19,6 +18,6 @@ returns-in-Range-clause-held c =
     let range = c.in-Range in
     let last : last_of c.args.looks.now ≡ Some (look.Range range.looked range.own range.rows) =
     sym c.in-Some.ensures.value ∙ ap (λ l. Some l) range.is in
-    let none : range.own ≡ [] = nil_from_length range.own (sym c.len.ensures ∙ c.if-len-eq0.true) in
+    let none : range.own ≡ [] = c.is_empty.ensures.0 c.if-is_empty.true in
     held_again c.args.looks.now c.args.region.now c.as_slice.result.now
     (same_look c.args.looks.now range.looked c.args.region.now range.own range.rows c.as_slice.result.now last none (c.is_same.ensures.0 c.if-is_same.true) c.as_slice.ensures)

@@ -4,8 +4,7 @@ use Rattle.std.proofs.lemmas.Bool.{eqb-true}
 use Rattle.std.proofs.lemmas.List.{nil_from_length}
 use Rattle.prog_tree.specs.Table.{cell_cmp, cells_of, TableState}
 use Rattle.prog_tree.specs.ChangeSet.{ChangedCells, changes_in, changed}
-use Rattle.prog_tree.specs.Evaluation.{own_cells}
-use Rattle.prog_run.specs.Looks.{rows_without}
+use Rattle.prog_tree.specs.Evaluation.{own_cells, rows_without}
 use Rattle.prog_run.specs.Seen.{AreAbsent}
 use Rattle.prog_run.proofs.OwnLemmas.{all_seen}
 use Rattle.prog_run.proofs.SeenLemmas.{own_absent}

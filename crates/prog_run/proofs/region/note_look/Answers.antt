@@ -8,7 +8,7 @@ use Rattle.prog_run.proofs.region.note_look.Goals as goal
 pub returns-clause-ok : goal.returns-clause-ok
 returns-clause-ok c =
     let p = c.args.progress.now in
-    let rows = c.from_vec.ensures ∙ c.in_ok-rows.ensures.items in
+    let rows = c.in_ok-rows.ensures in
     let all = look_of_all p.changes c.args.region c.args.rows.now c.requires in
     ap (λ looks. record p { looks = looks }) (c.in_ok-push.ensures.ok ∙ (λ i. p.looks ++ look.Range c.args.region (c.new.ensures i) (rows i) ∷ []))
     ∙ ap (λ (l : Look). looked l p) all

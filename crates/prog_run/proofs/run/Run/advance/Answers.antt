@@ -1,11 +1,11 @@
 use Rattle.std.proofs.Common.{◌≡◌, rules, refl, ap, sym, subst, ◌∙◌}
 use Rattle.std.specs.Prelude.{None}
 use Rattle.prog_tree.specs.Tree.{program_tree}
-use Rattle.prog_run.specs.Cursor.{cursor_tree}
+use Rattle.prog_run.specs.Cursor.{BeginsWith, cursor_tree}
 use Rattle.prog_run.specs.View.{RunView, IsTrueRun, IsTrueTo, question_in}
-use Rattle.prog_run.specs.Step.{deeds_after, question_after, end_after}
+use Rattle.prog_run.specs.Step.{deeds_after, changes_after, question_after, end_after}
 use Rattle.prog_run.proofs.GrowLemmas.{true_at}
-use Rattle.prog_run.proofs.StepLemmas.{true_answered, true_still, step_deeds, step_question}
+use Rattle.prog_run.proofs.StepLemmas.{true_answered, true_still, step_deeds, step_changes, step_replies, step_question}
 use Rattle.prog_run.proofs.run.Run.advance.Goals as goal
 
 pub returns-in-Some-clause-true_run : goal.returns-in-Some-clause-true_run
@@ -30,6 +30,8 @@ returns-clause-advance c =
     let n = c.in_ok-step.step in
     record {
       deeds = step_deeds r.set.now.tables.items (cursor_tree r.cursor) (cursor_tree c.step.new.self) r.progress c.step.new.progress n c.in_ok-step.ensures.step ∙ (λ i. deeds_after (sym c.next-2.ensures i) (c.self.view_is i).deeds);
+      changes = step_changes r.set.now.tables.items (cursor_tree r.cursor) (cursor_tree c.step.new.self) r.progress c.step.new.progress n c.in_ok-step.ensures.step ∙ (λ i. changes_after (sym c.next-2.ensures i) (c.self.view_is i).changes);
+      replies = subst (λ (v : RunView). BeginsWith v.replies c.step.new.progress.replies) c.self.view_is (step_replies r.set.now.tables.items (cursor_tree r.cursor) (cursor_tree c.step.new.self) r.progress c.step.new.progress n c.in_ok-step.ensures.step);
       looks = c.in_ok-step.ensures.looks ∙ ap (λ (v : RunView). v.looks) c.self.view_is;
       asked = ap question_in c.asked-self-inside.ensures ∙ step_question n ∙ ap question_after (sym c.next-2.ensures);
       end = c.end-self-inside.ensures ∙ ap end_after (sym c.next-2.ensures);

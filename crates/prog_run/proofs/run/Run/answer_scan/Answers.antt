@@ -5,7 +5,7 @@ use Rattle.prog_tree.specs.Steps.{looked}
 use Rattle.prog_run.specs.Cursor.{cursor_tree}
 use Rattle.prog_run.specs.Looks.{region_look, seen_rows}
 use Rattle.prog_run.specs.Task.{region_use_tree, rows_flow}
-use Rattle.prog_run.specs.Step.{deeds_after, question_after, end_after}
+use Rattle.prog_run.specs.Step.{deeds_after, changes_after, question_after, end_after}
 use Rattle.prog_run.specs.View.{RunView, IsTrueRun, IsTrueTo, question_in}
 use Rattle.prog_run.specs.declared.task.Asked.TheVariants as asked
 use Rattle.prog_run.proofs.GrowLemmas.{true_at}
@@ -65,6 +65,8 @@ returns-clause-answered c =
     asked_for_rows _ s.region _ (ap (λ (v : RunView). v.asked) (sym c.self.view_is) ∙ ap question_in waits)
     (record {
       deeds = adds.0 ∙ (λ i. deeds_after (sym c.next.ensures i) (c.self.view_is i).deeds);
+      changes = adds.3 ∙ (λ i. changes_after (sym c.next.ensures i) (c.self.view_is i).changes);
+      replies = adds.4 ∙ ap (λ (v : RunView). v.replies) c.self.view_is;
       looks = adds.1 ∙ ap (λ (v : RunView). v.looks ++ region_look v.changes s.region rows ∷ []) c.self.view_is;
       asked = refl;
       finished = ap question_after c.next.ensures ∙ adds.2;
