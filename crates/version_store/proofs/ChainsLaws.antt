@@ -1,6 +1,6 @@
 -- Laws of one written chain.
 use Rattle.std.proofs.Common.{◌≡◌, ◌∙◌, Bool, true, false, ◌||◌, cond, if◌then◌else◌, List, [], ◌∷◌, refl, ap, sym, subst}
-use Rattle.std.specs.Prelude.{Option, Some, None, IsSome, Result, Ok, Err, OnErr}
+use Rattle.std.specs.Prelude.{Option, Some, None, IsSome, Result, Ok, Err, OnErr, unwrap_or}
 use Rattle.std.specs.Cmp.{eq_by_cmp_equiv}
 use Rattle.std.specs.declared.cmp.Ordering.{Ordering}
 use Rattle.std.specs.declared.cmp.Ordering.TheVariants.{Less}
@@ -12,7 +12,7 @@ use Rattle.prog_tree.specs.declared.cell.Cell.{Cell}
 use Rattle.prog_tree.specs.Table.{cell_cmp, Cells, cells_of, at_cell, is_same_cell, is_cell_among}
 use Rattle.prog_tree.proofs.TableLemmas.{cell_total}
 use Rattle.prog_tree.proofs.TableStates.{cell_is}
-use Rattle.version_store.specs.StandsFor.{Chain, no_chain, chain_or_none}
+use Rattle.version_store.specs.StandsFor.{Chain, no_chain}
 use Rattle.version_store.specs.Reading.{chain_at, with_entry, MakesAt}
 
 -- n is m with a chain at a cell
@@ -20,20 +20,20 @@ abbrev pub IsWritten : Cells Chain → Cells Chain → Cell → Chain → Type 0
 IsWritten m n cell chain = (c : Cell) → at_cell n c ≡ cond (is_same_cell cell c) (Some chain) (at_cell m c)
 
 pub made : (m n : Cells Chain) (cell : Cell) (f : Chain → Chain) (new : Chain) → new ≡ f (chain_at m cell) → IsWritten m n cell new → MakesAt cell f m n
-made m n cell f new is written c = ap chain_or_none (written c) ∙ go (is_same_cell cell c) (λ same. cell_is cell c same)
+made m n cell f new is written c = ap (λ o. unwrap_or o no_chain) (written c) ∙ go (is_same_cell cell c) (λ same. cell_is cell c same)
   where
-    go : (b : Bool) → (b ≡ true → cell ≡ c) → chain_or_none (cond b (Some new) (at_cell m c)) ≡ (if b then f (chain_at m c) else chain_at m c)
+    go : (b : Bool) → (b ≡ true → cell ≡ c) → unwrap_or (cond b (Some new) (at_cell m c)) no_chain ≡ (if b then f (chain_at m c) else chain_at m c)
     go true same = is ∙ ap (λ x. f (chain_at m x)) (same refl)
     go false same = refl
 
 pub made_found :
     (m n : Cells Chain) (cell : Cell) (f : Chain → Chain) (old new : Chain) → Some old ≡ at_cell m cell → new ≡ f old →
     (IsSome (at_cell m cell) → IsWritten m n cell new) → MakesAt cell f m n
-made_found m n cell f old new found is written = made m n cell f new (is ∙ ap (λ o. f (chain_or_none o)) found) (written (subst (λ (o : Option Chain). IsSome o) found refl))
+made_found m n cell f old new found is written = made m n cell f new (is ∙ ap (λ o. f (unwrap_or o no_chain)) found) (written (subst (λ (o : Option Chain). IsSome o) found refl))
 
 pub made_absent :
     (m n : Cells Chain) (cell : Cell) (f : Chain → Chain) (new : Chain) → None ≡ at_cell m cell → new ≡ f no_chain → IsWritten m n cell new → MakesAt cell f m n
-made_absent m n cell f new absent is written = made m n cell f new (is ∙ ap (λ o. f (chain_or_none o)) absent) written
+made_absent m n cell f new absent is written = made m n cell f new (is ∙ ap (λ o. f (unwrap_or o no_chain)) absent) written
 
 -- what makes nothing new changes nothing
 pub same_chains : (m n : Cells Chain) (cell : Cell) → MakesAt cell (λ chain. chain) m n → (c : Cell) → chain_at n c ≡ chain_at m c
@@ -53,7 +53,7 @@ pub not_made : (m : Cells Chain) (cell : Cell) (f : Chain → Chain) → None �
 not_made m cell f absent none c = go (is_same_cell cell c) (λ same. cell_is cell c same)
   where
     here : chain_at m cell ≡ f (chain_at m cell)
-    here = ap chain_or_none (sym absent) ∙ none ∙ ap (λ o. f (chain_or_none o)) absent
+    here = ap (λ o. unwrap_or o no_chain) (sym absent) ∙ none ∙ ap (λ o. f (unwrap_or o no_chain)) absent
 
     go : (b : Bool) → (b ≡ true → cell ≡ c) → chain_at m c ≡ (if b then f (chain_at m c) else chain_at m c)
     go true same = ap (chain_at m) (sym (same refl)) ∙ here ∙ ap (λ x. f (chain_at m x)) (same refl)

@@ -17,7 +17,7 @@ use Rattle.prog_tree.specs.Table.{cell_cmp, Cells, cells_of, is_same_cell, is_ce
 use Rattle.prog_tree.proofs.TableLemmas.{cell_total}
 use Rattle.prog_tree.proofs.TableStates.{same_cell, cell_is}
 use Rattle.version_store.specs.declared.touches.Touch.{Touch}
-use Rattle.version_store.specs.Clash.{last_touch, IsClash, IsFirst, with_cells, touched, first_clash, clash_of}
+use Rattle.version_store.specs.Clash.{last_touch, IsClash, IsFirst, with_cells, touched, clash_among, clash_of}
 use Rattle.version_store.specs.Reading.{first_above, lesser}
 use Rattle.version_store.specs.Touches.{touches_of}
 use Rattle.version_store.proofs.TouchLaws.{among-some, among_touches}
@@ -191,9 +191,9 @@ clash_found ws start w number o same first = clash_by_first ws start w o (first-
 
 -- ---- the search over the touched cells
 
-first_clash-above : (ws : List ChangeSet) (start : ℕ) (cells : List Cell) → first_clash ws start cells ≡ first_above (λ c. last_touch c 1 ws) start cells
-first_clash-above ws start [] = refl
-first_clash-above ws start (c ∷ cs) = ap (λ o. if nat_lt start (last_touch c 1 ws) then Some (c, last_touch c 1 ws) else o) (first_clash-above ws start cs)
+clash_among-above : (ws : List ChangeSet) (start : ℕ) (cells : List Cell) → clash_among ws start cells ≡ first_above (λ c. last_touch c 1 ws) start cells
+clash_among-above ws start [] = refl
+clash_among-above ws start (c ∷ cs) = ap (λ o. if nat_lt start (last_touch c 1 ws) then Some (c, last_touch c 1 ws) else o) (clash_among-above ws start cs)
 
 all_insert : (P : Cell → Type 0) (ks : List Cell) (k : Cell) → P k → AllByRecursion P ks → AllByRecursion P (insert_key cell_cmp ks k)
 all_insert P [] k here all = (here, tt)
@@ -272,7 +272,7 @@ search_clashes : (ws : List ChangeSet) (start : ℕ) (w : ChangeSet) → IsFirst
 search_clashes ws start w =
     let number = λ (c : Cell). last_touch c 1 ws in
     let sorted = sorted_with w.kept (with_cells [] (cells_of w.cells)) (sorted_with (cells_of w.cells) [] nothing_sorted) in
-    subst (λ (o : Option (Cell × ℕ)). IsFirstTouched ws start w o) (sym (first_clash-above ws start (touched w)))
+    subst (λ (o : Option (Cell × ℕ)). IsFirstTouched ws start w o) (sym (clash_among-above ws start (touched w)))
     (first-same (is_cell_among (touched w)) (touches_cell w) number number start _ (among_touched w) (λ c. refl) (first-above number start (touched w) sorted))
 
 -- the search finds the clash, and nothing else is one

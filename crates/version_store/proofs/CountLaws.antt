@@ -1,6 +1,6 @@
 -- How many versions a vacuum leaves: cell by cell, and together.
 use Rattle.std.proofs.Common.{◌≡◌, ◌∙◌, ℕ, ℤ, suc, ◌+◌, ◌<◌, ◌≤◌, Bool, true, false, ◌||◌, ◌&&◌, not, cond, if◌then◌else◌, leb, nat_lt, List, [], ◌∷◌, ◌++◌, length, map, refl, ap, sym, arith, append_assoc, append-nil, length-append}
-use Rattle.std.specs.Prelude.{Option, Some, None, is_some, filter, nat_le}
+use Rattle.std.specs.Prelude.{Option, Some, None, is_some, filter, nat_le, unwrap_or}
 use Rattle.std.specs.Cmp.{tied_itself}
 use Rattle.std.specs.List.{list_any}
 use Rattle.std.specs.List.Sorted.{IsStrictlySortedBy}
@@ -20,7 +20,7 @@ use Rattle.prog_tree.specs.Table.{cell_cmp, Cells, cells_of, at_cell, is_same_ce
 use Rattle.prog_tree.proofs.TableLemmas.{cell_total}
 use Rattle.prog_tree.proofs.TableStates.{cell_is}
 use Rattle.version_store.specs.Reading.{RisesFrom, chain_at}
-use Rattle.version_store.specs.StandsFor.{Chain, chain_or_none, opening_versions, version_by, changes_of, chain_of, trimmed, size, AreCommits}
+use Rattle.version_store.specs.StandsFor.{Chain, no_chain, version_by, changes_of, chain_of, trimmed, size, AreCommits}
 use Rattle.version_store.specs.Trimming.{shown, versions_kept}
 use Rattle.version_store.specs.Versions.{Version, versions_from, versions_of, is_newest, is_retained, retained, versions_at}
 use Rattle.version_store.proofs.ChainsLaws.{none_behind, same_turned}
@@ -76,11 +76,11 @@ size_grouped ((k, chain) ∷ rest) ys sorted h =
     omega (arith, others, both, first, sum)
   where
     here : Bool → Cell → Chain
-    here b c = chain_or_none (cond b (Some chain) (at_cell rest c))
+    here b c = unwrap_or (cond b (Some chain) (at_cell rest c)) no_chain
 
     go : (b : Bool) (c : Cell) → is_same_cell c k ≡ b → length (chain_at rest c).versions ≡ length (filter (is_of c) (filter (is_not_of k) ys))
     go true c same =
-        ap (λ o. length (chain_or_none o).versions) (none_behind k c rest sorted same)
+        ap (λ o. length (unwrap_or o no_chain).versions) (none_behind k c rest sorted same)
         ∙ ap length (sym (none_of_others c ys))
         ∙ ap (λ x. length (filter (is_of c) (filter (is_not_of x) ys))) (cell_is c k same)
     go false c apart =
@@ -107,13 +107,13 @@ own_of_commit c n (e ∷ es) sorted = go (is_same_cell c e.0) refl (own_of_commi
     go true same rest = ap (λ vs. (n, e.1) ∷ vs) (rest ∙ ap (version_by n) (none_behind e.0 c es sorted same))
     go false apart rest = rest
 
-own_of_rows : (c : Cell) (rows : TableState) → IsTableState rows → own c (map of_row rows) ≡ opening_versions (row_at rows c)
+own_of_rows : (c : Cell) (rows : TableState) → IsTableState rows → own c (map of_row rows) ≡ shown 0 (row_at rows c)
 own_of_rows c [] sorted = refl
 own_of_rows c (e ∷ es) sorted = go (is_same_cell c e.0) refl (own_of_rows c es (sorted_tail cell_cmp e.0 (cells_of es) sorted))
   where
-    go : (b : Bool) → is_same_cell c e.0 ≡ b → own c (map of_row es) ≡ opening_versions (row_at es c) →
-        map pair_of_version (cond b (of_row e ∷ filter (is_of c) (map of_row es)) (filter (is_of c) (map of_row es))) ≡ opening_versions (cond b (Some e.1) (row_at es c))
-    go true same rest = ap (λ vs. (0, Some e.1) ∷ vs) (rest ∙ ap opening_versions (none_behind e.0 c es sorted same))
+    go : (b : Bool) → is_same_cell c e.0 ≡ b → own c (map of_row es) ≡ shown 0 (row_at es c) →
+        map pair_of_version (cond b (of_row e ∷ filter (is_of c) (map of_row es)) (filter (is_of c) (map of_row es))) ≡ shown 0 (cond b (Some e.1) (row_at es c))
+    go true same rest = ap (λ vs. (0, Some e.1) ∷ vs) (rest ∙ ap (shown 0) (none_behind e.0 c es sorted same))
     go false apart rest = rest
 
 own_from : (c : Cell) (n : ℕ) (ws : List ChangeSet) → AreCommits ws → own c (versions_from n ws) ≡ changes_of c n ws

@@ -1,6 +1,6 @@
 -- The rows that are found in chains, one behind another.
-use Rattle.std.proofs.Common.{◌≡◌, ◌∙◌, ℕ, ℤ, Bool, true, false, cond, not, if◌then◌else◌, List, [], ◌∷◌, ◌++◌, refl, ap, sym, subst, arith}
-use Rattle.std.specs.Prelude.{◌↔◌, ◌==◌, IsTrue, length, Option, Some, None, filter}
+use Rattle.std.proofs.Common.{◌≡◌, ◌∙◌, ℕ, ℤ, Bool, true, false, cond, if◌then◌else◌, List, [], ◌∷◌, ◌++◌, refl, ap, sym, subst, arith}
+use Rattle.std.specs.Prelude.{◌↔◌, ◌==◌, IsTrue, length, Option, Some, None, filter, unwrap_or}
 use Rattle.std.specs.Cmp.{tied_itself}
 use Rattle.std.specs.declared.cmp.Ordering.TheVariants.{Less}
 use Rattle.std.specs.List.{AllByRecursion}
@@ -17,7 +17,7 @@ use Rattle.prog_tree.specs.Table.{cell_cmp, Cells, cells_of, at_cell, is_same_ce
 use Rattle.prog_tree.specs.Value.{or_else}
 use Rattle.prog_tree.proofs.TableLemmas.{cell_total, find_is}
 use Rattle.prog_tree.proofs.TableStates.{same_cell, cell_is, same_state, IsTableState-nil}
-use Rattle.version_store.specs.StandsFor.{Chain, no_chain, chain_or_none}
+use Rattle.version_store.specs.StandsFor.{Chain, no_chain}
 use Rattle.version_store.specs.Reading.{AllRise, RisesFrom, chain_at, value_at}
 use Rattle.prog_tree.specs.Corners.{is_between, AreCorners}
 use Rattle.version_store.specs.Regions.{seen_in, seen_left, found_row, found_rows, IsSeen}
@@ -70,7 +70,7 @@ row_at-found_rows seen (e ∷ es) h c =
 is_seen : (seen : Seen) → ((c : Cell) → seen c no_chain ≡ None) → (chains : Cells Chain) → IsStrictlySortedBy cell_cmp (cells_of chains) → IsSeen seen chains (found_rows seen chains)
 is_seen seen unseen chains sorted = (in_order seen chains sorted, λ c. row_at-found_rows seen chains sorted c ∙ go c (at_cell chains c))
   where
-    go : (c : Cell) (o : Option Chain) → seen_at seen c o ≡ seen c (chain_or_none o)
+    go : (c : Cell) (o : Option Chain) → seen_at seen c o ≡ seen c (unwrap_or o no_chain)
     go c None = sym (unseen c)
     go c (Some chain) = refl
 
@@ -107,7 +107,7 @@ between_left p chains between sorted rise is = record {
 }
   where
     inside : (b : Bool) (c : Cell) (chain : Chain) → cond b (at_cell chains c) None ≡ Some chain → RisesFrom 0 chain.versions
-    inside true c chain found = subst (λ (o : Option Chain). RisesFrom 0 (chain_or_none o).versions) found (rise c)
+    inside true c chain found = subst (λ (o : Option Chain). RisesFrom 0 (unwrap_or o no_chain).versions) found (rise c)
     inside false c chain found = absurd (cc)
 
 first_rises : (k : Cell) (chain : Chain) (rest : Cells Chain) → IsLeft ((k, chain) ∷ rest) → RisesFrom 0 chain.versions
@@ -148,7 +148,7 @@ outside_region : (region : Region) (n : ℕ) (c : Cell) (chain : Chain) → is_i
 outside_region region n c chain apart = ap (λ b. if b then value_at n chain else None) apart
 
 outside_left : (region : Region) (own : List Cell) (n : ℕ) (c : Cell) (chain : Chain) → is_in region c ≡ false → seen_left region own n c chain ≡ None
-outside_left region own n c chain apart = ap (λ o. if not (is_cell_among own c) then o else None) (outside_region region n c chain apart) ∙ go (not (is_cell_among own c))
+outside_left region own n c chain apart = ap (λ o. if is_cell_among own c then None else o) (outside_region region n c chain apart) ∙ go (is_cell_among own c)
   where
     go : (b : Bool) → (if b then nothing else nothing) ≡ nothing
     go true = refl
@@ -162,7 +162,7 @@ no_chain_in region n c = go (is_in region c)
     go false = refl
 
 no_chain_left : (region : Region) (own : List Cell) (n : ℕ) (c : Cell) → seen_left region own n c no_chain ≡ None
-no_chain_left region own n c = ap (λ o. if not (is_cell_among own c) then o else None) (no_chain_in region n c) ∙ go (not (is_cell_among own c))
+no_chain_left region own n c = ap (λ o. if is_cell_among own c then None else o) (no_chain_in region n c) ∙ go (is_cell_among own c)
   where
     go : (b : Bool) → (if b then nothing else nothing) ≡ nothing
     go true = refl

@@ -55,3 +55,9 @@ hold_found m n cell old new found some written holds =
 pub others_found :
     (m n : Cells Chain) (cell : Cell) (old new : Chain) → Some old ≡ at_cell m cell → (IsSome (at_cell m cell) → IsWritten m n cell new) → EachHolds m → OthersHold cell n
 others_found m n cell old new found written = others_written m n cell new (written (subst (λ (o : Option Chain). IsSome o) found refl))
+
+-- a found chain is written, of which something is left
+pub hold_left :
+    (m n : Cells Chain) (cell : Cell) (old new : Chain) (is_empty : Bool) → Some old ≡ at_cell m cell → (new ≡ no_chain → is_empty ≡ true) → is_empty ≡ false →
+    (IsSome (at_cell m cell) → IsWritten m n cell new) → EachHolds m → EachHolds n
+hold_left m n cell old new is_empty found tells left written = hold_found m n cell old new found (λ holds none. let clash : true ≡ false = sym (tells none) ∙ left in cc) written

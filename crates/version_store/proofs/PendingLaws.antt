@@ -7,7 +7,7 @@ use Rattle.std.proofs.lemmas.List.Folds.{list_any-append}
 use Rattle.prog_tree.specs.declared.cell.Cell.{Cell}
 use Rattle.prog_tree.specs.ChangeSet.{ChangeSet, change_at}
 use Rattle.prog_tree.specs.Table.{is_cell_among, is_same_cell, cells_of, TableState, row_at}
-use Rattle.version_store.specs.StandsFor.{opening_versions, version_by, changes_of, marks_of, chain_of, trimmed}
+use Rattle.version_store.specs.StandsFor.{version_by, changes_of, marks_of, chain_of, trimmed}
 use Rattle.version_store.specs.Trimming.{shown, versions_kept, marks_kept, numbered, touches_by, touches_above, within, beyond}
 use Rattle.version_store.proofs.TouchLaws.{among-some}
 use Rattle.version_store.proofs.TrimLaws.{kept_above}
@@ -196,7 +196,7 @@ pub untouched : (f g : ℕ) → f ≤ g → (opening : TableState) (ws : List Ch
     trimmed g (chain_of opening ws c) ≡ trimmed f (chain_of opening ws c)
 untouched f g less opening ws c none i = record { versions = go (row_at opening c) i; marks = same_marks f g less c 1 ws none i }
   where
-    go : (o : Option ℤ) → versions_kept g [] (opening_versions o ++ changes_of c 1 ws) ≡ versions_kept f [] (opening_versions o ++ changes_of c 1 ws)
+    go : (o : Option ℤ) → versions_kept g [] (shown 0 o ++ changes_of c 1 ws) ≡ versions_kept f [] (shown 0 o ++ changes_of c 1 ws)
     go None = same_versions f g less c 1 [] ws none
     go (Some v) =
         ap (λ b. cond b (versions_kept g ((0, Some v) ∷ []) (changes_of c 1 ws)) ((0, Some v) ∷ changes_of c 1 ws)) (le-leb 0 g (omega arith))

@@ -1,6 +1,6 @@
 -- What a walk over chains keeps that gathers rows.
 use Rattle.std.proofs.Common.{◌≡◌, ◌∙◌, ℤ, Bool, true, false, cond, [], ◌∷◌, refl, ap, sym, subst}
-use Rattle.std.specs.Prelude.{Option, Some, None}
+use Rattle.std.specs.Prelude.{Option, Some, None, unwrap_or}
 use Rattle.std.specs.Cmp.{tied_itself}
 use Rattle.std.specs.List.Sorted.{IsStrictlySortedBy}
 use Rattle.std.specs.Ordering.{is_eq}
@@ -10,7 +10,7 @@ use Rattle.prog_tree.specs.Table.{cell_cmp, Cells, cells_of, at_cell, is_same_ce
 use Rattle.prog_tree.specs.Value.{or_else}
 use Rattle.prog_tree.proofs.TableLemmas.{cell_total, at_cell-with_cell}
 use Rattle.prog_tree.proofs.TableStates.{cell_is, IsTableState-nil, IsTableState-with_row}
-use Rattle.version_store.specs.StandsFor.{Chain, no_chain, chain_or_none}
+use Rattle.version_store.specs.StandsFor.{Chain, no_chain}
 use Rattle.version_store.specs.Reading.{AllRise, RisesFrom, chain_at}
 use Rattle.version_store.specs.Regions.{with_found}
 use Rattle.version_store.proofs.ChainsLaws.{none_behind}
@@ -59,7 +59,7 @@ gathers_more seen chains left rest k chain rows next rise is so_far adds = recor
     here = h.within k chain (ap (λ b. cond b (Some chain) (at_cell rest k)) (ap is_eq (tied_itself cell_total k)))
 
     added : next ≡ with_found rows k (seen k chain)
-    added = adds (subst (λ (o : Option Chain). RisesFrom 0 (chain_or_none o).versions) here (rise k))
+    added = adds (subst (λ (o : Option Chain). RisesFrom 0 (unwrap_or o no_chain).versions) here (rise k))
 
     within : (b : Bool) (c : Cell) (x : Chain) → is_same_cell c k ≡ b → at_cell rest c ≡ Some x → at_cell chains c ≡ Some x
     within true c x same found = let none = none_behind k c rest h.sorted same in absurd (cc)
@@ -82,7 +82,7 @@ pub gathered : (seen : Cell → Chain → Option ℤ) → ((c : Cell) → seen c
     Gathers seen chains left rows → (c : Cell) → row_at rows c ≡ seen c (chain_at chains c)
 gathered seen unseen chains left rows none h c = ap (λ es. or_else (seen_at seen c (at_cell es c)) (row_at rows c)) (sym none) ∙ h.ends c ∙ go (at_cell chains c)
   where
-    go : (o : Option Chain) → seen_at seen c o ≡ seen c (chain_or_none o)
+    go : (o : Option Chain) → seen_at seen c o ≡ seen c (unwrap_or o no_chain)
     go None = sym (unseen c)
     go (Some chain) = refl
 

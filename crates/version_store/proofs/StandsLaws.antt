@@ -12,8 +12,8 @@ use Rattle.version_store.specs.Clash.{last_touch}
 use Rattle.version_store.specs.Commits.{state_at}
 use Rattle.version_store.specs.Reading.{AllRise, RisesFrom, chain_at, value_at, last_number, with_commit, with_mark_by, with_change_by, with_row_of, IsBelow}
 use Rattle.version_store.specs.Regions.{seen_in, seen_left, IsSeen}
-use Rattle.version_store.specs.StandsFor.{Chain, no_chain, StoreView, StandsFor, AreCommits, opening_versions, chain_of, trimmed, size, EachHolds}
-use Rattle.version_store.specs.Trimming.{versions_kept, marks_kept, touches_by, touches_above, within, beyond}
+use Rattle.version_store.specs.StandsFor.{Chain, no_chain, StoreView, StandsFor, AreCommits, chain_of, trimmed, size, EachHolds}
+use Rattle.version_store.specs.Trimming.{shown, versions_kept, marks_kept, touches_by, touches_above, within, beyond}
 use Rattle.version_store.specs.Trims.{TrimsAll}
 use Rattle.version_store.specs.Versions.{retained, reclaimed}
 use Rattle.version_store.proofs.CountLaws.{size_retained, retained-open, retained-push}
@@ -56,8 +56,13 @@ pub sees_left :
 sees_left s opening ws h region own n above =
     let m = state_at opening ws n in (
       IsTableState-rows_left region own m (state_in_order opening (take n ws) h.ordered),
-      λ c. row_at-rows_left region own m c ∙ ap (λ v. cond (not (is_cell_among own c)) (cond (is_in region c) v None) None) (sym (reads_state s opening ws h n above c)),
+      λ c. row_at-rows_left region own m c ∙ ap (λ v. cond (not (is_cell_among own c)) (cond (is_in region c) v None) None) (sym (reads_state s opening ws h n above c))
+          ∙ go (is_cell_among own c) (seen_in region n c (chain_at s.chains c)),
     )
+  where
+    go : (b : Bool) (o : Option ℤ) → cond (not b) o None ≡ cond b None o
+    go true o = refl
+    go false o = refl
 
 -- rows in order that have all that the chains have are the state
 pub gives_state :
@@ -81,7 +86,7 @@ stands-open s opening ordered chains holds pending commits floor versions = reco
   versions = versions ∙ sym (retained-open opening) ∙ ap (λ f. length (retained opening [] f)) (sym floor);
 }
   where
-    go : (o : Option ℤ) → with_row_of o no_chain ≡ trimmed 0 record { versions = opening_versions o ++ []; marks = [] }
+    go : (o : Option ℤ) → with_row_of o no_chain ≡ trimmed 0 record { versions = shown 0 o ++ []; marks = [] }
     go None = refl
     go (Some v) = refl
 

@@ -8,8 +8,9 @@ use Rattle.prog_tree.specs.Table.{TableState, row_at, is_cell_among}
 use Rattle.prog_tree.proofs.ChangedLemmas.{row_at-changed}
 use Rattle.version_store.specs.Clash.{last_touch}
 use Rattle.version_store.specs.Commits.{state_at}
-use Rattle.version_store.specs.Reading.{RisesFrom, value_after, value_at, last_version, last_mark, last_number, with_commit, with_mark_by, with_change_by, IsBelow}
-use Rattle.version_store.specs.StandsFor.{opening_versions, version_by, changes_of, marks_of, chain_of}
+use Rattle.version_store.specs.Reading.{RisesFrom, value_after, value_at, numbers_of, last_or, last_number, with_commit, with_mark_by, with_change_by, IsBelow}
+use Rattle.version_store.specs.Trimming.{shown}
+use Rattle.version_store.specs.StandsFor.{version_by, changes_of, marks_of, chain_of}
 use Rattle.version_store.specs.Versions.{Version}
 
 -- what was changed, or what was held
@@ -49,7 +50,7 @@ value_from c n k (suc j) m (w ∷ ws) end = go (change_at w c) (row_at-changed m
 pub value_at-chain_of : (opening : TableState) (ws : List ChangeSet) (c : Cell) (n : ℕ) → value_at n (chain_of opening ws c) ≡ row_at (state_at opening ws n) c
 value_at-chain_of opening ws c n = go (row_at opening c) ∙ value_from c n 1 n opening ws (omega arith)
   where
-    go : (o : Option ℤ) → value_after n None (opening_versions o ++ changes_of c 1 ws) ≡ value_after n o (changes_of c 1 ws)
+    go : (o : Option ℤ) → value_after n None (shown 0 o ++ changes_of c 1 ws) ≡ value_after n o (changes_of c 1 ws)
     go None = refl
     go (Some v) = ap (λ b. value_after n (cond b (Some v) None) (changes_of c 1 ws)) (le-leb 0 n (omega arith))
 
@@ -70,19 +71,19 @@ changes_rise c k (w ∷ ws) = go (change_at w c) (changes_rise c (k + 1) ws)
 pub chain_rises : (opening : TableState) (ws : List ChangeSet) (c : Cell) → RisesFrom 0 (chain_of opening ws c).versions
 chain_rises opening ws c = go (row_at opening c)
   where
-    go : (o : Option ℤ) → RisesFrom 0 (opening_versions o ++ changes_of c 1 ws)
+    go : (o : Option ℤ) → RisesFrom 0 (shown 0 o ++ changes_of c 1 ws)
     go None = rises_more 0 1 (changes_of c 1 ws) (omega arith) (changes_rise c 1 ws)
     go (Some v) = (omega arith, changes_rise c 1 ws)
 
 -- ---- the last number
 
-last_from : (c : Cell) (k a b : ℕ) (ws : List ChangeSet) → a < k → b < k → max (last_version a (changes_of c k ws)) (last_mark b (marks_of c k ws)) ≡ max (max a b) (last_touch c k ws)
+last_from : (c : Cell) (k a b : ℕ) (ws : List ChangeSet) → a < k → b < k → max (last_or a (numbers_of (changes_of c k ws))) (last_or b (marks_of c k ws)) ≡ max (max a b) (last_touch c k ws)
 last_from c k a b [] p q = omega arith
 last_from c k a b (w ∷ ws) p q = go (change_at w c) (is_cell_among w.kept c) (λ x y lx ly. last_from c (k + 1) x y ws lx ly)
   where
     go : (o : Option (Option ℤ)) (kept : Bool) →
-        ((x y : ℕ) → x < k + 1 → y < k + 1 → max (last_version x (changes_of c (k + 1) ws)) (last_mark y (marks_of c (k + 1) ws)) ≡ max (max x y) (last_touch c (k + 1) ws)) →
-        max (last_version a (version_by k o ++ changes_of c (k + 1) ws)) (last_mark b (if kept then k ∷ marks_of c (k + 1) ws else marks_of c (k + 1) ws))
+        ((x y : ℕ) → x < k + 1 → y < k + 1 → max (last_or x (numbers_of (changes_of c (k + 1) ws))) (last_or y (marks_of c (k + 1) ws)) ≡ max (max x y) (last_touch c (k + 1) ws)) →
+        max (last_or a (numbers_of (version_by k o ++ changes_of c (k + 1) ws))) (last_or b (if kept then k ∷ marks_of c (k + 1) ws else marks_of c (k + 1) ws))
         ≡ max (max a b) (max (if is_some o || kept then k else 0) (last_touch c (k + 1) ws))
     go None true rest = let h = rest a k (omega arith) (omega arith) in omega arith
     go None false rest = let h = rest a b (omega arith) (omega arith) in omega arith
@@ -92,10 +93,10 @@ last_from c k a b (w ∷ ws) p q = go (change_at w c) (is_cell_among w.kept c) (
 pub last_number-chain_of : (opening : TableState) (ws : List ChangeSet) (c : Cell) → last_number (chain_of opening ws c) ≡ last_touch c 1 ws
 last_number-chain_of opening ws c = go (row_at opening c)
   where
-    rest : max (last_version 0 (changes_of c 1 ws)) (last_mark 0 (marks_of c 1 ws)) ≡ last_touch c 1 ws
+    rest : max (last_or 0 (numbers_of (changes_of c 1 ws))) (last_or 0 (marks_of c 1 ws)) ≡ last_touch c 1 ws
     rest = let h = last_from c 1 0 0 ws (omega arith) (omega arith) in omega arith
 
-    go : (o : Option ℤ) → max (last_version 0 (opening_versions o ++ changes_of c 1 ws)) (last_mark 0 (marks_of c 1 ws)) ≡ last_touch c 1 ws
+    go : (o : Option ℤ) → max (last_or 0 (numbers_of (shown 0 o ++ changes_of c 1 ws))) (last_or 0 (marks_of c 1 ws)) ≡ last_touch c 1 ws
     go None = rest
     go (Some v) = rest
 
@@ -142,8 +143,8 @@ chain_of-push opening ws w c =
     let place : 1 + length ws ≡ length ws + 1 = omega arith in
     let versions = changes-push c 1 ws w ∙ ap (λ n. changes_of c 1 ws ++ version_by n (change_at w c)) place in
     let marks = marks-push c 1 ws w ∙ ap (λ n. if is_cell_among w.kept c then marks_of c 1 ws ++ n ∷ [] else marks_of c 1 ws) place in
-    (λ i. record { versions = opening_versions (row_at opening c) ++ versions i; marks = marks i })
-    ∙ go (opening_versions (row_at opening c)) (change_at w c) (is_cell_among w.kept c)
+    (λ i. record { versions = shown 0 (row_at opening c) ++ versions i; marks = marks i })
+    ∙ go (shown 0 (row_at opening c)) (change_at w c) (is_cell_among w.kept c)
   where
     n : ℕ
     n = length ws + 1
@@ -192,7 +193,7 @@ chain_below opening ws c i = record { versions = go (row_at opening c) i; marks 
     n : ℕ
     n = length ws + 1
 
-    go : (o : Option ℤ) → filter (λ (v : ℕ × Option ℤ). nat_lt v.0 n) (opening_versions o ++ changes_of c 1 ws) ≡ opening_versions o ++ changes_of c 1 ws
+    go : (o : Option ℤ) → filter (λ (v : ℕ × Option ℤ). nat_lt v.0 n) (shown 0 o ++ changes_of c 1 ws) ≡ shown 0 o ++ changes_of c 1 ws
     go None = below_all c 1 n ws (omega arith)
     go (Some v) =
         ap (λ b. cond b ((0, Some v) ∷ filter (λ (v : ℕ × Option ℤ). nat_lt v.0 n) (changes_of c 1 ws)) (filter (λ (v : ℕ × Option ℤ). nat_lt v.0 n) (changes_of c 1 ws))) (le-leb 1 n (omega arith))

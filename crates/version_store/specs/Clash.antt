@@ -40,11 +40,11 @@ abbrev pub touched : ChangeSet → List Cell
 touched w = with_cells (with_cells [] (cells_of w.cells)) w.kept
 
 -- the first of the cells that a commit above the start changes or keeps, with the greatest number of such a commit
-abbrev pub first_clash : List ChangeSet → ℕ → List Cell → Option (Cell × ℕ)
-first_clash ws start [] = None
-first_clash ws start (c ∷ cs) =
+abbrev pub clash_among : List ChangeSet → ℕ → List Cell → Option (Cell × ℕ)
+clash_among ws start [] = None
+clash_among ws start (c ∷ cs) =
     let n = last_touch c 1 ws in
-    if nat_lt start n then Some (c, n) else first_clash ws start cs
+    if nat_lt start n then Some (c, n) else clash_among ws start cs
 
 abbrev pub clash_of : List ChangeSet → ℕ → ChangeSet → Option (Cell × ℕ)
-clash_of ws start w = first_clash ws start (touched w)
+clash_of ws start w = clash_among ws start (touched w)

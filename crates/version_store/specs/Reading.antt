@@ -1,15 +1,15 @@
 -- What is read from the chains of cells, and what commits add to them.
-use Rattle.std.specs.Prelude.{◌≡◌, ℕ, ◌+◌, ◌≤◌, ⊤, ℤ, max, nat_lt, leb, Bool, true, false, List, [], ◌∷◌, ◌++◌, filter, Option, Some, None, if◌then◌else◌}
+use Rattle.std.specs.Prelude.{◌≡◌, ℕ, ◌+◌, ◌≤◌, ⊤, ℤ, max, nat_lt, leb, Bool, true, false, List, [], ◌∷◌, ◌++◌, filter, map, Option, Some, None, unwrap_or, if◌then◌else◌}
 use Rattle.std.specs.List.Sorted.{IsPartitionPoint}
 use Rattle.prog_tree.specs.declared.cell.Cell.{Cell}
 use Rattle.std.specs.Ordering.{is_lt}
 use Rattle.prog_tree.specs.ChangeSet.{ChangeSet, change_at, touches_cell}
 use Rattle.prog_tree.specs.Table.{cell_cmp, Cells, at_cell, is_same_cell, is_cell_among}
-use Rattle.version_store.specs.StandsFor.{Chain, chain_or_none, HoldsSome}
+use Rattle.version_store.specs.StandsFor.{Chain, no_chain, HoldsSome}
 
--- the chain of a cell
+-- the chain of a cell; a cell without a chain has an empty one
 abbrev pub chain_at : Cells Chain → Cell → Chain
-chain_at chains c = chain_or_none (at_cell chains c)
+chain_at chains c = unwrap_or (at_cell chains c) no_chain
 
 -- each version's number is above the one before it, and the first is at least n
 abbrev pub RisesFrom : ℕ → List (ℕ × Option ℤ) → Type 0
@@ -33,19 +33,18 @@ value_after n before (v ∷ vs) = value_after n (if leb v.0 n then v.1 else befo
 abbrev pub value_at : ℕ → Chain → Option ℤ
 value_at n chain = value_after n None chain.versions
 
--- the number of the last version, where one had a number before them
-abbrev pub last_version : ℕ → List (ℕ × Option ℤ) → ℕ
-last_version before [] = before
-last_version before (v ∷ vs) = last_version v.0 vs
+-- the numbers of versions
+abbrev pub numbers_of : List (ℕ × Option ℤ) → List ℕ
+numbers_of vs = map (λ v. v.0) vs
 
--- the last of the marks, where there was one before them
-abbrev pub last_mark : ℕ → List ℕ → ℕ
-last_mark before [] = before
-last_mark before (m ∷ ms) = last_mark m ms
+-- the last of some numbers, where there was one before them
+abbrev pub last_or : (before : ℕ) → List ℕ → ℕ
+last_or before [] = before
+last_or before (n ∷ ns) = last_or n ns
 
 -- the greatest number in a chain, or 0
 abbrev pub last_number : Chain → ℕ
-last_number chain = max (last_version 0 chain.versions) (last_mark 0 chain.marks)
+last_number chain = max (last_or 0 (numbers_of chain.versions)) (last_or 0 chain.marks)
 
 -- the first of the cells whose number is above the start, with its number
 abbrev pub first_above : (Cell → ℕ) → (start : ℕ) → List Cell → Option (Cell × ℕ)

@@ -1,5 +1,5 @@
 -- The rows of regions.
-use Rattle.std.specs.Prelude.{◌≡◌, ℕ, ℤ, not, List, [], ◌∷◌, ◌++◌, Option, Some, None, if◌then◌else◌}
+use Rattle.std.specs.Prelude.{◌≡◌, ℕ, ℤ, List, [], ◌∷◌, ◌++◌, Option, Some, None, if◌then◌else◌}
 use Rattle.prog_tree.specs.declared.cell.Cell.{Cell}
 use Rattle.prog_tree.specs.declared.cell.Region.{Region}
 use Rattle.prog_tree.specs.Table.{is_in, is_cell_among, Cells, TableState, IsTableState, row_at, with_row}
@@ -10,11 +10,11 @@ use Rattle.version_store.specs.Reading.{chain_at, value_at}
 abbrev pub seen_in : Region → (n : ℕ) → Cell → Chain → Option ℤ
 seen_in region n c chain = if is_in region c then value_at n chain else None
 
--- the same but for some own cells
+-- what a region has of a cell with a chain, unless it is one of some own cells
 abbrev pub seen_left : Region → List Cell → (n : ℕ) → Cell → Chain → Option ℤ
-seen_left region own n c chain = if not (is_cell_among own c) then seen_in region n c chain else None
+seen_left region own n c chain = if is_cell_among own c then None else seen_in region n c chain
 
--- the same without a region
+-- what all regions together have of a cell with a chain, after the first n commits
 abbrev pub seen_anywhere : (n : ℕ) → Cell → Chain → Option ℤ
 seen_anywhere n c chain = value_at n chain
 

@@ -1,12 +1,12 @@
 -- The histories that a store stands for.
-use Rattle.std.specs.Prelude.{◌≡◌, ℕ, ◌+◌, ◌≤◌, ⊤, ℤ, List, [], ◌∷◌, ◌++◌, length, Option, Some, None, if◌then◌else◌}
+use Rattle.std.specs.Prelude.{◌≡◌, ℕ, ◌+◌, ◌≤◌, ⊤, ℤ, List, [], ◌∷◌, ◌++◌, length, Option, Some, None, unwrap_or, if◌then◌else◌}
 use Rattle.std.specs.List.{AllByRecursion, sum_by}
 use Rattle.std.specs.List.Sorted.{IsStrictlySortedBy}
 use Rattle.std.specs.Map.{values_of}
 use Rattle.prog_tree.specs.declared.cell.Cell.{Cell}
 use Rattle.prog_tree.specs.ChangeSet.{ChangeSet, change_at}
 use Rattle.prog_tree.specs.Table.{cell_cmp, is_cell_among, Cells, cells_of, at_cell, TableState, IsTableState, row_at}
-use Rattle.version_store.specs.Trimming.{versions_kept, marks_kept, touches_above}
+use Rattle.version_store.specs.Trimming.{shown, versions_kept, marks_kept, touches_above}
 use Rattle.version_store.specs.Versions.{retained}
 
 -- what a store keeps of a cell: its values and removals, each with the number of its commit, and the numbers of the
@@ -27,11 +27,6 @@ pub record StoreView : Type 0 where
   -- which cells the commits above the floor touched, with the commits' numbers
   pub pending : List (ℕ × Cell)
 
--- the version that an opening row is
-abbrev pub opening_versions : Option ℤ → List (ℕ × Option ℤ)
-opening_versions None = []
-opening_versions (Some v) = (0, Some v) ∷ []
-
 -- the version that a commit of a number makes of a cell
 abbrev pub version_by : ℕ → Option (Option ℤ) → List (ℕ × Option ℤ)
 version_by n None = []
@@ -47,14 +42,9 @@ abbrev pub marks_of : Cell → ℕ → List ChangeSet → List ℕ
 marks_of c n [] = []
 marks_of c n (w ∷ ws) = if is_cell_among w.kept c then n ∷ marks_of c (n + 1) ws else marks_of c (n + 1) ws
 
--- all of a cell in a history
+-- all of a cell in a history, where an opening row is a version of number 0
 abbrev pub chain_of : TableState → List ChangeSet → Cell → Chain
-chain_of opening ws c = record { versions = opening_versions (row_at opening c) ++ changes_of c 1 ws; marks = marks_of c 1 ws }
-
--- a cell without a chain has an empty one
-abbrev pub chain_or_none : Option Chain → Chain
-chain_or_none None = no_chain
-chain_or_none (Some chain) = chain
+chain_of opening ws c = record { versions = shown 0 (row_at opening c) ++ changes_of c 1 ws; marks = marks_of c 1 ws }
 
 -- what is kept at a cell holds something
 abbrev pub HoldsSome : Option Chain → Type 0
@@ -81,7 +71,7 @@ AreCommits ws = AllByRecursion (λ w. IsStrictlySortedBy cell_cmp (cells_of w.ce
 pub record StandsFor (s : StoreView) (opening : TableState) (ws : List ChangeSet) : Type 0 where
   pub ordered : IsTableState opening
   pub each : AreCommits ws
-  pub chains : (c : Cell) → chain_or_none (at_cell s.chains c) ≡ trimmed s.floor (chain_of opening ws c)
+  pub chains : (c : Cell) → unwrap_or (at_cell s.chains c) no_chain ≡ trimmed s.floor (chain_of opening ws c)
   pub holds : EachHolds s.chains
   pub pending : s.pending ≡ touches_above s.floor 1 ws
   pub commits : s.commits ≡ length ws

@@ -4,7 +4,7 @@ use Rattle.prog_tree.specs.declared.cell.Cell.{Cell}
 use Rattle.prog_tree.specs.ChangeSet.{ChangeSet}
 use Rattle.prog_tree.specs.Table.{cells_of}
 
--- the version of a value, and none of a removal
+-- the version of a value, and none of a removal or of no row
 abbrev pub shown : ℕ → Option ℤ → List (ℕ × Option ℤ)
 shown n None = []
 shown n (Some v) = (n, Some v) ∷ []

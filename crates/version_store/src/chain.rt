@@ -1,13 +1,13 @@
 //! What the store keeps of one cell.
 ghost use Rattle.std.specs.Prelude.{◌≡◌, ◌↔◌, ◌≤◌, ◌+◌, length, [], drop, None, IsTrue, OnOk, OnErr};
-ghost use Rattle.version_store.specs.Reading.{RisesFrom, IsCutAt, value_at, last_version};
-ghost use Rattle.version_store.specs.Reading.{last_mark, last_number, cut_from};
+ghost use Rattle.version_store.specs.Reading.{RisesFrom, IsCutAt, value_at};
+ghost use Rattle.version_store.specs.Reading.{last_or, last_number, cut_from};
 ghost use Rattle.version_store.specs.StandsFor.{no_chain, trimmed};
 ghost use Rattle.version_store.specs.Touches.{with_touch};
 ghost use Rattle.version_store.specs.Trimming.{versions_kept, marks_kept};
 
 use crate::touches::Touch;
-use crate::versions::Versions;
+use crate::versions::{Versions, drop_first};
 use std::alloc::{AllocError, Global};
 use std::marker::Model;
 
@@ -28,7 +28,7 @@ impl Model for Chain {
 
 // The last mark, or 0.
 fn last_mark(marks: &[u64]) -> u64
-    ensures { result ≡ last_mark 0 marks.now }
+    ensures { result ≡ last_or 0 marks.now }
 {
     match marks.last() {
         Some(mark) => *mark,
@@ -99,7 +99,7 @@ impl Chain {
         ensures count { length self.new.versions + result ≡ length self.old.versions }
     {
         let marks = outdated_marks(&self.marks, floor);
-        self.marks.drain(..marks);
+        drop_first(&mut self.marks, marks);
         self.versions.trim(floor)
     }
 

@@ -1,12 +1,12 @@
 //! The chains of all cells.
 ghost use Rattle.std.specs.Prelude.{◌≡◌, ◌+◌, ◌-◌, ◌≤◌, ◌^◌, [], Some, min};
-ghost use Rattle.std.specs.Prelude.{IfOk, OnOk, OnErr};
+ghost use Rattle.std.specs.Prelude.{IfOk, IsTrue, IsFalse, OnOk, OnErr};
 ghost use Rattle.std.specs.List.Sorted.{IsStrictlySortedBy};
 ghost use Rattle.prog_tree.specs.Table.{cell_cmp, cells_of, row_at};
 ghost use Rattle.version_store.specs.Reading.{AllRise, chain_at, value_at, number_at};
 ghost use Rattle.version_store.specs.Reading.{with_row_of, with_commit, cut_from, IsGrown};
 ghost use Rattle.version_store.specs.Reading.{MakesAt, MakesEach, MakesTouched, KeepsBelow, OthersHold};
-ghost use Rattle.version_store.specs.StandsFor.{size, trimmed, EachHolds};
+ghost use Rattle.version_store.specs.StandsFor.{no_chain, size, trimmed, EachHolds};
 ghost use Rattle.version_store.specs.Touches.{with_touch};
 ghost use Rattle.version_store.specs.Trimming.{within, beyond};
 ghost use Rattle.version_store.specs.Trims.{TrimsAll};
@@ -81,28 +81,28 @@ impl Chains {
         Ok(())
     }
 
-    // Drops the chain of a cell where nothing is left of it.
+    // Drops the chain of a cell, of which nothing is left.
     fn drop_empty(&mut self, cell: &Cell)
+        requires { chain_at self.old cell.now ≡ no_chain }
         ensures chains { MakesEach (λ c chain. chain) self.old self.new }
         ensures count { size self.new ≡ size self.old }
         ensures hold { OthersHold cell.now self.old → EachHolds self.new }
     {
-        let Some(chain) = self.chains.get(cell) else {
-            return;
-        };
-        if chain.is_empty() {
-            let _ = self.chains.remove(cell);
-        }
+        let _ = self.chains.remove(cell);
     }
 
-    // Cuts the chain of a cell.
-    fn cut_chain(&mut self, cell: &Cell, number: u64)
+    // Cuts the chain of a cell, and answers whether it is there and nothing is left of it.
+    fn cut_chain(&mut self, cell: &Cell, number: u64) -> bool
         ensures chains { MakesAt cell.now (cut_from number) self.old self.new }
         ensures others { EachHolds self.old → OthersHold cell.now self.new }
+        ensures empty { IsTrue result → chain_at self.new cell.now ≡ no_chain }
+        ensures left { IsFalse result → EachHolds self.old → EachHolds self.new }
     {
-        if let Some(chain) = self.chains.get_mut(cell) {
-            chain.cut_from(number);
-        }
+        let Some(chain) = self.chains.get_mut(cell) else {
+            return false;
+        };
+        chain.cut_from(number);
+        chain.is_empty()
     }
 
     // Cuts the chain of a cell, which leaves the map where nothing is left of it.
@@ -110,8 +110,9 @@ impl Chains {
         ensures chains { MakesAt cell.now (cut_from number) self.old self.new }
         ensures hold { EachHolds self.old → EachHolds self.new }
     {
-        self.cut_chain(cell, number);
-        self.drop_empty(cell);
+        if self.cut_chain(cell, number) {
+            self.drop_empty(cell);
+        }
     }
 
     /// The chains of opening rows.
@@ -169,16 +170,20 @@ impl Chains {
         let _ = self.chains.iter();
     }
 
-    // Trims the chain of a cell, and answers how many versions went.
-    fn trim_chain(&mut self, cell: &Cell, floor: u64) -> usize
+    // Trims the chain of a cell, and answers how many versions went, and whether it is there and
+    // nothing is left of it.
+    fn trim_chain(&mut self, cell: &Cell, floor: u64) -> (usize, bool)
         ensures chains { MakesAt cell.now (trimmed floor) self.old self.new }
-        ensures count { size self.new + result ≡ size self.old }
+        ensures count { size self.new + result.0 ≡ size self.old }
         ensures others { EachHolds self.old → OthersHold cell.now self.new }
+        ensures empty { IsTrue result.1 → chain_at self.new cell.now ≡ no_chain }
+        ensures left { IsFalse result.1 → EachHolds self.old → EachHolds self.new }
     {
         let Some(chain) = self.chains.get_mut(cell) else {
-            return 0;
+            return (0, false);
         };
-        chain.trim(floor)
+        let count = chain.trim(floor);
+        (count, chain.is_empty())
     }
 
     // Trims the chain of a cell, which leaves the map where nothing is left of it.
@@ -187,8 +192,10 @@ impl Chains {
         ensures count { size self.new + result ≡ size self.old }
         ensures hold { EachHolds self.old → EachHolds self.new }
     {
-        let count = self.trim_chain(cell, floor);
-        self.drop_empty(cell);
+        let (count, is_empty) = self.trim_chain(cell, floor);
+        if is_empty {
+            self.drop_empty(cell);
+        }
         count
     }
 

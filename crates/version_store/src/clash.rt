@@ -32,8 +32,7 @@ fn clash_at(chains: &Chains, start: u64, cell: Cell) -> Option<Clash>
 
 // The one of two that has the lesser cell.
 fn lesser(one: Option<Clash>, other: Option<Clash>) -> Option<Clash>
-    ensures { told result
-        ≡ lesser (told one) (told other) }
+    ensures { told result ≡ lesser (told one) (told other) }
 {
     match (one, other) {
         (Some(first), Some(second)) if second.cell < first.cell => other,

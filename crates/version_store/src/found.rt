@@ -31,7 +31,7 @@ pub fn seen_in(region: &Region, start: u64, cell: &Cell, chain: &Chain) -> Optio
     chain.value_at(start)
 }
 
-/// The same but for some `own` cells.
+/// What is seen in a region of a cell, unless it is one of some `own` cells.
 pub fn seen_left(
     region: &Region,
     own: &OwnCells,
@@ -42,7 +42,7 @@ pub fn seen_left(
     ensures { RisesFrom 0 chain.now.versions →
         result ≡ seen_left region.now own.now start cell.now chain.now }
 {
-    if own.has(cell) {
+    if own.contains(cell) {
         return None;
     }
     seen_in(region, start, cell, chain)

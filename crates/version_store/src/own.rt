@@ -28,7 +28,7 @@ impl<'a> Model for OwnCells<'a> {
 
 impl<'a> OwnCells<'a> {
     /// One walk over the cells.
-    pub fn of(cells: &'a [Cell]) -> OwnCells<'a>
+    pub fn new(cells: &'a [Cell]) -> OwnCells<'a>
         ensures { result ≡ cells.now }
     {
         OwnCells {
@@ -37,7 +37,7 @@ impl<'a> OwnCells<'a> {
         }
     }
 
-    pub fn has(&self, cell: &Cell) -> bool
+    pub fn contains(&self, cell: &Cell) -> bool
         ensures { result ≡ is_cell_among self.now cell.now }
     {
         if self.rise {

@@ -40,7 +40,7 @@ impl Pending {
     }
 
     /// Keeps the first touches alone.
-    pub fn cut(&mut self, count: usize)
+    pub fn truncate(&mut self, count: usize)
         ensures { self.new ≡ take count self.old }
     {
         self.touches.truncate(count);
@@ -73,7 +73,7 @@ impl Pending {
     {
         let before = self.len();
         let Ok(()) = self.add_touches(number, changes) else {
-            self.cut(before);
+            self.truncate(before);
             return Err(AllocError);
         };
         Ok(())

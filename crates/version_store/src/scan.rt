@@ -37,7 +37,7 @@ impl Chains {
         let Some((low, high)) = corners(*region) else {
             return rows.is_empty();
         };
-        let own_cells = OwnCells::of(own);
+        let own_cells = OwnCells::new(own);
         let mut rest = rows;
         for (cell, chain) in self.chains.range(low..=high) {
             let found = seen_left(region, &own_cells, start, cell, chain);

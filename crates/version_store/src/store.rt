@@ -1,11 +1,13 @@
+//! The store, over the chains of all cells.
 ghost use Rattle.std.specs.Prelude.{◌≡◌, ◌+◌, ◌-◌, ◌<◌, ◌≤◌, ◌^◌, List, [], ◌∷◌, ◌++◌, length};
-ghost use Rattle.std.specs.Prelude.{◌↔◌, option_map, IfOk, IsTrue, OnErr};
+ghost use Rattle.std.specs.Prelude.{◌↔◌, IfOk, IsTrue, OnErr};
 ghost use Rattle.prog_tree.specs.ChangeSet.{ChangeSet};
 ghost use Rattle.prog_tree.specs.Evaluation.{rows_left};
 ghost use Rattle.prog_tree.specs.Table.{TableState, rows_in, row_at};
 ghost use Rattle.version_store.specs.Clash.{IsClash};
 ghost use Rattle.version_store.specs.Commits.{state_at};
 ghost use Rattle.version_store.specs.StandsFor.{StandsFor};
+ghost use Rattle.version_store.specs.Told.{told};
 ghost use Rattle.version_store.specs.Versions.{retained, reclaimed};
 
 use crate::chains::Chains;
@@ -118,8 +120,7 @@ impl Store {
         requires within { start ≤ self.now.commits }
         ensures { (opening : TableState) → (ws : List ChangeSet) →
             StandsFor self.now opening ws →
-            IsClash ws start changes.now
-            (option_map (λ clash. (clash.cell, clash.number)) result) }
+            IsClash ws start changes.now (told result) }
     {
         first_clash(&self.chains, start, changes)
     }
@@ -144,7 +145,7 @@ impl Store {
         let before = self.pending.len();
         self.pending.add(number, changes)?;
         let Ok(()) = self.chains.add_commit(number, changes) else {
-            self.pending.cut(before);
+            self.pending.truncate(before);
             return Err(AllocError);
         };
         self.commits = number;
@@ -153,7 +154,8 @@ impl Store {
     }
 
     /// Drops the versions that no read from the floor on can see, and answers how many they were.
-    /// It takes no memory, and the time that the commits since the last vacuum took.
+    /// It needs no memory: a smaller block that is refused leaves the larger one. It takes the time
+    /// that the commits since the last vacuum took.
     pub fn vacuum(&mut self, floor: u64) -> u64
         requires rises { self.old.floor ≤ floor }
         requires within { floor ≤ self.old.commits }

@@ -1,3 +1,4 @@
+//! One version of a cell.
 use std::marker::Model;
 
 /// A value or a removal of a cell, by the number of its commit. Opening rows have the number 0.

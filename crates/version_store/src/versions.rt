@@ -1,7 +1,7 @@
 //! The versions of one cell.
 ghost use Rattle.std.specs.List.{list_all};
 ghost use Rattle.std.specs.Prelude.{◌≡◌, ◌↔◌, ◌≤◌, ◌+◌, ◌++◌, ◌∷◌, [], None, length, drop, filter, leb, nat_lt, IsTrue, OnOk, OnErr};
-ghost use Rattle.version_store.specs.Reading.{RisesFrom, IsCutAt, value_after, last_version};
+ghost use Rattle.version_store.specs.Reading.{RisesFrom, IsCutAt, value_after, numbers_of, last_or};
 ghost use Rattle.version_store.specs.Trimming.{versions_kept};
 
 use crate::version::Version;
@@ -75,14 +75,24 @@ fn are_within(versions: &[Version], floor: u64) -> bool
     versions.iter().all(|version| version.number <= floor)
 }
 
+/// Drops the first items, and where there are any gives back the room that is not needed.
+pub fn drop_first<T: Drop>(items: &mut Vec<T>, count: usize)
+    requires { count ≤ length items.old.items }
+    ensures { items.new.items ≡ drop count items.old.items }
+{
+    if count > 0 {
+        items.drain(..count);
+        items.shrink_to_fit();
+    }
+}
+
 // Drops what a vacuum at the floor takes, and answers how many versions that were.
 fn trim_list(versions: &mut Vec<Version>, floor: u64) -> usize
     ensures versions { versions.new.items ≡ versions_kept floor [] versions.old.items }
     ensures count { length versions.new.items + result ≡ length versions.old.items }
 {
     let outdated = outdated_versions(versions, floor);
-    versions.drain(..outdated);
-    versions.shrink_to_fit();
+    drop_first(versions, outdated);
     outdated
 }
 
@@ -98,7 +108,7 @@ impl Versions {
 
     /// The number of the last version, or 0.
     pub fn last_number(&self) -> u64
-        ensures { result ≡ last_version 0 self.now }
+        ensures { result ≡ last_or 0 (numbers_of self.now) }
     {
         match self.newest {
             Some(version) => version.number,

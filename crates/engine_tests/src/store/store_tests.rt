@@ -181,7 +181,7 @@ const OWN: [(&[Cell], Cell, bool); 5] = [
 #[test]
 fn own_cells_are_found_in_any_order(rt: HostRuntime) {
     for (own, cell, is_found) in OWN {
-        assert!(rt; OwnCells::of(own).has(&cell) == is_found);
+        assert!(rt; OwnCells::new(own).contains(&cell) == is_found);
     }
 }
 

@@ -28,7 +28,7 @@ loop-cell-init c =
 pub loop-cell-preserved : goal.loop-cell-preserved
 loop-cell-preserved c = λ rise.
     let sees : RisesFrom 0 c.in-Some-2.chain.now.versions → c.seen_left-found.result ≡ seen_left c.args.region.now c.args.own.now c.args.start c.in-Some-2.cell.now c.in-Some-2.chain.now =
-    subst (λ (own : List Cell). RisesFrom 0 c.in-Some-2.chain.now.versions → c.seen_left-found.result ≡ seen_left c.args.region.now own c.args.start c.in-Some-2.cell.now c.in-Some-2.chain.now) c.of-own_cells.ensures c.seen_left-found.ensures in
+    subst (λ (own : List Cell). RisesFrom 0 c.in-Some-2.chain.now.versions → c.seen_left-found.result ≡ seen_left c.args.region.now own c.args.start c.in-Some-2.cell.now c.in-Some-2.chain.now) c.new-own_cells.ensures c.seen_left-found.ensures in
     matches_more (seen_left c.args.region.now c.args.own.now c.args.start) c.args.self.now c.loop-cell.cell-iterator c.next.new.self c.in-Some-2.cell.now c.in-Some-2.chain.now
     c.seen_left-found.result c.loop-cell.rest.now c.in-Some-behind.after.now c.args.rows.now
     c.in-Some-2.ensures.steps (c.loop-cell.invariant rise) sees c.in-Some-behind.ensures
@@ -38,7 +38,7 @@ returns-in_default-behind c = λ rise m h.
     let seen = seen_left c.args.region.now c.args.own.now c.args.start in
     let sorted = subst (λ (es : Cells Chain). IsStrictlySortedBy cell_cmp (cells_of es)) c.self.view_is c.range-cell-items.ensures.ordered in
     let sees : RisesFrom 0 c.in-Some-2.chain.now.versions → c.seen_left-found.result ≡ seen_left c.args.region.now c.args.own.now c.args.start c.in-Some-2.cell.now c.in-Some-2.chain.now =
-    subst (λ (own : List Cell). RisesFrom 0 c.in-Some-2.chain.now.versions → c.seen_left-found.result ≡ seen_left c.args.region.now own c.args.start c.in-Some-2.cell.now c.in-Some-2.chain.now) c.of-own_cells.ensures c.seen_left-found.ensures in
+    subst (λ (own : List Cell). RisesFrom 0 c.in-Some-2.chain.now.versions → c.seen_left-found.result ≡ seen_left c.args.region.now own c.args.start c.in-Some-2.cell.now c.in-Some-2.chain.now) c.new-own_cells.ensures c.seen_left-found.ensures in
     unmatched c.args.rows.now (found_rows seen c.args.self.now) m (left_is c.args.region.now c.args.own.now c.args.start c.args.self.now sorted m h)
     (mismatch seen c.args.self.now c.loop-cell.cell-iterator c.next.new.self c.in-Some-2.cell.now c.in-Some-2.chain.now
     c.seen_left-found.result c.loop-cell.rest.now c.args.rows.now c.in-Some-2.ensures.steps (c.loop-cell.invariant rise) sees c.in_default-behind.ensures)

@@ -4,7 +4,7 @@ use Rattle.version_store.proofs.store.Store.install.Goals as goal
 
 pub returns-in_default-add_commit-clause-err_stands : goal.returns-in_default-add_commit-clause-err_stands
 returns-in_default-add_commit-clause-err_stands c =
-    let pending = c.cut.ensures ∙ ap (λ n. take n c.add.new.self) c.len-before.ensures ∙ c.add.ensures.first in
+    let pending = c.truncate.ensures ∙ ap (λ n. take n c.add.new.self) c.len-before.ensures ∙ c.add.ensures.first in
     rw (← c.self.view_is) (λ opening ws stands. stands-kept _ _ opening ws stands c.in_default-add_commit.ensures.err c.add_commit.ensures.hold pending refl refl refl)
 
 pub returns-clause-stands : goal.returns-clause-stands

@@ -1,6 +1,6 @@
 use Rattle.std.proofs.Common.{◌∙◌}
 use Rattle.version_store.proofs.OwnLaws.{found_among}
-use Rattle.version_store.proofs.own.OwnCells.has.Goals as goal
+use Rattle.version_store.proofs.own.OwnCells.contains.Goals as goal
 
 pub returns-then-self : goal.returns-then-self
 returns-then-self c =
