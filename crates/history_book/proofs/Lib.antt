@@ -35,6 +35,7 @@ pub mod ReplayLaws
 pub mod RightLaws
 pub mod RiseLaws
 pub mod RunsInOrder
+pub mod SearchLaws
 pub mod SerialBooks
 pub mod SerialLaws
 pub mod SightPairs

@@ -32,12 +32,12 @@ old_snapshot_comes_first = refl
 
 pub it_fits_first : Fits registers [] old_snapshot (2 ∷ 1 ∷ [])
 unfolding eval_of
-it_fits_first = record { once = refl; runs = (refl, refl, (refl, refl, refl)) }
+it_fits_first = record { once = refl; runs = ((refl, refl), ((refl, refl), refl)) }
 
 -- behind the set the look would find 5
 pub it_fits_not_in_commit_order : Fits registers [] old_snapshot (1 ∷ 2 ∷ []) → ⊥
 unfolding eval_of
-it_fits_not_in_commit_order fits = let replies = fits.runs.2.1 in absurd (cc)
+it_fits_not_in_commit_order fits = let replies = fits.runs.1.0.1 in absurd (cc)
 
 -- a look that began after the first of three sets comes right behind that one
 pub old_look_comes_second : least_order (depends registers opening history) 5 ≡ Some (1 ∷ 4 ∷ 2 ∷ 3 ∷ 5 ∷ [])
@@ -151,12 +151,12 @@ in_turn_has_its_order = refl
 
 pub in_turn_fits : Fits bank bank_opening in_turn (1 ∷ 2 ∷ 3 ∷ [])
 unfolding eval_of
-in_turn_fits = record { once = refl; runs = (refl, refl, (refl, refl, (refl, refl, refl))) }
+in_turn_fits = record { once = refl; runs = ((refl, refl), ((refl, refl), ((refl, refl), refl))) }
 
 -- the first balance would be 0
 pub backward_fits_not : Fits bank bank_opening in_turn (3 ∷ 2 ∷ 1 ∷ []) → ⊥
 unfolding eval_of
-backward_fits_not fits = let replies = fits.runs.1 in absurd (cc)
+backward_fits_not fits = let replies = fits.runs.0.1 in absurd (cc)
 
 pub twice_is_not_once : is_each_once 3 (1 ∷ 1 ∷ 2 ∷ []) ≡ false
 twice_is_not_once = refl

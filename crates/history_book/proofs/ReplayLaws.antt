@@ -11,8 +11,8 @@ use Rattle.prog_run.specs.declared.fault.AnswerFault.TheVariants.{NotAsked, BadR
 use Rattle.prog_run.specs.declared.next.Next.{Next}
 use Rattle.prog_run.specs.declared.next.Question.{Question}
 use Rattle.prog_run.specs.declared.next.Question.TheVariants.{One, Range}
-use Rattle.prog_run.specs.Looks.{IsFound, AreFound, rows_without, region_look}
-use Rattle.prog_tree.specs.Evaluation.{own_cells}
+use Rattle.prog_run.specs.Looks.{IsFound, AreFound, region_look}
+use Rattle.prog_tree.specs.Evaluation.{own_cells, rows_without}
 use Rattle.prog_run.specs.View.{RunView, IsAnswered, IsRefusedBy, IsTrueRun, SameBegin, begun, scan_fault, asked_cell, asked_region, result_of}
 use Rattle.std.specs.Prelude.{IsSome, slice_get}
 use Rattle.std.specs.Option.{option_map}

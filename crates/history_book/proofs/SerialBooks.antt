@@ -85,22 +85,21 @@ module _ (v : BookView) (row : HistoryRow) (number : ℕ) (rest : List ℕ) (m :
 
   first_runs : (done.ending ≡ Ready) × (done.replies ≡ row.replies) × RunsOf v rest (changed m done.changes.cells) → RunsOf v (number ∷ rest) m
   first_runs runs = (
-    ap (λ (e : Evaluation). e.ending) done_is ∙ runs.0,
-    ap (λ (e : Evaluation). e.replies) done_is ∙ runs.1 ∙ sym replies_are,
+    (ap (λ (e : Evaluation). e.ending) done_is ∙ runs.0, ap (λ (e : Evaluation). e.replies) done_is ∙ runs.1 ∙ sym replies_are),
     subst (λ (e : Evaluation). RunsOf v rest (changed m e.changes.cells)) (sym done_is) runs.2,
   )
 
   runs_first : RunsOf v (number ∷ rest) m → (done.ending ≡ Ready) × (done.replies ≡ row.replies) × RunsOf v rest (changed m done.changes.cells)
   runs_first runs = (
-    sym (ap (λ (e : Evaluation). e.ending) done_is) ∙ runs.0,
-    sym (ap (λ (e : Evaluation). e.replies) done_is) ∙ runs.1 ∙ replies_are,
-    subst (λ (e : Evaluation). RunsOf v rest (changed m e.changes.cells)) done_is runs.2,
+    sym (ap (λ (e : Evaluation). e.ending) done_is) ∙ runs.0.0,
+    sym (ap (λ (e : Evaluation). e.replies) done_is) ∙ runs.0.1 ∙ replies_are,
+    subst (λ (e : Evaluation). RunsOf v rest (changed m e.changes.cells)) done_is runs.1,
   )
 
 -- a number of no commit does not run
 no_run : (v : BookView) (number : ℕ) (rest : List ℕ) (m : TableState) → nth_instance (history_of v.rows) number ≡ None → RunsOf v (number ∷ rest) m → ⊥
 no_run v number rest m none runs =
-    let ends : Aborted Asked ≡ Ready = sym (ap (λ o. (run_found (draft_tree v.set) o m).ending) none) ∙ runs.0 in
+    let ends : Aborted Asked ≡ Ready = sym (ap (λ o. (run_found (draft_tree v.set) o m).ending) none) ∙ runs.0.0 in
     absurd (cc)
 
 -- ---- one instance after another

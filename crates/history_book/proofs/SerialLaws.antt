@@ -96,7 +96,7 @@ module _ (set : DraftTree) (opening : TableState) (h : List Instance) where
     runs_after : (done ns : List ℕ) (m : TableState) → FitsAfter (length h) (DependsOn set opening h) done ns → RunsTheSame set opening h ns m → Runs set opening h ns m
     runs_after done [] m fits same = same
     runs_after done (n ∷ ns) m fits same =
-        (ap (λ e. e.ending) same.0 ∙ ready_at n fits.0.0, ap (λ e. e.replies) same.0, runs_after (n ∷ done) ns (changed m (runs_on n m).changes.cells) fits.1 same.1)
+        ((ap (λ e. e.ending) same.0 ∙ ready_at n fits.0.0, ap (λ e. e.replies) same.0), runs_after (n ∷ done) ns (changed m (runs_on n m).changes.cells) fits.1 same.1)
 
     -- in an order in which each instance comes after all that it depends on, the instances do one after another what they did
     pub serial_runs_same : (order : List ℕ) → FitsAfter (length h) (DependsOn set opening h) [] order → RunsTheSame set opening h order opening

@@ -9,8 +9,8 @@ use Rattle.prog_tree.specs.Table.{TableState}
 use Rattle.prog_tree.specs.Tree.{draft_tree}
 use Rattle.prog_run.specs.View.{RunView}
 use Rattle.version_store.specs.Clash.{IsClash}
+use Rattle.version_store.specs.Told.{clash_pair}
 use Rattle.history_book.specs.History.{Instance, commits_of, evaluation, IsCalled}
-use Rattle.history_book.specs.Runs.{clash_pair}
 use Rattle.history_book.specs.TrueBook.{IsTrueRow}
 use Rattle.history_book.specs.View.{BookView, instance_of, history_of, most_endings}
 use Rattle.history_book.specs.declared.audit.AuditFault.{AuditFault}

@@ -48,10 +48,14 @@ state_after set opening h n = state_at opening (commits_of set opening h) n
 abbrev pub evaluation : DraftTree → TableState → List Instance → Instance → Evaluation
 evaluation set opening h i = eval_of set i (state_after set opening h i.start)
 
--- the instance of a number; numbers begin at 1
+-- the item of a number; numbers begin at 1
+abbrev pub nth_item : {A : Type 0} → List A → ℕ → Option A
+nth_item xs zero = None
+nth_item xs (suc n) = slice_get xs n
+
+-- the instance of a number
 abbrev pub nth_instance : List Instance → ℕ → Option Instance
-nth_instance h zero = None
-nth_instance h (suc n) = slice_get h n
+nth_instance h n = nth_item h n
 
 -- the program exists and takes as many arguments, which are i64
 abbrev pub IsCalled : DraftTree → Instance → Type 0

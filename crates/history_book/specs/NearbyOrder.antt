@@ -4,8 +4,8 @@ use Rattle.std.specs.List.{range_with_len}
 use Rattle.history_book.specs.Orders.{is_one_of, is_free, first_free, IsUpTo}
 use Rattle.history_book.specs.TraceView.{TraceView}
 use Rattle.history_book.specs.Traces.{trace_depends}
-use Rattle.history_book.specs.declared.orders.nearby.Wait.{Wait}
-use Rattle.history_book.specs.declared.orders.nearby.Wait.TheVariants as wait
+use Rattle.history_book.specs.declared.orders.nearby.Waiting.{Waiting}
+use Rattle.history_book.specs.declared.orders.nearby.Waiting.TheVariants as waiting
 
 -- the number, from 0 on, has a mark
 abbrev pub is_marked : List Bool → ℕ → Bool
@@ -47,7 +47,7 @@ pub record AreHolders (traces : List TraceView) (marks : List Bool) (holders : L
   pub tested : (n : ℕ) → IsTestedBelow traces marks n (slice_index holders n)
 
 -- what a commit waits for while others have no mark
-abbrev pub IsWait : List TraceView → List Bool → ℕ → Wait → Type 0
-IsWait traces marks n (wait.For i) = IsHolder traces i n × (is_marked marks i ≡ false) × IsTestedBelow traces marks n i
-IsWait traces marks n wait.Over = (i : ℕ) → IsHolder traces i n → is_marked marks i ≡ true
-IsWait traces marks n wait.Unknown = Unit {0}
+abbrev pub WaitsFor : List TraceView → List Bool → ℕ → Waiting → Type 0
+WaitsFor traces marks n (waiting.For i) = IsHolder traces i n × (is_marked marks i ≡ false) × IsTestedBelow traces marks n i
+WaitsFor traces marks n waiting.Over = (i : ℕ) → IsHolder traces i n → is_marked marks i ≡ true
+WaitsFor traces marks n waiting.Unknown = Unit {0}

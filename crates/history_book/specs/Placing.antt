@@ -1,5 +1,5 @@
 -- How an order is found: what each number waits for, and where none is free.
-use Rattle.std.specs.Prelude.{◌≡◌, ◌≢◌, ℕ, ◌+◌, ◌<◌, ◌≤◌, ◌==◌, Bool, true, List, [], ◌∷◌, length, slice_index, codes, if◌then◌else◌}
+use Rattle.std.specs.Prelude.{◌≡◌, ◌≢◌, ℕ, ◌+◌, ◌<◌, ◌≤◌, ◌==◌, Bool, true, List, [], ◌∷◌, length, slice_index, if◌then◌else◌}
 use Rattle.history_book.specs.declared.orders.order.OrderFault.{OrderFault}
 use Rattle.history_book.specs.declared.orders.order.OrderFault.TheVariants.{Cycle, Memory}
 use Rattle.history_book.specs.Orders.{is_one_of, LeadsTo, IsCycle}
@@ -60,8 +60,3 @@ pub record IsWalk (before : ℕ → ℕ → Bool) (numbers : List ℕ) (end : �
 abbrev pub IsOrderFault : (before : ℕ → ℕ → Bool) → OrderFault → Type 0
 IsOrderFault before (Cycle list) = IsCycle before list.items
 IsOrderFault before Memory = Unit {0}
-
--- why there is no order, as it is printed
-abbrev pub order_fault_text : OrderFault → List ℕ
-order_fault_text (Cycle list) = codes "cycle"
-order_fault_text Memory = codes "memory"

@@ -1,6 +1,5 @@
 -- Runs of a book's instances, and what calls with them leave.
 use Rattle.std.specs.Prelude.{◌≡◌, ℕ, ◌+◌, List, [], ◌∷◌, ◌++◌, length, take, Some, None, slice_get}
-use Rattle.prog_tree.specs.declared.cell.Cell.{Cell}
 use Rattle.prog_tree.specs.declared.deed.Cause.{Cause}
 use Rattle.prog_tree.specs.declared.deed.End.TheVariants.{Ready, Aborted}
 use Rattle.prog_tree.specs.declared.look.Look.{Look}
@@ -10,6 +9,7 @@ use Rattle.prog_tree.specs.Tree.{draft_tree, program_tree}
 use Rattle.prog_run.specs.Looks.{IsFound, AreFound}
 use Rattle.prog_run.specs.View.{RunView}
 use Rattle.version_store.specs.Clash.{IsClash}
+use Rattle.version_store.specs.Told.{clash_pair}
 use Rattle.version_store.specs.declared.clash.Clash.{Clash}
 use Rattle.history_book.specs.History.{Instance, IsCalled}
 use Rattle.history_book.specs.Ticket.{TicketView}
@@ -77,10 +77,6 @@ pub record IsCommit (v : BookView) (row : HistoryRow) (w : ChangeSet) : Type 0 w
   pub ready : (done_in v (instance_of row)).ending ≡ Ready
   pub changes : w ≡ (done_in v (instance_of row)).changes
   pub apart : IsClash (commits_in v) row.start w None
-
--- the cell and the number of a clash
-abbrev pub clash_pair : Clash → Cell × ℕ
-clash_pair clash = (clash.cell, clash.number)
 
 -- the ticket's instance committed: its run is one of it and ready, and no commit above its start touched what
 -- it changes or keeps

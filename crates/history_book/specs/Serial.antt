@@ -3,6 +3,7 @@ use Rattle.std.specs.Prelude.{◌≡◌, ℕ, ◌==◌, Bool, true, ◌&&◌, Li
 use Rattle.std.specs.List.{list_all, range_with_len}
 use Rattle.prog_tree.specs.declared.deed.End.TheVariants.{Ready}
 use Rattle.prog_tree.specs.ChangeSet.{changed}
+use Rattle.prog_tree.specs.Evaluation.{Evaluation}
 use Rattle.prog_tree.specs.Syntax.{DraftTree}
 use Rattle.prog_tree.specs.Table.{TableState}
 use Rattle.history_book.specs.Dependencies.{run_found, evaluation_at}
@@ -14,21 +15,21 @@ abbrev pub is_each_once : ℕ → List ℕ → Bool
 is_each_once n order = (length order == n) && list_all (is_one_of order) (range_with_len 1 n)
 
 module _ (set : DraftTree) (opening : TableState) (h : List Instance) where
-  -- one after another from a state, each on what the one before left: each ends ready with its replies in the history,
-  -- and the last state is the history's
-  abbrev pub Runs : List ℕ → TableState → Type 0
-  Runs [] m = m ≡ state_after set opening h (length h)
-  Runs (n ∷ ns) m =
+  -- one after another from a state, each on what the one before left: what each does is like what it did in the
+  -- history, and the last state is the history's
+  abbrev pub RunsAlike : (like : Evaluation → Evaluation → Type 0) → List ℕ → TableState → Type 0
+  RunsAlike like [] m = m ≡ state_after set opening h (length h)
+  RunsAlike like (n ∷ ns) m =
       let e = run_found set (nth_instance h n) m in
-      (e.ending ≡ Ready) × (e.replies ≡ (evaluation_at set opening h n).replies) × Runs ns (changed m e.changes.cells)
+      like e (evaluation_at set opening h n) × RunsAlike like ns (changed m e.changes.cells)
 
-  -- one after another from a state, each on what the one before left: each does all that it did in the history, and
-  -- its looks find the same; the last state is the history's
+  -- each ends ready, with its replies in the history
+  abbrev pub Runs : List ℕ → TableState → Type 0
+  Runs order m = RunsAlike (λ e was. (e.ending ≡ Ready) × (e.replies ≡ was.replies)) order m
+
+  -- each does all that it did in the history, and its looks find the same
   abbrev pub RunsTheSame : List ℕ → TableState → Type 0
-  RunsTheSame [] m = m ≡ state_after set opening h (length h)
-  RunsTheSame (n ∷ ns) m =
-      let e = run_found set (nth_instance h n) m in
-      (e ≡ evaluation_at set opening h n) × RunsTheSame ns (changed m e.changes.cells)
+  RunsTheSame order m = RunsAlike (λ e was. e ≡ was) order m
 
   -- an equivalent serial order: it has each commit once, and a serial run along it from the opening rows gives the same
   pub record Fits (order : List ℕ) : Type 0 where

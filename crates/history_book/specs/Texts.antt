@@ -3,8 +3,23 @@ use Rattle.std.specs.Fmt.{decimal}
 use Rattle.std.specs.Prelude.{ℕ, List, ◌++◌, codes}
 use Rattle.history_book.specs.declared.fault.BeginFault.{BeginFault}
 use Rattle.history_book.specs.declared.fault.BeginFault.TheVariants as begin
+use Rattle.version_store.specs.declared.clash.Clash.{Clash}
+use Rattle.history_book.specs.declared.audit.AuditFault.{AuditFault}
+use Rattle.history_book.specs.declared.audit.AuditFault.TheVariants as audit
+use Rattle.history_book.specs.declared.audit.RowFault.{RowFault}
+use Rattle.history_book.specs.declared.audit.RowFault.TheVariants as row
+use Rattle.history_book.specs.declared.fault.CommitFault.{CommitFault}
+use Rattle.history_book.specs.declared.fault.CommitFault.TheVariants as commit
+use Rattle.history_book.specs.declared.fault.EndFault.{EndFault}
+use Rattle.history_book.specs.declared.fault.EndFault.TheVariants as end
+use Rattle.history_book.specs.declared.fault.OwnCommitFault.{OwnCommitFault}
+use Rattle.history_book.specs.declared.fault.OwnCommitFault.TheVariants as own_commit
 use Rattle.history_book.specs.declared.fault.ScanFault.{ScanFault}
 use Rattle.history_book.specs.declared.fault.ScanFault.TheVariants as scan
+use Rattle.history_book.specs.declared.orders.fits.AnyFitFault.{AnyFitFault}
+use Rattle.history_book.specs.declared.orders.fits.AnyFitFault.TheVariants as any
+use Rattle.history_book.specs.declared.orders.order.OrderFault.{OrderFault}
+use Rattle.history_book.specs.declared.orders.order.OrderFault.TheVariants as order
 
 -- why an instance could not be begun
 abbrev pub begin_fault_text : BeginFault → List ℕ
@@ -19,3 +34,52 @@ begin_fault_text begin.Memory = codes "memory"
 abbrev pub scan_fault_text : ScanFault → List ℕ
 scan_fault_text scan.NoSuchTicket = codes "no such ticket"
 scan_fault_text scan.Memory = codes "memory"
+
+-- with which commit an instance clashed
+abbrev pub clash_text : Clash → List ℕ
+clash_text clash = codes "clashed with " ++ decimal clash.number
+
+-- why an instance did not commit
+abbrev pub commit_fault_text : CommitFault → List ℕ
+commit_fault_text (commit.NoSuchTicket unused) = codes "no such ticket"
+commit_fault_text (commit.NotReady unused) = codes "not ready"
+commit_fault_text (commit.ForeignRun place unused) = codes "foreign run"
+commit_fault_text (commit.Memory unused) = codes "memory"
+commit_fault_text (commit.Clashed clash) = clash_text clash
+
+-- why an instance did not commit by its own run
+abbrev pub own_commit_fault_text : OwnCommitFault → List ℕ
+own_commit_fault_text own_commit.Memory = codes "memory"
+own_commit_fault_text (own_commit.Clashed clash) = clash_text clash
+
+-- why an instance did not end as an aborted one
+abbrev pub end_fault_text : EndFault → List ℕ
+end_fault_text (end.NoSuchTicket unused) = codes "no such ticket"
+end_fault_text (end.NotAborted unused) = codes "not aborted"
+end_fault_text (end.ForeignRun place unused) = codes "foreign run"
+end_fault_text (end.Memory unused) = codes "memory"
+
+-- what is wrong with a row
+abbrev pub row_fault_text : RowFault → List ℕ
+row_fault_text row.NoSuchProgram = codes "no such program"
+row_fault_text row.WrongArguments = codes "wrong arguments"
+row_fault_text row.StartTooLate = codes "start too late"
+row_fault_text row.NotReady = codes "not ready"
+row_fault_text row.WrongReplies = codes "wrong replies"
+row_fault_text (row.Clashed clash) = clash_text clash
+
+-- why rows have no book
+abbrev pub audit_fault_text : AuditFault → List ℕ
+audit_fault_text audit.Full = codes "full"
+audit_fault_text (audit.Row number fault) = codes "row " ++ (decimal number ++ (codes ": " ++ row_fault_text fault))
+audit_fault_text audit.Memory = codes "memory"
+
+-- why there is no order
+abbrev pub order_fault_text : OrderFault → List ℕ
+order_fault_text (order.Cycle list) = codes "cycle"
+order_fault_text order.Memory = codes "memory"
+
+-- why no equivalent serial order was looked for
+abbrev pub any_fit_fault_text : AnyFitFault → List ℕ
+any_fit_fault_text any.TooMany = codes "too many"
+any_fit_fault_text any.Memory = codes "memory"

@@ -11,6 +11,7 @@ use Rattle.prog_tree.specs.Table.{TableState}
 use Rattle.prog_tree.specs.Tree.{draft_tree}
 use Rattle.version_store.specs.Clash.{IsClash}
 use Rattle.version_store.specs.StandsFor.{StoreView, StandsFor}
+use Rattle.version_store.specs.Told.{clash_pair}
 use Rattle.version_store.specs.declared.clash.Clash.{Clash}
 use Rattle.history_book.specs.History.{Instance, commits_of, evaluation, IsCalled, IsLawful}
 use Rattle.history_book.specs.TraceView.{TraceView}
@@ -33,7 +34,7 @@ module _ (set : DraftTree) (opening : TableState) (h : List Instance) where
     pub within : commits ≤ length h
     pub clashed :
         IsClash (take commits (commits_of set opening h)) row.start
-        (evaluation set opening h (instance_of row)).changes (Some (clash.cell, clash.number))
+        (evaluation set opening h (instance_of row)).changes (Some (clash_pair clash))
 
   -- the row and the cause are its instance's
   pub record IsTrueAbort (row : HistoryRow) (cause : Cause) : Type 0 where

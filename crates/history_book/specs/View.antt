@@ -1,5 +1,5 @@
 -- What contracts see of a book.
-use Rattle.std.specs.Prelude.{ℕ, ◌+◌, ◌-◌, ◌^◌, ℤ, min, nat_le, nat_lt, ◌==◌, Bool, not, ◌||◌, zero, suc, List, [], ◌∷◌, ◌++◌, length, map, Option, Some, None, option_map, slice_get, Result, Ok, Err, if◌then◌else◌, ◌≡◌}
+use Rattle.std.specs.Prelude.{ℕ, ◌+◌, ◌-◌, ◌^◌, ℤ, min, nat_le, nat_lt, ◌==◌, Bool, not, ◌||◌, List, [], ◌∷◌, ◌++◌, length, map, Option, Some, None, option_map, slice_get, Result, Ok, Err, if◌then◌else◌, ◌≡◌}
 use Rattle.std.specs.BTreeMap.{is_at}
 use Rattle.std.specs.Map.{lookup, remove_entry}
 use Rattle.std.specs.Ordering.{nat_cmp}
@@ -12,7 +12,7 @@ use Rattle.prog_tree.specs.Evaluation.{Evaluation}
 use Rattle.prog_tree.specs.Table.{TableState, row_at, rows_in}
 use Rattle.prog_tree.specs.Tree.{draft_tree}
 use Rattle.history_book.specs.Dependencies.{depends}
-use Rattle.history_book.specs.History.{Instance, commits_of, state_after, evaluation}
+use Rattle.history_book.specs.History.{Instance, nth_item, commits_of, state_after, evaluation}
 use Rattle.history_book.specs.Serial.{Fits}
 use Rattle.history_book.specs.Ticket.{TicketView}
 use Rattle.history_book.specs.TraceView.{TraceView}
@@ -80,10 +80,9 @@ depends_in v = depends (draft_tree v.set) v.opening (history_of v.rows)
 abbrev pub FitsBook : BookView → List ℕ → Type 0
 FitsBook v order = Fits (draft_tree v.set) v.opening (history_of v.rows) order
 
--- the row of a commit number; numbers begin at 1
+-- the row of a commit number
 abbrev pub nth_row : List HistoryRow → ℕ → Option HistoryRow
-nth_row rows zero = None
-nth_row rows (suc n) = slice_get rows n
+nth_row rows n = nth_item rows n
 
 -- ---- its active instances
 

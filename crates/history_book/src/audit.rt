@@ -1,12 +1,8 @@
 //! The audit of given rows.
 
-ghost use Rattle.std.specs.Prelude.{◌≡◌, ◌<◌, ◌≤◌, ℕ, All, List, [], length, IfOk, IfErr, OnOk, MatchOption};
-ghost use Rattle.prog_tree.specs.Syntax.{DraftTree};
-ghost use Rattle.prog_tree.specs.Table.{TableState};
+ghost use Rattle.std.specs.Prelude.{◌≡◌, ◌<◌, ◌≤◌, [], length, IfOk, IfErr, OnOk, MatchOption};
 ghost use Rattle.prog_tree.specs.Tree.{draft_tree};
-ghost use Rattle.history_book.specs.Audit.{CameTo, audited, taken_up, IsBegun, IsRightRow, IsRowFault, IsRowRefusal, AreRightBehind, IsWrongAt, IsAuditFault};
-ghost use Rattle.history_book.specs.History.{IsLawful};
-ghost use Rattle.history_book.specs.TrueBook.{IsTrueRow};
+ghost use Rattle.history_book.specs.Audit.{CameTo, audited, taken_up, IsBegun, IsRightRow, IsRowFault, IsRowRefusal, AreRightBehind, IsAuditFault};
 ghost use Rattle.history_book.specs.View.{done_in, history_of, instance_of, most_endings, most_begins};
 
 use crate::book::{Book, is_ready, read_numbers};
@@ -17,6 +13,8 @@ use prog_check::ProgramSet;
 use prog_run::Run;
 use prog_tree::Rows;
 use std::alloc::{AllocError, Global};
+use std::error::Error;
+use std::fmt;
 use version_store::Clash;
 
 /// What is wrong with a row.
@@ -35,6 +33,26 @@ pub enum RowFault {
     /// A row above its start changed or kept a cell that it changes or keeps.
     Clashed(Clash),
 }
+
+impl fmt::Display for RowFault {
+    ghost use Rattle.std.specs.Prelude.{Some};
+    ghost use Rattle.history_book.specs.Texts.{row_fault_text};
+
+    ghost output = { λ fault. Some (row_fault_text fault) };
+
+    fn fmt<W: fmt::Write>(&self, f: &mut fmt::Formatter<W>) -> fmt::Result {
+        match self {
+            RowFault::NoSuchProgram => f.write_str("no such program"),
+            RowFault::WrongArguments => f.write_str("wrong arguments"),
+            RowFault::StartTooLate => f.write_str("start too late"),
+            RowFault::NotReady => f.write_str("not ready"),
+            RowFault::WrongReplies => f.write_str("wrong replies"),
+            RowFault::Clashed(clash) => write!(f, "clashed with {}", clash.number),
+        }
+    }
+}
+
+impl Error for RowFault {}
 
 /// Why rows have no book.
 #[derive(Clone, Copy, Debug, PartialEq, Eq)]
@@ -57,6 +75,23 @@ impl From<AllocError> for AuditFault {
         AuditFault::Memory
     }
 }
+
+impl fmt::Display for AuditFault {
+    ghost use Rattle.std.specs.Prelude.{Some};
+    ghost use Rattle.history_book.specs.Texts.{audit_fault_text};
+
+    ghost output = { λ fault. Some (audit_fault_text fault) };
+
+    fn fmt<W: fmt::Write>(&self, f: &mut fmt::Formatter<W>) -> fmt::Result {
+        match self {
+            AuditFault::Full => f.write_str("full"),
+            AuditFault::Row { number, fault } => write!(f, "row {number}: {fault}"),
+            AuditFault::Memory => f.write_str("memory"),
+        }
+    }
+}
+
+impl Error for AuditFault {}
 
 impl<'a> Book<'a> {
     // What is wrong with a row's call, or with its start.
@@ -149,18 +184,3 @@ impl<'a> Book<'a> {
         Ok(book)
     }
 }
-
-/// No row is wrong just where the rows' history is lawful and their replies are those of their
-/// evaluations.
-pub fn lawful_rows_are_right()
-    ensures lawful { (set : DraftTree) → (opening : TableState) → (rows : List HistoryRow) →
-        AreRightBehind set opening [] rows → IsLawful set opening (history_of rows) }
-    ensures replies { (set : DraftTree) → (opening : TableState) → (rows : List HistoryRow) →
-        AreRightBehind set opening [] rows → All (IsTrueRow set opening (history_of rows)) rows }
-    ensures right { (set : DraftTree) → (opening : TableState) → (rows : List HistoryRow) →
-        IsLawful set opening (history_of rows) →
-        All (IsTrueRow set opening (history_of rows)) rows → AreRightBehind set opening [] rows }
-    ensures wrong { (set : DraftTree) → (opening : TableState) → (rows : List HistoryRow) →
-        (number : ℕ) → (fault : RowFault) →
-        AreRightBehind set opening [] rows → IsWrongAt set opening rows number fault → ⊥ }
-{}

@@ -249,7 +249,7 @@ impl<'a> Book<'a> {
 
     /// Why the first of two commits has to stand before the second; none where it need not, or where a
     /// number is of no commit.
-    pub fn reason(&self, first: usize, second: usize) -> Option<Reason>
+    pub fn reason(&self, first: u64, second: u64) -> Option<Reason>
         ensures some { IfSome result (IsReason (traces_in self.now) first second) }
         ensures none { IfNone result (depends_in self.now first second ≡ false) }
         ensures told { result ≡ told_reason (traces_in self.now) first second }
@@ -258,7 +258,7 @@ impl<'a> Book<'a> {
         if !are_commits(traces, first, second) {
             return None;
         }
-        reason_between(traces, first, second)
+        reason_between(traces, first as usize, second as usize)
     }
 
     /// Begins an instance, which sees all commits so far.
@@ -292,13 +292,8 @@ impl<'a> Book<'a> {
         Ok(self.admit(start, program, args)?)
     }
 
-    /// Begins an instance that is not refused.
-    pub(crate) fn admit(
-        &mut self,
-        start: u64,
-        program: usize,
-        args: &[i64],
-    ) -> Result<Ticket, AllocError>
+    /// Begins an instance as `begin_at` does, for a caller that knows that it is not refused.
+    pub fn admit(&mut self, start: u64, program: usize, args: &[i64]) -> Result<Ticket, AllocError>
         requires { begin_at_fault_of self.old start program args.now ≡ None }
         ensures ticket { IfOk result (λ ticket. ticket ≡ ticket_at self.old start) }
         ensures begun { OnOk result (self.new ≡ begun_at self.old start program args.now) }
@@ -306,7 +301,7 @@ impl<'a> Book<'a> {
     {
         read_numbers(args);
         let number = self.begun;
-        let args = Sequence::from_vec(Vec::from_slice(self.alloc, args)?);
+        let args = Sequence::from_slice(self.alloc, args)?;
         let active = Active {
             program,
             args,

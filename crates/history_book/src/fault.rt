@@ -73,6 +73,18 @@ impl Error for BeginFault {}
 #[derive(Clone, Copy, Debug, PartialEq, Eq)]
 pub struct NoSuchTicket;
 
+impl fmt::Display for NoSuchTicket {
+    ghost use Rattle.std.specs.Prelude.{Some, codes};
+
+    ghost output = { λ _. Some (codes "no such ticket") };
+
+    fn fmt<W: fmt::Write>(&self, f: &mut fmt::Formatter<W>) -> fmt::Result {
+        f.write_str("no such ticket")
+    }
+}
+
+impl Error for NoSuchTicket {}
+
 /// Why a region could not be read.
 #[derive(Clone, Copy, Debug, PartialEq, Eq)]
 pub enum ScanFault {
@@ -140,6 +152,25 @@ pub enum CommitFault<'a> {
     Clashed(Clash),
 }
 
+impl fmt::Display for CommitFault<'_> {
+    ghost use Rattle.std.specs.Prelude.{Some};
+    ghost use Rattle.history_book.specs.Texts.{commit_fault_text};
+
+    ghost output = { λ fault. Some (commit_fault_text fault) };
+
+    fn fmt<W: fmt::Write>(&self, f: &mut fmt::Formatter<W>) -> fmt::Result {
+        match self {
+            CommitFault::NoSuchTicket(_) => f.write_str("no such ticket"),
+            CommitFault::NotReady(_) => f.write_str("not ready"),
+            CommitFault::ForeignRun(_, _) => f.write_str("foreign run"),
+            CommitFault::Memory(_) => f.write_str("memory"),
+            CommitFault::Clashed(clash) => write!(f, "clashed with {}", clash.number),
+        }
+    }
+}
+
+impl Error for CommitFault<'_> {}
+
 /// Why an instance did not commit by its own run.
 #[derive(Clone, Copy, Debug, PartialEq, Eq)]
 pub enum OwnCommitFault {
@@ -160,6 +191,22 @@ impl From<AllocError> for OwnCommitFault {
     }
 }
 
+impl fmt::Display for OwnCommitFault {
+    ghost use Rattle.std.specs.Prelude.{Some};
+    ghost use Rattle.history_book.specs.Texts.{own_commit_fault_text};
+
+    ghost output = { λ fault. Some (own_commit_fault_text fault) };
+
+    fn fmt<W: fmt::Write>(&self, f: &mut fmt::Formatter<W>) -> fmt::Result {
+        match self {
+            OwnCommitFault::Memory => f.write_str("memory"),
+            OwnCommitFault::Clashed(clash) => write!(f, "clashed with {}", clash.number),
+        }
+    }
+}
+
+impl Error for OwnCommitFault {}
+
 /// Why an instance did not end as an aborted one.
 #[derive(Debug, Drop)]
 pub enum EndFault<'a> {
@@ -172,6 +219,24 @@ pub enum EndFault<'a> {
     /// There was no memory for it.
     Memory(Unused<'a>),
 }
+
+impl fmt::Display for EndFault<'_> {
+    ghost use Rattle.std.specs.Prelude.{Some};
+    ghost use Rattle.history_book.specs.Texts.{end_fault_text};
+
+    ghost output = { λ fault. Some (end_fault_text fault) };
+
+    fn fmt<W: fmt::Write>(&self, f: &mut fmt::Formatter<W>) -> fmt::Result {
+        match self {
+            EndFault::NoSuchTicket(_) => f.write_str("no such ticket"),
+            EndFault::NotAborted(_) => f.write_str("not aborted"),
+            EndFault::ForeignRun(_, _) => f.write_str("foreign run"),
+            EndFault::Memory(_) => f.write_str("memory"),
+        }
+    }
+}
+
+impl Error for EndFault<'_> {}
 
 /// Why a ticket and a run do not end an instance.
 #[derive(Clone, Copy, Debug, PartialEq, Eq)]

@@ -1,17 +1,22 @@
 //! Laws of histories, each the contract of a function that does nothing.
 
-ghost use Rattle.std.specs.Prelude.{◌≡◌, ◌+◌, ◌≤◌, ℕ, Bool, true, List, length, map, Some};
+ghost use Rattle.std.specs.Prelude.{◌≡◌, ◌+◌, ◌≤◌, ℕ, All, Bool, true, List, [], length, map, Some};
 ghost use Rattle.prog_tree.specs.declared.cell.Cell.{Cell};
 ghost use Rattle.prog_tree.specs.ChangeSet.{ChangeSet, changed};
 ghost use Rattle.prog_tree.specs.Syntax.{DraftTree};
 ghost use Rattle.prog_tree.specs.Table.{TableState, IsTableState};
 ghost use Rattle.version_store.specs.Clash.{IsClash};
+ghost use Rattle.history_book.specs.Audit.{AreRightBehind, IsWrongAt};
 ghost use Rattle.history_book.specs.Dependencies.{depends};
 ghost use Rattle.history_book.specs.History.{Instance, commits_of, evaluation, state_after, nth_instance, IsLawful, StartsBelow, NamesCommit};
 ghost use Rattle.history_book.specs.Orders.{IsCycle, IsForward, IsReduced, IsUpTo, least_order};
 ghost use Rattle.history_book.specs.Reasons.{IsReason};
 ghost use Rattle.history_book.specs.Serial.{is_each_once, Fits, RunsTheSame};
 ghost use Rattle.history_book.specs.Traces.{traces_of};
+ghost use Rattle.history_book.specs.TrueBook.{IsTrueRow};
+ghost use Rattle.history_book.specs.View.{history_of};
+ghost use Rattle.history_book.specs.declared.audit.RowFault.{RowFault};
+ghost use Rattle.history_book.specs.declared.instances.row.HistoryRow.{HistoryRow};
 ghost use Rattle.history_book.specs.declared.orders.reason.Reason.{Reason};
 
 /// Where each instance sees only earlier commits, what was committed is what the instances write on the states
@@ -88,4 +93,19 @@ pub fn reasons_are_of_dependencies()
     ensures { (set : DraftTree) → (opening : TableState) → (h : List Instance) → (i j : ℕ) →
         (reason : Reason) → IsReason (traces_of set opening h) i j reason →
         depends set opening h i j ≡ true }
+{}
+
+/// No row is wrong just where the rows' history is lawful and their replies are those of their
+/// evaluations.
+pub fn lawful_rows_are_right()
+    ensures lawful { (set : DraftTree) → (opening : TableState) → (rows : List HistoryRow) →
+        AreRightBehind set opening [] rows → IsLawful set opening (history_of rows) }
+    ensures replies { (set : DraftTree) → (opening : TableState) → (rows : List HistoryRow) →
+        AreRightBehind set opening [] rows → All (IsTrueRow set opening (history_of rows)) rows }
+    ensures right { (set : DraftTree) → (opening : TableState) → (rows : List HistoryRow) →
+        IsLawful set opening (history_of rows) →
+        All (IsTrueRow set opening (history_of rows)) rows → AreRightBehind set opening [] rows }
+    ensures wrong { (set : DraftTree) → (opening : TableState) → (rows : List HistoryRow) →
+        (number : ℕ) → (fault : RowFault) →
+        AreRightBehind set opening [] rows → IsWrongAt set opening rows number fault → ⊥ }
 {}

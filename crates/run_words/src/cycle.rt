@@ -128,7 +128,7 @@ fn line_text(
 {
     let set = book.set();
     let call = call_of(alloc, set, book.nth_commit(first as u64))?;
-    let reason = book.reason(first, second);
+    let reason = book.reason(first as u64, second as u64);
     commits_text(alloc, set, &call, reason, first, second)
 }
 

@@ -162,7 +162,7 @@ module _ (v : BookView) (runs : List (Option ActiveRun)) (kept : IsEngine v runs
             ∙ sym begins
 
         fresh_is_true : IsTrueRun run.value
-        fresh_is_true = subst IsTrueRun (sym run_is) (λ m looks. record { deeds = refl; ending = λ end over. absurd (cc) })
+        fresh_is_true = subst IsTrueRun (sym run_is) (λ m looks. record { deeds = refl; replies = refl; ending = λ end over. absurd (cc) })
 
         fresh_own : IsOwnRun v (instance_in fresh) run.value
         fresh_own = record {

@@ -87,10 +87,10 @@ module _ (set : DraftTree) (opening : TableState) (events : List Event) (o : Out
         let same : run_found set (nth_instance history (suc k)) m ≡ run_of set (call_of b) m = ap (λ x. run_found set x m) at_number in
         let did : evaluation_at set opening history (suc k) ≡ evaluation set opening history b =
         ap (λ x. run_found set x (state_after set opening history (start_found x))) at_number in
-        let replies = ap (λ (e : Evaluation). e.replies) (sym same) ∙ runs.1 ∙ ap (λ (e : Evaluation). e.replies) did in (
+        let replies = ap (λ (e : Evaluation). e.replies) (sym same) ∙ runs.0.1 ∙ ap (λ (e : Evaluation). e.replies) did in (
           call_of b,
           (
-            ap (λ (e : Evaluation). e.ending) (sym same) ∙ runs.0,
+            ap (λ (e : Evaluation). e.ending) (sym same) ∙ runs.0.0,
             record {
               instance = c.instance;
               at = numbered c.instance (suc k) c.committed;
@@ -99,7 +99,7 @@ module _ (set : DraftTree) (opening : TableState) (events : List Event) (o : Out
             },
             along (placed ++ suc k ∷ []) ns (subst (λ l. is_each_once (length history) l ≡ true) (sym (append_assoc placed (suc k ∷ []) ns)) once)
                 (changed m (run_of set (call_of b) m).changes.cells)
-                (subst (λ (e : Evaluation). Runs set opening history ns (changed m e.changes.cells)) same runs.2),
+                (subst (λ (e : Evaluation). Runs set opening history ns (changed m e.changes.cells)) same runs.1),
           ),
         )
 

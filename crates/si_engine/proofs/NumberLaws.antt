@@ -3,11 +3,7 @@ use Rattle.std.proofs.Common.{◌≡◌, ℕ, ◌+◌, ◌-◌, ◌*◌, ◌≤�
 use Rattle.std.specs.List.{list_all}
 use Rattle.std.proofs.Math.Dec.{leb-zero}
 use Rattle.std.proofs.lemmas.Bool.{cases_Bool, leb-true, leb-false, le-leb, lt-leb}
-use Rattle.si_engine.specs.Numbers.{is_digit, natural_of, between, with_digit}
-
--- the greatest number of u64
-abbrev limit : ℕ
-limit = 18446744073709551615
+use Rattle.si_engine.specs.Numbers.{is_digit, natural_of, between, max_u64, with_digit}
 
 -- the number that digits behind others make, as far as it is one of u64
 abbrev pub read_from : ℕ → List ℕ → Option ℕ
@@ -22,14 +18,14 @@ grows : (value : ℕ) (bytes : List ℕ) → value ≤ with_digits value bytes
 grows value [] = omega arith
 grows value (b ∷ bs) = let more = grows (10 * value + (b - 48)) bs in omega (arith, more)
 
-fits : (n : ℕ) → n ≤ limit → between 0 limit (pos n) ≡ Some n
-fits n small = rw (leb-zero n, le-leb n limit small) refl
+fits : (n : ℕ) → n ≤ max_u64 → between 0 max_u64 (pos n) ≡ Some n
+fits n small = rw (leb-zero n, le-leb n max_u64 small) refl
 
-too_large : (n : ℕ) → limit < n → between 0 limit (pos n) ≡ None
-too_large n large = rw (leb-zero n, lt-leb n limit large) refl
+too_large : (n : ℕ) → max_u64 < n → between 0 max_u64 (pos n) ≡ None
+too_large n large = rw (leb-zero n, lt-leb n max_u64 large) refl
 
 -- digits one after another are read as all at once
-pub read_from-is : (value : ℕ) (bytes : List ℕ) → value ≤ limit → read_from value bytes ≡ (if list_all is_digit bytes then between 0 limit (pos (with_digits value bytes)) else None)
+pub read_from-is : (value : ℕ) (bytes : List ℕ) → value ≤ max_u64 → read_from value bytes ≡ (if list_all is_digit bytes then between 0 max_u64 (pos (with_digits value bytes)) else None)
 read_from-is value [] small = sym (fits value small)
 read_from-is value (b ∷ bs) small = go (cases_Bool (is_digit b)) (read_from-is (10 * value + (b - 48)) bs)
   where
@@ -37,20 +33,20 @@ read_from-is value (b ∷ bs) small = go (cases_Bool (is_digit b)) (read_from-is
     n = 10 * value + (b - 48)
 
     all : Option ℕ
-    all = if list_all is_digit bs then between 0 limit (pos (with_digits n bs)) else None
+    all = if list_all is_digit bs then between 0 max_u64 (pos (with_digits n bs)) else None
 
-    past : limit < n → all ≡ None
-    past large = elim (list_all is_digit bs) as (λ t. (if t then between 0 limit (pos (with_digits n bs)) else None) ≡ None) [ true ↦ too_large (with_digits n bs) (let more = grows n bs in omega (arith, more)) | false ↦ refl ]
+    past : max_u64 < n → all ≡ None
+    past large = elim (list_all is_digit bs) as (λ t. (if t then between 0 max_u64 (pos (with_digits n bs)) else None) ≡ None) [ true ↦ too_large (with_digits n bs) (let more = grows n bs in omega (arith, more)) | false ↦ refl ]
 
-    digit : (is_digit b ≡ true) → (nat_le n limit ≡ true) ⊎ (nat_le n limit ≡ false) → (n ≤ limit → read_from n bs ≡ all) → read_from value (b ∷ bs) ≡ (if list_all is_digit (b ∷ bs) then between 0 limit (pos (with_digits n bs)) else None)
-    digit d (inl in_range) rest = let small : n ≤ limit = leb-true n limit in_range in rw (d, fits n small) (rest small)
-    digit d (inr out) rest = let large : limit < n = leb-false n limit out in rw (d, too_large n large) (sym (past large))
+    digit : (is_digit b ≡ true) → (nat_le n max_u64 ≡ true) ⊎ (nat_le n max_u64 ≡ false) → (n ≤ max_u64 → read_from n bs ≡ all) → read_from value (b ∷ bs) ≡ (if list_all is_digit (b ∷ bs) then between 0 max_u64 (pos (with_digits n bs)) else None)
+    digit d (inl in_range) rest = let small : n ≤ max_u64 = leb-true n max_u64 in_range in rw (d, fits n small) (rest small)
+    digit d (inr out) rest = let large : max_u64 < n = leb-false n max_u64 out in rw (d, too_large n large) (sym (past large))
 
-    go : (is_digit b ≡ true) ⊎ (is_digit b ≡ false) → (n ≤ limit → read_from n bs ≡ all) → read_from value (b ∷ bs) ≡ (if list_all is_digit (b ∷ bs) then between 0 limit (pos (with_digits n bs)) else None)
-    go (inl d) rest = digit d (cases_Bool (nat_le n limit)) rest
+    go : (is_digit b ≡ true) ⊎ (is_digit b ≡ false) → (n ≤ max_u64 → read_from n bs ≡ all) → read_from value (b ∷ bs) ≡ (if list_all is_digit (b ∷ bs) then between 0 max_u64 (pos (with_digits n bs)) else None)
+    go (inl d) rest = digit d (cases_Bool (nat_le n max_u64)) rest
     go (inr d) rest = rw d refl
 
 -- as many digits as there are, of which there is at least one
-pub read_from-natural : (bytes : List ℕ) → 0 < length bytes → read_from 0 bytes ≡ option_and_then (λ n. between 0 limit (pos n)) (natural_of bytes)
+pub read_from-natural : (bytes : List ℕ) → 0 < length bytes → read_from 0 bytes ≡ option_and_then (λ n. between 0 max_u64 (pos n)) (natural_of bytes)
 read_from-natural [] some = absurd (omega arith)
-read_from-natural (b ∷ bs) some = read_from-is 0 (b ∷ bs) (omega arith) ∙ elim (list_all is_digit (b ∷ bs)) as (λ t. (if t then between 0 limit (pos (with_digits 0 (b ∷ bs))) else None) ≡ option_and_then (λ n. between 0 limit (pos n)) (if t then Some (with_digits 0 (b ∷ bs)) else None)) [ true ↦ refl | false ↦ refl ]
+read_from-natural (b ∷ bs) some = read_from-is 0 (b ∷ bs) (omega arith) ∙ elim (list_all is_digit (b ∷ bs)) as (λ t. (if t then between 0 max_u64 (pos (with_digits 0 (b ∷ bs))) else None) ≡ option_and_then (λ n. between 0 max_u64 (pos n)) (if t then Some (with_digits 0 (b ∷ bs)) else None)) [ true ↦ refl | false ↦ refl ]

@@ -1,11 +1,10 @@
 -- The lines of an outcome are those of the run.
-use Rattle.std.proofs.Common.{◌≡◌, List, [], ◌∷◌, ◌++◌, ℕ, length, refl, ap, sym, ◌∙◌, subst, Result, Err, IfOk, Bool, true, false}
+use Rattle.std.proofs.Common.{List, ◌++◌, ℕ, length, refl, ap, ◌∙◌, ◌≡◌, ◌∷◌, [], subst}
 use Rattle.std.specs.Prelude.{Some}
 use Rattle.std.specs.List.{zip}
 use Rattle.prog_tree.specs.declared.program.Draft.{Draft}
 use Rattle.prog_tree.specs.Syntax.{DraftTree}
 use Rattle.prog_tree.specs.Tree.{draft_tree}
-use Rattle.prog_tree.specs.Table.{TableState}
 use Rattle.history_book.specs.Dependencies.{depends}
 use Rattle.history_book.specs.Orders.{least_order}
 use Rattle.si_engine.specs.declared.event.Event.{Event}
@@ -14,23 +13,14 @@ use Rattle.si_engine.specs.declared.robust.run.Outcome.{Outcome}
 use Rattle.si_engine.specs.declared.input.script.Script.{Script}
 use Rattle.si_engine.specs.Headline.{Headline}
 use Rattle.si_engine.specs.LastLine.{last_line}
-use Rattle.si_engine.specs.Machine.{Machine, new_machine, machine_step, machine_after, replies_of}
-use Rattle.si_engine.specs.Printed.{reply_line}
+use Rattle.si_engine.specs.Machine.{new_machine, machine_after}
 use Rattle.si_engine.specs.Runs.{event_lines, exchange_lines, row_lines, outcome_lines, run_lines, history_of_run, Adds, AddsFirst, AddsRun}
-
-lines_said : (set : DraftTree) (opening : TableState) (events : List Event) (s : Machine) →
-    exchange_lines set.tables (zip events (replies_of set opening events s)) ≡ event_lines set opening events s
-lines_said set opening [] s = refl
-lines_said set opening (e ∷ es) s =
-    let step = machine_step set opening e s in
-    ap (λ lines. reply_line set.tables e step.0 ∷ lines) (lines_said set opening es step.1)
 
 module _ (set : DraftTree) (script : Script) (o : Outcome) (is : Headline set script.rows script.events o) where
   lines_of_outcome : outcome_lines set script.events o ≡ run_lines set script
   lines_of_outcome =
       ap (λ replies. exchange_lines set.tables (zip script.events replies) ++ row_lines set o.table) is.replies
-      ∙ (ap (λ lines. lines ++ row_lines set o.table) (lines_said set script.rows script.events new_machine)
-      ∙ ap (λ table. event_lines set script.rows script.events new_machine ++ row_lines set table) is.table)
+      ∙ ap (λ table. event_lines set script.rows script.events new_machine ++ row_lines set table) is.table
 
   adds_run : (s t : List ℕ) →
       (let h = history_of_run set script in least_order (depends set script.rows h) (length h) ≡ Some o.order) →

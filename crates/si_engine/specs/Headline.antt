@@ -1,5 +1,5 @@
 -- The headline: what comes of any events on a robust set.
-use Rattle.std.specs.Prelude.{◌≡◌, ◌↔◌, ℕ, ℤ, zero, suc, true, List, [], ◌∷◌, length, Option, Some, None, slice_get}
+use Rattle.std.specs.Prelude.{◌≡◌, ◌↔◌, ℕ, ℤ, true, List, [], ◌∷◌, length, Option, Some, None, slice_get}
 use Rattle.std.specs.List.{Contains, flat_map, zip}
 use Rattle.prog_tree.specs.declared.deed.End.TheVariants.{Ready}
 use Rattle.prog_tree.specs.ChangeSet.{changed}
@@ -7,7 +7,7 @@ use Rattle.prog_tree.specs.Evaluation.{Evaluation}
 use Rattle.prog_tree.specs.Syntax.{DraftTree}
 use Rattle.prog_tree.specs.Table.{TableState}
 use Rattle.history_book.specs.Dependencies.{depends}
-use Rattle.history_book.specs.History.{eval_found, state_after}
+use Rattle.history_book.specs.History.{nth_item, eval_found, state_after}
 use Rattle.history_book.specs.Orders.{least_order}
 use Rattle.history_book.specs.Serial.{is_each_once}
 use Rattle.si_engine.specs.declared.event.Event.{Event}
@@ -56,10 +56,9 @@ module _ (said : List Exchange) where
 abbrev pub run_of : DraftTree → Call → TableState → Evaluation
 run_of set call m = eval_found (slice_get set.programs call.program) set.tables call.args m
 
--- the instance of a commit number; numbers begin at 1
+-- the instance of a commit number
 abbrev pub committed_at : List ℕ → (number : ℕ) → Option ℕ
-committed_at committed zero = None
-committed_at committed (suc n) = slice_get committed n
+committed_at committed number = nth_item committed number
 
 -- the commit of a number is of an instance that this call began, and that was ready with these replies
 pub record IsCommitOf (said : List Exchange) (committed : List ℕ) (n : ℕ) (call : Call) (replies : List ℤ) : Type 0 where

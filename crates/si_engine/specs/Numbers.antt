@@ -27,9 +27,13 @@ abbrev pub between : (low high : ℕ) → ℤ → Option ℕ
 between low high (pos n) = if nat_le low n && nat_le n high then Some n else None
 between low high z = None
 
+-- the greatest number of u64
+abbrev pub max_u64 : ℕ
+max_u64 = 18446744073709551615
+
 -- a number with one more digit behind it, where the byte is one and the number is still one of u64
 abbrev pub with_digit : ℕ → ℕ → Option ℕ
-with_digit value byte = if is_digit byte then between 0 18446744073709551615 (pos (10 * value + (byte - 48))) else None
+with_digit value byte = if is_digit byte then between 0 max_u64 (pos (10 * value + (byte - 48))) else None
 
 -- a number that is one of i64
 abbrev pub i64_of : List ℕ → Option ℤ
@@ -41,7 +45,7 @@ number_between low high word = option_and_then (between low high) (i64_of word)
 
 -- a number that is one of u64
 abbrev pub u64_of : List ℕ → Option ℕ
-u64_of word = option_and_then (between 0 18446744073709551615) (integer_of word)
+u64_of word = option_and_then (between 0 max_u64) (integer_of word)
 
 -- the numbers of words, if all of them are such
 abbrev pub numbers_of : List (List ℕ) → Option (List ℤ)

@@ -15,22 +15,19 @@ use Rattle.si_engine.specs.declared.input.script_fault.ScriptFault.TheVariants a
 use Rattle.si_engine.specs.declared.input.source.InputFault.TheVariants as input_fault
 use Rattle.si_engine.specs.Headline.{Exchange}
 use Rattle.si_engine.specs.LastLine.{IsLastLine}
-use Rattle.si_engine.specs.Machine.{Machine, new_machine, machine_step, machine_after}
+use Rattle.si_engine.specs.Machine.{Machine, new_machine, machine_after, replies_of}
 use Rattle.si_engine.specs.Printed.{reply_line, row_line}
 use Rattle.si_engine.specs.Reading.{ForInput}
 use Rattle.si_engine.specs.Script.{IsScript, IsScriptFault}
 use Rattle.si_engine.specs.Writing.{WritesOr}
 
--- one line for each event that the machine is handed: what it answers
-abbrev pub event_lines : DraftTree → TableState → List Event → Machine → List (List ℕ)
-event_lines set opening [] machine = []
-event_lines set opening (event ∷ events) machine =
-    let step = machine_step set opening event machine in
-    reply_line set.tables event step.0 ∷ event_lines set opening events step.1
-
 -- one line for each event that was answered
 abbrev pub exchange_lines : List TableDecl → List Exchange → List (List ℕ)
 exchange_lines tables said = map (λ exchange. reply_line tables exchange.0 exchange.1) said
+
+-- one line for each event that the machine is handed: what it answers
+abbrev pub event_lines : DraftTree → TableState → List Event → Machine → List (List ℕ)
+event_lines set opening events machine = exchange_lines set.tables (zip events (replies_of set opening events machine))
 
 -- one line for each row of a state, in cell order
 abbrev pub row_lines : DraftTree → TableState → List (List ℕ)

@@ -3,6 +3,10 @@ use Rattle.std.specs.Fmt.{decimal}
 use Rattle.std.specs.Prelude.{ℕ, List, ◌++◌, codes}
 use Rattle.si_engine.specs.declared.input.script_fault.LineFault.{LineFault}
 use Rattle.si_engine.specs.declared.input.script_fault.LineFault.TheVariants as fault
+use Rattle.si_engine.specs.declared.input.script_fault.ScriptFault.{ScriptFault}
+use Rattle.si_engine.specs.declared.input.script_fault.ScriptFault.TheVariants as script
+use Rattle.si_engine.specs.declared.input.source.InputFault.{InputFault}
+use Rattle.si_engine.specs.declared.input.source.InputFault.TheVariants as input
 
 -- a code and a line, from 1
 abbrev pub in_line : List ℕ → ℕ → List ℕ
@@ -16,3 +20,15 @@ line_fault_text (fault.LateRow line) = in_line (codes "S4") line
 line_fault_text (fault.RepeatedRow line) = in_line (codes "S5") line
 line_fault_text (fault.TooManyEvents line) = in_line (codes "S6") line
 line_fault_text fault.Memory = codes "memory"
+
+-- why the bytes of a source can't be had
+abbrev pub input_fault_text : InputFault → List ℕ
+input_fault_text input.TooLong = codes "I3"
+input_fault_text input.ReadFault = codes "I4"
+input_fault_text input.Memory = codes "memory"
+
+-- why a script is not read, or not run
+abbrev pub script_fault_text : ScriptFault → List ℕ
+script_fault_text (script.Input i) = input_fault_text i
+script_fault_text (script.Line l) = line_fault_text l
+script_fault_text script.WriteFault = codes "I5"

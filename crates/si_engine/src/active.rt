@@ -45,8 +45,8 @@ fn rows_for(
         rows ≡ rows_in region.now (state_in book.now ticket.now.start)) }
 {
     if let Some(rows) = run.rows_again(region) {
-        let rows = Vec::from_slice(alloc, rows)?;
-        return Ok(Sequence::from_vec(rows));
+        let rows = Sequence::from_slice(alloc, rows)?;
+        return Ok(rows);
     }
     match book.scan(ticket, region) {
         Ok(rows) => Ok(rows),
@@ -123,10 +123,9 @@ impl<'a> ActiveRun<'a> {
         let active = &mut self;
         match advance(alloc, book, &active.ticket, &mut *active.run) {
             Ok(Next::Did(deed)) => (Some(self), Ok(Reply::Did(deed))),
-            Ok(Next::Done(End::Ready)) => match Vec::from_slice(alloc, self.run.replies()) {
+            Ok(Next::Done(End::Ready)) => match Sequence::from_slice(alloc, self.run.replies()) {
                 Ok(replies) => {
                     self.ready = true;
-                    let replies = Sequence::from_vec(replies);
                     (Some(self), Ok(Reply::Ready(replies)))
                 }
                 Err(_) => (Some(self), Err(AllocError)),
@@ -149,7 +148,7 @@ impl<'a> ActiveRun<'a> {
         ensures err_book { OnErr result (book.new ≡ book.old) }
     {
         match book.commit_own(&self.ticket, &*self.run) {
-            Ok(receipt) => Ok(Reply::Committed(receipt.number() as usize)),
+            Ok(receipt) => Ok(Reply::Committed(receipt.number())),
             Err(OwnCommitFault::Clashed(clash)) => Ok(Reply::Clashed(clash)),
             Err(OwnCommitFault::Memory) => Err(self),
         }

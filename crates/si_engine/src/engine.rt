@@ -4,13 +4,13 @@ ghost use Rattle.std.specs.Prelude.{◌≡◌, length, Some, None, Ok, IfOk, IfE
 ghost use Rattle.prog_tree.specs.Tree.{draft_tree};
 ghost use Rattle.prog_run.specs.View.{begin_fault, begun};
 ghost use Rattle.history_book.specs.History.{state_after};
-ghost use Rattle.history_book.specs.View.{history_of, begin_at_fault_of, ticket_at, begun_at};
+ghost use Rattle.history_book.specs.View.{history_of};
 ghost use Rattle.si_engine.specs.Machine.{new_machine};
 ghost use Rattle.si_engine.specs.View.{Applies, answer_to, answer_without, numbered};
 
 use crate::active::ActiveRun;
 use crate::event::{Event, Reply};
-use history_book::{BeginFault, Book, Ticket};
+use history_book::{BeginFault, Book};
 use prog_check::ProgramSet;
 use prog_run::{Run, RunFault};
 use prog_tree::Rows;
@@ -77,25 +77,6 @@ fn refused(fault: BeginFault) -> Result<Reply, AllocError>
         BeginFault::TooNew { commits } => Ok(Reply::TooNew { commits }),
         BeginFault::Full => Ok(Reply::Full),
         BeginFault::Memory => Err(AllocError),
-    }
-}
-
-// Begins an instance that is not refused.
-fn begin_in<'a>(
-    book: &mut Book<'a>,
-    start: u64,
-    program: usize,
-    args: &[i64],
-) -> Result<Ticket, AllocError>
-    requires { begin_at_fault_of book.old start program args.now ≡ None }
-    ensures ticket { IfOk result (λ ticket. ticket ≡ ticket_at book.old start) }
-    ensures begun { OnOk result (book.new ≡ begun_at book.old start program args.now) }
-    ensures err { OnErr result (book.new ≡ book.old) }
-{
-    match book.begin_at(start, program, args) {
-        Ok(ticket) => Ok(ticket),
-        Err(BeginFault::Memory) => Err(AllocError),
-        Err(_) => unreachable!(),
     }
 }
 
@@ -173,18 +154,14 @@ impl<'a> Engine<'a> {
         }
         let run = started(self.alloc, self.book.set(), program, args)?;
         self.begun.reserve(1)?;
-        let ticket = begin_in(&mut self.book, start, program, args)?;
+        let ticket = self.book.admit(start, program, args)?;
         let instance = self.begun.len();
-        let start = start as usize;
-        let active = ActiveRun {
+        self.begun.push_reserved(Some(ActiveRun {
             program,
             ticket,
             run,
             ready: false,
-        };
-        let Ok(()) = self.begun.push(Some(active)) else {
-            unreachable!()
-        };
+        }));
         Ok(Reply::Begun { instance, start })
     }
 

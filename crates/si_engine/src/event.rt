@@ -23,7 +23,7 @@ pub enum Event {
     Commit(usize),
     /// An instance is withdrawn: it ends, and leaves no ending.
     Abort(usize),
-    /// Versions that no active instance sees may go.
+    /// The versions go that neither an active instance sees nor one that will begin.
     Vacuum,
 }
 
@@ -31,7 +31,7 @@ pub enum Event {
 #[derive(Debug, Drop)]
 pub enum Reply {
     /// The new instance's number, and how many commits it sees.
-    Begun { instance: usize, start: usize },
+    Begun { instance: usize, start: u64 },
     NoSuchProgram,
     WrongArguments,
     /// A begin at a number below the floor of the last vacuum.
@@ -46,7 +46,7 @@ pub enum Reply {
     Ready(Sequence<i64>),
     Aborted(Cause),
     /// The number of the commit, from 1.
-    Committed(usize),
+    Committed(u64),
     /// A commit after the start changed or kept a cell too.
     Clashed(Clash),
     Withdrawn,

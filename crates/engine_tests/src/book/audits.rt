@@ -13,7 +13,7 @@ use std::test::Fail;
 pub type Record = (usize, &'static [i64], u64, &'static [i64]);
 
 fn sequence(rt: &impl Abort, alloc: Global, numbers: &[i64]) -> Sequence<i64> {
-    Sequence::from_vec(Vec::from_slice(alloc, numbers).expect(rt, "memory"))
+    Sequence::from_slice(alloc, numbers).expect(rt, "memory")
 }
 
 fn row(rt: &impl Abort, alloc: Global, record: &Record) -> HistoryRow {
@@ -121,7 +121,7 @@ pub struct Reasoned {
     pub set: &'static str,
     pub opening: &'static [(usize, i64, i64)],
     pub records: &'static [Record],
-    pub reasons: &'static [(usize, usize, Option<Reason>)],
+    pub reasons: &'static [(u64, u64, Option<Reason>)],
 }
 
 /// Asks the book of records for the reasons.

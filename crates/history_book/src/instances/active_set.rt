@@ -59,8 +59,7 @@ impl ActiveSet {
     pub fn get(&self, number: u64) -> Option<&Active>
         ensures { option_copied result ≡ lookup (is_at (nat_cmp number)) self.now }
     {
-        let active = self.by_number.get(&number)?;
-        Some(active)
+        self.by_number.get(&number)
     }
 
     /// Adds an instance under a number that none has; without memory nothing changes.

@@ -49,12 +49,9 @@ fn add_commit(
     endings.reserve(1)?;
     traces.reserve(1)?;
     let number = store.install(changes)?;
-    let (Ok(()), Ok(())) = (rows.push(row), endings.push(Ending::Committed(number))) else {
-        unreachable!()
-    };
-    let Ok(()) = traces.push(trace) else {
-        unreachable!()
-    };
+    rows.push_reserved(row);
+    endings.push_reserved(Ending::Committed(number));
+    traces.push_reserved(trace);
     Ok(number)
 }
 

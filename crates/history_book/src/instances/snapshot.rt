@@ -1,14 +1,15 @@
 //! What active instances see, and whether runs are theirs.
 
-ghost use Rattle.std.specs.Prelude.{◌≡◌, ◌≤◌, ◌↔◌, length, Some, true, IfOk, IfNone, IfSome, IsTrue, option_copied, option_map, MatchOption};
+ghost use Rattle.std.specs.Prelude.{◌≡◌, ◌≤◌, ◌↔◌, length, Some, true, IfOk, IfNone, IfSome, IsTrue, option_copied, MatchOption};
 ghost use Rattle.prog_tree.specs.Evaluation.{rows_left};
 ghost use Rattle.prog_tree.specs.Table.{row_at, rows_in};
 ghost use Rattle.prog_run.specs.Looks.{IsFound, AreFound, last_of};
 ghost use Rattle.version_store.specs.Clash.{IsClash};
+ghost use Rattle.version_store.specs.Told.{told};
 ghost use Rattle.prog_tree.specs.Tree.{draft_tree};
 ghost use Rattle.history_book.specs.History.{IsCalled};
 ghost use Rattle.history_book.specs.Refusals.{IsOfInstance, IsRefusal};
-ghost use Rattle.history_book.specs.Runs.{IsFirstForeign, SameProgram, IsEndedRow, clash_pair};
+ghost use Rattle.history_book.specs.Runs.{IsFirstForeign, SameProgram, IsEndedRow};
 ghost use Rattle.history_book.specs.View.{row_of, active_at, commits_in, state_in};
 
 use crate::book::Book;
@@ -79,7 +80,7 @@ impl<'a> Book<'a> {
     pub(crate) fn clash(&self, start: u64, changes: &Changes) -> Option<Clash>
         requires above { self.now.floor ≤ start }
         requires within { start ≤ length self.now.rows }
-        ensures { IsClash (commits_in self.now) start changes.now (option_map clash_pair result) }
+        ensures { IsClash (commits_in self.now) start changes.now (told result) }
     {
         self.store.clash(start, changes)
     }
@@ -138,7 +139,7 @@ impl<'a> Book<'a> {
         None
     }
 
-    /// Whether a run has the program and the arguments of an instance, and the tables of the set.
+    // Whether a run has the program and the arguments of an instance, and the tables of the set.
     fn has_program(&self, active: &Active, run: &Run<'_>) -> bool
         ensures { IsTrue result ↔ SameProgram self.now active.now run.now }
     {
@@ -197,9 +198,9 @@ impl<'a> Book<'a> {
     {
         Ok(HistoryRow {
             program: active.program,
-            args: Sequence::from_vec(Vec::from_slice(self.alloc, active.args.as_slice())?),
+            args: Sequence::from_slice(self.alloc, active.args.as_slice())?,
             start: active.start,
-            replies: Sequence::from_vec(Vec::from_slice(self.alloc, run.replies())?),
+            replies: Sequence::from_slice(self.alloc, run.replies())?,
         })
     }
 }

@@ -10,14 +10,16 @@ ghost use Rattle.history_book.specs.Orders.{is_one_of};
 ghost use Rattle.history_book.specs.Repeats.{IsSameAgain, begun_again};
 ghost use Rattle.history_book.specs.Serial.{is_each_once, Fits};
 ghost use Rattle.history_book.specs.TrueBook.{IsTrueRow};
-ghost use Rattle.history_book.specs.View.{history_of, instance_of, most_endings, most_begins};
+ghost use Rattle.history_book.specs.View.{history_of, instance_of, state_in, most_endings, most_begins};
 
 use crate::book::{Book, is_ready};
 use crate::instances::row::HistoryRow;
 use crate::instances::snapshot::same_numbers;
 use crate::limits::MAX_ORDERED;
-use prog_tree::Sequence;
+use prog_tree::{Rows, Sequence};
 use std::alloc::{AllocError, Global};
+use std::error::Error;
+use std::fmt;
 
 /// Why no equivalent serial order was looked for.
 #[derive(Clone, Copy, Debug, PartialEq, Eq)]
@@ -38,6 +40,22 @@ impl From<AllocError> for AnyFitFault {
         AnyFitFault::Memory
     }
 }
+
+impl fmt::Display for AnyFitFault {
+    ghost use Rattle.std.specs.Prelude.{Some};
+    ghost use Rattle.history_book.specs.Texts.{any_fit_fault_text};
+
+    ghost output = { λ fault. Some (any_fit_fault_text fault) };
+
+    fn fmt<W: fmt::Write>(&self, f: &mut fmt::Formatter<W>) -> fmt::Result {
+        match self {
+            AnyFitFault::TooMany => f.write_str("too many"),
+            AnyFitFault::Memory => f.write_str("memory"),
+        }
+    }
+}
+
+impl Error for AnyFitFault {}
 
 // Marks a number, where it is one of those from 1 on that have a mark.
 fn mark(marks: &mut [bool], number: usize)
@@ -100,9 +118,9 @@ impl<'a> Book<'a> {
     {
         Ok(HistoryRow {
             program: row.program,
-            args: Sequence::from_vec(Vec::from_slice(self.alloc, row.args.as_slice())?),
+            args: Sequence::from_slice(self.alloc, row.args.as_slice())?,
             start: self.commits(),
-            replies: Sequence::from_vec(Vec::from_slice(self.alloc, row.replies.as_slice())?),
+            replies: Sequence::from_slice(self.alloc, row.replies.as_slice())?,
         })
     }
 
@@ -142,8 +160,10 @@ impl<'a> Book<'a> {
         &self.rows[number - 1]
     }
 
-    /// Whether a list of commit numbers is an equivalent serial order; any list may be asked for.
-    pub fn fits(&self, order: &[usize]) -> Result<bool, AllocError>
+    // Whether a list of commit numbers is an equivalent serial order, where `newest` has the rows
+    // after all commits.
+    fn fits_rows(&self, order: &[usize], newest: &Rows) -> Result<bool, AllocError>
+        requires { newest.now ≡ state_in self.now (length self.now.rows) }
         ensures { IfOk result (λ fits. IsTrue fits
             ↔ Fits (draft_tree self.now.set) self.now.opening
             (history_of self.now.rows) order.now) }
@@ -159,14 +179,24 @@ impl<'a> Book<'a> {
             }
         }
         let rows = serial.table()?;
+        Ok(rows.is_same(newest))
+    }
+
+    /// Whether a list of commit numbers is an equivalent serial order; any list may be asked for.
+    pub fn fits(&self, order: &[usize]) -> Result<bool, AllocError>
+        ensures { IfOk result (λ fits. IsTrue fits
+            ↔ Fits (draft_tree self.now.set) self.now.opening
+            (history_of self.now.rows) order.now) }
+    {
         let newest = self.table()?;
-        Ok(rows.is_same(&newest))
+        self.fits_rows(order, &newest)
     }
 
     // Places commit numbers behind those that are placed until the order fits, if some order does.
     #[cycle(placing)]
-    fn complete(&self, placed: &mut Vec<usize>) -> Result<bool, AllocError>
-        requires { length placed.old.items ≤ length self.now.rows }
+    fn complete(&self, placed: &mut Vec<usize>, newest: &Rows) -> Result<bool, AllocError>
+        requires room { length placed.old.items ≤ length self.now.rows }
+        requires newest { newest.now ≡ state_in self.now (length self.now.rows) }
         ensures found { IfOk result (λ found. found ≡ true →
             Fits (draft_tree self.now.set) self.now.opening (history_of self.now.rows)
             placed.new.items) }
@@ -177,11 +207,11 @@ impl<'a> Book<'a> {
             placed.new.items ≡ placed.old.items) }
     {
         if placed.len() == self.rows.len() {
-            let fits = self.fits(placed)?;
+            let fits = self.fits_rows(placed, newest)?;
             return Ok(fits);
         }
         for before in 0..self.rows.len() {
-            if self.place(before + 1, placed)? {
+            if self.place(before + 1, placed, newest)? {
                 return Ok(true);
             }
         }
@@ -190,8 +220,14 @@ impl<'a> Book<'a> {
 
     // Places a commit number and goes on behind it, unless it is placed already.
     #[cycle(placing)]
-    fn place(&self, number: usize, placed: &mut Vec<usize>) -> Result<bool, AllocError>
-        requires { length placed.old.items < length self.now.rows }
+    fn place(
+        &self,
+        number: usize,
+        placed: &mut Vec<usize>,
+        newest: &Rows,
+    ) -> Result<bool, AllocError>
+        requires room { length placed.old.items < length self.now.rows }
+        requires newest { newest.now ≡ state_in self.now (length self.now.rows) }
         ensures found { IfOk result (λ found. found ≡ true →
             Fits (draft_tree self.now.set) self.now.opening (history_of self.now.rows)
             placed.new.items) }
@@ -205,7 +241,7 @@ impl<'a> Book<'a> {
             return Ok(false);
         }
         placed.push(number)?;
-        if self.complete(placed)? {
+        if self.complete(placed, newest)? {
             return Ok(true);
         }
         placed.pop();
@@ -225,8 +261,9 @@ impl<'a> Book<'a> {
         if self.rows.len() > MAX_ORDERED {
             return Err(AnyFitFault::TooMany);
         }
+        let newest = self.table()?;
         let mut placed = Vec::new(self.alloc);
-        if self.complete(&mut placed)? {
+        if self.complete(&mut placed, &newest)? {
             Ok(Some(placed))
         } else {
             Ok(None)

@@ -4,6 +4,7 @@ pub mod dependency;
 pub mod fits;
 pub mod nearby;
 pub mod order;
+pub mod own_set;
 pub mod precedence;
 pub mod readers;
 pub mod reason;

@@ -2,7 +2,7 @@
 
 ghost use Rattle.std.specs.Prelude.{◌≡◌, ◌≤◌, ◌+◌, ◌↔◌, true, false, length, Some, IfOk, IfSome, IsTrue};
 ghost use Rattle.history_book.specs.Nearby.{AreHorizons};
-ghost use Rattle.history_book.specs.NearbyOrder.{is_marked, IsMarkedBelow, IsFreeTest, IsFirstFree, IsTestedBelow, AreHolders, IsWait};
+ghost use Rattle.history_book.specs.NearbyOrder.{is_marked, IsMarkedBelow, IsFreeTest, IsFirstFree, IsTestedBelow, AreHolders, WaitsFor};
 ghost use Rattle.history_book.specs.Orders.{least_order, IsUpTo};
 ghost use Rattle.history_book.specs.Traces.{SeesEarlier, trace_depends};
 
@@ -20,7 +20,7 @@ const STEPS_OF_A_COMMIT: u128 = 24;
 
 /// What a commit that is not placed waits for.
 #[derive(Clone, Copy, Debug)]
-pub enum Wait {
+pub enum Waiting {
     /// This one, which is not placed either, has to stand before it.
     For(usize),
     /// All that have to stand before it are placed.
@@ -61,36 +61,36 @@ fn spend(left: &mut u128, steps: u128) -> bool
 }
 
 // What a commit waits for, by tests of those from one up to its horizon.
-fn wait_of(
+fn waiting_of(
     traces: &[Trace],
     horizons: &[usize],
     placed: &[bool],
     number: usize,
     from: usize,
     left: &mut u128,
-) -> Wait
+) -> Waiting
     requires horizons { AreHorizons traces.now horizons.now }
     requires marks { length placed.now ≡ length traces.now + 1 }
     requires number { IsUpTo (length traces.now) number }
     requires from { 1 ≤ from }
     requires tested { IsTestedBelow traces.now placed.now number from }
-    ensures { IsWait traces.now placed.now number result }
+    ensures { WaitsFor traces.now placed.now number result }
 {
     for other in from..horizons[number] + 1 {
         if !spend(left, 1) {
-            return Wait::Unknown;
+            return Waiting::Unknown;
         }
         if placed[other] {
             continue;
         }
         if !spend(left, steps(traces, other, number)) {
-            return Wait::Unknown;
+            return Waiting::Unknown;
         }
         if depends(traces, other, number) {
-            return Wait::For(other);
+            return Waiting::For(other);
         }
     }
-    Wait::Over
+    Waiting::Over
 }
 
 // Whether a commit is placed, or its holder is known and is not placed.
@@ -130,10 +130,10 @@ fn first_free(
             continue;
         }
         let tested = from.max(holders[number]);
-        match wait_of(traces, horizons, placed, number, tested, left) {
-            Wait::For(holder) => holders[number] = holder,
-            Wait::Over => return Some(number),
-            Wait::Unknown => return None,
+        match waiting_of(traces, horizons, placed, number, tested, left) {
+            Waiting::For(holder) => holders[number] = holder,
+            Waiting::Over => return Some(number),
+            Waiting::Unknown => return None,
         }
     }
     None

@@ -47,7 +47,7 @@ impl<T: Drop> From<AllocFailed<T>> for OrderFault {
 
 impl fmt::Display for OrderFault {
     ghost use Rattle.std.specs.Prelude.{Some};
-    ghost use Rattle.history_book.specs.Placing.{order_fault_text};
+    ghost use Rattle.history_book.specs.Texts.{order_fault_text};
 
     ghost output = { λ fault. Some (order_fault_text fault) };
 

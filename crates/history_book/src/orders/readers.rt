@@ -9,12 +9,12 @@ ghost use Rattle.history_book.specs.Reduced.{seen_pairs, missed_pairs, reader_pa
 ghost use Rattle.history_book.specs.Reduced.{sight_pairs, region_pairs, sights_pairs, readers_pairs};
 ghost use Rattle.history_book.specs.Precedence.{precedes};
 
+use crate::orders::own_set::OwnSet;
 use crate::orders::precedence::Precedence;
 use crate::orders::trace::{Sight, Trace};
 use crate::orders::writers::{Writers, first_missed, last_seen};
 use prog_tree::{Cell, Region, corners};
 use std::alloc::{AllocError, Global};
-use version_store::OwnCells;
 
 // Puts a number and each of the next before the one behind it.
 fn add_steps_from(
@@ -128,13 +128,13 @@ fn add_cell(
 }
 
 // Whether a region has a cell that is not one of the reader's own.
-fn takes_in(region: &Region, own: &OwnCells, cell: &Cell) -> bool
+fn takes_in(region: &Region, own: &OwnSet, cell: &Cell) -> bool
     ensures { result ≡ takes_in (Sight.Range region.now own.now) cell.now }
 {
     if !region.contains(cell) {
         return false;
     }
-    !own.has(cell)
+    !own.contains(cell)
 }
 
 // Adds what a look at a region says of its reader.
@@ -143,7 +143,7 @@ fn add_region(
     reader: usize,
     start: u64,
     region: &Region,
-    own: &[Cell],
+    own: &OwnSet,
     writers: &Writers,
 ) -> Result<(), AllocError>
     requires reader { IsUpTo (length precedence.old) reader }
@@ -154,9 +154,8 @@ fn add_region(
     let Some((low, high)) = corners(*region) else {
         return Ok(());
     };
-    let own_cells = OwnCells::of(own);
     for (cell, numbers) in writers.cells.range(low..=high) {
-        if takes_in(region, &own_cells, cell) {
+        if takes_in(region, own, cell) {
             add_reader(precedence, reader, start, numbers.as_slice())?;
         }
     }
@@ -179,7 +178,7 @@ fn add_sight(
     match sight {
         Sight::One(cell) => add_cell(precedence, reader, start, cell, writers)?,
         Sight::Range { region, own } => {
-            add_region(precedence, reader, start, region, own.as_slice(), writers)?
+            add_region(precedence, reader, start, region, own, writers)?
         }
     }
     Ok(())

@@ -7,7 +7,7 @@ ghost use Rattle.history_book.specs.Reasons.{missed_at, missed_by, told_reason};
 ghost use Rattle.history_book.specs.Traces.{changed_at, looked_at, takes_in, trace_at};
 
 use crate::orders::trace::{Sight, Trace};
-use prog_tree::{Cell, Region, is_among};
+use prog_tree::{Cell, Region};
 
 /// Why the first of two commits has to stand before the second.
 #[derive(Clone, Copy, Debug, PartialEq, Eq)]
@@ -28,7 +28,7 @@ fn takes_in(sight: &Sight, cell: &Cell) -> bool
 {
     match sight {
         Sight::One(own) => own.cmp(cell).is_eq(),
-        Sight::Range { region, own } => region.contains(cell) && !is_among(own.as_slice(), cell),
+        Sight::Range { region, own } => region.contains(cell) && !own.contains(cell),
     }
 }
 
@@ -44,7 +44,8 @@ fn looked_at(trace: &Trace, cell: &Cell) -> bool
 fn changed_at(trace: &Trace, cell: &Cell) -> bool
     ensures { result ≡ changed_at trace.now cell.now }
 {
-    is_among(trace.changed.as_slice(), cell)
+    let changed = trace.changed.as_slice();
+    changed.binary_search(cell).is_ok()
 }
 
 /// The trace of a commit that there is.
@@ -56,14 +57,14 @@ pub fn trace_at(traces: &[Trace], number: usize) -> &Trace
 }
 
 // Whether a number is that of a commit.
-fn is_commit(traces: &[Trace], number: usize) -> bool
+fn is_commit(traces: &[Trace], number: u64) -> bool
     ensures { IsTrue result ↔ IsUpTo (length traces.now) number }
 {
-    (1..=traces.len()).contains(&number)
+    (1..=traces.len() as u64).contains(&number)
 }
 
 /// Whether two numbers are those of commits.
-pub fn are_commits(traces: &[Trace], first: usize, second: usize) -> bool
+pub fn are_commits(traces: &[Trace], first: u64, second: u64) -> bool
     ensures { IsTrue result
         ↔ (IsUpTo (length traces.now) first × IsUpTo (length traces.now) second) }
 {

@@ -5,6 +5,7 @@ ghost use Rattle.std.specs.List.Sorted.{IsStrictlySortedBy};
 ghost use Rattle.prog_tree.specs.Table.{cell_cmp, cells_of};
 ghost use Rattle.history_book.specs.Traces.{sight_of, trace_of};
 
+use crate::orders::own_set::OwnSet;
 use prog_run::Run;
 use prog_tree::{Cell, Changes, Look, Region, Sequence};
 use std::alloc::{AllocError, Global};
@@ -15,7 +16,7 @@ use std::marker::Model;
 pub enum Sight {
     One(Cell),
     /// A region, but for its `own` cells: the ones that the instance had changed.
-    Range { region: Region, own: Sequence<Cell> },
+    Range { region: Region, own: OwnSet },
 }
 
 impl Sight {
@@ -74,7 +75,7 @@ fn sight_of(alloc: Global, look: &Look) -> Result<Sight, AllocError>
         Look::One(cell, _) => Ok(Sight::One(*cell)),
         Look::Range { region, own, .. } => Ok(Sight::Range {
             region: *region,
-            own: Sequence::from_vec(Vec::from_slice(alloc, own.as_slice())?),
+            own: OwnSet::from_slice(alloc, own.as_slice())?,
         }),
     }
 }

@@ -1,7 +1,7 @@
 //! Words as numbers: decimal, with leading zeros or a minus sign before them as it pleases.
 ghost use Rattle.std.specs.Prelude.{◌≡◌, pos, option_and_then, IfOk};
 ghost use Rattle.si_engine.specs.Lines.{words_of};
-ghost use Rattle.si_engine.specs.Numbers.{with_digit, natural_of, between, i64_of, number_between, u64_of, numbers_of};
+ghost use Rattle.si_engine.specs.Numbers.{with_digit, natural_of, between, max_u64, i64_of, number_between, u64_of, numbers_of};
 
 use crate::input::line_words::{Word, first_word};
 use prog_tree::Sequence;
@@ -20,7 +20,7 @@ fn with_digit(value: u64, byte: u8) -> Option<u64>
 // The u64 that digits are, of which there is at least one.
 fn natural(bytes: &[u8]) -> Option<u64>
     ensures { result
-        ≡ option_and_then (λ n. between 0 18446744073709551615 (pos n)) (natural_of bytes.now) }
+        ≡ option_and_then (λ n. between 0 max_u64 (pos n)) (natural_of bytes.now) }
 {
     if bytes.is_empty() {
         return None;

@@ -53,6 +53,23 @@ pub enum ScriptFault {
     WriteFault,
 }
 
+impl fmt::Display for ScriptFault {
+    ghost use Rattle.std.specs.Prelude.{Some};
+    ghost use Rattle.si_engine.specs.Texts.{script_fault_text};
+
+    ghost output = { λ fault. Some (script_fault_text fault) };
+
+    fn fmt<W: fmt::Write>(&self, f: &mut fmt::Formatter<W>) -> fmt::Result {
+        match self {
+            ScriptFault::Input(fault) => write!(f, "{fault}"),
+            ScriptFault::Line(fault) => write!(f, "{fault}"),
+            ScriptFault::WriteFault => f.write_str("I5"),
+        }
+    }
+}
+
+impl Error for ScriptFault {}
+
 impl From<AllocError> for LineFault {
     ghost use Rattle.std.specs.Prelude.{◌≡◌};
     ghost use Rattle.si_engine.specs.declared.input.script_fault.LineFault.TheVariants.{Memory};

@@ -5,10 +5,24 @@ ghost use Rattle.si_engine.specs.Reading.{CanGive};
 
 use crate::limits::{MAX_BYTES, MAX_READS};
 use std::alloc::{AllocError, AllocFailed, Global};
+use std::error::Error;
+use std::fmt;
 
 /// A source or a sink has failed.
 #[derive(Clone, Copy, Debug, PartialEq, Eq)]
 pub struct DeviceFault;
+
+impl fmt::Display for DeviceFault {
+    ghost use Rattle.std.specs.Prelude.{Some, codes};
+
+    ghost output = { λ _. Some (codes "device failed") };
+
+    fn fmt<W: fmt::Write>(&self, f: &mut fmt::Formatter<W>) -> fmt::Result {
+        f.write_str("device failed")
+    }
+}
+
+impl Error for DeviceFault {}
 
 /// What bytes are read from.
 pub trait Source {
@@ -34,6 +48,7 @@ pub trait Source {
         ensures { result ≡ has_failed self.now };
 }
 
+// How many bytes are asked of a source at a time.
 const PIECE: usize = 65_536;
 
 /// Why the bytes of a source can't be had.
@@ -43,6 +58,23 @@ pub enum InputFault {
     ReadFault,
     Memory,
 }
+
+impl fmt::Display for InputFault {
+    ghost use Rattle.std.specs.Prelude.{Some};
+    ghost use Rattle.si_engine.specs.Texts.{input_fault_text};
+
+    ghost output = { λ fault. Some (input_fault_text fault) };
+
+    fn fmt<W: fmt::Write>(&self, f: &mut fmt::Formatter<W>) -> fmt::Result {
+        f.write_str(match self {
+            InputFault::TooLong => "I3",
+            InputFault::ReadFault => "I4",
+            InputFault::Memory => "memory",
+        })
+    }
+}
+
+impl Error for InputFault {}
 
 impl From<AllocError> for InputFault {
     ghost use Rattle.si_engine.specs.declared.input.source.InputFault.TheVariants.{Memory};

@@ -5,7 +5,7 @@ use Rattle.si_engine.proofs.active.rows_for.Goals as goal
 
 pub returns-in-Some : goal.returns-in-Some
 returns-in-Some c =
-    c.from_vec.ensures ∙ c.in_ok-rows.ensures.items ∙ c.in-Some.ensures.held (state_in c.args.book.now c.args.ticket.now.start) c.requires.found
+    c.in_ok-rows.ensures ∙ c.in-Some.ensures.held (state_in c.args.book.now c.args.ticket.now.start) c.requires.found
 
 pub returns-in-Ok : goal.returns-in-Ok
 returns-in-Ok c = rows_are c.args.book.now c.args.ticket.now c.args.region.now c.in-Ok.rows c.in-Ok.ensures

@@ -1,4 +1,4 @@
-use Rattle.std.proofs.Common.{◌≡◌, ◌+◌, List, None, sym, ap, ◌∙◌, subst}
+use Rattle.std.proofs.Common.{◌≡◌, ◌+◌, List, None, sym, ap, subst}
 use Rattle.history_book.specs.View.{BookView, begin_at_fault_of, begun_at}
 use Rattle.history_book.proofs.ActiveLaws.{Entry}
 use Rattle.history_book.proofs.BeginLaws.{unused_number, begun-active, true-admitted}
@@ -10,7 +10,7 @@ insert-requires c = unused_number _ c.self.invariant.0
 pub invariant_of-self-2 : goal.invariant_of-self-2
 invariant_of-self-2 c =
     let none = subst (λ (v : BookView). begin_at_fault_of v c.args.start c.args.program c.args.args.now ≡ None) (sym c.self.view_is) c.requires in
-    let given = c.from_vec-args.ensures ∙ c.in_ok-from_slice.ensures.items in
+    let given = c.in_ok-args.ensures in
     let active = begun-active _ c.args.start c.args.program c.args.args.now _ _ c.self.invariant.0 given c.in_ok-insert.ensures.ok in (
       true-admitted _ c.args.start c.args.program c.args.args.now c.insert.new.self c.self.invariant.0 none c.read_numbers.ensures active c.insert.ensures.ordered,
       record { stands = c.self.invariant.1.stands; commits = c.self.invariant.1.commits },
@@ -20,7 +20,7 @@ invariant_of-self-2 c =
 pub returns-clause-begun : goal.returns-clause-begun
 returns-clause-begun c =
     let e = c.self.inside in
-    let given = c.from_vec-args.ensures ∙ c.in_ok-from_slice.ensures.items in
+    let given = c.in_ok-args.ensures in
     let active = begun-active _ c.args.start c.args.program c.args.args.now _ _ c.self.invariant.0 given c.in_ok-insert.ensures.ok in
     let with : List Entry → BookView = λ a.
     record { set = e.set.now; opening = e.opening; rows = e.rows.items; endings = e.endings.items; active = a; begun = e.begun + 1; floor = e.store.floor } in

@@ -13,8 +13,8 @@ returns-in-Over-clause-first c =
     found-first traces placed c.args.from number c.requires.from (omega arith, omega arith) (omega arith)
     (over-free traces placed number unplaced c.in-Over.ensures) c.loop-number.invariant.held
 
-pub wait_of-requires-clause-tested : goal.wait_of-requires-clause-tested
-wait_of-requires-clause-tested c =
+pub waiting_of-requires-clause-tested : goal.waiting_of-requires-clause-tested
+waiting_of-requires-clause-tested c =
     let traces = c.args.traces.now in
     let placed = c.args.placed.now in
     let holders = c.loop-number.holders in

@@ -1,10 +1,8 @@
-use Rattle.std.proofs.Common.{◌≡◌, ◌∙◌, ℕ, List, true, false, length, ap, subst, sym}
+use Rattle.std.proofs.Common.{◌≡◌, ◌∙◌, ℕ, List, true, false, length, subst, sym}
 use Rattle.std.specs.Prelude.{filter}
 use Rattle.prog_tree.specs.declared.cell.Cell.{Cell}
 use Rattle.prog_tree.specs.Corners.{is_between}
 use Rattle.history_book.specs.Reduced.{Pairs, RiseFrom, AreWithin, Adds, reader_pairs, region_pairs}
-use Rattle.history_book.specs.Traces.{takes_in}
-use Rattle.history_book.specs.declared.orders.trace.Sight.TheVariants as sight
 use Rattle.history_book.proofs.PairLaws.{no_pair}
 use Rattle.history_book.proofs.RegionPairs.{entry_first, region_on, region_begins, no_region}
 use Rattle.history_book.proofs.orders.readers.add_region.Goals as goal
@@ -43,7 +41,7 @@ loop-cell-preserved-in-Continue-1 c =
     let old = c.args.precedence.now in
     region_on old (length old) c.args.reader c.args.start c.args.region.now c.args.own.now true
     (region_pairs c.args.reader c.args.start c.args.region.now c.args.own.now c.args.writers.now) c.loop-cell.precedence c.add_reader.new.precedence c.loop-cell.cell-iterator c.next.new.self
-    c.in-Some-2.cell.now c.in-Some-2.numbers.now c.in-Some-2.ensures.steps (ap (λ own. takes_in (sight.Range c.args.region.now own) c.in-Some-2.cell.now) (sym c.of-own_cells.ensures) ∙ sym c.takes_in.ensures ∙ c.if-takes_in.true) c.loop-cell.invariant
+    c.in-Some-2.cell.now c.in-Some-2.numbers.now c.in-Some-2.ensures.steps (sym c.takes_in.ensures ∙ c.if-takes_in.true) c.loop-cell.invariant
     (subst (λ (ws : List ℕ). Adds (reader_pairs c.args.reader c.args.start ws) c.loop-cell.precedence c.add_reader.new.precedence) c.as_slice.ensures c.in_ok-add_reader.ensures)
 
 pub loop-cell-preserved : goal.loop-cell-preserved
@@ -51,5 +49,5 @@ loop-cell-preserved c =
     let old = c.args.precedence.now in
     region_on old (length old) c.args.reader c.args.start c.args.region.now c.args.own.now false
     (region_pairs c.args.reader c.args.start c.args.region.now c.args.own.now c.args.writers.now) c.loop-cell.precedence c.loop-cell.precedence c.loop-cell.cell-iterator c.next.new.self
-    c.in-Some-2.cell.now c.in-Some-2.numbers.now c.in-Some-2.ensures.steps (ap (λ own. takes_in (sight.Range c.args.region.now own) c.in-Some-2.cell.now) (sym c.of-own_cells.ensures) ∙ sym c.takes_in.ensures ∙ c.if-takes_in.false) c.loop-cell.invariant
+    c.in-Some-2.cell.now c.in-Some-2.numbers.now c.in-Some-2.ensures.steps (sym c.takes_in.ensures ∙ c.if-takes_in.false) c.loop-cell.invariant
     (no_pair c.loop-cell.precedence)

@@ -53,7 +53,7 @@ returns-in-Ok-from_slice-clause-step c =
     let next = ready.field-0-is ∙ ap Done ready.field-0-0-is in
     let no_more = ready.ensures.deeds ∙ (λ j. deeds_after (next j) (was j).deeds) in
     let over : run.end ≡ Some Ready = ready.ensures.end ∙ ap end_after next in
-    let replies : c.from_vec-replies.result ≡ run.replies = c.from_vec-replies.ensures ∙ c.in-Ok-from_slice.ensures.items ∙ c.replies.ensures ∙ ap (λ (r : RunView). r.replies) c.deref.ensures in
+    let replies : c.in-Ok-from_slice.replies ≡ run.replies = c.in-Ok-from_slice.ensures ∙ c.replies.ensures ∙ ap (λ (r : RunView). r.replies) c.deref.ensures in
     let step = ready_step c.args.book.now a run c.requires.held same_run c.advance.ensures.found c.advance.ensures.true_run no_more over in
     ap (λ rs. (reply.Ready rs, Some (active_in (record a { run = with_value a.run run; ready = true })))) replies ∙ step
 

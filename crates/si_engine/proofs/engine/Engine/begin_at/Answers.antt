@@ -49,14 +49,14 @@ invariant_of-self-2 c =
     let run_is = c.in_ok-run.ensures.begun ∙ ap (λ (d : Draft). begun d.tables.items run.value.program c.args.args.now) c.set.ensures in
     let made =
     engine-begun e.book e.begun.items c.self.invariant c.args.start c.args.program c.args.args.now (sym c.in_default.ensures) run ticket run_program run_is
-    c.in_ok-ticket.ensures.ticket c.begin_in.new.book c.in_ok-ticket.ensures.begun in
-    let pushed = c.in-Ok.ensures.items ∙ ap (λ ps. ps ++ Some (record { program = c.args.program; ticket = ticket; run = run; ready = false }) ∷ []) c.in_ok-reserve.ensures.items in
-    subst (IsEngine c.begin_in.new.book) (sym pushed) made
+    c.in_ok-ticket.ensures.ticket c.admit.new.self c.in_ok-ticket.ensures.begun in
+    let pushed = c.push_reserved.ensures.items ∙ ap (λ ps. ps ++ Some (record { program = c.args.program; ticket = ticket; run = run; ready = false }) ∷ []) c.in_ok-reserve.ensures.items in
+    subst (IsEngine c.admit.new.self) (sym pushed) made
 
 pub returns : goal.returns
 returns c =
     let e = c.self.inside in
-    let w = c.begin_in.new.book in
+    let w = c.admit.new.self in
     let run = c.in_ok-run.run' in
     let ticket = c.in_ok-ticket.ticket in
     let run_program = ap (λ (d : Draft). slice_get d.programs.items c.args.program) (sym c.set.ensures) ∙ c.in_ok-run.ensures.program in
@@ -64,14 +64,14 @@ returns c =
     let made =
     begin_made e.book e.begun.items c.self.invariant c.args.start c.args.program c.args.args.now (sym c.in_default.ensures) run ticket run_program run_is
     c.in_ok-ticket.ensures.ticket w c.in_ok-ticket.ensures.begun in
-    let pushed = c.in-Ok.ensures.items ∙ ap (λ ps. ps ++ Some (record { program = c.args.program; ticket = ticket; run = run; ready = false }) ∷ []) c.in_ok-reserve.ensures.items in
+    let pushed = c.push_reserved.ensures.items ∙ ap (λ ps. ps ++ Some (record { program = c.args.program; ticket = ticket; run = run; ready = false }) ∷ []) c.in_ok-reserve.ensures.items in
     let number : c.len-instance.result ≡ length e.begun.items = omega arith in
     record {
       over = search rules;
       step =
-          subst (λ (x : EngineView). (reply.Begun c.len-instance.result c.args.start, machine_of w c.push.new.self.items) ≡ begin_at_by (slice_get (draft_tree x.set).programs c.args.program) x.machine c.args.start c.args.program c.args.args.now)
+          subst (λ (x : EngineView). (reply.Begun c.len-instance.result c.args.start, machine_of w c.push_reserved.new.self.items) ≡ begin_at_by (slice_get (draft_tree x.set).programs c.args.program) x.machine c.args.start c.args.program c.args.args.now)
           c.self.view_is
-          (ap (λ n. (reply.Begun n c.args.start, machine_of w c.push.new.self.items)) number
+          (ap (λ n. (reply.Begun n c.args.start, machine_of w c.push_reserved.new.self.items)) number
           ∙ ap (λ ps. (reply.Begun (length e.begun.items) c.args.start, machine_of w ps)) pushed
           ∙ made);
       err = search rules;

@@ -1,5 +1,5 @@
 use Rattle.history_book.proofs.RightLaws.{right-lawful, right-true, right-not_wrong, lawful-right}
-use Rattle.history_book.proofs.audit.lawful_rows_are_right.Goals as goal
+use Rattle.history_book.proofs.laws.lawful_rows_are_right.Goals as goal
 
 pub returns-clause-lawful : goal.returns-clause-lawful
 returns-clause-lawful c = right-lawful

@@ -1,5 +1,5 @@
 use Rattle.history_book.specs.NearbyOrder.{IsTestedBelow}
-use Rattle.history_book.proofs.orders.nearby.wait_of.Given as goal
+use Rattle.history_book.proofs.orders.nearby.waiting_of.Given as goal
 
 abbrev pub invariant-loop-other : goal.invariant-loop-other
 invariant-loop-other l = IsTestedBelow l.traces l.placed l.number l.other

@@ -5,7 +5,7 @@ use Rattle.history_book.specs.View.{BookView, instance_of}
 use Rattle.history_book.specs.Serial.{is_each_once}
 use Rattle.history_book.proofs.SerialBooks.{not_again, one_more_again, at_end}
 use Rattle.history_book.proofs.OnceLaws.{whole}
-use Rattle.history_book.proofs.book.Book.fits.Goals as goal
+use Rattle.history_book.proofs.book.Book.fits_rows.Goals as goal
 
 pub repeat-requires-clause-called : goal.repeat-requires-clause-called
 repeat-requires-clause-called c =
@@ -32,6 +32,6 @@ pub returns : goal.returns
 returns c =
     let rows = ap (λ (v : BookView). length v.rows) c.self.view_is in
     let size : c.len.result ≡ length c.args.self.now.rows = omega (arith, c.len.ensures, rows) in
-    at_end c.args.self.now c.loop-number.serial c.args.order.now c.loop-number.number-index c.in_ok-is_each_once.field-0 c.is_same.result c.in_ok-rows.rows c.in_ok-newest.newest
+    at_end c.args.self.now c.loop-number.serial c.args.order.now c.loop-number.number-index c.in_ok-is_each_once.field-0 c.is_same.result c.in_ok-rows.rows c.args.newest.now
     c.loop-number.invariant (omega arith)
-    (c.in_ok-is_each_once.ensures.once ∙ ap (λ n. is_each_once n c.args.order.now) size) c.if-not-branch.false c.in_ok-rows.ensures c.in_ok-newest.ensures c.is_same.ensures
+    (c.in_ok-is_each_once.ensures.once ∙ ap (λ n. is_each_once n c.args.order.now) size) c.if-not-branch.false c.in_ok-rows.ensures c.requires c.is_same.ensures
