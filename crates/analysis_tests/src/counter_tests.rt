@@ -52,20 +52,15 @@ fn draw_all(
 }
 
 // How often each number below 1000 was drawn.
-fn times_drawn(
-    rt: &impl Abort,
-    alloc: Global,
-    numbers: &[u64],
-    others: &[u64],
-) -> Result<Vec<u32>, AllocError> {
-    let mut times = vec![in alloc; 0u32; 1000]?;
+fn times_drawn(rt: &impl Abort, alloc: Global, numbers: &[u64], others: &[u64]) -> Vec<u32> {
+    let mut times = vec![in alloc; 0u32; 1000].expect(rt, "memory");
     for &number in numbers.iter().chain(others.iter()) {
         let count = times
             .get_mut(number as usize)
             .expect(rt, "below the budget");
         *count = count.saturating_add(1);
     }
-    Ok(times)
+    times
 }
 
 #[test]
@@ -87,10 +82,10 @@ fn two_threads(rt: HostRuntime) -> Result<(), AllocError> {
     );
     let pass = counter.join(first, second);
     assert!(rt; counter.close(pass) == 1000);
-    let numbers = one?;
-    let others = other?;
+    let numbers = one.expect(&rt, "memory");
+    let others = other.expect(&rt, "memory");
     assert!(rt; numbers.len() == 500 && others.len() == 500);
-    let times = times_drawn(&rt, alloc, &numbers, &others)?;
+    let times = times_drawn(&rt, alloc, &numbers, &others);
     assert!(rt; times.iter().all(|&count| count == 1));
     Ok(())
 }

@@ -2,6 +2,7 @@
 
 use order_facts::{Closed, Facts, Node, Nodes, check_chain, is_plain_step};
 use std::alloc::{AllocError, Global};
+use std::process::Abort;
 
 const KEY: Node = Node::Mine(0);
 
@@ -29,49 +30,42 @@ type Given = &'static [(Node, Node)];
 /// found (0 where there is none or it does not check), and what the sample gives x.
 type Answer = (bool, bool, usize, Option<i64>);
 
-fn facts(alloc: Global, given: &[(Node, Node)]) -> Result<Facts, AllocError> {
-    let mut facts = Facts::new(alloc);
+fn add_all(facts: &mut Facts, given: &[(Node, Node)]) -> Result<(), AllocError> {
     for (lo, hi) in given {
         facts.add(*lo, *hi)?;
     }
-    Ok(facts)
+    Ok(())
 }
 
-fn chain_len(facts: &Facts, closed: &Closed, x: Node, y: Node) -> Result<usize, AllocError> {
-    match closed.chain(x, y)? {
-        Some(chain) if check_chain(facts, &chain) => Ok(chain.len()),
-        _ => Ok(0),
+fn facts(rt: &impl Abort, alloc: Global, given: &[(Node, Node)]) -> Facts {
+    let mut facts = Facts::new(alloc);
+    add_all(&mut facts, given).expect(rt, "memory");
+    facts
+}
+
+fn chain_len(rt: &impl Abort, facts: &Facts, closed: &Closed, x: Node, y: Node) -> usize {
+    match closed.chain(x, y).expect(rt, "memory") {
+        Some(chain) if check_chain(facts, &chain) => chain.len(),
+        _ => 0,
     }
 }
 
-fn sampled(closed: &Closed, x: Node) -> Result<Option<i64>, AllocError> {
-    match closed.sample()? {
-        Some(sample) => Ok(Some(sample.get(x))),
-        None => Ok(None),
-    }
+fn sampled(rt: &impl Abort, closed: &Closed, x: Node) -> Option<i64> {
+    let sample = closed.sample().expect(rt, "memory")?;
+    Some(sample.get(x))
 }
 
-fn answer(facts: &Facts, closed: &Closed, x: Node, y: Node) -> Result<Answer, AllocError> {
-    let nodes = chain_len(facts, closed, x, y)?;
-    let number = sampled(closed, x)?;
-    Ok((closed.consistent(), closed.entails(x, y), nodes, number))
+fn answer(rt: &impl Abort, facts: &Facts, closed: &Closed, x: Node, y: Node) -> Answer {
+    let nodes = chain_len(rt, facts, closed, x, y);
+    let number = sampled(rt, closed, x);
+    (closed.consistent(), closed.entails(x, y), nodes, number)
 }
 
-fn answer_of_facts(facts: &Facts, x: Node, y: Node) -> Result<Answer, AllocError> {
-    let closed = facts.close()?;
-    let answer = answer(facts, &closed, x, y);
+fn answer_of(rt: &impl Abort, alloc: Global, given: &[(Node, Node)], x: Node, y: Node) -> Answer {
+    let facts = facts(rt, alloc, given);
+    let closed = facts.close().expect(rt, "memory");
+    let answer = answer(rt, &facts, &closed, x, y);
     drop(closed);
-    answer
-}
-
-fn answer_of(
-    alloc: Global,
-    given: &[(Node, Node)],
-    x: Node,
-    y: Node,
-) -> Result<Answer, AllocError> {
-    let facts = facts(alloc, given)?;
-    let answer = answer_of_facts(&facts, x, y);
     drop(facts);
     answer
 }
@@ -107,25 +101,20 @@ const WORKED: [(Given, Node, Node, Answer); 14] = [
 ];
 
 #[test]
-fn worked_facts(rt: HostRuntime) -> Result<(), AllocError> {
-    for &(given, x, y, want) in WORKED.iter() {
-        let got = answer_of(rt.alloc(), given, x, y)?;
-        assert!(rt; got == want, "from {x:?} to {y:?}: {got:?}");
+fn worked_facts(rt: HostRuntime) {
+    for (given, x, y, want) in &WORKED {
+        let got = answer_of(&rt, rt.alloc(), *given, *x, *y);
+        assert!(rt; got == *want, "from {x:?} to {y:?}: {got:?}");
     }
-    Ok(())
 }
 
 #[test]
-fn chains_are_checked(rt: HostRuntime) -> Result<(), AllocError> {
-    let facts = facts(rt.alloc(), &[(KEY, ONE), (FIVE, C)])?;
-    let checked = [
-        check_chain(&facts, &[KEY, ONE, FIVE, C]),
-        check_chain(&facts, &[KEY, C]),
-        check_chain(&facts, &[]),
-    ];
+fn chains_are_checked(rt: HostRuntime) {
+    let facts = facts(&rt, rt.alloc(), &[(KEY, ONE), (FIVE, C)]);
+    assert!(rt; check_chain(&facts, &[KEY, ONE, FIVE, C]));
+    assert!(rt; !check_chain(&facts, &[KEY, C]));
+    assert!(rt; !check_chain(&facts, &[]));
     drop(facts);
-    assert!(rt; checked == [true, false, false]);
-    Ok(())
 }
 
 /// Steps, and whether they need no fact.
@@ -146,14 +135,12 @@ fn some_steps_need_no_fact(rt: HostRuntime) {
 }
 
 #[test]
-fn nodes_in_a_row_are_those_that_were_given(rt: HostRuntime) -> Result<(), AllocError> {
-    let one = Nodes::of_one(TWO);
-    assert!(rt; one.as_slice() == [TWO].as_slice());
+fn nodes_in_a_row_are_those_that_were_given(rt: HostRuntime) {
     let two = Nodes::of_two(KEY, A);
+    assert!(rt; Nodes::of_one(TWO).as_slice() == [TWO].as_slice());
     assert!(rt; two.as_slice() == [KEY, A].as_slice());
-    let copy = Nodes::from_slice(rt.alloc(), two.as_slice())?;
+    let copy = Nodes::from_slice(rt.alloc(), two.as_slice()).expect(&rt, "memory");
     assert!(rt; copy.as_slice() == [KEY, A].as_slice());
-    let listed = Nodes::from_vec(Vec::from_slice(rt.alloc(), &[ONE, B, C])?);
-    assert!(rt; listed.as_slice() == [ONE, B, C].as_slice());
-    Ok(())
+    let nodes = Vec::from_slice(rt.alloc(), &[ONE, B, C]).expect(&rt, "memory");
+    assert!(rt; Nodes::from_vec(nodes).as_slice() == [ONE, B, C].as_slice());
 }

@@ -1,8 +1,9 @@
 -- What the words of a certificate have to say.
-use Rattle.std.specs.Prelude.{ℕ, zero, suc, ◌≡◌, ◌-◌, ◌==◌, ◌⊎◌, Bool, true, false, List, [], ◌++◌, codes, filter, if◌then◌else◌, length, min}
+use Rattle.std.specs.Prelude.{ℕ, zero, suc, ◌≡◌, ◌-◌, ◌==◌, ◌+◌, ◌⊎◌, Bool, true, false, List, [], ◌++◌, codes, filter, if◌then◌else◌, length, min}
 use Rattle.std.specs.Fmt.{decimal}
 use Rattle.prog_tree.specs.Syntax.{DraftTree}
 use Rattle.prog_check.specs.declared.path.Path.{Path}
+use Rattle.prog_paths.specs.Asked.{limit, questions_of}
 use Rattle.robust_cert.specs.declared.certificate.Certificate.{Certificate}
 use Rattle.robust_cert.specs.declared.certificate.Entry.{Entry}
 use Rattle.robust_cert.specs.declared.certificate.Entry.TheVariants.{Apart, Cover}
@@ -48,6 +49,10 @@ abbrev pub IsMostText : (text : List ℕ) → Type 0
 IsMostText text =
     (text ≡ []) ⊎ ((count : ℕ) × (access : List ℕ) × (text ≡ codes " (" ++ (decimal count ++ (codes " of them by " ++ (access ++ codes ")")))))
 
+-- how many questions the paths ask, no further than one above the limit
+abbrev pub asked_count : List Path → ℕ
+asked_count paths = min (length (questions_of paths)) (limit + 1)
+
 -- the line of the questions: how many there are, which reasons they have, and how many are left for the levels
 abbrev pub questions_text : Certificate → (asked : ℕ) → (most : List ℕ) → List ℕ
 questions_text certificate asked most =
@@ -55,8 +60,8 @@ questions_text certificate asked most =
     ++ (codes " pairs of accesses that could touch one row, " ++ (entries_text certificate ++ (most ++ (codes ", and "
     ++ (decimal (asked - length certificate.entries) ++ codes " are in order by the levels\n"))))))
 
--- the words have the line of the questions and that of the levels
+-- the words have the line of all questions that the paths ask, and that of the levels
 abbrev pub SaysRobust : DraftTree → List Path → Certificate → (words : List ℕ) → Type 0
 SaysRobust set paths certificate words =
-    (asked : ℕ) × (most : List ℕ) × IsMostText most
-    × (words ≡ questions_text certificate asked most ++ (codes "levels: " ++ (levels_text set paths certificate ++ codes "\n")))
+    (most : List ℕ) × IsMostText most
+    × (words ≡ questions_text certificate (asked_count paths) most ++ (codes "levels: " ++ (levels_text set paths certificate ++ codes "\n")))

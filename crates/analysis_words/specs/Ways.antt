@@ -2,18 +2,16 @@
 use Rattle.std.specs.Prelude.{ℕ, ◌≡◌, ◌≢◌, ◌↔◌, Bool, true, false, List, [], codes, IsTrue}
 use Rattle.prog_tree.specs.Syntax.{DraftTree}
 use Rattle.repair_laws.specs.declared.plan.Pair.{Pair}
-use Rattle.repair_laws.specs.Materialised.{IsMaterialised}
-use Rattle.repair_laws.specs.Promoted.{IsPromoted}
 use Rattle.repair_laws.specs.Refusals.{StopsMaterialising, StopsPromotion}
 use Rattle.si_repair.specs.Repairing.{StopsNowhere}
 
 -- no pair of the plan stops a repair by new tables
 abbrev pub IsRepairedByTables : DraftTree → List Pair → Type 0
-IsRepairedByTables set plan = StopsNowhere (StopsMaterialising IsMaterialised set plan) plan
+IsRepairedByTables set plan = StopsNowhere (StopsMaterialising set plan) plan
 
 -- no pair of the plan stops a repair by keeps behind looks
 abbrev pub IsRepairedByKeeps : DraftTree → List Pair → Type 0
-IsRepairedByKeeps set plan = StopsNowhere (StopsPromotion IsPromoted set plan) plan
+IsRepairedByKeeps set plan = StopsNowhere (StopsPromotion set plan) plan
 
 abbrev pub untried_text : List ℕ
 untried_text = codes "`sirob repair` does it, unless the set gets above a limit: by a row of a new table that both `keep`\n"

@@ -4,7 +4,6 @@
 #![tactic(auto)]
 
 mod advice;
-mod asked;
 mod certificate_faults;
 mod covering;
 mod edges;

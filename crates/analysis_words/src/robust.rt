@@ -6,13 +6,12 @@ ghost use Rattle.robust_cert.specs.declared.certificate.Question.{Question};
 ghost use Rattle.robust_cert.specs.Sharing.{entry_told, entry_with, IsWithin};
 ghost use Rattle.analysis_words.specs.Robust.{apart_count, comma_before, entries_text, first_levels, is_apart, IsMostText, levels_text, listed_level, questions_text, reasons_text, SaysRobust};
 
-use crate::asked::asked_in;
 use crate::certificate_faults::{level_text, wide};
 use crate::covering::{Covering, most_covering};
 use crate::left::more_text;
 use crate::shown::{Shown, access_text};
 use prog_check::ProgramSet;
-use prog_paths::paths;
+use prog_paths::{paths, question_count};
 use robust_cert::{Certificate, Entries, Reason, Told};
 use std::alloc::{AllocError, Global};
 use text_places::SetText;
@@ -151,12 +150,6 @@ fn levels_text(
     format!(in alloc; "{first}{more}")
 }
 
-// How many questions are asked.
-fn asked_count(shown: Shown<'_>) -> usize {
-    let tables = shown.set.draft().tables.len();
-    asked_in(shown.paths, tables)
-}
-
 // How many questions there are, which reasons they have, and how many are left for the levels.
 fn questions_text(
     alloc: Global,
@@ -185,7 +178,7 @@ fn sentence(
         shown.entry.paths.now certificate.now (string_bytes words)) }
 {
     let most = most_text(alloc, shown, certificate)?;
-    let asked = asked_count(shown);
+    let asked = question_count(shown.paths);
     let questions = questions_text(alloc, certificate, asked, &most)?;
     let levels = levels_text(alloc, shown, certificate)?;
     let words = format!(in alloc; "{questions}levels: {levels}\n")?;

@@ -1,5 +1,5 @@
 -- On which questions the verdicts of parts are.
-use Rattle.std.proofs.Common.{ℕ, ◌<◌, List, [], ◌∷◌, length, take, drop, Vec, Global, subst, arith, zero, suc, max}
+use Rattle.std.proofs.Common.{◌≡◌, ℕ, ◌<◌, List, [], ◌∷◌, ◌++◌, length, take, drop, Vec, Global, append_assoc, append-nil, sym, ap, ◌∙◌, subst, arith, zero, suc, max}
 use Rattle.std.specs.Prelude.{All}
 use Rattle.std.specs.List.{AllZip, flat_map}
 use Rattle.std.proofs.lemmas.List.Elements.{All-nil, All-cons, All-take, All-drop}
@@ -37,3 +37,14 @@ chunks_asked (suc n) paths (q ∷ qs) size h =
 
 pub each_chunk_asked : (paths : List Path) (qs : List Asked) (size : ℕ) → All (IsAsked paths) qs → All (λ (chunk : List Asked). All (IsAsked paths) chunk) (chunks_of size qs)
 each_chunk_asked paths qs size h = chunks_asked (length qs) paths qs size h
+
+-- ---- the verdicts of all parts, one part more at a time
+
+pub joined-more : (old new whole : List Verdict) (rest left : List Part) (part : Part) → left ≡ part ∷ rest → new ≡ old ++ part.items → old ++ verdicts_in left ≡ whole → new ++ verdicts_in rest ≡ whole
+joined-more old new whole rest left part first added h =
+    ap (λ (l : List Verdict). l ++ verdicts_in rest) added ∙ append_assoc old part.items (verdicts_in rest)
+    ∙ ap (λ (l : List Part). old ++ verdicts_in l) (sym first) ∙ h
+
+pub joined-end : (old whole : List Verdict) (left : List Part) → length left ≡ 0 → old ++ verdicts_in left ≡ whole → old ≡ whole
+joined-end old whole [] none h = sym (append-nil old) ∙ h
+joined-end old whole (part ∷ left) none h = absurd (omega (arith, none))

@@ -1,5 +1,5 @@
 -- The laws of verdicts: they are exact.
-use Rattle.std.specs.Prelude.{◌↔◌, List}
+use Rattle.std.specs.Prelude.{◌↔◌, List, Bool, true, false}
 use Rattle.prog_check.specs.declared.path.Access.{Access}
 use Rattle.prog_check.specs.declared.path.Path.{Path}
 use Rattle.prog_paths.specs.Meeting.{CanMeet}
@@ -19,6 +19,18 @@ IsCoveredVerdict _ = ⊥
 abbrev pub IsExposedVerdict : Verdict → Type 0
 IsExposedVerdict (Exposed sample) = Unit {0}
 IsExposedVerdict _ = ⊥
+
+-- the verdict says that the two accesses can meet
+abbrev pub can_meet : Verdict → Bool
+can_meet (Apart _) = false
+can_meet (Covered _ _ _) = true
+can_meet (Exposed _) = true
+
+-- the verdict says that the question is exposed
+abbrev pub is_exposed : Verdict → Bool
+is_exposed (Apart _) = false
+is_exposed (Covered _ _ _) = false
+is_exposed (Exposed _) = true
 
 -- the question asks for a read-write dependency, can meet, and is covered
 abbrev pub IsCoveredQuestion : List Path → Question → Access → Access → Type 0

@@ -12,7 +12,9 @@ use crate::kinds::Kinds;
 use crate::table::PairTable;
 use crate::verdicts::Verdict;
 use prog_check::Path;
-use prog_paths::{Changers, Placed, Question, all_places, asks, is_too_large, question_between};
+use prog_paths::{
+    Changers, MAX_QUESTIONS, Placed, Question, all_places, asks, question_between, question_count,
+};
 use std::alloc::{AllocError, Global};
 
 /// Adds what one access asks of each.
@@ -32,13 +34,17 @@ fn push_questions(
     Ok(())
 }
 
-/// What each access asks of each, without the verdicts. Only the changers of its table are looked
-/// through.
-pub fn all_questions(alloc: Global, places: &[Placed]) -> Result<Vec<Question>, AllocError>
+/// What each access asks of each, without the verdicts, in a list with room for so many. Only the
+/// changers of its table are looked through.
+pub fn all_questions(
+    alloc: Global,
+    places: &[Placed],
+    room: usize,
+) -> Result<Vec<Question>, AllocError>
     ensures { IfOk result (λ questions. questions.items ≡ asked_among places.now places.now) }
 {
     let changers = Changers::of(alloc, places)?;
-    let mut questions = Vec::new(alloc);
+    let mut questions = Vec::with_capacity(alloc, room)?;
     for first in places {
         let seconds = changers.of_table(first.access.table);
         push_questions(first, seconds, &mut questions)?;
@@ -55,14 +61,14 @@ pub struct Questions {
     pub numbers: Vec<usize>,
 }
 
-/// The questions of a list of paths.
-pub fn questions_of(alloc: Global, paths: &[Path]) -> Result<Questions, AllocError>
+/// The questions of a list of paths, of which there are so many.
+pub fn questions_of(alloc: Global, paths: &[Path], count: usize) -> Result<Questions, AllocError>
     requires { length (questions_of paths.now) ≤ limit }
     ensures { IfOk result (λ qs.
         AreListed paths.now qs.all.items qs.judged.items qs.numbers.items) }
 {
     let places = all_places(alloc, paths)?;
-    let all = all_questions(alloc, &places)?;
+    let all = all_questions(alloc, &places, count)?;
     let kinds = Kinds::of(alloc, paths, &places)?;
     let Interned { values, numbers } = intern_all(alloc, &kinds, &all)?;
     Ok(Questions {
@@ -91,10 +97,11 @@ pub fn pairs(alloc: Global, paths: &[Path]) -> Result<PairTable, PairFault>
     ensures too_large { (result ≡ Err PairFault.TooLarge)
         ↔ (limit < length (questions_of paths.now)) }
 {
-    if is_too_large(paths) {
+    let count = question_count(paths);
+    if count > MAX_QUESTIONS {
         return Err(PairFault::TooLarge);
     }
-    let questions = questions_of(alloc, paths)?;
+    let questions = questions_of(alloc, paths, count)?;
     let verdicts = verdicts_of(alloc, paths, &questions.judged)?;
     Ok(table_of(paths, questions, verdicts))
 }

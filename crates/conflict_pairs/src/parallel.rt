@@ -12,7 +12,7 @@ use crate::listing::{questions_of, table_of};
 use crate::table::PairTable;
 use crate::verdicts::Verdict;
 use prog_check::Path;
-use prog_paths::{Question, is_too_large};
+use prog_paths::{MAX_QUESTIONS, Question, question_count};
 use rayon::prelude::*;
 use std::alloc::{AllocError, Global};
 use std::thread::Threads;
@@ -51,12 +51,11 @@ fn parts_of(
 }
 
 /// The verdicts of all parts, one part after the other.
-fn joined(alloc: Global, mut parts: Vec<Vec<Verdict>>) -> Result<Vec<Verdict>, AllocError>
+fn joined(alloc: Global, parts: Vec<Vec<Verdict>>) -> Result<Vec<Verdict>, AllocError>
     ensures { IfOk result (λ verdicts. verdicts.items ≡ verdicts_in parts.items) }
 {
     let mut verdicts = Vec::new(alloc);
-    while !parts.is_empty() {
-        let mut part = parts.remove(0);
+    for mut part in parts {
         verdicts.append(&mut part)?;
     }
     Ok(verdicts)
@@ -74,10 +73,11 @@ pub fn pairs_par(
     ensures too_large { (result ≡ Err PairFault.TooLarge)
         ↔ (limit < length (questions_of paths.now)) }
 {
-    if is_too_large(paths) {
+    let count = question_count(paths);
+    if count > MAX_QUESTIONS {
         return Err(PairFault::TooLarge);
     }
-    let questions = questions_of(alloc, paths)?;
+    let questions = questions_of(alloc, paths, count)?;
     let parts = parts_of(rt, alloc, paths, &questions.judged)?;
     let verdicts = joined(alloc, parts)?;
     Ok(table_of(paths, questions, verdicts))

@@ -4,10 +4,11 @@ use Rattle.std.specs.Prelude.{slice_get}
 use Rattle.conflict_pairs.specs.declared.table.Entry.{Entry}
 use Rattle.prog_paths.specs.declared.accesses.places.Question.{Question}
 use Rattle.conflict_pairs.specs.declared.verdicts.Verdict.{Verdict}
+use Rattle.conflict_pairs.specs.Law.{can_meet, is_exposed}
 use Rattle.prog_paths.specs.declared.accesses.mark.Mark.{Mark}
 use Rattle.dep_graph.specs.Marks.{mark_at}
 use Rattle.prog_paths.specs.Marks.{mark_by}
-use Rattle.dep_graph.specs.Marking.{can_meet, is_exposed, mark_of}
+use Rattle.dep_graph.specs.Marking.{mark_of}
 
 -- the entry at a place, and what it gives
 pub record IsEntryAt (entries : List Entry) (n : ℕ) : Type 0 where

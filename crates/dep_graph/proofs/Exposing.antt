@@ -6,10 +6,11 @@ use Rattle.order_facts.specs.declared.sample.Sample.{Sample}
 use Rattle.conflict_pairs.specs.declared.verdicts.Verdict.{Verdict}
 use Rattle.conflict_pairs.specs.declared.verdicts.Verdict.TheVariants.{Apart, Covered, Exposed}
 use Rattle.conflict_pairs.specs.declared.table.Entry.{Entry}
+use Rattle.conflict_pairs.specs.Law.{is_exposed}
 use Rattle.prog_paths.specs.declared.accesses.mark.Mark.{Mark}
 use Rattle.prog_paths.specs.Marks.{gives_vulnerable}
 use Rattle.dep_graph.specs.Marks.{IsFirstVulnerable}
-use Rattle.dep_graph.specs.Marking.{is_exposed, mark_of}
+use Rattle.dep_graph.specs.Marking.{mark_of}
 use Rattle.dep_graph.proofs.Entries.{IsEntryAt, entry_at}
 
 sample_of : (v : Verdict) → is_exposed v ≡ true → (sample : Sample) × (v ≡ Exposed sample)

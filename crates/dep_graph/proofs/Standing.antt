@@ -25,9 +25,10 @@ use Rattle.conflict_pairs.specs.declared.verdicts.Verdict.TheVariants.{Apart, Co
 use Rattle.conflict_pairs.specs.declared.table.Entry.{Entry}
 use Rattle.conflict_pairs.specs.Verdicts.{mine_of, theirs_of, IsRightOf, IsRight, IsExposedBy}
 use Rattle.conflict_pairs.specs.Table.{Table, IsRightEntry, StandsFor}
+use Rattle.conflict_pairs.specs.Law.{can_meet, is_exposed}
 use Rattle.dep_graph.specs.declared.danger.Exposure.{Exposure}
 use Rattle.dep_graph.specs.Marks.{mark_at, HasEdge, HasVulnerable, IsFirstVulnerable}
-use Rattle.dep_graph.specs.Marking.{can_meet, is_exposed, mark_of, marks_of}
+use Rattle.dep_graph.specs.Marking.{mark_of, marks_of}
 use Rattle.dep_graph.specs.Danger.{IsFirstExposure, IsLeastExposed}
 use Rattle.dep_graph.proofs.Alike.{IsWithin}
 use Rattle.dep_graph.proofs.Entries.{IsEntryAt, entry_at}

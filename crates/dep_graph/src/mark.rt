@@ -2,28 +2,10 @@
 
 ghost use Rattle.std.specs.Prelude.{◌≡◌, ◌<◌, length};
 ghost use Rattle.dep_graph.specs.Marks.{mark_at};
-ghost use Rattle.dep_graph.specs.Marking.{can_meet, is_exposed, marks_of};
+ghost use Rattle.dep_graph.specs.Marking.{marks_of};
 
-use conflict_pairs::{PairTable, Verdict};
+use conflict_pairs::PairTable;
 use prog_paths::{Mark, mark_by};
-
-fn can_meet(verdict: &Verdict) -> bool
-    ensures { result ≡ can_meet verdict.now }
-{
-    match verdict {
-        Verdict::Apart(_) => false,
-        _ => true,
-    }
-}
-
-fn is_exposed(verdict: &Verdict) -> bool
-    ensures { result ≡ is_exposed verdict.now }
-{
-    match verdict {
-        Verdict::Exposed(_) => true,
-        _ => false,
-    }
-}
 
 /// What the question of a number gives.
 pub fn entry_mark(table: &PairTable, n: usize) -> Mark
@@ -31,5 +13,5 @@ pub fn entry_mark(table: &PairTable, n: usize) -> Mark
     ensures { result ≡ mark_at (marks_of table.now).marks n }
 {
     let verdict = table.verdict(n);
-    mark_by(table.question(n), can_meet(verdict), is_exposed(verdict))
+    mark_by(table.question(n), verdict.can_meet(), verdict.is_exposed())
 }

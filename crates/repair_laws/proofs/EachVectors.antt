@@ -1,5 +1,5 @@
 -- The set of whose body a read is exposed: a promotion of it is refused, for that reason alone.
-use Rattle.std.proofs.Common.{◌≡◌, List, ℕ, zero, suc, ◌⊎◌, inl, inr, [], ◌∷◌, refl, sym, ap, subst, ◌∙◌, arith, false, true}
+use Rattle.std.proofs.Common.{◌≡◌, ℕ, zero, suc, ◌⊎◌, inl, inr, [], ◌∷◌, refl, sym, ap, subst, ◌∙◌, arith, false, true}
 use Rattle.std.specs.Prelude.{pos, Some, slice_get}
 use Rattle.std.proofs.lemmas.Bool.{false≢true}
 use Rattle.std.proofs.lemmas.Int.{ints}
@@ -178,5 +178,5 @@ not_range (e, p, at, st, stands, range) =
     one_cell st (subst (λ n. IsStatementAt 0 move_program.body n st) (sym place) (subst (λ (q : ProgramTree). IsStatementAt 0 q.body e.question.mine.place st) (sym program) stands)) range
 
 -- so the one pair of a plan stops it for the body's sake
-move_stops : (IsResult : DraftTree → List Pair → DraftTree → Type 0) → StopsPromotion IsResult move_set (record { from = 0; to = 0 } ∷ []) 0 (record { from = 0; to = 0 }) BodyRead
-move_stops IsResult = (not_range, λ h. not_unknown (record { from = 0; to = 0 }) h, move_refused)
+move_stops : StopsPromotion move_set (record { from = 0; to = 0 } ∷ []) 0 (record { from = 0; to = 0 }) BodyRead
+move_stops = (not_range, λ h. not_unknown (record { from = 0; to = 0 }) h, move_refused)

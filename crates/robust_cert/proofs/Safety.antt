@@ -106,5 +106,5 @@ module _ (nodes : List Path) (single : All ChangesSingleCells nodes) (c : Certif
   safe : IsDangerous nodes → ⊥
   safe (x, y, z, d) = unclosed x y z a.levels_rise (record { first = exposed x y d.first; second = exposed y z d.second; back = along z x d.back })
 
-pub accepted_is_safe : LawOfAcceptance
-accepted_is_safe draft c a = safe (paths_of draft) (law_of_single_changes draft) c a
+pub law_of_acceptance : LawOfAcceptance
+law_of_acceptance draft c a = safe (paths_of draft) (law_of_single_changes draft) c a

@@ -2,6 +2,6 @@
 ghost use Rattle.robust_cert.specs.Law.{LawOfAcceptance};
 
 /// A set with an accepted certificate has no dangerous structure.
-pub fn accepted_is_safe()
+pub fn law_of_acceptance()
     ensures { LawOfAcceptance }
 {}

@@ -22,7 +22,7 @@ pub use checking::bodies::body_size;
 pub use checking::checker::verify;
 pub use entries::{Entries, Reason, Told};
 pub use fault::{CertFault, JsonFault};
-pub use laws::accepted_is_safe;
+pub use laws::law_of_acceptance;
 pub use robust::RobustSet;
 pub use text::reading::from_json;
 pub use text::writing::to_json;

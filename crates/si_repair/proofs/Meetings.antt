@@ -123,7 +123,7 @@ small_more draft plan n result small made none k less large = go (cases_lt k n)
         absurd cc
 
 -- where none is, nothing stops the plan
-pub stops_nowhere : (draft : DraftTree) (plan : List Pair) → AreSmall draft plan (length plan) → StopsNowhere (StopsMaterialising IsMaterialised draft plan) plan
+pub stops_nowhere : (draft : DraftTree) (plan : List Pair) → AreSmall draft plan (length plan) → StopsNowhere (StopsMaterialising draft plan) plan
 stops_nowhere draft plan small n pair why.RangeRead at stops = stops
 stops_nowhere draft plan small n pair why.UnknownKey at stops = stops
 stops_nowhere draft plan small n pair why.BodyRead at stops = stops
@@ -146,7 +146,7 @@ of-size check.Memory h = absurd h
 -- a refusal names the first pair that stops the plan
 pub refused_at : (draft : DraftTree) (plan : List Pair) (place : ℕ) (pair : Pair) (result : DraftTree)
     → IsSound draft → slice_get plan place ≡ Some pair → IsMaterialised draft (take (place + 1) plan) result → AreSmall draft plan place
-    → (f : RepairFault) → IsRefusedAt result pair f → IsRepairFault (StopsMaterialising IsMaterialised draft plan) plan f
+    → (f : RepairFault) → IsRefusedAt result pair f → IsRepairFault (StopsMaterialising draft plan) plan f
 refused_at draft plan place pair result sound at made small (fault.RangeRead p) h = absurd h
 refused_at draft plan place pair result sound at made small (fault.UnknownKey p) h = absurd h
 refused_at draft plan place pair result sound at made small (fault.BodyRead p) h = absurd h
@@ -160,7 +160,7 @@ refused_at draft plan place pair result sound at made small (fault.TooMany p) h 
       first = first;
     }
   where
-    first : (n : ℕ) (earlier : Pair) (reason : Reason) → n < place → slice_get plan n ≡ Some earlier → StopsMaterialising IsMaterialised draft plan n earlier reason → ⊥
+    first : (n : ℕ) (earlier : Pair) (reason : Reason) → n < place → slice_get plan n ≡ Some earlier → StopsMaterialising draft plan n earlier reason → ⊥
     first n earlier why.RangeRead less here stops = stops
     first n earlier why.UnknownKey less here stops = stops
     first n earlier why.BodyRead less here stops = stops

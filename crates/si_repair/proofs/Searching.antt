@@ -1,14 +1,15 @@
 -- Steps of searches through lists, the nodes of a program, and structures whose nodes are of three programs.
-use Rattle.std.proofs.Common.{◌≡◌, ◌↔◌, ℕ, ◌+◌, ◌<◌, ◌≤◌, ◌⊎◌, inl, inr, List, [], ◌∷◌, ◌++◌, length, get_or, take, Contains, sym, subst, ap, ◌∙◌, arith}
-use Rattle.std.specs.Prelude.{Any, All}
+use Rattle.std.proofs.Common.{◌≡◌, ◌↔◌, ℕ, ◌+◌, ◌<◌, ◌≤◌, ◌⊎◌, inl, inr, List, [], ◌∷◌, ◌++◌, length, length-append, get_or, take, Contains, Vec, Global, sym, subst, ap, ◌∙◌, arith}
+use Rattle.std.specs.Prelude.{Any, All, Some, slice_get}
 use Rattle.std.proofs.lemmas.Bool.{cases_eq}
-use Rattle.std.proofs.lemmas.List.{take_more, take_all}
+use Rattle.std.proofs.Math.Seq.{get_or-append_seam}
+use Rattle.std.proofs.lemmas.List.{get_or_append_left, take_more, take_all}
 use Rattle.std.proofs.lemmas.List.Elements.{Contains-get_or, Contains-append_left, Contains-push, Contains-push_cases}
 use Rattle.std.proofs.lemmas.Option.{slice_get-get_or, get_or_from_slice_get, slice_get_within}
 use Rattle.prog_check.specs.declared.path.Path.{Path}
 use Rattle.repair_laws.specs.Striking.{IsOfProgram}
 use Rattle.repair_laws.specs.Closing.{Closes}
-use Rattle.si_repair.specs.Planning.{AreNodesOf, BeginsIn}
+use Rattle.si_repair.specs.Planning.{AreNodesOf, AreListedBy, BeginsIn}
 
 -- ---- searches
 
@@ -64,6 +65,34 @@ nodes-all nodes program n xs past are x = (λ c. ((are x).0 c).1, λ h. let l = 
 
 pub nodes-below : (nodes : List Path) (program : ℕ) (xs : List ℕ) (n : ℕ) → n ≡ length nodes → AreNodesOf nodes program xs → All (λ x. x < n) xs
 nodes-below nodes program xs n same are = all-contained (λ x. x < n) xs (λ x c. let l = within nodes program x ((are x).0 c) in omega (arith, l, same))
+
+-- ---- the nodes of each program
+
+pub none-listed : (nodes : List Path) (lists : List (Vec ℕ Global)) → lists ≡ [] → AreListedBy nodes lists
+none-listed nodes lists none = subst (λ (l : List (Vec ℕ Global)). AreListedBy nodes l) (sym none) (λ program list at. absurd (nothing program list at))
+  where
+    nothing : (program : ℕ) (list : Vec ℕ Global) → slice_get [] program ≡ Some list → ⊥
+    nothing program list at = let lt = slice_get_within [] program list at in omega (arith, lt)
+
+-- with the list of the next program behind the others
+pub listed-more : (nodes : List Path) (n : ℕ) (lists : List (Vec ℕ Global)) (list : Vec ℕ Global) → length lists ≡ n → AreListedBy nodes lists → AreNodesOf nodes n list.items → AreListedBy nodes (lists ++ list ∷ [])
+listed-more nodes n lists list long are own program other at = go (cases_eq program n)
+  where
+    all : List (Vec ℕ Global)
+    all = lists ++ list ∷ []
+
+    read : get_or all program list ≡ other
+    read = get_or_from_slice_get all program other list at
+
+    go : (program ≡ n) ⊎ (program ≡ n → ⊥) → AreNodesOf nodes program other.items
+    go (inl e) =
+        let is = sym (get_or-append_seam lists list [] list) ∙ ap (λ (k : ℕ). get_or all k list) (long ∙ sym e) ∙ read in
+        subst (λ (v : Vec ℕ Global). AreNodesOf nodes program v.items) is (subst (λ (k : ℕ). AreNodesOf nodes k list.items) (sym e) own)
+    go (inr ne) =
+        let inside = slice_get_within all program other at in
+        let grown = length-append lists (list ∷ []) in
+        let k : program < length lists = omega (arith, inside, grown, ne, long) in
+        are program other (slice_get-get_or lists program list k ∙ ap Some (sym (get_or_append_left lists (list ∷ []) list program k) ∙ read))
 
 -- ---- structures of three programs
 

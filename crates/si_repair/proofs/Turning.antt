@@ -37,7 +37,7 @@ one_promoted draft plan a b h k = h.2 ∙ ap (promoted_by draft) (marks-same (pa
 -- no pair of a plan before this place stops it
 abbrev pub StopsBefore : DraftTree → List Pair → ℕ → Type 0
 StopsBefore draft plan n =
-    (k : ℕ) (pair : Pair) (reason : Reason) → k < n → slice_get plan k ≡ Some pair → StopsPromotion IsPromoted draft plan k pair reason → ⊥
+    (k : ℕ) (pair : Pair) (reason : Reason) → k < n → slice_get plan k ≡ Some pair → StopsPromotion draft plan k pair reason → ⊥
 
 -- what is promoted of a plan up to a place, with its marks
 pub record IsPromotedTo (draft : DraftTree) (plan : List Pair) (n : ℕ) (marked : ℕ → ℕ → Bool) (result : DraftTree) : Type 0 where
@@ -73,7 +73,7 @@ promoted_more draft plan n pair marked more old new at before adds covered is fa
     marks : MarksExposed (paths_of draft) (take (n + 1) plan) more
     marks = subst (λ (l : List Pair). MarksExposed (paths_of draft) l more) (sym (next_pair plan n pair at)) (marks-more (paths_of draft) (take n plan) pair marked more before.marks adds)
 
-    stops_not : (reason : Reason) → StopsPromotion IsPromoted draft plan n pair reason → ⊥
+    stops_not : (reason : Reason) → StopsPromotion draft plan n pair reason → ⊥
     stops_not why.RangeRead h = covered.0 h
     stops_not why.UnknownKey h = covered.1 h.1
     stops_not why.BodyRead h = covered.2 h.2
@@ -89,7 +89,7 @@ promoted_more draft plan n pair marked more old new at before adds covered is fa
         go (inr past) =
             let e : k ≡ n = omega arith in
             let same : p ≡ pair = same_Some p pair (sym also ∙ ap (slice_get plan) e ∙ at) in
-            stops_not reason (subst (λ (q : Pair). StopsPromotion IsPromoted draft plan n q reason) same (subst (λ m. StopsPromotion IsPromoted draft plan m p reason) e stops))
+            stops_not reason (subst (λ (q : Pair). StopsPromotion draft plan n q reason) same (subst (λ m. StopsPromotion draft plan m p reason) e stops))
 
 -- ---- why a turn stops
 
@@ -168,7 +168,7 @@ module _ (draft : DraftTree) (sound : IsSound draft) (plan : List Pair) (n : ℕ
         size-fault (promoted_by draft more) much.2 much.3 ((law_of_repair_sizes draft (take (n + 1) plan) (promoted_by draft more) sound).1 (may_with before.passed covered) promoted),
       )
 
-  stopped : (why : Reason) → StopsBefore draft plan n → StopsPromotion IsPromoted draft plan n pair why → IsFirstStop (StopsPromotion IsPromoted draft plan) plan pair why
+  stopped : (why : Reason) → StopsBefore draft plan n → StopsPromotion draft plan n pair why → IsFirstStop (StopsPromotion draft plan) plan pair why
   stopped reason passed stops = record {
     place = n;
     at = at;
@@ -178,22 +178,22 @@ module _ (draft : DraftTree) (sound : IsSound draft) (plan : List Pair) (n : ℕ
 
   -- the fault of a turn is that of the plan
   pub turn_refused : (marked : ℕ → ℕ → Bool) (old : DraftTree) → IsPromotedTo draft plan n marked old → (f : RepairFault) → IsTurnFault draft pair marked f
-      → IsRepairFault (StopsPromotion IsPromoted draft plan) plan f
+      → IsRepairFault (StopsPromotion draft plan) plan f
   turn_refused marked old before (fault.RangeRead p) h =
-      subst (λ (q : Pair). IsFirstStop (StopsPromotion IsPromoted draft plan) plan q why.RangeRead) (sym h.0) (stopped why.RangeRead before.passed h.1)
+      subst (λ (q : Pair). IsFirstStop (StopsPromotion draft plan) plan q why.RangeRead) (sym h.0) (stopped why.RangeRead before.passed h.1)
   turn_refused marked old before (fault.UnknownKey p) h =
-      subst (λ (q : Pair). IsFirstStop (StopsPromotion IsPromoted draft plan) plan q why.UnknownKey) (sym h.0) (stopped why.UnknownKey before.passed h.1)
+      subst (λ (q : Pair). IsFirstStop (StopsPromotion draft plan) plan q why.UnknownKey) (sym h.0) (stopped why.UnknownKey before.passed h.1)
   turn_refused marked old before (fault.BodyRead p) h =
-      subst (λ (q : Pair). IsFirstStop (StopsPromotion IsPromoted draft plan) plan q why.BodyRead) (sym h.0) (stopped why.BodyRead before.passed h.1)
+      subst (λ (q : Pair). IsFirstStop (StopsPromotion draft plan) plan q why.BodyRead) (sym h.0) (stopped why.BodyRead before.passed h.1)
   turn_refused marked old before (fault.TooMany p) h =
-      subst (λ (q : Pair). IsFirstStop (StopsPromotion IsPromoted draft plan) plan q why.TooLarge) (sym h.0)
+      subst (λ (q : Pair). IsFirstStop (StopsPromotion draft plan) plan q why.TooLarge) (sym h.0)
       (stopped why.TooLarge before.passed (h.1, too_large marked old before h.1 h.2))
   turn_refused marked old before fault.Memory h = tt
 
 -- ---- the whole plan
 
 -- no pair of a plan stops it
-pub stops_nowhere : (draft : DraftTree) (plan : List Pair) (n : ℕ) → length plan ≤ n → StopsBefore draft plan n → StopsNowhere (StopsPromotion IsPromoted draft plan) plan
+pub stops_nowhere : (draft : DraftTree) (plan : List Pair) (n : ℕ) → length plan ≤ n → StopsBefore draft plan n → StopsNowhere (StopsPromotion draft plan) plan
 stops_nowhere draft plan n all passed k pair reason at stops =
     let within = slice_get_within plan k pair at in
     passed k pair reason (omega (arith, within, all)) at stops
@@ -216,7 +216,7 @@ turn_made draft seen plan items n d same all inside marked more old new before a
 
 pub turn_stopped : (draft seen : DraftTree) (plan items : List Pair) (n : ℕ) (d : Pair) → seen ≡ draft → items ≡ plan → n < length items → IsSound draft
     → (marked : ℕ → ℕ → Bool) (old : DraftTree) → IsPromotedTo draft plan n marked old → (f : RepairFault) → IsTurnFault seen (get_or items n d) marked f
-    → IsRepairFault (StopsPromotion IsPromoted draft plan) plan f
+    → IsRepairFault (StopsPromotion draft plan) plan f
 turn_stopped draft seen plan items n d same all inside sound marked old before f h =
     turn_refused draft sound plan n (get_or items n d) (standing_at plan items n d all inside) marked old before f
     (subst (λ (e : DraftTree). IsTurnFault e (get_or items n d) marked f) same h)

@@ -1,5 +1,7 @@
 -- A plan in the making: which programs close a dangerous structure, and which of these the plan leaves open.
-use Rattle.std.specs.Prelude.{◌≡◌, ◌↔◌, ℕ, ◌<◌, ◌⊎◌, List, Any, Contains}
+use Rattle.std.specs.Prelude.{◌≡◌, ◌↔◌, ℕ, ◌<◌, ◌⊎◌, List, Any, Contains, Some, slice_get}
+use Rattle.std.specs.declared.vec.Vec.{Vec}
+use Rattle.std.specs.declared.alloc.Global.{Global}
 use Rattle.prog_check.specs.declared.path.Path.{Path}
 use Rattle.prog_paths.specs.StaticGraph.{StaticEdge, IsVulnerable, IsDangerousAt}
 use Rattle.repair_laws.specs.declared.plan.Pair.{Pair}
@@ -12,6 +14,16 @@ use Rattle.si_repair.specs.declared.plans.closing.Triple.{Triple}
 -- the list has just the nodes that are paths of a program
 abbrev pub AreNodesOf : List Path → ℕ → List ℕ → Type 0
 AreNodesOf nodes program xs = (x : ℕ) → Contains xs x ↔ IsOfProgram nodes program x
+
+-- paths, and the number of programs whose nodes are listed
+pub record NodesBy : Type 0 where
+  pub paths : List Path
+  pub programs : ℕ
+
+-- for each program its list has just its nodes
+abbrev pub AreListedBy : List Path → List (Vec ℕ Global) → Type 0
+AreListedBy nodes lists =
+    (program : ℕ) (list : Vec ℕ Global) → slice_get lists program ≡ Some list → AreNodesOf nodes program list.items
 
 -- the paths are those of so many programs
 abbrev pub AreOfPrograms : ℕ → List Path → Type 0

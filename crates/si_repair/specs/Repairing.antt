@@ -1,13 +1,11 @@
 -- What is owed of a repaired set, and of a plan that is not carried out.
-use Rattle.std.specs.Prelude.{◌≡◌, ℕ, ℤ, ◌<◌, List, length, Some, slice_get}
-use Rattle.prog_tree.specs.Syntax.{ProgramTree, DraftTree}
-use Rattle.prog_tree.specs.Table.{TableState}
-use Rattle.prog_tree.specs.Evaluation.{eval}
+use Rattle.std.specs.Prelude.{◌≡◌, ℕ, ◌<◌, List, length, Some, slice_get}
+use Rattle.prog_tree.specs.Syntax.{DraftTree}
 use Rattle.prog_check.specs.Paths.{paths_of}
 use Rattle.prog_paths.specs.Asked.{questions_of}
 use Rattle.prog_paths.specs.StaticGraph.{IsDangerous}
 use Rattle.repair_laws.specs.declared.plan.Pair.{Pair}
-use Rattle.repair_laws.specs.Meaning.{KeepsMeaning}
+use Rattle.repair_laws.specs.Meaning.{KeepsAllMeaning}
 use Rattle.repair_laws.specs.Plans.{IsPlan}
 use Rattle.repair_laws.specs.Refusals.{Reason, IsFirstStop}
 use Rattle.repair_laws.specs.Refusals as why
@@ -17,14 +15,6 @@ use Rattle.si_repair.specs.declared.repairs.fault.RepairFault.TheVariants.{Range
 -- both numbers are those of programs
 abbrev pub IsInRange : DraftTree → Pair → Type 0
 IsInRange draft pair = (pair.from < length draft.programs) × (pair.to < length draft.programs)
-
--- each program has its old meaning, on every table state and with any arguments
-abbrev pub KeepsAllMeaning : DraftTree → DraftTree → Type 0
-KeepsAllMeaning old new =
-    (number : ℕ) (p q : ProgramTree) → slice_get old.programs number ≡ Some p
-    → slice_get new.programs number ≡ Some q
-    → (args : List ℤ) (m : TableState) → length p.params ≡ length args
-    → KeepsMeaning (eval old.tables p args m) (eval new.tables q args m)
 
 -- the new set means the same, is robust if the plan is the old one's, and asks as many questions
 pub record IsSafeRepair (old : DraftTree) (plan : List Pair) (new : DraftTree) : Type 0 where

@@ -5,7 +5,8 @@ use Rattle.prog_check.specs.Paths.{paths_of}
 use Rattle.prog_paths.specs.StaticGraph.{IsDangerous}
 use Rattle.repair_laws.specs.declared.plan.Pair.{Pair}
 use Rattle.repair_laws.specs.Plans.{IsPlan}
-use Rattle.si_repair.specs.Repairing.{KeepsAllMeaning, StopsNowhere}
+use Rattle.repair_laws.specs.Meaning.{KeepsAllMeaning}
+use Rattle.si_repair.specs.Repairing.{StopsNowhere}
 use Rattle.sirob.specs.Output.{AsksFew, IsRepairBy, IsRepaired, StopsRepair}
 
 -- what a plan makes of the set by one of the two ways, where that way is asked for

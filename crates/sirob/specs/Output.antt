@@ -10,6 +10,7 @@ use Rattle.prog_paths.specs.StaticGraph.{IsDangerous}
 use Rattle.repair_laws.specs.declared.plan.Pair.{Pair}
 use Rattle.repair_laws.specs.Materialised.{IsMaterialised}
 use Rattle.repair_laws.specs.Plans.{IsPlan}
+use Rattle.repair_laws.specs.Meaning.{KeepsAllMeaning}
 use Rattle.repair_laws.specs.Promoted.{IsPromoted}
 use Rattle.repair_laws.specs.Refusals.{Reason, StopsMaterialising, StopsPromotion}
 use Rattle.dep_graph.specs.declared.danger.Danger.{Danger}
@@ -23,7 +24,7 @@ use Rattle.si_repair.specs.declared.fault.AnalyseFault.{AnalyseFault}
 use Rattle.si_repair.specs.declared.fault.AnalyseFault.TheVariants as analyse_fault
 use Rattle.si_repair.specs.declared.repairs.fault.RepairFault.{RepairFault}
 use Rattle.si_repair.specs.Findings.{IsCertificateOf}
-use Rattle.si_repair.specs.Repairing.{IsRepairFault, KeepsAllMeaning, StopsNowhere}
+use Rattle.si_repair.specs.Repairing.{IsRepairFault, StopsNowhere}
 use Rattle.history_book.specs.Audit.{IsAuditFault}
 use Rattle.history_book.specs.History.{IsLawful}
 use Rattle.history_book.specs.TrueBook.{IsTrueBook, IsTrueRow}
@@ -134,8 +135,8 @@ IsRepairBy false = IsMaterialised
 
 -- why the pair at a place of a plan stops it
 abbrev pub StopsRepair : (promote : Bool) → DraftTree → List Pair → ℕ → Pair → Reason → Type 0
-StopsRepair true = StopsPromotion IsPromoted
-StopsRepair false = StopsMaterialising IsMaterialised
+StopsRepair true = StopsPromotion
+StopsRepair false = StopsMaterialising
 
 -- the set's plan, and what it makes of the set: a robust set whose programs mean the same
 pub record IsRepaired (promote : Bool) (set repaired : DraftTree) : Type 0 where

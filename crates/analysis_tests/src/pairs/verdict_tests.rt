@@ -169,18 +169,13 @@ fn push_table(text: &mut String, table: &PairTable) -> Result<(), AllocError> {
 }
 
 /// The table of a set with one path.
-fn shown_table(
-    rt: &impl Abort,
-    alloc: Global,
-    table: Result<PairTable, PairFault>,
-) -> Result<String, Fail> {
-    let table = table?;
+fn shown_table(rt: &impl Abort, alloc: Global, table: Result<PairTable, PairFault>) -> String {
+    let table = table.expect(rt, "a table");
     assert!(rt; table.nodes() == 1);
     let mut text = String::new(alloc);
-    let pushed = push_table(&mut text, &table);
+    push_table(&mut text, &table).expect(rt, "memory");
     drop(table);
-    pushed?;
-    Ok(text)
+    text
 }
 
 /// The questions between the accesses of the only path of the transfer set.
@@ -200,8 +195,8 @@ fn transfers_are_covered(rt: HostRuntime) -> Result<(), Fail> {
     let table = table_of(&rt, rt.alloc(), &paths);
     let by_threads = table_of_threads(&rt, rt.alloc(), &paths);
     drop(paths);
-    let shown = shown_table(&rt, rt.alloc(), table)?;
-    let shown_by_threads = shown_table(&rt, rt.alloc(), by_threads)?;
+    let shown = shown_table(&rt, rt.alloc(), table);
+    let shown_by_threads = shown_table(&rt, rt.alloc(), by_threads);
     is_told(&rt, shown.as_str(), TRANSFERS);
     is_told(&rt, shown_by_threads.as_str(), TRANSFERS);
     Ok(())

@@ -41,15 +41,17 @@ fn closed(
     closed
 }
 
+fn check_all(rt: &impl Abort, facts: &Closed, pairs: &[(Node, Node)], are_entailed: bool) {
+    for (low, high) in pairs {
+        assert!(rt; facts.entails(*low, *high) == are_entailed);
+    }
+}
+
 /// Asserts what the facts of an example say.
 fn compare(rt: &impl Abort, facts: &Closed, example: &Example) {
     assert!(rt; facts.consistent() == example.is_consistent);
-    for (low, high) in example.entailed {
-        assert!(rt; facts.entails(*low, *high));
-    }
-    for (low, high) in example.left_open {
-        assert!(rt; !facts.entails(*low, *high));
-    }
+    check_all(rt, facts, example.entailed, true);
+    check_all(rt, facts, example.left_open, false);
 }
 
 fn check(rt: &impl Abort, alloc: Global, example: &Example) -> Result<(), Fail> {

@@ -2,14 +2,13 @@
 
 use order_facts::Square;
 use prog_tree::{Cell, is_among};
-use std::test::Fail;
 
 #[test]
-fn a_square_joins_one_way(rt: HostRuntime) -> Result<(), Fail> {
+fn a_square_joins_one_way(rt: HostRuntime) {
     let alloc = rt.alloc();
-    let mut square = Square::new(alloc, 3)?;
+    let mut square = Square::new(alloc, 3).expect(&rt, "memory");
     square.raise(0, 2);
-    let copy = square.copy(alloc)?;
+    let copy = square.copy(alloc).expect(&rt, "memory");
     square.raise(1, 1);
     assert!(rt; copy.size() == 3);
     let joined = [
@@ -19,12 +18,11 @@ fn a_square_joins_one_way(rt: HostRuntime) -> Result<(), Fail> {
         square.get(1, 1),
     ];
     assert!(rt; joined == [true, false, false, true]);
-    Ok(())
 }
 
 #[test]
-fn joins_reach_further_node_by_node(rt: HostRuntime) -> Result<(), Fail> {
-    let mut square = Square::new(rt.alloc(), 4)?;
+fn joins_reach_further_node_by_node(rt: HostRuntime) {
+    let mut square = Square::new(rt.alloc(), 4).expect(&rt, "memory");
     square.raise(3, 1);
     square.raise(1, 0);
     square.raise(0, 2);
@@ -34,12 +32,11 @@ fn joins_reach_further_node_by_node(rt: HostRuntime) -> Result<(), Fail> {
     let through_both = [square.get(3, 2), square.get(1, 2), square.get(2, 3)];
     assert!(rt; through_one == [true, false]);
     assert!(rt; through_both == [true, true, false]);
-    Ok(())
 }
 
 #[test]
-fn a_row_takes_in_another_and_is_walked(rt: HostRuntime) -> Result<(), Fail> {
-    let mut square = Square::new(rt.alloc(), 70)?;
+fn a_row_takes_in_another_and_is_walked(rt: HostRuntime) {
+    let mut square = Square::new(rt.alloc(), 70).expect(&rt, "memory");
     square.raise(0, 69);
     square.raise(1, 1);
     square.join_row(1, 0);
@@ -50,7 +47,6 @@ fn a_row_takes_in_another_and_is_walked(rt: HostRuntime) -> Result<(), Fail> {
         square.next(2, 0),
     ];
     assert!(rt; walked == [Some(1), Some(69), Some(69), None]);
-    Ok(())
 }
 
 fn cell(table: usize, second: i64) -> Cell {

@@ -84,7 +84,7 @@ fn next_table(paths: &[Path], last: Option<usize>) -> Option<usize>
 }
 
 /// How many questions the paths ask, no further than one above the limit.
-fn count(paths: &[Path]) -> usize
+pub fn question_count(paths: &[Path]) -> usize
     ensures { result ≡ min (length (questions_of paths.now)) (limit + 1) }
 {
     let mut count = 0;
@@ -100,5 +100,5 @@ fn count(paths: &[Path]) -> usize
 pub fn is_too_large(paths: &[Path]) -> bool
     ensures { IsTrue result ↔ (limit < length (questions_of paths.now)) }
 {
-    count(paths) > MAX_QUESTIONS
+    question_count(paths) > MAX_QUESTIONS
 }

@@ -69,10 +69,7 @@ impl<'a> Cursor<'a> {
     }
 
     fn small(&mut self) -> Result<u32, Untaken> {
-        match u32::try_from(self.digits()?) {
-            Ok(number) => Ok(number),
-            Err(_) => Err(Untaken::Misshapen),
-        }
+        u32::try_from(self.digits()?).map_err(|_| Untaken::Misshapen)
     }
 
     // Reads a number with a comma behind it.
@@ -297,10 +294,7 @@ fn with_digit(value: u64, digit: u8) -> Result<u64, Untaken> {
 }
 
 fn signed(digits: u64) -> Result<i64, Untaken> {
-    match i64::try_from(digits) {
-        Ok(number) => Ok(number),
-        Err(_) => Err(Untaken::Misshapen),
-    }
+    i64::try_from(digits).map_err(|_| Untaken::Misshapen)
 }
 
 fn chain_of(nodes: Nodes) -> Result<Chain, Untaken> {

@@ -1,6 +1,6 @@
 //! From text to a certificate.
 
-ghost use Rattle.std.specs.Prelude.{◌≡◌, ◌≢◌, ◌⊎◌, ◌++◌, codes, string_bytes, Some, IfOk, IfErr, Ok, Err, IsTrue};
+ghost use Rattle.std.specs.Prelude.{◌≡◌, ◌≢◌, ◌⊎◌, ◌++◌, codes, Some, IfOk, IfErr, Ok, Err, IsTrue};
 ghost use Rattle.serde_json.specs.View.{view};
 ghost use Rattle.robust_cert.specs.declared.certificate.Certificate.{Certificate};
 ghost use Rattle.robust_cert.specs.declared.fault.JsonFault.{JsonFault};
@@ -14,7 +14,7 @@ use crate::text::version::Version;
 use crate::text::whole::{certificate_of, object_of};
 use crate::text::writing::to_json;
 use serde_json::Value;
-use std::alloc::{AllocError, Global};
+use std::alloc::Global;
 
 fn value_of(alloc: Global, bytes: &[u8]) -> Result<Value, JsonFault>
     ensures ok { IfOk result (λ value. ReadsAs bytes.now (view value)) }
@@ -68,15 +68,17 @@ fn from_value(alloc: Global, bytes: &[u8]) -> Result<Certificate, JsonFault>
 }
 
 // Whether the bytes are a text, or a text and a line feed.
-fn is_line_of(mut text: String, bytes: &[u8]) -> Result<bool, AllocError>
-    ensures { IfOk result (λ same. IsTrue same → (bytes.now ≡ string_bytes text)
-        ⊎ (bytes.now ≡ string_bytes text ++ codes "\n")) }
+fn is_line_of(text: &str, bytes: &[u8]) -> bool
+    ensures { IsTrue result → (bytes.now ≡ text.now) ⊎ (bytes.now ≡ text.now ++ codes "\n") }
 {
-    if bytes == text.as_bytes() {
-        return Ok(true);
+    let text = text.as_bytes();
+    if bytes == text {
+        return true;
     }
-    text.push_str("\n")?;
-    Ok(bytes == text.as_bytes())
+    match bytes.split_last() {
+        Some((last, front)) => *last == b'\n' && front == text,
+        None => false,
+    }
 }
 
 // The certificate of which the bytes are the text, as `to_json` writes it.
@@ -85,8 +87,7 @@ fn from_compact(alloc: Global, bytes: &[u8]) -> Result<Certificate, Untaken>
 {
     let candidate = compact_candidate(alloc, bytes)?;
     let text = to_json(alloc, &candidate)?;
-    let same = is_line_of(text, bytes)?;
-    if same {
+    if is_line_of(&text, bytes) {
         Ok(candidate)
     } else {
         Err(Untaken::Misshapen)

@@ -1,9 +1,9 @@
 //! Which programs close a dangerous structure.
-ghost use Rattle.std.specs.Prelude.{◌≡◌, OnOk, IfOk};
+ghost use Rattle.std.specs.Prelude.{◌≡◌, ◌<◌, OnOk, IfOk};
 ghost use Rattle.conflict_pairs.specs.Table.{StandsFor};
 ghost use Rattle.si_repair.specs.Planning.{first_pair, second_pair, Adds, ClosesBehind, ClosesFrom, AreClosing};
 
-use crate::plans::nodes::{begins_in, nodes_of};
+use crate::plans::nodes::{ProgramNodes, begins_in};
 use dep_graph::Graph;
 use prog_check::Path;
 use repair_laws::Pair;
@@ -39,22 +39,22 @@ impl Triple {
 
 /// Adds the triples that close a structure behind a pair of programs.
 fn push_behind(
-    alloc: Global,
-    paths: &[Path],
     graph: &Graph<'_>,
-    programs: usize,
+    nodes: &ProgramNodes<'_>,
     pair: Pair,
     triples: &mut Vec<Triple>,
 ) -> Result<(), AllocError>
-    requires { StandsFor graph.now paths.now }
+    requires graph { StandsFor graph.now nodes.now.paths }
+    requires from { pair.from < nodes.now.programs }
+    requires to { pair.to < nodes.now.programs }
     ensures { OnOk result (Adds triples.old.items triples.new.items
-        (ClosesBehind paths.now pair programs)) }
+        (ClosesBehind nodes.now.paths pair nodes.now.programs)) }
 {
-    let firsts = nodes_of(alloc, paths, pair.from)?;
-    let seconds = nodes_of(alloc, paths, pair.to)?;
-    for third in 0..programs {
-        let thirds = nodes_of(alloc, paths, third)?;
-        if begins_in(graph, &firsts, &seconds, &thirds) {
+    let firsts = nodes.of(pair.from);
+    let seconds = nodes.of(pair.to);
+    for third in 0..nodes.programs() {
+        let thirds = nodes.of(third);
+        if begins_in(graph, firsts, seconds, thirds) {
             triples.push(Triple {
                 first: pair.from,
                 second: pair.to,
@@ -67,23 +67,22 @@ fn push_behind(
 
 /// Adds the triples that close a structure and begin with a program.
 fn push_from(
-    alloc: Global,
-    paths: &[Path],
     graph: &Graph<'_>,
-    programs: usize,
+    nodes: &ProgramNodes<'_>,
     first: usize,
     triples: &mut Vec<Triple>,
 ) -> Result<(), AllocError>
-    requires { StandsFor graph.now paths.now }
+    requires graph { StandsFor graph.now nodes.now.paths }
+    requires first { first < nodes.now.programs }
     ensures { OnOk result (Adds triples.old.items triples.new.items
-        (ClosesFrom paths.now first programs programs)) }
+        (ClosesFrom nodes.now.paths first nodes.now.programs nodes.now.programs)) }
 {
-    for second in 0..programs {
+    for second in 0..nodes.programs() {
         let pair = Pair {
             from: first,
             to: second,
         };
-        push_behind(alloc, paths, graph, programs, pair, triples)?;
+        push_behind(graph, nodes, pair, triples)?;
     }
     Ok(())
 }
@@ -98,9 +97,10 @@ pub fn closing_triples(
     requires { StandsFor graph.now paths.now }
     ensures { IfOk result (λ triples. AreClosing paths.now programs triples.items) }
 {
+    let nodes = ProgramNodes::new(alloc, paths, programs)?;
     let mut triples = Vec::new(alloc);
     for first in 0..programs {
-        push_from(alloc, paths, graph, programs, first, &mut triples)?;
+        push_from(graph, &nodes, first, &mut triples)?;
     }
     Ok(triples)
 }

@@ -1,5 +1,5 @@
 //! The nodes of programs, and whether a dangerous structure is among them.
-ghost use Rattle.std.specs.Prelude.{◌↔◌, ◌<◌, List, All, IfOk, IsTrue};
+ghost use Rattle.std.specs.Prelude.{◌≡◌, ◌↔◌, ◌<◌, List, All, IfOk, IsTrue};
 ghost use Rattle.prog_check.specs.declared.path.Path.{Path};
 ghost use Rattle.conflict_pairs.specs.Table.{StandsFor};
 ghost use Rattle.si_repair.specs.Planning.{AreNodesOf, EndsIn, GoesOnIn, BeginsIn};
@@ -7,9 +7,10 @@ ghost use Rattle.si_repair.specs.Planning.{AreNodesOf, EndsIn, GoesOnIn, BeginsI
 use dep_graph::Graph;
 use prog_check::Path;
 use std::alloc::{AllocError, Global};
+use std::marker::Model;
 
 /// The nodes that are paths of a program.
-pub fn nodes_of(alloc: Global, paths: &[Path], program: usize) -> Result<Vec<usize>, AllocError>
+fn nodes_of(alloc: Global, paths: &[Path], program: usize) -> Result<Vec<usize>, AllocError>
     ensures { IfOk result (λ nodes. AreNodesOf paths.now program nodes.items) }
 {
     let mut nodes = Vec::new(alloc);
@@ -19,6 +20,58 @@ pub fn nodes_of(alloc: Global, paths: &[Path], program: usize) -> Result<Vec<usi
         }
     }
     Ok(nodes)
+}
+
+/// The nodes of each of so many programs, listed once.
+#[derive(Drop)]
+pub struct ProgramNodes<'a> {
+    paths: &'a [Path],
+    // For each program its nodes.
+    lists: Vec<Vec<usize>>,
+}
+
+impl<'a> Model for ProgramNodes<'a> {
+    ghost use Rattle.std.specs.Prelude.{length};
+    ghost use Rattle.si_repair.specs.Planning.{NodesBy, AreListedBy};
+
+    ghost Value = { NodesBy };
+
+    ghost view = { λ n. record { paths = n.paths.now; programs = length n.lists.items } };
+
+    ghost invariant = { λ n. AreListedBy n.paths.now n.lists.items };
+}
+
+impl<'a> ProgramNodes<'a> {
+    pub fn new(
+        alloc: Global,
+        paths: &'a [Path],
+        programs: usize,
+    ) -> Result<ProgramNodes<'a>, AllocError>
+        ensures paths { IfOk result (λ nodes. nodes.paths ≡ paths.now) }
+        ensures programs { IfOk result (λ nodes. nodes.programs ≡ programs) }
+    {
+        let mut lists = Vec::new(alloc);
+        for program in 0..programs {
+            let nodes = nodes_of(alloc, paths, program)?;
+            lists.push(nodes)?;
+        }
+        Ok(ProgramNodes { paths, lists })
+    }
+
+    /// How many programs there are.
+    pub fn programs(&self) -> usize
+        ensures { result ≡ self.now.programs }
+    {
+        self.lists.len()
+    }
+
+    /// The nodes of a program.
+    pub fn of(&self, program: usize) -> &[usize]
+        requires { program < self.now.programs }
+        ensures { AreNodesOf self.now.paths program result.now }
+    {
+        &self.lists[program]
+    }
 }
 
 /// Whether one of the nodes ends a dangerous structure behind `x` and `y`.

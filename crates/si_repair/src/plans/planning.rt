@@ -18,8 +18,8 @@ use prog_paths::paths;
 use prog_tree::Sequence;
 use std::alloc::Global;
 
-/// The pairs of programs that a repair keeps apart: all pairs are taken in order, and each is left
-/// out without which nothing is dangerous, with those chosen before it and all behind it struck.
+/// The pairs of programs that a repair keeps apart. All pairs are taken in order. One is left out
+/// where nothing is dangerous with those chosen before it and all behind it struck.
 pub fn plan(alloc: Global, set: &ProgramSet) -> Result<Plan, AnalyseFault>
     ensures plan { IfOk result (λ plan. IsPlan (paths_of (draft_tree set.now)) plan.pairs) }
     ensures enough { IfOk result (λ plan. IsEnough (paths_of (draft_tree set.now)) plan.pairs) }

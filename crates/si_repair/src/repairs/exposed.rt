@@ -1,9 +1,8 @@
 //! The exposed questions of a pair of programs.
-ghost use Rattle.std.specs.Prelude.{◌↔◌, ◌<◌, [], ◌∷◌, length, All, IfOk, IsTrue};
-ghost use Rattle.prog_paths.specs.Asked.{ChangesSingleCells, numbers_of, question_between};
+ghost use Rattle.std.specs.Prelude.{◌≡◌, ◌↔◌, ◌<◌, [], ◌∷◌, length, All, IfOk, IsTrue};
+ghost use Rattle.prog_paths.specs.Asked.{ChangesSingleCells, all_from, numbers_of, question_between};
 ghost use Rattle.prog_paths.specs.Places.{IsAt};
 ghost use Rattle.prog_paths.specs.StaticGraph.{IsAccessOf};
-ghost use Rattle.conflict_pairs.specs.Law.{IsExposedVerdict};
 ghost use Rattle.conflict_pairs.specs.Verdicts.{IsRight};
 ghost use Rattle.repair_laws.specs.Striking.{IsOfProgram};
 ghost use Rattle.si_repair.specs.Exposing.{AreExposed};
@@ -33,13 +32,18 @@ fn is_of_program(paths: &[Path], node: usize, program: usize) -> bool
     paths[node].program == program
 }
 
-/// The accesses on the paths of a program.
-fn places_of(alloc: Global, paths: &[Path], program: usize) -> Result<Vec<Placed>, AllocError>
+/// Those of all accesses that are on the paths of a program.
+fn places_of(
+    alloc: Global,
+    paths: &[Path],
+    all: &[Placed],
+    program: usize,
+) -> Result<Vec<Placed>, AllocError>
+    requires { all.now ≡ all_from 0 paths.now }
     ensures { IfOk result (λ places. ArePlacesOf paths.now program places.items) }
 {
-    let all = all_places(alloc, paths)?;
     let mut places = Vec::new(alloc);
-    for place in &all {
+    for place in all {
         if is_of_program(paths, place.node, program) {
             places.push(*place)?;
         }
@@ -74,12 +78,6 @@ fn verdict_between(
     verdict(alloc, x, first.number, y, second.number)
 }
 
-fn says_exposed(verdict: &Verdict) -> bool
-    ensures { IsTrue result ↔ IsExposedVerdict verdict.now }
-{
-    matches!(verdict, Verdict::Exposed(_))
-}
-
 /// Whether the first may miss what the second changes, and no two accesses cover them.
 fn is_exposed(
     alloc: Global,
@@ -96,7 +94,7 @@ fn is_exposed(
         return Ok(false);
     }
     let verdict = verdict_between(alloc, paths, first, second)?;
-    Ok(says_exposed(&verdict))
+    Ok(verdict.is_exposed())
 }
 
 /// The questions of an access that is exposed to some of others.
@@ -142,6 +140,23 @@ fn exposed_among(
     Ok(questions)
 }
 
+/// The exposed questions of a pair, among all accesses of the paths.
+fn exposed_in(
+    alloc: Global,
+    paths: &[Path],
+    all: &[Placed],
+    pair: Pair,
+) -> Result<Vec<Question>, AllocError>
+    requires single { All ChangesSingleCells paths.now }
+    requires all { all.now ≡ all_from 0 paths.now }
+    ensures { IfOk result (λ questions. AreExposed paths.now pair questions.items) }
+{
+    let firsts = places_of(alloc, paths, all, pair.from)?;
+    let seconds = places_of(alloc, paths, all, pair.to)?;
+    let questions = exposed_among(alloc, paths, &firsts, &seconds)?;
+    Ok(questions)
+}
+
 /// The exposed questions of a pair, in order: its first program may miss what its second changes,
 /// and no two accesses cover it.
 pub fn exposed_questions(
@@ -152,8 +167,6 @@ pub fn exposed_questions(
     requires { All ChangesSingleCells paths.now }
     ensures { IfOk result (λ questions. AreExposed paths.now pair questions.items) }
 {
-    let firsts = places_of(alloc, paths, pair.from)?;
-    let seconds = places_of(alloc, paths, pair.to)?;
-    let questions = exposed_among(alloc, paths, &firsts, &seconds)?;
-    Ok(questions)
+    let all = all_places(alloc, paths)?;
+    exposed_in(alloc, paths, &all, pair)
 }

@@ -60,9 +60,9 @@ pub fn materialise(alloc: Global, set: &ProgramSet, plan: &Plan) -> Result<Progr
     ensures safe { IfOk result
         (λ s. IsSafeRepair (draft_tree set.now) plan.now.pairs (draft_tree s)) }
     ensures goes { OnOk result (StopsNowhere
-        (StopsMaterialising IsMaterialised (draft_tree set.now) plan.now.pairs) plan.now.pairs) }
+        (StopsMaterialising (draft_tree set.now) plan.now.pairs) plan.now.pairs) }
     ensures refused { IfErr result (λ fault. IsRepairFault
-        (StopsMaterialising IsMaterialised (draft_tree set.now) plan.now.pairs)
+        (StopsMaterialising (draft_tree set.now) plan.now.pairs)
         plan.now.pairs fault) }
 {
     let draft = set.draft();

@@ -69,9 +69,9 @@ pub fn promote(alloc: Global, set: &ProgramSet, plan: &Plan) -> Result<ProgramSe
     ensures safe { IfOk result
         (λ s. IsSafeRepair (draft_tree set.now) plan.now.pairs (draft_tree s)) }
     ensures goes { OnOk result (StopsNowhere
-        (StopsPromotion IsPromoted (draft_tree set.now) plan.now.pairs) plan.now.pairs) }
+        (StopsPromotion (draft_tree set.now) plan.now.pairs) plan.now.pairs) }
     ensures refused { IfErr result (λ fault. IsRepairFault
-        (StopsPromotion IsPromoted (draft_tree set.now) plan.now.pairs) plan.now.pairs fault) }
+        (StopsPromotion (draft_tree set.now) plan.now.pairs) plan.now.pairs fault) }
 {
     let draft = set.draft();
     let paths = paths(alloc, set)?;

@@ -1,5 +1,4 @@
 use Rattle.prog_tree.specs.Tree.{draft_tree}
-use Rattle.repair_laws.specs.Promoted.{IsPromoted}
 use Rattle.repair_laws.specs.Refusals.{StopsPromotion}
 use Rattle.analysis_words.proofs.Stopped.{done, stopped}
 use Rattle.analysis_words.proofs.ways.is_repaired_by_keeps.Goals as goal
@@ -9,6 +8,6 @@ pub returns : goal.returns
 returns c = elim c.match-promote.branch [
   | in-Ok w ↦ done c.match-promote.result _ w.result-is w.in-Ok.ensures.goes
   | in-Err w ↦ rw w.result-is
-      (stopped w.stopped_by.result w.in-Err.fault (StopsPromotion IsPromoted (draft_tree c.args.set.now) c.args.plan.now.pairs) c.args.plan.now.pairs
+      (stopped w.stopped_by.result w.in-Err.fault (StopsPromotion (draft_tree c.args.set.now) c.args.plan.now.pairs) c.args.plan.now.pairs
       w.stopped_by.ensures w.in-Err.ensures.refused)
 ]

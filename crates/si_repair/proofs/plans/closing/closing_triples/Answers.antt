@@ -1,9 +1,22 @@
-use Rattle.std.proofs.Common.{subst, arith}
+use Rattle.std.proofs.Common.{List, sym, subst, arith}
+use Rattle.prog_check.specs.declared.path.Path.{Path}
+use Rattle.conflict_pairs.specs.Table.{StandsFor}
+use Rattle.si_repair.specs.Planning.{NodesBy, ClosesFrom, Adds}
 use Rattle.si_repair.proofs.Closings.{AreClosingBelow, all-more}
 use Rattle.si_repair.proofs.plans.closing.closing_triples.Goals as goal
 
+pub push_from-requires-clause-graph : goal.push_from-requires-clause-graph
+push_from-requires-clause-graph c = subst (λ (paths : List Path). StandsFor c.args.graph.now paths) (sym c.in_ok-nodes.ensures.paths) c.requires
+
 pub loop-first-preserved : goal.loop-first-preserved
-loop-first-preserved c = all-more c.args.paths.now c.args.programs c.loop-first.first c.loop-first.triples.items c.push_from.new.triples.items c.loop-first.invariant c.in_ok-push_from.ensures
+loop-first-preserved c =
+    let old = c.loop-first.triples.items in
+    let new = c.push_from.new.triples.items in
+    let first = c.loop-first.first in
+    let paths = c.in_ok-nodes.ensures.paths in
+    let programs = c.in_ok-nodes.ensures.programs in
+    let more = subst (λ (n : NodesBy). Adds old new (ClosesFrom n.paths first n.programs n.programs)) (λ i. record { paths = paths i; programs = programs i }) c.in_ok-push_from.ensures in
+    all-more c.args.paths.now c.args.programs first old new c.loop-first.invariant more
 
 pub returns : goal.returns
 returns c = subst (λ n. AreClosingBelow c.args.paths.now c.args.programs n c.loop-first.triples.items) (omega arith) c.loop-first.invariant

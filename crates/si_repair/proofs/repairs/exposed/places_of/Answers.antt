@@ -6,16 +6,16 @@ use Rattle.si_repair.proofs.repairs.exposed.places_of.Goals as goal
 use Rattle.si_repair.proofs.repairs.exposed.places_of.Goals.{then-is_of_program+in_ok-push, else-is_of_program}
 
 pub loop-place-init : goal.loop-place-init
-loop-place-init c = AreOfProgram-none c.args.paths.now c.args.program c.deref-place-items.result.now c.new-places.result.items c.new-places.ensures.items
+loop-place-init c = AreOfProgram-none c.args.paths.now c.args.program c.args.all.now c.new-places.result.items c.new-places.ensures.items
 
 pub is_of_program-requires : goal.is_of_program-requires
 is_of_program-requires c =
-    listed_within c.args.paths.now c.deref-place-items.result.now c.loop-place.place-index _ (omega arith) (c.deref-place-items.ensures.value ∙ c.in_ok-all.ensures)
+    listed_within c.args.paths.now c.args.all.now c.loop-place.place-index _ (omega arith) c.requires
 
 pub loop-place-preserved : goal.loop-place-preserved
 loop-place-preserved c =
     let nodes = c.args.paths.now in
-    let all = c.deref-place-items.result.now in
+    let all = c.args.all.now in
     let before = c.loop-place.places.items in
     elim c.if-is_of_program.branch [
       | then-is_of_program+in_ok-push w ↦
@@ -29,7 +29,7 @@ loop-place-preserved c =
 pub returns : goal.returns
 returns c =
     let nodes = c.args.paths.now in
-    let all = c.deref-place-items.result.now in
+    let all = c.args.all.now in
     let places = c.loop-place.places.items in
-    ArePlacesOf-from_all nodes c.args.program all places (c.deref-place-items.ensures.value ∙ c.in_ok-all.ensures)
+    ArePlacesOf-from_all nodes c.args.program all places c.requires
     (AreOfProgram-all nodes c.args.program all places c.loop-place.place-index (omega arith) c.loop-place.invariant)

@@ -2,7 +2,7 @@ use Rattle.std.proofs.Common.{◌≡◌, ℕ, ◌+◌, ◌<◌, ◌∙◌, List,
 use Rattle.prog_paths.specs.declared.accesses.places.Placed.{Placed}
 use Rattle.prog_paths.specs.Asked.{all_from, asked_among, limit}
 use Rattle.prog_paths.proofs.Walked.{before, left, none_before, before-none, count_more, less_left}
-use Rattle.prog_paths.proofs.accesses.count.count.Goals as goal
+use Rattle.prog_paths.proofs.accesses.count.question_count.Goals as goal
 
 pub loop-next-init : goal.loop-next-init
 loop-next-init c =

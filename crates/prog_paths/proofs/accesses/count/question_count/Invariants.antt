@@ -1,7 +1,7 @@
 use Rattle.std.proofs.Common.{◌≡◌, ◌+◌, min, length}
 use Rattle.prog_paths.specs.Asked.{all_from, asked_among, limit}
 use Rattle.prog_paths.proofs.Walked.{before, left}
-use Rattle.prog_paths.proofs.accesses.count.count.Given as goal
+use Rattle.prog_paths.proofs.accesses.count.question_count.Given as goal
 
 -- what the accesses of the tables before the next one ask
 abbrev pub invariant-loop-next : goal.invariant-loop-next
