@@ -20,6 +20,10 @@ is_text DisplayHelp = true
 is_text DisplayVersion = true
 is_text kind = false
 
+-- the words name no mode: they are mistaken, or ask for a text
+pub record AreRefused (words : List Text) : Type 0 where
+  pub faulty : fault_of sirob_app words ≢ []
+
 -- what is written for words that name no mode, and the status behind it
 pub data IsRefusal : ErrorKind → List ℕ → Status → Type 0 where
   -- the text that is asked for

@@ -1,11 +1,9 @@
 //! The program, from the words of its command line to its status.
-ghost use Rattle.std.specs.Prelude.{◌≡◌, ◌≢◌, ◌≤◌, ◌+◌, [], true, map, string_bytes, IfOk, IfErr};
+ghost use Rattle.std.specs.Prelude.{◌≡◌, ◌≤◌, ◌+◌, [], true, map, string_bytes, IfOk, IfErr};
 ghost use Rattle.std.specs.IoError.{error_kind};
-ghost use Rattle.clap.specs.Faults.{fault_of};
 ghost use Rattle.clap.specs.Words.{kind_of};
-ghost use Rattle.sirob.specs.CommandLine.{sirob_app};
 ghost use Rattle.sirob.specs.Output.{IsReply, WritesWithStatus, memory_line};
-ghost use Rattle.sirob.specs.Program.{is_text, IsRefusal, IsWordless, IsEnd};
+ghost use Rattle.sirob.specs.Program.{is_text, AreRefused, IsRefusal, IsWordless, IsEnd};
 ghost use Rattle.si_engine.specs.Writing.{IsJust};
 
 use crate::command_line::{Mode, read_words};
@@ -36,6 +34,8 @@ pub fn carry_out<S: Source, K: Sink>(
     ensures none { IfErr arguments.now (λ error. WritesWithStatus (IsWordless (error_kind error))
         (K.has_failed sink.new) (K.taken sink.old) (K.taken sink.new) result) }
     ensures reads { S.pulls source.new ≤ S.pulls source.old + MAX_READS }
+    ensures refused { IfOk arguments.now (λ words.
+        AreRefused (map string_bytes words.items) → source.new ≡ source.old) }
     ensures unread { IfErr arguments.now (λ error. source.new ≡ source.old) }
 {
     match arguments {
@@ -77,8 +77,7 @@ fn follow<S: Source, K: Sink>(
         (S.has_failed source.new))
         (K.has_failed sink.new) (K.taken sink.old) (K.taken sink.new) result }
     ensures reads { S.pulls source.new ≤ S.pulls source.old + MAX_READS }
-    ensures unread { fault_of sirob_app (map string_bytes words.now) ≢ []
-        → source.new ≡ source.old }
+    ensures unread { AreRefused (map string_bytes words.now) → source.new ≡ source.old }
 {
     match read_words(rt.alloc(), words) {
         Ok(mode) => run_mode(rt, mode, source, sink),

@@ -23,4 +23,4 @@ returns-in-Err-clause-end g c =
     writes_as (IsRefusal kind) (IsEnd words left failed) _ _ _ _ (refused kind c.in-Err.ensures.fault) c.refuse_words.ensures
 
 pub returns-in-Ok-clause-unread : goal.returns-in-Ok-clause-unread
-returns-in-Ok-clause-unread g c = λ faulty. absurd (faulty c.in-Ok.ensures.fault)
+returns-in-Ok-clause-unread g c = λ refused. absurd (refused.faulty c.in-Ok.ensures.fault)
