@@ -4,15 +4,12 @@ use Prim.Native.Nat.{ℕ}
 use denote.RattleType.{RattleType}
 use denote.Param.{param}
 use denote.Ref.{NamedLft, ShrRef}
-use denote.Slice.{ShrSlice}
 use denote.Struct.Declared.{shape}
 use denote.Struct.Tuple.{TupleAt, field_at, type_at}
-use denote.Param.Send.{IsSend, IsSync, AllSend, recorded_send, shr_send, shr_slice_send, struct_send, view_send, view_sync, sendable}
+use denote.Param.Send.{IsSend, IsSync, AllSend, AllSync, recorded_send, recorded_sync, shr_send, shr_sync, shr_slice_sync, struct_send, struct_sync, view_send, view_sync, sendable}
 use Rattle.std.proofs.Crossing as std
 use Rattle.std.proofs.MapsCrossing as maps
 use Rattle.std.proofs.sync.RwLock.TheSendSync as lock-crossing
-use Rattle.std.specs.contracts.alloc.Global as heap
-use Rattle.std.proofs.alloc.Global.TheSendSync as heap-crossing
 use Rattle.job_counter.specs.contracts.Counter as counter
 use Rattle.job_counter.specs.contracts.Pass as pass
 use Rattle.job_counter.proofs.Counter.TheSendSync as counter-crossing
@@ -33,6 +30,7 @@ use Rattle.history_book.proofs.orders.trace.Trace.TheSendSync as trace-crossing
 use Rattle.si_workers.specs.contracts.job.Job as job
 use Rattle.si_workers.proofs.job.Job.TheSendSync as job-crossing
 use Rattle.si_workers.specs.contracts.shared.SharedBook as shared
+use Rattle.si_workers.specs.contracts.threads.Shift as shift
 
 -- trees hold themselves, so they go by the rules that their rings have
 draft-sync : IsSync (draft.the_field).row
@@ -82,36 +80,40 @@ counter-sync = search (counter-crossing.the_sync, std.crosses, sendable) depth 6
 pass-send : IsSend pass.the_row
 pass-send = search (pass-crossing.the_send, std.crosses, sendable) depth 60 fits 20000
 
--- the runtime, the allocator, the set, the shared book, the jobs, the counter, a pass and the gate
-module _ (R G : RattleType) (r s b a j c g : NamedLft) where
-  abbrev captured : List RattleType
-  captured =
-      ShrRef r.mir r.lft (param 0 R)
-      ∷ heap.the_row
-      ∷ ShrRef s.mir s.lft set.the_row
-      ∷ ShrRef b.mir b.lft (shared.the_row a)
-      ∷ ShrSlice j.mir j.lft job.the_row
-      ∷ ShrRef c.mir c.lft counter.the_row
-      ∷ pass.the_row
-      ∷ ShrRef g.mir g.lft (param 1 G)
-      ∷ []
-
-  captured-send : IsSync (param 0 R) → IsSync (param 1 G) → AllSend captured
-  captured-send runtime gate = (
-    shr_send r.mir r.lft (param 0 R) runtime,
+-- so they share what all workers of a run share: the runtime, the allocator, the set, the shared book, the jobs, the
+-- counter and the gate
+module _ (e a : NamedLft) (R G : RattleType) (runtime : IsSync R) (gate : IsSync G) where
+  fields-sync : AllSync (shape (shift.the_type e a R G)).fields
+  fields-sync = (
+    shr_sync e.mir e.lft R runtime,
     (
-      heap-crossing.the_send,
+      search (std.crosses, sendable),
       (
-        shr_send s.mir s.lft set.the_row set-sync,
+        shr_sync a.mir a.lft set.the_row set-sync,
         (
-          shr_send b.mir b.lft (shared.the_row a) (shared-sync a),
+          shr_sync e.mir e.lft (shared.the_row a) (shared-sync a),
           (
-            shr_slice_send j.mir j.lft job.the_row job-sync,
-            (shr_send c.mir c.lft counter.the_row counter-sync, (pass-send, (shr_send g.mir g.lft (param 1 G) gate, tt))),
+            shr_slice_sync e.mir e.lft job.the_row job-sync,
+            (shr_sync e.mir e.lft counter.the_row counter-sync, (shr_sync e.mir e.lft G gate, tt)),
           ),
         ),
       ),
     ),
+  )
+
+  shift-sync : IsSync (shift.the_row e a R G)
+  shift-sync =
+      recorded_sync (shift.the_field e a R G).row _ _ (shift.the_type e a R G).to_one (struct_sync (shape (shift.the_type e a R G)) fields-sync)
+
+-- a shared reference to it, and a pass
+module _ (R G : RattleType) (s e a : NamedLft) where
+  abbrev captured : List RattleType
+  captured = ShrRef s.mir s.lft (shift.the_row e a (param 0 R) (param 1 G)) ∷ pass.the_row ∷ []
+
+  captured-send : IsSync (param 0 R) → IsSync (param 1 G) → AllSend captured
+  captured-send runtime gate = (
+    shr_send s.mir s.lft (shift.the_row e a (param 0 R) (param 1 G)) (shift-sync e a (param 0 R) (param 1 G) runtime gate),
+    (pass-send, tt),
   )
 
   pub closure-send : (name : List ℕ) → IsSync (param 0 R) → IsSync (param 1 G) → IsSend (TupleAt name captured)

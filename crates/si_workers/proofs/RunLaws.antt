@@ -1,5 +1,6 @@
 -- What was told and settled gives what is promised of work.
-use Rattle.std.proofs.Common.{◌≡◌, ◌<◌, ℕ, zero, suc, false, refl, sym, subst, arith, List, length, Option, Some, None, Result, Ok, Err, IfOk, IfErr}
+use Rattle.std.proofs.Common.{◌≡◌, ◌<◌, ℕ, zero, suc, false, refl, sym, subst, ap, ◌∙◌, arith, List, [], ◌∷◌, length, map, zip, Option, Some, None, Result, Ok, Err, IfOk, IfErr}
+use Rattle.std.proofs.lemmas.List.{length-map}
 use Rattle.prog_tree.specs.Table.{TableState}
 use Rattle.prog_tree.specs.Tree.{draft_tree}
 use Rattle.prog_tree.specs.Syntax.{DraftTree}
@@ -7,8 +8,9 @@ use Rattle.prog_check.specs.Paths.{paths_of}
 use Rattle.prog_paths.specs.StaticGraph.{IsDangerous}
 use Rattle.history_book.specs.TrueBook.{IsTrueBook}
 use Rattle.history_book.specs.View.{BookView}
-use Rattle.si_workers.specs.Outcomes.{IsOver, OutcomesCorrespond}
-use Rattle.si_workers.specs.Settled.{AreToldRight, AreToldWrong, IsConcluded, IsSettled, lack_memory}
+use Rattle.si_workers.specs.KeptAndTold.{Tidings}
+use Rattle.si_workers.specs.Outcomes.{Correspond, IsOver, OutcomesCorrespond, tidings_of}
+use Rattle.si_workers.specs.Settled.{AreOutcomesIn, AreToldRight, AreToldWrong, IsConcluded, IsSettled, lack_memory}
 use Rattle.si_workers.specs.Work.{AreTaken, IsNamed, IsWorkFault, jobs_by}
 use Rattle.si_workers.specs.declared.fault.WorkFault.{WorkFault}
 use Rattle.si_workers.specs.declared.fault.WorkFault.TheVariants.{Workers, TooManyJobs, NoThread, Broken, Memory}
@@ -26,10 +28,28 @@ jobs-some : (n : ℕ) (jobs : List Job) → 0 < n → jobs_by n jobs ≡ jobs
 jobs-some zero jobs some = absurd (omega arith)
 jobs-some (suc n) jobs some = refl
 
+-- pairs are their first parts beside their second ones
+zip-parts : {X Y : Type 0} (ts : List (X × Y)) → ts ≡ zip (map (λ t. t.0) ts) (map (λ t. t.1) ts)
+zip-parts [] = refl
+zip-parts (t ∷ ts) = ap (λ l. t ∷ l) (zip-parts ts)
+
+-- what is told of jobs, of each just one outcome, is these jobs beside these outcomes
+told-together :
+    (ts : Tidings) (jobs : List Job) (outcomes : List JobOutcome) → map (λ t. t.0) ts ≡ jobs → AreOutcomesIn ts outcomes →
+    (length outcomes ≡ length jobs) × (ts ≡ tidings_of jobs outcomes)
+told-together ts jobs outcomes of_jobs one_each = (
+  sym (length-map outcomes (λ (o : JobOutcome). Some o)) ∙ ap (λ (l : List (Option JobOutcome)). length l) (sym one_each)
+      ∙ length-map ts (λ (t : Job × Option JobOutcome). t.1) ∙ sym (length-map ts (λ (t : Job × Option JobOutcome). t.0))
+      ∙ ap (λ (l : List Job). length l) of_jobs,
+  zip-parts ts ∙ ap (λ (l : List Job). zip l (map (λ t. t.1) ts)) of_jobs ∙ ap (λ (l : List (Option JobOutcome)). zip jobs l) one_each,
+)
+
 module _ (set : DraftTree) (opening : TableState) (jobs : List Job) (workers : ℕ) (done : List Done) (v : BookView) where
   -- outcomes that the workers told are those of the jobs that were done
   outcomes-told : (outcomes : List JobOutcome) → AreToldRight workers set opening jobs done v outcomes → OutcomesCorrespond workers set opening (jobs_by (length done) jobs) outcomes v
-  outcomes-told outcomes right = (right.ts, record { of_jobs = right.told.of_jobs; of_outcomes = right.one_each }, right.correspond)
+  outcomes-told outcomes right =
+      let together = told-together right.ts (jobs_by (length done) jobs) outcomes right.told.of_jobs right.one_each in
+      (together.0, subst (λ (ts : Tidings). Correspond workers set opening ts v) together.1 right.correspond)
 
   -- likewise a job that is broken
   named-told : (job : ℕ) (outcome : Option JobOutcome) → AreToldWrong workers set opening jobs done v job outcome → IsNamed workers set opening (jobs_by (length done) jobs) job outcome v

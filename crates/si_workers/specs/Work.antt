@@ -37,12 +37,13 @@ last_try (end.Clashed clash) = 0
 last_try (end.Refused why) = 0
 last_try other = 1
 
--- a job has as many tries as its outcome says, and ended just so many instances; without an outcome no more
+-- a job has as many tries as its outcome says, and ended just so many instances; without an outcome it ended at most
+-- as many as it may be begun anew
 abbrev pub TellsTries : Job → (before after : ℕ) → Result JobOutcome Stop → Type 0
 TellsTries job before after (Ok outcome) =
     AreRightTries job.retries outcome.clashes outcome.job_end
     × (after ≡ before + outcome.clashes + last_try outcome.job_end)
-TellsTries job before after (Err stop) = after ≤ before + job.retries + 1
+TellsTries job before after (Err stop) = after ≤ before + job.retries
 
 -- the outcome is of a run of the job: of as many tries as it says, the last of which ended so
 abbrev pub IsRunOf : (before after : ℕ) → (last : Option Answer) → JobOutcome → Job → Type 0

@@ -15,60 +15,64 @@ use std::sync::Wait;
 use std::thread;
 use std::thread::{JoinHandle, Scope, Threads};
 
-// One worker over the shared book.
-fn work_shared<'r, 'a, R: Wait, G: Gate>(
-    rt: &'r R,
-    alloc: Global,
-    set: &'a ProgramSet,
-    shared: &'r SharedBook<'a>,
-    jobs: &[Job],
-    counter: &Counter,
-    pass: Pass,
-    gate: &'r G,
-) -> Done
-    requires counter { counter_of pass ≡ name_of counter.now }
-    requires numbers { numbers_of pass ≡ [] }
-    requires few { length jobs.now ≤ 100000 }
-{
-    let mut desk = Locked {
-        rt,
-        shared,
-        gate,
-        ended: 0,
-        last: None,
-    };
-    work(alloc, set, &mut desk, jobs, counter, pass)
-}
-
-// Starts workers until one cannot be started.
-fn start_all<'s, 'e: 's, 'a: 'e, R: Threads + Wait + Sync, G: Gate + Sync>(
-    scope: &'s Scope<'s, &'e ()>,
+// What the workers of a run share.
+#[derive(Drop)]
+pub(crate) struct Shift<'e, 'a, R: Wait, G: Gate> {
     rt: &'e R,
     alloc: Global,
     set: &'a ProgramSet,
     shared: &'e SharedBook<'a>,
     jobs: &'e [Job],
     counter: &'e Counter,
+    gate: &'e G,
+}
+
+// One worker over the shared book.
+fn work_shared<R: Wait, G: Gate>(shift: &Shift<'_, '_, R, G>, pass: Pass) -> Done
+    requires counter { counter_of pass ≡ name_of shift.now.counter.now }
+    requires numbers { numbers_of pass ≡ [] }
+    requires few { length shift.now.jobs.now ≤ 100000 }
+{
+    let mut desk = Locked {
+        rt: shift.rt,
+        shared: shift.shared,
+        gate: shift.gate,
+        ended: 0,
+        last: None,
+    };
+    work(
+        shift.alloc,
+        shift.set,
+        &mut desk,
+        shift.jobs,
+        shift.counter,
+        pass,
+    )
+}
+
+// Starts workers until one cannot be started.
+fn start_all<'s, 'e: 's, 'a: 'e, R: Threads + Wait + Sync, G: Gate + Sync>(
+    scope: &'s Scope<'s, &'e ()>,
+    shift: &'e Shift<'e, 'a, R, G>,
     mut pass: Pass,
     workers: usize,
-    gate: &'e G,
     handles: &mut Vec<JoinHandle<Done>>,
 )
-    requires counter { counter_of pass ≡ name_of counter.now }
-    requires room { workers * length jobs.now ≤ left_of pass }
-    requires few { length jobs.now ≤ 100000 }
+    requires counter { counter_of pass ≡ name_of shift.now.counter.now }
+    requires room { workers * length shift.now.jobs.now ≤ left_of pass }
+    requires few { length shift.now.jobs.now ≤ 100000 }
 {
     for _worker in 0..workers {
         if handles.reserve(1).is_err() {
             break;
         }
-        let (rest, mine) = counter.split(pass, jobs.len() as u64);
+        let (rest, mine) = shift.counter.split(pass, shift.jobs.len() as u64);
         pass = rest;
         let started = scope.spawn(
             move || -> Done
-                requires { (counter_of mine ≡ name_of counter.now) × (numbers_of mine ≡ [])
-                    × (length jobs.now ≤ 100000) }
-            { work_shared(rt, alloc, set, shared, jobs, counter, mine, gate) },
+                requires { (counter_of mine ≡ name_of shift.now.counter.now)
+                    × (numbers_of mine ≡ []) × (length shift.now.jobs.now ≤ 100000) }
+            { work_shared(shift, mine) },
         );
         let Ok(handle) = started else {
             break;
@@ -94,28 +98,24 @@ pub(crate) fn run_threads<'a, R: Threads + Wait + Sync, G: Gate + Sync>(
     let (counter, pass) = Counter::open(alloc, workers as u64 * jobs.len() as u64)?;
     let mut done = Vec::with_capacity(alloc, workers)?;
     let mut handles = Vec::with_capacity(alloc, workers)?;
-    let lent = &counter;
+    let shift = Shift {
+        rt,
+        alloc,
+        set,
+        shared,
+        jobs,
+        counter: &counter,
+        gate,
+    };
+    let lent = &shift;
     thread::scope(
         thread::scope_env(),
         rt,
         |scope|
-            requires { (counter_of pass ≡ name_of lent.now)
-                × (workers * length jobs.now ≤ left_of pass) × (length jobs.now ≤ 100000) }
-        {
-            start_all(
-                scope,
-                rt,
-                alloc,
-                set,
-                shared,
-                jobs,
-                lent,
-                pass,
-                workers,
-                gate,
-                &mut handles,
-            );
-        },
+            requires { (counter_of pass ≡ name_of lent.now.counter.now)
+                × (workers * length lent.now.jobs.now ≤ left_of pass)
+                × (length lent.now.jobs.now ≤ 100000) }
+        { start_all(scope, lent, pass, workers, &mut handles) },
     );
     let mut lacked = false;
     for handle in handles {

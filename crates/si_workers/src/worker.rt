@@ -231,7 +231,7 @@ pub(crate) fn run_job<'a, D: Desk<'a>>(
             }
         }
     }
-    Err(Stop::Lost)
+    unreachable!()
 }
 
 // Draws a job and runs it, if there is one left.
