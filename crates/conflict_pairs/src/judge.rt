@@ -14,7 +14,7 @@ use crate::cover::{cover_chains, least_cover};
 use crate::verdicts::Verdict;
 use order_facts::Closed;
 use prog_check::{Access, Kind, Path};
-use prog_paths::{Question, asks_read_write, question_facts};
+use prog_paths::{Question, asks_read_write, closed_facts};
 use prog_tree::Sequence;
 use std::alloc::{AllocError, Global};
 
@@ -80,7 +80,7 @@ fn judged_closed(
 ) -> Result<Verdict, AllocError>
     ensures { IfOk result (λ verdict. IsJudged xs.now ys.now mine.now theirs.now verdict) }
 {
-    let closed = question_facts(alloc, mine, theirs)?.close()?;
+    let closed = closed_facts(alloc, mine, theirs)?;
     if let Some((m, t)) = cover(&closed, mine.kind, theirs.kind, xs, ys) {
         let chains = chains_at(alloc, &closed, xs, ys, m, t)?;
         return Ok(Verdict::Covered {

@@ -40,8 +40,8 @@ impl Model for Closed {
 }
 
 impl Closed {
-    /// The facts with what they entail.
-    pub(crate) fn of(alloc: Global, facts: &[Fact]) -> Result<Closed, AllocError>
+    /// What the facts entail, with a copy of them.
+    pub fn of(alloc: Global, facts: &[Fact]) -> Result<Closed, AllocError>
         ensures { IfOk result (λ closed. closed ≡ facts.now) }
     {
         let facts = Vec::from_slice(alloc, facts)?;

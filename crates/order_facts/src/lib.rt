@@ -1,7 +1,8 @@
 //! Exact reasoning about order among i64 values: what facts `lo <= hi` between parameters, unknowns and numbers force.
 //!
 //! `Facts` collects the facts, and `close` finds once what they entail. A `Closed` then answers whether some assignment
-//! of i64 meets the facts, whether they put one node at most another, by which chain, and with which sample.
+//! of i64 meets the facts, whether they put one node at most another, by which chain, and with which sample. Where one
+//! node is said to be below another, it is at most it.
 #![tactic(auto)]
 
 mod closed;
@@ -19,4 +20,4 @@ pub use given::{Facts, check_chain};
 pub use nodes::Nodes;
 pub use sample::Sample;
 pub use square::Square;
-pub use steps::{Node, is_plain_step};
+pub use steps::{Fact, Node, is_chain, is_plain_step};

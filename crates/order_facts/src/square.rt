@@ -109,7 +109,7 @@ impl Square {
         self.words[place] |= 1 << (to % 64);
     }
 
-    /// Joins the row's node to what is joined to `through`.
+    /// Joins the row's node to what `through` is joined to.
     pub fn join_row(&mut self, row: usize, through: usize)
         requires row { row < self.old.size }
         requires through { through < self.old.size }

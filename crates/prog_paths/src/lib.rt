@@ -12,7 +12,10 @@ pub use accesses::changers::Changers;
 pub use accesses::count::{is_too_large, question_count};
 pub use accesses::mark::{Mark, enter_edges, enter_vulnerable, mark_by};
 pub use accesses::places::{Placed, Question, all_places, asks, question_between};
-pub use accesses::question::{column_or_zero, mine_node, question_facts, second_terms, their_node};
+pub use accesses::question::{
+    QuestionFacts, closed_facts, column_or_zero, mine_node, question_facts, second_terms,
+    their_node,
+};
 pub use laws::{
     law_of_listing, law_of_own_unknowns, law_of_paths, law_of_questions, law_of_single_changes,
 };

@@ -19,4 +19,3 @@ pub mod Reasons
 pub mod Firsts
 pub mod Verdicts
 pub mod Values
-pub mod Facts

@@ -4,7 +4,7 @@ use crate::examples::paths_of;
 use crate::told::is_told;
 use example_sets::{LEDGER, MOVE, SMALL_BANK, TRANSFER};
 use order_facts::{Closed, Node};
-use prog_paths::{Access, Changers, Path, all_places, question_facts};
+use prog_paths::{Access, Changers, Path, all_places, closed_facts};
 use std::alloc::{AllocError, Global};
 use std::process::Abort;
 use std::test::Fail;
@@ -35,10 +35,7 @@ fn closed(
 ) -> Result<Closed, AllocError> {
     let mine = access_at(paths, example.mine).expect(rt, "the access is there");
     let theirs = access_at(paths, example.theirs).expect(rt, "the access is there");
-    let facts = question_facts(alloc, mine, theirs)?;
-    let closed = facts.close();
-    drop(facts);
-    closed
+    closed_facts(alloc, mine, theirs)
 }
 
 fn check_all(rt: &impl Abort, facts: &Closed, pairs: &[(Node, Node)], are_entailed: bool) {

@@ -1,12 +1,13 @@
 //! The facts of a question.
-ghost use Rattle.std.specs.Prelude.{◌≡◌, ◌++◌, IfOk, OnOk};
+ghost use Rattle.std.specs.Prelude.{◌≡◌, ◌∷◌, [], IfOk};
 ghost use Rattle.prog_paths.specs.Kinds.{items_of};
 ghost use Rattle.prog_paths.specs.Questions.{mine_node, their_node, column_facts, column_or_zero, question_facts};
 ghost use Rattle.prog_paths.specs.Shown.{second_pair};
 
-use order_facts::{Facts, Node};
+use order_facts::{Closed, Fact, Node};
 use prog_check::{Access, Column, Term};
 use std::alloc::{AllocError, Global};
+use std::marker::Model;
 
 /// What a fact calls a term of the first access.
 pub fn mine_node(term: Term) -> Node
@@ -30,12 +31,20 @@ pub fn their_node(term: Term) -> Node
     }
 }
 
-fn add_column(facts: &mut Facts, mine: Column, theirs: Column) -> Result<(), AllocError>
-    ensures { OnOk result (facts.new ≡ facts.old ++ column_facts mine theirs) }
+/// The facts of one column.
+fn column_facts(mine: Column, theirs: Column) -> (Fact, Fact)
+    ensures { result.0 ∷ result.1 ∷ [] ≡ column_facts mine theirs }
 {
-    facts.add(mine_node(mine.low), their_node(theirs.low))?;
-    facts.add(their_node(theirs.low), mine_node(mine.high))?;
-    Ok(())
+    let value = their_node(theirs.low);
+    let above = Fact {
+        lo: mine_node(mine.low),
+        hi: value,
+    };
+    let below = Fact {
+        lo: value,
+        hi: mine_node(mine.high),
+    };
+    (above, below)
 }
 
 /// What stands for a second column that a table doesn't have.
@@ -60,16 +69,63 @@ pub fn second_terms(mine: Option<Column>, theirs: Option<Column>) -> Option<(Ter
     }
 }
 
+/// The facts of a question, which take no memory.
+#[derive(Drop)]
+pub struct QuestionFacts {
+    facts: [Fact; 4],
+    // Two for each column.
+    count: usize,
+}
+
+impl Model for QuestionFacts {
+    ghost use Rattle.std.specs.Prelude.{◌≤◌, List, take};
+    ghost use Rattle.order_facts.specs.declared.steps.Fact.{Fact};
+
+    ghost Value = { List Fact };
+
+    ghost view = { λ q. take q.count q.facts };
+
+    ghost invariant = { λ q. q.count ≤ 4 };
+}
+
+impl QuestionFacts {
+    pub fn as_slice(&self) -> &[Fact]
+        ensures { result.now ≡ self.now }
+    {
+        &self.facts[..self.count]
+    }
+}
+
+/// The facts of two columns.
+fn of_both(first: (Fact, Fact), second: (Fact, Fact)) -> QuestionFacts
+    ensures { result ≡ first.0 ∷ first.1 ∷ second.0 ∷ second.1 ∷ [] }
+{
+    QuestionFacts {
+        facts: [first.0, first.1, second.0, second.1],
+        count: 4,
+    }
+}
+
 /// The facts of the question of an access against a single cell. Assignments meet them just where
 /// the two accesses meet, as `law_of_questions` says.
-pub fn question_facts(alloc: Global, mine: &Access, theirs: &Access) -> Result<Facts, AllocError>
-    ensures { IfOk result (λ facts. facts ≡ question_facts mine.now theirs.now) }
+pub fn question_facts(mine: &Access, theirs: &Access) -> QuestionFacts
+    ensures { result ≡ question_facts mine.now theirs.now }
 {
-    let mut facts = Facts::new(alloc);
-    add_column(&mut facts, mine.first, theirs.first)?;
-    if mine.second.is_some() || theirs.second.is_some() {
-        let second = column_or_zero(mine.second);
-        add_column(&mut facts, second, column_or_zero(theirs.second))?;
+    let first = column_facts(mine.first, theirs.first);
+    match (mine.second, theirs.second) {
+        (None, None) => QuestionFacts {
+            facts: [first.0, first.1, first.0, first.1],
+            count: 2,
+        },
+        (None, Some(theirs)) => of_both(first, column_facts(column_or_zero(None), theirs)),
+        (Some(mine), theirs) => of_both(first, column_facts(mine, column_or_zero(theirs))),
     }
-    Ok(facts)
+}
+
+/// What the facts of a question entail.
+pub fn closed_facts(alloc: Global, mine: &Access, theirs: &Access) -> Result<Closed, AllocError>
+    ensures { IfOk result (λ closed. closed ≡ question_facts mine.now theirs.now) }
+{
+    let facts = question_facts(mine, theirs);
+    Closed::of(alloc, facts.as_slice())
 }

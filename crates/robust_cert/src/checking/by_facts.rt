@@ -1,13 +1,12 @@
-//! Chains by the facts of a question, which are tried one by one, so that no list of them is made.
-ghost use Rattle.std.specs.Prelude.{◌≡◌, ◌↔◌, length, IsTrue, IfSome, IfNone, Contains};
-ghost use Rattle.order_facts.specs.Chain.{IsStep, IsChain, RunsBetween};
-ghost use Rattle.prog_paths.specs.Questions.{mine_node, their_node, column_facts, second_facts, question_facts};
+//! Chains by the facts of a question.
+ghost use Rattle.std.specs.Prelude.{◌≡◌, ◌↔◌, length, IsTrue, IfSome, IfNone};
+ghost use Rattle.order_facts.specs.Chain.{IsChain, RunsBetween};
 ghost use Rattle.prog_paths.specs.Shown.{Falls, Runs};
 ghost use Rattle.robust_cert.specs.Flaws.{facts_between, RunsDown};
 
-use order_facts::{Node, is_plain_step};
-use prog_check::{Access, Column};
-use prog_paths::{column_or_zero, mine_node, their_node};
+use order_facts::{Node, is_chain};
+use prog_check::Access;
+use prog_paths::question_facts;
 
 /// The two accesses of a question.
 #[derive(Clone, Copy)]
@@ -22,54 +21,12 @@ fn is_node(a: Node, b: Node) -> bool
     a == b
 }
 
-/// Whether a pair of nodes is a fact of one column.
-fn is_column_fact(mine: Column, theirs: Column, lo: Node, hi: Node) -> bool
-    ensures { IsTrue result ↔ Contains (column_facts mine theirs) record { lo = lo; hi = hi } }
-{
-    (is_node(mine_node(mine.low), lo) && is_node(their_node(theirs.low), hi))
-        || (is_node(their_node(theirs.low), lo) && is_node(mine_node(mine.high), hi))
-}
-
-/// Whether it is one of the second columns, where their table has one.
-fn is_second_fact(mine: Option<Column>, theirs: Option<Column>, lo: Node, hi: Node) -> bool
-    ensures { IsTrue result ↔ Contains (second_facts mine theirs) record { lo = lo; hi = hi } }
-{
-    match (mine, theirs) {
-        (None, None) => false,
-        (None, Some(theirs)) => is_column_fact(column_or_zero(None), theirs, lo, hi),
-        (Some(mine), theirs) => is_column_fact(mine, column_or_zero(theirs), lo, hi),
-    }
-}
-
-/// Whether a pair of nodes is a fact of a question.
-fn is_fact(mine: &Access, theirs: &Access, lo: Node, hi: Node) -> bool
-    ensures { IsTrue result ↔ Contains (question_facts mine.now theirs.now)
-        record { lo = lo; hi = hi } }
-{
-    is_column_fact(mine.first, theirs.first, lo, hi)
-        || is_second_fact(mine.second, theirs.second, lo, hi)
-}
-
-/// Whether `b` may stand behind `a` in a chain.
-fn is_step(asked: AskedPair<'_>, a: Node, b: Node) -> bool
-    ensures { IsTrue result ↔ IsStep (facts_between asked.entry) a b }
-{
-    is_fact(asked.mine, asked.theirs, a, b) || is_plain_step(a, b)
-}
-
-/// Whether each node is a step from the one before, and there is one.
-fn is_chain(asked: AskedPair<'_>, chain: &[Node]) -> bool
+/// Whether the nodes are a chain of the question's facts.
+fn is_chain_of(asked: AskedPair<'_>, chain: &[Node]) -> bool
     ensures { IsTrue result ↔ IsChain (facts_between asked.entry) chain.now }
 {
-    if chain.is_empty() {
-        return false;
-    }
-    for i in 1..chain.len() {
-        if !is_step(asked, chain[i - 1], chain[i]) {
-            return false;
-        }
-    }
-    true
+    let facts = question_facts(asked.mine, asked.theirs);
+    is_chain(facts.as_slice(), chain)
 }
 
 /// The first node and the last.
@@ -102,12 +59,12 @@ fn runs_between(from: Node, to: Node, chain: &[Node]) -> bool
 pub fn falls(asked: AskedPair<'_>, chain: &[Node]) -> bool
     ensures { IsTrue result ↔ Falls (facts_between asked.entry) chain.now }
 {
-    runs_down(chain) && is_chain(asked, chain)
+    runs_down(chain) && is_chain_of(asked, chain)
 }
 
 /// Whether a chain runs from one node to another.
 pub fn runs(asked: AskedPair<'_>, from: Node, to: Node, chain: &[Node]) -> bool
     ensures { IsTrue result ↔ Runs (facts_between asked.entry) from to chain.now }
 {
-    runs_between(from, to, chain) && is_chain(asked, chain)
+    runs_between(from, to, chain) && is_chain_of(asked, chain)
 }

@@ -7,7 +7,7 @@ ghost use Rattle.si_repair.specs.Forcing.{IsMissed, AreFactsOf, PutEqual, AreLef
 use crate::repairs::exposed::{access_at, exposed_questions};
 use order_facts::{Closed, Node};
 use prog_check::Path;
-use prog_paths::{Question, question_facts};
+use prog_paths::{Question, closed_facts};
 use repair_laws::Pair;
 use std::alloc::{AllocError, Global};
 
@@ -18,8 +18,7 @@ fn facts_of(alloc: Global, paths: &[Path], question: &Question) -> Result<Closed
 {
     let mine = access_at(paths, question.x, question.a);
     let theirs = access_at(paths, question.y, question.b);
-    let facts = question_facts(alloc, &mine, &theirs)?;
-    facts.close()
+    closed_facts(alloc, &mine, &theirs)
 }
 
 /// Whether the facts put two parameters at most each other.
