@@ -11,8 +11,7 @@ use Rattle.prog_paths.specs.Listing.{IsAskedOf}
 use Rattle.prog_paths.proofs.Membership.{Asks-from_asks}
 use Rattle.conflict_pairs.specs.declared.verdicts.Verdict.{Verdict}
 use Rattle.conflict_pairs.specs.declared.verdicts.Verdict.TheVariants.{Apart}
-use Rattle.conflict_pairs.specs.declared.table.Entry.{Entry}
-use Rattle.conflict_pairs.specs.Table.{Table, verdict_at, entry_by, entries_of, IsOnQuestion, IsRightEntry, StandsFor}
+use Rattle.conflict_pairs.specs.Table.{Entry, Table, verdict_at, entry_by, entries_of, IsOnQuestion, IsRightEntry, StandsFor}
 use Rattle.conflict_pairs.specs.Interning.{IsServed}
 use Rattle.conflict_pairs.specs.Alike.{IsAsked, IsLike, IsJudgedAt, AreJudged}
 use Rattle.conflict_pairs.proofs.Serving.{served-within}

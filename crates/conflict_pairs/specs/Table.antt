@@ -6,11 +6,15 @@ use Rattle.std.specs.declared.alloc.Global.{Global}
 use Rattle.prog_check.specs.declared.path.Path.{Path}
 use Rattle.conflict_pairs.specs.declared.verdicts.Verdict.{Verdict}
 use Rattle.conflict_pairs.specs.declared.verdicts.Verdict.TheVariants.{Apart}
-use Rattle.conflict_pairs.specs.declared.table.Entry.{Entry}
 use Rattle.prog_paths.specs.declared.accesses.places.Question.{Question as Asked}
 use Rattle.prog_paths.specs.Asked.{numbers_of, questions_of}
 use Rattle.prog_paths.specs.Listing.{IsAskedOf}
 use Rattle.conflict_pairs.specs.Verdicts.{IsRight}
+
+-- a question and its verdict
+pub record Entry : Type 0 where
+  pub question : Asked
+  pub verdict : Verdict
 
 -- how many nodes there are, the verdicts that questions have, and the questions with their verdicts
 pub record Table : Type 0 where

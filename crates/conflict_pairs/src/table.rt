@@ -1,18 +1,10 @@
 //! The table of all questions with their verdicts.
 ghost use Rattle.std.specs.Prelude.{◌≡◌, ◌<◌, ◌↔◌, [], IsTrue, All, Some, length, slice_get};
-ghost use Rattle.conflict_pairs.specs.declared.table.Entry.{Entry};
-ghost use Rattle.conflict_pairs.specs.Table.{entries_of};
+ghost use Rattle.conflict_pairs.specs.Table.{Entry, entries_of};
 
 use crate::verdicts::Verdict;
 use prog_paths::Question;
 use std::marker::Model;
-
-/// A question and its verdict, as contracts list them.
-#[derive(Drop)]
-pub struct Entry {
-    pub question: Question,
-    pub verdict: Verdict,
-}
 
 /// All questions of a list of paths in order, with their verdicts.
 #[derive(Drop)]

@@ -1,7 +1,7 @@
 -- What the entries of a table give, place by place.
 use Rattle.std.proofs.Common.{◌≡◌, ℕ, zero, suc, List, [], ◌∷◌, map, length, ◌<◌, Some, Bool, refl, ◌∙◌, arith}
 use Rattle.std.specs.Prelude.{slice_get}
-use Rattle.conflict_pairs.specs.declared.table.Entry.{Entry}
+use Rattle.conflict_pairs.specs.Table.{Entry}
 use Rattle.prog_paths.specs.declared.accesses.places.Question.{Question}
 use Rattle.conflict_pairs.specs.declared.verdicts.Verdict.{Verdict}
 use Rattle.conflict_pairs.specs.Law.{can_meet, is_exposed}

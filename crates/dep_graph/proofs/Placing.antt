@@ -3,8 +3,7 @@ use Rattle.std.proofs.Common.{◌≡◌, ℕ, ◌<◌, ◌≤◌, ◌⊎◌, Lis
 use Rattle.std.specs.Prelude.{slice_get}
 use Rattle.prog_check.specs.declared.path.Path.{Path}
 use Rattle.prog_paths.specs.StaticGraph.{AsksReadWrite, HasQuestion, IsExposed}
-use Rattle.conflict_pairs.specs.declared.table.Entry.{Entry}
-use Rattle.conflict_pairs.specs.Table.{Table}
+use Rattle.conflict_pairs.specs.Table.{Entry, Table}
 use Rattle.prog_paths.specs.Asked.{numbers_of}
 
 -- the question at a place of the table makes the edge from x to y vulnerable

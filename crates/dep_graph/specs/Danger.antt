@@ -3,9 +3,8 @@ use Rattle.std.specs.Prelude.{◌≡◌, ℕ, ◌<◌, ◌≤◌, ◌⊎◌, Lis
 use Rattle.prog_check.specs.declared.path.Path.{Path}
 use Rattle.prog_paths.specs.StaticGraph.{AsksReadWrite, HasQuestion, IsExposed, StaticEdge, IsVulnerable, IsDangerousAt}
 use Rattle.conflict_pairs.specs.declared.verdicts.Verdict.TheVariants.{Exposed}
-use Rattle.conflict_pairs.specs.declared.table.Entry.{Entry}
 use Rattle.conflict_pairs.specs.Verdicts.{IsExposedBy}
-use Rattle.conflict_pairs.specs.Table.{Table}
+use Rattle.conflict_pairs.specs.Table.{Entry, Table}
 use Rattle.prog_paths.specs.Asked.{numbers_of}
 use Rattle.dep_graph.specs.declared.danger.Danger.{Danger}
 use Rattle.dep_graph.specs.declared.danger.Exposure.{Exposure}

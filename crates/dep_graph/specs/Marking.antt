@@ -1,9 +1,8 @@
 -- What a question with its verdict makes of the graph.
 use Rattle.std.specs.Prelude.{map}
-use Rattle.conflict_pairs.specs.declared.table.Entry.{Entry}
 use Rattle.prog_paths.specs.declared.accesses.mark.Mark.{Mark}
 use Rattle.prog_paths.specs.Marks.{mark_by}
-use Rattle.conflict_pairs.specs.Table.{Table}
+use Rattle.conflict_pairs.specs.Table.{Entry, Table}
 use Rattle.conflict_pairs.specs.Law.{can_meet, is_exposed}
 use Rattle.dep_graph.specs.Marks.{Marks}
 

@@ -3,7 +3,7 @@ use Rattle.std.proofs.Common.{◌≡◌, zero, suc, List, [], ◌∷◌, inl, in
 use Rattle.std.specs.Prelude.{Contains}
 use Rattle.std.proofs.lemmas.List.Elements.{Contains-append_left, Contains-append_right}
 use Rattle.prog_paths.proofs.Segments.{IsMember}
-use Rattle.conflict_pairs.specs.declared.table.Entry.{Entry as Judged}
+use Rattle.conflict_pairs.specs.Table.{Entry as Judged}
 use Rattle.robust_cert.specs.declared.certificate.Entry.{Entry}
 use Rattle.si_repair.specs.Telling.{told_by, told_of}
 

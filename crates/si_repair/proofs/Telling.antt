@@ -16,8 +16,7 @@ use Rattle.prog_paths.proofs.Membership.{law_of_listing}
 use Rattle.prog_paths.proofs.Order.{law_of_order}
 use Rattle.conflict_pairs.specs.declared.verdicts.Verdict.{Verdict}
 use Rattle.conflict_pairs.specs.declared.verdicts.Verdict.TheVariants.{Apart, Covered, Exposed}
-use Rattle.conflict_pairs.specs.declared.table.Entry.{Entry as Judged}
-use Rattle.conflict_pairs.specs.Table.{Table, StandsFor, IsRightEntry}
+use Rattle.conflict_pairs.specs.Table.{Entry as Judged, Table, StandsFor, IsRightEntry}
 use Rattle.conflict_pairs.specs.Verdicts.{IsRight, IsCoveredBy}
 use Rattle.robust_cert.specs.declared.certificate.Entry.{Entry}
 use Rattle.robust_cert.specs.declared.certificate.Entry as told

@@ -8,11 +8,10 @@ use Rattle.prog_paths.specs.Few.{AreFew}
 use Rattle.prog_paths.specs.declared.accesses.places.Question.{Question as Asked}
 use Rattle.conflict_pairs.specs.declared.verdicts.Verdict.{Verdict}
 use Rattle.conflict_pairs.specs.declared.verdicts.Verdict.TheVariants.{Apart, Covered, Exposed}
-use Rattle.conflict_pairs.specs.declared.table.Entry.{Entry as Judged}
 use Rattle.conflict_pairs.specs.declared.fault.PairFault.{PairFault}
 use Rattle.conflict_pairs.specs.declared.fault.PairFault as pairs
 use Rattle.conflict_pairs.specs.Interning.{AreInterned}
-use Rattle.conflict_pairs.specs.Table.{Table, StandsFor}
+use Rattle.conflict_pairs.specs.Table.{Entry as Judged, Table, StandsFor}
 use Rattle.robust_cert.specs.declared.certificate.Question.{Question}
 use Rattle.robust_cert.specs.declared.certificate.Entry.{Entry}
 use Rattle.robust_cert.specs.declared.certificate.Entry as told

@@ -1,7 +1,6 @@
 use Rattle.std.proofs.Common.{◌≡◌, ℕ, ◌<◌, List, length, sym, ap, subst, ◌∙◌}
 use Rattle.std.specs.Prelude.{Some, slice_get}
-use Rattle.conflict_pairs.specs.declared.table.Entry.{Entry}
-use Rattle.conflict_pairs.specs.Table.{Table}
+use Rattle.conflict_pairs.specs.Table.{Entry, Table}
 use Rattle.conflict_pairs.proofs.Numbered.{entries-length, entries-at}
 use Rattle.conflict_pairs.proofs.table.PairTable.question.Goals as goal
 
