@@ -21,4 +21,5 @@ pub use laws::{
 };
 pub use limits::MAX_QUESTIONS;
 pub use path::listing::paths;
+pub use path::walk::count_statements;
 pub use prog_check::{Access, Accesses, Choices, Column, Kind, Path, Term};

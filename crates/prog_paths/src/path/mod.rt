@@ -4,4 +4,4 @@ mod columns;
 mod kinds;
 pub mod listing;
 mod trail;
-mod walk;
+pub mod walk;

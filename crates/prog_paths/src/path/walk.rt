@@ -22,15 +22,15 @@ fn count_own(stmt: &Stmt) -> usize
             then,
             otherwise,
             ..
-        } => (1 + count_all(then) + count_all(otherwise)).min(MAX_COUNTED),
-        Stmt::Each { body, .. } => (1 + count_all(body)).min(MAX_COUNTED),
+        } => (1 + count_statements(then) + count_statements(otherwise)).min(MAX_COUNTED),
+        Stmt::Each { body, .. } => (1 + count_statements(body)).min(MAX_COUNTED),
         _ => 1,
     }
 }
 
 /// How many statements a block has, with those of its blocks, up to 257.
 #[cycle(sizes)]
-fn count_all(block: &Block) -> usize
+pub fn count_statements(block: &Block) -> usize
     ensures few { result ≤ MAX_COUNTED }
     ensures counted { result ≡ min (statement_count (block_tree block.now)) MAX_COUNTED }
 {
@@ -93,7 +93,13 @@ fn pass_inside(
             ..
         } => {
             let trail = pass_body(set, params, number + 1, then, trail)?;
-            pass_body(set, params, number + 1 + count_all(then), otherwise, trail)
+            pass_body(
+                set,
+                params,
+                number + 1 + count_statements(then),
+                otherwise,
+                trail,
+            )
         }
         Stmt::Each { body, .. } => pass_body(set, params, number + 1, body, trail),
         _ => Ok(trail),
@@ -200,7 +206,7 @@ fn walk_stmt(
             otherwise,
             ..
         } => {
-            let second = number + 1 + count_all(then);
+            let second = number + 1 + count_statements(then);
             let mut passed = Vec::new(alloc);
             for trail in trails {
                 let on = trail.choosing(alloc, true)?;

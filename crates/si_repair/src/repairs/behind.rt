@@ -9,8 +9,8 @@ ghost use Rattle.repair_laws.specs.Promoted.{keep_of, with_keeps, all_with_keeps
 ghost use Rattle.si_repair.specs.Promoting.{is_marked, cell_read_by, count_by, with_keeps_in, HasFewStatements, promoted_program};
 
 use crate::repairs::copies::{copy_names, copy_tables};
-use crate::repairs::counts::count_block;
 use crate::repairs::marks::{Mark, is_marked};
+use prog_paths::count_statements;
 use prog_tree::{Block, Draft, Key, Name, Program, Stmt};
 use std::alloc::{AllocError, Global};
 
@@ -110,7 +110,7 @@ fn keeps_in_stmt(
         }
         Stmt::Each { body, .. } => Ok(NumberedStmt {
             stmt: stmt.copy(alloc)?,
-            next: number + 1 + count_block(body),
+            next: number + 1 + count_statements(body),
         }),
         _ => Ok(NumberedStmt {
             stmt: stmt.copy(alloc)?,

@@ -3,7 +3,6 @@
 mod behind;
 mod checked;
 mod copies;
-mod counts;
 mod exposed;
 mod fault;
 mod front;

@@ -76,8 +76,8 @@ pass_inside-pass_body-requires-in-Branch t c =
     let size = fork_counts c.args.stmt.now branch.test branch.then branch.otherwise branch.is in
     let room = c.requires.few in
     let falls = c.decreases in
-    let counted = c.count_all.ensures.counted in
-    let first : c.count_all.result ≡ statement_count a = omega (arith, size, counted, room) in
+    let counted = c.count_statements.ensures.counted in
+    let first : c.count_statements.result ≡ statement_count a = omega (arith, size, counted, room) in
     let own = low_fork tables params n x (test_tree branch.test) a (block_tree branch.otherwise) c.args.trail c.pass.new.trail fork c.in_ok-pass.ensures c.requires.low in
     let low = low_body tables params (n + 1) a c.pass.new.trail c.in_ok-trail-in-Branch.trail c.in_ok-trail-in-Branch.ensures own in (
       omega (arith, size, falls),
@@ -109,11 +109,11 @@ pass_inside-returns-in_ok-trail-in-Branch t c =
     let x = stmt_tree c.args.stmt.now in
     let a = block_tree branch.then in
     let b = block_tree branch.otherwise in
-    let m = c.count_all.result in
+    let m = c.count_statements.result in
     let fork = ap stmt_tree branch.is ∙ fork_tree branch.test branch.then branch.otherwise in
     let size = fork_counts c.args.stmt.now branch.test branch.then branch.otherwise branch.is in
     let room = c.requires.few in
-    let counted = c.count_all.ensures.counted in
+    let counted = c.count_statements.ensures.counted in
     let first : m ≡ statement_count a = omega (arith, size, counted, room) in
     let behind =
     ap (past_body tables params (n + 1 + m) b) (c.in_ok-trail-in-Branch.ensures ∙ ap (past_body tables params (n + 1) a) c.in_ok-pass.ensures)

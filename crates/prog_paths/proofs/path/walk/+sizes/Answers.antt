@@ -7,8 +7,8 @@ use Rattle.prog_paths.specs.Trails.{alone}
 use Rattle.prog_paths.proofs.Walking.{count_from}
 use Rattle.prog_paths.proofs.path.walk.+sizes.Goals as goal
 
-pub count_all-loop-stmt-preserved : goal.count_all-loop-stmt-preserved
-count_all-loop-stmt-preserved t c =
+pub count_statements-loop-stmt-preserved : goal.count_statements-loop-stmt-preserved
+count_statements-loop-stmt-preserved t c =
     let items = c.deref-stmt-items.result.now in
     let item = c.stmt-item.result in
     let later = drop (c.loop-stmt.stmt-index + 1) items in
@@ -26,8 +26,8 @@ pub count_own-returns-in-Branch-clause-counted : goal.count_own-returns-in-Branc
 count_own-returns-in-Branch-clause-counted t c =
     let branch = c.in-Branch in
     let size = ap (λ x. statement_count (alone x)) (ap stmt_tree branch.is ∙ fork_tree branch.test branch.then branch.otherwise) in
-    let first = c.count_all.ensures.counted in
-    let second = c.count_all-in-Branch.ensures.counted in
+    let first = c.count_statements.ensures.counted in
+    let second = c.count_statements-in-Branch.ensures.counted in
     let cut = c.min.ensures in
     omega (arith, size, first, second, cut)
 
@@ -35,6 +35,6 @@ pub count_own-returns-in-Each-clause-counted : goal.count_own-returns-in-Each-cl
 count_own-returns-in-Each-clause-counted t c =
     let loop = c.in-Each in
     let size = ap (λ x. statement_count (alone x)) (ap stmt_tree loop.is ∙ loop_tree loop.listing loop.body) in
-    let own = c.count_all-in-Each.ensures.counted in
+    let own = c.count_statements-in-Each.ensures.counted in
     let cut = c.min-in-Each.ensures in
     omega (arith, size, own, cut)

@@ -64,9 +64,9 @@ walk_stmt-loop-trail-preserved t c =
     let x = stmt_tree c.args.stmt.now in
     let is = ap stmt_tree branch.is ∙ fork_tree branch.test branch.then branch.otherwise in
     let size = ap (λ y. statement_count (alone y)) is in
-    let counted = c.count_all.ensures.counted in
+    let counted = c.count_statements.ensures.counted in
     let room = c.requires.few in
-    let second : c.count_all.result ≡ statement_count a = omega (arith, size, counted, room) in
+    let second : c.count_statements.result ≡ statement_count a = omega (arith, size, counted, room) in
     let first_walked = c.in_ok-walk_block-in-Branch.ensures ∙ ap (λ t. map (along tables params t) (routes (n + 1) a)) c.in_ok-on-in-Branch.ensures in
     let second_walked =
     c.in_ok-walk_block-in-Branch-2.ensures
@@ -106,8 +106,8 @@ walk_stmt-walk_block-requires-in-loop-trail t c =
     let size = fork_counts c.args.stmt.now branch.test branch.then branch.otherwise branch.is in
     let room = c.requires.few in
     let falls = c.decreases in
-    let counted = c.count_all.ensures.counted in
+    let counted = c.count_statements.ensures.counted in
     let low = low_front n c.in-Some.trail c.next.new.self.rest.items c.loop-trail.trail-iterator.rest.items (told c.next.result _ _ c.in-Some.trail c.in-Some.is c.next.ensures.steps).0 c.loop-trail.invariant.low in (
       omega (arith, size, falls),
-      (omega (arith, size, room, counted), low_second n c.count_all.result false c.in-Some.trail c.in_ok-on-in-Branch-2.on c.in_ok-on-in-Branch-2.ensures low),
+      (omega (arith, size, room, counted), low_second n c.count_statements.result false c.in-Some.trail c.in_ok-on-in-Branch-2.on c.in_ok-on-in-Branch-2.ensures low),
     )

@@ -45,27 +45,21 @@ keeps_in_stmt-returns-in_ok-copy-in-Branch-clause-kept t c =
     ∙ (λ i. Fork (test.ensures i) (first.ensures.kept i) ((second.ensures.kept ∙ ap (λ n. with_keeps marked n (block_tree branch.otherwise)) first.ensures.next) i))
     ∙ sym (keeps-fork marked c.args.number c.args.stmt.now branch.test branch.then branch.otherwise branch.is)
 
-pub keeps_in_stmt-count_block-requires : goal.keeps_in_stmt-count_block-requires
-keeps_in_stmt-count_block-requires t c =
-    let each = c.in-Each in
-    let size = count-loop c.args.stmt.now each.listing each.body each.is in
-    let room = c.requires in
-    omega (arith, size, room)
-
 pub keeps_in_stmt-overflow_add-result-in-Each : goal.keeps_in_stmt-overflow_add-result-in-Each
 keeps_in_stmt-overflow_add-result-in-Each t c =
     let each = c.in-Each in
     let size = count-loop c.args.stmt.now each.listing each.body each.is in
     let room = c.requires in
-    let inside = c.count_block.ensures in
+    let inside = c.count_statements.ensures.counted in
     omega (arith, size, room, inside)
 
 pub keeps_in_stmt-returns-in_ok-copy-in-Each-clause-next : goal.keeps_in_stmt-returns-in_ok-copy-in-Each-clause-next
 keeps_in_stmt-returns-in_ok-copy-in-Each-clause-next t c =
     let each = c.in-Each in
     let size = count-loop c.args.stmt.now each.listing each.body each.is in
-    let inside = c.count_block.ensures in
-    omega (arith, size, inside)
+    let room = c.requires in
+    let inside = c.count_statements.ensures.counted in
+    omega (arith, size, room, inside)
 
 pub keeps_in_block-keeps_in_stmt-requires : goal.keeps_in_block-keeps_in_stmt-requires
 keeps_in_block-keeps_in_stmt-requires t c =
