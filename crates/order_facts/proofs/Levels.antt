@@ -7,20 +7,20 @@ use Rattle.order_facts.specs.declared.steps.Fact.{Fact}
 use Rattle.order_facts.specs.declared.search.Reached.{Reached}
 use Rattle.order_facts.specs.Chain.{IsStep, IsChainFrom, last_of}
 use Rattle.order_facts.specs.Reaches.{reaches, fact_at}
-use Rattle.order_facts.specs.Search.{IsEnd, reached_at, HasReached, LeadsOn, IsDescending, IsLink, IsTrail, IsFresh, ReachesBefore, Adds, IsGrown, Spreads}
+use Rattle.order_facts.specs.Search.{IsEnd, reached_at, HasReached, LeadsNearer, IsDescending, IsLink, IsTrail, IsFresh, ReachesBefore, Adds, IsGrown, Spreads}
 use Rattle.order_facts.proofs.Chains.{Chained-from_reaches, IsIn-from_Contains}
 use Rattle.order_facts.proofs.Places.{place_of}
 use Rattle.order_facts.proofs.Shortest.{IsCandidate, IsWithin, within-end, within-le, within-chain, rank, rank_of}
 
 -- ---- the walk back
 
-pub next-leads_on : (reached : List Reached) (k : ℕ) (at : Reached) → IsDescending reached → k < length reached → at ≡ reached_at reached k → 0 < at.steps → LeadsOn reached at
-next-leads_on reached k at d h e more = subst (λ (r : Reached). LeadsOn reached r) (sym e) (go (d k h))
+pub next-leads_nearer : (reached : List Reached) (k : ℕ) (at : Reached) → IsDescending reached → k < length reached → at ≡ reached_at reached k → 0 < at.steps → LeadsNearer reached at
+next-leads_nearer reached k at d h e more = subst (λ (r : Reached). LeadsNearer reached r) (sym e) (go (d k h))
   where
     same : at.steps ≡ (reached_at reached k).steps
     same = ap (λ (r : Reached). r.steps) e
 
-    go : ((reached_at reached k).steps ≡ 0) ⊎ LeadsOn reached (reached_at reached k) → LeadsOn reached (reached_at reached k)
+    go : ((reached_at reached k).steps ≡ 0) ⊎ LeadsNearer reached (reached_at reached k) → LeadsNearer reached (reached_at reached k)
     go (inl z) = let s = same in absurd (omega arith)
     go (inr l) = l
 
@@ -37,7 +37,7 @@ next-step facts y reached k at t h e more = subst (λ (r : Reached). IsStep fact
 pub IsDescending-from_trail : (facts : List Fact) (y : Node) (reached : List Reached) → IsTrail facts y reached → IsDescending reached
 IsDescending-from_trail facts y reached t k h = go (t k h)
   where
-    go : IsLink facts y reached (reached_at reached k) → ((reached_at reached k).steps ≡ 0) ⊎ LeadsOn reached (reached_at reached k)
+    go : IsLink facts y reached (reached_at reached k) → ((reached_at reached k).steps ≡ 0) ⊎ LeadsNearer reached (reached_at reached k)
     go (inl z) = inl z.0
     go (inr l) = inr l.0
 

@@ -19,16 +19,16 @@ abbrev pub HasReached : List Reached → Node → Type 0
 HasReached reached node = (k : ℕ) × (k < length reached) × ((reached_at reached k).node ≡ node)
 
 -- it leads to one that was reached in fewer steps
-abbrev pub LeadsOn : List Reached → Reached → Type 0
-LeadsOn reached r = (r.next < length reached) × ((reached_at reached r.next).steps < r.steps)
+abbrev pub LeadsNearer : List Reached → Reached → Type 0
+LeadsNearer reached r = (r.next < length reached) × ((reached_at reached r.next).steps < r.steps)
 
 -- each was reached in no step, or leads to one that was reached in fewer
 abbrev pub IsDescending : List Reached → Type 0
-IsDescending reached = (k : ℕ) → k < length reached → ((reached_at reached k).steps ≡ 0) ⊎ LeadsOn reached (reached_at reached k)
+IsDescending reached = (k : ℕ) → k < length reached → ((reached_at reached k).steps ≡ 0) ⊎ LeadsNearer reached (reached_at reached k)
 
 -- it is `y`, reached in no step, or leads to what may stand behind it in a chain
 abbrev pub IsLink : List Fact → Node → List Reached → Reached → Type 0
-IsLink facts y reached r = ((r.steps ≡ 0) × (r.node ≡ y)) ⊎ (LeadsOn reached r × IsStep facts r.node (reached_at reached r.next).node)
+IsLink facts y reached r = ((r.steps ≡ 0) × (r.node ≡ y)) ⊎ (LeadsNearer reached r × IsStep facts r.node (reached_at reached r.next).node)
 
 -- from each place chains lead to `y`
 abbrev pub IsTrail : List Fact → Node → List Reached → Type 0

@@ -26,24 +26,14 @@ fn step_from(facts: &[Fact], reached: &[Reached], node: Node) -> Option<usize>
         ((k : ℕ) → k < length reached.now
         → ¬ IsStep facts.now node (reached_at reached.now k).node) }
 {
-    for (k, r) in reached.iter().enumerate() {
-        if is_step(facts, node, r.node) {
-            return Some(k);
-        }
-    }
-    None
+    reached.iter().position(|r| is_step(facts, node, r.node))
 }
 
 /// Whether the node was reached.
 fn has_reached(reached: &[Reached], node: Node) -> bool
     ensures { IsTrue result ↔ HasReached reached.now node }
 {
-    for r in reached {
-        if is_same(r.node, node) {
-            return true;
-        }
-    }
-    false
+    reached.iter().any(|r| is_same(r.node, node))
 }
 
 /// Adds the node where it is new and a step from one of the first `known`.

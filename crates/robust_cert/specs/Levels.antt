@@ -1,7 +1,7 @@
 -- Levels that fall, or don't rise, in a table of edges.
 use Rattle.std.specs.Prelude.{◌≡◌, ℕ, ◌<◌, ◌≤◌, List, [], ◌∷◌, slice_index_or}
 use Rattle.robust_cert.specs.declared.checking.left.Left.{Left}
-use Rattle.robust_cert.specs.declared.checking.levels.Pair.{Pair}
+use Rattle.robust_cert.specs.declared.checking.levels.Edge.{Edge}
 use Rattle.robust_cert.specs.declared.checking.levels.Triple.{Triple}
 use Rattle.robust_cert.specs.declared.fault.CertFault.{CertFault}
 use Rattle.robust_cert.specs.declared.fault.CertFault.TheVariants.{LevelFalls, Dangerous}
@@ -19,7 +19,7 @@ pub record FallsFirst (edges : Grid) (levels : List ℕ) (x y : ℕ) : Type 0 wh
   pub least : (other : ℕ) → FallsAlong edges levels x other → y ≤ other
 
 -- the least edge along which it falls
-pub record IsLeastFall (edges : Grid) (levels : List ℕ) (p : Pair) : Type 0 where
+pub record IsLeastFall (edges : Grid) (levels : List ℕ) (p : Edge) : Type 0 where
   pub falls : FallsAlong edges levels p.x p.y
   pub least : (x y : ℕ) → FallsAlong edges levels x y → IsAtMost (p.x ∷ p.y ∷ []) (x ∷ y ∷ [])
 
@@ -49,7 +49,7 @@ pub record StaysFirstBy (vulnerable : Grid) (levels : List ℕ) (x y : ℕ) : Ty
   pub least : (other z : ℕ) → Stays vulnerable levels other y z → x ≤ other
 
 -- the first of the least two vulnerable edges over which it doesn't rise
-pub record IsLeastFirstEdge (vulnerable : Grid) (levels : List ℕ) (p : Pair) : Type 0 where
+pub record IsLeastFirstEdge (vulnerable : Grid) (levels : List ℕ) (p : Edge) : Type 0 where
   pub stays : StaysBy vulnerable levels p.x p.y
   pub least : (x y z : ℕ) → Stays vulnerable levels x y z → IsAtMost (p.x ∷ p.y ∷ []) (x ∷ y ∷ [])
 

@@ -43,12 +43,7 @@ fn all_fit(nodes: &[Node]) -> bool
     ensures small { IsTrue result ↔ All IsOfSmall nodes.now }
     ensures fits { IsTrue result → ChainFits nodes.now }
 {
-    for node in nodes {
-        if !fits(*node) {
-            return false;
-        }
-    }
-    true
+    nodes.iter().all(|node| fits(*node))
 }
 
 impl Chain {

@@ -18,7 +18,7 @@ use Rattle.repair_laws.specs.Keys.{ExposedOf}
 use Rattle.repair_laws.specs.Refusals.{IsStatementAt, IsRange, HasUnknownKey, HasRangeRead, HasUnknownRead, HasBodyRead}
 use Rattle.si_repair.specs.Exposing.{AreExposed, IsObstacle}
 use Rattle.si_repair.specs.Gathering.{HasRead, HasBoth}
-use Rattle.si_repair.specs.Obstacles.{is_range, range_marks, marks_of, ReadsMarked, ReadsUnknown, MeetsInBody, obstacle_of}
+use Rattle.si_repair.specs.Obstacles.{is_range, range_marks, program_ranges, ReadsMarked, ReadsUnknown, MeetsInBody, obstacle_of}
 use Rattle.si_repair.proofs.Gathering.{nothing, among_first}
 
 -- ---- statements
@@ -296,8 +296,8 @@ module _ (draft : DraftTree) (nodes : List Path) (is : nodes ≡ paths_of draft)
       let own = subst (λ (r : Question). IsAccessOf nodes r.x r.a o.0.question.mine) o.1 o.0.question.asked.at_mine in
       (o.0, same_access nodes q.x q.a o.0.question.mine read own at)
 
-  module _ (marks : List Bool) (marks_are : marks ≡ marks_of (slice_get draft.programs pair.from)) where
-    range-of : (o : Option ProgramTree) → slice_get draft.programs pair.from ≡ o → (place : ℕ) → get_or (marks_of o) place false ≡ true → (p : ProgramTree) × (slice_get draft.programs pair.from ≡ Some p) × MarkedAt 0 p.body place
+  module _ (marks : List Bool) (marks_are : marks ≡ program_ranges (slice_get draft.programs pair.from)) where
+    range-of : (o : Option ProgramTree) → slice_get draft.programs pair.from ≡ o → (place : ℕ) → get_or (program_ranges o) place false ≡ true → (p : ProgramTree) × (slice_get draft.programs pair.from ≡ Some p) × MarkedAt 0 p.body place
     range-of None at place h = absurd (false≢true h)
     range-of (Some p) at place h =
         let e : 0 + place ≡ place = omega arith in
@@ -329,7 +329,7 @@ module _ (draft : DraftTree) (nodes : List Path) (is : nodes ≡ paths_of draft)
               listed = q.1;
               read = e.question.mine;
               at = subst (λ (r : Question). IsAccessOf nodes r.x r.a e.question.mine) q.2 e.question.asked.at_mine;
-              marked = subst (λ (l : List Bool). get_or l e.question.mine.place false ≡ true) (sym (marks_are ∙ ap marks_of at)) (subst (λ (k : ℕ). get_or (range_marks p.body) k false ≡ true) same m.2);
+              marked = subst (λ (l : List Bool). get_or l e.question.mine.place false ≡ true) (sym (marks_are ∙ ap program_ranges at)) (subst (λ (k : ℕ). get_or (range_marks p.body) k false ≡ true) same m.2);
             }
 
   unknown-from_reads : ReadsUnknown nodes qs → HasUnknownRead draft pair
@@ -384,7 +384,7 @@ module _ (draft : DraftTree) (nodes : List Path) (is : nodes ≡ paths_of draft)
           }
 
   -- what the three tests find is the first obstacle
-  module _ (marks : List Bool) (are : marks ≡ marks_of (slice_get draft.programs pair.from)) where
+  module _ (marks : List Bool) (are : marks ≡ program_ranges (slice_get draft.programs pair.from)) where
     pub IsObstacle-first : (reads_range reads_unknown in_body : Bool) → (reads_range ≡ true) ↔ ReadsMarked nodes marks qs → (reads_unknown ≡ true) ↔ ReadsUnknown nodes qs → (in_body ≡ true) ↔ MeetsInBody nodes qs → IsObstacle draft pair (obstacle_of reads_range reads_unknown in_body)
     IsObstacle-first true u b range unknown meets = range-from_marks marks are (range.0 refl)
     IsObstacle-first false true b range unknown meets = (λ h. false≢true (range.1 (marks-from_range marks are h)), unknown-from_reads (unknown.0 refl))

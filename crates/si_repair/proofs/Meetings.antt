@@ -19,7 +19,7 @@ use Rattle.repair_laws.specs.Keys.{IsKeyOf, IsLeastForced}
 use Rattle.repair_laws.specs.Materialised.{Met, mat_name, IsLeastFree, AreLeastFree, params_of, HasKey, AreMet, all_with_front, materialised_by, IsMaterialised}
 use Rattle.repair_laws.specs.Refusals.{IsTooLarge, IsTooLargeBy, Reason, StopsMaterialising, IsFirstStop}
 use Rattle.repair_laws.specs.Refusals as why
-use Rattle.repair_laws.specs.Sizes.{IsOfSize, IsOfSizeAlone}
+use Rattle.repair_laws.specs.Sizes.{IsSizeFault, IsOfSizeAlone}
 use Rattle.repair_laws.proofs.Materialising.{law_of_materialising}
 use Rattle.repair_laws.proofs.RightLaws.{law_of_repair_sizes}
 use Rattle.si_repair.specs.declared.repairs.fault.RepairFault.{RepairFault}
@@ -129,7 +129,7 @@ stops_nowhere draft plan small n pair why.UnknownKey at stops = stops
 stops_nowhere draft plan small n pair why.BodyRead at stops = stops
 stops_nowhere draft plan small n pair why.TooLarge at stops = small n (slice_get_within plan n pair at) stops
 
-of-size : (f : CheckFault) → IsOfSize f → (place : Place) × (f ≡ check.TooMany place)
+of-size : (f : CheckFault) → IsSizeFault f → (place : Place) × (f ≡ check.TooMany place)
 of-size (check.TooMany place) h = (place, refl)
 of-size (check.DuplicateTable place) h = absurd h
 of-size (check.DuplicateProgram place) h = absurd h

@@ -18,7 +18,7 @@ use Rattle.repair_laws.specs.Promoted.{MarksExposed, promoted_by, IsPromoted}
 use Rattle.repair_laws.specs.Refusals.{HasRangeRead, HasUnknownRead, IsCoverable, IsTooLarge, IsTooLargeBy, Reason, StopsPromotion, IsFirstStop}
 use Rattle.repair_laws.specs.Refusals as why
 use Rattle.repair_laws.specs.Safety.{MayPromote, Repairs}
-use Rattle.repair_laws.specs.Sizes.{IsOfSize, IsOfSizeAlone}
+use Rattle.repair_laws.specs.Sizes.{IsSizeFault, IsOfSizeAlone}
 use Rattle.repair_laws.proofs.Promoting.{law_of_promoting}
 use Rattle.repair_laws.proofs.RightLaws.{law_of_repair_sizes}
 use Rattle.si_repair.specs.declared.repairs.fault.RepairFault.{RepairFault}
@@ -134,7 +134,7 @@ may_promote draft plan n passed pair c = (ranges, unknowns, λ h. passed c.0 pai
 size-fault : (draft : DraftTree) (found : CheckFault) → first_fault draft ≡ Some found → IsOfSizeAlone (first_fault draft) → IsTooLarge draft
 size-fault draft found is alone = go found is (subst (λ (o : Option CheckFault). IsOfSizeAlone o) is alone)
   where
-    go : (f : CheckFault) → first_fault draft ≡ Some f → IsOfSize f → IsTooLarge draft
+    go : (f : CheckFault) → first_fault draft ≡ Some f → IsSizeFault f → IsTooLarge draft
     go (TooMany place) e h = (place, e)
     go (DuplicateTable place) e h = absurd h
     go (DuplicateProgram place) e h = absurd h

@@ -26,9 +26,9 @@ range_marks (Branch test a b rest) = false ∷ (range_marks a ++ (range_marks b 
 range_marks (Each l body rest) = is_range (as_count l) ∷ (range_marks body ++ range_marks rest)
 
 -- the same for a program, where there is one
-abbrev pub marks_of : Option ProgramTree → List Bool
-marks_of None = []
-marks_of (Some p) = range_marks p.body
+abbrev pub program_ranges : Option ProgramTree → List Bool
+program_ranges None = []
+program_ranges (Some p) = range_marks p.body
 
 -- ---- reads
 

@@ -15,12 +15,6 @@ pub struct AskedPair<'a> {
     pub theirs: &'a Access,
 }
 
-fn is_node(a: Node, b: Node) -> bool
-    ensures { IsTrue result ↔ (a ≡ b) }
-{
-    a == b
-}
-
 /// Whether the nodes are a chain of the question's facts.
 fn is_chain_of(asked: AskedPair<'_>, chain: &[Node]) -> bool
     ensures { IsTrue result ↔ IsChain (facts_between asked.entry) chain.now }
@@ -50,7 +44,7 @@ fn runs_between(from: Node, to: Node, chain: &[Node]) -> bool
     ensures { IsTrue result ↔ RunsBetween from to chain.now }
 {
     match ends(chain) {
-        Some((first, last)) => is_node(first, from) && is_node(last, to),
+        Some((first, last)) => first == from && last == to,
         None => false,
     }
 }

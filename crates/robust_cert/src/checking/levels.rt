@@ -9,7 +9,7 @@ use order_facts::Square;
 
 /// Two nodes in a row.
 #[derive(Clone, Copy)]
-pub struct Pair {
+pub struct Edge {
     pub x: usize,
     pub y: usize,
 }
@@ -38,14 +38,14 @@ fn first_fall(edges: &Square, levels: &[u32], x: usize) -> Option<usize>
 }
 
 /// The least edge along which the level falls.
-fn least_fall(edges: &Square, levels: &[u32]) -> Option<Pair>
+fn least_fall(edges: &Square, levels: &[u32]) -> Option<Edge>
     requires { length levels.now ≡ edges.now.size }
     ensures found { IfSome result (λ pair. IsLeastFall edges.now levels.now pair) }
     ensures none { IfNone result ((x y : ℕ) → ¬ FallsAlong edges.now levels.now x y) }
 {
     for x in 0..edges.size() {
         if let Some(y) = first_fall(edges, levels, x) {
-            return Some(Pair { x, y });
+            return Some(Edge { x, y });
         }
     }
     None
@@ -106,7 +106,7 @@ fn first_stay_by(vulnerable: &Square, levels: &[u32], y: usize, end: usize) -> O
 
 /// The first of the least two vulnerable edges over which the level doesn't rise. A later node in
 /// their middle counts only where they begin at an earlier one.
-fn least_first_edge(vulnerable: &Square, levels: &[u32]) -> Option<Pair>
+fn least_first_edge(vulnerable: &Square, levels: &[u32]) -> Option<Edge>
     requires { length levels.now ≡ vulnerable.now.size }
     ensures found { IfSome result (λ pair. IsLeastFirstEdge vulnerable.now levels.now pair) }
     ensures none { IfNone result ((x y z : ℕ) → ¬ Stays vulnerable.now levels.now x y z) }
@@ -115,7 +115,7 @@ fn least_first_edge(vulnerable: &Square, levels: &[u32]) -> Option<Pair>
     let mut end = vulnerable.size();
     for y in 0..vulnerable.size() {
         if let Some(x) = first_stay_by(vulnerable, levels, y, end) {
-            least = Some(Pair { x, y });
+            least = Some(Edge { x, y });
             end = x;
         }
     }
@@ -128,7 +128,7 @@ fn least_stay(vulnerable: &Square, levels: &[u32]) -> Option<Triple>
     ensures found { IfSome result (λ triple. IsLeastStay vulnerable.now levels.now triple) }
     ensures none { IfNone result ((x y z : ℕ) → ¬ Stays vulnerable.now levels.now x y z) }
 {
-    let Pair { x, y } = least_first_edge(vulnerable, levels)?;
+    let Edge { x, y } = least_first_edge(vulnerable, levels)?;
     let z = first_stay(vulnerable, levels, x, y)?;
     Some(Triple { x, y, z })
 }
@@ -140,7 +140,7 @@ pub fn check_levels(left: &Left, levels: &[u32]) -> Result<(), CertFault>
     ensures rise { OnOk result (RiseOver left.now levels.now) }
     ensures fault { IfErr result (λ fault. IsLevelFault left.now levels.now fault) }
 {
-    if let Some(Pair { x, y }) = least_fall(&left.edges, levels) {
+    if let Some(Edge { x, y }) = least_fall(&left.edges, levels) {
         return Err(CertFault::LevelFalls(x, y));
     }
     match least_stay(&left.vulnerable, levels) {

@@ -1,7 +1,7 @@
 //! Triples that close a structure neither of whose pairs is in the plan.
 ghost use Rattle.std.specs.Prelude.{◌≡◌, ◌↔◌, IfOk, IsTrue};
 ghost use Rattle.repair_laws.specs.Striking.{IsPairBefore};
-ghost use Rattle.si_repair.specs.Planning.{IsOpenAtTurn, AreWithout};
+ghost use Rattle.si_repair.specs.Planning.{IsAtTurn, IsOpenAtTurn, AreWithout};
 
 use crate::plans::closing::Triple;
 use repair_laws::Pair;
@@ -20,16 +20,18 @@ fn is_same(pair: Pair, other: Pair) -> bool
     pair.from == other.from && pair.to == other.to
 }
 
+/// Whether both pairs of a triple stand at this one or before it.
+fn is_at_turn(triple: Triple, turn: Pair) -> bool
+    ensures { IsTrue result ↔ IsAtTurn turn triple }
+{
+    !is_before(turn, triple.first_pair()) && !is_before(turn, triple.second_pair())
+}
+
 /// Whether a triple is left whose pairs both stand at this one or before it.
 pub fn is_open_at(triples: &[Triple], turn: Pair) -> bool
     ensures { IsTrue result ↔ IsOpenAtTurn triples.now turn }
 {
-    for triple in triples {
-        if !is_before(turn, triple.first_pair()) && !is_before(turn, triple.second_pair()) {
-            return true;
-        }
-    }
-    false
+    triples.iter().any(|triple| is_at_turn(*triple, turn))
 }
 
 /// The triples that don't have the pair.

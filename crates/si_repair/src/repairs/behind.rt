@@ -1,10 +1,11 @@
 //! Keeps behind the statements that are marked.
-ghost use Rattle.std.specs.Prelude.{◌≡◌, ◌+◌, ◌≤◌, ◌∷◌, [], map, All, IfOk, if◌then◌else◌};
+ghost use Rattle.std.specs.Prelude.{◌≡◌, ◌+◌, ◌++◌, ◌≤◌, [], map, All, IfOk, OnOk, if◌then◌else◌};
 ghost use Rattle.prog_tree.specs.Syntax.{Plain};
 ghost use Rattle.prog_tree.specs.Syntax as s;
 ghost use Rattle.prog_tree.specs.Tree.{key_tree, stmt_tree, block_tree, program_tree, draft_tree};
 ghost use Rattle.prog_check.specs.Paths.{statement_count};
 ghost use Rattle.prog_check.specs.Sound.{IsSound};
+ghost use Rattle.prog_paths.specs.Kinds.{items_of};
 ghost use Rattle.repair_laws.specs.Promoted.{keep_of, with_keeps, all_with_keeps, promoted_by};
 ghost use Rattle.si_repair.specs.Promoting.{is_marked, cell_read_by, count_by, with_keeps_in, HasFewStatements, promoted_program};
 
@@ -28,30 +29,27 @@ struct NumberedBlock {
     next: usize,
 }
 
-/// The statement that keeps a cell, alone.
-fn keep_alone(alloc: Global, table: &Name, key: &Key) -> Result<Vec<Stmt>, AllocError>
-    ensures { IfOk result (λ keeps.
-        map stmt_tree keeps.items ≡ Plain (s.Keep table.now (key_tree key.now)) ∷ []) }
+/// The statement that keeps a cell.
+fn keep_cell(alloc: Global, table: &Name, key: &Key) -> Result<Stmt, AllocError>
+    ensures { IfOk result
+        (λ keep. stmt_tree keep ≡ Plain (s.Keep table.now (key_tree key.now))) }
 {
-    let keep = Stmt::Keep {
+    Ok(Stmt::Keep {
         table: table.copy()?,
         key: key.copy(alloc)?,
-    };
-    let mut keeps = Vec::new(alloc);
-    keeps.push(keep)?;
-    Ok(keeps)
+    })
 }
 
 /// The keep of the cell that a statement reads, if it reads one.
-fn keep_of(alloc: Global, stmt: &Stmt) -> Result<Vec<Stmt>, AllocError>
-    ensures { IfOk result (λ keeps. map stmt_tree keeps.items
+fn keep_of(alloc: Global, stmt: &Stmt) -> Result<Option<Stmt>, AllocError>
+    ensures { IfOk result (λ keep. map stmt_tree (items_of keep)
         ≡ map Plain (keep_of (cell_read_by (stmt_tree stmt.now)))) }
 {
     match stmt {
-        Stmt::Get { table, key, .. } => keep_alone(alloc, table, key),
-        Stmt::Need { table, key, .. } => keep_alone(alloc, table, key),
-        Stmt::Lacks { table, key } => keep_alone(alloc, table, key),
-        Stmt::Insert { table, key, .. } => keep_alone(alloc, table, key),
+        Stmt::Get { table, key, .. }
+        | Stmt::Need { table, key, .. }
+        | Stmt::Lacks { table, key }
+        | Stmt::Insert { table, key, .. } => Ok(Some(keep_cell(alloc, table, key)?)),
         Stmt::Bind { .. }
         | Stmt::Count { .. }
         | Stmt::Sum { .. }
@@ -61,20 +59,30 @@ fn keep_of(alloc: Global, stmt: &Stmt) -> Result<Vec<Stmt>, AllocError>
         | Stmt::Branch { .. }
         | Stmt::Each { .. }
         | Stmt::Reply { .. }
-        | Stmt::Abort => Ok(Vec::new(alloc)),
+        | Stmt::Abort => Ok(None),
     }
 }
 
 /// What stands behind a statement: the keep of its cell where it is marked.
-fn keeps_behind(alloc: Global, marked: bool, stmt: &Stmt) -> Result<Vec<Stmt>, AllocError>
-    ensures { IfOk result (λ keeps. map stmt_tree keeps.items
+fn keep_behind(alloc: Global, marked: bool, stmt: &Stmt) -> Result<Option<Stmt>, AllocError>
+    ensures { IfOk result (λ keep. map stmt_tree (items_of keep)
         ≡ map Plain (if marked then keep_of (cell_read_by (stmt_tree stmt.now)) else [])) }
 {
     if marked {
         keep_of(alloc, stmt)
     } else {
-        Ok(Vec::new(alloc))
+        Ok(None)
     }
+}
+
+/// Adds a statement, where there is one.
+fn push_some(stmts: &mut Vec<Stmt>, stmt: Option<Stmt>) -> Result<(), AllocError>
+    ensures { OnOk result (stmts.new.items ≡ stmts.old.items ++ items_of stmt) }
+{
+    if let Some(stmt) = stmt {
+        stmts.push(stmt)?;
+    }
+    Ok(())
 }
 
 /// A statement of this number with keeps in the blocks of a branch; none in the body of an `each`.
@@ -137,11 +145,11 @@ fn keeps_in_block(
     let mut stmts = Vec::new(alloc);
     let mut next = number;
     for stmt in &block.stmts {
-        let mut keeps = keeps_behind(alloc, is_marked(marks, program, next), stmt)?;
+        let keep = keep_behind(alloc, is_marked(marks, program, next), stmt)?;
         let kept = keeps_in_stmt(alloc, marks, program, next, stmt)?;
         next = kept.next;
         stmts.push(kept.stmt)?;
-        stmts.append(&mut keeps)?;
+        push_some(&mut stmts, keep)?;
     }
     Ok(NumberedBlock {
         block: Block { stmts },

@@ -26,12 +26,7 @@ fn is_at(mark: &Mark, program: usize, number: usize) -> bool
 pub fn is_marked(marks: &[Mark], program: usize, number: usize) -> bool
     ensures { result ≡ is_marked marks.now program number }
 {
-    for mark in marks {
-        if is_at(mark, program, number) {
-            return true;
-        }
-    }
-    false
+    marks.iter().any(|mark| is_at(mark, program, number))
 }
 
 /// The marks with one more, unless it is there.

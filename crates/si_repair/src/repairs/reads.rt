@@ -6,7 +6,7 @@ ghost use Rattle.prog_check.specs.Paths.{paths_of};
 ghost use Rattle.repair_laws.specs.Refusals.{IsUnknownTerm, IsUnknownSecond, HasUnknownKey};
 ghost use Rattle.si_repair.specs.Gathering.{HasRead, HasBoth};
 ghost use Rattle.si_repair.specs.Exposing.{AreExposed, IsObstacle};
-ghost use Rattle.si_repair.specs.Obstacles.{range_marks, marks_of, ReadsMarked, ReadsUnknown, MeetsInBody, obstacle_of};
+ghost use Rattle.si_repair.specs.Obstacles.{range_marks, program_ranges, ReadsMarked, ReadsUnknown, MeetsInBody, obstacle_of};
 
 use crate::repairs::exposed::access_at;
 use prog_check::{Access, Column, Path, Term};
@@ -73,7 +73,7 @@ fn push_block(marks: &mut Vec<bool>, block: &Block) -> Result<(), AllocError>
 /// For each statement of the program of a number whether it is a range.
 fn ranges_of(alloc: Global, draft: &Draft, program: usize) -> Result<Vec<bool>, AllocError>
     ensures { IfOk result (λ marks.
-        marks.items ≡ marks_of (slice_get (draft_tree draft.now).programs program)) }
+        marks.items ≡ program_ranges (slice_get (draft_tree draft.now).programs program)) }
 {
     let mut marks = Vec::new(alloc);
     if program < draft.programs.len() {

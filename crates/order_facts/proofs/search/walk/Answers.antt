@@ -1,7 +1,7 @@
 use Rattle.std.proofs.Common.{refl, arith, length-append, ◌∷◌, []}
 use Rattle.order_facts.specs.Search.{reached_at}
 use Rattle.order_facts.proofs.Chains.{IsChain-push}
-use Rattle.order_facts.proofs.Levels.{next-leads_on, next-step}
+use Rattle.order_facts.proofs.Levels.{next-leads_nearer, next-step}
 use Rattle.order_facts.proofs.search.walk.Goals as goal
 
 pub loop-at-preserved : goal.loop-at-preserved
@@ -9,7 +9,7 @@ loop-at-preserved c =
     let reached = c.args.reached.now in
     let at = c.loop-at.at in
     let p = c.loop-at.invariant.place in
-    let on = next-leads_on reached p.0 at c.requires.descending p.1 p.2 c.loop-at-test.true in
+    let on = next-leads_nearer reached p.0 at c.requires.descending p.1 p.2 c.loop-at-test.true in
     let fewer = on.1 in
     let longer = length-append c.loop-at.chain.items ((reached_at reached at.next).node ∷ []) in
     record {

@@ -2,12 +2,12 @@ use Rattle.std.proofs.Common.{◌≡◌, ℕ, ◌<◌, ◌≤◌, List, [], ◌�
 use Rattle.std.specs.Prelude.{IfSome, IfNone}
 use Rattle.order_facts.specs.Square.{Grid}
 use Rattle.prog_paths.specs.Listing.{IsAtMost}
-use Rattle.robust_cert.specs.declared.checking.levels.Pair.{Pair}
+use Rattle.robust_cert.specs.declared.checking.levels.Edge.{Edge}
 use Rattle.robust_cert.specs.Levels.{Stays, StaysBy}
 use Rattle.robust_cert.proofs.checking.levels.least_first_edge.Given as goal
 
 -- the least first edge to a node before y, which begins where those end that are asked further
-pub record IsLeastBefore (vulnerable : Grid) (levels : List ℕ) (y end : ℕ) (p : Pair) : Type 0 where
+pub record IsLeastBefore (vulnerable : Grid) (levels : List ℕ) (y end : ℕ) (p : Edge) : Type 0 where
   pub begins : p.x ≡ end
   pub to_earlier : p.y < y
   pub stays : StaysBy vulnerable levels p.x p.y

@@ -4,6 +4,7 @@ use Rattle.prog_tree.specs.Syntax.{Plain, Fork}
 use Rattle.prog_tree.specs.Tree.{stmt_tree, block_tree, stmts_tree, with_stmts}
 use Rattle.prog_tree.proofs.TreeLemmas.{fork_tree}
 use Rattle.prog_check.specs.Paths.{statement_count}
+use Rattle.prog_paths.specs.Kinds.{items_of}
 use Rattle.repair_laws.specs.Promoted.{keep_of, with_keeps}
 use Rattle.si_repair.specs.Promoting.{is_marked, cell_read_by}
 use Rattle.si_repair.proofs.Behind.{count-first, keeps-more, count-fork, keeps-fork, count-loop}
@@ -82,7 +83,7 @@ keeps_in_block-loop-stmt-preserved t c =
     let item = c.stmt-item.result in
     let later = drop (c.loop-stmt.stmt-index + 1) items in
     let before = c.loop-stmt.stmts.items in
-    let keeps = c.in_ok-keeps.keeps.items in
+    let keeps = items_of c.in_ok-keep.keep in
     let kept = c.in_ok-kept.kept in
     let parts = ap stmts_tree (drop_more items c.loop-stmt.stmt-index item c.loop-stmt-test.true ∙ ap (λ s. s ∷ later) (sym c.stmt-item.is)) in
     let size = ap statement_count parts in
@@ -90,12 +91,12 @@ keeps_in_block-loop-stmt-preserved t c =
     let whole = c.loop-stmt.invariant.counted in
     let past = c.loop-stmt.invariant.past in
     let next = c.in_ok-kept.ensures.next in
-    let behind = c.in_ok-keeps.ensures ∙ ap (λ b. map Plain (if b then keep_of (cell_read_by (stmt_tree item)) else [])) c.is_marked.ensures in
+    let behind = c.in_ok-keep.ensures ∙ ap (λ b. map Plain (if b then keep_of (cell_read_by (stmt_tree item)) else [])) c.is_marked.ensures in
     record {
       counted = omega (arith, size, first, whole, next);
       past = omega (arith, past, next);
       kept =
-          ap (λ ss. with_stmts ss (with_keeps marked kept.next (stmts_tree later))) (c.in_ok-append.ensures.items ∙ ap (λ ss. ss ++ keeps) c.in_ok-push.ensures.items)
+          ap (λ ss. with_stmts ss (with_keeps marked kept.next (stmts_tree later))) (c.in_ok-push_some.ensures ∙ ap (λ ss. ss ++ keeps) c.in_ok-push.ensures.items)
           ∙ keeps-more marked c.loop-stmt.next kept.next before keeps item kept.stmt later next c.in_ok-kept.ensures.kept behind
           ∙ ap (λ b. with_stmts before (with_keeps marked c.loop-stmt.next b)) (sym parts)
           ∙ c.loop-stmt.invariant.kept;
