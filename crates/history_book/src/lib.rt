@@ -14,7 +14,6 @@ pub use book::Book;
 pub use fault::{
     BeginFault, CommitFault, EndFault, NoSuchTicket, OwnCommitFault, Place, ScanFault, Unused,
 };
-pub use instances::replay::taken;
 pub use instances::row::{Ending, HistoryRow};
 pub use instances::ticket::{Receipt, Ticket};
 pub use laws::{

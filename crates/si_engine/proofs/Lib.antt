@@ -6,7 +6,6 @@ pub mod CycleLaws
 pub mod CycleSteps
 pub mod EdgeLaws
 pub mod EngineLaws
-pub mod EvaluateLaws
 pub mod FoundCycles
 pub mod GrowLaws
 pub mod HeadlineLaws

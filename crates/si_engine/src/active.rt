@@ -1,21 +1,17 @@
 //! Active instances: their runs over a book.
 
-ghost use Rattle.std.specs.Prelude.{◌≡◌, Some, None, IfOk, IfErr, OnOk, OnErr, IsSome, option_map};
+ghost use Rattle.std.specs.Prelude.{◌≡◌, Some, IfOk, IfErr, OnOk, OnErr, option_map};
 ghost use Rattle.prog_tree.specs.declared.deed.End.TheVariants.{Ready};
-ghost use Rattle.prog_tree.specs.Table.{rows_in};
-ghost use Rattle.prog_run.specs.Looks.{AreFound};
-ghost use Rattle.prog_run.specs.Step.{question_after, end_after, deeds_after};
-ghost use Rattle.prog_run.specs.View.{IsTrueRun, SameBegin};
 ghost use Rattle.history_book.specs.Refusals.{HasAborted};
 ghost use Rattle.history_book.specs.Runs.{IsAborted, withdrawn_in};
-ghost use Rattle.history_book.specs.View.{state_in, done_in, active_at};
+ghost use Rattle.history_book.specs.View.{done_in};
 ghost use Rattle.si_engine.specs.Machine.{stepped};
 ghost use Rattle.si_engine.specs.View.{active_in, instance_in, IsActive, IsAfterStep, IsCommitReply};
 
 use crate::event::Reply;
-use history_book::{Book, OwnCommitFault, ScanFault, Ticket, taken};
+use history_book::{Book, OwnCommitFault, Ticket};
 use prog_run::{Next, Run};
-use prog_tree::{Cell, End, Region, Sequence};
+use prog_tree::{End, Sequence};
 use std::alloc::{AllocError, Global};
 
 /// An instance that has not ended.
@@ -28,67 +24,6 @@ pub struct ActiveRun<'a> {
     pub run: Box<Run<'a>>,
     /// A step answered that it is ready.
     pub ready: bool,
-}
-
-// The rows of a region, as the ticket's instance sees it. A look that is at once repeated is not
-// read in the book again.
-fn rows_for(
-    alloc: Global,
-    book: &Book<'_>,
-    ticket: &Ticket,
-    run: &Run<'_>,
-    region: &Region,
-) -> Result<Sequence<(Cell, i64)>, AllocError>
-    requires active { IsSome (active_at book.now ticket.now) }
-    requires found { AreFound (state_in book.now ticket.now.start) run.now.looks }
-    ensures { IfOk result (λ rows.
-        rows ≡ rows_in region.now (state_in book.now ticket.now.start)) }
-{
-    if let Some(rows) = run.rows_again(region) {
-        let rows = Sequence::from_slice(alloc, rows)?;
-        return Ok(rows);
-    }
-    match book.scan(ticket, region) {
-        Ok(rows) => Ok(rows),
-        Err(ScanFault::Memory) => Err(AllocError),
-        Err(ScanFault::NoSuchTicket) => unreachable!(),
-    }
-}
-
-// The next store statement of a run, or its end. What it asks for is read in the book, as the
-// ticket's instance sees it.
-fn advance(
-    alloc: Global,
-    book: &Book<'_>,
-    ticket: &Ticket,
-    run: &mut Run<'_>,
-) -> Result<Next, AllocError>
-    requires active { IsSome (active_at book.now ticket.now) }
-    requires found { AreFound (state_in book.now ticket.now.start) run.old.looks }
-    ensures idle { IfOk result (λ next. question_after next ≡ None) }
-    ensures found { AreFound (state_in book.now ticket.now.start) run.new.looks }
-    ensures deeds { IfOk result (λ next. run.new.deeds ≡ deeds_after next run.old.deeds) }
-    ensures end { IfOk result (λ next. run.new.end ≡ end_after next) }
-    ensures true_run { IsTrueRun run.new }
-    ensures same { SameBegin run.old run.new }
-    ensures err_deeds { OnErr result (run.new.deeds ≡ run.old.deeds) }
-    ensures err_end { OnErr result (run.new.end ≡ run.old.end) }
-{
-    match run.advance()? {
-        Next::Get(cell) => {
-            let Ok(held) = book.get(ticket, &cell) else {
-                unreachable!()
-            };
-            let next = taken(run.answer_get(held))?;
-            Ok(next)
-        }
-        Next::Scan(region) => {
-            let rows = rows_for(alloc, book, ticket, run, &region)?;
-            let next = taken(run.answer_scan(rows.as_slice()))?;
-            Ok(next)
-        }
-        next => Ok(next),
-    }
 }
 
 impl<'a> ActiveRun<'a> {
@@ -121,7 +56,7 @@ impl<'a> ActiveRun<'a> {
         ensures err { OnErr result.1 (option_map active_in result.0 ≡ Some (active_in self.entry)) }
     {
         let active = &mut self;
-        match advance(alloc, book, &active.ticket, &mut *active.run) {
+        match book.advance(&active.ticket, &mut *active.run) {
             Ok(Next::Did(deed)) => (Some(self), Ok(Reply::Did(deed))),
             Ok(Next::Done(End::Ready)) => match Sequence::from_slice(alloc, self.run.replies()) {
                 Ok(replies) => {

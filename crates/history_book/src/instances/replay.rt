@@ -1,6 +1,7 @@
-//! Runs that are made again, on what a book holds.
+//! Runs that read in a book: those of its instances, and those that are made again.
 
 ghost use Rattle.std.specs.Prelude.{◌≡◌, ◌<◌, ◌≤◌, [], Some, None, IsSome, length, IfOk, IfErr, OnOk, OnErr};
+ghost use Rattle.prog_tree.specs.Table.{rows_in};
 ghost use Rattle.prog_tree.specs.Tree.{draft_tree};
 ghost use Rattle.prog_run.specs.Looks.{AreFound};
 ghost use Rattle.prog_run.specs.Step.{question_after, end_after, deeds_after};
@@ -8,15 +9,17 @@ ghost use Rattle.prog_run.specs.View.{IsTrueRun, SameBegin};
 ghost use Rattle.history_book.specs.Audit.{CameTo, taken_up};
 ghost use Rattle.history_book.specs.History.{IsCalled};
 ghost use Rattle.history_book.specs.Runs.{IsCommit};
-ghost use Rattle.history_book.specs.View.{done_in, instance_of, state_in, most_endings, most_begins};
+ghost use Rattle.history_book.specs.View.{active_at, done_in, instance_of, state_in, most_endings, most_begins};
 
 use crate::book::Book;
 use crate::instances::row::HistoryRow;
+use crate::instances::ticket::Ticket;
 use prog_run::{AnswerFault, Next, Run, RunFault};
+use prog_tree::{Cell, Region, Sequence};
 use std::alloc::AllocError;
 
-/// An answer that fits the question is refused for want of memory alone.
-pub fn taken(answer: Result<Next, AnswerFault>) -> Result<Next, AllocError>
+// An answer that fits the question is refused for want of memory alone.
+fn taken(answer: Result<Next, AnswerFault>) -> Result<Next, AllocError>
     requires { IfErr answer (λ fault. fault ≡ AnswerFault.Memory) }
     ensures ok { IfOk result (λ next. answer ≡ Ok next) }
     ensures err { OnErr result (answer ≡ Err AnswerFault.Memory) }
@@ -29,18 +32,39 @@ pub fn taken(answer: Result<Next, AnswerFault>) -> Result<Next, AllocError>
 }
 
 impl<'a> Book<'a> {
+    // The rows of a region after the first `start` commits. A look that is at once repeated is not
+    // read again.
+    fn rows_for(
+        &self,
+        start: u64,
+        run: &Run<'_>,
+        region: &Region,
+    ) -> Result<Sequence<(Cell, i64)>, AllocError>
+        requires above { self.now.floor ≤ start }
+        requires within { start ≤ length self.now.rows }
+        requires found { AreFound (state_in self.now start) run.now.looks }
+        ensures { IfOk result (λ rows. rows ≡ rows_in region.now (state_in self.now start)) }
+    {
+        match run.rows_again(region) {
+            Some(rows) => Sequence::from_slice(self.alloc, rows),
+            None => self.rows_in(start, region),
+        }
+    }
+
     // The next store statement of a run, or its end. What it asks for is read after the first
     // `start` commits.
-    fn advance(&self, start: u64, run: &mut Run<'_>) -> Result<Next, AllocError>
+    fn advance_at(&self, start: u64, run: &mut Run<'_>) -> Result<Next, AllocError>
         requires above { self.now.floor ≤ start }
         requires within { start ≤ length self.now.rows }
         requires found { AreFound (state_in self.now start) run.old.looks }
         ensures idle { IfOk result (λ next. question_after next ≡ None) }
-        ensures found { OnOk result (AreFound (state_in self.now start) run.new.looks) }
+        ensures found { AreFound (state_in self.now start) run.new.looks }
         ensures deeds { IfOk result (λ next. run.new.deeds ≡ deeds_after next run.old.deeds) }
         ensures end { IfOk result (λ next. run.new.end ≡ end_after next) }
         ensures true_run { IsTrueRun run.new }
         ensures same { SameBegin run.old run.new }
+        ensures err_deeds { OnErr result (run.new.deeds ≡ run.old.deeds) }
+        ensures err_end { OnErr result (run.new.end ≡ run.old.end) }
     {
         match run.advance()? {
             Next::Get(cell) => {
@@ -49,12 +73,32 @@ impl<'a> Book<'a> {
                 Ok(next)
             }
             Next::Scan(region) => {
-                let rows = self.rows_in(start, &region)?;
+                let rows = self.rows_for(start, run, &region)?;
                 let next = taken(run.answer_scan(rows.as_slice()))?;
                 Ok(next)
             }
             next => Ok(next),
         }
+    }
+
+    /// The next store statement of a run, or its end. What it asks for is read in the book, as the
+    /// ticket's instance sees it.
+    pub fn advance(&self, ticket: &Ticket, run: &mut Run<'_>) -> Result<Next, AllocError>
+        requires active { IsSome (active_at self.now ticket.now) }
+        requires found { AreFound (state_in self.now ticket.now.start) run.old.looks }
+        ensures idle { IfOk result (λ next. question_after next ≡ None) }
+        ensures found { AreFound (state_in self.now ticket.now.start) run.new.looks }
+        ensures deeds { IfOk result (λ next. run.new.deeds ≡ deeds_after next run.old.deeds) }
+        ensures end { IfOk result (λ next. run.new.end ≡ end_after next) }
+        ensures true_run { IsTrueRun run.new }
+        ensures same { SameBegin run.old run.new }
+        ensures err_deeds { OnErr result (run.new.deeds ≡ run.old.deeds) }
+        ensures err_end { OnErr result (run.new.end ≡ run.old.end) }
+    {
+        let Some(active) = self.active_instance(ticket) else {
+            unreachable!()
+        };
+        self.advance_at(active.start, run)
     }
 
     // Goes on with a run to its end.
@@ -68,7 +112,7 @@ impl<'a> Book<'a> {
         ensures same { OnOk result (SameBegin run.old run.new) }
     {
         'steps: loop {
-            if let Next::Done(_) = self.advance(start, run)? {
+            if let Next::Done(_) = self.advance_at(start, run)? {
                 return Ok(());
             }
         }

@@ -42,6 +42,7 @@ impl<'a> Book<'a> {
     /// The active instance that has a ticket's number and start.
     pub(crate) fn active_instance(&self, ticket: &Ticket) -> Option<&Active>
         ensures same { option_copied result ≡ active_at self.now ticket.now }
+        ensures start { IfSome result (λ active. active.now.start ≡ ticket.now.start) }
         ensures called { IfSome result (λ active. IsCalled (draft_tree self.now.set) active.now) }
         ensures above { IfSome result (λ active. self.now.floor ≤ active.now.start) }
         ensures within { IfSome result (λ active. active.now.start ≤ length self.now.rows) }
