@@ -5,7 +5,7 @@ use Rattle.std.specs.BTreeMap.{is_at, insert_entry}
 use Rattle.std.specs.Cmp.{nat_cmp_is}
 use Rattle.std.specs.List.Sorted.{IsStrictlySortedBy}
 use Rattle.std.specs.Map.{keys_of, lookup}
-use Rattle.std.specs.Option.{option_map}
+use Rattle.std.specs.Option.{option_map, option_or}
 use Rattle.std.specs.Ordering.{nat_cmp, is_eq}
 use Rattle.std.specs.declared.cmp.Ordering.TheVariants.{Greater}
 use Rattle.std.proofs.lemmas.Bool.Decides.{nat_tests, leb_tells}
@@ -17,7 +17,7 @@ use Rattle.prog_tree.specs.Syntax.{ProgramTree}
 use Rattle.prog_tree.specs.Tree.{program_tree, draft_tree}
 use Rattle.history_book.specs.History.{Instance, IsCalled}
 use Rattle.history_book.specs.TrueBook.{IsTrueActive, IsTrueBook}
-use Rattle.history_book.specs.View.{BookView, most_begins, is_full, full_fault, start_fault, or_fault, fault_at, fault_by, begin_at_fault_of, begin_fault_of, instance_at}
+use Rattle.history_book.specs.View.{BookView, most_begins, is_full, full_fault, start_fault, fault_at, fault_by, begin_at_fault_of, begin_fault_of, instance_at}
 use Rattle.history_book.specs.declared.fault.BeginFault.{BeginFault}
 use Rattle.history_book.specs.declared.fault.BeginFault.TheVariants as begin
 use Rattle.history_book.proofs.ActiveLaws.{Entry, insert_last}
@@ -28,10 +28,10 @@ use Rattle.history_book.proofs.TestLaws.{eq_tells, lt_not, not_lt}
 
 -- a program that was found and fits is refused by its start, or for want of room
 pub fault_found : (v : BookView) (start : ℕ) (found : Option Program) (p : Program) (args : List ℤ) → found ≡ Some p → length p.params.items ≡ length args →
-    fault_at v start found args ≡ or_fault (start_fault v start) (full_fault v)
+    fault_at v start found args ≡ option_or (start_fault v start) (full_fault v)
 fault_found v start found p args is same =
     ap (λ (f : Option Program). fault_at v start f args) is
-    ∙ ap (λ b. if not b then Some begin.WrongArguments else or_fault (start_fault v start) (full_fault v)) (eq_tells (length p.params.items) (length args) same)
+    ∙ ap (λ b. if not b then Some begin.WrongArguments else option_or (start_fault v start) (full_fault v)) (eq_tells (length p.params.items) (length args) same)
 
 -- nothing is wrong with a number between the floor and that of commits
 pub start_is_right : (v : BookView) (start : ℕ) → v.floor ≤ start → start ≤ length v.rows → start_fault v start ≡ None
@@ -46,7 +46,7 @@ newest_fault v program args book = go (slice_get v.set.programs.items program)
     go : (found : Option Program) → fault_at v (length v.rows) found args ≡ fault_by v found args
     go None = refl
     go (Some p) =
-        ap (λ (o : Option BeginFault). if not (length p.params.items == length args) then Some begin.WrongArguments else or_fault o (full_fault v))
+        ap (λ (o : Option BeginFault). if not (length p.params.items == length args) then Some begin.WrongArguments else option_or o (full_fault v))
         (start_is_right v (length v.rows) book.floor (omega arith))
 
 -- ---- a begin that nothing is wrong with
@@ -65,19 +65,19 @@ allowed v start program args none = go (slice_get v.set.programs.items program) 
     by_room true is h = absurd (cc)
     by_room false is h = is
 
-    by_commits : (b : Bool) → nat_lt (length v.rows) start ≡ b → or_fault (cond b (Some (begin.TooNew (length v.rows))) None) (full_fault v) ≡ None →
+    by_commits : (b : Bool) → nat_lt (length v.rows) start ≡ b → option_or (cond b (Some (begin.TooNew (length v.rows))) None) (full_fault v) ≡ None →
         (start ≤ length v.rows) × (is_full v ≡ false)
     by_commits true is h = absurd (cc)
     by_commits false is h = (lt_not (length v.rows) start is, by_room (is_full v) refl h)
 
     by_floor : (b : Bool) → nat_lt start v.floor ≡ b →
-        or_fault (cond b (Some (begin.TooOld v.floor)) (cond (nat_lt (length v.rows) start) (Some (begin.TooNew (length v.rows))) None)) (full_fault v) ≡ None →
+        option_or (cond b (Some (begin.TooOld v.floor)) (cond (nat_lt (length v.rows) start) (Some (begin.TooNew (length v.rows))) None)) (full_fault v) ≡ None →
         (v.floor ≤ start) × (start ≤ length v.rows) × (is_full v ≡ false)
     by_floor true is h = absurd (cc)
     by_floor false is h = let rest = by_commits (nat_lt (length v.rows) start) refl h in (lt_not start v.floor is, rest.0, rest.1)
 
     by_length : (p : Program) → slice_get v.set.programs.items program ≡ Some p → (b : Bool) → (length p.params.items == length args) ≡ b →
-        cond (not b) (Some begin.WrongArguments) (or_fault (start_fault v start) (full_fault v)) ≡ None → IsAllowed v start program args
+        cond (not b) (Some begin.WrongArguments) (option_or (start_fault v start) (full_fault v)) ≡ None → IsAllowed v start program args
     by_length p is true fits h =
         let same : length p.params.items ≡ length args = grind (arith, nat_tests) in
         let rest = by_floor (nat_lt start v.floor) refl h in

@@ -1,6 +1,6 @@
 -- Numbers that are raised place by place, and how far commits stand from those that have to stand before them.
 use Rattle.std.proofs.Common.{◌≡◌, ◌∙◌, ◌==◌, ◌⊎◌, inl, inr, ℕ, zero, suc, ◌+◌, ◌<◌, ◌≤◌, max, nat_lt, true, false, ◌||◌, not, List, [], ◌∷◌, ◌++◌, length, get_or, length-append, length-set, slice_set, refl, ap, sym, subst, arith}
-use Rattle.std.specs.Prelude.{◌≢◌, nat_le, slice_index, slice_get, Some, None, Option}
+use Rattle.std.specs.Prelude.{◌≢◌, nat_le, slice_index, slice_get, Some, None, Option, unwrap_or}
 use Rattle.std.proofs.lemmas.Bool.{and_parts, or_cases, cases_lt}
 use Rattle.std.proofs.lemmas.Bool.Decides.{eqb_tells}
 use Rattle.std.proofs.lemmas.List.{get_or_past, get_or-set_same, get_or-set_other}
@@ -8,7 +8,7 @@ use Rattle.std.proofs.lemmas.Option.{slice_get_cases}
 use Rattle.history_book.specs.Nearby.{AreHorizons, AreLastBegun, AreRaised}
 use Rattle.history_book.specs.Orders.{IsUpTo}
 use Rattle.history_book.specs.TraceView.{TraceView}
-use Rattle.history_book.specs.Traces.{trace_at, trace_found, trace_depends, changes_again, sees_change, misses_change, SeesEarlier}
+use Rattle.history_book.specs.Traces.{trace_at, trace_depends, changes_again, sees_change, misses_change, SeesEarlier, no_trace}
 use Rattle.history_book.proofs.TestLaws.{lt_told, le_told}
 
 -- ---- raised numbers
@@ -113,7 +113,7 @@ saw_earlier traces sees zero within = absurd (omega (arith, within.0))
 saw_earlier traces sees (suc n) within = go (slice_get_cases traces n).1
   where
     go : ((t : TraceView) × (n < length traces) × (slice_get traces n ≡ Some t) × (get_or traces n t ≡ t)) ⊎ ((length traces ≤ n) × (slice_get traces n ≡ None)) → (trace_at traces (suc n)).start < suc n
-    go (inl s) = let low = sees n s.0 s.2 in subst (λ (o : Option TraceView). (trace_found o).start < suc n) (sym s.2) (omega (arith, low))
+    go (inl s) = let low = sees n s.0 s.2 in subst (λ (o : Option TraceView). (unwrap_or o no_trace).start < suc n) (sym s.2) (omega (arith, low))
     go (inr s) = absurd (omega (arith, s.0, within.1))
 
 -- of the first commits, for each number from 0 on, the last whose snapshot ends right before it

@@ -1,13 +1,14 @@
 -- Laws of numbers that rise, and of the writers of a cell.
 use Rattle.std.proofs.Common.{◌≡◌, ◌∙◌, ◌==◌, ◌⊎◌, inl, inr, ℕ, zero, suc, ◌+◌, ◌<◌, ◌≤◌, nat_lt, Bool, true, false, true≢false, ◌||◌, if◌then◌else◌, List, [], ◌∷◌, length, get_or, refl, ap, sym, subst, arith}
-use Rattle.std.specs.Prelude.{nat_le, Option, Some, None, slice_get, IfSome}
+use Rattle.std.specs.Prelude.{nat_le, Option, Some, None, slice_get, IfSome, unwrap_or}
+use Rattle.std.specs.Option.{option_or}
 use Rattle.std.proofs.lemmas.Option.{slice_get_cases}
 use Rattle.std.proofs.lemmas.Bool.{or_cases, or_left, or_right}
 use Rattle.prog_tree.specs.declared.cell.Cell.{Cell}
 use Rattle.history_book.specs.Orders.{is_one_of, IsUpTo}
-use Rattle.history_book.specs.Reduced.{RiseFrom, writers_from, writers_of, later_or, last_seen, first_missed}
+use Rattle.history_book.specs.Reduced.{RiseFrom, writers_from, writers_of, last_seen, first_missed}
 use Rattle.history_book.specs.TraceView.{TraceView}
-use Rattle.history_book.specs.Traces.{changed_at, trace_found, trace_at}
+use Rattle.history_book.specs.Traces.{changed_at, trace_at, no_trace}
 use Rattle.history_book.proofs.TestLaws.{lt_told, lt_tells, le_told, le_tells, eq_told, eq_itself, ne_tells}
 
 pub weaken : (n m : ℕ) (ms : List ℕ) → n ≤ m → RiseFrom m ms → RiseFrom n ms
@@ -37,7 +38,7 @@ writers_rise k (t ∷ ts) c = go (changed_at t c) (writers_rise (k + 1) ts c)
     go true rest = (omega arith, rest)
     go false rest = weaken k (k + 1) (writers_from (k + 1) ts c) (omega arith) rest
 
-one_of_writers : (k : ℕ) (ts : List TraceView) (c : Cell) (i : ℕ) → is_one_of (writers_from k ts c) (k + i) ≡ changed_at (trace_found (slice_get ts i)) c
+one_of_writers : (k : ℕ) (ts : List TraceView) (c : Cell) (i : ℕ) → is_one_of (writers_from k ts c) (k + i) ≡ changed_at (unwrap_or (slice_get ts i) no_trace) c
 one_of_writers k [] c zero = refl
 one_of_writers k [] c (suc i) = refl
 one_of_writers k (t ∷ ts) c zero = go (changed_at t c) refl
@@ -78,9 +79,9 @@ module _ (traces : List TraceView) where
       ap (is_one_of (writers_of traces c)) same ∙ one_of_writers 1 traces c i ∙ h
 
   upto_by : (i : ℕ) (c : Cell) → ((t : TraceView) × (i < length traces) × (slice_get traces i ≡ Some t)) ⊎ (slice_get traces i ≡ None) →
-      changed_at (trace_found (slice_get traces i)) c ≡ true → IsUpTo (length traces) (suc i)
+      changed_at (unwrap_or (slice_get traces i) no_trace) c ≡ true → IsUpTo (length traces) (suc i)
   upto_by i c (inl found) h = (omega arith, omega (arith, found.1))
-  upto_by i c (inr none) h = absurd (let n : changed_at (trace_found None) c ≡ true = subst (λ (o : Option TraceView). changed_at (trace_found o) c ≡ true) none h in cc)
+  upto_by i c (inr none) h = absurd (let n : changed_at no_trace c ≡ true = subst (λ (o : Option TraceView). changed_at (unwrap_or o no_trace) c ≡ true) none h in cc)
 
   pub writer_upto : (c : Cell) (w : ℕ) → IsWriter c w → IsUpTo (length traces) w
   writer_upto c zero h = absurd (let low : 1 ≤ 0 = at_least 1 (writers_of traces c) 0 (writers_rise 1 traces c) h in omega (arith, low))
@@ -97,7 +98,7 @@ pub seen_is : (s : ℕ) (ms : List ℕ) → IfSome (last_seen s ms) (λ w. (is_o
 seen_is s [] = tt
 seen_is s (m ∷ ms) = go (last_seen s ms) (nat_le m s) refl (seen_is s ms)
   where
-    go : (o : Option ℕ) (b : Bool) → nat_le m s ≡ b → IfSome o (λ w. (is_one_of ms w ≡ true) × (w ≤ s)) → IfSome (later_or m b o) (λ w. (is_one_of (m ∷ ms) w ≡ true) × (w ≤ s))
+    go : (o : Option ℕ) (b : Bool) → nat_le m s ≡ b → IfSome o (λ w. (is_one_of ms w ≡ true) × (w ≤ s)) → IfSome (option_or o (if b then Some m else None)) (λ w. (is_one_of (m ∷ ms) w ≡ true) × (w ≤ s))
     go (Some w) b is rest = (or_right (m == w) (is_one_of ms w) rest.0, rest.1)
     go None true is rest = (or_left (m == m) (is_one_of ms m) (eq_itself m), le_told m s is)
     go None false is rest = tt
@@ -124,16 +125,16 @@ seen_from n s (m ∷ ms) i rise h low = go (or_cases (m == i) (is_one_of ms i) h
     first : (o : Option ℕ) → last_seen s ms ≡ o → IfSome o (λ w. (is_one_of ms w ≡ true) × (w ≤ s)) → m ≡ i → SeenFrom s (m ∷ ms) i
     first None none rest same =
         let within : nat_le m s ≡ true = le_tells m s (omega (arith, low, same)) in
-        record { last = m; is = ap (later_or m (nat_le m s)) none ∙ ap (λ b. later_or m b None) within; from = omega (arith, same) }
+        record { last = m; is = ap (λ (o : Option ℕ). option_or o (if nat_le m s then Some m else None)) none ∙ ap (λ b. option_or None (if b then Some m else None)) within; from = omega (arith, same) }
     first (Some w) some rest same =
         let up : m + 1 ≤ w = at_least (m + 1) ms w rise.1 rest.0 in
-        record { last = w; is = ap (later_or m (nat_le m s)) some; from = omega (arith, same, up) }
+        record { last = w; is = ap (λ (o : Option ℕ). option_or o (if nat_le m s then Some m else None)) some; from = omega (arith, same, up) }
 
     go : ((m == i) ≡ true) ⊎ (is_one_of ms i ≡ true) → (is_one_of ms i ≡ true → SeenFrom s ms i) → SeenFrom s (m ∷ ms) i
     go (inl same) rest = first (last_seen s ms) refl (seen_is s ms) (eq_told m i same)
     go (inr behind) rest =
         let found = rest behind in
-        record { last = found.last; is = ap (later_or m (nat_le m s)) found.is; from = found.from }
+        record { last = found.last; is = ap (λ (o : Option ℕ). option_or o (if nat_le m s then Some m else None)) found.is; from = found.from }
 
 -- the first missed is at most each that is missed
 pub record MissedTo (s : ℕ) (ms : List ℕ) (j : ℕ) : Type 0 where

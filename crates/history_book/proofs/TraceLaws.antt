@@ -1,6 +1,6 @@
 -- The traces of a history say what depends on what in it.
 use Rattle.std.proofs.Common.{◌≡◌, ◌∙◌, ◌==◌, ℕ, zero, suc, ◌<◌, ◌≤◌, nat_lt, ℤ, Bool, true, false, cond, ◌&&◌, ◌||◌, not, List, [], ◌∷◌, ◌++◌, length, map, refl, ap, sym, arith}
-use Rattle.std.specs.Prelude.{nat_le, Option, Some, None, is_some, slice_get}
+use Rattle.std.specs.Prelude.{nat_le, Option, Some, None, is_some, slice_get, unwrap_or}
 use Rattle.std.specs.Option.{option_map}
 use Rattle.std.specs.List.{list_any}
 use Rattle.std.proofs.lemmas.List.{map-append}
@@ -18,7 +18,7 @@ use Rattle.history_book.specs.History.{Instance, state_after, StartsBelow}
 use Rattle.history_book.specs.Orders.{IsReduced}
 use Rattle.history_book.specs.Placing.{IsOrderFault}
 use Rattle.history_book.specs.TraceView.{TraceView}
-use Rattle.history_book.specs.Traces.{sight_of, trace_of, trace_in, traces_of, takes_in, looked_at, changed_at, trace_found, trace_at, SeesEarlier, some_changed, trace_depends}
+use Rattle.history_book.specs.Traces.{sight_of, trace_of, trace_in, traces_of, takes_in, looked_at, changed_at, trace_at, SeesEarlier, some_changed, trace_depends, no_trace}
 use Rattle.prog_tree.specs.Tree.{draft_tree}
 use Rattle.history_book.specs.TrueBook.{IsTrueBook}
 use Rattle.history_book.specs.View.{BookView, instance_of, history_of, traces_in, trace_for}
@@ -69,11 +69,11 @@ module _ (set : DraftTree) (opening : TableState) (h : List Instance) where
 
   trace_is : (n : ℕ) → trace_at (traces_of set opening h) (suc n) ≡ trace (suc n)
   trace_is n =
-      ap trace_found (slice_get-map (trace_in set opening h) h n)
+      ap (λ (o : Option TraceView). unwrap_or o no_trace) (slice_get-map (trace_in set opening h) h n)
       ∙ go (slice_get h n)
     where
       go : (o : Option Instance) →
-          trace_found (option_map (trace_in set opening h) o)
+          unwrap_or (option_map (trace_in set opening h) o) no_trace
           ≡ trace_of (start_found o) (run_found set o (state_after set opening h (start_found o))).changes.cells (run_found set o (state_after set opening h (start_found o))).looks
       go None = refl
       go (Some b) = refl

@@ -1,6 +1,6 @@
 -- The few pairs say no more than the traces do, and all else follows from them.
 use Rattle.std.proofs.Common.{◌≡◌, ◌∙◌, ◌==◌, ◌⊎◌, inl, inr, ℕ, zero, suc, ◌+◌, ◌<◌, ◌≤◌, nat_lt, Bool, true, false, true≢false, cond, ◌&&◌, not, if◌then◌else◌, List, [], ◌∷◌, ◌++◌, length, get_or, refl, ap, sym, subst, arith}
-use Rattle.std.specs.Prelude.{nat_le, Option, Some, None, slice_get, IfSome}
+use Rattle.std.specs.Prelude.{nat_le, Option, Some, None, slice_get, IfSome, unwrap_or}
 use Rattle.std.specs.List.{list_any}
 use Rattle.std.specs.List.Sorted.{IsStrictlySortedBy}
 use Rattle.std.proofs.lemmas.List.Elements.{All-nil, All-cons}
@@ -12,9 +12,9 @@ use Rattle.prog_tree.specs.declared.cell.Region.{Region}
 use Rattle.prog_tree.specs.Table.{cell_cmp, Cells, cells_of, at_cell, is_same_cell}
 use Rattle.version_store.proofs.ChainsLaws.{none_behind}
 use Rattle.history_book.specs.Orders.{is_one_of, IsUpTo}
-use Rattle.history_book.specs.Reduced.{writers_of, numbers_found, HasWriters, RiseFrom, AreWithin, AllRiseWithin, Pairs, is_pair_among, steps_from, steps_of, writers_steps, last_seen, first_missed, seen_pairs, missed_pairs, reader_pairs, region_pairs, sight_pairs, sights_pairs, readers_pairs}
+use Rattle.history_book.specs.Reduced.{writers_of, HasWriters, RiseFrom, AreWithin, AllRiseWithin, Pairs, is_pair_among, steps_from, steps_of, writers_steps, last_seen, first_missed, seen_pairs, missed_pairs, reader_pairs, region_pairs, sight_pairs, sights_pairs, readers_pairs}
 use Rattle.history_book.specs.TraceView.{TraceView}
-use Rattle.history_book.specs.Traces.{takes_in, looked_at, changed_at, trace_found, trace_at, SeesEarlier, changes_again, sees_change, trace_depends}
+use Rattle.history_book.specs.Traces.{takes_in, looked_at, changed_at, trace_at, SeesEarlier, changes_again, sees_change, trace_depends, no_trace}
 use Rattle.history_book.specs.declared.orders.trace.Sight.{Sight}
 use Rattle.history_book.specs.declared.orders.trace.Sight.TheVariants as sight
 use Rattle.history_book.proofs.RiseLaws.{weaken, writers_rise, IsWriter, writer_changed, writer_upto, seen_is, missed_is}
@@ -40,7 +40,7 @@ of_writers_by traces (e ∷ es) sorted has = (
     kept c ws false is found = ap (λ b. cond b (Some e.1) (at_cell es c)) is ∙ found
 
 pub of_writers : (traces : List TraceView) (m : Cells (List ℕ)) → IsStrictlySortedBy cell_cmp (cells_of m) → HasWriters traces m → OfWriters traces m
-of_writers traces m sorted has = of_writers_by traces m sorted (λ c ws found. ap numbers_found (sym found) ∙ has c)
+of_writers traces m sorted has = of_writers_by traces m sorted (λ c ws found. ap (λ (o : Option (List ℕ)). unwrap_or o []) (sym found) ∙ has c)
 
 all_within : (traces : List TraceView) (c : Cell) (ws : List ℕ) → ((w : ℕ) → is_one_of ws w ≡ true → IsWriter traces c w) → AreWithin (length traces) ws
 all_within traces c [] are = All-nil _
@@ -217,7 +217,7 @@ module _ (traces : List TraceView) where
   early_by sees r within =
       let t = trace_of_upto r within in
       let low : t.trace.start ≤ t.place = sees t.place t.trace t.found in
-      subst (λ n. (trace_at traces n).start < n) (sym t.is) (subst (λ (o : Option TraceView). (trace_found o).start < suc t.place) (sym t.found) (omega (arith, low)))
+      subst (λ n. (trace_at traces n).start < n) (sym t.is) (subst (λ (o : Option TraceView). (unwrap_or o no_trace).start < suc t.place) (sym t.found) (omega (arith, low)))
 
   upto_by_place : (i : ℕ) (t : TraceView) → slice_get traces i ≡ Some t → IsUpTo (length traces) (1 + i)
   upto_by_place i t found = go (slice_get_cases traces i).1
@@ -232,6 +232,6 @@ module _ (traces : List TraceView) where
       (each_readers m 1 traces (λ i t found.
       let within = upto_by_place i t found in
       let next : 1 + i ≡ suc i = omega arith in
-      let same : trace_at traces (1 + i) ≡ t = ap (trace_at traces) next ∙ ap trace_found found in
+      let same : trace_at traces (1 + i) ≡ t = ap (trace_at traces) next ∙ ap (λ (o : Option TraceView). unwrap_or o no_trace) found in
       subst (λ (u : TraceView). Each (sights_pairs (1 + i) u.start m u.looked)) same
       (each_sights (early_by sees) (1 + i) within m (trace_at traces (1 + i)).looked of has (λ c h. h))))

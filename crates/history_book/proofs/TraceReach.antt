@@ -1,6 +1,6 @@
 -- What the traces say follows from the few pairs.
 use Rattle.std.proofs.Common.{◌≡◌, ◌∙◌, ◌==◌, ◌⊎◌, inl, inr, ℕ, zero, suc, ◌+◌, ◌<◌, ◌≤◌, nat_lt, Bool, true, false, cond, ◌&&◌, ◌||◌, not, if◌then◌else◌, List, [], ◌∷◌, ◌++◌, length, refl, ap, sym, subst, arith}
-use Rattle.std.specs.Prelude.{nat_le, Option, Some, slice_get, IfSome}
+use Rattle.std.specs.Prelude.{nat_le, Option, Some, slice_get, IfSome, unwrap_or}
 use Rattle.std.specs.List.{list_any}
 use Rattle.std.proofs.lemmas.Bool.{and_from, and_parts, or_cases, or_left, or_right}
 use Rattle.prog_tree.specs.declared.cell.Cell.{Cell}
@@ -9,9 +9,9 @@ use Rattle.prog_tree.specs.Table.{Cells, at_cell, is_same_cell}
 use Rattle.prog_tree.proofs.TableStates.{cell_is}
 use Rattle.history_book.specs.Orders.{is_one_of, IsUpTo, IsReduced, IsBefore, step, steps}
 use Rattle.history_book.specs.Precedence.{precedes}
-use Rattle.history_book.specs.Reduced.{writers_of, numbers_found, numbers_at, HasWriters, RiseFrom, Pairs, is_pair_among, Adds, steps_from, steps_of, writers_steps, last_seen, first_missed, seen_pairs, missed_pairs, reader_pairs, region_pairs, sight_pairs, sights_pairs, readers_pairs}
+use Rattle.history_book.specs.Reduced.{writers_of, numbers_at, HasWriters, RiseFrom, Pairs, is_pair_among, Adds, steps_from, steps_of, writers_steps, last_seen, first_missed, seen_pairs, missed_pairs, reader_pairs, region_pairs, sight_pairs, sights_pairs, readers_pairs}
 use Rattle.history_book.specs.TraceView.{TraceView}
-use Rattle.history_book.specs.Traces.{takes_in, looked_at, changed_at, trace_found, trace_at, SeesEarlier, changes_again, sees_change, misses_change, trace_depends}
+use Rattle.history_book.specs.Traces.{takes_in, looked_at, changed_at, trace_at, SeesEarlier, changes_again, sees_change, misses_change, trace_depends, no_trace}
 use Rattle.history_book.specs.declared.orders.trace.Sight.{Sight}
 use Rattle.history_book.specs.declared.orders.trace.Sight.TheVariants as sight
 use Rattle.history_book.proofs.PairLaws.{among-append, both_pairs}
@@ -76,7 +76,7 @@ steps_among : (m : Cells (List ℕ)) (c : Cell) (i j : ℕ) → is_pair_among (s
 steps_among [] c i j h = absurd (cc)
 steps_among (e ∷ es) c i j h = go (is_same_cell c e.0) h (steps_among es c i j)
   where
-    go : (b : Bool) → is_pair_among (steps_of (numbers_found (cond b (Some e.1) (at_cell es c)))) i j ≡ true → (is_pair_among (steps_of (numbers_at es c)) i j ≡ true → is_pair_among (writers_steps es) i j ≡ true) →
+    go : (b : Bool) → is_pair_among (steps_of (unwrap_or (cond b (Some e.1) (at_cell es c)) [])) i j ≡ true → (is_pair_among (steps_of (numbers_at es c)) i j ≡ true → is_pair_among (writers_steps es) i j ≡ true) →
         is_pair_among (steps_of e.1 ++ writers_steps es) i j ≡ true
     go true here rest = among_first (steps_of e.1) (writers_steps es) i j here
     go false behind rest = among_second (steps_of e.1) (writers_steps es) i j (rest behind)
@@ -90,7 +90,7 @@ module _ (r s : ℕ) (c : Cell) (i j : ℕ) where
       ps : Bool → Pairs
       ps b = if b then reader_pairs r s e.1 else []
 
-      go : (b : Bool) → is_same_cell c e.0 ≡ b → is_pair_among (reader_pairs r s (numbers_found (cond b (Some e.1) (at_cell es c)))) i j ≡ true →
+      go : (b : Bool) → is_same_cell c e.0 ≡ b → is_pair_among (reader_pairs r s (unwrap_or (cond b (Some e.1) (at_cell es c)) [])) i j ≡ true →
           (is_pair_among (reader_pairs r s (numbers_at es c)) i j ≡ true → is_pair_among (region_pairs r s region own es) i j ≡ true) →
           is_pair_among ((if takes_in (sight.Range region own) e.0 then reader_pairs r s e.1 else []) ++ region_pairs r s region own es) i j ≡ true
       go true same here rest =
@@ -144,7 +144,7 @@ module _ (traces : List TraceView) (m : Cells (List ℕ)) (has : HasWriters trac
       go : IsTraceOf traces r → before i j ≡ true
       go t =
           let next : suc t.place ≡ 1 + t.place = omega arith in
-          let same : trace_at traces r ≡ t.trace = ap (trace_at traces) t.is ∙ ap trace_found t.found in
+          let same : trace_at traces r ≡ t.trace = ap (trace_at traces) t.is ∙ ap (λ (o : Option TraceView). unwrap_or o no_trace) t.found in
           let pairs : is_pair_among (reader_pairs r t.trace.start (numbers_at m c)) i j ≡ true =
           subst (λ (u : TraceView). is_pair_among (reader_pairs r u.start (numbers_at m c)) i j ≡ true) same
           (subst (λ (ws : List ℕ). is_pair_among (reader_pairs r (starts r) ws) i j ≡ true) (sym (has c)) h) in

@@ -1,6 +1,7 @@
 -- Worked examples of histories, endings and active instances, computed from the definitions.
 use Rattle.std.proofs.Common.{◌≡◌, ℕ, ◌-◌, ◌^◌, ◌==◌, [], ◌∷◌, List, length, refl, ap, true, false}
 use Rattle.std.specs.Prelude.{ℤ, pos, negsuc, codes, map, Some, None, not, if◌then◌else◌}
+use Rattle.std.specs.Option.{option_or}
 use Rattle.prog_tree.specs.declared.cell.Cell.{Cell}
 use Rattle.prog_tree.specs.declared.deed.Cause.TheVariants.{Asked}
 use Rattle.prog_tree.specs.declared.deed.End.TheVariants.{Ready}
@@ -14,7 +15,7 @@ use Rattle.prog_tree.specs.Table.{TableState}
 use Rattle.history_book.specs.History.{Instance, eval_of, commits_of, evaluation, state_after}
 use Rattle.history_book.specs.TrueBook.{committed}
 use Rattle.history_book.specs.ActiveSet.{is_beginning_of}
-use Rattle.history_book.specs.View.{BookView, instance_of, row_of, nth_row, with_start, without, least_start, vacuumed, start_fault, full_fault, or_fault, fault_at, fault_by, ticket_at, next_ticket, begun_at}
+use Rattle.history_book.specs.View.{BookView, instance_of, row_of, nth_row, with_start, without, least_start, vacuumed, start_fault, full_fault, fault_at, fault_by, ticket_at, next_ticket, begun_at}
 use Rattle.history_book.specs.declared.fault.BeginFault.TheVariants as begin
 use Rattle.history_book.specs.declared.instances.row.Ending.TheVariants as ending
 use Rattle.history_book.specs.declared.instances.row.HistoryRow.{HistoryRow}
@@ -164,16 +165,16 @@ module _ (set : Draft) where
   below_the_floor = refl
 
   -- the number comes before want of room
-  pub old_before_full : or_fault (start_fault (two_commits 2 most) 1) (full_fault (two_commits 2 most)) ≡ Some (begin.TooOld 2)
+  pub old_before_full : option_or (start_fault (two_commits 2 most) 1) (full_fault (two_commits 2 most)) ≡ Some (begin.TooOld 2)
   old_before_full = refl
 
-  pub new_before_full : or_fault (start_fault (two_commits 2 most) 3) (full_fault (two_commits 2 most)) ≡ Some (begin.TooNew 2)
+  pub new_before_full : option_or (start_fault (two_commits 2 most) 3) (full_fault (two_commits 2 most)) ≡ Some (begin.TooNew 2)
   new_before_full = refl
 
-  pub full_last : or_fault (start_fault (two_commits 2 most) 2) (full_fault (two_commits 2 most)) ≡ Some begin.Full
+  pub full_last : option_or (start_fault (two_commits 2 most) 2) (full_fault (two_commits 2 most)) ≡ Some begin.Full
   full_last = refl
 
-  pub nothing_wrong : or_fault (start_fault (two_commits 2 2) 2) (full_fault (two_commits 2 2)) ≡ None
+  pub nothing_wrong : option_or (start_fault (two_commits 2 2) 2) (full_fault (two_commits 2 2)) ≡ None
   nothing_wrong = refl
 
   -- the program comes first, then its arguments

@@ -1,8 +1,9 @@
 -- Laws of the writers of cells.
 use Rattle.std.proofs.Common.{◌≡◌, ◌∙◌, ℕ, zero, suc, ◌+◌, ◌<◌, ◌≤◌, leb, nat_lt, Bool, true, false, cond, ◌||◌, if◌then◌else◌, List, [], ◌∷◌, ◌++◌, length, get_or, refl, ap, sym, subst, arith}
-use Rattle.std.specs.Prelude.{nat_le, Option, Some, None, IfSome, IsSome, All}
+use Rattle.std.specs.Prelude.{nat_le, Option, Some, None, IfSome, IsSome, All, unwrap_or}
 use Rattle.std.specs.Cmp.{eq_by_cmp_equiv}
 use Rattle.std.specs.List.Sorted.{IsStrictlySortedBy, IsNonDecreasingBy}
+use Rattle.std.specs.Option.{option_or}
 use Rattle.std.proofs.lemmas.Bool.Decides.{nat_tests}
 use Rattle.std.proofs.lemmas.List.Elements.{All-head, All-tail}
 use Rattle.std.proofs.lemmas.Map.Keys.{sorted_tail}
@@ -11,7 +12,7 @@ use Rattle.prog_tree.specs.Table.{cell_cmp, Cells, cells_of, at_cell, is_same_ce
 use Rattle.prog_tree.proofs.TableLemmas.{cell_total}
 use Rattle.prog_tree.proofs.TableStates.{cell_is}
 use Rattle.version_store.proofs.ChainsLaws.{none_behind}
-use Rattle.history_book.specs.Reduced.{numbers_found, numbers_at, IsAddedAt, RiseFrom, AreWithin, AllRiseWithin, IsCutBy, later_or, last_seen, first_missed}
+use Rattle.history_book.specs.Reduced.{numbers_at, IsAddedAt, RiseFrom, AreWithin, AllRiseWithin, IsCutBy, last_seen, first_missed}
 
 -- ---- walks over the cells of a commit
 
@@ -75,20 +76,20 @@ pub added_found :
     (m n : Cells (List ℕ)) (cell : Cell) (number : ℕ) (old new : List ℕ) → Some old ≡ at_cell m cell → new ≡ old ++ number ∷ [] →
     (IsSome (at_cell m cell) → (c : Cell) → at_cell n c ≡ cond (is_same_cell cell c) (Some new) (at_cell m c)) → IsAddedAt (is_same_cell cell) number m n
 added_found m n cell number old new found is written c =
-    ap numbers_found (written (subst (λ (o : Option (List ℕ)). IsSome o) found refl) c) ∙ go (is_same_cell cell c) (λ same. cell_is cell c same)
+    ap (λ (o : Option (List ℕ)). unwrap_or o []) (written (subst (λ (o : Option (List ℕ)). IsSome o) found refl) c) ∙ go (is_same_cell cell c) (λ same. cell_is cell c same)
   where
-    go : (b : Bool) → (b ≡ true → cell ≡ c) → numbers_found (cond b (Some new) (at_cell m c)) ≡ (if b then numbers_at m c ++ number ∷ [] else numbers_at m c)
-    go true same = is ∙ ap (λ o. numbers_found o ++ number ∷ []) (found ∙ ap (at_cell m) (same refl))
+    go : (b : Bool) → (b ≡ true → cell ≡ c) → unwrap_or (cond b (Some new) (at_cell m c)) [] ≡ (if b then numbers_at m c ++ number ∷ [] else numbers_at m c)
+    go true same = is ∙ ap (λ (o : Option (List ℕ)). unwrap_or o [] ++ number ∷ []) (found ∙ ap (at_cell m) (same refl))
     go false same = refl
 
 pub added_absent :
     (m n : Cells (List ℕ)) (cell : Cell) (number : ℕ) (new : List ℕ) → None ≡ at_cell m cell → new ≡ number ∷ [] →
     ((c : Cell) → at_cell n c ≡ cond (is_same_cell cell c) (Some new) (at_cell m c)) → IsAddedAt (is_same_cell cell) number m n
 added_absent m n cell number new absent is written c =
-    ap numbers_found (written c) ∙ go (is_same_cell cell c) (λ same. cell_is cell c same)
+    ap (λ (o : Option (List ℕ)). unwrap_or o []) (written c) ∙ go (is_same_cell cell c) (λ same. cell_is cell c same)
   where
-    go : (b : Bool) → (b ≡ true → cell ≡ c) → numbers_found (cond b (Some new) (at_cell m c)) ≡ (if b then numbers_at m c ++ number ∷ [] else numbers_at m c)
-    go true same = is ∙ ap (λ o. numbers_found o ++ number ∷ []) (absent ∙ ap (at_cell m) (same refl))
+    go : (b : Bool) → (b ≡ true → cell ≡ c) → unwrap_or (cond b (Some new) (at_cell m c)) [] ≡ (if b then numbers_at m c ++ number ∷ [] else numbers_at m c)
+    go true same = is ∙ ap (λ (o : Option (List ℕ)). unwrap_or o [] ++ number ∷ []) (absent ∙ ap (at_cell m) (same refl))
     go false same = refl
 
 -- ---- the bisection
@@ -157,7 +158,7 @@ pub seen_holds : (P : ℕ → Type 0) (n : ℕ) (ms : List ℕ) → All P ms →
 seen_holds P n [] all = tt
 seen_holds P n (m ∷ ms) all = go (last_seen n ms) (nat_le m n) (seen_holds P n ms (All-tail P m ms all)) (All-head P m ms all)
   where
-    go : (o : Option ℕ) (b : Bool) → IfSome o P → P m → IfSome (later_or m b o) P
+    go : (o : Option ℕ) (b : Bool) → IfSome o P → P m → IfSome (option_or o (if b then Some m else None)) P
     go (Some w) b rest here = rest
     go None true rest here = here
     go None false rest here = tt

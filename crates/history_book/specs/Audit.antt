@@ -56,7 +56,7 @@ module _ (set : DraftTree) (opening : TableState) (h : List Instance) (r : Histo
   done_by = evaluation set opening h (instance_of r)
 
   -- it is called rightly, and sees commits of the history
-  pub record IsBegun : Type 0 where
+  pub record CanBegin : Type 0 where
     pub called : IsCalled set (instance_of r)
     pub start : r.start ≤ length h
 
@@ -73,8 +73,8 @@ module _ (set : DraftTree) (opening : TableState) (h : List Instance) (r : Histo
   IsRowFault row.WrongArguments =
       (p : ProgramTree) × (slice_get set.programs r.program ≡ Some p) × (length p.params ≢ length r.args)
   IsRowFault row.StartTooLate = IsCalled set (instance_of r) × (length h < r.start)
-  IsRowFault row.NotReady = IsBegun × (done_by.ending ≢ Ready)
-  IsRowFault row.WrongReplies = IsBegun × (done_by.ending ≡ Ready) × (r.replies ≢ done_by.replies)
+  IsRowFault row.NotReady = CanBegin × (done_by.ending ≢ Ready)
+  IsRowFault row.WrongReplies = CanBegin × (done_by.ending ≡ Ready) × (r.replies ≢ done_by.replies)
   IsRowFault (row.Clashed clash) =
       IsTrueRow set opening h r × (done_by.ending ≡ Ready)
       × IsClash (commits_of set opening h) r.start done_by.changes (Some (clash_pair clash))

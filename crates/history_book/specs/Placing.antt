@@ -23,18 +23,18 @@ pub record AreWaits (lists : List (List ℕ)) (placed waits : List ℕ) : Type 0
   pub each : (n : ℕ) → n < length waits → slice_index waits n ≡ waits_from 1 lists placed n
 
 -- a number waits for others
-abbrev pub IsWaiting : (waits : List ℕ) → ℕ → Type 0
-IsWaiting waits n = slice_index waits n ≢ 0
+abbrev pub HasToWait : (waits : List ℕ) → ℕ → Type 0
+HasToWait waits n = slice_index waits n ≢ 0
 
 -- a number that waits has to stand before another
 abbrev pub HoldsBack : List (List ℕ) → (waits : List ℕ) → (leader n : ℕ) → Type 0
-HoldsBack lists waits leader n = (precedes lists leader n ≡ true) × IsWaiting waits leader
+HoldsBack lists waits leader n = (precedes lists leader n ≡ true) × HasToWait waits leader
 
 -- each number that waits does so for one that waits too, and there is one
 pub record IsStuck (lists : List (List ℕ)) (waits : List ℕ) : Type 0 where
   pub long : length waits ≡ length lists + 1
-  pub waiting : (n : ℕ) × (n < length waits) × IsWaiting waits n
-  pub for_one : (n : ℕ) → n < length waits → IsWaiting waits n → (i : ℕ) × HoldsBack lists waits i n
+  pub waiting : (n : ℕ) × (n < length waits) × HasToWait waits n
+  pub for_one : (n : ℕ) → n < length waits → HasToWait waits n → (i : ℕ) × HoldsBack lists waits i n
 
 -- a leader of the number is known
 abbrev pub HasLeader : (leaders : List ℕ) → ℕ → Type 0
@@ -44,7 +44,7 @@ HasLeader leaders n = slice_index leaders n ≢ 0
 pub record AreLeaders (lists : List (List ℕ)) (waits leaders : List ℕ) : Type 0 where
   pub long : length leaders ≡ length lists + 1
   pub leads : (n : ℕ) → HasLeader leaders n → HoldsBack lists waits (slice_index leaders n) n
-  pub whole : (i n : ℕ) → precedes lists i n ≡ true → IsWaiting waits i → HasLeader leaders n
+  pub whole : (i n : ℕ) → precedes lists i n ≡ true → HasToWait waits i → HasLeader leaders n
 
 -- each leader has to stand before what it leads
 abbrev pub IsLed : (before : ℕ → ℕ → Bool) → (leaders : List ℕ) → Type 0

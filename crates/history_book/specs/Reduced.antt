@@ -1,7 +1,8 @@
 -- Fewer pairs of commits, through which the others follow.
-use Rattle.std.specs.Prelude.{◌≡◌, ℕ, ◌+◌, ◌≤◌, nat_le, nat_lt, leb, ◌==◌, Bool, true, false, ◌&&◌, ◌||◌, All, List, [], ◌∷◌, ◌++◌, length, Option, Some, None, if◌then◌else◌}
+use Rattle.std.specs.Prelude.{◌≡◌, ℕ, ◌+◌, ◌≤◌, nat_le, nat_lt, leb, ◌==◌, Bool, true, false, ◌&&◌, ◌||◌, All, List, [], ◌∷◌, ◌++◌, length, Option, Some, None, if◌then◌else◌, unwrap_or}
 use Rattle.std.specs.List.{list_any}
 use Rattle.std.specs.List.Sorted.{IsPartitionPoint}
+use Rattle.std.specs.Option.{option_or}
 use Rattle.prog_tree.specs.declared.cell.Cell.{Cell}
 use Rattle.prog_tree.specs.declared.cell.Region.{Region}
 use Rattle.prog_tree.specs.Table.{Cells, at_cell}
@@ -23,14 +24,9 @@ writers_from n (t ∷ ts) c = if changed_at t c then n ∷ writers_from (n + 1) 
 abbrev pub writers_of : List TraceView → Cell → List ℕ
 writers_of traces c = writers_from 1 traces c
 
--- the numbers that were found, or none
-abbrev pub numbers_found : Option (List ℕ) → List ℕ
-numbers_found None = []
-numbers_found (Some numbers) = numbers
-
--- the numbers that a map has for a cell
+-- the numbers that a map has for a cell, or none
 abbrev pub numbers_at : Cells (List ℕ) → Cell → List ℕ
-numbers_at m c = numbers_found (at_cell m c)
+numbers_at m c = unwrap_or (at_cell m c) []
 
 -- a map has the writers of each cell
 abbrev pub HasWriters : List TraceView → Cells (List ℕ) → Type 0
@@ -92,15 +88,10 @@ abbrev pub writers_steps : Cells (List ℕ) → Pairs
 writers_steps [] = []
 writers_steps (e ∷ es) = steps_of e.1 ++ writers_steps es
 
--- the number that was found among the later ones, or this one where it is seen
-abbrev pub later_or : ℕ → (seen : Bool) → Option ℕ → Option ℕ
-later_or n seen (Some m) = Some m
-later_or n seen None = if seen then Some n else None
-
 -- the last of the numbers that are at most `start`
 abbrev pub last_seen : (start : ℕ) → List ℕ → Option ℕ
 last_seen start [] = None
-last_seen start (n ∷ ns) = later_or n (nat_le n start) (last_seen start ns)
+last_seen start (n ∷ ns) = option_or (last_seen start ns) (if nat_le n start then Some n else None)
 
 -- the first of the numbers that are above `start`
 abbrev pub first_missed : (start : ℕ) → List ℕ → Option ℕ

@@ -1,5 +1,5 @@
 -- What each commit looked at and changed, and what of it depends on what.
-use Rattle.std.specs.Prelude.{◌≡◌, ◌≤◌, ℕ, zero, suc, nat_lt, nat_le, ◌==◌, Bool, not, ◌&&◌, ◌||◌, List, [], map, Option, Some, None, slice_get}
+use Rattle.std.specs.Prelude.{◌≡◌, ◌≤◌, ℕ, zero, suc, nat_lt, nat_le, ◌==◌, Bool, not, ◌&&◌, ◌||◌, List, [], map, Option, Some, None, slice_get, unwrap_or}
 use Rattle.std.specs.List.{list_any}
 use Rattle.prog_tree.specs.declared.cell.Cell.{Cell}
 use Rattle.prog_tree.specs.declared.look.Look.{Look}
@@ -49,15 +49,10 @@ changed_at t c = is_cell_among t.changed c
 abbrev pub no_trace : TraceView
 no_trace = record { start = 0; changed = []; looked = [] }
 
--- the trace that was found, or one of nothing
-abbrev pub trace_found : Option TraceView → TraceView
-trace_found None = no_trace
-trace_found (Some t) = t
-
--- the trace of a commit number; numbers begin at 1
+-- the trace of a commit number, or one of nothing; numbers begin at 1
 abbrev pub trace_at : List TraceView → ℕ → TraceView
 trace_at traces zero = no_trace
-trace_at traces (suc n) = trace_found (slice_get traces n)
+trace_at traces (suc n) = unwrap_or (slice_get traces n) no_trace
 
 -- each commit saw only earlier ones
 abbrev pub SeesEarlier : List TraceView → Type 0

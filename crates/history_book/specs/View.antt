@@ -2,6 +2,7 @@
 use Rattle.std.specs.Prelude.{ℕ, ◌+◌, ◌-◌, ◌^◌, ℤ, min, nat_le, nat_lt, ◌==◌, Bool, not, ◌||◌, List, [], ◌∷◌, ◌++◌, length, map, Option, Some, None, option_map, slice_get, Result, Ok, Err, if◌then◌else◌, ◌≡◌}
 use Rattle.std.specs.BTreeMap.{is_at}
 use Rattle.std.specs.Map.{lookup, remove_entry}
+use Rattle.std.specs.Option.{option_or}
 use Rattle.std.specs.Ordering.{nat_cmp}
 use Rattle.prog_tree.specs.declared.cell.Cell.{Cell}
 use Rattle.prog_tree.specs.declared.cell.Region.{Region}
@@ -141,17 +142,12 @@ start_fault v start =
     else if nat_lt (length v.rows) start then Some (TooNew (length v.rows))
     else None
 
--- the first of two faults
-abbrev pub or_fault : Option BeginFault → Option BeginFault → Option BeginFault
-or_fault None later = later
-or_fault (Some fault) later = Some fault
-
 -- what is wrong with a begin at a number, of a program that was found, or not
 abbrev pub fault_at : BookView → (start : ℕ) → Option Program → List ℤ → Option BeginFault
 fault_at v start None args = Some NoSuchProgram
 fault_at v start (Some p) args =
     if not (length p.params.items == length args) then Some WrongArguments
-    else or_fault (start_fault v start) (full_fault v)
+    else option_or (start_fault v start) (full_fault v)
 
 -- what is wrong with a begin at a number
 abbrev pub begin_at_fault_of : BookView → (start program : ℕ) → List ℤ → Option BeginFault

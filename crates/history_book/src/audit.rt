@@ -2,7 +2,7 @@
 
 ghost use Rattle.std.specs.Prelude.{◌≡◌, ◌<◌, ◌≤◌, [], length, IfOk, IfErr, OnOk, MatchOption};
 ghost use Rattle.prog_tree.specs.Tree.{draft_tree};
-ghost use Rattle.history_book.specs.Audit.{CameTo, audited, taken_up, IsBegun, IsRightRow, IsRowFault, IsRowRefusal, AreRightBehind, IsAuditFault};
+ghost use Rattle.history_book.specs.Audit.{CameTo, audited, taken_up, CanBegin, IsRightRow, IsRowFault, IsRowRefusal, AreRightBehind, IsAuditFault};
 ghost use Rattle.history_book.specs.View.{done_in, history_of, instance_of, most_endings, most_begins};
 
 use crate::book::{Book, is_ready, read_numbers};
@@ -97,7 +97,7 @@ impl<'a> Book<'a> {
     // What is wrong with a row's call, or with its start.
     fn call_fault(&self, row: &HistoryRow) -> Option<RowFault>
         ensures { MatchOption result
-            (IsBegun (draft_tree self.now.set) self.now.opening (history_of self.now.rows) row.now)
+            (CanBegin (draft_tree self.now.set) self.now.opening (history_of self.now.rows) row.now)
             (IsRowFault (draft_tree self.now.set) self.now.opening
             (history_of self.now.rows) row.now) }
     {
@@ -116,7 +116,7 @@ impl<'a> Book<'a> {
 
     // What is wrong with what a row's run came to.
     fn run_fault(&self, row: &HistoryRow, run: &Run<'_>) -> Option<RowFault>
-        requires begun { IsBegun (draft_tree self.now.set) self.now.opening
+        requires begun { CanBegin (draft_tree self.now.set) self.now.opening
             (history_of self.now.rows) row.now }
         requires above { self.now.floor ≤ row.now.start }
         requires came { CameTo run.now (done_in self.now (instance_of row.now)) }

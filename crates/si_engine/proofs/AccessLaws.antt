@@ -23,7 +23,7 @@ use Rattle.prog_paths.proofs.Own.{law_of_times}
 use Rattle.history_book.specs.Dependencies.{start_at, evaluation_at}
 use Rattle.history_book.specs.History.{Instance}
 use Rattle.history_book.proofs.DependencyLaws.{start_at-below}
-use Rattle.si_engine.specs.Robustness.{Grows, IsCommitted, AreConcurrent, IsHistory, FollowsNode}
+use Rattle.si_engine.specs.Robustness.{Grows, HasCommitted, AreConcurrent, IsHistory, FollowsNode}
 use Rattle.si_engine.proofs.GrowLaws.{Has, ChangesAt}
 use Rattle.si_engine.proofs.KindLaws.{access_fits, grows_by, plain_by}
 use Rattle.si_engine.proofs.MissedLaws.{Touched, first_wins as wins}
@@ -51,7 +51,7 @@ module _ (set : DraftTree) (opening : TableState) (h : List Instance) (is : IsHi
   abbrev pub TouchesAt : ℕ → Cell → Type 0
   TouchesAt n c = ChangesAt set opening h is n c ⊎ KeepsCell (evaluation_at set opening h n).changes c
 
-  pub starts : (n : ℕ) → IsCommitted h n → start_at h n < n
+  pub starts : (n : ℕ) → HasCommitted h n → start_at h n < n
   starts n one = start_at-below h is.lawful.starts n one
 
   touched : (n : ℕ) (c : Cell) → TouchesAt n c → Touched set opening h n c
@@ -59,13 +59,13 @@ module _ (set : DraftTree) (opening : TableState) (h : List Instance) (is : IsHi
   touched n c (inr kept) = or_right (is_some (change_at (evaluation_at set opening h n).changes c)) _ kept
 
   -- the first committer wins
-  pub first_wins : (i j : ℕ) (c : Cell) → IsCommitted h i → IsCommitted h j → start_at h j < i → i < j →
+  pub first_wins : (i j : ℕ) (c : Cell) → HasCommitted h i → HasCommitted h j → start_at h j < i → i < j →
       TouchesAt i c → TouchesAt j c → ⊥
   first_wins i j c one other unseen before mine theirs =
       wins set opening h is.lawful i j c one other unseen before (touched i c mine) (touched j c theirs)
 
   -- two concurrent instances touch no cell both
-  pub none_shared : (i j : ℕ) (c : Cell) → IsCommitted h i → IsCommitted h j → i ≢ j → AreConcurrent h i j →
+  pub none_shared : (i j : ℕ) (c : Cell) → HasCommitted h i → HasCommitted h j → i ≢ j → AreConcurrent h i j →
       TouchesAt i c → TouchesAt j c → ⊥
   none_shared i j c one other differ both mine theirs = cases (cases_order i j)
     where

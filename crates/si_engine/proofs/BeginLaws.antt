@@ -6,6 +6,7 @@ use Rattle.std.proofs.lemmas.List.{map-append, length-map, length-append}
 use Rattle.std.proofs.lemmas.Option.{slice_get-map}
 use Rattle.std.specs.declared.alloc.AllocError.{AllocError}
 use Rattle.std.specs.declared.alloc.Global.{Global}
+use Rattle.std.specs.Option.{option_or}
 use Rattle.prog_tree.specs.declared.program.Draft.{Draft}
 use Rattle.prog_tree.specs.declared.program.Program.{Program}
 use Rattle.prog_tree.specs.Tree.{draft_tree, program_tree}
@@ -16,7 +17,7 @@ use Rattle.history_book.specs.History.{Instance}
 use Rattle.history_book.specs.Runs.{IsOwnRun}
 use Rattle.history_book.specs.Ticket.{TicketView}
 use Rattle.history_book.specs.View as book
-use Rattle.history_book.specs.View.{BookView, state_in, instance_of, history_of, start_fault, full_fault, or_fault, fault_at, begin_at_fault_of, ticket_at, begun_at}
+use Rattle.history_book.specs.View.{BookView, state_in, instance_of, history_of, start_fault, full_fault, fault_at, begin_at_fault_of, ticket_at, begun_at}
 use Rattle.history_book.specs.declared.fault.BeginFault.{BeginFault}
 use Rattle.history_book.specs.declared.fault.BeginFault.TheVariants.{WrongArguments, TooOld, TooNew, Full}
 use Rattle.si_engine.specs.Machine.{Active, Machine, active_of, is_full, at_begin, begin_at_by}
@@ -43,7 +44,7 @@ no_run_fault v start program args none = go (slice_get v.set.programs.items prog
     go None is = absurd (cc)
     go (Some p) is = by_size (length p.params.items == length args) is
       where
-        by_size : (fits : Bool) → cond (not fits) (Some WrongArguments) (or_fault (start_fault v start) (full_fault v)) ≡ None →
+        by_size : (fits : Bool) → cond (not fits) (Some WrongArguments) (option_or (start_fault v start) (full_fault v)) ≡ None →
             cond fits None (Some run_fault.WrongArguments) ≡ None
         by_size true is = refl
         by_size false is = absurd (cc)
@@ -81,7 +82,7 @@ module _ (v : BookView) (runs : List (Option ActiveRun)) (kept : IsEngine v runs
       where
         by_tests : (wrong old new full : Bool) →
             IsAnswered machine start program args
-            (cond wrong (Some WrongArguments) (or_fault (cond old (Some (TooOld v.floor)) (cond new (Some (TooNew (length v.rows))) None)) (cond full (Some Full) None)))
+            (cond wrong (Some WrongArguments) (option_or (cond old (Some (TooOld v.floor)) (cond new (Some (TooNew (length v.rows))) None)) (cond full (Some Full) None)))
             (cond wrong (reply.WrongArguments, machine) (cond old (reply.TooOld v.floor, machine) (cond new (reply.TooNew (length v.rows), machine)
             (cond full (reply.Full, machine) (reply.Begun (length machine.begun) start, record machine { begun = machine.begun ++ Some (at_begin new_instance) ∷ [] })))))
         by_tests true old new full = (refl, refl)
@@ -130,7 +131,7 @@ module _ (v : BookView) (runs : List (Option ActiveRun)) (kept : IsEngine v runs
           by_program (Some p) is = by_tests (not (length p.params.items == length args)) (nat_lt start v.floor) (nat_lt (length v.rows) start) refl is
             where
               by_tests : (wrong old new : Bool) → nat_lt (length v.rows) start ≡ new →
-                  cond wrong (Some WrongArguments) (or_fault (cond old (Some (TooOld v.floor)) (cond new (Some (TooNew (length v.rows))) None)) (full_fault v)) ≡ None →
+                  cond wrong (Some WrongArguments) (option_or (cond old (Some (TooOld v.floor)) (cond new (Some (TooNew (length v.rows))) None)) (full_fault v)) ≡ None →
                   start ≤ length v.rows
               by_tests true old new test is = absurd (cc)
               by_tests false true new test is = absurd (cc)

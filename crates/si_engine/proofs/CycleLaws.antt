@@ -8,7 +8,7 @@ use Rattle.history_book.specs.Dependencies.{depends}
 use Rattle.history_book.specs.History.{Instance}
 use Rattle.history_book.specs.Orders.{LeadsTo}
 use Rattle.history_book.proofs.DependencyLaws.{depends_within}
-use Rattle.si_engine.specs.Robustness.{IsCommitted, IsHistory, FollowsNode, Misses, LawOfCycles, LawOfSafeSets}
+use Rattle.si_engine.specs.Robustness.{HasCommitted, IsHistory, FollowsNode, Misses, LawOfCycles, LawOfSafeSets}
 use Rattle.si_engine.proofs.CycleSteps.{step}
 use Rattle.si_engine.proofs.MissedLaws.{misses_depends, law_of_last_steps}
 use Rattle.si_engine.proofs.NodeLaws.{law_of_nodes}
@@ -35,7 +35,7 @@ module _ (set : DraftTree) (opening : TableState) (h : List Instance) (is : IsHi
       let w = walk front a b c j js later leads.1 theirs in
       (w.0, onward (step set opening h is i j within.0 within.1 f theirs leads.0) w.1)
 
-  misses_within : (i j : ℕ) → Misses set opening h i j → IsCommitted h i × IsCommitted h j
+  misses_within : (i j : ℕ) → Misses set opening h i j → HasCommitted h i × HasCommitted h j
   misses_within i j m = depends_within set opening h i j (misses_depends set opening h i j m.other m.missed)
 
   vulnerable : (i j : ℕ) (f : FollowsNode set opening h i) (g : FollowsNode set opening h j) → Misses set opening h i j →

@@ -11,7 +11,7 @@ use Rattle.prog_paths.proofs.Edges.{HasQuestion-weaker}
 use Rattle.history_book.specs.Dependencies.{depends}
 use Rattle.history_book.specs.History.{Instance}
 use Rattle.history_book.proofs.DependencyLaws.{DependsOn, depends_tells}
-use Rattle.si_engine.specs.Robustness.{EdgeUnder, IsCommitted, IsHistory, FollowsNode}
+use Rattle.si_engine.specs.Robustness.{EdgeUnder, HasCommitted, IsHistory, FollowsNode}
 use Rattle.si_engine.proofs.EdgeLaws.{edge_of}
 use Rattle.si_engine.proofs.AccessLaws.{starts}
 
@@ -32,11 +32,11 @@ module _ (set : DraftTree) (opening : TableState) (h : List Instance) (is : IsHi
   abbrev Before : ℕ → ℕ → Type 0
   Before i j = depends set opening h i j ≡ true
 
-  depends_on : (i j : ℕ) → IsCommitted h j → Before i j → DependsOn set opening h i j
+  depends_on : (i j : ℕ) → HasCommitted h j → Before i j → DependsOn set opening h i j
   depends_on i j one d = (depends_tells set opening h i j (starts set opening h is j one)).0 d
 
   -- a dependency is an edge between the nodes that the two follow
-  pub step : (i j : ℕ) → IsCommitted h i → IsCommitted h j → (f : FollowsNode set opening h i) →
+  pub step : (i j : ℕ) → HasCommitted h i → HasCommitted h j → (f : FollowsNode set opening h i) →
       (k : FollowsNode set opening h j) → Before i j → StaticEdge (paths_of set) f.node k.node
   step i j one other f k first =
       static_edge f.v k.v (paths_of set) f.node k.node (edge_of set opening h is i j one other f k (depends_on i j other first))

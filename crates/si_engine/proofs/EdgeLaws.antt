@@ -12,7 +12,7 @@ use Rattle.history_book.specs.Dependencies.{start_at}
 use Rattle.history_book.specs.History.{Instance}
 use Rattle.history_book.proofs.DependencyLaws.{Looks, Changes, DependsOn, depends_tells}
 use Rattle.history_book.proofs.DependencyRelations.{WriteWriteBy, WriteReadBy, ReadWriteBy}
-use Rattle.si_engine.specs.Robustness.{Grows, IsCommitted, IsHistory, FollowsNode, EdgeUnder, LawOfStaticEdges}
+use Rattle.si_engine.specs.Robustness.{Grows, HasCommitted, IsHistory, FollowsNode, EdgeUnder, LawOfStaticEdges}
 use Rattle.si_engine.proofs.GrowLaws.{Has, ChangesAt}
 use Rattle.si_engine.proofs.InsertLaws.{law_of_inserts, law_of_single_inserts}
 use Rattle.si_engine.proofs.AccessLaws.{HoldsLook, HoldsChange, starts, Holds, looked, changed_in, grow_at, plain_at, question_of, asked}
@@ -33,7 +33,7 @@ in_order q = go (cases_order q.x q.y) (cases_lt q.b q.a)
     go (inl e) (inr l) = inl (inr (e, l))
 
 module _ (set : DraftTree) (opening : TableState) (h : List Instance) (is : IsHistory set opening h) where
-  module _ (i j : ℕ) (one : IsCommitted h i) (other : IsCommitted h j) (f : FollowsNode set opening h i) (g : FollowsNode set opening h j) where
+  module _ (i j : ℕ) (one : HasCommitted h i) (other : HasCommitted h j) (f : FollowsNode set opening h i) (g : FollowsNode set opening h j) where
     -- ---- both change a cell
 
     from_write_write : WriteWriteBy Cell (Changes set opening h) i j → EdgeUnder f.v g.v (paths_of set) f.node g.node

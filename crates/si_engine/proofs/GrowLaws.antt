@@ -26,7 +26,7 @@ use Rattle.history_book.specs.History.{Instance, nth_instance, state_after, eval
 use Rattle.history_book.proofs.DependencyLaws.{found_at}
 use Rattle.history_book.proofs.HistoryLaws.{eval_of-found}
 use Rattle.history_book.proofs.StateLaws.{state_after-next}
-use Rattle.si_engine.specs.Robustness.{Grows, IsCommitted, IsHistory}
+use Rattle.si_engine.specs.Robustness.{Grows, HasCommitted, IsHistory}
 
 -- ---- tables by their numbers
 
@@ -114,7 +114,7 @@ module _ (set : DraftTree) (opening : TableState) (h : List Instance) (is : IsHi
   change_by n c = change_at (evaluation_at set opening h n).changes c
 
   -- no committed instance removes a row of a grow table
-  stays_added : (n : ℕ) (c : Cell) → IsCommitted h n → Grows set c.table → change_by n c ≡ Some None → ⊥
+  stays_added : (n : ℕ) (c : Cell) → HasCommitted h n → Grows set c.table → change_by n c ≡ Some None → ⊥
   stays_added n c one grow gone =
       removed_then set is.sound (evaluation set opening h b) removes c grow (of_instance gone)
     where
@@ -146,7 +146,7 @@ module _ (set : DraftTree) (opening : TableState) (h : List Instance) (is : IsHi
           ap (λ o. change_at (run_found set o (state_after set opening h (start_found o))).changes c) (sym f.1) ∙ k
 
   -- what the next state has at a cell
-  next_at : (k : ℕ) (c : Cell) → IsCommitted h (k + 1) →
+  next_at : (k : ℕ) (c : Cell) → HasCommitted h (k + 1) →
       row_at (state_after set opening h (k + 1)) c ≡ unwrap_or (change_by (k + 1) c)
       (row_at (state_after set opening h k) c)
   next_at k c one =
@@ -177,7 +177,7 @@ module _ (set : DraftTree) (opening : TableState) (h : List Instance) (is : IsHi
   came_by (Some w) r k = inr refl
   came_by None r k = inl k
 
-  next_stays : (k : ℕ) (c : Cell) → IsCommitted h (k + 1) → Grows set c.table → Has k c → Has (k + 1) c
+  next_stays : (k : ℕ) (c : Cell) → HasCommitted h (k + 1) → Grows set c.table → Has k c → Has (k + 1) c
   next_stays k c one grow has = ap is_some (next_at k c one) ∙ kept_by _ _ (stays_added (k + 1) c one grow) has
 
   -- a row of a grow table stays
@@ -194,21 +194,21 @@ module _ (set : DraftTree) (opening : TableState) (h : List Instance) (is : IsHi
       subst (λ (n : ℕ). Has n c) same (stays_by i (k - i) c grow (omega arith) has)
 
   -- what an instance changes in a grow table is there after it
-  pub added : (i : ℕ) (c : Cell) → Grows set c.table → IsCommitted h i → ChangesAt i c → Has i c
+  pub added : (i : ℕ) (c : Cell) → Grows set c.table → HasCommitted h i → ChangesAt i c → Has i c
   added i c grow one changes =
       let same : i - 1 + 1 ≡ i = (let a = one.0 in omega arith) in
-      let this = subst (λ (n : ℕ). IsCommitted h n) (sym same) one in
+      let this = subst (λ (n : ℕ). HasCommitted h n) (sym same) one in
       let did = subst (λ (n : ℕ). ChangesAt n c) (sym same) changes in
       subst (λ (n : ℕ). Has n c) same
       (ap is_some (next_at (i - 1) c this) ∙ added_by _ _ (stays_added (i - 1 + 1) c this grow) did)
 
   -- what is there after an instance was there before it, or the instance changed it
-  came : (k : ℕ) (c : Cell) → IsCommitted h (k + 1) → Has (k + 1) c → Has k c ⊎ ChangesAt (k + 1) c
+  came : (k : ℕ) (c : Cell) → HasCommitted h (k + 1) → Has (k + 1) c → Has k c ⊎ ChangesAt (k + 1) c
   came k c one has = came_by _ _ (sym (ap is_some (next_at k c one)) ∙ has)
 
   -- an instance in a part of the history changed the cell
   abbrev pub AddedBetween : (low high : ℕ) → Cell → Type 0
-  AddedBetween low high c = (k : ℕ) × (low < k) × (k ≤ high) × IsCommitted h k × ChangesAt k c
+  AddedBetween low high c = (k : ℕ) × (low < k) × (k ≤ high) × HasCommitted h k × ChangesAt k c
 
   -- what appears between two states was added between them
   pub appeared : (low d : ℕ) (c : Cell) → low + d ≤ length h → (Has low c → ⊥) → Has (low + d) c →
@@ -221,7 +221,7 @@ module _ (set : DraftTree) (opening : TableState) (h : List Instance) (is : IsHi
       next : low + suc d ≡ low + d + 1
       next = omega arith
 
-      one : IsCommitted h (low + d + 1)
+      one : HasCommitted h (low + d + 1)
       one = (omega arith, omega arith)
 
       go : Has (low + d) c ⊎ ChangesAt (low + d + 1) c → (Has (low + d) c → AddedBetween low (low + d) c) →

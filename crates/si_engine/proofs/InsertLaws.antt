@@ -6,13 +6,13 @@ use Rattle.prog_tree.specs.Syntax.{DraftTree}
 use Rattle.prog_tree.specs.Table.{TableState}
 use Rattle.history_book.specs.Dependencies.{start_at}
 use Rattle.history_book.specs.History.{Instance}
-use Rattle.si_engine.specs.Robustness.{IsCommitted, IsHistory, FollowsNode, Grows, LawOfInserts, LawOfSingleInserts}
+use Rattle.si_engine.specs.Robustness.{HasCommitted, IsHistory, FollowsNode, Grows, LawOfInserts, LawOfSingleInserts}
 use Rattle.si_engine.proofs.GrowLaws.{Has, ChangesAt, stays, added, appeared}
 use Rattle.si_engine.proofs.AccessLaws.{HoldsChange, starts, first_wins, changed_in, plain_at}
 use Rattle.si_engine.proofs.NodeLaws.{law_of_nodes}
 
 module _ (set : DraftTree) (opening : TableState) (h : List Instance) (is : IsHistory set opening h) where
-  module _ (j : ℕ) (c : Cell) (one : IsCommitted h j) (grow : Grows set c.table) (change : ChangesAt set opening h is j c) where
+  module _ (j : ℕ) (c : Cell) (one : HasCommitted h j) (grow : Grows set c.table) (change : ChangesAt set opening h is j c) where
     -- the snapshot of the instance has no row there
     lacked : Has set opening h is (start_at h j) c → ⊥
     lacked has = go (changed_in set opening h is j f c change)

@@ -14,7 +14,7 @@ use Rattle.history_book.specs.History.{Instance, nth_instance, state_after, eval
 use Rattle.history_book.specs.Orders.{LeadsTo}
 use Rattle.history_book.proofs.DependencyLaws.{Looks, Changes, DependsOn, depends_tells, depends_within, found_at, start_at-below, to_read_write}
 use Rattle.history_book.proofs.DependencyRelations.{WriteWriteBy, ReadWriteBy}
-use Rattle.si_engine.specs.Robustness.{IsCommitted, AreConcurrent, Misses, EndsInMisses, LawOfLastSteps}
+use Rattle.si_engine.specs.Robustness.{HasCommitted, AreConcurrent, Misses, EndsInMisses, LawOfLastSteps}
 
 module _ (set : DraftTree) (opening : TableState) (h : List Instance) where
   -- the instance of a number changed or kept the cell
@@ -38,7 +38,7 @@ module _ (set : DraftTree) (opening : TableState) (h : List Instance) (lawful : 
       ap (λ o. touches_cell (run_found set o (state_after set opening h (start_found o))).changes c) (sym found) ∙ t
 
   -- the first committer wins
-  pub first_wins : (i j : ℕ) (c : Cell) → IsCommitted h i → IsCommitted h j → start_at h j < i → i < j →
+  pub first_wins : (i j : ℕ) (c : Cell) → HasCommitted h i → HasCommitted h j → start_at h j < i → i < j →
       Touched set opening h i c → Touched set opening h j c → ⊥
   first_wins i j c one other unseen before mine theirs =
       let a = found_at h i one in
@@ -47,7 +47,7 @@ module _ (set : DraftTree) (opening : TableState) (h : List Instance) (lawful : 
       lawful.apart i j a.0 b.0 c a.1 b.1 start before (touched_by i a.0 c a.1 mine) (touched_by j b.0 c b.1 theirs)
 
   -- who changes what another one changed saw that change
-  pub sees_overwritten : (i j : ℕ) → IsCommitted h i → IsCommitted h j → start_at h j < i →
+  pub sees_overwritten : (i j : ℕ) → HasCommitted h i → HasCommitted h j → start_at h j < i →
       WriteWriteBy Cell (Changes set opening h) i j → ⊥
   sees_overwritten i j one other unseen w =
       first_wins i j w.cell one other unseen w.before (or_left _ _ (ap is_some w.first.1)) (or_left _ _ (ap is_some w.second.1))
@@ -57,10 +57,10 @@ module _ (set : DraftTree) (opening : TableState) (h : List Instance) (lawful : 
   abbrev Before : ℕ → ℕ → Type 0
   Before i j = depends set opening h i j ≡ true
 
-  starts : (n : ℕ) → IsCommitted h n → start_at h n < n
+  starts : (n : ℕ) → HasCommitted h n → start_at h n < n
   starts n one = start_at-below h lawful.starts n one
 
-  depends_on : (i j : ℕ) → IsCommitted h j → Before i j → DependsOn set opening h i j
+  depends_on : (i j : ℕ) → HasCommitted h j → Before i j → DependsOn set opening h i j
   depends_on i j one d = (depends_tells set opening h i j (starts j one)).0 d
 
   misses : (i j : ℕ) → AreConcurrent h i j →
@@ -68,13 +68,13 @@ module _ (set : DraftTree) (opening : TableState) (h : List Instance) (lawful : 
   misses i j both w = record { other = w.other; concurrent = both; missed = to_read_write set opening h i j w }
 
   -- what stands before the least one is later, so it looked at what the least one changed, and missed the change
-  into_least : (b c : ℕ) → IsCommitted h c → c ≤ b → DependsOn set opening h b c → Misses set opening h b c
+  into_least : (b c : ℕ) → HasCommitted h c → c ≤ b → DependsOn set opening h b c → Misses set opening h b c
   into_least b c one least (inl w) = let k = w.before in absurd (omega arith)
   into_least b c one least (inr (inl w)) = let k = w.seen in let l = starts c one in absurd (omega arith)
   into_least b c one least (inr (inr w)) = let u = w.unseen in let l = starts c one in misses b c (u, omega arith) w
 
   -- and so did what stands before that
-  into_next : (a b c : ℕ) → IsCommitted h a → IsCommitted h b → c ≤ a → start_at h b < c → DependsOn set opening h a b →
+  into_next : (a b c : ℕ) → HasCommitted h a → HasCommitted h b → c ≤ a → start_at h b < c → DependsOn set opening h a b →
       Misses set opening h a b
   into_next a b c one other least missed (inl w) = absurd (sees_overwritten a b one other (omega arith) w)
   into_next a b c one other least missed (inr (inl w)) = let k = w.seen in absurd (omega arith)

@@ -17,7 +17,7 @@ use Rattle.history_book.specs.Dependencies.{run_found, start_found}
 use Rattle.history_book.specs.History.{Instance, nth_instance, state_after, eval_of, IsCalled}
 use Rattle.history_book.proofs.DependencyLaws.{found_at}
 use Rattle.history_book.proofs.HistoryLaws.{eval_of-found}
-use Rattle.si_engine.specs.Robustness.{IsCommitted, IsHistory, FollowsNode, LawOfNodes}
+use Rattle.si_engine.specs.Robustness.{HasCommitted, IsHistory, FollowsNode, LawOfNodes}
 use Rattle.si_engine.proofs.RowLaws.{rows_after}
 
 -- a path of a program has its number
@@ -33,7 +33,7 @@ module _ (set : DraftTree) (opening : TableState) (h : List Instance) (is : IsHi
   state_of b = state_after set opening h b.start
 
   -- the path of an instance
-  path_followed : (i : ℕ) (b : Instance) → IsCommitted h i → nth_instance h i ≡ Some b → (called : IsCalled set b) →
+  path_followed : (i : ℕ) (b : Instance) → HasCommitted h i → nth_instance h i ≡ Some b → (called : IsCalled set b) →
       FollowsPath set.tables b.program called.0 b.args (state_of b)
   path_followed i b one found called =
       let ready =
@@ -42,7 +42,7 @@ module _ (set : DraftTree) (opening : TableState) (h : List Instance) (is : IsHi
       let rows = rows_after set opening h is.sound is.lawful is.opening_rows b.start in
       (law_of_paths set b.program called.0 b.args (state_of b) is.sound called.1 called.2 called.3 rows ready).0
 
-  node_followed : (i : ℕ) → IsCommitted h i → (b : Instance) → nth_instance h i ≡ Some b → FollowsNode set opening h i
+  node_followed : (i : ℕ) → HasCommitted h i → (b : Instance) → nth_instance h i ≡ Some b → FollowsNode set opening h i
   node_followed i one b found =
       record {
         instance = b;

@@ -20,7 +20,7 @@ use Rattle.prog_paths.specs.StaticGraph.{IsVulnerable, IsDangerous}
 use Rattle.history_book.specs.Dependencies.{depends, read_write}
 use Rattle.history_book.specs.History.{Instance, eval_of, nth_instance, evaluation, IsCalled, IsLawful}
 use Rattle.history_book.specs.Orders.{IsCycle}
-use Rattle.si_engine.specs.Robustness.{IsCommitted, AreConcurrent, IsHistory, FollowsNode}
+use Rattle.si_engine.specs.Robustness.{HasCommitted, AreConcurrent, IsHistory, FollowsNode}
 use Rattle.si_engine.proofs.CycleLaws.{law_of_cycles}
 use Rattle.si_engine.proofs.SkewVectors.{instance_of, skew, of_both, first_cell, second_cell, alone}
 use Rattle.si_engine.proofs.VulnerableLaws.{law_of_vulnerable_edges}
@@ -139,7 +139,7 @@ missed : read_write both rows skew 1 2 ≡ true
 unfolding eval_of
 missed = refl
 
-committed : (i : ℕ) → 0 < i → i ≤ 2 → IsCommitted skew i
+committed : (i : ℕ) → 0 < i → i ≤ 2 → HasCommitted skew i
 committed i low high = let two : length skew ≡ 2 = refl in (omega (arith, low), omega (arith, high, two))
 
 concurrent : AreConcurrent skew 1 2

@@ -17,7 +17,7 @@ use Rattle.history_book.specs.Dependencies.{start_at}
 use Rattle.history_book.specs.History.{Instance}
 use Rattle.history_book.proofs.DependencyLaws.{Looks, Changes, DependsOn, depends_tells}
 use Rattle.history_book.proofs.DependencyRelations.{ReadWriteBy}
-use Rattle.si_engine.specs.Robustness.{IsCommitted, AreConcurrent, IsHistory, FollowsNode, LawOfVulnerableEdges}
+use Rattle.si_engine.specs.Robustness.{HasCommitted, AreConcurrent, IsHistory, FollowsNode, LawOfVulnerableEdges}
 use Rattle.si_engine.proofs.EdgeLaws.{asked_read_write}
 use Rattle.si_engine.proofs.AccessLaws.{TouchesAt, Holds, starts, none_shared, meets, asked_with}
 use Rattle.si_engine.proofs.MissedLaws.{misses_depends, sees_overwritten}
@@ -57,7 +57,7 @@ module _ (set : DraftTree) (opening : TableState) (h : List Instance) (is : IsHi
           law_of_covers f.path.accesses (own_unknowns i f) t.access a (member_at f.path.accesses t.number t.access t.at)
           (member_at f.path.accesses n a here) covers f.v time at_time
 
-  module _ (i j : ℕ) (one : IsCommitted h i) (other : IsCommitted h j) (differ : i ≢ j) (both : AreConcurrent h i j) where
+  module _ (i j : ℕ) (one : HasCommitted h i) (other : HasCommitted h j) (differ : i ≢ j) (both : AreConcurrent h i j) where
     -- of two concurrent instances one depends on the other by a look alone
     by_look : DependsOn set opening h i j →
         ReadWriteBy Cell (start_at h) (Looks set opening h) (Changes set opening h) i j

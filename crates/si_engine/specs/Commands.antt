@@ -42,15 +42,15 @@ begin_at_command draft line (start ∷ words) = do
   Ok (BeginAt number call.program call.args)
 
 -- the number of an instance
-abbrev pub instance_of : List ℕ → Option ℕ
-instance_of word = number_between 0 4294967295 word
+abbrev pub instance_number : List ℕ → Option ℕ
+instance_number word = number_between 0 4294967295 word
 
 abbrev pub steps_of : List ℕ → List ℕ → Option Command
-steps_of instance times = option_and_then (λ i. option_map (Step i) (number_between 1 1000 times)) (instance_of instance)
+steps_of instance times = option_and_then (λ i. option_map (Step i) (number_between 1 1000 times)) (instance_number instance)
 
 -- the steps that words ask for: I, or I N
 unfoldable pub step_of : List (List ℕ) → Option Command
-step_of (instance ∷ []) = option_map (λ i. Step i 1) (instance_of instance)
+step_of (instance ∷ []) = option_map (λ i. Step i 1) (instance_number instance)
 step_of (instance ∷ times ∷ []) = steps_of instance times
 step_of words = None
 
@@ -60,7 +60,7 @@ step_command line words = ok_or (step_of words) (BadLine line)
 
 -- the number of an instance, where it is the only word
 unfoldable pub only_instance : List (List ℕ) → Option ℕ
-only_instance (instance ∷ []) = instance_of instance
+only_instance (instance ∷ []) = instance_number instance
 only_instance words = None
 
 -- the words behind `commit`: I

@@ -20,11 +20,11 @@ last_line Order numbers = codes "order" ++ (commits_text numbers ++ codes "\n")
 last_line Cycle numbers = codes "cycle" ++ (commits_text numbers ++ codes "\n")
 
 -- the least serial order of a history, or a cycle of its commits
-abbrev pub IsFound : DraftTree → TableState → List Instance → Serializability → List ℕ → Type 0
-IsFound set opening h Order numbers = least_order (depends set opening h) (length h) ≡ Some numbers
-IsFound set opening h Cycle numbers = IsCycle (depends set opening h) numbers
+abbrev pub IsFinding : DraftTree → TableState → List Instance → Serializability → List ℕ → Type 0
+IsFinding set opening h Order numbers = least_order (depends set opening h) (length h) ≡ Some numbers
+IsFinding set opening h Cycle numbers = IsCycle (depends set opening h) numbers
 
 -- the last line after a history
 abbrev pub IsLastLine : DraftTree → TableState → List Instance → Serializability → List ℕ → Type 0
 IsLastLine set opening h finding line =
-    (numbers : List ℕ) × IsFound set opening h finding numbers × (line ≡ last_line finding numbers)
+    (numbers : List ℕ) × IsFinding set opening h finding numbers × (line ≡ last_line finding numbers)

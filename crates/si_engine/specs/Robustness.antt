@@ -25,8 +25,8 @@ EdgeUnder v w nodes x y =
     ⊎ HasQuestion AsksWriteWrite (λ q a b. MeetAsOwn w v a b) nodes y x
 
 -- an instance of this number was committed
-abbrev pub IsCommitted : List Instance → ℕ → Type 0
-IsCommitted h = IsUpTo (length h)
+abbrev pub HasCommitted : List Instance → ℕ → Type 0
+HasCommitted h = IsUpTo (length h)
 
 -- neither of two instances saw the other's commit
 abbrev pub AreConcurrent : List Instance → ℕ → ℕ → Type 0
@@ -81,27 +81,27 @@ module _ (set : DraftTree) (opening : TableState) (h : List Instance) where
 abbrev pub LawOfNodes : Type 0
 LawOfNodes =
     (set : DraftTree) (opening : TableState) (h : List Instance) → IsHistory set opening h
-    → (i : ℕ) → IsCommitted h i → FollowsNode set opening h i
+    → (i : ℕ) → HasCommitted h i → FollowsNode set opening h i
 
 -- a row of a grow table that an instance inserts is there from its commit on, and at no time before
 abbrev pub LawOfInserts : Type 0
 LawOfInserts =
     (set : DraftTree) (opening : TableState) (h : List Instance) → IsHistory set opening h
-    → (j : ℕ) (cell : Cell) → IsCommitted h j → Grows set cell.table → HasChanged set opening h j cell
+    → (j : ℕ) (cell : Cell) → HasCommitted h j → Grows set cell.table → HasChanged set opening h j cell
     → (n : ℕ) → n ≤ length h → HasRow (state_after set opening h n) cell ↔ (j ≤ n)
 
 -- no two instances insert the same row of a grow table
 abbrev pub LawOfSingleInserts : Type 0
 LawOfSingleInserts =
     (set : DraftTree) (opening : TableState) (h : List Instance) → IsHistory set opening h
-    → (i j : ℕ) (cell : Cell) → IsCommitted h i → IsCommitted h j → Grows set cell.table
+    → (i j : ℕ) (cell : Cell) → HasCommitted h i → HasCommitted h j → Grows set cell.table
     → HasChanged set opening h i cell → HasChanged set opening h j cell → i ≡ j
 
 -- each dependency has a question of its edge that meets under the assignments followed, whichever those are
 abbrev pub LawOfStaticEdges : Type 0
 LawOfStaticEdges =
     (set : DraftTree) (opening : TableState) (h : List Instance) → IsHistory set opening h
-    → (i j : ℕ) → IsCommitted h i → IsCommitted h j → depends set opening h i j ≡ true
+    → (i j : ℕ) → HasCommitted h i → HasCommitted h j → depends set opening h i j ≡ true
     → (mine : FollowsNode set opening h i) (theirs : FollowsNode set opening h j)
     → EdgeUnder mine.v theirs.v (paths_of set) mine.node theirs.node
 
@@ -109,7 +109,7 @@ LawOfStaticEdges =
 abbrev pub LawOfVulnerableEdges : Type 0
 LawOfVulnerableEdges =
     (set : DraftTree) (opening : TableState) (h : List Instance) → IsHistory set opening h
-    → (i j : ℕ) → IsCommitted h i → IsCommitted h j → i ≢ j → AreConcurrent h i j
+    → (i j : ℕ) → HasCommitted h i → HasCommitted h j → i ≢ j → AreConcurrent h i j
     → read_write set opening h i j ≡ true
     → (mine : FollowsNode set opening h i) (theirs : FollowsNode set opening h j)
     → IsVulnerable (paths_of set) mine.node theirs.node

@@ -36,10 +36,10 @@ row_with table keys sign value =
     if is_equals_sign sign then option_and_then (λ k. option_map (λ v. record { table = table; keys = k; value = v }) (i64_of value)) keys else None
 
 -- TABLE K = V, or TABLE K1 K2 = V
-abbrev pub row_of : List (List ℕ) → Option RowWords
-row_of (table ∷ key ∷ sign ∷ value ∷ []) = row_with table (one_key key) sign value
-row_of (table ∷ first ∷ second ∷ sign ∷ value ∷ []) = row_with table (two_keys first second) sign value
-row_of words = None
+abbrev pub row_words : List (List ℕ) → Option RowWords
+row_words (table ∷ key ∷ sign ∷ value ∷ []) = row_with table (one_key key) sign value
+row_words (table ∷ first ∷ second ∷ sign ∷ value ∷ []) = row_with table (two_keys first second) sign value
+row_words words = None
 
 -- how many key columns the table of a number has
 abbrev pub arity_of : DraftTree → ℕ → Option Arity
@@ -54,7 +54,7 @@ cell_of_keys arity table keys = None
 -- the words behind `row`
 unfoldable pub row_line_of : DraftTree → (line : ℕ) → List (List ℕ) → Result RowLine LineFault
 row_line_of draft line words = do
-  row ← ok_or (row_of words) (BadLine line)
+  row ← ok_or (row_words words) (BadLine line)
   table ← ok_or (number_named (table_names draft) row.table) (UnknownName line)
   arity ← ok_or (arity_of draft table) (UnknownName line)
   cell ← ok_or (cell_of_keys arity table row.keys) (WrongKeys line)

@@ -40,10 +40,10 @@ made_of say wrong whole part = do
   Ok (whole sayings)
 
 -- whatever sayings made the old whole, this one is right behind them, and they make the new one with it
-abbrev pub Grows :
+abbrev pub TakesUp :
     {S W : Type 0} → (wrong : (line : ℕ) → List S → S → Option LineFault) → (whole : List S → W) →
     (line : ℕ) → (said : S) → (old new : W) → Type 0
-Grows {S = S} wrong whole line said old new =
+TakesUp {S = S} wrong whole line said old new =
     (before : List S) → old ≡ whole before → (wrong line before said ≡ None) × (new ≡ whole (before ++ said ∷ []))
 
 -- whatever sayings made the old whole, this is what is wrong with one behind them

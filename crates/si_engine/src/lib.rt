@@ -25,7 +25,7 @@ pub use input::row_line::{RowLine, add_row, row_line};
 pub use input::script::{Script, read_script};
 pub use input::script_fault::{LineFault, ScriptFault};
 pub use input::source::{DeviceFault, InputFault, Source, read_whole};
-pub use limits::{MAX_BYTES, MAX_EVENTS, MAX_INSTANCE, MAX_READS, MAX_STEPS};
+pub use limits::{MAX_EVENTS, MAX_INPUT_BYTES, MAX_INSTANCE, MAX_READS, MAX_STEPS};
 pub use output::finding::{Serializability, push_findings, push_findings_before, push_rows};
 pub use output::sink::{Sink, write_whole};
 pub use port::Port;

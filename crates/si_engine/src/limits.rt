@@ -1,7 +1,7 @@
 //! How much of the input is taken.
 
 /// The most bytes of a part of the input.
-pub const MAX_BYTES: usize = 16_777_216;
+pub const MAX_INPUT_BYTES: usize = 16_777_216;
 
 /// The most reads that a part takes: one for each byte, and one that tells its end.
 pub const MAX_READS: usize = 16_777_217;

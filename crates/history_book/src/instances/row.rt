@@ -28,18 +28,6 @@ pub enum Ending {
     Aborted { row: HistoryRow, cause: Cause },
 }
 
-fn same_clashes(clash: &Clash, other: &Clash) -> bool
-    ensures { IsTrue result ↔ (clash.now ≡ other.now) }
-{
-    clash == other
-}
-
-fn same_causes(cause: &Cause, other: &Cause) -> bool
-    ensures { IsTrue result ↔ (cause.now ≡ other.now) }
-{
-    cause == other
-}
-
 impl HistoryRow {
     /// Whether both are of the same instance, with the same replies.
     pub fn is_same(&self, other: &HistoryRow) -> bool
@@ -63,10 +51,10 @@ impl Ending {
         match (self, other) {
             (Ending::Committed(number), Ending::Committed(n)) => number == n,
             (Ending::Clashed { row, clash }, Ending::Clashed { row: r, clash: c }) => {
-                row.is_same(r) && same_clashes(clash, c)
+                row.is_same(r) && clash == c
             }
             (Ending::Aborted { row, cause }, Ending::Aborted { row: r, cause: c }) => {
-                row.is_same(r) && same_causes(cause, c)
+                row.is_same(r) && cause == c
             }
             _ => false,
         }

@@ -5,7 +5,7 @@ ghost use Rattle.std.specs.Prelude.{nat_lt, ◌≡◌, ◌≢◌, ◌<◌, ◌�
 ghost use Rattle.std.specs.List.{IsFirstBest};
 ghost use Rattle.history_book.specs.Orders.{is_one_of, least_order, IsCycle};
 ghost use Rattle.history_book.specs.Precedence.{precedes};
-ghost use Rattle.history_book.specs.Placing.{times, AreWaits, IsWaiting, IsStuck, HasLeader, AreLeaders, IsLed, IsWalk, IsOrderFault};
+ghost use Rattle.history_book.specs.Placing.{times, AreWaits, HasToWait, IsStuck, HasLeader, AreLeaders, IsLed, IsWalk, IsOrderFault};
 
 use crate::orders::precedence::Precedence;
 use std::alloc::{AllocError, AllocFailed, Global};
@@ -170,9 +170,9 @@ fn place_of(numbers: &[usize], number: usize) -> usize
 
 // A place whose number is not 0.
 fn place_of_waiting(waits: &[u128]) -> usize
-    requires { (n : ℕ) × (n < length waits.now) × IsWaiting waits.now n }
+    requires { (n : ℕ) × (n < length waits.now) × HasToWait waits.now n }
     ensures within { result < length waits.now }
-    ensures there { IsWaiting waits.now result }
+    ensures there { HasToWait waits.now result }
 {
     for (place, count) in waits.iter().enumerate() {
         if *count > 0 {

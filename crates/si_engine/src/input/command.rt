@@ -1,7 +1,7 @@
 //! Lines of a script as commands.
 ghost use Rattle.std.specs.Prelude.{◌≡◌, ◌∷◌, Ok, option_map};
 ghost use Rattle.prog_tree.specs.Tree.{draft_tree};
-ghost use Rattle.si_engine.specs.Commands.{row_command, instance_of, only_instance, steps_of, step_of, call_of, begin_command, begin_at_command, step_command, commit_command, abort_command, vacuum_command, command_of, line_command};
+ghost use Rattle.si_engine.specs.Commands.{row_command, instance_number, only_instance, steps_of, step_of, call_of, begin_command, begin_at_command, step_command, commit_command, abort_command, vacuum_command, command_of, line_command};
 ghost use Rattle.si_engine.specs.Lines.{words_of};
 ghost use Rattle.si_engine.specs.RowLines.{Reads};
 
@@ -112,7 +112,7 @@ fn begin_at(
 
 // The number of an instance.
 fn instance(word: &[u8]) -> Option<usize>
-    ensures { result ≡ instance_of word.now }
+    ensures { result ≡ instance_number word.now }
 {
     number_between(0, MAX_INSTANCE, word)
 }
@@ -126,7 +126,7 @@ fn steps(instance: &[u8], times: &[u8]) -> Option<Command>
 }
 
 fn one_step(instance: &[u8]) -> Option<Command>
-    ensures { result ≡ option_map (λ i. Command.Step i 1) (instance_of instance.now) }
+    ensures { result ≡ option_map (λ i. Command.Step i 1) (instance_number instance.now) }
 {
     let instance = self::instance(instance)?;
     Some(Command::Step { instance, times: 1 })

@@ -4,7 +4,7 @@ ghost use Rattle.prog_tree.specs.Syntax.{DraftTree};
 ghost use Rattle.prog_tree.specs.Tree.{draft_tree};
 ghost use Rattle.si_engine.specs.Reading.{ForInput};
 ghost use Rattle.si_engine.specs.RowLines.{Reads};
-ghost use Rattle.si_engine.specs.Sayings.{made_of, Grows, IsMisplaced, IsPart, IsPartFault};
+ghost use Rattle.si_engine.specs.Sayings.{made_of, TakesUp, IsMisplaced, IsPart, IsPartFault};
 
 use crate::input::lines::{cut, without_return};
 use crate::input::script_fault::{LineFault, ScriptFault};
@@ -42,7 +42,7 @@ pub trait FromLines: Drop {
 
     /// Behind an error it is of no use.
     fn add(&mut self, line: usize, said: Self::Saying) -> Result<(), LineFault>
-        ensures grows { OnOk result (Grows wrong whole line said self.old self.new) }
+        ensures grows { OnOk result (TakesUp wrong whole line said self.old self.new) }
         ensures fault { IfErr result (λ fault. IsMisplaced wrong whole line said self.old fault) };
 }
 

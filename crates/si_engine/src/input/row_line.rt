@@ -2,7 +2,7 @@
 ghost use Rattle.std.specs.Prelude.{◌≡◌, ◌+◌, None, Some, OnOk, IfErr};
 ghost use Rattle.prog_tree.specs.Table.{row_at, with_row};
 ghost use Rattle.prog_tree.specs.Tree.{draft_tree};
-ghost use Rattle.si_engine.specs.RowLines.{is_equals_sign, one_key, two_keys, row_of, arity_of, cell_of_keys, row_line_of, row_fault, IsFault};
+ghost use Rattle.si_engine.specs.RowLines.{is_equals_sign, one_key, two_keys, row_words, arity_of, cell_of_keys, row_line_of, row_fault, IsFault};
 
 use crate::input::line_words::Word;
 use crate::input::names::table_number;
@@ -62,7 +62,7 @@ fn two_keys(first: &Word<'_>, second: &Word<'_>) -> Option<Keys>
 
 // The row, if the words are TABLE K = V or TABLE K1 K2 = V.
 fn row_words<'a>(words: &[Word<'a>]) -> Option<RowWords<'a>>
-    ensures { result ≡ row_of words.now }
+    ensures { result ≡ row_words words.now }
 {
     let (table, keys, sign, value) = match words {
         [table, key, sign, value] => (table, one_key(key)?, sign, value),

@@ -3,7 +3,7 @@ ghost use Rattle.std.specs.Prelude.{◌≡◌, ◌<◌, ◌≤◌, ◌+◌, ◌�
 ghost use Rattle.std.specs.Io.KnownBytes.{ReadConsumes, IsAtEnd};
 ghost use Rattle.si_engine.specs.Reading.{CanGive};
 
-use crate::limits::{MAX_BYTES, MAX_READS};
+use crate::limits::{MAX_INPUT_BYTES, MAX_READS};
 use std::alloc::{AllocError, AllocFailed, Global};
 use std::error::Error;
 use std::fmt;
@@ -105,11 +105,11 @@ fn zeros(alloc: Global, count: usize) -> Result<Vec<u8>, AllocError>
 
 /// All bytes of a source. At `TooLong` and `Memory` some of them may have been read.
 pub fn read_whole<S: Source>(alloc: Global, source: &mut S) -> Result<Vec<u8>, InputFault>
-    ensures short { IfOk result (λ v. vec_len v ≤ MAX_BYTES) }
+    ensures short { IfOk result (λ v. vec_len v ≤ MAX_INPUT_BYTES) }
     ensures whole { IfOk result (λ v. CanGive (S.left source.old) v.items) }
     ensures end { OnOk result (IsAtEnd (S.left source.new)) }
     ensures long { IsErrOf result InputFault.TooLong
-        → IfSome (S.left source.old) (λ all. MAX_BYTES < length all) }
+        → IfSome (S.left source.old) (λ all. MAX_INPUT_BYTES < length all) }
     ensures fault { IsErrOf result InputFault.ReadFault ↔ (S.has_failed source.new ≡ true) }
     ensures reads { S.pulls source.new ≤ S.pulls source.old + MAX_READS }
 {
@@ -125,7 +125,7 @@ pub fn read_whole<S: Source>(alloc: Global, source: &mut S) -> Result<Vec<u8>, I
         if count == 0 {
             return Ok(all);
         }
-        if count > MAX_BYTES - all.len() {
+        if count > MAX_INPUT_BYTES - all.len() {
             return Err(InputFault::TooLong);
         }
         all.extend_from_slice(&piece[..count])?;

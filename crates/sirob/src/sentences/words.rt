@@ -16,7 +16,7 @@ use analysis_words::json_words;
 use fault_words::{check_words, text_words};
 use history_book::AuditFault;
 use run_words::{PartKind, extra_part_words, line_fault_words, missing_part_words, record_words};
-use si_engine::{InputFault, LineFault, MAX_BYTES, ScriptFault};
+use si_engine::{InputFault, LineFault, MAX_INPUT_BYTES, ScriptFault};
 use si_repair::Finding;
 use std::alloc::{AllocError, Global};
 
@@ -51,7 +51,7 @@ fn kind_of(mode: Mode) -> PartKind {
 fn input_sentence(alloc: Global, fault: InputFault) -> Result<Option<String>, AllocError> {
     let words = match fault {
         InputFault::TooLong => {
-            format!(in alloc; "the input has more than {MAX_BYTES} bytes, the most\n")?
+            format!(in alloc; "the input has more than {MAX_INPUT_BYTES} bytes, the most\n")?
         }
         InputFault::ReadFault => {
             format!(in alloc; "the standard input could not be read to its end\n")?

@@ -1,8 +1,9 @@
 use Rattle.std.proofs.Common.{◌≡◌, length, ap, sym, ◌∙◌, subst, arith}
 use Rattle.std.specs.Prelude.{Option, Some, None, slice_get, if◌then◌else◌}
+use Rattle.std.specs.Option.{option_or}
 use Rattle.prog_tree.specs.declared.program.Draft.{Draft}
 use Rattle.prog_tree.specs.declared.program.Program.{Program}
-use Rattle.history_book.specs.View.{BookView, full_fault, or_fault}
+use Rattle.history_book.specs.View.{BookView, full_fault}
 use Rattle.history_book.specs.declared.fault.BeginFault.{BeginFault}
 use Rattle.history_book.specs.declared.fault.BeginFault.TheVariants.{Full}
 use Rattle.history_book.proofs.BeginLaws.{fault_found}
@@ -17,7 +18,7 @@ returns-in-Some-start_fault c =
     let found = subst (λ items. slice_get items c.args.program ≡ Some p) items here in
     let same : length p.params.items ≡ length c.args.args.now = omega arith in
     sym (fault_found c.args.self.now c.args.start (slice_get c.args.self.now.set.programs.items c.args.program) p c.args.args.now found same
-    ∙ ap (λ (o : Option BeginFault). or_fault o (full_fault c.args.self.now)) (sym c.in-Some-start_fault.ensures))
+    ∙ ap (λ (o : Option BeginFault). option_or o (full_fault c.args.self.now)) (sym c.in-Some-start_fault.ensures))
 
 pub returns-then-is_full : goal.returns-then-is_full
 returns-then-is_full c =
@@ -27,7 +28,7 @@ returns-then-is_full c =
     let found = subst (λ items. slice_get items c.args.program ≡ Some p) items here in
     let same : length p.params.items ≡ length c.args.args.now = omega arith in
     sym (fault_found c.args.self.now c.args.start (slice_get c.args.self.now.set.programs.items c.args.program) p c.args.args.now found same
-    ∙ ap (λ (o : Option BeginFault). or_fault o (full_fault c.args.self.now)) (sym c.in_default-start_fault.ensures)
+    ∙ ap (λ (o : Option BeginFault). option_or o (full_fault c.args.self.now)) (sym c.in_default-start_fault.ensures)
     ∙ ap (λ b. if b then Some Full else None) (sym c.is_full.ensures ∙ c.if-is_full.true))
 
 pub returns : goal.returns
@@ -38,5 +39,5 @@ returns c =
     let found = subst (λ items. slice_get items c.args.program ≡ Some p) items here in
     let same : length p.params.items ≡ length c.args.args.now = omega arith in
     sym (fault_found c.args.self.now c.args.start (slice_get c.args.self.now.set.programs.items c.args.program) p c.args.args.now found same
-    ∙ ap (λ (o : Option BeginFault). or_fault o (full_fault c.args.self.now)) (sym c.in_default-start_fault.ensures)
+    ∙ ap (λ (o : Option BeginFault). option_or o (full_fault c.args.self.now)) (sym c.in_default-start_fault.ensures)
     ∙ ap (λ b. if b then Some Full else None) (sym c.is_full.ensures ∙ c.if-is_full.false))
