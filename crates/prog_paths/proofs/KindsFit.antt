@@ -10,6 +10,7 @@ use Rattle.prog_check.specs.declared.path.Access.{Access}
 use Rattle.prog_check.specs.Tables.{declaration, grows}
 use Rattle.prog_check.specs.Uses.{used_table, as_count}
 use Rattle.prog_check.specs.Accesses.{Columns, columns_of, next_unknown, accesses_to, number_used, grows_used, kinds_at, access_of, accesses_of}
+use Rattle.prog_check.specs.Sound.{AllStatements, OverwritesPlain}
 use Rattle.prog_check.specs.Paths.{Passed, Route, statement_count, passing, body_passed, going_round, choosing, joined, followed_by, routes, accesses_along}
 use Rattle.prog_paths.proofs.Segments.{IsMember, member_either}
 use Rattle.prog_paths.proofs.Statements.{declaration_is}
@@ -22,18 +23,6 @@ KindFits false Sees = ⊥
 KindFits false Lacks = ⊥
 KindFits false Adds = ⊥
 KindFits false kind = Unit {0}
-
--- what overwrites is of plain tables
-abbrev pub OverwritesPlain : List TableDecl → StatementTree → Type 0
-OverwritesPlain tables (s.Put table key value) = grows (declaration tables table) ≡ false
-OverwritesPlain tables (s.Delete table key) = grows (declaration tables table) ≡ false
-OverwritesPlain tables statement = Unit {0}
-
-abbrev pub BlockPlain : List TableDecl → BlockTree → Type 0
-BlockPlain tables BlockEnd = Unit {0}
-BlockPlain tables (Then statement rest) = OverwritesPlain tables statement × BlockPlain tables rest
-BlockPlain tables (Branch test a b rest) = BlockPlain tables a × BlockPlain tables b × BlockPlain tables rest
-BlockPlain tables (Each l body rest) = BlockPlain tables body × BlockPlain tables rest
 
 abbrev AllKinds : Bool → List Kind → Type 0
 AllKinds grow [] = Unit {0}
@@ -127,7 +116,7 @@ module _ (tables : List TableDecl) where
   plain_append (x ∷ xs) ys h k = (h.0, plain_append xs ys h.1 k)
 
   -- what a body passes
-  body_plain : (number : ℕ) (block : BlockTree) → BlockPlain tables block → AllPlain (body_passed number block)
+  body_plain : (number : ℕ) (block : BlockTree) → AllStatements (OverwritesPlain tables) block → AllPlain (body_passed number block)
   body_plain number BlockEnd h = tt
   body_plain number (Then st rest) h = (h.0, body_plain (number + 1) rest h.1)
   body_plain number (Branch test a b rest) h =
@@ -139,7 +128,7 @@ module _ (tables : List TableDecl) where
       (body_plain (number + 1 + statement_count a + statement_count b) rest h.2)
   body_plain number (Each l body rest) h = (
     tt,
-    plain_append (body_passed (number + 1) body) (body_passed (number + 1 + statement_count body) rest) (body_plain (number + 1) body h.0) (body_plain (number + 1 + statement_count body) rest h.1),
+    plain_append (body_passed (number + 1) body) (body_passed (number + 1 + statement_count body) rest) (body_plain (number + 1) body h.1) (body_plain (number + 1 + statement_count body) rest h.2),
   )
 
   -- ---- routes
@@ -164,7 +153,7 @@ module _ (tables : List TableDecl) where
   routes_then number s.Abort rest h k = tt
   routes_then number st rest h k = routes_map (passing number st) (routes (number + 1) rest) (λ r p. (h, p)) k
 
-  routes_plain : (number : ℕ) (block : BlockTree) → BlockPlain tables block → RoutesPlain (routes number block)
+  routes_plain : (number : ℕ) (block : BlockTree) → AllStatements (OverwritesPlain tables) block → RoutesPlain (routes number block)
   routes_plain number BlockEnd h = (tt, tt)
   routes_plain number (Then st rest) h = routes_then number st rest h.0 (routes_plain (number + 1) rest h.1)
   routes_plain number (Branch test a b rest) h =
@@ -179,10 +168,10 @@ module _ (tables : List TableDecl) where
       let own = body_passed (number + 1) body in
       let later = routes (number + 1 + statement_count body) rest in
       routes_map (passing number (as_count l)) (map (going_round (number + 1) body) later) (λ r p. (tt, p))
-      (routes_map (going_round (number + 1) body) later (λ r p. plain_append own r.passed (body_plain (number + 1) body h.0) p) (routes_plain (number + 1 + statement_count body) rest h.1))
+      (routes_map (going_round (number + 1) body) later (λ r p. plain_append own r.passed (body_plain (number + 1) body h.1) p) (routes_plain (number + 1 + statement_count body) rest h.2))
 
   -- each access on a route of a sound block fits its table
-  pub route_fits : (params : List Name) (block : BlockTree) → BlockPlain tables block → (route : Route) → IsMember route (routes 0 block) → (a : Access) → IsMember a (accesses_along tables params 0 route.passed) → AccessFits a
+  pub route_fits : (params : List Name) (block : BlockTree) → AllStatements (OverwritesPlain tables) block → (route : Route) → IsMember route (routes 0 block) → (a : Access) → IsMember a (accesses_along tables params 0 route.passed) → AccessFits a
   route_fits params block h route member a k = along_fits params 0 route.passed (of_member (routes 0 block) (routes_plain 0 block h) member) a k
     where
       of_member : (rs : List Route) → RoutesPlain rs → IsMember route rs → AllPlain route.passed

@@ -2,34 +2,16 @@
 use Rattle.std.proofs.Common.{◌≡◌, ℕ, suc, ◌+◌, Bool, true, false, List, [], ◌∷◌, ◌⊎◌, inl, inr, map, refl, sym, subst, arith}
 use Rattle.std.specs.Prelude.{Some, slice_get}
 use Rattle.prog_tree.specs.declared.table.TableDecl.{TableDecl}
-use Rattle.prog_tree.specs.Syntax.{Name, StatementTree, BlockTree, BlockEnd, Then, Branch, Each, ProgramTree, DraftTree}
-use Rattle.prog_tree.specs.Syntax as s
+use Rattle.prog_tree.specs.Syntax.{Name, ProgramTree, DraftTree}
 use Rattle.prog_check.specs.declared.path.Access.{Access}
 use Rattle.prog_check.specs.declared.path.Kind.{Kind}
 use Rattle.prog_check.specs.declared.path.Kind.TheVariants.{Sees, Lacks, Writes, Adds}
 use Rattle.prog_check.specs.declared.path.Path.{Path}
 use Rattle.prog_check.specs.Paths.{Route, routes, path_of, program_paths, paths_from, paths_of, accesses_along}
-use Rattle.prog_check.specs.Sound as sound
-use Rattle.prog_check.specs.Sound.{AllStatements, IsSound}
-use Rattle.prog_paths.proofs.KindsFit.{KindFits, OverwritesPlain, BlockPlain, AccessFits, route_fits}
+use Rattle.prog_check.specs.Sound.{IsSound}
+use Rattle.prog_paths.proofs.KindsFit.{KindFits, AccessFits, route_fits}
 use Rattle.prog_paths.proofs.Programs.{member_at}
 use Rattle.prog_paths.proofs.Segments.{IsMember, member_either}
-
--- ---- a sound block overwrites plain tables alone
-
-overwrites_plain : (tables : List TableDecl) (st : StatementTree) → sound.OverwritesPlain tables st →
-    OverwritesPlain tables st
-overwrites_plain tables (s.Put table key e) h = h
-overwrites_plain tables (s.Delete table key) h = h
-overwrites_plain tables st h = tt
-
-block_plain : (tables : List TableDecl) (block : BlockTree) → AllStatements (sound.OverwritesPlain tables) block →
-    BlockPlain tables block
-block_plain tables BlockEnd h = tt
-block_plain tables (Then st rest) h = (overwrites_plain tables st h.0, block_plain tables rest h.1)
-block_plain tables (Branch test a b rest) h =
-    (block_plain tables a h.0, block_plain tables b h.1, block_plain tables rest h.2)
-block_plain tables (Each l body rest) h = (block_plain tables body h.1, block_plain tables rest h.2)
 
 -- ---- a node is a path of a program
 
@@ -75,7 +57,7 @@ access_fits set fine x a path access at_node at_access =
     let r = of_route set.tables (0 + k.0) k.1.params (routes 0 k.1.body) path k.3 in
     let member : IsMember access (accesses_along set.tables k.1.params 0 r.0.passed) =
     subst (λ (q : Path). IsMember access q.accesses) (sym r.2) (member_at path.accesses a access at_access) in
-    route_fits set.tables k.1.params k.1.body (block_plain set.tables k.1.body p.grow_tables_stay) r.0 r.1 access member
+    route_fits set.tables k.1.params k.1.body p.grow_tables_stay r.0 r.1 access member
 
 -- ---- what the kinds tell of a table
 
