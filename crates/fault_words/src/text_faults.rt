@@ -7,7 +7,9 @@ use crate::open_blocks::open_words;
 use crate::ordinals::ordinal;
 use crate::pointing::point_at;
 use crate::slips::{Around, Slip, slip_of, slip_words, tokens_around};
-use prog_text::{MAX_BRACKETS, MAX_BYTES, MAX_NAME_BYTES, MAX_OPERATORS, TextFault, beginning_of};
+use prog_text::{
+    MAX_BRACKETS, MAX_NAME_BYTES, MAX_OPERATORS, MAX_TEXT_BYTES, TextFault, beginning_of,
+};
 use std::alloc::{AllocError, Global};
 use text_places::{
     as_text, before, behind, column, end_before, first_token, first_word, line_at, line_number,
@@ -221,7 +223,9 @@ fn name_too_long(alloc: Global) -> Result<String, AllocError> {
 }
 
 fn too_long(alloc: Global) -> Result<String, AllocError> {
-    format!(in alloc; "here the text has {MAX_BYTES} bytes, the most there may be, and it goes on")
+    format!(in alloc;
+        "here the text has {MAX_TEXT_BYTES} bytes, the most there may be, and it goes on"
+    )
 }
 
 /// What a fault of a text means, where it stands, and what could stand there.

@@ -167,7 +167,8 @@ fn check_body(
     body: &Block,
 ) -> Result<(), CheckFault>
     ensures found { Finds (λ _. Unit {0}) result
-        (first_broken (inner_name_rules (Place.Statement program number) at.old.visible (listing_tree listing.now))
+        (first_broken (inner_name_rules (Place.Statement program number) at.old.visible
+        (listing_tree listing.now))
         or_else block_fault tables.now program at.old.number false
         (with_inner at.old.visible (listing_tree listing.now)) (block_tree body.now)) }
     ensures number { OnOk result

@@ -12,5 +12,5 @@ pub use canonical::printing::print;
 pub use fault::TextFault;
 pub use lexing::token::Sign;
 pub use lexing::words::{Beginning, beginning_of, is_reserved, reserved_words};
-pub use limits::{MAX_BRACKETS, MAX_BYTES, MAX_NAME_BYTES, MAX_OPERATORS};
+pub use limits::{MAX_BRACKETS, MAX_NAME_BYTES, MAX_OPERATORS, MAX_TEXT_BYTES};
 pub use parsing::parse;

@@ -6,7 +6,7 @@ ghost use Rattle.prog_text.specs.Limits.{bracket_limit, operator_limit, brackets
 use crate::lexing::token::{Sign, Token};
 
 /// The most bytes of a text.
-pub const MAX_BYTES: usize = 1_048_576;
+pub const MAX_TEXT_BYTES: usize = 1_048_576;
 
 /// The most brackets that may be open.
 pub const MAX_BRACKETS: usize = 16;

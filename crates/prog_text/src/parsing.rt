@@ -12,7 +12,7 @@ use crate::fault::TextFault;
 use crate::lexing::lex_error::{Flaw, LexError};
 use crate::lexing::lexer::tokens;
 use crate::lexing::placed_tokens::PlacedTokens;
-use crate::limits::{MAX_BYTES, too_deep};
+use crate::limits::{MAX_TEXT_BYTES, too_deep};
 use crate::reading::read_error::ReadError;
 use crate::reading::sets::set;
 use prog_tree::Draft;
@@ -91,8 +91,10 @@ pub fn parse(alloc: Global, text: &[u8]) -> Result<Draft, TextFault>
     // A refusal is the first that applies.
     ensures refused { IfErr result (Refuses text.now) }
 {
-    if text.len() > MAX_BYTES {
-        return Err(TextFault::TooLong { place: MAX_BYTES });
+    if text.len() > MAX_TEXT_BYTES {
+        return Err(TextFault::TooLong {
+            place: MAX_TEXT_BYTES,
+        });
     }
     let placed = cut(alloc, text)?;
     if let Some(index) = too_deep(placed.tokens()) {
