@@ -5,9 +5,15 @@ use prog_text::{TextFault, parse, reserved_words};
 use std::alloc::{AllocError, Global};
 use text_places::push_listed;
 
+/// A name, as it is tried.
+pub const NAME: &str = "NAME";
+
+/// A number, as it is tried.
+pub const NUMBER: &str = "1";
+
 // A name, a number, and each sign of the language.
 const SIGNS: [&str; 21] = [
-    "NAME", "1", "(", ")", "[", "]", "{", "}", ",", ";", "=", "+", "-", "*", "..", "<", "<=", ">",
+    NAME, NUMBER, "(", ")", "[", "]", "{", "}", ",", ";", "=", "+", "-", "*", "..", "<", "<=", ">",
     ">=", "==", "!=",
 ];
 
@@ -26,11 +32,13 @@ fn goes_on(alloc: Global, text: &mut Vec<u8>, word: &str) -> Result<bool, AllocE
 
 // A tried word as people are told of it.
 fn shown(alloc: Global, word: &str) -> Result<String, AllocError> {
-    match word {
-        "NAME" => format!(in alloc; "a name"),
-        "1" => format!(in alloc; "a number"),
-        _ => format!(in alloc; "`{word}`"),
+    if word == NAME {
+        return format!(in alloc; "a name");
     }
+    if word == NUMBER {
+        return format!(in alloc; "a number");
+    }
+    format!(in alloc; "`{word}`")
 }
 
 // The signs with which a text could go on.

@@ -1,6 +1,7 @@
 //! The faults of a set in words.
 ghost use Rattle.std.specs.Prelude.{◌≡◌, IfNone, IfOk, IfSome, string_bytes};
 ghost use Rattle.std.specs.List.{list_all};
+ghost use Rattle.text_places.specs.Reading.{without_comments};
 ghost use Rattle.fault_words.specs.Pointing.{goes_on, is_word_of, place_of, HasNone, HasNoPlace, IsMark, IsPlaceOf, PointsAtFlaw};
 
 use crate::naming::{program_params, table_names};
@@ -106,7 +107,14 @@ fn is_word_of(plain: &[u8], at: usize, mark: usize) -> bool
 }
 
 // Where the mark stands, of what begins at a place: at a name that is not bound.
-fn mark_of(alloc: Global, text: &[u8], fault: CheckFault, at: usize) -> Result<usize, AllocError>
+fn mark_of(
+    alloc: Global,
+    text: &[u8],
+    plain: &[u8],
+    fault: CheckFault,
+    at: usize,
+) -> Result<usize, AllocError>
+    requires { plain.now ≡ without_comments text.now }
     ensures { IfOk result (λ mark. IsMark text.now fault at mark) }
 {
     let CheckFault::UnknownName {
@@ -115,9 +123,8 @@ fn mark_of(alloc: Global, text: &[u8], fault: CheckFault, at: usize) -> Result<u
     else {
         return Ok(at);
     };
-    let plain = without_comments(alloc, text)?;
-    match unbound_place(alloc, &plain, program, at)? {
-        Some(mark) if is_word_of(&plain, at, mark) => Ok(mark),
+    match unbound_place(alloc, plain, program, at)? {
+        Some(mark) if is_word_of(plain, at, mark) => Ok(mark),
         _ => Ok(at),
     }
 }
@@ -149,7 +156,7 @@ fn unknown_words(
 
 fn unbound_name(
     alloc: Global,
-    text: &[u8],
+    plain: &[u8],
     place: Place,
     at: usize,
     mark: usize,
@@ -160,22 +167,20 @@ fn unbound_name(
     if mark == at {
         return format!(in alloc; "a name of this statement is not bound");
     }
-    let name = as_text(first_word(behind(text, mark)));
+    let name = as_text(first_word(behind(plain, mark)));
     if let Some(word) = in_lower_case(name) {
         return format!(in alloc; "`{name}` is a name; the word has small letters: write `{word}`");
     }
-    let plain = without_comments(alloc, text)?;
-    unknown_words(alloc, &plain, program, at, name)
+    unknown_words(alloc, plain, program, at, name)
 }
 
 // The name that a statement binds, and that is taken.
-fn name_taken(alloc: Global, text: &[u8], place: Place, at: usize) -> Result<String, AllocError> {
+fn name_taken(alloc: Global, plain: &[u8], place: Place, at: usize) -> Result<String, AllocError> {
     let Place::Statement { program, .. } = place else {
         return format!(in alloc; "a name is taken");
     };
-    let plain = without_comments(alloc, text)?;
-    let visible = names_before(alloc, &plain, program, at)?;
-    let statement = statement_tokens(alloc, &plain, at)?;
+    let visible = names_before(alloc, plain, program, at)?;
+    let statement = statement_tokens(alloc, plain, at)?;
     let name = taken_name(&statement, &visible);
     if !(&*visible).contains(&name) {
         return format!(in alloc;
@@ -242,9 +247,8 @@ fn repeated_parameter(alloc: Global, text: &[u8], place: Place) -> Result<String
 }
 
 // That a way through the program that begins at a place has too many accesses.
-fn too_many_accesses(alloc: Global, text: &[u8], at: usize) -> Result<String, AllocError> {
-    let plain = without_comments(alloc, text)?;
-    let bodies = if has_each(&plain, at) {
+fn too_many_accesses(alloc: Global, plain: &[u8], at: usize) -> Result<String, AllocError> {
+    let bodies = if has_each(plain, at) {
         "; all that stand in the body of an `each` count, once each"
     } else {
         ""
@@ -263,6 +267,7 @@ fn one_too_many(alloc: Global, part: &str, whole: &str, most: usize) -> Result<S
 fn too_much_in_program(
     alloc: Global,
     text: &[u8],
+    plain: &[u8],
     program: usize,
     at: usize,
 ) -> Result<String, AllocError> {
@@ -278,21 +283,28 @@ fn too_much_in_program(
             "this program has {count} parameters, and at most {MAX_PARAMETERS} are allowed"
         );
     }
-    too_many_accesses(alloc, text, at)
+    too_many_accesses(alloc, plain, at)
 }
 
-fn too_many(alloc: Global, text: &[u8], place: Place, at: usize) -> Result<String, AllocError> {
+fn too_many(
+    alloc: Global,
+    text: &[u8],
+    plain: &[u8],
+    place: Place,
+    at: usize,
+) -> Result<String, AllocError> {
     match place {
         Place::Table { .. } => one_too_many(alloc, "table", "set", MAX_TABLES),
-        Place::Program { program } => too_much_in_program(alloc, text, program, at),
+        Place::Program { program } => too_much_in_program(alloc, text, plain, program, at),
         Place::Statement { .. } => one_too_many(alloc, "statement", "program", MAX_STATEMENTS),
     }
 }
 
-// What the fault is, of what begins at a place.
+// What the fault is, of what begins at a place of a text, and of the text without comments.
 fn sentence(
     alloc: Global,
     text: &[u8],
+    plain: &[u8],
     fault: CheckFault,
     at: usize,
     mark: usize,
@@ -308,8 +320,8 @@ fn sentence(
         }
         CheckFault::DuplicateParameter { place } => repeated_parameter(alloc, text, place),
         CheckFault::UnknownTable { .. } => unknown_table(alloc, text, begun),
-        CheckFault::UnknownName { place } => unbound_name(alloc, text, place, at, mark),
-        CheckFault::NameTaken { place } => name_taken(alloc, text, place, at),
+        CheckFault::UnknownName { place } => unbound_name(alloc, plain, place, at, mark),
+        CheckFault::NameTaken { place } => name_taken(alloc, plain, place, at),
         CheckFault::WrongArity { .. } => wrong_columns(alloc, text, begun),
         CheckFault::GrowTableChanged { .. } => {
             let table = as_text(table_name(begun));
@@ -320,7 +332,7 @@ fn sentence(
         CheckFault::AfterAbort { .. } => {
             format!(in alloc; "never reached: the `abort;` before it ends this block")
         }
-        CheckFault::TooMany { place } => too_many(alloc, text, place, at),
+        CheckFault::TooMany { place } => too_many(alloc, text, plain, place, at),
         CheckFault::TooManyPaths { .. } => {
             format!(in alloc;
                 "more than {MAX_PATHS} ways through `{name}` commit; each further `if` doubles them"
@@ -367,8 +379,9 @@ pub fn check_words(
     let Some(at) = find_place(alloc, text, place)? else {
         return Ok(None);
     };
-    let mark = mark_of(alloc, text, fault, at)?;
-    let sentence = sentence(alloc, text, fault, at, mark)?;
+    let plain = without_comments(alloc, text)?;
+    let mark = mark_of(alloc, text, &plain, fault, at)?;
+    let sentence = sentence(alloc, text, &plain, fault, at, mark)?;
     let words = point_at(alloc, text, mark, &sentence)?;
     Ok(Some(words))
 }

@@ -1,6 +1,7 @@
 //! Slips that newcomers make, known by the tokens around the first one that cannot stand where it
 //! does.
 
+use crate::expected::{NAME, NUMBER};
 use crate::reserved::{in_lower_case, is_name};
 use prog_text::is_reserved;
 use std::alloc::{AllocError, Global};
@@ -169,7 +170,7 @@ fn head_slip(around: Around<'_>, could: &[&str]) -> Option<Slip> {
         ["["] => return Some(Slip::Said(NO_KEY)),
         _ => {}
     }
-    if !could.contains(&"NAME") || could.contains(&"1") {
+    if !could.contains(&NAME) || could.contains(&NUMBER) {
         return None;
     }
     match around.token {
@@ -217,7 +218,7 @@ fn look_slip(around: Around<'_>, could: &[&str]) -> Option<Slip> {
         "else" if could.contains(&";") => return Some(Slip::Said(ELSE_OF_NO_GET)),
         _ => {}
     }
-    if could.contains(&"1") {
+    if could.contains(&NUMBER) {
         return beginning_slip(around);
     }
     if could.contains(&"+") {
@@ -243,7 +244,7 @@ fn value_slip(around: Around<'_>, could: &[&str]) -> Option<Slip> {
     match around.token {
         "==" if could.contains(&"=") => Some(Slip::Said(TWO_EQUALS)),
         "=" if could.contains(&"==") => Some(Slip::Said(ONE_EQUALS)),
-        term if around.before == "-" && begins_term(term) && !could.contains(&"NAME") => {
+        term if around.before == "-" && begins_term(term) && !could.contains(&NAME) => {
             Some(Slip::MinusOfName)
         }
         _ => None,

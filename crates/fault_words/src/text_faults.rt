@@ -71,12 +71,7 @@ const COMMENTS: [&str; 3] = ["//", "/*", "--"];
 
 // With what a comment of another language begins in a line.
 fn foreign_comment(line: &str) -> Option<&'static str> {
-    for sign in COMMENTS.iter() {
-        if line.contains(*sign) {
-            return Some(*sign);
-        }
-    }
-    None
+    COMMENTS.iter().find(|sign| line.contains(**sign)).copied()
 }
 
 fn unknown_byte(alloc: Global, text: &[u8], place: usize) -> Result<String, AllocError> {

@@ -31,7 +31,7 @@ abbrev pub HasCause : Cause → JobEnd → Type 0
 HasCause cause (end.Aborted told) = told ≡ cause
 HasCause cause other = ⊤
 
--- how many instances a job ended beside those that clashed before its last try
+-- how many instances a job ended beside those of its tries that clashed
 abbrev pub last_try : JobEnd → ℕ
 last_try (end.Clashed clash) = 0
 last_try (end.Refused why) = 0

@@ -19,12 +19,12 @@ pub struct Counts<'c> {
     endings: &'c [Ending],
     tidings: &'c [Tiding<'c>],
     // the commits that jobs name
-    commits: Tally<u64>,
-    aborts: Tally<AbortKey<'c>>,
+    told_commits: Tally<u64>,
+    kept_aborts: Tally<AbortKey<'c>>,
     told_aborts: Tally<AbortKey<'c>>,
-    clashes: Tally<ClashKey<'c>>,
-    clashes_of: Tally<CallKey<'c>>,
-    told_clashes: Tally<CallKey<'c>>,
+    kept_clashes: Tally<ClashKey<'c>>,
+    kept_clashes_of: Tally<CallKey<'c>>,
+    told_clashes_of: Tally<CallKey<'c>>,
 }
 
 impl<'c> Model for Counts<'c> {
@@ -42,15 +42,15 @@ impl<'c> Model for Counts<'c> {
 
     // A u64 tells each count of the endings.
     ghost invariant = { λ c. (length c.endings.now < most)
-        × Tallies nat_cmp (λ number. commits_told number c.tidings.now) c.commits
+        × Tallies nat_cmp (λ number. commits_told number c.tidings.now) c.told_commits
         × Tallies abort_cmp (λ q.
-        aborts_kept (call_at q.call) (cause_at q.cause) c.endings.now) c.aborts
+        aborts_kept (call_at q.call) (cause_at q.cause) c.endings.now) c.kept_aborts
         × Tallies abort_cmp (λ q.
         aborts_told (call_at q.call) (cause_at q.cause) c.tidings.now) c.told_aborts
         × Tallies clash_cmp (λ q.
-        count_by (is_clash_on (call_at q.call) (clash_at q)) c.endings.now) c.clashes
-        × Tallies call_cmp (λ q. clashes_kept (call_at q) c.endings.now) c.clashes_of
-        × Tallies call_cmp (λ q. clashes_told (call_at q) c.tidings.now) c.told_clashes };
+        count_by (is_clash_on (call_at q.call) (clash_at q)) c.endings.now) c.kept_clashes
+        × Tallies call_cmp (λ q. clashes_kept (call_at q) c.endings.now) c.kept_clashes_of
+        × Tallies call_cmp (λ q. clashes_told (call_at q) c.tidings.now) c.told_clashes_of };
 }
 
 impl<'c> Counts<'c> {
@@ -65,21 +65,21 @@ impl<'c> Counts<'c> {
     {
         // The endings can be counted, with one more.
         let _more = endings.len() + 1;
-        let commits = Tally::of(alloc, tidings)?;
-        let aborts = Tally::of(alloc, endings)?;
+        let told_commits = Tally::of(alloc, tidings)?;
+        let kept_aborts = Tally::of(alloc, endings)?;
         let told_aborts = Tally::of(alloc, tidings)?;
-        let clashes = Tally::of(alloc, endings)?;
-        let clashes_of = Tally::of(alloc, endings)?;
-        let told_clashes = Tally::of(alloc, tidings)?;
+        let kept_clashes = Tally::of(alloc, endings)?;
+        let kept_clashes_of = Tally::of(alloc, endings)?;
+        let told_clashes_of = Tally::of(alloc, tidings)?;
         Ok(Counts {
             endings,
             tidings,
-            commits,
-            aborts,
+            told_commits,
+            kept_aborts,
             told_aborts,
-            clashes,
-            clashes_of,
-            told_clashes,
+            kept_clashes,
+            kept_clashes_of,
+            told_clashes_of,
         })
     }
 
@@ -87,14 +87,14 @@ impl<'c> Counts<'c> {
     pub fn is_named(&self, number: u64) -> bool
         ensures { IsTrue result ↔ (0 < commits_told number self.now.tidings) }
     {
-        self.commits.count(&number) > 0
+        self.told_commits.count(&number) > 0
     }
 
     /// Whether just one job names the commit of a number.
     pub fn is_named_once(&self, number: u64) -> bool
         ensures { IsTrue result ↔ IsNamedOnce self.now.tidings number }
     {
-        self.commits.count(&number) == 1
+        self.told_commits.count(&number) == 1
     }
 
     /// Whether some job of a call tells an abort by a cause.
@@ -110,20 +110,20 @@ impl<'c> Counts<'c> {
             ↔ AreAbortsTold self.now.endings self.now.tidings (call_at call.entry) cause }
     {
         let key = AbortKey::of(call, cause);
-        self.aborts.count(&key) == self.told_aborts.count(&key)
+        self.kept_aborts.count(&key) == self.told_aborts.count(&key)
     }
 
     /// Whether an instance of a call clashed so.
     pub fn is_clash_kept(&self, call: CallKey<'c>, clash: Clash) -> bool
         ensures { IsTrue result ↔ IsClashKept self.now.endings (call_at call.entry) clash }
     {
-        self.clashes.count(&ClashKey::of(call, clash)) > 0
+        self.kept_clashes.count(&ClashKey::of(call, clash)) > 0
     }
 
     /// Whether as many instances of a call clashed as its jobs tell.
     pub fn are_clashes_told(&self, call: CallKey<'c>) -> bool
         ensures { IsTrue result ↔ AreAsMany self.now.endings self.now.tidings (call_at call.entry) }
     {
-        self.clashes_of.count(&call) == self.told_clashes.count(&call)
+        self.kept_clashes_of.count(&call) == self.told_clashes_of.count(&call)
     }
 }

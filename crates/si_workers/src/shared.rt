@@ -6,6 +6,7 @@ ghost use Rattle.si_workers.specs.Freshness.{IsAtNumber, IsBeginAfter, IsFresh, 
 ghost use Rattle.si_workers.specs.HandedIn.{IsCommitAnswer, IsEndAnswer};
 
 use crate::fault::BeginAfterFault;
+use crate::limits::TRIES;
 use history_book::{
     BeginFault, Book, CommitFault, EndFault, NoSuchTicket, Receipt, ScanFault, Ticket,
 };
@@ -91,10 +92,6 @@ fn withdraw_there(book: &mut Book<'_>, ticket: Ticket) -> Result<(), Ticket>
 {
     book.withdraw(ticket)
 }
-
-// How often the lock is tried, with others let run, before a thread sleeps until it is free. A hold
-// takes some ten microseconds, so it is mostly over before a thread would have slept and woken.
-const TRIES: u32 = 2_000;
 
 impl<'a> SharedBook<'a> {
     // The book to read in.

@@ -1,5 +1,5 @@
 //! Devices of the tests, over memory: slow ones, which may also fail.
-ghost use Rattle.std.specs.Prelude.{◌≡◌, ◌-◌, ◌^◌, Some};
+ghost use Rattle.std.specs.Prelude.{◌-◌, ◌^◌, Some};
 
 use si_engine::{DeviceFault, Sink, Source};
 use std::alloc::Global;

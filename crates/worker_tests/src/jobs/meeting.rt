@@ -16,15 +16,15 @@ const MOST_TURNS: u64 = 10_000;
 
 // Which moments of a job have come: each is 1 from then on.
 #[derive(Drop)]
-struct Came {
+struct Moments {
     begun: AtomicU64,
     in_read: AtomicU64,
     finished: AtomicU64,
 }
 
-impl Came {
-    fn none() -> Came {
-        Came {
+impl Moments {
+    fn none() -> Moments {
+        Moments {
             begun: AtomicU64::new(0),
             in_read: AtomicU64::new(0),
             finished: AtomicU64::new(0),
@@ -45,8 +45,8 @@ impl Came {
 pub struct Meeting<'h, C: Clock> {
     clock: &'h C,
     holds: &'h [Hold],
-    first: Came,
-    second: Came,
+    first: Moments,
+    second: Moments,
     gave_up: AtomicU64,
 }
 
@@ -55,8 +55,8 @@ impl<'h, C: Clock> Meeting<'h, C> {
         Meeting {
             clock,
             holds,
-            first: Came::none(),
-            second: Came::none(),
+            first: Moments::none(),
+            second: Moments::none(),
             gave_up: AtomicU64::new(0),
         }
     }
