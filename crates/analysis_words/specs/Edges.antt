@@ -1,5 +1,5 @@
 -- What is said of the edges of a dangerous structure.
-use Rattle.std.specs.Prelude.{ℕ, ◌≡◌, ◌==◌, true, false, if◌then◌else◌, List, [], ◌++◌, codes}
+use Rattle.std.specs.Prelude.{ℕ, ◌≡◌, true, false, List, ◌++◌, codes}
 use Rattle.prog_tree.specs.Syntax.{DraftTree}
 use Rattle.prog_check.specs.declared.path.Path.{Path}
 use Rattle.prog_paths.specs.declared.accesses.places.Question.{Question}
@@ -7,10 +7,7 @@ use Rattle.dep_graph.specs.declared.danger.Danger.{Danger}
 use Rattle.dep_graph.specs.declared.danger.Exposure.{Exposure}
 use Rattle.analysis_words.specs.Instances.{instance_text, numbers_of}
 use Rattle.analysis_words.specs.Nodes.{node_name, turns_text}
-
--- what stands before a node that is named behind another, where it is the same
-abbrev pub other_run : (first second : ℕ) → List ℕ
-other_run first second = if first == second then codes "another " else []
+use Rattle.analysis_words.specs.SharedWords.{other_run}
 
 -- where the first instance looks, as `` `Move` with (from = 0, to = 7) looks here``, and whether in each turn
 abbrev pub look_text : DraftTree → List Path → Exposure → List ℕ

@@ -4,17 +4,15 @@ use Rattle.std.specs.Fmt.{decimal}
 use Rattle.std.specs.List.{flat_map}
 use Rattle.prog_tree.specs.Syntax.{DraftTree}
 use Rattle.repair_laws.specs.declared.plan.Pair.{Pair}
-use Rattle.analysis_words.specs.Repairs.{other_text, quoted_name}
+use Rattle.analysis_words.specs.Repairs.{quoted_name}
+use Rattle.analysis_words.specs.SharedWords.{more_text, other_run}
 
 -- the two programs of a pair, as `` `Look` and `Set` `` or `` `Look` and another `Look` ``
 abbrev pub pair_text : DraftTree → Pair → List ℕ
-pair_text set pair = quoted_name set pair.from ++ (codes " and " ++ (other_text pair ++ quoted_name set pair.to))
+pair_text set pair = quoted_name set pair.from ++ (codes " and " ++ (other_run pair.from pair.to ++ quoted_name set pair.to))
 
 abbrev pub further_text : DraftTree → Pair → List ℕ
 further_text set pair = codes ", " ++ pair_text set pair
-
-abbrev pub more_text : (count : ℕ) → List ℕ
-more_text count = if count == 0 then [] else codes ", and " ++ (decimal count ++ codes " more")
 
 abbrev pub pair_count_text : (count : ℕ) → List ℕ
 pair_count_text count = if count == 1 then codes "one pair of programs has" else decimal count ++ codes " pairs of programs have"

@@ -6,4 +6,5 @@ pub mod Refusing
 pub mod Repairs
 pub mod Robust
 pub mod Saying
+pub mod SharedWords
 pub mod Ways

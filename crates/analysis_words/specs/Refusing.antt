@@ -9,9 +9,10 @@ use Rattle.prog_paths.specs.declared.accesses.places.Question.{Question}
 use Rattle.dep_graph.specs.declared.danger.Danger.{Danger}
 use Rattle.dep_graph.specs.declared.danger.Exposure.{Exposure}
 use Rattle.repair_laws.specs.declared.plan.Pair.{Pair}
-use Rattle.analysis_words.specs.Edges.{change_text, look_text, other_run, twin_change_text, twin_look_text, IsRepeated}
+use Rattle.analysis_words.specs.Edges.{change_text, look_text, twin_change_text, twin_look_text, IsRepeated}
 use Rattle.analysis_words.specs.Left.{left_text}
 use Rattle.analysis_words.specs.Nodes.{node_name}
+use Rattle.analysis_words.specs.SharedWords.{other_run}
 use Rattle.analysis_words.specs.Ways.{IsWaysText}
 
 -- the words say this sentence of the statement of this access of a node

@@ -1,26 +1,23 @@
 -- What the words of a repair have to say.
-use Rattle.std.specs.Prelude.{ℕ, ◌≡◌, ◌==◌, if◌then◌else◌, List, [], ◌∷◌, ◌++◌, codes}
+use Rattle.std.specs.Prelude.{ℕ, ◌≡◌, List, [], ◌∷◌, ◌++◌, codes}
 use Rattle.std.specs.Fmt.{decimal}
 use Rattle.prog_tree.specs.Syntax.{DraftTree}
 use Rattle.repair_laws.specs.declared.plan.Pair.{Pair}
 use Rattle.fault_words.specs.Naming.{program_name}
-use Rattle.analysis_words.specs.declared.repair_faults.Obstacle.{Obstacle}
-use Rattle.analysis_words.specs.declared.repair_faults.Obstacle.TheVariants as obstacle
+use Rattle.analysis_words.specs.SharedWords.{other_run}
 use Rattle.si_repair.specs.declared.repairs.fault.RepairFault.{RepairFault}
 use Rattle.si_repair.specs.declared.repairs.fault.RepairFault.TheVariants.{RangeRead, UnknownKey, BodyRead, TooMany, Memory}
+use Rattle.si_repair.specs.declared.repairs.reads.Obstacle.{Obstacle}
+use Rattle.si_repair.specs.declared.repairs.reads.Obstacle.TheVariants as obstacle
 
 -- the name of a program between two backquotes
 abbrev pub quoted_name : DraftTree → (program : ℕ) → List ℕ
 quoted_name set program = codes "`" ++ (program_name set program ++ codes "`")
 
--- what stands before the second name of a pair, where it is the first too
-abbrev pub other_text : Pair → List ℕ
-other_text pair = if pair.from == pair.to then codes "another " else []
-
 -- a line that begins with the first program of a pair, says something of the second, and goes on
 abbrev pub pair_sentence : DraftTree → Pair → (verb rest : List ℕ) → List ℕ
 pair_sentence set pair verb rest =
-    quoted_name set pair.from ++ (codes " " ++ (verb ++ (codes " " ++ (other_text pair
+    quoted_name set pair.from ++ (codes " " ++ (verb ++ (codes " " ++ (other_run pair.from pair.to
     ++ (quoted_name set pair.to ++ (rest ++ codes "\n"))))))
 
 -- the words begin with a line that says what the first program of a pair could miss
@@ -48,15 +45,15 @@ limits_text =
 
 -- what the first program of a pair does that stops a repair, before the name of the second
 abbrev pub obstacle_verb : Obstacle → List ℕ
-obstacle_verb obstacle.Range = codes "looks at a range that can be changed by"
+obstacle_verb obstacle.RangeRead = codes "looks at a range that can be changed by"
 obstacle_verb obstacle.UnknownKey = codes "looks at a row that can be changed by"
-obstacle_verb obstacle.Body = codes "looks at a row that can be changed by"
+obstacle_verb obstacle.BodyRead = codes "looks at a row that can be changed by"
 
 -- why no `keep` covers that look
 abbrev pub obstacle_reason : Obstacle → List ℕ
-obstacle_reason obstacle.Range = codes "; no `keep` covers a range"
+obstacle_reason obstacle.RangeRead = codes "; no `keep` covers a range"
 obstacle_reason obstacle.UnknownKey = codes ", and no parameters and numbers tell its key"
-obstacle_reason obstacle.Body =
+obstacle_reason obstacle.BodyRead =
     codes ", and one of the two stands in the body of an `each`, where a `keep` may run for many rows or for none and covers nothing"
 
 -- the words begin with a line that says of a pair what can't be promoted, and what to do
@@ -72,8 +69,8 @@ limit_rest =
 
 -- the words say of the pair that stops a repair why it does; of want of memory there are none
 abbrev pub SaysStop : DraftTree → RepairFault → (words : List ℕ) → Type 0
-SaysStop set (RangeRead pair) words = SaysObstacle set obstacle.Range pair words
+SaysStop set (RangeRead pair) words = SaysObstacle set obstacle.RangeRead pair words
 SaysStop set (UnknownKey pair) words = SaysObstacle set obstacle.UnknownKey pair words
-SaysStop set (BodyRead pair) words = SaysObstacle set obstacle.Body pair words
+SaysStop set (BodyRead pair) words = SaysObstacle set obstacle.BodyRead pair words
 SaysStop set (TooMany pair) words = words ≡ pair_sentence set pair (codes "has to be kept apart from") limit_rest
 SaysStop set Memory words = ⊥

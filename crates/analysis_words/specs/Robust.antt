@@ -7,8 +7,8 @@ use Rattle.prog_paths.specs.Asked.{limit, questions_of}
 use Rattle.robust_cert.specs.declared.certificate.Certificate.{Certificate}
 use Rattle.robust_cert.specs.declared.certificate.Entry.{Entry}
 use Rattle.robust_cert.specs.declared.certificate.Entry.TheVariants.{Apart, Cover}
-use Rattle.analysis_words.specs.Left.{more_text}
 use Rattle.analysis_words.specs.Saying.{level_text}
+use Rattle.analysis_words.specs.SharedWords.{more_text}
 
 abbrev pub is_apart : Entry → Bool
 is_apart (Apart question chain) = true

@@ -3,8 +3,8 @@ ghost use Rattle.std.specs.Prelude.{◌≡◌, IfOk, string_bytes};
 ghost use Rattle.prog_tree.specs.Tree.{draft_tree};
 ghost use Rattle.analysis_words.specs.Refusing.{IsAdvice, IsTwinAdvice, advice_text, circle_text, step_text, twin_advice_text, way_text};
 
-use crate::edges::other_run;
-use crate::looks::{has_unknown_key, meets_body};
+use crate::looks::{is_under_unknown_key, meets_body};
+use crate::shared_words::other_run;
 use crate::shown::{Shown, access_place, cells_at, node_name};
 use dep_graph::Danger;
 use prog_paths::Question;
@@ -106,7 +106,7 @@ fn own_cell(
     let cells = cells_at(alloc, shown.text, place)?;
     let line = line_number(shown.text.bytes(), place);
     let clashing = clashing(alloc, shown, question)?;
-    if has_unknown_key(shown, &question) {
+    if is_under_unknown_key(shown, &question) {
         return format!(in alloc;
             "the key of `{cells}` made a parameter, and a `keep` of that cell behind line {line}, so that {clashing}"
         );

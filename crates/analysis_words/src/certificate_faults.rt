@@ -4,21 +4,15 @@ ghost use Rattle.prog_tree.specs.Tree.{draft_tree};
 ghost use Rattle.prog_check.specs.Paths.{paths_of};
 ghost use Rattle.robust_cert.specs.Reading.{IsTextOf};
 ghost use Rattle.robust_cert.specs.declared.fault.CertFault.TheVariants.{Dangerous, LevelFalls};
-ghost use Rattle.analysis_words.specs.Saying.{body_size_in, count_text, counts_text, first_mistold, front_of, is_told, json_words, level_of, level_text, mistold_text, number_at, IsNoCertificate, IsOfFault, IsSaidOf};
+ghost use Rattle.analysis_words.specs.Saying.{body_size_in, count_text, counts_text, first_mistold, front_of, is_told, json_words, mistold_text, IsNoCertificate, IsOfFault, IsSaidOf};
 
+use crate::levels::{level_text, number_at};
 use crate::shown::{Shown, access_text, node_name};
 use prog_check::{Path, ProgramSet};
 use prog_paths::{MAX_QUESTIONS, paths};
 use robust_cert::{CertFault, Certificate, JsonFault, Question, body_size, from_json};
 use std::alloc::{AllocError, Global};
 use text_places::SetText;
-
-/// A number of the text of a certificate.
-pub fn wide(number: u32) -> usize
-    ensures { result ≡ number }
-{
-    number as usize
-}
 
 // The question of an entry.
 fn question_text(
@@ -31,32 +25,16 @@ fn question_text(
         return format!(in alloc; "its question");
     }
     let Question { x, a, y, b } = certificate.entries.question(entry);
-    let mine = access_text(alloc, shown, wide(x), wide(a))?;
-    let theirs = access_text(alloc, shown, wide(y), wide(b))?;
+    let mine = access_text(alloc, shown, x as usize, a as usize)?;
+    let theirs = access_text(alloc, shown, y as usize, b as usize)?;
     format!(in alloc; "{mine} against {theirs}")
-}
-
-// The number of a list at a node; one that has none counts as 0.
-fn number_at(numbers: &[u32], node: usize) -> u32
-    ensures { result ≡ number_at numbers.now node }
-{
-    match numbers.get(node) {
-        Some(number) => *number,
-        None => 0,
-    }
-}
-
-fn level_of(certificate: &Certificate, node: usize) -> u32
-    ensures { result ≡ level_of certificate.now node }
-{
-    number_at(certificate.levels.as_slice(), node)
 }
 
 // Whether the number that is told of a path is that of its accesses in bodies.
 fn is_told(told: u32, path: &Path) -> bool
     ensures { result ≡ is_told (told, path.now) }
 {
-    wide(told) == body_size(path)
+    told as usize == body_size(path)
 }
 
 // The first node of which another number is told than it has.
@@ -123,21 +101,6 @@ fn counts_text(
     }
     let node = first_mistold(certificate.bodies.as_slice(), shown.paths);
     mistold_text(alloc, shown, certificate, node)
-}
-
-/// A level and the node that has it.
-pub fn level_text(
-    alloc: Global,
-    shown: Shown<'_>,
-    certificate: &Certificate,
-    node: usize,
-) -> Result<String, AllocError>
-    ensures { IfOk result (λ text. string_bytes text ≡ level_text
-        (draft_tree shown.entry.set.now) shown.entry.paths.now certificate.now node) }
-{
-    let name = node_name(alloc, shown, node)?;
-    let level = level_of(certificate, node);
-    format!(in alloc; "{level} of {name}")
 }
 
 // The levels at both ends of an edge.

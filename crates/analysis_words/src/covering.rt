@@ -1,6 +1,5 @@
 //! Which accesses take part in most covers of a certificate.
 
-use crate::certificate_faults::wide;
 use prog_check::Path;
 use robust_cert::{Entries, Reason};
 use std::alloc::{AllocError, Global};
@@ -29,10 +28,10 @@ fn note(
     node: u32,
     access: u32,
 ) -> Option<Covering> {
-    let Some(of_node) = counts.get_mut(wide(node)) else {
+    let Some(of_node) = counts.get_mut(node as usize) else {
         return most;
     };
-    let Some(place) = of_node.get_mut(wide(access)) else {
+    let Some(place) = of_node.get_mut(access as usize) else {
         return most;
     };
     let count = place.saturating_add(1);

@@ -1,22 +1,16 @@
 //! The edges of a dangerous structure in words.
 ghost use Rattle.std.specs.Prelude.{◌≡◌, ◌↔◌, IfNone, IfOk, IfSome, IsTrue, string_bytes};
 ghost use Rattle.prog_tree.specs.Tree.{draft_tree};
-ghost use Rattle.analysis_words.specs.Edges.{change_text, look_text, other_run, told_text, twin_change_text, twin_look_text, unseen_text, IsRepeated, IsSameQuestion};
+ghost use Rattle.analysis_words.specs.Edges.{change_text, look_text, told_text, twin_change_text, twin_look_text, unseen_text, IsRepeated, IsSameQuestion};
 ghost use Rattle.analysis_words.specs.Refusing.{LacksQuestion, ShowsEdge, ShowsQuestion, ShowsTwins};
 
 use crate::instances::{instance_text, numbers_of};
 use crate::pointed::point_at_access;
+use crate::shared_words::other_run;
 use crate::shown::{Shown, node_name, turns_text};
 use dep_graph::{Danger, Exposure};
 use prog_paths::Question;
 use std::alloc::{AllocError, Global};
-
-/// What stands before a node that is named behind another, where it is the same.
-pub fn other_run(first: usize, second: usize) -> &'static str
-    ensures { result.now ≡ other_run first second }
-{
-    if first == second { "another " } else { "" }
-}
 
 // What is said where the first instance of a question looks.
 fn look_text(alloc: Global, shown: Shown<'_>, edge: &Exposure) -> Result<String, AllocError>

@@ -1,15 +1,14 @@
 //! What a repair of a whole set keeps apart.
 ghost use Rattle.std.specs.Prelude.{◌≡◌, IfOk, flat_map, string_bytes, take};
 ghost use Rattle.prog_tree.specs.Tree.{draft_tree};
-ghost use Rattle.analysis_words.specs.Left.{further_text, left_text, more_text, pair_count_text, pair_text};
+ghost use Rattle.analysis_words.specs.Left.{further_text, left_text, pair_count_text, pair_text};
 
-use crate::pairs::{other, quoted_name};
+use crate::limits::MAX_FURTHER;
+use crate::pairs::quoted_name;
+use crate::shared_words::{more_text, other_run};
 use prog_check::ProgramSet;
 use si_repair::Pair;
 use std::alloc::{AllocError, Global};
-
-// So many pairs are named behind the first.
-const MAX_FURTHER: usize = 7;
 
 // The two programs of a pair.
 fn pair_text(alloc: Global, set: &ProgramSet, pair: Pair) -> Result<String, AllocError>
@@ -17,7 +16,7 @@ fn pair_text(alloc: Global, set: &ProgramSet, pair: Pair) -> Result<String, Allo
 {
     let first = quoted_name(alloc, set, pair.from)?;
     let second = quoted_name(alloc, set, pair.to)?;
-    let other = other(pair);
+    let other = other_run(pair.from, pair.to);
     format!(in alloc; "{first} and {other}{second}")
 }
 
@@ -45,21 +44,7 @@ fn further_pairs(alloc: Global, set: &ProgramSet, pairs: &[Pair]) -> Result<Stri
 fn named(pairs: &[Pair]) -> &[Pair]
     ensures { result.now ≡ take 7 pairs.now }
 {
-    if pairs.len() > MAX_FURTHER {
-        &pairs[..MAX_FURTHER]
-    } else {
-        pairs
-    }
-}
-
-/// How many are not named.
-pub fn more_text(alloc: Global, count: usize) -> Result<String, AllocError>
-    ensures { IfOk result (λ text. string_bytes text ≡ more_text count) }
-{
-    if count == 0 {
-        return Ok(String::new(alloc));
-    }
-    format!(in alloc; ", and {count} more")
+    pairs.get(..MAX_FURTHER).unwrap_or(pairs)
 }
 
 // How many pairs there are.

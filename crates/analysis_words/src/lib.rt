@@ -9,6 +9,7 @@ mod covering;
 mod edges;
 mod instances;
 mod left;
+mod levels;
 mod limits;
 mod looks;
 mod pairs;
@@ -17,6 +18,7 @@ mod refusal;
 mod repair;
 mod repair_faults;
 mod robust;
+mod shared_words;
 mod shown;
 mod ways;
 

@@ -1,8 +1,8 @@
 //! What a program looks at that another may change unseen.
 
 use crate::shown::{Shown, access_of, access_place, cells_at, is_in_body, node_name, turns_text};
-use prog_check::Term;
 use prog_paths::Question;
+use si_repair::has_unknown_key;
 use std::alloc::{AllocError, Global};
 use text_places::{line_number, point_out};
 
@@ -36,19 +36,9 @@ pub fn looked_at(
     }
 }
 
-fn is_unknown(term: Term) -> bool {
-    matches!(term, Term::Unknown(_))
-}
-
 /// Whether the key of a look is told by no parameters and numbers.
-pub fn has_unknown_key(shown: Shown<'_>, question: &Question) -> bool {
-    let Some(access) = access_of(shown, question.x, question.a) else {
-        return false;
-    };
-    match access.second {
-        Some(column) => is_unknown(access.first.low) || is_unknown(column.low),
-        None => is_unknown(access.first.low),
-    }
+pub fn is_under_unknown_key(shown: Shown<'_>, question: &Question) -> bool {
+    access_of(shown, question.x, question.a).is_some_and(|access| has_unknown_key(&access))
 }
 
 /// Whether the look of a question, or what changes what it looks at, stands in the body of an

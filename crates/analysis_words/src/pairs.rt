@@ -1,8 +1,9 @@
 //! Sentences of the two programs of a pair.
 ghost use Rattle.std.specs.Prelude.{◌≡◌, IfOk, string_bytes};
 ghost use Rattle.prog_tree.specs.Tree.{draft_tree};
-ghost use Rattle.analysis_words.specs.Repairs.{other_text, pair_sentence, quoted_name};
+ghost use Rattle.analysis_words.specs.Repairs.{pair_sentence, quoted_name};
 
+use crate::shared_words::other_run;
 use fault_words::program_name;
 use prog_check::ProgramSet;
 use si_repair::Pair;
@@ -14,13 +15,6 @@ pub fn quoted_name(alloc: Global, set: &ProgramSet, program: usize) -> Result<St
 {
     let name = program_name(set, program);
     format!(in alloc; "`{name}`")
-}
-
-/// What stands before the second program's name, where it is the first's too.
-pub fn other(pair: Pair) -> &'static str
-    ensures { result.now ≡ other_text pair }
-{
-    if pair.from == pair.to { "another " } else { "" }
 }
 
 /// A sentence that begins with the first program, says something of the second, and goes on.
@@ -36,6 +30,6 @@ pub fn pair_sentence(
 {
     let first = quoted_name(alloc, set, pair.from)?;
     let second = quoted_name(alloc, set, pair.to)?;
-    let other = other(pair);
+    let other = other_run(pair.from, pair.to);
     format!(in alloc; "{first} {verb} {other}{second}{rest}\n")
 }

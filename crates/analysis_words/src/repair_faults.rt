@@ -4,12 +4,12 @@ ghost use Rattle.prog_tree.specs.Tree.{draft_tree};
 ghost use Rattle.analysis_words.specs.Repairs.{SaysObstacle, SaysStop, limits_text, obstacle_reason, obstacle_verb};
 ghost use Rattle.si_repair.specs.declared.repairs.fault.RepairFault.TheVariants as f;
 
-use crate::looks::{first_of_each, has_unknown_key, looked_at, meets_body, reason_words};
+use crate::looks::{first_of_each, is_under_unknown_key, looked_at, meets_body, reason_words};
 use crate::pairs::pair_sentence;
 use crate::shown::Shown;
 use prog_check::{MAX_ACCESSES, MAX_STATEMENTS, MAX_TABLES, ProgramSet};
 use prog_paths::{Question, paths};
-use si_repair::{Pair, RepairFault, exposed_questions};
+use si_repair::{Obstacle, Pair, RepairFault, exposed_questions};
 use std::alloc::{AllocError, Global};
 use text_places::SetText;
 
@@ -37,7 +37,7 @@ fn unknown_look(
 ) -> Result<String, AllocError> {
     let found = questions
         .iter()
-        .find(|question| has_unknown_key(shown, question));
+        .find(|question| is_under_unknown_key(shown, question));
     reason_words(alloc, shown, found)
 }
 
@@ -53,38 +53,26 @@ fn body_look(
     reason_words(alloc, shown, found)
 }
 
-// Why no `keep` covers a look.
-#[derive(Clone, Copy)]
-enum Obstacle {
-    // It is at a range.
-    Range,
-    // No parameters and numbers tell its key.
-    UnknownKey,
-    // It stands in the body of an `each`, or what changes it does.
-    Body,
+// What the first program of a pair does, before the name of the second.
+fn obstacle_verb(obstacle: Obstacle) -> &'static str
+    ensures { result.now ≡ obstacle_verb obstacle }
+{
+    match obstacle {
+        Obstacle::RangeRead => "looks at a range that can be changed by",
+        Obstacle::UnknownKey | Obstacle::BodyRead => "looks at a row that can be changed by",
+    }
 }
 
-impl Obstacle {
-    // What the first program of a pair does, before the name of the second.
-    fn verb(self) -> &'static str
-        ensures { result.now ≡ obstacle_verb self }
-    {
-        match self {
-            Obstacle::Range => "looks at a range that can be changed by",
-            Obstacle::UnknownKey | Obstacle::Body => "looks at a row that can be changed by",
-        }
-    }
-
-    fn reason(self) -> &'static str
-        ensures { result.now ≡ obstacle_reason self }
-    {
-        match self {
-            Obstacle::Range => "; no `keep` covers a range",
-            Obstacle::UnknownKey => ", and no parameters and numbers tell its key",
-            Obstacle::Body => {
-                ", and one of the two stands in the body of an `each`, \
-                where a `keep` may run for many rows or for none and covers nothing"
-            }
+// Why no `keep` covers that look.
+fn obstacle_reason(obstacle: Obstacle) -> &'static str
+    ensures { result.now ≡ obstacle_reason obstacle }
+{
+    match obstacle {
+        Obstacle::RangeRead => "; no `keep` covers a range",
+        Obstacle::UnknownKey => ", and no parameters and numbers tell its key",
+        Obstacle::BodyRead => {
+            ", and one of the two stands in the body of an `each`, \
+            where a `keep` may run for many rows or for none and covers nothing"
         }
     }
 }
@@ -106,9 +94,9 @@ fn obstructed_look(
         paths: &paths,
     };
     match obstacle {
-        Obstacle::Range => range_look(alloc, shown, &questions),
+        Obstacle::RangeRead => range_look(alloc, shown, &questions),
         Obstacle::UnknownKey => unknown_look(alloc, shown, &questions),
-        Obstacle::Body => body_look(alloc, shown, &questions),
+        Obstacle::BodyRead => body_look(alloc, shown, &questions),
     }
 }
 
@@ -123,9 +111,9 @@ fn promotion_words(
     ensures { IfOk result (λ words.
         SaysObstacle (draft_tree set.now) obstacle pair (string_bytes words)) }
 {
-    let reason = obstacle.reason();
+    let reason = obstacle_reason(obstacle);
     let rest = format!(in alloc; "{reason}: repair without `--promote`")?;
-    let sentence = pair_sentence(alloc, set, pair, obstacle.verb(), &rest)?;
+    let sentence = pair_sentence(alloc, set, pair, obstacle_verb(obstacle), &rest)?;
     let look = obstructed_look(alloc, text, set, pair, obstacle)?;
     let words = format!(in alloc; "{sentence}{look}")?;
     Ok(words)
@@ -166,12 +154,14 @@ pub fn repair_fault_words(
 {
     let words = match fault {
         RepairFault::RangeRead(pair) => {
-            promotion_words(alloc, text, set, pair, Obstacle::Range)?
+            promotion_words(alloc, text, set, pair, Obstacle::RangeRead)?
         }
         RepairFault::UnknownKey(pair) => {
             promotion_words(alloc, text, set, pair, Obstacle::UnknownKey)?
         }
-        RepairFault::BodyRead(pair) => { promotion_words(alloc, text, set, pair, Obstacle::Body)? }
+        RepairFault::BodyRead(pair) => {
+            promotion_words(alloc, text, set, pair, Obstacle::BodyRead)?
+        }
         RepairFault::TooMany(pair) => limit_words(alloc, set, pair)?,
         RepairFault::Memory => return Ok(None),
     };

@@ -6,18 +6,16 @@ ghost use Rattle.robust_cert.specs.declared.certificate.Question.{Question};
 ghost use Rattle.robust_cert.specs.Sharing.{entry_told, entry_with, IsWithin};
 ghost use Rattle.analysis_words.specs.Robust.{apart_count, comma_before, entries_text, first_levels, is_apart, IsMostText, levels_text, listed_level, questions_text, reasons_text, SaysRobust};
 
-use crate::certificate_faults::{level_text, wide};
 use crate::covering::{Covering, most_covering};
-use crate::left::more_text;
+use crate::levels::level_text;
+use crate::limits::MAX_LEVELS;
+use crate::shared_words::more_text;
 use crate::shown::{Shown, access_text};
 use prog_check::ProgramSet;
 use prog_paths::{paths, question_count};
 use robust_cert::{Certificate, Entries, Reason, Told};
 use std::alloc::{AllocError, Global};
 use text_places::SetText;
-
-// So many nodes are named with their levels.
-const MAX_LEVELS: usize = 8;
 
 // Whether questions with this reason never meet.
 fn is_never(reason: &Reason) -> bool
@@ -92,7 +90,7 @@ fn most_text(
     else {
         return Ok(String::new(alloc));
     };
-    let access = access_text(alloc, shown, wide(node), wide(access))?;
+    let access = access_text(alloc, shown, node as usize, access as usize)?;
     covering_text(alloc, count, &access)
 }
 

@@ -17,3 +17,4 @@ mod reads;
 pub use exposed::exposed_questions;
 pub use fault::RepairFault;
 pub use promotion::promote;
+pub use reads::{Obstacle, has_unknown_key};

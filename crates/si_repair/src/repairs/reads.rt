@@ -18,8 +18,11 @@ use std::alloc::{AllocError, Global};
 /// Why no keep covers a read.
 #[derive(Clone, Copy, Debug, PartialEq, Eq)]
 pub enum Obstacle {
+    /// It is of a range.
     RangeRead,
+    /// No parameters and numbers tell its key.
     UnknownKey,
+    /// It stands in the body of an `each`, or what changes it does.
     BodyRead,
 }
 
@@ -117,7 +120,8 @@ fn is_unknown_second(column: Option<Column>) -> bool
     }
 }
 
-fn has_unknown_key(access: &Access) -> bool
+/// Whether no parameters and numbers tell the key of an access.
+pub fn has_unknown_key(access: &Access) -> bool
     ensures { IsTrue result ↔ HasUnknownKey access.now }
 {
     is_unknown(access.first.low) || is_unknown_second(access.second)

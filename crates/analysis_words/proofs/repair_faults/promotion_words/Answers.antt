@@ -6,8 +6,8 @@ use Rattle.analysis_words.proofs.repair_faults.promotion_words.Goals as goal
 pub returns : goal.returns
 returns c =
     let look = string_bytes c.in_ok-look.look in
-    let verb = c.verb.ensures in
-    let rest = c.deref.ensures ∙ c.in_ok-rest.ensures.ok ∙ ap (λ (l : List ℕ). l ++ codes ": repair without `--promote`") c.reason-reason.ensures in (
+    let verb = c.obstacle_verb.ensures in
+    let rest = c.deref.ensures ∙ c.in_ok-rest.ensures.ok ∙ ap (λ (l : List ℕ). l ++ codes ": repair without `--promote`") c.obstacle_reason-reason.ensures in (
       look,
       c.in_ok-words.ensures.ok
           ∙ ap (λ (l : List ℕ). l ++ look) (c.in_ok-sentence.ensures ∙ (λ i. pair_sentence (draft_tree c.args.set.now) c.args.pair (verb i) (rest i))),

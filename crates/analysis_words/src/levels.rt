@@ -1,0 +1,39 @@
+//! The numbers that a certificate tells of its nodes.
+ghost use Rattle.std.specs.Prelude.{◌≡◌, IfOk, string_bytes};
+ghost use Rattle.prog_tree.specs.Tree.{draft_tree};
+ghost use Rattle.analysis_words.specs.Saying.{level_of, level_text, number_at};
+
+use crate::shown::{Shown, node_name};
+use robust_cert::Certificate;
+use std::alloc::{AllocError, Global};
+
+/// The number of a list at a node; one that has none counts as 0.
+pub fn number_at(numbers: &[u32], node: usize) -> u32
+    ensures { result ≡ number_at numbers.now node }
+{
+    match numbers.get(node) {
+        Some(number) => *number,
+        None => 0,
+    }
+}
+
+fn level_of(certificate: &Certificate, node: usize) -> u32
+    ensures { result ≡ level_of certificate.now node }
+{
+    number_at(certificate.levels.as_slice(), node)
+}
+
+/// A level and the node that has it.
+pub fn level_text(
+    alloc: Global,
+    shown: Shown<'_>,
+    certificate: &Certificate,
+    node: usize,
+) -> Result<String, AllocError>
+    ensures { IfOk result (λ text. string_bytes text ≡ level_text
+        (draft_tree shown.entry.set.now) shown.entry.paths.now certificate.now node) }
+{
+    let name = node_name(alloc, shown, node)?;
+    let level = level_of(certificate, node);
+    format!(in alloc; "{level} of {name}")
+}
