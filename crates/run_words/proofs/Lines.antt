@@ -1,9 +1,8 @@
--- One line of a cycle more, or one argument.
-use Rattle.std.proofs.Common.{◌≡◌, ◌<◌, ◌≤◌, ◌+◌, ℕ, ℤ, List, [], ◌++◌, drop, get_or, length, take, sym, ap, ◌∙◌, append_assoc}
-use Rattle.std.specs.List.{flat_map}
-use Rattle.std.proofs.lemmas.List.{append-nil, drop_all, drop_more, flat_map_more, take_more}
+-- One line of a cycle more.
+use Rattle.std.proofs.Common.{◌≡◌, ◌<◌, ◌≤◌, ◌+◌, ℕ, List, ◌++◌, drop, get_or, length, sym, ap, ◌∙◌, append_assoc}
+use Rattle.std.proofs.lemmas.List.{append-nil, drop_all, drop_more}
 use Rattle.history_book.specs.View.{BookView}
-use Rattle.run_words.specs.Cycles.{first_or, further_argument, line_text, lines_text}
+use Rattle.run_words.specs.Cycles.{first_or, line_text, lines_text}
 
 pub line_more : (book : BookView) (cycle : List ℕ) (index d end : ℕ) (whole old new line : List ℕ) → index < length cycle
     → line ≡ line_text book (get_or cycle index d) (first_or (drop (index + 1) cycle) end) → new ≡ old ++ line
@@ -17,12 +16,3 @@ pub lines_at_end : (book : BookView) (cycle : List ℕ) (index end : ℕ) (whole
     → text ++ lines_text book (drop index cycle) end ≡ whole → text ≡ whole
 lines_at_end book cycle index end whole text past is =
     sym (append-nil text) ∙ ap (λ l. text ++ lines_text book l end) (sym (drop_all index cycle past)) ∙ is
-
--- one further argument of a call
-pub arguments_more : (args : List ℤ) (index : ℕ) (d : ℤ) (old new : List ℕ) → index < length args
-    → new ≡ old ++ further_argument (get_or args index d) → old ≡ flat_map further_argument (take index args)
-    → new ≡ flat_map further_argument (take (index + 1) args)
-arguments_more args index d old new within is before =
-    let argument = get_or args index d in
-    is ∙ ap (λ l. l ++ further_argument argument) before ∙ flat_map_more further_argument [] (take index args) argument
-    ∙ ap (flat_map further_argument) (sym (take_more args index d within))

@@ -1,7 +1,6 @@
 -- What the words of a cycle say.
-use Rattle.std.specs.Prelude.{ℕ, ℤ, List, [], ◌∷◌, ◌++◌, Option, Some, None, codes}
-use Rattle.std.specs.Fmt.{decimal, signed_decimal}
-use Rattle.std.specs.List.{flat_map}
+use Rattle.std.specs.Prelude.{ℕ, List, [], ◌∷◌, ◌++◌, Option, Some, None, codes}
+use Rattle.std.specs.Fmt.{decimal}
 use Rattle.prog_tree.specs.Syntax.{DraftTree}
 use Rattle.prog_tree.specs.Tree.{draft_tree}
 use Rattle.history_book.specs.Reasons.{told_reason}
@@ -9,6 +8,7 @@ use Rattle.history_book.specs.View.{BookView, nth_row, traces_in}
 use Rattle.history_book.specs.declared.instances.row.HistoryRow.{HistoryRow}
 use Rattle.history_book.specs.declared.orders.reason.Reason.{Reason}
 use Rattle.history_book.specs.declared.orders.reason.Reason.TheVariants.{Both, Saw, Missed, MissedIn}
+use Rattle.text_places.specs.Listing.{bracketed}
 use Rattle.fault_words.specs.Naming.{cell_text, program_name, region_text}
 
 -- what is said of the whole
@@ -16,17 +16,9 @@ abbrev pub heading : List ℕ
 heading =
     codes "no serial order: each of these commits has to stand before the next, and the last before the first\n"
 
-abbrev pub further_argument : (argument : ℤ) → List ℕ
-further_argument argument = codes ", " ++ signed_decimal argument
-
--- arguments with commas between them
-abbrev pub arguments_text : List ℤ → List ℕ
-arguments_text [] = []
-arguments_text (first ∷ others) = signed_decimal first ++ flat_map further_argument others
-
 -- an instance as a call, as `Transfer(3, 5, 20)`
 abbrev pub call_text : DraftTree → HistoryRow → List ℕ
-call_text set row = program_name set row.program ++ (codes "(" ++ (arguments_text row.args ++ codes ")"))
+call_text set row = program_name set row.program ++ bracketed row.args
 
 -- a number that is of no commit has no call
 abbrev pub call_of : DraftTree → Option HistoryRow → List ℕ

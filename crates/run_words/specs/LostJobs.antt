@@ -1,38 +1,25 @@
 -- What the words of jobs that did not commit have to show.
-use Rattle.std.specs.Prelude.{ℕ, ◌≡◌, ◌-◌, ◌==◌, ◌⊎◌, Bool, true, false, List, [], ◌∷◌, ◌++◌, Option, Some, None, codes, filter, length, map, slice_get, take, if◌then◌else◌}
+use Rattle.std.specs.Prelude.{ℕ, ◌≡◌, ◌-◌, ◌==◌, ◌⊎◌, Bool, false, List, [], ◌∷◌, ◌++◌, Option, Some, None, codes, filter, length, map, slice_get, take, if◌then◌else◌}
 use Rattle.std.specs.Fmt.{decimal}
 use Rattle.std.specs.List.{range_with_len}
 use Rattle.text_places.specs.Landmarks.{HasNoJob, IsJobPlace}
 use Rattle.text_places.specs.Places.{line_number}
 use Rattle.text_places.specs.Quotes.{visible}
-use Rattle.si_workers.specs.declared.job.JobEnd.{JobEnd}
-use Rattle.si_workers.specs.declared.job.JobEnd.TheVariants as end
 use Rattle.si_workers.specs.declared.job.JobOutcome.{JobOutcome}
+use Rattle.si_workers.specs.declared.job.Way.{Way}
+use Rattle.si_workers.specs.declared.job.Way.TheVariants.{Aborted, Clashed, Refused}
+use Rattle.si_workers.specs.Ways.{is_in}
 use Rattle.run_words.specs.InInput.{input_line_text}
-use Rattle.run_words.specs.declared.lost_jobs.Loss.{Loss}
-use Rattle.run_words.specs.declared.lost_jobs.Loss.TheVariants as loss
 
--- a job ended in this way, without a commit
-abbrev pub is_loss : Loss → JobEnd → Bool
-is_loss kind (end.Committed number replies) = false
-is_loss loss.Refused (end.Aborted cause) = false
-is_loss loss.Aborted (end.Aborted cause) = true
-is_loss loss.Clashed (end.Aborted cause) = false
-is_loss loss.Refused (end.Clashed clash) = false
-is_loss loss.Aborted (end.Clashed clash) = false
-is_loss loss.Clashed (end.Clashed clash) = true
-is_loss loss.Refused (end.Refused why) = true
-is_loss loss.Aborted (end.Refused why) = false
-is_loss loss.Clashed (end.Refused why) = false
-
-abbrev pub is_lost_by : Loss → Option JobOutcome → Bool
-is_lost_by kind None = false
-is_lost_by kind (Some outcome) = is_loss kind outcome.job_end
+-- a job ended in this way
+abbrev pub is_lost_by : Way → Option JobOutcome → Bool
+is_lost_by way None = false
+is_lost_by way (Some outcome) = is_in way outcome.job_end
 
 -- the numbers of the jobs that ended so, in their order
-abbrev pub numbers_lost : Loss → List JobOutcome → List ℕ
-numbers_lost kind outcomes =
-    filter (λ number. is_lost_by kind (slice_get outcomes number)) (range_with_len 0 (length outcomes))
+abbrev pub numbers_lost : Way → List JobOutcome → List ℕ
+numbers_lost way outcomes =
+    filter (λ number. is_lost_by way (slice_get outcomes number)) (range_with_len 0 (length outcomes))
 
 -- as `line 3 (line 12 of the input)`
 abbrev pub place_text : (ahead part : List ℕ) → (place : ℕ) → List ℕ
@@ -57,28 +44,24 @@ TellsJobs ahead part [] lines = lines ≡ []
 TellsJobs ahead part (number ∷ numbers) lines =
     (line rest : List ℕ) × TellsJob ahead part number line × TellsJobs ahead part numbers rest × (lines ≡ line ++ rest)
 
-abbrev pub heading : Loss → List ℕ
-heading loss.Refused = codes "jobs that were refused: "
-heading loss.Aborted = codes "jobs that aborted: "
-heading loss.Clashed = codes "jobs of which each try clashed: "
-
 -- that there are so many more
 abbrev pub more_text : (count : ℕ) → List ℕ
 more_text count = if count == 0 then [] else codes "  and " ++ (decimal count ++ codes " more\n")
 
--- how many jobs ended so, a line for each of the first eight, and how many more there are; nothing where there is none
-abbrev pub TellsLost : (ahead part : List ℕ) → Loss → (numbers : List ℕ) → (words : List ℕ) → Type 0
-TellsLost ahead part kind [] words = words ≡ []
-TellsLost ahead part kind (number ∷ numbers) words =
+-- how many jobs these are, behind a heading, a line for each of the first eight, and how many more there are; nothing
+-- where there is none
+abbrev pub TellsLost : (ahead part : List ℕ) → (heading : List ℕ) → (numbers : List ℕ) → (words : List ℕ) → Type 0
+TellsLost ahead part heading [] words = words ≡ []
+TellsLost ahead part heading (number ∷ numbers) words =
     (lines : List ℕ) × TellsJobs ahead part (take 8 (number ∷ numbers)) lines
-    × (words ≡ heading kind ++ (decimal (length (number ∷ numbers))
+    × (words ≡ heading ++ (decimal (length (number ∷ numbers))
     ++ (codes "\n" ++ (lines ++ more_text (length (number ∷ numbers) - 8)))))
 
 -- the jobs that were refused, then those that aborted, then those that clashed
 abbrev pub TellsLosses : (ahead part : List ℕ) → List JobOutcome → (words : List ℕ) → Type 0
 TellsLosses ahead part outcomes words =
     (refused aborted clashed : List ℕ)
-    × TellsLost ahead part loss.Refused (numbers_lost loss.Refused outcomes) refused
-    × TellsLost ahead part loss.Aborted (numbers_lost loss.Aborted outcomes) aborted
-    × TellsLost ahead part loss.Clashed (numbers_lost loss.Clashed outcomes) clashed
+    × TellsLost ahead part (codes "jobs that were refused: ") (numbers_lost Refused outcomes) refused
+    × TellsLost ahead part (codes "jobs that aborted: ") (numbers_lost Aborted outcomes) aborted
+    × TellsLost ahead part (codes "jobs of which each try clashed: ") (numbers_lost Clashed outcomes) clashed
     × (words ≡ refused ++ (aborted ++ clashed))

@@ -1,48 +1,21 @@
 //! The cycle that the commits of a book form, in words.
-ghost use Rattle.std.specs.Prelude.{◌≡◌, ◌++◌, IfOk, OnOk, flat_map, option_copied, string_bytes};
+ghost use Rattle.std.specs.Prelude.{◌≡◌, ◌++◌, IfOk, OnOk, option_copied, string_bytes};
 ghost use Rattle.prog_tree.specs.Tree.{draft_tree};
-ghost use Rattle.run_words.specs.Cycles.{ahead_text, arguments_text, behind_text, call_of, call_text, commits_text, cycle_text, first_or, further_argument, line_text, lines_text};
+ghost use Rattle.run_words.specs.Cycles.{ahead_text, behind_text, call_of, call_text, commits_text, cycle_text, first_or, line_text, lines_text};
 
 use fault_words::{cell_text, program_name, region_text};
 use history_book::{Book, HistoryRow, Reason};
 use prog_check::ProgramSet;
 use std::alloc::{AllocError, Global};
-
-fn further_argument(alloc: Global, argument: i64) -> Result<String, AllocError>
-    ensures { IfOk result (λ text. string_bytes text ≡ further_argument argument) }
-{
-    format!(in alloc; ", {argument}")
-}
-
-fn further_arguments(alloc: Global, args: &[i64]) -> Result<String, AllocError>
-    ensures { IfOk result (λ text. string_bytes text ≡ flat_map further_argument args.now) }
-{
-    let mut text = String::new(alloc);
-    for argument in args {
-        let further = further_argument(alloc, *argument)?;
-        text.push_str(&further)?;
-    }
-    Ok(text)
-}
-
-// Arguments with commas between them.
-fn arguments_text(alloc: Global, args: &[i64]) -> Result<String, AllocError>
-    ensures { IfOk result (λ text. string_bytes text ≡ arguments_text args.now) }
-{
-    let [first, others @ ..] = args else {
-        return Ok(String::new(alloc));
-    };
-    let further = further_arguments(alloc, others)?;
-    format!(in alloc; "{first}{further}")
-}
+use text_places::bracketed;
 
 // An instance as a call.
 fn call_text(alloc: Global, set: &ProgramSet, row: &HistoryRow) -> Result<String, AllocError>
     ensures { IfOk result (λ text. string_bytes text ≡ call_text (draft_tree set.now) row.now) }
 {
     let name = program_name(set, row.program);
-    let arguments = arguments_text(alloc, row.args.as_slice())?;
-    format!(in alloc; "{name}({arguments})")
+    let arguments = bracketed(alloc, row.args.as_slice())?;
+    format!(in alloc; "{name}{arguments}")
 }
 
 // The call of an instance, where there is one.

@@ -23,6 +23,6 @@ mod shared_words;
 pub use cycle::cycle_words;
 pub use line_faults::{PartKind, line_fault_words};
 pub use lost_jobs::{ToldJobs, lost_job_words};
-pub use part_faults::{extra_part_words, missing_part_words};
+pub use part_faults::{begins_separator, extra_part_words, missing_part_words};
 pub use record_faults::record_words;
 pub use refusals::{Refusals, refused_words};

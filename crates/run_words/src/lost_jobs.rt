@@ -1,43 +1,23 @@
 //! The jobs that did not commit, in words.
 ghost use Rattle.std.specs.Prelude.{◌≡◌, ◌++◌, [], ◌∷◌, List, ℕ, IfNone, IfOk, IfSome, OnOk, slice_get, string_bytes, take, if◌then◌else◌};
 ghost use Rattle.text_places.specs.Landmarks.{HasNoJob, IsJobPlace};
-ghost use Rattle.run_words.specs.LostJobs.{heading, is_loss, is_lost_by, more_text, numbers_lost, place_text, IsJobText, TellsJob, TellsJobs, TellsLosses, TellsLost};
+ghost use Rattle.run_words.specs.LostJobs.{is_lost_by, more_text, numbers_lost, place_text, IsJobText, TellsJob, TellsJobs, TellsLosses, TellsLost};
 
 use crate::in_input::input_line_text;
 use crate::job_reasons::job_sentence;
 use crate::job_spots::{FRONT, Spot, spot_of};
 use crate::limits::MAX_TOLD;
 use prog_check::ProgramSet;
-use si_workers::{Job, JobEnd, JobOutcome};
+use si_workers::{Job, JobOutcome, Way};
 use std::alloc::{AllocError, Global};
 use text_places::{line_number, visible_text};
 
-/// How a job ended that did not commit.
-#[derive(Clone, Copy, Debug, PartialEq, Eq)]
-pub enum Loss {
-    /// It could not be begun.
-    Refused,
-    Aborted,
-    /// Its last try clashed too.
-    Clashed,
-}
-
-fn is_loss(kind: Loss, end: &JobEnd) -> bool
-    ensures { result ≡ is_loss kind end.now }
-{
-    match end {
-        JobEnd::Committed { .. } => false,
-        JobEnd::Aborted(_) => kind == Loss::Aborted,
-        JobEnd::Clashed(_) => kind == Loss::Clashed,
-        JobEnd::Refused(_) => kind == Loss::Refused,
-    }
-}
-
-fn is_lost_by(kind: Loss, outcomes: &[JobOutcome], number: usize) -> bool
-    ensures { result ≡ is_lost_by kind (slice_get outcomes.now number) }
+// Whether the job of a number ended in a way.
+fn is_lost_by(way: Way, outcomes: &[JobOutcome], number: usize) -> bool
+    ensures { result ≡ is_lost_by way (slice_get outcomes.now number) }
 {
     match outcomes.get(number) {
-        Some(outcome) => is_loss(kind, &outcome.job_end),
+        Some(outcome) => outcome.job_end.is_in(way),
         None => false,
     }
 }
@@ -54,16 +34,12 @@ fn push_if(numbers: &mut Vec<usize>, is_lost: bool, number: usize) -> Result<(),
 }
 
 // The numbers of the jobs that ended so.
-fn numbers_lost(
-    alloc: Global,
-    kind: Loss,
-    outcomes: &[JobOutcome],
-) -> Result<Vec<usize>, AllocError>
-    ensures { IfOk result (λ numbers. numbers.items ≡ numbers_lost kind outcomes.now) }
+fn numbers_lost(alloc: Global, way: Way, outcomes: &[JobOutcome]) -> Result<Vec<usize>, AllocError>
+    ensures { IfOk result (λ numbers. numbers.items ≡ numbers_lost way outcomes.now) }
 {
     let mut numbers = Vec::new(alloc);
     for number in 0..outcomes.len() {
-        let is_lost = is_lost_by(kind, outcomes, number);
+        let is_lost = is_lost_by(way, outcomes, number);
         push_if(&mut numbers, is_lost, number)?;
     }
     Ok(numbers)
@@ -147,16 +123,6 @@ fn push_jobs(
     Ok(())
 }
 
-fn heading(kind: Loss) -> &'static str
-    ensures { result.now ≡ heading kind }
-{
-    match kind {
-        Loss::Refused => "jobs that were refused: ",
-        Loss::Aborted => "jobs that aborted: ",
-        Loss::Clashed => "jobs of which each try clashed: ",
-    }
-}
-
 // That there are so many more.
 fn more_text(alloc: Global, count: usize) -> Result<String, AllocError>
     ensures { IfOk result (λ text. string_bytes text ≡ more_text count) }
@@ -171,11 +137,7 @@ fn more_text(alloc: Global, count: usize) -> Result<String, AllocError>
 fn first_ones(numbers: &[usize]) -> &[usize]
     ensures { result.now ≡ take 8 numbers.now }
 {
-    if numbers.len() > MAX_TOLD {
-        &numbers[..MAX_TOLD]
-    } else {
-        numbers
-    }
+    numbers.get(..MAX_TOLD).unwrap_or(numbers)
 }
 
 // The lines of the first ones of some jobs.
@@ -193,39 +155,39 @@ fn first_lines(
     Ok(lines)
 }
 
-// The jobs of these numbers, which ended so.
+// The jobs of these numbers, behind a heading.
 fn lost_text(
     alloc: Global,
     set: &ProgramSet,
     told: ToldJobs<'_>,
-    kind: Loss,
+    heading: &str,
     numbers: &[usize],
 ) -> Result<String, AllocError>
     ensures { IfOk result (λ words. TellsLost told.entry.ahead.now told.entry.part.now
-        kind numbers.now (string_bytes words)) }
+        heading.now numbers.now (string_bytes words)) }
 {
     let [_, ..] = numbers else {
         return Ok(String::new(alloc));
     };
-    let heading = heading(kind);
     let count = numbers.len();
     let lines = first_lines(alloc, set, told, numbers)?;
     let more = more_text(alloc, count.saturating_sub(MAX_TOLD))?;
     format!(in alloc; "{heading}{count}\n{lines}{more}")
 }
 
-// The jobs that ended so.
+// The jobs that ended in a way, behind a heading.
 fn jobs_lost(
     alloc: Global,
     set: &ProgramSet,
     told: ToldJobs<'_>,
-    kind: Loss,
+    way: Way,
+    heading: &str,
 ) -> Result<String, AllocError>
     ensures { IfOk result (λ words. TellsLost told.entry.ahead.now told.entry.part.now
-        kind (numbers_lost kind told.entry.outcomes.now) (string_bytes words)) }
+        heading.now (numbers_lost way told.entry.outcomes.now) (string_bytes words)) }
 {
-    let numbers = numbers_lost(alloc, kind, told.outcomes)?;
-    lost_text(alloc, set, told, kind, &numbers)
+    let numbers = numbers_lost(alloc, way, told.outcomes)?;
+    lost_text(alloc, set, told, heading, &numbers)
 }
 
 /// Which jobs were refused, which aborted and which clashed for good: of each kind how many, and the
@@ -238,8 +200,14 @@ pub fn lost_job_words(
     ensures { IfOk result (λ words. TellsLosses told.entry.ahead.now told.entry.part.now
         told.entry.outcomes.now (string_bytes words)) }
 {
-    let refused = jobs_lost(alloc, set, told, Loss::Refused)?;
-    let aborted = jobs_lost(alloc, set, told, Loss::Aborted)?;
-    let clashed = jobs_lost(alloc, set, told, Loss::Clashed)?;
+    let refused = jobs_lost(alloc, set, told, Way::Refused, "jobs that were refused: ")?;
+    let aborted = jobs_lost(alloc, set, told, Way::Aborted, "jobs that aborted: ")?;
+    let clashed = jobs_lost(
+        alloc,
+        set,
+        told,
+        Way::Clashed,
+        "jobs of which each try clashed: ",
+    )?;
     format!(in alloc; "{refused}{aborted}{clashed}")
 }

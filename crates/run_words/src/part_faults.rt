@@ -7,8 +7,8 @@ use fault_words::point_at;
 use std::alloc::{AllocError, Global};
 use text_places::{before, behind, ends_line, line_number};
 
-// Whether bytes begin with `%%`, where the line ends.
-fn begins_separator(bytes: &[u8]) -> bool
+/// Whether bytes begin with `%%`, where the line ends.
+pub fn begins_separator(bytes: &[u8]) -> bool
     ensures { result ≡ begins_separator bytes.now }
 {
     bytes == b"%%".as_slice() || bytes.starts_with(b"%%\n")
@@ -32,12 +32,7 @@ fn is_near_separator_at(input: &[u8], place: usize) -> bool {
 
 // Where the line begins that was perhaps meant as `%%`.
 fn near_separator(input: &[u8]) -> Option<usize> {
-    for place in 0..input.len() {
-        if is_near_separator_at(input, place) {
-            return Some(place);
-        }
-    }
-    None
+    (0..input.len()).find(|place| is_near_separator_at(input, *place))
 }
 
 // What the line that begins with these bytes has besides `%%`.

@@ -13,4 +13,5 @@ pub mod Outcomes
 pub mod Settled
 pub mod Tally
 pub mod Told
+pub mod Ways
 pub mod Work

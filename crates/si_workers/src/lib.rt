@@ -22,7 +22,7 @@ mod worker;
 
 pub use fault::{BeginAfterFault, WorkFault};
 pub use gate::{Gate, Moment, NoGate};
-pub use job::{Job, JobEnd, JobOutcome};
+pub use job::{Job, JobEnd, JobOutcome, Way};
 pub use job_list::{JobList, read_jobs};
 pub use limits::{MAX_JOBS, MAX_WORKERS};
 pub use run::{Finished, run_jobs};

@@ -128,17 +128,17 @@ fn commit<'a, D: Desk<'a>>(
     let replies = Sequence::from_vec(replies);
     match desk.commit(ticket, run) {
         Ok(number) => Ok(JobEnd::Committed { number, replies }),
-        Err(fault) => match fault {
-            CommitFault::Clashed(clash) => Ok(JobEnd::Clashed(clash)),
-            CommitFault::Memory(Unused { ticket, run }) => {
-                drop(run);
-                desk.withdraw(ticket);
-                Err(Stop::NoMemory)
-            }
+        Err(CommitFault::Clashed(clash)) => Ok(JobEnd::Clashed(clash)),
+        Err(CommitFault::Memory(Unused { ticket, run })) => {
+            drop(run);
+            desk.withdraw(ticket);
+            Err(Stop::NoMemory)
+        }
+        Err(
             CommitFault::NoSuchTicket(_unused)
             | CommitFault::NotReady(_unused)
-            | CommitFault::ForeignRun(_, _unused) => Err(Stop::Lost),
-        },
+            | CommitFault::ForeignRun(_, _unused),
+        ) => Err(Stop::Lost),
     }
 }
 
@@ -156,16 +156,16 @@ fn abort<'a, D: Desk<'a>>(
 {
     match desk.end(ticket, run) {
         Ok(()) => Ok(JobEnd::Aborted(cause)),
-        Err(fault) => match fault {
-            EndFault::Memory(Unused { ticket, run }) => {
-                drop(run);
-                desk.withdraw(ticket);
-                Err(Stop::NoMemory)
-            }
+        Err(EndFault::Memory(Unused { ticket, run })) => {
+            drop(run);
+            desk.withdraw(ticket);
+            Err(Stop::NoMemory)
+        }
+        Err(
             EndFault::NoSuchTicket(_unused)
             | EndFault::NotAborted(_unused)
-            | EndFault::ForeignRun(_, _unused) => Err(Stop::Lost),
-        },
+            | EndFault::ForeignRun(_, _unused),
+        ) => Err(Stop::Lost),
     }
 }
 

@@ -1,6 +1,6 @@
 -- The text that refuses a set, by a dangerous structure of it.
-use Rattle.std.specs.Prelude.{ℕ, ℤ, Bool, true, false, List, [], ◌∷◌, ◌++◌, length, map, Option, Some, None, codes, slice_get}
-use Rattle.std.specs.Fmt.{decimal, signed_decimal}
+use Rattle.std.specs.Prelude.{ℕ, ℤ, Bool, true, false, List, [], ◌++◌, length, map, Option, Some, None, codes, slice_get}
+use Rattle.std.specs.Fmt.{decimal}
 use Rattle.std.specs.List.{flat_map, range_with_len}
 use Rattle.order_facts.specs.Sample.{sample_number}
 use Rattle.order_facts.specs.declared.sample.Choice.{Choice}
@@ -9,6 +9,7 @@ use Rattle.prog_check.specs.declared.path.Path.{Path}
 use Rattle.prog_check.specs.Paths.{paths_of}
 use Rattle.analysis_words.specs.Nodes.{branches_text}
 use Rattle.analysis_words.specs.Instances.{node_of}
+use Rattle.text_places.specs.Listing.{bracketed}
 use Rattle.dep_graph.specs.declared.danger.Danger.{Danger}
 use Rattle.dep_graph.specs.declared.danger.Exposure.{Exposure}
 
@@ -30,15 +31,6 @@ abbrev pub node_head : List ProgramTree → List Path → ℕ → Name × ℕ
 node_head programs paths node = head_along programs (slice_get paths node)
 
 -- ---- samples
-
--- numbers, each behind a comma
-abbrev pub further_numbers : List ℤ → List ℕ
-further_numbers numbers = flat_map (λ n. codes ", " ++ signed_decimal n) numbers
-
--- numbers in brackets, as `(0, 7)`
-abbrev pub bracketed : List ℤ → List ℕ
-bracketed [] = codes "()"
-bracketed (first ∷ others) = codes "(" ++ (signed_decimal first ++ (further_numbers others ++ codes ")"))
 
 -- the numbers that a sample gives so many parameters of the first or of the second of two nodes
 abbrev pub sample_numbers : List Choice → (is_first : Bool) → ℕ → List ℤ

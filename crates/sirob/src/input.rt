@@ -32,15 +32,25 @@ pub fn read_text(alloc: Global, input: &[u8]) -> Result<ProgramSet, CommandFault
     read_set(alloc, text)
 }
 
+/// A set, and the bytes of the part behind its text.
+#[derive(Drop)]
+pub struct ReadSet<'a> {
+    pub set: ProgramSet,
+    pub part: &'a [u8],
+}
+
 /// The set that the first part of an input spells, where it has no fault, and the bytes of the
 /// second part.
-pub fn read_text_and_part(alloc: Global, input: &[u8]) -> Result<(ProgramSet, &[u8]), CommandFault>
+pub fn read_text_and_part(alloc: Global, input: &[u8]) -> Result<ReadSet<'_>, CommandFault>
     requires { length input.now ≤ input_limit }
-    ensures ok { IfOk result (λ r. IsSetAndPart input.now (draft_tree r.0) r.1.now) }
+    ensures ok { IfOk result (λ read. IsSetAndPart input.now (draft_tree read.set) read.part.now) }
     ensures err { IfErr result (λ fault. is_memory fault ≡ false
         → IsRefusedInput 2 input.now fault) }
 {
     let parts = two_parts(input)?;
     let set = read_set(alloc, parts.text)?;
-    Ok((set, parts.rest))
+    Ok(ReadSet {
+        set,
+        part: parts.rest,
+    })
 }

@@ -1,7 +1,8 @@
 //! The parts of the input.
 ghost use Rattle.std.specs.Prelude.{◌≡◌, ◌<◌, ◌≤◌, ◌+◌, ◌↔◌, [], ◌∷◌, IsOk, IfOk, IfErr, IsErrOf, IfSome, IfNone, MatchOption, ℕ, ◌≢◌, length, slice_index, take, drop};
-ghost use Rattle.run_words.specs.PartPointing.{begins_separator};
 ghost use Rattle.sirob.specs.Parts.{full_lines_of, parts_of};
+
+use run_words::begins_separator;
 
 /// The input hasn't the parts that are asked for.
 #[derive(Clone, Copy, Debug, PartialEq, Eq)]
@@ -70,7 +71,7 @@ fn first_part(bytes: &[u8]) -> FirstPart<'_>
         let rest = &bytes[at..];
         let line = first_line(rest);
         let next = at + line.len();
-        if is_separator(line) {
+        if begins_separator(line) {
             return FirstPart {
                 part: &bytes[..at],
                 behind: Some(&bytes[next..]),
@@ -107,10 +108,4 @@ fn first_feed(bytes: &[u8]) -> Option<usize>
     ensures none { IfNone result ((k : ℕ) → k < length bytes.now → slice_index bytes.now k ≢ 10) }
 {
     bytes.iter().position(|byte| *byte == b'\n')
-}
-
-fn is_separator(line: &[u8]) -> bool
-    ensures { result ≡ begins_separator line.now }
-{
-    line == b"%%".as_slice() || line.starts_with(b"%%\n")
 }

@@ -14,7 +14,7 @@ use crate::commands::check::check_input;
 use crate::commands::repair::repair_input;
 use crate::commands::run::{run_part, run_robust_part};
 use crate::commands::verify::verify_part;
-use crate::input::read_text_and_part;
+use crate::input::{ReadSet, read_text_and_part};
 use crate::sentences::kept::Kept;
 use crate::sentences::words::explain;
 use crate::status::Status;
@@ -41,7 +41,7 @@ fn part_input<K: Sink>(
         (K.has_failed sink.new) (K.taken sink.old) (K.taken sink.new) result }
 {
     let alloc = rt.alloc();
-    let (set, part) = read_text_and_part(alloc, input)?;
+    let ReadSet { set, part } = read_text_and_part(alloc, input)?;
     match mode {
         Mode::Check | Mode::Certify | Mode::Repair { .. } | Mode::Work { .. } => unreachable!(),
         Mode::Verify => verify_part(alloc, set, part, sink),

@@ -9,7 +9,7 @@ ghost use Rattle.sirob.specs.declared.command_line.Mode.TheVariants as mode;
 use crate::command_fault::CommandFault;
 use crate::command_line::Mode;
 use crate::commands::work::work_part;
-use crate::input::read_text_and_part;
+use crate::input::{ReadSet, read_text_and_part};
 use crate::progress::Watched;
 use crate::run_command::write_end;
 use crate::sentences::kept::Kept;
@@ -33,7 +33,7 @@ fn work_input<R: AllocGlobal + Eprint + Clock + Watched + Threads + Wait + Sync,
     ensures { WritesOr (Err write_lost) (IsInputDone (mode.Work workers) input.now)
         (K.has_failed sink.new) (K.taken sink.old) (K.taken sink.new) result }
 {
-    let (set, part) = read_text_and_part(rt.alloc(), input)?;
+    let ReadSet { set, part } = read_text_and_part(rt.alloc(), input)?;
     work_part(rt, workers, set, part, sink, kept)
 }
 

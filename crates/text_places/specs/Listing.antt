@@ -1,5 +1,7 @@
 -- Lists with commas.
-use Rattle.std.specs.Prelude.{ℕ, List, [], ◌∷◌, ◌++◌, codes}
+use Rattle.std.specs.Prelude.{ℕ, ℤ, List, [], ◌∷◌, ◌++◌, codes}
+use Rattle.std.specs.Fmt.{signed_decimal}
+use Rattle.std.specs.List.{flat_map}
 
 -- what stands between a list and what is added to it: nothing where the list has nothing yet
 abbrev pub comma_behind : (list : List ℕ) → List ℕ
@@ -8,3 +10,12 @@ comma_behind (byte ∷ bytes) = codes ", "
 
 abbrev pub with_listed : (list word : List ℕ) → List ℕ
 with_listed list word = list ++ (comma_behind list ++ word)
+
+-- numbers, each behind a comma
+abbrev pub further_numbers : List ℤ → List ℕ
+further_numbers numbers = flat_map (λ n. codes ", " ++ signed_decimal n) numbers
+
+-- numbers in brackets, as `(0, 7)`
+abbrev pub bracketed : List ℤ → List ℕ
+bracketed [] = codes "()"
+bracketed (first ∷ others) = codes "(" ++ (signed_decimal first ++ (further_numbers others ++ codes ")"))

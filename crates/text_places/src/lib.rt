@@ -14,7 +14,7 @@ mod set_text;
 mod tokens;
 
 pub use landmark::{job_place, program_place, record_place, table_place};
-pub use listing::push_listed;
+pub use listing::{bracketed, push_listed};
 pub use place::{before, behind, column, ends_line, feeds, line_at, line_front, line_number};
 pub use quote::{point_out, visible_text};
 pub use reading::{

@@ -1,7 +1,7 @@
 //! The text that refuses a set.
 ghost use Rattle.std.specs.Prelude.{◌≡◌, IfOk, map, slice_get, string_bytes};
 ghost use Rattle.prog_tree.specs.Tree.{draft_tree, program_tree};
-ghost use Rattle.sirob.specs.Refusal.{head_of, node_head, access_text, further_numbers, bracketed, sample_numbers, sample_text, exposure_text, nodes_text, refusal_text};
+ghost use Rattle.sirob.specs.Refusal.{head_of, node_head, access_text, sample_numbers, sample_text, exposure_text, nodes_text, refusal_text};
 
 use analysis_words::{branches_text, node_of};
 use conflict_pairs::Question;
@@ -11,6 +11,7 @@ use prog_check::{Path, ProgramSet};
 use prog_paths::paths;
 use prog_tree::Program;
 use std::alloc::{AllocError, Global};
+use text_places::bracketed;
 
 // The name of a program, and how many parameters it has.
 fn program_head(programs: &[Program], number: usize) -> (&str, usize)
@@ -50,27 +51,6 @@ fn node_head(
     let branches = branches_text(alloc, path.choices.as_slice())?;
     let name = format!(in alloc; "{program}{branches}")?;
     Ok(NodeHead { name, params })
-}
-
-// Numbers, each behind a comma.
-fn further_numbers(alloc: Global, numbers: &[i64]) -> Result<String, AllocError>
-    ensures { IfOk result (λ text. string_bytes text ≡ further_numbers numbers.now) }
-{
-    let mut text = String::new(alloc);
-    for number in numbers {
-        write!(text, ", {number}")?;
-    }
-    Ok(text)
-}
-
-fn bracketed(alloc: Global, numbers: &[i64]) -> Result<String, AllocError>
-    ensures { IfOk result (λ text. string_bytes text ≡ bracketed numbers.now) }
-{
-    let [first, others @ ..] = numbers else {
-        return format!(in alloc; "()");
-    };
-    let others = further_numbers(alloc, others)?;
-    format!(in alloc; "({first}{others})")
 }
 
 // The numbers that a sample gives the parameters of the first or of the second of its nodes.

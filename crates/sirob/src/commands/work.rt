@@ -7,7 +7,7 @@ ghost use Rattle.si_workers.specs.JobLines.{jobs_of};
 ghost use Rattle.sirob.specs.FaultLines.{is_memory};
 ghost use Rattle.sirob.specs.Output.{IsRobust, IsRefusedPart, GivesWork};
 ghost use Rattle.sirob.specs.Stops.{IsPartDone, IsRefusedJobs, write_lost};
-ghost use Rattle.sirob.specs.Work.{is_committed, is_aborted, is_clashed, is_refused, ends_in, counts_text, work_text};
+ghost use Rattle.sirob.specs.Work.{ends_in, counts_text, work_text};
 ghost use Rattle.sirob.specs.declared.command_line.Mode.TheVariants as mode;
 
 use crate::command_fault::CommandFault;
@@ -21,80 +21,27 @@ use prog_check::ProgramSet;
 use prog_tree::Sequence;
 use robust_cert::RobustSet;
 use si_engine::{Bytes, Sink, push_rows};
-use si_workers::{Finished, JobEnd, JobList, JobOutcome, read_jobs, run_jobs};
+use si_workers::{Finished, JobList, JobOutcome, Way, read_jobs, run_jobs};
 use std::alloc::{AllocError, Global};
 use std::rt::Clock;
 use std::sync::Wait;
 use std::thread::Threads;
 
-fn is_committed(end: &JobEnd) -> bool
-    ensures { result ≡ is_committed end.now }
+// How many jobs ended in a way.
+fn ends_in(way: Way, outcomes: &[JobOutcome]) -> usize
+    ensures { result ≡ ends_in way outcomes.now }
 {
-    matches!(end, JobEnd::Committed { .. })
-}
-
-fn is_aborted(end: &JobEnd) -> bool
-    ensures { result ≡ is_aborted end.now }
-{
-    matches!(end, JobEnd::Aborted(_))
-}
-
-fn is_clashed(end: &JobEnd) -> bool
-    ensures { result ≡ is_clashed end.now }
-{
-    matches!(end, JobEnd::Clashed(_))
-}
-
-fn is_refused(end: &JobEnd) -> bool
-    ensures { result ≡ is_refused end.now }
-{
-    matches!(end, JobEnd::Refused(_))
-}
-
-fn committed_in(outcomes: &[JobOutcome]) -> usize
-    ensures { result ≡ ends_in is_committed outcomes.now }
-{
-    outcomes
-        .iter()
-        .filter(|one| is_committed(&one.job_end))
-        .count()
-}
-
-fn aborted_in(outcomes: &[JobOutcome]) -> usize
-    ensures { result ≡ ends_in is_aborted outcomes.now }
-{
-    outcomes
-        .iter()
-        .filter(|one| is_aborted(&one.job_end))
-        .count()
-}
-
-fn clashed_in(outcomes: &[JobOutcome]) -> usize
-    ensures { result ≡ ends_in is_clashed outcomes.now }
-{
-    outcomes
-        .iter()
-        .filter(|one| is_clashed(&one.job_end))
-        .count()
-}
-
-fn refused_in(outcomes: &[JobOutcome]) -> usize
-    ensures { result ≡ ends_in is_refused outcomes.now }
-{
-    outcomes
-        .iter()
-        .filter(|one| is_refused(&one.job_end))
-        .count()
+    outcomes.iter().filter(|one| one.job_end.is_in(way)).count()
 }
 
 // How many jobs ended in each way.
 fn counts_text(alloc: Global, outcomes: &[JobOutcome]) -> Result<String, AllocError>
     ensures { IfOk result (λ text. string_bytes text ≡ counts_text outcomes.now) }
 {
-    let committed = committed_in(outcomes);
-    let aborted = aborted_in(outcomes);
-    let clashed = clashed_in(outcomes);
-    let refused = refused_in(outcomes);
+    let committed = ends_in(Way::Committed, outcomes);
+    let aborted = ends_in(Way::Aborted, outcomes);
+    let clashed = ends_in(Way::Clashed, outcomes);
+    let refused = ends_in(Way::Refused, outcomes);
     format!(in alloc;
         "committed {committed}\naborted {aborted}\nclashed {clashed}\nrefused {refused}\n"
     )

@@ -4,12 +4,8 @@ use crate::sentences::kept_input::KeptInput;
 use crate::worker_fault::WorkerFault;
 use run_words::{ToldJobs, lost_job_words};
 use si_engine::Bytes;
-use si_workers::{JobEnd, JobOutcome, MAX_JOBS, MAX_WORKERS, read_jobs};
+use si_workers::{JobOutcome, MAX_JOBS, MAX_WORKERS, Way, read_jobs};
 use std::alloc::{AllocError, Global};
-
-fn has_committed(outcome: &JobOutcome) -> bool {
-    matches!(outcome.job_end, JobEnd::Committed { .. })
-}
 
 /// Which jobs of an input did not commit, given what came of each.
 pub fn lost_sentence(
@@ -17,7 +13,10 @@ pub fn lost_sentence(
     input: &[u8],
     outcomes: &[JobOutcome],
 ) -> Result<Option<String>, AllocError> {
-    if outcomes.iter().all(has_committed) {
+    if outcomes
+        .iter()
+        .all(|outcome| outcome.job_end.is_in(Way::Committed))
+    {
         return Ok(None);
     }
     let input = KeptInput::of(input);

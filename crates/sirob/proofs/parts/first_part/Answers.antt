@@ -22,6 +22,6 @@ loop-at-preserved c =
     let first = c.first_line-line.ensures.first in record {
       within = search rules;
       same = one_more_line c.args.bytes.now line c.loop-at.at c.loop-at.invariant.same
-          (subst (λ (l : List ℕ). full_lines_of l ≡ line ∷ full_lines_of (drop (length line) l)) rest first) (sym c.if-is_separator.ensures)
+          (subst (λ (l : List ℕ). full_lines_of l ≡ line ∷ full_lines_of (drop (length line) l)) rest first) (sym c.if-begins_separator.ensures)
           (subst (λ (l : List ℕ). line ≡ take (length line) l) rest front);
     }

@@ -23,7 +23,7 @@ returns-in-Verify g c =
     let input = c.args.input.now in
     let sink = c.verify_part.new.sink in
     subst (λ (m : Mode). WritesOr (Err write_lost) (IsInputDone m input) (g.K.Sink.has_failed sink) (g.K.Sink.taken c.args.sink.now) (g.K.Sink.taken sink) c.verify_part.result) (sym c.in-Verify.is)
-    (done_of_part Verify input (draft_tree c.in_ok-set.set) c.in_ok-set.part.now _ _ _ _ refl c.in_ok-set.ensures.ok c.verify_part.ensures)
+    (done_of_part Verify input (draft_tree c.in_ok-set.field-0.set) c.in_ok-set.field-0.part.now _ _ _ _ refl c.in_ok-set.ensures.ok c.verify_part.ensures)
 
 pub returns-in-Run-false : goal.returns-in-Run-false
 returns-in-Run-false g c =
@@ -31,7 +31,7 @@ returns-in-Run-false g c =
     let input = c.args.input.now in
     let sink = c.run_part.new.sink in
     subst (λ (m : Mode). WritesOr (Err write_lost) (IsInputDone m input) (g.K.Sink.has_failed sink) (g.K.Sink.taken c.args.sink.now) (g.K.Sink.taken sink) c.run_part.result) (sym (c.in-Run-false.is ∙ ap Run flag))
-    (done_of_part (Run false) input (draft_tree c.in_ok-set.set) c.in_ok-set.part.now _ _ _ _ refl c.in_ok-set.ensures.ok c.run_part.ensures)
+    (done_of_part (Run false) input (draft_tree c.in_ok-set.field-0.set) c.in_ok-set.field-0.part.now _ _ _ _ refl c.in_ok-set.ensures.ok c.run_part.ensures)
 
 pub returns-in-Run-true : goal.returns-in-Run-true
 returns-in-Run-true g c =
@@ -39,11 +39,11 @@ returns-in-Run-true g c =
     let input = c.args.input.now in
     let sink = c.run_robust_part.new.sink in
     subst (λ (m : Mode). WritesOr (Err write_lost) (IsInputDone m input) (g.K.Sink.has_failed sink) (g.K.Sink.taken c.args.sink.now) (g.K.Sink.taken sink) c.run_robust_part.result) (sym (c.in-Run-true.is ∙ ap Run flag))
-    (done_of_part (Run true) input (draft_tree c.in_ok-set.set) c.in_ok-set.part.now _ _ _ _ refl c.in_ok-set.ensures.ok c.run_robust_part.ensures)
+    (done_of_part (Run true) input (draft_tree c.in_ok-set.field-0.set) c.in_ok-set.field-0.part.now _ _ _ _ refl c.in_ok-set.ensures.ok c.run_robust_part.ensures)
 
 pub returns-in-Audit : goal.returns-in-Audit
 returns-in-Audit g c =
     let input = c.args.input.now in
     let sink = c.audit_part.new.sink in
     subst (λ (m : Mode). WritesOr (Err write_lost) (IsInputDone m input) (g.K.Sink.has_failed sink) (g.K.Sink.taken c.args.sink.now) (g.K.Sink.taken sink) c.audit_part.result) (sym c.in-Audit.is)
-    (done_of_part Audit input (draft_tree c.in_ok-set.set) c.in_ok-set.part.now _ _ _ _ refl c.in_ok-set.ensures.ok c.audit_part.ensures)
+    (done_of_part Audit input (draft_tree c.in_ok-set.field-0.set) c.in_ok-set.field-0.part.now _ _ _ _ refl c.in_ok-set.ensures.ok c.audit_part.ensures)

@@ -17,4 +17,4 @@ returns-in_err-set g c =
 
 pub returns : goal.returns
 returns g c =
-    done_of_part (Work c.args.workers) c.args.input.now (draft_tree c.in_ok-set.set) c.in_ok-set.part.now _ _ _ _ refl c.in_ok-set.ensures.ok c.work_part.ensures
+    done_of_part (Work c.args.workers) c.args.input.now (draft_tree c.in_ok-set.field-0.set) c.in_ok-set.field-0.part.now _ _ _ _ refl c.in_ok-set.ensures.ok c.work_part.ensures

@@ -1,6 +1,6 @@
 use Rattle.std.proofs.Common.{◌≡◌, take, string_bytes}
-use Rattle.sirob.specs.Refusal.{further_numbers}
-use Rattle.sirob.proofs.commands.refusal.further_numbers.Given as goal
+use Rattle.text_places.specs.Listing.{further_numbers}
+use Rattle.text_places.proofs.listing.further_numbers.Given as goal
 
 -- the numbers so far are written
 abbrev pub invariant-loop-number : goal.invariant-loop-number
