@@ -5,13 +5,20 @@ ghost use Rattle.run_words.specs.InInput.{input_line, input_line_text, numbered_
 use std::alloc::{AllocError, Global};
 use text_places::{before, feeds, point_out, visible_text};
 
-// The line in the whole input, with the bytes of the input that stand ahead of the part.
+/// A part of an input, and the bytes of the input that stand ahead of it.
+#[derive(Clone, Copy)]
+pub struct Part<'a> {
+    pub ahead: &'a [u8],
+    pub bytes: &'a [u8],
+}
+
+// The line of a place of a part in the whole input.
 #[tactic(auto, using(crate::proofs::WholeInput::line_behind))]
-fn input_line(ahead: &[u8], part: &[u8], place: usize) -> usize
-    ensures { result ≡ input_line ahead.now part.now place }
+fn input_line(part: Part<'_>, place: usize) -> usize
+    ensures { result ≡ input_line part.entry.ahead.now part.entry.bytes.now place }
 {
-    let feeds_ahead = feeds(ahead);
-    let feeds_within = feeds(before(part, place));
+    let feeds_ahead = feeds(part.ahead);
+    let feeds_within = feeds(before(part.bytes, place));
     feeds_ahead + feeds_within + 1
 }
 
@@ -22,35 +29,30 @@ fn numbered_text(alloc: Global, line: usize) -> Result<String, AllocError>
 }
 
 /// The line of a place of a part in the whole input; nothing where the part is the whole.
-pub fn input_line_text(
-    alloc: Global,
-    ahead: &[u8],
-    part: &[u8],
-    place: usize,
-) -> Result<String, AllocError>
+pub fn input_line_text(alloc: Global, part: Part<'_>, place: usize) -> Result<String, AllocError>
     ensures { IfOk result (λ text. string_bytes text
-        ≡ input_line_text ahead.now part.now place) }
+        ≡ input_line_text part.entry.ahead.now part.entry.bytes.now place) }
 {
-    let [_, ..] = ahead else {
+    let [_, ..] = part.ahead else {
         return Ok(String::new(alloc));
     };
-    numbered_text(alloc, input_line(ahead, part, place))
+    numbered_text(alloc, input_line(part, place))
 }
 
 /// Says a sentence of a place of a part in one line, as `point_out` does, and behind it the line in
 /// the whole input.
 pub fn point_in_part(
     alloc: Global,
-    ahead: &[u8],
-    part: &[u8],
+    part: Part<'_>,
     place: usize,
     sentence: &str,
 ) -> Result<String, AllocError>
-    ensures { IfOk result (λ words. PointsInPart ahead.now part.now place (string_bytes words)) }
+    ensures { IfOk result (λ words. PointsInPart part.entry.ahead.now part.entry.bytes.now
+        place (string_bytes words)) }
 {
-    let line = input_line_text(alloc, ahead, part, place)?;
+    let line = input_line_text(alloc, part, place)?;
     let shown = visible_text(alloc, sentence.as_bytes())?;
     let sentence = format!(in alloc; "{shown}{line}")?;
-    let words = point_out(alloc, part, place, &sentence)?;
+    let words = point_out(alloc, part.bytes, place, &sentence)?;
     Ok(words)
 }

@@ -4,7 +4,7 @@ ghost use Rattle.run_words.specs.PartPointing.{line_of_fault, HasNoLineOf, Point
 
 pub use crate::forms::PartKind;
 use crate::forms::{command_of, first_words, form_of, no_number};
-use crate::in_input::point_in_part;
+use crate::in_input::{Part, point_in_part};
 use crate::line_reading::{line_of, shown, words_of};
 use fault_words::{known_names, table_names};
 use prog_check::ProgramSet;
@@ -134,28 +134,27 @@ fn line_of_fault(fault: LineFault) -> Option<usize>
     }
 }
 
-/// What a fault of a line means, and the line in its part, which stands behind these bytes of the
-/// input; nothing where it is not found.
+/// What a fault of a line means, and the line in its part; nothing where it is not found.
 pub fn line_fault_words(
     alloc: Global,
     kind: PartKind,
     set: &ProgramSet,
-    ahead: &[u8],
-    part: &[u8],
+    part: Part<'_>,
     fault: LineFault,
 ) -> Result<Option<String>, AllocError>
     ensures said { IfOk result (λ said. IfSome said (λ words.
-        PointsAtLineIn ahead.now part.now (line_of_fault fault) (string_bytes words))) }
+        PointsAtLineIn part.entry.ahead.now part.entry.bytes.now (line_of_fault fault)
+        (string_bytes words))) }
     ensures none { IfOk result (λ said. IfNone said
-        (HasNoLineOf part.now (line_of_fault fault))) }
+        (HasNoLineOf part.entry.bytes.now (line_of_fault fault))) }
 {
     let Some(line) = line_of_fault(fault) else {
         return Ok(None);
     };
-    let Some(front) = line_front(part, line) else {
+    let Some(front) = line_front(part.bytes, line) else {
         return Ok(None);
     };
-    let sentence = sentence(alloc, kind, set, line_of(part, line), fault)?;
-    let words = point_in_part(alloc, ahead, part, front, &sentence)?;
+    let sentence = sentence(alloc, kind, set, line_of(part.bytes, line), fault)?;
+    let words = point_in_part(alloc, part, front, &sentence)?;
     Ok(Some(words))
 }

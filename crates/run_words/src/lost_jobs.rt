@@ -3,7 +3,7 @@ ghost use Rattle.std.specs.Prelude.{◌≡◌, ◌++◌, [], ◌∷◌, List, �
 ghost use Rattle.text_places.specs.Landmarks.{HasNoJob, IsJobPlace};
 ghost use Rattle.run_words.specs.LostJobs.{is_lost_by, more_text, numbers_lost, place_text, IsJobText, TellsJob, TellsJobs, TellsLosses, TellsLost};
 
-use crate::in_input::input_line_text;
+use crate::in_input::{Part, input_line_text};
 use crate::job_reasons::job_sentence;
 use crate::job_spots::{FRONT, Spot, spot_of};
 use crate::limits::MAX_TOLD;
@@ -45,37 +45,37 @@ fn numbers_lost(alloc: Global, way: Way, outcomes: &[JobOutcome]) -> Result<Vec<
     Ok(numbers)
 }
 
-/// A list of jobs with what came of each, in a part that stands behind other bytes of the input.
+/// A list of jobs, as a part of an input, with what came of each.
 #[derive(Clone, Copy)]
 pub struct ToldJobs<'a> {
-    pub ahead: &'a [u8],
-    pub part: &'a [u8],
+    pub part: Part<'a>,
     pub jobs: &'a [Job],
     pub outcomes: &'a [JobOutcome],
 }
 
-fn place_text(alloc: Global, ahead: &[u8], part: &[u8], place: usize) -> Result<String, AllocError>
-    ensures { IfOk result (λ text. string_bytes text ≡ place_text ahead.now part.now place) }
+fn place_text(alloc: Global, part: Part<'_>, place: usize) -> Result<String, AllocError>
+    ensures { IfOk result (λ text. string_bytes text
+        ≡ place_text part.entry.ahead.now part.entry.bytes.now place) }
 {
-    let line = line_number(part, place);
-    let whole = input_line_text(alloc, ahead, part, place)?;
+    let line = line_number(part.bytes, place);
+    let whole = input_line_text(alloc, part, place)?;
     format!(in alloc; "line {line}{whole}")
 }
 
 // Where the job of a number stands.
 fn job_text(
     alloc: Global,
-    ahead: &[u8],
-    part: &[u8],
+    part: Part<'_>,
     number: usize,
     spot: Option<Spot>,
 ) -> Result<String, AllocError>
-    requires job { IfSome spot (λ spot. IsJobPlace part.now number spot.place) }
-    requires none { IfNone spot (HasNoJob part.now number) }
-    ensures { IfOk result (λ text. IsJobText ahead.now part.now number (string_bytes text)) }
+    requires job { IfSome spot (λ spot. IsJobPlace part.bytes.now number spot.place) }
+    requires none { IfNone spot (HasNoJob part.bytes.now number) }
+    ensures { IfOk result (λ text. IsJobText part.entry.ahead.now part.entry.bytes.now number
+        (string_bytes text)) }
 {
     match spot {
-        Some(spot) => place_text(alloc, ahead, part, spot.place),
+        Some(spot) => place_text(alloc, part, spot.place),
         None => format!(in alloc; "job {number}"),
     }
 }
@@ -83,17 +83,17 @@ fn job_text(
 // The line of the job of a number.
 fn job_line(
     alloc: Global,
-    ahead: &[u8],
-    part: &[u8],
+    part: Part<'_>,
     number: usize,
     spot: Option<Spot>,
     sentence: &str,
 ) -> Result<String, AllocError>
-    requires job { IfSome spot (λ spot. IsJobPlace part.now number spot.place) }
-    requires none { IfNone spot (HasNoJob part.now number) }
-    ensures { IfOk result (λ line. TellsJob ahead.now part.now number (string_bytes line)) }
+    requires job { IfSome spot (λ spot. IsJobPlace part.bytes.now number spot.place) }
+    requires none { IfNone spot (HasNoJob part.bytes.now number) }
+    ensures { IfOk result (λ line. TellsJob part.entry.ahead.now part.entry.bytes.now number
+        (string_bytes line)) }
 {
-    let text = job_text(alloc, ahead, part, number, spot)?;
+    let text = job_text(alloc, part, number, spot)?;
     let shown = visible_text(alloc, sentence.as_bytes())?;
     let line = format!(in alloc; "  {text}: {shown}\n")?;
     Ok(line)
@@ -108,15 +108,15 @@ fn push_jobs(
     out: &mut String,
 ) -> Result<(), AllocError>
     ensures { OnOk result ((lines : List ℕ)
-        × TellsJobs told.entry.ahead.now told.entry.part.now numbers.now lines
+        × TellsJobs told.entry.part.ahead.now told.entry.part.bytes.now numbers.now lines
         × (string_bytes out.new ≡ string_bytes out.old ++ lines)) }
 {
     let mut last = FRONT;
     for index in 0..numbers.len() {
         let number = numbers[index];
-        let spot = spot_of(told.part, last, number);
+        let spot = spot_of(told.part.bytes, last, number);
         let sentence = job_sentence(alloc, set, told.jobs.get(number), told.outcomes.get(number))?;
-        let line = job_line(alloc, told.ahead, told.part, number, spot, &sentence)?;
+        let line = job_line(alloc, told.part, number, spot, &sentence)?;
         out.push_str(&line)?;
         last = spot.unwrap_or(last);
     }
@@ -147,7 +147,7 @@ fn first_lines(
     told: ToldJobs<'_>,
     numbers: &[usize],
 ) -> Result<String, AllocError>
-    ensures { IfOk result (λ lines. TellsJobs told.entry.ahead.now told.entry.part.now
+    ensures { IfOk result (λ lines. TellsJobs told.entry.part.ahead.now told.entry.part.bytes.now
         (take 8 numbers.now) (string_bytes lines)) }
 {
     let mut lines = String::new(alloc);
@@ -163,7 +163,7 @@ fn lost_text(
     heading: &str,
     numbers: &[usize],
 ) -> Result<String, AllocError>
-    ensures { IfOk result (λ words. TellsLost told.entry.ahead.now told.entry.part.now
+    ensures { IfOk result (λ words. TellsLost told.entry.part.ahead.now told.entry.part.bytes.now
         heading.now numbers.now (string_bytes words)) }
 {
     let [_, ..] = numbers else {
@@ -183,7 +183,7 @@ fn jobs_lost(
     way: Way,
     heading: &str,
 ) -> Result<String, AllocError>
-    ensures { IfOk result (λ words. TellsLost told.entry.ahead.now told.entry.part.now
+    ensures { IfOk result (λ words. TellsLost told.entry.part.ahead.now told.entry.part.bytes.now
         heading.now (numbers_lost way told.entry.outcomes.now) (string_bytes words)) }
 {
     let numbers = numbers_lost(alloc, way, told.outcomes)?;
@@ -197,7 +197,7 @@ pub fn lost_job_words(
     set: &ProgramSet,
     told: ToldJobs<'_>,
 ) -> Result<String, AllocError>
-    ensures { IfOk result (λ words. TellsLosses told.entry.ahead.now told.entry.part.now
+    ensures { IfOk result (λ words. TellsLosses told.entry.part.ahead.now told.entry.part.bytes.now
         told.entry.outcomes.now (string_bytes words)) }
 {
     let refused = jobs_lost(alloc, set, told, Way::Refused, "jobs that were refused: ")?;

@@ -2,7 +2,7 @@
 ghost use Rattle.std.specs.Prelude.{◌≡◌, IfNone, IfOk, IfSome, string_bytes};
 ghost use Rattle.run_words.specs.PartPointing.{record_of_fault, HasNoRecordOf, PointsAtRecord};
 
-use crate::in_input::{input_line_text, point_in_part};
+use crate::in_input::{Part, input_line_text, point_in_part};
 use crate::replay::ending;
 use crate::shared_words::{cause_text, counted};
 use fault_words::{cell_text, ordinal, program_name, program_params};
@@ -84,26 +84,19 @@ fn late_start(alloc: Global, number: usize, start: u64) -> Result<String, AllocE
     format!(in alloc; "behind `at` stands {start}, and only {before} {stand} before it")
 }
 
-// The records of a part, which stands behind other bytes of the input.
-#[derive(Clone, Copy)]
-struct Listed<'a> {
-    ahead: &'a [u8],
-    part: &'a [u8],
-}
-
 fn clash_text(
     alloc: Global,
     set: &ProgramSet,
-    listed: Listed<'_>,
+    part: Part<'_>,
     clash: Clash,
 ) -> Result<String, AllocError> {
     let cell = cell_text(alloc, set, clash.cell)?;
     let commit = clash.number;
     let record = usize::try_from(commit).unwrap_or(0).saturating_sub(1);
-    match record_place(listed.part, record) {
+    match record_place(part.bytes, record) {
         Some(place) => {
-            let line = line_number(listed.part, place);
-            let whole = input_line_text(alloc, listed.ahead, listed.part, place)?;
+            let line = line_number(part.bytes, place);
+            let whole = input_line_text(alloc, part, place)?;
             format!(in alloc;
                 "commit {commit} in line {line}{whole} changed or kept {cell} too, unseen by this one"
             )
@@ -131,17 +124,17 @@ fn read_row_sentence(
 fn row_sentence(
     alloc: Global,
     set: &ProgramSet,
-    listed: Listed<'_>,
+    part: Part<'_>,
     number: usize,
     fault: RowFault,
 ) -> Result<String, AllocError> {
     match fault {
         RowFault::NoSuchProgram => format!(in alloc; "the set has no such program"),
-        RowFault::Clashed(clash) => clash_text(alloc, set, listed, clash),
+        RowFault::Clashed(clash) => clash_text(alloc, set, part, clash),
         RowFault::WrongArguments
         | RowFault::StartTooLate
         | RowFault::NotReady
-        | RowFault::WrongReplies => match cut_at(alloc, set, listed.part, number) {
+        | RowFault::WrongReplies => match cut_at(alloc, set, part.bytes, number) {
             Some(cut) => read_row_sentence(alloc, set, number, cut, fault),
             None => format!(in alloc; "no run of the set can have left this record"),
         },
@@ -157,12 +150,12 @@ fn too_many_records(alloc: Global) -> Result<String, AllocError> {
 fn sentence(
     alloc: Global,
     set: &ProgramSet,
-    listed: Listed<'_>,
+    part: Part<'_>,
     fault: AuditFault,
 ) -> Result<String, AllocError> {
     match fault {
         AuditFault::Full => too_many_records(alloc),
-        AuditFault::Row { number, fault } => row_sentence(alloc, set, listed, number, fault),
+        AuditFault::Row { number, fault } => row_sentence(alloc, set, part, number, fault),
         AuditFault::Memory => format!(in alloc; "memory ran out"),
     }
 }
@@ -178,27 +171,26 @@ fn record_of_fault(fault: AuditFault) -> Option<usize>
     }
 }
 
-/// What a fault of a record means, and the record in its part, which stands behind these bytes of
-/// the input; nothing where it is not found.
+/// What a fault of a record means, and the record in its part; nothing where it is not found.
 pub fn record_words(
     alloc: Global,
     set: &ProgramSet,
-    ahead: &[u8],
-    part: &[u8],
+    part: Part<'_>,
     fault: AuditFault,
 ) -> Result<Option<String>, AllocError>
     ensures said { IfOk result (λ said. IfSome said (λ words.
-        PointsAtRecord ahead.now part.now (record_of_fault fault) (string_bytes words))) }
+        PointsAtRecord part.entry.ahead.now part.entry.bytes.now (record_of_fault fault)
+        (string_bytes words))) }
     ensures none { IfOk result (λ said. IfNone said
-        (HasNoRecordOf part.now (record_of_fault fault))) }
+        (HasNoRecordOf part.entry.bytes.now (record_of_fault fault))) }
 {
     let Some(number) = record_of_fault(fault) else {
         return Ok(None);
     };
-    let Some(place) = record_place(part, number) else {
+    let Some(place) = record_place(part.bytes, number) else {
         return Ok(None);
     };
-    let sentence = sentence(alloc, set, Listed { ahead, part }, fault)?;
-    let words = point_in_part(alloc, ahead, part, place, &sentence)?;
+    let sentence = sentence(alloc, set, part, fault)?;
+    let words = point_in_part(alloc, part, place, &sentence)?;
     Ok(Some(words))
 }

@@ -6,7 +6,7 @@ ghost use Rattle.run_words.specs.ToldLines.{first_told, is_refusal, told_lines, 
 
 use crate::begin_numbers::{Numbers, Vacuums, number_words};
 use crate::event_lines::EventLines;
-use crate::in_input::point_in_part;
+use crate::in_input::{Part, point_in_part};
 use crate::limits::MAX_TOLD;
 use crate::shared_words::counted;
 use fault_words::{program_name, program_params};
@@ -278,19 +278,19 @@ fn sentence(alloc: Global, set: &ProgramSet, refusal: Refusal) -> Result<String,
 fn line_words(
     alloc: Global,
     set: &ProgramSet,
-    ahead: &[u8],
-    part: &[u8],
+    part: Part<'_>,
     refused: Refused,
 ) -> Result<Option<String>, AllocError>
     ensures said { IfOk result (λ said. IfSome said (λ words.
-        PointsAtLineIn ahead.now part.now (Some refused.line) (string_bytes words))) }
-    ensures none { IfOk result (λ said. IfNone said (HasNoLine part.now refused.line)) }
+        PointsAtLineIn part.entry.ahead.now part.entry.bytes.now (Some refused.line)
+        (string_bytes words))) }
+    ensures none { IfOk result (λ said. IfNone said (HasNoLine part.entry.bytes.now refused.line)) }
 {
-    let Some(front) = line_front(part, refused.line) else {
+    let Some(front) = line_front(part.bytes, refused.line) else {
         return Ok(None);
     };
     let sentence = sentence(alloc, set, refused.refusal)?;
-    let words = point_in_part(alloc, ahead, part, front, &sentence)?;
+    let words = point_in_part(alloc, part, front, &sentence)?;
     Ok(Some(words))
 }
 
@@ -306,15 +306,14 @@ fn behind_first(lines: &[Refused]) -> &[Refused] {
 fn push_lines(
     alloc: Global,
     set: &ProgramSet,
-    ahead: &[u8],
-    part: &[u8],
+    part: Part<'_>,
     told: &[Refused],
     out: &mut String,
 ) -> Result<(), AllocError>
     ensures { OnOk result (Extends (string_bytes out.old) (string_bytes out.new)) }
 {
     for refused in told {
-        let words = line_words(alloc, set, ahead, part, *refused)?.unwrap_or(String::new(alloc));
+        let words = line_words(alloc, set, part, *refused)?.unwrap_or(String::new(alloc));
         out.push_str(&words)?;
     }
     Ok(())
@@ -342,20 +341,20 @@ fn counts(alloc: Global, refusals: &Refusals) -> Result<String, AllocError> {
 fn told_words(
     alloc: Global,
     set: &ProgramSet,
-    ahead: &[u8],
-    part: &[u8],
+    part: Part<'_>,
     refusals: &Refusals,
     first: Refused,
 ) -> Result<Option<String>, AllocError>
     ensures said { IfOk result (λ said. IfSome said (λ words.
-        BeginsAtLine ahead.now part.now (Some first.line) (string_bytes words))) }
-    ensures none { IfOk result (λ said. IfNone said (HasNoLine part.now first.line)) }
+        BeginsAtLine part.entry.ahead.now part.entry.bytes.now (Some first.line)
+        (string_bytes words))) }
+    ensures none { IfOk result (λ said. IfNone said (HasNoLine part.entry.bytes.now first.line)) }
 {
-    let Some(mut words) = line_words(alloc, set, ahead, part, first)? else {
+    let Some(mut words) = line_words(alloc, set, part, first)? else {
         return Ok(None);
     };
     let others = behind_first(refusals.told_lines());
-    push_lines(alloc, set, ahead, part, others, &mut words)?;
+    push_lines(alloc, set, part, others, &mut words)?;
     let counts = counts(alloc, refusals)?;
     words.push_str(&counts)?;
     Ok(Some(words))
@@ -366,17 +365,17 @@ fn told_words(
 pub fn refused_words(
     alloc: Global,
     set: &ProgramSet,
-    ahead: &[u8],
-    part: &[u8],
+    part: Part<'_>,
     refusals: &Refusals,
 ) -> Result<Option<String>, AllocError>
     ensures said { IfOk result (λ said. IfSome said (λ words.
-        BeginsAtLine ahead.now part.now (first_told refusals.now) (string_bytes words))) }
+        BeginsAtLine part.entry.ahead.now part.entry.bytes.now (first_told refusals.now)
+        (string_bytes words))) }
     ensures none { IfOk result (λ said. IfNone said
-        (HasNoLineOf part.now (first_told refusals.now))) }
+        (HasNoLineOf part.entry.bytes.now (first_told refusals.now))) }
 {
     match refusals.first() {
-        Some(first) => told_words(alloc, set, ahead, part, refusals, first),
+        Some(first) => told_words(alloc, set, part, refusals, first),
         None => Ok(None),
     }
 }

@@ -31,7 +31,7 @@ pub fn certificate_sentence(
     let Some(set) = input.set(alloc) else {
         return Ok(None);
     };
-    certificate_words(alloc, input.text, &set, input.part, fault)
+    certificate_words(alloc, input.text, &set, input.part.bytes, fault)
 }
 
 // The plan of a small set.

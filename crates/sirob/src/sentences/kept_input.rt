@@ -3,6 +3,7 @@
 use crate::parts::two_parts;
 use prog_check::{ProgramSet, check};
 use prog_text::parse;
+use run_words::Part;
 use std::alloc::Global;
 
 /// An input, and its parts where there are two; else it is all the text of a set.
@@ -11,10 +12,8 @@ pub struct KeptInput<'a> {
     pub whole: &'a [u8],
     /// The text of the set.
     pub text: &'a [u8],
-    /// What stands ahead of the second part: the set, and the line `%%`.
-    pub ahead: &'a [u8],
-    /// What stands behind the line `%%`.
-    pub part: &'a [u8],
+    /// What stands behind the line `%%`; ahead of it stand the set and that line.
+    pub part: Part<'a>,
 }
 
 impl<'a> KeptInput<'a> {
@@ -23,14 +22,18 @@ impl<'a> KeptInput<'a> {
             Ok(parts) => KeptInput {
                 whole: input,
                 text: parts.text,
-                ahead: &input[..input.len() - parts.rest.len()],
-                part: parts.rest,
+                part: Part {
+                    ahead: &input[..input.len() - parts.rest.len()],
+                    bytes: parts.rest,
+                },
             },
             Err(_) => KeptInput {
                 whole: input,
                 text: input,
-                ahead: input,
-                part: &[],
+                part: Part {
+                    ahead: input,
+                    bytes: &[],
+                },
             },
         }
     }

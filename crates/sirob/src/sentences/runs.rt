@@ -51,5 +51,5 @@ pub fn refused_sentence(alloc: Global, kept: &Kept) -> Result<Option<String>, Al
     let Some(set) = input.set(alloc) else {
         return Ok(None);
     };
-    refused_words(alloc, &set, input.ahead, input.part, &kept.refusals)
+    refused_words(alloc, &set, input.part, &kept.refusals)
 }

@@ -99,7 +99,7 @@ fn line_sentence(
         return Ok(None);
     };
     let kind = kind_of(mode);
-    line_fault_words(alloc, kind, &set, input.ahead, input.part, fault)
+    line_fault_words(alloc, kind, &set, input.part, fault)
 }
 
 fn script_sentence(
@@ -123,7 +123,7 @@ fn record_sentence(
     let Some(set) = input.set(alloc) else {
         return Ok(None);
     };
-    record_words(alloc, &set, input.ahead, input.part, fault)
+    record_words(alloc, &set, input.part, fault)
 }
 
 // A fault in words.

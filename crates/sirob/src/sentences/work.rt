@@ -23,11 +23,10 @@ pub fn lost_sentence(
     let Some(set) = input.set(alloc) else {
         return Ok(None);
     };
-    let Some(list) = read_jobs(alloc, &set, &mut Bytes::new(input.part)).ok() else {
+    let Some(list) = read_jobs(alloc, &set, &mut Bytes::new(input.part.bytes)).ok() else {
         return Ok(None);
     };
     let told = ToldJobs {
-        ahead: input.ahead,
         part: input.part,
         jobs: list.jobs.as_slice(),
         outcomes,

@@ -7,6 +7,6 @@ returns c =
     let shown = c.in_ok-shown.ensures ∙ ap (map visible) c.as_bytes.ensures.value in
     let line = c.in_ok-line.ensures in (
       c.args.sentence.now,
-      c.in_ok-words.ensures ∙ ap (pointed_out c.args.part.now c.args.place)
+      c.in_ok-words.ensures ∙ ap (pointed_out c.args.part.bytes.now c.args.place)
           (c.deref.ensures ∙ c.in_ok-sentence.ensures.ok ∙ (λ i. shown i ++ line i)),
     )

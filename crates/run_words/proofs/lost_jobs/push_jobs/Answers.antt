@@ -13,6 +13,6 @@ loop-index-preserved c =
       rw (take_more c.args.numbers.now c.loop-index.index 0 c.loop-index-test.true)
           (TellsJobs-append _ _ _ _ before.0 line before.1 (rw c.deref-in-loop-index.ensures c.in_ok-line.ensures)),
       c.in_ok-push_str.ensures.bytes ∙ ap (λ out. out ++ line) before.2 ∙ append_assoc _ before.0 line,
-      subst (λ (spot : Spot). IsSpot c.args.told.part.now spot) (sym c.unwrap_or-last.ensures)
-          (last_spot c.args.told.part.now c.spot_of-spot.result c.loop-index.last c.spot_of-spot.ensures.spot before.3),
+      subst (λ (spot : Spot). IsSpot c.args.told.part.bytes.now spot) (sym c.unwrap_or-last.ensures)
+          (last_spot c.args.told.part.bytes.now c.spot_of-spot.result c.loop-index.last c.spot_of-spot.ensures.spot before.3),
     )

@@ -6,5 +6,5 @@ use Rattle.run_words.proofs.lost_jobs.push_jobs.Given as goal
 -- the lines so far are added, and before the last spot begin as many jobs as it says
 abbrev pub invariant-loop-index : goal.invariant-loop-index
 invariant-loop-index l =
-    (lines : List ℕ) × TellsJobs l.told.ahead.now l.told.part.now (take l.index l.numbers) lines
-    × (string_bytes l.out ≡ string_bytes l.fn.out ++ lines) × IsSpot l.told.part.now l.last
+    (lines : List ℕ) × TellsJobs l.told.part.ahead.now l.told.part.bytes.now (take l.index l.numbers) lines
+    × (string_bytes l.out ≡ string_bytes l.fn.out ++ lines) × IsSpot l.told.part.bytes.now l.last

@@ -6,16 +6,16 @@ use Rattle.run_words.proofs.refusals.refused_words.Goals as goal
 pub returns-in-Some-clause-said : goal.returns-in-Some-clause-said
 returns-in-Some-clause-said c =
     let told : first_told c.args.refusals.now ≡ Some c.in-Some.first.line = ap line_of (sym c.first.ensures ∙ c.in-Some.is) in
-    subst (λ (line : Option ℕ). IfOk c.told_words.result (λ said. IfSome said (λ words. BeginsAtLine c.args.ahead.now c.args.part.now line (string_bytes words))))
+    subst (λ (line : Option ℕ). IfOk c.told_words.result (λ said. IfSome said (λ words. BeginsAtLine c.args.part.ahead.now c.args.part.bytes.now line (string_bytes words))))
     (sym told) c.told_words.ensures.said
 
 pub returns-in-Some-clause-none : goal.returns-in-Some-clause-none
 returns-in-Some-clause-none c =
     let told : first_told c.args.refusals.now ≡ Some c.in-Some.first.line = ap line_of (sym c.first.ensures ∙ c.in-Some.is) in
-    subst (λ (line : Option ℕ). IfOk c.told_words.result (λ said. IfNone said (HasNoLineOf c.args.part.now line)))
+    subst (λ (line : Option ℕ). IfOk c.told_words.result (λ said. IfNone said (HasNoLineOf c.args.part.bytes.now line)))
     (sym told) c.told_words.ensures.none
 
 pub returns-in-None-clause-none : goal.returns-in-None-clause-none
 returns-in-None-clause-none c =
     let told : first_told c.args.refusals.now ≡ None = ap line_of (sym c.first.ensures ∙ c.in-None.is) in
-    subst (λ (line : Option ℕ). HasNoLineOf c.args.part.now line) (sym told) tt
+    subst (λ (line : Option ℕ). HasNoLineOf c.args.part.bytes.now line) (sym told) tt

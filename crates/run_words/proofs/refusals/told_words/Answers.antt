@@ -17,4 +17,4 @@ returns-clause-said c =
 
 pub returns-in_default-clause-none : goal.returns-in_default-clause-none
 returns-in_default-clause-none c =
-    unsaid _ (HasNoLine c.args.part.now c.args.first.line) c.in_default.is c.in_ok-words.ensures.none
+    unsaid _ (HasNoLine c.args.part.bytes.now c.args.first.line) c.in_default.is c.in_ok-words.ensures.none
