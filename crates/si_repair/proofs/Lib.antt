@@ -15,6 +15,8 @@ pub mod Marking
 pub mod Naming
 pub mod Repaired
 pub mod Putting
+pub mod Limits
+pub mod Fewer
 pub mod Meetings
 pub mod Behind
 pub mod Marks

@@ -1,10 +1,11 @@
 -- What is made of the pairs of a plan is one draft alone, and where it gets too large.
-use Rattle.std.proofs.Common.{◌≡◌, ℕ, ◌+◌, ◌<◌, ◌≤◌, ◌⊎◌, inl, inr, List, [], ◌∷◌, ◌++◌, map, length, get_or, take, refl, sym, ap, subst, ◌∙◌, arith, append_assoc}
+use Rattle.std.proofs.Common.{◌≡◌, ℕ, ◌+◌, ◌-◌, min, ◌<◌, ◌≤◌, ◌⊎◌, inl, inr, List, [], ◌∷◌, ◌++◌, map, length, get_or, take, drop, zero, suc, refl, sym, ap, subst, ◌∙◌, arith, append_assoc}
 use Rattle.std.specs.Prelude.{Option, Some, None, slice_get, All}
+use Rattle.std.proofs.Math.Nat.{min-le_right}
 use Rattle.std.proofs.lemmas.Bool.{true≢false, cases_lt}
-use Rattle.std.proofs.lemmas.List.{map-append, append-nil, take_more, take_all}
-use Rattle.std.proofs.lemmas.List.Elements.{All-head, All-tail, All-push, All-nil}
-use Rattle.std.proofs.lemmas.Option.{slice_get_within, slice_get-get_or}
+use Rattle.std.proofs.lemmas.List.{map-append, append-nil, length-append, length-map, length-take, length-take-le, take_more, take_all, take-map, take-append-drop}
+use Rattle.std.proofs.lemmas.List.Elements.{All-head, All-tail, All-push, All-nil, All-take}
+use Rattle.std.proofs.lemmas.Option.{slice_get_within}
 use Rattle.prog_tree.specs.Syntax.{Name, ProgramTree, DraftTree}
 use Rattle.prog_check.specs.declared.fault.CheckFault.{CheckFault}
 use Rattle.prog_check.specs.declared.fault.CheckFault.TheVariants as check
@@ -16,7 +17,7 @@ use Rattle.prog_check.specs.Paths.{paths_of}
 use Rattle.prog_check.specs.Sound.{IsSound}
 use Rattle.repair_laws.specs.declared.plan.Pair.{Pair}
 use Rattle.repair_laws.specs.Keys.{IsKeyOf, IsLeastForced}
-use Rattle.repair_laws.specs.Materialised.{Met, mat_name, IsLeastFree, AreLeastFree, params_of, HasKey, AreMet, all_with_front, materialised_by, IsMaterialised}
+use Rattle.repair_laws.specs.Materialised.{Met, mat_name, plain_table, IsLeastFree, AreLeastFree, params_of, HasKey, AreMet, all_with_front, materialised_by, IsMaterialised}
 use Rattle.repair_laws.specs.Refusals.{IsTooLarge, IsTooLargeBy, Reason, StopsMaterialising, IsFirstStop}
 use Rattle.repair_laws.specs.Refusals as why
 use Rattle.repair_laws.specs.Sizes.{IsSizeFault, IsOfSizeAlone}
@@ -24,9 +25,12 @@ use Rattle.repair_laws.proofs.Materialising.{law_of_materialising}
 use Rattle.repair_laws.proofs.RightLaws.{law_of_repair_sizes}
 use Rattle.si_repair.specs.declared.repairs.fault.RepairFault.{RepairFault}
 use Rattle.si_repair.specs.declared.repairs.fault.RepairFault.TheVariants as fault
-use Rattle.si_repair.specs.Carrying.{new_names, taken_names}
-use Rattle.si_repair.specs.Checking.{IsRefusedAt}
+use Rattle.si_repair.specs.Carrying.{met_of, all_met, new_names, taken_names}
+use Rattle.si_repair.specs.declared.repairs.keeps.Meeting.{Meeting}
+use Rattle.si_repair.specs.Checking.{IsRefused, IsRefusedAt}
 use Rattle.si_repair.specs.Repairing.{IsSafeRepair, StopsNowhere, IsRepairFault}
+use Rattle.si_repair.proofs.Fewer.{fewer_met_small}
+use Rattle.si_repair.proofs.Limits.{IsSmall, small_fits, sound_small}
 use Rattle.si_repair.proofs.Repaired.{safe_repair}
 
 -- ---- one name and one key
@@ -109,18 +113,40 @@ met_more draft plan made m met free key = record {
 abbrev pub AreSmall : DraftTree → List Pair → ℕ → Type 0
 AreSmall draft plan n = (k : ℕ) → k < n → IsTooLargeBy IsMaterialised draft plan (k + 1) → ⊥
 
-pub small_more : (draft : DraftTree) (plan : List Pair) (n : ℕ) (result : DraftTree) → AreSmall draft plan n → IsMaterialised draft (take (n + 1) plan) result → first_fault result ≡ None → AreSmall draft plan (n + 1)
-small_more draft plan n result small made none k less large = go (cases_lt k n)
-  where
-    go : (k < n) ⊎ (n ≤ k) → ⊥
-    go (inl below) = small k below large
-    go (inr above) =
-        let place : k ≡ n = omega (arith, less, above) in
-        let own = subst (λ (j : ℕ). IsMaterialised draft (take (j + 1) plan) large.0) place large.1 in
-        let same = same_draft draft (take (n + 1) plan) large.0 result own made in
-        let fault = large.2.1 in
-        let found = sym none ∙ ap first_fault (sym same) ∙ fault in
-        absurd cc
+free-first : (n : ℕ) (taken names : List Name) → AreLeastFree taken names → AreLeastFree taken (take n names)
+free-first zero taken names f = tt
+free-first (suc n) taken [] f = tt
+free-first (suc n) taken (x ∷ xs) f = (f.0, free-first n (taken ++ x ∷ []) xs f.1)
+
+-- the first pairs are met as they are among all
+met_first : (draft : DraftTree) (plan : List Pair) (made : List Met) (n : ℕ) → AreMet draft plan made → AreMet draft (take n plan) (take n made)
+met_first draft plan made n met = record {
+  pairs = sym (take-map (λ (m : Met). m.pair) n made) ∙ ap (take n) met.pairs;
+  names = subst (AreLeastFree (table_names draft)) (take-map (λ (m : Met). m.table) n made) (free-first n (table_names draft) (new_names made) met.names);
+  keys = All-take (HasKey draft) n made met.keys;
+}
+
+-- where what all pairs make is sound, nothing that the first ones make is too large
+pub small_whole : (draft : DraftTree) (plan : List Pair) (result : DraftTree) → IsSound result → IsMaterialised draft plan result → AreSmall draft plan (length plan)
+small_whole draft plan result sound (made, met, is) k less (part, own, large) =
+    let firsts = take (k + 1) made in
+    let same = same_draft draft (take (k + 1) plan) part (materialised_by draft firsts) own (firsts, met_first draft plan made (k + 1) met, refl) in
+    let whole = is ∙ ap (materialised_by draft) (sym (take-append-drop (k + 1) made)) in
+    let small = fewer_met_small draft firsts (drop (k + 1) made) (subst (λ (d : DraftTree). IsSmall d) whole (sound_small result sound)) in
+    small_fits (materialised_by draft firsts) small (subst (λ (d : DraftTree). IsTooLarge d) same large)
+
+take-fewer : (n k : ℕ) (plan : List Pair) → k ≤ n → take k (take n plan) ≡ take k plan
+take-fewer n zero plan less = refl
+take-fewer zero (suc k) plan less = absurd (omega (arith, less))
+take-fewer (suc n) (suc k) [] less = refl
+take-fewer (suc n) (suc k) (x ∷ xs) less = ap (λ (l : List Pair). x ∷ l) (take-fewer n k xs (omega (arith, less)))
+
+-- the same of the first pairs alone
+pub small_first : (draft : DraftTree) (plan : List Pair) (n : ℕ) (made : List Met) → AreMet draft (take n plan) made → IsSound (materialised_by draft made) → n ≤ length plan → AreSmall draft plan n
+small_first draft plan n made met sound inside k less (part, own, large) =
+    let few = length-take-le n plan inside in
+    small_whole draft (take n plan) (materialised_by draft made) sound (made, met, refl) k (omega (arith, less, few))
+    (part, subst (λ (l : List Pair). IsMaterialised draft l part) (sym (take-fewer n (k + 1) plan (omega (arith, less)))) own, large)
 
 -- where none is, nothing stops the plan
 pub stops_nowhere : (draft : DraftTree) (plan : List Pair) → AreSmall draft plan (length plan) → StopsNowhere (StopsMaterialising draft plan) plan
@@ -152,11 +178,11 @@ refused_at draft plan place pair result sound at made small (fault.UnknownKey p)
 refused_at draft plan place pair result sound at made small (fault.BodyRead p) h = absurd h
 refused_at draft plan place pair result sound at made small fault.Memory h = tt
 refused_at draft plan place pair result sound at made small (fault.TooMany p) h =
-    let size = subst IsOfSizeAlone h.2 ((law_of_repair_sizes draft (take (place + 1) plan) result sound).0 made) in
-    let many = of-size h.1 size in record {
+    let size = subst IsOfSizeAlone h.1.1 ((law_of_repair_sizes draft (take (place + 1) plan) result sound).0 made) in
+    let many = of-size h.1.0 size in record {
       place = place;
       at = at ∙ ap Some (sym h.0);
-      stops = (result, made, (many.0, h.2 ∙ ap Some many.1));
+      stops = (result, made, (many.0, h.1.1 ∙ ap Some many.1));
       first = first;
     }
   where
@@ -183,11 +209,71 @@ pub met_all : (draft : DraftTree) (items plan : List Pair) (n : ℕ) (made : Lis
 met_all draft items plan n made e past met =
     subst (λ (l : List Pair). AreMet draft l made) (take_all n plan (subst (λ (l : List Pair). length l ≤ n) e past)) met
 
-pub small_all : (draft : DraftTree) (items plan : List Pair) (n : ℕ) → items ≡ plan → length items ≤ n → AreSmall draft plan n → AreSmall draft plan (length plan)
-small_all draft items plan n e past small k less = small k (let l = ap length e in omega (arith, past, less, l))
+-- ---- the first pair that stops a plan
 
-pub place_next : (items plan : List Pair) (n : ℕ) (d : Pair) → items ≡ plan → n < length items → slice_get plan n ≡ Some (get_or items n d)
-place_next items plan n d e inside = subst (λ (l : List Pair). slice_get l n ≡ Some (get_or items n d)) e (slice_get-get_or items n d inside)
+-- pairs that are met make a draft with a fault only where there are some
+pub some_met : (draft : DraftTree) (plan : List Pair) (made : List Met) → IsSound draft → AreMet draft plan made → IsRefused (materialised_by draft made) → 0 < length made
+some_met draft plan [] sound met (f, found, known) =
+    let size = subst IsOfSizeAlone found ((law_of_repair_sizes draft plan (materialised_by draft []) sound).0 ([], met, refl)) in
+    let many = of-size f size in
+    absurd (small_fits draft (sound_small draft sound) (subst IsTooLarge (nothing_made draft) (many.0, found ∙ ap Some many.1)))
+some_met draft plan (x ∷ xs) sound met refused = omega arith
+
+-- the first of the pairs that were met are the plan's first
+pub met_firsts : (draft : DraftTree) (plan : List Pair) (made : List Meeting) (n : ℕ) → AreMet draft (take (length made) plan) (all_met made) → n ≤ length made → AreMet draft (take n plan) (all_met (take n made))
+met_firsts draft plan made n met inside =
+    subst (AreMet draft (take n plan)) (take-map met_of n made)
+    (subst (λ (l : List Pair). AreMet draft l (take n (all_met made))) (take-fewer (length made) n plan inside) (met_first draft (take (length made) plan) (all_met made) n met))
+
+-- no more pairs are met than the plan has
+pub few_met : (draft : DraftTree) (plan : List Pair) (made : List Meeting) → AreMet draft (take (length made) plan) (all_met made) → length made ≤ length plan
+few_met draft plan made met = subst (λ k. k ≤ length plan) (sym count) (min-le_right (length made) (length plan))
+  where
+    count : length made ≡ min (length made) (length plan)
+    count = sym (length-map made met_of) ∙ sym (length-map (all_met made) (λ (m : Met). m.pair)) ∙ ap length met.pairs ∙ length-take (length made) plan
+
+-- of all first pairs that are met, the one at a place is the plan's there
+pub met_at : (draft : DraftTree) (plan : List Pair) (made : List Meeting) (n : ℕ) (d : Meeting) → AreMet draft (take (length made) plan) (all_met made) → n < length made → slice_get plan n ≡ Some (get_or made n d).pair
+met_at draft plan made n d met inside = go plan made n met.pairs inside
+  where
+    go : (plan : List Pair) (made : List Meeting) (n : ℕ) → map (λ (m : Met). m.pair) (all_met made) ≡ take (length made) plan → n < length made → slice_get plan n ≡ Some (get_or made n d).pair
+    go plan [] n e inside = absurd (omega (arith, inside))
+    go [] (m ∷ ms) n e inside = absurd cc
+    go (p ∷ ps) (m ∷ ms) zero e inside =
+        let own : m.pair ≡ p = cc in
+        ap Some (sym own)
+    go (p ∷ ps) (m ∷ ms) (suc n) e inside =
+        let rest : map (λ (o : Met). o.pair) (all_met ms) ≡ take (length ms) ps = cc in
+        go ps ms n rest (omega (arith, inside))
+
+-- where all pairs that fit make a sound draft, these are all that there are
+pub met_whole : (draft : DraftTree) (plan : List Pair) (made : List Met) → AreMet draft (take (1 + (64 - length draft.tables)) plan) made → IsSound (materialised_by draft made) → AreMet draft plan made
+met_whole draft plan made met sound = go (cases_lt (length plan) most)
+  where
+    most : ℕ
+    most = 1 + (64 - length draft.tables)
+
+    few : length draft.tables + length made ≤ 64
+    few =
+        let tables = (sound_small (materialised_by draft made) sound).tables in
+        let new = λ (m : Met). plain_table m.table in
+        let all = length-append draft.tables (map new made) in
+        let own = length-map made new in
+        omega (arith, tables, all, own)
+
+    count : length made ≡ length (take most plan)
+    count = sym (length-map made (λ (m : Met). m.pair)) ∙ ap length met.pairs
+
+    go : (length plan < most) ⊎ (most ≤ length plan) → AreMet draft plan made
+    go (inl all) = subst (λ (l : List Pair). AreMet draft l made) (take_all most plan (omega (arith, all))) met
+    go (inr more) =
+        let own = length-take-le most plan more in
+        absurd (omega (arith, few, count, own))
+
+-- what these make, where that is sound, is what the whole plan makes
+pub all_made : (draft : DraftTree) (plan first : List Pair) (made : List Met) (result : DraftTree) → first ≡ take (1 + (64 - length draft.tables)) plan → AreMet draft first made → result ≡ materialised_by draft made → IsSound result → IsMaterialised draft plan result
+all_made draft plan first made result is met own sound =
+    (made, met_whole draft plan made (subst (λ (l : List Pair). AreMet draft l made) is met) (subst IsSound own sound), own)
 
 -- ---- what is promised of the result
 

@@ -1,5 +1,5 @@
 -- The turns of a promotion, pair by pair.
-use Rattle.std.proofs.Common.{◌≡◌, ℕ, ◌+◌, ◌<◌, ◌≤◌, ◌⊎◌, inl, inr, Bool, List, [], ◌∷◌, ◌++◌, take, length, Contains, refl, sym, ap, subst, ◌∙◌, arith, slice_get, Some, None, Option, get_or, option_map}
+use Rattle.std.proofs.Common.{◌≡◌, ℕ, ◌+◌, ◌<◌, ◌≤◌, ◌⊎◌, inl, inr, Bool, true, List, [], ◌∷◌, ◌++◌, take, length, Contains, refl, sym, ap, subst, ◌∙◌, arith, slice_get, Some, None, Option, get_or, option_map}
 use Rattle.std.specs.List.{All}
 use Rattle.std.proofs.lemmas.Bool.{cases_lt}
 use Rattle.std.proofs.lemmas.List.{take_more, length-take, get_or-take, take_all}
@@ -24,9 +24,11 @@ use Rattle.repair_laws.proofs.RightLaws.{law_of_repair_sizes}
 use Rattle.si_repair.specs.declared.repairs.fault.RepairFault.{RepairFault}
 use Rattle.si_repair.specs.declared.repairs.fault.RepairFault.TheVariants as fault
 use Rattle.si_repair.specs.Checking.{IsRefusedAt}
-use Rattle.si_repair.specs.Promoting.{AddsReads, HasFewStatements, IsObstacleFault}
+use Rattle.si_repair.specs.Promoting.{AddsReads, HasFewStatements, IsObstacleFault, AreCovered, IsGathered}
 use Rattle.si_repair.specs.Repairing.{IsSafeRepair, StopsNowhere, IsRepairFault}
 use Rattle.si_repair.proofs.Behind.{none_marked, promoted-none}
+use Rattle.si_repair.proofs.Fewer.{fewer_marks_small}
+use Rattle.si_repair.proofs.Limits.{IsSmall, small_fits, sound_small}
 use Rattle.si_repair.proofs.Marks.{marks-none, marks-more, marks-same}
 use Rattle.si_repair.proofs.Repaired.{safe_repair}
 
@@ -109,9 +111,9 @@ IsTurnFault draft pair marked fault.Memory = Unit {0}
 
 -- ---- where no pair stops
 
--- the pairs before a place may be promoted
-pub may_promote : (draft : DraftTree) (plan : List Pair) (n : ℕ) → StopsBefore draft plan n → MayPromote draft (take n plan)
-may_promote draft plan n passed pair c = (ranges, unknowns, λ h. passed c.0 pair why.BodyRead before at (ranges, unknowns, h))
+-- a pair among those before a place stands before it
+in_first : (plan : List Pair) (n : ℕ) (pair : Pair) (c : Contains (take n plan) pair) → (c.0 < n) × (slice_get plan c.0 ≡ Some pair)
+in_first plan n pair c = (before, at)
   where
     before : c.0 < n
     before = let size = length-take n plan in let inside = c.1 in omega (arith, size, inside)
@@ -123,11 +125,60 @@ may_promote draft plan n passed pair c = (ranges, unknowns, λ h. passed c.0 pai
         let within : c.0 < length plan = omega (arith, size, inside) in
         slice_get-get_or plan c.0 pair within ∙ ap Some (sym (get_or-take n plan c.0 pair before) ∙ c.2)
 
+-- the pairs before a place may be promoted
+pub may_promote : (draft : DraftTree) (plan : List Pair) (n : ℕ) → StopsBefore draft plan n → MayPromote draft (take n plan)
+may_promote draft plan n passed pair c = (ranges, unknowns, λ h. passed c.0 pair why.BodyRead place.0 place.1 (ranges, unknowns, h))
+  where
+    place : (c.0 < n) × (slice_get plan c.0 ≡ Some pair)
+    place = in_first plan n pair c
+
     ranges : HasRangeRead draft pair → ⊥
-    ranges h = passed c.0 pair why.RangeRead before at h
+    ranges h = passed c.0 pair why.RangeRead place.0 place.1 h
 
     unknowns : HasUnknownRead draft pair → ⊥
-    unknowns h = passed c.0 pair why.UnknownKey before at (ranges, h)
+    unknowns h = passed c.0 pair why.UnknownKey place.0 place.1 (ranges, h)
+
+-- ---- the pairs before a place at once
+
+contains-first : (plan : List Pair) (n k : ℕ) (pair : Pair) → k < n → slice_get plan k ≡ Some pair → Contains (take n plan) pair
+contains-first plan n k pair less at = (k, inside, get_or-take n plan k pair less ∙ get_or_from_slice_get plan k pair pair at)
+  where
+    inside : k < length (take n plan)
+    inside = let size = length-take n plan in let within = slice_get_within plan k pair at in omega (arith, size, within, less)
+
+-- what is in a shorter part of the plan is in a longer one
+contains-longer : (plan : List Pair) (m n : ℕ) (pair : Pair) → m ≤ n → Contains (take m plan) pair → Contains (take n plan) pair
+contains-longer plan m n pair less c =
+    let place = in_first plan m pair c in
+    let before = place.0 in
+    contains-first plan n c.0 pair (omega (arith, before, less)) place.1
+
+-- where what all these pairs make is sound, none of them stops the plan
+pub promoted_at_once : (draft : DraftTree) (plan : List Pair) (n : ℕ) (marked : ℕ → ℕ → Bool) (result : DraftTree)
+    → result ≡ promoted_by draft marked → IsSound result → AreCovered draft (take n plan) marked → IsPromotedTo draft plan n marked result
+promoted_at_once draft plan n marked result is sound covered = record { marks = covered.1; result_is = is; passed = passed }
+  where
+    fits : (k : ℕ) → k < n → IsTooLargeBy IsPromoted draft plan (k + 1) → ⊥
+    fits k less (part, (marks, exposed, own), large) =
+        let also : (program number : ℕ) → marks program number ≡ true → marked program number ≡ true =
+        λ program number e.
+        let h = (exposed program number).0 e in
+        (covered.1 program number).1 (h.0, contains-longer plan (k + 1) n h.0 (omega (arith, less)) h.1, h.2, h.3, h.4) in
+        small_fits (promoted_by draft marks)
+        (fewer_marks_small draft marks marked also (subst (λ (d : DraftTree). IsSmall d) is (sound_small result sound)))
+        (subst (λ (d : DraftTree). IsTooLarge d) own large)
+
+    passed : StopsBefore draft plan n
+    passed k pair why.RangeRead less at h = (covered.0 pair (contains-first plan n k pair less at)).0 h
+    passed k pair why.UnknownKey less at h = (covered.0 pair (contains-first plan n k pair less at)).1 h.1
+    passed k pair why.BodyRead less at h = (covered.0 pair (contains-first plan n k pair less at)).2 h.2
+    passed k pair why.TooLarge less at h = fits k less h.1
+
+pub promoted_wholly : (draft : DraftTree) (plan : List Pair) (marked : ℕ → ℕ → Bool) (result : DraftTree)
+    → result ≡ promoted_by draft marked → IsSound result → AreCovered draft plan marked → IsPromotedTo draft plan (length plan) marked result
+promoted_wholly draft plan marked result is sound covered =
+    promoted_at_once draft plan (length plan) marked result is sound
+    (subst (λ (l : List Pair). AreCovered draft l marked) (sym (take_all (length plan) plan (omega arith))) covered)
 
 -- ---- a turn that stops
 
@@ -229,12 +280,18 @@ obstacle_fault draft pair marked (fault.BodyRead p) h = h
 obstacle_fault draft pair marked (fault.TooMany p) h = absurd h
 obstacle_fault draft pair marked fault.Memory h = tt
 
+-- the pair that stopped the gathering stops the plan
+pub gathered_stopped : (draft : DraftTree) (plan : List Pair) (marked : ℕ → ℕ → Bool) (result : DraftTree) (f : RepairFault)
+    → IsSound draft → result ≡ promoted_by draft marked → IsSound result → IsGathered draft plan marked (Some f) → IsRepairFault (StopsPromotion draft plan) plan f
+gathered_stopped draft plan marked result f sound is sound_result (n, pair, at, covered, h) =
+    turn_refused draft sound plan n pair at marked result (promoted_at_once draft plan n marked result is sound_result covered) f (obstacle_fault draft pair marked f h)
+
 -- what the check refuses of a turn
 pub turn_fault : (draft : DraftTree) (pair : Pair) (marked more : ℕ → ℕ → Bool) (made : DraftTree) (f : RepairFault)
     → IsCoverable draft pair → AddsReads (paths_of draft) pair marked more → made ≡ promoted_by draft more → IsRefusedAt made pair f
     → IsTurnFault draft pair marked f
 turn_fault draft pair marked more made (fault.TooMany p) covered adds is h =
-    (h.0, covered, (more, adds, h.1, sym (ap first_fault is) ∙ h.2))
+    (h.0, covered, (more, adds, h.1.0, sym (ap first_fault is) ∙ h.1.1))
 turn_fault draft pair marked more made (fault.RangeRead p) covered adds is h = absurd h
 turn_fault draft pair marked more made (fault.UnknownKey p) covered adds is h = absurd h
 turn_fault draft pair marked more made (fault.BodyRead p) covered adds is h = absurd h
@@ -264,3 +321,34 @@ pub few_statements : (draft : Draft) → IsSound (draft_tree draft) → All HasF
 few_statements draft sound k d inside =
     let ps = draft.programs.items in
     (sound.programs k (program_tree (get_or ps k d)) (slice_get-map program_tree ps k ∙ ap (option_map program_tree) (slice_get-get_or ps k d inside))).few_statements
+
+-- ---- gathering
+
+pub covered_first : (draft : DraftTree) → AreCovered draft [] none_marked
+covered_first draft = ((λ pair c. nothing c.1), marks-none (paths_of draft))
+  where
+    nothing : {X : Type 0} {n : ℕ} → n < 0 → X
+    nothing l = absurd (omega (arith, l))
+
+-- all pairs
+pub covered_all : (draft : DraftTree) (pairs : List Pair) (n : ℕ) (marked : ℕ → ℕ → Bool) → length pairs ≤ n → AreCovered draft (take n pairs) marked → AreCovered draft pairs marked
+covered_all draft pairs n marked past covered = subst (λ (l : List Pair). AreCovered draft l marked) (take_all n pairs past) covered
+
+-- the next pair has an obstacle
+pub covered_next : (draft : DraftTree) (pairs : List Pair) (n : ℕ) (d : Pair) (marked : ℕ → ℕ → Bool) (f : RepairFault) → n < length pairs
+    → AreCovered draft (take n pairs) marked → IsObstacleFault draft (get_or pairs n d) f → IsGathered draft pairs marked (Some f)
+covered_next draft pairs n d marked f inside covered h = (n, get_or pairs n d, slice_get-get_or pairs n d inside, covered, h)
+
+-- marks of one pair more, which keeps cover
+pub covered_more : (draft : DraftTree) (pairs : List Pair) (n : ℕ) (d : Pair) (marked more : ℕ → ℕ → Bool) → n < length pairs
+    → AreCovered draft (take n pairs) marked → IsCoverable draft (get_or pairs n d) → AddsReads (paths_of draft) (get_or pairs n d) marked more
+    → AreCovered draft (take (n + 1) pairs) more
+covered_more draft pairs n d marked more inside covered passed adds =
+    let pair = get_or pairs n d in
+    let next = sym (take_more pairs n d inside) in (
+      subst (λ (l : List Pair). MayPromote draft l) next (λ p c. elim (Contains-push_cases (take n pairs) pair p c) [
+        | inl k ↦ covered.0 p k
+        | inr e ↦ subst (λ (q : Pair). IsCoverable draft q) e passed
+      ]),
+      subst (λ (l : List Pair). MarksExposed (paths_of draft) l more) next (marks-more (paths_of draft) (take n pairs) pair marked more covered.1 adds),
+    )

@@ -15,10 +15,13 @@ use Rattle.si_repair.specs.declared.repairs.fault.RepairFault.TheVariants.{Range
 abbrev pub IsCheckedSet : Draft → Draft → Type 0
 IsCheckedSet draft set = (set ≡ draft) × (first_fault (draft_tree draft) ≡ None) × IsSound (draft_tree draft)
 
+-- it has a fault, which is no want of memory
+abbrev pub IsRefused : DraftTree → Type 0
+IsRefused draft = (fault : CheckFault) × (first_fault draft ≡ Some fault) × (fault ≡ check.Memory → ⊥)
+
 -- the pair stops a repair, since what it makes has a fault; of want of memory nothing is said
 abbrev pub IsRefusedAt : DraftTree → Pair → RepairFault → Type 0
-IsRefusedAt draft pair (TooMany stopping) =
-    (stopping ≡ pair) × (fault : CheckFault) × (first_fault draft ≡ Some fault) × (fault ≡ check.Memory → ⊥)
+IsRefusedAt draft pair (TooMany stopping) = (stopping ≡ pair) × IsRefused draft
 IsRefusedAt draft pair (RangeRead stopping) = ⊥
 IsRefusedAt draft pair (UnknownKey stopping) = ⊥
 IsRefusedAt draft pair (BodyRead stopping) = ⊥

@@ -1,21 +1,23 @@
 //! Repairs by new tables: both programs of a pair keep one row of a table of their own.
-ghost use Rattle.std.specs.Prelude.{◌≡◌, List, [], ◌∷◌, ◌++◌, IfErr, IfOk, OnOk};
+ghost use Rattle.std.specs.Prelude.{◌≡◌, ◌+◌, ◌-◌, ◌<◌, true, false, List, [], ◌∷◌, ◌++◌, All, IfErr, IfOk, IfSome, IfNone, OnOk, length, take};
 ghost use Rattle.prog_tree.specs.Tree.{draft_tree};
 ghost use Rattle.prog_check.specs.Paths.{paths_of};
-ghost use Rattle.repair_laws.specs.Materialised.{params_of, AreMet, IsMaterialised};
+ghost use Rattle.prog_check.specs.Sound.{IsSound};
+ghost use Rattle.repair_laws.specs.Materialised.{params_of, HasKey, AreMet, materialised_by, IsMaterialised};
 ghost use Rattle.repair_laws.specs.Refusals.{StopsMaterialising};
 ghost use Rattle.repair_laws.specs.declared.plan.Pair.{Pair as OfPrograms};
 ghost use Rattle.si_repair.specs.Carrying.{all_met};
+ghost use Rattle.si_repair.specs.Checking.{IsRefused};
 ghost use Rattle.si_repair.specs.Repairing.{IsSafeRepair, StopsNowhere, IsRepairFault};
+ghost use Rattle.si_repair.specs.declared.repairs.fault.RepairFault.TheVariants.{TooMany};
 
 use crate::plans::Plan;
-use crate::repairs::checked::checked;
 use crate::repairs::fault::RepairFault;
 use crate::repairs::front::materialised;
 use crate::repairs::keeps::Meeting;
 use crate::repairs::key::key_of;
 use crate::repairs::names::free_name;
-use prog_check::{Path, ProgramSet};
+use prog_check::{CheckFault, MAX_TABLES, Path, ProgramSet, check};
 use prog_paths::paths;
 use prog_tree::Draft;
 use repair_laws::Pair;
@@ -52,6 +54,94 @@ fn met_with(
     Ok(made)
 }
 
+/// The pairs, each with its own new name and its key.
+fn meetings(
+    alloc: Global,
+    set: &ProgramSet,
+    paths: &[Path],
+    pairs: &[Pair],
+) -> Result<Vec<Meeting>, AllocError>
+    requires { paths.now ≡ paths_of (draft_tree set.now) }
+    ensures { IfOk result (λ made. AreMet (draft_tree set.now) pairs.now (all_met made.items)) }
+{
+    let mut made = Vec::new(alloc);
+    for pair in pairs {
+        made = met_with(alloc, set, paths, made, *pair)?;
+    }
+    Ok(made)
+}
+
+/// As many of the pairs as new tables fit, and one more, with which the set is too large.
+fn pairs_that_fit<'a>(draft: &Draft, pairs: &'a [Pair]) -> &'a [Pair]
+    ensures { result.now ≡ take (1 + (64 - length (draft_tree draft.now).tables)) pairs.now }
+{
+    let room = MAX_TABLES.saturating_sub(draft.tables.len());
+    let most = pairs.len().min(1 + room);
+    &pairs[..most]
+}
+
+/// The set with what the pairs make, or none where that breaks a limit.
+fn with_meetings(
+    alloc: Global,
+    set: &ProgramSet,
+    made: &[Meeting],
+) -> Result<Option<ProgramSet>, AllocError>
+    requires { All (HasKey (draft_tree set.now)) (all_met made.now) }
+    ensures made { IfOk result (λ o. IfSome o
+        (λ s. draft_tree s ≡ materialised_by (draft_tree set.now) (all_met made.now))) }
+    ensures sound { IfOk result (λ o. IfSome o (λ s. IsSound (draft_tree s))) }
+    ensures refused { IfOk result (λ o. IfNone o
+        (IsRefused (materialised_by (draft_tree set.now) (all_met made.now)))) }
+{
+    match check(alloc, materialised(alloc, set.draft(), made)?) {
+        Ok(repaired) => Ok(Some(repaired)),
+        Err(CheckFault::Memory) => Err(AllocError),
+        Err(_) => Ok(None),
+    }
+}
+
+/// Whether the set with what the pairs make breaks no limit.
+fn fit(alloc: Global, set: &ProgramSet, made: &[Meeting]) -> Result<bool, AllocError>
+    requires { All (HasKey (draft_tree set.now)) (all_met made.now) }
+    ensures sound { IfOk result (λ all_fit. all_fit ≡ true
+        → IsSound (materialised_by (draft_tree set.now) (all_met made.now))) }
+    ensures refused { IfOk result (λ all_fit. all_fit ≡ false
+        → IsRefused (materialised_by (draft_tree set.now) (all_met made.now))) }
+{
+    match with_meetings(alloc, set, made)? {
+        Some(_) => Ok(true),
+        None => Ok(false),
+    }
+}
+
+/// The first of the pairs with which what they make is too large, where with all of them it is.
+fn first_stop(
+    alloc: Global,
+    set: &ProgramSet,
+    pairs: &[Pair],
+    made: &[Meeting],
+) -> Result<Pair, AllocError>
+    requires met { AreMet (draft_tree set.now)
+        (take (length made.now) pairs.now) (all_met made.now) }
+    requires some { 0 < length made.now }
+    requires sound { IsSound (draft_tree set.now) }
+    requires large { IsRefused (materialised_by (draft_tree set.now) (all_met made.now)) }
+    ensures { IfOk result (λ stopping. IsRepairFault
+        (StopsMaterialising (draft_tree set.now) pairs.now) pairs.now (TooMany stopping)) }
+{
+    let mut fitting = 0;
+    let mut large = made.len();
+    while large - fitting > 1 {
+        let middle = fitting + (large - fitting) / 2;
+        if fit(alloc, set, &made[..middle])? {
+            fitting = middle;
+        } else {
+            large = middle;
+        }
+    }
+    Ok(made[fitting].pair)
+}
+
 /// The set with a new table for each pair of the plan, of which both programs of the pair keep one
 /// row in front of all they do.
 pub fn materialise(alloc: Global, set: &ProgramSet, plan: &Plan) -> Result<ProgramSet, RepairFault>
@@ -65,13 +155,11 @@ pub fn materialise(alloc: Global, set: &ProgramSet, plan: &Plan) -> Result<Progr
         (StopsMaterialising (draft_tree set.now) plan.now.pairs)
         plan.now.pairs fault) }
 {
-    let draft = set.draft();
     let paths = paths(alloc, set)?;
-    let mut made = Vec::new(alloc);
-    let mut repaired = set.copy()?;
-    for pair in plan.pairs.as_slice() {
-        made = met_with(alloc, set, &paths, made, *pair)?;
-        repaired = checked(alloc, materialised(alloc, draft, &made)?, *pair)?;
+    let pairs = plan.pairs.as_slice();
+    let made = meetings(alloc, set, &paths, pairs_that_fit(set.draft(), pairs))?;
+    match with_meetings(alloc, set, &made)? {
+        Some(repaired) => Ok(repaired),
+        None => Err(RepairFault::TooMany(first_stop(alloc, set, pairs, &made)?)),
     }
-    Ok(repaired)
 }
