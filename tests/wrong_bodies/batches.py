@@ -1,8 +1,7 @@
 """Which edits share one check.
 
 An edit of one plain function makes a function of its own, which stands beside the right one: all of these share one
-check. Any other edit is made in place, in one of these checks too: of those at most one to a function, and none to a
-function that names another that is edited in place. One that changes more than functions has a check of its own.
+check. Any other edit is made in place: at most one to a function, and none to a function that names another edited one.
 """
 import os
 from dataclasses import dataclass, field
@@ -29,7 +28,6 @@ class Batch:
     bodies: list = field(default_factory=list)
     texts: dict = field(default_factory=dict)  # as the edits make them
     turned: dict = field(default_factory=dict)  # for each edit, the files and paths of the functions that have its lines
-    in_place: list = field(default_factory=list)  # those of the bodies that are no functions of their own
 
     def functions(self, bodies):
         """Returns the functions that have the lines of these edits."""
@@ -81,32 +79,26 @@ def are_apart(body, others):
     return True
 
 
-def is_joined(body, batch):
-    """Makes an edit in place in a batch, if it goes there beside the others, and returns whether it does."""
-    if not are_apart(body, batch.in_place):
-        return False
-    try:
-        batch.texts, _ = apply(body.edit, batch.texts)
-    except BadEdit:
-        return False
-    batch.turned[body.edit.name] = [(it.file, it.path) for it in body.functions]
-    batch.bodies.append(body)
-    batch.in_place.append(body)
-    return True
-
-
 def batches_of(bodies, texts):
     """Returns batches that hold each edit once."""
     beside = [it for it in bodies if not it.is_alone and has_twin(it, texts)]
     count = -(-len(beside) // MOST_TWINS)
     # edits of one function, and so of one cost, go to different checks
     batches = [Batch(part, *add_twins(part, texts)) for part in (beside[at::count] for at in range(count))]
+    in_place = []
     for body in bodies:
         if body in beside:
             continue
-        # one that changes more than functions would change what twins stand on
-        open_to_it = [] if body.is_alone else [it for it in batches if not any(other.is_alone for other in it.bodies)]
-        if not any(is_joined(body, it) for it in open_to_it):
-            batches.append(Batch(texts=texts))
-            is_joined(body, batches[-1])
-    return batches
+        for batch in [*in_place, Batch(texts=texts)]:
+            if not are_apart(body, batch.bodies):
+                continue
+            try:
+                batch.texts, _ = apply(body.edit, batch.texts)
+            except BadEdit:
+                continue
+            batch.bodies.append(body)
+            batch.turned[body.edit.name] = [(it.file, it.path) for it in body.functions]
+            if batch not in in_place:
+                in_place.append(batch)
+            break
+    return batches + in_place
