@@ -17,8 +17,7 @@ use Rattle.prog_tree.specs.Table.{cell_cmp, Cells, cells_of, is_same_cell, is_ce
 use Rattle.prog_tree.proofs.TableLemmas.{cell_total}
 use Rattle.prog_tree.proofs.TableStates.{same_cell, cell_is}
 use Rattle.version_store.specs.declared.touches.Touch.{Touch}
-use Rattle.version_store.specs.Clash.{last_touch, IsClash, IsFirst, with_cells, touched, clash_among, clash_of}
-use Rattle.version_store.specs.Reading.{first_above, lesser}
+use Rattle.version_store.specs.Clash.{last_touch, IsClash, IsFirst, first_above, lesser, with_cells, touched, clash_of}
 use Rattle.version_store.specs.Touches.{touches_of}
 use Rattle.version_store.proofs.TouchLaws.{among-some, among_touches}
 
@@ -163,18 +162,6 @@ first-unique p number start (Some x) (Some y) h k = go (cell_cmp x.0 y.0) refl
 
 -- ---- clashes
 
--- the clash is the first of the touched cells, by the last commit that touched it
-abbrev IsFirstTouched : List ChangeSet → ℕ → ChangeSet → Option (Cell × ℕ) → Type 0
-IsFirstTouched ws start w o = IsFirst (touches_cell w) (λ c. last_touch c 1 ws) start o
-
-clash_by_first : (ws : List ChangeSet) (start : ℕ) (w : ChangeSet) (o : Option (Cell × ℕ)) → IsFirstTouched ws start w o → IsClash ws start w o
-clash_by_first ws start w None h = h
-clash_by_first ws start w (Some x) h = h
-
-first_by_clash : (ws : List ChangeSet) (start : ℕ) (w : ChangeSet) (o : Option (Cell × ℕ)) → IsClash ws start w o → IsFirstTouched ws start w o
-first_by_clash ws start w None h = h
-first_by_clash ws start w (Some x) h = h
-
 -- numbers that are the same above the start find the same
 first-seen :
     (p : Cell → Bool) (number other : Cell → ℕ) (start : ℕ) (o : Option (Cell × ℕ)) → ((c : Cell) → max start (number c) ≡ max start (other c)) → IsFirst p number start o → IsFirst p other start o
@@ -187,13 +174,9 @@ first-seen p number other start (Some x) same h =
 pub clash_found :
     (ws : List ChangeSet) (start : ℕ) (w : ChangeSet) (number : Cell → ℕ) (o : Option (Cell × ℕ)) → ((c : Cell) → max start (number c) ≡ max start (last_touch c 1 ws)) →
     IsFirst (touches_cell w) number start o → IsClash ws start w o
-clash_found ws start w number o same first = clash_by_first ws start w o (first-seen (touches_cell w) number (λ c. last_touch c 1 ws) start o same first)
+clash_found ws start w number o same first = first-seen (touches_cell w) number (λ c. last_touch c 1 ws) start o same first
 
 -- ---- the search over the touched cells
-
-clash_among-above : (ws : List ChangeSet) (start : ℕ) (cells : List Cell) → clash_among ws start cells ≡ first_above (λ c. last_touch c 1 ws) start cells
-clash_among-above ws start [] = refl
-clash_among-above ws start (c ∷ cs) = ap (λ o. if nat_lt start (last_touch c 1 ws) then Some (c, last_touch c 1 ws) else o) (clash_among-above ws start cs)
 
 all_insert : (P : Cell → Type 0) (ks : List Cell) (k : Cell) → P k → AllByRecursion P ks → AllByRecursion P (insert_key cell_cmp ks k)
 all_insert P [] k here all = (here, tt)
@@ -268,18 +251,17 @@ nothing_sorted : IsStrictlySortedBy cell_cmp []
 unfolding IsStrictlySortedBy
 nothing_sorted = tt
 
-search_clashes : (ws : List ChangeSet) (start : ℕ) (w : ChangeSet) → IsFirstTouched ws start w (clash_of ws start w)
+search_clashes : (ws : List ChangeSet) (start : ℕ) (w : ChangeSet) → IsClash ws start w (clash_of ws start w)
 search_clashes ws start w =
     let number = λ (c : Cell). last_touch c 1 ws in
     let sorted = sorted_with w.kept (with_cells [] (cells_of w.cells)) (sorted_with (cells_of w.cells) [] nothing_sorted) in
-    subst (λ (o : Option (Cell × ℕ)). IsFirstTouched ws start w o) (sym (clash_among-above ws start (touched w)))
-    (first-same (is_cell_among (touched w)) (touches_cell w) number number start _ (among_touched w) (λ c. refl) (first-above number start (touched w) sorted))
+    first-same (is_cell_among (touched w)) (touches_cell w) number number start (clash_of ws start w) (among_touched w) (λ c. refl) (first-above number start (touched w) sorted)
 
 -- the search finds the clash, and nothing else is one
 pub clashes_found : (ws : List ChangeSet) (start : ℕ) (w : ChangeSet) (o : Option (Cell × ℕ)) → IsClash ws start w o ↔ (o ≡ clash_of ws start w)
 clashes_found ws start w o = (
-  λ clash. first-unique (touches_cell w) (λ c. last_touch c 1 ws) start o (clash_of ws start w) (first_by_clash ws start w o clash) (search_clashes ws start w),
-  λ same. clash_by_first ws start w o (subst (λ (x : Option (Cell × ℕ)). IsFirstTouched ws start w x) (sym same) (search_clashes ws start w)),
+  λ clash. first-unique (touches_cell w) (λ c. last_touch c 1 ws) start o (clash_of ws start w) clash (search_clashes ws start w),
+  λ same. subst (λ (x : Option (Cell × ℕ)). IsClash ws start w x) (sym same) (search_clashes ws start w),
 )
 
 -- ---- a walk over the touched cells

@@ -2,9 +2,8 @@
 use Rattle.std.specs.Prelude.{◌≡◌, ℕ, ◌+◌, ◌≤◌, ⊤, ℤ, max, nat_lt, leb, Bool, true, false, List, [], ◌∷◌, ◌++◌, filter, map, Option, Some, None, unwrap_or, if◌then◌else◌}
 use Rattle.std.specs.List.Sorted.{IsPartitionPoint}
 use Rattle.prog_tree.specs.declared.cell.Cell.{Cell}
-use Rattle.std.specs.Ordering.{is_lt}
 use Rattle.prog_tree.specs.ChangeSet.{ChangeSet, change_at, touches_cell}
-use Rattle.prog_tree.specs.Table.{cell_cmp, Cells, at_cell, is_same_cell, is_cell_among}
+use Rattle.prog_tree.specs.Table.{Cells, at_cell, is_same_cell, is_cell_among}
 use Rattle.version_store.specs.StandsFor.{Chain, no_chain, HoldsSome}
 
 -- the chain of a cell; a cell without a chain has an empty one
@@ -45,17 +44,6 @@ last_or before (n ∷ ns) = last_or n ns
 -- the greatest number in a chain, or 0
 abbrev pub last_number : Chain → ℕ
 last_number chain = max (last_or 0 (numbers_of chain.versions)) (last_or 0 chain.marks)
-
--- the first of the cells whose number is above the start, with its number
-abbrev pub first_above : (Cell → ℕ) → (start : ℕ) → List Cell → Option (Cell × ℕ)
-first_above number start [] = None
-first_above number start (c ∷ cs) = if nat_lt start (number c) then Some (c, number c) else first_above number start cs
-
--- the one of two that has the lesser cell
-abbrev pub lesser : Option (Cell × ℕ) → Option (Cell × ℕ) → Option (Cell × ℕ)
-lesser None other = other
-lesser (Some one) None = Some one
-lesser (Some one) (Some other) = if is_lt (cell_cmp other.0 one.0) then Some other else Some one
 
 abbrev pub with_version : ℕ → Option ℤ → Chain → Chain
 with_version n value chain = record chain { versions = chain.versions ++ (n, value) ∷ [] }

@@ -1,8 +1,8 @@
 //! First committer wins: the clash of a commit with those above its start.
 ghost use Rattle.std.specs.Prelude.{◌≡◌, [], ◌∷◌};
 ghost use Rattle.prog_tree.specs.ChangeSet.{touches_cell};
-ghost use Rattle.version_store.specs.Clash.{IsFirst};
-ghost use Rattle.version_store.specs.Reading.{first_above, lesser, number_at};
+ghost use Rattle.version_store.specs.Clash.{IsFirst, first_above, lesser};
+ghost use Rattle.version_store.specs.Reading.{number_at};
 ghost use Rattle.version_store.specs.Told.{told};
 
 use crate::chains::Chains;
