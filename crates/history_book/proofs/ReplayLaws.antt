@@ -9,11 +9,14 @@ use Rattle.prog_tree.specs.Table.{TableState, is_in, row_at, rows_in}
 use Rattle.prog_run.specs.declared.fault.AnswerFault.{AnswerFault}
 use Rattle.prog_run.specs.declared.fault.AnswerFault.TheVariants.{NotAsked, BadRows, Memory}
 use Rattle.prog_run.specs.declared.next.Next.{Next}
+use Rattle.prog_run.specs.declared.next.Next.TheVariants.{Get, Scan, Did, Done}
 use Rattle.prog_run.specs.declared.next.Question.{Question}
 use Rattle.prog_run.specs.declared.next.Question.TheVariants.{One, Range}
 use Rattle.prog_run.specs.Looks.{IsFound, AreFound, region_look}
 use Rattle.prog_tree.specs.Evaluation.{own_cells, rows_without}
-use Rattle.prog_run.specs.View.{RunView, IsAnswered, IsRefusedBy, IsTrueRun, SameBegin, begun, scan_fault, asked_cell, asked_region, result_of}
+use Rattle.prog_run.specs.Cursor.{BeginsWith}
+use Rattle.prog_run.specs.Step.{question_after, deeds_after, changes_after}
+use Rattle.prog_run.specs.View.{RunView, IsAdvance, IsAnswered, IsRefusedBy, IsTrueRun, SameBegin, begun, scan_fault, asked_cell, asked_region, result_of}
 use Rattle.std.specs.Prelude.{IsSome, slice_get}
 use Rattle.std.specs.Option.{option_map}
 use Rattle.std.proofs.lemmas.Option.{slice_get-map}
@@ -22,7 +25,7 @@ use Rattle.prog_tree.specs.declared.program.Draft.{Draft}
 use Rattle.prog_tree.specs.Evaluation.{Evaluation}
 use Rattle.prog_tree.specs.Tree.{program_tree}
 use Rattle.history_book.specs.Audit.{CameTo}
-use Rattle.history_book.specs.Runs.{IsOwnRun}
+use Rattle.history_book.specs.Runs.{IsOwnRun, StepsTo}
 use Rattle.history_book.specs.View.{BookView, instance_of, state_in, done_in}
 use Rattle.history_book.specs.declared.instances.row.HistoryRow.{HistoryRow}
 use Rattle.history_book.proofs.CommitLaws.{own_run}
@@ -35,19 +38,47 @@ found_more m (k ∷ looks) l before here = (before.0, found_more m looks l befor
 answered_with : (m : TableState) (l : Look) (next : Next) (old new : RunView) → IsAnswered l next old new → AreFound m old.looks → IsFound m l → AreFound m new.looks
 answered_with m l next old new answered before here = subst (AreFound m) (sym answered.looks) (found_more m old.looks l before here)
 
+-- the question for a cell was answered
+pub answered_cell : (old new : RunView) (cell : Cell) (held : Option ℤ) (next : Next) → old.asked ≡ Some (One cell) → IfSome (asked_cell old.asked) (λ c. IsAnswered (look.One c held) next old new)
+    → IsAnswered (look.One cell held) next old new
+answered_cell old new cell held next asked answered = subst (λ a. IfSome (asked_cell a) (λ c. IsAnswered (look.One c held) next old new)) asked answered
+
+-- the question for a region was answered
+pub answered_region : (old new : RunView) (region : Region) (rows : TableState) (next : Next) → old.asked ≡ Some (Range region)
+    → IfSome (asked_region old.asked) (λ r. IsAnswered (region_look old.changes r rows) next old new) → IsAnswered (region_look old.changes region rows) next old new
+answered_region old new region rows next asked answered = subst (λ a. IfSome (asked_region a) (λ r. IsAnswered (region_look old.changes r rows) next old new)) asked answered
+
 -- the answer for a cell is what the state holds there
-pub found_cell : (m : TableState) (old new : RunView) (cell : Cell) (held : Option ℤ) (next : Next) → old.asked ≡ Some (One cell) → held ≡ row_at m cell → AreFound m old.looks
-    → IfSome (asked_cell old.asked) (λ c. IsAnswered (look.One c held) next old new) → AreFound m new.looks
-found_cell m old new cell held next asked is before answered =
-    answered_with m (look.One cell held) next old new (subst (λ a. IfSome (asked_cell a) (λ c. IsAnswered (look.One c held) next old new)) asked answered) before (sym is)
+pub found_cell : (m : TableState) (old new : RunView) (cell : Cell) (held : Option ℤ) (next : Next) → held ≡ row_at m cell → AreFound m old.looks
+    → IsAnswered (look.One cell held) next old new → AreFound m new.looks
+found_cell m old new cell held next is before answered = answered_with m (look.One cell held) next old new answered before (sym is)
 
 -- the answer for a region is the state's rows in it
-pub found_region : (m : TableState) (old new : RunView) (region : Region) (rows : TableState) (next : Next) → old.asked ≡ Some (Range region) → rows ≡ rows_in region m → AreFound m old.looks
-    → IfSome (asked_region old.asked) (λ r. IsAnswered (region_look old.changes r rows) next old new) → AreFound m new.looks
-found_region m old new region rows next asked is before answered =
-    answered_with m (region_look old.changes region rows) next old new
-    (subst (λ a. IfSome (asked_region a) (λ r. IsAnswered (region_look old.changes r rows) next old new)) asked answered) before
-    (ap (rows_without (own_cells region old.changes.cells)) (sym is))
+pub found_region : (m : TableState) (old new : RunView) (region : Region) (rows : TableState) (next : Next) → rows ≡ rows_in region m → AreFound m old.looks
+    → IsAnswered (region_look old.changes region rows) next old new → AreFound m new.looks
+found_region m old new region rows next is before answered =
+    answered_with m (region_look old.changes region rows) next old new answered before (ap (rows_without (own_cells region old.changes.cells)) (sym is))
+
+goes_on : (next : Next) (first old new : RunView) → old.deeds ≡ first.deeds → old.changes ≡ first.changes → BeginsWith first.replies old.replies → (l : Look) → IsAnswered l next old new → StepsTo next first new
+goes_on next first old new deeds changes replies l answered = record {
+  idle = answered.finished;
+  deeds = answered.deeds ∙ ap (deeds_after next) deeds;
+  changes = answered.changes ∙ ap (changes_after next) changes;
+  replies = subst (BeginsWith first.replies) (sym answered.replies) replies;
+  asked = answered.asked;
+  end = answered.end;
+}
+
+-- an answer goes on from where the run was before it asked
+pub steps_behind : (l : Look) (asking next : Next) (first old new : RunView) (question : Question) → question_after asking ≡ Some question → IsAdvance asking first old → IsAnswered l next old new
+    → StepsTo next first new
+steps_behind l (Get cell) next first old new question is advance answered = goes_on next first old new advance.deeds advance.changes advance.replies l answered
+steps_behind l (Scan region) next first old new question is advance answered = goes_on next first old new advance.deeds advance.changes advance.replies l answered
+steps_behind l (Did deed) next first old new question is advance answered = absurd (cc)
+steps_behind l (Done end) next first old new question is advance answered = absurd (cc)
+
+pub begun_as_first : (first old new : RunView) → SameBegin first old → SameBegin old new → SameBegin first new
+begun_as_first first old new one two = record { tables = two.tables ∙ one.tables; program = two.program ∙ one.program; args = two.args ∙ one.args }
 
 -- the rows of a region lie in it
 all_in : (region : Region) (m : TableState) → list_all (λ row. is_in region row.0) (rows_in region m) ≡ true

@@ -6,8 +6,11 @@ use Rattle.prog_tree.specs.declared.look.Look.{Look}
 use Rattle.prog_tree.specs.ChangeSet.{ChangeSet}
 use Rattle.prog_tree.specs.Table.{TableState}
 use Rattle.prog_tree.specs.Tree.{draft_tree, program_tree}
+use Rattle.prog_run.specs.declared.next.Next.{Next}
+use Rattle.prog_run.specs.Cursor.{BeginsWith}
 use Rattle.prog_run.specs.Looks.{IsFound, AreFound}
-use Rattle.prog_run.specs.View.{RunView}
+use Rattle.prog_run.specs.Step.{question_after, deeds_after, changes_after, end_after}
+use Rattle.prog_run.specs.View.{RunView, IsTrueRun, SameBegin}
 use Rattle.version_store.specs.Clash.{IsClash}
 use Rattle.version_store.specs.Told.{clash_pair}
 use Rattle.version_store.specs.declared.clash.Clash.{Clash}
@@ -46,6 +49,28 @@ abbrev pub IsForeign : BookView → Instance → RunView → Place → Type 0
 IsForeign v i run place.Program = SameProgram v i run → ⊥
 IsForeign v i run (place.Look number) =
     SameProgram v i run × IsFirstForeign (state_in v i.start) run.looks number
+
+-- the run went on through one deed, or to its end, and asks nothing
+pub record StepsTo (next : Next) (old new : RunView) : Type 0 where
+  pub idle : question_after next ≡ None
+  pub deeds : new.deeds ≡ deeds_after next old.deeds
+  pub changes : new.changes ≡ changes_after next old.changes
+  pub replies : BeginsWith old.replies new.replies
+  pub asked : new.asked ≡ None
+  pub end : new.end ≡ end_after next
+
+-- the run finished nothing, and has not ended
+pub record StopsShort (old new : RunView) : Type 0 where
+  pub deeds : new.deeds ≡ old.deeds
+  pub changes : new.changes ≡ old.changes
+  pub replies : BeginsWith old.replies new.replies
+  pub end : new.end ≡ old.end
+
+-- the run is true, begun as before, and found what the table state holds
+pub record StaysOwn (m : TableState) (old new : RunView) : Type 0 where
+  pub found : AreFound m new.looks
+  pub true_run : IsTrueRun new
+  pub same : SameBegin old new
 
 -- ---- what calls leave
 

@@ -1,14 +1,13 @@
 //! Runs that read in a book: those of its instances, and those that are made again.
 
-ghost use Rattle.std.specs.Prelude.{◌≡◌, ◌<◌, ◌≤◌, [], Some, None, IsSome, length, IfOk, IfErr, OnOk, OnErr};
+ghost use Rattle.std.specs.Prelude.{◌≡◌, ◌<◌, ◌≤◌, [], Some, IsSome, length, IfOk, IfErr, OnOk, OnErr};
 ghost use Rattle.prog_tree.specs.Table.{rows_in};
 ghost use Rattle.prog_tree.specs.Tree.{draft_tree};
 ghost use Rattle.prog_run.specs.Looks.{AreFound};
-ghost use Rattle.prog_run.specs.Step.{question_after, end_after, deeds_after};
 ghost use Rattle.prog_run.specs.View.{IsTrueRun, SameBegin};
 ghost use Rattle.history_book.specs.Audit.{CameTo, taken_up};
 ghost use Rattle.history_book.specs.History.{IsCalled};
-ghost use Rattle.history_book.specs.Runs.{IsCommit};
+ghost use Rattle.history_book.specs.Runs.{IsCommit, StaysOwn, StepsTo, StopsShort};
 ghost use Rattle.history_book.specs.View.{active_at, done_in, instance_of, state_in, most_endings, most_begins};
 
 use crate::book::Book;
@@ -57,14 +56,9 @@ impl<'a> Book<'a> {
         requires above { self.now.floor ≤ start }
         requires within { start ≤ length self.now.rows }
         requires found { AreFound (state_in self.now start) run.old.looks }
-        ensures idle { IfOk result (λ next. question_after next ≡ None) }
-        ensures found { AreFound (state_in self.now start) run.new.looks }
-        ensures deeds { IfOk result (λ next. run.new.deeds ≡ deeds_after next run.old.deeds) }
-        ensures end { IfOk result (λ next. run.new.end ≡ end_after next) }
-        ensures true_run { IsTrueRun run.new }
-        ensures same { SameBegin run.old run.new }
-        ensures err_deeds { OnErr result (run.new.deeds ≡ run.old.deeds) }
-        ensures err_end { OnErr result (run.new.end ≡ run.old.end) }
+        ensures ok { IfOk result (λ next. StepsTo next run.old run.new) }
+        ensures own { StaysOwn (state_in self.now start) run.old run.new }
+        ensures err { OnErr result (StopsShort run.old run.new) }
     {
         match run.advance()? {
             Next::Get(cell) => {
@@ -86,14 +80,9 @@ impl<'a> Book<'a> {
     pub fn advance(&self, ticket: &Ticket, run: &mut Run<'_>) -> Result<Next, AllocError>
         requires active { IsSome (active_at self.now ticket.now) }
         requires found { AreFound (state_in self.now ticket.now.start) run.old.looks }
-        ensures idle { IfOk result (λ next. question_after next ≡ None) }
-        ensures found { AreFound (state_in self.now ticket.now.start) run.new.looks }
-        ensures deeds { IfOk result (λ next. run.new.deeds ≡ deeds_after next run.old.deeds) }
-        ensures end { IfOk result (λ next. run.new.end ≡ end_after next) }
-        ensures true_run { IsTrueRun run.new }
-        ensures same { SameBegin run.old run.new }
-        ensures err_deeds { OnErr result (run.new.deeds ≡ run.old.deeds) }
-        ensures err_end { OnErr result (run.new.end ≡ run.old.end) }
+        ensures ok { IfOk result (λ next. StepsTo next run.old run.new) }
+        ensures own { StaysOwn (state_in self.now ticket.now.start) run.old run.new }
+        ensures err { OnErr result (StopsShort run.old run.new) }
     {
         let Some(active) = self.active_instance(ticket) else {
             unreachable!()
