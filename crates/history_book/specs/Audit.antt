@@ -79,6 +79,16 @@ module _ (set : DraftTree) (opening : TableState) (h : List Instance) (r : Histo
       IsTrueRow set opening h r × (done_by.ending ≡ Ready)
       × IsClash (commits_of set opening h) r.start done_by.changes (Some (clash_pair clash))
 
+-- the same behind the commits of a book
+abbrev pub CanBeginIn : BookView → HistoryRow → Type 0
+CanBeginIn v r = CanBegin (draft_tree v.set) v.opening (history_of v.rows) r
+
+abbrev pub IsRightIn : BookView → HistoryRow → Type 0
+IsRightIn v r = IsRightRow (draft_tree v.set) v.opening (history_of v.rows) r
+
+abbrev pub IsRowFaultIn : BookView → HistoryRow → RowFault → Type 0
+IsRowFaultIn v r = IsRowFault (draft_tree v.set) v.opening (history_of v.rows) r
+
 module _ (set : DraftTree) (opening : TableState) where
   -- each row may be the next commit behind a history with the rows before it
   abbrev pub AreRightBehind : List Instance → List HistoryRow → Type 0
@@ -103,6 +113,5 @@ module _ (set : DraftTree) (opening : TableState) where
 -- why a row is not taken up behind those of a book
 abbrev pub IsRowRefusal : BookView → HistoryRow → AuditFault → Type 0
 IsRowRefusal v r audit.Full = ⊥
-IsRowRefusal v r (audit.Row number fault) =
-    (number ≡ length v.rows) × IsRowFault (draft_tree v.set) v.opening (history_of v.rows) r fault
+IsRowRefusal v r (audit.Row number fault) = (number ≡ length v.rows) × IsRowFaultIn v r fault
 IsRowRefusal v r audit.Memory = Unit {0}

@@ -2,8 +2,8 @@
 
 ghost use Rattle.std.specs.Prelude.{◌≡◌, ◌<◌, ◌≤◌, [], length, IfOk, IfErr, OnOk, MatchOption};
 ghost use Rattle.prog_tree.specs.Tree.{draft_tree};
-ghost use Rattle.history_book.specs.Audit.{CameTo, audited, taken_up, CanBegin, IsRightRow, IsRowFault, IsRowRefusal, AreRightBehind, IsAuditFault};
-ghost use Rattle.history_book.specs.View.{done_in, history_of, instance_of, most_endings, most_begins};
+ghost use Rattle.history_book.specs.Audit.{CameTo, audited, taken_up, CanBeginIn, IsRightIn, IsRowFaultIn, IsRowRefusal, AreRightBehind, IsAuditFault};
+ghost use Rattle.history_book.specs.View.{done_in, instance_of, most_endings, most_begins};
 
 use crate::book::{Book, is_ready, read_numbers};
 use crate::instances::row::HistoryRow;
@@ -96,10 +96,8 @@ impl Error for AuditFault {}
 impl<'a> Book<'a> {
     // What is wrong with a row's call, or with its start.
     fn call_fault(&self, row: &HistoryRow) -> Option<RowFault>
-        ensures { MatchOption result
-            (CanBegin (draft_tree self.now.set) self.now.opening (history_of self.now.rows) row.now)
-            (IsRowFault (draft_tree self.now.set) self.now.opening
-            (history_of self.now.rows) row.now) }
+        ensures { MatchOption result (CanBeginIn self.now row.now)
+            (IsRowFaultIn self.now row.now) }
     {
         read_numbers(row.args.as_slice());
         let Some(program) = self.set.draft().programs.get(row.program) else {
@@ -116,15 +114,11 @@ impl<'a> Book<'a> {
 
     // What is wrong with what a row's run came to.
     fn run_fault(&self, row: &HistoryRow, run: &Run<'_>) -> Option<RowFault>
-        requires begun { CanBegin (draft_tree self.now.set) self.now.opening
-            (history_of self.now.rows) row.now }
+        requires begun { CanBeginIn self.now row.now }
         requires above { self.now.floor ≤ row.now.start }
         requires came { CameTo run.now (done_in self.now (instance_of row.now)) }
-        ensures { MatchOption result
-            (IsRightRow (draft_tree self.now.set) self.now.opening
-            (history_of self.now.rows) row.now)
-            (IsRowFault (draft_tree self.now.set) self.now.opening
-            (history_of self.now.rows) row.now) }
+        ensures { MatchOption result (IsRightIn self.now row.now)
+            (IsRowFaultIn self.now row.now) }
     {
         if !is_ready(run) {
             return Some(RowFault::NotReady);
@@ -144,8 +138,7 @@ impl<'a> Book<'a> {
         requires floor { self.old.floor ≡ 0 }
         requires room { length self.old.endings < most_endings }
         requires more { self.old.begun < most_begins }
-        ensures right { OnOk result (IsRightRow (draft_tree self.old.set) self.old.opening
-            (history_of self.old.rows) row) }
+        ensures right { OnOk result (IsRightIn self.old row) }
         ensures taken { OnOk result (self.new ≡ taken_up self.old row) }
         ensures refused { IfErr result (IsRowRefusal self.old row) }
     {

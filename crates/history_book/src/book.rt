@@ -235,7 +235,7 @@ impl<'a> Book<'a> {
     }
 
     /// The least equivalent serial order of the commits: at each place the least number that can stand
-    /// there.
+    /// there. Of several cycles any may be told.
     pub fn serial_order(&self) -> Result<Vec<usize>, OrderFault>
         ensures order { IfOk result (λ order.
             least_order (depends_in self.now) (length self.now.rows) ≡ Some order.items) }

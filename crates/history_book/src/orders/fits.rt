@@ -8,9 +8,9 @@ ghost use Rattle.history_book.specs.Audit.{taken_up};
 ghost use Rattle.history_book.specs.History.{IsCalled, nth_instance};
 ghost use Rattle.history_book.specs.Orders.{is_one_of};
 ghost use Rattle.history_book.specs.Repeats.{IsSameAgain, begun_again};
-ghost use Rattle.history_book.specs.Serial.{is_each_once, Fits};
+ghost use Rattle.history_book.specs.Serial.{is_each_once};
 ghost use Rattle.history_book.specs.TrueBook.{IsTrueRow};
-ghost use Rattle.history_book.specs.View.{history_of, instance_of, state_in, most_endings, most_begins};
+ghost use Rattle.history_book.specs.View.{FitsBook, history_of, instance_of, state_in, most_endings, most_begins};
 
 use crate::book::{Book, is_ready};
 use crate::instances::row::HistoryRow;
@@ -164,9 +164,7 @@ impl<'a> Book<'a> {
     // after all commits.
     fn fits_rows(&self, order: &[usize], newest: &Rows) -> Result<bool, AllocError>
         requires { newest.now ≡ state_in self.now (length self.now.rows) }
-        ensures { IfOk result (λ fits. IsTrue fits
-            ↔ Fits (draft_tree self.now.set) self.now.opening
-            (history_of self.now.rows) order.now) }
+        ensures { IfOk result (λ fits. IsTrue fits ↔ FitsBook self.now order.now) }
     {
         if !is_each_once(self.alloc, self.rows.len(), order)? {
             return Ok(false);
@@ -184,9 +182,7 @@ impl<'a> Book<'a> {
 
     /// Whether a list of commit numbers is an equivalent serial order; any list may be asked for.
     pub fn fits(&self, order: &[usize]) -> Result<bool, AllocError>
-        ensures { IfOk result (λ fits. IsTrue fits
-            ↔ Fits (draft_tree self.now.set) self.now.opening
-            (history_of self.now.rows) order.now) }
+        ensures { IfOk result (λ fits. IsTrue fits ↔ FitsBook self.now order.now) }
     {
         let newest = self.table()?;
         self.fits_rows(order, &newest)
@@ -198,11 +194,9 @@ impl<'a> Book<'a> {
         requires room { length placed.old.items ≤ length self.now.rows }
         requires newest { newest.now ≡ state_in self.now (length self.now.rows) }
         ensures found { IfOk result (λ found. found ≡ true →
-            Fits (draft_tree self.now.set) self.now.opening (history_of self.now.rows)
-            placed.new.items) }
+            FitsBook self.now placed.new.items) }
         ensures none { IfOk result (λ found. found ≡ false → (rest : List ℕ) →
-            Fits (draft_tree self.now.set) self.now.opening (history_of self.now.rows)
-            (placed.old.items ++ rest) → ⊥) }
+            FitsBook self.now (placed.old.items ++ rest) → ⊥) }
         ensures same { IfOk result (λ found. found ≡ false →
             placed.new.items ≡ placed.old.items) }
     {
@@ -229,11 +223,9 @@ impl<'a> Book<'a> {
         requires room { length placed.old.items < length self.now.rows }
         requires newest { newest.now ≡ state_in self.now (length self.now.rows) }
         ensures found { IfOk result (λ found. found ≡ true →
-            Fits (draft_tree self.now.set) self.now.opening (history_of self.now.rows)
-            placed.new.items) }
+            FitsBook self.now placed.new.items) }
         ensures none { IfOk result (λ found. found ≡ false → (rest : List ℕ) →
-            Fits (draft_tree self.now.set) self.now.opening (history_of self.now.rows)
-            (placed.old.items ++ number ∷ rest) → ⊥) }
+            FitsBook self.now (placed.old.items ++ number ∷ rest) → ⊥) }
         ensures same { IfOk result (λ found. found ≡ false →
             placed.new.items ≡ placed.old.items) }
     {
@@ -248,14 +240,12 @@ impl<'a> Book<'a> {
         Ok(false)
     }
 
-    /// An equivalent serial order, or none where no order is one.
+    /// An equivalent serial order, or none where no order is one. Of several it may be any.
     pub fn any_fit(&self) -> Result<Option<Vec<usize>>, AnyFitFault>
         ensures few { OnOk result (length self.now.rows ≤ most_ordered) }
         ensures order { IfOk result (λ found. MatchOption found
-            ((order : List ℕ) → Fits (draft_tree self.now.set) self.now.opening
-            (history_of self.now.rows) order → ⊥)
-            (λ order. Fits (draft_tree self.now.set) self.now.opening
-            (history_of self.now.rows) order.items)) }
+            ((order : List ℕ) → FitsBook self.now order → ⊥)
+            (λ order. FitsBook self.now order.items)) }
         ensures refused { IfErr result (IsAnyFitFault (length self.now.rows)) }
     {
         if self.rows.len() > MAX_ORDERED {

@@ -75,8 +75,8 @@ pub fn push_findings_before<W: Witness>(
     push_order(book, out, witness)
 }
 
-/// Adds the line of each row of a book's table, and then the last line. Where memory runs out, some
-/// first lines of rows were added.
+/// Adds the line of each row of a book's table, and then the last line. Of several cycles any may be
+/// told. Where memory runs out, some first lines of rows were added.
 pub fn push_findings(book: &Book<'_>, out: &mut String) -> Result<Serializability, AllocError>
     ensures ok { IfOk result (λ finding. AddsEnd (draft_tree book.now.set) book.now.opening
         (history_of book.now.rows) finding (string_bytes out.old) (string_bytes out.new)) }
