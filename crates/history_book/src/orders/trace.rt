@@ -60,11 +60,11 @@ fn changed_cells(alloc: Global, changes: &Changes) -> Result<Sequence<Cell>, All
     ensures cells { IfOk result (λ cells. cells ≡ cells_of changes.now.cells) }
     ensures ordered { IfOk result (λ cells. IsStrictlySortedBy cell_cmp cells) }
 {
-    let mut cells = Sequence::new(alloc);
+    let mut cells = Vec::with_capacity(alloc, changes.iter().len())?;
     for (cell, _) in changes.iter() {
         cells.push(*cell)?;
     }
-    Ok(cells)
+    Ok(Sequence::from_vec(cells))
 }
 
 // A look without what it found.
@@ -84,11 +84,11 @@ fn sight_of(alloc: Global, look: &Look) -> Result<Sight, AllocError>
 fn sights_of(alloc: Global, looks: &[Look]) -> Result<Sequence<Sight>, AllocError>
     ensures { IfOk result (λ sights. sights ≡ map sight_of looks.now) }
 {
-    let mut sights = Sequence::new(alloc);
+    let mut sights = Vec::with_capacity(alloc, looks.len())?;
     for look in looks {
         sights.push(sight_of(alloc, look)?)?;
     }
-    Ok(sights)
+    Ok(Sequence::from_vec(sights))
 }
 
 impl Trace {

@@ -68,14 +68,14 @@ pub fn unsigned(word: &[u8]) -> Option<u64>
 pub fn numbers(alloc: Global, words: &[Word<'_>]) -> Result<Option<Sequence<i64>>, AllocError>
     ensures { IfOk result (λ numbers. numbers ≡ numbers_of words.now) }
 {
-    let mut numbers = Sequence::new(alloc);
+    let mut numbers = Vec::with_capacity(alloc, words.len())?;
     for word in words {
         let Some(number) = number(word.as_bytes()) else {
             return Ok(None);
         };
         numbers.push(number)?;
     }
-    Ok(Some(numbers))
+    Ok(Some(Sequence::from_vec(numbers)))
 }
 
 /// The numbers of the words of bytes, if all are such.

@@ -4,4 +4,4 @@ use Rattle.si_engine.proofs.input.number.numbers.Given as goal
 
 -- the numbers that were read, in front of those of the words that are left, are the numbers of all
 abbrev pub invariant-loop-word : goal.invariant-loop-word
-invariant-loop-word l = option_map (λ ns. l.numbers ++ ns) (numbers_of (drop l.word-index l.words)) ≡ numbers_of l.words
+invariant-loop-word l = option_map (λ ns. l.numbers.items ++ ns) (numbers_of (drop l.word-index l.words)) ≡ numbers_of l.words
