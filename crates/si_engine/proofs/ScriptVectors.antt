@@ -2,7 +2,7 @@
 use Rattle.std.proofs.Common.{◌≡◌, pos, neg_ℤ, ◌^◌, ◌-◌, [], ◌∷◌, ◌++◌, Some, None, Ok, Err, false, refl, codes}
 use Rattle.prog_tree.specs.declared.table.Arity.TheVariants.{One, Two}
 use Rattle.prog_tree.specs.Syntax.{DraftTree, BlockEnd}
-use Rattle.si_engine.specs.declared.input.command.Command.TheVariants.{Skip, Row, Begin, BeginAt, Step, Commit, Abort, Vacuum}
+use Rattle.si_engine.specs.declared.input.command.Command.TheVariants.{Skip, Row, Event, Steps}
 use Rattle.si_engine.specs.declared.event.Event.TheVariants as e
 use Rattle.si_engine.specs.declared.input.script_fault.LineFault.TheVariants as f
 use Rattle.si_engine.specs.Lines.{lines_of, words_of}
@@ -75,11 +75,11 @@ row : line_command draft 1 (codes "row e -1 2 = 3") ≡ Ok (Row (record { cell =
 unfolding draft line_command command_of row_command row_line_of
 row = refl
 
-begin : line_command draft 1 (codes "begin Set 1 -0 7") ≡ Ok (Begin 1 (pos 1 ∷ pos 0 ∷ pos 7 ∷ []))
+begin : line_command draft 1 (codes "begin Set 1 -0 7") ≡ Ok (Event (e.Begin 1 (pos 1 ∷ pos 0 ∷ pos 7 ∷ [])))
 unfolding draft line_command command_of begin_command call_of
 begin = refl
 
-begin_at : line_command draft 1 (codes "begin-at 18446744073709551615 Set 1 -0") ≡ Ok (BeginAt (2 ^ 64 - 1) 1 (pos 1 ∷ pos 0 ∷ []))
+begin_at : line_command draft 1 (codes "begin-at 18446744073709551615 Set 1 -0") ≡ Ok (Event (e.BeginAt (2 ^ 64 - 1) 1 (pos 1 ∷ pos 0 ∷ [])))
 unfolding draft line_command command_of begin_at_command call_of
 begin_at = refl
 
@@ -103,15 +103,15 @@ bad_argument_first : line_command draft 2 (codes "begin-at 0 Lok x") ≡ Err (f.
 unfolding draft line_command command_of begin_at_command call_of
 bad_argument_first = refl
 
-one_step : line_command draft 1 (codes "step 5") ≡ Ok (Step 5 1)
+one_step : line_command draft 1 (codes "step 5") ≡ Ok (Steps 5 1)
 unfolding draft line_command command_of step_command step_of
 one_step = refl
 
-steps : line_command draft 1 (codes "step 0 1000") ≡ Ok (Step 0 1000)
+steps : line_command draft 1 (codes "step 0 1000") ≡ Ok (Steps 0 1000)
 unfolding draft line_command command_of step_command step_of
 steps = refl
 
-commit : line_command draft 1 (codes " commit 3") ≡ Ok (Commit 3)
+commit : line_command draft 1 (codes " commit 3") ≡ Ok (Event (e.Commit 3))
 unfolding draft line_command command_of commit_command only_instance
 commit = refl
 
@@ -123,7 +123,7 @@ spaces_alone : line_command draft 4 (codes "  ") ≡ Err (f.BadLine 4)
 unfolding line_command command_of
 spaces_alone = refl
 
-abort : line_command draft 1 (codes "abort 2") ≡ Ok (Abort 2)
+abort : line_command draft 1 (codes "abort 2") ≡ Ok (Event (e.Abort 2))
 unfolding draft line_command command_of abort_command only_instance
 abort = refl
 
@@ -131,7 +131,7 @@ abort_of_nothing : line_command draft 3 (codes "abort") ≡ Err (f.BadLine 3)
 unfolding draft line_command command_of abort_command only_instance
 abort_of_nothing = refl
 
-vacuum : line_command draft 1 (codes "vacuum ") ≡ Ok Vacuum
+vacuum : line_command draft 1 (codes "vacuum ") ≡ Ok (Event e.Vacuum)
 unfolding draft line_command command_of vacuum_command
 vacuum = refl
 

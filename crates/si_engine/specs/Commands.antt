@@ -5,7 +5,8 @@ use Rattle.prog_tree.specs.Syntax.{DraftTree}
 use Rattle.prog_check.specs.Faults.{program_names}
 use Rattle.si_engine.specs.declared.input.command.ProgramCall.{ProgramCall}
 use Rattle.si_engine.specs.declared.input.command.Command.{Command}
-use Rattle.si_engine.specs.declared.input.command.Command.TheVariants.{Skip, Row, Begin, BeginAt, Step, Commit, Abort, Vacuum}
+use Rattle.si_engine.specs.declared.input.command.Command.TheVariants as says
+use Rattle.si_engine.specs.declared.event.Event.TheVariants.{Begin, BeginAt, Commit, Abort, Vacuum}
 use Rattle.si_engine.specs.declared.input.script_fault.LineFault.{LineFault}
 use Rattle.si_engine.specs.declared.input.script_fault.LineFault.TheVariants.{BadLine, UnknownName}
 use Rattle.si_engine.specs.Lines.{is_skipped, words_of}
@@ -17,7 +18,7 @@ use Rattle.si_engine.specs.RowLines.{◌>>=◌, row_line_of}
 unfoldable pub row_command : DraftTree → (line : ℕ) → List (List ℕ) → Result Command LineFault
 row_command draft line words = do
   row ← row_line_of draft line words
-  Ok (Row row)
+  Ok (says.Row row)
 
 -- PROGRAM ARG*: a program by its name, and its arguments
 unfoldable pub call_of : DraftTree → (line : ℕ) → List (List ℕ) → Result ProgramCall LineFault
@@ -31,7 +32,7 @@ call_of draft line (name ∷ words) = do
 unfoldable pub begin_command : DraftTree → (line : ℕ) → List (List ℕ) → Result Command LineFault
 begin_command draft line words = do
   call ← call_of draft line words
-  Ok (Begin call.program call.args)
+  Ok (says.Event (Begin call.program call.args))
 
 -- the words behind `begin-at`: START PROGRAM ARG*
 unfoldable pub begin_at_command : DraftTree → (line : ℕ) → List (List ℕ) → Result Command LineFault
@@ -39,18 +40,18 @@ begin_at_command draft line [] = Err (BadLine line)
 begin_at_command draft line (start ∷ words) = do
   number ← ok_or (u64_of start) (BadLine line)
   call ← call_of draft line words
-  Ok (BeginAt number call.program call.args)
+  Ok (says.Event (BeginAt number call.program call.args))
 
 -- the number of an instance
 abbrev pub instance_number : List ℕ → Option ℕ
 instance_number word = number_between 0 4294967295 word
 
 abbrev pub steps_of : List ℕ → List ℕ → Option Command
-steps_of instance times = option_and_then (λ i. option_map (Step i) (number_between 1 1000 times)) (instance_number instance)
+steps_of instance times = option_and_then (λ i. option_map (says.Steps i) (number_between 1 1000 times)) (instance_number instance)
 
 -- the steps that words ask for: I, or I N
 unfoldable pub step_of : List (List ℕ) → Option Command
-step_of (instance ∷ []) = option_map (λ i. Step i 1) (instance_number instance)
+step_of (instance ∷ []) = option_map (λ i. says.Steps i 1) (instance_number instance)
 step_of (instance ∷ times ∷ []) = steps_of instance times
 step_of words = None
 
@@ -65,15 +66,15 @@ only_instance words = None
 
 -- the words behind `commit`: I
 unfoldable pub commit_command : (line : ℕ) → List (List ℕ) → Result Command LineFault
-commit_command line words = ok_or (option_map Commit (only_instance words)) (BadLine line)
+commit_command line words = ok_or (option_map (λ i. says.Event (Commit i)) (only_instance words)) (BadLine line)
 
 -- the words behind `abort`: I
 unfoldable pub abort_command : (line : ℕ) → List (List ℕ) → Result Command LineFault
-abort_command line words = ok_or (option_map Abort (only_instance words)) (BadLine line)
+abort_command line words = ok_or (option_map (λ i. says.Event (Abort i)) (only_instance words)) (BadLine line)
 
 -- the words behind `vacuum`: none
 unfoldable pub vacuum_command : (line : ℕ) → List (List ℕ) → Result Command LineFault
-vacuum_command line [] = Ok Vacuum
+vacuum_command line [] = Ok (says.Event Vacuum)
 vacuum_command line words = Err (BadLine line)
 
 -- the words of a line that is not skipped; the first says what it is
@@ -91,4 +92,4 @@ command_of draft line (word ∷ words) =
 
 -- a line, with its number
 unfoldable pub line_command : DraftTree → (line : ℕ) → List ℕ → Result Command LineFault
-line_command draft line bytes = if is_skipped bytes then Ok Skip else command_of draft line (words_of bytes)
+line_command draft line bytes = if is_skipped bytes then Ok says.Skip else command_of draft line (words_of bytes)

@@ -4,9 +4,9 @@ use Rattle.std.specs.List.{flat_map}
 use Rattle.prog_tree.specs.Syntax.{DraftTree}
 use Rattle.prog_tree.specs.Table.{TableState, row_at, with_row}
 use Rattle.si_engine.specs.declared.input.command.Command.{Command}
-use Rattle.si_engine.specs.declared.input.command.Command.TheVariants.{Skip, Row, Begin, BeginAt, Step, Commit, Abort, Vacuum}
+use Rattle.si_engine.specs.declared.input.command.Command.TheVariants as says
 use Rattle.si_engine.specs.declared.event.Event.{Event}
-use Rattle.si_engine.specs.declared.event.Event.TheVariants as e
+use Rattle.si_engine.specs.declared.event.Event.TheVariants.{Step}
 use Rattle.si_engine.specs.declared.input.script.Script.{Script}
 use Rattle.si_engine.specs.declared.input.script_fault.LineFault.{LineFault}
 use Rattle.si_engine.specs.declared.input.script_fault.LineFault.TheVariants.{TooManyEvents}
@@ -17,7 +17,7 @@ use Rattle.si_engine.specs.Sayings.{made_of, IsPart, IsPartFault}
 
 -- the row of a command, among others
 abbrev pub with_row_of : TableState → Command → TableState
-with_row_of rows (Row row) = with_row rows row.cell row.value
+with_row_of rows (says.Row row) = with_row rows row.cell row.value
 with_row_of rows command = rows
 
 -- the rows of commands
@@ -26,12 +26,8 @@ rows_of commands = fold with_row_of [] commands
 
 -- the events of a command
 abbrev pub events_in : Command → List Event
-events_in (Begin program args) = e.Begin program args ∷ []
-events_in (BeginAt start program args) = e.BeginAt start program args ∷ []
-events_in (Step instance times) = replicate times (e.Step instance)
-events_in (Commit instance) = e.Commit instance ∷ []
-events_in (Abort instance) = e.Abort instance ∷ []
-events_in Vacuum = e.Vacuum ∷ []
+events_in (says.Event event) = event ∷ []
+events_in (says.Steps instance times) = replicate times (Step instance)
 events_in command = []
 
 -- the events of commands, in their order
@@ -48,14 +44,10 @@ is_begun events = not (length events == 0)
 
 -- what is wrong with a command behind these rows and events, or nothing
 abbrev pub order_fault : (line : ℕ) → TableState → List Event → Command → Option LineFault
-order_fault line rows events Skip = None
-order_fault line rows events (Row row) = row_fault line (is_begun events) (row_at rows row.cell)
-order_fault line rows events (Begin program args) = room_fault line events 1
-order_fault line rows events (BeginAt start program args) = room_fault line events 1
-order_fault line rows events (Step instance times) = room_fault line events times
-order_fault line rows events (Commit instance) = room_fault line events 1
-order_fault line rows events (Abort instance) = room_fault line events 1
-order_fault line rows events Vacuum = room_fault line events 1
+order_fault line rows events says.Skip = None
+order_fault line rows events (says.Row row) = row_fault line (is_begun events) (row_at rows row.cell)
+order_fault line rows events (says.Event event) = room_fault line events 1
+order_fault line rows events (says.Steps instance times) = room_fault line events times
 
 -- the same behind commands
 abbrev pub fault_behind : (line : ℕ) → List Command → Command → Option LineFault

@@ -5,6 +5,7 @@ ghost use Rattle.si_engine.specs.Commands.{row_command, instance_number, only_in
 ghost use Rattle.si_engine.specs.Lines.{words_of};
 ghost use Rattle.si_engine.specs.RowLines.{Reads};
 
+use crate::event::Event;
 use crate::input::line_words::{first_word, line_words};
 use crate::input::lines::is_skipped;
 use crate::input::names::program_number;
@@ -30,24 +31,9 @@ pub enum Command {
     Skip,
     /// An opening row.
     Row(RowLine),
-    Begin {
-        program: usize,
-        args: Sequence<i64>,
-    },
-    /// A begin as of a number of commits.
-    BeginAt {
-        start: u64,
-        program: usize,
-        args: Sequence<i64>,
-    },
+    Event(Event),
     /// So many steps of an instance.
-    Step {
-        instance: usize,
-        times: usize,
-    },
-    Commit(usize),
-    Abort(usize),
-    Vacuum,
+    Steps { instance: usize, times: usize },
 }
 
 #[tactic(auto, unfolding(crate::specs::Commands::row_command))]
@@ -85,7 +71,7 @@ fn begin(alloc: Global, set: &ProgramSet, line: usize, bytes: &[u8]) -> Result<C
         (begin_command (draft_tree set.now) line (words_of bytes.now)) }
 {
     let ProgramCall { program, args } = read_call(alloc, set, line, bytes)?;
-    Ok(Command::Begin { program, args })
+    Ok(Command::Event(Event::Begin { program, args }))
 }
 
 #[tactic(auto, unfolding(crate::specs::Commands::begin_at_command))]
@@ -103,11 +89,12 @@ fn begin_at(
     };
     let start = unsigned(start).ok_or(LineFault::BadLine { line })?;
     let ProgramCall { program, args } = read_call(alloc, set, line, behind)?;
-    Ok(Command::BeginAt {
+    let event = Event::BeginAt {
         start,
         program,
         args,
-    })
+    };
+    Ok(Command::Event(event))
 }
 
 // The number of an instance.
@@ -122,14 +109,14 @@ fn steps(instance: &[u8], times: &[u8]) -> Option<Command>
 {
     let instance = self::instance(instance)?;
     let times = number_between(1, MAX_STEPS, times)?;
-    Some(Command::Step { instance, times })
+    Some(Command::Steps { instance, times })
 }
 
 fn one_step(instance: &[u8]) -> Option<Command>
-    ensures { result ≡ option_map (λ i. Command.Step i 1) (instance_number instance.now) }
+    ensures { result ≡ option_map (λ i. Command.Steps i 1) (instance_number instance.now) }
 {
     let instance = self::instance(instance)?;
-    Some(Command::Step { instance, times: 1 })
+    Some(Command::Steps { instance, times: 1 })
 }
 
 // The steps of an instance, if no word is left.
@@ -199,7 +186,7 @@ fn commit(line: usize, bytes: &[u8]) -> Result<Command, LineFault>
     ensures { result ≡ commit_command line (words_of bytes.now) }
 {
     let instance = only_instance(bytes).ok_or(LineFault::BadLine { line })?;
-    Ok(Command::Commit(instance))
+    Ok(Command::Event(Event::Commit(instance)))
 }
 
 #[tactic(auto, unfolding(crate::specs::Commands::abort_command))]
@@ -207,7 +194,7 @@ fn abort(line: usize, bytes: &[u8]) -> Result<Command, LineFault>
     ensures { result ≡ abort_command line (words_of bytes.now) }
 {
     let instance = only_instance(bytes).ok_or(LineFault::BadLine { line })?;
-    Ok(Command::Abort(instance))
+    Ok(Command::Event(Event::Abort(instance)))
 }
 
 #[tactic(auto, unfolding(crate::specs::Commands::vacuum_command))]
@@ -215,7 +202,7 @@ fn vacuum(line: usize, bytes: &[u8]) -> Result<Command, LineFault>
     ensures { result ≡ vacuum_command line (words_of bytes.now) }
 {
     match first_word(bytes) {
-        None => Ok(Command::Vacuum),
+        None => Ok(Command::Event(Event::Vacuum)),
         Some(_) => Err(LineFault::BadLine { line }),
     }
 }

@@ -82,25 +82,8 @@ impl Script {
         match command {
             Command::Skip => {}
             Command::Row(row) => add_row(&mut self.rows, line, self.events.len() != 0, row)?,
-            Command::Begin { program, args } => {
-                self.add_event(line, Event::Begin { program, args })?;
-            }
-            Command::BeginAt {
-                start,
-                program,
-                args,
-            } => {
-                let event = Event::BeginAt {
-                    start,
-                    program,
-                    args,
-                };
-                self.add_event(line, event)?;
-            }
-            Command::Step { instance, times } => self.add_steps(line, instance, times)?,
-            Command::Commit(instance) => self.add_event(line, Event::Commit(instance))?,
-            Command::Abort(instance) => self.add_event(line, Event::Abort(instance))?,
-            Command::Vacuum => self.add_event(line, Event::Vacuum)?,
+            Command::Event(event) => self.add_event(line, event)?,
+            Command::Steps { instance, times } => self.add_steps(line, instance, times)?,
         }
         Ok(())
     }
