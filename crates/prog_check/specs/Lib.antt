@@ -1,6 +1,7 @@
 pub mod Accesses
 pub mod Counts
 pub mod Faults
+pub mod Limits
 pub mod Literals
 pub mod Names
 pub mod Paths

@@ -9,7 +9,8 @@ use Rattle.prog_text.specs.declared.fault.TextFault.TheVariants as f
 use Rattle.prog_text.specs.declared.lexing.token.Token.{Token}
 use Rattle.prog_text.specs.declared.lexing.token.Sign.TheVariants as sign
 use Rattle.prog_text.specs.declared.lexing.token.Token.TheVariants as t
-use Rattle.prog_text.specs.Answer.{text_limit, HasTokens, Accepts, Refuses}
+use Rattle.prog_text.specs.Answer.{HasTokens, Accepts, Refuses}
+use Rattle.prog_text.specs.Limits.{text_limit}
 use Rattle.prog_text.specs.Grammar.{IsFactor, IsProduct, IsExpr, IsSet}
 use Rattle.prog_text.specs.Grammar as g
 use Rattle.prog_text.specs.Lexing.{Placed, tokens_of, tokens_from, piece_at, word_at, number_at, sign_at}

@@ -4,7 +4,8 @@ use Rattle.std.proofs.lemmas.List.{length-replicate}
 use Rattle.prog_text.specs.declared.fault.TextFault.TheVariants as f
 use Rattle.prog_text.specs.declared.lexing.lex_error.Flaw.{Flaw}
 use Rattle.prog_text.specs.declared.lexing.lex_error.Flaw.TheVariants.{NotAscii, UnknownByte, NumberOutOfRange, NameTooLong}
-use Rattle.prog_text.specs.Answer.{text_limit, IsFlawed, Refuses}
+use Rattle.prog_text.specs.Answer.{IsFlawed, Refuses}
+use Rattle.prog_text.specs.Limits.{text_limit}
 use Rattle.prog_text.specs.Cut.{IsFirstFlaw}
 use Rattle.prog_text.specs.Lexing.{Placed, Spot, tokens_of, tokens_from, piece_at, word_at, number_at, sign_at}
 use Rattle.prog_text.proofs.Flaws.{flaws_exactly}

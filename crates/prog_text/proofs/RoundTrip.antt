@@ -4,12 +4,12 @@ use Rattle.std.proofs.lemmas.List.{append-nil}
 use Rattle.prog_tree.specs.Syntax.{DraftTree}
 use Rattle.prog_text.specs.declared.lexing.token.Token.{Token}
 use Rattle.prog_text.specs.declared.lexing.token.Token.TheVariants as t
-use Rattle.prog_text.specs.Answer.{text_limit, Accepts}
+use Rattle.prog_text.specs.Answer.{Accepts}
 use Rattle.prog_text.specs.Canonical.{words_of, draft_marks, canonical}
 use Rattle.prog_text.specs.Cut.{IsName, Spells, IsWithin, IsPiece, space, comment, token, IsCut, end, another}
 use Rattle.prog_text.specs.Grammar.{IsSet}
 use Rattle.prog_text.specs.Lexing.{Placed, kinds, before}
-use Rattle.prog_text.specs.Limits.{too_deep}
+use Rattle.prog_text.specs.Limits.{text_limit, too_deep}
 use Rattle.prog_text.proofs.Breaks.{IsLexed}
 use Rattle.prog_text.proofs.CutMarks.{IsCutInto, Closed}
 use Rattle.prog_text.proofs.CutPhrases.{AreLexed, draft_closed}

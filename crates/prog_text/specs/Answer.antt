@@ -9,11 +9,7 @@ use Rattle.prog_text.specs.declared.lexing.token.Token.{Token}
 use Rattle.prog_text.specs.Cut.{IsCut, IsFirstFlaw}
 use Rattle.prog_text.specs.Grammar.{IsSet, BeginsSet}
 use Rattle.prog_text.specs.Lexing.{Placed, kinds, lefts}
-use Rattle.prog_text.specs.Limits.{too_deep}
-
--- the greatest length of a text
-abbrev pub text_limit : ℕ
-text_limit = 1048576
+use Rattle.prog_text.specs.Limits.{text_limit, too_deep}
 
 -- the text is short enough and is cut into these tokens
 pub record HasTokens (bytes : List ℕ) (placed : Placed) : Type 0 where

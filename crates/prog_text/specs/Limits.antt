@@ -1,8 +1,12 @@
--- How many brackets are open, and how many operators stand in one statement.
+-- How much there may be: how many brackets are open, and how many operators stand in one statement.
 use Rattle.std.specs.Prelude.{ℕ, suc, ◌-◌, List, [], ◌∷◌, Option, Some, None, nat_lt, ◌||◌, if◌then◌else◌, option_map}
 use Rattle.prog_text.specs.declared.lexing.token.Token.{Token}
 use Rattle.prog_text.specs.declared.lexing.token.Sign.TheVariants as sign
 use Rattle.prog_text.specs.declared.lexing.token.Token.TheVariants as t
+
+-- the most bytes of a text
+abbrev pub text_limit : ℕ
+text_limit = 1048576
 
 -- the most brackets that may be open
 abbrev pub bracket_limit : ℕ

@@ -9,6 +9,7 @@ use Rattle.si_engine.specs.declared.input.command.Command.TheVariants as says
 use Rattle.si_engine.specs.declared.event.Event.TheVariants.{Begin, BeginAt, Commit, Abort, Vacuum}
 use Rattle.si_engine.specs.declared.input.script_fault.LineFault.{LineFault}
 use Rattle.si_engine.specs.declared.input.script_fault.LineFault.TheVariants.{BadLine, UnknownName}
+use Rattle.si_engine.specs.Limits.{greatest_instance, most_steps}
 use Rattle.si_engine.specs.Lines.{is_skipped, words_of}
 use Rattle.si_engine.specs.Names.{number_named}
 use Rattle.si_engine.specs.Numbers.{numbers_of, number_between, u64_of}
@@ -44,10 +45,10 @@ begin_at_command draft line (start ∷ words) = do
 
 -- the number of an instance
 abbrev pub instance_number : List ℕ → Option ℕ
-instance_number word = number_between 0 4294967295 word
+instance_number word = number_between 0 greatest_instance word
 
 abbrev pub steps_of : List ℕ → List ℕ → Option Command
-steps_of instance times = option_and_then (λ i. option_map (says.Steps i) (number_between 1 1000 times)) (instance_number instance)
+steps_of instance times = option_and_then (λ i. option_map (says.Steps i) (number_between 1 most_steps times)) (instance_number instance)
 
 -- the steps that words ask for: I, or I N
 unfoldable pub step_of : List (List ℕ) → Option Command

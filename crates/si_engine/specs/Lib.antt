@@ -1,6 +1,7 @@
 pub mod Commands
 pub mod Headline
 pub mod LastLine
+pub mod Limits
 pub mod Lines
 pub mod Machine
 pub mod Names

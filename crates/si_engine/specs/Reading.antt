@@ -1,10 +1,6 @@
 -- What a source can give.
 use Rattle.std.specs.Prelude.{◌≡◌, ℕ, List, Option, IfSome}
 
--- the greatest length of the input
-abbrev pub input_limit : ℕ
-input_limit = 16777216
-
 -- the source can give these bytes: they are those that it has left, where it tells them
 abbrev pub CanGive : Option (List ℕ) → List ℕ → Type 0
 CanGive left input = IfSome left (λ bytes. input ≡ bytes)

@@ -5,7 +5,7 @@ use Rattle.si_engine.specs.declared.input.script_fault.ScriptFault.{ScriptFault}
 use Rattle.si_engine.specs.declared.input.script_fault.ScriptFault.TheVariants as fault
 use Rattle.si_engine.specs.declared.input.source.InputFault.TheVariants as input_fault
 use Rattle.si_engine.specs.Lines.{lines_of}
-use Rattle.si_engine.specs.Reading.{input_limit}
+use Rattle.si_engine.specs.Limits.{input_limit}
 use Rattle.si_engine.specs.RowLines.{◌>>=◌, Fails, IsFault}
 
 -- a saying behind others, unless it is wrong there

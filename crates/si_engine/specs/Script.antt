@@ -12,6 +12,7 @@ use Rattle.si_engine.specs.declared.input.script_fault.LineFault.{LineFault}
 use Rattle.si_engine.specs.declared.input.script_fault.LineFault.TheVariants.{TooManyEvents}
 use Rattle.si_engine.specs.declared.input.script_fault.ScriptFault.{ScriptFault}
 use Rattle.si_engine.specs.Commands.{line_command}
+use Rattle.si_engine.specs.Limits.{most_events}
 use Rattle.si_engine.specs.RowLines.{row_fault}
 use Rattle.si_engine.specs.Sayings.{made_of, IsPart, IsPartFault}
 
@@ -36,7 +37,7 @@ events_of commands = flat_map events_in commands
 
 -- so many events more are too many
 abbrev pub room_fault : (line : ℕ) → List Event → (more : ℕ) → Option LineFault
-room_fault line events more = if nat_lt 1000000 (length events + more) then Some (TooManyEvents line) else None
+room_fault line events more = if nat_lt most_events (length events + more) then Some (TooManyEvents line) else None
 
 -- there are events
 abbrev pub is_begun : List Event → Bool

@@ -36,7 +36,8 @@ use Rattle.si_engine.specs.declared.input.script.Script.{Script}
 use Rattle.si_engine.specs.declared.input.script_fault.LineFault.{LineFault}
 use Rattle.si_engine.specs.declared.input.script_fault.ScriptFault.TheVariants as script_fault
 use Rattle.si_engine.specs.declared.input.source.InputFault.TheVariants as input_fault
-use Rattle.si_engine.specs.Reading.{ForInput, input_limit}
+use Rattle.si_engine.specs.Limits.{input_limit}
+use Rattle.si_engine.specs.Reading.{ForInput}
 use Rattle.si_engine.specs.Records.{records_of}
 use Rattle.si_engine.specs.Runs.{run_lines, end_lines, AddsFirst, AddsEnd, AddsRun}
 use Rattle.si_engine.specs.Script.{script_of}

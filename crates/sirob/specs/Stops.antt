@@ -7,7 +7,8 @@ use Rattle.si_engine.specs.declared.output.finding.Serializability.{Serializabil
 use Rattle.si_engine.specs.declared.input.script_fault.ScriptFault.{ScriptFault}
 use Rattle.si_engine.specs.declared.input.script_fault.ScriptFault.TheVariants as script_fault
 use Rattle.si_engine.specs.declared.input.source.InputFault.TheVariants as input_fault
-use Rattle.si_engine.specs.Reading.{ForInput, input_limit}
+use Rattle.si_engine.specs.Limits.{input_limit}
+use Rattle.si_engine.specs.Reading.{ForInput}
 use Rattle.si_workers.specs.JobLines.{jobs_of}
 use Rattle.sirob.specs.declared.command_line.Mode.{Mode}
 use Rattle.sirob.specs.declared.commands.robust.Verified.{Verified}

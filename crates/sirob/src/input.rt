@@ -2,7 +2,7 @@
 ghost use Rattle.std.specs.Prelude.{◌≡◌, ◌≤◌, false, length, IfOk, IfErr};
 ghost use Rattle.prog_tree.specs.Tree.{draft_tree};
 ghost use Rattle.sirob.specs.FaultLines.{is_memory};
-ghost use Rattle.si_engine.specs.Reading.{input_limit};
+ghost use Rattle.si_engine.specs.Limits.{input_limit};
 ghost use Rattle.sirob.specs.Output.{IsSoundText, IsChecked, IsRefusedInput, IsRefusedText};
 ghost use Rattle.sirob.specs.Stops.{IsSetAndPart};
 

@@ -1,6 +1,6 @@
 //! Does jobs by workers, from a source to a sink.
 ghost use Rattle.std.specs.Prelude.{◌≡◌, ◌≤◌, ◌+◌, false, Err, length};
-ghost use Rattle.si_engine.specs.Reading.{input_limit};
+ghost use Rattle.si_engine.specs.Limits.{input_limit};
 ghost use Rattle.si_engine.specs.Writing.{WritesOr};
 ghost use Rattle.sirob.specs.Output.{IsReply, WritesWithStatus};
 ghost use Rattle.sirob.specs.Stops.{IsInputDone, IsSourceDone, write_lost};

@@ -2,7 +2,8 @@
 
 ghost use Rattle.std.specs.Prelude.{◌≡◌, ℕ, ◌≤◌, List, length, IfOk};
 ghost use Rattle.prog_tree.specs.Tree.{draft_tree};
-ghost use Rattle.prog_text.specs.Answer.{text_limit, Accepts};
+ghost use Rattle.prog_text.specs.Answer.{Accepts};
+ghost use Rattle.prog_text.specs.Limits.{text_limit};
 ghost use Rattle.prog_text.specs.Canonical.{canonical};
 
 use crate::canonical::printer::Printer;

@@ -1,7 +1,7 @@
 //! The command `audit`: from the bytes of records to the rows that they leave.
 ghost use Rattle.std.specs.Prelude.{◌≡◌, ◌≤◌, false, [], Ok, Err, length, string_bytes, IfOk, IfErr};
 ghost use Rattle.prog_tree.specs.Tree.{draft_tree};
-ghost use Rattle.si_engine.specs.Reading.{input_limit};
+ghost use Rattle.si_engine.specs.Limits.{input_limit};
 ghost use Rattle.si_engine.specs.Records.{records_of};
 ghost use Rattle.si_engine.specs.Writing.{WritesOr};
 ghost use Rattle.sirob.specs.FaultLines.{is_memory};

@@ -2,7 +2,7 @@
 ghost use Rattle.std.specs.Prelude.{◌≡◌, ◌≤◌, ◌++◌, false, [], ◌∷◌, Err, length, IfOk, IfErr, string_bytes};
 ghost use Rattle.prog_tree.specs.Tree.{draft_tree};
 ghost use Rattle.robust_cert.specs.Json.{certificate_text};
-ghost use Rattle.si_engine.specs.Reading.{input_limit};
+ghost use Rattle.si_engine.specs.Limits.{input_limit};
 ghost use Rattle.si_engine.specs.Writing.{WritesOr};
 ghost use Rattle.sirob.specs.FaultLines.{is_memory};
 ghost use Rattle.sirob.specs.Output.{Gives, GivesFinding};

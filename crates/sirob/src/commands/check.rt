@@ -1,6 +1,6 @@
 //! The command `check`: from the bytes of its input to the canonical text of their set.
 ghost use Rattle.std.specs.Prelude.{◌≡◌, ◌≤◌, false, [], Err, length, IfOk, IfErr};
-ghost use Rattle.si_engine.specs.Reading.{input_limit};
+ghost use Rattle.si_engine.specs.Limits.{input_limit};
 ghost use Rattle.si_engine.specs.Writing.{WritesOr};
 ghost use Rattle.sirob.specs.Output.{Gives};
 ghost use Rattle.sirob.specs.Stops.{IsStop, IsInputDone, write_lost};

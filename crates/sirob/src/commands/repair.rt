@@ -1,7 +1,7 @@
 //! The command `repair`: from the bytes of its input to the canonical text of their set, repaired.
 ghost use Rattle.std.specs.Prelude.{◌≡◌, ◌≤◌, false, [], Err, length, IfOk, IfErr};
 ghost use Rattle.prog_tree.specs.Tree.{draft_tree};
-ghost use Rattle.si_engine.specs.Reading.{input_limit};
+ghost use Rattle.si_engine.specs.Limits.{input_limit};
 ghost use Rattle.si_engine.specs.Writing.{WritesOr};
 ghost use Rattle.sirob.specs.FaultLines.{is_memory};
 ghost use Rattle.sirob.specs.Output.{Gives, IsRepaired};

@@ -1,7 +1,7 @@
 //! The command `run`: from the bytes of a script to the lines of its output.
 ghost use Rattle.std.specs.Prelude.{◌≡◌, ◌≤◌, Err, length, false, true};
 ghost use Rattle.prog_tree.specs.Tree.{draft_tree};
-ghost use Rattle.si_engine.specs.Reading.{input_limit};
+ghost use Rattle.si_engine.specs.Limits.{input_limit};
 ghost use Rattle.si_engine.specs.Writing.{WritesOr};
 ghost use Rattle.sirob.specs.Output.{IsRobust};
 ghost use Rattle.sirob.specs.Stops.{IsPartDone, as_command, write_lost};

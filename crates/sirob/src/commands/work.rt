@@ -1,7 +1,7 @@
 //! The command `work`: from the bytes of a list of jobs to what came of them.
 ghost use Rattle.std.specs.Prelude.{◌≡◌, ◌≤◌, false, Ok, Err, length, IfOk, IfErr, string_bytes};
 ghost use Rattle.prog_tree.specs.Tree.{draft_tree};
-ghost use Rattle.si_engine.specs.Reading.{input_limit};
+ghost use Rattle.si_engine.specs.Limits.{input_limit};
 ghost use Rattle.si_engine.specs.Writing.{WritesOr};
 ghost use Rattle.si_workers.specs.JobLines.{jobs_of};
 ghost use Rattle.sirob.specs.FaultLines.{is_memory};

@@ -2,7 +2,8 @@ use Rattle.std.proofs.Common.{◌≡◌, ℕ, ◌≤◌, List, length, sym, subs
 use Rattle.std.proofs.lemmas.Grind.{common_steps}
 use Rattle.prog_tree.specs.Syntax.{DraftTree}
 use Rattle.prog_tree.specs.Tree.{draft_tree}
-use Rattle.prog_text.specs.Answer.{text_limit, Accepts}
+use Rattle.prog_text.specs.Answer.{Accepts}
+use Rattle.prog_text.specs.Limits.{text_limit}
 use Rattle.prog_text.specs.Canonical.{canonical}
 use Rattle.prog_text.proofs.RoundTrip.{read_again}
 use Rattle.prog_text.proofs.canonical.printing.print.Goals as goal
