@@ -10,6 +10,7 @@ use Rattle.std.specs.Prelude.{slice_get}
 use Rattle.std.proofs.lemmas.Option.{slice_get_within, get_or_from_slice_get}
 use Rattle.history_book.specs.Orders.{is_one_of}
 use Rattle.history_book.specs.Placing.{times}
+use Rattle.history_book.proofs.PairLaws.{or_assoc, or_again}
 
 -- two numbers are the same, or not, as their test says
 abbrev pub Same : ℕ → ℕ → Type 0
@@ -126,15 +127,6 @@ or-comm true false = refl
 or-comm false true = refl
 or-comm false false = refl
 
-or-assoc : (a b d : Bool) → (a || (b || d)) ≡ ((a || b) || d)
-or-assoc true b d = refl
-or-assoc false b d = refl
-
-or-again : (a b : Bool) → (a || b) ≡ ((a || b) || a)
-or-again true b = refl
-or-again false true = refl
-or-again false false = refl
-
 pub one-insert : (keys : List ℕ) (k n : ℕ) → is_one_of (insert_key nat_cmp keys k) n ≡ (is_one_of keys n || k == n)
 one-insert [] k n = or-comm (k == n) false
 one-insert (x ∷ xs) k n = go (cases_Bool (nat_lt k x)) (eqb_tells k x) (one-insert xs k n)
@@ -142,8 +134,8 @@ one-insert (x ∷ xs) k n = go (cases_Bool (nat_lt k x)) (eqb_tells k x) (one-in
     go : Either (nat_lt k x) → Same k x → is_one_of (insert_key nat_cmp xs k) n ≡ (is_one_of xs n || k == n)
         → is_one_of (insert_key nat_cmp (x ∷ xs) k) n ≡ (is_one_of (x ∷ xs) n || k == n)
     go (inl l) _ e = rw l (or-comm (k == n) (is_one_of (x ∷ xs) n))
-    go (inr l) (inl s) e = rw (l, s.0) (subst (λ m. is_one_of (x ∷ xs) n ≡ (is_one_of (x ∷ xs) n || m == n)) (sym s.1) (or-again (x == n) (is_one_of xs n)))
-    go (inr l) (inr s) e = rw (l, s.0) (ap (λ b. (x == n) || b) e ∙ or-assoc (x == n) (is_one_of xs n) (k == n))
+    go (inr l) (inl s) e = rw (l, s.0) (subst (λ m. is_one_of (x ∷ xs) n ≡ (is_one_of (x ∷ xs) n || m == n)) (sym s.1) (or_again (x == n) (is_one_of xs n) ∙ or-comm (x == n) (is_one_of (x ∷ xs) n)))
+    go (inr l) (inr s) e = rw (l, s.0) (ap (λ b. (x == n) || b) e ∙ sym (or_assoc (x == n) (is_one_of xs n) (k == n)))
 
 pub above-all : (keys : List ℕ) (k n : ℕ) → All (IsLtBy nat_cmp k) keys → is_one_of keys n ≡ true → k < n
 above-all keys k n h one =

@@ -4,11 +4,11 @@ use Rattle.std.proofs.lemmas.List.Folds.{list_any-append}
 use Rattle.history_book.specs.Precedence.{precedes}
 use Rattle.history_book.specs.Reduced.{Pairs, is_pair_among, Adds}
 
-or_assoc : (a b c : Bool) → ((a || b) || c) ≡ (a || (b || c))
+pub or_assoc : (a b c : Bool) → ((a || b) || c) ≡ (a || (b || c))
 or_assoc true b c = refl
 or_assoc false b c = refl
 
-or_again : (a b : Bool) → (a || b) ≡ (a || (a || b))
+pub or_again : (a b : Bool) → (a || b) ≡ (a || (a || b))
 or_again true b = refl
 or_again false b = refl
 

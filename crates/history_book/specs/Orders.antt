@@ -1,5 +1,5 @@
 -- Orders of commits, by what has to stand before what.
-use Rattle.std.specs.Prelude.{◌≡◌, ℕ, ◌<◌, ◌≤◌, ◌==◌, zero, suc, Bool, true, false, not, ◌&&◌, ◌||◌, All, List, [], ◌∷◌, ◌++◌, Option, Some, None, option_and_then, if◌then◌else◌}
+use Rattle.std.specs.Prelude.{◌≡◌, ℕ, ◌<◌, ◌≤◌, ◌==◌, zero, suc, Bool, true, false, not, ◌&&◌, ◌||◌, All, List, [], ◌∷◌, ◌++◌, Option, Some, option_and_then, find}
 use Rattle.std.specs.List.{list_any, list_all, range_with_len}
 
 -- the number is one of these
@@ -13,9 +13,7 @@ is_free before all placed n =
 
 -- the first of some numbers that is free
 abbrev pub first_free : (before : ℕ → ℕ → Bool) → (all placed : List ℕ) → List ℕ → Option ℕ
-first_free before all placed [] = None
-first_free before all placed (n ∷ ns) =
-    if is_free before all placed n then Some n else first_free before all placed ns
+first_free before all placed = find (is_free before all placed)
 
 -- so many more places, at each the least number that is free there
 abbrev pub placed_by : (before : ℕ → ℕ → Bool) → (all : List ℕ) → ℕ → (placed : List ℕ) → Option (List ℕ)

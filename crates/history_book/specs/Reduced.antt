@@ -1,6 +1,6 @@
 -- Fewer pairs of commits, through which the others follow.
-use Rattle.std.specs.Prelude.{◌≡◌, ℕ, ◌+◌, ◌≤◌, nat_le, nat_lt, leb, ◌==◌, Bool, true, false, ◌&&◌, ◌||◌, All, List, [], ◌∷◌, ◌++◌, length, Option, Some, None, if◌then◌else◌, unwrap_or}
-use Rattle.std.specs.List.{list_any}
+use Rattle.std.specs.Prelude.{◌≡◌, ℕ, ◌+◌, ◌≤◌, nat_le, nat_lt, leb, ◌==◌, Bool, true, false, ◌&&◌, ◌||◌, All, List, [], ◌∷◌, ◌++◌, length, Option, Some, None, if◌then◌else◌, find, unwrap_or}
+use Rattle.std.specs.List.{flat_map, list_any}
 use Rattle.std.specs.List.Sorted.{IsPartitionPoint}
 use Rattle.std.specs.Option.{option_or}
 use Rattle.prog_tree.specs.declared.cell.Cell.{Cell}
@@ -85,8 +85,7 @@ steps_of (n ∷ ns) = steps_from n ns
 
 -- each writer of a cell stands before the next writer of it
 abbrev pub writers_steps : Cells (List ℕ) → Pairs
-writers_steps [] = []
-writers_steps (e ∷ es) = steps_of e.1 ++ writers_steps es
+writers_steps = flat_map (λ (e : Cell × List ℕ). steps_of e.1)
 
 -- the last of the numbers that are at most `start`
 abbrev pub last_seen : (start : ℕ) → List ℕ → Option ℕ
@@ -95,8 +94,7 @@ last_seen start (n ∷ ns) = option_or (last_seen start ns) (if nat_le n start t
 
 -- the first of the numbers that are above `start`
 abbrev pub first_missed : (start : ℕ) → List ℕ → Option ℕ
-first_missed start [] = None
-first_missed start (n ∷ ns) = if nat_lt start n then Some n else first_missed start ns
+first_missed start = find (nat_lt start)
 
 -- the last writer that the reader saw stands before it
 abbrev pub seen_pairs : (reader : ℕ) → Option ℕ → Pairs
@@ -115,10 +113,8 @@ reader_pairs reader start writers =
 
 -- the same of each cell of a region that the reader had not changed
 abbrev pub region_pairs : (reader start : ℕ) → Region → (own : List Cell) → Cells (List ℕ) → Pairs
-region_pairs reader start region own [] = []
-region_pairs reader start region own (e ∷ es) =
-    (if takes_in (sight.Range region own) e.0 then reader_pairs reader start e.1 else [])
-    ++ region_pairs reader start region own es
+region_pairs reader start region own =
+    flat_map (λ (e : Cell × List ℕ). if takes_in (sight.Range region own) e.0 then reader_pairs reader start e.1 else [])
 
 -- the same of each cell that a sight takes in
 abbrev pub sight_pairs : (reader start : ℕ) → Cells (List ℕ) → Sight → Pairs
@@ -127,9 +123,7 @@ sight_pairs reader start writers (sight.Range region own) = region_pairs reader 
 
 -- the same of each sight
 abbrev pub sights_pairs : (reader start : ℕ) → Cells (List ℕ) → List Sight → Pairs
-sights_pairs reader start writers [] = []
-sights_pairs reader start writers (s ∷ ss) =
-    sight_pairs reader start writers s ++ sights_pairs reader start writers ss
+sights_pairs reader start writers = flat_map (sight_pairs reader start writers)
 
 -- what the looks of commits say, the first of which has the number n
 abbrev pub readers_pairs : Cells (List ℕ) → ℕ → List TraceView → Pairs

@@ -1,35 +1,18 @@
 -- Which cells are changed and kept after one more.
 use Rattle.std.proofs.Common.{◌≡◌, Bool, true, false, ◌||◌, List, [], ◌∷◌, ◌⊎◌, inl, inr, refl, sym, ap, ◌∙◌, cond}
 use Rattle.std.specs.Prelude.{ℤ, Option, Some, is_some}
+use Rattle.std.proofs.lemmas.Bool.{or_cases, or_left, or_right}
 use Rattle.std.specs.BTreeSet.{insert_key}
 use Rattle.std.specs.Cmp.{Equal-is, eq_by_cmp_equiv}
-use Rattle.std.specs.FinMap.{nat_cmp-IsAntisymmetric, int_cmp-IsAntisymmetric}
-use Rattle.std.specs.Ordering.{ordering_then, match_ordering}
+use Rattle.std.specs.Ordering.{match_ordering}
 use Rattle.std.specs.declared.cmp.Ordering.{Ordering}
 use Rattle.std.specs.declared.cmp.Ordering.TheVariants.{Less, Equal, Greater}
 use Rattle.prog_tree.specs.declared.cell.Cell.{Cell}
 use Rattle.prog_tree.specs.Table.{cell_cmp, is_same_cell, is_cell_among}
 use Rattle.prog_tree.specs.ChangeSet.{ChangeSet, change_at, with_change, with_kept}
 use Rattle.prog_tree.proofs.TableLemmas.{cell_total, at_cell-with_cell}
+use Rattle.prog_tree.proofs.TableStates.{cell_is}
 use Rattle.prog_paths.specs.Follows.{Changes, KeepsCell}
-
-then_equal : (a b : Ordering) → ordering_then a b ≡ Equal → (a ≡ Equal) × (b ≡ Equal)
-then_equal Less b h = absurd (cc)
-then_equal Equal b h = (refl, h)
-then_equal Greater b h = absurd (cc)
-
--- cells that compare equal are the same
-same_cell : (c x : Cell) → cell_cmp c x ≡ Equal → c ≡ x
-same_cell c x h =
-    let outer = then_equal _ _ h in
-    let inner = then_equal _ _ outer.1 in
-    let table : c.table ≡ x.table = nat_cmp-IsAntisymmetric c.table x.table outer.0 in
-    let first : c.first ≡ x.first = int_cmp-IsAntisymmetric c.first x.first inner.0 in
-    let second : c.second ≡ x.second = int_cmp-IsAntisymmetric c.second x.second inner.1 in
-    λ i. record { table = table i; first = first i; second = second i }
-
-pub cell_is : (c x : Cell) → is_same_cell c x ≡ true → c ≡ x
-cell_is c x same = same_cell c x ((Equal-is (cell_cmp c x)).0 same)
 
 pub cell_same : (c : Cell) → is_same_cell c c ≡ true
 cell_same c = (eq_by_cmp_equiv cell_total).refl c
@@ -63,19 +46,8 @@ changes_stay s cell w c h = ap is_some (at_cell-with_cell s.cells cell w c) ∙ 
 
 -- ---- kept cells
 
-or_either : (a b : Bool) → (a || b) ≡ true → (a ≡ true) ⊎ (b ≡ true)
-or_either true b h = inl refl
-or_either false b h = inr h
-
-or_right : (a b : Bool) → b ≡ true → (a || b) ≡ true
-or_right true b h = refl
-or_right false b h = h
-
-or_left : (a b : Bool) → a ≡ true → (a || b) ≡ true
-or_left a b h = ap (λ x. x || b) h
-
 among_either : (ks : List Cell) (k c : Cell) → is_cell_among (insert_key cell_cmp ks k) c ≡ true → (c ≡ k) ⊎ (is_cell_among ks c ≡ true)
-among_either [] k c h = one (or_either (is_same_cell c k) false h)
+among_either [] k c h = one (or_cases (is_same_cell c k) false h)
   where
     one : (is_same_cell c k ≡ true) ⊎ (false ≡ true) → (c ≡ k) ⊎ (false ≡ true)
     one (inl e) = inl (cell_is c k e)
@@ -96,13 +68,13 @@ among_either (x ∷ ks) k c h = go (cell_cmp k x) h (among_either ks k c)
 
     go : (o : Ordering) → is_cell_among (match_ordering o (k ∷ x ∷ ks) (x ∷ ks) (x ∷ insert_key cell_cmp ks k)) c ≡ true → (is_cell_among (insert_key cell_cmp ks k) c ≡ true → (c ≡ k) ⊎ (is_cell_among ks c ≡ true)) →
         (c ≡ k) ⊎ (is_cell_among (x ∷ ks) c ≡ true)
-    go Less h f = front (x ∷ ks) (or_either (is_same_cell c k) (is_cell_among (x ∷ ks) c) h)
+    go Less h f = front (x ∷ ks) (or_cases (is_same_cell c k) (is_cell_among (x ∷ ks) c) h)
     go Equal h f = inr h
-    go Greater h f = later (is_same_cell c x) (or_either (is_same_cell c x) (is_cell_among (insert_key cell_cmp ks k) c) h) f
+    go Greater h f = later (is_same_cell c x) (or_cases (is_same_cell c x) (is_cell_among (insert_key cell_cmp ks k) c) h) f
 
 among_stays : (ks : List Cell) (k c : Cell) → is_cell_among ks c ≡ true → is_cell_among (insert_key cell_cmp ks k) c ≡ true
 among_stays [] k c h = or_right (is_same_cell c k) false h
-among_stays (x ∷ ks) k c h = go (cell_cmp k x) (or_either (is_same_cell c x) (is_cell_among ks c) h) (among_stays ks k c)
+among_stays (x ∷ ks) k c h = go (cell_cmp k x) (or_cases (is_same_cell c x) (is_cell_among ks c) h) (among_stays ks k c)
   where
     go : (o : Ordering) → (is_same_cell c x ≡ true) ⊎ (is_cell_among ks c ≡ true) → (is_cell_among ks c ≡ true → is_cell_among (insert_key cell_cmp ks k) c ≡ true) →
         is_cell_among (match_ordering o (k ∷ x ∷ ks) (x ∷ ks) (x ∷ insert_key cell_cmp ks k)) c ≡ true

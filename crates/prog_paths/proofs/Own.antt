@@ -1,6 +1,7 @@
 -- The unknowns of accesses in bodies are their own, since those of statements are numbered apart.
 use Rattle.std.proofs.Common.{◌≡◌, ℕ, ◌+◌, ◌<◌, ◌≤◌, Bool, true, false, ◌||◌, List, [], ◌∷◌, ◌⊎◌, inl, inr, map, refl, sym, subst, ap, ◌∙◌, arith, tests}
 use Rattle.std.proofs.lemmas.List.Elements.{All-from_recursion}
+use Rattle.std.proofs.lemmas.Bool.{or_left, or_right}
 use Rattle.std.specs.List.{AllByRecursion}
 use Rattle.std.specs.Prelude.{ℤ, ◌≤ℤ◌, Option, Some, None, if◌then◌else◌}
 use Rattle.prog_tree.specs.declared.table.TableDecl.{TableDecl}
@@ -226,14 +227,6 @@ same_term : (a : Access) (values : ℕ → ℤ) (v : Assignment) (t : Term) → 
 same_term a values v (Param i) h = refl
 same_term a values v (Literal k) h = refl
 same_term a values v (Unknown i) h = let itself : is_unknown_at (Unknown i) i ≡ true = search (tests, arith) in ap (λ b. if b then values i else v.unknown i) (h i itself)
-
-or_left : (a b : Bool) → a ≡ true → (a || b) ≡ true
-or_left true b h = refl
-or_left false b h = absurd (cc)
-
-or_right : (a b : Bool) → b ≡ true → (a || b) ≡ true
-or_right true b h = refl
-or_right false b h = h
 
 same_second : (a : Access) (values : ℕ → ℤ) (v : Assignment) (c : Option Column) → ((n : ℕ) → second_has c n ≡ true → has_unknown a n ≡ false) → second_under (with_own a values v) c ≡ second_under v c
 same_second a values v None h = refl

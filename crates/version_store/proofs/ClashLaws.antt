@@ -8,6 +8,7 @@ use Rattle.std.specs.declared.cmp.Ordering.TheVariants.{Less, Equal, Greater}
 use Rattle.std.specs.List.{AllByRecursion}
 use Rattle.std.specs.List.Sorted.{IsStrictlySortedBy}
 use Rattle.std.specs.Ordering.{is_eq, is_lt, match_ordering, ordering_reverse}
+use Rattle.std.proofs.lemmas.Bool.{or_right}
 use Rattle.std.proofs.lemmas.Bool.Decides.{leb_tells}
 use Rattle.std.proofs.lemmas.List.Folds.{list_any-append}
 use Rattle.std.proofs.lemmas.Map.Keys.{sorted_head, sorted_tail}
@@ -51,10 +52,6 @@ first-same p q f g start (Some x) same equal h = (
   λ c passes above. h.3 c (same c ∙ passes) (subst (λ (n : ℕ). start < n) (sym (equal c)) above),
 )
 
-later : (a b : Bool) → b ≡ true → (a || b) ≡ true
-later true b h = refl
-later false b h = h
-
 -- a search finds the first of cells in order
 pub first-above : (number : Cell → ℕ) (start : ℕ) (cells : List Cell) → IsStrictlySortedBy cell_cmp cells → IsFirst (is_cell_among cells) number start (first_above number start cells)
 first-above number start [] sorted = λ c among above. absurd (cc)
@@ -81,7 +78,7 @@ first-above number start (k ∷ ks) sorted =
     more : (o : Option (Cell × ℕ)) → number k ≤ start → IsFirst (is_cell_among ks) number start o → IsFirst (is_cell_among (k ∷ ks)) number start o
     more None low h = λ c among above. h c (past c low (is_same_cell c k) refl among above) above
     more (Some x) low h = (
-      later (is_same_cell x.0 k) (is_cell_among ks x.0) h.0,
+      or_right (is_same_cell x.0 k) (is_cell_among ks x.0) h.0,
       h.1,
       h.2,
       λ c among above less. h.3 c (past c low (is_same_cell c k) refl among above) above less,
@@ -108,7 +105,7 @@ first-lesser p q number start None None h k = λ c among above. at c (p c) (h c)
     at : (c : Cell) (x : Bool) → (x ≡ true → start < number c → ⊥) → (x || q c) ≡ true → start < number c → ⊥
     at c true none among above = none refl above
     at c false none among above = k c among above
-first-lesser p q number start None (Some y) h k = (later (p y.0) (q y.0) k.0, k.1, k.2, λ c among above less. at c (p c) (h c) among above less)
+first-lesser p q number start None (Some y) h k = (or_right (p y.0) (q y.0) k.0, k.1, k.2, λ c among above less. at c (p c) (h c) among above less)
   where
     at : (c : Cell) (x : Bool) → (x ≡ true → start < number c → ⊥) → (x || q c) ≡ true → start < number c → cell_cmp c y.0 ≡ Less → ⊥
     at c true none among above less = none refl above
@@ -134,7 +131,7 @@ first-lesser p q number start (Some x) (Some y) h k = go (cell_cmp y.0 x.0) refl
 
     second_counts : cell_cmp y.0 x.0 ≡ Less → IsFirst (λ c. p c || q c) number start (Some y)
     second_counts before = (
-      later (p y.0) (q y.0) k.0,
+      or_right (p y.0) (q y.0) k.0,
       k.1,
       k.2,
       λ c among above less. at c y.0 (p c) (λ is less. h.3 c is above (cell_total.trans c y.0 x.0 less before)) (λ is less. k.3 c is above less) among less,

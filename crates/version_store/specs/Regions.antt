@@ -1,5 +1,6 @@
 -- The rows of regions.
-use Rattle.std.specs.Prelude.{◌≡◌, ℕ, ℤ, List, [], ◌∷◌, ◌++◌, Option, Some, None, if◌then◌else◌}
+use Rattle.std.specs.Prelude.{◌≡◌, ℕ, ℤ, List, [], ◌∷◌, Option, Some, None, if◌then◌else◌}
+use Rattle.std.specs.List.{flat_map}
 use Rattle.prog_tree.specs.declared.cell.Cell.{Cell}
 use Rattle.prog_tree.specs.declared.cell.Region.{Region}
 use Rattle.prog_tree.specs.Table.{is_in, is_cell_among, Cells, TableState, IsTableState, row_at, with_row}
@@ -30,8 +31,7 @@ found_row c (Some value) = (c, value) ∷ []
 
 -- the rows of what is seen of chains, in their order
 abbrev pub found_rows : (Cell → Chain → Option ℤ) → Cells Chain → TableState
-found_rows seen [] = []
-found_rows seen (entry ∷ entries) = found_row entry.0 (seen entry.0 entry.1) ++ found_rows seen entries
+found_rows seen = flat_map (λ (entry : Cell × Chain). found_row entry.0 (seen entry.0 entry.1))
 
 -- a table state has of each cell what is seen of its chain
 abbrev pub IsSeen : (Cell → Chain → Option ℤ) → Cells Chain → TableState → Type 0

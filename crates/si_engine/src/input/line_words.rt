@@ -57,11 +57,8 @@ pub fn line_words(alloc: Global, line: &[u8]) -> Result<Vec<Word<'_>>, AllocErro
 {
     let mut words = Vec::new(alloc);
     let mut rest = line;
-    while !rest.is_empty() {
-        let (word, behind) = cut(rest, b' ');
-        if !word.is_empty() {
-            words.push(Word::new(word))?;
-        }
+    while let Some((word, behind)) = first_word(rest) {
+        words.push(Word::new(word))?;
         rest = behind;
     }
     Ok(words)
