@@ -2,7 +2,7 @@
 use Rattle.std.proofs.Common.{◌≡◌, ◌∙◌, ◌==◌, ℕ, Bool, true, false, ◌&&◌, ◌||◌, List, [], ◌∷◌, ◌++◌, length, refl, ap, sym}
 use Rattle.std.proofs.lemmas.List.Folds.{list_any-append}
 use Rattle.history_book.specs.Precedence.{precedes}
-use Rattle.history_book.specs.Reduced.{Pairs, is_pair_among, Adds}
+use Rattle.history_book.specs.Reduced.{Pairs, is_pair_among, AddsPairs}
 
 pub or_assoc : (a b c : Bool) → ((a || b) || c) ≡ (a || (b || c))
 or_assoc true b c = refl
@@ -27,7 +27,7 @@ pub record Walk (rest all : Pairs) (old now : List (List ℕ)) : Type 0 where
 pub walk_begins : (all : Pairs) (old : List (List ℕ)) → Walk all all old old
 walk_begins all old = record { towards = λ i j. refl; commits = refl }
 
-pub walk_ends : (rest all : Pairs) (old now : List (List ℕ)) → rest ≡ [] → Walk rest all old now → Adds all old now
+pub walk_ends : (rest all : Pairs) (old now : List (List ℕ)) → rest ≡ [] → Walk rest all old now → AddsPairs all old now
 walk_ends rest all old now none walk = record {
   commits = walk.commits;
   pairs = λ i j.
@@ -36,7 +36,7 @@ walk_ends rest all old now none walk = record {
       ∙ walk.towards i j;
 }
 
-pub walk_on : (left ps rest all : Pairs) (old now next : List (List ℕ)) → left ≡ ps ++ rest → Walk left all old now → Adds ps now next → Walk rest all old next
+pub walk_on : (left ps rest all : Pairs) (old now next : List (List ℕ)) → left ≡ ps ++ rest → Walk left all old now → AddsPairs ps now next → Walk rest all old next
 walk_on left ps rest all old now next is walk adds = record {
   towards = λ i j.
       ap (λ b. b || is_pair_among rest i j) (adds.pairs i j)
@@ -58,17 +58,17 @@ walk_skips ps rest all old now walk = record {
 }
 
 -- one pair was added
-pub one_pair : (a b : ℕ) (old new : List (List ℕ)) → length new ≡ length old → ((i j : ℕ) → precedes new i j ≡ (precedes old i j || ((i == a) && (j == b)))) → Adds ((a, b) ∷ []) old new
+pub one_pair : (a b : ℕ) (old new : List (List ℕ)) → length new ≡ length old → ((i j : ℕ) → precedes new i j ≡ (precedes old i j || ((i == a) && (j == b)))) → AddsPairs ((a, b) ∷ []) old new
 one_pair a b old new same adds = record {
   commits = same;
   pairs = λ i j. adds i j ∙ ap (λ x. precedes old i j || x) (sym (or_false ((i == a) && (j == b))));
 }
 
 -- nothing was added
-pub no_pair : (p : List (List ℕ)) → Adds [] p p
+pub no_pair : (p : List (List ℕ)) → AddsPairs [] p p
 no_pair p = record { commits = refl; pairs = λ i j. sym (or_false (precedes p i j)) }
 
-pub both_pairs : (ps qs : Pairs) (old mid new : List (List ℕ)) → Adds ps old mid → Adds qs mid new → Adds (ps ++ qs) old new
+pub both_pairs : (ps qs : Pairs) (old mid new : List (List ℕ)) → AddsPairs ps old mid → AddsPairs qs mid new → AddsPairs (ps ++ qs) old new
 both_pairs ps qs old mid new first second = record {
   commits = second.commits ∙ first.commits;
   pairs = λ i j.

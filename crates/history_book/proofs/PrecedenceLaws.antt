@@ -6,16 +6,16 @@ use Rattle.std.proofs.lemmas.Bool.{cases_Bool, false≢true}
 use Rattle.std.proofs.lemmas.Bool.Decides.{nat_tests, eqb_tells}
 use Rattle.std.proofs.lemmas.List.{map-set, get_or-map, get_or-set_same, get_or-set_other, set-get_or, length-set, length-map}
 use Rattle.history_book.specs.Orders.{is_one_of}
-use Rattle.history_book.specs.Precedence.{numbers_of, behind, precedes, IsWithin}
+use Rattle.history_book.specs.Precedence.{number_lists, behind, precedes, IsWithin}
 use Rattle.history_book.proofs.NumberLists.{Same, Either, one-push}
 use Rattle.history_book.proofs.PlacingLaws.{behind-at}
 
-pub behind-items : (items : List (Vec ℕ Global)) (number : ℕ) (v : Vec ℕ Global) → 0 < number → number ≤ length (numbers_of items) → v ≡ get_or items (number - 1) v → v.items ≡ behind (numbers_of items) number
+pub behind-items : (items : List (Vec ℕ Global)) (number : ℕ) (v : Vec ℕ Global) → 0 < number → number ≤ length (number_lists items) → v ≡ get_or items (number - 1) v → v.items ≡ behind (number_lists items) number
 behind-items items number v first within is =
     let long = length-map items (λ (w : Vec ℕ Global). w.items) in
     ap (λ (w : Vec ℕ Global). w.items) is
     ∙ sym (get_or-map (λ (w : Vec ℕ Global). w.items) items (number - 1) v [] (omega arith))
-    ∙ sym (behind-at (numbers_of items) number first)
+    ∙ sym (behind-at (number_lists items) number first)
 
 -- ---- no pair
 
@@ -26,14 +26,14 @@ behind-push [] (suc (suc i)) = refl
 behind-push (list ∷ lists) (suc zero) = refl
 behind-push (list ∷ lists) (suc (suc i)) = behind-push lists (suc i)
 
-numbers-push : (items : List (Vec ℕ Global)) (v : Vec ℕ Global) → numbers_of (items ++ v ∷ []) ≡ numbers_of items ++ v.items ∷ []
+numbers-push : (items : List (Vec ℕ Global)) (v : Vec ℕ Global) → number_lists (items ++ v ∷ []) ≡ number_lists items ++ v.items ∷ []
 numbers-push [] v = refl
 numbers-push (item ∷ items) v = ap (λ (w : List (List ℕ)). item.items ∷ w) (numbers-push items v)
 
-pub none-precede : (items : List (Vec ℕ Global)) (v : Vec ℕ Global) → v.items ≡ [] → ((i j : ℕ) → precedes (numbers_of items) i j ≡ false) → (i j : ℕ) → precedes (numbers_of (items ++ v ∷ [])) i j ≡ false
+pub none-precede : (items : List (Vec ℕ Global)) (v : Vec ℕ Global) → v.items ≡ [] → ((i j : ℕ) → precedes (number_lists items) i j ≡ false) → (i j : ℕ) → precedes (number_lists (items ++ v ∷ [])) i j ≡ false
 none-precede items v empty none i j =
-    ap (λ (w : List (List ℕ)). precedes w i j) (numbers-push items v ∙ ap (λ (w : List ℕ). numbers_of items ++ w ∷ []) empty)
-    ∙ ap (λ (w : List ℕ). is_one_of w j) (behind-push (numbers_of items) i)
+    ap (λ (w : List (List ℕ)). precedes w i j) (numbers-push items v ∙ ap (λ (w : List ℕ). number_lists items ++ w ∷ []) empty)
+    ∙ ap (λ (w : List ℕ). is_one_of w j) (behind-push (number_lists items) i)
     ∙ none i j
 
 -- ---- one pair more
@@ -59,7 +59,7 @@ precedes-add lists p second inside (suc q) j = go (eqb_tells q p) (eqb_tells (su
     go (inr e) (inl s) = let t = s.1 in absurd (e.1 (omega arith))
 
 -- the lists, and those after a change of one of them
-module _ (items : List (Vec ℕ Global)) (lists : List (List ℕ)) (view : numbers_of items ≡ lists) (first second : ℕ) (low : 0 < first) (high : first ≤ length lists) (old new : Vec ℕ Global) (is : old ≡ get_or items (first - 1) old) where
+module _ (items : List (Vec ℕ Global)) (lists : List (List ℕ)) (view : number_lists items ≡ lists) (first second : ℕ) (low : 0 < first) (high : first ≤ length lists) (old new : Vec ℕ Global) (is : old ≡ get_or items (first - 1) old) where
   at-first : get_or lists (first - 1) [] ≡ old.items
   at-first =
       let long = length-map items (λ (w : Vec ℕ Global). w.items) in
@@ -68,30 +68,30 @@ module _ (items : List (Vec ℕ Global)) (lists : List (List ℕ)) (view : numbe
       ∙ get_or-map (λ (w : Vec ℕ Global). w.items) items (first - 1) old [] (omega arith)
       ∙ ap (λ (w : Vec ℕ Global). w.items) (sym is)
 
-  changed : numbers_of (set items (first - 1) new) ≡ set lists (first - 1) new.items
+  changed : number_lists (set items (first - 1) new) ≡ set lists (first - 1) new.items
   changed = map-set (λ (w : Vec ℕ Global). w.items) items (first - 1) new ∙ ap (λ (w : List (List ℕ)). set w (first - 1) new.items) view
 
-  pub kept : new.items ≡ old.items → numbers_of (set items (first - 1) new) ≡ lists
+  pub kept : new.items ≡ old.items → number_lists (set items (first - 1) new) ≡ lists
   kept e = changed ∙ ap (λ (w : List ℕ). set lists (first - 1) w) (e ∙ sym at-first) ∙ set-get_or lists (first - 1) []
 
-  pub added : new.items ≡ old.items ++ second ∷ [] → (i j : ℕ) → precedes (numbers_of (set items (first - 1) new)) i j ≡ (precedes lists i j || (i == first && j == second))
+  pub added : new.items ≡ old.items ++ second ∷ [] → (i j : ℕ) → precedes (number_lists (set items (first - 1) new)) i j ≡ (precedes lists i j || (i == first && j == second))
   added e i j =
       let s : suc (first - 1) ≡ first = omega arith in
       ap (λ (w : List (List ℕ)). precedes w i j) (changed ∙ ap (λ (w : List ℕ). set lists (first - 1) w) (e ∙ ap (λ (w : List ℕ). w ++ second ∷ []) (sym at-first)))
       ∙ precedes-add lists (first - 1) second (omega arith) i j
       ∙ ap (λ m. precedes lists i j || (i == m && j == second)) s
 
-  long-kept : length (numbers_of (set items (first - 1) new)) ≡ length lists
+  long-kept : length (number_lists (set items (first - 1) new)) ≡ length lists
   long-kept = ap (λ (w : List (List ℕ)). length w) changed ∙ length-set lists (first - 1) new.items
 
-  pub within-kept : new.items ≡ old.items → IsWithin lists → IsWithin (numbers_of (set items (first - 1) new))
+  pub within-kept : new.items ≡ old.items → IsWithin lists → IsWithin (number_lists (set items (first - 1) new))
   within-kept e within = subst (λ (w : List (List ℕ)). IsWithin w) (sym (kept e)) within
 
-  pub within-added : new.items ≡ old.items ++ second ∷ [] → 0 < second → second ≤ length lists → IsWithin lists → IsWithin (numbers_of (set items (first - 1) new))
+  pub within-added : new.items ≡ old.items ++ second ∷ [] → 0 < second → second ≤ length lists → IsWithin lists → IsWithin (number_lists (set items (first - 1) new))
   within-added e above below within i j h = go (cases_Bool (precedes lists i j)) (eqb_tells j second) (cases_Bool (i == first)) (sym (added e i j) ∙ h)
     where
       go : Either (precedes lists i j) → Same j second → Either (i == first)
-          → (precedes lists i j || (i == first && j == second)) ≡ true → (0 < j) × (j ≤ length (numbers_of (set items (first - 1) new)))
+          → (precedes lists i j || (i == first && j == second)) ≡ true → (0 < j) × (j ≤ length (number_lists (set items (first - 1) new)))
       go (inl p) _ _ t = let w = within i j p in let l = long-kept in (w.0, (let b = w.1 in omega arith))
       go (inr p) (inl s) _ t = let l = long-kept in let q = s.1 in (omega arith, omega arith)
       go (inr p) (inr s) (inl f) t = absurd (false≢true (rw (p, f, s.0) at t))

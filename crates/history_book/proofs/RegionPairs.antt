@@ -6,7 +6,7 @@ use Rattle.prog_tree.specs.declared.cell.Cell.{Cell}
 use Rattle.prog_tree.specs.declared.cell.Region.{Region}
 use Rattle.prog_tree.specs.Table.{Cells, is_in, is_cell_among}
 use Rattle.prog_tree.specs.Corners.{is_between, AreCorners}
-use Rattle.history_book.specs.Reduced.{Pairs, Adds, RiseFrom, AreWithin, AllRiseWithin, steps_of, writers_steps, reader_pairs, region_pairs}
+use Rattle.history_book.specs.Reduced.{Pairs, AddsPairs, RiseFrom, AreWithin, AllRiseWithin, steps_of, writers_steps, reader_pairs, region_pairs}
 use Rattle.history_book.specs.Traces.{takes_in}
 use Rattle.history_book.specs.declared.orders.trace.Sight.TheVariants as sight
 use Rattle.history_book.proofs.PairLaws.{Walk, walk_begins, walk_on}
@@ -22,14 +22,14 @@ module _ (old : List (List ℕ)) (n : ℕ) where
       (All-head P (k, ws) rest here, All-tail P (k, ws) rest here)
 
   pub steps_on : (all : Pairs) (now next : List (List ℕ)) (left rest : Cells (List ℕ)) (k : Cell) (ws : List ℕ) → left ≡ (k, ws) ∷ rest →
-      Both (writers_steps left) all old now n left → Adds (steps_of ws) now next → Both (writers_steps rest) all old next n rest
+      Both (writers_steps left) all old now n left → AddsPairs (steps_of ws) now next → Both (writers_steps rest) all old next n rest
   steps_on all now next left rest k ws is so_far adds =
       (walk_on (writers_steps left) (steps_of ws) (writers_steps rest) all old now next (ap writers_steps is) so_far.0 adds, (entry_first left rest k ws is so_far.1).1)
 
   module _ (reader start : ℕ) (region : Region) (own : List Cell) where
     pub region_on : (b : Bool) (all : Pairs) (now next : List (List ℕ)) (left rest : Cells (List ℕ)) (k : Cell) (ws : List ℕ) → left ≡ (k, ws) ∷ rest →
         takes_in (sight.Range region own) k ≡ b → Both (region_pairs reader start region own left) all old now n left →
-        Adds (if b then reader_pairs reader start ws else []) now next →
+        AddsPairs (if b then reader_pairs reader start ws else []) now next →
         Both (region_pairs reader start region own rest) all old next n rest
     region_on b all now next left rest k ws is taken so_far adds =
         let ps : Bool → Pairs = λ t. if t then reader_pairs reader start ws else [] in (

@@ -9,7 +9,7 @@ use Rattle.prog_tree.specs.Table.{Cells, at_cell, is_same_cell}
 use Rattle.prog_tree.proofs.TableStates.{cell_is}
 use Rattle.history_book.specs.Orders.{is_one_of, IsUpTo, IsReduced, IsBefore, step, steps}
 use Rattle.history_book.specs.Precedence.{precedes}
-use Rattle.history_book.specs.Reduced.{writers_of, numbers_at, HasWriters, RiseFrom, Pairs, is_pair_among, Adds, steps_from, steps_of, writers_steps, last_seen, first_missed, seen_pairs, missed_pairs, reader_pairs, region_pairs, sight_pairs, sights_pairs, readers_pairs}
+use Rattle.history_book.specs.Reduced.{writers_of, numbers_at, HasWriters, RiseFrom, Pairs, is_pair_among, AddsPairs, steps_from, steps_of, writers_steps, last_seen, first_missed, seen_pairs, missed_pairs, reader_pairs, region_pairs, sight_pairs, sights_pairs, readers_pairs}
 use Rattle.history_book.specs.TraceView.{TraceView}
 use Rattle.history_book.specs.Traces.{takes_in, looked_at, changed_at, trace_at, SeesEarlier, changes_again, sees_change, misses_change, trace_depends, no_trace}
 use Rattle.history_book.specs.declared.orders.trace.Sight.{Sight}
@@ -229,7 +229,7 @@ module _ (traces : List TraceView) (m : Cells (List ℕ)) (has : HasWriters trac
 
 pub is_reduced :
     (traces : List TraceView) (m : Cells (List ℕ)) (none chained all : List (List ℕ)) → OfWriters traces m → HasWriters traces m → SeesEarlier traces →
-    ((i j : ℕ) → precedes none i j ≡ false) → Adds (writers_steps m) none chained → Adds (readers_pairs m 1 traces) chained all →
+    ((i j : ℕ) → precedes none i j ≡ false) → AddsPairs (writers_steps m) none chained → AddsPairs (readers_pairs m 1 traces) chained all →
     IsReduced (length traces) (precedes all) (trace_depends traces)
 is_reduced traces m none chained all of has sees free first second = record {
   within = λ i j h. (each_told traces (writers_steps m ++ readers_pairs m 1 traces) i j each (sym (just i j) ∙ h)).second;

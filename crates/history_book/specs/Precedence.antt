@@ -5,8 +5,8 @@ use Rattle.std.specs.declared.alloc.Global.{Global}
 use Rattle.history_book.specs.Orders.{is_one_of}
 
 -- the numbers of each list
-abbrev pub numbers_of : List (Vec ℕ Global) → List (List ℕ)
-numbers_of lists = map (λ list. list.items) lists
+abbrev pub number_lists : List (Vec ℕ Global) → List (List ℕ)
+number_lists lists = map (λ list. list.items) lists
 
 -- the numbers that have to stand behind a number; the first list is that of the number 1
 abbrev pub behind : List (List ℕ) → ℕ → List ℕ

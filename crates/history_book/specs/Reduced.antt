@@ -69,7 +69,7 @@ abbrev pub HasPairs : Pairs → (old new : List (List ℕ)) → Type 0
 HasPairs pairs old new = (i j : ℕ) → precedes new i j ≡ (precedes old i j || is_pair_among pairs i j)
 
 -- as many commits as before, with the pairs
-pub record Adds (ps : Pairs) (old new : List (List ℕ)) : Type 0 where
+pub record AddsPairs (ps : Pairs) (old new : List (List ℕ)) : Type 0 where
   pub commits : length new ≡ length old
   pub pairs : HasPairs ps old new
 

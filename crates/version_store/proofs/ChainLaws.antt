@@ -2,21 +2,21 @@
 use Rattle.std.proofs.Common.{◌≡◌, ℕ, zero, suc, ◌+◌, ◌-◌, ◌<◌, ◌≤◌, true, false, List, [], ◌∷◌, length, refl, ap, sym, ◌∙◌, cond, arith, leb, get_or}
 use Rattle.std.specs.Prelude.{ℤ, Option, Some, None, slice_get}
 use Rattle.std.specs.List.Sorted.{IsNonDecreasingBy}
-use Rattle.version_store.specs.Reading.{RisesFrom, IsCutAt, value_after, last_or}
+use Rattle.version_store.specs.Reading.{RisesFrom, IsCutAt, value_after, last_number_or}
 
 -- ---- the last one
 
-last_or-at : (before : ℕ) (ms : List ℕ) (n m : ℕ) → n + 1 ≡ length ms → Some m ≡ slice_get ms n → m ≡ last_or before ms
-last_or-at before [] n m end found = absurd (omega arith)
-last_or-at before (x ∷ []) zero m end found = cc
-last_or-at before (x ∷ []) (suc n) m end found = absurd (omega arith)
-last_or-at before (x ∷ y ∷ ms) zero m end found = absurd (omega arith)
-last_or-at before (x ∷ y ∷ ms) (suc n) m end found = last_or-at x (y ∷ ms) n m (omega arith) found
+last_number_or-at : (before : ℕ) (ms : List ℕ) (n m : ℕ) → n + 1 ≡ length ms → Some m ≡ slice_get ms n → m ≡ last_number_or before ms
+last_number_or-at before [] n m end found = absurd (omega arith)
+last_number_or-at before (x ∷ []) zero m end found = cc
+last_number_or-at before (x ∷ []) (suc n) m end found = absurd (omega arith)
+last_number_or-at before (x ∷ y ∷ ms) zero m end found = absurd (omega arith)
+last_number_or-at before (x ∷ y ∷ ms) (suc n) m end found = last_number_or-at x (y ∷ ms) n m (omega arith) found
 
 -- what `last` of numbers answers
-pub last_or-is : (before : ℕ) (ms : List ℕ) (m : ℕ) → Some m ≡ slice_get ms (length ms - 1) → m ≡ last_or before ms
-last_or-is before [] m found = absurd (cc)
-last_or-is before (x ∷ ms) m found = last_or-at before (x ∷ ms) (length (x ∷ ms) - 1) m (omega arith) found
+pub last_number_or-is : (before : ℕ) (ms : List ℕ) (m : ℕ) → Some m ≡ slice_get ms (length ms - 1) → m ≡ last_number_or before ms
+last_number_or-is before [] m found = absurd (cc)
+last_number_or-is before (x ∷ ms) m found = last_number_or-at before (x ∷ ms) (length (x ∷ ms) - 1) m (omega arith) found
 
 -- ---- the bisection
 

@@ -6,12 +6,12 @@ use Rattle.std.proofs.lemmas.Bool.{le-leb}
 use Rattle.std.proofs.lemmas.List.Elements.{filter-append}
 use Rattle.std.specs.Option.{option_to_list}
 use Rattle.version_store.specs.Newest.{with_newest}
-use Rattle.version_store.specs.Reading.{RisesFrom, value_after, numbers_of, last_or}
+use Rattle.version_store.specs.Reading.{RisesFrom, value_after, version_numbers, last_number_or}
 use Rattle.version_store.specs.Trimming.{shown, versions_kept}
 use Rattle.version_store.proofs.TrimLaws.{value_append}
 
 -- its number is the last
-pub last_newest : (before : ℕ) (vs : List (ℕ × Option ℤ)) (v : ℕ × Option ℤ) → last_or before (numbers_of (vs ++ v ∷ [])) ≡ v.0
+pub last_newest : (before : ℕ) (vs : List (ℕ × Option ℤ)) (v : ℕ × Option ℤ) → last_number_or before (version_numbers (vs ++ v ∷ [])) ≡ v.0
 last_newest before [] v = refl
 last_newest before (x ∷ vs) v = last_newest x.0 vs v
 

@@ -10,7 +10,7 @@ use Rattle.prog_tree.specs.Table.{cell_cmp, cells_of, is_in, is_cell_among, Tabl
 use Rattle.prog_tree.proofs.TableStates.{IsTableState-changed, IsTableState-rows_in, IsTableState-rows_left, same_state, row_at-where, row_at-rows_left}
 use Rattle.version_store.specs.Clash.{last_touch}
 use Rattle.version_store.specs.Commits.{state_at}
-use Rattle.version_store.specs.Reading.{AllRise, RisesFrom, chain_at, value_at, last_number, with_commit, with_mark_by, with_change_by, with_row_of, IsBelow}
+use Rattle.version_store.specs.Reading.{AllRise, RisesFrom, chain_at, value_at, last_number, with_commit, with_mark_by, with_change_by, with_opening_row, IsBelow}
 use Rattle.version_store.specs.Regions.{seen_in, seen_left, IsSeen}
 use Rattle.version_store.specs.StandsFor.{Chain, no_chain, StoreView, StandsFor, AreCommits, chain_of, trimmed, size, EachHolds}
 use Rattle.version_store.specs.Trimming.{shown, versions_kept, marks_kept, touches_by, touches_above, within, beyond}
@@ -73,7 +73,7 @@ gives_state s opening ws h n above rows ordered has =
 
 -- a store of opening rows alone
 pub stands-open :
-    (s : StoreView) (opening : TableState) → IsTableState opening → ((c : Cell) → chain_at s.chains c ≡ with_row_of (row_at opening c) no_chain) → EachHolds s.chains →
+    (s : StoreView) (opening : TableState) → IsTableState opening → ((c : Cell) → chain_at s.chains c ≡ with_opening_row (row_at opening c) no_chain) → EachHolds s.chains →
     s.pending ≡ [] → s.commits ≡ 0 → s.floor ≡ 0 → s.versions ≡ length opening → StandsFor s opening []
 stands-open s opening ordered chains holds pending commits floor versions = record {
   ordered = ordered;
@@ -86,7 +86,7 @@ stands-open s opening ordered chains holds pending commits floor versions = reco
   versions = versions ∙ sym (retained-open opening) ∙ ap (λ f. length (retained opening [] f)) (sym floor);
 }
   where
-    go : (o : Option ℤ) → with_row_of o no_chain ≡ trimmed 0 record { versions = shown 0 o ++ []; marks = [] }
+    go : (o : Option ℤ) → with_opening_row o no_chain ≡ trimmed 0 record { versions = shown 0 o ++ []; marks = [] }
     go None = refl
     go (Some v) = refl
 

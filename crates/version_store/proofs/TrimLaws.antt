@@ -4,7 +4,7 @@ use Rattle.std.specs.Prelude.{Option, Some, None, is_some, filter, not}
 use Rattle.std.proofs.lemmas.Bool.{le-leb, lt-leb}
 use Rattle.std.proofs.lemmas.Bool.Decides.{nat_tests}
 use Rattle.std.proofs.lemmas.List.Filters.{length-filter_both}
-use Rattle.version_store.specs.Reading.{RisesFrom, value_after, value_at, numbers_of, last_or, last_number, IsBelow}
+use Rattle.version_store.specs.Reading.{RisesFrom, value_after, value_at, version_numbers, last_number_or, last_number, IsBelow}
 use Rattle.version_store.specs.StandsFor.{Chain, trimmed}
 use Rattle.version_store.proofs.VersionLaws.{rises_more}
 use Rattle.version_store.specs.Trimming.{shown, versions_kept, marks_kept}
@@ -102,27 +102,27 @@ value_trimmed f n less chain = value_kept f n less [] chain.versions
 
 -- ---- the last number
 
-last_held : (f n before : ℕ) (k : ℕ) (o : Option ℤ) (vs : List (ℕ × Option ℤ)) → k ≤ n → before ≤ n → max n (last_or before (numbers_of (shown k o ++ vs))) ≡ max n (last_or k (numbers_of vs))
+last_held : (f n before : ℕ) (k : ℕ) (o : Option ℤ) (vs : List (ℕ × Option ℤ)) → k ≤ n → before ≤ n → max n (last_number_or before (version_numbers (shown k o ++ vs))) ≡ max n (last_number_or k (version_numbers vs))
 last_held f n before k None [] low small = omega arith
 last_held f n before k None (v ∷ vs) low small = refl
 last_held f n before k (Some x) vs low small = refl
 
-last_kept : (f n : ℕ) → f ≤ n → (before : ℕ) → before ≤ n → (k : ℕ) (o : Option ℤ) → k ≤ n → (vs : List (ℕ × Option ℤ)) → max n (last_or before (numbers_of (versions_kept f (shown k o) vs))) ≡ max n (last_or k (numbers_of vs))
-last_kept f n less before small k o low [] = ap (λ xs. max n (last_or before (numbers_of xs))) (sym (append-nil (shown k o))) ∙ last_held f n before k o [] low small
+last_kept : (f n : ℕ) → f ≤ n → (before : ℕ) → before ≤ n → (k : ℕ) (o : Option ℤ) → k ≤ n → (vs : List (ℕ × Option ℤ)) → max n (last_number_or before (version_numbers (versions_kept f (shown k o) vs))) ≡ max n (last_number_or k (version_numbers vs))
+last_kept f n less before small k o low [] = ap (λ xs. max n (last_number_or before (version_numbers xs))) (sym (append-nil (shown k o))) ∙ last_held f n before k o [] low small
 last_kept f n less before small k o low (v ∷ vs) = go (leb v.0 f) refl (λ here. last_kept f n less before small v.0 v.1 here vs)
   where
-    go : (b : Bool) → leb v.0 f ≡ b → (v.0 ≤ n → max n (last_or before (numbers_of (versions_kept f (shown v.0 v.1) vs))) ≡ max n (last_or v.0 (numbers_of vs))) →
-        max n (last_or before (numbers_of (cond b (versions_kept f (shown v.0 v.1) vs) (shown k o ++ v ∷ vs)))) ≡ max n (last_or v.0 (numbers_of vs))
+    go : (b : Bool) → leb v.0 f ≡ b → (v.0 ≤ n → max n (last_number_or before (version_numbers (versions_kept f (shown v.0 v.1) vs))) ≡ max n (last_number_or v.0 (version_numbers vs))) →
+        max n (last_number_or before (version_numbers (cond b (versions_kept f (shown v.0 v.1) vs) (shown k o ++ v ∷ vs)))) ≡ max n (last_number_or v.0 (version_numbers vs))
     go true here rest =
         let order : v.0 ≤ f = grind (arith, nat_tests) in
         rest (omega arith)
     go false above rest = last_held f n before k o (v ∷ vs) low small
 
-last_marks : (f n : ℕ) → f ≤ n → (a b : ℕ) → a ≤ n → b ≤ n → (ms : List ℕ) → max n (last_or a (marks_kept f ms)) ≡ max n (last_or b ms)
+last_marks : (f n : ℕ) → f ≤ n → (a b : ℕ) → a ≤ n → b ≤ n → (ms : List ℕ) → max n (last_number_or a (marks_kept f ms)) ≡ max n (last_number_or b ms)
 last_marks f n less a b p q [] = omega arith
 last_marks f n less a b p q (m ∷ ms) = go (leb m f) refl (λ low. last_marks f n less a m p low ms)
   where
-    go : (t : Bool) → leb m f ≡ t → (m ≤ n → max n (last_or a (marks_kept f ms)) ≡ max n (last_or m ms)) → max n (last_or a (cond t (marks_kept f ms) (m ∷ ms))) ≡ max n (last_or m ms)
+    go : (t : Bool) → leb m f ≡ t → (m ≤ n → max n (last_number_or a (marks_kept f ms)) ≡ max n (last_number_or m ms)) → max n (last_number_or a (cond t (marks_kept f ms) (m ∷ ms))) ≡ max n (last_number_or m ms)
     go true low rest = let order : m ≤ f = grind (arith, nat_tests) in rest (omega arith)
     go false above rest = refl
 

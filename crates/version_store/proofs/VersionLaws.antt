@@ -8,7 +8,7 @@ use Rattle.prog_tree.specs.Table.{TableState, row_at, is_cell_among}
 use Rattle.prog_tree.proofs.ChangedLemmas.{row_at-changed}
 use Rattle.version_store.specs.Clash.{last_touch}
 use Rattle.version_store.specs.Commits.{state_at}
-use Rattle.version_store.specs.Reading.{RisesFrom, value_after, value_at, numbers_of, last_or, last_number, with_commit, with_mark_by, with_change_by, IsBelow}
+use Rattle.version_store.specs.Reading.{RisesFrom, value_after, value_at, version_numbers, last_number_or, last_number, with_commit, with_mark_by, with_change_by, IsBelow}
 use Rattle.version_store.specs.Trimming.{shown}
 use Rattle.version_store.specs.StandsFor.{version_by, changes_of, marks_of, chain_of}
 use Rattle.version_store.specs.Versions.{Version}
@@ -77,13 +77,13 @@ chain_rises opening ws c = go (row_at opening c)
 
 -- ---- the last number
 
-last_from : (c : Cell) (k a b : ℕ) (ws : List ChangeSet) → a < k → b < k → max (last_or a (numbers_of (changes_of c k ws))) (last_or b (marks_of c k ws)) ≡ max (max a b) (last_touch c k ws)
+last_from : (c : Cell) (k a b : ℕ) (ws : List ChangeSet) → a < k → b < k → max (last_number_or a (version_numbers (changes_of c k ws))) (last_number_or b (marks_of c k ws)) ≡ max (max a b) (last_touch c k ws)
 last_from c k a b [] p q = omega arith
 last_from c k a b (w ∷ ws) p q = go (change_at w c) (is_cell_among w.kept c) (λ x y lx ly. last_from c (k + 1) x y ws lx ly)
   where
     go : (o : Option (Option ℤ)) (kept : Bool) →
-        ((x y : ℕ) → x < k + 1 → y < k + 1 → max (last_or x (numbers_of (changes_of c (k + 1) ws))) (last_or y (marks_of c (k + 1) ws)) ≡ max (max x y) (last_touch c (k + 1) ws)) →
-        max (last_or a (numbers_of (version_by k o ++ changes_of c (k + 1) ws))) (last_or b (if kept then k ∷ marks_of c (k + 1) ws else marks_of c (k + 1) ws))
+        ((x y : ℕ) → x < k + 1 → y < k + 1 → max (last_number_or x (version_numbers (changes_of c (k + 1) ws))) (last_number_or y (marks_of c (k + 1) ws)) ≡ max (max x y) (last_touch c (k + 1) ws)) →
+        max (last_number_or a (version_numbers (version_by k o ++ changes_of c (k + 1) ws))) (last_number_or b (if kept then k ∷ marks_of c (k + 1) ws else marks_of c (k + 1) ws))
         ≡ max (max a b) (max (if is_some o || kept then k else 0) (last_touch c (k + 1) ws))
     go None true rest = let h = rest a k (omega arith) (omega arith) in omega arith
     go None false rest = let h = rest a b (omega arith) (omega arith) in omega arith
@@ -93,10 +93,10 @@ last_from c k a b (w ∷ ws) p q = go (change_at w c) (is_cell_among w.kept c) (
 pub last_number-chain_of : (opening : TableState) (ws : List ChangeSet) (c : Cell) → last_number (chain_of opening ws c) ≡ last_touch c 1 ws
 last_number-chain_of opening ws c = go (row_at opening c)
   where
-    rest : max (last_or 0 (numbers_of (changes_of c 1 ws))) (last_or 0 (marks_of c 1 ws)) ≡ last_touch c 1 ws
+    rest : max (last_number_or 0 (version_numbers (changes_of c 1 ws))) (last_number_or 0 (marks_of c 1 ws)) ≡ last_touch c 1 ws
     rest = let h = last_from c 1 0 0 ws (omega arith) (omega arith) in omega arith
 
-    go : (o : Option ℤ) → max (last_or 0 (numbers_of (shown 0 o ++ changes_of c 1 ws))) (last_or 0 (marks_of c 1 ws)) ≡ last_touch c 1 ws
+    go : (o : Option ℤ) → max (last_number_or 0 (version_numbers (shown 0 o ++ changes_of c 1 ws))) (last_number_or 0 (marks_of c 1 ws)) ≡ last_touch c 1 ws
     go None = rest
     go (Some v) = rest
 

@@ -33,17 +33,17 @@ abbrev pub value_at : ℕ → Chain → Option ℤ
 value_at n chain = value_after n None chain.versions
 
 -- the numbers of versions
-abbrev pub numbers_of : List (ℕ × Option ℤ) → List ℕ
-numbers_of vs = map (λ v. v.0) vs
+abbrev pub version_numbers : List (ℕ × Option ℤ) → List ℕ
+version_numbers vs = map (λ v. v.0) vs
 
 -- the last of some numbers, where there was one before them
-abbrev pub last_or : (before : ℕ) → List ℕ → ℕ
-last_or before [] = before
-last_or before (n ∷ ns) = last_or n ns
+abbrev pub last_number_or : (before : ℕ) → List ℕ → ℕ
+last_number_or before [] = before
+last_number_or before (n ∷ ns) = last_number_or n ns
 
 -- the greatest number in a chain, or 0
 abbrev pub last_number : Chain → ℕ
-last_number chain = max (last_or 0 (numbers_of chain.versions)) (last_or 0 chain.marks)
+last_number chain = max (last_number_or 0 (version_numbers chain.versions)) (last_number_or 0 chain.marks)
 
 abbrev pub with_version : ℕ → Option ℤ → Chain → Chain
 with_version n value chain = record chain { versions = chain.versions ++ (n, value) ∷ [] }
@@ -57,8 +57,8 @@ with_entry f None chain = chain
 with_entry f (Some entry) chain = f entry chain
 
 -- a chain with the version of an opening row
-abbrev pub with_row_of : Option ℤ → Chain → Chain
-with_row_of = with_entry (λ value. with_version 0 (Some value))
+abbrev pub with_opening_row : Option ℤ → Chain → Chain
+with_opening_row = with_entry (λ value. with_version 0 (Some value))
 
 -- a chain with the version of a commit that changes its cell
 abbrev pub with_change_by : ℕ → Option (Option ℤ) → Chain → Chain

@@ -1,7 +1,7 @@
 //! What the store keeps of one cell.
 ghost use Rattle.std.specs.Prelude.{◌≡◌, ◌↔◌, ◌≤◌, ◌+◌, length, [], drop, None, IsTrue, OnOk, OnErr};
 ghost use Rattle.version_store.specs.Reading.{RisesFrom, IsCutAt, value_at};
-ghost use Rattle.version_store.specs.Reading.{last_or, last_number, cut_from};
+ghost use Rattle.version_store.specs.Reading.{last_number_or, last_number, cut_from};
 ghost use Rattle.version_store.specs.StandsFor.{no_chain, trimmed};
 ghost use Rattle.version_store.specs.Touches.{with_touch};
 ghost use Rattle.version_store.specs.Trimming.{versions_kept, marks_kept};
@@ -28,7 +28,7 @@ impl Model for Chain {
 
 // The last mark, or 0.
 fn last_mark(marks: &[u64]) -> u64
-    ensures { result ≡ last_or 0 marks.now }
+    ensures { result ≡ last_number_or 0 marks.now }
 {
     match marks.last() {
         Some(mark) => *mark,

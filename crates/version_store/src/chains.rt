@@ -4,7 +4,7 @@ ghost use Rattle.std.specs.Prelude.{IfOk, IsTrue, IsFalse, OnOk, OnErr};
 ghost use Rattle.std.specs.List.Sorted.{IsStrictlySortedBy};
 ghost use Rattle.prog_tree.specs.Table.{cell_cmp, cells_of, row_at};
 ghost use Rattle.version_store.specs.Reading.{AllRise, chain_at, value_at, number_at};
-ghost use Rattle.version_store.specs.Reading.{with_row_of, with_commit, cut_from, IsGrown};
+ghost use Rattle.version_store.specs.Reading.{with_opening_row, with_commit, cut_from, IsGrown};
 ghost use Rattle.version_store.specs.Reading.{MakesAt, MakesEach, MakesTouched, KeepsBelow, OthersHold};
 ghost use Rattle.version_store.specs.StandsFor.{no_chain, size, trimmed, EachHolds};
 ghost use Rattle.version_store.specs.Touches.{with_touch};
@@ -118,7 +118,7 @@ impl Chains {
     /// The chains of opening rows.
     pub fn open(alloc: Global, opening: &Rows) -> Result<Self, AllocError>
         ensures rows { IfOk result (λ chains.
-            MakesEach (λ c. with_row_of (row_at opening.now c)) [] chains) }
+            MakesEach (λ c. with_opening_row (row_at opening.now c)) [] chains) }
         ensures hold { IfOk result (λ chains. EachHolds chains) }
     {
         let mut chains = Chains::new(alloc);

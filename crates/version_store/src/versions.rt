@@ -1,7 +1,7 @@
 //! The versions of one cell.
 ghost use Rattle.std.specs.List.{list_all};
 ghost use Rattle.std.specs.Prelude.{◌≡◌, ◌↔◌, ◌≤◌, ◌+◌, ◌++◌, ◌∷◌, [], None, length, drop, filter, leb, nat_lt, IsTrue, OnOk, OnErr};
-ghost use Rattle.version_store.specs.Reading.{RisesFrom, IsCutAt, value_after, numbers_of, last_or};
+ghost use Rattle.version_store.specs.Reading.{RisesFrom, IsCutAt, value_after, version_numbers, last_number_or};
 ghost use Rattle.version_store.specs.Trimming.{versions_kept};
 
 use crate::version::Version;
@@ -108,7 +108,7 @@ impl Versions {
 
     /// The number of the last version, or 0.
     pub fn last_number(&self) -> u64
-        ensures { result ≡ last_or 0 (numbers_of self.now) }
+        ensures { result ≡ last_number_or 0 (version_numbers self.now) }
     {
         match self.newest {
             Some(version) => version.number,

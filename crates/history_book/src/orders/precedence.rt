@@ -16,13 +16,13 @@ pub struct Precedence {
 
 impl Model for Precedence {
     ghost use Rattle.std.specs.Prelude.{List, ℕ};
-    ghost use Rattle.history_book.specs.Precedence.{numbers_of, IsWithin};
+    ghost use Rattle.history_book.specs.Precedence.{number_lists, IsWithin};
 
     ghost Value = { List (List ℕ) };
 
-    ghost view = { λ p. numbers_of p.after.items };
+    ghost view = { λ p. number_lists p.after.items };
 
-    ghost invariant = { λ p. IsWithin (numbers_of p.after.items) };
+    ghost invariant = { λ p. IsWithin (number_lists p.after.items) };
 }
 
 // Whether the last of some numbers is this one.

@@ -3,7 +3,7 @@
 ghost use Rattle.std.specs.Prelude.{◌≡◌, ◌↔◌, length, slice_get, Some, IfOk, IsTrue, OnOk, IfSome};
 ghost use Rattle.history_book.specs.Orders.{IsReduced, IsUpTo};
 ghost use Rattle.history_book.specs.Traces.{trace_depends, takes_in, SeesEarlier};
-ghost use Rattle.history_book.specs.Reduced.{Adds, RiseFrom, AreWithin, AllRiseWithin, numbers_at};
+ghost use Rattle.history_book.specs.Reduced.{AddsPairs, RiseFrom, AreWithin, AllRiseWithin, numbers_at};
 ghost use Rattle.history_book.specs.Reduced.{steps_from, steps_of, writers_steps};
 ghost use Rattle.history_book.specs.Reduced.{seen_pairs, missed_pairs, reader_pairs};
 ghost use Rattle.history_book.specs.Reduced.{sight_pairs, region_pairs, sights_pairs, readers_pairs};
@@ -24,7 +24,7 @@ fn add_steps_from(
 ) -> Result<(), AllocError>
     requires first { IsUpTo (length precedence.old) first }
     requires rest { AreWithin (length precedence.old) rest.now }
-    ensures { OnOk result (Adds (steps_from first rest.now) precedence.old precedence.new) }
+    ensures { OnOk result (AddsPairs (steps_from first rest.now) precedence.old precedence.new) }
 {
     let mut last = first;
     for number in rest {
@@ -37,7 +37,7 @@ fn add_steps_from(
 // Puts each number before the next.
 fn add_steps(precedence: &mut Precedence, numbers: &[usize]) -> Result<(), AllocError>
     requires { AreWithin (length precedence.old) numbers.now }
-    ensures { OnOk result (Adds (steps_of numbers.now) precedence.old precedence.new) }
+    ensures { OnOk result (AddsPairs (steps_of numbers.now) precedence.old precedence.new) }
 {
     let Some((first, rest)) = numbers.split_first() else {
         return Ok(());
@@ -48,7 +48,7 @@ fn add_steps(precedence: &mut Precedence, numbers: &[usize]) -> Result<(), Alloc
 // Puts each writer of a cell before the next writer of it.
 fn add_writers(precedence: &mut Precedence, writers: &Writers) -> Result<(), AllocError>
     requires { AllRiseWithin (length precedence.old) writers.now }
-    ensures { OnOk result (Adds (writers_steps writers.now) precedence.old precedence.new) }
+    ensures { OnOk result (AddsPairs (writers_steps writers.now) precedence.old precedence.new) }
 {
     for (_, numbers) in writers.cells.iter() {
         add_steps(precedence, numbers.as_slice())?;
@@ -64,7 +64,7 @@ fn add_seen(
 ) -> Result<(), AllocError>
     requires reader { IsUpTo (length precedence.old) reader }
     requires writer { IfSome writer (IsUpTo (length precedence.old)) }
-    ensures { OnOk result (Adds (seen_pairs reader writer) precedence.old precedence.new) }
+    ensures { OnOk result (AddsPairs (seen_pairs reader writer) precedence.old precedence.new) }
 {
     if let Some(writer) = writer {
         precedence.add(writer, reader)?;
@@ -80,7 +80,7 @@ fn add_missed(
 ) -> Result<(), AllocError>
     requires reader { IsUpTo (length precedence.old) reader }
     requires writer { IfSome writer (IsUpTo (length precedence.old)) }
-    ensures { OnOk result (Adds (missed_pairs reader writer) precedence.old precedence.new) }
+    ensures { OnOk result (AddsPairs (missed_pairs reader writer) precedence.old precedence.new) }
 {
     let Some(writer) = writer else {
         return Ok(());
@@ -102,7 +102,7 @@ fn add_reader(
     requires rise { RiseFrom 0 writers.now }
     requires within { AreWithin (length precedence.old) writers.now }
     ensures { OnOk result
-        (Adds (reader_pairs reader start writers.now) precedence.old precedence.new) }
+        (AddsPairs (reader_pairs reader start writers.now) precedence.old precedence.new) }
 {
     add_seen(precedence, reader, last_seen(writers, start))?;
     add_missed(precedence, reader, first_missed(writers, start))
@@ -118,7 +118,7 @@ fn add_cell(
 ) -> Result<(), AllocError>
     requires reader { IsUpTo (length precedence.old) reader }
     requires within { AllRiseWithin (length precedence.old) writers.now }
-    ensures { OnOk result (Adds (reader_pairs reader start (numbers_at writers.now cell.now))
+    ensures { OnOk result (AddsPairs (reader_pairs reader start (numbers_at writers.now cell.now))
         precedence.old precedence.new) }
 {
     if let Some(numbers) = writers.cells.get(cell) {
@@ -148,7 +148,7 @@ fn add_region(
 ) -> Result<(), AllocError>
     requires reader { IsUpTo (length precedence.old) reader }
     requires within { AllRiseWithin (length precedence.old) writers.now }
-    ensures { OnOk result (Adds (region_pairs reader start region.now own.now writers.now)
+    ensures { OnOk result (AddsPairs (region_pairs reader start region.now own.now writers.now)
         precedence.old precedence.new) }
 {
     let Some((low, high)) = corners(*region) else {
@@ -173,7 +173,7 @@ fn add_sight(
     requires reader { IsUpTo (length precedence.old) reader }
     requires within { AllRiseWithin (length precedence.old) writers.now }
     ensures { OnOk result
-        (Adds (sight_pairs reader start writers.now sight.now) precedence.old precedence.new) }
+        (AddsPairs (sight_pairs reader start writers.now sight.now) precedence.old precedence.new) }
 {
     match sight {
         Sight::One(cell) => add_cell(precedence, reader, start, cell, writers)?,
@@ -205,7 +205,7 @@ fn add_sights(
     requires reader { IsUpTo (length precedence.old) reader }
     requires within { AllRiseWithin (length precedence.old) writers.now }
     ensures { OnOk result
-        (Adds (sights_pairs reader start writers.now sights.now) precedence.old precedence.new) }
+        (AddsPairs (sights_pairs reader start writers.now sights.now) precedence.old precedence.new) }
 {
     for (index, sight) in sights.iter().enumerate() {
         if !begins_with(&sights[index + 1..], sight) {
@@ -224,7 +224,7 @@ fn add_readers(
     requires commits { length precedence.old ≡ length traces.now }
     requires within { AllRiseWithin (length precedence.old) writers.now }
     ensures { OnOk result
-        (Adds (readers_pairs writers.now 1 traces.now) precedence.old precedence.new) }
+        (AddsPairs (readers_pairs writers.now 1 traces.now) precedence.old precedence.new) }
 {
     for (index, trace) in traces.iter().enumerate() {
         add_sights(

@@ -54,8 +54,11 @@ const PIECE: usize = 65_536;
 /// Why the bytes of a source can't be had.
 #[derive(Clone, Copy, Debug, PartialEq, Eq)]
 pub enum InputFault {
+    /// There are more than 16,777,216 bytes.
     TooLong,
+    /// The source failed.
     ReadFault,
+    /// There was no memory for it.
     Memory,
 }
 

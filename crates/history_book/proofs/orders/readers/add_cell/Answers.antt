@@ -1,7 +1,7 @@
 use Rattle.std.proofs.Common.{ℕ, List, length, subst, sym, ap, ◌∙◌}
 use Rattle.std.specs.Prelude.{[], Option, unwrap_or}
 use Rattle.prog_tree.specs.Table.{at_cell, Cells}
-use Rattle.history_book.specs.Reduced.{RiseFrom, AreWithin, Adds, reader_pairs}
+use Rattle.history_book.specs.Reduced.{RiseFrom, AreWithin, AddsPairs, reader_pairs}
 use Rattle.history_book.proofs.WriterLaws.{entry_holds}
 use Rattle.history_book.proofs.orders.readers.add_cell.Goals as goal
 
@@ -21,5 +21,5 @@ add_reader-requires-clause-within c =
 pub returns-in_ok-add_reader : goal.returns-in_ok-add_reader
 returns-in_ok-add_reader c =
     let found = c.in-Some.ensures.value ∙ ap (λ (w : Cells (List ℕ)). at_cell w c.args.cell.now) c.writers.view_is in
-    subst (λ (ws : List ℕ). Adds (reader_pairs c.args.reader c.args.start ws) c.args.precedence.now c.add_reader.new.precedence)
+    subst (λ (ws : List ℕ). AddsPairs (reader_pairs c.args.reader c.args.start ws) c.args.precedence.now c.add_reader.new.precedence)
     (c.as_slice.ensures ∙ ap (λ (o : Option (List ℕ)). unwrap_or o []) found) c.in_ok-add_reader.ensures

@@ -2,7 +2,7 @@ use Rattle.std.proofs.Common.{◌≡◌, ◌∙◌, ℕ, List, true, false, leng
 use Rattle.std.specs.Prelude.{filter}
 use Rattle.prog_tree.specs.declared.cell.Cell.{Cell}
 use Rattle.prog_tree.specs.Corners.{is_between}
-use Rattle.history_book.specs.Reduced.{Pairs, RiseFrom, AreWithin, Adds, reader_pairs, region_pairs}
+use Rattle.history_book.specs.Reduced.{Pairs, RiseFrom, AreWithin, AddsPairs, reader_pairs, region_pairs}
 use Rattle.history_book.proofs.PairLaws.{no_pair}
 use Rattle.history_book.proofs.RegionPairs.{entry_first, region_on, region_begins, no_region}
 use Rattle.history_book.proofs.orders.readers.add_region.Goals as goal
@@ -10,7 +10,7 @@ use Rattle.history_book.proofs.orders.readers.add_region.Goals as goal
 pub returns-in_default : goal.returns-in_default
 returns-in_default c =
     let old = c.args.precedence.now in
-    subst (λ (ps : Pairs). Adds ps old old) (sym (no_region old (length old) c.args.reader c.args.start c.args.region.now c.args.own.now c.args.writers.now c.in_default.ensures)) (no_pair old)
+    subst (λ (ps : Pairs). AddsPairs ps old old) (sym (no_region old (length old) c.args.reader c.args.start c.args.region.now c.args.own.now c.args.writers.now c.in_default.ensures)) (no_pair old)
 
 pub loop-cell-init : goal.loop-cell-init
 loop-cell-init c =
@@ -42,7 +42,7 @@ loop-cell-preserved-in-Continue-1 c =
     region_on old (length old) c.args.reader c.args.start c.args.region.now c.args.own.now true
     (region_pairs c.args.reader c.args.start c.args.region.now c.args.own.now c.args.writers.now) c.loop-cell.precedence c.add_reader.new.precedence c.loop-cell.cell-iterator c.next.new.self
     c.in-Some-2.cell.now c.in-Some-2.numbers.now c.in-Some-2.ensures.steps (sym c.takes_in.ensures ∙ c.if-takes_in.true) c.loop-cell.invariant
-    (subst (λ (ws : List ℕ). Adds (reader_pairs c.args.reader c.args.start ws) c.loop-cell.precedence c.add_reader.new.precedence) c.as_slice.ensures c.in_ok-add_reader.ensures)
+    (subst (λ (ws : List ℕ). AddsPairs (reader_pairs c.args.reader c.args.start ws) c.loop-cell.precedence c.add_reader.new.precedence) c.as_slice.ensures c.in_ok-add_reader.ensures)
 
 pub loop-cell-preserved : goal.loop-cell-preserved
 loop-cell-preserved c =
