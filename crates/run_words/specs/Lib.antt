@@ -1,4 +1,5 @@
 pub mod Cycles
+pub mod EachLine
 pub mod InInput
 pub mod JobSpots
 pub mod LostJobs

@@ -9,6 +9,7 @@ use Rattle.si_workers.specs.declared.job.JobOutcome.{JobOutcome}
 use Rattle.si_workers.specs.declared.job.Way.{Way}
 use Rattle.si_workers.specs.declared.job.Way.TheVariants.{Aborted, Clashed, Refused}
 use Rattle.si_workers.specs.Ways.{is_in}
+use Rattle.run_words.specs.EachLine.{TellsEach}
 use Rattle.run_words.specs.InInput.{input_line_text}
 
 -- a job ended in this way
@@ -40,9 +41,7 @@ TellsJob ahead part number line =
 
 -- a line for each of these jobs, in their order
 abbrev pub TellsJobs : (ahead part : List ℕ) → (numbers : List ℕ) → (lines : List ℕ) → Type 0
-TellsJobs ahead part [] lines = lines ≡ []
-TellsJobs ahead part (number ∷ numbers) lines =
-    (line rest : List ℕ) × TellsJob ahead part number line × TellsJobs ahead part numbers rest × (lines ≡ line ++ rest)
+TellsJobs ahead part = TellsEach (TellsJob ahead part)
 
 -- that there are so many more
 abbrev pub more_text : (count : ℕ) → List ℕ

@@ -70,12 +70,3 @@ PointsAtSeparator input words = (place : ℕ) × IsLastSeparator input place × 
 -- no line is `%%`
 abbrev pub HasNoSeparator : (input : List ℕ) → Type 0
 HasNoSeparator input = (place : ℕ) → place < length input → ¬ IsSeparatorPlace input place
-
--- the words begin with what is said of this line
-abbrev pub BeginsAtLine : (ahead part : List ℕ) → Option ℕ → (words : List ℕ) → Type 0
-BeginsAtLine ahead part line words =
-    (first rest : List ℕ) × PointsAtLineIn ahead part line first × (words ≡ first ++ rest)
-
--- something is added
-abbrev pub Extends : (before : List ℕ) → (after : List ℕ) → Type 0
-Extends before after = (more : List ℕ) × (after ≡ before ++ more)

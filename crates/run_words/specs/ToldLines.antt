@@ -1,9 +1,13 @@
 -- The lines of a script that do nothing, as they are told.
-use Rattle.std.specs.Prelude.{ℕ, ◌≡◌, ◌⊎◌, Bool, true, false, List, [], ◌∷◌, ◌++◌, Option, Some, None, if◌then◌else◌, slice_get}
+use Rattle.std.specs.Prelude.{ℕ, ◌≡◌, ◌==◌, ◌⊎◌, Bool, true, false, List, [], ◌∷◌, ◌++◌, Option, Some, None, codes, drop, if◌then◌else◌, slice_get}
+use Rattle.std.specs.Fmt.{decimal}
+use Rattle.text_places.specs.Places.{HasNoLine}
 use Rattle.si_engine.specs.declared.event.Reply.{Reply}
 use Rattle.si_engine.specs.declared.event.Reply.TheVariants as reply
 use Rattle.run_words.specs.declared.refusals.Refusals.{Refusals}
 use Rattle.run_words.specs.declared.refusals.Refused.{Refused}
+use Rattle.run_words.specs.EachLine.{TellsEach}
+use Rattle.run_words.specs.PartPointing.{PointsAtLineIn}
 
 -- those that are told, in order; none where memory ran out for them
 abbrev pub told_lines : Refusals → List Refused
@@ -35,3 +39,25 @@ IsOneMore before after = (after ≡ before) ⊎ ((refused : Refused) × (after �
 -- at most one line more is told, behind those before; where memory runs out for them, none is told any more
 abbrev pub TellsOneMore : (before after : Refusals) → Type 0
 TellsOneMore before after = IsOneMore (told_lines before) (told_lines after) ⊎ (after.is_lost ≡ true)
+
+-- the words point at the front of the line, with its line in the whole input; a line that the part has not is left out
+abbrev pub TellsLine : (ahead part : List ℕ) → Refused → (words : List ℕ) → Type 0
+TellsLine ahead part refused words =
+    PointsAtLineIn ahead part (Some refused.line) words ⊎ (HasNoLine part refused.line × (words ≡ []))
+
+-- how many lines name an instance that has not begun
+abbrev pub following_text : (count : ℕ) → List ℕ
+following_text count =
+    if count == 0 then [] else codes "lines behind it that name an instance which has not begun: " ++ (decimal count ++ codes "\n")
+
+-- how many lines more do nothing
+abbrev pub further_text : (count : ℕ) → List ℕ
+further_text count =
+    if count == 0 then [] else codes "further lines that do nothing: " ++ (decimal count ++ codes "\n")
+
+-- the words tell this line, then each other one that is told, and how many more there are
+abbrev pub TellsRefused : (ahead part : List ℕ) → (first : Option ℕ) → Refusals → (words : List ℕ) → Type 0
+TellsRefused ahead part first refusals words =
+    (line lines : List ℕ) × PointsAtLineIn ahead part first line
+    × TellsEach (TellsLine ahead part) (drop 1 (told_lines refusals)) lines
+    × (words ≡ line ++ (lines ++ (following_text refusals.following ++ further_text refusals.more)))

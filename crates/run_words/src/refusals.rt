@@ -1,8 +1,9 @@
 //! The lines of a script that do nothing, in words.
-ghost use Rattle.std.specs.Prelude.{◌≡◌, ◌↔◌, [], false, None, Some, IsOk, IsTrue, IfNone, IfOk, IfSome, OnOk, slice_get, string_bytes};
+ghost use Rattle.std.specs.Prelude.{◌≡◌, ◌↔◌, ◌++◌, List, ℕ, [], false, None, Some, IsOk, IsTrue, IfNone, IfOk, IfSome, OnOk, drop, slice_get, string_bytes};
 ghost use Rattle.text_places.specs.Places.{HasNoLine};
-ghost use Rattle.run_words.specs.PartPointing.{BeginsAtLine, Extends, HasNoLineOf, PointsAtLineIn};
-ghost use Rattle.run_words.specs.ToldLines.{first_told, is_refusal, told_lines, IsOneMore, TellsOneMore};
+ghost use Rattle.run_words.specs.EachLine.{TellsEach};
+ghost use Rattle.run_words.specs.PartPointing.{HasNoLineOf, PointsAtLineIn};
+ghost use Rattle.run_words.specs.ToldLines.{first_told, following_text, further_text, is_refusal, told_lines, IsOneMore, TellsLine, TellsOneMore, TellsRefused};
 
 use crate::begin_numbers::{Numbers, Vacuums, number_words};
 use crate::event_lines::EventLines;
@@ -294,12 +295,27 @@ fn line_words(
     Ok(Some(words))
 }
 
-// All but the first.
-fn behind_first(lines: &[Refused]) -> &[Refused] {
-    match lines {
-        [_, others @ ..] => others,
-        [] => &[],
+// The same; an empty text where the line is not found.
+fn words_or_none(
+    alloc: Global,
+    set: &ProgramSet,
+    part: Part<'_>,
+    refused: Refused,
+) -> Result<String, AllocError>
+    ensures { IfOk result (λ words. TellsLine part.entry.ahead.now part.entry.bytes.now refused
+        (string_bytes words)) }
+{
+    match line_words(alloc, set, part, refused)? {
+        Some(words) => Ok(words),
+        None => Ok(String::new(alloc)),
     }
+}
+
+// All but the first.
+fn behind_first(lines: &[Refused]) -> &[Refused]
+    ensures { result.now ≡ drop 1 lines.now }
+{
+    lines.get(1..).unwrap_or(&[])
 }
 
 // Adds lines that do nothing.
@@ -310,30 +326,35 @@ fn push_lines(
     told: &[Refused],
     out: &mut String,
 ) -> Result<(), AllocError>
-    ensures { OnOk result (Extends (string_bytes out.old) (string_bytes out.new)) }
+    ensures { OnOk result ((lines : List ℕ)
+        × TellsEach (TellsLine part.entry.ahead.now part.entry.bytes.now) told.now lines
+        × (string_bytes out.new ≡ string_bytes out.old ++ lines)) }
 {
     for refused in told {
-        let words = line_words(alloc, set, part, *refused)?.unwrap_or(String::new(alloc));
+        let words = words_or_none(alloc, set, part, *refused)?;
         out.push_str(&words)?;
     }
     Ok(())
 }
 
-// Says how many lines are not told.
-fn counts(alloc: Global, refusals: &Refusals) -> Result<String, AllocError> {
-    let mut text = String::new(alloc);
-    if refusals.following > 0 {
-        let count = refusals.following;
-        write!(
-            text,
-            "lines behind it that name an instance which has not begun: {count}\n"
-        )?;
+// How many lines name an instance that has not begun.
+fn following_text(alloc: Global, count: usize) -> Result<String, AllocError>
+    ensures { IfOk result (λ text. string_bytes text ≡ following_text count) }
+{
+    if count == 0 {
+        return Ok(String::new(alloc));
     }
-    if refusals.more > 0 {
-        let count = refusals.more;
-        write!(text, "further lines that do nothing: {count}\n")?;
+    format!(in alloc; "lines behind it that name an instance which has not begun: {count}\n")
+}
+
+// How many lines more do nothing.
+fn further_text(alloc: Global, count: usize) -> Result<String, AllocError>
+    ensures { IfOk result (λ text. string_bytes text ≡ further_text count) }
+{
+    if count == 0 {
+        return Ok(String::new(alloc));
     }
-    Ok(text)
+    format!(in alloc; "further lines that do nothing: {count}\n")
 }
 
 // The lines that are told, from the first on, and how many more there are; nothing where the first
@@ -346,17 +367,18 @@ fn told_words(
     first: Refused,
 ) -> Result<Option<String>, AllocError>
     ensures said { IfOk result (λ said. IfSome said (λ words.
-        BeginsAtLine part.entry.ahead.now part.entry.bytes.now (Some first.line)
+        TellsRefused part.entry.ahead.now part.entry.bytes.now (Some first.line) refusals.now
         (string_bytes words))) }
     ensures none { IfOk result (λ said. IfNone said (HasNoLine part.entry.bytes.now first.line)) }
 {
-    let Some(mut words) = line_words(alloc, set, part, first)? else {
+    let Some(first) = line_words(alloc, set, part, first)? else {
         return Ok(None);
     };
-    let others = behind_first(refusals.told_lines());
-    push_lines(alloc, set, part, others, &mut words)?;
-    let counts = counts(alloc, refusals)?;
-    words.push_str(&counts)?;
+    let mut others = String::new(alloc);
+    push_lines(alloc, set, part, behind_first(refusals.told_lines()), &mut others)?;
+    let following = following_text(alloc, refusals.following)?;
+    let further = further_text(alloc, refusals.more)?;
+    let words = format!(in alloc; "{first}{others}{following}{further}")?;
     Ok(Some(words))
 }
 
@@ -369,8 +391,8 @@ pub fn refused_words(
     refusals: &Refusals,
 ) -> Result<Option<String>, AllocError>
     ensures said { IfOk result (λ said. IfSome said (λ words.
-        BeginsAtLine part.entry.ahead.now part.entry.bytes.now (first_told refusals.now)
-        (string_bytes words))) }
+        TellsRefused part.entry.ahead.now part.entry.bytes.now (first_told refusals.now)
+        refusals.now (string_bytes words))) }
     ensures none { IfOk result (λ said. IfNone said
         (HasNoLineOf part.entry.bytes.now (first_told refusals.now))) }
 {

@@ -1,7 +1,10 @@
-use Rattle.std.proofs.Common.{string_bytes}
-use Rattle.run_words.specs.PartPointing.{Extends}
+use Rattle.std.proofs.Common.{ℕ, ◌≡◌, ◌++◌, List, string_bytes, take}
+use Rattle.run_words.specs.EachLine.{TellsEach}
+use Rattle.run_words.specs.ToldLines.{TellsLine}
 use Rattle.run_words.proofs.refusals.push_lines.Given as goal
 
--- something is added so far
+-- the lines so far are added
 abbrev pub invariant-loop-refused : goal.invariant-loop-refused
-invariant-loop-refused l = Extends (string_bytes l.fn.out) (string_bytes l.out)
+invariant-loop-refused l =
+    (lines : List ℕ) × TellsEach (TellsLine l.part.ahead.now l.part.bytes.now) (take l.refused-index l.told) lines
+    × (string_bytes l.out ≡ string_bytes l.fn.out ++ lines)

@@ -1,20 +1,26 @@
-use Rattle.std.proofs.Common.{◌++◌, ◌∙◌, ap, append_assoc, string_bytes}
+use Rattle.std.proofs.Common.{◌≡◌, ◌++◌, ◌∙◌, List, ap, drop, string_bytes, subst}
 use Rattle.text_places.specs.Places.{HasNoLine}
+use Rattle.run_words.specs.EachLine.{TellsEach}
+use Rattle.run_words.specs.ToldLines.{TellsLine, told_lines}
+use Rattle.run_words.specs.declared.refusals.Refused.{Refused}
 use Rattle.run_words.proofs.Unsaid.{unsaid}
 use Rattle.run_words.proofs.refusals.told_words.Goals as goal
 
 pub returns-clause-said : goal.returns-clause-said
 returns-clause-said c =
-    let points = rw c.in-Some.is at c.in_ok-words.ensures.said in
-    let first = string_bytes c.in-Some.words in
-    let more = c.in_ok-push_lines.ensures in
-    let counts = c.deref.result.now in (
+    let first = string_bytes c.in-Some.first in
+    let points = rw c.in-Some.is at c.in_ok-first.ensures.said in
+    let lines = c.in_ok-push_lines.ensures in
+    let behind : c.behind_first.result.now ≡ drop 1 (told_lines c.args.refusals.now) =
+    c.behind_first.ensures ∙ ap (λ (told : List Refused). drop 1 told) c.told_lines.ensures in
+    let others : string_bytes c.push_lines.new.out ≡ lines.0 = lines.2 ∙ ap (λ old. old ++ lines.0) c.new-others.ensures.bytes in (
       first,
-      more.0 ++ counts,
+      lines.0,
       points,
-      c.in_ok-push_str.ensures.bytes ∙ ap (λ out. out ++ counts) more.1 ∙ append_assoc first more.0 counts,
+      subst (λ (told : List Refused). TellsEach (TellsLine c.args.part.ahead.now c.args.part.bytes.now) told lines.0) behind lines.1,
+      c.in_ok-words.ensures.ok ∙ (λ i. first ++ (others i ++ (c.in_ok-following.ensures i ++ c.in_ok-further.ensures i))),
     )
 
 pub returns-in_default-clause-none : goal.returns-in_default-clause-none
 returns-in_default-clause-none c =
-    unsaid _ (HasNoLine c.args.part.bytes.now c.args.first.line) c.in_default.is c.in_ok-words.ensures.none
+    unsaid _ (HasNoLine c.args.part.bytes.now c.args.first.line) c.in_default.is c.in_ok-first.ensures.none
