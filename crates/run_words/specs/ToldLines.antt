@@ -1,7 +1,9 @@
 -- The lines of a script that do nothing, as they are told.
-use Rattle.std.specs.Prelude.{ℕ, ◌≡◌, ◌==◌, ◌⊎◌, Bool, true, false, List, [], ◌∷◌, ◌++◌, Option, Some, None, codes, drop, if◌then◌else◌, slice_get}
+use Rattle.std.specs.Prelude.{ℕ, ◌≡◌, ◌==◌, ◌⊎◌, ◌||◌, Bool, true, false, List, [], ◌∷◌, ◌++◌, Option, Some, None, codes, drop, if◌then◌else◌, slice_get}
 use Rattle.std.specs.Fmt.{decimal}
 use Rattle.text_places.specs.Places.{HasNoLine}
+use Rattle.si_engine.specs.declared.event.Event.{Event}
+use Rattle.si_engine.specs.declared.event.Event.TheVariants as event
 use Rattle.si_engine.specs.declared.event.Reply.{Reply}
 use Rattle.si_engine.specs.declared.event.Reply.TheVariants as reply
 use Rattle.run_words.specs.declared.refusals.Refusals.{Refusals}
@@ -31,6 +33,38 @@ is_refusal reply.NoSuchInstance = true
 is_refusal reply.NotReady = true
 is_refusal reply.Ended = true
 is_refusal other = false
+
+-- an event names a number at which none can begin
+abbrev pub refuses_number : Event → Reply → Bool
+refuses_number (event.BeginAt start program args) (reply.TooOld floor) = true
+refuses_number (event.BeginAt start program args) (reply.TooNew commits) = true
+refuses_number asked answer = false
+
+-- a begin is refused otherwise
+abbrev pub refuses_begin : Reply → Bool
+refuses_begin reply.WrongArguments = true
+refuses_begin reply.Full = true
+refuses_begin other = false
+
+-- an instance does not do what is asked of it
+abbrev pub refuses_instance : Reply → Bool
+refuses_instance reply.NoSuchInstance = true
+refuses_instance reply.NotReady = true
+refuses_instance reply.Ended = true
+refuses_instance other = false
+
+-- an event is refused, but for a number
+abbrev pub refuses : Event → Reply → Bool
+refuses (event.Begin program args) answer = refuses_begin answer
+refuses (event.BeginAt start program args) answer = refuses_begin answer
+refuses (event.Step instance) answer = refuses_instance answer
+refuses (event.Commit instance) answer = refuses_instance answer
+refuses (event.Abort instance) answer = refuses_instance answer
+refuses event.Vacuum answer = false
+
+-- an event that is answered by this does nothing
+abbrev pub does_nothing : Event → Reply → Bool
+does_nothing asked answer = refuses_number asked answer || refuses asked answer
 
 -- the lines stay, or one more stands behind them
 abbrev pub IsOneMore : (before after : List Refused) → Type 0

@@ -1,9 +1,9 @@
 //! The lines of a script that do nothing, in words.
-ghost use Rattle.std.specs.Prelude.{◌≡◌, ◌↔◌, ◌++◌, List, ℕ, [], false, None, Some, IsOk, IsTrue, IfNone, IfOk, IfSome, OnOk, drop, slice_get, string_bytes};
+ghost use Rattle.std.specs.Prelude.{◌≡◌, ◌≢◌, ◌<◌, ◌↔◌, ◌++◌, List, ℕ, [], true, false, None, Some, IsOk, IsTrue, IfNone, IfOk, IfSome, OnOk, drop, length, slice_get, string_bytes, vec_len};
 ghost use Rattle.text_places.specs.Places.{HasNoLine};
 ghost use Rattle.run_words.specs.EachLine.{TellsEach};
 ghost use Rattle.run_words.specs.PartPointing.{HasNoLineOf, PointsAtLineIn};
-ghost use Rattle.run_words.specs.ToldLines.{first_told, following_text, further_text, is_refusal, told_lines, IsOneMore, TellsLine, TellsOneMore, TellsRefused};
+ghost use Rattle.run_words.specs.ToldLines.{does_nothing, first_told, following_text, further_text, is_refusal, refuses, refuses_begin, refuses_instance, refuses_number, told_lines, IsOneMore, TellsLine, TellsOneMore, TellsRefused};
 
 use crate::begin_numbers::{Numbers, Vacuums, number_words};
 use crate::event_lines::EventLines;
@@ -56,7 +56,8 @@ pub struct Refusals {
 }
 
 fn refusal_of_instance(instance: usize, reply: &Reply) -> Option<Refusal>
-    ensures { is_refusal reply.now ≡ false → result ≡ None }
+    ensures none { is_refusal reply.now ≡ false → result ≡ None }
+    ensures some { refuses_instance reply.now ≡ true → result ≢ None }
 {
     match reply {
         Reply::NoSuchInstance => Some(Refusal::NoInstance(instance)),
@@ -67,7 +68,8 @@ fn refusal_of_instance(instance: usize, reply: &Reply) -> Option<Refusal>
 }
 
 fn refusal_of_begin(program: usize, given: usize, reply: &Reply) -> Option<Refusal>
-    ensures { is_refusal reply.now ≡ false → result ≡ None }
+    ensures none { is_refusal reply.now ≡ false → result ≡ None }
+    ensures some { refuses_begin reply.now ≡ true → result ≢ None }
 {
     match reply {
         Reply::WrongArguments => Some(Refusal::WrongArguments { program, given }),
@@ -78,7 +80,8 @@ fn refusal_of_begin(program: usize, given: usize, reply: &Reply) -> Option<Refus
 
 // Why an event that was answered by this does nothing, but for a begin at another number.
 fn refusal_of(event: &Event, reply: &Reply) -> Option<Refusal>
-    ensures { is_refusal reply.now ≡ false → result ≡ None }
+    ensures none { is_refusal reply.now ≡ false → result ≡ None }
+    ensures some { refuses event.now reply.now ≡ true → result ≢ None }
 {
     match event {
         Event::Begin { program, args } | Event::BeginAt { program, args, .. } => {
@@ -93,7 +96,8 @@ fn refusal_of(event: &Event, reply: &Reply) -> Option<Refusal>
 
 // The number at which an event asks an instance to begin, where none can begin there.
 fn refused_start(event: &Event, reply: &Reply) -> Option<u64>
-    ensures { is_refusal reply.now ≡ false → result ≡ None }
+    ensures none { is_refusal reply.now ≡ false → result ≡ None }
+    ensures some { refuses_number event.now reply.now ≡ true → result ≢ None }
 {
     match (event, reply) {
         (Event::BeginAt { start, .. }, Reply::TooOld { .. } | Reply::TooNew { .. }) => Some(*start),
@@ -120,17 +124,19 @@ impl Refusals {
         }
     }
 
-    // Adds a line, once.
+    // Adds a line, once; where it is the first, it is told.
     fn add(&mut self, line: usize, refusal: Refusal) -> Result<(), AllocError>
         ensures more { OnOk result (IsOneMore self.old.told.items self.new.told.items) }
+        ensures some { OnOk result (0 < vec_len self.new.told) }
         ensures held { self.new.is_lost ≡ self.old.is_lost }
     {
-        if line == self.last {
+        let is_first = self.told.is_empty();
+        if line == self.last && !is_first {
             return Ok(());
         }
         self.last = line;
         match refusal {
-            Refusal::NoInstance(_) if self.is_begin_refused => {
+            Refusal::NoInstance(_) if self.is_begin_refused && !is_first => {
                 self.following = self.following.saturating_add(1);
                 return Ok(());
             }
@@ -150,6 +156,7 @@ impl Refusals {
     // Adds the line of the event of a number.
     fn add_event(&mut self, part: &[u8], number: usize, refusal: Refusal) -> Result<(), AllocError>
         ensures more { OnOk result (IsOneMore self.old.told.items self.new.told.items) }
+        ensures some { OnOk result (0 < vec_len self.new.told) }
         ensures held { self.new.is_lost ≡ self.old.is_lost }
     {
         let line = self.lines.line_of(part, number);
@@ -168,6 +175,8 @@ impl Refusals {
     ) -> Result<(), AllocError>
         ensures stays { is_refusal reply.now ≡ false → IsOk result × (self.new ≡ self.old) }
         ensures more { OnOk result (IsOneMore self.old.told.items self.new.told.items) }
+        ensures some { does_nothing event.now reply.now ≡ true
+            → OnOk result (0 < vec_len self.new.told) }
         ensures held { self.new.is_lost ≡ self.old.is_lost }
     {
         if let Some(start) = refused_start(event, reply) {
@@ -209,6 +218,8 @@ impl Refusals {
     pub fn look(&mut self, part: &[u8], event: &Event, reply: &Reply, book: &Book<'_>)
         ensures stays { is_refusal reply.now ≡ false → told_lines self.new ≡ told_lines self.old }
         ensures more { TellsOneMore self.old self.new }
+        ensures some { does_nothing event.now reply.now ≡ true → self.new.is_lost ≡ false
+            → 0 < length (told_lines self.new) }
     {
         let number = self.events;
         self.events = number.saturating_add(1);
@@ -276,7 +287,7 @@ fn sentence(alloc: Global, set: &ProgramSet, refusal: Refusal) -> Result<String,
 }
 
 // A line with why it does nothing; nothing where it is not found.
-fn line_words(
+fn told_line(
     alloc: Global,
     set: &ProgramSet,
     part: Part<'_>,
@@ -305,7 +316,7 @@ fn words_or_none(
     ensures { IfOk result (λ words. TellsLine part.entry.ahead.now part.entry.bytes.now refused
         (string_bytes words)) }
 {
-    match line_words(alloc, set, part, refused)? {
+    match told_line(alloc, set, part, refused)? {
         Some(words) => Ok(words),
         None => Ok(String::new(alloc)),
     }
@@ -371,11 +382,17 @@ fn told_words(
         (string_bytes words))) }
     ensures none { IfOk result (λ said. IfNone said (HasNoLine part.entry.bytes.now first.line)) }
 {
-    let Some(first) = line_words(alloc, set, part, first)? else {
+    let Some(first) = told_line(alloc, set, part, first)? else {
         return Ok(None);
     };
     let mut others = String::new(alloc);
-    push_lines(alloc, set, part, behind_first(refusals.told_lines()), &mut others)?;
+    push_lines(
+        alloc,
+        set,
+        part,
+        behind_first(refusals.told_lines()),
+        &mut others,
+    )?;
     let following = following_text(alloc, refusals.following)?;
     let further = further_text(alloc, refusals.more)?;
     let words = format!(in alloc; "{first}{others}{following}{further}")?;
