@@ -8,13 +8,9 @@ use std::alloc::{AllocError, Global};
 
 // The begin of a row's instance.
 fn begin_of(alloc: Global, row: &HistoryRow) -> Result<Event, AllocError> {
-    let mut args = Sequence::new(alloc);
-    for argument in row.args.as_slice() {
-        args.push(*argument)?;
-    }
     Ok(Event::Begin {
         program: row.program,
-        args,
+        args: Sequence::from_slice(alloc, row.args.as_slice())?,
     })
 }
 

@@ -32,7 +32,7 @@ impl JobList {
     {
         match said {
             JobLine::Skip => {}
-            JobLine::Row(row) => add_row(&mut self.rows, line, self.jobs.len() != 0, row)?,
+            JobLine::Row(row) => add_row(&mut self.rows, line, !self.jobs.is_empty(), row)?,
             JobLine::Job(job) => self.jobs.push(job)?,
         }
         Ok(())

@@ -46,10 +46,10 @@ fn rows_for<'a, D: Desk<'a>>(
     ensures { D.ended desk.new ≡ D.ended desk.old }
 {
     if let Some(rows) = run.rows_again(region) {
-        let Ok(rows) = Vec::from_slice(alloc, rows) else {
+        let Ok(rows) = Sequence::from_slice(alloc, rows) else {
             return Err(Stop::NoMemory);
         };
-        return Ok(Sequence::from_vec(rows));
+        return Ok(rows);
     }
     match desk.scan(job, ticket, region) {
         Ok(rows) => Ok(rows),
@@ -121,11 +121,10 @@ fn commit<'a, D: Desk<'a>>(
     ensures last { IfOk result (IsLastAnswer (D.last desk.new)) }
     ensures replies { IfOk result (HasReplies run.entry.replies) }
 {
-    let Ok(replies) = Vec::from_slice(alloc, run.replies()) else {
+    let Ok(replies) = Sequence::from_slice(alloc, run.replies()) else {
         desk.withdraw(ticket);
         return Err(Stop::NoMemory);
     };
-    let replies = Sequence::from_vec(replies);
     match desk.commit(ticket, run) {
         Ok(number) => Ok(JobEnd::Committed { number, replies }),
         Err(CommitFault::Clashed(clash)) => Ok(JobEnd::Clashed(clash)),

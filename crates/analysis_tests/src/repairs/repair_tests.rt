@@ -83,9 +83,8 @@ fn what_is_not_covered_is_exposed(rt: HostRuntime) -> Result<(), Fail> {
 
 /// A plan of a caller's own.
 fn own(alloc: Global, pairs: &[Pair]) -> Result<Plan, AllocError> {
-    let pairs = Vec::from_slice(alloc, pairs)?;
     Ok(Plan {
-        pairs: Sequence::from_vec(pairs),
+        pairs: Sequence::from_slice(alloc, pairs)?,
     })
 }
 

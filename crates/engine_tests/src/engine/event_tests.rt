@@ -34,8 +34,7 @@ enum Sent {
 }
 
 fn begin(alloc: Global, program: usize, args: &[i64]) -> Result<Event, AllocError> {
-    let args = Vec::from_slice(alloc, args)?;
-    let args = Sequence::from_vec(args);
+    let args = Sequence::from_slice(alloc, args)?;
     Ok(Event::Begin { program, args })
 }
 

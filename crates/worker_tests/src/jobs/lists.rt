@@ -13,10 +13,9 @@ use std::thread::Threads;
 pub type Call = (usize, &'static [i64], u32);
 
 fn job(alloc: Global, program: usize, args: &[i64], retries: u32) -> Result<Job, AllocError> {
-    let args = Vec::from_slice(alloc, args)?;
     Ok(Job {
         program,
-        args: Sequence::from_vec(args),
+        args: Sequence::from_slice(alloc, args)?,
         retries,
     })
 }

@@ -38,13 +38,11 @@ const CALLS: [Call; 20] = [
 ];
 
 fn copy(alloc: Global, row: &HistoryRow) -> Result<HistoryRow, AllocError> {
-    let args = Vec::from_slice(alloc, row.args.as_slice())?;
-    let replies = Vec::from_slice(alloc, row.replies.as_slice())?;
     Ok(HistoryRow {
         program: row.program,
-        args: Sequence::from_vec(args),
+        args: Sequence::from_slice(alloc, row.args.as_slice())?,
         start: row.start,
-        replies: Sequence::from_vec(replies),
+        replies: Sequence::from_slice(alloc, row.replies.as_slice())?,
     })
 }
 
