@@ -91,34 +91,13 @@ fn no_number_from<'a>(words: &[&'a str], start: usize) -> Option<&'a str> {
     None
 }
 
-// The same of a line `job`, whose program stands behind a number.
-fn no_number_of_job<'a>(words: &[&'a str]) -> Option<&'a str> {
-    if let [_, retries, ..] = words {
-        let retries: &'a str = *retries;
-        if !is_retries(retries) {
-            return Some(retries);
-        }
-    }
-    no_number_from(words, 3)
-}
-
-// The same of a line `begin-at`, whose program stands behind a number of commits.
-fn no_number_of_begin_at<'a>(words: &[&'a str]) -> Option<&'a str> {
-    if let [_, start, ..] = words {
-        let start: &'a str = *start;
-        if !is_number(start, "at") {
-            return Some(start);
-        }
-    }
-    no_number_from(words, 3)
-}
-
 /// The first word of a line that stands in the place of a number and is none.
 pub fn no_number<'a>(words: &[&'a str]) -> Option<&'a str> {
     match words {
         ["row" | "begin" | "record", ..] => no_number_from(words, 2),
-        ["job", ..] => no_number_of_job(words),
-        ["begin-at", ..] => no_number_of_begin_at(words),
+        ["job", retries, ..] if !is_retries(*retries) => Some(*retries),
+        ["begin-at", start, ..] if !is_number(*start, "at") => Some(*start),
+        ["job" | "begin-at", ..] => no_number_from(words, 3),
         _ => no_number_from(words, 1),
     }
 }

@@ -5,7 +5,7 @@ ghost use Rattle.run_words.specs.PartPointing.{line_of_fault, HasNoLineOf, Point
 pub use crate::forms::PartKind;
 use crate::forms::{command_of, first_words, form_of, no_number};
 use crate::in_input::{Part, point_in_part};
-use crate::line_reading::{line_of, shown, words_of};
+use crate::line_reading::{line_bytes, shown, words_of};
 use fault_words::{known_names, table_names};
 use prog_check::ProgramSet;
 use prog_tree::Draft;
@@ -154,7 +154,7 @@ pub fn line_fault_words(
     let Some(front) = line_front(part.bytes, line) else {
         return Ok(None);
     };
-    let sentence = sentence(alloc, kind, set, line_of(part.bytes, line), fault)?;
+    let sentence = sentence(alloc, kind, set, line_bytes(part.bytes, front), fault)?;
     let words = point_in_part(alloc, part, front, &sentence)?;
     Ok(Some(words))
 }

@@ -5,7 +5,7 @@ ghost use Rattle.run_words.specs.Shown.{IsShownWord};
 use crate::limits::MAX_WORD;
 use si_engine::line_words;
 use std::alloc::{AllocError, Global};
-use text_places::{as_text, before, line_at, line_front, visible_text};
+use text_places::{as_text, before, line_at, visible_text};
 
 /// The words of a line, which spaces part; empty where one is no text.
 pub fn words_of(alloc: Global, line: &[u8]) -> Result<Vec<&str>, AllocError> {
@@ -16,11 +16,8 @@ pub fn words_of(alloc: Global, line: &[u8]) -> Result<Vec<&str>, AllocError> {
     Ok(words)
 }
 
-/// The line of a number, without what ends it; empty where there is none.
-pub fn line_of(part: &[u8], line: usize) -> &[u8] {
-    let Some(front) = line_front(part, line) else {
-        return &[];
-    };
+/// The line that begins at a place, without what ends it.
+pub fn line_bytes(part: &[u8], front: usize) -> &[u8] {
     match line_at(part, front) {
         [rest @ .., b'\r'] => rest,
         bytes => bytes,
