@@ -1,6 +1,7 @@
 pub mod Cycles
 pub mod EachLine
 pub mod InInput
+pub mod JobSentences
 pub mod JobSpots
 pub mod LostJobs
 pub mod PartPointing

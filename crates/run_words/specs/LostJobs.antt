@@ -5,12 +5,15 @@ use Rattle.std.specs.List.{range_with_len}
 use Rattle.text_places.specs.Landmarks.{HasNoJob, IsJobPlace}
 use Rattle.text_places.specs.Places.{line_number}
 use Rattle.text_places.specs.Quotes.{visible}
+use Rattle.prog_tree.specs.Syntax.{DraftTree}
+use Rattle.si_workers.specs.declared.job.Job.{Job}
 use Rattle.si_workers.specs.declared.job.JobOutcome.{JobOutcome}
 use Rattle.si_workers.specs.declared.job.Way.{Way}
 use Rattle.si_workers.specs.declared.job.Way.TheVariants.{Aborted, Clashed, Refused}
 use Rattle.si_workers.specs.Ways.{is_in}
 use Rattle.run_words.specs.EachLine.{TellsEach}
 use Rattle.run_words.specs.InInput.{input_line_text}
+use Rattle.run_words.specs.JobSentences.{IsJobSentence}
 
 -- a job ended in this way
 abbrev pub is_lost_by : Way → Option JobOutcome → Bool
@@ -34,33 +37,34 @@ IsJobText ahead part number text =
     ⊎ (HasNoJob part number × (text ≡ codes "job " ++ decimal number))
 
 -- the one line tells where the job of this number stands, and then what there is to say of it
-abbrev pub TellsJob : (ahead part : List ℕ) → (number : ℕ) → (line : List ℕ) → Type 0
-TellsJob ahead part number line =
-    (text sentence : List ℕ) × IsJobText ahead part number text
+abbrev pub IsJobLine : (ahead part : List ℕ) → (number : ℕ) → (sentence line : List ℕ) → Type 0
+IsJobLine ahead part number sentence line =
+    (text : List ℕ) × IsJobText ahead part number text
     × (line ≡ codes "  " ++ (text ++ (codes ": " ++ (map visible sentence ++ codes "\n"))))
 
--- a line for each of these jobs, in their order
-abbrev pub TellsJobs : (ahead part : List ℕ) → (numbers : List ℕ) → (lines : List ℕ) → Type 0
-TellsJobs ahead part = TellsEach (TellsJob ahead part)
+-- where the job of this number stands, its call, and why it did not commit
+abbrev pub TellsJob : DraftTree → List Job → List JobOutcome → (ahead part : List ℕ) → (number : ℕ) → (line : List ℕ) → Type 0
+TellsJob set jobs outcomes ahead part number line =
+    (sentence : List ℕ) × IsJobSentence set jobs outcomes number sentence × IsJobLine ahead part number sentence line
 
 -- that there are so many more
 abbrev pub more_text : (count : ℕ) → List ℕ
 more_text count = if count == 0 then [] else codes "  and " ++ (decimal count ++ codes " more\n")
 
--- how many jobs these are, behind a heading, a line for each of the first eight, and how many more there are; nothing
--- where there is none
-abbrev pub TellsLost : (ahead part : List ℕ) → (heading : List ℕ) → (numbers : List ℕ) → (words : List ℕ) → Type 0
-TellsLost ahead part heading [] words = words ≡ []
-TellsLost ahead part heading (number ∷ numbers) words =
-    (lines : List ℕ) × TellsJobs ahead part (take 8 (number ∷ numbers)) lines
+-- how many jobs these are, behind a heading, a line for each of the first eight, as `tells` says, and how many more
+-- there are; nothing where there is none
+abbrev pub TellsLost : (tells : ℕ → List ℕ → Type 0) → (heading : List ℕ) → (numbers : List ℕ) → (words : List ℕ) → Type 0
+TellsLost tells heading [] words = words ≡ []
+TellsLost tells heading (number ∷ numbers) words =
+    (lines : List ℕ) × TellsEach tells (take 8 (number ∷ numbers)) lines
     × (words ≡ heading ++ (decimal (length (number ∷ numbers))
     ++ (codes "\n" ++ (lines ++ more_text (length (number ∷ numbers) - 8)))))
 
 -- the jobs that were refused, then those that aborted, then those that clashed
-abbrev pub TellsLosses : (ahead part : List ℕ) → List JobOutcome → (words : List ℕ) → Type 0
-TellsLosses ahead part outcomes words =
+abbrev pub TellsLosses : (tells : ℕ → List ℕ → Type 0) → List JobOutcome → (words : List ℕ) → Type 0
+TellsLosses tells outcomes words =
     (refused aborted clashed : List ℕ)
-    × TellsLost ahead part (codes "jobs that were refused: ") (numbers_lost Refused outcomes) refused
-    × TellsLost ahead part (codes "jobs that aborted: ") (numbers_lost Aborted outcomes) aborted
-    × TellsLost ahead part (codes "jobs of which each try clashed: ") (numbers_lost Clashed outcomes) clashed
+    × TellsLost tells (codes "jobs that were refused: ") (numbers_lost Refused outcomes) refused
+    × TellsLost tells (codes "jobs that aborted: ") (numbers_lost Aborted outcomes) aborted
+    × TellsLost tells (codes "jobs of which each try clashed: ") (numbers_lost Clashed outcomes) clashed
     × (words ≡ refused ++ (aborted ++ clashed))

@@ -1,4 +1,7 @@
 //! Why a job did not commit, in words.
+ghost use Rattle.std.specs.Prelude.{◌≡◌, IfOk, slice_get, string_bytes, take};
+ghost use Rattle.prog_tree.specs.Tree.{draft_tree};
+ghost use Rattle.run_words.specs.JobSentences.{argument_text, arguments_text, call_text, clash_text, further_arguments, tries_text, IsJobSentence, IsReason, IsSentence};
 
 use crate::limits::MAX_ARGUMENTS;
 use crate::refusals::{full_words, wrong_arguments};
@@ -12,34 +15,61 @@ use std::alloc::{AllocError, Global};
 use text_places::push_listed;
 use version_store::Clash;
 
-// An argument of a call, with the name of its parameter.
-fn argument_text(alloc: Global, param: Option<&Name>, argument: i64) -> Result<String, AllocError> {
-    match param {
-        Some(name) => format!(in alloc; "{name} = {argument}"),
+// The argument of a number, with the name of its parameter.
+fn argument_text(
+    alloc: Global,
+    params: &[Name],
+    number: usize,
+    argument: i64,
+) -> Result<String, AllocError>
+    ensures { IfOk result (λ text. string_bytes text
+        ≡ argument_text (slice_get params.now number) argument) }
+{
+    match params.get(number) {
+        Some(name) => {
+            let name = name.as_str();
+            format!(in alloc; "{name} = {argument}")
+        }
         None => format!(in alloc; "{argument}"),
     }
 }
 
-// The arguments of a call, with the names of the parameters.
-fn arguments_text(alloc: Global, params: &[Name], args: &[i64]) -> Result<String, AllocError> {
+// Arguments of a call, with the names of the parameters.
+fn arguments_text(alloc: Global, params: &[Name], args: &[i64]) -> Result<String, AllocError>
+    ensures { IfOk result (λ text. string_bytes text ≡ arguments_text params.now args.now) }
+{
     let mut text = String::new(alloc);
-    for (index, argument) in args.iter().enumerate() {
-        if index == MAX_ARGUMENTS {
-            text.push_str(", ..")?;
-            return Ok(text);
-        }
-        let argument = argument_text(alloc, params.get(index), *argument)?;
+    for index in 0..args.len() {
+        let argument = argument_text(alloc, params, index, args[index])?;
         push_listed(&mut text, &argument)?;
     }
     Ok(text)
 }
 
+// The first arguments of a call.
+fn first_arguments(args: &[i64]) -> &[i64]
+    ensures { result.now ≡ take 12 args.now }
+{
+    args.get(..MAX_ARGUMENTS).unwrap_or(args)
+}
+
+// That there are so many more.
+fn further_arguments(count: usize) -> &'static str
+    ensures { result.now ≡ further_arguments count }
+{
+    if count == 0 { "" } else { ", .." }
+}
+
 // The call of a job, as `Transfer(from = 3, to = 5, amount = 20)`.
-fn named_call(alloc: Global, set: &ProgramSet, job: &Job) -> Result<String, AllocError> {
+fn named_call(alloc: Global, set: &ProgramSet, job: &Job) -> Result<String, AllocError>
+    ensures { IfOk result (λ text. string_bytes text ≡ call_text (draft_tree set.now) job.now) }
+{
     let name = program_name(set, job.program);
     let params = program_params(set.draft(), job.program);
-    let arguments = arguments_text(alloc, params, job.args.as_slice())?;
-    format!(in alloc; "`{name}({arguments})`")
+    let args = job.args.as_slice();
+    let arguments = arguments_text(alloc, params, first_arguments(args))?;
+    let further = further_arguments(args.len().saturating_sub(MAX_ARGUMENTS));
+    format!(in alloc; "`{name}({arguments}{further})`")
 }
 
 // Why an instance of a job did not begin.
@@ -60,14 +90,22 @@ fn begin_reason(
     }
 }
 
+fn tries_text(tries: u64) -> &'static str
+    ensures { result.now ≡ tries_text tries }
+{
+    if tries == 1 { "try" } else { "tries" }
+}
+
 // Why no try of a job could commit.
 fn clash_reason(
     alloc: Global,
     set: &ProgramSet,
     clash: Clash,
     tries: u64,
-) -> Result<String, AllocError> {
-    let tried = if tries == 1 { "try" } else { "tries" };
+) -> Result<String, AllocError>
+    ensures { IfOk result (λ text. string_bytes text ≡ clash_text (draft_tree set.now) clash tries) }
+{
+    let tried = tries_text(tries);
     let cell = cell_text(alloc, set, clash.cell)?;
     let commit = clash.number;
     format!(in alloc;
@@ -81,7 +119,10 @@ fn reason(
     set: &ProgramSet,
     job: &Job,
     outcome: &JobOutcome,
-) -> Result<String, AllocError> {
+) -> Result<String, AllocError>
+    ensures { IfOk result (λ text. IsReason (draft_tree set.now) outcome.now.job_end
+        outcome.now.clashes (string_bytes text)) }
+{
     match &outcome.job_end {
         JobEnd::Committed { .. } => Ok(String::new(alloc)),
         JobEnd::Aborted(cause) => cause_text(alloc, set, *cause),
@@ -90,17 +131,34 @@ fn reason(
     }
 }
 
-/// The call of a job, and why it did not commit.
-pub fn job_sentence(
+// The call of a job, and why it did not commit.
+fn sentence(
     alloc: Global,
     set: &ProgramSet,
-    job: Option<&Job>,
-    outcome: Option<&JobOutcome>,
-) -> Result<String, AllocError> {
-    let (Some(job), Some(outcome)) = (job, outcome) else {
-        return format!(in alloc; "it did not commit");
-    };
+    job: &Job,
+    outcome: &JobOutcome,
+) -> Result<String, AllocError>
+    ensures { IfOk result (λ sentence. IsSentence (draft_tree set.now) job.now outcome.now
+        (string_bytes sentence)) }
+{
     let call = named_call(alloc, set, job)?;
     let reason = reason(alloc, set, job, outcome)?;
     format!(in alloc; "{call}, {reason}")
+}
+
+/// The same of the job of a number, and of what came of it.
+pub fn job_sentence(
+    alloc: Global,
+    set: &ProgramSet,
+    jobs: &[Job],
+    outcomes: &[JobOutcome],
+    number: usize,
+) -> Result<String, AllocError>
+    ensures { IfOk result (λ sentence. IsJobSentence (draft_tree set.now) jobs.now outcomes.now
+        number (string_bytes sentence)) }
+{
+    match (jobs.get(number), outcomes.get(number)) {
+        (Some(job), Some(outcome)) => sentence(alloc, set, job, outcome),
+        _ => format!(in alloc; "it did not commit"),
+    }
 }

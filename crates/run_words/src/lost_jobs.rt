@@ -1,7 +1,9 @@
 //! The jobs that did not commit, in words.
 ghost use Rattle.std.specs.Prelude.{◌≡◌, ◌++◌, [], ◌∷◌, List, ℕ, IfNone, IfOk, IfSome, OnOk, slice_get, string_bytes, take, if◌then◌else◌};
+ghost use Rattle.prog_tree.specs.Tree.{draft_tree};
 ghost use Rattle.text_places.specs.Landmarks.{HasNoJob, IsJobPlace};
-ghost use Rattle.run_words.specs.LostJobs.{is_lost_by, more_text, numbers_lost, place_text, IsJobText, TellsJob, TellsJobs, TellsLosses, TellsLost};
+ghost use Rattle.run_words.specs.EachLine.{TellsEach};
+ghost use Rattle.run_words.specs.LostJobs.{is_lost_by, more_text, numbers_lost, place_text, IsJobLine, IsJobText, TellsJob, TellsLosses, TellsLost};
 
 use crate::in_input::{Part, input_line_text};
 use crate::job_reasons::job_sentence;
@@ -90,8 +92,8 @@ fn job_line(
 ) -> Result<String, AllocError>
     requires job { IfSome spot (λ spot. IsJobPlace part.bytes.now number spot.place) }
     requires none { IfNone spot (HasNoJob part.bytes.now number) }
-    ensures { IfOk result (λ line. TellsJob part.entry.ahead.now part.entry.bytes.now number
-        (string_bytes line)) }
+    ensures { IfOk result (λ line. IsJobLine part.entry.ahead.now part.entry.bytes.now number
+        sentence.now (string_bytes line)) }
 {
     let text = job_text(alloc, part, number, spot)?;
     let shown = visible_text(alloc, sentence.as_bytes())?;
@@ -108,14 +110,16 @@ fn push_jobs(
     out: &mut String,
 ) -> Result<(), AllocError>
     ensures { OnOk result ((lines : List ℕ)
-        × TellsJobs told.entry.part.ahead.now told.entry.part.bytes.now numbers.now lines
+        × TellsEach (TellsJob (draft_tree set.now) told.entry.jobs.now
+        told.entry.outcomes.now told.entry.part.ahead.now told.entry.part.bytes.now)
+        numbers.now lines
         × (string_bytes out.new ≡ string_bytes out.old ++ lines)) }
 {
     let mut last = FRONT;
     for index in 0..numbers.len() {
         let number = numbers[index];
         let spot = spot_of(told.part.bytes, last, number);
-        let sentence = job_sentence(alloc, set, told.jobs.get(number), told.outcomes.get(number))?;
+        let sentence = job_sentence(alloc, set, told.jobs, told.outcomes, number)?;
         let line = job_line(alloc, told.part, number, spot, &sentence)?;
         out.push_str(&line)?;
         last = spot.unwrap_or(last);
@@ -147,7 +151,8 @@ fn first_lines(
     told: ToldJobs<'_>,
     numbers: &[usize],
 ) -> Result<String, AllocError>
-    ensures { IfOk result (λ lines. TellsJobs told.entry.part.ahead.now told.entry.part.bytes.now
+    ensures { IfOk result (λ lines. TellsEach (TellsJob (draft_tree set.now) told.entry.jobs.now
+        told.entry.outcomes.now told.entry.part.ahead.now told.entry.part.bytes.now)
         (take 8 numbers.now) (string_bytes lines)) }
 {
     let mut lines = String::new(alloc);
@@ -163,7 +168,8 @@ fn lost_text(
     heading: &str,
     numbers: &[usize],
 ) -> Result<String, AllocError>
-    ensures { IfOk result (λ words. TellsLost told.entry.part.ahead.now told.entry.part.bytes.now
+    ensures { IfOk result (λ words. TellsLost (TellsJob (draft_tree set.now) told.entry.jobs.now
+        told.entry.outcomes.now told.entry.part.ahead.now told.entry.part.bytes.now)
         heading.now numbers.now (string_bytes words)) }
 {
     let [_, ..] = numbers else {
@@ -183,7 +189,8 @@ fn jobs_lost(
     way: Way,
     heading: &str,
 ) -> Result<String, AllocError>
-    ensures { IfOk result (λ words. TellsLost told.entry.part.ahead.now told.entry.part.bytes.now
+    ensures { IfOk result (λ words. TellsLost (TellsJob (draft_tree set.now) told.entry.jobs.now
+        told.entry.outcomes.now told.entry.part.ahead.now told.entry.part.bytes.now)
         heading.now (numbers_lost way told.entry.outcomes.now) (string_bytes words)) }
 {
     let numbers = numbers_lost(alloc, way, told.outcomes)?;
@@ -197,7 +204,8 @@ pub fn lost_job_words(
     set: &ProgramSet,
     told: ToldJobs<'_>,
 ) -> Result<String, AllocError>
-    ensures { IfOk result (λ words. TellsLosses told.entry.part.ahead.now told.entry.part.bytes.now
+    ensures { IfOk result (λ words. TellsLosses (TellsJob (draft_tree set.now) told.entry.jobs.now
+        told.entry.outcomes.now told.entry.part.ahead.now told.entry.part.bytes.now)
         told.entry.outcomes.now (string_bytes words)) }
 {
     let refused = jobs_lost(alloc, set, told, Way::Refused, "jobs that were refused: ")?;

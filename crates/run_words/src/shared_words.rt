@@ -1,4 +1,7 @@
 //! Words that several kinds of faults have.
+ghost use Rattle.std.specs.Prelude.{◌≡◌, IfOk, string_bytes};
+ghost use Rattle.prog_tree.specs.Tree.{draft_tree};
+ghost use Rattle.run_words.specs.JobSentences.{cause_text};
 
 use fault_words::cell_text;
 use prog_check::ProgramSet;
@@ -6,7 +9,9 @@ use prog_tree::Cause;
 use std::alloc::{AllocError, Global};
 
 /// Why an instance aborts.
-pub fn cause_text(alloc: Global, set: &ProgramSet, cause: Cause) -> Result<String, AllocError> {
+pub fn cause_text(alloc: Global, set: &ProgramSet, cause: Cause) -> Result<String, AllocError>
+    ensures { IfOk result (λ text. string_bytes text ≡ cause_text (draft_tree set.now) cause) }
+{
     match cause {
         Cause::Asked => format!(in alloc; "by an `abort;`"),
         Cause::Missing(cell) => {
