@@ -1,21 +1,27 @@
 -- What the contracts of a book say of the arguments and the results of its calls alone.
-use Rattle.std.proofs.Common.{◌≡◌, ℕ, ◌==◌, Bool, true, false, not, cond, List, length, Option, Some, None, Result, Ok, Err, IfOk, IfErr, sym, arith}
+use Rattle.std.proofs.Common.{◌≡◌, ℕ, ◌==◌, Bool, true, false, not, cond, List, length, Option, Some, None, Result, Ok, Err, IfOk, IfErr, sym, subst, arith}
+use Rattle.std.proofs.lemmas.List.Elements.{filter_passes}
+use Rattle.std.specs.Option.{option_map}
 use Rattle.std.specs.Prelude.{ℤ, OnOk}
+use Rattle.prog_tree.specs.declared.cell.Region.{Region}
 use Rattle.prog_tree.specs.declared.program.Program.{Program}
+use Rattle.prog_tree.specs.Table.{TableState, is_in, rows_in}
 use Rattle.prog_run.specs.View.{RunView}
-use Rattle.history_book.specs.Refusals.{IsCommitFault, IsEndFault, IsWithdrawal, HandsBack}
+use Rattle.history_book.specs.Refusals.{IsCommitFault, IsEndFault, IsRegionRead, IsWithdrawal, HandsBack}
 use Rattle.history_book.specs.Runs.{IsAborted, IsCommitted}
 use Rattle.history_book.specs.Ticket.{TicketView}
-use Rattle.history_book.specs.View.{BookView, begin_fault_of, fault_by, full_fault, is_full, IsBeginRefusedBy}
+use Rattle.history_book.specs.View.{BookView, active_at, begin_fault_of, fault_by, full_fault, is_full, rows_for, state_in, IsBeginRefusedBy}
 use Rattle.history_book.specs.declared.fault.BeginFault.{BeginFault}
 use Rattle.history_book.specs.declared.fault.BeginFault.TheVariants as begin
 use Rattle.history_book.specs.declared.fault.CommitFault.{CommitFault}
 use Rattle.history_book.specs.declared.fault.CommitFault.TheVariants as commit
 use Rattle.history_book.specs.declared.fault.EndFault.{EndFault}
 use Rattle.history_book.specs.declared.fault.EndFault.TheVariants as end
+use Rattle.history_book.specs.declared.fault.ScanFault.{ScanFault}
 use Rattle.history_book.specs.declared.fault.Unused.{Unused}
+use Rattle.history_book.specs.History.{Instance}
 use Rattle.si_workers.specs.Freshness.{IsOfNoNumber}
-use Rattle.si_workers.specs.HandedIn.{IsHandedBack, IsCommitAnswer, IsEndAnswer}
+use Rattle.si_workers.specs.HandedIn.{AreRowsOf, IsHandedBack, IsCommitAnswer, IsEndAnswer}
 
 -- ---- begins
 
@@ -45,6 +51,22 @@ newest-of-no-number v program args (Err begin.WrongArguments) refused = tt
 newest-of-no-number v program args (Err begin.Full) refused = tt
 newest-of-no-number v program args (Err (begin.TooOld floor)) refused = found-of-no-number v _ args (begin.TooOld floor) refused
 newest-of-no-number v program args (Err (begin.TooNew commits)) refused = found-of-no-number v _ args (begin.TooNew commits) refused
+
+-- ---- reads
+
+-- rows that are read for a ticket are of the region
+pub read-of-region :
+    (v : BookView) (t : TicketView) (region : Region) (r : Result TableState ScanFault) →
+    IsRegionRead (rows_for v t region) r → IfOk r (AreRowsOf region)
+read-of-region v t region r read = go (active_at v t) r read
+  where
+    go : (found : Option Instance) (answer : Result TableState ScanFault) →
+        IsRegionRead (option_map (λ i. rows_in region (state_in v i.start)) found) answer → IfOk answer (AreRowsOf region)
+    go None (Ok rows) is = absurd (cc)
+    go None (Err fault) is = tt
+    go (Some i) (Ok rows) is =
+        subst (AreRowsOf region) (sym is) (filter_passes (λ row. is_in region row.0) (state_in v i.start))
+    go (Some i) (Err fault) is = tt
 
 -- ---- commits, ends and withdrawals
 

@@ -1,7 +1,9 @@
--- Calls that end an instance, by what is handed in and what is answered alone: of a book that threads share, no
--- clause names more.
-use Rattle.std.specs.Prelude.{◌≡◌, ◌≢◌, ℕ, ◌<◌, Some, Result, Ok, Err}
+-- Calls that read rows or end an instance, by what is handed in and what is answered alone: of a book that threads
+-- share, no clause names more.
+use Rattle.std.specs.Prelude.{◌≡◌, ◌≢◌, ℕ, ◌<◌, true, All, Some, Result, Ok, Err}
 use Rattle.prog_tree.specs.declared.deed.End.TheVariants.{Ready}
+use Rattle.prog_tree.specs.declared.cell.Region.{Region}
+use Rattle.prog_tree.specs.Table.{TableState, is_in}
 use Rattle.prog_run.specs.View.{RunView}
 use Rattle.history_book.specs.Refusals.{HasAborted}
 use Rattle.history_book.specs.Ticket.{TicketView}
@@ -10,6 +12,10 @@ use Rattle.history_book.specs.declared.fault.CommitFault.TheVariants as commit
 use Rattle.history_book.specs.declared.fault.EndFault.{EndFault}
 use Rattle.history_book.specs.declared.fault.EndFault.TheVariants as end
 use Rattle.history_book.specs.declared.fault.Unused.{Unused}
+
+-- each row is one of the region
+abbrev pub AreRowsOf : Region → TableState → Type 0
+AreRowsOf region rows = All (λ row. is_in region row.0 ≡ true) rows
 
 -- the ticket and the run are handed back
 pub record IsHandedBack (t : TicketView) (run : RunView) (unused : Unused) : Type 0 where

@@ -1,9 +1,9 @@
 //! A book that threads share.
 
-ghost use Rattle.std.specs.Prelude.{◌≡◌, IfErr};
+ghost use Rattle.std.specs.Prelude.{◌≡◌, IfErr, IfOk};
 ghost use Rattle.history_book.specs.TrueBook.{IsTrueBook};
 ghost use Rattle.si_workers.specs.Freshness.{IsAtNumber, IsBeginAfter, IsFresh, IsOfNoNumber};
-ghost use Rattle.si_workers.specs.HandedIn.{IsCommitAnswer, IsEndAnswer};
+ghost use Rattle.si_workers.specs.HandedIn.{AreRowsOf, IsCommitAnswer, IsEndAnswer};
 
 use crate::fault::BeginAfterFault;
 use crate::limits::TRIES;
@@ -66,6 +66,17 @@ fn begin_there(
     ensures { IsAtNumber start result }
 {
     book.begin_at(start, program, args)
+}
+
+// The rows of a region for the instance of a ticket.
+fn rows_there(
+    book: &Book<'_>,
+    ticket: &Ticket,
+    region: &Region,
+) -> Result<Sequence<(Cell, i64)>, ScanFault>
+    ensures { IfOk result (AreRowsOf region.now) }
+{
+    book.scan(ticket, region)
 }
 
 // Commits the instance of a ticket by its run.
@@ -176,8 +187,11 @@ impl<'a> SharedBook<'a> {
         rt: &impl Wait,
         ticket: &Ticket,
         region: &Region,
-    ) -> Result<Sequence<(Cell, i64)>, ScanFault> {
-        self.reading(rt).scan(ticket, region)
+    ) -> Result<Sequence<(Cell, i64)>, ScanFault>
+        ensures { IfOk result (AreRowsOf region.now) }
+    {
+        let book = self.reading(rt);
+        rows_there(&book, ticket, region)
     }
 
     /// `Book::commit`.
