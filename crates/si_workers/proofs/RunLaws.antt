@@ -1,5 +1,5 @@
 -- What was told and settled gives what is promised of work.
-use Rattle.std.proofs.Common.{◌≡◌, ◌<◌, ℕ, zero, suc, false, refl, sym, subst, ap, ◌∙◌, arith, List, [], ◌∷◌, length, map, zip, Option, Some, None, Result, Ok, Err, IfOk, IfErr}
+use Rattle.std.proofs.Common.{◌≡◌, ◌<◌, ℕ, zero, suc, false, refl, sym, subst, ap, ◌∙◌, arith, inl, inr, List, [], ◌∷◌, length, map, zip, Option, Some, None, Result, Ok, Err, IfOk, IfErr}
 use Rattle.std.proofs.lemmas.List.{length-map}
 use Rattle.prog_tree.specs.Table.{TableState}
 use Rattle.prog_tree.specs.Tree.{draft_tree}
@@ -10,8 +10,8 @@ use Rattle.history_book.specs.TrueBook.{IsTrueBook}
 use Rattle.history_book.specs.View.{BookView}
 use Rattle.si_workers.specs.KeptAndTold.{Tidings}
 use Rattle.si_workers.specs.Outcomes.{Correspond, IsOver, OutcomesCorrespond, tidings_of}
-use Rattle.si_workers.specs.Settled.{AreOutcomesIn, AreToldRight, AreToldWrong, IsConcluded, IsSettled, lack_memory}
-use Rattle.si_workers.specs.Work.{AreTaken, IsNamed, IsWorkFault, jobs_by}
+use Rattle.si_workers.specs.Settled.{AreOutcomesIn, AreToldRight, AreToldWrong, IsConcluded, IsHandedOut, IsSettled, lack_memory}
+use Rattle.si_workers.specs.Work.{AreTaken, IsNamed, IsTrueOver, IsWorkFault, jobs_by}
 use Rattle.si_workers.specs.declared.fault.WorkFault.{WorkFault}
 use Rattle.si_workers.specs.declared.fault.WorkFault.TheVariants.{Workers, TooManyJobs, NoThread, Broken, Memory}
 use Rattle.si_workers.specs.declared.job.Job.{Job}
@@ -74,7 +74,7 @@ module _ (set : DraftTree) (opening : TableState) (jobs : List Job) (workers : �
     subst (AreToldRight workers set opening jobs done v) (sym concluded.2) right,
   )
   conclude-settled outcomes (Err (Broken job outcome book)) lack right concluded = absurd concluded
-  conclude-settled outcomes (Err (Memory book)) lack right concluded = concluded
+  conclude-settled outcomes (Err (Memory book)) lack right concluded = inl (right.correspond.over, concluded)
 
   -- outcomes and book correspond where work is settled well
   correspond-settled : (r : Result Finished WorkFault) → 0 < workers → IsSettled set opening jobs workers done v r → IfOk r (λ finished. OutcomesCorrespond workers set opening jobs finished.outcomes finished.book)
@@ -83,6 +83,15 @@ module _ (set : DraftTree) (opening : TableState) (jobs : List Job) (workers : �
       subst (λ (book : BookView). OutcomesCorrespond workers set opening jobs finished.outcomes book) (sym settled.2)
       (subst (λ (js : List Job). OutcomesCorrespond workers set opening js finished.outcomes v) all (outcomes-told finished.outcomes settled.3))
   correspond-settled (Err fault) some settled = tt
+
+  -- what is handed out where memory ran out
+  handed-out : (book : Option BookView) → AreTaken workers jobs → IsTrueBook v → IsHandedOut set opening v book → IsWorkFault set opening jobs workers (Memory book)
+  handed-out None taken holds out = (taken, tt)
+  handed-out (Some book) taken holds (inl out) = (taken, subst (IsTrueOver set opening) (sym (some-same book v out.1)) (holds, out.0))
+    where
+      some-same : (a b : BookView) → Some a ≡ Some b → a ≡ b
+      some-same a b e = cc
+  handed-out (Some book) taken holds (inr out) = absurd (cc)
 
   -- what is handed out where work is settled by a fault
   fault-settled : (r : Result Finished WorkFault) → AreTaken workers jobs → IsTrueBook v → IsSettled set opening jobs workers done v r → IfErr r (IsWorkFault set opening jobs workers)
@@ -102,11 +111,7 @@ module _ (set : DraftTree) (opening : TableState) (jobs : List Job) (workers : �
     length done,
     subst (IsNamed workers set opening (jobs_by (length done) jobs) job outcome) (sym settled.1) (named-told job outcome settled.2),
   )
-  fault-settled (Err (Memory None)) taken holds settled = absurd (cc)
-  fault-settled (Err (Memory (Some book))) taken holds settled = (taken, subst IsTrueBook (sym (some-same book v settled)) holds)
-    where
-      some-same : (a b : BookView) → Some a ≡ Some b → a ≡ b
-      some-same a b e = cc
+  fault-settled (Err (Memory book)) taken holds settled = handed-out book taken holds settled
 
 -- what is promised of work that was settled over rows that are those it was opened with
 pub promised :
@@ -118,3 +123,10 @@ promised set opening kept jobs workers done v r same taken holds over_kept =
       correspond-settled set opening jobs workers done v r taken.number.0 settled,
       fault-settled set opening jobs workers done v r taken holds settled,
     )
+
+-- likewise of work in which memory ran out before it was settled
+pub promised-lacking :
+    (set : DraftTree) (opening kept : TableState) (jobs : List Job) (workers : ℕ) (v : BookView) (book : Option BookView) →
+    kept ≡ opening → AreTaken workers jobs → IsTrueBook v → IsHandedOut set kept v book → IsWorkFault set opening jobs workers (Memory book)
+promised-lacking set opening kept jobs workers v book same taken holds over_kept =
+    handed-out set opening jobs workers [] v book taken holds (subst (λ (o : TableState). IsHandedOut set o v book) same over_kept)

@@ -1,12 +1,12 @@
 -- What comes of work, by what its workers did.
-use Rattle.std.specs.Prelude.{◌≡◌, ℕ, ◌<◌, ◌≤◌, Bool, false, List, length, map, flat_map, Option, Some, Result, Ok, Err}
+use Rattle.std.specs.Prelude.{◌≡◌, ℕ, ◌<◌, ◌≤◌, ◌⊎◌, Bool, false, List, length, map, flat_map, Option, Some, None, Result, Ok, Err}
 use Rattle.std.specs.List.{list_any}
 use Rattle.prog_tree.specs.Syntax.{DraftTree}
 use Rattle.prog_tree.specs.Table.{TableState}
 use Rattle.history_book.specs.Orders.{least_order}
 use Rattle.history_book.specs.View.{BookView, FitsBook, depends_in}
 use Rattle.si_workers.specs.KeptAndTold.{Tidings}
-use Rattle.si_workers.specs.Outcomes.{Correspond, IsBroken}
+use Rattle.si_workers.specs.Outcomes.{Correspond, IsBroken, IsOver}
 use Rattle.si_workers.specs.Told.{AreTold}
 use Rattle.si_workers.specs.Work.{jobs_by, outcome_at}
 use Rattle.si_workers.specs.declared.fault.WorkFault.{WorkFault}
@@ -67,6 +67,11 @@ pub record AreToldWrong (workers : ℕ) (set : DraftTree) (opening : TableState)
     pub broken : IsBroken workers set opening ts v job
     pub its_outcome : outcome ≡ outcome_at ts job
 
+-- the book is handed out as it is where it was opened with this set and these rows, and else none
+abbrev pub IsHandedOut : DraftTree → TableState → BookView → Option BookView → Type 0
+IsHandedOut set opening v book =
+    (IsOver set opening v × (book ≡ Some v)) ⊎ ((IsOver set opening v → ⊥) × (book ≡ None))
+
 -- Memory goes before Broken, and Broken before NoThread; the book is handed out as it is
 abbrev pub IsSettled : DraftTree → TableState → List Job → (workers : ℕ) → List Done → BookView → Result Finished WorkFault → Type 0
 IsSettled set opening jobs workers done v (Ok finished) =
@@ -77,5 +82,5 @@ IsSettled set opening jobs workers done v (Err (NoThread started outcomes book))
     × AreToldRight workers set opening jobs done v outcomes
 IsSettled set opening jobs workers done v (Err (Broken job outcome book)) =
     (lack_memory done ≡ false) × (book ≡ v) × AreToldWrong workers set opening jobs done v job outcome
-IsSettled set opening jobs workers done v (Err (Memory book)) = book ≡ Some v
+IsSettled set opening jobs workers done v (Err (Memory book)) = IsHandedOut set opening v book
 IsSettled set opening jobs workers done v (Err other) = ⊥

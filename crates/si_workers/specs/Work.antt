@@ -8,7 +8,7 @@ use Rattle.history_book.specs.TrueBook.{IsTrueBook}
 use Rattle.history_book.specs.View.{BookView}
 use Rattle.si_workers.specs.KeptAndTold.{Tidings}
 use Rattle.si_workers.specs.LastAnswer.{IsLastAnswer}
-use Rattle.si_workers.specs.Outcomes.{AreRightTries, OutcomesCorrespond, IsBroken}
+use Rattle.si_workers.specs.Outcomes.{AreRightTries, OutcomesCorrespond, IsBroken, IsOver}
 use Rattle.si_workers.specs.Told.{Report}
 use Rattle.si_workers.specs.declared.desk.Answer.{Answer}
 use Rattle.si_workers.specs.declared.fault.WorkFault.{WorkFault}
@@ -101,6 +101,10 @@ abbrev pub jobs_by : (started : ℕ) → List Job → List Job
 jobs_by zero jobs = []
 jobs_by (suc n) jobs = jobs
 
+-- a true book, which was opened with this set and these rows
+abbrev pub IsTrueOver : DraftTree → TableState → BookView → Type 0
+IsTrueOver set opening v = IsTrueBook v × IsOver set opening v
+
 -- why work was refused, or what is wrong with it; a book that is handed out is a true book
 abbrev pub IsWorkFault : DraftTree → TableState → List Job → (workers : ℕ) → WorkFault → Type 0
 IsWorkFault set opening jobs workers fault.Workers = IsWrongNumber workers
@@ -111,4 +115,4 @@ IsWorkFault set opening jobs workers (fault.NoThread started outcomes book) =
 IsWorkFault set opening jobs workers (fault.Broken job outcome book) =
     AreTaken workers jobs × IsTrueBook book × (started : ℕ)
     × IsNamed workers set opening (jobs_by started jobs) job outcome book
-IsWorkFault set opening jobs workers (fault.Memory book) = AreTaken workers jobs × IfSome book IsTrueBook
+IsWorkFault set opening jobs workers (fault.Memory book) = AreTaken workers jobs × IfSome book (IsTrueOver set opening)

@@ -246,7 +246,8 @@ fn is_whole<'c>(book: &'c Book<'_>, counts: &Counts<'c>, tidings: &[Tiding<'c>])
     are_all_clashes_told(counts, book.endings(), tidings)
 }
 
-fn is_over(set: &ProgramSet, opening: &Rows, book: &Book<'_>) -> bool
+/// Whether a book was opened with this set and these rows.
+pub fn is_over(set: &ProgramSet, opening: &Rows, book: &Book<'_>) -> bool
     ensures { IsTrue result ↔ IsOver (draft_tree set.now) opening.now book.now }
 {
     if !book.set().draft().is_same(set.draft()) {

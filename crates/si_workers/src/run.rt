@@ -6,10 +6,10 @@ ghost use Rattle.prog_check.specs.Paths.{paths_of};
 ghost use Rattle.prog_paths.specs.StaticGraph.{IsDangerous};
 ghost use Rattle.history_book.specs.TrueBook.{IsTrueBook};
 ghost use Rattle.si_workers.specs.Outcomes.{OutcomesCorrespond};
-ghost use Rattle.si_workers.specs.Settled.{AreOutcomesIn, IsCompared, IsConcluded, IsOrderOf, IsSettled, lack_memory};
+ghost use Rattle.si_workers.specs.Settled.{AreOutcomesIn, IsCompared, IsConcluded, IsHandedOut, IsOrderOf, IsSettled, lack_memory};
 ghost use Rattle.si_workers.specs.Work.{AreTaken, IsWorkFault, jobs_by, outcome_at};
 
-use crate::comparing::broken;
+use crate::comparing::{broken, is_over};
 use crate::fault::WorkFault;
 use crate::gate::Gate;
 use crate::job::{Job, JobOutcome};
@@ -115,6 +115,17 @@ fn jobs_by(started: usize, jobs: &[Job]) -> &[Job]
     if started == 0 { &jobs[..0] } else { jobs }
 }
 
+// The book, to hand out where memory ran out: none that was opened with another set or other rows.
+fn book_over<'a>(set: &RobustSet, opening: &Rows, book: Book<'a>) -> Option<Book<'a>>
+    ensures { IsHandedOut (draft_tree set.now) opening.now book.entry result }
+{
+    if is_over(set.set(), opening, &book) {
+        Some(book)
+    } else {
+        None
+    }
+}
+
 // Work whose outcomes correspond to the book, and which is in order where enough workers started.
 fn conclude<'a>(
     workers: usize,
@@ -157,16 +168,21 @@ fn settle<'a>(
         done.items book.entry result }
 {
     if lack_memory(&done) {
-        return Err(WorkFault::Memory { book: Some(book) });
+        let book = book_over(set, opening, book);
+        return Err(WorkFault::Memory { book });
     }
     let started = done.len();
     let Ok(tidings) = gather(alloc, jobs_by(started, jobs), done) else {
-        return Err(WorkFault::Memory { book: Some(book) });
+        let book = book_over(set, opening, book);
+        return Err(WorkFault::Memory { book });
     };
     match compare(alloc, workers, set.set(), opening, tidings, &book) {
         Ok(Compared::Correspond(outcomes)) => conclude(workers, started, outcomes, book),
         Ok(Compared::Broken { job, outcome }) => Err(WorkFault::Broken { job, outcome, book }),
-        Err(AllocError) => Err(WorkFault::Memory { book: Some(book) }),
+        Err(AllocError) => {
+            let book = book_over(set, opening, book);
+            Err(WorkFault::Memory { book })
+        }
     }
 }
 
@@ -204,7 +220,8 @@ pub fn run_jobs<'a, R: Threads + Wait + Sync, G: Gate + Sync>(
     let ran = run_threads(rt, alloc, set.set(), &shared, jobs, workers, gate);
     let book = shared.into_book();
     let Ok(done) = ran else {
-        return Err(WorkFault::Memory { book: Some(book) });
+        let book = book_over(set, &kept, book);
+        return Err(WorkFault::Memory { book });
     };
     settle(alloc, set, &kept, jobs, workers, done, book)
 }
