@@ -12,6 +12,7 @@ pub mod OutcomeIn
 pub mod Outcomes
 pub mod Settled
 pub mod Tally
+pub mod Texts
 pub mod Told
 pub mod Ways
 pub mod Work

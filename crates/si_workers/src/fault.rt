@@ -3,6 +3,8 @@
 use crate::job::JobOutcome;
 use history_book::{BeginFault, Book};
 use prog_tree::Sequence;
+use std::error::Error;
+use std::fmt;
 
 /// Why an instance that has to see a commit could not be begun.
 #[derive(Clone, Copy, Debug, PartialEq, Eq)]
@@ -12,6 +14,22 @@ pub enum BeginAfterFault {
     /// The book refused the begin.
     Refused(BeginFault),
 }
+
+impl fmt::Display for BeginAfterFault {
+    ghost use Rattle.std.specs.Prelude.{Some};
+    ghost use Rattle.si_workers.specs.Texts.{begin_after_fault_text};
+
+    ghost output = { λ fault. Some (begin_after_fault_text fault) };
+
+    fn fmt<W: fmt::Write>(&self, f: &mut fmt::Formatter<W>) -> fmt::Result {
+        match self {
+            BeginAfterFault::Behind { commits } => write!(f, "behind at {commits}"),
+            BeginAfterFault::Refused(fault) => write!(f, "{fault}"),
+        }
+    }
+}
+
+impl Error for BeginAfterFault {}
 
 /// Why the jobs were not done as they have to be.
 #[derive(Debug, Drop)]
@@ -38,3 +56,22 @@ pub enum WorkFault<'a> {
         book: Option<Book<'a>>,
     },
 }
+
+impl fmt::Display for WorkFault<'_> {
+    ghost use Rattle.std.specs.Prelude.{Some};
+    ghost use Rattle.si_workers.specs.Texts.{work_fault_text};
+
+    ghost output = { λ fault. Some (work_fault_text fault) };
+
+    fn fmt<W: fmt::Write>(&self, f: &mut fmt::Formatter<W>) -> fmt::Result {
+        match self {
+            WorkFault::Workers => f.write_str("workers"),
+            WorkFault::TooManyJobs => f.write_str("too many jobs"),
+            WorkFault::NoThread { started, .. } => write!(f, "no thread behind {started}"),
+            WorkFault::Broken { job, .. } => write!(f, "broken job {job}"),
+            WorkFault::Memory { .. } => f.write_str("memory"),
+        }
+    }
+}
+
+impl Error for WorkFault<'_> {}

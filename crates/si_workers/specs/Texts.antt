@@ -1,0 +1,21 @@
+-- The texts of faults.
+use Rattle.std.specs.Fmt.{decimal}
+use Rattle.std.specs.Prelude.{ℕ, List, ◌++◌, codes}
+use Rattle.history_book.specs.Texts.{begin_fault_text}
+use Rattle.si_workers.specs.declared.fault.BeginAfterFault.{BeginAfterFault}
+use Rattle.si_workers.specs.declared.fault.BeginAfterFault.TheVariants.{Behind, Refused}
+use Rattle.si_workers.specs.declared.fault.WorkFault.{WorkFault}
+use Rattle.si_workers.specs.declared.fault.WorkFault.TheVariants as fault
+
+-- why an instance that has to see a commit could not be begun
+abbrev pub begin_after_fault_text : BeginAfterFault → List ℕ
+begin_after_fault_text (Behind commits) = codes "behind at " ++ decimal commits
+begin_after_fault_text (Refused refused) = begin_fault_text refused
+
+-- why jobs were not done as they have to be
+abbrev pub work_fault_text : WorkFault → List ℕ
+work_fault_text fault.Workers = codes "workers"
+work_fault_text fault.TooManyJobs = codes "too many jobs"
+work_fault_text (fault.NoThread started outcomes book) = codes "no thread behind " ++ decimal started
+work_fault_text (fault.Broken job outcome book) = codes "broken job " ++ decimal job
+work_fault_text (fault.Memory book) = codes "memory"
