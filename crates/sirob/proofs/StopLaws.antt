@@ -37,7 +37,7 @@ use Rattle.sirob.specs.declared.command_fault.CommandFault.TheVariants as fault
 use Rattle.sirob.specs.declared.status.Status.{Status}
 use Rattle.sirob.specs.declared.status.Status.TheVariants as status
 use Rattle.sirob.specs.FaultLines.{fault_line, is_memory}
-use Rattle.sirob.specs.Output.{parts_wanted, Gives, IsAnalysedFor, IsRobust, GivesPart, GivesFirstPart, HasSet, MayEnd, MayRun, IsAudited, IsChecked, IsRefused, IsRefusedInput, IsRefusedPart, StopsBehind, at_once, behind_lines, memory_line, IsAnswer, done, refused, stopped, IsUnread, IsReply, WritesWithStatus}
+use Rattle.sirob.specs.Output.{parts_wanted, Gives, IsAnalysedFor, IsRobust, GivesPart, GivesFirstPart, MayEnd, MayRun, IsAudited, IsChecked, IsRefused, IsRefusedInput, IsRefusedPart, StopsBehind, at_once, behind_lines, memory_line, IsAnswer, done, refused, stopped, IsUnread, IsReply, WritesWithStatus}
 use Rattle.sirob.specs.Output as u
 use Rattle.sirob.specs.Status.{status_of}
 use Rattle.sirob.specs.Stops.{IsUnanalysedBy, IsUnrepairedBy, IsStop, IsReadFault, Ends, well, in_fault, in_memory, IsSetAndPart, IsPartStop, IsPartDone, IsRefusedJobs, IsInputDone, IsSourceDone, as_command, write_lost}
@@ -85,49 +85,22 @@ refused_input mode wanted input (fault.Work f) is (text, others, divided, count,
 
 -- a set that is not analysed is the fault of its input
 pub set_refused : (input : List ℕ) (set : DraftTree) → IsChecked input set → (f : CommandFault) → IsUnanalysedBy set f → IsRefused Certify input f
-set_refused input set checked (fault.Analysis f) wrong =
-    (tt, set, record { text = checked.text; others = []; divided = checked.divided; count = refl; spelled = checked.spelled }, wrong)
-set_refused input set checked (fault.Repair f) wrong = absurd wrong
-set_refused input set checked (fault.Json f) wrong = absurd wrong
-set_refused input set checked (fault.Certificate f) wrong = absurd wrong
-set_refused input set checked (fault.Script f) wrong = absurd wrong
-set_refused input set checked (fault.Audit f) wrong = absurd wrong
-set_refused input set checked (fault.Work f) wrong = absurd wrong
-set_refused input set checked (fault.Input f) wrong = absurd wrong
-set_refused input set checked (fault.Parts f) wrong = absurd wrong
-set_refused input set checked (fault.Text f) wrong = absurd wrong
-set_refused input set checked (fault.Check f) wrong = absurd wrong
+set_refused input set checked f (g, is, wrong) =
+    subst (λ (e : CommandFault). IsRefused Certify input e) (sym is) (tt, set, [], checked, refl, wrong)
 
 -- and so it is where a part stands behind it
 pub part_unanalysed : (mode : Mode) (set : DraftTree) (part : List ℕ) (f : CommandFault) → IsAnalysedFor mode → IsUnanalysedBy set f
     → IsRefusedPart mode set part f
-part_unanalysed mode set part (fault.Analysis f) analysed wrong = (analysed, wrong)
-part_unanalysed mode set part (fault.Repair f) analysed wrong = absurd wrong
-part_unanalysed mode set part (fault.Json f) analysed wrong = absurd wrong
-part_unanalysed mode set part (fault.Certificate f) analysed wrong = absurd wrong
-part_unanalysed mode set part (fault.Script f) analysed wrong = absurd wrong
-part_unanalysed mode set part (fault.Audit f) analysed wrong = absurd wrong
-part_unanalysed mode set part (fault.Work f) analysed wrong = absurd wrong
-part_unanalysed mode set part (fault.Input f) analysed wrong = absurd wrong
-part_unanalysed mode set part (fault.Parts f) analysed wrong = absurd wrong
-part_unanalysed mode set part (fault.Text f) analysed wrong = absurd wrong
-part_unanalysed mode set part (fault.Check f) analysed wrong = absurd wrong
+part_unanalysed mode set part f analysed (g, is, wrong) =
+    subst (λ (e : CommandFault). IsRefusedPart mode set part e) (sym is) (analysed, wrong)
 
 -- nor is one that is not repaired
 pub repair_refused : (promote : Bool) (input : List ℕ) (set : DraftTree) → IsChecked input set → (f : CommandFault) → IsUnrepairedBy promote set f
     → IsRefused (Repair promote) input f
-repair_refused promote input set checked (fault.Analysis f) wrong =
-    (tt, set, record { text = checked.text; others = []; divided = checked.divided; count = refl; spelled = checked.spelled }, wrong)
-repair_refused promote input set checked (fault.Repair f) wrong = (set, checked, wrong)
-repair_refused promote input set checked (fault.Json f) wrong = absurd wrong
-repair_refused promote input set checked (fault.Certificate f) wrong = absurd wrong
-repair_refused promote input set checked (fault.Script f) wrong = absurd wrong
-repair_refused promote input set checked (fault.Audit f) wrong = absurd wrong
-repair_refused promote input set checked (fault.Work f) wrong = absurd wrong
-repair_refused promote input set checked (fault.Input f) wrong = absurd wrong
-repair_refused promote input set checked (fault.Parts f) wrong = absurd wrong
-repair_refused promote input set checked (fault.Text f) wrong = absurd wrong
-repair_refused promote input set checked (fault.Check f) wrong = absurd wrong
+repair_refused promote input set checked f (inl (g, is, wrong)) =
+    subst (λ (e : CommandFault). IsRefused (Repair promote) input e) (sym is) (tt, set, [], checked, refl, wrong)
+repair_refused promote input set checked f (inr (g, is, wrong)) =
+    subst (λ (e : CommandFault). IsRefused (Repair promote) input e) (sym is) (set, checked, wrong)
 
 -- the canonical text could not be made
 pub stops_printing : (mode : Mode) (input : List ℕ) → IsStop mode input (fault.Input i.Memory) []
@@ -207,25 +180,14 @@ jobs_read set left part list same (input, is, read) = subst (λ (p : List ℕ). 
 pub jobs_refused : (set : DraftTree) (left part : List ℕ) (f : ScriptFault) → left ≡ part → length part ≤ 16777216
     → ForInput (Some left) (λ part. IsJobsFault set part f) → is_memory (fault.Script f) ≡ false → IsRefusedJobs set part (fault.Script f)
 jobs_refused set left part f same within (input, is, wrong) no_memory =
-    part_fails (jobs_of set part) part (λ g. IsRefusedJobs set part (fault.Script g)) within (λ g e. e) f
+    part_fails (jobs_of set part) part (λ g. IsRefusedJobs set part (fault.Script g)) within (λ g e. (g, refl, e)) f
     (subst (λ (p : List ℕ). IsJobsFault set p f) (is ∙ same) wrong) no_memory
 
 -- and so the jobs of a robust set are refused
 pub lines_refused : (workers : ℕ) (set : DraftTree) (part : List ℕ) (f : CommandFault) → IsRobust set → IsRefusedJobs set part f
     → IsRefusedPart (Work workers) set part f
-lines_refused workers set part (fault.Script (s.Line f)) robust wrong = (robust, wrong)
-lines_refused workers set part (fault.Script (s.Input f)) robust wrong = absurd wrong
-lines_refused workers set part (fault.Script s.WriteFault) robust wrong = absurd wrong
-lines_refused workers set part (fault.Analysis f) robust wrong = absurd wrong
-lines_refused workers set part (fault.Repair f) robust wrong = absurd wrong
-lines_refused workers set part (fault.Json f) robust wrong = absurd wrong
-lines_refused workers set part (fault.Certificate f) robust wrong = absurd wrong
-lines_refused workers set part (fault.Audit f) robust wrong = absurd wrong
-lines_refused workers set part (fault.Work f) robust wrong = absurd wrong
-lines_refused workers set part (fault.Input f) robust wrong = absurd wrong
-lines_refused workers set part (fault.Parts f) robust wrong = absurd wrong
-lines_refused workers set part (fault.Text f) robust wrong = absurd wrong
-lines_refused workers set part (fault.Check f) robust wrong = absurd wrong
+lines_refused workers set part f robust (g, is, wrong) =
+    subst (λ (e : CommandFault). IsRefusedPart (Work workers) set part e) (sym is) (robust, wrong)
 
 -- ---- how an audit ends
 
@@ -278,14 +240,10 @@ part_given (Run robust) input set part has ended written gives = (set, part, has
 part_given Audit input set part has ended written gives = (set, part, has.has, gives)
 part_given (Work workers) input set part has ended written gives = (set, part, has.has, gives)
 
--- the input has the set, and its part
-set_of_part : (input : List ℕ) (set : DraftTree) (part : List ℕ) (wanted : ℕ) → wanted ≡ 2 → IsSetAndPart input set part → HasSet wanted input set
-set_of_part input set part wanted two has =
-    record { text = has.has.text; others = part ∷ []; divided = has.has.divided; count = sym two; spelled = has.has.spelled }
-
+-- what is wrong with a part, is wrong with its input
 part_refused : (mode : Mode) (input : List ℕ) (set : DraftTree) (part : List ℕ) → parts_wanted mode ≡ 2 → IsSetAndPart input set part
     → (f : CommandFault) → IsRefusedPart mode set part f → IsRefused mode input f
-part_refused mode input set part two has (fault.Analysis f) wrong = (wrong.0, set, set_of_part input set part (parts_wanted mode) two has, wrong.1)
+part_refused mode input set part two has (fault.Analysis f) wrong = (wrong.0, set, part ∷ [], has.has, sym two, wrong.1)
 part_refused mode input set part two has (fault.Repair f) wrong = absurd wrong
 part_refused mode input set part two has (fault.Json f) wrong = (set, part, has.has, wrong)
 part_refused mode input set part two has (fault.Certificate f) wrong = (set, part, has.has, wrong)

@@ -1,5 +1,5 @@
 -- What the commands write.
-use Rattle.std.specs.Prelude.{◌≡◌, ◌⊎◌, ℕ, Bool, true, false, ◌<◌, ◌≤◌, All, List, [], ◌∷◌, ◌++◌, length, codes, Option, Some, None, Ok, Err}
+use Rattle.std.specs.Prelude.{◌≡◌, ◌⊎◌, ℕ, Bool, true, false, ◌+◌, ◌<◌, ◌≤◌, All, List, [], ◌∷◌, ◌++◌, length, codes, Option, Some, None, Ok, Err}
 use Rattle.prog_tree.specs.Syntax.{DraftTree}
 use Rattle.prog_text.specs.Answer.{Accepts, Refuses}
 use Rattle.prog_text.specs.Canonical.{canonical}
@@ -90,17 +90,19 @@ pub record IsSoundText (text : List ℕ) (set : DraftTree) : Type 0 where
   pub accepted : Accepts text set
   pub sound : first_fault set ≡ None
 
--- the input is the text of a set without a fault
-pub record IsChecked (input : List ℕ) (set : DraftTree) : Type 0 where
+-- the input is the text of a set without a fault, with these parts behind it
+pub record HasSet (input : List ℕ) (set : DraftTree) (others : List (List ℕ)) : Type 0 where
   pub text : List ℕ
-  pub divided : IsDivided input (text ∷ [])
+  pub divided : IsDivided input (text ∷ others)
   pub spelled : IsSoundText text set
 
+-- the input is the text of a set without a fault
+abbrev pub IsChecked : (input : List ℕ) → (set : DraftTree) → Type 0
+IsChecked input set = HasSet input set []
+
 -- the input is the text of a set without a fault, and this part behind it
-pub record HasPart (input : List ℕ) (set : DraftTree) (part : List ℕ) : Type 0 where
-  pub text : List ℕ
-  pub divided : IsDivided input (text ∷ part ∷ [])
-  pub spelled : IsSoundText text set
+abbrev pub HasPart : (input : List ℕ) → (set : DraftTree) → (part : List ℕ) → Type 0
+HasPart input set part = HasSet input set (part ∷ [])
 
 -- the set asks no more questions than an analysis may have
 abbrev pub AsksFew : DraftTree → Type 0
@@ -189,14 +191,6 @@ IsAnalysedFor (Run robust) = robust ≡ true
 IsAnalysedFor (Work workers) = Unit {0}
 IsAnalysedFor mode = ⊥
 
--- the input has as many parts as are wanted, and the first spells this set, which has no fault
-pub record HasSet (wanted : ℕ) (input : List ℕ) (set : DraftTree) : Type 0 where
-  pub text : List ℕ
-  pub others : List (List ℕ)
-  pub divided : IsDivided input (text ∷ others)
-  pub count : length (text ∷ others) ≡ wanted
-  pub spelled : IsSoundText text set
-
 -- the first fault of the lines of a second part
 abbrev pub IsRefusedLine : Mode → DraftTree → List ℕ → LineFault → Type 0
 IsRefusedLine (Run robust) set part f = MayRun robust set × (script_of set part ≡ Err f)
@@ -233,10 +227,11 @@ abbrev pub IsRefusedByPart : Mode → List ℕ → CommandFault → Type 0
 IsRefusedByPart mode input f =
     (set : DraftTree) × (part : List ℕ) × HasPart input set part × IsRefusedPart mode set part f
 
--- the input has a set that is not analysed, though the command asks for it
+-- the input has as many parts as are wanted, and a set that is not analysed, though the command asks for it
 abbrev pub IsRefusedSet : Mode → List ℕ → AnalyseFault → Type 0
 IsRefusedSet mode input f =
-    IsAnalysedFor mode × (set : DraftTree) × HasSet (parts_wanted mode) input set × IsUnanalysed set f
+    IsAnalysedFor mode × (set : DraftTree) × (others : List (List ℕ))
+    × HasSet input set others × (length others + 1 ≡ parts_wanted mode) × IsUnanalysed set f
 
 -- the input has a set that is not repaired, though the command asks for it
 abbrev pub IsRefusedRepair : Mode → List ℕ → RepairFault → Type 0

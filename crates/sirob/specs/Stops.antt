@@ -3,7 +3,10 @@ use Rattle.std.specs.Prelude.{◌≡◌, ◌⊎◌, ℕ, ◌≤◌, Bool, true, 
 use Rattle.prog_tree.specs.declared.program.Draft.{Draft}
 use Rattle.prog_tree.specs.Syntax.{DraftTree}
 use Rattle.prog_tree.specs.Tree.{draft_tree}
+use Rattle.si_repair.specs.declared.fault.AnalyseFault.{AnalyseFault}
+use Rattle.si_repair.specs.declared.repairs.fault.RepairFault.{RepairFault}
 use Rattle.si_engine.specs.declared.output.finding.Serializability.{Serializability}
+use Rattle.si_engine.specs.declared.input.script_fault.LineFault.{LineFault}
 use Rattle.si_engine.specs.declared.input.script_fault.ScriptFault.{ScriptFault}
 use Rattle.si_engine.specs.declared.input.script_fault.ScriptFault.TheVariants as script_fault
 use Rattle.si_engine.specs.declared.input.source.InputFault.TheVariants as input_fault
@@ -29,14 +32,12 @@ write_lost = fault.Script script_fault.WriteFault
 
 -- the set is not analysed, and this is the fault that says so
 abbrev pub IsUnanalysedBy : DraftTree → CommandFault → Type 0
-IsUnanalysedBy set (fault.Analysis f) = IsUnanalysed set f
-IsUnanalysedBy set f = ⊥
+IsUnanalysedBy set f = (g : AnalyseFault) × (f ≡ fault.Analysis g) × IsUnanalysed set g
 
 -- the set is not analysed or not repaired, and this is the fault that says so
 abbrev pub IsUnrepairedBy : (promote : Bool) → DraftTree → CommandFault → Type 0
-IsUnrepairedBy promote set (fault.Analysis f) = IsUnanalysed set f
-IsUnrepairedBy promote set (fault.Repair f) = IsUnrepaired promote set f
-IsUnrepairedBy promote set f = ⊥
+IsUnrepairedBy promote set f =
+    IsUnanalysedBy set f ⊎ ((g : RepairFault) × (f ≡ fault.Repair g) × IsUnrepaired promote set g)
 
 -- the set was found robust, or is refused by a text
 abbrev pub IsVerified : Draft → Verified → Type 0
@@ -64,8 +65,7 @@ IsPartDone mode set part written ended =
 
 -- the first fault of the lines of jobs
 abbrev pub IsRefusedJobs : DraftTree → List ℕ → CommandFault → Type 0
-IsRefusedJobs set part (fault.Script (script_fault.Line f)) = jobs_of set part ≡ Err f
-IsRefusedJobs set part f = ⊥
+IsRefusedJobs set part f = (g : LineFault) × (f ≡ fault.Script (script_fault.Line g)) × (jobs_of set part ≡ Err g)
 
 -- the end of a script's run as that of a command
 abbrev pub as_command : Result Serializability ScriptFault → Result Status CommandFault
