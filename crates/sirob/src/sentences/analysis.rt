@@ -2,12 +2,12 @@
 
 use crate::limits::MAX_PLANNED_NODES;
 use crate::sentences::kept_input::KeptInput;
-use analysis_words::{certificate_words, refusal_words, robust_words};
+use analysis_words::{refusal_words, robust_words};
 use dep_graph::Danger;
 use prog_check::ProgramSet;
 use prog_paths::{MAX_QUESTIONS, paths};
 use prog_tree::Sequence;
-use robust_cert::{CertFault, Certificate};
+use robust_cert::Certificate;
 use si_repair::{AnalyseFault, Plan, plan};
 use std::alloc::{AllocError, Global};
 
@@ -20,18 +20,6 @@ pub fn analysis_sentence(alloc: Global, fault: AnalyseFault) -> Result<Option<St
         AnalyseFault::Memory => return Ok(None),
     };
     Ok(Some(words))
-}
-
-/// Why the certificate in the second part of an input is not accepted.
-pub fn certificate_sentence(
-    alloc: Global,
-    input: KeptInput<'_>,
-    fault: CertFault,
-) -> Result<Option<String>, AllocError> {
-    let Some(set) = input.set(alloc) else {
-        return Ok(None);
-    };
-    certificate_words(alloc, input.text, &set, input.part.bytes, fault)
 }
 
 // The plan of a small set.

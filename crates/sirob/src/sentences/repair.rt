@@ -2,21 +2,8 @@
 
 use crate::sentences::kept::Kept;
 use crate::sentences::kept_input::KeptInput;
-use analysis_words::{repair_fault_words, repair_words};
-use si_repair::RepairFault;
+use analysis_words::repair_words;
 use std::alloc::{AllocError, Global};
-
-/// Why the set of an input is not repaired.
-pub fn repair_fault_sentence(
-    alloc: Global,
-    input: KeptInput<'_>,
-    fault: RepairFault,
-) -> Result<Option<String>, AllocError> {
-    let Some(set) = input.set(alloc) else {
-        return Ok(None);
-    };
-    repair_fault_words(alloc, input.text, &set, fault)
-}
 
 /// What a repair has put into the set of an input.
 pub fn repair_sentence(

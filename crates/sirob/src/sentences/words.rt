@@ -3,20 +3,18 @@
 use crate::command_fault::CommandFault;
 use crate::command_line::Mode;
 use crate::parts::PartFault;
-use crate::sentences::analysis::{
-    analysis_sentence, certificate_sentence, refusal_sentence, robust_sentence,
-};
+use crate::sentences::analysis::{analysis_sentence, refusal_sentence, robust_sentence};
 use crate::sentences::kept::Kept;
 use crate::sentences::kept_input::KeptInput;
-use crate::sentences::repair::{repair_fault_sentence, repair_sentence};
+use crate::sentences::repair::repair_sentence;
 use crate::sentences::runs::refused_sentence;
 use crate::sentences::work::{lost_sentence, work_sentence};
 use crate::status::Status;
-use analysis_words::json_words;
+use analysis_words::{certificate_words, json_words, repair_fault_words};
 use fault_words::{check_words, text_words};
-use history_book::AuditFault;
+use prog_check::ProgramSet;
 use run_words::{PartKind, extra_part_words, line_fault_words, missing_part_words, record_words};
-use si_engine::{InputFault, LineFault, MAX_INPUT_BYTES, ScriptFault};
+use si_engine::{InputFault, MAX_INPUT_BYTES, ScriptFault};
 use si_repair::Finding;
 use std::alloc::{AllocError, Global};
 
@@ -61,15 +59,6 @@ fn input_sentence(alloc: Global, fault: InputFault) -> Result<Option<String>, Al
     Ok(Some(words))
 }
 
-// A sentence that points nowhere.
-fn plain(alloc: Global, sentence: Option<&str>) -> Result<Option<String>, AllocError> {
-    let Some(sentence) = sentence else {
-        return Ok(None);
-    };
-    let words = format!(in alloc; "{sentence}")?;
-    Ok(Some(words))
-}
-
 fn part_sentence(
     alloc: Global,
     mode: Mode,
@@ -89,41 +78,25 @@ fn part_sentence(
     }
 }
 
-fn line_sentence(
+// A fault of what is found on a set, or of what stands behind it.
+fn set_words(
     alloc: Global,
     mode: Mode,
     input: KeptInput<'_>,
-    fault: LineFault,
-) -> Result<Option<String>, AllocError> {
-    let Some(set) = input.set(alloc) else {
-        return Ok(None);
-    };
-    let kind = kind_of(mode);
-    line_fault_words(alloc, kind, &set, input.part, fault)
-}
-
-fn script_sentence(
-    alloc: Global,
-    mode: Mode,
-    input: KeptInput<'_>,
-    fault: ScriptFault,
+    set: &ProgramSet,
+    fault: CommandFault,
 ) -> Result<Option<String>, AllocError> {
     match fault {
-        ScriptFault::Input(fault) => input_sentence(alloc, fault),
-        ScriptFault::Line(fault) => line_sentence(alloc, mode, input, fault),
-        ScriptFault::WriteFault => Ok(None),
+        CommandFault::Repair(fault) => repair_fault_words(alloc, input.text, set, fault),
+        CommandFault::Script(ScriptFault::Line(fault)) => {
+            line_fault_words(alloc, kind_of(mode), set, input.part, fault)
+        }
+        CommandFault::Audit(fault) => record_words(alloc, set, input.part, fault),
+        CommandFault::Certificate(fault) => {
+            certificate_words(alloc, input.text, set, input.part.bytes, fault)
+        }
+        _ => Ok(None),
     }
-}
-
-fn record_sentence(
-    alloc: Global,
-    input: KeptInput<'_>,
-    fault: AuditFault,
-) -> Result<Option<String>, AllocError> {
-    let Some(set) = input.set(alloc) else {
-        return Ok(None);
-    };
-    record_words(alloc, &set, input.part, fault)
 }
 
 // A fault in words.
@@ -139,25 +112,31 @@ fn words_of(
             Ok(Some(words))
         }
         CommandFault::Check(fault) => check_words(alloc, input.text, fault),
-        CommandFault::Input(fault) => input_sentence(alloc, fault),
+        CommandFault::Input(fault) | CommandFault::Script(ScriptFault::Input(fault)) => {
+            input_sentence(alloc, fault)
+        }
         CommandFault::Parts(fault) => part_sentence(alloc, mode, input, fault),
         CommandFault::Analysis(fault) => analysis_sentence(alloc, fault),
-        CommandFault::Repair(fault) => repair_fault_sentence(alloc, input, fault),
-        CommandFault::Script(fault) => script_sentence(alloc, mode, input, fault),
-        CommandFault::Audit(fault) => record_sentence(alloc, input, fault),
         CommandFault::Work(fault) => work_sentence(alloc, fault),
-        CommandFault::Json(fault) => plain(alloc, Some(json_words(fault))),
-        CommandFault::Certificate(fault) => certificate_sentence(alloc, input, fault),
+        CommandFault::Json(fault) => {
+            let words = String::from_str(alloc, json_words(fault))?;
+            Ok(Some(words))
+        }
+        fault => match input.set(alloc) {
+            Some(set) => set_words(alloc, mode, input, &set, fault),
+            None => Ok(None),
+        },
     }
 }
 
-// Why no serial order is sure, or why there is none.
-fn unserializable_sentence(alloc: Global, kept: &Kept) -> Result<Option<String>, AllocError> {
-    if let Some(Finding::Refused(danger)) = &kept.found {
-        return refusal_sentence(alloc, KeptInput::of(&kept.input), danger);
+// Why no serial order is sure.
+fn refused_set_words(alloc: Global, kept: &Kept) -> Result<Option<String>, AllocError> {
+    match &kept.found {
+        Some(Finding::Refused(danger)) => {
+            refusal_sentence(alloc, KeptInput::of(&kept.input), danger)
+        }
+        _ => Ok(None),
     }
-    let cycle = kept.cycle.as_ref();
-    plain(alloc, cycle.map(|words| words.as_str()))
 }
 
 // What a certificate shows that was found.
@@ -188,15 +167,15 @@ fn ending_words(
     ended: Result<Status, CommandFault>,
 ) -> Result<Option<String>, AllocError> {
     match ended {
-        Ok(Status::Unserializable) => unserializable_sentence(alloc, kept),
+        Ok(Status::Unserializable) => refused_set_words(alloc, kept),
         Ok(Status::Done) => done_sentence(alloc, mode, kept),
         Ok(Status::Faulty | Status::Memory) => Ok(None),
         Err(fault) => words_of(alloc, mode, KeptInput::of(&kept.input), fault),
     }
 }
 
-/// Says on the standard error what is wrong with an input, or why its set is refused, unless memory
-/// runs out for it.
+/// Says on the standard error what is wrong with an input, why its set is refused, or in which cycle
+/// its commits end, unless memory runs out for it.
 pub fn explain(
     rt: &(impl AllocGlobal + Eprint),
     mode: Mode,
@@ -205,5 +184,7 @@ pub fn explain(
 ) {
     if let Ok(Some(words)) = ending_words(rt.alloc(), mode, kept, ended) {
         let _ = rt.eprint(&words);
+    } else if let (Ok(Status::Unserializable), Some(cycle)) = (ended, &kept.cycle) {
+        let _ = rt.eprint(cycle);
     }
 }
