@@ -1,17 +1,15 @@
 -- Runs of a book's instances.
 use Rattle.std.proofs.Common.{◌≡◌, ℕ, ℤ, List, refl, ap, sym, ◌∙◌, subst}
-use Rattle.std.specs.Prelude.{slice_get, Option, Some, Ok, option_map}
+use Rattle.std.specs.Prelude.{slice_get, Some, option_map}
 use Rattle.std.proofs.lemmas.Option.{slice_get-map}
-use Rattle.prog_tree.specs.declared.cell.Cell.{Cell}
 use Rattle.prog_tree.specs.declared.program.Draft.{Draft}
-use Rattle.prog_tree.specs.Table.{TableState, row_at}
+use Rattle.prog_tree.specs.Table.{TableState}
 use Rattle.prog_tree.specs.Tree.{program_tree}
 use Rattle.prog_run.specs.Looks.{AreFound}
 use Rattle.prog_run.specs.View.{RunView, SameBegin, begun}
-use Rattle.history_book.specs.History.{Instance}
-use Rattle.history_book.specs.Refusals.{IsOfInstance, IsCellRead}
+use Rattle.history_book.specs.Refusals.{IsOfInstance}
 use Rattle.history_book.specs.Ticket.{TicketView}
-use Rattle.history_book.specs.View.{BookView, new_book, begun_in, held_for, next_instance, next_ticket, state_in}
+use Rattle.history_book.specs.View.{BookView, new_book, begun_in, next_instance, next_ticket, state_in}
 
 -- a run that was begun as the first instance of a book is the instance's
 first_own : (set : Draft) (opening : TableState) (program : ℕ) (args : List ℤ) (run : RunView) → run ≡ begun set.tables.items run.program args →
@@ -38,9 +36,6 @@ begun_own set opening program args old new t run opened ticket after begins foun
     (subst (λ x. IsOfInstance (begun_in old program args) x run) (sym ticket)
     (subst (λ v. IsOfInstance (begun_in v program args) (next_ticket v) run) (sym opened) (first_own set opening program args run begins found)))
 
-pub then_same : (first next last : RunView) → SameBegin first next → SameBegin next last → SameBegin first last
-then_same first next last a b = record { tables = b.tables ∙ a.tables; program = b.program ∙ a.program; args = b.args ∙ a.args }
-
 -- a run stays the instance's as long as it looks at its snapshot alone
 pub stays_own : (v : BookView) (t : TicketView) (old new : RunView) → (own : IsOfInstance v t old) → SameBegin old new →
     AreFound (state_in v own.instance.start) new.looks → IsOfInstance v t new
@@ -56,9 +51,3 @@ stays_own v t old new own same found = record {
     found = found;
   };
 }
-
--- what was read at a cell is what the instance sees there
-pub read_own : (v : BookView) (t : TicketView) (run : RunView) (cell : Cell) (held : Option ℤ) → (own : IsOfInstance v t run) →
-    IsCellRead (held_for v t cell) (Ok held) → held ≡ row_at (state_in v own.instance.start) cell
-read_own v t run cell held own read =
-    subst (λ (o : Option Instance). IsCellRead (option_map (λ i. row_at (state_in v i.start) cell) o) (Ok held)) own.active read

@@ -38,13 +38,7 @@ fn advance(rt: &impl Abort, book: &Book<'_>, ticket: &Ticket, run: &mut Run<'_>)
     ensures own { IsOfInstance book.now ticket.now run.new }
     ensures end { run.new.end ≡ end_after result }
 {
-    match run.advance().expect(rt, "memory") {
-        Next::Get(cell) => {
-            let held = book.get(ticket, &cell).expect(rt, "an instance");
-            run.answer_get(held).expect(rt, "memory")
-        }
-        next => next,
-    }
+    book.advance(ticket, run).expect(rt, "memory")
 }
 
 fn look(rt: &impl Abort, alloc: Global, set: &ProgramSet) {
