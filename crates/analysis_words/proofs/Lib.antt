@@ -1,4 +1,5 @@
 mod AlongWay
+mod AskedEntry
 mod Listing
 mod NoCertificate
 mod TellsMore

@@ -1,4 +1,5 @@
 pub mod Edges
+pub mod Helping
 pub mod Instances
 pub mod Left
 pub mod Nodes

@@ -1,7 +1,10 @@
--- What the nodes of a set are called in words.
-use Rattle.std.specs.Prelude.{ℕ, Bool, true, false, List, [], ◌∷◌, ◌++◌, Option, Some, None, codes, slice_get}
+-- What the nodes of a set and their accesses are called in words.
+use Rattle.std.specs.Prelude.{ℕ, ◌≡◌, ◌⊎◌, Bool, true, false, not, List, [], ◌∷◌, ◌++◌, Option, Some, None, codes, map, slice_get}
 use Rattle.std.specs.Fmt.{decimal}
 use Rattle.std.specs.List.{flat_map}
+use Rattle.text_places.specs.Landmarks.{HasNoStatement, IsStatementPlace}
+use Rattle.text_places.specs.Places.{line_number}
+use Rattle.text_places.specs.Quotes.{visible}
 use Rattle.prog_tree.specs.Syntax.{DraftTree}
 use Rattle.prog_check.specs.declared.path.Access.{Access}
 use Rattle.prog_check.specs.declared.path.Path.{Path}
@@ -45,3 +48,40 @@ turns_in (Some access) = turns_by access.sure
 
 abbrev pub turns_text : List Path → (node access : ℕ) → List ℕ
 turns_text paths node access = turns_in (access_of paths node access)
+
+-- an access that is there stands in the body of an `each`
+abbrev pub is_unsure : Option Access → Bool
+is_unsure None = false
+is_unsure (Some access) = not access.sure
+
+abbrev pub is_in_body : List Path → (node access : ℕ) → Bool
+is_in_body paths node access = is_unsure (access_of paths node access)
+
+-- the statement of this access of a node stands here
+pub record IsAccessPlace (text : List ℕ) (paths : List Path) (node access at : ℕ) : Type 0 where
+  pub path : Path
+  pub of_node : slice_get paths node ≡ Some path
+  pub accessed : Access
+  pub of_path : slice_get path.accesses access ≡ Some accessed
+  pub stands : IsStatementPlace text path.program accessed.place at
+
+-- there is no such node, no such access of it, or no statement of its number in the text
+pub data HasNoAccess (text : List ℕ) (paths : List Path) (node access : ℕ) : Type 0 where
+  NoNode : slice_get paths node ≡ None → HasNoAccess text paths node access
+  NoneOfNode : (path : Path) → slice_get paths node ≡ Some path → slice_get path.accesses access ≡ None
+      → HasNoAccess text paths node access
+  NoStatement : (path : Path) → slice_get paths node ≡ Some path → (accessed : Access) → slice_get path.accesses access ≡ Some accessed
+      → HasNoStatement text path.program accessed.place → HasNoAccess text paths node access
+
+-- bytes of an input in one line, as a terminal may show them
+abbrev pub IsInOneLine : List ℕ → Type 0
+IsInOneLine line = (bytes : List ℕ) × (line ≡ map visible bytes)
+
+-- the words name an access of a node by its node and by the line of its statement, which they show, as
+-- `` `price[item] = 7` of `Set` in line 4``
+abbrev pub IsAccessText : (text : List ℕ) → DraftTree → List Path → (node access : ℕ) → (words : List ℕ) → Type 0
+IsAccessText text set paths node access words =
+    ((at : ℕ) × IsAccessPlace text paths node access at × (statement : List ℕ) × IsInOneLine statement
+    × (words ≡ codes "`" ++ (statement ++ (codes "` of " ++ (node_name set paths node ++ (codes " in line " ++ decimal (line_number text at)))))))
+    ⊎ (HasNoAccess text paths node access
+    × (words ≡ codes "access " ++ (decimal access ++ (codes " of " ++ (node_name set paths node ++ codes ", which it has not")))))

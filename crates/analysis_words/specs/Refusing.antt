@@ -1,28 +1,23 @@
 -- What the words of a refusal have to show.
-use Rattle.std.specs.Prelude.{ℕ, ◌≡◌, ◌⊎◌, List, [], ◌∷◌, ◌++◌, Some, None, codes, slice_get}
-use Rattle.text_places.specs.Landmarks.{HasNoStatement, IsStatementPlace}
+use Rattle.std.specs.Prelude.{ℕ, ◌≡◌, ◌⊎◌, List, [], ◌∷◌, ◌++◌, codes}
 use Rattle.text_places.specs.Quotes.{pointed_out}
 use Rattle.prog_tree.specs.Syntax.{DraftTree}
-use Rattle.prog_check.specs.declared.path.Access.{Access}
 use Rattle.prog_check.specs.declared.path.Path.{Path}
 use Rattle.prog_paths.specs.declared.accesses.places.Question.{Question}
 use Rattle.dep_graph.specs.declared.danger.Danger.{Danger}
 use Rattle.dep_graph.specs.declared.danger.Exposure.{Exposure}
 use Rattle.repair_laws.specs.declared.plan.Pair.{Pair}
 use Rattle.analysis_words.specs.Edges.{change_text, look_text, twin_change_text, twin_look_text, IsRepeated}
+use Rattle.analysis_words.specs.Helping.{IsHelp}
 use Rattle.analysis_words.specs.Left.{left_text}
-use Rattle.analysis_words.specs.Nodes.{node_name}
+use Rattle.analysis_words.specs.Nodes.{node_name, HasNoAccess, IsAccessPlace}
 use Rattle.analysis_words.specs.SharedWords.{other_run}
 use Rattle.analysis_words.specs.Ways.{IsWaysText}
 
 -- the words say this sentence of the statement of this access of a node
 pub record PointsAtAccess (text : List ℕ) (paths : List Path) (node access : ℕ) (sentence words : List ℕ) : Type 0 where
-  pub path : Path
-  pub of_node : slice_get paths node ≡ Some path
-  pub accessed : Access
-  pub of_path : slice_get path.accesses access ≡ Some accessed
   pub at : ℕ
-  pub stands : IsStatementPlace text path.program accessed.place at
+  pub stands : IsAccessPlace text paths node access at
   pub points : words ≡ pointed_out text at sentence
 
 -- the words say a sentence of each access of a question
@@ -66,10 +61,12 @@ advice_text circle first second =
     codes "the two of each pair can be under way at once: no cell is sure to be changed or kept by both, so neither has to clash\nin a serial order "
     ++ (circle ++ (codes "\nwhat helps: " ++ (first ++ (codes "; or " ++ (second ++ codes "\n")))))
 
--- the words say so of the circle of a dangerous structure
-abbrev pub IsAdvice : DraftTree → List Path → Danger → (words : List ℕ) → Type 0
-IsAdvice set paths danger words =
-    (first second : List ℕ) × (words ≡ advice_text (circle_text set paths danger) first second)
+-- the words say so of the circle of a dangerous structure, and of each edge what helps against it
+abbrev pub IsAdvice : (text : List ℕ) → DraftTree → List Path → Danger → (words : List ℕ) → Type 0
+IsAdvice text set paths danger words =
+    (first second : List ℕ) × IsHelp text set paths danger.first.question first
+    × IsHelp text set paths danger.second.question second
+    × (words ≡ advice_text (circle_text set paths danger) first second)
 
 -- the same where both edges are one
 abbrev pub twin_advice_text : (help : List ℕ) → List ℕ
@@ -77,20 +74,21 @@ twin_advice_text help =
     codes "each can miss the other's change so, and both can be under way at once: no cell is sure to be changed or kept by both, so neither has to clash\nin a serial order each would have to stand before the other\nwhat helps: "
     ++ (help ++ codes "\n")
 
-abbrev pub IsTwinAdvice : (words : List ℕ) → Type 0
-IsTwinAdvice words = (help : List ℕ) × (words ≡ twin_advice_text help)
+abbrev pub IsTwinAdvice : (text : List ℕ) → DraftTree → List Path → Danger → (words : List ℕ) → Type 0
+IsTwinAdvice text set paths danger words =
+    (help : List ℕ) × IsHelp text set paths danger.first.question help × (words ≡ twin_advice_text help)
 
 -- the words show both edges of a dangerous structure, the first before the second, and then what follows
 abbrev pub ShowsBoth : (text : List ℕ) → DraftTree → List Path → Danger → (words : List ℕ) → Type 0
 ShowsBoth text set paths danger words =
     (first second advice : List ℕ) × ShowsEdge text set paths danger.first first
-    × ShowsEdge text set paths danger.second second × IsAdvice set paths danger advice
+    × ShowsEdge text set paths danger.second second × IsAdvice text set paths danger advice
     × (words ≡ no_order ++ (first ++ (codes "and\n" ++ (second ++ advice))))
 
 -- the words show the one edge that is both, and then what follows
 abbrev pub ShowsOne : (text : List ℕ) → DraftTree → List Path → Danger → (words : List ℕ) → Type 0
 ShowsOne text set paths danger words =
-    (edge advice : List ℕ) × ShowsTwins text set paths danger.first edge × IsTwinAdvice advice
+    (edge advice : List ℕ) × ShowsTwins text set paths danger.first edge × IsTwinAdvice text set paths danger advice
     × (words ≡ no_order ++ (edge ++ advice))
 
 -- the words show a dangerous structure: once what is there twice
@@ -105,14 +103,6 @@ abbrev pub ShowsRefusal : (text : List ℕ) → DraftTree → List Path → Dang
 ShowsRefusal text set paths danger plan words =
     (shown ways : List ℕ) × ShowsDanger text set paths danger shown × IsWaysText set plan ways
     × (words ≡ shown ++ (left_text set plan ++ ways))
-
--- there is no such node, no such access of it, or no statement of its number in the text
-pub data HasNoAccess (text : List ℕ) (paths : List Path) (node access : ℕ) : Type 0 where
-  NoNode : slice_get paths node ≡ None → HasNoAccess text paths node access
-  NoneOfNode : (path : Path) → slice_get paths node ≡ Some path → slice_get path.accesses access ≡ None
-      → HasNoAccess text paths node access
-  NoStatement : (path : Path) → slice_get paths node ≡ Some path → (accessed : Access) → slice_get path.accesses access ≡ Some accessed
-      → HasNoStatement text path.program accessed.place → HasNoAccess text paths node access
 
 -- one of the two accesses of a question can't be pointed at
 abbrev pub LacksQuestion : (text : List ℕ) → List Path → Question → Type 0

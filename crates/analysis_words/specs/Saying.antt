@@ -1,5 +1,5 @@
 -- What the words of a fault of a certificate have to say.
-use Rattle.std.specs.Prelude.{ℕ, ◌≡◌, ◌==◌, Bool, if◌then◌else◌, List, ◌++◌, Option, Some, None, codes, length, slice_get, zip}
+use Rattle.std.specs.Prelude.{ℕ, ◌≡◌, ◌==◌, Bool, if◌then◌else◌, List, [], ◌++◌, Option, Some, None, codes, length, option_map, slice_get, zip}
 use Rattle.std.specs.Fmt.{decimal}
 use Rattle.std.specs.List.{prefix_len}
 use Rattle.prog_tree.specs.Syntax.{DraftTree}
@@ -7,12 +7,14 @@ use Rattle.prog_check.specs.declared.path.Path.{Path}
 use Rattle.prog_paths.specs.Asked.{limit}
 use Rattle.robust_cert.specs.Accepted.{body_size}
 use Rattle.robust_cert.specs.Reading.{IsTextOf}
+use Rattle.robust_cert.specs.Sharing.{question_told}
 use Rattle.robust_cert.specs.declared.certificate.Certificate.{Certificate}
+use Rattle.robust_cert.specs.declared.certificate.Question.{Question}
 use Rattle.robust_cert.specs.declared.fault.CertFault.{CertFault}
 use Rattle.robust_cert.specs.declared.fault.CertFault.TheVariants as c
 use Rattle.robust_cert.specs.declared.fault.JsonFault.{JsonFault}
 use Rattle.robust_cert.specs.declared.fault.JsonFault.TheVariants as j
-use Rattle.analysis_words.specs.Nodes.{node_name}
+use Rattle.analysis_words.specs.Nodes.{node_name, IsAccessText}
 
 -- the bytes are the text of no certificate
 abbrev pub IsNoCertificate : List ℕ → Type 0
@@ -85,15 +87,59 @@ front_of set paths certificate c.TooLarge =
     codes "more than " ++ (decimal limit ++ codes " pairs of accesses would have to be compared")
 front_of set paths certificate c.Memory = codes "memory ran out"
 
+-- what does not hold of the entry, or of the levels
+abbrev pub broken_rule : CertFault → List ℕ
+broken_rule (c.NoSuchEntry entry) = codes "these two ask nothing of one another"
+broken_rule (c.EntryOrder entry) = codes "entries stand in the order of their nodes and accesses, and this one does not"
+broken_rule (c.BadCover entry) =
+    codes "a cover is of a read that may miss a write, by two changes of one table, with two chains a key column; what stands in the body of an `each` covers nothing"
+broken_rule (c.BadChain entry) = codes "a chain is none, or runs elsewhere; each step has to follow from where the two meet"
+broken_rule (c.LevelFalls x y) = codes "along an edge that no entry takes away the level may not fall"
+broken_rule (c.Dangerous x y z) = codes "over two vulnerable edges in a row the level has to rise"
+broken_rule c.PathCount =
+    codes "a certificate has for each node, which is a way through a program that commits, a level and how many of its accesses stand in the body of an `each`: none of any in version 1"
+broken_rule c.TooLarge = []
+broken_rule c.Memory = []
+
+-- the entry that a fault is about
+abbrev pub entry_of : CertFault → Option ℕ
+entry_of (c.NoSuchEntry entry) = Some entry
+entry_of (c.EntryOrder entry) = Some entry
+entry_of (c.BadCover entry) = Some entry
+entry_of (c.BadChain entry) = Some entry
+entry_of (c.LevelFalls x y) = None
+entry_of (c.Dangerous x y z) = None
+entry_of c.PathCount = None
+entry_of c.TooLarge = None
+entry_of c.Memory = None
+
+-- the question of an entry of a certificate
+abbrev pub asked_in : Certificate → (entry : ℕ) → Option Question
+asked_in certificate entry = option_map question_told (slice_get certificate.entries entry)
+
+-- the words name both accesses of a question, if there is one
+abbrev pub IsQuestionText : (text : List ℕ) → DraftTree → List Path → Option Question → (words : List ℕ) → Type 0
+IsQuestionText text set paths None words = words ≡ codes "its question"
+IsQuestionText text set paths (Some q) words =
+    (mine theirs : List ℕ) × IsAccessText text set paths q.x q.a mine × IsAccessText text set paths q.y q.b theirs
+    × (words ≡ mine ++ (codes " against " ++ theirs))
+
+-- the words name the question of an entry before what does not hold of it; where no entry is meant there are none
+abbrev pub IsAskedText : (text : List ℕ) → DraftTree → List Path → Certificate → (entry : Option ℕ) → (words : List ℕ) → Type 0
+IsAskedText text set paths certificate None words = words ≡ []
+IsAskedText text set paths certificate (Some entry) words =
+    (question : List ℕ) × IsQuestionText text set paths (asked_in certificate entry) question × (words ≡ question ++ codes ": ")
+
 -- the words of a fault of a certificate for a set of these paths
-abbrev pub IsOfFault : DraftTree → List Path → Certificate → CertFault → (words : List ℕ) → Type 0
-IsOfFault set paths certificate fault words =
-    (rest : List ℕ) × (words ≡ front_of set paths certificate fault ++ (rest ++ codes "\n"))
+abbrev pub IsOfFault : (text : List ℕ) → DraftTree → List Path → Certificate → CertFault → (words : List ℕ) → Type 0
+IsOfFault text set paths certificate fault words =
+    (asked : List ℕ) × IsAskedText text set paths certificate (entry_of fault) asked
+    × (words ≡ front_of set paths certificate fault ++ (asked ++ (broken_rule fault ++ codes "\n")))
 
 -- the words of a fault of the certificate that the bytes are
-abbrev pub IsSaidOf : (bytes : List ℕ) → DraftTree → List Path → CertFault → (words : List ℕ) → Type 0
-IsSaidOf bytes set paths fault words =
-    (certificate : Certificate) × IsTextOf certificate bytes × IsOfFault set paths certificate fault words
+abbrev pub IsSaidOf : (text bytes : List ℕ) → DraftTree → List Path → CertFault → (words : List ℕ) → Type 0
+IsSaidOf text bytes set paths fault words =
+    (certificate : Certificate) × IsTextOf certificate bytes × IsOfFault text set paths certificate fault words
 
 -- why bytes are no certificate
 abbrev pub json_words : JsonFault → List ℕ

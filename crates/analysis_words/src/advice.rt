@@ -1,6 +1,7 @@
 //! What follows from a dangerous structure, and what helps.
-ghost use Rattle.std.specs.Prelude.{◌≡◌, IfOk, string_bytes};
+ghost use Rattle.std.specs.Prelude.{◌≡◌, false, IfOk, string_bytes};
 ghost use Rattle.prog_tree.specs.Tree.{draft_tree};
+ghost use Rattle.analysis_words.specs.Helping.{clashing_text, keep_text, keepers_text, meets_body, outside_text, parameter_text, shared_text, IsHelp};
 ghost use Rattle.analysis_words.specs.Refusing.{IsAdvice, IsTwinAdvice, advice_text, circle_text, step_text, twin_advice_text, way_text};
 
 use crate::looks::{is_under_unknown_key, meets_body};
@@ -59,7 +60,10 @@ fn circle_text(alloc: Global, shown: Shown<'_>, danger: &Danger) -> Result<Strin
 }
 
 // The two of a question, as those that keep one cell.
-fn keepers(alloc: Global, shown: Shown<'_>, question: Question) -> Result<String, AllocError> {
+fn keepers_text(alloc: Global, shown: Shown<'_>, question: Question) -> Result<String, AllocError>
+    ensures { IfOk result (λ text. string_bytes text
+        ≡ keepers_text (draft_tree shown.entry.set.now) shown.entry.paths.now question) }
+{
     let reader = node_name(alloc, shown, question.x)?;
     if question.x == question.y {
         return format!(in alloc; "each run of {reader} has to `keep`");
@@ -69,7 +73,10 @@ fn keepers(alloc: Global, shown: Shown<'_>, question: Question) -> Result<String
 }
 
 // The same two, as those that clash.
-fn clashing(alloc: Global, shown: Shown<'_>, question: Question) -> Result<String, AllocError> {
+fn clashing_text(alloc: Global, shown: Shown<'_>, question: Question) -> Result<String, AllocError>
+    ensures { IfOk result (λ text. string_bytes text
+        ≡ clashing_text (draft_tree shown.entry.set.now) shown.entry.paths.now question) }
+{
     let reader = node_name(alloc, shown, question.x)?;
     if question.x == question.y {
         return format!(in alloc; "two runs of {reader} clash");
@@ -78,54 +85,93 @@ fn clashing(alloc: Global, shown: Shown<'_>, question: Question) -> Result<Strin
     format!(in alloc; "{reader} clashes with {writer}")
 }
 
+fn outside_text(in_body: bool) -> &'static str
+    ensures { result.now ≡ outside_text in_body }
+{
+    if in_body {
+        " outside of any `each`"
+    } else {
+        ""
+    }
+}
+
 // A cell in place of those that a question is about, which both keep, and surely: so in no body of
 // an `each`, which may have no turn.
-fn shared_cell(
+fn shared_text(
     alloc: Global,
     shown: Shown<'_>,
     question: Question,
     cells: &str,
-) -> Result<String, AllocError> {
-    let keepers = keepers(alloc, shown, question)?;
-    let outside = if meets_body(shown, &question) {
-        " outside of any `each`"
-    } else {
-        ""
-    };
+) -> Result<String, AllocError>
+    ensures { IfOk result (λ text. string_bytes text
+        ≡ shared_text (draft_tree shown.entry.set.now) shown.entry.paths.now question cells.now) }
+{
+    let keepers = keepers_text(alloc, shown, question)?;
+    let outside = outside_text(meets_body(shown, &question));
     format!(in alloc; "one cell that stands for `{cells}`, which {keepers}{outside}")
 }
 
-// The cell that the first of a question looks at, which it keeps: under a key of parameters and
-// numbers.
-fn own_cell(
+// The cell that the first of a question looks at, which it keeps.
+fn keep_text(
     alloc: Global,
     shown: Shown<'_>,
     question: Question,
-    place: usize,
-) -> Result<String, AllocError> {
-    let cells = cells_at(alloc, shown.text, place)?;
-    let line = line_number(shown.text.bytes(), place);
-    let clashing = clashing(alloc, shown, question)?;
-    if is_under_unknown_key(shown, &question) {
-        return format!(in alloc;
-            "the key of `{cells}` made a parameter, and a `keep` of that cell behind line {line}, so that {clashing}"
-        );
-    }
+    cells: &str,
+    line: usize,
+) -> Result<String, AllocError>
+    ensures { IfOk result (λ text. string_bytes text ≡ keep_text
+        (draft_tree shown.entry.set.now) shown.entry.paths.now question cells.now line) }
+{
+    let clashing = clashing_text(alloc, shown, question)?;
     format!(in alloc; "`keep {cells};` behind line {line}, so that {clashing}")
 }
 
-// What makes the two of a question clash: the first keeps the cell that it looks at, or where that
-// is a range, or one of both stands in the body of an `each`, both keep one cell.
-fn repair(alloc: Global, shown: Shown<'_>, question: Question) -> Result<String, AllocError> {
+// The same where no parameters and numbers tell its key.
+fn parameter_text(
+    alloc: Global,
+    shown: Shown<'_>,
+    question: Question,
+    cells: &str,
+    line: usize,
+) -> Result<String, AllocError>
+    ensures { IfOk result (λ text. string_bytes text ≡ parameter_text
+        (draft_tree shown.entry.set.now) shown.entry.paths.now question cells.now line) }
+{
+    let clashing = clashing_text(alloc, shown, question)?;
+    format!(in alloc;
+        "the key of `{cells}` made a parameter, and a `keep` of that cell behind line {line}, so that {clashing}"
+    )
+}
+
+// Whether no keep of its own covers what the first of a question looks at: cells of a range, or
+// where one of both stands in the body of an `each`.
+fn takes_shared_cell(shown: Shown<'_>, question: &Question, cells: &str) -> bool
+    ensures { result ≡ false → meets_body shown.entry.paths.now question.now ≡ false }
+{
+    cells.contains("..") || meets_body(shown, question)
+}
+
+// What makes the two of a question clash: the first keeps the cell that it looks at, or both keep
+// one cell.
+fn help(alloc: Global, shown: Shown<'_>, question: Question) -> Result<String, AllocError>
+    ensures { IfOk result (λ text. IsHelp shown.entry.text.now (draft_tree shown.entry.set.now)
+        shown.entry.paths.now question (string_bytes text)) }
+{
     let Some(place) = access_place(shown, question.x, question.a) else {
-        let keepers = keepers(alloc, shown, question)?;
-        return format!(in alloc; "a cell that {keepers}");
+        let keepers = keepers_text(alloc, shown, question)?;
+        let lost = format!(in alloc; "a cell that {keepers}")?;
+        return Ok(lost);
     };
-    let cells = cells_at(alloc, shown.text, place)?;
-    if cells.contains("..") || meets_body(shown, &question) {
-        return shared_cell(alloc, shown, question, &cells);
+    let line = line_number(shown.text.bytes(), place);
+    let found = cells_at(alloc, shown.text, place)?;
+    let cells = found.as_str();
+    if takes_shared_cell(shown, &question, cells) {
+        return shared_text(alloc, shown, question, cells);
     }
-    own_cell(alloc, shown, question, place)
+    if is_under_unknown_key(shown, &question) {
+        return parameter_text(alloc, shown, question, cells, line);
+    }
+    keep_text(alloc, shown, question, cells, line)
 }
 
 // Why nothing hinders both edges, how the circle closes, and what helps against either edge.
@@ -153,21 +199,22 @@ fn twin_advice_text(alloc: Global, help: &str) -> Result<String, AllocError>
 
 /// Why nothing hinders both edges, how the circle closes, and what to do about it.
 pub fn advice(alloc: Global, shown: Shown<'_>, danger: &Danger) -> Result<String, AllocError>
-    ensures { IfOk result (λ words. IsAdvice (draft_tree shown.entry.set.now)
-        shown.entry.paths.now danger.now (string_bytes words)) }
+    ensures { IfOk result (λ words. IsAdvice shown.entry.text.now
+        (draft_tree shown.entry.set.now) shown.entry.paths.now danger.now (string_bytes words)) }
 {
     let circle = circle_text(alloc, shown, danger)?;
-    let first = repair(alloc, shown, danger.first.question)?;
-    let second = repair(alloc, shown, danger.second.question)?;
+    let first = help(alloc, shown, danger.first.question)?;
+    let second = help(alloc, shown, danger.second.question)?;
     let words = advice_text(alloc, &circle, &first, &second)?;
     Ok(words)
 }
 
 /// The same where both edges are one.
 pub fn twin_advice(alloc: Global, shown: Shown<'_>, danger: &Danger) -> Result<String, AllocError>
-    ensures { IfOk result (λ words. IsTwinAdvice (string_bytes words)) }
+    ensures { IfOk result (λ words. IsTwinAdvice shown.entry.text.now
+        (draft_tree shown.entry.set.now) shown.entry.paths.now danger.now (string_bytes words)) }
 {
-    let help = repair(alloc, shown, danger.first.question)?;
+    let help = help(alloc, shown, danger.first.question)?;
     let words = twin_advice_text(alloc, &help)?;
     Ok(words)
 }

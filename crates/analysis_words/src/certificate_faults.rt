@@ -4,7 +4,7 @@ ghost use Rattle.prog_tree.specs.Tree.{draft_tree};
 ghost use Rattle.prog_check.specs.Paths.{paths_of};
 ghost use Rattle.robust_cert.specs.Reading.{IsTextOf};
 ghost use Rattle.robust_cert.specs.declared.fault.CertFault.TheVariants.{Dangerous, LevelFalls};
-ghost use Rattle.analysis_words.specs.Saying.{body_size_in, count_text, counts_text, first_mistold, front_of, is_told, json_words, mistold_text, IsNoCertificate, IsOfFault, IsSaidOf};
+ghost use Rattle.analysis_words.specs.Saying.{asked_in, body_size_in, broken_rule, count_text, counts_text, entry_of, first_mistold, front_of, is_told, json_words, mistold_text, IsAskedText, IsNoCertificate, IsOfFault, IsQuestionText, IsSaidOf};
 
 use crate::levels::{level_text, number_at};
 use crate::shown::{Shown, access_text, node_name};
@@ -15,19 +15,33 @@ use std::alloc::{AllocError, Global};
 use text_places::SetText;
 
 // The question of an entry.
+fn asked_in(certificate: &Certificate, entry: usize) -> Option<Question>
+    ensures { result ≡ asked_in certificate.now entry }
+{
+    if entry < certificate.entries.len() {
+        Some(certificate.entries.question(entry))
+    } else {
+        None
+    }
+}
+
+// Both accesses of a question, if there is one.
 fn question_text(
     alloc: Global,
     shown: Shown<'_>,
-    certificate: &Certificate,
-    entry: usize,
-) -> Result<String, AllocError> {
-    if entry >= certificate.entries.len() {
-        return format!(in alloc; "its question");
-    }
-    let Question { x, a, y, b } = certificate.entries.question(entry);
-    let mine = access_text(alloc, shown, x as usize, a as usize)?;
-    let theirs = access_text(alloc, shown, y as usize, b as usize)?;
-    format!(in alloc; "{mine} against {theirs}")
+    question: Option<Question>,
+) -> Result<String, AllocError>
+    ensures { IfOk result (λ words. IsQuestionText shown.entry.text.now
+        (draft_tree shown.entry.set.now) shown.entry.paths.now question (string_bytes words)) }
+{
+    let Some(asked) = question else {
+        let none = format!(in alloc; "its question")?;
+        return Ok(none);
+    };
+    let mine = access_text(alloc, shown, asked.x as usize, asked.a as usize)?;
+    let theirs = access_text(alloc, shown, asked.y as usize, asked.b as usize)?;
+    let words = format!(in alloc; "{mine} against {theirs}")?;
+    Ok(words)
 }
 
 // Whether the number that is told of a path is that of its accesses in bodies.
@@ -163,7 +177,9 @@ fn front_of(
 }
 
 // What does not hold of an entry, or of the levels.
-fn broken_rule(fault: CertFault) -> &'static str {
+fn broken_rule(fault: CertFault) -> &'static str
+    ensures { result.now ≡ broken_rule fault }
+{
     match fault {
         CertFault::PathCount => {
             "a certificate has for each node, which is a way through a program that commits, a level \
@@ -187,24 +203,40 @@ fn broken_rule(fault: CertFault) -> &'static str {
     }
 }
 
-// What the words of a fault end with: what does not hold, of an entry behind its question.
-fn rest_of(
-    alloc: Global,
-    shown: Shown<'_>,
-    certificate: &Certificate,
-    fault: CertFault,
-) -> Result<String, AllocError> {
-    let rule = broken_rule(fault);
+// The entry that a fault is about.
+fn entry_of(fault: CertFault) -> Option<usize>
+    ensures { result ≡ entry_of fault }
+{
     match fault {
         CertFault::NoSuchEntry(entry)
         | CertFault::EntryOrder(entry)
         | CertFault::BadCover(entry)
-        | CertFault::BadChain(entry) => {
-            let question = question_text(alloc, shown, certificate, entry)?;
-            format!(in alloc; "{question}: {rule}")
-        }
-        _ => format!(in alloc; "{rule}"),
+        | CertFault::BadChain(entry) => Some(entry),
+        CertFault::LevelFalls(..)
+        | CertFault::Dangerous(..)
+        | CertFault::PathCount
+        | CertFault::TooLarge
+        | CertFault::Memory => None,
     }
+}
+
+// The question of the entry that a fault is about, before what does not hold of it.
+fn asked_text(
+    alloc: Global,
+    shown: Shown<'_>,
+    certificate: &Certificate,
+    fault: CertFault,
+) -> Result<String, AllocError>
+    ensures { IfOk result (λ words. IsAskedText shown.entry.text.now
+        (draft_tree shown.entry.set.now) shown.entry.paths.now certificate.now (entry_of fault)
+        (string_bytes words)) }
+{
+    let Some(entry) = entry_of(fault) else {
+        return Ok(String::new(alloc));
+    };
+    let question = question_text(alloc, shown, asked_in(certificate, entry))?;
+    let words = format!(in alloc; "{question}: ")?;
+    Ok(words)
 }
 
 // A fault of a certificate of a set whose nodes are these.
@@ -214,12 +246,15 @@ fn sentence(
     certificate: &Certificate,
     fault: CertFault,
 ) -> Result<String, AllocError>
-    ensures { IfOk result (λ words. IsOfFault (draft_tree shown.entry.set.now)
-        shown.entry.paths.now certificate.now fault (string_bytes words)) }
+    ensures { IfOk result (λ words. IsOfFault shown.entry.text.now
+        (draft_tree shown.entry.set.now) shown.entry.paths.now certificate.now fault
+        (string_bytes words)) }
 {
     let front = front_of(alloc, shown, certificate, fault)?;
-    let rest = rest_of(alloc, shown, certificate, fault)?;
-    format!(in alloc; "{front}{rest}\n")
+    let asked = asked_text(alloc, shown, certificate, fault)?;
+    let rule = broken_rule(fault);
+    let words = format!(in alloc; "{front}{asked}{rule}\n")?;
+    Ok(words)
 }
 
 // The certificate that a part is; nothing where it is none.
@@ -244,7 +279,7 @@ pub fn certificate_words(
     part: &[u8],
     fault: CertFault,
 ) -> Result<Option<String>, AllocError>
-    ensures said { IfOk result (λ said. IfSome said (λ words. IsSaidOf part.now
+    ensures said { IfOk result (λ said. IfSome said (λ words. IsSaidOf text.now part.now
         (draft_tree set.now) (paths_of (draft_tree set.now)) fault (string_bytes words))) }
     ensures none { IfOk result (λ said. IfNone said (IsNoCertificate part.now)) }
 {

@@ -1,8 +1,9 @@
 //! Accesses pointed at in the text of a set.
 ghost use Rattle.std.specs.Prelude.{IfNone, IfOk, IfSome, string_bytes};
-ghost use Rattle.analysis_words.specs.Refusing.{HasNoAccess, PointsAtAccess};
+ghost use Rattle.analysis_words.specs.Nodes.{HasNoAccess};
+ghost use Rattle.analysis_words.specs.Refusing.{PointsAtAccess};
 
-use crate::shown::Shown;
+use crate::shown::{Shown, access_place};
 use std::alloc::{AllocError, Global};
 use text_places::point_out;
 
@@ -21,15 +22,9 @@ pub fn point_at_access(
     ensures none { IfOk result (λ said. IfNone said
         (HasNoAccess shown.entry.text.now shown.entry.paths.now node access)) }
 {
-    let Some(path) = shown.paths.get(node) else {
+    let Some(place) = access_place(shown, node, access) else {
         return Ok(None);
     };
-    let Some(access) = path.accesses.as_slice().get(access) else {
-        return Ok(None);
-    };
-    let Some(at) = shown.text.statement_place(path.program, access.place) else {
-        return Ok(None);
-    };
-    let words = point_out(alloc, shown.text.bytes(), at, sentence)?;
+    let words = point_out(alloc, shown.text.bytes(), place, sentence)?;
     Ok(Some(words))
 }

@@ -1,7 +1,7 @@
 //! Nodes and their accesses, as they stand in the text of a set.
-ghost use Rattle.std.specs.Prelude.{◌≡◌, IfOk, flat_map, string_bytes};
+ghost use Rattle.std.specs.Prelude.{◌≡◌, IfNone, IfOk, IfSome, flat_map, string_bytes};
 ghost use Rattle.prog_tree.specs.Tree.{draft_tree};
-ghost use Rattle.analysis_words.specs.Nodes.{access_of, branches_text, letter_of, node_name, turns_by, turns_text};
+ghost use Rattle.analysis_words.specs.Nodes.{access_of, branches_text, is_in_body, letter_of, node_name, turns_by, turns_text, HasNoAccess, IsAccessPlace, IsAccessText, IsInOneLine};
 
 use crate::limits::MAX_STATEMENT;
 use fault_words::program_name;
@@ -21,21 +21,32 @@ fn ends_statement(byte: u8) -> bool {
     byte == b';' || byte == b'{' || byte == b'\n'
 }
 
-// Bytes in one line, with a space in place of each run of blanks.
-fn in_one_line(alloc: Global, bytes: &[u8]) -> Result<String, AllocError> {
+// The words of bytes, with a space in place of each run of blanks.
+fn spaced_words(alloc: Global, bytes: &[u8]) -> Result<String, AllocError> {
     let mut line = String::new(alloc);
     for word in as_text(bytes).split_ascii_whitespace() {
         if !line.is_empty() {
             line.push(' ')?;
         }
-        line.push_str(&visible_text(alloc, word.as_bytes())?)?;
+        line.push_str(word)?;
     }
+    Ok(line)
+}
+
+// The same in one line, as a terminal may show it.
+fn in_one_line(alloc: Global, bytes: &[u8]) -> Result<String, AllocError>
+    ensures { IfOk result (λ line. IsInOneLine (string_bytes line)) }
+{
+    let words = spaced_words(alloc, bytes)?;
+    let line = visible_text(alloc, words.as_bytes())?;
     Ok(line)
 }
 
 // The statement at a place of a text without comments, to its `;`, to the `{` of its body, or to
 // the end of its line.
-fn statement_at(alloc: Global, plain: &[u8], place: usize) -> Result<String, AllocError> {
+fn statement_at(alloc: Global, plain: &[u8], place: usize) -> Result<String, AllocError>
+    ensures { IfOk result (λ statement. IsInOneLine (string_bytes statement)) }
+{
     let rest = behind(plain, place);
     let len = rest
         .iter()
@@ -45,7 +56,9 @@ fn statement_at(alloc: Global, plain: &[u8], place: usize) -> Result<String, All
 }
 
 /// The cell or the range that the statement at a place of a set's text names, with its table.
-pub fn cells_at(alloc: Global, text: &SetText<'_>, place: usize) -> Result<String, AllocError> {
+pub fn cells_at(alloc: Global, text: &SetText<'_>, place: usize) -> Result<String, AllocError>
+    ensures { IfOk result (λ cells. IsInOneLine (string_bytes cells)) }
+{
     let rest = behind(text.plain(), place);
     let len = rest.iter().take_while(|byte| **byte != b']').count();
     let front = before(rest, len.saturating_add(1));
@@ -127,15 +140,25 @@ pub fn turns_text(shown: Shown<'_>, node: usize, access: usize) -> &'static str
 }
 
 /// Whether an access of a node stands in the body of an `each`.
-pub fn is_in_body(shown: Shown<'_>, node: usize, access: usize) -> bool {
-    access_of(shown, node, access).is_some_and(|access| !access.sure)
+pub fn is_in_body(shown: Shown<'_>, node: usize, access: usize) -> bool
+    ensures { result ≡ is_in_body shown.entry.paths.now node access }
+{
+    match access_of(shown, node, access) {
+        Some(access) => !access.sure,
+        None => false,
+    }
 }
 
 /// Where the statement of an access stands.
-pub fn access_place(shown: Shown<'_>, node: usize, access: usize) -> Option<usize> {
-    let program = shown.paths.get(node)?.program;
-    let access = access_of(shown, node, access)?;
-    shown.text.statement_place(program, access.place)
+pub fn access_place(shown: Shown<'_>, node: usize, access: usize) -> Option<usize>
+    ensures found { IfSome result
+        (IsAccessPlace shown.entry.text.now shown.entry.paths.now node access) }
+    ensures none { IfNone result
+        (HasNoAccess shown.entry.text.now shown.entry.paths.now node access) }
+{
+    let path = shown.paths.get(node)?;
+    let access = path.accesses.as_slice().get(access)?;
+    shown.text.statement_place(path.program, access.place)
 }
 
 /// An access of a node, with its statement and the line of that.
@@ -144,14 +167,17 @@ pub fn access_text(
     shown: Shown<'_>,
     node: usize,
     access: usize,
-) -> Result<String, AllocError> {
+) -> Result<String, AllocError>
+    ensures { IfOk result (λ words. IsAccessText shown.entry.text.now
+        (draft_tree shown.entry.set.now) shown.entry.paths.now node access (string_bytes words)) }
+{
     let name = node_name(alloc, shown, node)?;
-    match access_place(shown, node, access) {
-        Some(place) => {
-            let statement = statement_at(alloc, shown.text.plain(), place)?;
-            let line = line_number(shown.text.bytes(), place);
-            format!(in alloc; "`{statement}` of {name} in line {line}")
-        }
-        None => format!(in alloc; "access {access} of {name}, which it has not"),
-    }
+    let Some(place) = access_place(shown, node, access) else {
+        let missing = format!(in alloc; "access {access} of {name}, which it has not")?;
+        return Ok(missing);
+    };
+    let statement = statement_at(alloc, shown.text.plain(), place)?;
+    let line = line_number(shown.text.bytes(), place);
+    let words = format!(in alloc; "`{statement}` of {name} in line {line}")?;
+    Ok(words)
 }

@@ -1,5 +1,5 @@
 use Rattle.std.proofs.Common.{inl, inr}
-use Rattle.analysis_words.specs.Refusing.{HasNoAccess}
+use Rattle.analysis_words.specs.Nodes.{HasNoAccess}
 use Rattle.analysis_words.proofs.Unsaid.{unsaid}
 use Rattle.analysis_words.proofs.edges.question_words.Goals as goal
 
