@@ -1,8 +1,10 @@
 -- Blocks with keeps behind their marked statements.
-use Rattle.std.proofs.Common.{◌≡◌, ℕ, ◌+◌, Bool, true, false, List, [], ◌∷◌, ◌++◌, map, refl, sym, ap, ◌∙◌, arith}
+use Rattle.std.proofs.Common.{◌≡◌, ℕ, ◌+◌, Bool, true, false, List, [], ◌∷◌, ◌++◌, All, map, refl, sym, ap, ◌∙◌, arith, get_or, option_map}
 use Rattle.std.specs.Prelude.{if◌then◌else◌}
+use Rattle.std.proofs.lemmas.Option.{slice_get-get_or, slice_get-map}
 use Rattle.prog_tree.specs.Syntax.{StatementTree, BlockTree, BlockEnd, Then, Branch, Each, StmtTree, Plain, Fork, Loop, block_from, ProgramTree, DraftTree}
-use Rattle.prog_tree.specs.Tree.{test_tree, stmt_tree, with_stmt, with_stmts, stmts_tree, block_tree}
+use Rattle.prog_tree.specs.Tree.{test_tree, stmt_tree, with_stmt, with_stmts, stmts_tree, block_tree, program_tree, draft_tree}
+use Rattle.prog_tree.specs.declared.program.Draft.{Draft}
 use Rattle.prog_tree.specs.declared.expr.Test.{Test}
 use Rattle.prog_tree.specs.declared.stmt.Block.{Block}
 use Rattle.prog_tree.specs.declared.stmt.Listing.{Listing}
@@ -10,9 +12,10 @@ use Rattle.prog_tree.specs.declared.stmt.Stmt.{Stmt}
 use Rattle.prog_tree.specs.declared.stmt.Stmt as t
 use Rattle.prog_tree.proofs.TreeLemmas.{fork_tree, loop_tree}
 use Rattle.prog_check.specs.Paths.{statement_count}
+use Rattle.prog_check.specs.Sound.{IsSound}
 use Rattle.repair_laws.specs.Materialised.{in_front}
 use Rattle.repair_laws.specs.Promoted.{keep_of, with_keeps, all_with_keeps, promoted_by}
-use Rattle.si_repair.specs.Promoting.{cell_read_by, count_by, with_keeps_in}
+use Rattle.si_repair.specs.Promoting.{cell_read_by, count_by, with_keeps_in, HasFewStatements}
 
 -- nothing in front, whatever is marked
 nothing_in_front : (b : Bool) (rest : BlockTree) → in_front (if b then [] else []) rest ≡ rest
@@ -110,3 +113,10 @@ keeps-fork marked number stmt x a b is = ap (with_keeps_in marked number) (ap st
 
 pub count-loop : (stmt : Stmt) (l : Listing) (body : Block) → stmt ≡ t.Each l body → count_by (stmt_tree stmt) ≡ 1 + statement_count (block_tree body)
 count-loop stmt l body is = ap count_by (ap stmt_tree is ∙ loop_tree l body)
+
+-- ---- programs of a sound draft
+
+pub few_statements : (draft : Draft) → IsSound (draft_tree draft) → All HasFewStatements draft.programs.items
+few_statements draft sound k d inside =
+    let ps = draft.programs.items in
+    (sound.programs k (program_tree (get_or ps k d)) (slice_get-map program_tree ps k ∙ ap (option_map program_tree) (slice_get-get_or ps k d inside))).few_statements

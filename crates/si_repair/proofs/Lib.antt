@@ -20,4 +20,4 @@ pub mod Fewer
 pub mod Meetings
 pub mod Behind
 pub mod Marks
-pub mod Turning
+pub mod Covering

@@ -9,6 +9,7 @@ use Rattle.prog_tree.specs.declared.table.Arity.{Arity}
 use Rattle.prog_tree.specs.declared.table.TableDecl.{TableDecl}
 use Rattle.prog_tree.specs.Syntax.{Name, ListingTree, StmtTree, BlockTree, BlockEnd, Then, Branch, Each, Plain, Fork, Loop, ProgramTree, DraftTree}
 use Rattle.prog_check.specs.declared.fault.CheckFault.{CheckFault}
+use Rattle.prog_check.specs.declared.fault.CheckFault.TheVariants as check
 use Rattle.prog_check.specs.declared.fault.Place.{Place}
 use Rattle.prog_check.specs.declared.fault.Place.TheVariants.{Program, Statement}
 use Rattle.prog_check.specs.declared.path.Path.{Path}
@@ -19,7 +20,7 @@ use Rattle.prog_check.specs.Sound.{IsSound, IsSoundProgram}
 use Rattle.prog_check.specs.Uses.{new_name, with_new, with_inner, is_abort, used_names_by, new_name_by, used_table_by, overwrites_by}
 use Rattle.prog_check.proofs.CountLemmas.{many_accesses}
 use Rattle.repair_laws.specs.Refusals.{IsTooLarge}
-use Rattle.repair_laws.specs.Sizes.{IsSizeFault}
+use Rattle.repair_laws.specs.Sizes.{IsSizeFault, IsOfSizeAlone}
 
 -- no fault, or one of something else than size
 abbrev IsNotOfSize : Option CheckFault → Type 0
@@ -199,3 +200,21 @@ sound_small draft sound = record {
   where
     from_zero : (n : ℕ) → n ≡ 0 + n
     from_zero n = omega arith
+
+-- a draft whose fault is of size alone is too large
+pub size_fault : (draft : DraftTree) (found : CheckFault) → first_fault draft ≡ Some found → IsOfSizeAlone (first_fault draft) → IsTooLarge draft
+size_fault draft found is alone = go found is (subst (λ (o : Option CheckFault). IsOfSizeAlone o) is alone)
+  where
+    go : (f : CheckFault) → first_fault draft ≡ Some f → IsSizeFault f → IsTooLarge draft
+    go (check.TooMany place) e h = (place, e)
+    go (check.DuplicateTable place) e h = absurd h
+    go (check.DuplicateProgram place) e h = absurd h
+    go (check.DuplicateParameter place) e h = absurd h
+    go (check.UnknownTable place) e h = absurd h
+    go (check.UnknownName place) e h = absurd h
+    go (check.NameTaken place) e h = absurd h
+    go (check.WrongArity place) e h = absurd h
+    go (check.GrowTableChanged place) e h = absurd h
+    go (check.AfterAbort place) e h = absurd h
+    go (check.TooManyPaths place) e h = absurd h
+    go check.Memory e h = absurd h

@@ -3,34 +3,29 @@ use Rattle.std.proofs.Common.{◌≡◌, ℕ, ◌+◌, ◌-◌, min, ◌<◌, �
 use Rattle.std.specs.Prelude.{Option, Some, None, slice_get, All}
 use Rattle.std.proofs.Math.Nat.{min-le_right}
 use Rattle.std.proofs.lemmas.Bool.{true≢false, cases_lt}
-use Rattle.std.proofs.lemmas.List.{map-append, append-nil, length-append, length-map, length-take, length-take-le, take_more, take_all, take-map, take-append-drop}
+use Rattle.std.proofs.lemmas.List.{map-append, append-nil, length-append, length-map, length-take, length-take-le, take_more, take_all, take-map, take-take, take-append-drop}
 use Rattle.std.proofs.lemmas.List.Elements.{All-head, All-tail, All-push, All-nil, All-take}
 use Rattle.std.proofs.lemmas.Option.{slice_get_within}
 use Rattle.prog_tree.specs.Syntax.{Name, ProgramTree, DraftTree}
-use Rattle.prog_check.specs.declared.fault.CheckFault.{CheckFault}
-use Rattle.prog_check.specs.declared.fault.CheckFault.TheVariants as check
-use Rattle.prog_check.specs.declared.fault.Place.{Place}
 use Rattle.prog_check.specs.declared.path.Path.{Path}
-use Rattle.prog_check.specs.Faults.{table_names, first_fault}
+use Rattle.prog_check.specs.Faults.{table_names}
 use Rattle.prog_check.specs.Names.{is_among}
 use Rattle.prog_check.specs.Paths.{paths_of}
 use Rattle.prog_check.specs.Sound.{IsSound}
 use Rattle.repair_laws.specs.declared.plan.Pair.{Pair}
 use Rattle.repair_laws.specs.Keys.{IsKeyOf, IsLeastForced}
 use Rattle.repair_laws.specs.Materialised.{Met, mat_name, plain_table, IsLeastFree, AreLeastFree, params_of, HasKey, AreMet, all_with_front, materialised_by, IsMaterialised}
-use Rattle.repair_laws.specs.Refusals.{IsTooLarge, IsTooLargeBy, Reason, StopsMaterialising, IsFirstStop}
+use Rattle.repair_laws.specs.Refusals.{IsTooLarge, IsTooLargeBy, Reason, StopsMaterialising}
 use Rattle.repair_laws.specs.Refusals as why
-use Rattle.repair_laws.specs.Sizes.{IsSizeFault, IsOfSizeAlone}
 use Rattle.repair_laws.proofs.Materialising.{law_of_materialising}
 use Rattle.repair_laws.proofs.RightLaws.{law_of_repair_sizes}
-use Rattle.si_repair.specs.declared.repairs.fault.RepairFault.{RepairFault}
 use Rattle.si_repair.specs.declared.repairs.fault.RepairFault.TheVariants as fault
 use Rattle.si_repair.specs.Carrying.{met_of, all_met, new_names, taken_names}
 use Rattle.si_repair.specs.declared.repairs.keeps.Meeting.{Meeting}
-use Rattle.si_repair.specs.Checking.{IsRefused, IsRefusedAt}
+use Rattle.si_repair.specs.Checking.{IsRefused}
 use Rattle.si_repair.specs.Repairing.{IsSafeRepair, StopsNowhere, IsRepairFault}
 use Rattle.si_repair.proofs.Fewer.{fewer_met_small}
-use Rattle.si_repair.proofs.Limits.{IsSmall, small_fits, sound_small}
+use Rattle.si_repair.proofs.Limits.{IsSmall, size_fault, small_fits, sound_small}
 use Rattle.si_repair.proofs.Repaired.{safe_repair}
 
 -- ---- one name and one key
@@ -135,18 +130,12 @@ small_whole draft plan result sound (made, met, is) k less (part, own, large) =
     let small = fewer_met_small draft firsts (drop (k + 1) made) (subst (λ (d : DraftTree). IsSmall d) whole (sound_small result sound)) in
     small_fits (materialised_by draft firsts) small (subst (λ (d : DraftTree). IsTooLarge d) same large)
 
-take-fewer : (n k : ℕ) (plan : List Pair) → k ≤ n → take k (take n plan) ≡ take k plan
-take-fewer n zero plan less = refl
-take-fewer zero (suc k) plan less = absurd (omega (arith, less))
-take-fewer (suc n) (suc k) [] less = refl
-take-fewer (suc n) (suc k) (x ∷ xs) less = ap (λ (l : List Pair). x ∷ l) (take-fewer n k xs (omega (arith, less)))
-
 -- the same of the first pairs alone
 pub small_first : (draft : DraftTree) (plan : List Pair) (n : ℕ) (made : List Met) → AreMet draft (take n plan) made → IsSound (materialised_by draft made) → n ≤ length plan → AreSmall draft plan n
 small_first draft plan n made met sound inside k less (part, own, large) =
     let few = length-take-le n plan inside in
     small_whole draft (take n plan) (materialised_by draft made) sound (made, met, refl) k (omega (arith, less, few))
-    (part, subst (λ (l : List Pair). IsMaterialised draft l part) (sym (take-fewer n (k + 1) plan (omega (arith, less)))) own, large)
+    (part, subst (λ (l : List Pair). IsMaterialised draft l part) (sym (take-take (k + 1) n plan (omega (arith, less)))) own, large)
 
 -- where none is, nothing stops the plan
 pub stops_nowhere : (draft : DraftTree) (plan : List Pair) → AreSmall draft plan (length plan) → StopsNowhere (StopsMaterialising draft plan) plan
@@ -155,36 +144,20 @@ stops_nowhere draft plan small n pair why.UnknownKey at stops = stops
 stops_nowhere draft plan small n pair why.BodyRead at stops = stops
 stops_nowhere draft plan small n pair why.TooLarge at stops = small n (slice_get_within plan n pair at) stops
 
-of-size : (f : CheckFault) → IsSizeFault f → (place : Place) × (f ≡ check.TooMany place)
-of-size (check.TooMany place) h = (place, refl)
-of-size (check.DuplicateTable place) h = absurd h
-of-size (check.DuplicateProgram place) h = absurd h
-of-size (check.DuplicateParameter place) h = absurd h
-of-size (check.UnknownTable place) h = absurd h
-of-size (check.UnknownName place) h = absurd h
-of-size (check.NameTaken place) h = absurd h
-of-size (check.WrongArity place) h = absurd h
-of-size (check.GrowTableChanged place) h = absurd h
-of-size (check.AfterAbort place) h = absurd h
-of-size (check.TooManyPaths place) h = absurd h
-of-size check.Memory h = absurd h
+-- what the first pairs make is refused for its size
+too-large : (draft : DraftTree) (plan : List Pair) (result : DraftTree) → IsSound draft → IsMaterialised draft plan result → IsRefused result → IsTooLarge result
+too-large draft plan result sound made (found, is, known) = size_fault result found is ((law_of_repair_sizes draft plan result sound).0 made)
 
 -- a refusal names the first pair that stops the plan
 pub refused_at : (draft : DraftTree) (plan : List Pair) (place : ℕ) (pair : Pair) (result : DraftTree)
     → IsSound draft → slice_get plan place ≡ Some pair → IsMaterialised draft (take (place + 1) plan) result → AreSmall draft plan place
-    → (f : RepairFault) → IsRefusedAt result pair f → IsRepairFault (StopsMaterialising draft plan) plan f
-refused_at draft plan place pair result sound at made small (fault.RangeRead p) h = absurd h
-refused_at draft plan place pair result sound at made small (fault.UnknownKey p) h = absurd h
-refused_at draft plan place pair result sound at made small (fault.BodyRead p) h = absurd h
-refused_at draft plan place pair result sound at made small fault.Memory h = tt
-refused_at draft plan place pair result sound at made small (fault.TooMany p) h =
-    let size = subst IsOfSizeAlone h.1.1 ((law_of_repair_sizes draft (take (place + 1) plan) result sound).0 made) in
-    let many = of-size h.1.0 size in record {
-      place = place;
-      at = at ∙ ap Some (sym h.0);
-      stops = (result, made, (many.0, h.1.1 ∙ ap Some many.1));
-      first = first;
-    }
+    → IsRefused result → IsRepairFault (StopsMaterialising draft plan) plan (fault.TooMany pair)
+refused_at draft plan place pair result sound at made small refused = record {
+  place = place;
+  at = at;
+  stops = (result, made, too-large draft (take (place + 1) plan) result sound made refused);
+  first = first;
+}
   where
     first : (n : ℕ) (earlier : Pair) (reason : Reason) → n < place → slice_get plan n ≡ Some earlier → StopsMaterialising draft plan n earlier reason → ⊥
     first n earlier why.RangeRead less here stops = stops
@@ -213,17 +186,16 @@ met_all draft items plan n made e past met =
 
 -- pairs that are met make a draft with a fault only where there are some
 pub some_met : (draft : DraftTree) (plan : List Pair) (made : List Met) → IsSound draft → AreMet draft plan made → IsRefused (materialised_by draft made) → 0 < length made
-some_met draft plan [] sound met (f, found, known) =
-    let size = subst IsOfSizeAlone found ((law_of_repair_sizes draft plan (materialised_by draft []) sound).0 ([], met, refl)) in
-    let many = of-size f size in
-    absurd (small_fits draft (sound_small draft sound) (subst IsTooLarge (nothing_made draft) (many.0, found ∙ ap Some many.1)))
+some_met draft plan [] sound met refused =
+    let large = too-large draft plan (materialised_by draft []) sound ([], met, refl) refused in
+    absurd (small_fits draft (sound_small draft sound) (subst IsTooLarge (nothing_made draft) large))
 some_met draft plan (x ∷ xs) sound met refused = omega arith
 
 -- the first of the pairs that were met are the plan's first
 pub met_firsts : (draft : DraftTree) (plan : List Pair) (made : List Meeting) (n : ℕ) → AreMet draft (take (length made) plan) (all_met made) → n ≤ length made → AreMet draft (take n plan) (all_met (take n made))
 met_firsts draft plan made n met inside =
     subst (AreMet draft (take n plan)) (take-map met_of n made)
-    (subst (λ (l : List Pair). AreMet draft l (take n (all_met made))) (take-fewer (length made) n plan inside) (met_first draft (take (length made) plan) (all_met made) n met))
+    (subst (λ (l : List Pair). AreMet draft l (take n (all_met made))) (take-take n (length made) plan inside) (met_first draft (take (length made) plan) (all_met made) n met))
 
 -- no more pairs are met than the plan has
 pub few_met : (draft : DraftTree) (plan : List Pair) (made : List Meeting) → AreMet draft (take (length made) plan) (all_met made) → length made ≤ length plan

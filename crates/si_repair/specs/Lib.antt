@@ -1,5 +1,6 @@
 pub mod Carrying
 pub mod Checking
+pub mod Covering
 pub mod Exposing
 pub mod Findings
 pub mod Forcing

@@ -1,18 +1,17 @@
 -- Marked statements, and what one pair of a plan adds to them.
-use Rattle.std.specs.Prelude.{◌≡◌, ◌↔◌, ℕ, ◌+◌, ◌≤◌, ◌⊎◌, ◌&&◌, ◌==◌, Bool, true, List, take, Option, Some, None, slice_get}
+use Rattle.std.specs.Prelude.{◌≡◌, ◌↔◌, ℕ, ◌+◌, ◌≤◌, ◌⊎◌, ◌&&◌, ◌==◌, Bool, true, List, Option, Some, None, slice_get}
 use Rattle.std.specs.List.{list_any}
 use Rattle.prog_tree.specs.Syntax.{Name, KeyTree, StmtTree, Plain, Fork, Loop, ProgramTree, DraftTree}
 use Rattle.prog_tree.specs.Tree.{block_tree}
 use Rattle.prog_tree.specs.declared.program.Program.{Program}
 use Rattle.prog_check.specs.declared.path.Access.{Access}
 use Rattle.prog_check.specs.declared.path.Path.{Path}
-use Rattle.prog_check.specs.Paths.{statement_count, paths_of}
+use Rattle.prog_check.specs.Paths.{statement_count}
 use Rattle.prog_paths.specs.declared.accesses.places.Question.{Question as Asked}
 use Rattle.repair_laws.specs.declared.plan.Pair.{Pair}
 use Rattle.repair_laws.specs.Keys.{ExposedOf}
-use Rattle.repair_laws.specs.Promoted.{cell_read, with_keeps, MarksExposed}
+use Rattle.repair_laws.specs.Promoted.{cell_read, with_keeps}
 use Rattle.repair_laws.specs.Refusals.{HasRangeRead, StopsAtKey, StopsAtBody}
-use Rattle.repair_laws.specs.Safety.{MayPromote}
 use Rattle.si_repair.specs.declared.repairs.fault.RepairFault.{RepairFault}
 use Rattle.si_repair.specs.declared.repairs.fault.RepairFault.TheVariants.{RangeRead, UnknownKey, BodyRead, TooMany, Memory}
 use Rattle.si_repair.specs.declared.repairs.marks.Mark.{Mark}
@@ -93,13 +92,3 @@ IsObstacleFault draft pair (UnknownKey p) = (p ≡ pair) × StopsAtKey draft pai
 IsObstacleFault draft pair (BodyRead p) = (p ≡ pair) × StopsAtBody draft pair
 IsObstacleFault draft pair (TooMany p) = ⊥
 IsObstacleFault draft pair Memory = Unit {0}
-
--- keeps cover the exposed reads of these pairs, whose statements are marked
-abbrev pub AreCovered : DraftTree → List Pair → (marked : ℕ → ℕ → Bool) → Type 0
-AreCovered draft pairs marked = MayPromote draft pairs × MarksExposed (paths_of draft) pairs marked
-
--- the marks of all pairs of a plan, or, where no keeps cover a pair, those of the pairs before it, and the fault of this one
-abbrev pub IsGathered : DraftTree → List Pair → (marked : ℕ → ℕ → Bool) → Option RepairFault → Type 0
-IsGathered draft plan marked None = AreCovered draft plan marked
-IsGathered draft plan marked (Some fault) =
-    (n : ℕ) × (pair : Pair) × (slice_get plan n ≡ Some pair) × AreCovered draft (take n plan) marked × IsObstacleFault draft pair fault

@@ -1,22 +1,22 @@
 //! The check of what a repair makes.
-ghost use Rattle.std.specs.Prelude.{IfErr, IfOk};
+ghost use Rattle.std.specs.Prelude.{◌≡◌, IfNone, IfOk, IfSome};
 ghost use Rattle.prog_tree.specs.Tree.{draft_tree};
-ghost use Rattle.si_repair.specs.Checking.{IsCheckedSet, IsRefusedAt};
+ghost use Rattle.prog_check.specs.Sound.{IsSound};
+ghost use Rattle.si_repair.specs.Checking.{IsRefused};
 
-use crate::repairs::fault::RepairFault;
 use prog_check::{CheckFault, ProgramSet, check};
 use prog_tree::Draft;
-use repair_laws::Pair;
-use std::alloc::Global;
+use std::alloc::{AllocError, Global};
 
-/// The set of a repaired draft, or that this pair made it too large.
-pub(crate) fn checked(alloc: Global, draft: Draft, pair: Pair) -> Result<ProgramSet, RepairFault>
-    ensures ok { IfOk result (IsCheckedSet draft) }
-    ensures refused { IfErr result (IsRefusedAt (draft_tree draft) pair) }
+/// The set of a repaired draft, or none where that breaks a limit.
+pub(crate) fn checked(alloc: Global, draft: Draft) -> Result<Option<ProgramSet>, AllocError>
+    ensures made { IfOk result (λ o. IfSome o (λ s. draft_tree s ≡ draft_tree draft)) }
+    ensures sound { IfOk result (λ o. IfSome o (λ s. IsSound (draft_tree s))) }
+    ensures refused { IfOk result (λ o. IfNone o (IsRefused (draft_tree draft))) }
 {
     match check(alloc, draft) {
-        Ok(set) => Ok(set),
-        Err(CheckFault::Memory) => Err(RepairFault::Memory),
-        Err(_) => Err(RepairFault::TooMany(pair)),
+        Ok(set) => Ok(Some(set)),
+        Err(CheckFault::Memory) => Err(AllocError),
+        Err(_) => Ok(None),
     }
 }

@@ -12,12 +12,13 @@ ghost use Rattle.si_repair.specs.Repairing.{IsSafeRepair, StopsNowhere, IsRepair
 ghost use Rattle.si_repair.specs.declared.repairs.fault.RepairFault.TheVariants.{TooMany};
 
 use crate::plans::Plan;
+use crate::repairs::checked::checked;
 use crate::repairs::fault::RepairFault;
 use crate::repairs::front::materialised;
 use crate::repairs::keeps::Meeting;
 use crate::repairs::key::key_of;
 use crate::repairs::names::free_name;
-use prog_check::{CheckFault, MAX_TABLES, Path, ProgramSet, check};
+use prog_check::{MAX_TABLES, Path, ProgramSet};
 use prog_paths::paths;
 use prog_tree::Draft;
 use repair_laws::Pair;
@@ -93,11 +94,9 @@ fn with_meetings(
     ensures refused { IfOk result (λ o. IfNone o
         (IsRefused (materialised_by (draft_tree set.now) (all_met made.now)))) }
 {
-    match check(alloc, materialised(alloc, set.draft(), made)?) {
-        Ok(repaired) => Ok(Some(repaired)),
-        Err(CheckFault::Memory) => Err(AllocError),
-        Err(_) => Ok(None),
-    }
+    let draft = set.draft();
+    let whole = materialised(alloc, draft, made)?;
+    checked(alloc, whole)
 }
 
 /// Whether the set with what the pairs make breaks no limit.

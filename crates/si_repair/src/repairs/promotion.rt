@@ -1,12 +1,15 @@
 //! Repairs by promotion: a program keeps the cell that it read.
-ghost use Rattle.std.specs.Prelude.{◌≡◌, IfOk, OnOk, IfErr, None};
+ghost use Rattle.std.specs.Prelude.{◌≡◌, ◌<◌, true, false, All, IfErr, IfNone, IfOk, IfSome, OnOk, length, take};
 ghost use Rattle.prog_tree.specs.Tree.{draft_tree};
 ghost use Rattle.prog_check.specs.Paths.{paths_of};
-ghost use Rattle.repair_laws.specs.Promoted.{IsPromoted};
+ghost use Rattle.prog_check.specs.Sound.{IsSound};
+ghost use Rattle.repair_laws.specs.Promoted.{IsPromoted, MarksExposed};
 ghost use Rattle.repair_laws.specs.Refusals.{IsCoverable, StopsPromotion};
 ghost use Rattle.si_repair.specs.Exposing.{AreExposed};
-ghost use Rattle.si_repair.specs.Promoting.{is_marked, IsObstacleFault, AddsReads, IsGathered};
+ghost use Rattle.si_repair.specs.Covering.{pairs_of, AreCovered, AreGathered, HasItsQuestions, IsCovered, IsRefusedWith, IsSoundWith};
+ghost use Rattle.si_repair.specs.Promoting.{is_marked, IsObstacleFault};
 ghost use Rattle.si_repair.specs.Repairing.{IsSafeRepair, StopsNowhere, IsRepairFault};
+ghost use Rattle.si_repair.specs.declared.repairs.fault.RepairFault.TheVariants.{TooMany};
 
 use crate::plans::Plan;
 use crate::repairs::behind::promoted_draft;
@@ -15,7 +18,7 @@ use crate::repairs::exposed::exposed_questions;
 use crate::repairs::fault::RepairFault;
 use crate::repairs::marks::{Mark, with_reads};
 use crate::repairs::reads::{Obstacle, first_obstacle};
-use prog_check::{Path, ProgramSet, check};
+use prog_check::{Path, ProgramSet};
 use prog_paths::{Question, paths};
 use prog_tree::Draft;
 use repair_laws::Pair;
@@ -59,79 +62,131 @@ fn covered_questions(
     Ok(questions)
 }
 
-/// The marks with the exposed reads of a pair, if keeps cover them all.
-fn with_pair(
-    alloc: Global,
-    draft: &Draft,
-    paths: &[Path],
+/// A pair whose exposed reads keeps cover, with the questions of these reads.
+#[derive(Drop)]
+struct Covered {
     pair: Pair,
-    marks: Vec<Mark>,
-) -> Result<Vec<Mark>, RepairFault>
-    requires { paths.now ≡ paths_of (draft_tree draft.now) }
-    ensures reads { IfOk result (λ more. AddsReads (paths_of (draft_tree draft.now)) pair
-        (is_marked marks.items) (is_marked more.items)) }
-    ensures passed { OnOk result (IsCoverable (draft_tree draft.now) pair) }
-    ensures refused { IfErr result (λ fault. IsObstacleFault (draft_tree draft.now) pair fault) }
-{
-    let questions = covered_questions(alloc, draft, paths, pair)?;
-    Ok(with_reads(paths, pair, &questions, marks)?)
+    questions: Vec<Question>,
 }
 
-/// The marks of the first pairs of a plan, and the fault of the next one, where keeps do not cover
-/// its reads.
+/// The first pairs of a plan, whose reads keeps cover, and the fault of the next one, where they
+/// do not.
 #[derive(Drop)]
-struct MarkedReads {
-    marks: Vec<Mark>,
+struct CoveredPairs {
+    covered: Vec<Covered>,
     fault: Option<RepairFault>,
 }
 
-/// The marks of the pairs up to the first that no keeps cover, or of all.
-fn gathered(
+/// The pairs up to the first that no keeps cover, or all.
+fn covered_pairs(
     alloc: Global,
     draft: &Draft,
     paths: &[Path],
     pairs: &[Pair],
-) -> Result<MarkedReads, AllocError>
+) -> Result<CoveredPairs, AllocError>
     requires { paths.now ≡ paths_of (draft_tree draft.now) }
-    ensures { IfOk result (λ all. IsGathered (draft_tree draft.now) pairs.now
-        (is_marked all.marks.items) all.fault) }
+    ensures { IfOk result (λ all. AreGathered (draft_tree draft.now) pairs.now
+        all.covered.items all.fault) }
 {
-    let mut marks = Vec::new(alloc);
+    let mut covered = Vec::new(alloc);
     for pair in pairs {
         match covered_questions(alloc, draft, paths, *pair) {
-            Ok(questions) => marks = with_reads(paths, *pair, &questions, marks)?,
-            Err(fault) => return Ok(MarkedReads {
-                marks,
+            Ok(questions) => covered.push(Covered {
+                pair: *pair,
+                questions,
+            })?,
+            Err(fault) => return Ok(CoveredPairs {
+                covered,
                 fault: Some(fault),
             }),
         }
     }
-    Ok(MarkedReads { marks, fault: None })
+    Ok(CoveredPairs {
+        covered,
+        fault: None,
+    })
 }
 
-/// The same as `promote`, made and checked anew with each pair, which finds the first pair that
-/// stops the plan.
-fn pair_by_pair(alloc: Global, set: &ProgramSet, plan: &Plan) -> Result<ProgramSet, RepairFault>
-    ensures made { IfOk result
-        (λ s. IsPromoted (draft_tree set.now) plan.now.pairs (draft_tree s)) }
-    ensures safe { IfOk result
-        (λ s. IsSafeRepair (draft_tree set.now) plan.now.pairs (draft_tree s)) }
-    ensures goes { OnOk result (StopsNowhere
-        (StopsPromotion (draft_tree set.now) plan.now.pairs) plan.now.pairs) }
-    ensures refused { IfErr result (λ fault. IsRepairFault
-        (StopsPromotion (draft_tree set.now) plan.now.pairs) plan.now.pairs fault) }
+/// The marks of the exposed reads of these pairs.
+fn marks_of(alloc: Global, paths: &[Path], covered: &[Covered]) -> Result<Vec<Mark>, AllocError>
+    requires { All (HasItsQuestions paths.now) covered.now }
+    ensures { IfOk result (λ marks.
+        MarksExposed paths.now (pairs_of covered.now) (is_marked marks.items)) }
+{
+    let mut marks = Vec::new(alloc);
+    for each in covered {
+        marks = with_reads(paths, each.pair, &each.questions, marks)?;
+    }
+    Ok(marks)
+}
+
+/// The set with keeps for these pairs, or none where that breaks a limit.
+fn with_keeps(
+    alloc: Global,
+    set: &ProgramSet,
+    paths: &[Path],
+    covered: &[Covered],
+) -> Result<Option<ProgramSet>, AllocError>
+    requires paths { paths.now ≡ paths_of (draft_tree set.now) }
+    requires covered { All (IsCovered (draft_tree set.now)) covered.now }
+    ensures made { IfOk result (λ o. IfSome o
+        (λ s. IsPromoted (draft_tree set.now) (pairs_of covered.now) (draft_tree s))) }
+    ensures sound { IfOk result (λ o. IfSome o (λ s. IsSound (draft_tree s))) }
+    ensures refused { IfOk result (λ o. IfNone o
+        (IsRefusedWith (draft_tree set.now) (pairs_of covered.now))) }
 {
     let draft = set.draft();
-    let paths = paths(alloc, set)?;
-    let mut marks = Vec::new(alloc);
-    let mut promoted = set.copy()?;
-    for pair in plan.pairs.as_slice() {
-        marks = with_pair(alloc, draft, &paths, *pair, marks)?;
-        // Each draft is made of the first one, whose statements the marks number.
-        let next = promoted_draft(alloc, draft, &marks)?;
-        promoted = checked(alloc, next, *pair)?;
+    let marks = marks_of(alloc, paths, covered)?;
+    let whole = promoted_draft(alloc, draft, &marks)?;
+    checked(alloc, whole)
+}
+
+/// Whether the set with keeps for these pairs breaks no limit.
+fn fit(
+    alloc: Global,
+    set: &ProgramSet,
+    paths: &[Path],
+    covered: &[Covered],
+) -> Result<bool, AllocError>
+    requires paths { paths.now ≡ paths_of (draft_tree set.now) }
+    requires covered { All (IsCovered (draft_tree set.now)) covered.now }
+    ensures sound { IfOk result (λ all_fit. all_fit ≡ true
+        → IsSoundWith (draft_tree set.now) (pairs_of covered.now)) }
+    ensures refused { IfOk result (λ all_fit. all_fit ≡ false
+        → IsRefusedWith (draft_tree set.now) (pairs_of covered.now)) }
+{
+    let made = with_keeps(alloc, set, paths, covered)?;
+    Ok(made.is_some())
+}
+
+/// The first of the pairs with which what they make is too large, where with all of them it is.
+fn first_stop(
+    alloc: Global,
+    set: &ProgramSet,
+    paths: &[Path],
+    pairs: &[Pair],
+    covered: &[Covered],
+) -> Result<Pair, AllocError>
+    requires paths { paths.now ≡ paths_of (draft_tree set.now) }
+    requires covered { AreCovered (draft_tree set.now)
+        (take (length covered.now) pairs.now) covered.now }
+    requires some { 0 < length covered.now }
+    requires sound { IsSound (draft_tree set.now) }
+    requires large { IsRefusedWith (draft_tree set.now) (pairs_of covered.now) }
+    ensures { IfOk result (λ stopping. IsRepairFault
+        (StopsPromotion (draft_tree set.now) pairs.now) pairs.now (TooMany stopping)) }
+{
+    let mut fitting = 0;
+    let mut large = covered.len();
+    while large - fitting > 1 {
+        let middle = fitting + (large - fitting) / 2;
+        if fit(alloc, set, paths, &covered[..middle])? {
+            fitting = middle;
+        } else {
+            large = middle;
+        }
     }
-    Ok(promoted)
+    Ok(covered[fitting].pair)
 }
 
 /// The set in which the first program of each pair of a plan keeps, behind each of its reads that
@@ -146,13 +201,13 @@ pub fn promote(alloc: Global, set: &ProgramSet, plan: &Plan) -> Result<ProgramSe
     ensures refused { IfErr result (λ fault. IsRepairFault
         (StopsPromotion (draft_tree set.now) plan.now.pairs) plan.now.pairs fault) }
 {
-    let draft = set.draft();
     let paths = paths(alloc, set)?;
-    let gathered = gathered(alloc, draft, &paths, plan.pairs.as_slice())?;
-    let whole = promoted_draft(alloc, draft, &gathered.marks)?;
+    let pairs = plan.pairs.as_slice();
+    let gathered = covered_pairs(alloc, set.draft(), &paths, pairs)?;
     // What is not too large with all these pairs is not with the first ones alone.
-    let Ok(promoted) = check(alloc, whole) else {
-        return pair_by_pair(alloc, set, plan);
+    let Some(promoted) = with_keeps(alloc, set, &paths, &gathered.covered)? else {
+        let stopping = first_stop(alloc, set, &paths, pairs, &gathered.covered)?;
+        return Err(RepairFault::TooMany(stopping));
     };
     if let Some(fault) = gathered.fault {
         return Err(fault);

@@ -1,7 +1,7 @@
 use Rattle.std.proofs.Common.{List, All, sym, subst}
 use Rattle.prog_tree.specs.declared.program.Program.{Program}
 use Rattle.si_repair.specs.Promoting.{HasFewStatements}
-use Rattle.si_repair.proofs.Turning.{few_statements}
+use Rattle.si_repair.proofs.Behind.{few_statements}
 use Rattle.si_repair.proofs.repairs.behind.promoted_draft.Goals as goal
 
 pub promoted_programs-requires : goal.promoted_programs-requires

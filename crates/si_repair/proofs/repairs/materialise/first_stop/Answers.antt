@@ -1,15 +1,11 @@
-use Rattle.std.proofs.Common.{ℕ, ◌+◌, ◌-◌, ◌/◌, ◌<◌, ◌≤◌, ◌≡◌, List, length, take, get_or, refl, ap, sym, subst, ◌∙◌, arith}
-use Rattle.std.specs.Prelude.{All}
-use Rattle.std.proofs.lemmas.List.{take_all, take-map}
-use Rattle.std.proofs.lemmas.List.Elements.{All-take}
+use Rattle.std.proofs.Common.{◌+◌, ◌-◌, ◌/◌, ◌≡◌, List, length, take, get_or, refl, sym, subst, arith}
+use Rattle.std.proofs.lemmas.List.{take_all}
 use Rattle.prog_tree.specs.Tree.{draft_tree}
-use Rattle.prog_tree.specs.Syntax.{DraftTree}
-use Rattle.repair_laws.specs.Materialised.{Met, HasKey, AreMet, materialised_by}
+use Rattle.repair_laws.specs.Materialised.{materialised_by}
 use Rattle.si_repair.specs.declared.repairs.keeps.Meeting.{Meeting}
-use Rattle.si_repair.specs.declared.repairs.fault.RepairFault.TheVariants as fault
-use Rattle.si_repair.specs.Carrying.{met_of, all_met}
+use Rattle.si_repair.specs.Carrying.{all_met}
 use Rattle.si_repair.specs.Checking.{IsRefused}
-use Rattle.si_repair.proofs.Meetings.{AreSmall, small_first, some_met, met_firsts, few_met, met_at, refused_at}
+use Rattle.si_repair.proofs.Meetings.{small_first, met_firsts, few_met, met_at, refused_at}
 use Rattle.si_repair.proofs.repairs.materialise.first_stop.Goals as goal
 
 pub loop-large-init : goal.loop-large-init
@@ -57,7 +53,6 @@ returns c =
     let refused = subst (λ k. IsRefused (materialised_by draft (all_met (take k made)))) last c.loop-large.invariant.refused in
     let met = met_firsts draft plan made (n + 1) c.requires.met (omega (arith, order, inside)) in
     let own = all_met (take (n + 1) made) in
-    let pair = (get_or made n c.index-made-fitting.result).pair in
-    refused_at draft plan n pair (materialised_by draft own) c.requires.sound
+    refused_at draft plan n (get_or made n c.index-made-fitting.result).pair (materialised_by draft own) c.requires.sound
     (met_at draft plan made n c.index-made-fitting.result c.requires.met (omega (arith, order, inside)))
-    (own, met, refl) c.loop-large.invariant.small (fault.TooMany pair) (refl, refused)
+    (own, met, refl) c.loop-large.invariant.small refused

@@ -1,60 +1,94 @@
-use Rattle.std.proofs.Common.{◌≡◌, List, length, ◌≤◌, ap, sym, subst, ◌∙◌, arith, Option, Some, None}
+use Rattle.std.proofs.Common.{◌≡◌, ◌<◌, All, List, Option, length, subst, sym, take}
 use Rattle.prog_tree.specs.declared.program.Draft.{Draft}
-use Rattle.prog_tree.specs.Syntax.{DraftTree}
 use Rattle.prog_tree.specs.Tree.{draft_tree}
-use Rattle.prog_check.specs.Sound.{IsSound}
 use Rattle.repair_laws.specs.declared.plan.Pair.{Pair}
-use Rattle.repair_laws.specs.Promoted.{promoted_by}
+use Rattle.repair_laws.specs.Promoted.{IsPromoted}
 use Rattle.si_repair.specs.declared.repairs.fault.RepairFault.{RepairFault}
-use Rattle.si_repair.specs.declared.repairs.marks.Mark.{Mark}
-use Rattle.si_repair.specs.Promoting.{is_marked, IsGathered}
-use Rattle.si_repair.proofs.Turning.{IsPromotedTo, promoted_wholly, gathered_stopped, promoted_whole, promoted_safe, stops_nowhere}
-use Rattle.si_repair.proofs.repairs.promotion.promote.Goals.{In-Ok}
+use Rattle.si_repair.specs.declared.repairs.promotion.Covered.{Covered}
+use Rattle.si_repair.specs.Covering.{pairs_of, AreCovered, AreGathered, IsCovered, IsRefusedWith}
+use Rattle.si_repair.proofs.Covering.{gathered_firsts, gathered_stopped, promoted_safe, some_covered, stops_none, wholly_promoted}
 use Rattle.si_repair.proofs.repairs.promotion.promote.Goals as goal
 
 -- what was gathered is of the set's draft and of the plan
-of_plan : (c : In-Ok) → IsGathered (draft_tree c.args.set.now) c.args.plan.now.pairs (is_marked c.in_ok-gathered.gathered.marks.items) c.in_ok-gathered.gathered.fault
-of_plan c =
-    subst (λ (d : Draft). IsGathered (draft_tree d) c.args.plan.now.pairs (is_marked c.in_ok-gathered.gathered.marks.items) c.in_ok-gathered.gathered.fault) c.draft-draft.ensures.same
-    (subst (λ (l : List Pair). IsGathered (draft_tree c.draft-draft.result.now) l (is_marked c.in_ok-gathered.gathered.marks.items) c.in_ok-gathered.gathered.fault) c.as_slice.ensures c.in_ok-gathered.ensures)
+of_plan : (plan : List Pair) (covered : List Covered) (fault : Option RepairFault) (seen draft : Draft) (pairs : List Pair) → seen ≡ draft → pairs ≡ plan
+    → AreGathered (draft_tree seen) pairs covered fault → AreGathered (draft_tree draft) plan covered fault
+of_plan plan covered fault seen draft pairs same all own =
+    subst (λ (d : Draft). AreGathered (draft_tree d) plan covered fault) same (subst (λ (l : List Pair). AreGathered (draft_tree seen) l covered fault) all own)
 
--- and the draft that was checked has keeps behind the marks
-made : (c : In-Ok) → draft_tree c.in-Ok.promoted ≡ promoted_by (draft_tree c.args.set.now) (is_marked c.in_ok-gathered.gathered.marks.items)
-made c =
-    ap draft_tree c.in-Ok.ensures.found.1 ∙ c.in_ok-whole.ensures
-    ∙ (λ i. promoted_by (draft_tree (c.draft-draft.ensures.same i)) (is_marked (c.deref-2.ensures.value i)))
-
-sound : (c : In-Ok) → IsSound (draft_tree c.in-Ok.promoted)
-sound c = subst (λ (d : Draft). IsSound (draft_tree d)) (sym c.in-Ok.ensures.found.1) c.in-Ok.ensures.sound
-
-wholly : (c : In-Ok) → c.in_ok-gathered.gathered.fault ≡ None → IsPromotedTo (draft_tree c.args.set.now) c.args.plan.now.pairs (length c.args.plan.now.pairs) (is_marked c.in_ok-gathered.gathered.marks.items) (draft_tree c.in-Ok.promoted)
-wholly c none =
+pub with_keeps-requires-clause-covered : goal.with_keeps-requires-clause-covered
+with_keeps-requires-clause-covered c =
     let draft = draft_tree c.args.set.now in
     let plan = c.args.plan.now.pairs in
-    let marked = is_marked c.in_ok-gathered.gathered.marks.items in
-    promoted_wholly draft plan marked (draft_tree c.in-Ok.promoted) (made c) (sound c)
-    (subst (λ (o : Option RepairFault). IsGathered draft plan marked o) none (of_plan c))
+    let all = c.in_ok-gathered.gathered in
+    let own = of_plan plan all.covered.items all.fault _ c.args.set.now c.as_slice-pairs.result.now c.draft.ensures.same c.as_slice-pairs.ensures c.in_ok-gathered.ensures in
+    subst (λ (l : List Covered). All (IsCovered draft) l) (sym c.deref-3.ensures.value) (gathered_firsts draft plan all.covered.items all.fault own).1
 
-pub returns-in-Some-clause-refused : goal.returns-in-Some-clause-refused
-returns-in-Some-clause-refused c =
-    let place = (goal.at.returns-in-Some-clause-refused c).In-Ok in
+pub first_stop-requires-clause-covered : goal.first_stop-requires-clause-covered
+first_stop-requires-clause-covered c =
     let draft = draft_tree c.args.set.now in
     let plan = c.args.plan.now.pairs in
-    let marked = is_marked c.in_ok-gathered.gathered.marks.items in
-    gathered_stopped draft plan marked (draft_tree c.in-Ok.promoted) c.in-Some.fault c.draft-draft.ensures.sound (made place) (sound place)
-    (subst (λ (o : Option RepairFault). IsGathered draft plan marked o) c.in-Some.is (of_plan place))
+    let all = c.in_ok-gathered.gathered in
+    let own = of_plan plan all.covered.items all.fault _ c.args.set.now c.as_slice-pairs.result.now c.draft.ensures.same c.as_slice-pairs.ensures c.in_ok-gathered.ensures in
+    let plan_first = gathered_firsts draft plan all.covered.items all.fault own in
+    let seen = subst (λ (l : List Pair). AreCovered draft (take (length all.covered.items) l) all.covered.items) (sym c.as_slice-pairs.ensures) plan_first in
+    subst (λ (l : List Covered). AreCovered draft (take (length l) c.as_slice-pairs.result.now) l) (sym c.deref-in_default-2.ensures.value) seen
+
+pub first_stop-requires-clause-some : goal.first_stop-requires-clause-some
+first_stop-requires-clause-some c =
+    let draft = draft_tree c.args.set.now in
+    let plan = c.args.plan.now.pairs in
+    let all = c.in_ok-gathered.gathered in
+    let own = of_plan plan all.covered.items all.fault _ c.args.set.now c.as_slice-pairs.result.now c.draft.ensures.same c.as_slice-pairs.ensures c.in_ok-gathered.ensures in
+    let items = all.covered.items in
+    let refused = subst (λ (l : List Covered). IsRefusedWith draft (pairs_of l)) c.deref-3.ensures.value (rw c.in_default.is at c.in_ok-promoted.ensures.refused) in
+    let firsts = gathered_firsts draft plan items all.fault own in
+    subst (λ (l : List Covered). 0 < length l) (sym c.deref-in_default-2.ensures.value)
+    (some_covered draft (take (length items) plan) items c.draft.ensures.sound firsts refused)
+
+pub first_stop-requires-clause-large : goal.first_stop-requires-clause-large
+first_stop-requires-clause-large c =
+    let draft = draft_tree c.args.set.now in
+    let refused = subst (λ (l : List Covered). IsRefusedWith draft (pairs_of l)) c.deref-3.ensures.value (rw c.in_default.is at c.in_ok-promoted.ensures.refused) in
+    subst (λ (l : List Covered). IsRefusedWith draft (pairs_of l)) (sym c.deref-in_default-2.ensures.value) refused
+
+pub returns-in-Some-fault-clause-refused : goal.returns-in-Some-fault-clause-refused
+returns-in-Some-fault-clause-refused c =
+    let draft = draft_tree c.args.set.now in
+    let plan = c.args.plan.now.pairs in
+    let all = c.in_ok-gathered.gathered in
+    let own = of_plan plan all.covered.items all.fault _ c.args.set.now c.as_slice-pairs.result.now c.draft.ensures.same c.as_slice-pairs.ensures c.in_ok-gathered.ensures in
+    let made = subst (λ (l : List Covered). IsPromoted draft (pairs_of l) (draft_tree c.in-Some.promoted)) c.deref-3.ensures.value (rw c.in-Some.is at c.in_ok-promoted.ensures.made) in
+    let sound = rw c.in-Some.is at c.in_ok-promoted.ensures.sound in
+    gathered_stopped draft plan all.covered.items (draft_tree c.in-Some.promoted) c.in-Some-fault.fault
+    (subst (λ (o : Option RepairFault). AreGathered draft plan all.covered.items o) c.in-Some-fault.is own) made sound
 
 pub returns-clause-made : goal.returns-clause-made
 returns-clause-made c =
+    let draft = draft_tree c.args.set.now in
     let plan = c.args.plan.now.pairs in
-    promoted_whole (draft_tree c.args.set.now) plan (length plan) (is_marked c.in_ok-gathered.gathered.marks.items) (draft_tree c.in-Ok.promoted) (omega arith) (wholly (goal.at.returns-clause-made c).In-Ok c.in_default-fault.is)
+    let all = c.in_ok-gathered.gathered in
+    let own = of_plan plan all.covered.items all.fault _ c.args.set.now c.as_slice-pairs.result.now c.draft.ensures.same c.as_slice-pairs.ensures c.in_ok-gathered.ensures in
+    let whole = subst (λ (o : Option RepairFault). AreGathered draft plan all.covered.items o) c.in_default-fault.is own in
+    let made = subst (λ (l : List Covered). IsPromoted draft (pairs_of l) (draft_tree c.in-Some.promoted)) c.deref-3.ensures.value (rw c.in-Some.is at c.in_ok-promoted.ensures.made) in
+    wholly_promoted draft plan all.covered.items (draft_tree c.in-Some.promoted) whole made
 
 pub returns-clause-safe : goal.returns-clause-safe
 returns-clause-safe c =
+    let draft = draft_tree c.args.set.now in
     let plan = c.args.plan.now.pairs in
-    promoted_safe (draft_tree c.args.set.now) plan (length plan) (is_marked c.in_ok-gathered.gathered.marks.items) (draft_tree c.in-Ok.promoted) c.draft-draft.ensures.sound (omega arith) (wholly (goal.at.returns-clause-safe c).In-Ok c.in_default-fault.is)
+    let all = c.in_ok-gathered.gathered in
+    let own = of_plan plan all.covered.items all.fault _ c.args.set.now c.as_slice-pairs.result.now c.draft.ensures.same c.as_slice-pairs.ensures c.in_ok-gathered.ensures in
+    let whole = subst (λ (o : Option RepairFault). AreGathered draft plan all.covered.items o) c.in_default-fault.is own in
+    let made = subst (λ (l : List Covered). IsPromoted draft (pairs_of l) (draft_tree c.in-Some.promoted)) c.deref-3.ensures.value (rw c.in-Some.is at c.in_ok-promoted.ensures.made) in
+    promoted_safe draft plan all.covered.items (draft_tree c.in-Some.promoted) c.draft.ensures.sound whole made
 
 pub returns-clause-goes : goal.returns-clause-goes
 returns-clause-goes c =
+    let draft = draft_tree c.args.set.now in
     let plan = c.args.plan.now.pairs in
-    stops_nowhere (draft_tree c.args.set.now) plan (length plan) (omega arith) (wholly (goal.at.returns-clause-goes c).In-Ok c.in_default-fault.is).passed
+    let all = c.in_ok-gathered.gathered in
+    let own = of_plan plan all.covered.items all.fault _ c.args.set.now c.as_slice-pairs.result.now c.draft.ensures.same c.as_slice-pairs.ensures c.in_ok-gathered.ensures in
+    let whole = subst (λ (o : Option RepairFault). AreGathered draft plan all.covered.items o) c.in_default-fault.is own in
+    let made = subst (λ (l : List Covered). IsPromoted draft (pairs_of l) (draft_tree c.in-Some.promoted)) c.deref-3.ensures.value (rw c.in-Some.is at c.in_ok-promoted.ensures.made) in
+    let sound = rw c.in-Some.is at c.in_ok-promoted.ensures.sound in
+    stops_none draft plan all.covered.items (draft_tree c.in-Some.promoted) whole made sound

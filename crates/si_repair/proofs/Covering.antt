@@ -1,0 +1,225 @@
+-- Pairs whose exposed reads keeps cover, and where what is made of them gets too large.
+use Rattle.std.proofs.Common.{◌≡◌, ℕ, ◌+◌, ◌<◌, ◌≤◌, true, false, List, [], ◌∷◌, ◌++◌, take, length, Contains, refl, sym, ap, subst, ◌∙◌, arith, slice_get, Some, None, Option, get_or}
+use Rattle.std.specs.List.{All}
+use Rattle.std.specs.Prelude.{IfNone, IfSome, is_some}
+use Rattle.std.proofs.Math.Nat.{min-le_right}
+use Rattle.std.proofs.lemmas.List.{length-map, length-take, length-take-le, get_or-map, get_or-take, map-append, take_all, take_more, take-map, take-take}
+use Rattle.std.proofs.lemmas.List.Elements.{All-contains, All-map, All-nil, All-push, All-take, All-weaker}
+use Rattle.std.proofs.lemmas.Option.{slice_get_within, get_or_from_slice_get, slice_get-get_or}
+use Rattle.prog_tree.specs.Syntax.{DraftTree}
+use Rattle.prog_tree.specs.Tree.{draft_tree}
+use Rattle.prog_tree.specs.declared.program.Draft.{Draft}
+use Rattle.prog_check.specs.Paths.{paths_of}
+use Rattle.prog_check.specs.Sound.{IsSound}
+use Rattle.repair_laws.specs.declared.plan.Pair.{Pair}
+use Rattle.repair_laws.specs.Promoted.{promoted_by, IsPromoted}
+use Rattle.repair_laws.specs.Refusals.{IsCoverable, IsTooLarge, IsTooLargeBy, Reason, StopsPromotion, IsFirstStop}
+use Rattle.repair_laws.specs.Refusals as why
+use Rattle.repair_laws.specs.Safety.{MayPromote}
+use Rattle.repair_laws.proofs.Promoting.{law_of_promoting}
+use Rattle.repair_laws.proofs.RightLaws.{law_of_repair_sizes}
+use Rattle.si_repair.specs.declared.repairs.fault.RepairFault.{RepairFault}
+use Rattle.si_repair.specs.declared.repairs.fault.RepairFault.TheVariants as fault
+use Rattle.si_repair.specs.declared.repairs.promotion.Covered.{Covered}
+use Rattle.si_repair.specs.Covering.{pairs_of, AreCovered, AreGathered, HasItsQuestions, IsCovered, IsRefusedWith, IsSoundWith}
+use Rattle.si_repair.specs.Promoting.{IsObstacleFault}
+use Rattle.si_repair.specs.Repairing.{IsSafeRepair, StopsNowhere, IsRepairFault}
+use Rattle.si_repair.proofs.Behind.{none_marked, promoted-none}
+use Rattle.si_repair.proofs.Fewer.{fewer_marks_small}
+use Rattle.si_repair.proofs.Limits.{IsSmall, size_fault, small_fits, sound_small}
+use Rattle.si_repair.proofs.Marks.{marks-none, marks-same}
+use Rattle.si_repair.proofs.Repaired.{safe_repair}
+
+-- a plan has one promoted draft
+one-promoted : (draft : DraftTree) (plan : List Pair) (a b : DraftTree) → IsPromoted draft plan a → IsPromoted draft plan b → a ≡ b
+one-promoted draft plan a b h k = h.2 ∙ ap (promoted_by draft) (marks-same (paths_of draft) plan h.0 k.0 h.1 k.1) ∙ sym k.2
+
+-- ---- pairs that are covered
+
+pub none_covered : (draft : DraftTree) → AreCovered draft [] []
+none_covered draft = (refl, All-nil (IsCovered draft))
+
+pub one_more_covered : (draft : DraftTree) (pairs : List Pair) (n : ℕ) (d : Pair) (covered : List Covered) (next : Covered)
+    → n < length pairs → next.pair ≡ get_or pairs n d → AreCovered draft (take n pairs) covered → IsCovered draft next
+    → AreCovered draft (take (n + 1) pairs) (covered ++ next ∷ [])
+one_more_covered draft pairs n d covered next inside is before own = (
+  map-append (λ (c : Covered). c.pair) covered (next ∷ []) ∙ (λ i. before.0 i ++ is i ∷ []) ∙ sym (take_more pairs n d inside),
+  All-push (IsCovered draft) covered next before.1 own,
+)
+
+pub all_covered : (draft : DraftTree) (pairs : List Pair) (n : ℕ) (covered : List Covered) → length pairs ≤ n → AreCovered draft (take n pairs) covered
+    → AreCovered draft pairs covered
+all_covered draft pairs n covered past own = subst (λ (l : List Pair). AreCovered draft l covered) (take_all n pairs past) own
+
+-- their questions are those that are exposed
+pub has_questions : (draft : DraftTree) (covered : List Covered) → All (IsCovered draft) covered → All (HasItsQuestions (paths_of draft)) covered
+has_questions draft covered own = All-weaker (IsCovered draft) (HasItsQuestions (paths_of draft)) (λ c h. h.1) covered own
+
+may_promote : (draft : DraftTree) (pairs : List Pair) (covered : List Covered) → AreCovered draft pairs covered → MayPromote draft pairs
+may_promote draft pairs covered own pair c =
+    All-contains (IsCoverable draft) pairs pair
+    (subst (λ (l : List Pair). All (IsCoverable draft) l) own.0
+    (All-map (IsCoverable draft) (λ (x : Covered). x.pair) covered (All-weaker (IsCovered draft) (λ (x : Covered). IsCoverable draft x.pair) (λ x h. h.0) covered own.1)))
+    c
+
+-- there are as many as they cover pairs
+as_many : (draft : DraftTree) (pairs : List Pair) (covered : List Covered) → AreCovered draft pairs covered → length covered ≡ length pairs
+as_many draft pairs covered own = sym (length-map covered (λ (c : Covered). c.pair)) ∙ ap length own.0
+
+-- those that were gathered are the plan's first
+pub gathered_firsts : (draft : DraftTree) (plan : List Pair) (covered : List Covered) (f : Option RepairFault) → AreGathered draft plan covered f
+    → AreCovered draft (take (length covered) plan) covered
+gathered_firsts draft plan covered None own =
+    let same = as_many draft plan covered own in
+    subst (λ (l : List Pair). AreCovered draft l covered) (sym (take_all (length covered) plan (omega (arith, same)))) own
+gathered_firsts draft plan covered (Some f) (n, pair, at, own, h) =
+    let inside = slice_get_within plan n pair at in
+    let same : length covered ≡ n = as_many draft (take n plan) covered own ∙ length-take-le n plan (omega (arith, inside)) in
+    subst (λ k. AreCovered draft (take k plan) covered) (sym same) own
+
+pub covered_firsts : (draft : DraftTree) (plan : List Pair) (covered : List Covered) (n : ℕ) → AreCovered draft (take (length covered) plan) covered → n ≤ length covered
+    → AreCovered draft (take n plan) (take n covered)
+covered_firsts draft plan covered n own inside = (
+  sym (take-map (λ (c : Covered). c.pair) n covered) ∙ ap (take n) own.0 ∙ take-take n (length covered) plan inside,
+  All-take (IsCovered draft) n covered own.1,
+)
+
+-- of all first pairs that are covered, the one at a place is the plan's there
+pub covered_at : (draft : DraftTree) (plan : List Pair) (covered : List Covered) (n : ℕ) (d : Covered) → AreCovered draft (take (length covered) plan) covered → n < length covered
+    → slice_get plan n ≡ Some (get_or covered n d).pair
+covered_at draft plan covered n d own inside =
+    let pair = (get_or covered n d).pair in
+    let same = as_many draft (take (length covered) plan) covered own in
+    let size = length-take (length covered) plan in
+    let most = min-le_right (length covered) (length plan) in
+    let within : n < length plan = omega (arith, inside, same, size, most) in
+    slice_get-get_or plan n pair within
+    ∙ ap Some (sym (get_or-take (length covered) plan n pair inside) ∙ ap (λ (l : List Pair). get_or l n pair) (sym own.0) ∙ get_or-map (λ (c : Covered). c.pair) covered n d pair inside)
+
+-- ---- where no pair stops
+
+-- no pair of a plan before this place stops it
+abbrev pub StopsBefore : DraftTree → List Pair → ℕ → Type 0
+StopsBefore draft plan n =
+    (k : ℕ) (pair : Pair) (reason : Reason) → k < n → slice_get plan k ≡ Some pair → StopsPromotion draft plan k pair reason → ⊥
+
+contains-first : (plan : List Pair) (n k : ℕ) (pair : Pair) → k < n → slice_get plan k ≡ Some pair → Contains (take n plan) pair
+contains-first plan n k pair less at = (k, inside, get_or-take n plan k pair less ∙ get_or_from_slice_get plan k pair pair at)
+  where
+    inside : k < length (take n plan)
+    inside = let size = length-take n plan in let within = slice_get_within plan k pair at in omega (arith, size, within, less)
+
+-- what is in a shorter part of the plan is in a longer one
+contains-longer : (plan : List Pair) (m n : ℕ) (pair : Pair) → m ≤ n → Contains (take m plan) pair → Contains (take n plan) pair
+contains-longer plan m n pair less (k, inside, is) =
+    let size = length-take m plan in
+    let before : k < m = omega (arith, size, inside) in
+    let within : k < length plan = omega (arith, size, inside) in
+    contains-first plan n k pair (omega (arith, before, less)) (slice_get-get_or plan k pair within ∙ ap Some (sym (get_or-take m plan k pair before) ∙ is))
+
+-- where what all these pairs make is sound, none of them stops the plan
+pub promoted_at_once : (draft : DraftTree) (plan : List Pair) (n : ℕ) (covered : List Covered) (result : DraftTree)
+    → AreCovered draft (take n plan) covered → IsPromoted draft (pairs_of covered) result → IsSound result → StopsBefore draft plan n
+promoted_at_once draft plan n covered result own (marked, exposed, is) sound = passed
+  where
+    may : MayPromote draft (take n plan)
+    may = may_promote draft (take n plan) covered own
+
+    fits : (k : ℕ) → k < n → IsTooLargeBy IsPromoted draft plan (k + 1) → ⊥
+    fits k less (part, (marks, own_exposed, made), large) =
+        let also : (program number : ℕ) → marks program number ≡ true → marked program number ≡ true =
+        λ program number e.
+        let h = (own_exposed program number).0 e in
+        let more = contains-longer plan (k + 1) n h.0 (omega (arith, less)) h.1 in
+        (exposed program number).1 (h.0, subst (λ (l : List Pair). Contains l h.0) (sym own.0) more, h.2, h.3, h.4) in
+        small_fits (promoted_by draft marks)
+        (fewer_marks_small draft marks marked also (subst (λ (d : DraftTree). IsSmall d) is (sound_small result sound)))
+        (subst (λ (d : DraftTree). IsTooLarge d) made large)
+
+    passed : StopsBefore draft plan n
+    passed k pair why.RangeRead less at h = (may pair (contains-first plan n k pair less at)).0 h
+    passed k pair why.UnknownKey less at h = (may pair (contains-first plan n k pair less at)).1 h.1
+    passed k pair why.BodyRead less at h = (may pair (contains-first plan n k pair less at)).2 h.2
+    passed k pair why.TooLarge less at h = fits k less h.1
+
+pub stops_nowhere : (draft : DraftTree) (plan : List Pair) → StopsBefore draft plan (length plan) → StopsNowhere (StopsPromotion draft plan) plan
+stops_nowhere draft plan passed n pair reason at stops = passed n pair reason (slice_get_within plan n pair at) at stops
+
+-- ---- what was made or not
+
+pub none_then : {X : Type 0} (o : Option X) (P Q : Type 0) → (P → Q) → IfNone o P → IfNone o Q
+none_then None P Q more p = more p
+none_then (Some x) P Q more p = tt
+
+pub sound_with : (draft : DraftTree) (pairs : List Pair) (o : Option Draft) → is_some o ≡ true → IfSome o (λ s. IsPromoted draft pairs (draft_tree s))
+    → IfSome o (λ s. IsSound (draft_tree s)) → IsSoundWith draft pairs
+sound_with draft pairs None some made sound = absurd (cc)
+sound_with draft pairs (Some s) some made sound = (draft_tree s, made, sound)
+
+pub refused_with : (draft : DraftTree) (pairs : List Pair) (o : Option Draft) → is_some o ≡ false → IfNone o (IsRefusedWith draft pairs) → IsRefusedWith draft pairs
+refused_with draft pairs None none refused = refused
+refused_with draft pairs (Some s) none refused = absurd (cc)
+
+-- ---- the first pair that stops a plan
+
+-- what is made of pairs that are covered is refused for its size
+too_large : (draft : DraftTree) (pairs : List Pair) (covered : List Covered) → IsSound draft → AreCovered draft pairs covered → (h : IsRefusedWith draft pairs) → IsTooLarge h.0
+too_large draft pairs covered sound own (result, made, (found, is, known)) =
+    size_fault result found is ((law_of_repair_sizes draft pairs result sound).1 (may_promote draft pairs covered own) made)
+
+-- so there are some
+pub some_covered : (draft : DraftTree) (pairs : List Pair) (covered : List Covered) → IsSound draft → AreCovered draft pairs covered → IsRefusedWith draft (pairs_of covered) → 0 < length covered
+some_covered draft pairs [] sound own (result, made, refused) =
+    let same = one-promoted draft [] result draft made (none_marked, marks-none (paths_of draft), sym (promoted-none draft)) in
+    let large = too_large draft [] [] sound (none_covered draft) (result, made, refused) in
+    absurd (small_fits draft (sound_small draft sound) (subst (λ (d : DraftTree). IsTooLarge d) same large))
+some_covered draft pairs (c ∷ cs) sound own refused = omega arith
+
+stopping : (draft : DraftTree) (plan : List Pair) (n : ℕ) (pair : Pair) (reason : Reason) → slice_get plan n ≡ Some pair → StopsBefore draft plan n
+    → StopsPromotion draft plan n pair reason → IsFirstStop (StopsPromotion draft plan) plan pair reason
+stopping draft plan n pair reason at passed stops = record {
+  place = n;
+  at = at;
+  stops = stops;
+  first = passed;
+}
+
+-- the pair up to which what they make is refused
+pub refused_at : (draft : DraftTree) (plan : List Pair) (n : ℕ) (pair : Pair) (covered : List Covered) → IsSound draft → slice_get plan n ≡ Some pair
+    → AreCovered draft (take (n + 1) plan) covered → StopsBefore draft plan n → IsRefusedWith draft (take (n + 1) plan)
+    → IsRepairFault (StopsPromotion draft plan) plan (fault.TooMany pair)
+refused_at draft plan n pair covered sound at own passed refused =
+    let coverable = may_promote draft (take (n + 1) plan) covered own pair (contains-first plan (n + 1) n pair (omega arith) at) in
+    stopping draft plan n pair why.TooLarge at passed (coverable, (refused.0, refused.1, too_large draft (take (n + 1) plan) covered sound own refused))
+
+-- the pair that no keeps cover
+pub obstacle_at : (draft : DraftTree) (plan : List Pair) (n : ℕ) (pair : Pair) → slice_get plan n ≡ Some pair → StopsBefore draft plan n
+    → (f : RepairFault) → IsObstacleFault draft pair f → IsRepairFault (StopsPromotion draft plan) plan f
+obstacle_at draft plan n pair at passed (fault.RangeRead p) h = stopping draft plan n p why.RangeRead (at ∙ ap Some (sym h.0)) passed (subst (λ (q : Pair). StopsPromotion draft plan n q why.RangeRead) (sym h.0) h.1)
+obstacle_at draft plan n pair at passed (fault.UnknownKey p) h = stopping draft plan n p why.UnknownKey (at ∙ ap Some (sym h.0)) passed (subst (λ (q : Pair). StopsPromotion draft plan n q why.UnknownKey) (sym h.0) h.1)
+obstacle_at draft plan n pair at passed (fault.BodyRead p) h = stopping draft plan n p why.BodyRead (at ∙ ap Some (sym h.0)) passed (subst (λ (q : Pair). StopsPromotion draft plan n q why.BodyRead) (sym h.0) h.1)
+obstacle_at draft plan n pair at passed (fault.TooMany p) h = absurd h
+obstacle_at draft plan n pair at passed fault.Memory h = tt
+
+-- the pair that stopped the gathering stops the plan
+pub gathered_stopped : (draft : DraftTree) (plan : List Pair) (covered : List Covered) (result : DraftTree) (f : RepairFault)
+    → AreGathered draft plan covered (Some f) → IsPromoted draft (pairs_of covered) result → IsSound result → IsRepairFault (StopsPromotion draft plan) plan f
+gathered_stopped draft plan covered result f (n, pair, at, own, h) made sound =
+    obstacle_at draft plan n pair at (promoted_at_once draft plan n covered result own made sound) f h
+
+-- ---- the set of a whole plan
+
+pub wholly_promoted : (draft : DraftTree) (plan : List Pair) (covered : List Covered) (result : DraftTree) → AreCovered draft plan covered → IsPromoted draft (pairs_of covered) result
+    → IsPromoted draft plan result
+wholly_promoted draft plan covered result own made = subst (λ (l : List Pair). IsPromoted draft l result) own.0 made
+
+pub stops_none : (draft : DraftTree) (plan : List Pair) (covered : List Covered) (result : DraftTree) → AreCovered draft plan covered → IsPromoted draft (pairs_of covered) result → IsSound result
+    → StopsNowhere (StopsPromotion draft plan) plan
+stops_none draft plan covered result own made sound =
+    stops_nowhere draft plan
+    (promoted_at_once draft plan (length plan) covered result (subst (λ (l : List Pair). AreCovered draft l covered) (sym (take_all (length plan) plan (omega arith))) own) made sound)
+
+pub promoted_safe : (draft : DraftTree) (plan : List Pair) (covered : List Covered) (result : DraftTree) → IsSound draft → AreCovered draft plan covered → IsPromoted draft (pairs_of covered) result
+    → IsSafeRepair draft plan result
+promoted_safe draft plan covered result sound own made =
+    safe_repair draft plan result sound (law_of_promoting draft plan result sound (may_promote draft plan covered own) (wholly_promoted draft plan covered result own made))

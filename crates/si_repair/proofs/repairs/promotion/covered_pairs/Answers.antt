@@ -1,0 +1,32 @@
+use Rattle.std.proofs.Common.{List, [], ◌+◌, get_or, refl, sym, subst, take}
+use Rattle.std.proofs.lemmas.Option.{slice_get-get_or}
+use Rattle.prog_tree.specs.Tree.{draft_tree}
+use Rattle.prog_check.specs.declared.path.Path.{Path}
+use Rattle.si_repair.specs.declared.repairs.promotion.Covered.{Covered}
+use Rattle.si_repair.specs.Exposing.{AreExposed}
+use Rattle.si_repair.specs.Covering.{AreCovered, IsCovered}
+use Rattle.si_repair.proofs.Covering.{none_covered, one_more_covered, all_covered}
+use Rattle.si_repair.proofs.repairs.promotion.covered_pairs.Goals as goal
+
+pub loop-pair-init : goal.loop-pair-init
+loop-pair-init c = subst (λ (l : List Covered). AreCovered (draft_tree c.args.draft.now) [] l) (sym c.new-covered.ensures.items) (none_covered (draft_tree c.args.draft.now))
+
+pub loop-pair-preserved : goal.loop-pair-preserved
+loop-pair-preserved c =
+    let draft = draft_tree c.args.draft.now in
+    let pairs = c.args.pairs.now in
+    let n = c.loop-pair.pair-index in
+    let pair = get_or pairs n (record { from = 0; to = 0 }) in
+    let next : Covered = record { pair = pair; questions = c.in-Ok.questions } in
+    let own : IsCovered draft next = (c.in-Ok.ensures.passed, subst (λ (l : List Path). AreExposed l pair c.in-Ok.questions.items) c.requires c.in-Ok.ensures.exposed) in
+    subst (λ (l : List Covered). AreCovered draft (take (n + 1) pairs) l) (sym c.in_ok-push-in-Ok.ensures.items)
+    (one_more_covered draft pairs n _ c.loop-pair.covered.items next c.loop-pair-test.true refl c.loop-pair.invariant own)
+
+pub returns-in-Err : goal.returns-in-Err
+returns-in-Err c =
+    let pairs = c.args.pairs.now in
+    let n = c.loop-pair.pair-index in
+    (n, get_or pairs n _, slice_get-get_or pairs n _ c.loop-pair-test.true, c.loop-pair.invariant, c.in-Err.ensures.refused)
+
+pub returns : goal.returns
+returns c = all_covered (draft_tree c.args.draft.now) c.args.pairs.now c.loop-pair.pair-index c.loop-pair.covered.items c.loop-pair-test.false c.loop-pair.invariant

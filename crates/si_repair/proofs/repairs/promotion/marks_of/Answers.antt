@@ -1,0 +1,44 @@
+use Rattle.std.proofs.Common.{List, [], ◌∷◌, ◌++◌, ◌+◌, map, sym, subst, ap, take, ◌∙◌}
+use Rattle.std.proofs.lemmas.List.{map-append, take_all, take_more}
+use Rattle.prog_paths.specs.declared.accesses.places.Question.{Question}
+use Rattle.repair_laws.specs.declared.plan.Pair.{Pair}
+use Rattle.repair_laws.specs.Promoted.{MarksExposed}
+use Rattle.si_repair.specs.declared.repairs.marks.Mark.{Mark}
+use Rattle.si_repair.specs.declared.repairs.promotion.Covered.{Covered}
+use Rattle.si_repair.specs.Covering.{pairs_of, HasItsQuestions}
+use Rattle.si_repair.specs.Exposing.{AreExposed}
+use Rattle.si_repair.specs.Promoting.{is_marked}
+use Rattle.si_repair.proofs.Marking.{HasRead-each}
+use Rattle.si_repair.proofs.Marks.{adds-reads, marks-none, marks-more}
+use Rattle.si_repair.proofs.repairs.promotion.marks_of.Goals as goal
+
+pub loop-each-init : goal.loop-each-init
+loop-each-init c = subst (λ (ms : List Mark). MarksExposed c.args.paths.now [] (is_marked ms)) (sym c.new-marks.ensures.items) (marks-none c.args.paths.now)
+
+pub with_reads-requires : goal.with_reads-requires
+with_reads-requires c =
+    let nodes = c.args.paths.now in
+    let each = c.each-item.result in
+    let own = subst (HasItsQuestions nodes) (sym c.each-item.is) (c.requires c.loop-each.each-index each c.loop-each-test.true) in
+    HasRead-each nodes each.pair c.deref.result.now (subst (λ (l : List Question). AreExposed nodes each.pair l) (sym c.deref.ensures.value) own)
+
+pub loop-each-preserved : goal.loop-each-preserved
+loop-each-preserved c =
+    let nodes = c.args.paths.now in
+    let covered = c.args.covered.now in
+    let n = c.loop-each.each-index in
+    let each = c.each-item.result in
+    let pair = λ (x : Covered). x.pair in
+    let old = is_marked c.loop-each.marks.items in
+    let new = is_marked c.in_ok-marks.marks.items in
+    let own = subst (HasItsQuestions nodes) (sym c.each-item.is) (c.requires n each c.loop-each-test.true) in
+    let exposed = subst (λ (l : List Question). AreExposed nodes each.pair l) (sym c.deref.ensures.value) own in
+    let next = ap (map pair) (take_more covered n each c.loop-each-test.true ∙ ap (λ x. take n covered ++ x ∷ []) (sym c.each-item.is)) ∙ map-append pair (take n covered) (each ∷ []) in
+    subst (λ (l : List Pair). MarksExposed nodes l new) (sym next)
+    (marks-more nodes (pairs_of (take n covered)) each.pair old new c.loop-each.invariant
+    (adds-reads nodes each.pair c.deref.result.now old new exposed c.in_ok-marks.ensures))
+
+pub returns : goal.returns
+returns c =
+    subst (λ (l : List Covered). MarksExposed c.args.paths.now (pairs_of l) (is_marked c.loop-each.marks.items)) (take_all c.loop-each.each-index c.args.covered.now c.loop-each-test.false)
+    c.loop-each.invariant
