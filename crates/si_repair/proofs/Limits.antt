@@ -1,6 +1,6 @@
 -- A draft within the limits is not refused for its size.
-use Rattle.std.proofs.Common.{◌≡◌, ℕ, suc, ◌+◌, ◌<◌, ◌≤◌, Bool, true, false, ◌⊎◌, inl, inr, List, [], ◌∷◌, ◌++◌, length, get_or, refl, sym, subst, ◌∙◌, arith, nat_lt}
-use Rattle.std.specs.Prelude.{All, Option, Some, None, slice_get, if◌then◌else◌}
+use Rattle.std.proofs.Common.{◌≡◌, ℕ, suc, ◌+◌, ◌<◌, ◌≤◌, Bool, false, inl, inr, List, [], ◌∷◌, ◌++◌, length, get_or, refl, sym, subst, ◌∙◌, arith, nat_lt}
+use Rattle.std.specs.Prelude.{All, IfSome, Option, Some, None, slice_get}
 use Rattle.std.specs.List.{list_any}
 use Rattle.std.proofs.lemmas.Bool.{le-ltb, lt-leb}
 use Rattle.std.proofs.lemmas.List.{length-append, length-map}
@@ -14,87 +14,66 @@ use Rattle.prog_check.specs.declared.fault.Place.{Place}
 use Rattle.prog_check.specs.declared.fault.Place.TheVariants.{Program, Statement}
 use Rattle.prog_check.specs.declared.path.Path.{Path}
 use Rattle.prog_check.specs.Counts.{heaviest, up_to, is_above}
-use Rattle.prog_check.specs.Faults.{Rule, first_broken, ◌or_else◌, place_rules, table_use_rules, value_use_rules, new_name_rules, inner_name_rules, statement_rules, block_fault, program_rules, path_rules, program_fault, programs_fault, table_rules, tables_fault, table_names, first_fault}
+use Rattle.prog_check.specs.Faults.{first_broken, ◌or_else◌, place_rules, table_use_rules, value_use_rules, new_name_rules, inner_name_rules, statement_rules, block_fault, program_rules, path_rules, program_fault, programs_fault, table_rules, tables_fault, table_names, first_fault}
 use Rattle.prog_check.specs.Paths.{statement_count, program_paths}
 use Rattle.prog_check.specs.Sound.{IsSound, IsSoundProgram}
 use Rattle.prog_check.specs.Uses.{new_name, with_new, with_inner, is_abort, used_names_by, new_name_by, used_table_by, overwrites_by}
 use Rattle.prog_check.proofs.CountLemmas.{many_accesses}
 use Rattle.repair_laws.specs.Refusals.{IsTooLarge}
 use Rattle.repair_laws.specs.Sizes.{IsSizeFault, IsOfSizeAlone}
+use Rattle.repair_laws.proofs.Rules.{AreKept, kept_append, first_kept, else_kept}
 
--- no fault, or one of something else than size
+-- a fault of something else than size
+abbrev IsOther : CheckFault → Type 0
+IsOther fault = ¬ IsSizeFault fault
+
+-- no fault, or such a one
 abbrev IsNotOfSize : Option CheckFault → Type 0
-IsNotOfSize None = Unit {0}
-IsNotOfSize (Some fault) = IsSizeFault fault → ⊥
-
--- the rule is kept, or its fault is not of size
-abbrev Passes : Rule → Type 0
-Passes rule = (rule.0 ≡ false) ⊎ (IsSizeFault rule.1 → ⊥)
-
-abbrev AllPass : List Rule → Type 0
-AllPass [] = Unit {0}
-AllPass (rule ∷ rules) = Passes rule × AllPass rules
-
-both-pass : (xs ys : List Rule) → AllPass xs → AllPass ys → AllPass (xs ++ ys)
-both-pass [] ys h k = k
-both-pass (x ∷ xs) ys h k = (h.0, both-pass xs ys h.1 k)
-
-first-passes : (rules : List Rule) → AllPass rules → IsNotOfSize (first_broken rules)
-first-passes [] h = tt
-first-passes (rule ∷ rules) h = go rule.0 h.0 (first-passes rules h.1)
-  where
-    go : (b : Bool) → (b ≡ false) ⊎ (IsSizeFault rule.1 → ⊥) → IsNotOfSize (first_broken rules) → IsNotOfSize (if b then Some rule.1 else first_broken rules)
-    go true (inl e) rest = absurd (cc)
-    go true (inr other) rest = other
-    go false h rest = rest
-
-else-passes : (a b : Option CheckFault) → IsNotOfSize a → IsNotOfSize b → IsNotOfSize (a or_else b)
-else-passes None b h k = k
-else-passes (Some fault) b h k = h
+IsNotOfSize fault = IfSome fault IsOther
 
 -- ---- blocks
 
 module _ (tables : List TableDecl) (program : ℕ) where
-  uses-pass : (place : Place) (over : Bool) (used : Option (Name × Arity)) → AllPass (table_use_rules tables place over used)
+  uses-pass : (place : Place) (over : Bool) (used : Option (Name × Arity)) → AreKept IsOther (table_use_rules tables place over used)
   uses-pass place over None = tt
   uses-pass place over (Some used) = (inr (λ h. h), (inr (λ h. h), (inr (λ h. h), tt)))
 
-  new-passes : (place : Place) (visible : List Name) (new : Option Name) → AllPass (new_name_rules place visible new)
+  new-passes : (place : Place) (visible : List Name) (new : Option Name) → AreKept IsOther (new_name_rules place visible new)
   new-passes place visible None = tt
   new-passes place visible (Some x) = (inr (λ h. h), tt)
 
-  statement-passes : (number : ℕ) (aborted : Bool) (visible : List Name) (s : StmtTree) → number < 256 → AllPass (statement_rules tables program number aborted visible s)
+  statement-passes : (number : ℕ) (aborted : Bool) (visible : List Name) (s : StmtTree) → number < 256 → AreKept IsOther (statement_rules tables program number aborted visible s)
   statement-passes number aborted visible s few =
       let place : Place = Statement program number in
       let one = place_rules place number aborted in
       let two = table_use_rules tables place (overwrites_by s) (used_table_by s) in
       let three = value_use_rules place visible (used_names_by s) in
-      both-pass (one ++ two ++ three) (new_name_rules place visible (new_name_by s))
-      (both-pass (one ++ two) three (both-pass one two (inr (λ h. h), (inl (lt-leb 256 number few), tt)) (uses-pass place (overwrites_by s) (used_table_by s))) (inr (λ h. h), tt))
+      kept_append IsOther (one ++ two ++ three) (new_name_rules place visible (new_name_by s))
+      (kept_append IsOther (one ++ two) three (kept_append IsOther one two (inr (λ h. h), (inl (lt-leb 256 number few), tt)) (uses-pass place (overwrites_by s) (used_table_by s))) (inr (λ h. h), tt))
       (new-passes place visible (new_name_by s))
 
-  inner-passes : (place : Place) (visible : List Name) (l : ListingTree) → AllPass (inner_name_rules place visible l)
+  inner-passes : (place : Place) (visible : List Name) (l : ListingTree) → AreKept IsOther (inner_name_rules place visible l)
   inner-passes place visible l =
-      both-pass (new_name_rules place visible (Some l.key)) (new_name_rules place (with_new visible (Some l.key)) (Some l.value))
+      kept_append IsOther (new_name_rules place visible (Some l.key)) (new_name_rules place (with_new visible (Some l.key)) (Some l.value))
       (new-passes place visible (Some l.key)) (new-passes place (with_new visible (Some l.key)) (Some l.value))
 
   block-passes : (number : ℕ) (aborted : Bool) (visible : List Name) (b : BlockTree) → number + statement_count b ≤ 256 → IsNotOfSize (block_fault tables program number aborted visible b)
   block-passes number aborted visible BlockEnd few = tt
   block-passes number aborted visible (Then st rest) few =
       let own = statement_rules tables program number aborted visible (Plain st) in
-      else-passes (first_broken own) (block_fault tables program (number + 1) (is_abort st) (with_new visible (new_name st)) rest)
-      (first-passes own (statement-passes number aborted visible (Plain st) (omega (arith, few))))
+      else_kept IsOther (first_broken own) (block_fault tables program (number + 1) (is_abort st) (with_new visible (new_name st)) rest)
+      (first_kept IsOther own (statement-passes number aborted visible (Plain st) (omega (arith, few))))
       (block-passes (number + 1) (is_abort st) (with_new visible (new_name st)) rest (omega (arith, few)))
   block-passes number aborted visible (Branch test a b rest) few =
       let own = statement_rules tables program number aborted visible (Fork test a b) in
       let first = block_fault tables program (number + 1) false visible a in
       let second = block_fault tables program (number + 1 + statement_count a) false visible b in
       let behind = block_fault tables program (number + 1 + statement_count a + statement_count b) false visible rest in
-      else-passes (first_broken own) (first or_else second or_else behind)
-      (first-passes own (statement-passes number aborted visible (Fork test a b) (omega (arith, few))))
-      (else-passes first (second or_else behind)
+      else_kept IsOther (first_broken own) (first or_else second or_else behind)
+      (first_kept IsOther own (statement-passes number aborted visible (Fork test a b) (omega (arith, few))))
+      (else_kept IsOther first (second or_else behind)
       (block-passes (number + 1) false visible a (omega (arith, few)))
-      (else-passes second behind
+      (else_kept IsOther second behind
       (block-passes (number + 1 + statement_count a) false visible b (omega (arith, few)))
       (block-passes (number + 1 + statement_count a + statement_count b) false visible rest (omega (arith, few)))))
   block-passes number aborted visible (Each l body rest) few =
@@ -102,11 +81,11 @@ module _ (tables : List TableDecl) (program : ℕ) where
       let names = inner_name_rules (Statement program number) visible l in
       let inside = block_fault tables program (number + 1) false (with_inner visible l) body in
       let behind = block_fault tables program (number + 1 + statement_count body) false visible rest in
-      else-passes (first_broken own) (first_broken names or_else inside or_else behind)
-      (first-passes own (statement-passes number aborted visible (Loop l body) (omega (arith, few))))
-      (else-passes (first_broken names) (inside or_else behind)
-      (first-passes names (inner-passes (Statement program number) visible l))
-      (else-passes inside behind
+      else_kept IsOther (first_broken own) (first_broken names or_else inside or_else behind)
+      (first_kept IsOther own (statement-passes number aborted visible (Loop l body) (omega (arith, few))))
+      (else_kept IsOther (first_broken names) (inside or_else behind)
+      (first_kept IsOther names (inner-passes (Statement program number) visible l))
+      (else_kept IsOther inside behind
       (block-passes (number + 1) false (with_inner visible l) body (omega (arith, few)))
       (block-passes (number + 1 + statement_count body) false visible rest (omega (arith, few)))))
 
@@ -134,8 +113,8 @@ tables-pass : (earlier names : List Name) → length earlier + length names ≤ 
 tables-pass earlier [] few = tt
 tables-pass earlier (x ∷ xs) few =
     let longer = one-longer earlier x in
-    else-passes (first_broken (table_rules earlier x)) (tables_fault (earlier ++ x ∷ []) xs)
-    (first-passes (table_rules earlier x) (inl (lt-leb 64 (length earlier) (omega (arith, few))), (inr (λ h. h), tt)))
+    else_kept IsOther (first_broken (table_rules earlier x)) (tables_fault (earlier ++ x ∷ []) xs)
+    (first_kept IsOther (table_rules earlier x) (inl (lt-leb 64 (length earlier) (omega (arith, few))), (inr (λ h. h), tt)))
     (tables-pass (earlier ++ x ∷ []) xs (omega (arith, few, longer)))
 
 module _ (tables : List TableDecl) where
@@ -144,17 +123,17 @@ module _ (tables : List TableDecl) where
       let number = length earlier in
       let statements = small.statements in
       let rules = path_rules (Program number) (program_paths tables number p) in
-      else-passes (first_broken (program_rules earlier p)) (block_fault tables number 0 false p.params p.body or_else first_broken rules)
-      (first-passes (program_rules earlier p) (inl (lt-leb 16 number few), (inr (λ h. h), (inl (le-ltb 8 (length p.params) small.params), (inr (λ h. h), tt)))))
-      (else-passes (block_fault tables number 0 false p.params p.body) (first_broken rules)
+      else_kept IsOther (first_broken (program_rules earlier p)) (block_fault tables number 0 false p.params p.body or_else first_broken rules)
+      (first_kept IsOther (program_rules earlier p) (inl (lt-leb 16 number few), (inr (λ h. h), (inl (le-ltb 8 (length p.params) small.params), (inr (λ h. h), tt)))))
+      (else_kept IsOther (block_fault tables number 0 false p.params p.body) (first_broken rules)
       (block-passes tables number 0 false p.params p.body (omega (arith, statements)))
-      (first-passes rules (inr (λ h. h), (inl (many_accesses tables number p ∙ small.accesses), tt))))
+      (first_kept IsOther rules (inr (λ h. h), (inl (many_accesses tables number p ∙ small.accesses), tt))))
 
   programs-pass : (earlier : List Name) (ps : List ProgramTree) → length earlier + length ps ≤ 16 → AreSmallPrograms tables ps → IsNotOfSize (programs_fault tables earlier ps)
   programs-pass earlier [] few small = tt
   programs-pass earlier (p ∷ ps) few small =
       let longer = one-longer earlier p.name in
-      else-passes (program_fault tables earlier p) (programs_fault tables (earlier ++ p.name ∷ []) ps)
+      else_kept IsOther (program_fault tables earlier p) (programs_fault tables (earlier ++ p.name ∷ []) ps)
       (program-passes earlier p (omega (arith, few)) small.0)
       (programs-pass (earlier ++ p.name ∷ []) ps (omega (arith, few, longer)) small.1)
 
@@ -164,7 +143,7 @@ small_fits draft small large =
     let tables = small.tables in
     let names = length-map draft.tables (λ (d : TableDecl). d.name) in
     let programs = small.programs in
-    let passes = else-passes (tables_fault [] (table_names draft)) (programs_fault draft.tables [] draft.programs)
+    let passes = else_kept IsOther (tables_fault [] (table_names draft)) (programs_fault draft.tables [] draft.programs)
     (tables-pass [] (table_names draft) (omega (arith, tables, names)))
     (programs-pass draft.tables [] draft.programs (omega (arith, programs)) small.each) in
     subst (λ (o : Option CheckFault). IsNotOfSize o) large.1 passes tt
