@@ -1,7 +1,7 @@
 -- A question between two paths is that of a list in which they stand.
 use Rattle.std.proofs.Common.{◌≡◌, ℕ, ◌<◌, ◌⊎◌, inl, inr, true, List, ◌&&◌, refl, sym, subst, ap, ◌∙◌, arith, get_or, length}
 use Rattle.std.specs.Prelude.{Some, slice_get, All, ◌==◌}
-use Rattle.std.proofs.lemmas.Bool.{false≢true, eqb-true}
+use Rattle.std.proofs.lemmas.Bool.{false≢true, eqb-true, and_parts, or_cases}
 use Rattle.std.proofs.lemmas.Option.{slice_get_within, get_or_from_slice_get, same_Some}
 use Rattle.order_facts.specs.declared.steps.Node.{Node}
 use Rattle.prog_check.specs.declared.path.Kind.{Kind}
@@ -17,7 +17,7 @@ use Rattle.prog_paths.specs.Asked.{Asks, IsQuestion, ChangesSingleCells, two, be
 use Rattle.conflict_pairs.specs.Alike.{IsAsked}
 use Rattle.conflict_pairs.specs.Verdicts.{IsCoveredBy, IsRightOf, IsRight}
 use Rattle.prog_paths.specs.Places.{IsAt}
-use Rattle.prog_paths.proofs.Membership.{both_true, either_true, depends-Asks}
+use Rattle.prog_paths.proofs.Membership.{depends-Asks}
 
 -- ---- what is asked
 
@@ -28,15 +28,15 @@ write-Asks a b _ _ e = absurd (false≢true e)
 -- what one placed access asks of another is a question between their paths
 asked_between : (a b : ℕ) (first second : Placed) → asks first second ≡ true → (first.access.table ≡ second.access.table) × Asks (between a b) first.access.kind second.access.kind
 asked_between a b first second e =
-    let parts = both_true (first.access.table == second.access.table) _ e in
-    (same_table parts.0, by (either_true (kinds_depend first.access.kind second.access.kind) _ parts.1))
+    let parts = and_parts (first.access.table == second.access.table) _ e in
+    (same_table parts.0, by (or_cases (kinds_depend first.access.kind second.access.kind) _ parts.1))
   where
     same_table : (first.access.table == second.access.table) ≡ true → first.access.table ≡ second.access.table
     same_table t = eqb-true first.access.table second.access.table t
 
     by : (kinds_depend first.access.kind second.access.kind ≡ true) ⊎ ((both_write first.access.kind second.access.kind && is_in_order first second) ≡ true) → Asks (between a b) first.access.kind second.access.kind
     by (inl d) = depends-Asks (between a b) first.access.kind second.access.kind d
-    by (inr w) = write-Asks a b first.access.kind second.access.kind (both_true (both_write first.access.kind second.access.kind) _ w).0
+    by (inr w) = write-Asks a b first.access.kind second.access.kind (and_parts (both_write first.access.kind second.access.kind) _ w).0
 
 -- the path of a placed access, read from the list
 path_is : (paths : List Path) (p : Placed) (d : Path) → (at : IsAt paths p) → get_or paths p.node d ≡ at.0

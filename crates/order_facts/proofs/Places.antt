@@ -1,6 +1,6 @@
 -- Reaching, told by the places of facts.
-use Rattle.std.proofs.Common.{◌≡◌, ℕ, zero, suc, List, [], ◌∷◌, length, get_or, Bool, true, false, ◌≤ℤ◌, ◌<ℤ◌, ◌<◌, ◌⊎◌, inl, inr, refl, sym, subst, ◌∙◌, arith}
-use Rattle.std.proofs.lemmas.Bool.{false≢true}
+use Rattle.std.proofs.Common.{◌≡◌, ℕ, zero, suc, List, [], ◌∷◌, length, get_or, true, false, ◌≤ℤ◌, ◌<ℤ◌, ◌<◌, ◌⊎◌, inl, inr, refl, sym, subst, ◌∙◌, arith}
+use Rattle.std.proofs.lemmas.Bool.{false_from_ne_true, both_ways}
 use Rattle.std.proofs.lemmas.Int.{ints}
 use Rattle.std.proofs.lemmas.List.{get_or_default}
 use Rattle.order_facts.specs.declared.steps.Node.{Node}
@@ -29,13 +29,6 @@ place_of [] f i = absurd i
 place_of (g ∷ gs) f (inl e) = (zero, omega arith, e)
 place_of (g ∷ gs) f (inr i) = let p = place_of gs f i in (suc p.0, omega (arith, p.1), p.2)
 
-false-from_not : (b : Bool) → (b ≡ true → ⊥) → b ≡ false
-false-from_not true h = absurd (h refl)
-false-from_not false h = refl
-
-pub not-from_false : (b : Bool) → b ≡ false → b ≡ true → ⊥
-not-from_false b e t = false≢true (sym e ∙ t)
-
 -- ---- a way, by its last fact and by its first
 
 pub reaches-by_last : (fs : List Fact) (x y : Node) (k : ℕ) → k < length fs → reaches fs x (fact_at fs k).lo ≡ true → is_below (fact_at fs k).hi y ≡ true → reaches fs x y ≡ true
@@ -45,19 +38,19 @@ pub reaches-by_first : (fs : List Fact) (x y : Node) (k : ℕ) → k < length fs
 reaches-by_first fs x y k inside front back = reaches-trans fs _ _ _ (reaches-below fs _ _ front) (reaches-trans fs _ _ _ (reaches-fact fs _ (IsIn-fact_at fs k inside)) back)
 
 pub reaches-no_last : (fs : List Fact) (x y : Node) → is_below x y ≡ false → ((k : ℕ) → k < length fs → reaches fs x (fact_at fs k).lo ≡ true → is_below (fact_at fs k).hi y ≡ true → ⊥) → reaches fs x y ≡ false
-reaches-no_last fs x y apart none = false-from_not _ (λ e. go (reaches-last fs x y e))
+reaches-no_last fs x y apart none = false_from_ne_true _ (λ e. go (reaches-last fs x y e))
   where
     go : (is_below x y ≡ true) ⊎ ((g : Fact) × IsIn g fs × (reaches fs x g.lo ≡ true) × (is_below g.hi y ≡ true)) → ⊥
-    go (inl a) = not-from_false _ apart a
+    go (inl a) = both_ways _ apart a
     go (inr w) =
         let p = place_of fs w.0 w.1 in
         none p.0 p.1 (subst (λ (g : Fact). reaches fs x g.lo ≡ true) (sym p.2) w.2) (subst (λ (g : Fact). is_below g.hi y ≡ true) (sym p.2) w.3)
 
 pub reaches-no_first : (fs : List Fact) (x y : Node) → is_below x y ≡ false → ((k : ℕ) → k < length fs → is_below x (fact_at fs k).lo ≡ true → reaches fs (fact_at fs k).hi y ≡ true → ⊥) → reaches fs x y ≡ false
-reaches-no_first fs x y apart none = false-from_not _ (λ e. go (reaches-first fs x y e))
+reaches-no_first fs x y apart none = false_from_ne_true _ (λ e. go (reaches-first fs x y e))
   where
     go : (is_below x y ≡ true) ⊎ ((g : Fact) × IsIn g fs × (is_below x g.lo ≡ true) × (reaches fs g.hi y ≡ true)) → ⊥
-    go (inl a) = not-from_false _ apart a
+    go (inl a) = both_ways _ apart a
     go (inr w) =
         let p = place_of fs w.0 w.1 in
         none p.0 p.1 (subst (λ (g : Fact). is_below x g.lo ≡ true) (sym p.2) w.2) (subst (λ (g : Fact). reaches fs g.hi y ≡ true) (sym p.2) w.3)

@@ -1,8 +1,8 @@
 -- Which node reaches which: a test by recursion on the facts, and that it is exact.
-use Rattle.std.proofs.Common.{◌≡◌, List, [], ◌∷◌, Bool, true, false, ◌||◌, ◌&&◌, ℤ, ◌≤ℤ◌, ◌⊎◌, ◌↔◌, inl, inr, refl, sym, ap, ◌∙◌, subst, arith}
+use Rattle.std.proofs.Common.{◌≡◌, List, [], ◌∷◌, Bool, true, false, ◌&&◌, ℤ, ◌≤ℤ◌, ◌⊎◌, ◌↔◌, inl, inr, refl, sym, ap, ◌∙◌, subst, arith}
 use lib.Signed.{le_z, ≤ℤ_refl}
 use lib.Dec.{T}
-use Rattle.std.proofs.lemmas.Bool.{or_cases, and_parts, and_from, eqb-true, eq-eqb, false≢true, cases_Bool}
+use Rattle.std.proofs.lemmas.Bool.{or_cases, and_parts, and_from, eqb-true, eq-eqb, false≢true, cases_Bool, or_left, or_right}
 use Rattle.std.proofs.lemmas.Int.{ints}
 use Rattle.order_facts.specs.declared.steps.Node.{Node}
 use Rattle.order_facts.specs.declared.steps.Node.TheVariants.{Mine, MineUnknown, Theirs, TheirsUnknown, Number}
@@ -10,14 +10,7 @@ use Rattle.order_facts.specs.declared.steps.Fact.{Fact}
 use Rattle.order_facts.specs.Reaches.{is_same_unknown, is_below, reaches}
 use Rattle.order_facts.specs.Chain.{floor_of, ceiling_of}
 
--- ---- Bool
-
-pub or_left : (x y : Bool) → x ≡ true → (x || y) ≡ true
-or_left x y e = rw e refl
-
-pub or_right : (x y : Bool) → y ≡ true → (x || y) ≡ true
-or_right true y e = refl
-or_right false y e = e
+-- ---- tests
 
 T-true : (b : Bool) → T b → b ≡ true
 T-true true t = refl

@@ -21,7 +21,7 @@ use Rattle.prog_paths.proofs.Segments.{IsMember, member_left, member_right, Segm
 use Rattle.prog_paths.proofs.Numbers.{AllI64, BlockFits}
 use Rattle.prog_paths.proofs.Ranges.{EnvOfI64, all_append, Ranged, TurnsOfI64, listed_i64}
 use Rattle.prog_paths.proofs.Walking.{unknown_append, accesses_append}
-use Rattle.prog_paths.proofs.Parts.{then_goes, value_goes, seen_in, listed, Did, StatementFollows, ListingFollows}
+use Rattle.prog_paths.proofs.Parts.{then_goes, value_goes, seen_in, listed, Did, StatementFollows, ListingFollows, goes_same}
 use Rattle.prog_paths.proofs.Rounds.{Turned, close_env, rounds, by_turns, passed_counts, zeros, zeros_i64, zeros_length}
 use Rattle.prog_paths.proofs.Values.{Agrees, agrees_first, agrees_behind, EnvFits, assigned, BlockSound, RemovesPlain}
 
@@ -204,9 +204,6 @@ module _ (tables : List TableDecl) (m : TableState) (params : List Name) (parame
         Took number block (choices_taken tables m block p) p q
     block_follows number BlockEnd p q e sound fits removes = at_end number p q (goes_same p q e) fits removes
       where
-        goes_same : (p q : Progress) → GoesOn p ≡ GoesOn q → p ≡ q
-        goes_same p q e = cc
-
         at_end : (number : ℕ) (p q : Progress) → p ≡ q → EnvFits params parameter p.env → RemovesPlain tables p.changes → Took number BlockEnd [] p q
         at_end number p q e fits removes =
             subst (λ z. Took number BlockEnd [] p z) e

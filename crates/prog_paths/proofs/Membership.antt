@@ -1,7 +1,7 @@
 -- Which questions stand in the list of all questions.
 use Rattle.std.proofs.Common.{◌≡◌, ℕ, ◌<◌, ◌+◌, ◌⊎◌, inl, inr, Bool, true, false, ◌||◌, ◌&&◌, List, [], ◌∷◌, ◌++◌, length, get_or, refl, sym, subst, ap, ◌∙◌, arith, zero, suc, Contains}
 use Rattle.std.specs.Prelude.{Some, slice_get, All, if◌then◌else◌, nat_lt, nat_le, ◌==◌}
-use Rattle.std.proofs.lemmas.Bool.{false≢true, eqb-true, eq-eqb, ltb-true, lt-ltb, leb-true, le-leb}
+use Rattle.std.proofs.lemmas.Bool.{false≢true, eqb-true, eq-eqb, ltb-true, lt-ltb, leb-true, le-leb, and_from, and_parts, or_cases, or_left, or_right}
 use Rattle.std.proofs.lemmas.List.Elements.{All-head, All-tail}
 use Rattle.std.proofs.lemmas.Option.{none-some, same_Some}
 use Rattle.prog_check.specs.declared.path.Kind.{Kind}
@@ -142,14 +142,6 @@ in_places paths p at =
 
 -- ---- the test of kinds and tables
 
-pub both_true : (a b : Bool) → (a && b) ≡ true → (a ≡ true) × (b ≡ true)
-both_true true b e = (refl, e)
-both_true false b e = absurd (false≢true e)
-
-pub either_true : (a b : Bool) → (a || b) ≡ true → (a ≡ true) ⊎ (b ≡ true)
-either_true true b e = inl refl
-either_true false b e = inr e
-
 pub depends-Asks : (q : Question) (mine theirs : Kind) → kinds_depend mine theirs ≡ true → Asks q mine theirs
 depends-Asks q Reads Writes e = inl (inl (refl, inl refl))
 depends-Asks q Reads Adds e = inl (inl (refl, inr refl))
@@ -158,11 +150,11 @@ depends-Asks q Sees Adds e = inr (inl (inr (refl, refl)))
 depends-Asks q _ _ e = absurd (false≢true e)
 
 in_order : (first second : Placed) → is_in_order first second ≡ true → IsInOrder (numbers_of (question_between first second))
-in_order first second e = go (either_true (nat_lt first.node second.node) _ e)
+in_order first second e = go (or_cases (nat_lt first.node second.node) _ e)
   where
     go : (nat_lt first.node second.node ≡ true) ⊎ (((first.node == second.node) && nat_le first.number second.number) ≡ true) → IsInOrder (numbers_of (question_between first second))
     go (inl h) = inl (ltb-true first.node second.node h)
-    go (inr h) = let p = both_true (first.node == second.node) _ h in inr (eqb-true first.node second.node p.0, leb-true first.number second.number p.1)
+    go (inr h) = let p = and_parts (first.node == second.node) _ h in inr (eqb-true first.node second.node p.0, leb-true first.number second.number p.1)
 
 writes_both : (mine theirs : Kind) → both_write mine theirs ≡ true → (mine ≡ Writes) × (theirs ≡ Writes)
 writes_both Writes Writes e = (refl, refl)
@@ -170,27 +162,15 @@ writes_both _ _ e = absurd (false≢true e)
 
 pub Asks-from_asks : (first second : Placed) → asks first second ≡ true → (first.access.table ≡ second.access.table) × Asks (numbers_of (question_between first second)) first.access.kind second.access.kind
 Asks-from_asks first second e =
-    let parts = both_true (first.access.table == second.access.table) _ e in
-    (eqb-true first.access.table second.access.table parts.0, by (either_true (kinds_depend first.access.kind second.access.kind) _ parts.1))
+    let parts = and_parts (first.access.table == second.access.table) _ e in
+    (eqb-true first.access.table second.access.table parts.0, by (or_cases (kinds_depend first.access.kind second.access.kind) _ parts.1))
   where
     by : (kinds_depend first.access.kind second.access.kind ≡ true) ⊎ ((both_write first.access.kind second.access.kind && is_in_order first second) ≡ true) → Asks (numbers_of (question_between first second)) first.access.kind second.access.kind
     by (inl d) = depends-Asks (numbers_of (question_between first second)) first.access.kind second.access.kind d
     by (inr w) =
-        let p = both_true (both_write first.access.kind second.access.kind) _ w in
+        let p = and_parts (both_write first.access.kind second.access.kind) _ w in
         let k = writes_both first.access.kind second.access.kind p.0 in
         inr (inr (k.0, k.1, in_order first second p.1))
-
-all_true : (a b : Bool) → a ≡ true → b ≡ true → (a && b) ≡ true
-all_true true b h k = k
-all_true false b h k = absurd (false≢true h)
-
-left_true : (a b : Bool) → a ≡ true → (a || b) ≡ true
-left_true true b h = refl
-left_true false b h = absurd (false≢true h)
-
-right_true : (a b : Bool) → b ≡ true → (a || b) ≡ true
-right_true true b h = refl
-right_true false b h = h
 
 depends_true : (mine theirs m t : Kind) → mine ≡ m → theirs ≡ t → kinds_depend m t ≡ true → kinds_depend mine theirs ≡ true
 depends_true mine theirs m t a b h = (λ i. kinds_depend (a i) (b i)) ∙ h
@@ -200,20 +180,20 @@ abbrev IsAskedBy : Placed → Placed → Type 0
 IsAskedBy first second = (kinds_depend first.access.kind second.access.kind || (both_write first.access.kind second.access.kind && is_in_order first second)) ≡ true
 
 kinds_true : (first second : Placed) → Asks (numbers_of (question_between first second)) first.access.kind second.access.kind → IsAskedBy first second
-kinds_true first second (inl (inl (m, inl t))) = left_true _ _ (depends_true first.access.kind second.access.kind Reads Writes m t refl)
-kinds_true first second (inl (inl (m, inr t))) = left_true _ _ (depends_true first.access.kind second.access.kind Reads Adds m t refl)
-kinds_true first second (inl (inr (m, t))) = left_true _ _ (depends_true first.access.kind second.access.kind Lacks Adds m t refl)
-kinds_true first second (inr (inl (inl (m, inl t)))) = left_true _ _ (depends_true first.access.kind second.access.kind Reads Writes m t refl)
-kinds_true first second (inr (inl (inl (m, inr t)))) = left_true _ _ (depends_true first.access.kind second.access.kind Reads Adds m t refl)
-kinds_true first second (inr (inl (inr (m, t)))) = left_true _ _ (depends_true first.access.kind second.access.kind Sees Adds m t refl)
-kinds_true first second (inr (inr (m, t, o))) = right_true (kinds_depend first.access.kind second.access.kind) _ (all_true (both_write first.access.kind second.access.kind) _ (λ i. both_write (m i) (t i)) (ordered o))
+kinds_true first second (inl (inl (m, inl t))) = or_left _ _ (depends_true first.access.kind second.access.kind Reads Writes m t refl)
+kinds_true first second (inl (inl (m, inr t))) = or_left _ _ (depends_true first.access.kind second.access.kind Reads Adds m t refl)
+kinds_true first second (inl (inr (m, t))) = or_left _ _ (depends_true first.access.kind second.access.kind Lacks Adds m t refl)
+kinds_true first second (inr (inl (inl (m, inl t)))) = or_left _ _ (depends_true first.access.kind second.access.kind Reads Writes m t refl)
+kinds_true first second (inr (inl (inl (m, inr t)))) = or_left _ _ (depends_true first.access.kind second.access.kind Reads Adds m t refl)
+kinds_true first second (inr (inl (inr (m, t)))) = or_left _ _ (depends_true first.access.kind second.access.kind Sees Adds m t refl)
+kinds_true first second (inr (inr (m, t, o))) = or_right (kinds_depend first.access.kind second.access.kind) _ (and_from (both_write first.access.kind second.access.kind) _ (λ i. both_write (m i) (t i)) (ordered o))
   where
     ordered : IsInOrder (numbers_of (question_between first second)) → is_in_order first second ≡ true
-    ordered (inl h) = left_true (nat_lt first.node second.node) _ (lt-ltb first.node second.node h)
-    ordered (inr (e, h)) = right_true (nat_lt first.node second.node) _ (all_true (first.node == second.node) _ (eq-eqb first.node second.node e) (le-leb first.number second.number h))
+    ordered (inl h) = or_left (nat_lt first.node second.node) _ (lt-ltb first.node second.node h)
+    ordered (inr (e, h)) = or_right (nat_lt first.node second.node) _ (and_from (first.node == second.node) _ (eq-eqb first.node second.node e) (le-leb first.number second.number h))
 
 pub asks-from_Asks : (first second : Placed) → first.access.table ≡ second.access.table → Asks (numbers_of (question_between first second)) first.access.kind second.access.kind → asks first second ≡ true
-asks-from_Asks first second table h = all_true (first.access.table == second.access.table) _ (eq-eqb first.access.table second.access.table table) (kinds_true first second h)
+asks-from_Asks first second table h = and_from (first.access.table == second.access.table) _ (eq-eqb first.access.table second.access.table table) (kinds_true first second h)
 
 -- ---- the law
 

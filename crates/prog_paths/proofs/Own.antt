@@ -1,9 +1,9 @@
 -- The unknowns of accesses in bodies are their own, since those of statements are numbered apart.
 use Rattle.std.proofs.Common.{◌≡◌, ℕ, ◌+◌, ◌<◌, ◌≤◌, Bool, true, false, ◌||◌, List, [], ◌∷◌, ◌⊎◌, inl, inr, map, refl, sym, subst, ap, ◌∙◌, arith, tests}
 use Rattle.std.proofs.lemmas.List.Elements.{All-from_recursion}
-use Rattle.std.proofs.lemmas.Bool.{or_left, or_right}
 use Rattle.std.specs.List.{AllByRecursion}
 use Rattle.std.specs.Prelude.{ℤ, ◌≤ℤ◌, Option, Some, None, if◌then◌else◌}
+use Rattle.std.proofs.lemmas.Bool.{false_from_ne_true, or_cases, or_left, or_right}
 use Rattle.prog_tree.specs.declared.table.TableDecl.{TableDecl}
 use Rattle.prog_tree.specs.Number.{IsI64}
 use Rattle.prog_tree.specs.Syntax.{Name, ExprTree, KeyTree, One, Two, RangeTree, OneRange, TwoRange, StatementTree, ProgramTree}
@@ -21,14 +21,6 @@ use Rattle.prog_paths.specs.Meeting.{Assignment, IsOfI64, IsWithin, IsWithinSeco
 use Rattle.prog_paths.specs.Own.{IsMember, AreOwn, LawOfOwnUnknowns, LawOfCovers, LawOfTimes, LawOfValues}
 use Rattle.prog_paths.proofs.Segments.{member_either}
 use Rattle.prog_paths.proofs.SingleCells.{all-append}
-
-or_cases : (a b : Bool) → (a || b) ≡ true → (a ≡ true) ⊎ (b ≡ true)
-or_cases true b h = inl refl
-or_cases false b h = inr h
-
-not_true : (b : Bool) → (b ≡ true → ⊥) → b ≡ false
-not_true true h = absurd (h refl)
-not_true false h = refl
 
 -- ---- the unknowns of a statement
 
@@ -198,8 +190,8 @@ module _ (params : List Name) where
             let first = (owned_here u p a x).same in
             let second = (owned_here u p b y).same in
             absurd (cc (sym loose ∙ first ∙ sym second ∙ sure))
-        go further (inl x) (inr y) = not_true (has_unknown a n) (λ has. let low = from_here (behind u p) ps b y n is in let high = ((owned_here u p a x).between n has).1 in absurd (omega (arith, low, high)))
-        go further (inr x) (inl y) = not_true (has_unknown a n) (λ has. let low = from_here (behind u p) ps a x n has in let high = ((owned_here u p b y).between n is).1 in absurd (omega (arith, low, high)))
+        go further (inl x) (inr y) = false_from_ne_true (has_unknown a n) (λ has. let low = from_here (behind u p) ps b y n is in let high = ((owned_here u p a x).between n has).1 in absurd (omega (arith, low, high)))
+        go further (inr x) (inl y) = false_from_ne_true (has_unknown a n) (λ has. let low = from_here (behind u p) ps a x n has in let high = ((owned_here u p b y).between n is).1 in absurd (omega (arith, low, high)))
         go further (inr x) (inr y) = further x y
 
 -- ---- the paths of a draft

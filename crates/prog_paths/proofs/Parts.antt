@@ -23,6 +23,9 @@ use Rattle.prog_paths.proofs.Values.{Agrees, EnvFits, assigned, StatementSound, 
 
 -- ---- flows that go on
 
+pub goes_same : (p q : Progress) → GoesOn p ≡ GoesOn q → p ≡ q
+goes_same p q e = cc
+
 pub then_goes : (f : Flow) (go : Progress → Flow) (q : Progress) → and_then f go ≡ GoesOn q → (r : Progress) × (f ≡ GoesOn r) × (go r ≡ GoesOn q)
 then_goes (GoesOn r) go q e = (r, refl, e)
 then_goes (Stops cause r) go q e = absurd (cc)

@@ -22,7 +22,7 @@ use Rattle.prog_paths.specs.Meeting.{Assignment, IsOf, MayCover, with_own, IsTim
 use Rattle.prog_paths.specs.Trails.{unknown_behind}
 use Rattle.prog_paths.proofs.Numbers.{AllI64, BlockFits}
 use Rattle.prog_paths.proofs.Own.{owned_here, law_of_values}
-use Rattle.prog_paths.proofs.Parts.{then_goes, value_goes, seen_in, listed, Did, StatementFollows, ListingFollows, statement_counts}
+use Rattle.prog_paths.proofs.Parts.{then_goes, value_goes, seen_in, listed, Did, StatementFollows, ListingFollows, statement_counts, goes_same}
 use Rattle.prog_paths.proofs.Ranges.{nth_i64, EnvOfI64, Ranged, env_push, TurnsOfI64, listed_i64}
 use Rattle.prog_paths.proofs.Segments.{IsMember, member_left, member_right, member_either, Segment, segment_none, segment_into, segment_join}
 use Rattle.prog_paths.proofs.Values.{Agrees, nth, EnvFits, assigned, IsApart, fits_push, BlockSound, RemovesPlain}
@@ -308,9 +308,6 @@ module _ (tables : List TableDecl) (m : TableState) (params : List Name) (parame
       one_of : (a : Access) (own : List Access) → IsMember a own ⊎ IsMember a own → IsMember a own
       one_of a own (inl h) = h
       one_of a own (inr h) = h
-
-  goes_same : (p q : Progress) → GoesOn p ≡ GoesOn q → p ≡ q
-  goes_same p q e = cc
 
   pub by_turns : (number : ℕ) (l : ListingTree) (body : BlockTree) → ((p q : Progress) → run_block tables m body p ≡ GoesOn q → EnvFits params parameter p.env → RemovesPlain tables p.changes → Round number body p q) →
       IsApart params l.key → IsApart params l.value → (turns : List Turn) (p q : Progress) → run_turns l (run_block tables m body) turns p ≡ GoesOn q → EnvFits params parameter p.env → RemovesPlain tables p.changes → Turned number body turns p q

@@ -4,13 +4,14 @@ use Rattle.std.specs.Prelude.{ℤ, Option, Some, None, if◌then◌else◌}
 use Rattle.std.specs.Cmp.Lexicographic.{nat_list_eq_equiv}
 use Rattle.std.proofs.lemmas.List.Quantifiers.{position-Some}
 use Rattle.prog_tree.specs.declared.table.TableDecl.{TableDecl}
-use Rattle.prog_tree.specs.Syntax.{Name, ExprTree, KeyTree, One, Two, StatementTree, BlockTree, BlockEnd, Then, Branch, Each, ProgramTree, DraftTree}
+use Rattle.prog_tree.specs.Syntax.{Name, ExprTree, KeyTree, One, Two, StatementTree, BlockTree, BlockEnd, Then, Branch, Each, ProgramTree}
 use Rattle.prog_tree.specs.Syntax as s
 use Rattle.prog_tree.specs.Value.{same_name, or_else, value_in}
 use Rattle.prog_tree.specs.Number.{IsI64}
 use Rattle.prog_tree.specs.Literals.{expr_literals, key_literals, range_literals, test_literals, statement_literals, block_literals}
 use Rattle.std.specs.List.{AllByRecursion}
 use Rattle.std.proofs.lemmas.List.Elements.{recursion_from_All}
+use Rattle.std.proofs.lemmas.Bool.{or_parts, or_right}
 use Rattle.prog_check.specs.Names.{is_among, has_twice}
 use Rattle.prog_check.specs.Sound.{IsNoneOf, AllStatements, AllNew, OverwritesPlain, IsSoundProgram}
 use Rattle.prog_check.specs.Uses.{new_name}
@@ -25,27 +26,23 @@ among_same : (x y : Name) → same_name x y ≡ true → (names : List Name) →
 among_same x y e [] = refl
 among_same x y e (n ∷ names) = λ i. nat_list_eq_equiv.congr x y n e i || among_same x y e names i
 
-or_none : (a b : Bool) → (a || b) ≡ false → (a ≡ false) × (b ≡ false)
-or_none true b h = absurd (cc)
-or_none false b h = (refl, h)
-
 -- ---- arguments at the start
 
 no_value : (params : List Name) (args : List ℤ) (x : Name) → is_among params x ≡ false → value_in (zip params args) x ≡ None
 no_value [] args x h = refl
 no_value (p ∷ ps) [] x h = refl
 no_value (p ∷ ps) (a ∷ as_) x h =
-    let k = or_none (same_name x p) (is_among ps x) h in
+    let k = or_parts (same_name x p) (is_among ps x) h in
     (λ i. (or_else) (no_value ps as_ x k.1 i) (if (nat_list_eq_equiv.symm p x ∙ k.0) i then Some a else None))
 
 at_place : (params : List Name) (args : List ℤ) (i : ℕ) (x : Name) → has_twice params ≡ false → length params ≡ length args → i < length params → same_name x (get_or params i []) ≡ true → value_in (zip params args) x ≡ Some (nth args i)
 at_place [] args i x distinct same inside is = absurd (omega (arith, inside))
 at_place (p ∷ ps) [] i x distinct same inside is = absurd (omega (arith, same))
 at_place (p ∷ ps) (a ∷ as_) zero x distinct same inside is =
-    let d = or_none (is_among ps p) (has_twice ps) distinct in
+    let d = or_parts (is_among ps p) (has_twice ps) distinct in
     (λ i. (or_else) (no_value ps as_ x (among_same x p is ps ∙ d.0) i) (if (nat_list_eq_equiv.symm p x ∙ is) i then Some a else None))
 at_place (p ∷ ps) (a ∷ as_) (suc i) x distinct same inside is =
-    let d = or_none (is_among ps p) (has_twice ps) distinct in
+    let d = or_parts (is_among ps p) (has_twice ps) distinct in
     ap (λ o. (or_else) o (if same_name p x then Some a else None)) (at_place ps as_ i x d.1 (omega (arith, same)) (omega (arith, inside)) is)
 
 -- distinct parameters have their arguments
@@ -60,10 +57,6 @@ is_in_names : (x : Name) (names : List Name) (j : ℕ) → j < length names → 
 is_in_names x [] j inside is = absurd (omega (arith, inside))
 is_in_names x (n ∷ names) zero inside is = ap (λ b. b || is_among names x) is
 is_in_names x (n ∷ names) (suc j) inside is = or_right (same_name x n) (is_among names x) (is_in_names x names j (omega (arith, inside)) is)
-  where
-    or_right : (a b : Bool) → b ≡ true → (a || b) ≡ true
-    or_right true b h = refl
-    or_right false b h = h
 
 -- a name that is none of the parameters is apart from each
 is_apart : (params : List Name) (y : Name) → is_among params y ≡ false → IsApart params y

@@ -12,7 +12,7 @@ use Rattle.prog_tree.specs.declared.deed.Deed.{Deed}
 use Rattle.prog_tree.specs.declared.deed.Deed.TheVariants.{Read, Counted, Summed, Put, Removed, Kept}
 use Rattle.prog_tree.specs.declared.progress.Progress.{Progress}
 use Rattle.prog_tree.specs.declared.table.TableDecl.{TableDecl}
-use Rattle.prog_tree.specs.Syntax.{Name, ExprTree, KeyTree, RangeTree, ListingTree, StatementTree}
+use Rattle.prog_tree.specs.Syntax.{Name, ExprTree, KeyTree, RangeTree, StatementTree}
 use Rattle.prog_tree.specs.Syntax as s
 use Rattle.prog_tree.specs.Numbering.{number_of}
 use Rattle.prog_tree.specs.Steps.{bound, did, replied, wrote, keeps, looked}
@@ -35,7 +35,7 @@ use Rattle.prog_paths.proofs.Ranges.{EnvOfI64, MayBeI64, ChangesOfI64, Ranged, e
 use Rattle.prog_paths.proofs.Values.{nth, agrees_nth, EnvFits, assigned, IsApart, fits_push, RemovesPlain}
 use Rattle.prog_paths.proofs.Cells.{change_either, changes_either, changes_here, changes_stay, keeps_either, keeps_here, keeps_stay}
 use Rattle.prog_paths.proofs.Terms.{CellIn, CellAt, cell_i64, key_fits, range_fits}
-use Rattle.prog_paths.proofs.Parts.{value_goes, listed, Did, StatementFollows, ListingFollows}
+use Rattle.prog_paths.proofs.Parts.{value_goes, listed, Did, StatementFollows, ListingFollows, goes_same}
 
 -- ---- tables by name and by number
 
@@ -51,9 +51,6 @@ same_growth : (tables : List TableDecl) (x y : Name) → number_of tables x ≡ 
 same_growth tables x y e = ap grows (declaration_is tables x ∙ ap (slice_get tables) e ∙ sym (declaration_is tables y))
 
 -- ---- flows that go on
-
-goes_same : (p q : Progress) → GoesOn p ≡ GoesOn q → p ≡ q
-goes_same p q e = cc
 
 present_goes : (o : Option ℤ) (go : ℤ → Flow) (p q : Progress) (other : Flow) → ((r : Progress) → other ≡ GoesOn r → ⊥) → if_present o go other ≡ GoesOn q → (x : ℤ) × (o ≡ Some x) × (go x ≡ GoesOn q)
 present_goes (Some x) go p q other stops e = (x, refl, e)

@@ -1,9 +1,10 @@
 -- What the columns of keys and ranges are under an assignment that has the values of their unknowns.
-use lib.Signed.{le_z, ≤ℤ_refl}
-use Rattle.std.proofs.Common.{◌≡◌, ℕ, ◌+◌, Bool, true, false, T, ◌&&◌, List, [], ◌∷◌, ◌++◌, length, refl, sym, subst, ap, ◌∙◌, arith, tests}
+use lib.Signed.{≤ℤ_refl}
+use Rattle.std.proofs.Common.{◌≡◌, ℕ, ◌+◌, Bool, true, T, ◌&&◌, List, [], ◌∷◌, ◌++◌, length, refl, sym, subst, ap, ◌∙◌, arith, tests}
 use Rattle.std.proofs.lemmas.Int.{ints}
 use Rattle.std.specs.Prelude.{ℤ, pos, Option, Some, None, if◌then◌else◌, int_le, ◌≤ℤ◌, ◌==◌}
 use Rattle.std.proofs.lemmas.List.{length-append}
+use Rattle.std.proofs.lemmas.Bool.{and_parts}
 use Rattle.prog_tree.specs.declared.cell.Cell.{Cell}
 use Rattle.prog_tree.specs.declared.cell.Region.{Region}
 use Rattle.prog_tree.specs.Syntax.{Name, ExprTree, KeyTree, One, Two, RangeTree, OneRange, TwoRange}
@@ -46,14 +47,10 @@ within_single v t z e = (subst (λ k. k ≤ℤ z) (sym e) (≤ℤ_refl z), subst
 le_true : (a b : ℤ) → int_le a b ≡ true → a ≤ℤ b
 le_true a b e = record { le = subst (λ (t : Bool). T t) (sym e) tt }
 
-and_both : (a b : Bool) → (a && b) ≡ true → (a ≡ true) × (b ≡ true)
-and_both true b h = (refl, h)
-and_both false b h = absurd (cc)
-
 -- a number between two ends is within a column whose ends are these
 within_ends : (v : Assignment) (low high : Term) (l x h : ℤ) → number_under v low ≡ l → number_under v high ≡ h → lies_between l x h ≡ true → IsWithin v (record { low = low; high = high }) x
 within_ends v low high l x h a b e =
-    let k = and_both (int_le l x) (int_le x h) e in
+    let k = and_parts (int_le l x) (int_le x h) e in
     (subst (λ n. n ≤ℤ x) (sym a) (le_true l x k.0), subst (λ n. x ≤ℤ n) (sym b) (le_true x h k.1))
 
 same_number : (a b : ℕ) → (a == b) ≡ true → b ≡ a
@@ -164,7 +161,7 @@ module _ (params : List Name) (parameter : ℕ → ℤ) where
 
   is_zero : (z : ℤ) → lies_between (pos 0) z (pos 0) ≡ true → z ≡ pos 0
   is_zero z inside =
-      let ends = and_both (int_le (pos 0) z) (int_le z (pos 0)) inside in
+      let ends = and_parts (int_le (pos 0) z) (int_le z (pos 0)) inside in
       let above = le_true (pos 0) z ends.0 in
       let below = le_true z (pos 0) ends.1 in
       omega (arith, ints)
@@ -178,8 +175,8 @@ module _ (params : List Name) (parameter : ℕ → ℤ) where
         fits = λ f u agrees c inside.
             let is_low = t.fits f u (agrees_first f u t.values k.values agrees) in
             let is_high = k.fits f (next_behind params u low) (agrees_behind f u (next_behind params u low) t.values k.values (t.count u) agrees) in
-            let parts = and_both (number == c.table) (lies_between l c.first h && lies_between (pos 0) c.second (pos 0)) inside in
-            let ends = and_both (lies_between l c.first h) (lies_between (pos 0) c.second (pos 0)) parts.1 in
+            let parts = and_parts (number == c.table) (lies_between l c.first h && lies_between (pos 0) c.second (pos 0)) inside in
+            let ends = and_parts (lies_between l c.first h) (lies_between (pos 0) c.second (pos 0)) parts.1 in
             record {
               table = same_number number c.table parts.0;
               first = within_ends (assigned params parameter f) (term_of params u low) (term_of params (next_behind params u low) high) l c.first h is_low is_high ends.0;
@@ -202,8 +199,8 @@ module _ (params : List Name) (parameter : ℕ → ℤ) where
             let rest = agrees_behind f u behind_a j.values (t.values ++ k.values) (j.count u) agrees in
             let is_low = t.fits f behind_a (agrees_first f behind_a t.values k.values rest) in
             let is_high = k.fits f behind_low (agrees_behind f behind_a behind_low t.values k.values (t.count behind_a) rest) in
-            let parts = and_both (number == c.table) (lies_between x c.first x && lies_between l c.second h) inside in
-            let ends = and_both (lies_between x c.first x) (lies_between l c.second h) parts.1 in
+            let parts = and_parts (number == c.table) (lies_between x c.first x && lies_between l c.second h) inside in
+            let ends = and_parts (lies_between x c.first x) (lies_between l c.second h) parts.1 in
             record {
               table = same_number number c.table parts.0;
               first = within_ends (assigned params parameter f) (term_of params u a) (term_of params u a) x c.first x is_a is_a ends.0;
