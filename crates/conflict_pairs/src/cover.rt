@@ -21,9 +21,7 @@ use std::alloc::{AllocError, Global};
 fn is_equal(closed: &Closed, mine: Term, theirs: Term) -> bool
     ensures { IsTrue result ↔ AllEqual closed.now ((mine, theirs) ∷ []) }
 {
-    let mine = mine_node(mine);
-    let theirs = their_node(theirs);
-    closed.entails(mine, theirs) && closed.entails(theirs, mine)
+    closed.forces_equal(mine_node(mine), their_node(theirs))
 }
 
 fn is_equal_second(closed: &Closed, mine: Option<Column>, theirs: Option<Column>) -> bool

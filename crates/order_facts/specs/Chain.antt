@@ -37,6 +37,10 @@ Meets v facts = All (λ f. value_under v f.lo ≤ℤ value_under v f.hi) facts
 abbrev pub Entails : List Fact → Node → Node → Type 0
 Entails facts x y = (v : Assignment) → IsOfI64 v → Meets v facts → value_under v x ≤ℤ value_under v y
 
+-- and `y` at most what it gives `x`
+abbrev pub ForcesEqual : List Fact → Node → Node → Type 0
+ForcesEqual facts x y = Entails facts x y × Entails facts y x
+
 -- some assignment of i64 meets all facts
 abbrev pub IsConsistent : List Fact → Type 0
 IsConsistent facts = (v : Assignment) × IsOfI64 v × Meets v facts

@@ -2,7 +2,7 @@
 
 ghost use Rattle.std.specs.Prelude.{◌≡◌, ◌↔◌, ◌≤◌, List, false, length, IfOk, IfSome, IfNone, IsSome, IsNone, IsTrue};
 ghost use Rattle.order_facts.specs.declared.steps.Node.{Node};
-ghost use Rattle.order_facts.specs.Chain.{Entails, IsConsistent, IsOfI64, Meets, HasContradiction, IsChain, IsTight, RunsBetween};
+ghost use Rattle.order_facts.specs.Chain.{Entails, ForcesEqual, IsConsistent, IsOfI64, Meets, HasContradiction, IsChain, IsTight, RunsBetween};
 ghost use Rattle.order_facts.specs.Sample.{sample_number, assignment_of, IsSampled};
 
 use crate::matrix::matrix_of;
@@ -67,6 +67,13 @@ impl Closed {
         ensures { IsTrue result ↔ Entails self.now x y }
     {
         !self.consistent || reaches(&self.facts, &self.matrix, x, y)
+    }
+
+    /// Whether every assignment of i64 that meets all facts gives both the same.
+    pub fn forces_equal(&self, x: Node, y: Node) -> bool
+        ensures { IsTrue result ↔ ForcesEqual self.now x y }
+    {
+        self.entails(x, y) && self.entails(y, x)
     }
 
     /// A chain from `x` to `y` with the fewest nodes, where there is one.

@@ -71,8 +71,7 @@ LawOfQuestions =
 -- the facts put a term of the first access and one of the second at most each other
 abbrev pub EntailsEqual : Access → Access → Term → Term → Type 0
 EntailsEqual mine theirs s t =
-    facts.Entails (question_facts mine theirs) (mine_node s) (their_node t)
-    × facts.Entails (question_facts mine theirs) (their_node t) (mine_node s)
+    facts.ForcesEqual (question_facts mine theirs) (mine_node s) (their_node t)
 
 -- the two terms are equal under each pair of assignments under which the accesses meet
 abbrev pub AreEqualWhereTheyMeet : Access → Access → Term → Term → Type 0

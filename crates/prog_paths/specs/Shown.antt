@@ -3,7 +3,7 @@ use Rattle.std.specs.Prelude.{◌≡◌, ℤ, ◌<ℤ◌, List, [], ◌∷◌, O
 use Rattle.order_facts.specs.declared.steps.Node.{Node}
 use Rattle.order_facts.specs.declared.steps.Node.TheVariants.{Number}
 use Rattle.order_facts.specs.declared.steps.Fact.{Fact}
-use Rattle.order_facts.specs.Chain.{IsChain, RunsBetween, Entails}
+use Rattle.order_facts.specs.Chain.{IsChain, RunsBetween, ForcesEqual}
 use Rattle.prog_check.specs.declared.path.Term.{Term}
 use Rattle.prog_check.specs.declared.path.Column.{Column}
 use Rattle.prog_check.specs.declared.path.Access.{Access}
@@ -48,8 +48,7 @@ ShowEqual facts _ _ = ⊥
 abbrev pub AllEqual : List Fact → List (Term × Term) → Type 0
 AllEqual facts [] = Unit {0}
 AllEqual facts (p ∷ ps) =
-    (Entails facts (mine_node p.0) (their_node p.1) × Entails facts (their_node p.1) (mine_node p.0))
-    × AllEqual facts ps
+    ForcesEqual facts (mine_node p.0) (their_node p.1) × AllEqual facts ps
 
 -- both accesses change or keep, and the facts put them at one cell
 pub record CoversBy (facts : List Fact) (mine theirs : Access) : Type 0 where

@@ -2,7 +2,7 @@
 use Rattle.std.specs.Prelude.{◌≡◌, ℕ, suc, zero, ◌<◌, ◌⊎◌, List, [], ◌∷◌, ◌++◌, Contains}
 use Rattle.order_facts.specs.declared.steps.Node.TheVariants.{Mine, Theirs}
 use Rattle.order_facts.specs.declared.steps.Fact.{Fact}
-use Rattle.order_facts.specs.Chain.{Entails}
+use Rattle.order_facts.specs.Chain.{ForcesEqual}
 use Rattle.prog_check.specs.declared.path.Term.TheVariants.{Param}
 use Rattle.prog_check.specs.declared.path.Access.{Access}
 use Rattle.prog_check.specs.declared.path.Path.{Path}
@@ -27,7 +27,7 @@ AreFactsOf nodes q facts =
 
 -- the facts put this parameter of the first program and this one of the second at most each other
 abbrev pub PutEqual : List Fact → ℕ × ℕ → Type 0
-PutEqual facts p = Entails facts (Mine p.0) (Theirs p.1) × Entails facts (Theirs p.1) (Mine p.0)
+PutEqual facts p = ForcesEqual facts (Mine p.0) (Theirs p.1)
 
 -- wherever one of the questions meets, this parameter of the first program is this one of the second
 abbrev pub ForceEqual : List Path → List Asked → ℕ → ℕ → Type 0

@@ -25,9 +25,7 @@ fn facts_of(alloc: Global, paths: &[Path], question: &Question) -> Result<Closed
 fn puts_equal(closed: &Closed, both: (usize, usize)) -> bool
     ensures { IsTrue result ↔ PutEqual closed.now both }
 {
-    let mine = Node::Mine(both.0);
-    let theirs = Node::Theirs(both.1);
-    closed.entails(mine, theirs) && closed.entails(theirs, mine)
+    closed.forces_equal(Node::Mine(both.0), Node::Theirs(both.1))
 }
 
 /// Those of some pairs of parameters that the facts put equal.
