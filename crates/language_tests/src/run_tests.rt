@@ -4,7 +4,7 @@ use crate::told::is_told;
 use example_sets::{SMALL_BANK, set_of};
 use prog_check::ProgramSet;
 use prog_run::{AnswerFault, Look, Next, Run};
-use prog_tree::{Cell, Region};
+use prog_tree::{Cell, Region, Sequence};
 use std::alloc::{AllocError, Global};
 use std::process::Abort;
 use std::test::Fail;
@@ -133,17 +133,21 @@ fn shown_answer(alloc: Global, answer: Result<Next, AnswerFault>) -> Result<Stri
 /// The answer that a word gives: these rows, that a cell holds nothing, or the number that it
 /// holds.
 fn answered(
+    alloc: Global,
     run: &mut Run<'_>,
     rows: &[(Cell, i64)],
     word: &str,
-) -> Option<Result<Next, AnswerFault>> {
+) -> Result<Option<Result<Next, AnswerFault>>, AllocError> {
     match word {
-        "rows" => Some(run.answer_scan(rows)),
-        "none" => Some(run.answer_get(None)),
-        _ => {
-            let value = word.parse::<i64>().ok()?;
-            Some(run.answer_get(Some(value)))
+        "rows" => {
+            let rows = Sequence::from_slice(alloc, rows)?;
+            Ok(Some(run.answer_scan(rows)))
         }
+        "none" => Ok(Some(run.answer_get(None))),
+        _ => match word.parse::<i64>() {
+            Ok(value) => Ok(Some(run.answer_get(Some(value)))),
+            Err(_) => Ok(None),
+        },
     }
 }
 
@@ -162,7 +166,7 @@ fn call(
     if word == "advance" {
         return advance(alloc, run);
     }
-    match answered(run, rows, word) {
+    match answered(alloc, run, rows, word)? {
         Some(answer) => shown_answer(alloc, answer),
         None => read(alloc, run, word),
     }

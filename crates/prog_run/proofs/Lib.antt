@@ -1,8 +1,10 @@
 pub mod AgainLaws
+pub mod AsideLaws
 pub mod FrontLemmas
 pub mod GrowLemmas
 pub mod LookLemmas
 pub mod OwnLemmas
+pub mod RefusalLaws
 pub mod SeenLemmas
 pub mod StatementLemmas
 pub mod StepLemmas

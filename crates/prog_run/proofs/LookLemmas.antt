@@ -19,7 +19,7 @@ pub found_same : (p q : Progress) → q.looks ≡ p.looks → FoundBefore p q
 found_same p q e m f = subst (AreFound m) e f
 
 -- a cell that the run has changed is not asked for
-pub asked_unchanged : (changes : ChangeSet) (cell : Cell) (usage : UseTree) → asked_by changes (task.Look (OfCell cell usage)) ≡ Some (One cell) → change_at changes cell ≡ None
+pub asked_unchanged : (changes : ChangeSet) (cell : Cell) (usage : UseTree) → asked_by changes (task.Ask (OfCell cell usage)) ≡ Some (One cell) → change_at changes cell ≡ None
 asked_unchanged changes cell usage e = by_change (change_at changes cell) refl e
   where
     by_change : (o : Option (Option ℤ)) → change_at changes cell ≡ o → (if is_some o then None else Some (One cell)) ≡ Some (One cell) → change_at changes cell ≡ None

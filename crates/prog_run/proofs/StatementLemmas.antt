@@ -51,19 +51,19 @@ module _ (tables : List TableDecl) (m : TableState) where
   pub task_law : (st : StatementTree) (p : Progress) → needs_store st ≡ true → run_statement tables m st p ≡ with_value (task_of tables st p.env) p (λ t. task_flow m t p)
   task_law (s.Bind name value) p store = absurd (true≢false (sym store))
   task_law (s.Get name table key otherwise) p store =
-      sym (chained (cell_of (number_of tables table) key p.env) (λ cell. Some (task.Look (OfCell cell (task.Get name otherwise)))) p (λ t. task_flow m t p))
+      sym (chained (cell_of (number_of tables table) key p.env) (λ cell. Some (task.Ask (OfCell cell (task.Get name otherwise)))) p (λ t. task_flow m t p))
   task_law (s.Need name table key) p store =
-      sym (chained (cell_of (number_of tables table) key p.env) (λ cell. Some (task.Look (OfCell cell (task.Need name)))) p (λ t. task_flow m t p))
+      sym (chained (cell_of (number_of tables table) key p.env) (λ cell. Some (task.Ask (OfCell cell (task.Need name)))) p (λ t. task_flow m t p))
   task_law (s.Count name table range) p store = sym (chained (region_of (number_of tables table) range p.env) _ p (λ t. task_flow m t p))
   task_law (s.Sum name table range) p store = sym (chained (region_of (number_of tables table) range p.env) _ p (λ t. task_flow m t p))
   task_law (s.Lacks table key) p store =
-      sym (chained (cell_of (number_of tables table) key p.env) (λ cell. Some (task.Look (OfCell cell task.Lacks))) p (λ t. task_flow m t p))
+      sym (chained (cell_of (number_of tables table) key p.env) (λ cell. Some (task.Ask (OfCell cell task.Lacks))) p (λ t. task_flow m t p))
   task_law (s.Put table key value) p store =
       (λ i. with_value (cell_of (number_of tables table) key p.env) p (λ cell. sym (mapped (value_of value p.env) (λ v. task.Put cell v) p (λ t. task_flow m t p)) i))
       ∙ sym (chained (cell_of (number_of tables table) key p.env) (λ cell. option_map (λ v. task.Put cell v) (value_of value p.env)) p (λ t. task_flow m t p))
   task_law (s.Insert table key value) p store =
-      (λ i. with_value (cell_of (number_of tables table) key p.env) p (λ cell. sym (mapped (value_of value p.env) (λ v. task.Look (OfCell cell (task.Insert v))) p (λ t. task_flow m t p)) i))
-      ∙ sym (chained (cell_of (number_of tables table) key p.env) (λ cell. option_map (λ v. task.Look (OfCell cell (task.Insert v))) (value_of value p.env)) p (λ t. task_flow m t p))
+      (λ i. with_value (cell_of (number_of tables table) key p.env) p (λ cell. sym (mapped (value_of value p.env) (λ v. task.Ask (OfCell cell (task.Insert v))) p (λ t. task_flow m t p)) i))
+      ∙ sym (chained (cell_of (number_of tables table) key p.env) (λ cell. option_map (λ v. task.Ask (OfCell cell (task.Insert v))) (value_of value p.env)) p (λ t. task_flow m t p))
   task_law (s.Delete table key) p store = sym (chained (cell_of (number_of tables table) key p.env) (λ cell. Some (task.Remove cell)) p (λ t. task_flow m t p))
   task_law (s.Keep table key) p store = sym (chained (cell_of (number_of tables table) key p.env) (λ cell. Some (task.Keep cell)) p (λ t. task_flow m t p))
   task_law (s.Reply value) p store = absurd (true≢false (sym store))
@@ -88,7 +88,7 @@ task_store tables s.Abort env t is = absurd (cc)
 
 -- whether a task is to list rows
 abbrev pub lists : TaskTree → Bool
-lists (task.Look (OfRegion region (Lists l body))) = true
+lists (task.Ask (OfRegion region (Lists l body))) = true
 lists _ = false
 
 made : {A : Type 0} (o : Option A) (make : A → Option TaskTree) (t : TaskTree) → ((a : A) (u : TaskTree) → make a ≡ Some u → lists u ≡ false) → option_and_then make o ≡ Some t → lists t ≡ false
@@ -105,13 +105,13 @@ valued (Some v) make u h is = just (make v) u (h v) is
 -- no statement without blocks lists rows
 plain_lists : (tables : List TableDecl) (st : StatementTree) (env : Bindings) (t : TaskTree) → task_of tables st env ≡ Some t → lists t ≡ false
 plain_lists tables (s.Bind name value) env t is = absurd (cc)
-plain_lists tables (s.Get name table key otherwise) env t is = made (cell_of (number_of tables table) key env) _ t (λ cell u. just (task.Look (OfCell cell (task.Get name otherwise))) u refl) is
-plain_lists tables (s.Need name table key) env t is = made (cell_of (number_of tables table) key env) _ t (λ cell u. just (task.Look (OfCell cell (task.Need name))) u refl) is
-plain_lists tables (s.Count name table range) env t is = made (region_of (number_of tables table) range env) _ t (λ region u. just (task.Look (OfRegion region (task.Counts name))) u refl) is
-plain_lists tables (s.Sum name table range) env t is = made (region_of (number_of tables table) range env) _ t (λ region u. just (task.Look (OfRegion region (task.Sums name))) u refl) is
-plain_lists tables (s.Lacks table key) env t is = made (cell_of (number_of tables table) key env) _ t (λ cell u. just (task.Look (OfCell cell task.Lacks)) u refl) is
+plain_lists tables (s.Get name table key otherwise) env t is = made (cell_of (number_of tables table) key env) _ t (λ cell u. just (task.Ask (OfCell cell (task.Get name otherwise))) u refl) is
+plain_lists tables (s.Need name table key) env t is = made (cell_of (number_of tables table) key env) _ t (λ cell u. just (task.Ask (OfCell cell (task.Need name))) u refl) is
+plain_lists tables (s.Count name table range) env t is = made (region_of (number_of tables table) range env) _ t (λ region u. just (task.Ask (OfRegion region (task.Counts name))) u refl) is
+plain_lists tables (s.Sum name table range) env t is = made (region_of (number_of tables table) range env) _ t (λ region u. just (task.Ask (OfRegion region (task.Sums name))) u refl) is
+plain_lists tables (s.Lacks table key) env t is = made (cell_of (number_of tables table) key env) _ t (λ cell u. just (task.Ask (OfCell cell task.Lacks)) u refl) is
 plain_lists tables (s.Put table key value) env t is = made (cell_of (number_of tables table) key env) _ t (λ cell u. valued (value_of value env) (λ v. task.Put cell v) u (λ v. refl)) is
-plain_lists tables (s.Insert table key value) env t is = made (cell_of (number_of tables table) key env) _ t (λ cell u. valued (value_of value env) (λ v. task.Look (OfCell cell (task.Insert v))) u (λ v. refl)) is
+plain_lists tables (s.Insert table key value) env t is = made (cell_of (number_of tables table) key env) _ t (λ cell u. valued (value_of value env) (λ v. task.Ask (OfCell cell (task.Insert v))) u (λ v. refl)) is
 plain_lists tables (s.Delete table key) env t is = made (cell_of (number_of tables table) key env) _ t (λ cell u. just (task.Remove cell) u refl) is
 plain_lists tables (s.Keep table key) env t is = made (cell_of (number_of tables table) key env) _ t (λ cell u. just (task.Keep cell) u refl) is
 plain_lists tables (s.Reply value) env t is = absurd (cc)
@@ -121,19 +121,19 @@ plain_lists tables s.Abort env t is = absurd (cc)
 pub record IsListing (tables : List TableDecl) (l : ListingTree) (body : BlockTree) (env : Bindings) (t : TaskTree) : Type 0 where
   pub region : Region
   pub found : region_of (number_of tables l.table) l.range env ≡ Some region
-  pub is : task.Look (OfRegion region (Lists l body)) ≡ t
+  pub is : task.Ask (OfRegion region (Lists l body)) ≡ t
 
 pub listing_is : (tables : List TableDecl) (l : ListingTree) (body : BlockTree) (env : Bindings) (t : TaskTree) → listing_task tables l body env ≡ Some t → IsListing tables l body env t
 listing_is tables l body env t has = by_region (region_of (number_of tables l.table) l.range env) refl has
   where
-    by_region : (o : Option Region) → region_of (number_of tables l.table) l.range env ≡ o → option_and_then (λ region. Some (task.Look (OfRegion region (Lists l body)))) o ≡ Some t → IsListing tables l body env t
+    by_region : (o : Option Region) → region_of (number_of tables l.table) l.range env ≡ o → option_and_then (λ region. Some (task.Ask (OfRegion region (Lists l body)))) o ≡ Some t → IsListing tables l body env t
     by_region None at found = absurd (cc)
     by_region (Some region) at found = record { region = region; found = at; is = cc }
 
 pub no_listing : (tables : List TableDecl) (l : ListingTree) (body : BlockTree) (env : Bindings) → listing_task tables l body env ≡ None → region_of (number_of tables l.table) l.range env ≡ None
 no_listing tables l body env none = by_region (region_of (number_of tables l.table) l.range env) none
   where
-    by_region : (o : Option Region) → option_and_then (λ region. Some (task.Look (OfRegion region (Lists l body)))) o ≡ None → o ≡ None
+    by_region : (o : Option Region) → option_and_then (λ region. Some (task.Ask (OfRegion region (Lists l body)))) o ≡ None → o ≡ None
     by_region None found = refl
     by_region (Some region) found = absurd (cc)
 
@@ -154,12 +154,12 @@ pub record IsAtListing (tables : List TableDecl) (b : BlockTree) (env : Bindings
   pub found : region_of (number_of tables l.table) l.range env ≡ Some region
 
 pub first_listing : (tables : List TableDecl) (b : BlockTree) (env : Bindings) (l : ListingTree) (body : BlockTree) (region : Region) →
-    next_task tables b env ≡ Some (task.Look (OfRegion region (Lists l body))) → IsAtListing tables b env l body region
+    next_task tables b env ≡ Some (task.Ask (OfRegion region (Lists l body))) → IsAtListing tables b env l body region
 first_listing tables BlockEnd env l body region is = absurd (cc)
-first_listing tables (Then st rest) env l body region is = absurd (true≢false (plain_lists tables st env (task.Look (OfRegion region (Lists l body))) is))
+first_listing tables (Then st rest) env l body region is = absurd (true≢false (plain_lists tables st env (task.Ask (OfRegion region (Lists l body))) is))
 first_listing tables (Branch test a b rest) env l body region is = absurd (cc)
 first_listing tables (Each k block rest) env l body region is =
-    let h = listing_is tables k block env (task.Look (OfRegion region (Lists l body))) is in
+    let h = listing_is tables k block env (task.Ask (OfRegion region (Lists l body))) is in
     let same = h.is in
     let head : k ≡ l = cc in
     let inner : block ≡ body = cc in
@@ -187,14 +187,14 @@ longer : (ls : List Look) (l : Look) → ls ++ l ∷ [] ≡ ls → ⊥
 longer ls l e = let n = ap length e in omega (arith, n, length-append ls (l ∷ []))
 
 -- a listing that is begun only asks
-pub listing_asks : (region : Region) (l : ListingTree) (body : BlockTree) (p q : Progress) (deed : Deed) → IsBegun (task.Look (OfRegion region (Lists l body))) (Did deed) p q → ⊥
+pub listing_asks : (region : Region) (l : ListingTree) (body : BlockTree) (p q : Progress) (deed : Deed) → IsBegun (task.Ask (OfRegion region (Lists l body))) (Did deed) p q → ⊥
 listing_asks region l body p q deed h =
     let one = region_look p.changes region [] in
     let goes = (h []).0 in
     let same : did (Listed region (length (seen_rows p.changes region []))) (looked one p) ≡ q = cc in
     longer p.looks one (ap (λ (r : Progress). r.looks) same ∙ (h []).2)
 
-pub listing_goes_on : (region : Region) (l : ListingTree) (body : BlockTree) (p q : Progress) (end : End) → IsBegun (task.Look (OfRegion region (Lists l body))) (Over end) p q → ⊥
+pub listing_goes_on : (region : Region) (l : ListingTree) (body : BlockTree) (p q : Progress) (end : End) → IsBegun (task.Ask (OfRegion region (Lists l body))) (Over end) p q → ⊥
 listing_goes_on region l body p q (Aborted cause) h = let same = (h []).0 in absurd (cc)
 listing_goes_on region l body p q Ready h = h []
 
@@ -212,18 +212,18 @@ module _ (l : Look) (p : Progress) (flow : TableState → Flow) (half : Flow) (i
 
 -- a look at a cell that the run has not changed
 pub cell_done : (cell : Cell) (usage : UseTree) (held : Option ℤ) (p : Progress) → change_at p.changes cell ≡ None → (n : Step) (r : Progress) →
-    IsFlow (use_flow usage cell held (looked (look.One cell held) p)) n (looked (look.One cell held) p) r → IsDoneBy (λ m. task_flow m (task.Look (OfCell cell usage)) p) n p r
+    IsFlow (use_flow usage cell held (looked (look.One cell held) p)) n (looked (look.One cell held) p) r → IsDoneBy (λ m. task_flow m (task.Ask (OfCell cell usage)) p) n p r
 cell_done cell usage held p unchanged =
-    halves (look.One cell held) p (λ m. task_flow m (task.Look (OfCell cell usage)) p) (use_flow usage cell held (looked (look.One cell held) p))
+    halves (look.One cell held) p (λ m. task_flow m (task.Ask (OfCell cell usage)) p) (use_flow usage cell held (looked (look.One cell held) p))
     (λ m f. ap (λ o. seen_or [] m o cell p (use_flow usage cell)) unchanged ∙ (λ i. use_flow usage cell (f.0 i) (looked (look.One cell (f.0 i)) p)))
 
 -- a look at a region
 pub rows_done : (region : Region) (usage : RegionUseTree) (rows : TableState) (p : Progress) → let own = own_cells region p.changes.cells in let left = rows_without own rows in
     let q = looked (region_look p.changes region rows) p in
-    (n : Step) (r : Progress) → IsFlow (rows_flow usage region (rows_seen region p.changes.cells left) q) n q r → IsDoneBy (λ m. task_flow m (task.Look (OfRegion region usage)) p) n p r
+    (n : Step) (r : Progress) → IsFlow (rows_flow usage region (rows_seen region p.changes.cells left) q) n q r → IsDoneBy (λ m. task_flow m (task.Ask (OfRegion region usage)) p) n p r
 rows_done region usage rows p =
     let own = own_cells region p.changes.cells in
     let left = rows_without own rows in
     let q = looked (region_look p.changes region rows) p in
-    halves (region_look p.changes region rows) p (λ m. task_flow m (task.Look (OfRegion region usage)) p) (rows_flow usage region (rows_seen region p.changes.cells left) q)
+    halves (region_look p.changes region rows) p (λ m. task_flow m (task.Ask (OfRegion region usage)) p) (rows_flow usage region (rows_seen region p.changes.cells left) q)
     (λ m f. λ i. rows_flow usage region (rows_seen region p.changes.cells (f.0 i)) (looked (look.Range region own (f.0 i)) p))

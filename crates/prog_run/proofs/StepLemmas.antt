@@ -44,7 +44,7 @@ asks_step tables c d p q t next a at h = (
   record { deeds = ap (λ (r : Progress). r.deeds) h.0; changes = ap (λ (r : Progress). r.changes) h.0; looks = ap (λ (r : Progress). r.looks) h.0; replies = begins_same (ap (λ (r : Progress). r.replies) h.0) },
   (
     (λ i. next_task tables (at i).here.rest (h.0 i).env) ∙ next ∙ ap Some h.1,
-    ap (λ (r : Progress). asked_by r.changes (task.Look (asked_tree a))) h.0 ∙ ap (asked_by p.changes) (sym h.1) ∙ h.2,
+    ap (λ (r : Progress). asked_by r.changes (task.Ask (asked_tree a))) h.0 ∙ ap (asked_by p.changes) (sym h.1) ∙ h.2,
   ),
 )
 
@@ -105,16 +105,16 @@ module _ (tables : List TableDecl) (c d : CursorTree) (p q : Progress) where
   pub cell_step : (cell : Cell) (usage : UseTree) (held : Option ℤ) → IsAt tables (OfCell cell usage) c p → (n : Step) → d ≡ cursor_after n c →
       IsFlow (use_flow usage cell held (looked (look.One cell held) p)) n (looked (look.One cell held) p) q → IsStep tables n c p d q
   cell_step cell usage held h n at done =
-      let first = first_statement tables c.here.rest p.env (task.Look (OfCell cell usage)) refl h.0 in
-      finished tables first.0 first.1 c d p q first.2 (task.Look (OfCell cell usage)) (ap (λ b. next_task tables b p.env) (sym first.2) ∙ h.0) n at
+      let first = first_statement tables c.here.rest p.env (task.Ask (OfCell cell usage)) refl h.0 in
+      finished tables first.0 first.1 c d p q first.2 (task.Ask (OfCell cell usage)) (ap (λ b. next_task tables b p.env) (sym first.2) ∙ h.0) n at
       (cell_done cell usage held p (asked_unchanged p.changes cell usage h.1) n q done)
 
   -- a count or a sum
-  tally_step : (region : Region) (usage : RegionUseTree) (rows : TableState) → lists (task.Look (OfRegion region usage)) ≡ false → IsAt tables (OfRegion region usage) c p → (n : Step) → d ≡ cursor_after n c →
+  tally_step : (region : Region) (usage : RegionUseTree) (rows : TableState) → lists (task.Ask (OfRegion region usage)) ≡ false → IsAt tables (OfRegion region usage) c p → (n : Step) → d ≡ cursor_after n c →
       IsFlow (rows_flow usage region (seen_rows p.changes region rows) (looked (region_look p.changes region rows) p)) n (looked (region_look p.changes region rows) p) q → IsStep tables n c p d q
   tally_step region usage rows tally h n at flow =
-      let first = first_statement tables c.here.rest p.env (task.Look (OfRegion region usage)) tally h.0 in
-      finished tables first.0 first.1 c d p q first.2 (task.Look (OfRegion region usage)) (ap (λ b. next_task tables b p.env) (sym first.2) ∙ h.0) n at
+      let first = first_statement tables c.here.rest p.env (task.Ask (OfRegion region usage)) tally h.0 in
+      finished tables first.0 first.1 c d p q first.2 (task.Ask (OfRegion region usage)) (ap (λ b. next_task tables b p.env) (sym first.2) ∙ h.0) n at
       (rows_done region usage rows p n q flow)
 
   -- an `each` whose rows are listed

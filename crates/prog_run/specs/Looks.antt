@@ -47,8 +47,8 @@ question_of (OfRegion region usage) = Range region
 
 -- what a task asks; those that change a cell ask nothing
 abbrev pub asked_by : ChangeSet → TaskTree → Option Question
-asked_by changes (task.Look (OfCell cell usage)) = asked_for changes cell
-asked_by changes (task.Look (OfRegion region usage)) = Some (Range region)
+asked_by changes (task.Ask (OfCell cell usage)) = asked_for changes cell
+asked_by changes (task.Ask (OfRegion region usage)) = Some (Range region)
 asked_by changes _ = None
 
 -- a look at a region, of a run with these changes, that found these rows; those of the cells that it had changed are left out

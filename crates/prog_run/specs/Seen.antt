@@ -1,9 +1,10 @@
 -- What a run sees in a region: the rows of a look, with its own changes among them.
-use Rattle.std.specs.Prelude.{◌≡◌, ℕ, ◌+◌, ℤ, [], ◌∷◌, Option, Some, None, if◌then◌else◌}
+use Rattle.std.specs.Prelude.{◌≡◌, ℕ, ◌+◌, ℤ, [], ◌∷◌, Option, Some, None, unwrap_or, if◌then◌else◌}
 use Rattle.std.specs.Ordering.{is_lt}
 use Rattle.prog_tree.specs.declared.cell.Cell.{Cell}
 use Rattle.prog_tree.specs.Table.{cell_cmp, TableState, row_at}
 use Rattle.prog_tree.specs.ChangeSet.{ChangedCells}
+use Rattle.prog_run.specs.declared.region.Found.{Found}
 
 -- how many rows stand in front whose cells come before this one
 abbrev pub rows_before : Cell → TableState → ℕ
@@ -19,3 +20,7 @@ AreAbsent rows (entry ∷ entries) = (row_at rows entry.0 ≡ None) × AreAbsent
 abbrev pub own_row : Cell → Option ℤ → TableState
 own_row c (Some v) = (c, v) ∷ []
 own_row c None = []
+
+-- the rows that a run sees, of what its look found
+abbrev pub seen_by : Found → TableState
+seen_by found = unwrap_or found.changed found.rows

@@ -38,19 +38,19 @@ IsFlow f (Over Ready) p q = ⊥
 
 -- a look was noted, and then this was done
 abbrev pub IsFlowBehind : Look → (Progress → Flow) → Step → Progress → Progress → Type 0
-IsFlowBehind l go n p q = IsFlow (go (looked l p)) n (looked l p) q
+IsFlowBehind l go step p q = IsFlow (go (looked l p)) step (looked l p) q
 
 -- a statement that asked for a cell was finished with what the cell held
 abbrev pub IsCellAnswered : UseTree → Cell → Option ℤ → Step → Progress → Progress → Type 0
-IsCellAnswered usage cell held n p q = IsFlowBehind (look.One cell held) (use_flow usage cell held) n p q
+IsCellAnswered usage cell held step p q = IsFlowBehind (look.One cell held) (use_flow usage cell held) step p q
 
 -- a statement that asked for a region was finished with these rows of the snapshot
 abbrev pub IsRegionAnswered : RegionUseTree → Region → TableState → Step → Progress → Progress → Type 0
-IsRegionAnswered usage region rows n p q =
-    IsFlowBehind (region_look p.changes region rows) (rows_flow usage region (seen_rows p.changes region rows)) n p q
+IsRegionAnswered usage region rows step p q =
+    IsFlowBehind (region_look p.changes region rows) (rows_flow usage region (seen_rows p.changes region rows)) step p q
 
 -- a task was begun: it asks and nothing is done, or on every table state it does this
 abbrev pub IsBegun : TaskTree → Step → Progress → Progress → Type 0
-IsBegun t (Asks asked) p q = (q ≡ p) × (t ≡ task.Look (asked_tree asked)) × (asked_by p.changes t ≡ Some (question_of (asked_tree asked)))
+IsBegun t (Asks asked) p q = (q ≡ p) × (t ≡ task.Ask (asked_tree asked)) × (asked_by p.changes t ≡ Some (question_of (asked_tree asked)))
 IsBegun t (Did deed) p q = (m : TableState) → IsFlow (task_flow m t p) (Did deed) p q
 IsBegun t (Over end) p q = (m : TableState) → IsFlow (task_flow m t p) (Over end) p q

@@ -11,7 +11,7 @@ use Rattle.prog_tree.specs.Table.{TableState}
 use Rattle.prog_tree.specs.Evaluation.{turns_of, as_evaluation, ended}
 use Rattle.prog_run.specs.Todo.{CursorTree, listed, with_rest, todo}
 use Rattle.prog_run.specs.Cursor.{BeginsWith, KeepsStore}
-use Rattle.prog_run.specs.Task.{RegionUseTree, Lists, AskedTree, Look, asked_tree, next_task, rows_flow}
+use Rattle.prog_run.specs.Task.{RegionUseTree, Lists, AskedTree, Ask, asked_tree, next_task, rows_flow}
 use Rattle.prog_run.specs.Statement.{changes_with, IsFlow}
 use Rattle.prog_run.specs.Looks.{AreFound, FoundBefore, asked_by, question_of}
 use Rattle.prog_run.specs.declared.next.Next.{Next}
@@ -94,7 +94,7 @@ EndsAs tables end c p q = (m : TableState) → AreFound m q.looks → ended (tod
 
 -- the run stands before a statement whose task is this look, at nothing that it has changed
 abbrev pub IsAt : List TableDecl → AskedTree → CursorTree → Progress → Type 0
-IsAt tables asked c p = (next_task tables c.here.rest p.env ≡ Some (Look asked)) × (asked_by p.changes (Look asked) ≡ Some (question_of asked))
+IsAt tables asked c p = (next_task tables c.here.rest p.env ≡ Some (Ask asked)) × (asked_by p.changes (Ask asked) ≡ Some (question_of asked))
 
 -- a step that comes to a question, a deed or the end
 abbrev pub IsStep : List TableDecl → Step → CursorTree → Progress → CursorTree → Progress → Type 0

@@ -43,7 +43,7 @@ pub data AskedTree : Type 0 where
   OfRegion : (region : Region) (usage : RegionUseTree) → AskedTree
 
 pub data TaskTree : Type 0 where
-  Look : (asked : AskedTree) → TaskTree
+  Ask : (asked : AskedTree) → TaskTree
   Put : (cell : Cell) (value : ℤ) → TaskTree
   Remove : (cell : Cell) → TaskTree
   Keep : (cell : Cell) → TaskTree
@@ -66,7 +66,7 @@ asked_tree (asked.OfCell cell usage) = OfCell cell (use_tree usage)
 asked_tree (asked.OfRegion region usage) = OfRegion region (region_use_tree usage)
 
 abbrev pub task_tree : Task → TaskTree
-task_tree (task.Look look) = Look (asked_tree look)
+task_tree (task.Ask asked) = Ask (asked_tree asked)
 task_tree (task.Put cell value) = Put cell value
 task_tree (task.Remove cell) = Remove cell
 task_tree (task.Keep cell) = Keep cell
@@ -84,13 +84,13 @@ task_in tables table range env make = option_and_then make (region_of (number_of
 -- what a statement without blocks is to do at the store; none where a result lies outside i64, or where it needs no store
 abbrev pub task_of : List TableDecl → StatementTree → Bindings → Option TaskTree
 task_of tables (s.Bind name value) env = None
-task_of tables (s.Get name table key otherwise) env = task_at tables table key env (λ cell. Some (Look (OfCell cell (Get name otherwise))))
-task_of tables (s.Need name table key) env = task_at tables table key env (λ cell. Some (Look (OfCell cell (Need name))))
-task_of tables (s.Count name table range) env = task_in tables table range env (λ region. Some (Look (OfRegion region (Counts name))))
-task_of tables (s.Sum name table range) env = task_in tables table range env (λ region. Some (Look (OfRegion region (Sums name))))
-task_of tables (s.Lacks table key) env = task_at tables table key env (λ cell. Some (Look (OfCell cell Lacks)))
+task_of tables (s.Get name table key otherwise) env = task_at tables table key env (λ cell. Some (Ask (OfCell cell (Get name otherwise))))
+task_of tables (s.Need name table key) env = task_at tables table key env (λ cell. Some (Ask (OfCell cell (Need name))))
+task_of tables (s.Count name table range) env = task_in tables table range env (λ region. Some (Ask (OfRegion region (Counts name))))
+task_of tables (s.Sum name table range) env = task_in tables table range env (λ region. Some (Ask (OfRegion region (Sums name))))
+task_of tables (s.Lacks table key) env = task_at tables table key env (λ cell. Some (Ask (OfCell cell Lacks)))
 task_of tables (s.Put table key value) env = task_at tables table key env (λ cell. option_map (λ v. Put cell v) (value_of value env))
-task_of tables (s.Insert table key value) env = task_at tables table key env (λ cell. option_map (λ v. Look (OfCell cell (Insert v))) (value_of value env))
+task_of tables (s.Insert table key value) env = task_at tables table key env (λ cell. option_map (λ v. Ask (OfCell cell (Insert v))) (value_of value env))
 task_of tables (s.Delete table key) env = task_at tables table key env (λ cell. Some (Remove cell))
 task_of tables (s.Keep table key) env = task_at tables table key env (λ cell. Some (Keep cell))
 task_of tables (s.Reply value) env = None
@@ -98,7 +98,7 @@ task_of tables s.Abort env = None
 
 -- an `each` is to list its rows
 abbrev pub listing_task : List TableDecl → ListingTree → BlockTree → Bindings → Option TaskTree
-listing_task tables l body env = task_in tables l.table l.range env (λ region. Some (Look (OfRegion region (Lists l body))))
+listing_task tables l body env = task_in tables l.table l.range env (λ region. Some (Ask (OfRegion region (Lists l body))))
 
 -- a branch has none
 abbrev pub task_of_stmt : List TableDecl → StmtTree → Bindings → Option TaskTree
@@ -149,8 +149,8 @@ rows_flow (Lists l body) region rows p = GoesOn (did (deed.Listed region (length
 
 -- what a task does on a table state; the turns of an `each` come after it
 abbrev pub task_flow : TableState → TaskTree → Progress → Flow
-task_flow m (Look (OfCell cell usage)) p = with_seen [] m cell p (use_flow usage cell)
-task_flow m (Look (OfRegion region usage)) p = with_rows [] m region p (rows_flow usage region)
+task_flow m (Ask (OfCell cell usage)) p = with_seen [] m cell p (use_flow usage cell)
+task_flow m (Ask (OfRegion region usage)) p = with_rows [] m region p (rows_flow usage region)
 task_flow m (Put cell v) p = GoesOn (did (deed.Put cell v) (wrote cell (Some v) p))
 task_flow m (Remove cell) p = GoesOn (did (deed.Removed cell) (wrote cell None p))
 task_flow m (Keep cell) p = GoesOn (did (deed.Kept cell) (keeps cell p))

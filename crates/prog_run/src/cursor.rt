@@ -1,10 +1,10 @@
 //! Where a run stands in its program.
-ghost use Rattle.std.specs.Prelude.{◌≡◌, true, [], length, IfOk, OnOk, OnErr, if◌then◌else◌};
+ghost use Rattle.std.specs.Prelude.{◌≡◌, true, [], ◌∷◌, ◌++◌, length, IfOk, OnOk, OnErr, if◌then◌else◌};
 ghost use Rattle.prog_tree.specs.Tree.{listing_tree, block_tree, stmts_tree};
 ghost use Rattle.prog_run.specs.Todo.{inside};
 ghost use Rattle.prog_run.specs.Cursor.{open_tree, cursor_tree, is_store, KeepsStore, SameTodo};
 ghost use Rattle.prog_run.specs.Cursor.{IsLocalStep, IsSettled};
-ghost use Rattle.prog_run.specs.Looks.{seen_rows};
+ghost use Rattle.prog_run.specs.Looks.{region_look, seen_rows};
 ghost use Rattle.prog_run.specs.Task.{Lists, region_use_tree};
 ghost use Rattle.prog_run.specs.Statement.{IsRegionAnswered};
 ghost use Rattle.prog_run.specs.Step.{cursor_after, cursor_behind, IsStep, IsUsed};
@@ -12,11 +12,11 @@ ghost use Rattle.prog_run.specs.Step.{cursor_after, cursor_behind, IsStep, IsUse
 use crate::block::{Names, OpenBlock, Turns, turns_over};
 use crate::next::Step;
 use crate::notes::note_turn;
-use crate::region::look_at_region;
+use crate::region::{Found, look_at_region};
 use crate::statement::{begin, count_rows, sum_rows};
 use crate::task::{RegionUse, task_of};
 use prog_check::ProgramSet;
-use prog_tree::{Block, Cause, Cell, Deed, End, Listing, Progress, Region, Stmt};
+use prog_tree::{Block, Cause, Cell, Deed, End, Listing, Look, Progress, Region, Sequence, Stmt};
 use std::alloc::{AllocError, Global};
 use std::mem;
 
@@ -86,8 +86,7 @@ impl<'a> Cursor<'a> {
         ensures err_store { OnErr result (KeepsStore progress.old progress.new) }
     {
         let Some((stmt, rest)) = self.here.rest.split_first() else {
-            let standing = self.leave(progress)?;
-            return Ok(standing);
+            return self.leave(progress);
         };
         match stmt {
             Stmt::Bind { name, value } => {
@@ -214,24 +213,50 @@ impl<'a> Cursor<'a> {
         progress: &mut Progress<'a>,
         region: Region,
         usage: RegionUse<'a>,
-        rows: &[(Cell, i64)],
+        rows: Sequence<(Cell, i64)>,
     ) -> Result<Step<'a>, AllocError>
         ensures flow { IfOk result
-            (λ s. IsRegionAnswered (region_use_tree usage.entry) region rows.now s progress.old
+            (λ s. IsRegionAnswered (region_use_tree usage.entry) region rows s progress.old
             progress.new) }
         ensures cursor { IfOk result
             (λ s. cursor_tree self.new ≡ cursor_behind (region_use_tree usage.entry)
-            (seen_rows progress.old.changes region rows.now) (length progress.old.env) s
+            (seen_rows progress.old.changes region rows) (length progress.old.env) s
             (cursor_tree self.old)) }
         ensures err { OnErr result (cursor_tree self.new ≡ cursor_tree self.old) }
         ensures err_progress { OnErr result (progress.new ≡ progress.old) }
     {
-        let looks = progress.looks.len();
-        let seen = look_at_region(alloc, progress, region, rows)?;
-        let Ok(step) = self.use_rows(alloc, progress, region, usage, seen.as_slice()) else {
-            progress.looks.truncate(looks);
-            return Err(AllocError);
-        };
+        let mut looks = mem::replace(&mut progress.looks, Sequence::new(alloc)).into_vec();
+        let step = self.look(alloc, progress, &mut looks, region, usage, rows);
+        progress.looks = Sequence::from_vec(looks);
+        step
+    }
+
+    /// Goes on with the rows that the run sees in a region, and then notes the look, which takes
+    /// them. The looks stand aside for that.
+    fn look(
+        &mut self,
+        alloc: Global,
+        progress: &mut Progress<'a>,
+        looks: &mut Vec<Look>,
+        region: Region,
+        usage: RegionUse<'a>,
+        rows: Sequence<(Cell, i64)>,
+    ) -> Result<Step<'a>, AllocError>
+        ensures look { OnOk result (looks.new.items
+            ≡ looks.old.items ++ region_look progress.old.changes region rows ∷ []) }
+        ensures used { IfOk result
+            (λ s. IsUsed (region_use_tree usage.entry) region
+            (seen_rows progress.old.changes region rows) s (cursor_tree self.old) progress.old
+            (cursor_tree self.new) progress.new) }
+        ensures err { OnErr result (cursor_tree self.new ≡ cursor_tree self.old) }
+        ensures err_progress { OnErr result (progress.new ≡ progress.old) }
+        ensures err_looks { OnErr result (looks.new.items ≡ looks.old.items) }
+    {
+        looks.reserve(1)?;
+        let found = look_at_region(alloc, &progress.changes, region, rows)?;
+        let step = self.use_rows(alloc, progress, region, usage, found.seen())?;
+        let Found { own, rows, .. } = found;
+        looks.push_reserved(Look::Range { region, own, rows });
         Ok(step)
     }
 

@@ -1,19 +1,39 @@
 //! What a run sees in a region.
-ghost use Rattle.std.specs.Prelude.{◌≡◌, ◌↔◌, ◌≤◌, [], ◌++◌, length, option_copied, IfOk, IfSome, IsTrue, OnOk, OnErr};
-ghost use Rattle.std.specs.Cow.{cow_slice_items};
+ghost use Rattle.std.specs.Prelude.{◌≡◌, ◌↔◌, ◌≤◌, ◌++◌, length, option_copied, IfOk, IfSome, IsTrue, OnOk};
 ghost use Rattle.std.specs.List.{list_all};
 ghost use Rattle.std.specs.List.Sorted.{IsStrictlySortedBy};
 ghost use Rattle.prog_tree.specs.Table.{TableState, cell_cmp, is_in, is_cell_among, cells_of, rows_in};
 ghost use Rattle.prog_tree.specs.ChangeSet.{changes_in, changed};
 ghost use Rattle.prog_tree.specs.Evaluation.{own_cells, total_of, rows_without};
-ghost use Rattle.prog_tree.specs.Steps.{looked};
 ghost use Rattle.prog_tree.specs.Value.{exact};
 ghost use Rattle.prog_run.specs.Looks.{AreFound, IsFoundLast, region_look, seen_rows};
-ghost use Rattle.prog_run.specs.Seen.{rows_before, AreAbsent, own_row};
+ghost use Rattle.prog_run.specs.Seen.{rows_before, AreAbsent, own_row, seen_by};
 
-use prog_tree::{Cell, Changes, Look, Progress, Region, Sequence, corners};
+use prog_tree::{Cell, Changes, Look, Region, Sequence, corners};
 use std::alloc::{AllocError, Global};
-use std::borrow::CowSlice;
+
+/// What a look at a region found.
+#[derive(Drop)]
+pub struct Found {
+    /// The cells of the region that the run had changed.
+    pub own: Sequence<Cell>,
+    /// The rows of all other cells.
+    pub rows: Sequence<(Cell, i64)>,
+    /// The rows with the run's own changes among them, where it has made some.
+    pub changed: Option<Sequence<(Cell, i64)>>,
+}
+
+impl Found {
+    /// The rows that the run sees.
+    pub fn seen(&self) -> &[(Cell, i64)]
+        ensures { result.now ≡ seen_by self.now }
+    {
+        match &self.changed {
+            Some(rows) => rows.as_slice(),
+            None => self.rows.as_slice(),
+        }
+    }
+}
 
 /// Whether all rows lie in a region.
 pub fn are_in(region: &Region, rows: &[(Cell, i64)]) -> bool
@@ -159,53 +179,33 @@ pub fn exact_i64(number: i128) -> Option<i64>
     i64::try_from(number).ok()
 }
 
-// Notes a look at a region in which the run has changed nothing.
-fn note_look(
+/// Looks at a region, of which the snapshot holds these rows. What the run has changed itself is
+/// left out of the look's rows. Where that is nothing, these are the rows that it sees too.
+pub fn look_at_region(
     alloc: Global,
-    progress: &mut Progress<'_>,
+    changes: &Changes,
     region: Region,
-    rows: &[(Cell, i64)],
-) -> Result<(), AllocError>
-    requires { changes_in region progress.old.changes.cells ≡ [] }
-    ensures ok { OnOk result
-        (progress.new ≡ looked (region_look progress.old.changes region rows.now) progress.old) }
-    ensures err { OnErr result (progress.new ≡ progress.old) }
+    rows: Sequence<(Cell, i64)>,
+) -> Result<Found, AllocError>
+    ensures look { IfOk result (λ found.
+        Look.Range region found.own found.rows ≡ region_look changes.now region rows) }
+    ensures seen { IfOk result (λ found. seen_by found ≡ seen_rows changes.now region rows) }
 {
-    let rows = Sequence::from_slice(alloc, rows)?;
-    let look = Look::Range {
-        region,
-        own: Sequence::new(alloc),
-        rows,
-    };
-    progress.looks.push(look)?;
-    Ok(())
-}
-
-/// Looks at a region: notes the look, whose rows are those of the snapshot but for the run's own
-/// cells, and gives the rows that the run sees there. Where the run has changed nothing in the
-/// region, these are the rows of the snapshot, which are not copied for it.
-pub fn look_at_region<'r>(
-    alloc: Global,
-    progress: &mut Progress<'_>,
-    region: Region,
-    rows: &'r [(Cell, i64)],
-) -> Result<CowSlice<'r, (Cell, i64), Global>, AllocError>
-    ensures look { OnOk result
-        (progress.new ≡ looked (region_look progress.old.changes region rows.now) progress.old) }
-    ensures seen { IfOk result
-        (λ seen. cow_slice_items seen ≡ seen_rows progress.old.changes region rows.now) }
-    ensures err { OnErr result (progress.new ≡ progress.old) }
-{
-    let changes = own_changes(alloc, &progress.changes, &region)?;
-    if changes.is_empty() {
-        note_look(alloc, progress, region, rows)?;
-        return Ok(CowSlice::Borrowed(rows));
+    let own = own_changes(alloc, changes, &region)?;
+    if own.is_empty() {
+        return Ok(Found {
+            own: Sequence::new(alloc),
+            rows,
+            changed: None,
+        });
     }
-    let own = cells(alloc, &changes)?;
-    let mut rows = Vec::from_slice(alloc, rows)?;
-    remove_own(&mut rows, &region, &progress.changes);
-    let seen = merge(alloc, &rows, &changes)?;
-    let rows = Sequence::from_vec(rows);
-    progress.looks.push(Look::Range { region, own, rows })?;
-    Ok(CowSlice::Owned(seen))
+    let left_out = cells(alloc, &own)?;
+    let mut rows = rows.into_vec();
+    remove_own(&mut rows, &region, changes);
+    let seen = merge(alloc, &rows, &own)?;
+    Ok(Found {
+        own: left_out,
+        rows: Sequence::from_vec(rows),
+        changed: Some(Sequence::from_vec(seen)),
+    })
 }

@@ -164,12 +164,12 @@ impl<'a> Run<'a> {
     }
 
     /// Answers the question for a region with its rows in the snapshot, and finishes the statement; of an `each` that
-    /// is its listing.
-    pub fn answer_scan(&mut self, rows: &[(Cell, i64)]) -> Result<Next, AnswerFault>
-        ensures refused { IsRefusedBy (scan_fault (asked_region self.old.asked) rows.now) result }
+    /// is its listing. The rows become those of its look.
+    pub fn answer_scan(&mut self, rows: Sequence<(Cell, i64)>) -> Result<Next, AnswerFault>
+        ensures refused { IsRefusedBy (scan_fault (asked_region self.old.asked) rows) result }
         ensures answered { IfOk result
             (λ next. IfSome (asked_region self.old.asked)
-            (λ region. IsAnswered (region_look self.old.changes region rows.now) next self.old
+            (λ region. IsAnswered (region_look self.old.changes region rows) next self.old
             self.new)) }
         ensures true_run { IsTrueRun self.new }
         ensures same { SameBegin self.old self.new }
@@ -178,7 +178,7 @@ impl<'a> Run<'a> {
         let Some(Asked::OfRegion { region, usage }) = self.asked else {
             return Err(AnswerFault::NotAsked);
         };
-        if !are_in(&region, rows) {
+        if !are_in(&region, rows.as_slice()) {
             return Err(AnswerFault::BadRows);
         }
         let step = self

@@ -22,13 +22,13 @@ pub fn begin<'a>(progress: &mut Progress<'a>, task: Task<'a>) -> Result<Step<'a>
     ensures err { OnErr result (progress.new ≡ progress.old) }
 {
     match task {
-        Task::Look(Asked::OfCell { cell, usage }) => {
+        Task::Ask(Asked::OfCell { cell, usage }) => {
             let Some(own) = progress.changes.get(&cell) else {
                 return Ok(Step::Asks(Asked::OfCell { cell, usage }));
             };
             use_cell(progress, cell, usage, own)
         }
-        Task::Look(asked) => Ok(Step::Asks(asked)),
+        Task::Ask(asked) => Ok(Step::Asks(asked)),
         Task::Put { cell, value } => write(progress, Deed::Put(cell, value)),
         Task::Remove { cell } => write(progress, Deed::Removed(cell)),
         Task::Keep { cell } => write(progress, Deed::Kept(cell)),

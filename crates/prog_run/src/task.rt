@@ -60,7 +60,7 @@ pub enum Asked<'a> {
 /// What a statement is to do.
 #[derive(Clone, Copy, Debug)]
 pub enum Task<'a> {
-    Look(Asked<'a>),
+    Ask(Asked<'a>),
     Put { cell: Cell, value: i64 },
     Remove { cell: Cell },
     Keep { cell: Cell },
@@ -105,10 +105,10 @@ fn look_at<'a>(
 ) -> Option<Task<'a>>
     ensures { option_map task_tree result
         ≡ task_at set.now.tables.items table.now (key_tree key.now) env.now
-        (λ cell. Some (TaskTree.Look (AskedTree.OfCell cell (use_tree usage.entry)))) }
+        (λ cell. Some (TaskTree.Ask (AskedTree.OfCell cell (use_tree usage.entry)))) }
 {
     let cell = cell_at(set, table, key, env)?;
-    Some(Task::Look(Asked::OfCell { cell, usage }))
+    Some(Task::Ask(Asked::OfCell { cell, usage }))
 }
 
 // A look at the rows of a range.
@@ -121,11 +121,11 @@ fn look_in<'a>(
 ) -> Option<Task<'a>>
     ensures { option_map task_tree result
         ≡ task_in set.now.tables.items table.now (range_tree range.now) env.now
-        (λ region. Some (TaskTree.Look
+        (λ region. Some (TaskTree.Ask
         (AskedTree.OfRegion region (region_use_tree usage.entry)))) }
 {
     let region = range.region(table_number(set, table), env)?;
-    Some(Task::Look(Asked::OfRegion { region, usage }))
+    Some(Task::Ask(Asked::OfRegion { region, usage }))
 }
 
 /// What a statement of the store is to do, or nothing where a result lies outside i64.
@@ -148,7 +148,7 @@ pub fn task_of<'a>(set: &ProgramSet, stmt: &'a Stmt, env: &Env) -> Option<Task<'
             let usage = CellUse::Insert {
                 value: value.value(env)?,
             };
-            Some(Task::Look(Asked::OfCell { cell, usage }))
+            Some(Task::Ask(Asked::OfCell { cell, usage }))
         }
         Stmt::Count { name, table, range } => {
             look_in(set, table, range, env, RegionUse::Count { name })

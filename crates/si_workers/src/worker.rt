@@ -80,7 +80,7 @@ fn step<'a, D: Desk<'a>>(
         }
         Next::Scan(region) => {
             let rows = rows_for(alloc, desk, job, ticket, run, &region)?;
-            run.answer_scan(rows.as_slice())
+            run.answer_scan(rows)
         }
         next => Ok(next),
     };

@@ -32,7 +32,7 @@ fn step<R: Wait + Abort>(rt: &R, shelf: &Shelf<'_>, ticket: &Ticket, run: &mut R
         }
         Next::Scan(region) => {
             let rows = shelf.scan(rt, ticket, &region).expect(rt, "rows");
-            run.answer_scan(rows.as_slice()).expect(rt, "a step")
+            run.answer_scan(rows).expect(rt, "a step")
         }
         next => next,
     }

@@ -11,7 +11,7 @@ use Rattle.history_book.proofs.book.Book.advance_at.Goals as goal
 pub taken-requires-in-Scan : goal.taken-requires-in-Scan
 taken-requires-in-Scan c =
     let asked = c.in_ok-next.ensures.advance.asked ∙ ap question_after c.in-Scan.is in
-    memory_alone c.answer_scan.result _ (no_scan_fault (state_in c.args.self.now c.args.start) c.advance.new.self.asked c.in-Scan.region _ asked (c.as_slice.ensures ∙ c.in_ok-rows-in-Scan.ensures)) c.answer_scan.ensures.refused
+    memory_alone c.answer_scan.result _ (no_scan_fault (state_in c.args.self.now c.args.start) c.advance.new.self.asked c.in-Scan.region _ asked c.in_ok-rows-in-Scan.ensures) c.answer_scan.ensures.refused
 
 pub returns-in_ok-next-in-Get-clause-ok : goal.returns-in_ok-next-in-Get-clause-ok
 returns-in_ok-next-in-Get-clause-ok c =
@@ -43,7 +43,7 @@ pub returns-in_ok-next-in-Scan-clause-ok : goal.returns-in_ok-next-in-Scan-claus
 returns-in_ok-next-in-Scan-clause-ok c =
     let old = c.advance.new.self in
     let new = c.answer_scan.new.self in
-    let rows = c.as_slice.result.now in
+    let rows = c.in_ok-rows-in-Scan.rows in
     let next = c.in_ok-next-in-Scan.next in
     let asked = c.in_ok-next.ensures.advance.asked ∙ ap question_after c.in-Scan.is in
     let answered = subst (λ r. IfOk r (λ next. IfSome (asked_region old.asked) (λ region. IsAnswered (region_look old.changes region rows) next old new))) c.in_ok-next-in-Scan.ensures.ok c.answer_scan.ensures.answered in
@@ -55,13 +55,13 @@ returns-in_ok-next-in-Scan-clause-own c =
     let m = state_in c.args.self.now c.args.start in
     let old = c.advance.new.self in
     let new = c.answer_scan.new.self in
-    let rows = c.as_slice.result.now in
+    let rows = c.in_ok-rows-in-Scan.rows in
     let next = c.in_ok-next-in-Scan.next in
     let asked = c.in_ok-next.ensures.advance.asked ∙ ap question_after c.in-Scan.is in
     let before = subst (AreFound m) (sym c.in_ok-next.ensures.advance.looks) c.requires.found in
     let answered = subst (λ r. IfOk r (λ next. IfSome (asked_region old.asked) (λ region. IsAnswered (region_look old.changes region rows) next old new))) c.in_ok-next-in-Scan.ensures.ok c.answer_scan.ensures.answered in
     record {
-      found = found_region m old new c.in-Scan.region rows next (c.as_slice.ensures ∙ c.in_ok-rows-in-Scan.ensures) before (answered_region old new c.in-Scan.region rows next asked answered);
+      found = found_region m old new c.in-Scan.region rows next c.in_ok-rows-in-Scan.ensures before (answered_region old new c.in-Scan.region rows next asked answered);
       true_run = c.answer_scan.ensures.true_run;
       same = begun_as_first _ old new c.advance.ensures.same c.answer_scan.ensures.same;
     }

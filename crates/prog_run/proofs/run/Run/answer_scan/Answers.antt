@@ -1,5 +1,8 @@
-use Rattle.std.proofs.Common.{◌≡◌, [], ◌∷◌, ◌++◌, rules, refl, sym, ap, subst, ◌∙◌}
+use Rattle.std.proofs.Common.{◌≡◌, true, false, [], ◌∷◌, ◌++◌, rules, refl, sym, ap, subst, ◌∙◌}
 use Rattle.std.specs.Prelude.{Some}
+use Rattle.std.specs.List.{list_all}
+use Rattle.std.proofs.lemmas.Result.{err_from_is_err_and}
+use Rattle.prog_tree.specs.Table.{is_in}
 use Rattle.prog_tree.specs.Tree.{program_tree}
 use Rattle.prog_tree.specs.Steps.{looked}
 use Rattle.prog_run.specs.Cursor.{cursor_tree}
@@ -9,8 +12,34 @@ use Rattle.prog_run.specs.Step.{deeds_after, changes_after, question_after, end_
 use Rattle.prog_run.specs.View.{RunView, IsTrueRun, IsTrueTo, question_in}
 use Rattle.prog_run.specs.declared.task.Asked.TheVariants as asked
 use Rattle.prog_run.proofs.GrowLemmas.{true_at}
+use Rattle.prog_run.proofs.RefusalLaws.{rows_fault, memory_refuses}
 use Rattle.prog_run.proofs.StepLemmas.{rows_step, answer_adds, asked_for_rows, true_answered, unchanged}
 use Rattle.prog_run.proofs.run.Run.answer_scan.Goals as goal
+
+pub returns-then-not-are_in-clause-refused : goal.returns-then-not-are_in-clause-refused
+returns-then-not-are_in-clause-refused c =
+    let s = c.in-Some-OfRegion in
+    let waits : c.self.inside.asked ≡ Some (asked.OfRegion s.region s.usage) = first_of (search rules, cc) in
+    let question = ap (λ (v : RunView). v.asked) (sym c.self.view_is) ∙ ap question_in waits in
+    let within = ap (list_all (λ row. is_in s.region row.0)) (sym c.as_slice.ensures) ∙ sym c.are_in.ensures ∙ c.if-not-are_in.true in
+    rows_fault _ s.region c.args.rows false question within
+
+pub returns-in_err-step-clause-refused : goal.returns-in_err-step-clause-refused
+returns-in_err-step-clause-refused c =
+    let s = c.in-Some-OfRegion in
+    let waits : c.self.inside.asked ≡ Some (asked.OfRegion s.region s.usage) = first_of (search rules, cc) in
+    let question = ap (λ (v : RunView). v.asked) (sym c.self.view_is) ∙ ap question_in waits in
+    let within = ap (list_all (λ row. is_in s.region row.0)) (sym c.as_slice.ensures) ∙ sym c.are_in.ensures ∙ c.if-not-are_in.false in
+    let refusal = err_from_is_err_and c.from_residual.result c.from_residual.ensures.1 in
+    memory_refuses c.from_residual.result refusal.0 _ refusal.1 refusal.2 (rows_fault _ s.region c.args.rows true question within)
+
+pub returns-clause-refused : goal.returns-clause-refused
+returns-clause-refused c =
+    let s = c.in-Some-OfRegion in
+    let waits : c.self.inside.asked ≡ Some (asked.OfRegion s.region s.usage) = first_of (search rules, cc) in
+    let question = ap (λ (v : RunView). v.asked) (sym c.self.view_is) ∙ ap question_in waits in
+    let within = ap (list_all (λ row. is_in s.region row.0)) (sym c.as_slice.ensures) ∙ sym c.are_in.ensures ∙ c.if-not-are_in.false in
+    rows_fault _ s.region c.args.rows true question within
 
 pub returns-in_default-clause-true_run : goal.returns-in_default-clause-true_run
 returns-in_default-clause-true_run c =
@@ -41,7 +70,7 @@ still_true c =
     let n = c.in_ok-step.step in
     let waits : r.asked ≡ Some (asked.OfRegion s.region s.usage) = first_of (search rules, cc) in
     let at = c.self.invariant.1 (asked.OfRegion s.region s.usage) waits in
-    let step = rows_step r.set.now.tables.items old new r.progress q s.region (region_use_tree s.usage) c.args.rows.now at.1 n c.in_ok-step.ensures.cursor c.in_ok-step.ensures.flow in
+    let step = rows_step r.set.now.tables.items old new r.progress q s.region (region_use_tree s.usage) c.args.rows at.1 n c.in_ok-step.ensures.cursor c.in_ok-step.ensures.flow in
     true_answered r.set.now.tables.items (program_tree r.program.now) r.args r.end c.end-self-inside.result old new r.progress q n at.0 c.end-self-inside.ensures c.self.invariant.0 step
 
 pub invariant_of-self-2 : goal.invariant_of-self-2
@@ -57,7 +86,7 @@ returns-clause-answered c =
     let p = r.progress in
     let q = c.answer_region.new.progress in
     let n = c.in_ok-step.step in
-    let rows = c.args.rows.now in
+    let rows = c.args.rows in
     let look = region_look p.changes s.region rows in
     let half = rows_flow (region_use_tree s.usage) s.region (seen_rows p.changes s.region rows) (looked look p) in
     let adds = answer_adds look half n p q c.in_ok-step.ensures.flow in
