@@ -8,6 +8,7 @@ pub mod OneKind
 pub mod Entries
 pub mod Serving
 pub mod Numbered
+pub mod Paired
 pub mod Collecting
 pub mod Parts
 pub mod Moving

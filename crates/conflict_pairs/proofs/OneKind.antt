@@ -4,7 +4,7 @@ use Rattle.std.specs.Prelude.{All, Some, slice_get}
 use Rattle.std.specs.List.{AllZip}
 use Rattle.std.proofs.lemmas.List.{drop_more, drop_all, append-nil}
 use Rattle.std.proofs.lemmas.List.Elements.{All-weaker}
-use Rattle.std.proofs.lemmas.Option.{slice_get_within, same_Some}
+use Rattle.std.proofs.lemmas.Option.{slice_get-get_or, slice_get_within, same_Some}
 use Rattle.prog_check.specs.declared.path.Access.{Access}
 use Rattle.prog_check.specs.declared.path.Path.{Path}
 use Rattle.prog_paths.specs.declared.accesses.places.Placed.{Placed}
@@ -12,9 +12,10 @@ use Rattle.prog_paths.specs.Asked.{placed_from, all_from}
 use Rattle.prog_paths.specs.Places.{IsAt}
 use Rattle.prog_paths.specs.StaticGraph.{IsAccessOf}
 use Rattle.prog_paths.proofs.Asked.{placed, all_places_stand}
-use Rattle.conflict_pairs.specs.Alike.{AreAlike, AreClasses, HasAccess, IsLikeAt}
+use Rattle.conflict_pairs.specs.Alike.{AreAlike, AreClasses, HasAccess}
 use Rattle.conflict_pairs.specs.Interning.{IsServed}
-use Rattle.conflict_pairs.specs.Kinds.{HasClass, AreOneKind, AreNumbered, starts_from, kind_at, HasKind, AreKinds}
+use Rattle.conflict_pairs.specs.Kinds.{HasClass, AreOneKind, AreNumbered, starts_from, AreLikePlaces, AreKinds}
+use Rattle.conflict_pairs.specs.Pairing.{no_place, place_at}
 use Rattle.conflict_pairs.proofs.Serving.{served-at}
 use Rattle.conflict_pairs.proofs.Zipped.{AllZip-lengths}
 use Rattle.conflict_pairs.proofs.Likeness.{alike-back, alike-through, like_at-classes}
@@ -102,7 +103,7 @@ place-from n (path ∷ rest) before (suc x) a access h =
     ∙ place-from (n + 1) rest (before ++ here) x a access (h.0, h.1, h.2)
     ∙ ap (λ (k : ℕ). Some (placed k a access)) e
 
-starts-length : (start : ℕ) (paths : List Path) → length (starts_from start paths) ≡ length paths
+pub starts-length : (start : ℕ) (paths : List Path) → length (starts_from start paths) ≡ length paths
 starts-length start [] = refl
 starts-length start (path ∷ rest) = ap suc (starts-length (start + length path.accesses) rest)
 
@@ -125,30 +126,19 @@ left-more n paths path lt is =
     ∙ length-append (placed_from n 0 path.accesses) (all_from (n + 1) (drop (n + 1) paths))
     ∙ ap (λ (k : ℕ). k + length (all_from (n + 1) (drop (n + 1) paths))) (placed-length n 0 path.accesses)
 
+-- each access stands where its node begins and its own number on
+pub place-stands : (paths : List Path) (x a : ℕ) (h : HasAccess paths x a) → slice_get (all_from 0 paths) (get_or (starts_from 0 paths) x 0 + a) ≡ Some (placed x a h.0)
+place-stands paths x a h =
+    let e : 0 + x ≡ x = omega arith in
+    place-from 0 paths [] x a h.0 h.1 ∙ ap (λ (k : ℕ). Some (placed k a h.0)) e
+
 -- ---- the kinds of all accesses
 
 module _ (paths : List Path) (classes numbers : List ℕ) (classed : AreClasses paths classes) (numbered : AreNumbered classes (all_from 0 paths) numbers) where
-  starts : List ℕ
-  starts = starts_from 0 paths
+  alike : (m n : ℕ) → m < length (all_from 0 paths) → n < length (all_from 0 paths) → get_or numbers m 0 ≡ get_or numbers n 0 → AreLikePlaces paths m n
+  alike m n lt le same =
+      like_at-classes paths classes (place_at (all_from 0 paths) m) (place_at (all_from 0 paths) n) classed (all_places_stand paths m no_place lt) (all_places_stand paths n no_place le)
+      (numbered.same m n (place_at (all_from 0 paths) m) (place_at (all_from 0 paths) n) (slice_get-get_or (all_from 0 paths) m no_place lt) (slice_get-get_or (all_from 0 paths) n no_place le) same)
 
-  stands : (x a : ℕ) (h : HasAccess paths x a) → slice_get (all_from 0 paths) (get_or starts x 0 + a) ≡ Some (placed x a h.0)
-  unfolding starts
-  stands x a h =
-      let e : 0 + x ≡ x = omega arith in
-      place-from 0 paths [] x a h.0 h.1 ∙ ap (λ (k : ℕ). Some (placed k a h.0)) e
-
-  has : (x a : ℕ) → HasAccess paths x a → HasKind starts numbers x a
-  unfolding starts
-  has x a h =
-      let within = slice_get_within (all_from 0 paths) (get_or starts x 0 + a) (placed x a h.0) (stands x a h) in
-      let node = slice_get_within paths x h.1.0 h.1.1 in
-      record { node = omega (arith, node, starts-length 0 paths); access = omega (arith, within, numbered.one_each) }
-
-  alike : (x a y b : ℕ) → HasAccess paths x a → HasAccess paths y b → kind_at starts numbers x a ≡ kind_at starts numbers y b → IsLikeAt paths x a y b
-  alike x a y b h k same =
-      like_at-classes paths classes (placed x a h.0) (placed y b k.0) classed h.1 k.1
-      (numbered.same (get_or starts x 0 + a) (get_or starts y 0 + b) (placed x a h.0) (placed y b k.0) (stands x a h) (stands y b k) same)
-
-  pub AreKinds-from : (all : List ℕ) → all ≡ starts_from 0 paths → AreKinds paths all numbers
-  unfolding starts
-  AreKinds-from all is = subst (λ (l : List ℕ). AreKinds paths l numbers) (sym is) (record { has = has; alike = alike })
+  pub AreKinds-from : AreKinds paths numbers
+  AreKinds-from = record { one_each = numbered.one_each; alike = alike }

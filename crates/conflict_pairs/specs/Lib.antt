@@ -2,6 +2,7 @@ pub mod Interning
 pub mod Verdicts
 pub mod Search
 pub mod Alike
+pub mod Pairing
 pub mod Kinds
 pub mod Table
 pub mod Law

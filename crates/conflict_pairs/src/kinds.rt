@@ -1,13 +1,15 @@
 //! Kinds of accesses: what is said of one is said of each other of its kind.
-ghost use Rattle.std.specs.Prelude.{◌≡◌, ◌<◌, ◌^◌, length, IsTrue, All, IfOk};
+ghost use Rattle.std.specs.Prelude.{◌≡◌, ◌<◌, length, get_or, IsTrue, All, IfOk};
 ghost use Rattle.prog_paths.specs.Asked.{all_from};
-ghost use Rattle.conflict_pairs.specs.Alike.{HasAccess, IsAsked, IsLikeAt, IsLike};
-ghost use Rattle.conflict_pairs.specs.Kinds.{HasClass, AreOneKind, AreNumbered, starts_from, kind_at, HasKind};
+ghost use Rattle.conflict_pairs.specs.Alike.{IsLike};
+ghost use Rattle.conflict_pairs.specs.Kinds.{HasClass, AreOneKind, AreNumbered, AreLikePlaces};
+ghost use Rattle.conflict_pairs.specs.Pairing.{IsAskedAt, asked_at};
 
 use crate::alike::{are_alike, classes_of};
 use crate::interning::{Interner, intern_all};
+use crate::pairing::PlacePair;
 use prog_check::Path;
-use prog_paths::{Placed, Question};
+use prog_paths::Placed;
 use std::alloc::{AllocError, Global};
 use std::marker::Model;
 
@@ -16,8 +18,7 @@ use std::marker::Model;
 #[derive(Drop)]
 pub struct Kinds<'a> {
     paths: &'a [Path],
-    // For each node the place where the numbers of its accesses begin.
-    starts: Vec<usize>,
+    // For each access among all the number of its kind.
     numbers: Vec<usize>,
 }
 
@@ -30,7 +31,7 @@ impl<'a> Model for Kinds<'a> {
 
     ghost view = { λ k. k.paths.now };
 
-    ghost invariant = { λ k. AreKinds k.paths.now k.starts.items k.numbers.items };
+    ghost invariant = { λ k. AreKinds k.paths.now k.numbers.items };
 }
 
 /// Gives one number to the accesses of one kind.
@@ -74,26 +75,12 @@ fn numbers_of(alloc: Global, classes: &[usize], places: &[Placed]) -> Result<Vec
     Ok(intern_all(alloc, &Numbering { classes }, places)?.numbers)
 }
 
-/// For each node where its accesses begin among all.
-fn starts_of(alloc: Global, paths: &[Path]) -> Result<Vec<usize>, AllocError>
-    requires { length (all_from 0 paths.now) < 2 ^ 64 }
-    ensures { IfOk result (λ starts. starts.items ≡ starts_from 0 paths.now) }
+/// The kind of the access of a number.
+fn kind_at(numbers: &[usize], n: usize) -> usize
+    requires { n < length numbers.now }
+    ensures { result ≡ get_or numbers.now n 0 }
 {
-    let mut starts = Vec::with_capacity(alloc, paths.len())?;
-    let mut start = 0;
-    for path in paths {
-        starts.push(start)?;
-        start += path.accesses.as_slice().len();
-    }
-    Ok(starts)
-}
-
-/// The number of the kind of access `a` of node `x`.
-fn kind_at(starts: &[usize], numbers: &[usize], x: usize, a: usize) -> usize
-    requires { HasKind starts.now numbers.now x a }
-    ensures { result ≡ kind_at starts.now numbers.now x a }
-{
-    numbers[starts[x] + a]
+    numbers[n]
 }
 
 impl<'a> Kinds<'a> {
@@ -104,47 +91,41 @@ impl<'a> Kinds<'a> {
     {
         let classes = classes_of(alloc, paths)?;
         let numbers = numbers_of(alloc, &classes, places)?;
-        let starts = starts_of(alloc, paths)?;
-        Ok(Kinds {
-            paths,
-            starts,
-            numbers,
-        })
+        Ok(Kinds { paths, numbers })
     }
 
-    /// Whether access `a` of node `x` and access `b` of node `y` are of one kind.
-    fn is_same(&self, x: usize, a: usize, y: usize, b: usize) -> bool
-        requires first { HasAccess self.now x a }
-        requires second { HasAccess self.now y b }
-        ensures { IsTrue result → IsLikeAt self.now x a y b }
+    /// Whether the accesses of two numbers are of one kind.
+    fn is_same(&self, one: u32, other: u32) -> bool
+        requires one { one < length (all_from 0 self.now) }
+        requires other { other < length (all_from 0 self.now) }
+        ensures { IsTrue result → AreLikePlaces self.now one other }
     {
-        kind_at(&self.starts, &self.numbers, x, a) == kind_at(&self.starts, &self.numbers, y, b)
+        kind_at(&self.numbers, one as usize) == kind_at(&self.numbers, other as usize)
     }
 }
 
 impl<'a> Interner for Kinds<'a> {
-    type Key = Question;
+    type Key = PlacePair;
 
-    type Value = Question;
+    type Value = PlacePair;
 
-    ghost takes = { λ paths question. IsAsked paths question };
+    ghost takes = { λ paths pair. IsAskedAt paths pair };
 
-    ghost is_sound = { λ paths judged. IsAsked paths judged };
+    ghost is_sound = { λ paths judged. IsAskedAt paths judged };
 
-    ghost serves = { λ paths question judged. IsLike paths question judged };
+    ghost serves = { λ paths pair judged. IsLike paths (asked_at paths pair) (asked_at paths judged) };
 
-    fn hash(&self, question: &Question) -> usize {
-        let first = kind_at(&self.starts, &self.numbers, question.x, question.a);
-        let second = kind_at(&self.starts, &self.numbers, question.y, question.b);
+    fn hash(&self, pair: &PlacePair) -> usize {
+        let first = kind_at(&self.numbers, pair.first as usize);
+        let second = kind_at(&self.numbers, pair.second as usize);
         first.wrapping_mul(65_536).wrapping_add(second)
     }
 
-    fn is_served(&self, question: &Question, judged: &Question) -> bool {
-        self.is_same(question.x, question.a, judged.x, judged.a)
-            && self.is_same(question.y, question.b, judged.y, judged.b)
+    fn is_served(&self, pair: &PlacePair, judged: &PlacePair) -> bool {
+        self.is_same(pair.first, judged.first) && self.is_same(pair.second, judged.second)
     }
 
-    fn make(&self, _: Global, question: &Question) -> Result<Question, AllocError> {
-        Ok(*question)
+    fn make(&self, _: Global, pair: &PlacePair) -> Result<PlacePair, AllocError> {
+        Ok(*pair)
     }
 }

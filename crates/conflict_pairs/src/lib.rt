@@ -15,6 +15,7 @@ mod kinds;
 mod laws;
 mod limits;
 mod listing;
+mod pairing;
 mod parallel;
 mod table;
 mod verdicts;

@@ -5,3 +5,6 @@ pub const MIN_QUESTIONS_OF_THREADS: usize = 10_000;
 
 /// Into how many equal parts these are cut; some more questions may be left for a last one.
 pub const EQUAL_PARTS: usize = 8;
+
+/// The most accesses whose numbers have 32 bits. A list of more would take 500 GB.
+pub const MOST_PLACES: usize = 4_294_967_296;

@@ -1,34 +1,59 @@
 //! All questions of a list of paths.
-ghost use Rattle.std.specs.Prelude.{◌≡◌, ◌↔◌, ◌++◌, ◌<◌, ◌≤◌, length, All, IfOk, OnOk, Err};
+ghost use Rattle.std.specs.Prelude.{◌≡◌, ◌↔◌, ◌++◌, ◌<◌, ◌≤◌, ◌^◌, length, All, IfOk, OnOk, Err};
 ghost use Rattle.conflict_pairs.specs.declared.fault.PairFault as PairFault;
-ghost use Rattle.prog_paths.specs.Asked.{ChangesSingleCells, asked_by, asked_among, questions_of, limit};
+ghost use Rattle.prog_paths.specs.Asked.{ChangesSingleCells, all_from, asked_by, asked_among, questions_of, limit};
 ghost use Rattle.conflict_pairs.specs.Alike.{AreJudged, AreListed};
+ghost use Rattle.conflict_pairs.specs.Kinds.{starts_from};
+ghost use Rattle.conflict_pairs.specs.Pairing.{IsWithin, StandsAt, place_at, questions_at};
 ghost use Rattle.conflict_pairs.specs.Table.{StandsFor};
 
 use crate::fault::PairFault;
 use crate::interning::{Interned, intern_all};
 use crate::judge::verdicts_of;
 use crate::kinds::Kinds;
+use crate::limits::MOST_PLACES;
+use crate::pairing::{PlacePair, number_among, pair_of, question_of};
 use crate::table::PairTable;
 use crate::verdicts::Verdict;
 use prog_check::Path;
-use prog_paths::{
-    Changers, MAX_QUESTIONS, Placed, Question, all_places, asks, question_between, question_count,
-};
+use prog_paths::{Changers, MAX_QUESTIONS, Placed, Question, all_places, asks, question_count};
 use std::alloc::{AllocError, Global};
 
-/// Adds what one access asks of each.
-fn push_questions(
-    first: &Placed,
-    places: &[Placed],
-    questions: &mut Vec<Question>,
-) -> Result<(), AllocError>
-    ensures { OnOk result
-        (questions.new.items ≡ questions.old.items ++ asked_by first.now places.now) }
+/// For each node where its accesses begin among all.
+fn starts_of(alloc: Global, paths: &[Path]) -> Result<Vec<usize>, AllocError>
+    requires { length (all_from 0 paths.now) < 2 ^ 64 }
+    ensures { IfOk result (λ starts. starts.items ≡ starts_from 0 paths.now) }
 {
-    for second in places {
+    let mut starts = Vec::with_capacity(alloc, paths.len())?;
+    let mut start = 0;
+    for path in paths {
+        starts.push(start)?;
+        start += path.accesses.as_slice().len();
+    }
+    Ok(starts)
+}
+
+/// Adds what the access of a number asks of each, by the numbers of both among all.
+fn push_questions(
+    places: &[Placed],
+    starts: &[usize],
+    number: usize,
+    first: &Placed,
+    seconds: &[Placed],
+    pairs: &mut Vec<PlacePair>,
+) -> Result<(), AllocError>
+    requires few { length places.now ≤ 2 ^ 32 }
+    requires number { number < length places.now }
+    requires first { place_at places.now number ≡ first.now }
+    requires seconds { All (StandsAt starts.now places.now) seconds.now }
+    requires within { All (IsWithin places.now) pairs.old.items }
+    ensures questions { OnOk result (questions_at places.now pairs.new.items
+        ≡ questions_at places.now pairs.old.items ++ asked_by first.now seconds.now) }
+    ensures within { OnOk result (All (IsWithin places.now) pairs.new.items) }
+{
+    for second in seconds {
         if asks(first, second) {
-            questions.push(question_between(first, second))?;
+            pairs.push(pair_of(number, number_among(starts, second)))?;
         }
     }
     Ok(())
@@ -36,44 +61,73 @@ fn push_questions(
 
 /// What each access asks of each, without the verdicts, in a list with room for so many. Only the
 /// changers of its table are looked through.
-pub fn all_questions(
+fn all_questions(
     alloc: Global,
     places: &[Placed],
+    starts: &[usize],
     room: usize,
-) -> Result<Vec<Question>, AllocError>
-    ensures { IfOk result (λ questions. questions.items ≡ asked_among places.now places.now) }
+) -> Result<Vec<PlacePair>, AllocError>
+    requires few { length places.now ≤ 2 ^ 32 }
+    requires stand { All (StandsAt starts.now places.now) places.now }
+    ensures questions { IfOk result (λ pairs.
+        questions_at places.now pairs.items ≡ asked_among places.now places.now) }
+    ensures within { IfOk result (λ pairs. All (IsWithin places.now) pairs.items) }
 {
     let changers = Changers::of(alloc, places)?;
-    let mut questions = Vec::with_capacity(alloc, room)?;
-    for first in places {
+    let mut pairs = Vec::with_capacity(alloc, room)?;
+    for (number, first) in places.iter().enumerate() {
         let seconds = changers.of_table(first.access.table);
-        push_questions(first, seconds, &mut questions)?;
+        push_questions(places, starts, number, first, seconds, &mut pairs)?;
     }
-    Ok(questions)
+    Ok(pairs)
 }
 
-/// All questions of the paths in order, those of them that are judged, and for each of all the
-/// number of a judged one that is like it.
+/// All questions of the paths in order, by the numbers of their accesses among all, those of them
+/// that are judged, and for each of all the number of a judged one that is like it.
 #[derive(Drop)]
 pub struct Questions {
-    pub all: Vec<Question>,
+    pub places: Vec<Placed>,
+    pub pairs: Vec<PlacePair>,
     pub judged: Vec<Question>,
     pub numbers: Vec<usize>,
+}
+
+/// The questions of some pairs.
+fn questions_between(
+    alloc: Global,
+    places: &[Placed],
+    pairs: &[PlacePair],
+) -> Result<Vec<Question>, AllocError>
+    requires { All (IsWithin places.now) pairs.now }
+    ensures { IfOk result (λ questions. questions.items ≡ questions_at places.now pairs.now) }
+{
+    let mut questions = Vec::with_capacity(alloc, pairs.len())?;
+    for pair in pairs {
+        questions.push(question_of(places, *pair))?;
+    }
+    Ok(questions)
 }
 
 /// The questions of a list of paths, of which there are so many.
 pub fn questions_of(alloc: Global, paths: &[Path], count: usize) -> Result<Questions, AllocError>
     requires { length (questions_of paths.now) ≤ limit }
-    ensures { IfOk result (λ qs.
-        AreListed paths.now qs.all.items qs.judged.items qs.numbers.items) }
+    ensures listed { IfOk result (λ qs. AreListed paths.now
+        (questions_at qs.places.items qs.pairs.items) qs.judged.items qs.numbers.items) }
+    ensures within { IfOk result (λ qs. All (IsWithin qs.places.items) qs.pairs.items) }
 {
     let places = all_places(alloc, paths)?;
-    let all = all_questions(alloc, &places, count)?;
+    if places.len() > MOST_PLACES {
+        return Err(AllocError);
+    }
+    let starts = starts_of(alloc, paths)?;
+    let pairs = all_questions(alloc, &places, &starts, count)?;
     let kinds = Kinds::of(alloc, paths, &places)?;
-    let Interned { values, numbers } = intern_all(alloc, &kinds, &all)?;
+    let Interned { values, numbers } = intern_all(alloc, &kinds, &pairs)?;
+    let judged = questions_between(alloc, &places, &values)?;
     Ok(Questions {
-        all,
-        judged: values,
+        places,
+        pairs,
+        judged,
         numbers,
     })
 }
@@ -81,12 +135,20 @@ pub fn questions_of(alloc: Global, paths: &[Path], count: usize) -> Result<Quest
 /// The table of questions, by the verdicts on those that are judged.
 pub fn table_of(paths: &[Path], questions: Questions, verdicts: Vec<Verdict>) -> PairTable
     requires single { All ChangesSingleCells paths.now }
-    requires listed { AreListed paths.now questions.all.items questions.judged.items
+    requires listed { AreListed paths.now
+        (questions_at questions.places.items questions.pairs.items) questions.judged.items
         questions.numbers.items }
+    requires within { All (IsWithin questions.places.items) questions.pairs.items }
     requires judged { AreJudged paths.now questions.judged.items verdicts.items }
     ensures { StandsFor result paths.now }
 {
-    PairTable::of(paths.len(), questions.all, questions.numbers, verdicts)
+    PairTable::of(
+        paths.len(),
+        questions.places,
+        questions.pairs,
+        questions.numbers,
+        verdicts,
+    )
 }
 
 /// All questions of the paths in order, with their verdicts. They are counted before any memory is

@@ -1,16 +1,20 @@
 //! The table of all questions with their verdicts.
 ghost use Rattle.std.specs.Prelude.{◌≡◌, ◌<◌, ◌↔◌, [], IsTrue, All, Some, length, slice_get};
+ghost use Rattle.conflict_pairs.specs.Pairing.{IsWithin, questions_at};
 ghost use Rattle.conflict_pairs.specs.Table.{Entry, entries_of};
 
+use crate::pairing::{PlacePair, question_of};
 use crate::verdicts::Verdict;
-use prog_paths::Question;
+use prog_paths::{Placed, Question};
 use std::marker::Model;
 
 /// All questions of a list of paths in order, with their verdicts.
 #[derive(Drop)]
 pub struct PairTable {
     nodes: usize,
-    questions: Vec<Question>,
+    // All accesses of the nodes, and for each question which two of them it is between.
+    places: Vec<Placed>,
+    pairs: Vec<PlacePair>,
     // For each question the number of its verdict, which may be that of several.
     numbers: Vec<usize>,
     verdicts: Vec<Verdict>,
@@ -18,6 +22,7 @@ pub struct PairTable {
 
 impl Model for PairTable {
     ghost use Rattle.std.specs.Prelude.{◌≡◌, ◌<◌, length, All};
+    ghost use Rattle.conflict_pairs.specs.Pairing.{IsWithin, questions_at};
     ghost use Rattle.conflict_pairs.specs.Table.{Table, entries_of};
 
     ghost Value = { Table };
@@ -25,11 +30,13 @@ impl Model for PairTable {
     ghost view = { λ t. record {
       nodes = t.nodes;
       verdicts = t.verdicts.items;
-      entries = entries_of t.verdicts.items t.questions.items t.numbers.items;
+      entries = entries_of t.verdicts.items (questions_at t.places.items t.pairs.items)
+          t.numbers.items;
     } };
 
     ghost invariant = { λ t. record {
-      one_each : length t.questions.items ≡ length t.numbers.items;
+      one_each : length t.pairs.items ≡ length t.numbers.items;
+      placed : All (IsWithin t.places.items) t.pairs.items;
       within : All (λ n. n < length t.verdicts.items) t.numbers.items;
     } };
 }
@@ -38,20 +45,23 @@ impl PairTable {
     /// The table of questions with the numbers of their verdicts.
     pub(crate) fn of(
         nodes: usize,
-        questions: Vec<Question>,
+        places: Vec<Placed>,
+        pairs: Vec<PlacePair>,
         numbers: Vec<usize>,
         verdicts: Vec<Verdict>,
     ) -> Self
-        requires one_each { length questions.items ≡ length numbers.items }
+        requires one_each { length pairs.items ≡ length numbers.items }
+        requires placed { All (IsWithin places.items) pairs.items }
         requires within { All (λ n. n < length verdicts.items) numbers.items }
         ensures nodes { result.nodes ≡ nodes }
         ensures verdicts { result.verdicts ≡ verdicts.items }
         ensures entries { result.entries
-            ≡ entries_of verdicts.items questions.items numbers.items }
+            ≡ entries_of verdicts.items (questions_at places.items pairs.items) numbers.items }
     {
         PairTable {
             nodes,
-            questions,
+            places,
+            pairs,
             numbers,
             verdicts,
         }
@@ -68,7 +78,7 @@ impl PairTable {
     pub fn len(&self) -> usize
         ensures { result ≡ length self.now.entries }
     {
-        self.questions.len()
+        self.pairs.len()
     }
 
     pub fn is_empty(&self) -> bool
@@ -82,7 +92,7 @@ impl PairTable {
         requires { n < length self.now.entries }
         ensures { (e : Entry) → slice_get self.now.entries n ≡ Some e → result ≡ e.question }
     {
-        self.questions[n]
+        question_of(&self.places, self.pairs[n])
     }
 
     /// The verdicts that questions have, each maybe that of several.

@@ -1,10 +1,21 @@
-use Rattle.std.proofs.Common.{arith}
+use Rattle.std.proofs.Common.{sym, arith}
 use Rattle.prog_paths.specs.Asked.{asked_among}
+use Rattle.conflict_pairs.specs.Pairing.{questions_at}
 use Rattle.conflict_pairs.proofs.Entries.{among_changers-more, among-end}
+use Rattle.conflict_pairs.proofs.Paired.{changers-stand, place-any}
 use Rattle.conflict_pairs.proofs.listing.all_questions.Goals as goal
 
-pub loop-first-preserved : goal.loop-first-preserved
-loop-first-preserved c = among_changers-more c.loop-first.questions.items c.push_questions.new.questions.items (asked_among c.args.places.now c.args.places.now) c.loop-first.first-index c.args.places.now c.of_table-seconds.result.now c.in_ok-changers.changers _ (omega arith) c.in_ok-push_questions.ensures c.of_table-seconds.ensures c.in_ok-changers.ensures c.loop-first.invariant
+pub push_questions-requires-clause-first : goal.push_questions-requires-clause-first
+push_questions-requires-clause-first c = sym (place-any c.args.places.now c.loop-number.number _ (omega arith))
 
-pub returns : goal.returns
-returns c = among-end c.loop-first.questions.items (asked_among c.args.places.now c.args.places.now) c.loop-first.first-index c.args.places.now c.args.places.now (omega arith) c.loop-first.invariant
+pub push_questions-requires-clause-seconds : goal.push_questions-requires-clause-seconds
+push_questions-requires-clause-seconds c = changers-stand c.args.starts.now c.args.places.now c.in_ok-changers.changers c.of_table-seconds.result.now _ c.of_table-seconds.ensures c.in_ok-changers.ensures c.requires.stand
+
+pub loop-number-preserved : goal.loop-number-preserved
+loop-number-preserved c = record {
+  questions = among_changers-more (questions_at c.args.places.now c.loop-number.pairs.items) (questions_at c.args.places.now c.push_questions.new.pairs.items) (asked_among c.args.places.now c.args.places.now) c.loop-number.number c.args.places.now c.of_table-seconds.result.now c.in_ok-changers.changers _ (omega arith) c.in_ok-push_questions.ensures.questions c.of_table-seconds.ensures c.in_ok-changers.ensures c.loop-number.invariant.questions;
+  within = c.in_ok-push_questions.ensures.within;
+}
+
+pub returns-clause-questions : goal.returns-clause-questions
+returns-clause-questions c = among-end (questions_at c.args.places.now c.loop-number.pairs.items) (asked_among c.args.places.now c.args.places.now) c.loop-number.number c.args.places.now c.args.places.now (omega arith) c.loop-number.invariant.questions

@@ -6,7 +6,7 @@ use Rattle.conflict_pairs.proofs.listing.pairs.Goals as goal
 
 pub verdicts_of-requires : goal.verdicts_of-requires
 verdicts_of-requires c =
-    subst (λ (l : List Asked). All (IsAsked c.args.paths.now) l) (sym c.deref.ensures.value) c.in_ok-questions.ensures.shown.sound
+    subst (λ (l : List Asked). All (IsAsked c.args.paths.now) l) (sym c.deref.ensures.value) c.in_ok-questions.ensures.listed.shown.sound
 
 pub table_of-requires-clause-judged : goal.table_of-requires-clause-judged
 table_of-requires-clause-judged c =

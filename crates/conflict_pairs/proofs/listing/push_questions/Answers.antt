@@ -1,23 +1,58 @@
-use Rattle.std.proofs.Common.{◌∙◌, ◌++◌, ◌∷◌, [], Vec, Global, ap, sym, arith}
-use Rattle.prog_paths.specs.declared.accesses.places.Question.{Question}
+use Rattle.std.proofs.Common.{◌∙◌, ◌++◌, ◌<◌, List, Vec, Global, length, ap, sym, subst, arith}
+use Rattle.std.specs.Prelude.{All}
+use Rattle.std.proofs.lemmas.List.Elements.{All-push}
 use Rattle.prog_paths.specs.Asked.{asked_by}
+use Rattle.conflict_pairs.specs.declared.pairing.PlacePair.{PlacePair}
+use Rattle.conflict_pairs.specs.Pairing.{IsWithin, question_at, questions_at}
 use Rattle.conflict_pairs.proofs.Entries.{asked-end, asked-yes, asked-no}
+use Rattle.conflict_pairs.proofs.Paired.{given-pushed, number-fits, number-is, number-small, number-there, pair-question}
 use Rattle.conflict_pairs.proofs.listing.push_questions.Goals as goal
 use Rattle.conflict_pairs.proofs.listing.push_questions.Goals.{then-asks+in_ok-push, else-asks}
 
+pub number_among-requires-clause-node : goal.number_among-requires-clause-node
+number_among-requires-clause-node c = (c.requires.seconds c.loop-second.second-index _ (omega arith)).has_start
+
+pub number_among-requires-clause-fits : goal.number_among-requires-clause-fits
+number_among-requires-clause-fits c = number-fits c.args.starts.now c.args.places.now c.requires.few _ (c.requires.seconds c.loop-second.second-index _ (omega arith))
+
+pub pair_of-requires-clause-first_fits : goal.pair_of-requires-clause-first_fits
+pair_of-requires-clause-first_fits c = omega (arith, c.requires.number, c.requires.few)
+
+pub pair_of-requires-clause-second_fits : goal.pair_of-requires-clause-second_fits
+pair_of-requires-clause-second_fits c = number-small c.args.starts.now c.args.places.now c.requires.few _ (c.requires.seconds c.loop-second.second-index _ (omega arith)) c.number_among.result c.number_among.ensures
+
 pub loop-second-preserved : goal.loop-second-preserved
 loop-second-preserved c =
+    let starts = c.args.starts.now in
+    let places = c.args.places.now in
     let first = c.args.first.now in
-    let old = c.loop-second.questions.items in
-    let whole = c.args.questions.now.items ++ asked_by first c.args.places.now in
+    let old = c.loop-second.pairs.items in
+    let new = c.if-asks.pairs.items in
+    let whole = questions_at places c.args.pairs.now.items ++ asked_by first c.args.seconds.now in
     elim c.if-asks.branch [
       | then-asks+in_ok-push w ↦
-          asked-yes old c.if-asks.questions.items whole first c.loop-second.second-index c.args.places.now _ (omega arith) (sym c.asks.ensures ∙ w.if-asks.true)
-          (ap (λ (v : Vec Question Global). v.items) w.questions-is ∙ w.in_ok-push.ensures.items ∙ ap (λ (q : Question). old ++ q ∷ []) w.question_between.ensures) c.loop-second.invariant
-      | else-asks w ↦
-          asked-no old c.if-asks.questions.items whole first c.loop-second.second-index c.args.places.now _ (omega arith) (sym c.asks.ensures ∙ w.if-asks.false)
-          (ap (λ (v : Vec Question Global). v.items) w.questions-is) c.loop-second.invariant
+          let added = ap (λ (v : Vec PlacePair Global). v.items) w.pairs-is ∙ w.in_ok-push.ensures.items in
+          let first_there : w.pair_of.result.first < length places = omega (arith, c.requires.number, w.pair_of.ensures.first) in
+          let second_there : w.pair_of.result.second < length places = omega (arith, number-there starts places c.requires.few _ (c.requires.seconds c.loop-second.second-index _ (omega arith)) w.number_among.result w.number_among.ensures, w.pair_of.ensures.second) in
+          record {
+            questions =
+                asked-yes (questions_at places old) (questions_at places new) whole first c.loop-second.second-index c.args.seconds.now _ (omega arith) (sym c.asks.ensures ∙ w.if-asks.true)
+                (given-pushed (question_at places) old new w.pair_of.result _ added
+                (pair-question places first _ w.pair_of.result c.args.number w.number_among.result w.pair_of.ensures.first w.pair_of.ensures.second c.requires.first
+                (number-is starts places c.requires.few _ (c.requires.seconds c.loop-second.second-index _ (omega arith)) w.number_among.result w.number_among.ensures)))
+                c.loop-second.invariant.questions;
+            within =
+                subst (λ (l : List PlacePair). All (IsWithin places) l) (sym added)
+                (All-push (IsWithin places) old w.pair_of.result c.loop-second.invariant.within (record { first_within = first_there; second_within = second_there }));
+          }
+      | else-asks w ↦ record {
+        questions =
+            asked-no (questions_at places old) (questions_at places new) whole first c.loop-second.second-index c.args.seconds.now _ (omega arith) (sym c.asks.ensures ∙ w.if-asks.false)
+            (ap (λ (v : Vec PlacePair Global). questions_at places v.items) w.pairs-is) c.loop-second.invariant.questions;
+        within = subst (λ (v : Vec PlacePair Global). All (IsWithin places) v.items) (sym w.pairs-is) c.loop-second.invariant.within;
+      }
     ]
 
-pub returns : goal.returns
-returns c = asked-end c.loop-second.questions.items (c.args.questions.now.items ++ asked_by c.args.first.now c.args.places.now) c.args.first.now c.loop-second.second-index c.args.places.now (omega arith) c.loop-second.invariant
+pub returns-clause-questions : goal.returns-clause-questions
+returns-clause-questions c =
+    asked-end (questions_at c.args.places.now c.loop-second.pairs.items) (questions_at c.args.places.now c.args.pairs.now.items ++ asked_by c.args.first.now c.args.seconds.now) c.args.first.now c.loop-second.second-index c.args.seconds.now (omega arith) c.loop-second.invariant.questions

@@ -1,29 +1,62 @@
-use Rattle.std.proofs.Common.{List, sym, subst, ◌∙◌}
+use Rattle.std.proofs.Common.{◌≡◌, List, ℕ, sym, subst, ◌∙◌}
 use Rattle.std.specs.Prelude.{All}
 use Rattle.prog_check.specs.declared.path.Path.{Path}
+use Rattle.prog_paths.specs.declared.accesses.places.Placed.{Placed}
 use Rattle.prog_paths.specs.declared.accesses.places.Question.{Question as Asked}
-use Rattle.prog_paths.specs.Asked.{asked_among}
-use Rattle.conflict_pairs.specs.Alike.{IsAsked, AreShown}
-use Rattle.conflict_pairs.proofs.Collecting.{all_asked}
+use Rattle.prog_paths.specs.Asked.{all_from, asked_among}
+use Rattle.conflict_pairs.specs.declared.pairing.PlacePair.{PlacePair}
+use Rattle.conflict_pairs.specs.Alike.{AreShown, IsLike}
+use Rattle.conflict_pairs.specs.Interning.{AreInterned}
+use Rattle.conflict_pairs.specs.Kinds.{starts_from}
+use Rattle.conflict_pairs.specs.Pairing.{IsAskedAt, IsWithin, StandsAt, asked_at, questions_at}
+use Rattle.conflict_pairs.proofs.Paired.{all-stand, all_within, asked-pairs, shown-pairs}
 use Rattle.conflict_pairs.proofs.listing.questions_of.Goals as goal
 
+pub all_questions-requires-clause-stand : goal.all_questions-requires-clause-stand
+all_questions-requires-clause-stand c =
+    let places = c.deref.ensures.value ∙ c.in_ok-places.ensures in
+    let starts = c.deref-2.ensures.value ∙ c.in_ok-starts.ensures in
+    subst (λ (l : List ℕ). All (StandsAt l c.deref.result.now) c.deref.result.now) (sym starts)
+    (subst (λ (l : List Placed). All (StandsAt (starts_from 0 c.args.paths.now) l) l) (sym places) (all-stand c.args.paths.now))
+
 pub of-requires : goal.of-requires
-of-requires c = c.deref-2.ensures.value ∙ c.in_ok-places.ensures
+of-requires c = c.deref-3.ensures.value ∙ c.in_ok-places.ensures
 
 pub intern_all-requires : goal.intern_all-requires
 intern_all-requires c =
+    let paths = c.args.paths.now in
     let places = c.deref.ensures.value ∙ c.in_ok-places.ensures in
-    let questions = c.deref-3.ensures.value ∙ c.in_ok-all.ensures ∙ (λ i. asked_among (places i) (places i)) in
-    subst (λ (l : List Path). All (IsAsked l) c.deref-3.result.now) (sym c.in_ok-kinds.ensures)
-    (subst (λ (l : List Asked). All (IsAsked c.args.paths.now) l) (sym questions) (all_asked c.args.paths.now))
+    let within = subst (λ (l : List Placed). All (IsWithin l) c.in_ok-pairs.pairs.items) places c.in_ok-pairs.ensures.within in
+    let all =
+    subst (λ (l : List Placed). questions_at l c.in_ok-pairs.pairs.items ≡ asked_among l l) places c.in_ok-pairs.ensures.questions in
+    subst (λ (l : List Path). All (IsAskedAt l) c.deref-4.result.now) (sym c.in_ok-kinds.ensures)
+    (subst (λ (l : List PlacePair). All (IsAskedAt paths) l) (sym c.deref-4.ensures.value) (asked-pairs paths c.in_ok-pairs.pairs.items within all))
 
-pub returns : goal.returns
-returns c =
-    let judged = c.in_ok-values.field-0.values.items in
+pub questions_between-requires : goal.questions_between-requires
+questions_between-requires c =
+    let values = c.in_ok-values.field-0.values.items in
+    let places = c.deref-5.ensures.value ∙ c.in_ok-places.ensures in
+    let sound = subst (λ (l : List Path). All (IsAskedAt l) values) c.in_ok-kinds.ensures c.in_ok-values.ensures.sound in
+    subst (λ (l : List Placed). All (IsWithin l) c.deref-6.result.now) (sym places)
+    (subst (λ (l : List PlacePair). All (IsWithin (all_from 0 c.args.paths.now)) l) (sym c.deref-6.ensures.value) (all_within c.args.paths.now values sound))
+
+pub returns-clause-listed : goal.returns-clause-listed
+returns-clause-listed c =
+    let paths = c.args.paths.now in
+    let pairs = c.in_ok-pairs.pairs.items in
+    let values = c.in_ok-values.field-0.values.items in
     let numbers = c.in_ok-values.field-0.numbers.items in
     let places = c.deref.ensures.value ∙ c.in_ok-places.ensures in
-    let shown = subst (λ (l : List Path). AreShown l c.deref-3.result.now judged numbers) c.in_ok-kinds.ensures c.in_ok-values.ensures in
+    let interned =
+    subst (λ (l : List Path). AreInterned (IsAskedAt l) (λ p v. IsLike l (asked_at l p) (asked_at l v)) pairs values numbers) c.in_ok-kinds.ensures
+    (subst (λ (l : List PlacePair). AreInterned (IsAskedAt c.in_ok-kinds.kinds) (λ p v. IsLike c.in_ok-kinds.kinds (asked_at c.in_ok-kinds.kinds p) (asked_at c.in_ok-kinds.kinds v)) l values numbers) c.deref-4.ensures.value c.in_ok-values.ensures) in
+    let judged = c.in_ok-judged.ensures ∙ (λ i. questions_at ((c.deref-5.ensures.value ∙ c.in_ok-places.ensures) i) (c.deref-6.ensures.value i)) in
     record {
-      all = c.in_ok-all.ensures ∙ (λ i. asked_among (places i) (places i));
-      shown = subst (λ (l : List Asked). AreShown c.args.paths.now l judged numbers) c.deref-3.ensures.value shown;
+      all = (λ i. questions_at (sym c.deref.ensures.value i) pairs) ∙ c.in_ok-pairs.ensures.questions ∙ (λ i. asked_among (places i) (places i));
+      shown =
+          subst (λ (l : List Placed). AreShown paths (questions_at l pairs) c.in_ok-judged.judged.items numbers) (sym c.in_ok-places.ensures)
+          (subst (λ (l : List Asked). AreShown paths (questions_at (all_from 0 paths) pairs) l numbers) (sym judged) (shown-pairs paths pairs values numbers interned));
     }
+
+pub returns-clause-within : goal.returns-clause-within
+returns-clause-within c = subst (λ (l : List Placed). All (IsWithin l) c.in_ok-pairs.pairs.items) c.deref.ensures.value c.in_ok-pairs.ensures.within

@@ -1,8 +1,10 @@
-use Rattle.std.proofs.Common.{List, sym, subst}
+use Rattle.std.proofs.Common.{List, sym, subst, ◌∙◌}
 use Rattle.std.specs.Prelude.{All}
+use Rattle.std.proofs.lemmas.List.{length-map}
 use Rattle.prog_paths.specs.declared.accesses.places.Question.{Question as Asked}
 use Rattle.conflict_pairs.specs.Interning.{IsServed}
 use Rattle.conflict_pairs.specs.Alike.{IsAsked, IsLike}
+use Rattle.conflict_pairs.specs.Pairing.{question_at, questions_at}
 use Rattle.conflict_pairs.proofs.Zipped.{AllZip-lengths}
 use Rattle.conflict_pairs.proofs.Collecting.{all_asked}
 use Rattle.conflict_pairs.proofs.Numbered.{numbers-within, StandsFor-from}
@@ -11,18 +13,20 @@ use Rattle.conflict_pairs.proofs.listing.table_of.Goals as goal
 pub of-requires-clause-one_each : goal.of-requires-clause-one_each
 of-requires-clause-one_each c =
     let questions = c.args.questions in
-    AllZip-lengths (IsServed (IsLike c.args.paths.now) questions.judged.items) questions.all.items questions.numbers.items c.requires.listed.shown.served
+    let all = questions_at questions.places.items questions.pairs.items in
+    sym (length-map questions.pairs.items (question_at questions.places.items))
+    ∙ AllZip-lengths (IsServed (IsLike c.args.paths.now) questions.judged.items) all questions.numbers.items c.requires.listed.shown.served
 
 pub of-requires-clause-within : goal.of-requires-clause-within
 of-requires-clause-within c =
     let questions = c.args.questions in
     let shown = c.requires.listed.shown in
-    numbers-within c.args.paths.now questions.judged.items c.args.verdicts.items shown.sound c.requires.judged questions.all.items questions.numbers.items shown.served
+    numbers-within c.args.paths.now questions.judged.items c.args.verdicts.items shown.sound c.requires.judged (questions_at questions.places.items questions.pairs.items) questions.numbers.items shown.served
 
 pub returns : goal.returns
 returns c =
     let paths = c.args.paths.now in
     let questions = c.args.questions in
     let listed = c.requires.listed in
-    StandsFor-from paths questions.judged.items c.args.verdicts.items listed.shown.sound c.requires.judged c.requires.single c.of.result questions.all.items questions.numbers.items
+    StandsFor-from paths questions.judged.items c.args.verdicts.items listed.shown.sound c.requires.judged c.requires.single c.of.result (questions_at questions.places.items questions.pairs.items) questions.numbers.items
     (subst (λ (l : List Asked). All (IsAsked paths) l) (sym listed.all) (all_asked paths)) listed.shown.served c.of.ensures.nodes c.of.ensures.verdicts c.of.ensures.entries listed.all

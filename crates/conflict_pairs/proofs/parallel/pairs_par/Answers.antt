@@ -9,7 +9,7 @@ use Rattle.conflict_pairs.proofs.parallel.pairs_par.Goals as goal
 pub parts_of-requires : goal.parts_of-requires
 parts_of-requires g c = (
   c.type_bounds.sync-typeof-rt,
-  subst (λ (l : List Asked). All (IsAsked c.args.paths.now) l) (sym c.deref.ensures.value) c.in_ok-questions.ensures.shown.sound,
+  subst (λ (l : List Asked). All (IsAsked c.args.paths.now) l) (sym c.deref.ensures.value) c.in_ok-questions.ensures.listed.shown.sound,
 )
 
 pub table_of-requires-clause-judged : goal.table_of-requires-clause-judged

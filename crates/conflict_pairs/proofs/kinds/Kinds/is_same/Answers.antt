@@ -1,14 +1,14 @@
-use Rattle.std.proofs.Common.{List, sym, subst}
+use Rattle.std.proofs.Common.{List, ℕ, ◌<◌, length, sym, subst}
 use Rattle.prog_check.specs.declared.path.Path.{Path}
-use Rattle.conflict_pairs.specs.Alike.{HasAccess}
+use Rattle.prog_paths.specs.Asked.{all_from}
 use Rattle.conflict_pairs.proofs.kinds.Kinds.is_same.Goals as goal
 
 pub kind_at-requires : goal.kind_at-requires
 kind_at-requires c =
-    let has = subst (λ (l : List Path). HasAccess l c.args.x c.args.a) (sym c.self.view_is) c.requires.first in
-    rw (c.deref.ensures.value, c.deref-2.ensures.value) (c.self.invariant.has c.args.x c.args.a has)
+    let within = subst (λ (l : List Path). c.args.one < length (all_from 0 l)) (sym c.self.view_is) c.requires.one in
+    rw c.deref.ensures.value (subst (λ (k : ℕ). c.args.one < k) (sym c.self.invariant.one_each) within)
 
 pub kind_at-requires-2 : goal.kind_at-requires-2
 kind_at-requires-2 c =
-    let has = subst (λ (l : List Path). HasAccess l c.args.y c.args.b) (sym c.self.view_is) c.requires.second in
-    rw (c.deref-3.ensures.value, c.deref-4.ensures.value) (c.self.invariant.has c.args.y c.args.b has)
+    let within = subst (λ (l : List Path). c.args.other < length (all_from 0 l)) (sym c.self.view_is) c.requires.other in
+    rw c.deref-2.ensures.value (subst (λ (k : ℕ). c.args.other < k) (sym c.self.invariant.one_each) within)

@@ -13,4 +13,4 @@ invariant_of-result c =
     let numbered =
     subst (λ (l : List Placed). AreNumbered c.in_ok-classes.classes.items l numbers) c.requires
     (subst (λ (l : List ℕ). AreNumbered l c.args.places.now numbers) c.deref.ensures.value c.in_ok-numbers.ensures) in
-    AreKinds-from c.args.paths.now c.in_ok-classes.classes.items numbers c.in_ok-classes.ensures numbered c.in_ok-starts.starts.items c.in_ok-starts.ensures
+    AreKinds-from c.args.paths.now c.in_ok-classes.classes.items numbers c.in_ok-classes.ensures numbered

@@ -1,17 +1,40 @@
 use Rattle.std.proofs.Common.{◌≡◌, ℕ, ◌<◌, List, length, sym, ap, subst, ◌∙◌}
 use Rattle.std.specs.Prelude.{Some, slice_get}
+use Rattle.prog_paths.specs.declared.accesses.places.Placed.{Placed}
+use Rattle.conflict_pairs.specs.declared.pairing.PlacePair.{PlacePair}
+use Rattle.conflict_pairs.specs.Pairing.{IsWithin, question_at, questions_at}
 use Rattle.conflict_pairs.specs.Table.{Entry, Table}
-use Rattle.conflict_pairs.proofs.Numbered.{entries-length, entries-at}
+use Rattle.conflict_pairs.proofs.Numbered.{entries-at}
+use Rattle.conflict_pairs.proofs.Paired.{pair-at, pairs-length}
 use Rattle.conflict_pairs.proofs.table.PairTable.question.Goals as goal
 
 pub index-requires : goal.index-requires
 index-requires c =
+    let inside = c.self.inside in
     subst (λ (k : ℕ). c.args.n < k)
-    (sym (ap (λ (t : Table). length t.entries) c.self.view_is) ∙ entries-length c.self.inside.verdicts.items c.self.inside.questions.items c.self.inside.numbers.items c.self.invariant.one_each ∙ sym c.self.inside.questions.ok.0)
+    (sym (ap (λ (t : Table). length t.entries) c.self.view_is) ∙ pairs-length inside.verdicts.items inside.places.items inside.pairs.items inside.numbers.items c.self.invariant.one_each ∙ sym inside.pairs.ok.0)
     c.requires
+
+pub question_of-requires : goal.question_of-requires
+question_of-requires c =
+    let inside = c.self.inside in
+    let within =
+    subst (λ (k : ℕ). c.args.n < k)
+    (sym (ap (λ (t : Table). length t.entries) c.self.view_is) ∙ pairs-length inside.verdicts.items inside.places.items inside.pairs.items inside.numbers.items c.self.invariant.one_each)
+    c.requires in
+    subst (λ (l : List Placed). IsWithin l c.index.result.now) (sym c.deref.ensures.value)
+    (subst (λ (p : PlacePair). IsWithin inside.places.items p) (sym c.index.ensures) (c.self.invariant.placed c.args.n c.index.result.now within))
 
 pub returns : goal.returns
 returns c e at =
-    c.index.ensures ∙ sym (ap (λ (x : Entry). x.question)
-    (entries-at c.self.inside.verdicts.items c.self.inside.questions.items c.self.inside.numbers.items c.args.n c.index.result.now 0 e
+    let inside = c.self.inside in
+    let q = c.question_of.result in
+    let within =
+    subst (λ (k : ℕ). c.args.n < k)
+    (sym (ap (λ (t : Table). length t.entries) c.self.view_is) ∙ pairs-length inside.verdicts.items inside.places.items inside.pairs.items inside.numbers.items c.self.invariant.one_each)
+    c.requires in
+    pair-at inside.places.items inside.pairs.items c.args.n c.index.result.now q within c.index.ensures
+    (c.question_of.ensures ∙ ap (λ (l : List Placed). question_at l c.index.result.now) c.deref.ensures.value)
+    ∙ sym (ap (λ (x : Entry). x.question)
+    (entries-at inside.verdicts.items (questions_at inside.places.items inside.pairs.items) inside.numbers.items c.args.n q 0 e
     (subst (λ (l : List Entry). slice_get l c.args.n ≡ Some e) (sym (ap (λ (t : Table). t.entries) c.self.view_is)) at)))

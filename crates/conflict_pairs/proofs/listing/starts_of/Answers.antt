@@ -3,7 +3,7 @@ use Rattle.prog_check.specs.declared.path.Access.{Access}
 use Rattle.std.specs.Prelude.{List}
 use Rattle.conflict_pairs.specs.Kinds.{starts_from}
 use Rattle.conflict_pairs.proofs.OneKind.{starts-more, left-more}
-use Rattle.conflict_pairs.proofs.kinds.starts_of.Goals as goal
+use Rattle.conflict_pairs.proofs.listing.starts_of.Goals as goal
 
 pub overflow_add-start : goal.overflow_add-start
 overflow_add-start c =

@@ -1,7 +1,7 @@
 use Rattle.std.proofs.Common.{◌≡◌, ◌+◌, ◌++◌, drop, length}
 use Rattle.prog_paths.specs.Asked.{all_from}
 use Rattle.conflict_pairs.specs.Kinds.{starts_from}
-use Rattle.conflict_pairs.proofs.kinds.starts_of.Given as goal
+use Rattle.conflict_pairs.proofs.listing.starts_of.Given as goal
 
 -- the starts so far, with those of the nodes that are left, and how many accesses are left
 abbrev pub invariant-loop-path : goal.invariant-loop-path

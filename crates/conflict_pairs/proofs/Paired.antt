@@ -1,0 +1,142 @@
+-- Questions by the numbers of their accesses among all: what is said of lists of pairs and of their questions.
+use Rattle.std.proofs.Common.{◌≡◌, ℕ, ◌<◌, ◌≤◌, ◌+◌, ◌^◌, List, [], ◌∷◌, ◌++◌, length, map, get_or, drop, sym, subst, ap, ◌∙◌, append_assoc, arith}
+use Rattle.std.specs.Prelude.{All, option_map, slice_get, ◌==◌, ◌&&◌}
+use Rattle.std.specs.List.{AllZip}
+use Rattle.std.proofs.lemmas.List.{append-nil, drop_all, drop_more, get_or-map, length-map, map_push}
+use Rattle.std.proofs.lemmas.List.Elements.{All-cons, All-filter, All-head, All-map, All-nil, All-tail}
+use Rattle.std.proofs.lemmas.Option.{get_or_from_slice_get, slice_get-get_or, slice_get-map, slice_get_within}
+use Rattle.prog_check.specs.declared.path.Path.{Path}
+use Rattle.prog_paths.specs.declared.accesses.places.Placed.{Placed}
+use Rattle.prog_paths.specs.declared.accesses.places.Question.{Question as Asked}
+use Rattle.prog_paths.specs.Asked.{all_from, question_between, questions_of}
+use Rattle.prog_paths.specs.Changers.{changes, changers_of}
+use Rattle.prog_paths.specs.Places.{IsAt}
+use Rattle.prog_paths.specs.Tally.{of_table}
+use Rattle.prog_paths.proofs.Asked.{all_places_stand}
+use Rattle.conflict_pairs.specs.declared.pairing.PlacePair.{PlacePair}
+use Rattle.conflict_pairs.specs.declared.verdicts.Verdict.{Verdict}
+use Rattle.conflict_pairs.specs.Alike.{AreShown, IsAsked, IsLike}
+use Rattle.conflict_pairs.specs.Interning.{AreInterned, IsServed}
+use Rattle.conflict_pairs.specs.Kinds.{starts_from}
+use Rattle.conflict_pairs.specs.Pairing.{IsAskedAt, IsWithin, StandsAt, asked_at, no_place, place_at, question_at, questions_at}
+use Rattle.conflict_pairs.specs.Table.{entries_of}
+use Rattle.conflict_pairs.proofs.Collecting.{all_asked}
+use Rattle.conflict_pairs.proofs.Numbered.{entries-length}
+use Rattle.conflict_pairs.proofs.OneKind.{place-stands, starts-length}
+
+-- ---- what each of a list gives
+
+module _ {X Y : Type 0} (f : X → Y) where
+  -- one more at the end
+  pub given-pushed : (old new : List X) (x : X) (y : Y) → new ≡ old ++ x ∷ [] → f x ≡ y → map f new ≡ map f old ++ y ∷ []
+  given-pushed old new x y added is = ap (map f) added ∙ map_push f old x ∙ ap (λ (z : Y). map f old ++ z ∷ []) is
+
+  pub given-more : (old new whole : List Y) (i : ℕ) (xs : List X) (d : X) → i < length xs → new ≡ old ++ f (get_or xs i d) ∷ [] → old ++ map f (drop i xs) ≡ whole → new ++ map f (drop (i + 1) xs) ≡ whole
+  given-more old new whole i xs d lt added h =
+      ap (λ (l : List Y). l ++ map f (drop (i + 1) xs)) added
+      ∙ append_assoc old (f (get_or xs i d) ∷ []) (map f (drop (i + 1) xs))
+      ∙ ap (λ (l : List X). old ++ map f l) (sym (drop_more xs i d lt))
+      ∙ h
+
+  pub given-end : (old whole : List Y) (i : ℕ) (xs : List X) → length xs ≤ i → old ++ map f (drop i xs) ≡ whole → old ≡ whole
+  given-end old whole i xs le h = sym (append-nil old) ∙ ap (λ (l : List X). old ++ map f l) (sym (drop_all i xs le)) ∙ h
+
+  -- what holds of all that they give
+  pub All-given : (P : Y → Type 0) (xs : List X) → All P (map f xs) → All (λ x. P (f x)) xs
+  All-given P [] h = All-nil (λ x. P (f x))
+  All-given P (x ∷ xs) h = All-cons (λ x. P (f x)) x xs (All-head P (f x) (map f xs) h) (All-given P xs (All-tail P (f x) (map f xs) h))
+
+-- ---- values for keys, by what both give
+
+module _ {Key Told : Type 0} (f : Key → Told) (Serves : Told → Told → Type 0) where
+  served-given : (values : List Key) (key : Key) (n : ℕ) → IsServed (λ k v. Serves (f k) (f v)) values key n → IsServed Serves (map f values) (f key) n
+  served-given values key n h = record {
+    value = f h.value;
+    at = slice_get-map f values n ∙ ap (option_map f) h.at;
+    serves = h.serves;
+  }
+
+  pub all_served-given : (values keys : List Key) (ns : List ℕ) → AllZip (IsServed (λ k v. Serves (f k) (f v)) values) keys ns → AllZip (IsServed Serves (map f values)) (map f keys) ns
+  all_served-given values [] [] h = tt
+  all_served-given values [] (n ∷ ns) h = absurd h
+  all_served-given values (k ∷ keys) [] h = absurd h
+  all_served-given values (k ∷ keys) (n ∷ ns) h = (served-given values k n h.0, all_served-given values keys ns h.1)
+
+-- ---- pairs of accesses of paths
+
+-- pairs whose questions are all that the paths ask
+pub asked-pairs : (paths : List Path) (pairs : List PlacePair) → All (IsWithin (all_from 0 paths)) pairs → questions_at (all_from 0 paths) pairs ≡ questions_of paths → All (IsAskedAt paths) pairs
+asked-pairs paths pairs within all k d lt =
+    let asked = All-given (question_at (all_from 0 paths)) (IsAsked paths) pairs (subst (λ (l : List Asked). All (IsAsked paths) l) (sym all) (all_asked paths)) in
+    record { within = within k d lt; asked = asked k d lt }
+
+pub all_within : (paths : List Path) (pairs : List PlacePair) → All (IsAskedAt paths) pairs → All (IsWithin (all_from 0 paths)) pairs
+all_within paths pairs h k d lt = (h k d lt).within
+
+-- pairs that stand for others show their questions
+pub shown-pairs : (paths : List Path) (pairs values : List PlacePair) (numbers : List ℕ) → AreInterned (IsAskedAt paths) (λ p v. IsLike paths (asked_at paths p) (asked_at paths v)) pairs values numbers → AreShown paths (questions_at (all_from 0 paths) pairs) (questions_at (all_from 0 paths) values) numbers
+shown-pairs paths pairs values numbers h = record {
+  sound = All-map (IsAsked paths) (question_at (all_from 0 paths)) values (λ k d lt. (h.sound k d lt).asked);
+  served = all_served-given (question_at (all_from 0 paths)) (IsLike paths) values pairs numbers h.served;
+}
+
+-- ---- the numbers of accesses
+
+-- each access of the paths has its number
+pub all-stand : (paths : List Path) → All (StandsAt (starts_from 0 paths) (all_from 0 paths)) (all_from 0 paths)
+all-stand paths k d lt =
+    let p = get_or (all_from 0 paths) k d in
+    let at : IsAt paths p = all_places_stand paths k d lt in
+    let node = slice_get_within paths p.node at.0 at.1 in
+    record {
+      has_start = omega (arith, node, starts-length 0 paths);
+      stands = place-stands paths p.node p.number (p.access, at);
+    }
+
+-- those that change a table too
+pub changers-stand : (starts : List ℕ) (places changers seconds : List Placed) (table : ℕ) → seconds ≡ of_table table changers → ((table : ℕ) → of_table table changers ≡ changers_of table places) → All (StandsAt starts places) places → All (StandsAt starts places) seconds
+changers-stand starts places changers seconds table is all h =
+    subst (λ (l : List Placed). All (StandsAt starts places) l) (sym (is ∙ all table))
+    (All-filter (λ (p : Placed). (p.access.table == table) && changes p.access.kind) (StandsAt starts places) places h)
+
+-- an access that is there doesn't depend on what stands for a missing one
+pub place-any : (places : List Placed) (n : ℕ) (d : Placed) → n < length places → get_or places n d ≡ place_at places n
+place-any places n d lt = get_or_from_slice_get places n (place_at places n) d (slice_get-get_or places n no_place lt)
+
+pub question-any : (places : List Placed) (pair : PlacePair) (d e : Placed) → IsWithin places pair → question_between (get_or places pair.first d) (get_or places pair.second e) ≡ question_at places pair
+question-any places pair d e h =
+    λ i. question_between (place-any places pair.first d h.first_within i) (place-any places pair.second e h.second_within i)
+
+module _ (starts : List ℕ) (places : List Placed) (few : length places ≤ 2 ^ 32) (p : Placed) (h : StandsAt starts places p) where
+  pub number-within : get_or starts p.node 0 + p.number < length places
+  number-within = slice_get_within places (get_or starts p.node 0 + p.number) p h.stands
+
+  pub number-fits : get_or starts p.node 0 + p.number < 2 ^ 64
+  number-fits = omega (arith, few, number-within)
+
+  module _ (n : ℕ) (is : n ≡ get_or starts p.node 0 + p.number) where
+    pub number-small : n < 2 ^ 32
+    number-small = omega (arith, few, number-within, is)
+
+    pub number-there : n < length places
+    number-there = omega (arith, number-within, is)
+
+    pub number-is : place_at places n ≡ p
+    number-is = get_or_from_slice_get places n p no_place (ap (slice_get places) is ∙ h.stands)
+
+-- the question of two accesses is that of the pair of their numbers
+pub pair-question : (places : List Placed) (first second : Placed) (pair : PlacePair) (m n : ℕ) → pair.first ≡ m → pair.second ≡ n → place_at places m ≡ first → place_at places n ≡ second → question_at places pair ≡ question_between first second
+pair-question places first second pair m n is_m is_n is_first is_second =
+    λ i. question_between ((ap (place_at places) is_m ∙ is_first) i) ((ap (place_at places) is_n ∙ is_second) i)
+
+-- ---- the entries of pairs
+
+module _ (vs : List Verdict) (places : List Placed) (pairs : List PlacePair) (ns : List ℕ) (one_each : length pairs ≡ length ns) where
+  pub pairs-one_each : length (questions_at places pairs) ≡ length ns
+  pairs-one_each = length-map pairs (question_at places) ∙ one_each
+
+  pub pairs-length : length (entries_of vs (questions_at places pairs) ns) ≡ length pairs
+  pairs-length = entries-length vs (questions_at places pairs) ns (length-map pairs (question_at places) ∙ one_each) ∙ length-map pairs (question_at places)
+
+pub pair-at : (places : List Placed) (pairs : List PlacePair) (n : ℕ) (pair : PlacePair) (q : Asked) → n < length pairs → pair ≡ get_or pairs n pair → q ≡ question_at places pair → q ≡ get_or (questions_at places pairs) n q
+pair-at places pairs n pair q lt is of_pair = of_pair ∙ ap (question_at places) is ∙ sym (get_or-map (question_at places) pairs n pair q lt)

@@ -1,0 +1,41 @@
+//! Questions by the numbers of their two accesses among all: a table has many questions.
+ghost use Rattle.std.specs.Prelude.{◌≡◌, ◌<◌, ◌+◌, ◌^◌, length, get_or};
+ghost use Rattle.conflict_pairs.specs.Pairing.{IsWithin, question_at};
+
+use prog_paths::{Placed, Question, question_between};
+
+/// The numbers of two accesses among all.
+#[derive(Clone, Copy)]
+pub struct PlacePair {
+    pub first: u32,
+    pub second: u32,
+}
+
+pub fn pair_of(first: usize, second: usize) -> PlacePair
+    requires first_fits { first < 2 ^ 32 }
+    requires second_fits { second < 2 ^ 32 }
+    ensures first { result.first ≡ first }
+    ensures second { result.second ≡ second }
+{
+    PlacePair {
+        first: first as u32,
+        second: second as u32,
+    }
+}
+
+/// The number among all of an access, by where the accesses of its node begin.
+pub fn number_among(starts: &[usize], place: &Placed) -> usize
+    requires node { place.now.node < length starts.now }
+    requires fits { get_or starts.now place.now.node 0 + place.now.number < 2 ^ 64 }
+    ensures { result ≡ get_or starts.now place.now.node 0 + place.now.number }
+{
+    starts[place.node] + place.number
+}
+
+/// The question between the accesses of a pair.
+pub fn question_of(places: &[Placed], pair: PlacePair) -> Question
+    requires { IsWithin places.now pair }
+    ensures { result ≡ question_at places.now pair }
+{
+    question_between(&places[pair.first as usize], &places[pair.second as usize])
+}
