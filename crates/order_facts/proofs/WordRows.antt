@@ -5,7 +5,7 @@ use Rattle.std.specs.Int.{bit_at, trailing_zeros}
 use Rattle.std.proofs.Math.Nat.{div-div-eq-div-mul, div-lt_iff_lt-mul, pos_of_ne-zero, mod-lt, div-le_self, mul-le-mul_right}
 use Rattle.std.proofs.lemmas.Nat.{mul-add-lt, div-mul-add, mod-mul-add, div-add-mod', same_from_place, pow-add}
 use Rattle.std.proofs.lemmas.Nat.Bits.{bit_at-zero, bit_at-lt, bit_at-trailing_zeros, bit_at_above, bit_at_or, bit_at_set_same, bit_at_set_other, shr_and_one}
-use Rattle.std.proofs.lemmas.List.{length-set, replicate-append-replicate}
+use Rattle.std.proofs.lemmas.List.{length-set}
 use Rattle.std.proofs.lemmas.Bool.Decides.{eqb_tells}
 use Rattle.std.proofs.lemmas.List.FromFn.{get_or-map-range_with_len}
 use Rattle.std.proofs.lemmas.Bool.{cases_lt, eq-eqb, false≢true}
@@ -192,11 +192,6 @@ get_or_zeros (suc n) zero = refl
 get_or_zeros (suc n) (suc p) = get_or_zeros n p
 
 -- one row more
-pub zeros_added : (k n : ℕ) (words row new : List ℕ) → words ≡ replicate (k * n) 0 → row ≡ replicate n 0 → new ≡ words ++ row → new ≡ replicate ((k + 1) * n) 0
-zeros_added k n words row new before zeros added =
-    let one_more : k * n + n ≡ (k + 1) * n = omega arith in
-    added ∙ (λ t. before t ++ zeros t) ∙ replicate-append-replicate (k * n) n 0 ∙ ap (λ (m : ℕ). replicate m 0) one_more
-
 pub empty_rows : (size width n : ℕ) (words : List ℕ) → words ≡ replicate n 0 → IsEmptySquare (grid_of size width words) size
 empty_rows size width n words zeros = record {
   size_is = refl;

@@ -58,11 +58,8 @@ impl Square {
         ensures { IfOk result (λ m. IsEmptySquare m size) }
     {
         let width = size.div_ceil(64);
-        let row = vec![in alloc; 0; width]?;
-        let mut words = Vec::new(alloc);
-        for _ in 0..size {
-            words.extend_from_slice(&row)?;
-        }
+        let count = size.checked_mul(width).ok_or(AllocError)?;
+        let words = vec![in alloc; 0; count]?;
         Ok(Square { size, width, words })
     }
 
