@@ -108,6 +108,33 @@ fn worked_facts(rt: HostRuntime) {
     }
 }
 
+fn are_equal(rt: &impl Abort, alloc: Global, given: &[(Node, Node)], x: Node, y: Node) -> bool {
+    let facts = facts(rt, alloc, given);
+    let closed = facts.close().expect(rt, "memory");
+    let are_equal = closed.forces_equal(x, y);
+    drop(closed);
+    drop(facts);
+    are_equal
+}
+
+/// Facts, two nodes, and whether the facts force both to be equal.
+const EQUAL: [(Given, Node, Node, bool); 6] = [
+    (FALLING, KEY, A, true),
+    (ONLY_FIVE, KEY, FIVE, true),
+    (ONE_OR_TWO, ONE, KEY, false),
+    (AT_THE_TOP, KEY, GREATEST, true),
+    (AT_THE_TOP, A, KEY, false),
+    (&[], KEY, KEY, true),
+];
+
+#[test]
+fn nodes_are_forced_equal(rt: HostRuntime) {
+    for (given, x, y, want) in &EQUAL {
+        let got = are_equal(&rt, rt.alloc(), *given, *x, *y);
+        assert!(rt; got == *want, "{x:?} and {y:?}: {got}");
+    }
+}
+
 #[test]
 fn chains_are_checked(rt: HostRuntime) {
     let facts = facts(&rt, rt.alloc(), &[(KEY, ONE), (FIVE, C)]);
