@@ -9,7 +9,7 @@ use fault_words::{cell_text, ordinal, program_name, program_params};
 use history_book::{AuditFault, HistoryRow, MAX_ENDINGS, RowFault};
 use prog_check::ProgramSet;
 use prog_tree::Sequence;
-use si_engine::{Bytes, Records, Reply, read_records};
+use si_engine::{Bytes, ItemList, Records, Reply, read_records};
 use std::alloc::{AllocError, Global};
 use text_places::{line_number, record_place};
 use version_store::Clash;
@@ -22,14 +22,14 @@ struct Cut {
 }
 
 fn cut_at(alloc: Global, set: &ProgramSet, part: &[u8], number: usize) -> Option<Cut> {
-    let Records { rows, records } = read_records(alloc, set, &mut Bytes::new(part)).ok()?;
-    let mut records = records.into_vec();
+    let ItemList { rows, items } = read_records(alloc, set, &mut Bytes::new(part)).ok()?;
+    let mut records = items.into_vec();
     records.truncate(number.saturating_add(1));
     let row = records.pop()?;
     Some(Cut {
-        records: Records {
+        records: ItemList {
             rows,
-            records: Sequence::from_vec(records),
+            items: Sequence::from_vec(records),
         },
         row,
     })
@@ -51,7 +51,7 @@ fn ending_text(alloc: Global, set: &ProgramSet, cut: Cut) -> Result<String, Allo
     let Cut { records, row } = cut;
     let name = program_name(set, row.program);
     let start = usize::try_from(row.start).unwrap_or(usize::MAX);
-    let mut seen = records.records.into_vec();
+    let mut seen = records.items.into_vec();
     seen.truncate(start);
     let ending = ending(alloc, set, records.rows, seen, &row)?;
     match ending {

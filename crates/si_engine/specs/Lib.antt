@@ -3,6 +3,7 @@ pub mod Headline
 pub mod LastLine
 pub mod Limits
 pub mod Lines
+pub mod ListLines
 pub mod Machine
 pub mod Names
 pub mod Numbers

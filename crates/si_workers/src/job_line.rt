@@ -2,25 +2,12 @@
 ghost use Rattle.std.specs.Prelude.{◌≡◌};
 ghost use Rattle.prog_tree.specs.Tree.{draft_tree};
 ghost use Rattle.si_engine.specs.RowLines.{Reads};
-ghost use Rattle.si_workers.specs.JobLines.{retries_of, job_of, job_line_of, job_line};
+ghost use Rattle.si_workers.specs.JobLines.{retries_of, job_of};
 
 use crate::job::Job;
 use prog_check::ProgramSet;
-use si_engine::{
-    LineFault, RowLine, Word, is_skipped, line_words, number, numbers, program_number, row_line,
-};
+use si_engine::{LineFault, ListItem, Word, number, numbers, program_number};
 use std::alloc::Global;
-
-/// What a line says.
-#[derive(Drop)]
-pub enum JobLine {
-    /// An empty line or a comment.
-    Skip,
-    /// An opening row.
-    Row(RowLine),
-    /// A call of a program.
-    Job(Job),
-}
 
 // How often a job may be begun anew.
 fn retries(word: &Word<'_>) -> Option<u32>
@@ -47,43 +34,24 @@ fn job(alloc: Global, set: &ProgramSet, line: usize, words: &[Word<'_>]) -> Resu
     })
 }
 
-#[tactic(auto, unfolding(crate::specs::JobLines::job_line_of))]
-fn words_line(
-    alloc: Global,
-    set: &ProgramSet,
-    line: usize,
-    words: &[Word<'_>],
-) -> Result<JobLine, LineFault>
-    ensures { Reads (λ said. said) result (job_line_of (draft_tree set.now) line words.now) }
-{
-    let [first, rest @ ..] = words else {
-        return Err(LineFault::BadLine { line });
-    };
-    let first = first.as_bytes();
-    if first == b"row".as_slice() {
-        let row = row_line(set, line, rest)?;
-        Ok(JobLine::Row(row))
-    } else if first == b"job".as_slice() {
-        let job = job(alloc, set, line, rest)?;
-        Ok(JobLine::Job(job))
-    } else {
-        Err(LineFault::BadLine { line })
-    }
-}
+impl ListItem for Job {
+    ghost use Rattle.std.specs.Prelude.{codes};
+    ghost use Rattle.si_workers.specs.JobLines.{job_of};
 
-/// What the line of this number says, or its fault.
-#[tactic(auto, unfolding(crate::specs::JobLines::job_line))]
-pub fn job_line(
-    alloc: Global,
-    set: &ProgramSet,
-    line: usize,
-    bytes: &[u8],
-) -> Result<JobLine, LineFault>
-    ensures { Reads (λ said. said) result (job_line (draft_tree set.now) line bytes.now) }
-{
-    if is_skipped(bytes) {
-        return Ok(JobLine::Skip);
+    ghost keyword = { codes "job" };
+
+    ghost item_of = { job_of };
+
+    fn is_keyword(word: &[u8]) -> bool {
+        word == b"job".as_slice()
     }
-    let words = line_words(alloc, bytes)?;
-    words_line(alloc, set, line, &words)
+
+    fn read(
+        alloc: Global,
+        set: &ProgramSet,
+        line: usize,
+        words: &[Word<'_>],
+    ) -> Result<Self, LineFault> {
+        job(alloc, set, line, words)
+    }
 }

@@ -8,12 +8,13 @@ use Rattle.prog_tree.specs.declared.program.Draft.{Draft}
 use Rattle.prog_tree.specs.Syntax.{DraftTree}
 use Rattle.prog_tree.specs.Tree.{draft_tree}
 use Rattle.history_book.specs.declared.instances.row.Ending.TheVariants as ending
+use Rattle.history_book.specs.declared.instances.row.HistoryRow.{HistoryRow}
 use Rattle.history_book.specs.Audit.{audited}
 use Rattle.history_book.specs.TrueBook.{IsTrueBook}
 use Rattle.history_book.specs.View.{BookView, history_of}
 use Rattle.std.specs.List.{range_with_len}
 use Rattle.si_engine.specs.declared.output.finding.Serializability.{Serializability}
-use Rattle.si_engine.specs.declared.input.records.Records.{Records}
+use Rattle.si_engine.specs.declared.input.item_list.ItemList.{ItemList}
 use Rattle.si_engine.specs.declared.input.script_fault.LineFault.{LineFault}
 use Rattle.si_engine.specs.declared.input.script_fault.LineFault.TheVariants as l
 use Rattle.si_engine.specs.declared.input.script_fault.ScriptFault.{ScriptFault}
@@ -28,7 +29,7 @@ use Rattle.si_engine.specs.Runs as r
 use Rattle.si_engine.specs.Sayings.{IsPartFault}
 use Rattle.si_engine.specs.Script.{script_of}
 use Rattle.si_engine.specs.Writing.{AppendsFront, IsJust, WritesOr}
-use Rattle.si_workers.specs.declared.job_list.JobList.{JobList}
+use Rattle.si_workers.specs.declared.job.Job.{Job}
 use Rattle.si_workers.specs.JobLines.{jobs_of, IsJobs, IsJobsFault}
 use Rattle.sirob.specs.declared.command_line.Mode.{Mode}
 use Rattle.sirob.specs.declared.command_line.Mode.TheVariants.{Check, Certify, Verify, Repair, Run, Audit, Work}
@@ -160,7 +161,7 @@ reply_done true set left part may same within written inner ((input, is, run), o
     script_done true set part may within written inner (subst (λ (p : List ℕ). IsRunOf set p written inner) (is ∙ same) run) order
 
 -- the records of a part that could be read
-pub records_read : (set : DraftTree) (left part : List ℕ) (records : Records) → left ≡ part
+pub records_read : (set : DraftTree) (left part : List ℕ) (records : ItemList HistoryRow) → left ≡ part
     → ForInput (Some left) (λ part. IsRecords set part records) → records_of set part ≡ Ok records
 records_read set left part records same (input, is, read) = subst (λ (p : List ℕ). records_of set p ≡ Ok records) (is ∙ same) read.read
 
@@ -172,7 +173,7 @@ records_refused set left part f same within (input, is, wrong) no_memory =
     (subst (λ (p : List ℕ). IsRecordsFault set p f) (is ∙ same) wrong) no_memory
 
 -- the jobs of a part that could be read
-pub jobs_read : (set : DraftTree) (left part : List ℕ) (list : JobList) → left ≡ part
+pub jobs_read : (set : DraftTree) (left part : List ℕ) (list : ItemList Job) → left ≡ part
     → ForInput (Some left) (λ part. IsJobs set part list) → jobs_of set part ≡ Ok list
 jobs_read set left part list same (input, is, read) = subst (λ (p : List ℕ). jobs_of set p ≡ Ok list) (is ∙ same) read.read
 
@@ -192,30 +193,30 @@ lines_refused workers set part f robust (g, is, wrong) =
 -- ---- how an audit ends
 
 -- records that a book was made of are audited
-audit_sound : (set : Draft) (part : List ℕ) (records : Records) (book : BookView) → records_of (draft_tree set) part ≡ Ok records
-    → book ≡ audited set records.rows records.records → IsTrueBook book → IsAudited (draft_tree set) part records
+audit_sound : (set : Draft) (part : List ℕ) (records : ItemList HistoryRow) (book : BookView) → records_of (draft_tree set) part ≡ Ok records
+    → book ≡ audited set records.rows records.items → IsTrueBook book → IsAudited (draft_tree set) part records
 audit_sound set part records book read is is_true =
-    let v : IsTrueBook (audited set records.rows records.records) = subst (λ (b : BookView). IsTrueBook b) is is_true in
-    let count : length (map ending.Committed (range_with_len 1 (length records.records))) ≡ length records.records =
-    length-map-range_with_len ending.Committed 1 (length records.records) in
+    let v : IsTrueBook (audited set records.rows records.items) = subst (λ (b : BookView). IsTrueBook b) is is_true in
+    let count : length (map ending.Committed (range_with_len 1 (length records.items))) ≡ length records.items =
+    length-map-range_with_len ending.Committed 1 (length records.items) in
     record { read = read; few = omega (arith, v.few, count); lawful = v.lawful; replies = v.rows }
 
 -- its rows and the last line were added to nothing
-pub audit_given : (set : Draft) (part : List ℕ) (records : Records) (book : BookView) (finding : Serializability) (before written : List ℕ)
-    → records_of (draft_tree set) part ≡ Ok records → book ≡ audited set records.rows records.records → IsTrueBook book → before ≡ []
+pub audit_given : (set : Draft) (part : List ℕ) (records : ItemList HistoryRow) (book : BookView) (finding : Serializability) (before written : List ℕ)
+    → records_of (draft_tree set) part ≡ Ok records → book ≡ audited set records.rows records.items → IsTrueBook book → before ≡ []
     → AddsEnd (draft_tree book.set) book.opening (history_of book.rows) finding before written → GivesPart Audit (draft_tree set) part written (status_of finding)
 audit_given set part records book finding before written read is is_true none adds =
     let ends = subst (λ (b : BookView). AddsEnd (draft_tree b.set) b.opening (history_of b.rows) finding before written) is adds in (
       finding,
       records,
       audit_sound set part records book read is is_true,
-      subst (λ (t : List ℕ). AddsEnd (draft_tree set) records.rows (history_of records.records) finding t written) none ends,
+      subst (λ (t : List ℕ). AddsEnd (draft_tree set) records.rows (history_of records.items) finding t written) none ends,
       refl,
     )
 
 -- some first of its rows were
-pub audit_stopped : (set : Draft) (part : List ℕ) (records : Records) (book : BookView) (before written : List ℕ)
-    → records_of (draft_tree set) part ≡ Ok records → book ≡ audited set records.rows records.records → IsTrueBook book → before ≡ []
+pub audit_stopped : (set : Draft) (part : List ℕ) (records : ItemList HistoryRow) (book : BookView) (before written : List ℕ)
+    → records_of (draft_tree set) part ≡ Ok records → book ≡ audited set records.rows records.items → IsTrueBook book → before ≡ []
     → AddsFirst (end_lines (draft_tree book.set) book.opening (history_of book.rows)) before written → IsPartStop Audit (draft_tree set) part (fault.Input i.Memory) written
 audit_stopped set part records book before written read is is_true none adds =
     let first = subst (λ (b : BookView). AddsFirst (end_lines (draft_tree b.set) b.opening (history_of b.rows)) before written) is adds in (
@@ -223,7 +224,7 @@ audit_stopped set part records book before written read is is_true none adds =
       (λ memory. inr (
         records,
         audit_sound set part records book read is is_true,
-        subst (λ (t : List ℕ). AddsFirst (end_lines (draft_tree set) records.rows (history_of records.records)) t written) none first,
+        subst (λ (t : List ℕ). AddsFirst (end_lines (draft_tree set) records.rows (history_of records.items)) t written) none first,
       )),
     )
 

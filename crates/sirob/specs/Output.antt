@@ -25,13 +25,14 @@ use Rattle.si_repair.specs.declared.fault.AnalyseFault.TheVariants as analyse_fa
 use Rattle.si_repair.specs.declared.repairs.fault.RepairFault.{RepairFault}
 use Rattle.si_repair.specs.Findings.{IsCertificateOf}
 use Rattle.si_repair.specs.Repairing.{IsRepairFault, StopsNowhere}
+use Rattle.history_book.specs.declared.instances.row.HistoryRow.{HistoryRow}
 use Rattle.history_book.specs.Audit.{IsAuditFault}
 use Rattle.history_book.specs.History.{IsLawful}
 use Rattle.history_book.specs.TrueBook.{IsTrueBook, IsTrueRow}
 use Rattle.history_book.specs.View.{BookView, history_of, most_endings}
 use Rattle.si_engine.specs.declared.output.finding.Serializability.{Serializability}
 use Rattle.si_engine.specs.declared.output.finding.Serializability.TheVariants.{Order}
-use Rattle.si_engine.specs.declared.input.records.Records.{Records}
+use Rattle.si_engine.specs.declared.input.item_list.ItemList.{ItemList}
 use Rattle.si_engine.specs.declared.input.script.Script.{Script}
 use Rattle.si_engine.specs.declared.input.script_fault.LineFault.{LineFault}
 use Rattle.si_engine.specs.declared.input.script_fault.ScriptFault.TheVariants as script_fault
@@ -43,8 +44,8 @@ use Rattle.si_engine.specs.Runs.{run_lines, end_lines, AddsFirst, AddsEnd, AddsR
 use Rattle.si_engine.specs.Script.{script_of}
 use Rattle.si_engine.specs.Writing.{WritesOr}
 use Rattle.si_workers.specs.declared.fault.WorkFault.{WorkFault}
+use Rattle.si_workers.specs.declared.job.Job.{Job}
 use Rattle.si_workers.specs.declared.job.JobOutcome.{JobOutcome}
-use Rattle.si_workers.specs.declared.job_list.JobList.{JobList}
 use Rattle.si_workers.specs.JobLines.{jobs_of}
 use Rattle.si_workers.specs.Outcomes.{OutcomesCorrespond}
 use Rattle.si_workers.specs.Work.{AreTaken, IsWorkFault}
@@ -119,15 +120,15 @@ MayRun false set = Unit {0}
 MayRun true set = IsRobust set
 
 -- the part is these records, which are a lawful history, not too long, with the replies of evaluation
-pub record IsAudited (set : DraftTree) (part : List ℕ) (records : Records) : Type 0 where
+pub record IsAudited (set : DraftTree) (part : List ℕ) (records : ItemList HistoryRow) : Type 0 where
   pub read : records_of set part ≡ Ok records
-  pub few : length records.records ≤ most_endings
-  pub lawful : IsLawful set records.rows (history_of records.records)
-  pub replies : All (IsTrueRow set records.rows (history_of records.records)) records.records
+  pub few : length records.items ≤ most_endings
+  pub lawful : IsLawful set records.rows (history_of records.items)
+  pub replies : All (IsTrueRow set records.rows (history_of records.items)) records.items
 
 -- the rows that audited records leave, one line each
-abbrev pub audit_lines : DraftTree → Records → List (List ℕ)
-audit_lines set records = end_lines set records.rows (history_of records.records)
+abbrev pub audit_lines : DraftTree → ItemList HistoryRow → List (List ℕ)
+audit_lines set records = end_lines set records.rows (history_of records.items)
 
 -- ---- repairs
 
@@ -201,10 +202,10 @@ IsRefusedLine mode set part f = ⊥
 -- what kept so many workers from doing the jobs that the part is, on a robust set
 pub record IsUndone (workers : ℕ) (set : DraftTree) (part : List ℕ) (told : WorkerFault) : Type 0 where
   pub robust : IsRobust set
-  pub list : JobList
+  pub list : ItemList Job
   pub read : jobs_of set part ≡ Ok list
   pub f : WorkFault
-  pub wrong : IsWorkFault set list.rows list.jobs workers f
+  pub wrong : IsWorkFault set list.rows list.items workers f
   pub named : told_of f ≡ told
 
 -- the first fault of a set with a second part: of the analysis that comes before its lines; of its lines, of its records
@@ -213,8 +214,8 @@ abbrev pub IsRefusedPart : Mode → DraftTree → List ℕ → CommandFault → 
 IsRefusedPart mode set part (fault.Analysis f) = IsAnalysedFor mode × IsUnanalysed set f
 IsRefusedPart mode set part (fault.Script (script_fault.Line f)) = IsRefusedLine mode set part f
 IsRefusedPart mode set part (fault.Audit f) =
-    (mode ≡ Audit) × (records : Records)
-    × (records_of set part ≡ Ok records) × IsAuditFault set records.rows records.records f
+    (mode ≡ Audit) × (records : ItemList HistoryRow)
+    × (records_of set part ≡ Ok records) × IsAuditFault set records.rows records.items f
 IsRefusedPart mode set part (fault.Work f) = (workers : ℕ) × (mode ≡ Work workers) × IsUndone workers set part f
 IsRefusedPart mode set part (fault.Json f) = (mode ≡ Verify) × HasFault part f
 IsRefusedPart mode set part (fault.Certificate f) =
@@ -299,19 +300,19 @@ GivesRun robust set part written status =
 -- the lines of the rows that audited records leave, and the last line
 abbrev pub GivesAudit : DraftTree → List ℕ → List ℕ → Status → Type 0
 GivesAudit set part written status =
-    (finding : Serializability) × (records : Records) × IsAudited set part records
-    × AddsEnd set records.rows (history_of records.records) finding [] written × (status ≡ status_of finding)
+    (finding : Serializability) × (records : ItemList HistoryRow) × IsAudited set part records
+    × AddsEnd set records.rows (history_of records.items) finding [] written × (status ≡ status_of finding)
 
 -- so many workers may do the jobs that the part is, and these are the counts and the rows that outcomes of all of them
 -- have, which correspond to a book
 pub record GivesWork (workers : ℕ) (set : DraftTree) (part written : List ℕ) : Type 0 where
-  pub list : JobList
+  pub list : ItemList Job
   pub read : jobs_of set part ≡ Ok list
-  pub taken : AreTaken workers list.jobs
+  pub taken : AreTaken workers list.items
   pub outcomes : List JobOutcome
   pub book : BookView
   pub true_book : IsTrueBook book
-  pub correspond : OutcomesCorrespond workers set list.rows list.jobs outcomes book
+  pub correspond : OutcomesCorrespond workers set list.rows list.items outcomes book
   pub text : written ≡ work_text outcomes book
 
 -- all that a second part without a fault means was written, and this is the status behind it; a set that may not run
@@ -331,7 +332,7 @@ GivesFirstPart (Run robust) set part written =
     MayRun robust set × (script : Script) × (script_of set part ≡ Ok script)
     × AddsFirst (run_lines set script) [] written
 GivesFirstPart Audit set part written =
-    (records : Records) × IsAudited set part records × AddsFirst (audit_lines set records) [] written
+    (records : ItemList HistoryRow) × IsAudited set part records × AddsFirst (audit_lines set records) [] written
 GivesFirstPart mode set part written = ⊥
 
 -- all that an input means by its second part was written, and this is the status behind it

@@ -51,7 +51,7 @@ const PART: &[u8] = b"# rows\nrow s 1 = 2\nrecord Look 1 at 0 gives 1\n";
 // How many rows and records a part has.
 fn counts(rt: &impl Abort, alloc: Global, set: &ProgramSet) -> (usize, usize) {
     let found = read_part::<Records, _>(alloc, set, &mut Bytes::new(PART)).expect(rt, "a part");
-    let counts = (found.rows.len(), found.records.len());
+    let counts = (found.rows.len(), found.items.len());
     drop(found);
     counts
 }

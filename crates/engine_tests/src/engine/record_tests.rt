@@ -52,7 +52,7 @@ fn records_are_read(rt: HostRuntime) -> Result<(), Fail> {
     let found = read(rt.alloc(), &set, RECORDS).expect(&rt, "records");
     drop(set);
     assert!(rt; found.rows.len() == 1);
-    check_rows(&rt, found.records.as_slice());
+    check_rows(&rt, found.items.as_slice());
     drop(found);
     Ok(())
 }

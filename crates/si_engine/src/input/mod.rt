@@ -3,8 +3,11 @@
 pub mod bytes;
 pub mod command;
 pub mod from_lines;
+pub mod item_list;
 pub mod line_words;
 pub mod lines;
+pub mod list_item;
+pub mod list_line;
 pub mod names;
 pub mod number;
 pub mod record_line;

@@ -1,15 +1,14 @@
 //! Lines of a list of records.
-ghost use Rattle.std.specs.Prelude.{◌≡◌, ◌≤◌, length, not, IfOk, Ok};
+ghost use Rattle.std.specs.Prelude.{◌≡◌, ◌≤◌, length, not, IfOk};
 ghost use Rattle.std.specs.List.{prefix_len, before_first, after_first};
 ghost use Rattle.prog_tree.specs.Tree.{draft_tree};
-ghost use Rattle.si_engine.specs.Records.{is_at, is_gives, outcome_of, record_of, record_row_of, row_in_records, record_in_records, record_line_of, record_line};
+ghost use Rattle.si_engine.specs.Records.{is_at, is_gives, outcome_of, record_of, record_row_of};
 ghost use Rattle.si_engine.specs.RowLines.{Reads};
 
-use crate::input::line_words::{Word, line_words};
-use crate::input::lines::is_skipped;
+use crate::input::line_words::Word;
+use crate::input::list_item::ListItem;
 use crate::input::names::program_number;
 use crate::input::number::{numbers, unsigned};
-use crate::input::row_line::{RowLine, row_line};
 use crate::input::script_fault::LineFault;
 use history_book::HistoryRow;
 use prog_check::ProgramSet;
@@ -28,17 +27,6 @@ pub struct RecordOutcome {
 pub struct RecordWords {
     args: Sequence<i64>,
     outcome: RecordOutcome,
-}
-
-/// What a line says.
-#[derive(Drop)]
-pub enum RecordLine {
-    /// An empty line or a comment.
-    Skip,
-    /// An opening row.
-    Row(RowLine),
-    /// A committed instance.
-    Record(HistoryRow),
 }
 
 fn is_at(word: &Word<'_>) -> bool
@@ -133,62 +121,24 @@ fn record_row(
     })
 }
 
-#[tactic(auto, unfolding(crate::specs::Records::row_in_records))]
-fn row(set: &ProgramSet, line: usize, words: &[Word<'_>]) -> Result<RecordLine, LineFault>
-    ensures { result ≡ row_in_records (draft_tree set.now) line words.now }
-{
-    let row = row_line(set, line, words)?;
-    Ok(RecordLine::Row(row))
-}
+impl ListItem for HistoryRow {
+    ghost use Rattle.std.specs.Prelude.{codes};
+    ghost use Rattle.si_engine.specs.Records.{record_row_of};
 
-#[tactic(auto, unfolding(crate::specs::Records::record_in_records))]
-fn committed(
-    alloc: Global,
-    set: &ProgramSet,
-    line: usize,
-    words: &[Word<'_>],
-) -> Result<RecordLine, LineFault>
-    ensures { Reads (λ said. said) result (record_in_records (draft_tree set.now) line words.now) }
-{
-    let row = record_row(alloc, set, line, words)?;
-    Ok(RecordLine::Record(row))
-}
+    ghost keyword = { codes "record" };
 
-#[tactic(auto, unfolding(crate::specs::Records::record_line_of))]
-fn words_line(
-    alloc: Global,
-    set: &ProgramSet,
-    line: usize,
-    words: &[Word<'_>],
-) -> Result<RecordLine, LineFault>
-    ensures { Reads (λ said. said) result (record_line_of (draft_tree set.now) line words.now) }
-{
-    let [first, rest @ ..] = words else {
-        return Err(LineFault::BadLine { line });
-    };
-    let first = first.as_bytes();
-    if first == b"row".as_slice() {
-        row(set, line, rest)
-    } else if first == b"record".as_slice() {
-        committed(alloc, set, line, rest)
-    } else {
-        Err(LineFault::BadLine { line })
+    ghost item_of = { record_row_of };
+
+    fn is_keyword(word: &[u8]) -> bool {
+        word == b"record".as_slice()
     }
-}
 
-/// What the line of this number says, or its fault.
-#[tactic(auto, unfolding(crate::specs::Records::record_line))]
-pub fn record_line(
-    alloc: Global,
-    set: &ProgramSet,
-    line: usize,
-    bytes: &[u8],
-) -> Result<RecordLine, LineFault>
-    ensures { Reads (λ said. said) result (record_line (draft_tree set.now) line bytes.now) }
-{
-    if is_skipped(bytes) {
-        return Ok(RecordLine::Skip);
+    fn read(
+        alloc: Global,
+        set: &ProgramSet,
+        line: usize,
+        words: &[Word<'_>],
+    ) -> Result<Self, LineFault> {
+        record_row(alloc, set, line, words)
     }
-    let words = line_words(alloc, bytes)?;
-    words_line(alloc, set, line, &words)
 }

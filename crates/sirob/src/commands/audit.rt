@@ -16,7 +16,7 @@ use crate::sentences::runs::Keeper;
 use crate::status::Status;
 use history_book::Book;
 use prog_check::ProgramSet;
-use si_engine::{Bytes, Records, Sink, push_findings_before, read_records};
+use si_engine::{Bytes, ItemList, Records, Sink, push_findings_before, read_records};
 use std::alloc::Global;
 
 // The records that the bytes of a part are.
@@ -42,7 +42,10 @@ fn push_audit(
     requires empty { string_bytes out.old ≡ [] }
     ensures { IsPartDone mode.Audit (draft_tree set.now) part.now (string_bytes out.new) result }
 {
-    let Records { rows, records } = records_in(alloc, set, part)?;
+    let ItemList {
+        rows,
+        items: records,
+    } = records_in(alloc, set, part)?;
     let book = Book::audit(alloc, set, rows, records.into_vec())?;
     let mut keeper = Keeper { alloc, part, kept };
     let finding = push_findings_before(&book, out, &mut keeper)?;

@@ -20,7 +20,7 @@ use history_book::Book;
 use prog_check::ProgramSet;
 use prog_tree::Sequence;
 use robust_cert::RobustSet;
-use si_engine::{Bytes, Sink, push_rows};
+use si_engine::{Bytes, ItemList, Sink, push_rows};
 use si_workers::{Finished, JobList, JobOutcome, Way, read_jobs, run_jobs};
 use std::alloc::{AllocError, Global};
 use std::rt::Clock;
@@ -89,7 +89,7 @@ fn work_verified<R: AllocGlobal + Eprint + Clock + Watched + Threads + Wait + Sy
         → IsRefusedPart (mode.Work workers) (draft_tree set.now) part.now fault) }
 {
     let alloc = rt.alloc();
-    let JobList { rows, jobs } = jobs_in(alloc, set.set(), part)?;
+    let ItemList { rows, items: jobs } = jobs_in(alloc, set.set(), part)?;
     let gate = Progress::new(rt, jobs.len());
     let Finished { outcomes, book, .. } = run_jobs(
         rt,

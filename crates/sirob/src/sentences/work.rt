@@ -28,7 +28,7 @@ pub fn lost_sentence(
     };
     let told = ToldJobs {
         part: input.part,
-        jobs: list.jobs.as_slice(),
+        jobs: list.items.as_slice(),
         outcomes,
     };
     let words = lost_job_words(alloc, &set, told)?;

@@ -34,7 +34,7 @@ fn a_list_of_jobs_is_read(rt: HostRuntime) -> Result<(), Fail> {
     let list = read_jobs(rt.alloc(), &set, &mut Bytes::new(LIST)).expect(&rt, "a list");
     drop(set);
     assert!(rt; list.rows.get(&cell(1)) == Some(4));
-    check_jobs(&rt, list.jobs.as_slice());
+    check_jobs(&rt, list.items.as_slice());
     drop(list);
     Ok(())
 }

@@ -10,7 +10,7 @@ pub returns-in_err-finding : goal.returns-in_err-finding
 returns-in_err-finding c =
     let exit = err_from_is_err_and c.from_residual-in_err-finding.result c.from_residual-in_err-finding.ensures.1 in
     let records = c.in_ok-rows.field-0 in
-    let is : c.in_ok-book.book ≡ audited c.args.set.now records.rows records.records = search rules in
+    let is : c.in_ok-book.book ≡ audited c.args.set.now records.rows records.items = search rules in
     let is_true = subst (λ (b : BookView). IsTrueBook b) c.book.view_is c.book.invariant.0 in
     rw (exit.1, exit.2) (
       tt,
@@ -21,7 +21,7 @@ returns-in_err-finding c =
 pub returns : goal.returns
 returns c =
     let records = c.in_ok-rows.field-0 in
-    let is : c.in_ok-book.book ≡ audited c.args.set.now records.rows records.records = search rules in
+    let is : c.in_ok-book.book ≡ audited c.args.set.now records.rows records.items = search rules in
     let is_true = subst (λ (b : BookView). IsTrueBook b) c.book.view_is c.book.invariant.0 in
     rw c.of.ensures (
       audit_given c.args.set.now c.args.part.now records c.in_ok-book.book c.in_ok-finding.finding (string_bytes c.args.out.now) (string_bytes c.push_findings_before.new.out)
