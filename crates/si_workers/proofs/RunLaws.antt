@@ -1,13 +1,15 @@
 -- What was told and settled gives what is promised of work.
 use Rattle.std.proofs.Common.{◌≡◌, ◌<◌, ℕ, zero, suc, false, refl, sym, subst, ap, ◌∙◌, arith, inl, inr, List, [], ◌∷◌, length, map, zip, Option, Some, None, Result, Ok, Err, IfOk, IfErr}
 use Rattle.std.proofs.lemmas.List.{length-map}
+use Rattle.prog_tree.specs.declared.program.Draft.{Draft}
 use Rattle.prog_tree.specs.Table.{TableState}
-use Rattle.prog_tree.specs.Tree.{draft_tree}
 use Rattle.prog_tree.specs.Syntax.{DraftTree}
+use Rattle.prog_tree.specs.Tree.{draft_tree}
 use Rattle.prog_check.specs.Paths.{paths_of}
 use Rattle.prog_paths.specs.StaticGraph.{IsDangerous}
 use Rattle.history_book.specs.TrueBook.{IsTrueBook}
 use Rattle.history_book.specs.View.{BookView}
+use Rattle.si_workers.specs.Assigned.{Assigned, assigned}
 use Rattle.si_workers.specs.KeptAndTold.{Tidings}
 use Rattle.si_workers.specs.Outcomes.{Correspond, IsOver, OutcomesCorrespond, tidings_of}
 use Rattle.si_workers.specs.Settled.{AreOutcomesIn, AreToldRight, AreToldWrong, IsConcluded, IsHandedOut, IsSettled, lack_memory}
@@ -20,8 +22,8 @@ use Rattle.si_workers.specs.declared.run.Finished.{Finished}
 use Rattle.si_workers.specs.declared.worker.Done.{Done}
 
 -- a book over a set without a dangerous structure is over such a set
-pub safe-over : (set : DraftTree) (opening : TableState) (v : BookView) → IsOver set opening v → (IsDangerous (paths_of set) → ⊥) → IsDangerous (paths_of (draft_tree v.set)) → ⊥
-safe-over set opening v over safe = subst (λ (t : DraftTree). IsDangerous (paths_of t) → ⊥) (sym over.same_set) safe
+pub safe-over : (given : Assigned) (v : BookView) → IsOver given v → (IsDangerous (paths_of given.set) → ⊥) → IsDangerous (paths_of (draft_tree v.set)) → ⊥
+safe-over given v over safe = subst (λ (t : DraftTree). IsDangerous (paths_of t) → ⊥) (sym over.same_set) safe
 
 -- where some thread started all jobs were done
 jobs-some : (n : ℕ) (jobs : List Job) → 0 < n → jobs_by n jobs ≡ jobs
@@ -44,24 +46,24 @@ told-together ts jobs outcomes of_jobs one_each = (
   zip-parts ts ∙ ap (λ (l : List Job). zip l (map (λ t. t.1) ts)) of_jobs ∙ ap (λ (l : List (Option JobOutcome)). zip jobs l) one_each,
 )
 
-module _ (set : DraftTree) (opening : TableState) (jobs : List Job) (workers : ℕ) (done : List Done) (v : BookView) where
+module _ (given : Assigned) (jobs : List Job) (done : List Done) (v : BookView) where
   -- outcomes that the workers told are those of the jobs that were done
-  outcomes-told : (outcomes : List JobOutcome) → AreToldRight workers set opening jobs done v outcomes → OutcomesCorrespond workers set opening (jobs_by (length done) jobs) outcomes v
+  outcomes-told : (outcomes : List JobOutcome) → AreToldRight given jobs done v outcomes → OutcomesCorrespond given (jobs_by (length done) jobs) outcomes v
   outcomes-told outcomes right =
       let together = told-together right.ts (jobs_by (length done) jobs) outcomes right.told.of_jobs right.one_each in
-      (together.0, subst (λ (ts : Tidings). Correspond workers set opening ts v) together.1 right.correspond)
+      (together.0, subst (λ (ts : Tidings). Correspond given ts v) together.1 right.correspond)
 
   -- likewise a job that is broken
-  named-told : (job : ℕ) (outcome : Option JobOutcome) → AreToldWrong workers set opening jobs done v job outcome → IsNamed workers set opening (jobs_by (length done) jobs) job outcome v
+  named-told : (job : ℕ) (outcome : Option JobOutcome) → AreToldWrong given jobs done v job outcome → IsNamed given (jobs_by (length done) jobs) job outcome v
   named-told job outcome wrong = record { ts = wrong.ts; of_jobs = wrong.told.of_jobs; broken = wrong.broken; its_outcome = wrong.its_outcome }
 
   -- outcomes that the workers told right settle their work, however it is concluded
-  pub conclude-settled : (outcomes : List JobOutcome) (r : Result Finished WorkFault) → lack_memory done ≡ false → AreToldRight workers set opening jobs done v outcomes → IsConcluded workers (length done) outcomes v r → IsSettled set opening jobs workers done v r
+  pub conclude-settled : (outcomes : List JobOutcome) (r : Result Finished WorkFault) → lack_memory done ≡ false → AreToldRight given jobs done v outcomes → IsConcluded given.workers (length done) outcomes v r → IsSettled given jobs done v r
   conclude-settled outcomes (Ok finished) lack right concluded = (
     lack,
     concluded.0,
     concluded.2,
-    subst (AreToldRight workers set opening jobs done v) (sym concluded.1) right,
+    subst (AreToldRight given jobs done v) (sym concluded.1) right,
     concluded.3,
   )
   conclude-settled outcomes (Err Workers) lack right concluded = absurd concluded
@@ -69,32 +71,32 @@ module _ (set : DraftTree) (opening : TableState) (jobs : List Job) (workers : �
   conclude-settled outcomes (Err (NoThread started told book)) lack right concluded = (
     lack,
     concluded.1,
-    subst (λ (n : ℕ). n < workers) (sym concluded.1) concluded.0,
+    subst (λ (n : ℕ). n < given.workers) (sym concluded.1) concluded.0,
     concluded.3,
-    subst (AreToldRight workers set opening jobs done v) (sym concluded.2) right,
+    subst (AreToldRight given jobs done v) (sym concluded.2) right,
   )
   conclude-settled outcomes (Err (Broken job outcome book)) lack right concluded = absurd concluded
   conclude-settled outcomes (Err (Memory book)) lack right concluded = inl (right.correspond.over, concluded)
 
   -- outcomes and book correspond where work is settled well
-  correspond-settled : (r : Result Finished WorkFault) → 0 < workers → IsSettled set opening jobs workers done v r → IfOk r (λ finished. OutcomesCorrespond workers set opening jobs finished.outcomes finished.book)
+  correspond-settled : (r : Result Finished WorkFault) → 0 < given.workers → IsSettled given jobs done v r → IfOk r (λ finished. OutcomesCorrespond given jobs finished.outcomes finished.book)
   correspond-settled (Ok finished) some settled =
       let all = jobs-some (length done) jobs (omega (arith, some, settled.1)) in
-      subst (λ (book : BookView). OutcomesCorrespond workers set opening jobs finished.outcomes book) (sym settled.2)
-      (subst (λ (js : List Job). OutcomesCorrespond workers set opening js finished.outcomes v) all (outcomes-told finished.outcomes settled.3))
+      subst (λ (book : BookView). OutcomesCorrespond given jobs finished.outcomes book) (sym settled.2)
+      (subst (λ (js : List Job). OutcomesCorrespond given js finished.outcomes v) all (outcomes-told finished.outcomes settled.3))
   correspond-settled (Err fault) some settled = tt
 
   -- what is handed out where memory ran out
-  handed-out : (book : Option BookView) → AreTaken workers jobs → IsTrueBook v → IsHandedOut set opening v book → IsWorkFault set opening jobs workers (Memory book)
+  handed-out : (book : Option BookView) → AreTaken given.workers jobs → IsTrueBook v → IsHandedOut given v book → IsWorkFault given jobs (Memory book)
   handed-out None taken holds out = (taken, tt)
-  handed-out (Some book) taken holds (inl out) = (taken, subst (IsTrueOver set opening) (sym (some-same book v out.1)) (holds, out.0))
+  handed-out (Some book) taken holds (inl out) = (taken, subst (IsTrueOver given) (sym (some-same book v out.1)) (holds, out.0))
     where
       some-same : (a b : BookView) → Some a ≡ Some b → a ≡ b
       some-same a b e = cc
   handed-out (Some book) taken holds (inr out) = absurd (cc)
 
   -- what is handed out where work is settled by a fault
-  fault-settled : (r : Result Finished WorkFault) → AreTaken workers jobs → IsTrueBook v → IsSettled set opening jobs workers done v r → IfErr r (IsWorkFault set opening jobs workers)
+  fault-settled : (r : Result Finished WorkFault) → AreTaken given.workers jobs → IsTrueBook v → IsSettled given jobs done v r → IfErr r (IsWorkFault given jobs)
   fault-settled (Ok finished) taken holds settled = tt
   fault-settled (Err Workers) taken holds settled = absurd settled
   fault-settled (Err TooManyJobs) taken holds settled = absurd settled
@@ -102,31 +104,37 @@ module _ (set : DraftTree) (opening : TableState) (jobs : List Job) (workers : �
     taken,
     subst IsTrueBook (sym settled.3) holds,
     settled.2,
-    subst (λ (n : ℕ). OutcomesCorrespond workers set opening (jobs_by n jobs) outcomes book) (sym settled.1)
-        (subst (λ (b : BookView). OutcomesCorrespond workers set opening (jobs_by (length done) jobs) outcomes b) (sym settled.3) (outcomes-told outcomes settled.4)),
+    subst (λ (n : ℕ). OutcomesCorrespond given (jobs_by n jobs) outcomes book) (sym settled.1)
+        (subst (λ (b : BookView). OutcomesCorrespond given (jobs_by (length done) jobs) outcomes b) (sym settled.3) (outcomes-told outcomes settled.4)),
   )
   fault-settled (Err (Broken job outcome book)) taken holds settled = (
     taken,
     subst IsTrueBook (sym settled.1) holds,
     length done,
-    subst (IsNamed workers set opening (jobs_by (length done) jobs) job outcome) (sym settled.1) (named-told job outcome settled.2),
+    subst (IsNamed given (jobs_by (length done) jobs) job outcome) (sym settled.1) (named-told job outcome settled.2),
   )
   fault-settled (Err (Memory book)) taken holds settled = handed-out book taken holds settled
 
--- what is promised of work that was settled over rows that are those it was opened with
+-- the same workers, over the same set and rows
+pub same-given : (workers : ℕ) (set of : Draft) (kept opening : TableState) → set ≡ of → kept ≡ opening
+    → assigned workers (draft_tree set) kept ≡ assigned workers (draft_tree of) opening
+same-given workers set of kept opening same_set same_rows =
+    ap (λ (s : Draft). assigned workers (draft_tree s) kept) same_set ∙ ap (λ (o : TableState). assigned workers (draft_tree of) o) same_rows
+
+-- what is promised of work that was settled as it was given
 pub promised :
-    (set : DraftTree) (opening kept : TableState) (jobs : List Job) (workers : ℕ) (done : List Done) (v : BookView) (r : Result Finished WorkFault) →
-    kept ≡ opening → AreTaken workers jobs → IsTrueBook v → IsSettled set kept jobs workers done v r →
-    IfOk r (λ finished. OutcomesCorrespond workers set opening jobs finished.outcomes finished.book) × IfErr r (IsWorkFault set opening jobs workers)
-promised set opening kept jobs workers done v r same taken holds over_kept =
-    let settled = subst (λ (o : TableState). IsSettled set o jobs workers done v r) same over_kept in (
-      correspond-settled set opening jobs workers done v r taken.number.0 settled,
-      fault-settled set opening jobs workers done v r taken holds settled,
+    (kept given : Assigned) (jobs : List Job) (done : List Done) (v : BookView) (r : Result Finished WorkFault) →
+    kept ≡ given → AreTaken given.workers jobs → IsTrueBook v → IsSettled kept jobs done v r →
+    IfOk r (λ finished. OutcomesCorrespond given jobs finished.outcomes finished.book) × IfErr r (IsWorkFault given jobs)
+promised kept given jobs done v r same taken holds as_kept =
+    let settled = subst (λ (a : Assigned). IsSettled a jobs done v r) same as_kept in (
+      correspond-settled given jobs done v r taken.number.0 settled,
+      fault-settled given jobs done v r taken holds settled,
     )
 
 -- likewise of work in which memory ran out before it was settled
 pub promised-lacking :
-    (set : DraftTree) (opening kept : TableState) (jobs : List Job) (workers : ℕ) (v : BookView) (book : Option BookView) →
-    kept ≡ opening → AreTaken workers jobs → IsTrueBook v → IsHandedOut set kept v book → IsWorkFault set opening jobs workers (Memory book)
-promised-lacking set opening kept jobs workers v book same taken holds over_kept =
-    handed-out set opening jobs workers [] v book taken holds (subst (λ (o : TableState). IsHandedOut set o v book) same over_kept)
+    (kept given : Assigned) (jobs : List Job) (v : BookView) (book : Option BookView) →
+    kept ≡ given → AreTaken given.workers jobs → IsTrueBook v → IsHandedOut kept v book → IsWorkFault given jobs (Memory book)
+promised-lacking kept given jobs v book same taken holds as_kept =
+    handed-out given jobs [] v book taken holds (subst (λ (a : Assigned). IsHandedOut a v book) same as_kept)

@@ -13,6 +13,7 @@ use Rattle.history_book.specs.declared.instances.row.HistoryRow.{HistoryRow}
 use Rattle.history_book.proofs.Vectors.{cell, opening}
 use Rattle.si_workers.specs.Calls.{call_of, is_same_call}
 use Rattle.si_workers.specs.KeptAndTold.{Tidings}
+use Rattle.si_workers.specs.Assigned.{assigned}
 use Rattle.si_workers.specs.Outcomes.{AreRightTries, Correspond, IsBroken, IsOfSomeJob, Stands, nearly_full}
 use Rattle.si_workers.specs.declared.job.Job.{Job}
 use Rattle.si_workers.specs.declared.job.JobEnd.{JobEnd}
@@ -87,7 +88,7 @@ module _ (tables : Draft) where
   told_first : (n : ℕ) → n < 1 → n ≡ 0
   told_first n below = omega arith
 
-  pub one_corresponds : Correspond 8 (draft_tree tables) opening one_told one_commit
+  pub one_corresponds : Correspond (assigned 8 (draft_tree tables) opening) one_told one_commit
   one_corresponds = record {
     over = record { same_set = refl; same_opening = refl };
     stand = All-cons (Stands 8 one_commit one_told) looked_first [] look_stands (All-nil (Stands 8 one_commit one_told));
@@ -138,7 +139,7 @@ module _ (tables : Draft) where
   abbrev two_clashes : BookView
   two_clashes = book (set ∷ []) (ending.Clashed set clash ∷ ending.Clashed set clash ∷ ending.Committed 1 ∷ [])
 
-  pub one_clash_too_few : Correspond 8 (draft_tree tables) opening (after 1 (set_to_5 2) (end.Committed 1 []) ∷ []) two_clashes → ⊥
+  pub one_clash_too_few : Correspond (assigned 8 (draft_tree tables) opening) (after 1 (set_to_5 2) (end.Committed 1 []) ∷ []) two_clashes → ⊥
   one_clash_too_few correspond =
       let as_many = correspond.whole.clashes (record { program = 1; args = pos 1 ∷ pos 5 ∷ [] }) in absurd (omega (arith, as_many))
 
@@ -160,7 +161,7 @@ module _ (tables : Draft) where
       rw (sym same) ((record { program = refl; args = refl; replied = refl }, refl), omega arith)
   first_stands (suc j) u below at = absurd (omega arith)
 
-  pub names_the_least : IsBroken 8 (draft_tree tables) opening two_fall one_commit 1
+  pub names_the_least : IsBroken (assigned 8 (draft_tree tables) opening) two_fall one_commit 1
   names_the_least = (
     λ correspond. falls (correspond.stand 1 aborted (omega arith)),
     inl (record { t = aborted; at = refl; fallen = falls; before = first_stands }),
@@ -173,7 +174,7 @@ module _ (tables : Draft) where
   look_stands_too : Stands 8 two_commits one_told looked_first
   look_stands_too = ((record { program = refl; args = refl; replied = refl }, refl), omega arith)
 
-  pub names_job_0 : IsBroken 8 (draft_tree tables) opening one_told two_commits 0
+  pub names_job_0 : IsBroken (assigned 8 (draft_tree tables) opening) one_told two_commits 0
   names_job_0 = (
     λ correspond. let told = correspond.whole.commits 1 (omega arith) in absurd (omega (arith, told)),
     inr (refl, All-cons (Stands 8 two_commits one_told) looked_first [] look_stands_too (All-nil (Stands 8 two_commits one_told))),

@@ -1,3 +1,4 @@
+pub mod Assigned
 pub mod Calls
 pub mod Counts
 pub mod Ended

@@ -1,10 +1,9 @@
 -- What comes of work, by what its workers did.
 use Rattle.std.specs.Prelude.{◌≡◌, ℕ, ◌<◌, ◌≤◌, ◌⊎◌, Bool, false, List, length, map, flat_map, Option, Some, None, Result, Ok, Err}
 use Rattle.std.specs.List.{list_any}
-use Rattle.prog_tree.specs.Syntax.{DraftTree}
-use Rattle.prog_tree.specs.Table.{TableState}
 use Rattle.history_book.specs.Orders.{least_order}
 use Rattle.history_book.specs.View.{BookView, FitsBook, depends_in}
+use Rattle.si_workers.specs.Assigned.{Assigned}
 use Rattle.si_workers.specs.KeptAndTold.{Tidings}
 use Rattle.si_workers.specs.Outcomes.{Correspond, IsBroken, IsOver}
 use Rattle.si_workers.specs.Told.{AreTold}
@@ -31,11 +30,9 @@ abbrev pub AreOutcomesIn : Tidings → List JobOutcome → Type 0
 AreOutcomesIn ts outcomes = map (λ t. t.1) ts ≡ map Some outcomes
 
 -- what is told corresponds to the book and is one outcome of each job, or the job is named that is broken
-abbrev pub IsCompared : (workers : ℕ) → DraftTree → TableState → Tidings → BookView → Compared → Type 0
-IsCompared workers set opening ts v (compared.Correspond outcomes) =
-    Correspond workers set opening ts v × AreOutcomesIn ts outcomes.items
-IsCompared workers set opening ts v (compared.Broken job outcome) =
-    IsBroken workers set opening ts v job × (outcome ≡ outcome_at ts job)
+abbrev pub IsCompared : Assigned → Tidings → BookView → Compared → Type 0
+IsCompared given ts v (compared.Correspond outcomes) = Correspond given ts v × AreOutcomesIn ts outcomes.items
+IsCompared given ts v (compared.Broken job outcome) = IsBroken given ts v job × (outcome ≡ outcome_at ts job)
 
 -- the order is the least, and fits
 pub record IsOrderOf (v : BookView) (order : List ℕ) : Type 0 where
@@ -52,35 +49,34 @@ IsConcluded workers started outcomes v (Err (Memory book)) = book ≡ Some v
 IsConcluded workers started outcomes v (Err other) = ⊥
 
 -- the outcomes that the workers told correspond to the book
-pub record AreToldRight (workers : ℕ) (set : DraftTree) (opening : TableState) (jobs : List Job) (done : List Done) (v : BookView) (outcomes : List JobOutcome) : Type 0
+pub record AreToldRight (given : Assigned) (jobs : List Job) (done : List Done) (v : BookView) (outcomes : List JobOutcome) : Type 0
   where
     pub ts : Tidings
     pub told : AreToldBy jobs done ts
     pub one_each : AreOutcomesIn ts outcomes
-    pub correspond : Correspond workers set opening ts v
+    pub correspond : Correspond given ts v
 
 -- what the workers told does not, and this job is named with its outcome
-pub record AreToldWrong (workers : ℕ) (set : DraftTree) (opening : TableState) (jobs : List Job) (done : List Done) (v : BookView) (job : ℕ) (outcome : Option JobOutcome) : Type 0
+pub record AreToldWrong (given : Assigned) (jobs : List Job) (done : List Done) (v : BookView) (job : ℕ) (outcome : Option JobOutcome) : Type 0
   where
     pub ts : Tidings
     pub told : AreToldBy jobs done ts
-    pub broken : IsBroken workers set opening ts v job
+    pub broken : IsBroken given ts v job
     pub its_outcome : outcome ≡ outcome_at ts job
 
--- the book is handed out as it is where it was opened with this set and these rows, and else none
-abbrev pub IsHandedOut : DraftTree → TableState → BookView → Option BookView → Type 0
-IsHandedOut set opening v book =
-    (IsOver set opening v × (book ≡ Some v)) ⊎ ((IsOver set opening v → ⊥) × (book ≡ None))
+-- the book is handed out as it is where it was opened with the set and the rows that were given, and else none
+abbrev pub IsHandedOut : Assigned → BookView → Option BookView → Type 0
+IsHandedOut given v book = (IsOver given v × (book ≡ Some v)) ⊎ ((IsOver given v → ⊥) × (book ≡ None))
 
 -- Memory goes before Broken, and Broken before NoThread; the book is handed out as it is
-abbrev pub IsSettled : DraftTree → TableState → List Job → (workers : ℕ) → List Done → BookView → Result Finished WorkFault → Type 0
-IsSettled set opening jobs workers done v (Ok finished) =
-    (lack_memory done ≡ false) × (workers ≤ length done) × (finished.book ≡ v)
-    × AreToldRight workers set opening jobs done v finished.outcomes × IsOrderOf v finished.order
-IsSettled set opening jobs workers done v (Err (NoThread started outcomes book)) =
-    (lack_memory done ≡ false) × (started ≡ length done) × (started < workers) × (book ≡ v)
-    × AreToldRight workers set opening jobs done v outcomes
-IsSettled set opening jobs workers done v (Err (Broken job outcome book)) =
-    (lack_memory done ≡ false) × (book ≡ v) × AreToldWrong workers set opening jobs done v job outcome
-IsSettled set opening jobs workers done v (Err (Memory book)) = IsHandedOut set opening v book
-IsSettled set opening jobs workers done v (Err other) = ⊥
+abbrev pub IsSettled : Assigned → List Job → List Done → BookView → Result Finished WorkFault → Type 0
+IsSettled given jobs done v (Ok finished) =
+    (lack_memory done ≡ false) × (given.workers ≤ length done) × (finished.book ≡ v)
+    × AreToldRight given jobs done v finished.outcomes × IsOrderOf v finished.order
+IsSettled given jobs done v (Err (NoThread started outcomes book)) =
+    (lack_memory done ≡ false) × (started ≡ length done) × (started < given.workers) × (book ≡ v)
+    × AreToldRight given jobs done v outcomes
+IsSettled given jobs done v (Err (Broken job outcome book)) =
+    (lack_memory done ≡ false) × (book ≡ v) × AreToldWrong given jobs done v job outcome
+IsSettled given jobs done v (Err (Memory book)) = IsHandedOut given v book
+IsSettled given jobs done v (Err other) = ⊥

@@ -2,10 +2,9 @@
 use Rattle.std.specs.Prelude.{◌≡◌, ⊤, ℕ, zero, suc, ◌+◌, ◌<◌, ◌≤◌, ◌⊎◌, ℤ, List, [], ◌∷◌, ◌++◌, length, map, take, Option, Some, None, Result, Ok, Err, slice_get, IfSome}
 use Rattle.std.specs.Option.{IsSomeAnd, option_and_then}
 use Rattle.prog_tree.specs.declared.deed.Cause.{Cause}
-use Rattle.prog_tree.specs.Syntax.{DraftTree}
-use Rattle.prog_tree.specs.Table.{TableState}
 use Rattle.history_book.specs.TrueBook.{IsTrueBook}
 use Rattle.history_book.specs.View.{BookView}
+use Rattle.si_workers.specs.Assigned.{Assigned}
 use Rattle.si_workers.specs.KeptAndTold.{Tidings}
 use Rattle.si_workers.specs.LastAnswer.{IsLastAnswer}
 use Rattle.si_workers.specs.Outcomes.{AreRightTries, OutcomesCorrespond, IsBroken, IsOver}
@@ -73,12 +72,11 @@ abbrev pub outcome_at : Tidings → ℕ → Option JobOutcome
 outcome_at ts job = option_and_then (λ t. t.1) (slice_get ts job)
 
 -- what is told of some jobs does not correspond to the book, and this job is named with its outcome
-pub record IsNamed (workers : ℕ) (set : DraftTree) (opening : TableState) (jobs : List Job) (job : ℕ) (outcome : Option JobOutcome) (v : BookView) : Type 0
-  where
-    pub ts : Tidings
-    pub of_jobs : map (λ t. t.0) ts ≡ jobs
-    pub broken : IsBroken workers set opening ts v job
-    pub its_outcome : outcome ≡ outcome_at ts job
+pub record IsNamed (given : Assigned) (jobs : List Job) (job : ℕ) (outcome : Option JobOutcome) (v : BookView) : Type 0 where
+  pub ts : Tidings
+  pub of_jobs : map (λ t. t.0) ts ≡ jobs
+  pub broken : IsBroken given ts v job
+  pub its_outcome : outcome ≡ outcome_at ts job
 
 -- a number of workers that is refused, and one that is not
 abbrev pub IsWrongNumber : ℕ → Type 0
@@ -101,18 +99,18 @@ abbrev pub jobs_by : (started : ℕ) → List Job → List Job
 jobs_by zero jobs = []
 jobs_by (suc n) jobs = jobs
 
--- a true book, which was opened with this set and these rows
-abbrev pub IsTrueOver : DraftTree → TableState → BookView → Type 0
-IsTrueOver set opening v = IsTrueBook v × IsOver set opening v
+-- a true book, which was opened with the set and the rows that were given
+abbrev pub IsTrueOver : Assigned → BookView → Type 0
+IsTrueOver given v = IsTrueBook v × IsOver given v
 
 -- why work was refused, or what is wrong with it; a book that is handed out is a true book
-abbrev pub IsWorkFault : DraftTree → TableState → List Job → (workers : ℕ) → WorkFault → Type 0
-IsWorkFault set opening jobs workers fault.Workers = IsWrongNumber workers
-IsWorkFault set opening jobs workers fault.TooManyJobs = IsRightNumber workers × AreTooMany jobs
-IsWorkFault set opening jobs workers (fault.NoThread started outcomes book) =
-    AreTaken workers jobs × IsTrueBook book × (started < workers)
-    × OutcomesCorrespond workers set opening (jobs_by started jobs) outcomes book
-IsWorkFault set opening jobs workers (fault.Broken job outcome book) =
-    AreTaken workers jobs × IsTrueBook book × (started : ℕ)
-    × IsNamed workers set opening (jobs_by started jobs) job outcome book
-IsWorkFault set opening jobs workers (fault.Memory book) = AreTaken workers jobs × IfSome book (IsTrueOver set opening)
+abbrev pub IsWorkFault : Assigned → List Job → WorkFault → Type 0
+IsWorkFault given jobs fault.Workers = IsWrongNumber given.workers
+IsWorkFault given jobs fault.TooManyJobs = IsRightNumber given.workers × AreTooMany jobs
+IsWorkFault given jobs (fault.NoThread started outcomes book) =
+    AreTaken given.workers jobs × IsTrueBook book × (started < given.workers)
+    × OutcomesCorrespond given (jobs_by started jobs) outcomes book
+IsWorkFault given jobs (fault.Broken job outcome book) =
+    AreTaken given.workers jobs × IsTrueBook book × (started : ℕ)
+    × IsNamed given (jobs_by started jobs) job outcome book
+IsWorkFault given jobs (fault.Memory book) = AreTaken given.workers jobs × IfSome book (IsTrueOver given)

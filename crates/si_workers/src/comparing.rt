@@ -1,17 +1,16 @@
 //! What workers tell of jobs, compared with a book.
 
 ghost use Rattle.std.specs.Prelude.{◌≡◌, ◌↔◌, All, IsTrue, IfOk, IfNone, IfSome};
-ghost use Rattle.prog_tree.specs.Tree.{draft_tree};
+ghost use Rattle.si_workers.specs.Assigned.{assigned_by};
 ghost use Rattle.si_workers.specs.Calls.{call_of};
 ghost use Rattle.si_workers.specs.Outcomes.{AreAsMany, AreClashesTold, AreCommitsTold, AreRightTries, Correspond, IsAllOfJobs, IsBroken, IsClashTold, IsCommitOf, IsFirstFallen, IsNamedOnce, IsOfSomeJob, IsOver, IsRecordOf, IsRightEnd, IsRightRefusal, Stands, nearly_full};
 
+use crate::assignment::Assignment;
 use crate::call::CallKey;
 use crate::counts::Counts;
 use crate::job::{Job, JobEnd};
 use crate::told::Tiding;
 use history_book::{BeginFault, Book, Ending, HistoryRow, MAX_ENDINGS};
-use prog_check::ProgramSet;
-use prog_tree::Rows;
 use std::alloc::{AllocError, Global};
 
 // So many endings let a begin be refused as full while all other workers are active.
@@ -246,36 +245,34 @@ fn is_whole<'c>(book: &'c Book<'_>, counts: &Counts<'c>, tidings: &[Tiding<'c>])
     are_all_clashes_told(counts, book.endings(), tidings)
 }
 
-/// Whether a book was opened with this set and these rows.
-pub fn is_over(set: &ProgramSet, opening: &Rows, book: &Book<'_>) -> bool
-    ensures { IsTrue result ↔ IsOver (draft_tree set.now) opening.now book.now }
+/// Whether a book was opened with the set and the rows that were given.
+pub fn is_over(given: Assignment<'_>, book: &Book<'_>) -> bool
+    ensures { IsTrue result ↔ IsOver (assigned_by given.entry) book.now }
 {
-    if !book.set().draft().is_same(set.draft()) {
+    if !book.set().draft().is_same(given.set.draft()) {
         return false;
     }
-    book.opening().is_same(opening)
+    book.opening().is_same(given.opening)
 }
 
-/// The job that is named where what so many workers tell of the jobs does not correspond to the
-/// book: the least one whose outcome does not stand, or job 0 where all stand.
+/// The job that is named where what the workers tell of the jobs does not correspond to the book:
+/// the least one whose outcome does not stand, or job 0 where all stand.
 pub fn broken<'c>(
     alloc: Global,
-    workers: usize,
-    set: &ProgramSet,
-    opening: &Rows,
+    given: Assignment<'_>,
     tidings: &'c [Tiding<'c>],
     book: &'c Book<'_>,
 ) -> Result<Option<usize>, AllocError>
     ensures none { IfOk result (λ named. IfNone named
-        (Correspond workers (draft_tree set.now) opening.now tidings.now book.now)) }
+        (Correspond (assigned_by given.entry) tidings.now book.now)) }
     ensures some { IfOk result (λ named. IfSome named
-        (λ job. IsBroken workers (draft_tree set.now) opening.now tidings.now book.now job)) }
+        (λ job. IsBroken (assigned_by given.entry) tidings.now book.now job)) }
 {
     let counts = Counts::of(alloc, book.endings(), tidings)?;
-    if let Some(job) = first_fallen(workers, book, &counts, tidings) {
+    if let Some(job) = first_fallen(given.workers, book, &counts, tidings) {
         return Ok(Some(job));
     }
-    if !is_over(set, opening, book) {
+    if !is_over(given, book) {
         return Ok(Some(0));
     }
     if !is_whole(book, &counts, tidings) {

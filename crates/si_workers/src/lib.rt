@@ -2,6 +2,7 @@
 //! compared with the book that they leave.
 #![tactic(auto)]
 
+mod assignment;
 mod call;
 mod comparing;
 mod counts;

@@ -5,10 +5,12 @@ ghost use Rattle.prog_tree.specs.Tree.{draft_tree};
 ghost use Rattle.prog_check.specs.Paths.{paths_of};
 ghost use Rattle.prog_paths.specs.StaticGraph.{IsDangerous};
 ghost use Rattle.history_book.specs.TrueBook.{IsTrueBook};
+ghost use Rattle.si_workers.specs.Assigned.{assigned, assigned_by};
 ghost use Rattle.si_workers.specs.Outcomes.{OutcomesCorrespond};
 ghost use Rattle.si_workers.specs.Settled.{AreOutcomesIn, IsCompared, IsConcluded, IsHandedOut, IsOrderOf, IsSettled, lack_memory};
 ghost use Rattle.si_workers.specs.Work.{AreTaken, IsWorkFault, jobs_by, outcome_at};
 
+use crate::assignment::Assignment;
 use crate::comparing::{broken, is_over};
 use crate::fault::WorkFault;
 use crate::gate::Gate;
@@ -19,7 +21,6 @@ use crate::threads::run_threads;
 use crate::told::{Tiding, gather};
 use crate::worker::Done;
 use history_book::Book;
-use prog_check::ProgramSet;
 use prog_tree::{Rows, Sequence};
 use robust_cert::RobustSet;
 use si_engine::order_of;
@@ -78,16 +79,14 @@ fn into_outcome(mut tidings: Vec<Tiding<'_>>, job: usize) -> Option<JobOutcome>
 
 fn compare(
     alloc: Global,
-    workers: usize,
-    set: &ProgramSet,
-    opening: &Rows,
+    given: Assignment<'_>,
     tidings: Vec<Tiding<'_>>,
     book: &Book<'_>,
 ) -> Result<Compared, AllocError>
-    ensures { IfOk result (IsCompared workers (draft_tree set.now) opening.now
-        tidings.entry.items book.now) }
+    ensures { IfOk result
+        (IsCompared (assigned_by given.entry) tidings.entry.items book.now) }
 {
-    let named = broken(alloc, workers, set, opening, &tidings, book)?;
+    let named = broken(alloc, given, &tidings, book)?;
     match named {
         Some(job) => {
             let outcome = into_outcome(tidings, job);
@@ -116,10 +115,10 @@ fn jobs_by(started: usize, jobs: &[Job]) -> &[Job]
 }
 
 // The book, to hand out where memory ran out: none that was opened with another set or other rows.
-fn book_over<'a>(set: &RobustSet, opening: &Rows, book: Book<'a>) -> Option<Book<'a>>
-    ensures { IsHandedOut (draft_tree set.now) opening.now book.entry result }
+fn book_over<'a>(given: Assignment<'_>, book: Book<'a>) -> Option<Book<'a>>
+    ensures { IsHandedOut (assigned_by given.entry) book.entry result }
 {
-    if is_over(set.set(), opening, &book) {
+    if is_over(given, &book) {
         Some(book)
     } else {
         None
@@ -157,30 +156,28 @@ fn conclude<'a>(
 // What workers did, settled by the book that they leave.
 fn settle<'a>(
     alloc: Global,
-    set: &RobustSet,
-    opening: &Rows,
+    given: Assignment<'_>,
     jobs: &[Job],
-    workers: usize,
     done: Vec<Done>,
     book: Book<'a>,
 ) -> Result<Finished<'a>, WorkFault<'a>>
-    ensures { IsSettled (draft_tree set.now) opening.now jobs.now workers
-        done.items book.entry result }
+    requires safe { ¬ IsDangerous (paths_of (draft_tree given.set.now)) }
+    ensures { IsSettled (assigned_by given.entry) jobs.now done.items book.entry result }
 {
     if lack_memory(&done) {
-        let book = book_over(set, opening, book);
+        let book = book_over(given, book);
         return Err(WorkFault::Memory { book });
     }
     let started = done.len();
     let Ok(tidings) = gather(alloc, jobs_by(started, jobs), done) else {
-        let book = book_over(set, opening, book);
+        let book = book_over(given, book);
         return Err(WorkFault::Memory { book });
     };
-    match compare(alloc, workers, set.set(), opening, tidings, &book) {
-        Ok(Compared::Correspond(outcomes)) => conclude(workers, started, outcomes, book),
+    match compare(alloc, given, tidings, &book) {
+        Ok(Compared::Correspond(outcomes)) => conclude(given.workers, started, outcomes, book),
         Ok(Compared::Broken { job, outcome }) => Err(WorkFault::Broken { job, outcome, book }),
         Err(AllocError) => {
-            let book = book_over(set, opening, book);
+            let book = book_over(given, book);
             Err(WorkFault::Memory { book })
         }
     }
@@ -199,10 +196,11 @@ pub fn run_jobs<'a, R: Threads + Wait + Sync, G: Gate + Sync>(
     ensures taken { IfOk result (λ finished. AreTaken workers jobs.now) }
     ensures true_book { IfOk result (λ finished. IsTrueBook finished.book) }
     ensures correspond { IfOk result (λ finished.
-        OutcomesCorrespond workers (draft_tree set.now) opening jobs.now
+        OutcomesCorrespond (assigned workers (draft_tree set.now) opening) jobs.now
         finished.outcomes finished.book) }
     ensures order { IfOk result (λ finished. IsOrderOf finished.book finished.order) }
-    ensures fault { IfErr result (IsWorkFault (draft_tree set.now) opening jobs.now workers) }
+    ensures fault { IfErr result
+        (IsWorkFault (assigned workers (draft_tree set.now) opening) jobs.now) }
 {
     if workers == 0 || workers > MAX_WORKERS {
         return Err(WorkFault::Workers);
@@ -213,15 +211,21 @@ pub fn run_jobs<'a, R: Threads + Wait + Sync, G: Gate + Sync>(
     let Ok(kept) = opening.copy() else {
         return Err(WorkFault::Memory { book: None });
     };
-    let Ok(book) = Book::open(alloc, set.set(), opening) else {
+    let programs = set.set();
+    let Ok(book) = Book::open(alloc, programs, opening) else {
         return Err(WorkFault::Memory { book: None });
     };
+    let given = Assignment {
+        workers,
+        set: programs,
+        opening: &kept,
+    };
     let shared = SharedBook::new(book);
-    let ran = run_threads(rt, alloc, set.set(), &shared, jobs, workers, gate);
+    let ran = run_threads(rt, alloc, programs, &shared, jobs, workers, gate);
     let book = shared.into_book();
     let Ok(done) = ran else {
-        let book = book_over(set, &kept, book);
+        let book = book_over(given, book);
         return Err(WorkFault::Memory { book });
     };
-    settle(alloc, set, &kept, jobs, workers, done, book)
+    settle(alloc, given, jobs, done, book)
 }

@@ -46,6 +46,7 @@ use Rattle.si_engine.specs.Writing.{WritesOr}
 use Rattle.si_workers.specs.declared.fault.WorkFault.{WorkFault}
 use Rattle.si_workers.specs.declared.job.Job.{Job}
 use Rattle.si_workers.specs.declared.job.JobOutcome.{JobOutcome}
+use Rattle.si_workers.specs.Assigned.{assigned}
 use Rattle.si_workers.specs.JobLines.{jobs_of}
 use Rattle.si_workers.specs.Outcomes.{OutcomesCorrespond}
 use Rattle.si_workers.specs.Work.{AreTaken, IsWorkFault}
@@ -205,7 +206,7 @@ pub record IsUndone (workers : ℕ) (set : DraftTree) (part : List ℕ) (told : 
   pub list : ItemList Job
   pub read : jobs_of set part ≡ Ok list
   pub f : WorkFault
-  pub wrong : IsWorkFault set list.rows list.items workers f
+  pub wrong : IsWorkFault (assigned workers set list.rows) list.items f
   pub named : told_of f ≡ told
 
 -- the first fault of a set with a second part: of the analysis that comes before its lines; of its lines, of its records
@@ -312,7 +313,7 @@ pub record GivesWork (workers : ℕ) (set : DraftTree) (part written : List ℕ)
   pub outcomes : List JobOutcome
   pub book : BookView
   pub true_book : IsTrueBook book
-  pub correspond : OutcomesCorrespond workers set list.rows list.items outcomes book
+  pub correspond : OutcomesCorrespond (assigned workers set list.rows) list.items outcomes book
   pub text : written ≡ work_text outcomes book
 
 -- all that a second part without a fault means was written, and this is the status behind it; a set that may not run

@@ -1,6 +1,5 @@
 use Rattle.std.proofs.Common.{◌≡◌, ℕ, false, length, List, flat_map, subst, rules, arith}
-use Rattle.prog_tree.specs.declared.program.Draft.{Draft}
-use Rattle.prog_tree.specs.Tree.{draft_tree}
+use Rattle.si_workers.specs.Assigned.{assigned_by}
 use Rattle.si_workers.specs.Settled.{IsCompared, IsConcluded, lack_memory}
 use Rattle.si_workers.specs.Told.{AreTold}
 use Rattle.si_workers.specs.Work.{jobs_by}
@@ -10,21 +9,19 @@ use Rattle.si_workers.proofs.RunLaws.{conclude-settled, safe-over}
 use Rattle.si_workers.proofs.run.settle.Goals as goal
 use Rattle.si_workers.proofs.run.settle.Goals.{In-Ok-Correspond}
 
--- what the comparison said of the set that work was begun with
-compared-right : (c : In-Ok-Correspond) → IsCompared c.args.workers (draft_tree c.args.set.now) c.args.opening.now c.in-Ok.tidings.items c.args.book (Correspond c.in-Ok-Correspond.outcomes)
+-- what the comparison said
+compared-right : (c : In-Ok-Correspond) → IsCompared (assigned_by c.args.given) c.in-Ok.tidings.items c.args.book (Correspond c.in-Ok-Correspond.outcomes)
 compared-right c =
-    subst (λ (d : Draft). IsCompared c.args.workers (draft_tree d) c.args.opening.now c.in-Ok.tidings.items c.args.book (Correspond c.in-Ok-Correspond.outcomes)) c.set.ensures.same
-    (subst (IsCompared c.args.workers (draft_tree c.set.result.now) c.args.opening.now c.in-Ok.tidings.items c.args.book) c.in-Ok-Correspond.field-0-is c.in-Ok-Correspond.ensures)
+    subst (IsCompared (assigned_by c.args.given) c.in-Ok.tidings.items c.args.book) c.in-Ok-Correspond.field-0-is c.in-Ok-Correspond.ensures
 
 pub conclude-requires : goal.conclude-requires
 conclude-requires c =
     let right = compared-right c in
-    record { safe = safe-over (draft_tree c.args.set.now) c.args.opening.now c.args.book right.0.over c.set.ensures.safe }
+    record { safe = safe-over (assigned_by c.args.given) c.args.book right.0.over c.requires.safe }
 
 pub returns-in-Ok-Correspond : goal.returns-in-Ok-Correspond
 returns-in-Ok-Correspond c =
-    let set = draft_tree c.args.set.now in
-    let opening = c.args.opening.now in
+    let given = assigned_by c.args.given in
     let jobs = c.args.jobs.now in
     let done = c.args.done.items in
     let v = c.args.book in
@@ -36,6 +33,6 @@ returns-in-Ok-Correspond c =
     let told : AreTold (jobs_by (length done) jobs) (flat_map (λ one. one.reports.items) done) tidings =
     subst (λ (js : List Job). AreTold js (flat_map (λ one. one.reports.items) done) tidings)
     (subst (λ (n : ℕ). c.jobs_by.result.now ≡ jobs_by n jobs) started c.jobs_by.ensures) c.in-Ok.ensures in
-    conclude-settled set opening jobs c.args.workers done v outcomes c.conclude.result lack
+    conclude-settled given jobs done v outcomes c.conclude.result lack
     (record { ts = tidings; told = told; one_each = right.1; correspond = right.0 })
-    (subst (λ (n : ℕ). IsConcluded c.args.workers n outcomes v c.conclude.result) started c.conclude.ensures)
+    (subst (λ (n : ℕ). IsConcluded c.args.given.workers n outcomes v c.conclude.result) started c.conclude.ensures)

@@ -4,6 +4,7 @@ use Rattle.prog_tree.specs.declared.program.Draft.{Draft}
 use Rattle.prog_tree.specs.Tree.{draft_tree}
 use Rattle.si_workers.specs.declared.job.Job.{Job}
 use Rattle.si_workers.specs.declared.job.JobOutcome.{JobOutcome}
+use Rattle.si_workers.specs.Assigned.{assigned}
 use Rattle.si_workers.specs.JobLines.{jobs_of}
 use Rattle.si_workers.specs.Outcomes.{OutcomesCorrespond}
 use Rattle.si_workers.specs.Work.{AreTaken, IsWorkFault}
@@ -29,8 +30,8 @@ returns-in_err-outcomes-clause-err g c =
     let list = c.in_ok-rows.field-0 in
     let f = c.in_err-outcomes.field-0.0 in
     let read = subst (λ (s : Draft). jobs_of (draft_tree s) part ≡ Ok list) c.set.ensures.same c.in_ok-rows.ensures.ok in
-    let by_so_many = subst (λ (n : ℕ). IsWorkFault set list.rows c.as_slice.result.now n f) c.from.ensures c.in_err-outcomes.ensures.fault in
-    let wrong = subst (λ (jobs : List Job). IsWorkFault set list.rows jobs c.args.workers f) c.as_slice.ensures by_so_many in
+    let by_so_many = subst (λ (n : ℕ). IsWorkFault (assigned n set list.rows) c.as_slice.result.now f) c.from.ensures c.in_err-outcomes.ensures.fault in
+    let wrong = subst (λ (jobs : List Job). IsWorkFault (assigned c.args.workers set list.rows) jobs f) c.as_slice.ensures by_so_many in
     rw (exit.1, exit.2) (λ no_memory. (
       c.args.workers,
       refl,
@@ -56,7 +57,7 @@ returns-clause-ok g c =
     let list = c.in_ok-rows.field-0 in
     let finished = c.in_ok-outcomes.field-0 in
     let taken = subst (λ (n : ℕ). AreTaken n c.as_slice.result.now) c.from.ensures c.in_ok-outcomes.ensures.taken in
-    let correspond = subst (λ (n : ℕ). OutcomesCorrespond n set list.rows c.as_slice.result.now finished.outcomes finished.book) c.from.ensures c.in_ok-outcomes.ensures.correspond in
+    let correspond = subst (λ (n : ℕ). OutcomesCorrespond (assigned n set list.rows) c.as_slice.result.now finished.outcomes finished.book) c.from.ensures c.in_ok-outcomes.ensures.correspond in
     record {
       list = list;
       read = subst (λ (s : Draft). jobs_of (draft_tree s) part ≡ Ok list) c.set.ensures.same c.in_ok-rows.ensures.ok;
@@ -64,6 +65,6 @@ returns-clause-ok g c =
       outcomes = finished.outcomes;
       book = finished.book;
       true_book = c.in_ok-outcomes.ensures.true_book;
-      correspond = subst (λ (jobs : List Job). OutcomesCorrespond c.args.workers set list.rows jobs finished.outcomes finished.book) c.as_slice.ensures correspond;
+      correspond = subst (λ (jobs : List Job). OutcomesCorrespond (assigned c.args.workers set list.rows) jobs finished.outcomes finished.book) c.as_slice.ensures correspond;
       text = c.in_ok-text.ensures ∙ ap (λ (outcomes : List JobOutcome). work_text outcomes finished.book) c.as_slice-2.ensures;
     }
