@@ -14,8 +14,8 @@ pub fn goes_on(byte: u8) -> bool
     byte != b';' && byte != b'{'
 }
 
-/// The words and signs of a text without comments.
-pub fn tokens_of(alloc: Global, bytes: &[u8]) -> Result<Vec<&str>, AllocError> {
+// The words and signs of a text without comments.
+fn tokens_of(alloc: Global, bytes: &[u8]) -> Result<Vec<&str>, AllocError> {
     let mut tokens = Vec::new(alloc);
     for place in 0..bytes.len() {
         if begins_token(bytes, place) {
@@ -25,9 +25,9 @@ pub fn tokens_of(alloc: Global, bytes: &[u8]) -> Result<Vec<&str>, AllocError> {
     Ok(tokens)
 }
 
-/// The words and signs of the statement or the test that begins at a place of a text without
-/// comments, with the `;` or the `{` behind it.
-pub fn statement_tokens(alloc: Global, plain: &[u8], at: usize) -> Result<Vec<&str>, AllocError> {
+// The words and signs of the statement or the test that begins at a place of a text without
+// comments, with the `;` or the `{` behind it.
+fn statement_tokens(alloc: Global, plain: &[u8], at: usize) -> Result<Vec<&str>, AllocError> {
     let rest = behind(plain, at);
     let len = rest.iter().take_while(|byte| goes_on(**byte)).count();
     tokens_of(alloc, before(rest, len.saturating_add(1)))
@@ -66,9 +66,9 @@ fn push_turn<'a>(names: &mut Vec<&'a str>, each: &[&'a str]) -> Result<(), Alloc
     Ok(())
 }
 
-/// The names that are bound at the end of the tokens of a program's beginning: those of an `each`
-/// from the front of its block to its end.
-pub fn visible_names<'a>(alloc: Global, tokens: &[&'a str]) -> Result<Vec<&'a str>, AllocError> {
+// The names that are bound at the end of the tokens of a program's beginning: those of an `each`
+// from the front of its block to its end.
+fn visible_names<'a>(alloc: Global, tokens: &[&'a str]) -> Result<Vec<&'a str>, AllocError> {
     let mut names: Vec<&'a str> = Vec::new(alloc);
     let mut outer = Vec::new(alloc);
     let mut each = 0;
@@ -88,6 +88,45 @@ pub fn visible_names<'a>(alloc: Global, tokens: &[&'a str]) -> Result<Vec<&'a st
         before = *token;
     }
     Ok(names)
+}
+
+/// A statement and the names that it may use, as a text without comments has them.
+#[derive(Drop)]
+pub struct Scope<'a> {
+    /// The words and signs of the statement.
+    pub statement: Vec<&'a str>,
+    /// Those of its program before it.
+    pub before: Vec<&'a str>,
+    /// The names that are bound where it begins.
+    pub visible: Vec<&'a str>,
+}
+
+impl<'a> Scope<'a> {
+    /// Of the statement that begins at a place, in the program that begins at another.
+    pub fn of(
+        alloc: Global,
+        plain: &'a [u8],
+        start: usize,
+        at: usize,
+    ) -> Result<Scope<'a>, AllocError> {
+        let statement = statement_tokens(alloc, plain, at)?;
+        let ahead = tokens_of(alloc, behind(before(plain, at), start))?;
+        let visible = visible_names(alloc, &ahead)?;
+        Ok(Scope {
+            statement,
+            before: ahead,
+            visible,
+        })
+    }
+
+    /// Of no statement.
+    pub fn none(alloc: Global) -> Scope<'a> {
+        Scope {
+            statement: Vec::new(alloc),
+            before: Vec::new(alloc),
+            visible: Vec::new(alloc),
+        }
+    }
 }
 
 // Whether the token at an index is followed by `[`, as the name of a table is.

@@ -1,8 +1,7 @@
 //! The faults of a set in words.
 ghost use Rattle.std.specs.Prelude.{◌≡◌, IfNone, IfOk, IfSome, string_bytes};
 ghost use Rattle.std.specs.List.{list_all};
-ghost use Rattle.text_places.specs.Reading.{without_comments};
-ghost use Rattle.fault_words.specs.Pointing.{goes_on, is_word_of, place_of, HasNone, HasNoPlace, IsMark, IsPlaceOf, PointsAtFlaw};
+ghost use Rattle.fault_words.specs.Pointing.{goes_on, is_word_of, place_of, HasNone, HasNoPlace, IsMark, IsPlaceOf, PointsAt, PointsAtFlaw};
 
 use crate::naming::{program_params, table_names};
 use crate::nearest::known_names;
@@ -10,8 +9,7 @@ use crate::ordinals::ordinal;
 use crate::pointing::point_at;
 use crate::reserved::in_lower_case;
 use crate::scope::{
-    goes_on, has_each, is_bound_among, is_of_turn, statement_tokens, taken_name, token_place,
-    tokens_of, unknown_name, visible_names,
+    Scope, goes_on, has_each, is_bound_among, is_of_turn, taken_name, token_place, unknown_name,
 };
 use prog_check::{
     CheckFault, MAX_ACCESSES, MAX_PARAMETERS, MAX_PATHS, MAX_PROGRAMS, MAX_STATEMENTS, MAX_TABLES,
@@ -21,19 +19,18 @@ use prog_text::parse;
 use prog_tree::{Arity, Draft, Name};
 use std::alloc::{AllocError, Global};
 use text_places::{
-    as_text, before, begins_word, behind, behind_word, first_word, program_place, statement_place,
-    table_name, table_place, without_comments,
+    SetText, as_text, before, begins_word, behind, behind_word, first_word, table_name,
 };
 
 // Where a table, a program or a statement begins in a text.
-fn find_place(alloc: Global, text: &[u8], place: Place) -> Result<Option<usize>, AllocError>
-    ensures found { IfOk result (λ found. IfSome found (IsPlaceOf text.now place)) }
-    ensures none { IfOk result (λ found. IfNone found (HasNone text.now place)) }
+fn find_place(text: &SetText<'_>, place: Place) -> Option<usize>
+    ensures found { IfSome result (IsPlaceOf text.now place) }
+    ensures none { IfNone result (HasNone text.now place) }
 {
     match place {
-        Place::Table { table } => table_place(alloc, text, table),
-        Place::Program { program } => program_place(alloc, text, program),
-        Place::Statement { program, statement } => statement_place(alloc, text, program, statement),
+        Place::Table { table } => text.table_place(table),
+        Place::Program { program } => text.program_place(program),
+        Place::Statement { program, statement } => text.statement_place(program, statement),
     }
 }
 
@@ -52,43 +49,39 @@ fn unknown_table(alloc: Global, text: &[u8], statement: &[u8]) -> Result<String,
     format!(in alloc; "no table is called `{name}`; {known}")
 }
 
-// What stands of a program before one of its statements, in a text without comments.
-fn tokens_before<'a>(
-    alloc: Global,
-    plain: &'a [u8],
-    program: usize,
-    at: usize,
-) -> Result<Vec<&'a str>, AllocError> {
-    let start = program_place(alloc, plain, program)?.unwrap_or(0);
-    tokens_of(alloc, behind(before(plain, at), start))
+// The program of the statement whose names are at fault.
+fn program_of(fault: CheckFault) -> Option<usize> {
+    match fault {
+        CheckFault::UnknownName {
+            place: Place::Statement { program, .. },
+        }
+        | CheckFault::NameTaken {
+            place: Place::Statement { program, .. },
+        } => Some(program),
+        _ => None,
+    }
 }
 
-// The names that are bound where a statement of a program begins, in a text without comments.
-fn names_before<'a>(
+// The statement that begins at a place, where its names are at fault.
+fn scope_of<'a>(
     alloc: Global,
-    plain: &'a [u8],
-    program: usize,
+    text: &'a SetText<'_>,
+    fault: CheckFault,
     at: usize,
-) -> Result<Vec<&'a str>, AllocError> {
-    let before = tokens_before(alloc, plain, program, at)?;
-    visible_names(alloc, &before)
+) -> Result<Scope<'a>, AllocError> {
+    let Some(program) = program_of(fault) else {
+        return Ok(Scope::none(alloc));
+    };
+    let start = text.program_place(program).unwrap_or(0);
+    Scope::of(alloc, text.plain(), start, at)
 }
 
 // Where the name stands that a statement uses and that is not bound. Names are bound by parameters,
 // by `let` and by `each`.
-fn unbound_place(
-    alloc: Global,
-    plain: &[u8],
-    program: usize,
-    at: usize,
-) -> Result<Option<usize>, AllocError> {
-    let visible = names_before(alloc, plain, program, at)?;
-    let statement = statement_tokens(alloc, plain, at)?;
-    let Some(number) = unknown_name(&statement, &visible) else {
-        return Ok(None);
-    };
+fn unbound_place(plain: &[u8], scope: &Scope<'_>, at: usize) -> Option<usize> {
+    let number = unknown_name(&scope.statement, &scope.visible)?;
     let place = token_place(behind(plain, at), number).unwrap_or(0);
-    Ok(Some(at.saturating_add(place)))
+    Some(at.saturating_add(place))
 }
 
 // Whether all of these bytes may stand in a statement or a test.
@@ -107,63 +100,43 @@ fn is_word_of(plain: &[u8], at: usize, mark: usize) -> bool
 }
 
 // Where the mark stands, of what begins at a place: at a name that is not bound.
-fn mark_of(
-    alloc: Global,
-    text: &[u8],
-    plain: &[u8],
-    fault: CheckFault,
-    at: usize,
-) -> Result<usize, AllocError>
-    requires { plain.now ≡ without_comments text.now }
-    ensures { IfOk result (λ mark. IsMark text.now fault at mark) }
+fn mark_of(text: &SetText<'_>, fault: CheckFault, scope: &Scope<'_>, at: usize) -> usize
+    ensures { IsMark text.now fault at result }
 {
-    let CheckFault::UnknownName {
-        place: Place::Statement { program, .. },
-    } = fault
-    else {
-        return Ok(at);
+    let CheckFault::UnknownName { .. } = fault else {
+        return at;
     };
-    match unbound_place(alloc, plain, program, at)? {
-        Some(mark) if is_word_of(plain, at, mark) => Ok(mark),
-        _ => Ok(at),
+    let plain = text.plain();
+    match unbound_place(plain, scope, at) {
+        Some(mark) if is_word_of(plain, at, mark) => mark,
+        _ => at,
     }
 }
 
-// That a name is not bound where a statement uses it, in a text without comments.
-fn unknown_words(
-    alloc: Global,
-    plain: &[u8],
-    program: usize,
-    at: usize,
-    name: &str,
-) -> Result<String, AllocError> {
-    let statement = statement_tokens(alloc, plain, at)?;
-    if is_of_turn(&statement, name) {
+// That a name is not bound where a statement uses it.
+fn unknown_words(alloc: Global, scope: &Scope<'_>, name: &str) -> Result<String, AllocError> {
+    if is_of_turn(&scope.statement, name) {
         return format!(in alloc;
             "`{name}` is bound in the block of this `each`, and not before it"
         );
     }
-    let before = tokens_before(alloc, plain, program, at)?;
-    if is_bound_among(&before, name) {
+    if is_bound_among(&scope.before, name) {
         return format!(in alloc;
             "`{name}` is bound only in a block that ends before this statement"
         );
     }
-    let visible = visible_names(alloc, &before)?;
-    let known = known_names(alloc, name, &visible)?;
+    let known = known_names(alloc, name, &scope.visible)?;
     format!(in alloc; "`{name}` is no parameter, and no `let` or `each` before binds it; {known}")
 }
 
+// The same of the name at the mark.
 fn unbound_name(
     alloc: Global,
     plain: &[u8],
-    place: Place,
+    scope: &Scope<'_>,
     at: usize,
     mark: usize,
 ) -> Result<String, AllocError> {
-    let Place::Statement { program, .. } = place else {
-        return format!(in alloc; "a name is not bound");
-    };
     if mark == at {
         return format!(in alloc; "a name of this statement is not bound");
     }
@@ -171,18 +144,16 @@ fn unbound_name(
     if let Some(word) = in_lower_case(name) {
         return format!(in alloc; "`{name}` is a name; the word has small letters: write `{word}`");
     }
-    unknown_words(alloc, plain, program, at, name)
+    unknown_words(alloc, scope, name)
 }
 
 // The name that a statement binds, and that is taken.
-fn name_taken(alloc: Global, plain: &[u8], place: Place, at: usize) -> Result<String, AllocError> {
-    let Place::Statement { program, .. } = place else {
+fn name_taken(alloc: Global, scope: &Scope<'_>) -> Result<String, AllocError> {
+    if scope.statement.is_empty() {
         return format!(in alloc; "a name is taken");
-    };
-    let visible = names_before(alloc, plain, program, at)?;
-    let statement = statement_tokens(alloc, plain, at)?;
-    let name = taken_name(&statement, &visible);
-    if !(&*visible).contains(&name) {
+    }
+    let name = taken_name(&scope.statement, &scope.visible);
+    if !(&*scope.visible).contains(&name) {
         return format!(in alloc;
             "both names of this `each` are `{name}`; the value wants another than the key"
         );
@@ -266,15 +237,14 @@ fn one_too_many(alloc: Global, part: &str, whole: &str, most: usize) -> Result<S
 
 fn too_much_in_program(
     alloc: Global,
-    text: &[u8],
-    plain: &[u8],
+    text: &SetText<'_>,
     program: usize,
     at: usize,
 ) -> Result<String, AllocError> {
     if program >= MAX_PROGRAMS {
         return one_too_many(alloc, "program", "set", MAX_PROGRAMS);
     }
-    let count = match draft_of(alloc, text) {
+    let count = match draft_of(alloc, text.bytes()) {
         Some(draft) => program_params(&draft, program).len(),
         None => 0,
     };
@@ -283,33 +253,32 @@ fn too_much_in_program(
             "this program has {count} parameters, and at most {MAX_PARAMETERS} are allowed"
         );
     }
-    too_many_accesses(alloc, plain, at)
+    too_many_accesses(alloc, text.plain(), at)
 }
 
 fn too_many(
     alloc: Global,
-    text: &[u8],
-    plain: &[u8],
+    text: &SetText<'_>,
     place: Place,
     at: usize,
 ) -> Result<String, AllocError> {
     match place {
         Place::Table { .. } => one_too_many(alloc, "table", "set", MAX_TABLES),
-        Place::Program { program } => too_much_in_program(alloc, text, plain, program, at),
+        Place::Program { program } => too_much_in_program(alloc, text, program, at),
         Place::Statement { .. } => one_too_many(alloc, "statement", "program", MAX_STATEMENTS),
     }
 }
 
-// What the fault is, of what begins at a place of a text, and of the text without comments.
+// What the fault is, of what begins at a place of a text.
 fn sentence(
     alloc: Global,
-    text: &[u8],
-    plain: &[u8],
+    text: &SetText<'_>,
     fault: CheckFault,
+    scope: &Scope<'_>,
     at: usize,
     mark: usize,
 ) -> Result<String, AllocError> {
-    let begun = behind(text, at);
+    let begun = behind(text.bytes(), at);
     let name = as_text(first_word(behind_word(begun)));
     match fault {
         CheckFault::DuplicateTable { .. } => {
@@ -318,11 +287,11 @@ fn sentence(
         CheckFault::DuplicateProgram { .. } => {
             format!(in alloc; "an earlier program is called `{name}` too")
         }
-        CheckFault::DuplicateParameter { place } => repeated_parameter(alloc, text, place),
-        CheckFault::UnknownTable { .. } => unknown_table(alloc, text, begun),
-        CheckFault::UnknownName { place } => unbound_name(alloc, plain, place, at, mark),
-        CheckFault::NameTaken { place } => name_taken(alloc, plain, place, at),
-        CheckFault::WrongArity { .. } => wrong_columns(alloc, text, begun),
+        CheckFault::DuplicateParameter { place } => repeated_parameter(alloc, text.bytes(), place),
+        CheckFault::UnknownTable { .. } => unknown_table(alloc, text.bytes(), begun),
+        CheckFault::UnknownName { .. } => unbound_name(alloc, text.plain(), scope, at, mark),
+        CheckFault::NameTaken { .. } => name_taken(alloc, scope),
+        CheckFault::WrongArity { .. } => wrong_columns(alloc, text.bytes(), begun),
         CheckFault::GrowTableChanged { .. } => {
             let table = as_text(table_name(begun));
             format!(in alloc;
@@ -332,7 +301,7 @@ fn sentence(
         CheckFault::AfterAbort { .. } => {
             format!(in alloc; "never reached: the `abort;` before it ends this block")
         }
-        CheckFault::TooMany { place } => too_many(alloc, text, plain, place, at),
+        CheckFault::TooMany { place } => too_many(alloc, text, place, at),
         CheckFault::TooManyPaths { .. } => {
             format!(in alloc;
                 "more than {MAX_PATHS} ways through `{name}` commit; each further `if` doubles them"
@@ -362,6 +331,41 @@ fn place_of(fault: CheckFault) -> Option<Place>
     }
 }
 
+// Says a sentence of a place of a set's text.
+fn point_in(
+    alloc: Global,
+    text: &SetText<'_>,
+    place: usize,
+    sentence: &str,
+) -> Result<String, AllocError>
+    ensures { IfOk result (λ words. PointsAt text.now place (string_bytes words)) }
+{
+    point_at(alloc, text.bytes(), place, sentence)
+}
+
+// What a fault of a set means, and where it stands in the set's text.
+fn flaw_words(
+    alloc: Global,
+    text: &SetText<'_>,
+    fault: CheckFault,
+) -> Result<Option<String>, AllocError>
+    ensures said { IfOk result (λ said. IfSome said (λ words.
+        PointsAtFlaw text.now fault (string_bytes words))) }
+    ensures none { IfOk result (λ said. IfNone said (HasNoPlace text.now (place_of fault))) }
+{
+    let Some(place) = place_of(fault) else {
+        return Ok(None);
+    };
+    let Some(at) = find_place(text, place) else {
+        return Ok(None);
+    };
+    let scope = scope_of(alloc, text, fault, at)?;
+    let mark = mark_of(text, fault, &scope, at);
+    let sentence = sentence(alloc, text, fault, &scope, at, mark)?;
+    let words = point_in(alloc, text, mark, &sentence)?;
+    Ok(Some(words))
+}
+
 /// What a fault of a set means, and where it stands in the set's text; nothing where it is not
 /// found.
 pub fn check_words(
@@ -373,15 +377,6 @@ pub fn check_words(
         PointsAtFlaw text.now fault (string_bytes words))) }
     ensures none { IfOk result (λ said. IfNone said (HasNoPlace text.now (place_of fault))) }
 {
-    let Some(place) = place_of(fault) else {
-        return Ok(None);
-    };
-    let Some(at) = find_place(alloc, text, place)? else {
-        return Ok(None);
-    };
-    let plain = without_comments(alloc, text)?;
-    let mark = mark_of(alloc, text, &plain, fault, at)?;
-    let sentence = sentence(alloc, text, &plain, fault, at, mark)?;
-    let words = point_at(alloc, text, mark, &sentence)?;
-    Ok(Some(words))
+    let text = SetText::new(alloc, text)?;
+    flaw_words(alloc, &text, fault)
 }

@@ -12,7 +12,7 @@ use prog_text::{
 };
 use std::alloc::{AllocError, Global};
 use text_places::{
-    as_text, before, behind, column, end_before, first_token, first_word, line_at, line_number,
+    as_text, before, behind, column, first_token, first_word, last_end, line_at, line_number,
     point_out, without_comments,
 };
 
@@ -144,7 +144,7 @@ fn unexpected(alloc: Global, text: &[u8], place: usize) -> Result<String, AllocE
     ensures { IfOk result (λ words. PointsAtToken text.now place (string_bytes words)) }
 {
     let plain = without_comments(alloc, text)?;
-    let end = end_before(alloc, text, place)?;
+    let end = last_end(&plain, place);
     let around = tokens_around(&plain, end, place);
     let could = possible(alloc, before(text, place))?;
     let is_first = line_number(text, end) != line_number(text, place);

@@ -1,13 +1,13 @@
 //! The reading of texts for people: words and signs, lines and columns, and where things begin.
 
-use std::alloc::{AllocError, Global};
+use std::alloc::AllocError;
 use std::process::Abort;
 use std::test::Fail;
 use text_places::{
-    SetText, as_text, before, begins_token, begins_word, behind, behind_word, column, end_before,
-    ends_line, feeds, first_token, first_word, job_place, last_token, line_at, line_front,
-    line_number, point_out, program_place, push_listed, record_place, second_token, short_word,
-    stands_free, statement_place, table_name, table_place, visible_text, without_comments,
+    SetText, as_text, before, begins_token, begins_word, behind, behind_word, column, ends_line,
+    feeds, first_token, first_word, job_place, last_end, last_token, line_at, line_front,
+    line_number, point_out, push_listed, record_place, second_token, short_word, stands_free,
+    table_name, visible_text, without_comments,
 };
 
 /// What is cut out of a text: its first word, what is behind that, and its first, second and last
@@ -111,18 +111,18 @@ program Set(k, v) { put u[k] = v; }
 ";
 
 /// Where the table and the program of a number begin.
-fn places(alloc: Global, text: &[u8], number: usize) -> Result<[Option<usize>; 2], AllocError> {
-    let table = table_place(alloc, text, number)?;
-    let program = program_place(alloc, text, number)?;
-    Ok([table, program])
+fn places(set: &SetText<'_>, number: usize) -> [Option<usize>; 2] {
+    [set.table_place(number), set.program_place(number)]
 }
 
 #[test]
-fn tables_and_programs_are_found(rt: HostRuntime) {
-    let text = SET.as_bytes();
-    assert!(rt; places(rt.alloc(), text, 0) == Ok([Some(15), Some(37)]));
-    assert!(rt; places(rt.alloc(), text, 1) == Ok([Some(26), Some(113)]));
-    assert!(rt; places(rt.alloc(), text, 2) == Ok([None, None]));
+fn tables_and_programs_are_found(rt: HostRuntime) -> Result<(), AllocError> {
+    let set = SetText::new(rt.alloc(), SET.as_bytes())?;
+    assert!(rt; places(&set, 0) == [Some(15), Some(37)]);
+    assert!(rt; places(&set, 1) == [Some(26), Some(113)]);
+    assert!(rt; places(&set, 2) == [None, None]);
+    drop(set);
+    Ok(())
 }
 
 #[test]
@@ -158,18 +158,10 @@ fn statements_of_a_set_are_found(rt: HostRuntime) -> Result<(), AllocError> {
 }
 
 #[test]
-fn statements_are_found_alone(rt: HostRuntime) {
-    for (program, statement, place) in &STATEMENTS {
-        let found = statement_place(rt.alloc(), SET.as_bytes(), *program, *statement);
-        assert!(rt; found == Ok(*place), "{program} {statement}");
-    }
-}
-
-#[test]
 fn comments_are_read_as_blanks(rt: HostRuntime) -> Result<(), Fail> {
     let text = b"x # y\nz";
     assert!(rt; without_comments(rt.alloc(), text)?.as_slice() == b"x    \nz".as_slice());
-    assert!(rt; end_before(rt.alloc(), text, 6)? == 1);
+    assert!(rt; last_end(b"x    \nz".as_slice(), 6) == 1);
     let set = SetText::new(rt.alloc(), text)?;
     assert!(rt; set.plain() == b"x    \nz".as_slice());
     drop(set);

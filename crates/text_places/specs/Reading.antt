@@ -54,6 +54,10 @@ stands_free text place = suffix_len is_word_byte (take place text) == 0
 abbrev pub begins_word : (text : List ℕ) → (place : ℕ) → Bool
 begins_word text place = stands_free text place && not (prefix_len is_word_byte (drop place text) == 0)
 
--- where the last word or sign before a place ends: behind it stand only blanks and comments
+-- where the last word or sign before a place ends, in a text without comments: behind it stand only blanks
+abbrev pub last_end : (plain : List ℕ) → (place : ℕ) → ℕ
+last_end plain place = length (take place plain) - suffix_len is_blank (take place plain)
+
+-- the same in any text: behind it stand only blanks and comments
 abbrev pub end_before : (text : List ℕ) → (place : ℕ) → ℕ
-end_before text place = length (take place (without_comments text)) - suffix_len is_blank (take place (without_comments text))
+end_before text place = last_end (without_comments text) place

@@ -1,15 +1,14 @@
 //! Where the tables, programs and statements of a set's text begin, and the records or the jobs of
 //! a list. A statement's first word stands nowhere else.
-ghost use Rattle.std.specs.Prelude.{◌≡◌, ◌≤◌, ◌&&◌, bytes_eq, drop, IfNone, IfOk, IfSome};
-ghost use Rattle.text_places.specs.Landmarks.{begun_at, is_landmark, HasFewer, HasNoProgram, HasNoRecord, HasNoTable, IsNumbered, IsProgramPlace, IsRecordPlace, IsTablePlace};
+ghost use Rattle.std.specs.Prelude.{◌≡◌, ◌≤◌, ◌&&◌, bytes_eq, drop, IfNone, IfSome};
+ghost use Rattle.text_places.specs.Landmarks.{begun_at, is_landmark, HasFewer, HasNoRecord, IsNumbered, IsRecordPlace};
 ghost use Rattle.text_places.specs.Places.{begins_line};
-ghost use Rattle.text_places.specs.Reading.{short_word, without_comments};
+ghost use Rattle.text_places.specs.Reading.{short_word};
 ghost use Rattle.text_places.specs.declared.landmark.Landmark.TheVariants.{Job};
 
 use crate::place::{begins_line, behind};
-use crate::reading::{short_word, stands_free, without_comments};
+use crate::reading::{short_word, stands_free};
 use prog_text::{Beginning, beginning_of};
-use std::alloc::{AllocError, Global};
 
 /// What begins at a place.
 pub fn begun_at(text: &[u8], place: usize) -> Option<Beginning>
@@ -53,8 +52,8 @@ fn is_landmark(kind: Landmark, text: &[u8], place: usize) -> bool
     }
 }
 
-// Where the one of this number begins, counted from a place on.
-fn numbered(kind: Landmark, text: &[u8], start: usize, number: usize) -> Option<usize>
+/// Where the one of this number begins, counted from a place on.
+pub fn numbered(kind: Landmark, text: &[u8], start: usize, number: usize) -> Option<usize>
     ensures found { IfSome result (IsNumbered kind text.now start number) }
     ensures behind { IfSome result (λ place. start ≤ place) }
     ensures none { IfNone result (HasFewer kind text.now start number) }
@@ -70,42 +69,6 @@ fn numbered(kind: Landmark, text: &[u8], start: usize, number: usize) -> Option<
         left -= 1;
     }
     None
-}
-
-// Where the one of this number begins in a text.
-fn place_in_text(
-    alloc: Global,
-    kind: Landmark,
-    text: &[u8],
-    number: usize,
-) -> Result<Option<usize>, AllocError>
-    ensures found { IfOk result (λ place. IfSome place
-        (IsNumbered kind (without_comments text.now) 0 number)) }
-    ensures none { IfOk result (λ place. IfNone place
-        (HasFewer kind (without_comments text.now) 0 number)) }
-{
-    let blanked = without_comments(alloc, text)?;
-    Ok(numbered(kind, &blanked, 0, number))
-}
-
-/// Where a table is declared.
-pub fn table_place(alloc: Global, text: &[u8], table: usize) -> Result<Option<usize>, AllocError>
-    ensures found { IfOk result (λ place. IfSome place (IsTablePlace text.now table)) }
-    ensures none { IfOk result (λ place. IfNone place (HasNoTable text.now table)) }
-{
-    place_in_text(alloc, Landmark::Table, text, table)
-}
-
-/// Where a program begins.
-pub fn program_place(
-    alloc: Global,
-    text: &[u8],
-    program: usize,
-) -> Result<Option<usize>, AllocError>
-    ensures found { IfOk result (λ place. IfSome place (IsProgramPlace text.now program)) }
-    ensures none { IfOk result (λ place. IfNone place (HasNoProgram text.now program)) }
-{
-    place_in_text(alloc, Landmark::Program, text, program)
 }
 
 /// Where a record of a list begins.

@@ -13,12 +13,12 @@ mod reading;
 mod set_text;
 mod tokens;
 
-pub use landmark::{job_place, program_place, record_place, table_place};
+pub use landmark::{job_place, record_place};
 pub use listing::{bracketed, push_listed};
 pub use place::{before, behind, column, ends_line, feeds, line_at, line_front, line_number};
 pub use quote::{point_out, visible_text};
 pub use reading::{
-    begins_word, behind_word, end_before, first_word, short_word, stands_free, without_comments,
+    begins_word, behind_word, first_word, last_end, short_word, stands_free, without_comments,
 };
-pub use set_text::{SetText, statement_place};
+pub use set_text::SetText;
 pub use tokens::{as_text, begins_token, first_token, last_token, second_token, table_name};

@@ -1,7 +1,7 @@
 //! The words, blanks and comments of a text that may have any fault: nothing is refused here.
 ghost use Rattle.std.specs.Prelude.{◌≡◌, ◌≤◌, length, IfOk};
 ghost use Rattle.std.specs.List.{prefix_len};
-ghost use Rattle.text_places.specs.Reading.{before_blanks, begins_word, behind_blanks, behind_word, end_before, first_word, is_blank, is_in_comment, is_word_byte, last_word, short_word, stands_free, without_comments};
+ghost use Rattle.text_places.specs.Reading.{before_blanks, begins_word, behind_blanks, behind_word, first_word, is_blank, is_in_comment, is_word_byte, last_end, last_word, short_word, stands_free, without_comments};
 
 use crate::byte_kind::{ByteKind, first_count, last_count};
 use crate::place::{before, behind};
@@ -105,11 +105,10 @@ pub fn behind_word(bytes: &[u8]) -> &[u8]
     behind_blanks(behind(bytes, word_len(bytes)))
 }
 
-/// Where the last word or sign before a place ends, in a text or in one without comments.
-pub fn end_before(alloc: Global, text: &[u8], place: usize) -> Result<usize, AllocError>
-    ensures { IfOk result (λ end. end ≡ end_before text.now place) }
+/// Where the last word or sign before a place ends, in a text without comments.
+pub fn last_end(plain: &[u8], place: usize) -> usize
+    ensures { result ≡ last_end plain.now place }
 {
-    let plain = without_comments(alloc, text)?;
-    let front = before(&plain, place);
-    Ok(front.len() - last_count(ByteKind::Blank, front))
+    let front = before(plain, place);
+    front.len() - last_count(ByteKind::Blank, front)
 }

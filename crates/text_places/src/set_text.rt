@@ -1,10 +1,10 @@
-//! A set's text, of which many statements are asked for.
+//! A set's text, and where its tables, programs and statements begin.
 ghost use Rattle.std.specs.Prelude.{◌≡◌, ◌+◌, length, slice_get, IfNone, IfOk, IfSome};
-ghost use Rattle.text_places.specs.Landmarks.{places_before, statements_ahead, HasNoStatement, IsStatementPlace};
+ghost use Rattle.text_places.specs.Landmarks.{places_before, statements_ahead, HasNoProgram, HasNoStatement, HasNoTable, IsProgramPlace, IsStatementPlace, IsTablePlace};
 ghost use Rattle.text_places.specs.Reading.{without_comments};
 ghost use Rattle.text_places.specs.declared.landmark.Landmark.TheVariants.{Statement};
 
-use crate::landmark::begun_at;
+use crate::landmark::{Landmark, begun_at, numbered};
 use crate::reading::without_comments;
 use prog_text::Beginning;
 use std::alloc::{AllocError, Global};
@@ -101,6 +101,22 @@ impl<'a> SetText<'a> {
         self.plain.as_slice()
     }
 
+    /// Where a table is declared.
+    pub fn table_place(&self, table: usize) -> Option<usize>
+        ensures found { IfSome result (IsTablePlace self.now table) }
+        ensures none { IfNone result (HasNoTable self.now table) }
+    {
+        numbered(Landmark::Table, self.plain(), 0, table)
+    }
+
+    /// Where a program begins.
+    pub fn program_place(&self, program: usize) -> Option<usize>
+        ensures found { IfSome result (IsProgramPlace self.now program) }
+        ensures none { IfNone result (HasNoProgram self.now program) }
+    {
+        numbered(Landmark::Program, self.plain(), 0, program)
+    }
+
     /// Where a statement of a program begins.
     pub fn statement_place(&self, program: usize, statement: usize) -> Option<usize>
         ensures found { IfSome result (IsStatementPlace self.now program statement) }
@@ -111,20 +127,4 @@ impl<'a> SetText<'a> {
             None => None,
         }
     }
-}
-
-/// Where a statement of a program begins in a text of which no other is asked for.
-pub fn statement_place(
-    alloc: Global,
-    text: &[u8],
-    program: usize,
-    statement: usize,
-) -> Result<Option<usize>, AllocError>
-    ensures found { IfOk result (λ place. IfSome place
-        (IsStatementPlace text.now program statement)) }
-    ensures none { IfOk result (λ place. IfNone place
-        (HasNoStatement text.now program statement)) }
-{
-    let text = SetText::new(alloc, text)?;
-    Ok(text.statement_place(program, statement))
 }
