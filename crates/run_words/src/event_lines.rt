@@ -1,6 +1,7 @@
 //! The lines on which the events of a script stand.
 ghost use Rattle.std.specs.Prelude.{◌<◌, length};
 
+use crate::forms::is_event;
 use text_places::{as_text, behind};
 
 /// How far a script was read to find the line of an event.
@@ -43,7 +44,7 @@ fn event_count(line: &[u8]) -> usize {
     let (word, rest) = cut_word(line);
     match word {
         "step" => step_count(rest),
-        "begin" | "begin-at" | "commit" | "abort" | "vacuum" => 1,
+        _ if is_event(word) => 1,
         _ => 0,
     }
 }

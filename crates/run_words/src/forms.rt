@@ -22,45 +22,54 @@ pub fn first_words(kind: PartKind) -> &'static [&'static str] {
     }
 }
 
+/// Whether a line that begins with a word is an event, or several.
+pub fn is_event(first: &str) -> bool {
+    first != "row" && first_words(PartKind::Script).contains(&first)
+}
+
 /// The command that reads lines which begin with a word, of such as not every list has.
 pub fn command_of(first: &str) -> Option<&'static str> {
     match first {
-        "begin" | "begin-at" | "step" | "commit" | "abort" | "vacuum" => Some("run"),
         "record" => Some("audit"),
         "job" => Some("work"),
+        _ if is_event(first) => Some("run"),
         _ => None,
     }
 }
 
-// The same of a line in which no number has a limit of its own.
-fn plain_form(first: &str) -> &'static str {
+// How many words stand before the numbers of a line that begins with a word, and its form, but for
+// the limits of its numbers.
+fn line_form(first: &str) -> (usize, &'static str) {
     match first {
-        "row" => "`row TABLE KEY = VALUE`, or `row TABLE KEY KEY = VALUE`",
-        "begin" => "`begin PROGRAM`, with a number for each parameter behind it",
-        "begin-at" => {
-            "`begin-at START PROGRAM`, with a number for each parameter behind it; START is a number of commits"
-        }
-        "commit" => "`commit INSTANCE`",
-        "abort" => "`abort INSTANCE`",
-        "vacuum" => "`vacuum`, alone",
-        _ => "`record PROGRAM ARGUMENTS at START gives REPLIES`",
+        "row" => (2, "`row TABLE KEY = VALUE`, or `row TABLE KEY KEY = VALUE`"),
+        "begin" => (
+            2,
+            "`begin PROGRAM`, with a number for each parameter behind it",
+        ),
+        "begin-at" => (
+            3,
+            "`begin-at START PROGRAM`, with a number for each parameter behind it; START is a number of commits",
+        ),
+        "step" => (1, "`step INSTANCE`, or `step INSTANCE TIMES`"),
+        "commit" => (1, "`commit INSTANCE`"),
+        "abort" => (1, "`abort INSTANCE`"),
+        "vacuum" => (1, "`vacuum`, alone"),
+        "record" => (2, "`record PROGRAM ARGUMENTS at START gives REPLIES`"),
+        "job" => (3, "`job RETRIES PROGRAM ARGUMENTS`"),
+        _ => (1, ""),
     }
 }
 
 /// What stands in a line that begins with a word.
 pub fn form_of(alloc: Global, first: &str) -> Result<String, AllocError> {
+    let (_, form) = line_form(first);
     match first {
-        "step" => format!(in alloc;
-            "`step INSTANCE`, or `step INSTANCE TIMES` with 1 to {MAX_STEPS} times"
-        ),
+        "step" => format!(in alloc; "{form} with 1 to {MAX_STEPS} times"),
         "job" => {
             let most = u32::MAX;
-            format!(in alloc; "`job RETRIES PROGRAM ARGUMENTS` with 0 to {most} retries")
+            format!(in alloc; "{form} with 0 to {most} retries")
         }
-        _ => {
-            let form = plain_form(first);
-            format!(in alloc; "{form}")
-        }
+        _ => format!(in alloc; "{form}"),
     }
 }
 
@@ -94,10 +103,17 @@ fn no_number_from<'a>(words: &[&'a str], start: usize) -> Option<&'a str> {
 /// The first word of a line that stands in the place of a number and is none.
 pub fn no_number<'a>(words: &[&'a str]) -> Option<&'a str> {
     match words {
-        ["row" | "begin" | "record", ..] => no_number_from(words, 2),
         ["job", retries, ..] if !is_retries(*retries) => Some(*retries),
         ["begin-at", start, ..] if !is_number(*start, "at") => Some(*start),
-        ["job" | "begin-at", ..] => no_number_from(words, 3),
-        _ => no_number_from(words, 1),
+        [first, ..] => no_number_from(words, line_form(*first).0),
+        [] => None,
     }
+}
+
+/// The name in a line: the last word before the numbers.
+pub fn name_in<'a>(words: &[&'a str]) -> Option<&'a str> {
+    let [first, ..] = words else {
+        return None;
+    };
+    words.get(line_form(*first).0.saturating_sub(1)).copied()
 }

@@ -3,7 +3,7 @@ ghost use Rattle.std.specs.Prelude.{◌≡◌, IfNone, IfOk, IfSome, string_byte
 ghost use Rattle.run_words.specs.PartPointing.{line_of_fault, HasNoLineOf, PointsAtLineIn};
 
 pub use crate::forms::PartKind;
-use crate::forms::{command_of, first_words, form_of, no_number};
+use crate::forms::{command_of, first_words, form_of, name_in, no_number};
 use crate::in_input::{Part, point_in_part};
 use crate::line_reading::{line_bytes, shown, words_of};
 use fault_words::{known_names, table_names};
@@ -65,13 +65,12 @@ fn program_names(alloc: Global, draft: &Draft) -> Result<Vec<&str>, AllocError> 
 }
 
 fn unknown_name(alloc: Global, set: &ProgramSet, words: &[&str]) -> Result<String, AllocError> {
-    let (what, name, names) = match words {
-        ["row", name, ..] => ("table", *name, table_names(alloc, set.draft())?),
-        ["job" | "begin-at", _, name, ..] => {
-            ("program", *name, program_names(alloc, set.draft())?)
-        }
-        [_, name, ..] => ("program", *name, program_names(alloc, set.draft())?),
-        _ => return format!(in alloc; "the name is not known"),
+    let Some(name) = name_in(words) else {
+        return format!(in alloc; "the name is not known");
+    };
+    let (what, names) = match words {
+        ["row", ..] => ("table", table_names(alloc, set.draft())?),
+        _ => ("program", program_names(alloc, set.draft())?),
     };
     let known = known_names(alloc, name, &names)?;
     let name = shown(alloc, name)?;
