@@ -20,11 +20,6 @@ ends_line bytes = list_all is_feed (drop (length bytes - 1) bytes)
 abbrev pub is_space : ℕ → Bool
 is_space byte = byte == 32
 
--- in its line only spaces stand before the place
-abbrev pub begins_line : (text : List ℕ) → (place : ℕ) → Bool
-begins_line text place =
-    ends_line (take (length (take place text) - suffix_len is_space (take place text)) (take place text))
-
 -- how many bytes of its line stand before the place
 abbrev pub inset : (text : List ℕ) → (place : ℕ) → ℕ
 inset text place = suffix_len is_inline (take place text)
@@ -36,6 +31,10 @@ column text place = inset text place + 1
 -- where the line of the place begins; a place behind the end stands for the end
 abbrev pub line_start : (text : List ℕ) → (place : ℕ) → ℕ
 line_start text place = length (take place text) - inset text place
+
+-- in its line only spaces stand before the place
+abbrev pub begins_line : (text : List ℕ) → (place : ℕ) → Bool
+begins_line text place = list_all is_space (drop (line_start text place) (take place text))
 
 -- the line of the place, without its line feed
 abbrev pub line_at : (text : List ℕ) → (place : ℕ) → List ℕ

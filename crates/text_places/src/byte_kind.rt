@@ -3,7 +3,7 @@ ghost use Rattle.std.specs.Prelude.{◌≡◌, ◌≤◌, length};
 ghost use Rattle.std.specs.List.{prefix_len, suffix_len};
 ghost use Rattle.text_places.specs.ByteKinds.{is_of};
 
-use crate::place::{is_feed, is_space};
+use crate::place::is_feed;
 use crate::reading::{is_blank, is_word_byte};
 
 /// Bytes that are counted together.
@@ -13,7 +13,6 @@ pub enum ByteKind {
     Word,
     /// What separates words and signs.
     Blank,
-    Space,
     /// What a line has before its line feed.
     Inline,
 }
@@ -24,7 +23,6 @@ fn is_of(kind: ByteKind, byte: u8) -> bool
     match kind {
         ByteKind::Word => is_word_byte(byte),
         ByteKind::Blank => is_blank(byte),
-        ByteKind::Space => is_space(byte),
         ByteKind::Inline => !is_feed(byte),
     }
 }

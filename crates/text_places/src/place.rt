@@ -1,6 +1,6 @@
 //! The line and the column of a place. A place behind the end of a text stands for its end.
 ghost use Rattle.std.specs.Prelude.{◌≡◌, ◌≤◌, count_by, drop, length, take, IfNone, IfSome};
-ghost use Rattle.std.specs.List.{before_first};
+ghost use Rattle.std.specs.List.{before_first, list_all};
 ghost use Rattle.text_places.specs.Places.{begins_line, column, ends_line, inset, is_feed, is_space, line_at, line_number, line_start, HasNoLine, IsLineFront};
 
 use crate::byte_kind::{ByteKind, first_count, last_count};
@@ -58,18 +58,16 @@ pub fn ends_line(bytes: &[u8]) -> bool
     }
 }
 
-pub fn is_space(byte: u8) -> bool
+fn is_space(byte: u8) -> bool
     ensures { result ≡ is_space byte }
 {
     byte == b' '
 }
 
-/// Whether in its line only spaces stand before a place.
-pub fn begins_line(text: &[u8], place: usize) -> bool
-    ensures { result ≡ begins_line text.now place }
+fn are_spaces(bytes: &[u8]) -> bool
+    ensures { result ≡ list_all is_space bytes.now }
 {
-    let front = before(text, place);
-    ends_line(before(front, front.len() - last_count(ByteKind::Space, front)))
+    bytes.iter().all(|byte| is_space(*byte))
 }
 
 /// How many bytes of its line stand before a place.
@@ -92,6 +90,13 @@ fn line_start(text: &[u8], place: usize) -> usize
     ensures { result ≡ line_start text.now place }
 {
     before(text, place).len() - inset(text, place)
+}
+
+/// Whether in its line only spaces stand before a place.
+pub fn begins_line(text: &[u8], place: usize) -> bool
+    ensures { result ≡ begins_line text.now place }
+{
+    are_spaces(behind(before(text, place), line_start(text, place)))
 }
 
 // The bytes before the first line feed.
