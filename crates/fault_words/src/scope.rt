@@ -35,17 +35,9 @@ fn statement_tokens(alloc: Global, plain: &[u8], at: usize) -> Result<Vec<&str>,
 
 /// Where the token of a number begins.
 pub fn token_place(bytes: &[u8], number: usize) -> Option<usize> {
-    let mut left = number;
-    for place in 0..bytes.len() {
-        if !begins_token(bytes, place) {
-            continue;
-        }
-        if left == 0 {
-            return Some(place);
-        }
-        left -= 1;
-    }
-    None
+    (0..bytes.len())
+        .filter(|place| begins_token(bytes, *place))
+        .nth(number)
 }
 
 // Whether a name is bound behind a token, in a block or before the first, where the parameters are.
