@@ -9,6 +9,7 @@ pub mod JobLines
 pub mod KeptAndTold
 pub mod Keys
 pub mod LastAnswer
+pub mod Limits
 pub mod OutcomeIn
 pub mod Outcomes
 pub mod Settled

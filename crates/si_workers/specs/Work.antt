@@ -7,6 +7,7 @@ use Rattle.history_book.specs.View.{BookView}
 use Rattle.si_workers.specs.Assigned.{Assigned}
 use Rattle.si_workers.specs.KeptAndTold.{Tidings}
 use Rattle.si_workers.specs.LastAnswer.{IsLastAnswer}
+use Rattle.si_workers.specs.Limits.{most_jobs, most_workers}
 use Rattle.si_workers.specs.Outcomes.{AreRightTries, OutcomesCorrespond, IsBroken, IsOver}
 use Rattle.si_workers.specs.Told.{Report}
 use Rattle.si_workers.specs.declared.desk.Answer.{Answer}
@@ -80,19 +81,19 @@ pub record IsNamed (given : Assigned) (jobs : List Job) (job : ℕ) (outcome : O
 
 -- a number of workers that is refused, and one that is not
 abbrev pub IsWrongNumber : ℕ → Type 0
-IsWrongNumber workers = (workers ≡ 0) ⊎ (8 < workers)
+IsWrongNumber workers = (workers ≡ 0) ⊎ (most_workers < workers)
 
 abbrev pub IsRightNumber : ℕ → Type 0
-IsRightNumber workers = (0 < workers) × (workers ≤ 8)
+IsRightNumber workers = (0 < workers) × (workers ≤ most_workers)
 
 -- so many jobs are refused
 abbrev pub AreTooMany : List Job → Type 0
-AreTooMany jobs = 100000 < length jobs
+AreTooMany jobs = most_jobs < length jobs
 
 -- neither the number of workers nor that of the jobs is refused
 pub record AreTaken (workers : ℕ) (jobs : List Job) : Type 0 where
   pub number : IsRightNumber workers
-  pub few : length jobs ≤ 100000
+  pub few : length jobs ≤ most_jobs
 
 -- the jobs that were done, where so many threads started
 abbrev pub jobs_by : (started : ℕ) → List Job → List Job

@@ -6,6 +6,7 @@ ghost use Rattle.job_counter.specs.Passes.{counter_of, left_of, name_of, numbers
 use crate::desk::Locked;
 use crate::gate::Gate;
 use crate::job::Job;
+use crate::limits::{MAX_JOBS, MAX_WORKERS};
 use crate::shared::SharedBook;
 use crate::worker::{Done, work};
 use job_counter::{Counter, Pass};
@@ -31,7 +32,7 @@ pub(crate) struct Shift<'e, 'a, R: Wait, G: Gate> {
 fn work_shared<R: Wait, G: Gate>(shift: &Shift<'_, '_, R, G>, pass: Pass) -> Done
     requires counter { counter_of pass ≡ name_of shift.now.counter.now }
     requires numbers { numbers_of pass ≡ [] }
-    requires few { length shift.now.jobs.now ≤ 100000 }
+    requires few { length shift.now.jobs.now ≤ MAX_JOBS }
 {
     let mut desk = Locked {
         rt: shift.rt,
@@ -60,7 +61,7 @@ fn start_all<'s, 'e: 's, 'a: 'e, R: Threads + Wait + Sync, G: Gate + Sync>(
 )
     requires counter { counter_of pass ≡ name_of shift.now.counter.now }
     requires room { workers * length shift.now.jobs.now ≤ left_of pass }
-    requires few { length shift.now.jobs.now ≤ 100000 }
+    requires few { length shift.now.jobs.now ≤ MAX_JOBS }
 {
     for _worker in 0..workers {
         if handles.reserve(1).is_err() {
@@ -71,7 +72,7 @@ fn start_all<'s, 'e: 's, 'a: 'e, R: Threads + Wait + Sync, G: Gate + Sync>(
         let started = scope.spawn(
             move || -> Done
                 requires { (counter_of mine ≡ name_of shift.now.counter.now)
-                    × (numbers_of mine ≡ []) × (length shift.now.jobs.now ≤ 100000) }
+                    × (numbers_of mine ≡ []) × (length shift.now.jobs.now ≤ MAX_JOBS) }
             { work_shared(shift, mine) },
         );
         let Ok(handle) = started else {
@@ -92,8 +93,8 @@ pub(crate) fn run_threads<'a, R: Threads + Wait + Sync, G: Gate + Sync>(
     workers: usize,
     gate: &G,
 ) -> Result<Vec<Done>, AllocError>
-    requires workers { workers ≤ 8 }
-    requires few { length jobs.now ≤ 100000 }
+    requires workers { workers ≤ MAX_WORKERS }
+    requires few { length jobs.now ≤ MAX_JOBS }
 {
     let (counter, pass) = Counter::open(alloc, workers as u64 * jobs.len() as u64)?;
     let mut done = Vec::with_capacity(alloc, workers)?;
@@ -114,7 +115,7 @@ pub(crate) fn run_threads<'a, R: Threads + Wait + Sync, G: Gate + Sync>(
         |scope|
             requires { (counter_of pass ≡ name_of lent.now.counter.now)
                 × (workers * length lent.now.jobs.now ≤ left_of pass)
-                × (length lent.now.jobs.now ≤ 100000) }
+                × (length lent.now.jobs.now ≤ MAX_JOBS) }
         { start_all(scope, lent, pass, workers, &mut handles) },
     );
     let mut lacked = false;

@@ -9,7 +9,7 @@ ghost use Rattle.si_workers.specs.Work.{AreDrawn, HasCause, HasReplies, IsDrawn,
 
 use crate::desk::Desk;
 use crate::job::{Job, JobEnd, JobOutcome};
-use crate::limits::VACUUM_AFTER;
+use crate::limits::{MAX_JOBS, VACUUM_AFTER};
 use history_book::{BeginFault, CommitFault, EndFault, ScanFault, Ticket, Unused};
 use job_counter::{Counter, Pass};
 use prog_check::ProgramSet;
@@ -273,7 +273,7 @@ pub(crate) fn work<'a, D: Desk<'a>>(
 ) -> Done
     requires counter { counter_of pass ≡ name_of counter.now }
     requires numbers { numbers_of pass ≡ [] }
-    requires few { length jobs.now ≤ 100000 }
+    requires few { length jobs.now ≤ MAX_JOBS }
     requires ended { D.ended desk.old ≡ 0 }
     ensures counter { counter_of result.pass ≡ counter_of pass }
     ensures drawn { AreDrawn result.reports.items (numbers_of result.pass) }
