@@ -10,7 +10,7 @@ use std::thread;
 fn three_numbers(rt: HostRuntime) -> Result<(), AllocError> {
     let (counter, mut pass) = Counter::open(rt.alloc(), 3)?;
     let one = counter.draw(&mut pass);
-    let left = Counter::left(&pass);
+    let left = pass.left();
     let (mut first, mut second) = counter.split(pass, 2);
     let rest = [
         counter.draw(&mut first),
@@ -19,7 +19,7 @@ fn three_numbers(rt: HostRuntime) -> Result<(), AllocError> {
         counter.draw(&mut second),
     ];
     let pass = counter.join(first, second);
-    let behind = Counter::left(&pass);
+    let behind = pass.left();
     let drawn = counter.close(pass);
     assert!(rt; one == Some(0) && rest == [None, Some(1), Some(2), None]);
     assert!(rt; [left, behind, drawn] == [2, 0, 3]);

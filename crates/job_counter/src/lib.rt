@@ -29,6 +29,17 @@ pub struct Pass {
     ghost bare: { seat.me.1 ≡ [] },
 }
 
+impl Pass {
+    ghost use Rattle.job_counter.specs.Passes.{left_of};
+
+    /// How many draws it has left.
+    pub fn left(&self) -> u64
+        ensures { result ≡ left_of self.now }
+    {
+        self.left
+    }
+}
+
 impl Counter {
     ghost use Rattle.job_counter.specs.Holdings.{AreDistinct, AreEachOnceBelow, IsInAccount, after_draw, holding};
     ghost use Rattle.job_counter.specs.Passes.{counter_of, holding_of, left_of, numbers_of, name_of, budget_of};
@@ -76,13 +87,6 @@ impl Counter {
         ensures distinct { AreDistinct seat.new.me.0.numbers }
     {
         self.table.shared.fetch_add::<Draws<B>>(seat, 0, 1)
-    }
-
-    /// How many draws the pass has left.
-    pub fn left(pass: &Pass) -> u64
-        ensures { result ≡ left_of pass.now }
-    {
-        pass.left
     }
 
     /// The pass without the draws that it gives away, and a new pass with these.
