@@ -1,6 +1,7 @@
 -- Each evaluation that ends Ready follows exactly one committing path of its program, under an assignment with its arguments.
 use Rattle.std.proofs.Common.{◌≡◌, ℕ, zero, suc, Bool, true, false, List, [], ◌∷◌, ◌⊎◌, inl, inr, zip, refl, sym, subst, ap, ◌∙◌}
 use Rattle.std.specs.Prelude.{ℤ, Option, Some, None, slice_get, if◌then◌else◌}
+use Rattle.std.specs.Option.{option_or}
 use Rattle.prog_tree.specs.declared.cell.Cell.{Cell}
 use Rattle.prog_tree.specs.declared.deed.End.TheVariants.{Ready}
 use Rattle.prog_tree.specs.declared.progress.Progress.{Progress}
@@ -19,7 +20,7 @@ use Rattle.prog_paths.specs.Law.{FollowsPath}
 use Rattle.prog_tree.specs.Number.{IsI64}
 use Rattle.prog_paths.proofs.Numbers.{AllI64, RowsOfI64, BlockFits}
 use Rattle.prog_paths.proofs.Ranges.{nth_i64, EnvOfI64, Ranged}
-use Rattle.prog_tree.specs.Value.{same_name, or_else, value_in}
+use Rattle.prog_tree.specs.Value.{same_name, value_in}
 use Rattle.prog_paths.specs.Choices.{program_choices}
 use Rattle.prog_paths.specs.Follows.{LooksAt, Changes, KeepsCell, HasRow, FoundAs, ChangedAs, Touch, Follows}
 use Rattle.prog_paths.proofs.Segments.{IsMember, Held, Segment}
@@ -96,7 +97,7 @@ zip_i64 [] args h x z e = absurd (cc)
 zip_i64 (p ∷ ps) [] h x z e = absurd (cc)
 zip_i64 (p ∷ ps) (a ∷ as_) h x z e = go (value_in (zip ps as_) x) refl (same_name p x) (zip_i64 ps as_ h.1 x z) e
   where
-    go : (o : Option ℤ) → value_in (zip ps as_) x ≡ o → (b : Bool) → (value_in (zip ps as_) x ≡ Some z → IsI64 z) → or_else o (if b then Some a else None) ≡ Some z → IsI64 z
+    go : (o : Option ℤ) → value_in (zip ps as_) x ≡ o → (b : Bool) → (value_in (zip ps as_) x ≡ Some z → IsI64 z) → option_or o (if b then Some a else None) ≡ Some z → IsI64 z
     go (Some w) is b later k = later (is ∙ k)
     go None is true later k = subst IsI64 (some_of a z k) h.0
     go None is false later k = absurd (cc)

@@ -3,12 +3,13 @@ use Rattle.std.proofs.Common.{◌≡◌, ℕ, zero, suc, Bool, true, false, List
 use Rattle.std.proofs.lemmas.List.Elements.{All-filter, All-from_recursion, recursion_from_All}
 use Rattle.std.specs.Prelude.{ℤ, pos, ◌+ℤ◌, ◌-ℤ◌, ◌*ℤ◌, Option, Some, None, IfSome, not, if◌then◌else◌}
 use Rattle.std.specs.List.{AllByRecursion}
+use Rattle.std.specs.Option.{option_or}
 use Rattle.prog_tree.specs.declared.cell.Cell.{Cell}
 use Rattle.prog_tree.specs.declared.cell.Region.{Region}
 use Rattle.prog_tree.specs.declared.progress.Progress.{Progress}
 use Rattle.prog_tree.specs.Syntax.{Name, ExprTree, RangeTree, OneRange, TwoRange}
 use Rattle.prog_tree.specs.Syntax as s
-use Rattle.prog_tree.specs.Value.{Bindings, same_name, or_else, exact, both, value_in, value_of}
+use Rattle.prog_tree.specs.Value.{Bindings, same_name, exact, both, value_in, value_of}
 use Rattle.prog_tree.specs.Table.{TableState, at_cell, is_same_cell, is_cell_among, is_in, rows_in, IsI64Cell, IsI64Row}
 use Rattle.prog_tree.specs.ChangeSet.{ChangedCells, ChangeSet, changes_in, with_change}
 use Rattle.prog_tree.specs.Evaluation.{Turn, last_column, turns_of, own_cells, rows_left, rows_seen}
@@ -67,7 +68,7 @@ value_i64 (s.Times a b) env z fits h e = both_i64 ◌*ℤ◌ (value_of a env) (v
 pub env_push : (env : Bindings) (y : Name) (v : ℤ) → EnvOfI64 env → IsI64 v → EnvOfI64 (env ++ (y, v) ∷ [])
 env_push env y v fits h x z e = go (same_name y x) (sym (value_in_push env (y, v) x) ∙ e)
   where
-    go : (b : Bool) → or_else (if b then Some v else None) (value_in env x) ≡ Some z → IsI64 z
+    go : (b : Bool) → option_or (if b then Some v else None) (value_in env x) ≡ Some z → IsI64 z
     go true k = subst IsI64 (some_is v z k) h
     go false k = fits x z k
 

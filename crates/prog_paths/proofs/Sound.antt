@@ -6,10 +6,11 @@ use Rattle.std.proofs.lemmas.List.Quantifiers.{position-Some}
 use Rattle.prog_tree.specs.declared.table.TableDecl.{TableDecl}
 use Rattle.prog_tree.specs.Syntax.{Name, ExprTree, KeyTree, One, Two, StatementTree, BlockTree, BlockEnd, Then, Branch, Each, ProgramTree}
 use Rattle.prog_tree.specs.Syntax as s
-use Rattle.prog_tree.specs.Value.{same_name, or_else, value_in}
+use Rattle.prog_tree.specs.Value.{same_name, value_in}
 use Rattle.prog_tree.specs.Number.{IsI64}
 use Rattle.prog_tree.specs.Literals.{expr_literals, key_literals, range_literals, test_literals, statement_literals, block_literals}
 use Rattle.std.specs.List.{AllByRecursion}
+use Rattle.std.specs.Option.{option_or}
 use Rattle.std.proofs.lemmas.List.Elements.{recursion_from_All}
 use Rattle.std.proofs.lemmas.Bool.{or_parts, or_right}
 use Rattle.prog_check.specs.Names.{is_among, has_twice}
@@ -33,17 +34,17 @@ no_value [] args x h = refl
 no_value (p ∷ ps) [] x h = refl
 no_value (p ∷ ps) (a ∷ as_) x h =
     let k = or_parts (same_name x p) (is_among ps x) h in
-    (λ i. (or_else) (no_value ps as_ x k.1 i) (if (nat_list_eq_equiv.symm p x ∙ k.0) i then Some a else None))
+    (λ i. option_or (no_value ps as_ x k.1 i) (if (nat_list_eq_equiv.symm p x ∙ k.0) i then Some a else None))
 
 at_place : (params : List Name) (args : List ℤ) (i : ℕ) (x : Name) → has_twice params ≡ false → length params ≡ length args → i < length params → same_name x (get_or params i []) ≡ true → value_in (zip params args) x ≡ Some (nth args i)
 at_place [] args i x distinct same inside is = absurd (omega (arith, inside))
 at_place (p ∷ ps) [] i x distinct same inside is = absurd (omega (arith, same))
 at_place (p ∷ ps) (a ∷ as_) zero x distinct same inside is =
     let d = or_parts (is_among ps p) (has_twice ps) distinct in
-    (λ i. (or_else) (no_value ps as_ x (among_same x p is ps ∙ d.0) i) (if (nat_list_eq_equiv.symm p x ∙ is) i then Some a else None))
+    (λ i. option_or (no_value ps as_ x (among_same x p is ps ∙ d.0) i) (if (nat_list_eq_equiv.symm p x ∙ is) i then Some a else None))
 at_place (p ∷ ps) (a ∷ as_) (suc i) x distinct same inside is =
     let d = or_parts (is_among ps p) (has_twice ps) distinct in
-    ap (λ o. (or_else) o (if same_name p x then Some a else None)) (at_place ps as_ i x d.1 (omega (arith, same)) (omega (arith, inside)) is)
+    ap (λ o. option_or o (if same_name p x then Some a else None)) (at_place ps as_ i x d.1 (omega (arith, same)) (omega (arith, inside)) is)
 
 -- distinct parameters have their arguments
 pub arguments_fit : (params : List Name) (args : List ℤ) → has_twice params ≡ false → length params ≡ length args → EnvFits params (nth args) (zip params args)

@@ -3,6 +3,7 @@ use Rattle.std.proofs.Common.{◌≡◌, ℕ, suc, ◌+◌, Bool, true, false, L
 use Rattle.std.specs.Prelude.{ℤ, pos, Option, Some, None, is_some, if◌then◌else◌, slice_get}
 use Rattle.std.specs.List.{find}
 use Rattle.std.specs.Cmp.Lexicographic.{nat_list_eq_equiv}
+use Rattle.std.specs.Option.{option_or}
 use Rattle.prog_tree.specs.declared.cell.Cell.{Cell}
 use Rattle.prog_tree.specs.declared.cell.Region.{Region}
 use Rattle.prog_tree.specs.declared.look.Look.{Look}
@@ -16,7 +17,7 @@ use Rattle.prog_tree.specs.Syntax.{Name, ExprTree, KeyTree, RangeTree, Statement
 use Rattle.prog_tree.specs.Syntax as s
 use Rattle.prog_tree.specs.Numbering.{number_of}
 use Rattle.prog_tree.specs.Steps.{bound, did, replied, wrote, keeps, looked}
-use Rattle.prog_tree.specs.Value.{Bindings, same_name, or_else, exact, value_of}
+use Rattle.prog_tree.specs.Value.{Bindings, same_name, exact, value_of}
 use Rattle.prog_tree.specs.Table.{IsI64Cell, TableState, row_at}
 use Rattle.prog_tree.specs.ChangeSet.{ChangeSet, change_at, with_change, with_kept}
 use Rattle.prog_tree.specs.Evaluation.{Flow, GoesOn, Stops, with_value, in_range, with_rows, if_present, seen_or, with_seen, cell_of, region_of, total_of, own_cells, rows_left, rows_seen, run_statement}
@@ -340,21 +341,21 @@ module _ (tables : List TableDecl) (m : TableState) (params : List Name) (parame
       go (inl h) = change_i64 p.changes.cells cell v r.changes (h.1 ∙ ap (λ o. Some o) e)
       go (inr h) = row_i64 m cell v r.rows (sym h.1 ∙ e)
 
-  or_else_i64 : (a b : Option ℤ) (x : ℤ) → or_else a b ≡ Some x → ((v : ℤ) → a ≡ Some v → IsI64 v) → (b ≡ Some x → IsI64 x) → IsI64 x
-  or_else_i64 (Some v) b x e f g = f x e
-  or_else_i64 None b x e f g = g e
+  option_or_i64 : (a b : Option ℤ) (x : ℤ) → option_or a b ≡ Some x → ((v : ℤ) → a ≡ Some v → IsI64 v) → (b ≡ Some x → IsI64 x) → IsI64 x
+  option_or_i64 (Some v) b x e f g = f x e
+  option_or_i64 None b x e f g = g e
 
   get_follows : (number : ℕ) (name table : Name) (key : KeyTree) (otherwise : ExprTree) (p q : Progress) → run_statement tables m (s.Get name table key otherwise) p ≡ GoesOn q → IsApart params name → EnvFits params parameter p.env → RemovesPlain tables p.changes →
       Did tables m params parameter number (s.Get name table key otherwise) p q
   get_follows number name table key otherwise p q e apart fits removes =
       let c = value_goes (cell_of (number_of tables table) key p.env) p _ q e in
       let d = seen_goes tables m c.0 p _ q c.2 in
-      let x = value_goes (or_else d.0 (value_of otherwise d.1.env)) d.1 (λ v. GoesOn (bound name v (did (Read c.0 d.0) d.1))) q d.3 in
+      let x = value_goes (option_or d.0 (value_of otherwise d.1.env)) d.1 (λ v. GoesOn (bound name v (did (Read c.0 d.0) d.1))) q d.3 in
       let after = bound name x.0 (did (Read c.0 d.0) d.1) in
       subst (Did tables m params parameter number (s.Get name table key otherwise) p) (goes_same after q x.2)
       (read_did number (s.Get name table key otherwise) p d.1 after table key c.0 d.0 Reads ((name, x.0) ∷ []) (λ u. refl) (λ u. refl) c.1 d.2 (λ r. inl refl) reads_covers refl refl refl
       fits (fits_push params parameter d.1.env name x.0 apart (subst (EnvFits params parameter) (sym d.2.env) fits)) removes
-      (λ h r. env_push d.1.env name x.0 (subst EnvOfI64 (sym d.2.env) r.env) (or_else_i64 d.0 (value_of otherwise d.1.env) x.0 x.1 (seen_i64 c.0 p d.0 d.1 d.2 r) (λ w. value_i64 otherwise d.1.env x.0 (subst EnvOfI64 (sym d.2.env) r.env) h w))))
+      (λ h r. env_push d.1.env name x.0 (subst EnvOfI64 (sym d.2.env) r.env) (option_or_i64 d.0 (value_of otherwise d.1.env) x.0 x.1 (seen_i64 c.0 p d.0 d.1 d.2 r) (λ w. value_i64 otherwise d.1.env x.0 (subst EnvOfI64 (sym d.2.env) r.env) h w))))
 
   need_follows : (number : ℕ) (name table : Name) (key : KeyTree) (p q : Progress) → run_statement tables m (s.Need name table key) p ≡ GoesOn q → IsApart params name → EnvFits params parameter p.env → RemovesPlain tables p.changes →
       Did tables m params parameter number (s.Need name table key) p q

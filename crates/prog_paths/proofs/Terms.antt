@@ -9,9 +9,9 @@ use Rattle.prog_tree.specs.declared.cell.Cell.{Cell}
 use Rattle.prog_tree.specs.declared.cell.Region.{Region}
 use Rattle.prog_tree.specs.Syntax.{Name, ExprTree, KeyTree, One, Two, RangeTree, OneRange, TwoRange}
 use Rattle.prog_tree.specs.Syntax as s
-use Rattle.prog_tree.specs.Value.{Bindings, value_of}
+use Rattle.prog_tree.specs.Value.{Bindings, value_of, pair_of}
 use Rattle.prog_tree.specs.Table.{is_in, lies_between}
-use Rattle.prog_tree.specs.Evaluation.{pair_of, cell_in, cell_of, region_between, region_at, region_of}
+use Rattle.prog_tree.specs.Evaluation.{cell_in, cell_of, region_between, region_at, region_of}
 use Rattle.prog_check.specs.declared.path.Term.{Term}
 use Rattle.prog_check.specs.Names.{place_among}
 use Rattle.prog_check.specs.Accesses.{Columns, single, param_or, is_unknown, term_of, next_behind, key_columns, range_columns}

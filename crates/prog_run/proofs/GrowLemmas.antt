@@ -1,6 +1,7 @@
 -- A run only adds to its deeds and its replies.
 use Rattle.std.proofs.Common.{◌≡◌, List, [], ◌∷◌, ◌++◌, refl, ap, sym, subst, ◌∙◌, take, length, true, false}
 use Rattle.std.specs.Prelude.{ℤ, pos, Option, Some, None, if◌then◌else◌, Bool, fold}
+use Rattle.std.specs.Option.{option_or}
 use Rattle.prog_tree.specs.declared.cell.Cell.{Cell}
 use Rattle.prog_tree.specs.declared.cell.Region.{Region}
 use Rattle.prog_tree.specs.declared.deed.Deed.{Deed}
@@ -14,7 +15,7 @@ use Rattle.prog_tree.specs.declared.deed.Deed.TheVariants.{Counted, Summed, List
 use Rattle.prog_tree.specs.Steps.{closed, bound, did}
 use Rattle.prog_tree.specs.Evaluation.{Evaluation, Flow, GoesOn, Stops, with_value, if_present, and_then, at_key, in_range, seen_or, with_rows, Turn, begun_turn, turns_of, run_turns, run_statement, run_block, ended, cell_of, region_of, total_of}
 use Rattle.prog_tree.specs.Numbering.{number_of}
-use Rattle.prog_tree.specs.Value.{exact, value_of, or_else}
+use Rattle.prog_tree.specs.Value.{exact, value_of}
 use Rattle.prog_tree.specs.ChangeSet.{change_at}
 use Rattle.prog_tree.specs.Tree.{program_tree}
 use Rattle.prog_run.specs.Todo.{TurnsTree, head_of, OpenTree, CursorTree, finish_turns, finish_block, todo}
@@ -85,7 +86,7 @@ module _ (tables : List TableDecl) (m : TableState) where
   statement_grows : (st : StatementTree) (p : Progress) → Extends p (run_statement tables m st p)
   statement_grows (s.Bind x e) p = by_value (value_of e p.env) p _ (λ v. still p _ refl refl)
   statement_grows (s.Get x t k e) p =
-      at_cell_grows t k p _ (λ c. by_seen (change_at p.changes c) c p _ (λ seen q. by_value (or_else seen (value_of e q.env)) q _ (λ v. deed _ q _ refl refl)))
+      at_cell_grows t k p _ (λ c. by_seen (change_at p.changes c) c p _ (λ seen q. by_value (option_or seen (value_of e q.env)) q _ (λ v. deed _ q _ refl refl)))
   statement_grows (s.Need x t k) p =
       at_cell_grows t k p _ (λ c. by_seen (change_at p.changes c) c p _ (λ seen q. by_present seen q _ _ (λ v. deed _ q _ refl refl) (still q _ refl refl)))
   statement_grows (s.Count x t r) p =

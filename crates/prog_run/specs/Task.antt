@@ -1,5 +1,6 @@
 -- What a statement of the store is to do, once all is evaluated that comes before its look.
 use Rattle.std.specs.Prelude.{ℤ, pos, List, [], length, Option, Some, None, option_and_then, option_map}
+use Rattle.std.specs.Option.{option_or}
 use Rattle.prog_tree.specs.declared.cell.Cell.{Cell}
 use Rattle.prog_tree.specs.declared.cell.Region.{Region}
 use Rattle.prog_tree.specs.declared.deed.Cause.TheVariants.{Missing, Present}
@@ -11,7 +12,7 @@ use Rattle.prog_tree.specs.Syntax.{Name, ExprTree, ListingTree, StatementTree, B
 use Rattle.prog_tree.specs.Syntax as s
 use Rattle.prog_tree.specs.Tree.{expr_tree, listing_tree, block_tree}
 use Rattle.prog_tree.specs.Numbering.{number_of}
-use Rattle.prog_tree.specs.Value.{Bindings, or_else, value_of, exact}
+use Rattle.prog_tree.specs.Value.{Bindings, value_of, exact}
 use Rattle.prog_tree.specs.Table.{TableState}
 use Rattle.prog_tree.specs.Steps.{bound, did, wrote, keeps}
 use Rattle.prog_tree.specs.Evaluation.{Flow, GoesOn, Stops, with_value, if_present, with_seen, with_rows, cell_of, region_of, total_of}
@@ -117,7 +118,7 @@ next_task tables (Each l body rest) env = listing_task tables l body env
 
 -- the rest of a get, once it is known what its cell holds
 abbrev pub get_flow : Name → ExprTree → Cell → Option ℤ → Progress → Flow
-get_flow name otherwise cell seen p = with_value (or_else seen (value_of otherwise p.env)) p (λ v. GoesOn (bound name v (did (deed.Read cell seen) p)))
+get_flow name otherwise cell seen p = with_value (option_or seen (value_of otherwise p.env)) p (λ v. GoesOn (bound name v (did (deed.Read cell seen) p)))
 
 -- the rest of a need, likewise
 abbrev pub need_flow : Name → Cell → Option ℤ → Progress → Flow

@@ -2,6 +2,7 @@
 use Rattle.std.specs.Prelude.{ℤ, ◌+ℤ◌, ◌-ℤ◌, ◌*ℤ◌, nat_eq, int_lt, int_le, Bool, true, false, not, ◌&&◌, ◌||◌, List, [], ◌∷◌, Option, Some, None, if◌then◌else◌}
 use Rattle.std.specs.Ordering.{int_eq}
 use Rattle.std.specs.Cmp.Lexicographic.{pointwise}
+use Rattle.std.specs.Option.{option_or}
 use Rattle.prog_tree.specs.Number.{is_i64}
 use Rattle.prog_tree.specs.Syntax.{Name, ExprTree, Literal, Named, Plus, Minus, Times, RelationSign, Less, LessEqual, Greater, GreaterEqual, Equal, NotEqual, ComparisonTree, TestTree}
 
@@ -12,18 +13,20 @@ Bindings = List (Name × ℤ)
 abbrev pub same_name : Name → Name → Bool
 same_name = pointwise nat_eq
 
-abbrev pub or_else : {A : Type 0} → Option A → Option A → Option A
-or_else (Some x) o = Some x
-or_else None o = o
-
 -- the last value of a name
 abbrev pub value_in : Bindings → Name → Option ℤ
 value_in [] name = None
-value_in (binding ∷ bindings) name = or_else (value_in bindings name) (if same_name binding.0 name then Some binding.1 else None)
+value_in (binding ∷ bindings) name = option_or (value_in bindings name) (if same_name binding.0 name then Some binding.1 else None)
 
 -- a result, or none outside i64
 abbrev pub exact : ℤ → Option ℤ
 exact z = if is_i64 z then Some z else None
+
+-- what is made of both values, or none; the left one is evaluated first
+abbrev pub pair_of : {A B C : Type 0} → (A → B → C) → Option A → Option B → Option C
+pair_of f (Some a) (Some b) = Some (f a b)
+pair_of f (Some a) None = None
+pair_of f None o = None
 
 -- the exact result of both values, or none where one of them or the result is none
 abbrev pub both : (ℤ → ℤ → ℤ) → Option ℤ → Option ℤ → Option ℤ
@@ -52,24 +55,14 @@ abbrev pub turned : Bool → Bool → Bool
 turned true b = not b
 turned false b = b
 
-abbrev pub compared : (ℤ → ℤ → Bool) → Option ℤ → Option ℤ → Option Bool
-compared f (Some x) (Some y) = Some (f x y)
-compared f (Some x) None = None
-compared f None o = None
-
 abbrev pub comparison_holds : ComparisonTree → Bindings → Option Bool
-comparison_holds c env = compared (λ x y. turned c.negated (relates c.relation x y)) (value_of c.left env) (value_of c.right env)
-
-abbrev pub joined_by : (Bool → Bool → Bool) → Option Bool → Option Bool → Option Bool
-joined_by f (Some a) (Some b) = Some (f a b)
-joined_by f (Some a) None = None
-joined_by f None o = None
+comparison_holds c env = pair_of (λ x y. turned c.negated (relates c.relation x y)) (value_of c.left env) (value_of c.right env)
 
 -- all comparisons are made, from left to right, also where one of them has settled the answer
 abbrev pub all_hold : List ComparisonTree → Bindings → Option Bool
 all_hold [] env = Some true
-all_hold (c ∷ cs) env = joined_by ◌&&◌ (comparison_holds c env) (all_hold cs env)
+all_hold (c ∷ cs) env = pair_of ◌&&◌ (comparison_holds c env) (all_hold cs env)
 
 abbrev pub holds_of : TestTree → Bindings → Option Bool
 holds_of [] env = Some false
-holds_of (cs ∷ rest) env = joined_by ◌||◌ (all_hold cs env) (holds_of rest env)
+holds_of (cs ∷ rest) env = pair_of ◌||◌ (all_hold cs env) (holds_of rest env)

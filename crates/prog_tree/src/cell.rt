@@ -50,7 +50,7 @@ pub fn corners(region: Region) -> Option<(Cell, Cell)>
     Some((low, high))
 }
 
-fn is_between(low: i64, x: i64, high: i64) -> bool
+fn lies_between(low: i64, x: i64, high: i64) -> bool
     ensures { result ≡ lies_between low x high }
 {
     low <= x && x <= high
@@ -67,8 +67,8 @@ impl Region {
     pub fn contains(&self, cell: &Cell) -> bool
         ensures { result ≡ is_in self.now cell.now }
     {
-        let first = is_between(self.first_low, cell.first, self.first_high);
-        let second = is_between(self.second_low, cell.second, self.second_high);
+        let first = lies_between(self.first_low, cell.first, self.first_high);
+        let second = lies_between(self.second_low, cell.second, self.second_high);
         if self.table != cell.table {
             return false;
         }

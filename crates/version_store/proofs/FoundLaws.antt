@@ -7,6 +7,7 @@ use Rattle.std.specs.List.{AllByRecursion}
 use Rattle.std.specs.List.Sorted.{IsStrictlySortedBy}
 use Rattle.std.specs.FinMap.Entries.{find-where_key}
 use Rattle.std.specs.Ordering.{is_eq}
+use Rattle.std.specs.Option.{option_or}
 use Rattle.std.proofs.lemmas.Bool.{eqb-true}
 use Rattle.std.proofs.lemmas.List.{append_assoc, append-nil}
 use Rattle.std.proofs.lemmas.List.Kept.{IsStrictlySortedBy-filter}
@@ -14,7 +15,6 @@ use Rattle.std.proofs.lemmas.Map.Keys.{sorted_tail}
 use Rattle.prog_tree.specs.declared.cell.Cell.{Cell}
 use Rattle.prog_tree.specs.declared.cell.Region.{Region}
 use Rattle.prog_tree.specs.Table.{cell_cmp, Cells, cells_of, at_cell, is_same_cell, is_in, is_cell_among, TableState, IsTableState, row_at}
-use Rattle.prog_tree.specs.Value.{or_else}
 use Rattle.prog_tree.proofs.TableLemmas.{cell_total, find_is}
 use Rattle.prog_tree.proofs.TableStates.{same_cell, cell_is, same_state, IsTableState-nil}
 use Rattle.version_store.specs.StandsFor.{Chain, no_chain}
@@ -49,7 +49,7 @@ in_order seen (e ∷ es) h = one_more e.0 (seen e.0 e.1) (found_rows seen es) (a
 
 -- ---- the rows at a cell
 
-row_at-found_row : (k : Cell) (o : Option ℤ) (rows : TableState) (c : Cell) → row_at (found_row k o ++ rows) c ≡ cond (is_same_cell c k) (or_else o (row_at rows c)) (row_at rows c)
+row_at-found_row : (k : Cell) (o : Option ℤ) (rows : TableState) (c : Cell) → row_at (found_row k o ++ rows) c ≡ cond (is_same_cell c k) (option_or o (row_at rows c)) (row_at rows c)
 row_at-found_row k None rows c = elim (is_same_cell c k) as (λ b. row_at rows c ≡ cond b (row_at rows c) (row_at rows c)) [ true ↦ refl | false ↦ refl ]
 row_at-found_row k (Some v) rows c = refl
 
@@ -60,9 +60,9 @@ row_at-found_rows seen (e ∷ es) h c =
     ∙ turn (is_same_cell c e.0) refl (row_at-found_rows seen es (sorted_tail cell_cmp e.0 (cells_of es) h) c)
   where
     turn : (b : Bool) → is_same_cell c e.0 ≡ b → row_at (found_rows seen es) c ≡ seen_at seen c (at_cell es c) →
-        cond b (or_else (seen e.0 e.1) (row_at (found_rows seen es) c)) (row_at (found_rows seen es) c) ≡ seen_at seen c (cond b (Some e.1) (at_cell es c))
+        cond b (option_or (seen e.0 e.1) (row_at (found_rows seen es) c)) (row_at (found_rows seen es) c) ≡ seen_at seen c (cond b (Some e.1) (at_cell es c))
     turn true same rest =
-        ap (or_else (seen e.0 e.1)) (rest ∙ ap (seen_at seen c) (none_behind e.0 c es h same))
+        ap (option_or (seen e.0 e.1)) (rest ∙ ap (seen_at seen c) (none_behind e.0 c es h same))
         ∙ or_none (seen e.0 e.1) ∙ ap (λ x. seen x e.1) (sym (cell_is c e.0 same))
     turn false apart rest = rest
 

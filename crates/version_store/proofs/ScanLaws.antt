@@ -4,10 +4,10 @@ use Rattle.std.specs.Prelude.{Option, Some, None, unwrap_or}
 use Rattle.std.specs.Cmp.{tied_itself}
 use Rattle.std.specs.List.Sorted.{IsStrictlySortedBy}
 use Rattle.std.specs.Ordering.{is_eq}
+use Rattle.std.specs.Option.{option_or}
 use Rattle.std.proofs.lemmas.Map.Keys.{sorted_tail}
 use Rattle.prog_tree.specs.declared.cell.Cell.{Cell}
 use Rattle.prog_tree.specs.Table.{cell_cmp, Cells, cells_of, at_cell, is_same_cell, TableState, IsTableState, row_at}
-use Rattle.prog_tree.specs.Value.{or_else}
 use Rattle.prog_tree.proofs.TableLemmas.{cell_total, at_cell-with_cell}
 use Rattle.prog_tree.proofs.TableStates.{cell_is, IsTableState-nil, IsTableState-with_row}
 use Rattle.version_store.specs.StandsFor.{Chain, no_chain}
@@ -25,15 +25,15 @@ pub record Gathers (seen : Cell → Chain → Option ℤ) (chains left : Cells C
   pub sorted : IsStrictlySortedBy cell_cmp (cells_of left)
   pub within : (c : Cell) (chain : Chain) → at_cell left c ≡ Some chain → at_cell chains c ≡ Some chain
   pub ordered : IsTableState rows
-  pub ends : (c : Cell) → or_else (seen_at seen c (at_cell left c)) (row_at rows c) ≡ seen_at seen c (at_cell chains c)
+  pub ends : (c : Cell) → option_or (seen_at seen c (at_cell left c)) (row_at rows c) ≡ seen_at seen c (at_cell chains c)
 
-pub or_none : {A : Type 0} (o : Option A) → or_else o None ≡ o
+pub or_none : {A : Type 0} (o : Option A) → option_or o None ≡ o
 or_none None = refl
 or_none (Some x) = refl
 
 -- ---- one more
 
-row_at-with_found : (rows : TableState) (k : Cell) (o : Option ℤ) (c : Cell) → row_at (with_found rows k o) c ≡ cond (is_same_cell c k) (or_else o (row_at rows c)) (row_at rows c)
+row_at-with_found : (rows : TableState) (k : Cell) (o : Option ℤ) (c : Cell) → row_at (with_found rows k o) c ≡ cond (is_same_cell c k) (option_or o (row_at rows c)) (row_at rows c)
 row_at-with_found rows k None c = elim (is_same_cell c k) as (λ b. row_at rows c ≡ cond b (row_at rows c) (row_at rows c)) [ true ↦ refl | false ↦ refl ]
 row_at-with_found rows k (Some v) c = at_cell-with_cell rows k v c
 
@@ -49,7 +49,7 @@ gathers_more seen chains left rest k chain rows next rise is so_far adds = recor
   sorted = sorted_tail cell_cmp k (cells_of rest) h.sorted;
   within = λ c x found. within (is_same_cell c k) c x refl found;
   ordered = subst (λ (m : TableState). IsTableState m) (sym added) (ordered_with_found rows k (seen k chain) h.ordered);
-  ends = λ c. ap (λ m. or_else (seen_at seen c (at_cell rest c)) (row_at m c)) added ∙ turn c ∙ h.ends c;
+  ends = λ c. ap (λ m. option_or (seen_at seen c (at_cell rest c)) (row_at m c)) added ∙ turn c ∙ h.ends c;
 }
   where
     h : Gathers seen chains ((k, chain) ∷ rest) rows
@@ -65,22 +65,22 @@ gathers_more seen chains left rest k chain rows next rise is so_far adds = recor
     within true c x same found = let none = none_behind k c rest h.sorted same in absurd (cc)
     within false c x apart found = h.within c x (ap (λ b. cond b (Some chain) (at_cell rest c)) apart ∙ found)
 
-    turn : (c : Cell) → or_else (seen_at seen c (at_cell rest c)) (row_at (with_found rows k (seen k chain)) c) ≡ or_else (seen_at seen c (at_cell ((k, chain) ∷ rest) c)) (row_at rows c)
-    turn c = ap (or_else (seen_at seen c (at_cell rest c))) (row_at-with_found rows k (seen k chain) c) ∙ go (is_same_cell c k) refl
+    turn : (c : Cell) → option_or (seen_at seen c (at_cell rest c)) (row_at (with_found rows k (seen k chain)) c) ≡ option_or (seen_at seen c (at_cell ((k, chain) ∷ rest) c)) (row_at rows c)
+    turn c = ap (option_or (seen_at seen c (at_cell rest c))) (row_at-with_found rows k (seen k chain) c) ∙ go (is_same_cell c k) refl
       where
         go : (b : Bool) → is_same_cell c k ≡ b →
-            or_else (seen_at seen c (at_cell rest c)) (cond b (or_else (seen k chain) (row_at rows c)) (row_at rows c))
-            ≡ or_else (seen_at seen c (cond b (Some chain) (at_cell rest c))) (row_at rows c)
+            option_or (seen_at seen c (at_cell rest c)) (cond b (option_or (seen k chain) (row_at rows c)) (row_at rows c))
+            ≡ option_or (seen_at seen c (cond b (Some chain) (at_cell rest c))) (row_at rows c)
         go true same =
-            ap (λ o. or_else (seen_at seen c o) (or_else (seen k chain) (row_at rows c))) (none_behind k c rest h.sorted same)
-            ∙ ap (λ x. or_else (seen x chain) (row_at rows c)) (sym (cell_is c k same))
+            ap (λ o. option_or (seen_at seen c o) (option_or (seen k chain) (row_at rows c))) (none_behind k c rest h.sorted same)
+            ∙ ap (λ x. option_or (seen x chain) (row_at rows c)) (sym (cell_is c k same))
         go false apart = refl
 
 -- ---- the end
 
 pub gathered : (seen : Cell → Chain → Option ℤ) → ((c : Cell) → seen c no_chain ≡ None) → (chains left : Cells Chain) (rows : TableState) → left ≡ [] →
     Gathers seen chains left rows → (c : Cell) → row_at rows c ≡ seen c (chain_at chains c)
-gathered seen unseen chains left rows none h c = ap (λ es. or_else (seen_at seen c (at_cell es c)) (row_at rows c)) (sym none) ∙ h.ends c ∙ go (at_cell chains c)
+gathered seen unseen chains left rows none h c = ap (λ es. option_or (seen_at seen c (at_cell es c)) (row_at rows c)) (sym none) ∙ h.ends c ∙ go (at_cell chains c)
   where
     go : (o : Option Chain) → seen_at seen c o ≡ seen c (unwrap_or o no_chain)
     go None = sym (unseen c)
