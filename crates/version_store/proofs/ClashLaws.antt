@@ -7,7 +7,8 @@ use Rattle.std.specs.declared.cmp.Ordering.{Ordering}
 use Rattle.std.specs.declared.cmp.Ordering.TheVariants.{Less, Equal, Greater}
 use Rattle.std.specs.List.{AllByRecursion}
 use Rattle.std.specs.List.Sorted.{IsStrictlySortedBy}
-use Rattle.std.specs.Ordering.{is_eq, is_lt, match_ordering, ordering_reverse}
+use Rattle.std.specs.Ordering.{is_eq, is_lt, ordering_reverse}
+use Rattle.std.proofs.Math.Bool.{or_assoc, or_comm, or-false}
 use Rattle.std.proofs.lemmas.Bool.{or_right}
 use Rattle.std.proofs.lemmas.Bool.Decides.{leb_tells}
 use Rattle.std.proofs.lemmas.List.Folds.{list_any-append}
@@ -15,17 +16,15 @@ use Rattle.std.proofs.lemmas.Map.Keys.{sorted_head, sorted_tail}
 use Rattle.prog_tree.specs.declared.cell.Cell.{Cell}
 use Rattle.prog_tree.specs.ChangeSet.{ChangeSet, touches_cell}
 use Rattle.prog_tree.specs.Table.{cell_cmp, Cells, cells_of, is_same_cell, is_cell_among}
+use Rattle.prog_tree.proofs.CellSets.{turned, among-some, sorted-insert, among-insert}
 use Rattle.prog_tree.proofs.TableLemmas.{cell_total}
 use Rattle.prog_tree.proofs.TableStates.{same_cell, cell_is}
 use Rattle.version_store.specs.declared.touches.Touch.{Touch}
 use Rattle.version_store.specs.Clash.{last_touch, IsClash, IsFirst, first_above, lesser, with_cells, touched, clash_of}
 use Rattle.version_store.specs.Touches.{touches_of}
-use Rattle.version_store.proofs.TouchLaws.{among-some, among_touches}
+use Rattle.version_store.proofs.TouchLaws.{among_touches}
 
 -- ---- the order of cells
-
-turned : (a b : Cell) → cell_cmp a b ≡ Greater → cell_cmp b a ≡ Less
-turned a b h = cell_total.antisymm b a ∙ ap ordering_reverse h
 
 not_both : (a b : Cell) → cell_cmp a b ≡ Less → cell_cmp b a ≡ Less → ⊥
 not_both a b p q = let back = cell_total.antisymm a b ∙ ap ordering_reverse q in absurd (cc)
@@ -175,69 +174,16 @@ clash_found ws start w number o same first = first-seen (touches_cell w) number 
 
 -- ---- the search over the touched cells
 
-all_insert : (P : Cell → Type 0) (ks : List Cell) (k : Cell) → P k → AllByRecursion P ks → AllByRecursion P (insert_key cell_cmp ks k)
-all_insert P [] k here all = (here, tt)
-all_insert P (x ∷ ks) k here all = go (cell_cmp k x) (all_insert P ks k here all.1)
-  where
-    go : (o : Ordering) → AllByRecursion P (insert_key cell_cmp ks k) → AllByRecursion P (match_ordering o (k ∷ x ∷ ks) (x ∷ ks) (x ∷ insert_key cell_cmp ks k))
-    go Less rest = (here, all)
-    go Equal rest = all
-    go Greater rest = (all.0, rest)
-
-all_beyond : (k x : Cell) (ks : List Cell) → cell_cmp k x ≡ Less → AllByRecursion (λ d. cell_cmp x d ≡ Less) ks → AllByRecursion (λ d. cell_cmp k d ≡ Less) ks
-all_beyond k x [] less all = tt
-all_beyond k x (d ∷ ks) less all = (cell_total.trans k x d less all.0, all_beyond k x ks less all.1)
-
-sorted_insert : (ks : List Cell) (k : Cell) → IsStrictlySortedBy cell_cmp ks → IsStrictlySortedBy cell_cmp (insert_key cell_cmp ks k)
-unfolding IsStrictlySortedBy
-sorted_insert [] k h = (tt, tt)
-sorted_insert (x ∷ ks) k h = go (cell_cmp k x) refl (sorted_insert ks k h.1)
-  where
-    go : (o : Ordering) → cell_cmp k x ≡ o → IsStrictlySortedBy cell_cmp (insert_key cell_cmp ks k) → IsStrictlySortedBy cell_cmp (match_ordering o (k ∷ x ∷ ks) (x ∷ ks) (x ∷ insert_key cell_cmp ks k))
-    go Less is rest = ((is, all_beyond k x ks is h.0), h)
-    go Equal is rest = h
-    go Greater is rest = (all_insert (λ d. cell_cmp x d ≡ Less) ks k (turned k x is) h.0, rest)
-
 sorted_with : (cs cells : List Cell) → IsStrictlySortedBy cell_cmp cells → IsStrictlySortedBy cell_cmp (with_cells cells cs)
 sorted_with [] cells h = h
-sorted_with (c ∷ cs) cells h = sorted_with cs (insert_key cell_cmp cells c) (sorted_insert cells c h)
-
-swapped : (a b r : Bool) → (a || (b || r)) ≡ (b || (a || r))
-swapped true true r = refl
-swapped true false r = refl
-swapped false true r = refl
-swapped false false r = refl
-
-twice : (b r : Bool) → (b || r) ≡ (b || (b || r))
-twice true r = refl
-twice false r = refl
-
-among_insert : (ks : List Cell) (k c : Cell) → is_cell_among (insert_key cell_cmp ks k) c ≡ (is_same_cell c k || is_cell_among ks c)
-among_insert [] k c = refl
-among_insert (x ∷ ks) k c = go (cell_cmp k x) refl (among_insert ks k c)
-  where
-    go : (o : Ordering) → cell_cmp k x ≡ o → is_cell_among (insert_key cell_cmp ks k) c ≡ (is_same_cell c k || is_cell_among ks c) →
-        is_cell_among (match_ordering o (k ∷ x ∷ ks) (x ∷ ks) (x ∷ insert_key cell_cmp ks k)) c ≡ (is_same_cell c k || is_cell_among (x ∷ ks) c)
-    go Less is rest = refl
-    go Equal is rest = twice (is_same_cell c x) (is_cell_among ks c) ∙ ap (λ d. is_same_cell c d || (is_same_cell c x || is_cell_among ks c)) (sym (same_cell k x is))
-    go Greater is rest = ap (λ b. is_same_cell c x || b) rest ∙ swapped (is_same_cell c x) (is_same_cell c k) (is_cell_among ks c)
+sorted_with (c ∷ cs) cells h = sorted_with cs (insert_key cell_cmp cells c) (sorted-insert cells c h)
 
 among_with : (cs cells : List Cell) (c : Cell) → is_cell_among (with_cells cells cs) c ≡ (is_cell_among cells c || is_cell_among cs c)
-among_with [] cells c = sym (or_false (is_cell_among cells c))
-  where
-    or_false : (b : Bool) → (b || false) ≡ b
-    or_false true = refl
-    or_false false = refl
+among_with [] cells c = sym (or-false (is_cell_among cells c))
 among_with (d ∷ cs) cells c =
     among_with cs (insert_key cell_cmp cells d) c
-    ∙ ap (λ b. b || is_cell_among cs c) (among_insert cells d c)
-    ∙ moved (is_same_cell c d) (is_cell_among cells c) (is_cell_among cs c)
-  where
-    moved : (a b r : Bool) → ((a || b) || r) ≡ (b || (a || r))
-    moved true true r = refl
-    moved true false r = refl
-    moved false true r = refl
-    moved false false r = refl
+    ∙ ap (λ b. b || is_cell_among cs c) (among-insert cells d c ∙ or_comm (is_same_cell c d) (is_cell_among cells c))
+    ∙ or_assoc (is_cell_among cells c) (is_same_cell c d) (is_cell_among cs c)
 
 among_touched : (w : ChangeSet) (c : Cell) → is_cell_among (touched w) c ≡ touches_cell w c
 among_touched w c =
@@ -282,7 +228,7 @@ finds_more number start touches walked left rest k touch found here next is at i
       (first-same (λ c. is_cell_among (cells_of walked) c || is_cell_among (k ∷ []) c) (is_cell_among (cells_of (walked ++ (k, touch) ∷ []))) number number start _
       (λ c. sym (ap (λ cs. is_cell_among cs c) (cells-append walked ((k, touch) ∷ [])) ∙ list_any-append (is_same_cell c) (cells_of walked) (k ∷ []))) (λ c. refl)
       (first-lesser (is_cell_among (cells_of walked)) (is_cell_among (k ∷ [])) number start found (first_above number start (k ∷ [])) h.first
-      (first-above number start (k ∷ []) (sorted_insert [] k nothing_sorted))));
+      (first-above number start (k ∷ []) (sorted-insert [] k nothing_sorted))));
 }
 
 pub finds_all :

@@ -7,9 +7,9 @@ use Rattle.std.proofs.lemmas.List.Folds.{list_any-append}
 use Rattle.prog_tree.specs.declared.cell.Cell.{Cell}
 use Rattle.prog_tree.specs.ChangeSet.{ChangeSet, change_at}
 use Rattle.prog_tree.specs.Table.{is_cell_among, is_same_cell, cells_of, TableState, row_at}
+use Rattle.prog_tree.proofs.CellSets.{among-some}
 use Rattle.version_store.specs.StandsFor.{version_by, changes_of, marks_of, chain_of, trimmed}
 use Rattle.version_store.specs.Trimming.{shown, versions_kept, marks_kept, numbered, touches_by, touches_above, within, beyond}
-use Rattle.version_store.proofs.TouchLaws.{among-some}
 use Rattle.version_store.proofs.TrimLaws.{kept_above}
 use Rattle.version_store.proofs.VersionLaws.{changes_rise}
 

@@ -1,12 +1,13 @@
 -- Laws of the touches of a commit.
 use Rattle.std.proofs.Common.{◌≡◌, ◌∙◌, ℕ, Bool, true, false, ◌||◌, cond, if◌then◌else◌, List, [], ◌∷◌, ◌++◌, map, refl, ap}
-use Rattle.std.specs.Prelude.{Some, None, is_some}
+use Rattle.std.specs.Prelude.{Some, None}
 use Rattle.std.specs.List.Sorted.{IsStrictlySortedBy}
 use Rattle.std.proofs.lemmas.List.Folds.{list_any-append}
 use Rattle.std.proofs.lemmas.Map.Keys.{sorted_tail}
 use Rattle.prog_tree.specs.declared.cell.Cell.{Cell}
 use Rattle.prog_tree.specs.ChangeSet.{ChangeSet, ChangedCells, change_at, touches_cell}
 use Rattle.prog_tree.specs.Table.{cell_cmp, Cells, cells_of, at_cell, is_same_cell, is_cell_among}
+use Rattle.prog_tree.proofs.CellSets.{among-some}
 use Rattle.version_store.specs.declared.touches.Touch.{Touch}
 use Rattle.version_store.specs.declared.touches.Touch.TheVariants.{Change}
 use Rattle.version_store.specs.StandsFor.{Chain}
@@ -16,15 +17,6 @@ use Rattle.version_store.specs.Trimming.{numbered, touches_by}
 use Rattle.version_store.proofs.ChainsLaws.{same_turned, none_behind, not_behind}
 
 -- ---- the cells
-
--- a cell is among those of a map where it has an entry
-pub among-some : {A : Type 0} (m : Cells A) (c : Cell) → is_cell_among (cells_of m) c ≡ is_some (at_cell m c)
-among-some [] c = refl
-among-some {A = A} (e ∷ m) c = ap (λ b. is_same_cell c e.0 || b) (among-some m c) ∙ go (is_same_cell c e.0)
-  where
-    go : (b : Bool) → (b || is_some (at_cell m c)) ≡ is_some (cond b (Some e.1) (at_cell m c))
-    go true = refl
-    go false = refl
 
 cells_kept : (kept : List Cell) → cells_of (touches_left [] kept) ≡ kept
 cells_kept [] = refl
