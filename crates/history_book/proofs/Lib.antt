@@ -35,7 +35,6 @@ pub mod ReplayLaws
 pub mod RightLaws
 pub mod RiseLaws
 pub mod RunsInOrder
-pub mod SearchLaws
 pub mod SerialBooks
 pub mod SerialLaws
 pub mod SightPairs

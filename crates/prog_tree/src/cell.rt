@@ -1,7 +1,8 @@
 //! Cells, and regions of them.
 
 ghost use Rattle.std.specs.Prelude.{◌≡◌, ◌↔◌, IsTrue};
-ghost use Rattle.prog_tree.specs.Table.{is_cell_among, is_in, lies_between};
+ghost use Rattle.std.specs.List.Sorted.{IsSorted};
+ghost use Rattle.prog_tree.specs.Table.{cell_cmp, is_cell_among, is_in, lies_between};
 ghost use Rattle.prog_tree.specs.Corners.{AreCorners};
 
 /// A cell of a table. In a table of one key column the second is 0.
@@ -27,6 +28,14 @@ pub fn is_among(cells: &[Cell], cell: &Cell) -> bool
     ensures { result ≡ is_cell_among cells.now cell.now }
 {
     cells.iter().any(|other| cell.cmp(other).is_eq())
+}
+
+/// Whether a cell is one of some cells, found in few steps. Of cells that do not rise it may say
+/// either.
+pub fn is_among_rising(cells: &[Cell], cell: &Cell) -> bool
+    ensures { IsSorted cell_cmp cells.now → result ≡ is_cell_among cells.now cell.now }
+{
+    cells.binary_search(cell).is_ok()
 }
 
 /// The least and the greatest cell of a region, or none where it has no cell. Between them stand

@@ -6,7 +6,6 @@ pub mod CountLaws
 pub mod FoundLaws
 pub mod HoldLaws
 pub mod NewestLaws
-pub mod OwnLaws
 pub mod PendingLaws
 pub mod ScanLaws
 pub mod SizeLaws

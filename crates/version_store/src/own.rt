@@ -2,7 +2,7 @@
 ghost use Rattle.std.specs.Prelude.{◌≡◌};
 ghost use Rattle.prog_tree.specs.Table.{is_cell_among};
 
-use prog_tree::{Cell, is_among};
+use prog_tree::{Cell, is_among, is_among_rising};
 use std::marker::Model;
 
 /// Cells that an instance has changed itself, among which others are looked for. A run tells them
@@ -41,7 +41,7 @@ impl<'a> OwnCells<'a> {
         ensures { result ≡ is_cell_among self.now cell.now }
     {
         if self.rise {
-            return self.cells.binary_search(cell).is_ok();
+            return is_among_rising(self.cells, cell);
         }
         is_among(self.cells, cell)
     }

@@ -1,7 +1,7 @@
 //! Which node is joined to which, and which cell is one of some.
 
 use order_facts::Square;
-use prog_tree::{Cell, is_among};
+use prog_tree::{Cell, is_among, is_among_rising};
 
 #[test]
 fn a_square_joins_one_way(rt: HostRuntime) {
@@ -61,8 +61,9 @@ fn cell(table: usize, second: i64) -> Cell {
 fn cells_are_told_apart_by_all_their_parts(rt: HostRuntime) {
     let cells = [cell(0, 1), cell(1, 0)];
     for (table, second, among) in [(0, 1, true), (0, 0, false), (1, 1, false)] {
-        let found = is_among(&cells, &cell(table, second));
-        assert!(rt; found == among, "{table} {second}");
+        let cell = cell(table, second);
+        assert!(rt; is_among(&cells, &cell) == among, "{table} {second}");
+        assert!(rt; is_among_rising(&cells, &cell) == among, "{table} {second}");
     }
-    assert!(rt; !is_among(&[], &cell(0, 1)));
+    assert!(rt; !is_among(&[], &cell(0, 1)) && !is_among_rising(&[], &cell(0, 1)));
 }

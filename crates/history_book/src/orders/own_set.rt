@@ -3,7 +3,7 @@
 ghost use Rattle.std.specs.Prelude.{◌≡◌, IfOk};
 ghost use Rattle.prog_tree.specs.Table.{is_cell_among};
 
-use prog_tree::{Cell, Sequence, is_among};
+use prog_tree::{Cell, Sequence, is_among, is_among_rising};
 use std::alloc::{AllocError, Global};
 use std::marker::Model;
 
@@ -49,7 +49,7 @@ impl OwnSet {
     {
         let cells = self.cells.as_slice();
         if self.rise {
-            return cells.binary_search(cell).is_ok();
+            return is_among_rising(cells, cell);
         }
         is_among(cells, cell)
     }

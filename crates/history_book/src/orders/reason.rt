@@ -7,7 +7,7 @@ ghost use Rattle.history_book.specs.Reasons.{missed_at, missed_by, told_reason};
 ghost use Rattle.history_book.specs.Traces.{changed_at, looked_at, takes_in, trace_at};
 
 use crate::orders::trace::{Sight, Trace};
-use prog_tree::{Cell, Region};
+use prog_tree::{Cell, Region, is_among_rising};
 
 /// Why the first of two commits has to stand before the second.
 #[derive(Clone, Copy, Debug, PartialEq, Eq)]
@@ -45,7 +45,7 @@ fn changed_at(trace: &Trace, cell: &Cell) -> bool
     ensures { result ≡ changed_at trace.now cell.now }
 {
     let changed = trace.changed.as_slice();
-    changed.binary_search(cell).is_ok()
+    is_among_rising(changed, cell)
 }
 
 /// The trace of a commit that there is.

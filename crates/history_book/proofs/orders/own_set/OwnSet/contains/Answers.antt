@@ -2,13 +2,9 @@ use Rattle.std.proofs.Common.{◌∙◌, List, ap, sym, subst}
 use Rattle.std.specs.List.Sorted.{IsSorted}
 use Rattle.prog_tree.specs.declared.cell.Cell.{Cell}
 use Rattle.prog_tree.specs.Table.{cell_cmp, is_cell_among}
-use Rattle.version_store.proofs.OwnLaws.{found_among}
 use Rattle.history_book.proofs.orders.own_set.OwnSet.contains.Goals as goal
 
 pub returns-then-self : goal.returns-then-self
 returns-then-self c =
-    let cells = c.as_slice-cells.result.now in
     let rise = subst (IsSorted cell_cmp) (sym c.as_slice-cells.ensures) (c.self.invariant c.if-self.true) in
-    c.is_ok.ensures.value
-    ∙ (found_among cells c.args.cell.now c.binary_search.result rise c.binary_search.ensures.bound c.binary_search.ensures.position
-    ∙ ap (λ (own : List Cell). is_cell_among own c.args.cell.now) (c.as_slice-cells.ensures ∙ c.self.view_is))
+    c.is_among_rising.ensures rise ∙ ap (λ (own : List Cell). is_cell_among own c.args.cell.now) (c.as_slice-cells.ensures ∙ c.self.view_is)
