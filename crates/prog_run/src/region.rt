@@ -9,7 +9,7 @@ ghost use Rattle.prog_tree.specs.Value.{exact};
 ghost use Rattle.prog_run.specs.Looks.{AreFound, IsFoundLast, region_look, seen_rows};
 ghost use Rattle.prog_run.specs.Seen.{rows_before, AreAbsent, own_row, seen_by};
 
-use prog_tree::{Cell, Changes, Look, Region, Sequence, corners};
+use prog_tree::{Cell, Changes, Look, Region, Sequence};
 use std::alloc::{AllocError, Global};
 
 /// What a look at a region found.
@@ -71,7 +71,7 @@ pub fn own_changes(
     ensures ordered { IfOk result (λ own. IsStrictlySortedBy cell_cmp (cells_of own.items)) }
 {
     let mut own = Vec::new(alloc);
-    let Some((low, high)) = corners(*region) else {
+    let Some((low, high)) = region.corners() else {
         return Ok(own);
     };
     for (cell, change) in changes.between(low, high) {

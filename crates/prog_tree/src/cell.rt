@@ -38,27 +38,6 @@ pub fn is_among_rising(cells: &[Cell], cell: &Cell) -> bool
     cells.binary_search(cell).is_ok()
 }
 
-/// The least and the greatest cell of a region, or none where it has no cell. Between them stand
-/// cells beside the region too.
-pub fn corners(region: Region) -> Option<(Cell, Cell)>
-    ensures { AreCorners region result }
-{
-    if region.first_low > region.first_high || region.second_low > region.second_high {
-        return None;
-    }
-    let low = Cell {
-        table: region.table,
-        first: region.first_low,
-        second: region.second_low,
-    };
-    let high = Cell {
-        table: region.table,
-        first: region.first_high,
-        second: region.second_high,
-    };
-    Some((low, high))
-}
-
 fn lies_between(low: i64, x: i64, high: i64) -> bool
     ensures { result ≡ lies_between low x high }
 {
@@ -76,11 +55,39 @@ impl Region {
     pub fn contains(&self, cell: &Cell) -> bool
         ensures { result ≡ is_in self.now cell.now }
     {
-        let first = lies_between(self.first_low, cell.first, self.first_high);
-        let second = lies_between(self.second_low, cell.second, self.second_high);
         if self.table != cell.table {
             return false;
         }
+        let first = lies_between(self.first_low, cell.first, self.first_high);
+        let second = lies_between(self.second_low, cell.second, self.second_high);
         first && second
+    }
+
+    /// The least and the greatest cell, or none where there is no cell. Between them stand cells
+    /// beside the region too.
+    pub fn corners(&self) -> Option<(Cell, Cell)>
+        ensures { AreCorners self.now result }
+    {
+        let Region {
+            table,
+            first_low,
+            first_high,
+            second_low,
+            second_high,
+        } = *self;
+        if first_low > first_high || second_low > second_high {
+            return None;
+        }
+        let low = Cell {
+            table,
+            first: first_low,
+            second: second_low,
+        };
+        let high = Cell {
+            table,
+            first: first_high,
+            second: second_high,
+        };
+        Some((low, high))
     }
 }

@@ -7,7 +7,7 @@ ghost use Rattle.version_store.specs.Regions.{seen_anywhere, seen_in, seen_left,
 use crate::chains::Chains;
 use crate::found::{add_found, behind, push_row, seen_in, seen_left};
 use crate::own::OwnCells;
-use prog_tree::{Cell, Region, Rows, Sequence, corners};
+use prog_tree::{Cell, Region, Rows, Sequence};
 use std::alloc::AllocError;
 
 impl Chains {
@@ -17,7 +17,7 @@ impl Chains {
             IsSeen (seen_in region.now start) self.now rows) }
     {
         let mut rows = Vec::new(self.alloc);
-        let Some((low, high)) = corners(*region) else {
+        let Some((low, high)) = region.corners() else {
             return Ok(Sequence::from_vec(rows));
         };
         for (cell, chain) in self.chains.range(low..=high) {
@@ -34,7 +34,7 @@ impl Chains {
             IsSeen (seen_left region.now own.now start) self.now m →
             IsTrue result ↔ (m ≡ rows.now) }
     {
-        let Some((low, high)) = corners(*region) else {
+        let Some((low, high)) = region.corners() else {
             return rows.is_empty();
         };
         let own_cells = OwnCells::new(own);

@@ -2,7 +2,7 @@
 
 use crate::store::calls::{Answer, Call, install, open, play};
 use crate::store::twin::{Deed, cell, rows_after};
-use prog_tree::{Cell, Region, corners};
+use prog_tree::{Cell, Region};
 use std::alloc::Global;
 use std::process::Abort;
 use version_store::{Clash, OwnCells, Store};
@@ -194,7 +194,7 @@ fn regions_have_corners_unless_they_are_empty(rt: HostRuntime) {
         second_low: 0,
         second_high: 0,
     };
-    assert!(rt; corners(region) == Some((cell(2), cell(7))));
+    assert!(rt; region.corners() == Some((cell(2), cell(7))));
     region.first_high = 1;
-    assert!(rt; corners(region).is_none());
+    assert!(rt; region.corners().is_none());
 }

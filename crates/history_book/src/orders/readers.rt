@@ -13,7 +13,7 @@ use crate::orders::own_set::OwnSet;
 use crate::orders::precedence::Precedence;
 use crate::orders::trace::{Sight, Trace};
 use crate::orders::writers::{Writers, first_missed, last_seen};
-use prog_tree::{Cell, Region, corners};
+use prog_tree::{Cell, Region};
 use std::alloc::{AllocError, Global};
 
 // Puts a number and each of the next before the one behind it.
@@ -151,7 +151,7 @@ fn add_region(
     ensures { OnOk result (AddsPairs (region_pairs reader start region.now own.now writers.now)
         precedence.old precedence.new) }
 {
-    let Some((low, high)) = corners(*region) else {
+    let Some((low, high)) = region.corners() else {
         return Ok(());
     };
     for (cell, numbers) in writers.cells.range(low..=high) {
