@@ -4,7 +4,7 @@ use example_sets::set_of;
 use prog_check::{ProgramSet, soundness};
 use prog_tree::{
     Cell, Look, Region, evaluations_depend_on_looks, evaluations_write_i64, i64_is_tested,
-    same_looks, same_tables, table_states_stay_i64, table_states_stay_in_order,
+    same_tables, table_states_stay_i64, table_states_stay_in_order,
 };
 use std::alloc::Global;
 use std::process::Abort;
@@ -72,20 +72,20 @@ fn look(first: i64, held: Option<i64>) -> Look {
     Look::One(cell, held)
 }
 
-// Whether two looks are the same as a look at cell 1, which found 5, and one at cell 2, which found
-// nothing.
-fn are_those_looks(looks: &[Look]) -> bool {
-    let wanted = [look(1, Some(5)), look(2, None)];
-    same_looks(&wanted, looks)
+/// Whether a look is the same as one at cell 1 that found 5.
+fn is_that_look(look_at: &Look) -> bool {
+    let wanted = look(1, Some(5));
+    wanted.is_same(look_at)
 }
 
 #[test]
 fn looks_are_the_same_by_cell_and_value(rt: HostRuntime) {
-    let same = [look(1, Some(5)), look(2, None)];
-    assert!(rt; are_those_looks(&same));
-    assert!(rt; !are_those_looks(&same[..1]));
-    let other = [look(1, Some(5)), look(2, Some(0))];
-    assert!(rt; !are_those_looks(&other));
+    let same = look(1, Some(5));
+    assert!(rt; is_that_look(&same));
+    let others = [look(2, Some(5)), look(1, Some(0)), look(1, None)];
+    for other in &others {
+        assert!(rt; !is_that_look(other));
+    }
 }
 
 /// The cells of `e[1..3, 2..4]`.

@@ -55,18 +55,3 @@ impl Look {
         }
     }
 }
-
-/// Whether both lists have the same looks, in the same order.
-pub fn same_looks(looks: &[Look], others: &[Look]) -> bool
-    ensures { IsTrue result ↔ (looks.now ≡ others.now) }
-{
-    if looks.len() != others.len() {
-        return false;
-    }
-    for (look, other) in looks.iter().zip(others) {
-        if !look.is_same(other) {
-            return false;
-        }
-    }
-    true
-}
