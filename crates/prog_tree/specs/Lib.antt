@@ -1,6 +1,7 @@
 pub mod ChangeSet
 pub mod Corners
 pub mod Evaluation
+pub mod Expressions
 pub mod Literals
 pub mod LookedAt
 pub mod Number
