@@ -1,6 +1,6 @@
 -- The rows that a run sees in a region: those of its look and its own changes, merged in one pass.
 use Rattle.std.proofs.Common.{◌≡◌, ℕ, zero, suc, ◌+◌, List, [], ◌∷◌, ◌++◌, refl, ap, sym, subst, ◌∙◌, true, false, not, cond, arith, ◌<◌, length, take, drop, get_or, add-one, drop-cons, append_assoc}
-use Rattle.std.specs.Prelude.{ℤ, ◌+ℤ◌, Bool, ◌||◌, ◌&&◌, Option, Some, None, is_some, filter, if◌then◌else◌}
+use Rattle.std.specs.Prelude.{ℤ, ◌+ℤ◌, Bool, ◌||◌, Option, Some, None, filter, if◌then◌else◌}
 use Rattle.std.specs.declared.cmp.Ordering.{Ordering}
 use Rattle.std.specs.declared.cmp.Ordering.TheVariants.{Less, Equal, Greater}
 use Rattle.std.specs.Ordering.{is_eq, is_lt, match_ordering, ordering_reverse}
@@ -8,15 +8,14 @@ use Rattle.std.specs.Cmp.{tied_itself}
 use Rattle.std.specs.FinMap.{find}
 use Rattle.std.specs.FinMap.Entries.{find-where_key}
 use Rattle.std.specs.List.{list_any, AllByRecursion}
-use Rattle.std.specs.List.Sorted.{IsStrictlySortedBy}
+use Rattle.std.specs.List.Sorted.{IsSorted, IsStrictlySortedBy}
 use Rattle.std.proofs.lemmas.List.Kept.{IsStrictlySortedBy-filter}
 use Rattle.prog_tree.specs.declared.cell.Cell.{Cell}
 use Rattle.prog_tree.specs.declared.cell.Region.{Region}
 use Rattle.prog_tree.specs.Table.{cell_cmp, is_in, is_same_cell, is_cell_among, cells_of, at_cell, TableState, row_at, with_row, without_row}
 use Rattle.prog_tree.specs.ChangeSet.{ChangedCells, changes_in, changed_row, changed}
-use Rattle.prog_tree.specs.Evaluation.{own_cells, total_of, rows_without}
+use Rattle.prog_tree.specs.Evaluation.{total_of, rows_without}
 use Rattle.prog_tree.proofs.TableLemmas.{cell_total, find_is, absent_rest}
-use Rattle.prog_tree.proofs.TableStates.{cell_is}
 use Rattle.prog_tree.proofs.ChangedLemmas.{row_at-changed}
 use Rattle.prog_run.specs.Seen.{rows_before, AreAbsent, own_row}
 
@@ -83,24 +82,9 @@ all_among (e ∷ es) = (among_itself e.0 (cells_of es), among_more e.0 (cells_of
 pub own_absent : (m : TableState) (own : ChangedCells) → AreAbsent (rows_without (cells_of own) m) own
 own_absent m own = are_absent (cells_of own) m own (all_among own)
 
-both_false : (b : Bool) → (b && false) ≡ false
-both_false true = refl
-both_false false = refl
-
--- a cell is one of the own cells of a region if it lies there and was changed
-pub own_among : (r : Region) (es : ChangedCells) (c : Cell) → is_cell_among (own_cells r es) c ≡ (is_in r c && is_some (at_cell es c))
-own_among r [] c = sym (both_false (is_in r c))
-own_among r (e ∷ es) c = by (is_same_cell c e.0) refl (is_in r e.0) refl (own_among r es c)
-  where
-    by : (b : Bool) → is_same_cell c e.0 ≡ b → (d : Bool) → is_in r e.0 ≡ d → is_cell_among (own_cells r es) c ≡ (is_in r c && is_some (at_cell es c)) →
-        is_cell_among (cells_of (cond d (e ∷ changes_in r es) (changes_in r es))) c ≡ (is_in r c && is_some (cond b (Some e.1) (at_cell es c)))
-    by true is true lies rest = ap (λ b. b || is_cell_among (own_cells r es) c) is ∙ sym (ap (λ b. b && true) (ap (is_in r) (cell_is c e.0 is) ∙ lies))
-    by true is false lies rest = rest ∙ ap (λ b. b && is_some (at_cell es c)) out ∙ sym (ap (λ b. b && true) out)
-      where
-        out : is_in r c ≡ false
-        out = ap (is_in r) (cell_is c e.0 is) ∙ lies
-    by false is true lies rest = ap (λ b. b || is_cell_among (own_cells r es) c) is ∙ rest
-    by false is false lies rest = rest
+-- a row stays where its cell is told not to be among cells that rise
+pub told_left : (own : List Cell) → IsSorted cell_cmp own → (c : Cell) (r b : Bool) → (IsSorted cell_cmp own → r ≡ is_cell_among own c) → b ≡ not r → b ≡ not (is_cell_among own c)
+told_left own rise c r b tells is = is ∙ ap not (tells rise)
 
 cells_of-in : (r : Region) (es : ChangedCells) → cells_of (changes_in r es) ≡ filter (is_in r) (cells_of es)
 cells_of-in r [] = refl

@@ -1,15 +1,15 @@
 //! What a run sees in a region.
 ghost use Rattle.std.specs.Prelude.{◌≡◌, ◌↔◌, ◌≤◌, ◌++◌, length, option_copied, IfOk, IfSome, IsTrue, OnOk};
 ghost use Rattle.std.specs.List.{list_all};
-ghost use Rattle.std.specs.List.Sorted.{IsStrictlySortedBy};
-ghost use Rattle.prog_tree.specs.Table.{TableState, cell_cmp, is_in, is_cell_among, cells_of, rows_in};
+ghost use Rattle.std.specs.List.Sorted.{IsSorted, IsStrictlySortedBy};
+ghost use Rattle.prog_tree.specs.Table.{TableState, cell_cmp, is_in, cells_of, rows_in};
 ghost use Rattle.prog_tree.specs.ChangeSet.{changes_in, changed};
-ghost use Rattle.prog_tree.specs.Evaluation.{own_cells, total_of, rows_without};
+ghost use Rattle.prog_tree.specs.Evaluation.{total_of, rows_without};
 ghost use Rattle.prog_tree.specs.Value.{exact};
 ghost use Rattle.prog_run.specs.Looks.{AreFound, IsFoundLast, region_look, seen_rows};
 ghost use Rattle.prog_run.specs.Seen.{rows_before, AreAbsent, own_row, seen_by};
 
-use prog_tree::{Cell, Changes, Look, Region, Sequence};
+use prog_tree::{Cell, Changes, Look, Region, Sequence, is_among_rising};
 use std::alloc::{AllocError, Global};
 
 /// What a look at a region found.
@@ -93,20 +93,12 @@ pub fn cells(alloc: Global, own: &[(Cell, Option<i64>)]) -> Result<Sequence<Cell
     Ok(cells)
 }
 
-// Takes away the rows of cells that a run has changed in a region.
-fn remove_own(rows: &mut Vec<(Cell, i64)>, region: &Region, changes: &Changes)
-    ensures { rows.new.items
-        ≡ rows_without (own_cells region.now changes.now.cells) rows.old.items }
+// Takes away the rows of some cells that rise.
+fn remove_own(rows: &mut Vec<(Cell, i64)>, own: &[Cell])
+    requires { IsSorted cell_cmp own.now }
+    ensures { rows.new.items ≡ rows_without own.now rows.old.items }
 {
-    rows.retain(|(cell, _)| !is_own(region, changes, cell));
-}
-
-// Whether a run has changed this cell of a region.
-#[tactic(auto, using(crate::proofs::SeenLemmas::own_among))]
-fn is_own(region: &Region, changes: &Changes, cell: &Cell) -> bool
-    ensures { result ≡ is_cell_among (own_cells region.now changes.now.cells) cell.now }
-{
-    region.contains(cell) && changes.get(cell).is_some()
+    rows.retain(|(cell, _)| !is_among_rising(own, cell));
 }
 
 // How many rows stand in front whose cells come before this one.
@@ -201,7 +193,7 @@ pub fn look_at_region(
     }
     let left_out = cells(alloc, &own)?;
     let mut rows = rows.into_vec();
-    remove_own(&mut rows, &region, changes);
+    remove_own(&mut rows, left_out.as_slice());
     let seen = merge(alloc, &rows, &own)?;
     Ok(Found {
         own: left_out,

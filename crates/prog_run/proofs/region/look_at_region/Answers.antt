@@ -1,15 +1,22 @@
 use Rattle.std.proofs.Common.{◌≡◌, [], ap, sym, subst, ◌∙◌}
-use Rattle.std.specs.List.Sorted.{IsStrictlySortedBy}
+use Rattle.std.specs.List.Sorted.{IsSorted, IsStrictlySortedBy}
 use Rattle.std.proofs.lemmas.Bool.{eqb-true}
 use Rattle.std.proofs.lemmas.List.{nil_from_length}
 use Rattle.prog_tree.specs.declared.look.Look.TheVariants as look
 use Rattle.prog_tree.specs.Table.{cell_cmp, cells_of, TableState}
 use Rattle.prog_tree.specs.ChangeSet.{ChangedCells, changes_in, changed}
 use Rattle.prog_tree.specs.Evaluation.{own_cells, rows_without}
+use Rattle.prog_tree.proofs.SearchLaws.{no_fall}
 use Rattle.prog_run.specs.Seen.{AreAbsent}
 use Rattle.prog_run.proofs.OwnLemmas.{all_seen, look_of_all}
 use Rattle.prog_run.proofs.SeenLemmas.{own_absent}
 use Rattle.prog_run.proofs.region.look_at_region.Goals as goal
+
+pub remove_own-requires : goal.remove_own-requires
+remove_own-requires c =
+    let own = c.in_ok-own.own.items in
+    let mine : c.as_slice.result.now ≡ cells_of own = c.as_slice.ensures ∙ c.in_ok-left_out.ensures ∙ ap (λ (es : ChangedCells). cells_of es) c.deref.ensures.value in
+    subst (IsSorted cell_cmp) (sym mine) (no_fall (cells_of own) c.in_ok-own.ensures.ordered)
 
 pub merge-requires-clause-ordered : goal.merge-requires-clause-ordered
 merge-requires-clause-ordered c =
@@ -18,15 +25,26 @@ merge-requires-clause-ordered c =
 pub merge-requires-clause-absent : goal.merge-requires-clause-absent
 merge-requires-clause-absent c =
     let cells = c.args.changes.now.cells in
-    let left = c.deref-2.ensures.value ∙ c.remove_own.ensures ∙ ap (rows_without (own_cells c.args.region cells)) c.into_vec-rows.ensures in
+    let mine : c.as_slice.result.now ≡ own_cells c.args.region cells =
+    c.as_slice.ensures ∙ c.in_ok-left_out.ensures ∙ ap (λ (es : ChangedCells). cells_of es) (c.deref.ensures.value ∙ c.in_ok-own.ensures.own) in
+    let left = c.deref-2.ensures.value ∙ c.remove_own.ensures ∙ (λ i. rows_without (mine i) (c.into_vec-rows.ensures i)) in
     let own = c.deref-3.ensures.value ∙ c.in_ok-own.ensures.own in
     subst (λ (rows : TableState). AreAbsent rows c.deref-3.result.now) (sym left)
     (subst (λ (es : ChangedCells). AreAbsent (rows_without (own_cells c.args.region cells) c.args.rows) es) (sym own) (own_absent c.args.rows (changes_in c.args.region cells)))
 
+pub returns-clause-look : goal.returns-clause-look
+returns-clause-look c =
+    let cells = c.args.changes.now.cells in
+    let told : c.in_ok-left_out.left_out ≡ own_cells c.args.region cells = c.in_ok-left_out.ensures ∙ ap (λ (es : ChangedCells). cells_of es) (c.deref.ensures.value ∙ c.in_ok-own.ensures.own) in
+    let left = c.from_vec.ensures ∙ c.remove_own.ensures ∙ (λ i. rows_without ((c.as_slice.ensures ∙ told) i) (c.into_vec-rows.ensures i)) in
+    λ i. look.Range c.args.region (told i) (left i)
+
 pub returns-clause-seen : goal.returns-clause-seen
 returns-clause-seen c =
     let cells = c.args.changes.now.cells in
-    let left = c.deref-2.ensures.value ∙ c.remove_own.ensures ∙ ap (rows_without (own_cells c.args.region cells)) c.into_vec-rows.ensures in
+    let mine : c.as_slice.result.now ≡ own_cells c.args.region cells =
+    c.as_slice.ensures ∙ c.in_ok-left_out.ensures ∙ ap (λ (es : ChangedCells). cells_of es) (c.deref.ensures.value ∙ c.in_ok-own.ensures.own) in
+    let left = c.deref-2.ensures.value ∙ c.remove_own.ensures ∙ (λ i. rows_without (mine i) (c.into_vec-rows.ensures i)) in
     let own = c.deref-3.ensures.value ∙ c.in_ok-own.ensures.own in
     c.from_vec-2.ensures ∙ c.in_ok-seen.ensures ∙ (λ i. changed (left i) (own i))
 
