@@ -1,5 +1,6 @@
 -- Whether, and how many times, a number stands in a list.
 use Rattle.std.proofs.Common.{Some, ◌≡◌, ◌≢◌, ℕ, zero, suc, ◌+◌, ◌<◌, ◌≤◌, ◌==◌, ◌&&◌, ◌||◌, Bool, true, false, List, [], ◌∷◌, ◌++◌, length, take, drop, get_or, set, reverse, ◌⊎◌, inl, inr, refl, sym, ap, ◌∙◌, subst, arith, nat_cmp, nat_lt, if◌then◌else◌, All}
+use Rattle.std.proofs.Math.Bool.{or_assoc, or_comm, or_self_left}
 use Rattle.std.proofs.lemmas.Bool.{eq-eqb, ne_eqb, cases_Bool, cases_lt, false≢true}
 use Rattle.std.proofs.lemmas.Bool.Decides.{nat_tests, eqb_tells}
 use Rattle.std.proofs.lemmas.List.{get_or_past, take_all, take-append-le, take_more, drop_more, reverse-append, get_or-set_same, get_or-set_other}
@@ -10,7 +11,6 @@ use Rattle.std.specs.Prelude.{slice_get}
 use Rattle.std.proofs.lemmas.Option.{slice_get_within, get_or_from_slice_get}
 use Rattle.history_book.specs.Orders.{is_one_of}
 use Rattle.history_book.specs.Placing.{times}
-use Rattle.history_book.proofs.PairLaws.{or_assoc, or_again}
 
 -- two numbers are the same, or not, as their test says
 abbrev pub Same : ℕ → ℕ → Type 0
@@ -121,20 +121,14 @@ mark-step old cur places i number inside within is n =
 
 -- ---- the keys of a set
 
-or-comm : (a b : Bool) → (a || b) ≡ (b || a)
-or-comm true true = refl
-or-comm true false = refl
-or-comm false true = refl
-or-comm false false = refl
-
 pub one-insert : (keys : List ℕ) (k n : ℕ) → is_one_of (insert_key nat_cmp keys k) n ≡ (is_one_of keys n || k == n)
-one-insert [] k n = or-comm (k == n) false
+one-insert [] k n = or_comm (k == n) false
 one-insert (x ∷ xs) k n = go (cases_Bool (nat_lt k x)) (eqb_tells k x) (one-insert xs k n)
   where
     go : Either (nat_lt k x) → Same k x → is_one_of (insert_key nat_cmp xs k) n ≡ (is_one_of xs n || k == n)
         → is_one_of (insert_key nat_cmp (x ∷ xs) k) n ≡ (is_one_of (x ∷ xs) n || k == n)
-    go (inl l) _ e = rw l (or-comm (k == n) (is_one_of (x ∷ xs) n))
-    go (inr l) (inl s) e = rw (l, s.0) (subst (λ m. is_one_of (x ∷ xs) n ≡ (is_one_of (x ∷ xs) n || m == n)) (sym s.1) (or_again (x == n) (is_one_of xs n) ∙ or-comm (x == n) (is_one_of (x ∷ xs) n)))
+    go (inl l) _ e = rw l (or_comm (k == n) (is_one_of (x ∷ xs) n))
+    go (inr l) (inl s) e = rw (l, s.0) (subst (λ m. is_one_of (x ∷ xs) n ≡ (is_one_of (x ∷ xs) n || m == n)) (sym s.1) (sym (or_self_left (x == n) (is_one_of xs n)) ∙ or_comm (x == n) (is_one_of (x ∷ xs) n)))
     go (inr l) (inr s) e = rw (l, s.0) (ap (λ b. (x == n) || b) e ∙ sym (or_assoc (x == n) (is_one_of xs n) (k == n)))
 
 pub above-all : (keys : List ℕ) (k n : ℕ) → All (IsLtBy nat_cmp k) keys → is_one_of keys n ≡ true → k < n
@@ -179,7 +173,7 @@ more-yes old keys waits numbers i inside none is n = one-insert keys (get_or num
         → ((is_one_of old n || (is_one_of (take i numbers) n && get_or waits n 0 == 0)) || get_or numbers i 0 == n) ≡ (is_one_of old n || ((is_one_of (take i numbers) n || get_or numbers i 0 == n) && get_or waits n 0 == 0))
     go (inl e) _ _ = and-or (is_one_of old n) (is_one_of (take i numbers) n) (get_or numbers i 0 == n) (get_or waits n 0 == 0) (subst (λ m. (get_or waits m 0 == 0) ≡ true) e.1 (eq-eqb _ 0 none))
     go (inr e) (inl o) _ = rw o refl
-    go (inr e) (inr o) (inl t) = rw (o, t, e.0) (or-comm (get_or waits n 0 == 0) false)
+    go (inr e) (inr o) (inl t) = rw (o, t, e.0) (or_comm (get_or waits n 0 == 0) false)
     go (inr e) (inr o) (inr t) = rw (o, t, e.0) refl
 
 pub more-no : (old keys waits numbers : List ℕ) (i : ℕ) → i < length numbers → get_or waits (get_or numbers i 0) 0 ≢ 0

@@ -1,20 +1,9 @@
 -- What walks that add pairs of commits keep.
-use Rattle.std.proofs.Common.{◌≡◌, ◌∙◌, ◌==◌, ℕ, Bool, true, false, ◌&&◌, ◌||◌, List, [], ◌∷◌, ◌++◌, length, refl, ap, sym}
+use Rattle.std.proofs.Common.{◌≡◌, ◌∙◌, ◌==◌, ℕ, ◌&&◌, ◌||◌, List, [], ◌∷◌, ◌++◌, length, refl, ap, sym}
+use Rattle.std.proofs.Math.Bool.{or_assoc, or_self_left, or-false}
 use Rattle.std.proofs.lemmas.List.Folds.{list_any-append}
 use Rattle.history_book.specs.Precedence.{precedes}
 use Rattle.history_book.specs.Reduced.{Pairs, is_pair_among, AddsPairs}
-
-pub or_assoc : (a b c : Bool) → ((a || b) || c) ≡ (a || (b || c))
-or_assoc true b c = refl
-or_assoc false b c = refl
-
-pub or_again : (a b : Bool) → (a || b) ≡ (a || (a || b))
-or_again true b = refl
-or_again false b = refl
-
-pub or_false : (a : Bool) → (a || false) ≡ a
-or_false true = refl
-or_false false = refl
 
 pub among-append : (ps qs : Pairs) (i j : ℕ) → is_pair_among (ps ++ qs) i j ≡ (is_pair_among ps i j || is_pair_among qs i j)
 among-append ps qs i j = list_any-append (λ (p : ℕ × ℕ). (i == p.0) && (j == p.1)) ps qs
@@ -31,7 +20,7 @@ pub walk_ends : (rest all : Pairs) (old now : List (List ℕ)) → rest ≡ [] �
 walk_ends rest all old now none walk = record {
   commits = walk.commits;
   pairs = λ i j.
-      sym (or_false (precedes now i j))
+      sym (or-false (precedes now i j))
       ∙ ap (λ (ps : Pairs). precedes now i j || is_pair_among ps i j) (sym none)
       ∙ walk.towards i j;
 }
@@ -52,7 +41,7 @@ pub walk_skips : (ps rest all : Pairs) (old now : List (List ℕ)) → Walk (ps 
 walk_skips ps rest all old now walk = record {
   towards = λ i j.
       ap (λ b. precedes now i j || b)
-      (among-append ps rest i j ∙ or_again (is_pair_among ps i j) (is_pair_among rest i j) ∙ ap (λ b. is_pair_among ps i j || b) (sym (among-append ps rest i j)) ∙ sym (among-append ps (ps ++ rest) i j))
+      (among-append ps rest i j ∙ sym (or_self_left (is_pair_among ps i j) (is_pair_among rest i j)) ∙ ap (λ b. is_pair_among ps i j || b) (sym (among-append ps rest i j)) ∙ sym (among-append ps (ps ++ rest) i j))
       ∙ walk.towards i j;
   commits = walk.commits;
 }
@@ -61,12 +50,12 @@ walk_skips ps rest all old now walk = record {
 pub one_pair : (a b : ℕ) (old new : List (List ℕ)) → length new ≡ length old → ((i j : ℕ) → precedes new i j ≡ (precedes old i j || ((i == a) && (j == b)))) → AddsPairs ((a, b) ∷ []) old new
 one_pair a b old new same adds = record {
   commits = same;
-  pairs = λ i j. adds i j ∙ ap (λ x. precedes old i j || x) (sym (or_false ((i == a) && (j == b))));
+  pairs = λ i j. adds i j ∙ ap (λ x. precedes old i j || x) (sym (or-false ((i == a) && (j == b))));
 }
 
 -- nothing was added
 pub no_pair : (p : List (List ℕ)) → AddsPairs [] p p
-no_pair p = record { commits = refl; pairs = λ i j. sym (or_false (precedes p i j)) }
+no_pair p = record { commits = refl; pairs = λ i j. sym (or-false (precedes p i j)) }
 
 pub both_pairs : (ps qs : Pairs) (old mid new : List (List ℕ)) → AddsPairs ps old mid → AddsPairs qs mid new → AddsPairs (ps ++ qs) old new
 both_pairs ps qs old mid new first second = record {

@@ -1,7 +1,8 @@
 -- The lists behind the numbers, as pairs are added.
-use Rattle.std.proofs.Common.{◌≡◌, ℕ, zero, suc, ◌-◌, ◌<◌, ◌≤◌, ◌==◌, ◌&&◌, ◌||◌, Bool, true, false, List, [], ◌∷◌, ◌++◌, length, get_or, set, inl, inr, refl, sym, ap, ◌∙◌, subst, arith}
+use Rattle.std.proofs.Common.{◌≡◌, ℕ, zero, suc, ◌-◌, ◌<◌, ◌≤◌, ◌==◌, ◌&&◌, ◌||◌, true, false, List, [], ◌∷◌, ◌++◌, length, get_or, set, inl, inr, refl, sym, ap, ◌∙◌, subst, arith}
 use Rattle.std.specs.declared.vec.Vec.{Vec}
 use Rattle.std.specs.declared.alloc.Global.{Global}
+use Rattle.std.proofs.Math.Bool.{or-false}
 use Rattle.std.proofs.lemmas.Bool.{cases_Bool, false≢true}
 use Rattle.std.proofs.lemmas.Bool.Decides.{nat_tests, eqb_tells}
 use Rattle.std.proofs.lemmas.List.{map-set, get_or-map, get_or-set_same, get_or-set_other, set-get_or, length-set, length-map}
@@ -38,10 +39,6 @@ none-precede items v empty none i j =
 
 -- ---- one pair more
 
-or-none : (a : Bool) → a ≡ (a || false)
-or-none true = refl
-or-none false = refl
-
 pub precedes-add : (lists : List (List ℕ)) (p second : ℕ) → p < length lists → (i j : ℕ)
     → precedes (set lists p (get_or lists p [] ++ second ∷ [])) i j ≡ (precedes lists i j || (i == suc p && j == second))
 precedes-add lists p second inside zero j = let z : (0 == suc p) ≡ false = grind (arith, nat_tests) in rw z refl
@@ -54,7 +51,7 @@ precedes-add lists p second inside (suc q) j = go (eqb_tells q p) (eqb_tells (su
         let there : get_or (set lists p (get_or lists p [] ++ second ∷ [])) q [] ≡ get_or lists q [] ++ second ∷ [] = subst (λ m. get_or (set lists p (get_or lists p [] ++ second ∷ [])) m [] ≡ get_or lists m [] ++ second ∷ []) (sym e.1) here in
         let swap : (second == j) ≡ (j == second) = grind (arith, nat_tests) in
         ap (λ (w : List ℕ). is_one_of w j) there ∙ one-push (get_or lists q []) second j ∙ rw s.0 (ap (λ b. is_one_of (get_or lists q []) j || b) swap)
-    go (inr e) (inr s) = ap (λ (w : List ℕ). is_one_of w j) (get_or-set_other lists p q (get_or lists p [] ++ second ∷ []) [] e.1) ∙ rw s.0 (or-none (is_one_of (get_or lists q []) j))
+    go (inr e) (inr s) = ap (λ (w : List ℕ). is_one_of w j) (get_or-set_other lists p q (get_or lists p [] ++ second ∷ []) [] e.1) ∙ rw s.0 (sym (or-false (is_one_of (get_or lists q []) j)))
     go (inl e) (inr s) = absurd (s.1 (ap suc e.1))
     go (inr e) (inl s) = let t = s.1 in absurd (e.1 (omega arith))
 

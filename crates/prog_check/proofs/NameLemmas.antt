@@ -3,6 +3,7 @@ use Rattle.std.proofs.Common.{◌≡◌, ◌+◌, List, [], ◌∷◌, ◌++◌,
 use Rattle.std.specs.Prelude.{Some, None}
 use Rattle.std.specs.List.{list_any, find, position, position_or_len, prefix_len, AllZip}
 use Rattle.std.specs.Option.{option_and_then}
+use Rattle.std.proofs.Math.Bool.{or-true}
 use Rattle.std.proofs.lemmas.List.{length-map, map-append}
 use Rattle.std.proofs.lemmas.Bool.{true≢false}
 use Rattle.std.proofs.lemmas.List.Folds.{list_any-append}
@@ -54,10 +55,6 @@ copied f (x ∷ xs) (y ∷ ys) h = λ i. h.0 i ∷ copied f xs ys h.1 i
 
 -- ---- names that stand twice
 
-or_true : (b : Bool) → (b || true) ≡ true
-or_true true = refl
-or_true false = refl
-
 -- what an answer says, from what its negation says
 pub negated : (b answer : Bool) → answer ≡ not b → b ≡ not answer
 negated true answer e = sym (ap not e)
@@ -70,8 +67,8 @@ has_twice-seen (y ∷ names) x later seen = by (same_name x y) refl (has_twice-s
   where
     by : (b : Bool) → same_name x y ≡ b → (is_among names x ≡ true → has_twice (names ++ x ∷ later) ≡ true) → (b || is_among names x) ≡ true → has_twice (y ∷ names ++ x ∷ later) ≡ true
     by true same rest seen =
-        ap (λ c. c || has_twice (names ++ x ∷ later)) (list_any-append (same_name y) names (x ∷ later) ∙ ap (λ c. is_among names y || (c || is_among later y)) (nat_list_eq_equiv.symm y x ∙ same) ∙ or_true (is_among names y))
-    by false same rest seen = ap (λ c. is_among (names ++ x ∷ later) y || c) (rest seen) ∙ or_true (is_among (names ++ x ∷ later) y)
+        ap (λ c. c || has_twice (names ++ x ∷ later)) (list_any-append (same_name y) names (x ∷ later) ∙ ap (λ c. is_among names y || (c || is_among later y)) (nat_list_eq_equiv.symm y x ∙ same) ∙ or-true (is_among names y))
+    by false same rest seen = ap (λ c. is_among (names ++ x ∷ later) y || c) (rest seen) ∙ or-true (is_among (names ++ x ∷ later) y)
 
 -- a new name behind names of which none stands twice
 pub has_twice-push : (names : List Name) (x : Name) → has_twice names ≡ false → is_among names x ≡ false → has_twice (names ++ x ∷ []) ≡ false

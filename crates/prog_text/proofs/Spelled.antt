@@ -1,7 +1,7 @@
 -- What bytes that spell a token are made of.
 use Rattle.std.proofs.Common.{◌≡◌, ◌∙◌, ◌⊎◌, inl, inr, ℕ, ◌&&◌, ◌||◌, not, List, [], ◌∷◌, ◌++◌, Bool, true, false, refl, sym, ap, subst, slice_index, bytes_eq, arith, true≢false}
 use Rattle.std.specs.List.{list_all}
-use Rattle.std.proofs.lemmas.Bool.{and_parts}
+use Rattle.std.proofs.lemmas.Bool.{and_parts, or_cases}
 use Rattle.std.proofs.lemmas.Grind.{common_steps}
 use Rattle.std.proofs.lemmas.Slice.Eq.{bytes_eq-Decides}
 use Rattle.prog_text.specs.declared.lexing.token.Token.{Token}
@@ -25,20 +25,16 @@ pub data Kind (word : List ℕ) : Type 0 where
 
 -- ---- each spelling is of one of these kinds
 
-or_parts : (x y : Bool) → (x || y) ≡ true → (x ≡ true) ⊎ (y ≡ true)
-or_parts true y h = inl refl
-or_parts false y h = inr h
-
 abbrev is_among : List Token → List ℕ → Bool
 is_among [] word = false
 is_among (u ∷ us) word = bytes_eq word (spelling u) || is_among us word
 
 among : (us : List Token) (word : List ℕ) → is_among us word ≡ true → IsAmong us word
 among [] word h = absurd (true≢false (sym h))
-among (u ∷ us) word h = elim (or_parts _ _ h) [ inl e ↦ inl ((bytes_eq-Decides word (spelling u)).0 e) | inr e ↦ inr (among us word e) ]
+among (u ∷ us) word h = elim (or_cases _ _ h) [ inl e ↦ inl ((bytes_eq-Decides word (spelling u)).0 e) | inr e ↦ inr (among us word e) ]
 
 kind_tested : (word : List ℕ) → ((is_letter (slice_index word 0) && list_all is_word_byte word) || is_among signs word) ≡ true → Kind word
-kind_tested word h = elim (or_parts _ _ h) [ inl e ↦ let both : (is_letter (slice_index word 0) ≡ true) × (list_all is_word_byte word ≡ true) = and_parts _ _ e in letters both.0 both.1 | inr e ↦ sign (among signs word e) ]
+kind_tested word h = elim (or_cases _ _ h) [ inl e ↦ let both : (is_letter (slice_index word 0) ≡ true) × (list_all is_word_byte word ≡ true) = and_parts _ _ e in letters both.0 both.1 | inr e ↦ sign (among signs word e) ]
 
 pub kind : (u : Token) (word : List ℕ) → Spells u word → Kind word
 kind (t.Name x) word h = letters h.1.begins h.1.goes_on

@@ -1,7 +1,8 @@
 -- Grow tables in a lawful history: no row is removed, so what is there stays, and what appears was added.
-use Rattle.std.proofs.Common.{◌≡◌, ℕ, zero, suc, ◌+◌, ◌-◌, ◌<◌, ◌≤◌, Bool, true, false, ◌||◌, List, [], ◌∷◌, ◌⊎◌, inl, inr, map, length, refl, ap, sym, subst, ◌∙◌, arith}
+use Rattle.std.proofs.Common.{◌≡◌, ℕ, zero, suc, ◌+◌, ◌-◌, ◌<◌, ◌≤◌, true, false, List, [], ◌∷◌, ◌⊎◌, inl, inr, map, length, refl, ap, sym, subst, ◌∙◌, arith}
 use Rattle.std.specs.Prelude.{ℤ, Option, Some, None, is_some, unwrap_or, slice_get, if◌then◌else◌}
 use Rattle.std.specs.Cmp.Lexicographic.{nat_list_eq_equiv}
+use Rattle.std.proofs.lemmas.Bool.{or_parts}
 use Rattle.prog_tree.specs.declared.cell.Cell.{Cell}
 use Rattle.prog_tree.specs.declared.deed.End.TheVariants.{Ready}
 use Rattle.prog_tree.specs.declared.table.TableDecl.{TableDecl}
@@ -30,10 +31,6 @@ use Rattle.si_engine.specs.Robustness.{Grows, HasCommitted, IsHistory}
 
 -- ---- tables by their numbers
 
-or_none : (a b : Bool) → (a || b) ≡ false → (a ≡ false) × (b ≡ false)
-or_none true b h = absurd (cc)
-or_none false b h = (refl, h)
-
 abbrev names_of : List TableDecl → List Name
 names_of tables = map (λ t. t.name) tables
 
@@ -43,9 +40,9 @@ other_name [] x n d apart at = absurd (cc)
 other_name (t ∷ ts) x zero d apart at =
     let same : t ≡ d = cc in
     ap (λ (z : TableDecl). same_name x z.name) (sym same)
-    ∙ (or_none (same_name x t.name) (is_among (names_of ts) x) apart).0
+    ∙ (or_parts (same_name x t.name) (is_among (names_of ts) x) apart).0
 other_name (t ∷ ts) x (suc n) d apart at =
-    other_name ts x n d (or_none (same_name x t.name) (is_among (names_of ts) x) apart).1 at
+    other_name ts x n d (or_parts (same_name x t.name) (is_among (names_of ts) x) apart).1 at
 
 -- where names are distinct, a table's number is that of its name
 number_at : (tables : List TableDecl) (n : ℕ) (d : TableDecl) → has_twice (names_of tables) ≡ false →
@@ -56,7 +53,7 @@ number_at (t ∷ ts) zero d distinct at =
     ap (λ b. if b then 0 else number_of ts d.name + 1)
     (ap (λ (z : TableDecl). same_name z.name d.name) same ∙ nat_list_eq_equiv.refl d.name)
 number_at (t ∷ ts) (suc n) d distinct at =
-    let apart = or_none (is_among (names_of ts) t.name) (has_twice (names_of ts)) distinct in
+    let apart = or_parts (is_among (names_of ts) t.name) (has_twice (names_of ts)) distinct in
     let later = number_at ts n d apart.1 at in
     let next : number_of ts d.name + 1 ≡ suc n = omega (arith, later) in
     ap (λ b. if b then 0 else number_of ts d.name + 1) (other_name ts t.name n d apart.0 at) ∙ next

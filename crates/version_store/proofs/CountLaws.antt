@@ -6,6 +6,7 @@ use Rattle.std.specs.List.{list_any}
 use Rattle.std.specs.List.Sorted.{IsStrictlySortedBy}
 use Rattle.std.specs.Map.{values_of}
 use Rattle.std.specs.Ordering.{is_eq}
+use Rattle.std.proofs.Math.Bool.{or-false}
 use Rattle.std.proofs.lemmas.Bool.{le-leb, lt-leb}
 use Rattle.std.proofs.lemmas.Bool.Decides.{nat_tests}
 use Rattle.std.proofs.lemmas.List.Elements.{filter-append, filter_agree}
@@ -334,16 +335,12 @@ retained-push opening ws w f low =
     all : versions_of opening (ws ++ w ∷ []) ≡ vs ++ new
     all = ap (λ xs. map of_row opening ++ xs) (versions_from-push 1 ws w) ∙ sym (append_assoc (map of_row opening) (versions_from 1 ws) new)
 
-    or_false : (b : Bool) → (b || false) ≡ b
-    or_false true = refl
-    or_false false = refl
-
     same : (v : Version) → is_retained (vs ++ new) f v ≡ is_retained vs f v
     same v =
         ap (λ b. nat_lt f v.number || (not b && is_some v.value))
         (list_any-append (λ u. is_same_cell u.cell v.cell && (nat_lt v.number u.number && nat_le u.number f)) vs new
         ∙ ap (λ b. list_any (λ u. is_same_cell u.cell v.cell && (nat_lt v.number u.number && nat_le u.number f)) vs || b) (none_newer_made (1 + length ws) f v w.cells (omega (arith, low)))
-        ∙ or_false (list_any (λ u. is_same_cell u.cell v.cell && (nat_lt v.number u.number && nat_le u.number f)) vs))
+        ∙ or-false (list_any (λ u. is_same_cell u.cell v.cell && (nat_lt v.number u.number && nat_le u.number f)) vs))
 
     passes : (e : Cell × Option ℤ) → is_retained (vs ++ new) f (made_by (1 + length ws) e) ≡ true
     passes e = ap (λ b. b || (is_newest (vs ++ new) f (made_by (1 + length ws) e) && is_some e.1)) (le-leb (suc f) (1 + length ws) (omega (arith, low)))
