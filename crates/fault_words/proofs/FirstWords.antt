@@ -11,8 +11,8 @@ use Rattle.prog_text.specs.declared.lexing.token.Token.TheVariants as t
 use Rattle.fault_words.specs.Beginnings.{is_first}
 use Rattle.prog_text.specs.Cut.{Spells}
 use Rattle.prog_text.specs.Lexing.{is_digit}
-use Rattle.prog_text.specs.Spelling.{spelling, reserved_words}
-use Rattle.prog_text.specs.Words.{begun, reserved_as}
+use Rattle.prog_text.specs.Spelling.{spelling, reserved_as, reserved_words}
+use Rattle.prog_text.specs.Words.{begun}
 
 -- a test that the word passes and the other fails tells them apart
 apart : (test : List ℕ → Bool) (word other : List ℕ) → test word ≡ true → test other ≡ false → bytes_eq word other ≡ false

@@ -4,7 +4,7 @@ use Rattle.prog_text.specs.declared.lexing.token.Sign.{Sign}
 use Rattle.prog_text.specs.declared.lexing.token.Token.{Token}
 use Rattle.prog_text.specs.declared.lexing.token.Token.TheVariants as t
 use Rattle.prog_text.specs.declared.lexing.words.TheConstants.{RESERVED}
-use Rattle.prog_text.specs.Spelling.{spelling, reserved_words, sign_in}
+use Rattle.prog_text.specs.Spelling.{spelling, reserved_as, sign_in}
 use Rattle.prog_text.specs.Lexing.{word_token}
 use Rattle.prog_text.specs.Words.{begun, beginning_of, is_reserved}
 use Rattle.std.specs.Option.{is_some}
@@ -18,7 +18,7 @@ first_sign : (word : List ℕ) (signs : List Sign) → option_map t.Sign (sign_i
 first_sign word [] = refl
 first_sign word (u ∷ signs) = first_or (bytes_eq word (spelling (t.Sign u))) u _ _ (first_sign word signs)
 
-reserved_sign : (word : List ℕ) → option_map t.Sign (sign_in (map (λ e. (e.0.now, e.1)) RESERVED) word) ≡ find (λ u. bytes_eq word (spelling u)) reserved_words
+reserved_sign : (word : List ℕ) → option_map t.Sign (sign_in (map (λ e. (e.0.now, e.1)) RESERVED) word) ≡ reserved_as word
 reserved_sign word = first_sign word (map (λ e. e.1) RESERVED)
 
 -- a word is the sign that the table has for it, or else a name

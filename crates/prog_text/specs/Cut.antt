@@ -1,20 +1,20 @@
 -- A text that is cut, said without a walk: spaces, comments and tokens one after another, none of which goes on longer;
 -- and a text that is so up to its first flaw.
-use Rattle.std.specs.Prelude.{◌≡◌, ℕ, ◌<◌, ◌≤◌, ◌^◌, List, [], ◌∷◌, ◌++◌, length, true, false, Option, Some, None, find, bytes_eq, slice_index, ⊤}
+use Rattle.std.specs.Prelude.{◌≡◌, ℕ, ◌<◌, ◌≤◌, ◌^◌, List, [], ◌∷◌, ◌++◌, length, true, false, Option, Some, None, slice_index, ⊤}
 use Rattle.std.specs.List.{list_all}
 use Rattle.prog_text.specs.declared.lexing.lex_error.Flaw.{Flaw}
 use Rattle.prog_text.specs.declared.lexing.lex_error.Flaw.TheVariants.{NotAscii, UnknownByte, NumberOutOfRange, NameTooLong}
 use Rattle.prog_text.specs.declared.lexing.token.Token.{Token}
 use Rattle.prog_text.specs.declared.lexing.token.Token.TheVariants as t
 use Rattle.prog_text.specs.Limits.{name_limit}
-use Rattle.prog_text.specs.Spelling.{spelling, reserved_words}
+use Rattle.prog_text.specs.Spelling.{spelling, reserved_as}
 use Rattle.prog_text.specs.Lexing.{is_letter, is_digit, is_word_byte, is_space, is_comment_byte, digits_value, Placed, before}
 
 -- letters, digits and `_`, of which the first is no digit, and no reserved word
 pub record IsName (word : List ℕ) : Type 0 where
   pub begins : is_letter (slice_index word 0) ≡ true
   pub goes_on : list_all is_word_byte word ≡ true
-  pub free : find (λ u. bytes_eq word (spelling u)) reserved_words ≡ None
+  pub free : reserved_as word ≡ None
 
 -- digits with this value, which may begin with zeros
 pub record IsNumber (word : List ℕ) (n : ℕ) : Type 0 where

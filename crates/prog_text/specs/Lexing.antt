@@ -1,5 +1,5 @@
 -- How bytes are cut into tokens: at each place a space, a comment or the longest token, until the first flaw.
-use Rattle.std.specs.Prelude.{ℕ, zero, suc, ◌+◌, ◌-◌, ◌*◌, ◌^◌, ◌≡◌, ◌==◌, List, [], ◌∷◌, length, take, drop, map, Bool, not, ◌&&◌, ◌||◌, if◌then◌else◌, Option, Some, None, Result, Ok, Err, nat_le, nat_lt, nat_eq, bytes_eq, fold, find, unwrap_or}
+use Rattle.std.specs.Prelude.{ℕ, zero, suc, ◌+◌, ◌-◌, ◌*◌, ◌^◌, ◌≡◌, ◌==◌, List, [], ◌∷◌, length, take, drop, map, Bool, not, ◌&&◌, ◌||◌, if◌then◌else◌, Option, Some, None, Result, Ok, Err, nat_le, nat_lt, nat_eq, fold, unwrap_or}
 use Rattle.std.specs.List.{prefix_len, starts_with}
 use Rattle.prog_text.specs.declared.lexing.lex_error.Flaw.{Flaw}
 use Rattle.prog_text.specs.declared.lexing.lex_error.Flaw.TheVariants.{NotAscii, UnknownByte, NumberOutOfRange, NameTooLong}
@@ -8,7 +8,7 @@ use Rattle.prog_text.specs.declared.lexing.lex_error.LexError.TheVariants as err
 use Rattle.prog_text.specs.declared.lexing.token.Token.{Token}
 use Rattle.prog_text.specs.declared.lexing.token.Token.TheVariants as t
 use Rattle.prog_text.specs.Limits.{name_limit}
-use Rattle.prog_text.specs.Spelling.{spelling, reserved_words, signs}
+use Rattle.prog_text.specs.Spelling.{spelling, reserved_as, signs}
 
 -- a letter or `_`
 abbrev pub is_letter : ℕ → Bool
@@ -48,7 +48,7 @@ Piece = Result (Option Token × List ℕ) Spot
 
 -- a word: a reserved one, or a name
 abbrev pub word_token : List ℕ → Token
-word_token word = unwrap_or (find (λ u. bytes_eq word (spelling u)) reserved_words) (t.Name word)
+word_token word = unwrap_or (reserved_as word) (t.Name word)
 
 -- a word, of which the first byte is known: the longest run of letters, digits and `_`
 unfoldable pub word_at : List ℕ → Piece

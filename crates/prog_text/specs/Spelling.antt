@@ -1,5 +1,5 @@
 -- How each token is spelled.
-use Rattle.std.specs.Prelude.{ℕ, List, [], ◌∷◌, map, Option, Some, None, bytes_eq, if◌then◌else◌, codes}
+use Rattle.std.specs.Prelude.{ℕ, List, [], ◌∷◌, map, Option, Some, None, bytes_eq, find, if◌then◌else◌, codes}
 use Rattle.std.specs.Fmt.{decimal}
 use Rattle.prog_text.specs.declared.lexing.token.Token.{Token}
 use Rattle.prog_text.specs.declared.lexing.token.Sign.{Sign}
@@ -61,6 +61,10 @@ reserved_words =
     sign.Table ∷ sign.Grow ∷ sign.Program ∷ sign.Let ∷ sign.Get ∷ sign.Need ∷ sign.Count ∷ sign.Sum ∷
     sign.Lacks ∷ sign.Put ∷ sign.Insert ∷ sign.Delete ∷ sign.Keep ∷ sign.If ∷ sign.Else ∷ sign.Each ∷ sign.Reply ∷ sign.Abort ∷
     sign.Or ∷ sign.And ∷ sign.Not ∷ sign.Least ∷ sign.Greatest ∷ sign.In ∷ [])
+
+-- the reserved word that a word is
+abbrev pub reserved_as : (word : List ℕ) → Option Token
+reserved_as word = find (λ u. bytes_eq word (spelling u)) reserved_words
 
 -- the signs, those of two bytes first
 abbrev pub signs : List Token

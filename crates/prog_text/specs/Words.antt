@@ -1,16 +1,12 @@
 -- Which words are reserved, and what each of them begins.
-use Rattle.std.specs.Prelude.{ℕ, Bool, List, Option, Some, None, bytes_eq, find}
+use Rattle.std.specs.Prelude.{ℕ, Bool, List, Option, Some, None}
 use Rattle.std.specs.Option.{is_some}
-use Rattle.prog_text.specs.Spelling.{spelling, reserved_words}
+use Rattle.prog_text.specs.Spelling.{reserved_as}
 use Rattle.prog_text.specs.declared.lexing.token.Token.{Token}
 use Rattle.prog_text.specs.declared.lexing.token.Sign.TheVariants as sign
 use Rattle.prog_text.specs.declared.lexing.token.Token.TheVariants as t
 use Rattle.prog_text.specs.declared.lexing.words.Beginning.{Beginning}
 use Rattle.prog_text.specs.declared.lexing.words.Beginning.TheVariants.{Table, Program, Statement}
-
--- the reserved word that a word is
-abbrev pub reserved_as : (word : List ℕ) → Option Token
-reserved_as word = find (λ u. bytes_eq word (spelling u)) reserved_words
 
 -- a word that the language keeps for itself
 abbrev pub is_reserved : (word : List ℕ) → Bool
