@@ -1,6 +1,6 @@
 -- The first piece of bytes, and the others.
-use Rattle.std.proofs.Common.{◌≡◌, ℕ, suc, ◌+◌, ◌-◌, ◌<◌, ◌≤◌, Bool, ◌==◌, true, false, not, cond, List, [], ◌∷◌, length, take, drop, filter, refl, sym, ◌∙◌, ap, subst, arith}
-use Rattle.std.specs.List.{onto_first, before_first, after_first, prefix_len, position_or_len}
+use Rattle.std.proofs.Common.{◌≡◌, ℕ, suc, ◌+◌, ◌-◌, ◌<◌, ◌≤◌, ◌==◌, true, false, not, cond, List, [], ◌∷◌, length, take, drop, filter, refl, sym, ◌∙◌, ap, subst, arith}
+use Rattle.std.specs.List.{onto_first, before_first, after_first, prefix_len}
 use Rattle.std.proofs.lemmas.List.{take_all, length-drop, drop-drop}
 use Rattle.si_engine.specs.Lines.{pieces, words_of}
 
@@ -36,8 +36,8 @@ pub words-cut_empty : (bs word rest : List ℕ) → 0 < length bs → word ≡ b
 words-cut_empty bs word rest some first behind empty =
     ap (filter (λ w. not (length w == 0))) (pieces-cut 32 bs some ∙ (λ i. sym first i ∷ pieces 32 (sym behind i))) ∙ rw empty refl
 
--- what stands behind the first that passes
-pub behind_first : {X : Type 0} (p : X → Bool) (xs back : List X) (k : ℕ) → k ≡ position_or_len p xs → back ≡ drop k xs → take (length back - 1) (drop 1 back) ≡ after_first p xs
-behind_first p xs back k place is =
+-- what stands behind the one at a place
+pub behind_place : {X : Type 0} (xs back : List X) (k : ℕ) → back ≡ drop k xs → take (length back - 1) (drop 1 back) ≡ drop (k + 1) xs
+behind_place xs back k is =
     take_all (length back - 1) (drop 1 back) (subst (λ (n : ℕ). n ≤ length back - 1) (sym (length-drop 1 back)) (omega arith))
-    ∙ (ap (drop 1) is ∙ (drop-drop 1 k xs ∙ ap (λ n. drop (n + 1) xs) place))
+    ∙ (ap (drop 1) is ∙ drop-drop 1 k xs)

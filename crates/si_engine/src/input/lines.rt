@@ -1,5 +1,5 @@
 //! Lines of a part.
-ghost use Rattle.std.specs.Prelude.{◌≡◌, ◌==◌, ◌<◌, ◌≤◌, length, not};
+ghost use Rattle.std.specs.Prelude.{◌≡◌, ◌==◌, ◌+◌, ◌<◌, ◌≤◌, length, take, drop, not};
 ghost use Rattle.std.specs.List.{prefix_len, before_first, after_first};
 ghost use Rattle.std.specs.Str.Lines.{strip_carriage_return};
 ghost use Rattle.si_engine.specs.Lines.{is_skipped};
@@ -12,6 +12,19 @@ fn first_len(bytes: &[u8], separator: u8) -> usize
     bytes.iter().take_while(|byte| **byte != separator).count()
 }
 
+/// The items before a place, and those behind the one there: none if the place is the end.
+pub fn cut_around<T>(items: &[T], place: usize) -> (&[T], &[T])
+    requires { place ≤ length items.now }
+    ensures before { result.0.now ≡ take place items.now }
+    ensures behind { result.1.now ≡ drop (place + 1) items.now }
+{
+    let (before, behind) = items.split_at(place);
+    match behind {
+        [] => (before, behind),
+        [_, rest @ ..] => (before, rest),
+    }
+}
+
 /// The bytes before the first separator and those behind it, of which there are none if there is no separator.
 pub fn cut(bytes: &[u8], separator: u8) -> (&[u8], &[u8])
     ensures first { result.0.now ≡ before_first (λ b. b == separator) bytes.now }
@@ -19,11 +32,7 @@ pub fn cut(bytes: &[u8], separator: u8) -> (&[u8], &[u8])
     ensures shorter { 0 < length bytes.now → length result.1.now < length bytes.now }
 {
     let len = first_len(bytes, separator);
-    let (first, behind) = bytes.split_at(len);
-    match behind {
-        [] => (first, behind),
-        [_, rest @ ..] => (first, rest),
-    }
+    cut_around(bytes, len)
 }
 
 /// A line without one carriage return at its end.

@@ -6,6 +6,7 @@ ghost use Rattle.si_engine.specs.Records.{is_at, is_gives, outcome_of, record_of
 ghost use Rattle.si_engine.specs.RowLines.{Reads};
 
 use crate::input::line_words::Word;
+use crate::input::lines::cut_around;
 use crate::input::list_item::ListItem;
 use crate::input::names::program_number;
 use crate::input::number::{numbers, unsigned};
@@ -74,11 +75,7 @@ fn cut_at<'w, 'a>(words: &'w [Word<'a>]) -> (&'w [Word<'a>], &'w [Word<'a>])
     ensures rest { result.1.now ≡ after_first is_at words.now }
 {
     let len = args_len(words);
-    let (first, behind) = words.split_at(len);
-    match behind {
-        [] => (first, behind),
-        [_, rest @ ..] => (first, rest),
-    }
+    cut_around(words, len)
 }
 
 // The record, if the words are ARG* at START gives REPLY*.
