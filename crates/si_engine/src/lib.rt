@@ -17,7 +17,7 @@ pub use event::{Event, Reply};
 pub use input::bytes::Bytes;
 pub use input::from_lines::{FromLines, read_part};
 pub use input::item_list::ItemList;
-pub use input::line_words::{Word, line_words};
+pub use input::line_words::{LineWords, Word, line_words};
 pub use input::lines::is_skipped;
 pub use input::list_item::ListItem;
 pub use input::list_line::ListLine;

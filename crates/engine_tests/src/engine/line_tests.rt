@@ -26,7 +26,7 @@ const CELL: Cell = Cell {
 // What the cell holds after the row of a line was added; the table `t` is the second.
 fn held_after(rt: &impl Abort, alloc: Global, set: &ProgramSet, line: &[u8]) -> Option<i64> {
     let words = line_words(alloc, line).expect(rt, "memory");
-    let row = row_line(set, 1, &words).expect(rt, "a row");
+    let row = row_line(set, 1, words.as_slice()).expect(rt, "a row");
     let mut rows = Rows::new(alloc);
     add_row(&mut rows, 1, false, row).expect(rt, "a row that is new");
     rows.get(&CELL)
@@ -34,7 +34,7 @@ fn held_after(rt: &impl Abort, alloc: Global, set: &ProgramSet, line: &[u8]) -> 
 
 fn check_numbers(rt: &impl Abort, alloc: Global, line: &[u8], wanted: &[i64]) {
     let words = line_words(alloc, line).expect(rt, "memory");
-    let found = numbers(alloc, &words).expect(rt, "memory");
+    let found = numbers(alloc, words.as_slice()).expect(rt, "memory");
     assert!(rt; found.expect(rt, "numbers").as_slice() == wanted);
 }
 

@@ -42,7 +42,7 @@ fn row(alloc: Global, set: &ProgramSet, line: usize, bytes: &[u8]) -> Result<Com
         (row_command (draft_tree set.now) line (words_of bytes.now)) }
 {
     let words = line_words(alloc, bytes)?;
-    let row = row_line(set, line, &words)?;
+    let row = row_line(set, line, words.as_slice())?;
     Ok(Command::Row(row))
 }
 

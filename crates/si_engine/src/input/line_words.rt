@@ -3,8 +3,13 @@ ghost use Rattle.std.specs.Prelude.{◌≡◌, ◌<◌, [], ◌∷◌, length, I
 ghost use Rattle.si_engine.specs.Lines.{words_of};
 
 use crate::input::lines::cut;
+use smallvec::SmallVec;
 use std::alloc::{AllocError, Global};
+use std::default::MadeWith;
 use std::marker::Model;
+
+// How many words of a line are kept without an allocation.
+const FEW_WORDS: usize = 8;
 
 /// A word of a line. Contracts see its bytes.
 #[derive(Drop)]
@@ -34,6 +39,35 @@ impl<'a> Word<'a> {
     }
 }
 
+// An unused place among words.
+impl<'a> MadeWith<Global> for Word<'a> {
+    fn made_with(_alloc: Global) -> Word<'a> {
+        Word { bytes: &[] }
+    }
+}
+
+/// The words of a line, in their order. Contracts see them.
+#[derive(Drop)]
+pub struct LineWords<'a> {
+    words: SmallVec<Word<'a>, FEW_WORDS>,
+}
+
+impl<'a> Model for LineWords<'a> {
+    ghost use Rattle.std.specs.Prelude.{List, ℕ};
+
+    ghost Value = { List (List ℕ) };
+
+    ghost view = { λ l. l.words.items };
+}
+
+impl<'a> LineWords<'a> {
+    pub fn as_slice(&self) -> &[Word<'a>]
+        ensures { result.now ≡ self.now }
+    {
+        self.words.as_slice()
+    }
+}
+
 /// The first word of a line, and what stands behind it.
 pub fn first_word(line: &[u8]) -> Option<(&[u8], &[u8])>
     ensures words { MatchOption result (words_of line.now ≡ [])
@@ -51,15 +85,15 @@ pub fn first_word(line: &[u8]) -> Option<(&[u8], &[u8])>
     None
 }
 
-/// The words of a line, in their order.
-pub fn line_words(alloc: Global, line: &[u8]) -> Result<Vec<Word<'_>>, AllocError>
-    ensures { IfOk result (λ words. words.items ≡ words_of line.now) }
+/// The words of a line. Those of most lines need no allocation.
+pub fn line_words(alloc: Global, line: &[u8]) -> Result<LineWords<'_>, AllocError>
+    ensures { IfOk result (λ words. words ≡ words_of line.now) }
 {
-    let mut words = Vec::new(alloc);
+    let mut words = SmallVec::new(alloc);
     let mut rest = line;
     while let Some((word, behind)) = first_word(rest) {
         words.push(Word::new(word))?;
         rest = behind;
     }
-    Ok(words)
+    Ok(LineWords { words })
 }

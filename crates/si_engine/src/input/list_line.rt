@@ -63,5 +63,5 @@ pub fn list_line<T: ListItem>(
         return Ok(ListLine::Skip);
     }
     let words = line_words(alloc, bytes)?;
-    words_line(alloc, set, line, &words)
+    words_line(alloc, set, line, words.as_slice())
 }
