@@ -1,5 +1,5 @@
 -- What a line of a script says.
-use Rattle.std.specs.Prelude.{ℕ, List, [], ◌∷◌, Option, None, Result, Ok, Err, codes, bytes_eq, option_map, option_and_then, if◌then◌else◌}
+use Rattle.std.specs.Prelude.{ℕ, List, [], ◌∷◌, Option, Result, Ok, Err, codes, bytes_eq, option_map, option_and_then, if◌then◌else◌}
 use Rattle.std.specs.Option.{ok_or}
 use Rattle.prog_tree.specs.Syntax.{DraftTree}
 use Rattle.prog_check.specs.Faults.{program_names}
@@ -50,28 +50,21 @@ instance_number word = number_between 0 greatest_instance word
 abbrev pub steps_of : List ℕ → List ℕ → Option Command
 steps_of instance times = option_and_then (λ i. option_map (says.Steps i) (number_between 1 most_steps times)) (instance_number instance)
 
--- the steps that words ask for: I, or I N
-unfoldable pub step_of : List (List ℕ) → Option Command
-step_of (instance ∷ []) = option_map (λ i. says.Steps i 1) (instance_number instance)
-step_of (instance ∷ times ∷ []) = steps_of instance times
-step_of words = None
-
 -- the words behind `step`: I, or I N
 unfoldable pub step_command : (line : ℕ) → List (List ℕ) → Result Command LineFault
-step_command line words = ok_or (step_of words) (BadLine line)
-
--- the number of an instance, where it is the only word
-unfoldable pub only_instance : List (List ℕ) → Option ℕ
-only_instance (instance ∷ []) = instance_number instance
-only_instance words = None
+step_command line (instance ∷ []) = ok_or (option_map (λ i. says.Steps i 1) (instance_number instance)) (BadLine line)
+step_command line (instance ∷ times ∷ []) = ok_or (steps_of instance times) (BadLine line)
+step_command line words = Err (BadLine line)
 
 -- the words behind `commit`: I
 unfoldable pub commit_command : (line : ℕ) → List (List ℕ) → Result Command LineFault
-commit_command line words = ok_or (option_map (λ i. says.Event (Commit i)) (only_instance words)) (BadLine line)
+commit_command line (instance ∷ []) = ok_or (option_map (λ i. says.Event (Commit i)) (instance_number instance)) (BadLine line)
+commit_command line words = Err (BadLine line)
 
 -- the words behind `abort`: I
 unfoldable pub abort_command : (line : ℕ) → List (List ℕ) → Result Command LineFault
-abort_command line words = ok_or (option_map (λ i. says.Event (Abort i)) (only_instance words)) (BadLine line)
+abort_command line (instance ∷ []) = ok_or (option_map (λ i. says.Event (Abort i)) (instance_number instance)) (BadLine line)
+abort_command line words = Err (BadLine line)
 
 -- the words behind `vacuum`: none
 unfoldable pub vacuum_command : (line : ℕ) → List (List ℕ) → Result Command LineFault

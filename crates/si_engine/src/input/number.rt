@@ -1,9 +1,8 @@
 //! Words as numbers: decimal, with leading zeros or a minus sign before them as it pleases.
 ghost use Rattle.std.specs.Prelude.{◌≡◌, pos, option_and_then, IfOk};
-ghost use Rattle.si_engine.specs.Lines.{words_of};
 ghost use Rattle.si_engine.specs.Numbers.{with_digit, natural_of, between, max_u64, i64_of, number_between, u64_of, numbers_of};
 
-use crate::input::line_words::{Word, first_word};
+use crate::input::line_words::Word;
 use prog_tree::Sequence;
 use std::alloc::{AllocError, Global};
 
@@ -76,20 +75,4 @@ pub fn numbers(alloc: Global, words: &[Word<'_>]) -> Result<Option<Sequence<i64>
         numbers.push(number)?;
     }
     Ok(Some(Sequence::from_vec(numbers)))
-}
-
-/// The numbers of the words of bytes, if all are such.
-pub fn numbers_in(alloc: Global, bytes: &[u8]) -> Result<Option<Sequence<i64>>, AllocError>
-    ensures { IfOk result (λ numbers. numbers ≡ numbers_of (words_of bytes.now)) }
-{
-    let mut numbers = Sequence::new(alloc);
-    let mut rest = bytes;
-    while let Some((word, behind)) = first_word(rest) {
-        let Some(number) = number(word) else {
-            return Ok(None);
-        };
-        numbers.push(number)?;
-        rest = behind;
-    }
-    Ok(Some(numbers))
 }
