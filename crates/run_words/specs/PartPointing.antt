@@ -6,8 +6,8 @@ use Rattle.text_places.specs.Places.{ends_line, HasNoLine, IsLineFront}
 use Rattle.fault_words.specs.Pointing.{PointsAt}
 use Rattle.history_book.specs.declared.audit.AuditFault.{AuditFault}
 use Rattle.history_book.specs.declared.audit.AuditFault.TheVariants as a
-use Rattle.si_engine.specs.declared.input.script_fault.LineFault.{LineFault}
-use Rattle.si_engine.specs.declared.input.script_fault.LineFault.TheVariants as l
+use Rattle.si_engine.specs.declared.input.line_fault.LineFault.{LineFault}
+use Rattle.si_engine.specs.declared.input.line_fault.LineFault.TheVariants as l
 use Rattle.run_words.specs.InInput.{PointsInPart}
 
 -- the line that the line of a fault names, which want of memory has not

@@ -5,7 +5,7 @@ use Rattle.prog_tree.specs.declared.table.Arity.TheVariants.{One}
 use Rattle.prog_tree.specs.Syntax.{DraftTree, BlockEnd}
 use Rattle.si_engine.specs.declared.output.finding.Serializability.TheVariants.{Order, Cycle}
 use Rattle.si_engine.specs.declared.input.list_line.ListLine.TheVariants.{Skip, Item}
-use Rattle.si_engine.specs.declared.input.script_fault.LineFault.TheVariants as f
+use Rattle.si_engine.specs.declared.input.line_fault.LineFault.TheVariants as f
 use Rattle.si_engine.specs.LastLine.{last_line}
 use Rattle.si_engine.specs.ListLines.{list_line, list_line_of}
 use Rattle.si_engine.specs.Numbers.{u64_of}

@@ -21,8 +21,8 @@ use Rattle.si_engine.specs.Printed.{reply_line}
 use Rattle.si_engine.specs.Reading.{ForInput}
 use Rattle.si_engine.specs.Script.{IsScript, IsScriptFault}
 use Rattle.si_engine.specs.Writing.{IsJust, WritesOr}
-use Rattle.si_engine.specs.declared.input.script_fault.ScriptFault.{ScriptFault}
-use Rattle.si_engine.specs.declared.input.script_fault.ScriptFault.TheVariants as fault
+use Rattle.si_engine.specs.declared.input.part_fault.PartFault.{PartFault}
+use Rattle.si_engine.specs.declared.input.part_fault.PartFault.TheVariants as fault
 use Rattle.si_engine.specs.declared.input.source.InputFault.TheVariants as input_fault
 
 module _ (set : DraftTree) (opening : TableState) (event : Event) (events : List Event) (m next : Machine) (r : Reply) (step : (r, next) ≡ machine_step set opening event m) where
@@ -98,7 +98,7 @@ rows_left v d rows same is =
 -- ---- runs of the bytes of a source
 
 module _ (set : DraftTree) (left : Option (List ℕ)) where
-  pub run_refused : (f : ScriptFault) (out : List ℕ) → out ≡ [] → ForInput left (λ part. IsScriptFault set part f) → ForInput left (λ part. IsRunOf set part out (Err f))
+  pub run_refused : (f : PartFault) (out : List ℕ) → out ≡ [] → ForInput left (λ part. IsScriptFault set part f) → ForInput left (λ part. IsRunOf set part out (Err f))
   run_refused f out empty (part, can, wrong) = (part, can, subst (λ (o : List ℕ). IsRunOf set part o (Err f)) (sym empty) (refused f wrong))
 
   pub run_stopped : (script : Script) (written : List ℕ) → ForInput left (λ part. IsScript set part script) → AddsFirst (run_lines set script) [] written
@@ -110,15 +110,15 @@ module _ (set : DraftTree) (left : Option (List ℕ)) where
   run_done script finding written (part, can, is) all = (part, can, done script is finding written all)
 
   -- what a run replies, whether or not the source failed
-  pub run_replies : (failed : Bool) (written : List ℕ) (ended : Result Serializability ScriptFault)
+  pub run_replies : (failed : Bool) (written : List ℕ) (ended : Result Serializability PartFault)
       → (failed ≡ false → ForInput left (λ part. IsRunOf set part written ended)) → (failed ≡ true → IsUnreadRun written ended)
       → IsRunReply set left failed written ended
   run_replies false written ended run none = run refl
   run_replies true written ended run none = none refl
 
-pub run_unread : (f : ScriptFault) (out : List ℕ) → out ≡ [] → f ≡ fault.Input input_fault.ReadFault → IsUnreadRun out (Err f)
+pub run_unread : (f : PartFault) (out : List ℕ) → out ≡ [] → f ≡ fault.Input input_fault.ReadFault → IsUnreadRun out (Err f)
 run_unread f out empty is =
-    subst (λ (o : List ℕ). IsUnreadRun o (Err f)) (sym empty) (subst (λ (g : ScriptFault). IsUnreadRun [] (Err g)) (sym is) unread)
+    subst (λ (o : List ℕ). IsUnreadRun o (Err f)) (sym empty) (subst (λ (g : PartFault). IsUnreadRun [] (Err g)) (sym is) unread)
 
 -- just these bytes and this end were meant, and they are so
 pub writes_just : {E : Type 0} (lost : E) (P : List ℕ → E → Type 0) (bytes : List ℕ) (end : E) (failed : Bool) (old new : Option (List ℕ)) (ended : E)

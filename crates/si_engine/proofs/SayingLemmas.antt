@@ -3,9 +3,9 @@ use Rattle.std.proofs.Common.{◌≤◌, Bool, true, false, Option, Some, IfSome
 use Rattle.std.specs.List.{before_first, after_first}
 use Rattle.std.specs.Str.Lines.{strip_carriage_return}
 use Rattle.std.proofs.lemmas.List.{length-replicate}
-use Rattle.si_engine.specs.declared.input.script_fault.LineFault.{LineFault}
-use Rattle.si_engine.specs.declared.input.script_fault.LineFault.TheVariants as f
-use Rattle.si_engine.specs.declared.input.script_fault.ScriptFault.TheVariants as fault
+use Rattle.si_engine.specs.declared.input.line_fault.LineFault.{LineFault}
+use Rattle.si_engine.specs.declared.input.line_fault.LineFault.TheVariants as f
+use Rattle.si_engine.specs.declared.input.part_fault.PartFault.TheVariants as fault
 use Rattle.si_engine.specs.declared.input.source.InputFault.{InputFault}
 use Rattle.si_engine.specs.declared.input.source.InputFault.TheVariants as i
 use Rattle.si_engine.specs.Lines.{lines_of}

@@ -4,7 +4,7 @@ use Rattle.prog_tree.specs.declared.table.Arity.TheVariants.{One, Two}
 use Rattle.prog_tree.specs.Syntax.{DraftTree, BlockEnd}
 use Rattle.si_engine.specs.declared.input.command.Command.TheVariants.{Skip, Row, Event, Steps}
 use Rattle.si_engine.specs.declared.event.Event.TheVariants as e
-use Rattle.si_engine.specs.declared.input.script_fault.LineFault.TheVariants as f
+use Rattle.si_engine.specs.declared.input.line_fault.LineFault.TheVariants as f
 use Rattle.si_engine.specs.Lines.{lines_of, words_of}
 use Rattle.si_engine.specs.Numbers.{i64_of, number_between}
 use Rattle.si_engine.specs.Commands.{line_command, command_of, row_command, call_of, begin_command, begin_at_command, step_command, commit_command, abort_command, vacuum_command}

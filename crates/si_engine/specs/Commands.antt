@@ -7,8 +7,8 @@ use Rattle.si_engine.specs.declared.input.command.ProgramCall.{ProgramCall}
 use Rattle.si_engine.specs.declared.input.command.Command.{Command}
 use Rattle.si_engine.specs.declared.input.command.Command.TheVariants as says
 use Rattle.si_engine.specs.declared.event.Event.TheVariants.{Begin, BeginAt, Commit, Abort, Vacuum}
-use Rattle.si_engine.specs.declared.input.script_fault.LineFault.{LineFault}
-use Rattle.si_engine.specs.declared.input.script_fault.LineFault.TheVariants.{BadLine, UnknownName}
+use Rattle.si_engine.specs.declared.input.line_fault.LineFault.{LineFault}
+use Rattle.si_engine.specs.declared.input.line_fault.LineFault.TheVariants.{BadLine, UnknownName}
 use Rattle.si_engine.specs.Limits.{greatest_instance, most_steps}
 use Rattle.si_engine.specs.Lines.{is_skipped, words_of}
 use Rattle.si_engine.specs.Names.{number_named}

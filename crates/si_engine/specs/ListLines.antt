@@ -7,8 +7,8 @@ use Rattle.prog_tree.specs.Table.{TableState, row_at, with_row}
 use Rattle.si_engine.specs.declared.input.item_list.ItemList.{ItemList}
 use Rattle.si_engine.specs.declared.input.list_line.ListLine.{ListLine}
 use Rattle.si_engine.specs.declared.input.list_line.ListLine.TheVariants as says
-use Rattle.si_engine.specs.declared.input.script_fault.LineFault.{LineFault}
-use Rattle.si_engine.specs.declared.input.script_fault.LineFault.TheVariants.{BadLine}
+use Rattle.si_engine.specs.declared.input.line_fault.LineFault.{LineFault}
+use Rattle.si_engine.specs.declared.input.line_fault.LineFault.TheVariants.{BadLine}
 use Rattle.si_engine.specs.Lines.{is_skipped, words_of}
 use Rattle.si_engine.specs.RowLines.{◌>>=◌, row_line_of, row_fault}
 use Rattle.si_engine.specs.Sayings.{made_of}

@@ -9,9 +9,9 @@ use Rattle.si_engine.specs.declared.input.item_list.ItemList.{ItemList}
 use Rattle.si_engine.specs.declared.input.list_line.ListLine.{ListLine}
 use Rattle.si_engine.specs.declared.input.record_line.RecordOutcome.{RecordOutcome}
 use Rattle.si_engine.specs.declared.input.record_line.RecordWords.{RecordWords}
-use Rattle.si_engine.specs.declared.input.script_fault.LineFault.{LineFault}
-use Rattle.si_engine.specs.declared.input.script_fault.LineFault.TheVariants.{BadLine, UnknownName}
-use Rattle.si_engine.specs.declared.input.script_fault.ScriptFault.{ScriptFault}
+use Rattle.si_engine.specs.declared.input.line_fault.LineFault.{LineFault}
+use Rattle.si_engine.specs.declared.input.line_fault.LineFault.TheVariants.{BadLine, UnknownName}
+use Rattle.si_engine.specs.declared.input.part_fault.PartFault.{PartFault}
 use Rattle.si_engine.specs.ListLines.{list_line, list_of}
 use Rattle.si_engine.specs.Names.{number_named}
 use Rattle.si_engine.specs.Numbers.{numbers_of, u64_of}
@@ -64,5 +64,5 @@ abbrev pub IsRecords : DraftTree → List ℕ → ItemList HistoryRow → Type 0
 IsRecords draft part records = IsPart (records_of draft part) part records
 
 -- the bytes are no list of records without a fault, and this is the first; want of memory says nothing of them
-abbrev pub IsRecordsFault : DraftTree → List ℕ → ScriptFault → Type 0
+abbrev pub IsRecordsFault : DraftTree → List ℕ → PartFault → Type 0
 IsRecordsFault draft part f = IsPartFault (records_of draft part) part f

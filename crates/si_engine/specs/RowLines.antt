@@ -10,8 +10,8 @@ use Rattle.si_engine.specs.declared.input.row_line.Keys.{Keys}
 use Rattle.si_engine.specs.declared.input.row_line.Keys.TheVariants.{One, Two}
 use Rattle.si_engine.specs.declared.input.row_line.RowLine.{RowLine}
 use Rattle.si_engine.specs.declared.input.row_line.RowWords.{RowWords}
-use Rattle.si_engine.specs.declared.input.script_fault.LineFault.{LineFault}
-use Rattle.si_engine.specs.declared.input.script_fault.LineFault.TheVariants.{BadLine, UnknownName, WrongKeys, LateRow, RepeatedRow, Memory}
+use Rattle.si_engine.specs.declared.input.line_fault.LineFault.{LineFault}
+use Rattle.si_engine.specs.declared.input.line_fault.LineFault.TheVariants.{BadLine, UnknownName, WrongKeys, LateRow, RepeatedRow, Memory}
 use Rattle.si_engine.specs.Names.{number_named}
 use Rattle.si_engine.specs.Numbers.{i64_of}
 

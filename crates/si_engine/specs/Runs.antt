@@ -10,8 +10,8 @@ use Rattle.si_engine.specs.declared.output.finding.Serializability.{Serializabil
 use Rattle.si_engine.specs.declared.output.finding.Serializability.TheVariants.{Order}
 use Rattle.si_engine.specs.declared.robust.run.Outcome.{Outcome}
 use Rattle.si_engine.specs.declared.input.script.Script.{Script}
-use Rattle.si_engine.specs.declared.input.script_fault.ScriptFault.{ScriptFault}
-use Rattle.si_engine.specs.declared.input.script_fault.ScriptFault.TheVariants as fault
+use Rattle.si_engine.specs.declared.input.part_fault.PartFault.{PartFault}
+use Rattle.si_engine.specs.declared.input.part_fault.PartFault.TheVariants as fault
 use Rattle.si_engine.specs.declared.input.source.InputFault.TheVariants as input_fault
 use Rattle.si_engine.specs.Headline.{Exchange}
 use Rattle.si_engine.specs.LastLine.{IsLastLine}
@@ -73,41 +73,41 @@ AddsRun set script finding before after =
     × Adds (run_lines set script ++ last ∷ []) before after
 
 -- what a run of these bytes writes, and how it ends
-pub data IsRunOf (set : DraftTree) (part : List ℕ) : List ℕ → Result Serializability ScriptFault → Type 0 where
+pub data IsRunOf (set : DraftTree) (part : List ℕ) : List ℕ → Result Serializability PartFault → Type 0 where
   -- all lines of the script that the bytes are, and the last line
   done :
       (script : Script) → IsScript set part script → (finding : Serializability) → (written : List ℕ) →
       AddsRun set script finding [] written → IsRunOf set part written (Ok finding)
   -- nothing, and the first fault
-  refused : (f : ScriptFault) → IsScriptFault set part f → IsRunOf set part [] (Err f)
+  refused : (f : PartFault) → IsScriptFault set part f → IsRunOf set part [] (Err f)
   -- some first lines before the last, behind which memory ran out
   stopped :
       (script : Script) → IsScript set part script → (written : List ℕ) →
       AddsFirst (run_lines set script) [] written → IsRunOf set part written (Err (fault.Input input_fault.Memory))
 
 -- what a run of a source that failed writes, and how it ends
-pub data IsUnreadRun : List ℕ → Result Serializability ScriptFault → Type 0 where
+pub data IsUnreadRun : List ℕ → Result Serializability PartFault → Type 0 where
   unread : IsUnreadRun [] (Err (fault.Input input_fault.ReadFault))
 
 -- what a run of a source writes, and how it ends: that of bytes that the source can give, or that it failed
 abbrev pub IsRunReply :
-    DraftTree → (left : Option (List ℕ)) → (failed : Bool) → List ℕ → Result Serializability ScriptFault → Type 0
+    DraftTree → (left : Option (List ℕ)) → (failed : Bool) → List ℕ → Result Serializability PartFault → Type 0
 IsRunReply set left false written ended = ForInput left (λ part. IsRunOf set part written ended)
 IsRunReply set left true written ended = IsUnreadRun written ended
 
 -- and that of a run on a robust set, which ends in an order
 abbrev pub IsOrderedReply :
-    DraftTree → (left : Option (List ℕ)) → (failed : Bool) → List ℕ → Result Serializability ScriptFault → Type 0
+    DraftTree → (left : Option (List ℕ)) → (failed : Bool) → List ℕ → Result Serializability PartFault → Type 0
 IsOrderedReply set left failed written ended =
     IsRunReply set left failed written ended × IfOk ended (λ finding. finding ≡ Order)
 
 -- A script is run from a source to a sink: the sink gets what such a run writes, and the run's end is told; or the sink
 -- failed, has some first of it, and that is told.
 abbrev pub IsScriptRun :
-    DraftTree → (left : Option (List ℕ)) → (failed lost : Bool) → (old new : Option (List ℕ)) → Result Serializability ScriptFault → Type 0
+    DraftTree → (left : Option (List ℕ)) → (failed lost : Bool) → (old new : Option (List ℕ)) → Result Serializability PartFault → Type 0
 IsScriptRun set left failed lost old new ended = WritesOr (Err fault.WriteFault) (IsRunReply set left failed) lost old new ended
 
 -- and so on a robust set, where a run that ends well ends in an order
 abbrev pub IsRobustScriptRun :
-    DraftTree → (left : Option (List ℕ)) → (failed lost : Bool) → (old new : Option (List ℕ)) → Result Serializability ScriptFault → Type 0
+    DraftTree → (left : Option (List ℕ)) → (failed lost : Bool) → (old new : Option (List ℕ)) → Result Serializability PartFault → Type 0
 IsRobustScriptRun set left failed lost old new ended = WritesOr (Err fault.WriteFault) (IsOrderedReply set left failed) lost old new ended

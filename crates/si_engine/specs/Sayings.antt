@@ -1,8 +1,8 @@
 -- What the lines of a part say, one after another, or the first fault.
 use Rattle.std.specs.Prelude.{◌≡◌, ℕ, ◌+◌, ◌<◌, ◌≤◌, List, [], ◌∷◌, ◌++◌, length, Option, Some, None, Result, Ok, Err}
-use Rattle.si_engine.specs.declared.input.script_fault.LineFault.{LineFault}
-use Rattle.si_engine.specs.declared.input.script_fault.ScriptFault.{ScriptFault}
-use Rattle.si_engine.specs.declared.input.script_fault.ScriptFault.TheVariants as fault
+use Rattle.si_engine.specs.declared.input.line_fault.LineFault.{LineFault}
+use Rattle.si_engine.specs.declared.input.part_fault.PartFault.{PartFault}
+use Rattle.si_engine.specs.declared.input.part_fault.PartFault.TheVariants as fault
 use Rattle.si_engine.specs.declared.input.source.InputFault.TheVariants as input_fault
 use Rattle.si_engine.specs.Lines.{lines_of}
 use Rattle.si_engine.specs.Limits.{input_limit}
@@ -59,7 +59,7 @@ pub record IsPart {Y : Type 0} (found : Result Y LineFault) (part : List ℕ) (w
   pub read : found ≡ Ok whole
 
 -- the bytes of a part can't be read without a fault, and this is the first; want of memory says nothing of them
-abbrev pub IsPartFault : {Y : Type 0} → Result Y LineFault → (part : List ℕ) → ScriptFault → Type 0
+abbrev pub IsPartFault : {Y : Type 0} → Result Y LineFault → (part : List ℕ) → PartFault → Type 0
 IsPartFault read part (fault.Input input_fault.TooLong) = input_limit < length part
 IsPartFault read part (fault.Input input_fault.ReadFault) = ⊥
 IsPartFault read part (fault.Input input_fault.Memory) = Unit {0}

@@ -8,9 +8,9 @@ use Rattle.si_engine.specs.declared.input.command.Command.TheVariants as says
 use Rattle.si_engine.specs.declared.event.Event.{Event}
 use Rattle.si_engine.specs.declared.event.Event.TheVariants.{Step}
 use Rattle.si_engine.specs.declared.input.script.Script.{Script}
-use Rattle.si_engine.specs.declared.input.script_fault.LineFault.{LineFault}
-use Rattle.si_engine.specs.declared.input.script_fault.LineFault.TheVariants.{TooManyEvents}
-use Rattle.si_engine.specs.declared.input.script_fault.ScriptFault.{ScriptFault}
+use Rattle.si_engine.specs.declared.input.line_fault.LineFault.{LineFault}
+use Rattle.si_engine.specs.declared.input.line_fault.LineFault.TheVariants.{TooManyEvents}
+use Rattle.si_engine.specs.declared.input.part_fault.PartFault.{PartFault}
 use Rattle.si_engine.specs.Commands.{line_command}
 use Rattle.si_engine.specs.Limits.{most_events}
 use Rattle.si_engine.specs.RowLines.{row_fault}
@@ -67,5 +67,5 @@ abbrev pub IsScript : DraftTree → List ℕ → Script → Type 0
 IsScript draft part script = IsPart (script_of draft part) part script
 
 -- the bytes are no script without a fault, and this is the first; want of memory says nothing of them
-abbrev pub IsScriptFault : DraftTree → List ℕ → ScriptFault → Type 0
+abbrev pub IsScriptFault : DraftTree → List ℕ → PartFault → Type 0
 IsScriptFault draft part f = IsPartFault (script_of draft part) part f

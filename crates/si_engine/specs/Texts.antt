@@ -1,10 +1,10 @@
 -- The texts of faults.
 use Rattle.std.specs.Fmt.{decimal}
 use Rattle.std.specs.Prelude.{ℕ, List, ◌++◌, codes}
-use Rattle.si_engine.specs.declared.input.script_fault.LineFault.{LineFault}
-use Rattle.si_engine.specs.declared.input.script_fault.LineFault.TheVariants as fault
-use Rattle.si_engine.specs.declared.input.script_fault.ScriptFault.{ScriptFault}
-use Rattle.si_engine.specs.declared.input.script_fault.ScriptFault.TheVariants as script
+use Rattle.si_engine.specs.declared.input.line_fault.LineFault.{LineFault}
+use Rattle.si_engine.specs.declared.input.line_fault.LineFault.TheVariants as fault
+use Rattle.si_engine.specs.declared.input.part_fault.PartFault.{PartFault}
+use Rattle.si_engine.specs.declared.input.part_fault.PartFault.TheVariants as script
 use Rattle.si_engine.specs.declared.input.source.InputFault.{InputFault}
 use Rattle.si_engine.specs.declared.input.source.InputFault.TheVariants as input
 
@@ -28,7 +28,7 @@ input_fault_text input.ReadFault = codes "I4"
 input_fault_text input.Memory = codes "memory"
 
 -- why a script is not read, or not run
-abbrev pub script_fault_text : ScriptFault → List ℕ
-script_fault_text (script.Input i) = input_fault_text i
-script_fault_text (script.Line l) = line_fault_text l
-script_fault_text script.WriteFault = codes "I5"
+abbrev pub part_fault_text : PartFault → List ℕ
+part_fault_text (script.Input i) = input_fault_text i
+part_fault_text (script.Line l) = line_fault_text l
+part_fault_text script.WriteFault = codes "I5"

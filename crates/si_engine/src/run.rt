@@ -9,8 +9,8 @@ ghost use Rattle.si_engine.specs.Writing.{IsJust, WritesOr};
 
 use crate::engine::Engine;
 use crate::event::Event;
+use crate::input::part_fault::PartFault;
 use crate::input::script::{Script, read_script};
-use crate::input::script_fault::ScriptFault;
 use crate::input::source::Source;
 use crate::limits::MAX_READS;
 use crate::output::finding::{Serializability, push_findings_before};
@@ -76,7 +76,7 @@ fn run_source<S: Source, W: Witness>(
     source: &mut S,
     out: &mut String,
     witness: &mut W,
-) -> Result<Serializability, ScriptFault>
+) -> Result<Serializability, PartFault>
     requires { string_bytes out.old ≡ [] }
     ensures run { S.has_failed source.new ≡ false
         → ForInput (S.left source.old) (λ part.
@@ -92,14 +92,14 @@ fn run_source<S: Source, W: Witness>(
 pub(crate) fn write_end<K: Sink>(
     sink: &mut K,
     bytes: &[u8],
-    ended: Result<Serializability, ScriptFault>,
-) -> Result<Serializability, ScriptFault>
-    ensures { WritesOr (Err ScriptFault.WriteFault) (IsJust bytes.now ended)
+    ended: Result<Serializability, PartFault>,
+) -> Result<Serializability, PartFault>
+    ensures { WritesOr (Err PartFault.WriteFault) (IsJust bytes.now ended)
         (K.has_failed sink.new) (K.taken sink.old) (K.taken sink.new) result }
 {
     match write_whole(sink, bytes) {
         Ok(()) => ended,
-        Err(_) => Err(ScriptFault::WriteFault),
+        Err(_) => Err(PartFault::WriteFault),
     }
 }
 
@@ -110,7 +110,7 @@ pub fn run_script_before<S: Source, K: Sink, W: Witness>(
     source: &mut S,
     sink: &mut K,
     witness: &mut W,
-) -> Result<Serializability, ScriptFault>
+) -> Result<Serializability, PartFault>
     ensures run { IsScriptRun (draft_tree set.now) (S.left source.old) (S.has_failed source.new)
         (K.has_failed sink.new) (K.taken sink.old) (K.taken sink.new) result }
     ensures reads { S.pulls source.new ≤ S.pulls source.old + MAX_READS }
@@ -128,7 +128,7 @@ pub fn run_script<S: Source, K: Sink>(
     set: &ProgramSet,
     source: &mut S,
     sink: &mut K,
-) -> Result<Serializability, ScriptFault>
+) -> Result<Serializability, PartFault>
     ensures run { IsScriptRun (draft_tree set.now) (S.left source.old) (S.has_failed source.new)
         (K.has_failed sink.new) (K.taken sink.old) (K.taken sink.new) result }
     ensures reads { S.pulls source.new ≤ S.pulls source.old + MAX_READS }

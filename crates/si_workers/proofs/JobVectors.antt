@@ -3,7 +3,7 @@ use Rattle.std.proofs.Common.{◌≡◌, pos, neg_ℤ, [], ◌∷◌, Some, None
 use Rattle.prog_tree.specs.declared.table.Arity.TheVariants.{One}
 use Rattle.prog_tree.specs.Syntax.{DraftTree, BlockEnd}
 use Rattle.si_engine.specs.declared.input.list_line.ListLine.TheVariants as says
-use Rattle.si_engine.specs.declared.input.script_fault.LineFault.TheVariants as f
+use Rattle.si_engine.specs.declared.input.line_fault.LineFault.TheVariants as f
 use Rattle.si_engine.specs.ListLines.{list_line, list_line_of}
 use Rattle.si_engine.specs.RowLines.{row_line_of}
 use Rattle.si_engine.specs.Sayings.{sayings_from}

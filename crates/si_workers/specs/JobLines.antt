@@ -5,9 +5,9 @@ use Rattle.prog_tree.specs.Syntax.{DraftTree}
 use Rattle.prog_check.specs.Faults.{program_names}
 use Rattle.si_engine.specs.declared.input.item_list.ItemList.{ItemList}
 use Rattle.si_engine.specs.declared.input.list_line.ListLine.{ListLine}
-use Rattle.si_engine.specs.declared.input.script_fault.LineFault.{LineFault}
-use Rattle.si_engine.specs.declared.input.script_fault.LineFault.TheVariants.{BadLine, UnknownName}
-use Rattle.si_engine.specs.declared.input.script_fault.ScriptFault.{ScriptFault}
+use Rattle.si_engine.specs.declared.input.line_fault.LineFault.{LineFault}
+use Rattle.si_engine.specs.declared.input.line_fault.LineFault.TheVariants.{BadLine, UnknownName}
+use Rattle.si_engine.specs.declared.input.part_fault.PartFault.{PartFault}
 use Rattle.si_engine.specs.ListLines.{list_line, list_of}
 use Rattle.si_engine.specs.Names.{number_named}
 use Rattle.si_engine.specs.Numbers.{number_between, numbers_of}
@@ -42,5 +42,5 @@ abbrev pub IsJobs : DraftTree → List ℕ → ItemList Job → Type 0
 IsJobs draft part list = IsPart (jobs_of draft part) part list
 
 -- the bytes are no list of jobs without a fault, and this is the first; want of memory says nothing of them
-abbrev pub IsJobsFault : DraftTree → List ℕ → ScriptFault → Type 0
+abbrev pub IsJobsFault : DraftTree → List ℕ → PartFault → Type 0
 IsJobsFault draft part f = IsPartFault (jobs_of draft part) part f

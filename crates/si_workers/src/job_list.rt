@@ -6,7 +6,7 @@ ghost use Rattle.si_workers.specs.JobLines.{IsJobs, IsJobsFault};
 
 use crate::job::Job;
 use prog_check::ProgramSet;
-use si_engine::{InputFault, ItemList, MAX_READS, ScriptFault, Source, read_part};
+use si_engine::{InputFault, ItemList, MAX_READS, PartFault, Source, read_part};
 use std::alloc::Global;
 
 /// The opening rows and the jobs of a list of jobs.
@@ -18,14 +18,14 @@ pub fn read_jobs<S: Source>(
     alloc: Global,
     set: &ProgramSet,
     source: &mut S,
-) -> Result<JobList, ScriptFault>
+) -> Result<JobList, PartFault>
     ensures list { IfOk result (λ list.
         ForInput (S.left source.old) (λ part. IsJobs (draft_tree set.now) part list)) }
     ensures fault { IfErr result (λ fault. S.has_failed source.new ≡ false
         → ForInput (S.left source.old) (λ part.
         IsJobsFault (draft_tree set.now) part fault)) }
     ensures unread { S.has_failed source.new ≡ true
-        ↔ IsErrOf result (ScriptFault.Input InputFault.ReadFault) }
+        ↔ IsErrOf result (PartFault.Input InputFault.ReadFault) }
     ensures reads { S.pulls source.new ≤ S.pulls source.old + MAX_READS }
 {
     read_part(alloc, set, source)

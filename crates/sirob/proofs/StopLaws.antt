@@ -15,10 +15,10 @@ use Rattle.history_book.specs.View.{BookView, history_of}
 use Rattle.std.specs.List.{range_with_len}
 use Rattle.si_engine.specs.declared.output.finding.Serializability.{Serializability}
 use Rattle.si_engine.specs.declared.input.item_list.ItemList.{ItemList}
-use Rattle.si_engine.specs.declared.input.script_fault.LineFault.{LineFault}
-use Rattle.si_engine.specs.declared.input.script_fault.LineFault.TheVariants as l
-use Rattle.si_engine.specs.declared.input.script_fault.ScriptFault.{ScriptFault}
-use Rattle.si_engine.specs.declared.input.script_fault.ScriptFault.TheVariants as s
+use Rattle.si_engine.specs.declared.input.line_fault.LineFault.{LineFault}
+use Rattle.si_engine.specs.declared.input.line_fault.LineFault.TheVariants as l
+use Rattle.si_engine.specs.declared.input.part_fault.PartFault.{PartFault}
+use Rattle.si_engine.specs.declared.input.part_fault.PartFault.TheVariants as s
 use Rattle.si_engine.specs.declared.input.source.InputFault.{InputFault}
 use Rattle.si_engine.specs.declared.input.source.InputFault.TheVariants as i
 use Rattle.si_engine.specs.Reading.{CanGive, ForInput}
@@ -124,8 +124,8 @@ line_fails read (l.TooManyEvents n) wrong no_memory = wrong
 line_fails read l.Memory wrong no_memory = absurd (cc)
 
 -- a fault of a part that is no longer than an input may be is one of its lines
-part_fails : {Y : Type 0} (read : Result Y LineFault) (part : List ℕ) (Q : ScriptFault → Type 0) → length part ≤ 16777216
-    → ((f : LineFault) → read ≡ Err f → Q (s.Line f)) → (f : ScriptFault) → IsPartFault read part f → is_memory (fault.Script f) ≡ false → Q f
+part_fails : {Y : Type 0} (read : Result Y LineFault) (part : List ℕ) (Q : PartFault → Type 0) → length part ≤ 16777216
+    → ((f : LineFault) → read ≡ Err f → Q (s.Line f)) → (f : PartFault) → IsPartFault read part f → is_memory (fault.Script f) ≡ false → Q f
 part_fails read part Q within told (s.Input i.TooLong) wrong no_memory = absurd (omega (arith, wrong, within))
 part_fails read part Q within told (s.Input i.ReadFault) wrong no_memory = absurd wrong
 part_fails read part Q within told (s.Input i.Memory) wrong no_memory = absurd (cc)
@@ -134,7 +134,7 @@ part_fails read part Q within told s.WriteFault wrong no_memory = absurd wrong
 
 -- a run of the script that a part is
 script_done : (robust : Bool) (set : DraftTree) (part : List ℕ) → MayRun robust set → length part ≤ 16777216
-    → (written : List ℕ) (inner : Result Serializability ScriptFault) → IsRunOf set part written inner → IfOk inner (MayEnd robust)
+    → (written : List ℕ) (inner : Result Serializability PartFault) → IsRunOf set part written inner → IfOk inner (MayEnd robust)
     → IsPartDone (Run robust) set part written (as_command inner)
 script_done robust set part may within _ _ (r.done script is finding written adds) ends = (inl (may, (finding, ends, script, is.read, adds, refl)), tt)
 script_done robust set part may within _ _ (r.refused f wrong) ends =
@@ -143,18 +143,18 @@ script_done robust set part may within _ _ (r.refused f wrong) ends =
 script_done robust set part may within _ _ (r.stopped script is written first) ends = (tt, ((λ no_memory. absurd (cc)), (λ memory. inr (may, script, is.read, first))))
 
 -- what a run writes of the bytes at hand
-abbrev IsReplyOn : (robust : Bool) → DraftTree → List ℕ → (broken : Bool) → List ℕ → Result Serializability ScriptFault → Type 0
+abbrev IsReplyOn : (robust : Bool) → DraftTree → List ℕ → (broken : Bool) → List ℕ → Result Serializability PartFault → Type 0
 IsReplyOn false set left broken = IsRunReply set (Some left) broken
 IsReplyOn true set left broken = IsOrderedReply set (Some left) broken
 
 -- of a run on any set no end is asked
-ends_freely : (inner : Result Serializability ScriptFault) → IfOk inner (MayEnd false)
+ends_freely : (inner : Result Serializability PartFault) → IfOk inner (MayEnd false)
 ends_freely (Ok finding) = tt
 ends_freely (Err f) = tt
 
 -- a run of the bytes at hand
 reply_done : (robust : Bool) (set : DraftTree) (left part : List ℕ) → MayRun robust set → left ≡ part → length part ≤ 16777216
-    → (written : List ℕ) (inner : Result Serializability ScriptFault) → IsReplyOn robust set left false written inner → IsPartDone (Run robust) set part written (as_command inner)
+    → (written : List ℕ) (inner : Result Serializability PartFault) → IsReplyOn robust set left false written inner → IsPartDone (Run robust) set part written (as_command inner)
 reply_done false set left part may same within written inner (input, is, run) =
     script_done false set part may within written inner (subst (λ (p : List ℕ). IsRunOf set p written inner) (is ∙ same) run) (ends_freely inner)
 reply_done true set left part may same within written inner ((input, is, run), order) =
@@ -166,7 +166,7 @@ pub records_read : (set : DraftTree) (left part : List ℕ) (records : ItemList 
 records_read set left part records same (input, is, read) = subst (λ (p : List ℕ). records_of set p ≡ Ok records) (is ∙ same) read.read
 
 -- those that could not
-pub records_refused : (set : DraftTree) (left part : List ℕ) (f : ScriptFault) → left ≡ part → length part ≤ 16777216
+pub records_refused : (set : DraftTree) (left part : List ℕ) (f : PartFault) → left ≡ part → length part ≤ 16777216
     → ForInput (Some left) (λ part. IsRecordsFault set part f) → is_memory (fault.Script f) ≡ false → IsRefusedPart Audit set part (fault.Script f)
 records_refused set left part f same within (input, is, wrong) no_memory =
     part_fails (records_of set part) part (λ g. IsRefusedPart Audit set part (fault.Script g)) within (λ g e. e) f
@@ -178,7 +178,7 @@ pub jobs_read : (set : DraftTree) (left part : List ℕ) (list : ItemList Job) �
 jobs_read set left part list same (input, is, read) = subst (λ (p : List ℕ). jobs_of set p ≡ Ok list) (is ∙ same) read.read
 
 -- those that could not
-pub jobs_refused : (set : DraftTree) (left part : List ℕ) (f : ScriptFault) → left ≡ part → length part ≤ 16777216
+pub jobs_refused : (set : DraftTree) (left part : List ℕ) (f : PartFault) → left ≡ part → length part ≤ 16777216
     → ForInput (Some left) (λ part. IsJobsFault set part f) → is_memory (fault.Script f) ≡ false → IsRefusedJobs set part (fault.Script f)
 jobs_refused set left part f same within (input, is, wrong) no_memory =
     part_fails (jobs_of set part) part (λ g. IsRefusedJobs set part (fault.Script g)) within (λ g e. (g, refl, e)) f
@@ -398,7 +398,7 @@ pub not_broken : (broken : Bool) (pulls before : ℕ) → (broken ≡ true → p
 not_broken false pulls before counted few none = refl
 not_broken true pulls before counted few none = let all = counted refl in absurd (omega (arith, all, few, none))
 
-pub part_run : (robust : Bool) (set : DraftTree) (left part : List ℕ) (broken failed : Bool) (old new : Option (List ℕ)) (inner : Result Serializability ScriptFault)
+pub part_run : (robust : Bool) (set : DraftTree) (left part : List ℕ) (broken failed : Bool) (old new : Option (List ℕ)) (inner : Result Serializability PartFault)
     → MayRun robust set → left ≡ part → length part ≤ 16777216 → broken ≡ false → WritesOr (Err s.WriteFault) (IsReplyOn robust set left broken) failed old new inner
     → WritesOr (Err write_lost) (IsPartDone (Run robust) set part) failed old new (as_command inner)
 part_run robust set left part true failed old new inner may same within works writes = absurd (cc)

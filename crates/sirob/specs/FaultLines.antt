@@ -22,10 +22,10 @@ use Rattle.si_repair.specs.declared.fault.AnalyseFault.TheVariants as q
 use Rattle.si_repair.specs.declared.repairs.fault.RepairFault.{RepairFault}
 use Rattle.si_repair.specs.declared.repairs.fault.RepairFault.TheVariants as u
 use Rattle.repair_laws.specs.declared.plan.Pair.{Pair}
-use Rattle.si_engine.specs.declared.input.script_fault.ScriptFault.{ScriptFault}
-use Rattle.si_engine.specs.declared.input.script_fault.ScriptFault.TheVariants as script
+use Rattle.si_engine.specs.declared.input.part_fault.PartFault.{PartFault}
+use Rattle.si_engine.specs.declared.input.part_fault.PartFault.TheVariants as script
 use Rattle.si_engine.specs.Texts.{line_fault_text}
-use Rattle.si_engine.specs.declared.input.script_fault.LineFault.TheVariants as line
+use Rattle.si_engine.specs.declared.input.line_fault.LineFault.TheVariants as line
 use Rattle.si_engine.specs.declared.input.source.InputFault.TheVariants as i
 use Rattle.sirob.specs.declared.worker_fault.WorkerFault.{WorkerFault}
 use Rattle.sirob.specs.declared.worker_fault.WorkerFault.TheVariants as w
@@ -107,10 +107,10 @@ certificate_fault k.TooLarge = codes "K8"
 certificate_fault k.Memory = codes "memory"
 
 -- a fault of the sink is never told
-abbrev pub script_fault : ScriptFault → List ℕ
-script_fault (script.Input fault) = code_of fault
-script_fault (script.Line fault) = line_fault_text fault
-script_fault script.WriteFault = codes "I5"
+abbrev pub part_fault : PartFault → List ℕ
+part_fault (script.Input fault) = code_of fault
+part_fault (script.Line fault) = line_fault_text fault
+part_fault script.WriteFault = codes "I5"
 
 abbrev pub row_code : RowFault → List ℕ
 row_code r.NoSuchProgram = codes "H1"
@@ -143,7 +143,7 @@ fault_text (Analysis fault) = analyse_fault fault
 fault_text (Repair fault) = repair_fault fault
 fault_text (Json fault) = json_fault fault
 fault_text (Certificate fault) = certificate_fault fault
-fault_text (Script fault) = script_fault fault
+fault_text (Script fault) = part_fault fault
 fault_text (Audit fault) = audit_fault fault
 fault_text (Work fault) = worker_fault fault
 

@@ -4,8 +4,8 @@ use Rattle.si_engine.specs.declared.input.source.InputFault.{InputFault}
 use Rattle.si_engine.specs.declared.input.source.InputFault.TheVariants.{TooLong, ReadFault, Memory}
 use Rattle.si_workers.specs.declared.fault.WorkFault.{WorkFault}
 use Rattle.si_workers.specs.declared.fault.WorkFault.TheVariants as work
-use Rattle.sirob.specs.declared.parts.PartFault.{PartFault}
-use Rattle.sirob.specs.declared.parts.PartFault.TheVariants.{MissingPart, ExtraPart}
+use Rattle.sirob.specs.declared.parts.SplitFault.{SplitFault}
+use Rattle.sirob.specs.declared.parts.SplitFault.TheVariants.{MissingPart, ExtraPart}
 use Rattle.sirob.specs.declared.worker_fault.WorkerFault.{WorkerFault}
 use Rattle.sirob.specs.declared.worker_fault.WorkerFault.TheVariants as told
 
@@ -15,7 +15,7 @@ code_of TooLong = codes "I3"
 code_of ReadFault = codes "I4"
 code_of Memory = codes "memory"
 
-abbrev pub part_code : PartFault → List ℕ
+abbrev pub part_code : SplitFault → List ℕ
 part_code MissingPart = codes "I1"
 part_code ExtraPart = codes "I2"
 

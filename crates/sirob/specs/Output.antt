@@ -34,8 +34,8 @@ use Rattle.si_engine.specs.declared.output.finding.Serializability.{Serializabil
 use Rattle.si_engine.specs.declared.output.finding.Serializability.TheVariants.{Order}
 use Rattle.si_engine.specs.declared.input.item_list.ItemList.{ItemList}
 use Rattle.si_engine.specs.declared.input.script.Script.{Script}
-use Rattle.si_engine.specs.declared.input.script_fault.LineFault.{LineFault}
-use Rattle.si_engine.specs.declared.input.script_fault.ScriptFault.TheVariants as script_fault
+use Rattle.si_engine.specs.declared.input.line_fault.LineFault.{LineFault}
+use Rattle.si_engine.specs.declared.input.part_fault.PartFault.TheVariants as part_fault
 use Rattle.si_engine.specs.declared.input.source.InputFault.TheVariants as input_fault
 use Rattle.si_engine.specs.Limits.{input_limit}
 use Rattle.si_engine.specs.Reading.{ForInput}
@@ -52,7 +52,7 @@ use Rattle.si_workers.specs.Outcomes.{OutcomesCorrespond}
 use Rattle.si_workers.specs.Work.{AreTaken, IsWorkFault}
 use Rattle.sirob.specs.declared.command_line.Mode.{Mode}
 use Rattle.sirob.specs.declared.command_line.Mode.TheVariants.{Check, Certify, Verify, Repair, Run, Audit, Work}
-use Rattle.sirob.specs.declared.parts.PartFault.TheVariants as part_fault
+use Rattle.sirob.specs.declared.parts.SplitFault.TheVariants as split_fault
 use Rattle.sirob.specs.declared.command_fault.CommandFault.{CommandFault}
 use Rattle.sirob.specs.declared.command_fault.CommandFault.TheVariants as fault
 use Rattle.sirob.specs.declared.status.Status.{Status}
@@ -172,9 +172,9 @@ IsRefusedText text f = ⊥
 abbrev pub IsRefusedInput : (wanted : ℕ) → List ℕ → CommandFault → Type 0
 IsRefusedInput wanted input (fault.Input input_fault.TooLong) = input_limit < length input
 IsRefusedInput wanted input (fault.Input f) = ⊥
-IsRefusedInput wanted input (fault.Parts part_fault.MissingPart) =
+IsRefusedInput wanted input (fault.Parts split_fault.MissingPart) =
     (length input ≤ input_limit) × (length (parts_of input) < wanted)
-IsRefusedInput wanted input (fault.Parts part_fault.ExtraPart) =
+IsRefusedInput wanted input (fault.Parts split_fault.ExtraPart) =
     (length input ≤ input_limit) × (wanted < length (parts_of input))
 IsRefusedInput wanted input f =
     (text : List ℕ) × (others : List (List ℕ))
@@ -213,7 +213,7 @@ pub record IsUndone (workers : ℕ) (set : DraftTree) (part : List ℕ) (told : 
 -- as a history, of its certificate, or of the workers
 abbrev pub IsRefusedPart : Mode → DraftTree → List ℕ → CommandFault → Type 0
 IsRefusedPart mode set part (fault.Analysis f) = IsAnalysedFor mode × IsUnanalysed set f
-IsRefusedPart mode set part (fault.Script (script_fault.Line f)) = IsRefusedLine mode set part f
+IsRefusedPart mode set part (fault.Script (part_fault.Line f)) = IsRefusedLine mode set part f
 IsRefusedPart mode set part (fault.Audit f) =
     (mode ≡ Audit) × (records : ItemList HistoryRow)
     × (records_of set part ≡ Ok records) × IsAuditFault set records.rows records.items f

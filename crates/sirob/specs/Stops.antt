@@ -6,9 +6,9 @@ use Rattle.prog_tree.specs.Tree.{draft_tree}
 use Rattle.si_repair.specs.declared.fault.AnalyseFault.{AnalyseFault}
 use Rattle.si_repair.specs.declared.repairs.fault.RepairFault.{RepairFault}
 use Rattle.si_engine.specs.declared.output.finding.Serializability.{Serializability}
-use Rattle.si_engine.specs.declared.input.script_fault.LineFault.{LineFault}
-use Rattle.si_engine.specs.declared.input.script_fault.ScriptFault.{ScriptFault}
-use Rattle.si_engine.specs.declared.input.script_fault.ScriptFault.TheVariants as script_fault
+use Rattle.si_engine.specs.declared.input.line_fault.LineFault.{LineFault}
+use Rattle.si_engine.specs.declared.input.part_fault.PartFault.{PartFault}
+use Rattle.si_engine.specs.declared.input.part_fault.PartFault.TheVariants as part_fault
 use Rattle.si_engine.specs.declared.input.source.InputFault.TheVariants as input_fault
 use Rattle.si_engine.specs.Limits.{input_limit}
 use Rattle.si_engine.specs.Reading.{ForInput}
@@ -26,7 +26,7 @@ use Rattle.sirob.specs.Status.{status_of}
 
 -- the sink failed
 abbrev pub write_lost : CommandFault
-write_lost = fault.Script script_fault.WriteFault
+write_lost = fault.Script part_fault.WriteFault
 
 -- ---- an analysis
 
@@ -65,10 +65,10 @@ IsPartDone mode set part written ended =
 
 -- the first fault of the lines of jobs
 abbrev pub IsRefusedJobs : DraftTree → List ℕ → CommandFault → Type 0
-IsRefusedJobs set part f = (g : LineFault) × (f ≡ fault.Script (script_fault.Line g)) × (jobs_of set part ≡ Err g)
+IsRefusedJobs set part f = (g : LineFault) × (f ≡ fault.Script (part_fault.Line g)) × (jobs_of set part ≡ Err g)
 
 -- the end of a script's run as that of a command
-abbrev pub as_command : Result Serializability ScriptFault → Result Status CommandFault
+abbrev pub as_command : Result Serializability PartFault → Result Status CommandFault
 as_command (Ok finding) = Ok (status_of finding)
 as_command (Err f) = Err (fault.Script f)
 

@@ -1,16 +1,16 @@
 //! What keeps a command from its work, and the line that says so.
 ghost use Rattle.std.specs.Prelude.{◌≡◌, IfOk, string_bytes};
 ghost use Rattle.sirob.specs.Faults.{code_of, part_code};
-ghost use Rattle.sirob.specs.FaultLines.{text_fault, place_text, in_set, check_fault, script_fault, row_code, audit_fault, fault_line, is_memory};
+ghost use Rattle.sirob.specs.FaultLines.{text_fault, place_text, in_set, check_fault, part_fault, row_code, audit_fault, fault_line, is_memory};
 
 use crate::analysis_fault::{analyse_fault, certificate_fault, json_fault, repair_fault};
-use crate::parts::PartFault;
+use crate::parts::SplitFault;
 use crate::worker_fault::{WorkerFault, worker_fault};
 use history_book::{AuditFault, RowFault};
 use prog_check::{CheckFault, Place};
 use prog_text::TextFault;
 use robust_cert::{CertFault, JsonFault};
-use si_engine::{InputFault, LineFault, ScriptFault};
+use si_engine::{InputFault, LineFault, PartFault};
 use si_repair::{AnalyseFault, RepairFault};
 use si_workers::WorkFault;
 use std::alloc::{AllocError, Global};
@@ -19,14 +19,14 @@ use std::alloc::{AllocError, Global};
 #[derive(Clone, Copy, Debug, PartialEq, Eq)]
 pub enum CommandFault {
     Input(InputFault),
-    Parts(PartFault),
+    Parts(SplitFault),
     Text(TextFault),
     Check(CheckFault),
     Analysis(AnalyseFault),
     Repair(RepairFault),
     Json(JsonFault),
     Certificate(CertFault),
-    Script(ScriptFault),
+    Script(PartFault),
     Audit(AuditFault),
     Work(WorkerFault),
 }
@@ -42,12 +42,12 @@ fn input_fault(alloc: Global, fault: InputFault) -> Result<String, AllocError>
     }
 }
 
-fn part_fault(alloc: Global, fault: PartFault) -> Result<String, AllocError>
+fn split_fault(alloc: Global, fault: SplitFault) -> Result<String, AllocError>
     ensures { IfOk result (λ text. string_bytes text ≡ part_code fault) }
 {
     match fault {
-        PartFault::MissingPart => format!(in alloc; "I1"),
-        PartFault::ExtraPart => format!(in alloc; "I2"),
+        SplitFault::MissingPart => format!(in alloc; "I1"),
+        SplitFault::ExtraPart => format!(in alloc; "I2"),
     }
 }
 
@@ -109,13 +109,13 @@ fn check_fault(alloc: Global, fault: CheckFault) -> Result<String, AllocError>
 }
 
 // A fault of the second part. That of the sink is never told.
-fn script_fault(alloc: Global, fault: ScriptFault) -> Result<String, AllocError>
-    ensures { IfOk result (λ text. string_bytes text ≡ script_fault fault) }
+fn part_fault(alloc: Global, fault: PartFault) -> Result<String, AllocError>
+    ensures { IfOk result (λ text. string_bytes text ≡ part_fault fault) }
 {
     match fault {
-        ScriptFault::Input(fault) => input_fault(alloc, fault),
-        ScriptFault::Line(fault) => format!(in alloc; "{fault}"),
-        ScriptFault::WriteFault => format!(in alloc; "I5"),
+        PartFault::Input(fault) => input_fault(alloc, fault),
+        PartFault::Line(fault) => format!(in alloc; "{fault}"),
+        PartFault::WriteFault => format!(in alloc; "I5"),
     }
 }
 
@@ -153,14 +153,14 @@ pub fn fault_line(alloc: Global, fault: CommandFault) -> Result<String, AllocErr
 {
     let text = match fault {
         CommandFault::Input(fault) => input_fault(alloc, fault)?,
-        CommandFault::Parts(fault) => part_fault(alloc, fault)?,
+        CommandFault::Parts(fault) => split_fault(alloc, fault)?,
         CommandFault::Text(fault) => text_fault(alloc, fault)?,
         CommandFault::Check(fault) => check_fault(alloc, fault)?,
         CommandFault::Analysis(fault) => analyse_fault(alloc, fault)?,
         CommandFault::Repair(fault) => repair_fault(alloc, fault)?,
         CommandFault::Json(fault) => json_fault(alloc, fault)?,
         CommandFault::Certificate(fault) => certificate_fault(alloc, fault)?,
-        CommandFault::Script(fault) => script_fault(alloc, fault)?,
+        CommandFault::Script(fault) => part_fault(alloc, fault)?,
         CommandFault::Audit(fault) => audit_fault(alloc, fault)?,
         CommandFault::Work(fault) => worker_fault(alloc, fault)?,
     };
@@ -178,13 +178,13 @@ impl From<InputFault> for CommandFault {
     }
 }
 
-impl From<PartFault> for CommandFault {
+impl From<SplitFault> for CommandFault {
     ghost use Rattle.std.specs.Prelude.{◌≡◌};
     ghost use Rattle.sirob.specs.declared.command_fault.CommandFault.TheVariants.{Parts};
 
     ghost from_gives = { λ fault e. e ≡ Parts fault };
 
-    fn from(fault: PartFault) -> Self {
+    fn from(fault: SplitFault) -> Self {
         CommandFault::Parts(fault)
     }
 }
@@ -244,13 +244,13 @@ impl From<JsonFault> for CommandFault {
     }
 }
 
-impl From<ScriptFault> for CommandFault {
+impl From<PartFault> for CommandFault {
     ghost use Rattle.std.specs.Prelude.{◌≡◌};
     ghost use Rattle.sirob.specs.declared.command_fault.CommandFault.TheVariants.{Script};
 
     ghost from_gives = { λ fault e. e ≡ Script fault };
 
-    fn from(fault: ScriptFault) -> Self {
+    fn from(fault: PartFault) -> Self {
         CommandFault::Script(fault)
     }
 }
@@ -304,8 +304,8 @@ impl CommandFault {
                 | CommandFault::Repair(RepairFault::Memory)
                 | CommandFault::Json(JsonFault::Memory)
                 | CommandFault::Certificate(CertFault::Memory)
-                | CommandFault::Script(ScriptFault::Input(InputFault::Memory))
-                | CommandFault::Script(ScriptFault::Line(LineFault::Memory))
+                | CommandFault::Script(PartFault::Input(InputFault::Memory))
+                | CommandFault::Script(PartFault::Line(LineFault::Memory))
                 | CommandFault::Audit(AuditFault::Memory)
                 | CommandFault::Work(WorkerFault::Memory)
         )

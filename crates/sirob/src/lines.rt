@@ -5,7 +5,7 @@ ghost use Rattle.sirob.specs.Stops.{write_lost};
 
 use crate::command_fault::CommandFault;
 use crate::status::Status;
-use si_engine::{ScriptFault, Sink, write_whole};
+use si_engine::{PartFault, Sink, write_whole};
 
 /// Writes lines, and answers with the end that is given, or that the sink failed.
 pub fn write_lines<K: Sink>(
@@ -18,6 +18,6 @@ pub fn write_lines<K: Sink>(
 {
     match write_whole(sink, lines) {
         Ok(()) => ended,
-        Err(_) => Err(CommandFault::Script(ScriptFault::WriteFault)),
+        Err(_) => Err(CommandFault::Script(PartFault::WriteFault)),
     }
 }

@@ -6,20 +6,20 @@ use run_words::begins_separator;
 
 /// The input hasn't the parts that are asked for.
 #[derive(Clone, Copy, Debug, PartialEq, Eq)]
-pub enum PartFault {
+pub enum SplitFault {
     MissingPart,
     ExtraPart,
 }
 
 /// The input, where no line of it is `%%`.
-pub fn one_part(input: &[u8]) -> Result<&[u8], PartFault>
+pub fn one_part(input: &[u8]) -> Result<&[u8], SplitFault>
     ensures part { IfOk result (λ text. parts_of input.now ≡ text.now ∷ []) }
-    ensures extra { IsErrOf result PartFault.ExtraPart ↔ (1 < length (parts_of input.now)) }
-    ensures kinds { IfErr result (λ fault. fault ≡ PartFault.ExtraPart) }
+    ensures extra { IsErrOf result SplitFault.ExtraPart ↔ (1 < length (parts_of input.now)) }
+    ensures kinds { IfErr result (λ fault. fault ≡ SplitFault.ExtraPart) }
 {
     let first = first_part(input);
     if first.behind.is_some() {
-        return Err(PartFault::ExtraPart);
+        return Err(SplitFault::ExtraPart);
     }
     Ok(first.part)
 }
@@ -32,20 +32,20 @@ pub struct Parts<'a> {
 }
 
 /// The input, divided at its one line `%%`. The line feed before that line belongs to the text.
-pub fn two_parts(input: &[u8]) -> Result<Parts<'_>, PartFault>
+pub fn two_parts(input: &[u8]) -> Result<Parts<'_>, SplitFault>
     ensures ok { IsOk result ↔ (length (parts_of input.now) ≡ 2) }
     ensures parts { IfOk result (λ p. parts_of input.now ≡ p.text.now ∷ p.rest.now ∷ []) }
     ensures within { IfOk result (λ p. length p.rest.now ≤ length input.now) }
-    ensures missing { IsErrOf result PartFault.MissingPart ↔ (length (parts_of input.now) ≡ 1) }
-    ensures extra { IsErrOf result PartFault.ExtraPart ↔ (2 < length (parts_of input.now)) }
+    ensures missing { IsErrOf result SplitFault.MissingPart ↔ (length (parts_of input.now) ≡ 1) }
+    ensures extra { IsErrOf result SplitFault.ExtraPart ↔ (2 < length (parts_of input.now)) }
 {
     let first = first_part(input);
     let Some(rest) = first.behind else {
-        return Err(PartFault::MissingPart);
+        return Err(SplitFault::MissingPart);
     };
     let second = first_part(rest);
     if second.behind.is_some() {
-        return Err(PartFault::ExtraPart);
+        return Err(SplitFault::ExtraPart);
     }
     Ok(Parts {
         text: first.part,

@@ -3,7 +3,7 @@
 use crate::engine::fakes::{SlowSink, SlowSource};
 use example_sets::set_of;
 use prog_check::ProgramSet;
-use si_engine::{Bytes, InputFault, LineFault, Port, ScriptFault, Serializability, run_script};
+use si_engine::{Bytes, InputFault, LineFault, PartFault, Port, Serializability, run_script};
 use std::alloc::Global;
 use std::process::Abort;
 use std::test::Fail;
@@ -32,7 +32,7 @@ vacuumed 0
 order 1
 ";
 
-type Ended = Result<Serializability, ScriptFault>;
+type Ended = Result<Serializability, PartFault>;
 
 #[test]
 fn ports_are_devices(rt: HostRuntime) -> Result<(), Fail> {
@@ -62,7 +62,7 @@ fn check_run(rt: &impl Abort, alloc: Global, set: &ProgramSet, case: Case) {
 // One pull for each byte, and a last one for the end.
 fn check_each_pull(rt: &impl Abort, alloc: Global, set: &ProgramSet) {
     for pulls in 0..=LOOK.len() as u64 {
-        let ended = Err(ScriptFault::Input(InputFault::ReadFault));
+        let ended = Err(PartFault::Input(InputFault::ReadFault));
         check_run(rt, alloc, set, (pulls, NEVER, ended, 0));
     }
 }
@@ -70,7 +70,7 @@ fn check_each_pull(rt: &impl Abort, alloc: Global, set: &ProgramSet) {
 // Each push takes three bytes.
 fn check_each_push(rt: &impl Abort, alloc: Global, set: &ProgramSet) {
     for pushes in 0..34 {
-        let ended = Err(ScriptFault::WriteFault);
+        let ended = Err(PartFault::WriteFault);
         check_run(rt, alloc, set, (NEVER, pushes as u64, ended, 3 * pushes));
     }
 }
@@ -93,7 +93,7 @@ fn a_fault_leaves_nothing(rt: HostRuntime) -> Result<(), Fail> {
     let script = b"begin Look 7\nvacuum 1\n".as_slice();
     let ended = run_script(rt.alloc(), &set, &mut Bytes::new(script), &mut sink);
     drop(set);
-    assert!(rt; ended == Err(ScriptFault::Line(LineFault::BadLine { line: 2 })));
+    assert!(rt; ended == Err(PartFault::Line(LineFault::BadLine { line: 2 })));
     assert!(rt; sink.bytes.is_empty());
     Ok(())
 }

@@ -4,7 +4,7 @@ use crate::book::audits::Record;
 use example_sets::set_of;
 use history_book::HistoryRow;
 use prog_check::ProgramSet;
-use si_engine::{Bytes, Records, ScriptFault, read_records};
+use si_engine::{Bytes, PartFault, Records, read_records};
 use std::alloc::Global;
 use std::process::Abort;
 use std::test::Fail;
@@ -42,7 +42,7 @@ fn check_rows(rt: &impl Abort, rows: &[HistoryRow]) {
     }
 }
 
-fn read(alloc: Global, set: &ProgramSet, bytes: &[u8]) -> Result<Records, ScriptFault> {
+fn read(alloc: Global, set: &ProgramSet, bytes: &[u8]) -> Result<Records, PartFault> {
     read_records(alloc, set, &mut Bytes::new(bytes))
 }
 
@@ -71,7 +71,7 @@ const FAULTS: &[(&str, &str)] = &[
 ];
 
 fn check_fault(rt: &impl Abort, alloc: Global, set: &ProgramSet, part: &str, wanted: &str) {
-    let Some(ScriptFault::Line(fault)) = read(alloc, set, part.as_bytes()).err() else {
+    let Some(PartFault::Line(fault)) = read(alloc, set, part.as_bytes()).err() else {
         panic!(rt; "no fault of a line: {part}")
     };
     let told = fault.to_string(alloc).expect(rt, "memory");

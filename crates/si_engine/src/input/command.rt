@@ -5,12 +5,12 @@ ghost use Rattle.si_engine.specs.Commands.{row_command, instance_number, steps_o
 ghost use Rattle.si_engine.specs.RowLines.{Reads};
 
 use crate::event::Event;
+use crate::input::line_fault::LineFault;
 use crate::input::line_words::{Word, line_words};
 use crate::input::lines::is_skipped;
 use crate::input::names::program_number;
 use crate::input::number::{number_between, numbers, unsigned};
 use crate::input::row_line::{RowLine, row_line};
-use crate::input::script_fault::LineFault;
 use crate::limits::{MAX_INSTANCE, MAX_STEPS};
 use prog_check::ProgramSet;
 use prog_tree::Sequence;

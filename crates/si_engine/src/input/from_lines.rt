@@ -6,8 +6,9 @@ ghost use Rattle.si_engine.specs.Reading.{ForInput};
 ghost use Rattle.si_engine.specs.RowLines.{Reads};
 ghost use Rattle.si_engine.specs.Sayings.{made_of, TakesUp, IsMisplaced, IsPart, IsPartFault};
 
+use crate::input::line_fault::LineFault;
 use crate::input::lines::{cut, without_return};
-use crate::input::script_fault::{LineFault, ScriptFault};
+use crate::input::part_fault::PartFault;
 use crate::input::source::{InputFault, Source, read_whole};
 use crate::limits::MAX_READS;
 use prog_check::ProgramSet;
@@ -15,7 +16,7 @@ use std::alloc::Global;
 
 /// What the lines of a part make.
 pub trait FromLines: Drop {
-    ghost use Rattle.si_engine.specs.declared.input.script_fault.LineFault.{LineFault};
+    ghost use Rattle.si_engine.specs.declared.input.line_fault.LineFault.{LineFault};
 
     /// What one line says.
     type Saying: Drop;
@@ -70,14 +71,14 @@ pub fn read_part<W: FromLines, S: Source>(
     alloc: Global,
     set: &ProgramSet,
     source: &mut S,
-) -> Result<W, ScriptFault>
+) -> Result<W, PartFault>
     ensures whole { IfOk result (λ whole. ForInput (S.left source.old) (λ part.
         IsPart (made_of (W.says (draft_tree set.now)) W.wrong W.whole part) part whole)) }
     ensures fault { IfErr result (λ fault. S.has_failed source.new ≡ false
         → ForInput (S.left source.old) (λ part.
         IsPartFault (made_of (W.says (draft_tree set.now)) W.wrong W.whole part) part fault)) }
     ensures unread { S.has_failed source.new ≡ true
-        ↔ IsErrOf result (ScriptFault.Input InputFault.ReadFault) }
+        ↔ IsErrOf result (PartFault.Input InputFault.ReadFault) }
     ensures reads { S.pulls source.new ≤ S.pulls source.old + MAX_READS }
 {
     let part = read_whole(alloc, source)?;

@@ -4,10 +4,10 @@ ghost use Rattle.si_engine.specs.ListLines.{with_row_in, item_in, item_fault};
 ghost use Rattle.si_engine.specs.RowLines.{IsFault};
 
 use crate::input::from_lines::FromLines;
+use crate::input::line_fault::LineFault;
 use crate::input::list_item::ListItem;
 use crate::input::list_line::{ListLine, list_line};
 use crate::input::row_line::add_row;
-use crate::input::script_fault::LineFault;
 use prog_check::ProgramSet;
 use prog_tree::{Rows, Sequence};
 use std::alloc::Global;

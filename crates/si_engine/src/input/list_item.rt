@@ -4,14 +4,14 @@ ghost use Rattle.prog_tree.specs.Syntax.{DraftTree};
 ghost use Rattle.prog_tree.specs.Tree.{draft_tree};
 ghost use Rattle.si_engine.specs.RowLines.{Reads};
 
+use crate::input::line_fault::LineFault;
 use crate::input::line_words::Word;
-use crate::input::script_fault::LineFault;
 use prog_check::ProgramSet;
 use std::alloc::Global;
 
 /// What a list has beside its rows, each in a line of its own.
 pub trait ListItem: Drop {
-    ghost use Rattle.si_engine.specs.declared.input.script_fault.LineFault.{LineFault};
+    ghost use Rattle.si_engine.specs.declared.input.line_fault.LineFault.{LineFault};
 
     /// The word that begins its line.
     ghost keyword: { List ℕ };

@@ -4,11 +4,11 @@ ghost use Rattle.prog_tree.specs.Tree.{draft_tree};
 ghost use Rattle.si_engine.specs.ListLines.{list_line_of, list_line};
 ghost use Rattle.si_engine.specs.RowLines.{Reads};
 
+use crate::input::line_fault::LineFault;
 use crate::input::line_words::{Word, line_words};
 use crate::input::lines::is_skipped;
 use crate::input::list_item::ListItem;
 use crate::input::row_line::{RowLine, row_line};
-use crate::input::script_fault::LineFault;
 use prog_check::ProgramSet;
 use std::alloc::Global;
 

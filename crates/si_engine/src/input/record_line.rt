@@ -5,12 +5,12 @@ ghost use Rattle.prog_tree.specs.Tree.{draft_tree};
 ghost use Rattle.si_engine.specs.Records.{is_at, is_gives, outcome_of, record_of, record_row_of};
 ghost use Rattle.si_engine.specs.RowLines.{Reads};
 
+use crate::input::line_fault::LineFault;
 use crate::input::line_words::Word;
 use crate::input::lines::cut_around;
 use crate::input::list_item::ListItem;
 use crate::input::names::program_number;
 use crate::input::number::{numbers, unsigned};
-use crate::input::script_fault::LineFault;
 use history_book::HistoryRow;
 use prog_check::ProgramSet;
 use prog_tree::Sequence;

@@ -6,7 +6,7 @@ ghost use Rattle.si_engine.specs.Records.{IsRecords, IsRecordsFault};
 
 use crate::input::from_lines::read_part;
 use crate::input::item_list::ItemList;
-use crate::input::script_fault::ScriptFault;
+use crate::input::part_fault::PartFault;
 use crate::input::source::{InputFault, Source};
 use crate::limits::MAX_READS;
 use history_book::HistoryRow;
@@ -22,14 +22,14 @@ pub fn read_records<S: Source>(
     alloc: Global,
     set: &ProgramSet,
     source: &mut S,
-) -> Result<Records, ScriptFault>
+) -> Result<Records, PartFault>
     ensures records { IfOk result (λ records.
         ForInput (S.left source.old) (λ part. IsRecords (draft_tree set.now) part records)) }
     ensures fault { IfErr result (λ fault. S.has_failed source.new ≡ false
         → ForInput (S.left source.old) (λ part.
         IsRecordsFault (draft_tree set.now) part fault)) }
     ensures unread { S.has_failed source.new ≡ true
-        ↔ IsErrOf result (ScriptFault.Input InputFault.ReadFault) }
+        ↔ IsErrOf result (PartFault.Input InputFault.ReadFault) }
     ensures reads { S.pulls source.new ≤ S.pulls source.old + MAX_READS }
 {
     read_part(alloc, set, source)

@@ -4,10 +4,10 @@ ghost use Rattle.prog_tree.specs.Table.{row_at, with_row};
 ghost use Rattle.prog_tree.specs.Tree.{draft_tree};
 ghost use Rattle.si_engine.specs.RowLines.{is_equals_sign, one_key, two_keys, row_words, arity_of, cell_of_keys, row_line_of, row_fault, IsFault};
 
+use crate::input::line_fault::LineFault;
 use crate::input::line_words::Word;
 use crate::input::names::table_number;
 use crate::input::number::number;
-use crate::input::script_fault::LineFault;
 use prog_check::ProgramSet;
 use prog_tree::{Arity, Cell, Rows};
 

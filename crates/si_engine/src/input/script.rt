@@ -8,8 +8,9 @@ ghost use Rattle.si_engine.specs.Script.{room_fault, order_fault, with_row_of, e
 use crate::event::Event;
 use crate::input::command::{Command, line_command};
 use crate::input::from_lines::{FromLines, read_part};
+use crate::input::line_fault::LineFault;
+use crate::input::part_fault::PartFault;
 use crate::input::row_line::add_row;
-use crate::input::script_fault::{LineFault, ScriptFault};
 use crate::input::source::{InputFault, Source};
 use crate::limits::{MAX_EVENTS, MAX_READS};
 use prog_check::ProgramSet;
@@ -128,13 +129,13 @@ pub fn read_script<S: Source>(
     alloc: Global,
     set: &ProgramSet,
     source: &mut S,
-) -> Result<Script, ScriptFault>
+) -> Result<Script, PartFault>
     ensures script { IfOk result (λ script.
         ForInput (S.left source.old) (λ part. IsScript (draft_tree set.now) part script)) }
     ensures fault { IfErr result (λ fault. S.has_failed source.new ≡ false
         → ForInput (S.left source.old) (λ part. IsScriptFault (draft_tree set.now) part fault)) }
     ensures unread { S.has_failed source.new ≡ true
-        ↔ IsErrOf result (ScriptFault.Input InputFault.ReadFault) }
+        ↔ IsErrOf result (PartFault.Input InputFault.ReadFault) }
     ensures reads { S.pulls source.new ≤ S.pulls source.old + MAX_READS }
 {
     read_part(alloc, set, source)

@@ -7,8 +7,8 @@ ghost use Rattle.si_engine.specs.Reading.{ForInput};
 ghost use Rattle.si_engine.specs.Runs.{exchange_lines, outcome_lines, run_lines, Adds, AddsFirst, AddsRun, IsRobustScriptRun, IsRunOf, IsUnreadRun};
 
 use crate::event::{Event, Reply};
+use crate::input::part_fault::PartFault;
 use crate::input::script::{Script, read_script};
-use crate::input::script_fault::ScriptFault;
 use crate::input::source::Source;
 use crate::limits::MAX_READS;
 use crate::output::finding::{Serializability, push_rows};
@@ -85,7 +85,7 @@ fn run_source<S: Source, W: Witness>(
     source: &mut S,
     out: &mut String,
     witness: &mut W,
-) -> Result<Serializability, ScriptFault>
+) -> Result<Serializability, PartFault>
     requires { string_bytes out.old ≡ [] }
     ensures run { S.has_failed source.new ≡ false
         → ForInput (S.left source.old) (λ part.
@@ -106,7 +106,7 @@ pub fn run_robust_script_before<S: Source, K: Sink, W: Witness>(
     source: &mut S,
     sink: &mut K,
     witness: &mut W,
-) -> Result<Serializability, ScriptFault>
+) -> Result<Serializability, PartFault>
     ensures run { IsRobustScriptRun (draft_tree set.now)
         (S.left source.old) (S.has_failed source.new)
         (K.has_failed sink.new) (K.taken sink.old) (K.taken sink.new) result }
@@ -123,7 +123,7 @@ pub fn run_robust_script<S: Source, K: Sink>(
     set: &RobustSet,
     source: &mut S,
     sink: &mut K,
-) -> Result<Serializability, ScriptFault>
+) -> Result<Serializability, PartFault>
     ensures run { IsRobustScriptRun (draft_tree set.now)
         (S.left source.old) (S.has_failed source.new)
         (K.has_failed sink.new) (K.taken sink.old) (K.taken sink.new) result }

@@ -16,13 +16,13 @@ use crate::status::Status;
 use prog_check::ProgramSet;
 use robust_cert::RobustSet;
 use si_engine::{
-    Bytes, ScriptFault, Serializability, Sink, run_robust_script_before, run_script_before,
+    Bytes, PartFault, Serializability, Sink, run_robust_script_before, run_script_before,
 };
 use std::alloc::Global;
 use std::thread::Threads;
 
 // The end of a script's run as that of a command.
-fn as_command(ran: Result<Serializability, ScriptFault>) -> Result<Status, CommandFault>
+fn as_command(ran: Result<Serializability, PartFault>) -> Result<Status, CommandFault>
     ensures { result ≡ as_command ran }
 {
     Ok(Status::of(ran?))

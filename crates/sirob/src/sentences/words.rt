@@ -2,7 +2,7 @@
 
 use crate::command_fault::CommandFault;
 use crate::command_line::Mode;
-use crate::parts::PartFault;
+use crate::parts::SplitFault;
 use crate::sentences::analysis::{analysis_sentence, refusal_sentence, robust_sentence};
 use crate::sentences::kept::Kept;
 use crate::sentences::kept_input::KeptInput;
@@ -14,7 +14,7 @@ use analysis_words::{certificate_words, json_words, repair_fault_words};
 use fault_words::{check_words, text_words};
 use prog_check::ProgramSet;
 use run_words::{PartKind, extra_part_words, line_fault_words, missing_part_words, record_words};
-use si_engine::{InputFault, MAX_INPUT_BYTES, ScriptFault};
+use si_engine::{InputFault, MAX_INPUT_BYTES, PartFault};
 use si_repair::Finding;
 use std::alloc::{AllocError, Global};
 
@@ -63,15 +63,15 @@ fn part_sentence(
     alloc: Global,
     mode: Mode,
     input: KeptInput<'_>,
-    fault: PartFault,
+    fault: SplitFault,
 ) -> Result<Option<String>, AllocError> {
     match fault {
-        PartFault::MissingPart => {
+        SplitFault::MissingPart => {
             let second = second_wanted(mode).unwrap_or("nothing");
             let words = missing_part_words(alloc, input.whole, second)?;
             Ok(Some(words))
         }
-        PartFault::ExtraPart => {
+        SplitFault::ExtraPart => {
             let wanted = wanted_parts(alloc, mode)?;
             extra_part_words(alloc, input.whole, &wanted)
         }
@@ -88,7 +88,7 @@ fn set_words(
 ) -> Result<Option<String>, AllocError> {
     match fault {
         CommandFault::Repair(fault) => repair_fault_words(alloc, input.text, set, fault),
-        CommandFault::Script(ScriptFault::Line(fault)) => {
+        CommandFault::Script(PartFault::Line(fault)) => {
             line_fault_words(alloc, kind_of(mode), set, input.part, fault)
         }
         CommandFault::Audit(fault) => record_words(alloc, set, input.part, fault),
@@ -112,7 +112,7 @@ fn words_of(
             Ok(Some(words))
         }
         CommandFault::Check(fault) => check_words(alloc, input.text, fault),
-        CommandFault::Input(fault) | CommandFault::Script(ScriptFault::Input(fault)) => {
+        CommandFault::Input(fault) | CommandFault::Script(PartFault::Input(fault)) => {
             input_sentence(alloc, fault)
         }
         CommandFault::Parts(fault) => part_sentence(alloc, mode, input, fault),

@@ -1,7 +1,7 @@
 use Rattle.std.proofs.Common.{Err, List, ℕ, sym, subst}
 use Rattle.prog_tree.specs.Tree.{draft_tree}
 use Rattle.si_engine.specs.Runs.{IsRunReply}
-use Rattle.si_engine.specs.declared.input.script_fault.ScriptFault.TheVariants as fault
+use Rattle.si_engine.specs.declared.input.part_fault.PartFault.TheVariants as fault
 use Rattle.si_engine.proofs.RunLaws.{run_replies, writes_just}
 use Rattle.si_engine.proofs.run.run_script_before.Goals as goal
 

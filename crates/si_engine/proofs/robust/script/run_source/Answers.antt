@@ -6,7 +6,7 @@ use Rattle.si_engine.specs.Reading.{ForInput}
 use Rattle.si_engine.specs.Script.{IsScript, IsScriptFault}
 use Rattle.si_engine.specs.declared.output.finding.Serializability.TheVariants.{Order}
 use Rattle.si_engine.specs.Runs.{run_lines, AddsFirst, AddsRun}
-use Rattle.si_engine.specs.declared.input.script_fault.ScriptFault.TheVariants as fault
+use Rattle.si_engine.specs.declared.input.part_fault.PartFault.TheVariants as fault
 use Rattle.si_engine.specs.declared.input.source.InputFault.TheVariants as input_fault
 use Rattle.si_engine.proofs.RunLaws.{run_refused, run_stopped, run_done, run_unread}
 use Rattle.si_engine.proofs.robust.script.run_source.Goals as goal
