@@ -86,11 +86,11 @@ pub fn own_changes(
 pub fn cells(alloc: Global, own: &[(Cell, Option<i64>)]) -> Result<Sequence<Cell>, AllocError>
     ensures { IfOk result (λ cells. cells ≡ cells_of own.now) }
 {
-    let mut cells = Sequence::new(alloc);
+    let mut cells = Vec::with_capacity(alloc, own.len())?;
     for (cell, _) in own {
         cells.push(*cell)?;
     }
-    Ok(cells)
+    Ok(Sequence::from_vec(cells))
 }
 
 // Takes away the rows of some cells that rise.

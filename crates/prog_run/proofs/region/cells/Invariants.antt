@@ -3,4 +3,4 @@ use Rattle.prog_tree.specs.Table.{cells_of}
 use Rattle.prog_run.proofs.region.cells.Given as goal
 
 abbrev pub invariant-loop-cell : goal.invariant-loop-cell
-invariant-loop-cell l = l.cells ≡ cells_of (take l.cell-index l.own)
+invariant-loop-cell l = l.cells.items ≡ cells_of (take l.cell-index l.own)
