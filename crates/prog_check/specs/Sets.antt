@@ -20,12 +20,12 @@ Finds IsRight (Ok x) fault = (fault ≡ None) × IsRight x
 Finds IsRight (Err found) fault = IsFirst found fault
 
 -- Behind one statement of a block the check goes on from a new position as it would have gone on from the old one before it.
-abbrev pub GoesOn : List TableDecl → (program : ℕ) (before : Position) (aborted : Bool) → (BlockTree → BlockTree) → (after : Position) → Result Bool CheckFault → Type 0
-GoesOn tables program before aborted stmt after (Ok aborts) =
+abbrev pub ChecksOn : List TableDecl → (program : ℕ) (before : Position) (aborted : Bool) → (BlockTree → BlockTree) → (after : Position) → Result Bool CheckFault → Type 0
+ChecksOn tables program before aborted stmt after (Ok aborts) =
     (rest : BlockTree)
     → (block_fault tables program before.number aborted before.visible (stmt rest) ≡ block_fault tables program after.number aborts after.visible rest)
     × (before.number + statement_count (stmt rest) ≡ after.number + statement_count rest)
-GoesOn tables program before aborted stmt after (Err found) =
+ChecksOn tables program before aborted stmt after (Err found) =
     (rest : BlockTree) → IsFirst found (block_fault tables program before.number aborted before.visible (stmt rest))
 
 -- what a checked set keeps: the names of its tables and programs in their order, that its draft has no fault, and that it

@@ -6,7 +6,7 @@ ghost use Rattle.prog_check.specs.Faults.{first_broken, place_rules, table_use_r
 ghost use Rattle.prog_check.specs.declared.fault.Place.TheVariants as Place;
 ghost use Rattle.prog_check.specs.Names.{Extends};
 ghost use Rattle.prog_check.specs.Paths.{statement_count};
-ghost use Rattle.prog_check.specs.Sets.{Finds, GoesOn};
+ghost use Rattle.prog_check.specs.Sets.{Finds, ChecksOn};
 ghost use Rattle.prog_check.specs.Uses.{used_table_by, overwrites_by, used_names_by, new_name_by, with_new, with_inner};
 
 use crate::fault::{CheckFault, Place};
@@ -133,7 +133,8 @@ fn check_stmt(
     aborted: bool,
     stmt: &Stmt,
 ) -> Result<bool, CheckFault>
-    ensures goes_on { GoesOn tables.now program at.old aborted (with_stmt stmt.now) at.new result }
+    ensures goes_on { ChecksOn tables.now program at.old aborted (with_stmt stmt.now) at.new
+        result }
     ensures visible { OnOk result (Extends at.old.visible at.new.visible) }
 {
     let number = at.number;

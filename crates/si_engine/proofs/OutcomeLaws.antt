@@ -14,7 +14,7 @@ use Rattle.si_engine.specs.declared.input.script.Script.{Script}
 use Rattle.si_engine.specs.Headline.{Headline}
 use Rattle.si_engine.specs.LastLine.{last_line}
 use Rattle.si_engine.specs.Machine.{new_machine, machine_after}
-use Rattle.si_engine.specs.Runs.{event_lines, exchange_lines, row_lines, outcome_lines, run_lines, history_of_run, Adds, AddsFirst, AddsRun}
+use Rattle.si_engine.specs.Runs.{event_lines, exchange_lines, row_lines, outcome_lines, run_lines, history_of_run, AddsLines, AddsFirst, AddsRun}
 
 module _ (set : DraftTree) (script : Script) (o : Outcome) (is : Headline set script.rows script.events o) where
   lines_of_outcome : outcome_lines set script.events o ≡ run_lines set script
@@ -24,10 +24,10 @@ module _ (set : DraftTree) (script : Script) (o : Outcome) (is : Headline set sc
 
   adds_run : (s t : List ℕ) →
       (let h = history_of_run set script in least_order (depends set script.rows h) (length h) ≡ Some o.order) →
-      Adds (outcome_lines set script.events o ++ last_line Order o.order ∷ []) s t → AddsRun set script Order s t
+      AddsLines (outcome_lines set script.events o ++ last_line Order o.order ∷ []) s t → AddsRun set script Order s t
   adds_run s t least added =
       let line = last_line Order o.order in
-      (line, (o.order, least, refl), subst (λ lines. Adds (lines ++ line ∷ []) s t) lines_of_outcome added)
+      (line, (o.order, least, refl), subst (λ lines. AddsLines (lines ++ line ∷ []) s t) lines_of_outcome added)
 
   adds_first : (s t : List ℕ) → AddsFirst (outcome_lines set script.events o) s t → AddsFirst (run_lines set script) s t
   adds_first s t first = subst (λ lines. AddsFirst lines s t) lines_of_outcome first
@@ -48,11 +48,11 @@ module _ (set given : Draft) (script : Script) (o : Outcome) (first second : Lis
       let h = (machine_after (draft_tree set) script.rows es new_machine).history in
       least_order (depends (draft_tree set) script.rows h) (length h) ≡ Some o.order
 
-  pub run_added : (s t : List ℕ) → IsLeast first → Adds (handed_on ++ last_line Order o.order ∷ []) s t →
+  pub run_added : (s t : List ℕ) → IsLeast first → AddsLines (handed_on ++ last_line Order o.order ∷ []) s t →
       AddsRun (draft_tree set) script Order s t
   run_added s t least added =
       adds_run (draft_tree set) script o is_headline s t (subst IsLeast is_first least)
-      (subst (λ lines. Adds (lines ++ last_line Order o.order ∷ []) s t) lines_are added)
+      (subst (λ lines. AddsLines (lines ++ last_line Order o.order ∷ []) s t) lines_are added)
 
   pub first_added : (s t : List ℕ) → AddsFirst handed_on s t → AddsFirst (run_lines (draft_tree set) script) s t
   first_added s t first = adds_first (draft_tree set) script o is_headline s t (subst (λ lines. AddsFirst lines s t) lines_are first)

@@ -16,7 +16,7 @@ use Rattle.history_book.specs.View.{BookView, state_in, history_of, instance_of}
 use Rattle.si_engine.specs.Machine.{Machine, new_machine, machine_step, machine_after, replies_of}
 use Rattle.si_engine.proofs.OutputLaws.{adds_first_of, adds_both, adds_behind}
 use Rattle.si_engine.specs.Headline.{commit_in, commits_said}
-use Rattle.si_engine.specs.Runs.{event_lines, row_lines, end_lines, run_lines, history_of_run, Adds, AddsFirst, AddsEnd, AddsRun, IsRunOf, done, refused, stopped, IsUnreadRun, unread, IsRunReply}
+use Rattle.si_engine.specs.Runs.{event_lines, row_lines, end_lines, run_lines, history_of_run, AddsLines, AddsFirst, AddsEnd, AddsRun, IsRunOf, done, refused, stopped, IsUnreadRun, unread, IsRunReply}
 use Rattle.si_engine.specs.Printed.{reply_line}
 use Rattle.si_engine.specs.Reading.{ForInput}
 use Rattle.si_engine.specs.Script.{IsScript, IsScriptFault}
@@ -57,7 +57,7 @@ module _ (set : DraftTree) (script : Script) (opening : TableState) (events : Li
   pub first_events : (s t : List ℕ) → AddsFirst (event_lines set opening events m) s t → AddsFirst (run_lines set script) s t
   first_events s t h = adds_first_of (event_lines set script.rows script.events new_machine) lines_of_end s t (subst (λ l. AddsFirst l s t) lines_are h)
 
-  module _ (s t u : List ℕ) (d : DraftTree) (o : TableState) (history : List Instance) (same_set : d ≡ set) (same : o ≡ script.rows) (is_history : history ≡ history_of_run set script) (h : Adds (event_lines set opening events m) s t) where
+  module _ (s t u : List ℕ) (d : DraftTree) (o : TableState) (history : List Instance) (same_set : d ≡ set) (same : o ≡ script.rows) (is_history : history ≡ history_of_run set script) (h : AddsLines (event_lines set opening events m) s t) where
     -- all lines of the events, and all that a history ends with
     pub all_lines : (finding : Serializability) → AddsEnd d o history finding t u → AddsRun set script finding s u
     all_lines finding end = go (subst (λ i. AddsEnd set script.rows i finding t u) is_history (subst (λ p. AddsEnd set p history finding t u) same (subst (λ e. AddsEnd e o history finding t u) same_set end))) where
@@ -65,14 +65,14 @@ module _ (set : DraftTree) (script : Script) (opening : TableState) (events : Li
       go (last, found, added) = (
         last,
         found,
-        subst (λ l. Adds l s u) (sym (append_assoc (event_lines set script.rows script.events new_machine) lines_of_end (last ∷ [])))
-            (adds_both (event_lines set script.rows script.events new_machine) (lines_of_end ++ last ∷ []) s t u (subst (λ l. Adds l s t) lines_are h) added),
+        subst (λ l. AddsLines l s u) (sym (append_assoc (event_lines set script.rows script.events new_machine) lines_of_end (last ∷ [])))
+            (adds_both (event_lines set script.rows script.events new_machine) (lines_of_end ++ last ∷ []) s t u (subst (λ l. AddsLines l s t) lines_are h) added),
       )
 
     -- all lines of the events, and some first ones of the rows
     pub first_rows : AddsFirst (end_lines d o history) t u → AddsFirst (run_lines set script) s u
     first_rows first =
-        adds_behind (event_lines set script.rows script.events new_machine) lines_of_end s t u (subst (λ l. Adds l s t) lines_are h)
+        adds_behind (event_lines set script.rows script.events new_machine) lines_of_end s t u (subst (λ l. AddsLines l s t) lines_are h)
         (subst (λ i. AddsFirst (end_lines set script.rows i) t u) is_history (subst (λ p. AddsFirst (end_lines set p history) t u) same (subst (λ e. AddsFirst (end_lines e o history) t u) same_set first)))
 
 pub if_ok : {X E : Type 0} {P Q : X → Type 0} (r : Result X E) → ((x : X) → P x → Q x) → IfOk r P → IfOk r Q

@@ -26,12 +26,12 @@ abbrev pub table_head : List TableDecl → ℕ → Name × Arity
 table_head tables number = head_of (slice_get tables number)
 
 -- `t[7]` or `e[7, 2]`
-abbrev pub cell_in : Name → Arity → Cell → List ℕ
-cell_in name One c = name ++ (codes "[" ++ (signed_decimal c.first ++ codes "]"))
-cell_in name Two c = name ++ (codes "[" ++ (signed_decimal c.first ++ (codes ", " ++ (signed_decimal c.second ++ codes "]"))))
+abbrev pub cell_text_in : Name → Arity → Cell → List ℕ
+cell_text_in name One c = name ++ (codes "[" ++ (signed_decimal c.first ++ codes "]"))
+cell_text_in name Two c = name ++ (codes "[" ++ (signed_decimal c.first ++ (codes ", " ++ (signed_decimal c.second ++ codes "]"))))
 
 abbrev pub cell_text : List TableDecl → Cell → List ℕ
-cell_text tables c = let head = table_head tables c.table in cell_in head.0 head.1 c
+cell_text tables c = let head = table_head tables c.table in cell_text_in head.0 head.1 c
 
 -- `t[1..2]` or `e[7, 1..3]`
 abbrev pub region_in : Name → Arity → Region → List ℕ
@@ -98,10 +98,10 @@ abbrev pub reply_line : List TableDecl → Event → Reply → List ℕ
 reply_line tables event reply = subject event ++ (reply_text tables reply ++ codes "\n")
 
 -- `row t 1 = 5` or `row e 7 2 = 5`
-abbrev pub row_in : Name → Arity → Cell → ℤ → List ℕ
-row_in name One c v = codes "row " ++ (name ++ (codes " " ++ (signed_decimal c.first ++ (codes " = " ++ (signed_decimal v ++ codes "\n")))))
-row_in name Two c v = codes "row " ++ (name ++ (codes " " ++ (signed_decimal c.first ++ (codes " " ++ (signed_decimal c.second ++ (codes " = " ++ (signed_decimal v ++ codes "\n")))))))
+abbrev pub row_text_in : Name → Arity → Cell → ℤ → List ℕ
+row_text_in name One c v = codes "row " ++ (name ++ (codes " " ++ (signed_decimal c.first ++ (codes " = " ++ (signed_decimal v ++ codes "\n")))))
+row_text_in name Two c v = codes "row " ++ (name ++ (codes " " ++ (signed_decimal c.first ++ (codes " " ++ (signed_decimal c.second ++ (codes " = " ++ (signed_decimal v ++ codes "\n")))))))
 
 -- the line of a row
 abbrev pub row_line : List TableDecl → Cell → ℤ → List ℕ
-row_line tables c v = let head = table_head tables c.table in row_in head.0 head.1 c v
+row_line tables c v = let head = table_head tables c.table in row_text_in head.0 head.1 c v

@@ -52,25 +52,25 @@ outcome_lines set events o =
     exchange_lines set.tables (zip events o.replies) ++ row_lines set o.table
 
 -- lines were added to a text
-abbrev pub Adds : List (List ℕ) → List ℕ → List ℕ → Type 0
-Adds lines before after = after ≡ before ++ concat lines
+abbrev pub AddsLines : List (List ℕ) → List ℕ → List ℕ → Type 0
+AddsLines lines before after = after ≡ before ++ concat lines
 
 -- some first of these lines were added to a text, or all of them
 abbrev pub AddsFirst : List (List ℕ) → List ℕ → List ℕ → Type 0
 AddsFirst lines before after =
-    (done : List (List ℕ)) × (rest : List (List ℕ)) × (lines ≡ done ++ rest) × Adds done before after
+    (done : List (List ℕ)) × (rest : List (List ℕ)) × (lines ≡ done ++ rest) × AddsLines done before after
 
 -- after a history: the rows that are left, one line each, and the last line
 abbrev pub AddsEnd : DraftTree → TableState → List Instance → Serializability → List ℕ → List ℕ → Type 0
 AddsEnd set opening h finding before after =
     (last : List ℕ) × IsLastLine set opening h finding last
-    × Adds (end_lines set opening h ++ last ∷ []) before after
+    × AddsLines (end_lines set opening h ++ last ∷ []) before after
 
 -- all lines of a script, and the last line
 abbrev pub AddsRun : DraftTree → Script → Serializability → List ℕ → List ℕ → Type 0
 AddsRun set script finding before after =
     (last : List ℕ) × IsLastLine set script.rows (history_of_run set script) finding last
-    × Adds (run_lines set script ++ last ∷ []) before after
+    × AddsLines (run_lines set script ++ last ∷ []) before after
 
 -- what a run of these bytes writes, and how it ends
 pub data IsRunOf (set : DraftTree) (part : List ℕ) : List ℕ → Result Serializability PartFault → Type 0 where

@@ -23,9 +23,9 @@ unfoldable pub Keeps : List ℕ → List ℕ → Type 0
 Keeps before after = (rest : List ℕ) × (after ≡ before ++ rest)
 
 -- these bytes were added to a text; where memory ran out, it still begins as it did
-unfoldable pub Writes : {Z : Type 0} → (old new : String Z) → Result (Unit {0}) AllocError → List ℕ → Type 0
-Writes old new (Ok done) bytes = string_bytes new ≡ string_bytes old ++ bytes
-Writes old new (Err e) bytes = Keeps (string_bytes old) (string_bytes new)
+unfoldable pub AddsBytes : {Z : Type 0} → (old new : String Z) → Result (Unit {0}) AllocError → List ℕ → Type 0
+AddsBytes old new (Ok done) bytes = string_bytes new ≡ string_bytes old ++ bytes
+AddsBytes old new (Err e) bytes = Keeps (string_bytes old) (string_bytes new)
 
 -- these bytes were added to a text; where memory ran out, it is as it was
 pub record AddsOrStays {Z : Type 0} (old new : String Z) (result : Result (Unit {0}) AllocError) (bytes : List ℕ) : Type 0 where

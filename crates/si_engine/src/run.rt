@@ -3,7 +3,7 @@ ghost use Rattle.std.specs.Prelude.{◌≡◌, ◌≤◌, ◌+◌, [], false, tr
 ghost use Rattle.prog_tree.specs.Tree.{draft_tree};
 ghost use Rattle.si_engine.specs.Machine.{machine_after};
 ghost use Rattle.si_engine.specs.Reading.{ForInput};
-ghost use Rattle.si_engine.specs.Runs.{event_lines, run_lines, Adds, AddsFirst, AddsRun, IsRunOf, IsScriptRun, IsUnreadRun};
+ghost use Rattle.si_engine.specs.Runs.{event_lines, run_lines, AddsLines, AddsFirst, AddsRun, IsRunOf, IsScriptRun, IsUnreadRun};
 ghost use Rattle.si_engine.specs.View.{StaysOver};
 ghost use Rattle.si_engine.specs.Writing.{IsJust, WritesOr};
 
@@ -33,7 +33,7 @@ fn run_events<W: Witness>(
     ensures over { StaysOver engine.old engine.new }
     ensures after { OnOk result (engine.new.machine ≡ machine_after
         (draft_tree set.now) engine.old.opening events.now engine.old.machine) }
-    ensures ok { OnOk result (Adds
+    ensures ok { OnOk result (AddsLines
         (event_lines (draft_tree set.now) engine.old.opening events.now engine.old.machine)
         (string_bytes out.old) (string_bytes out.new)) }
     ensures err { OnErr result (AddsFirst

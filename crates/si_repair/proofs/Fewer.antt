@@ -10,7 +10,7 @@ use Rattle.prog_tree.specs.Syntax.{Name, KeyTree, One, TestTree, ListingTree, St
 use Rattle.prog_tree.specs.Syntax as s
 use Rattle.prog_tree.specs.Value.{same_name}
 use Rattle.prog_check.specs.Accesses.{kinds_of, grows_used}
-use Rattle.prog_check.specs.Counts.{access_count, body_count, larger, added, heaviest, up_to, is_above}
+use Rattle.prog_check.specs.Counts.{access_count, body_count, larger, added_weights, heaviest, up_to, is_above}
 use Rattle.prog_check.specs.Paths.{statement_count}
 use Rattle.prog_check.specs.Tables.{declaration, grows}
 use Rattle.prog_check.specs.Uses.{used_table, is_abort, as_count}
@@ -26,7 +26,7 @@ AtMost None m = Unit {0}
 AtMost (Some n) None = ⊥
 AtMost (Some n) (Some m) = n ≤ m
 
-most-added : (a b c d : Option ℕ) → AtMost a b → AtMost c d → AtMost (added a c) (added b d)
+most-added : (a b c d : Option ℕ) → AtMost a b → AtMost c d → AtMost (added_weights a c) (added_weights b d)
 most-added None b c d h k = tt
 most-added (Some a) None c d h k = absurd h
 most-added (Some a) (Some b) None d h k = tt
@@ -45,7 +45,7 @@ most-larger (Some a) (Some b) (Some c) None h k = absurd k
 most-larger (Some a) (Some b) (Some c) (Some d) h k = omega (arith, h, k)
 
 -- with one access more
-most-more : (a b : Option ℕ) → AtMost a b → AtMost a (added (Some 1) b)
+most-more : (a b : Option ℕ) → AtMost a b → AtMost a (added_weights (Some 1) b)
 most-more None b h = tt
 most-more (Some a) None h = absurd h
 most-more (Some a) (Some b) h = omega (arith, h)
@@ -75,7 +75,7 @@ module _ (fewer more : List TableDecl) (same : (st : StatementTree) → access_c
   lighter-then : (st : StatementTree) (a b : BlockTree) → IsLighter a b → IsLighter (Then st a) (Then st b)
   lighter-then st a b h = let few = h.statements in record { statements = omega (arith, few); weight = go (is_abort st) }
     where
-      go : (aborts : Bool) → AtMost (if aborts then None else added (Some (access_count fewer st)) (heaviest fewer a)) (if aborts then None else added (Some (access_count more st)) (heaviest more b))
+      go : (aborts : Bool) → AtMost (if aborts then None else added_weights (Some (access_count fewer st)) (heaviest fewer a)) (if aborts then None else added_weights (Some (access_count more st)) (heaviest more b))
       go true = tt
       go false = let own = same st in most-added (Some (access_count fewer st)) (Some (access_count more st)) (heaviest fewer a) (heaviest more b) (omega (arith, own)) h.weight
 

@@ -5,7 +5,7 @@ ghost use Rattle.prog_tree.specs.Syntax.{Fork, Loop};
 ghost use Rattle.prog_tree.specs.Tree.{test_tree, listing_tree, stmt_tree, stmts_tree, block_tree};
 ghost use Rattle.prog_text.specs.Cursor.{Reads};
 ghost use Rattle.prog_text.specs.Reading.{listing_at, body_at, block_at};
-ghost use Rattle.prog_text.specs.OpenBlocks.{GoesOn, Steps, unread_of, behind_end, behind_if, behind_each};
+ghost use Rattle.prog_text.specs.OpenBlocks.{ReadsOn, Steps, unread_of, behind_end, behind_if, behind_each};
 
 use crate::lexing::token::Sign;
 use crate::limits::MAX_BRACKETS;
@@ -110,7 +110,7 @@ impl Body {
         test: Test,
         before: Vec<Stmt>,
     ) -> Result<(), ReadError>
-        ensures { GoesOn (behind_end (Open.First test before) self.old cursor.old) result
+        ensures { ReadsOn (behind_end (Open.First test before) self.old cursor.old) result
             self.new cursor.old cursor.new }
     {
         let first = mem::replace(&mut self.done, Vec::new(cursor.alloc));
@@ -131,7 +131,7 @@ impl Body {
     // Goes on behind the closing sign of the innermost block.
     #[tactic(auto, using(crate::proofs::BlockSteps::second_ends, crate::proofs::BlockSteps::turns_end))]
     fn end(&mut self, cursor: &mut Cursor<'_>, last: Open) -> Result<(), ReadError>
-        ensures { GoesOn (behind_end last self.old cursor.old) result
+        ensures { ReadsOn (behind_end last self.old cursor.old) result
             self.new cursor.old cursor.new }
     {
         match last {
@@ -156,7 +156,7 @@ impl Body {
     // Goes on behind the word `if`, into the first block.
     #[tactic(auto, using(crate::proofs::BlockSteps::first_opens))]
     fn begin_branch(&mut self, cursor: &mut Cursor<'_>) -> Result<(), ReadError>
-        ensures { GoesOn (behind_if self.old cursor.old) result self.new cursor.old cursor.new }
+        ensures { ReadsOn (behind_if self.old cursor.old) result self.new cursor.old cursor.new }
     {
         let test = test(cursor)?;
         cursor.expect(Sign::OpenBlock)?;
@@ -168,7 +168,7 @@ impl Body {
     // Goes on behind the word `each`, into its block.
     #[tactic(auto, using(crate::proofs::BlockSteps::turns_open))]
     fn begin_each(&mut self, cursor: &mut Cursor<'_>) -> Result<(), ReadError>
-        ensures { GoesOn (behind_each self.old cursor.old) result self.new cursor.old cursor.new }
+        ensures { ReadsOn (behind_each self.old cursor.old) result self.new cursor.old cursor.new }
     {
         let listing = listing(cursor)?;
         cursor.expect(Sign::OpenBlock)?;

@@ -3,7 +3,7 @@ ghost use Rattle.std.specs.Prelude.{◌≡◌, ◌++◌, List, ℕ, string_bytes
 ghost use Rattle.prog_tree.specs.Tree.{draft_tree};
 ghost use Rattle.history_book.specs.View.{history_of};
 ghost use Rattle.si_engine.specs.LastLine.{IsLastLine};
-ghost use Rattle.si_engine.specs.Runs.{row_lines, end_lines, Adds, AddsFirst, AddsEnd};
+ghost use Rattle.si_engine.specs.Runs.{row_lines, end_lines, AddsLines, AddsFirst, AddsEnd};
 
 use crate::output::printed::{push_last_line, push_row_line};
 use crate::witness::{NoWitness, Witness};
@@ -22,7 +22,7 @@ pub enum Serializability {
 
 /// Adds the line of each row. Where memory runs out, some first lines were added.
 pub fn push_rows(set: &Draft, rows: &Rows, out: &mut String) -> Result<(), AllocError>
-    ensures ok { OnOk result (Adds (row_lines (draft_tree set.now) rows.now)
+    ensures ok { OnOk result (AddsLines (row_lines (draft_tree set.now) rows.now)
         (string_bytes out.old) (string_bytes out.new)) }
     ensures err { OnErr result (AddsFirst (row_lines (draft_tree set.now) rows.now)
         (string_bytes out.old) (string_bytes out.new)) }

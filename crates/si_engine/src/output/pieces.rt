@@ -6,7 +6,7 @@ ghost use Rattle.std.specs.Fmt.{signed_decimal};
 ghost use Rattle.std.specs.Prelude.{◌≡◌, ◌<◌, ◌++◌, [], ◌∷◌, codes};
 ghost use Rattle.std.specs.List.{flat_map};
 ghost use Rattle.si_engine.specs.Printed.{table_head, cell_text, region_in, region_text, value_text};
-ghost use Rattle.si_engine.specs.Writing.{Writes};
+ghost use Rattle.si_engine.specs.Writing.{AddsBytes};
 
 use itoa::{Buffer, Integer};
 use prog_tree::{Arity, Cell, Region, TableDecl};
@@ -14,7 +14,7 @@ use std::alloc::AllocError;
 
 /// Adds a word.
 pub fn push_word(text: &mut String, word: &str) -> Result<(), AllocError>
-    ensures { Writes text.old text.new result word.now }
+    ensures { AddsBytes text.old text.new result word.now }
 {
     text.push_str(word)
 }
@@ -22,14 +22,14 @@ pub fn push_word(text: &mut String, word: &str) -> Result<(), AllocError>
 /// Adds a character of one byte.
 pub fn push_mark(text: &mut String, mark: char) -> Result<(), AllocError>
     requires { mark < 128 }
-    ensures { Writes text.old text.new result (mark ∷ []) }
+    ensures { AddsBytes text.old text.new result (mark ∷ []) }
 {
     text.push(mark)
 }
 
 /// Adds the digits of a number, behind a sign where it is negative.
 pub fn push_number<I: Integer>(text: &mut String, number: I) -> Result<(), AllocError>
-    ensures { Writes text.old text.new result (I.text number) }
+    ensures { AddsBytes text.old text.new result (I.text number) }
 {
     let mut digits = Buffer::new();
     push_word(text, digits.format(number))
@@ -41,7 +41,7 @@ pub fn push_with_number<I: Integer>(
     word: &str,
     number: I,
 ) -> Result<(), AllocError>
-    ensures { Writes text.old text.new result (word.now ++ I.text number) }
+    ensures { AddsBytes text.old text.new result (word.now ++ I.text number) }
 {
     push_word(text, word)?;
     push_number(text, number)
@@ -49,7 +49,7 @@ pub fn push_with_number<I: Integer>(
 
 // Adds a name, and the first number behind its bracket.
 fn push_opening(text: &mut String, name: &str, first: i64) -> Result<(), AllocError>
-    ensures { Writes text.old text.new result (name.now ++ (codes "[" ++ signed_decimal first)) }
+    ensures { AddsBytes text.old text.new result (name.now ++ (codes "[" ++ signed_decimal first)) }
 {
     push_word(text, name)?;
     push_mark(text, '[')?;
@@ -59,7 +59,8 @@ fn push_opening(text: &mut String, name: &str, first: i64) -> Result<(), AllocEr
 /// Adds numbers, each behind a space.
 #[tactic(auto, using(crate::proofs::WritingLaws::growing_steps))]
 pub fn push_numbers<I: Integer>(text: &mut String, numbers: &[I]) -> Result<(), AllocError>
-    ensures { Writes text.old text.new result (flat_map (λ n. codes " " ++ I.text n) numbers.now) }
+    ensures { AddsBytes text.old text.new result
+        (flat_map (λ n. codes " " ++ I.text n) numbers.now) }
 {
     for number in numbers {
         push_mark(text, ' ')?;
@@ -69,7 +70,7 @@ pub fn push_numbers<I: Integer>(text: &mut String, numbers: &[I]) -> Result<(), 
 }
 
 fn push_value(text: &mut String, value: Option<i64>) -> Result<(), AllocError>
-    ensures { Writes text.old text.new result (value_text value) }
+    ensures { AddsBytes text.old text.new result (value_text value) }
 {
     match value {
         Some(value) => push_number(text, value),
@@ -79,7 +80,7 @@ fn push_value(text: &mut String, value: Option<i64>) -> Result<(), AllocError>
 
 /// Adds a value behind a space.
 pub fn push_behind(text: &mut String, value: Option<i64>) -> Result<(), AllocError>
-    ensures { Writes text.old text.new result (codes " " ++ value_text value) }
+    ensures { AddsBytes text.old text.new result (codes " " ++ value_text value) }
 {
     push_mark(text, ' ')?;
     push_value(text, value)
@@ -97,7 +98,7 @@ pub fn table_head(tables: &[TableDecl], number: usize) -> (&str, Arity)
 }
 
 fn push_cell(text: &mut String, tables: &[TableDecl], cell: &Cell) -> Result<(), AllocError>
-    ensures { Writes text.old text.new result (cell_text tables.now cell.now) }
+    ensures { AddsBytes text.old text.new result (cell_text tables.now cell.now) }
 {
     let (name, arity) = table_head(tables, cell.table);
     let Cell { first, second, .. } = *cell;
@@ -118,7 +119,7 @@ pub fn push_with_cell(
     tables: &[TableDecl],
     cell: &Cell,
 ) -> Result<(), AllocError>
-    ensures { Writes text.old text.new result (word.now ++ cell_text tables.now cell.now) }
+    ensures { AddsBytes text.old text.new result (word.now ++ cell_text tables.now cell.now) }
 {
     push_word(text, word)?;
     push_cell(text, tables, cell)
@@ -126,7 +127,7 @@ pub fn push_with_cell(
 
 // Adds a word, both ends of a range behind it, and the bracket that closes them.
 fn push_range(text: &mut String, word: &str, low: i64, high: i64) -> Result<(), AllocError>
-    ensures { Writes text.old text.new result (word.now
+    ensures { AddsBytes text.old text.new result (word.now
         ++ (signed_decimal low ++ (codes ".." ++ (signed_decimal high ++ codes "]")))) }
 {
     push_with_number(text, word, low)?;
@@ -140,7 +141,7 @@ fn push_region_in(
     arity: Arity,
     region: &Region,
 ) -> Result<(), AllocError>
-    ensures { Writes text.old text.new result (region_in name.now arity region.now) }
+    ensures { AddsBytes text.old text.new result (region_in name.now arity region.now) }
 {
     let Region {
         first_low,
@@ -162,7 +163,7 @@ fn push_region_in(
 }
 
 fn push_region(text: &mut String, tables: &[TableDecl], region: &Region) -> Result<(), AllocError>
-    ensures { Writes text.old text.new result (region_text tables.now region.now) }
+    ensures { AddsBytes text.old text.new result (region_text tables.now region.now) }
 {
     let (name, arity) = table_head(tables, region.table);
     push_region_in(text, name, arity, region)
@@ -176,7 +177,7 @@ pub fn push_found<I: Integer>(
     region: &Region,
     found: I,
 ) -> Result<(), AllocError>
-    ensures { Writes text.old text.new result (word.now
+    ensures { AddsBytes text.old text.new result (word.now
         ++ (region_text tables.now region.now ++ (codes " " ++ I.text found))) }
 {
     push_word(text, word)?;

@@ -5,8 +5,8 @@ ghost use Rattle.std.specs.Fmt.{signed_decimal};
 ghost use Rattle.std.specs.Prelude.{◌≡◌, ◌++◌, OnOk, OnErr, take, codes, string_bytes};
 ghost use Rattle.std.specs.Str.{IsCharBoundary};
 ghost use Rattle.si_engine.specs.LastLine.{commits_text, last_line};
-ghost use Rattle.si_engine.specs.Printed.{deed_text, cause_text, reply_text, subject, reply_line, row_in, row_line};
-ghost use Rattle.si_engine.specs.Writing.{AddsOrStays, Writes};
+ghost use Rattle.si_engine.specs.Printed.{deed_text, cause_text, reply_text, subject, reply_line, row_text_in, row_line};
+ghost use Rattle.si_engine.specs.Writing.{AddsOrStays, AddsBytes};
 
 use crate::event::{Event, Reply};
 use crate::output::finding::Serializability;
@@ -18,7 +18,7 @@ use prog_tree::{Arity, Cause, Cell, Deed, TableDecl};
 use std::alloc::AllocError;
 
 fn push_deed(text: &mut String, tables: &[TableDecl], deed: &Deed) -> Result<(), AllocError>
-    ensures { Writes text.old text.new result (deed_text tables.now deed.now) }
+    ensures { AddsBytes text.old text.new result (deed_text tables.now deed.now) }
 {
     match deed {
         Deed::Read(cell, value) => {
@@ -38,7 +38,7 @@ fn push_deed(text: &mut String, tables: &[TableDecl], deed: &Deed) -> Result<(),
 }
 
 fn push_cause(text: &mut String, tables: &[TableDecl], cause: &Cause) -> Result<(), AllocError>
-    ensures { Writes text.old text.new result (cause_text tables.now cause.now) }
+    ensures { AddsBytes text.old text.new result (cause_text tables.now cause.now) }
 {
     match cause {
         Cause::Asked => push_word(text, "asked"),
@@ -49,7 +49,7 @@ fn push_cause(text: &mut String, tables: &[TableDecl], cause: &Cause) -> Result<
 }
 
 fn push_reply(text: &mut String, tables: &[TableDecl], reply: &Reply) -> Result<(), AllocError>
-    ensures { Writes text.old text.new result (reply_text tables.now reply.now) }
+    ensures { AddsBytes text.old text.new result (reply_text tables.now reply.now) }
 {
     match reply {
         Reply::Begun { instance, start } => {
@@ -85,7 +85,7 @@ fn push_reply(text: &mut String, tables: &[TableDecl], reply: &Reply) -> Result<
 
 // Adds the instance of which a step, a commit or an abort speaks.
 fn push_subject(text: &mut String, event: &Event) -> Result<(), AllocError>
-    ensures { Writes text.old text.new result (subject event.now) }
+    ensures { AddsBytes text.old text.new result (subject event.now) }
 {
     match event {
         Event::Begin { .. } | Event::BeginAt { .. } | Event::Vacuum => Ok(()),
@@ -102,7 +102,7 @@ fn write_reply_line(
     event: &Event,
     reply: &Reply,
 ) -> Result<(), AllocError>
-    ensures { Writes text.old text.new result (reply_line tables.now event.now reply.now) }
+    ensures { AddsBytes text.old text.new result (reply_line tables.now event.now reply.now) }
 {
     push_subject(text, event)?;
     push_reply(text, tables, reply)?;
@@ -142,7 +142,7 @@ pub fn push_reply_line(
 
 // Adds the name of a row's table, and its first number.
 fn push_row_head(text: &mut String, name: &str, first: i64) -> Result<(), AllocError>
-    ensures { Writes text.old text.new result (codes "row "
+    ensures { AddsBytes text.old text.new result (codes "row "
         ++ (name.now ++ (codes " " ++ signed_decimal first))) }
 {
     push_word(text, "row ")?;
@@ -152,7 +152,7 @@ fn push_row_head(text: &mut String, name: &str, first: i64) -> Result<(), AllocE
 
 // Adds the value of a row, and the end of its line.
 fn push_row_end(text: &mut String, value: i64) -> Result<(), AllocError>
-    ensures { Writes text.old text.new result
+    ensures { AddsBytes text.old text.new result
         (codes " = " ++ (signed_decimal value ++ codes "\n")) }
 {
     push_with_number(text, " = ", value)?;
@@ -161,7 +161,7 @@ fn push_row_end(text: &mut String, value: i64) -> Result<(), AllocError>
 
 // Adds the second number of a row, its value, and the end of its line.
 fn push_second_end(text: &mut String, second: i64, value: i64) -> Result<(), AllocError>
-    ensures { Writes text.old text.new result (codes " "
+    ensures { AddsBytes text.old text.new result (codes " "
         ++ (signed_decimal second ++ (codes " = " ++ (signed_decimal value ++ codes "\n")))) }
 {
     push_with_number(text, " ", second)?;
@@ -175,7 +175,7 @@ fn write_row_in(
     cell: &Cell,
     value: i64,
 ) -> Result<(), AllocError>
-    ensures { Writes text.old text.new result (row_in name.now arity cell.now value) }
+    ensures { AddsBytes text.old text.new result (row_text_in name.now arity cell.now value) }
 {
     let Cell { first, second, .. } = *cell;
     push_row_head(text, name, first)?;
@@ -191,7 +191,7 @@ fn write_row_line(
     cell: &Cell,
     value: i64,
 ) -> Result<(), AllocError>
-    ensures { Writes text.old text.new result (row_line tables.now cell.now value) }
+    ensures { AddsBytes text.old text.new result (row_line tables.now cell.now value) }
 {
     let (name, arity) = table_head(tables, cell.table);
     write_row_in(text, name, arity, cell, value)
@@ -213,7 +213,7 @@ pub fn push_row_line(
 
 // Adds a line of a word and numbers.
 fn write_numbers_line(text: &mut String, word: &str, numbers: &[usize]) -> Result<(), AllocError>
-    ensures { Writes text.old text.new result
+    ensures { AddsBytes text.old text.new result
         (word.now ++ (commits_text numbers.now ++ codes "\n")) }
 {
     push_word(text, word)?;
@@ -226,7 +226,7 @@ fn write_last_line(
     finding: Serializability,
     numbers: &[usize],
 ) -> Result<(), AllocError>
-    ensures { Writes text.old text.new result (last_line finding numbers.now) }
+    ensures { AddsBytes text.old text.new result (last_line finding numbers.now) }
 {
     match finding {
         Serializability::Order => write_numbers_line(text, "order", numbers),

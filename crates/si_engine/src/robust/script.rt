@@ -4,7 +4,7 @@ ghost use Rattle.std.specs.List.{zip};
 ghost use Rattle.prog_tree.specs.Tree.{draft_tree};
 ghost use Rattle.si_engine.specs.LastLine.{last_line};
 ghost use Rattle.si_engine.specs.Reading.{ForInput};
-ghost use Rattle.si_engine.specs.Runs.{exchange_lines, outcome_lines, run_lines, Adds, AddsFirst, AddsRun, IsRobustScriptRun, IsRunOf, IsUnreadRun};
+ghost use Rattle.si_engine.specs.Runs.{exchange_lines, outcome_lines, run_lines, AddsLines, AddsFirst, AddsRun, IsRobustScriptRun, IsRunOf, IsUnreadRun};
 
 use crate::event::{Event, Reply};
 use crate::input::part_fault::PartFault;
@@ -28,7 +28,7 @@ fn list_replies(
     replies: &[Reply],
     out: &mut String,
 ) -> Result<(), AllocError>
-    ensures ok { OnOk result (Adds (exchange_lines tables.now (zip events.now replies.now))
+    ensures ok { OnOk result (AddsLines (exchange_lines tables.now (zip events.now replies.now))
         (string_bytes out.old) (string_bytes out.new)) }
     ensures err { OnErr result (AddsFirst (exchange_lines tables.now (zip events.now replies.now))
         (string_bytes out.old) (string_bytes out.new)) }
@@ -46,7 +46,7 @@ fn list_outcome(
     outcome: &Outcome,
     out: &mut String,
 ) -> Result<(), AllocError>
-    ensures ok { OnOk result (Adds
+    ensures ok { OnOk result (AddsLines
         (outcome_lines (draft_tree set.now) events.now outcome.now
         ++ last_line Serializability.Order outcome.now.order ∷ [])
         (string_bytes out.old) (string_bytes out.new)) }

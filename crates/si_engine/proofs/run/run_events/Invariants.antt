@@ -1,7 +1,7 @@
 use Rattle.std.proofs.Common.{◌≡◌, List, ℕ, ◌++◌, drop, string_bytes}
 use Rattle.prog_tree.specs.Tree.{draft_tree}
 use Rattle.si_engine.specs.Machine.{machine_after}
-use Rattle.si_engine.specs.Runs.{event_lines, Adds}
+use Rattle.si_engine.specs.Runs.{event_lines, AddsLines}
 use Rattle.si_engine.proofs.run.run_events.Given as goal
 
 -- the lines so far, and those of the events that are left, are all lines
@@ -14,5 +14,5 @@ invariant-loop-event g l = record {
   done : List (List ℕ);
   lines : event_lines (draft_tree l.set) l.fn.engine.opening l.events l.fn.engine.machine
       ≡ done ++ event_lines (draft_tree l.set) l.fn.engine.opening (drop l.event-index l.events) l.engine.machine;
-  added : Adds done (string_bytes l.fn.out) (string_bytes l.out);
+  added : AddsLines done (string_bytes l.fn.out) (string_bytes l.out);
 }

@@ -3,7 +3,7 @@ use Rattle.std.proofs.lemmas.Result.{err_from_is_err_and, IfOk-weaker}
 use Rattle.prog_tree.specs.Tree.{draft_tree}
 use Rattle.history_book.specs.View.{history_of}
 use Rattle.si_engine.specs.LastLine.{IsLastLine}
-use Rattle.si_engine.specs.Runs.{end_lines, Adds, AddsEnd, AddsFirst}
+use Rattle.si_engine.specs.Runs.{end_lines, AddsLines, AddsEnd, AddsFirst}
 use Rattle.si_engine.proofs.OutputLaws.{adds_all, adds_line}
 use Rattle.si_engine.proofs.RunLaws.{on_err, rows_left}
 use Rattle.si_engine.proofs.output.finding.push_findings_before.Goals as goal
@@ -19,7 +19,7 @@ returns-clause-err g c =
     let rows = rows_left c.args.book.now c.draft.result.now c.in_ok-table.table (c.draft.ensures.same ∙ c.set.ensures) c.in_ok-table.ensures in
     on_err c.push_order.result
     (adds_all (end_lines (draft_tree c.args.book.now.set) c.args.book.now.opening (history_of c.args.book.now.rows)) _ _ _
-    (subst (λ (lines : List (List ℕ)). Adds lines (string_bytes c.args.out.now) (string_bytes c.push_rows.new.out)) rows c.in_ok-push_rows.ensures.ok))
+    (subst (λ (lines : List (List ℕ)). AddsLines lines (string_bytes c.args.out.now) (string_bytes c.push_rows.new.out)) rows c.in_ok-push_rows.ensures.ok))
     c.push_order.ensures.err
 
 pub returns-clause-ok : goal.returns-clause-ok
@@ -31,7 +31,7 @@ returns-clause-ok g c =
     let before = string_bytes c.push_rows.new.out in
     let new = string_bytes c.push_order.new.out in
     let rows = rows_left book c.draft.result.now c.in_ok-table.table (c.draft.ensures.same ∙ c.set.ensures) c.in_ok-table.ensures in
-    let added = subst (λ (lines : List (List ℕ)). Adds lines old before) rows c.in_ok-push_rows.ensures.ok in
+    let added = subst (λ (lines : List (List ℕ)). AddsLines lines old before) rows c.in_ok-push_rows.ensures.ok in
     IfOk-weaker c.push_order.result
     (λ finding. (last : List ℕ) × IsLastLine set book.opening h finding last × (new ≡ before ++ last))
     (λ finding. AddsEnd set book.opening h finding old new)

@@ -4,7 +4,7 @@ use Rattle.std.proofs.lemmas.Result.{err_from_is_err_and}
 use Rattle.prog_tree.specs.Tree.{draft_tree}
 use Rattle.si_engine.specs.declared.output.finding.Serializability.TheVariants.{Order}
 use Rattle.si_engine.specs.LastLine.{last_line}
-use Rattle.si_engine.specs.Runs.{exchange_lines, row_lines, Adds, AddsFirst}
+use Rattle.si_engine.specs.Runs.{exchange_lines, row_lines, AddsLines, AddsFirst}
 use Rattle.si_engine.proofs.OutputLaws.{adds_all, adds_both, adds_line, adds_behind, adds_first_of}
 use Rattle.si_engine.proofs.RunLaws.{on_ok, on_err}
 use Rattle.si_engine.proofs.robust.script.list_outcome.Goals as goal
@@ -29,7 +29,7 @@ returns-in_err-push_rows-clause-err c =
     let said =
     ap (λ tables. exchange_lines tables (zip events c.as_slice.result.now)) c.deref.ensures.value
     ∙ ap (λ rs. exchange_lines c.args.set.now.tables.items (zip events rs)) c.as_slice.ensures in
-    let first = subst (λ (lines : List (List ℕ)). Adds lines (string_bytes c.args.out.now) (string_bytes c.list_replies.new.out)) said c.in_ok-list_replies.ensures.ok in
+    let first = subst (λ (lines : List (List ℕ)). AddsLines lines (string_bytes c.args.out.now) (string_bytes c.list_replies.new.out)) said c.in_ok-list_replies.ensures.ok in
     rw (exit.1)
     (adds_behind (exchange_lines c.args.set.now.tables.items (zip events o.replies)) (row_lines (draft_tree c.args.set.now) o.table) _ _ _ first
     c.in_err-push_rows.ensures.err)
@@ -43,7 +43,7 @@ returns-clause-ok c =
     let said =
     ap (λ tables. exchange_lines tables (zip events c.as_slice.result.now)) c.deref.ensures.value
     ∙ ap (λ rs. exchange_lines c.args.set.now.tables.items (zip events rs)) c.as_slice.ensures in
-    let first = subst (λ (lines : List (List ℕ)). Adds lines (string_bytes c.args.out.now) (string_bytes c.list_replies.new.out)) said c.in_ok-list_replies.ensures.ok in
+    let first = subst (λ (lines : List (List ℕ)). AddsLines lines (string_bytes c.args.out.now) (string_bytes c.list_replies.new.out)) said c.in_ok-list_replies.ensures.ok in
     let both = adds_both replies rows _ _ _ first c.in_ok-push_rows.ensures.ok in
     on_ok c.push_last_line.result
     (λ (wrote : string_bytes c.push_last_line.new.text ≡ string_bytes c.push_rows.new.out ++ last_line Order c.as_slice-2.result.now).
@@ -60,7 +60,7 @@ returns-clause-err c =
     let said =
     ap (λ tables. exchange_lines tables (zip events c.as_slice.result.now)) c.deref.ensures.value
     ∙ ap (λ rs. exchange_lines c.args.set.now.tables.items (zip events rs)) c.as_slice.ensures in
-    let first = subst (λ (lines : List (List ℕ)). Adds lines (string_bytes c.args.out.now) (string_bytes c.list_replies.new.out)) said c.in_ok-list_replies.ensures.ok in
+    let first = subst (λ (lines : List (List ℕ)). AddsLines lines (string_bytes c.args.out.now) (string_bytes c.list_replies.new.out)) said c.in_ok-list_replies.ensures.ok in
     let both = adds_both replies rows _ _ _ first c.in_ok-push_rows.ensures.ok in
     on_err c.push_last_line.result
     (λ (same : string_bytes c.push_last_line.new.text ≡ string_bytes c.push_rows.new.out). adds_all (replies ++ rows) _ _ _ both same)

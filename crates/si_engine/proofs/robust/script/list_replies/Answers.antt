@@ -3,7 +3,7 @@ use Rattle.std.specs.List.{zip}
 use Rattle.si_engine.specs.declared.event.Event.{Event}
 use Rattle.si_engine.specs.declared.event.Reply.{Reply}
 use Rattle.si_engine.specs.Printed.{reply_line}
-use Rattle.si_engine.specs.Runs.{exchange_lines, Adds}
+use Rattle.si_engine.specs.Runs.{exchange_lines, AddsLines}
 use Rattle.si_engine.proofs.OutputLaws.{adds_line}
 use Rattle.si_engine.proofs.robust.script.list_replies.Goals as goal
 
@@ -48,4 +48,4 @@ returns-clause-ok c =
     before.lines
     ∙ (ap (λ said. before.done ++ exchange_lines c.args.tables.now said) none
     ∙ append-nil before.done) in
-    subst (λ lines. Adds lines (string_bytes c.args.out.now) (string_bytes c.loop-event.out)) (sym all) before.added
+    subst (λ lines. AddsLines lines (string_bytes c.args.out.now) (string_bytes c.loop-event.out)) (sym all) before.added
