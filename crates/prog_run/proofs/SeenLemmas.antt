@@ -1,6 +1,7 @@
 -- The rows that a run sees in a region: those of its look and its own changes, merged in one pass.
 use Rattle.std.proofs.Common.{◌≡◌, ℕ, zero, suc, ◌+◌, List, [], ◌∷◌, ◌++◌, refl, ap, sym, subst, ◌∙◌, true, false, not, cond, arith, ◌<◌, length, take, drop, get_or, add-one, drop-cons, append_assoc}
-use Rattle.std.specs.Prelude.{ℤ, ◌+ℤ◌, Bool, ◌||◌, Option, Some, None, filter, if◌then◌else◌}
+use Rattle.std.specs.Prelude.{ℤ, ◌+ℤ◌, Bool, ◌||◌, Option, Some, None, filter}
+use Rattle.std.proofs.Math.Numerals.{one-add}
 use Rattle.std.specs.declared.cmp.Ordering.{Ordering}
 use Rattle.std.specs.declared.cmp.Ordering.TheVariants.{Less, Equal, Greater}
 use Rattle.std.specs.Ordering.{is_eq, is_lt, match_ordering, ordering_reverse}
@@ -159,10 +160,10 @@ merged e es [] ordered absent = first_change e [] es tt ordered absent
 merged e es (row ∷ m) ordered absent = by_order (cell_cmp row.0 e.0) refl (merged e es m ordered (all_absent_rest row m (e ∷ es) absent))
   where
     by_order : (o : Ordering) → cell_cmp row.0 e.0 ≡ o → changed m (e ∷ es) ≡ take (rows_before e.0 m) m ++ (own_row e.0 e.1 ++ changed (drop (rows_before e.0 m) m) es) →
-        let n = if is_lt o then rows_before e.0 m + 1 else 0 in changed (row ∷ m) (e ∷ es) ≡ take n (row ∷ m) ++ (own_row e.0 e.1 ++ changed (drop n (row ∷ m)) es)
+        let n = cond (is_lt o) (1 + rows_before e.0 m) 0 in changed (row ∷ m) (e ∷ es) ≡ take n (row ∷ m) ++ (own_row e.0 e.1 ++ changed (drop n (row ∷ m)) es)
     by_order Less is rest =
         front_stays row m (e ∷ es) (is, before_more row.0 e.0 is es ordered.0) ∙ ap (λ (rows : TableState). row ∷ rows) rest
-        ∙ ap (λ n. take n (row ∷ m) ++ (own_row e.0 e.1 ++ changed (drop n (row ∷ m)) es)) (sym (add-one (rows_before e.0 m)))
+        ∙ ap (λ n. take n (row ∷ m) ++ (own_row e.0 e.1 ++ changed (drop n (row ∷ m)) es)) (sym (one-add (rows_before e.0 m)))
     by_order Equal is rest = let held = ap (λ o. cond (is_eq o) (Some row.1) (row_at m e.0)) (turned row.0 e.0 Equal is) in absurd (cc)
     by_order Greater is rest = first_change e (row ∷ m) es (turned row.0 e.0 Greater is) ordered absent
 

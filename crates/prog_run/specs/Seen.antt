@@ -1,5 +1,6 @@
 -- What a run sees in a region: the rows of a look, with its own changes among them.
-use Rattle.std.specs.Prelude.{◌≡◌, ℕ, ◌+◌, ℤ, [], ◌∷◌, Option, Some, None, unwrap_or, if◌then◌else◌}
+use Rattle.std.specs.Prelude.{◌≡◌, ℕ, ℤ, [], ◌∷◌, Option, Some, None, unwrap_or}
+use Rattle.std.specs.List.{prefix_len}
 use Rattle.std.specs.Ordering.{is_lt}
 use Rattle.prog_tree.specs.declared.cell.Cell.{Cell}
 use Rattle.prog_tree.specs.Table.{cell_cmp, TableState, row_at}
@@ -8,8 +9,7 @@ use Rattle.prog_run.specs.declared.region.Found.{Found}
 
 -- how many rows stand in front whose cells come before this one
 abbrev pub rows_before : Cell → TableState → ℕ
-rows_before c [] = 0
-rows_before c (row ∷ rows) = if is_lt (cell_cmp row.0 c) then rows_before c rows + 1 else 0
+rows_before c rows = prefix_len (λ row. is_lt (cell_cmp row.0 c)) rows
 
 -- none of the changed cells has a row
 abbrev pub AreAbsent : TableState → ChangedCells → Type 0

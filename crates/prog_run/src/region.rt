@@ -106,12 +106,9 @@ fn before(cell: &Cell, rows: &[(Cell, i64)]) -> usize
     ensures within { result ≤ length rows.now }
     ensures count { result ≡ rows_before cell.now rows.now }
 {
-    for (i, row) in rows.iter().enumerate() {
-        if !row.0.cmp(cell).is_lt() {
-            return i;
-        }
-    }
-    rows.len()
+    rows.iter()
+        .take_while(|row| row.0.cmp(cell).is_lt())
+        .count()
 }
 
 // Adds the row that a change makes: none if it removes the cell.
