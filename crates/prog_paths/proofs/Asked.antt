@@ -8,7 +8,7 @@ use Rattle.prog_check.specs.declared.path.Access.{Access}
 use Rattle.prog_check.specs.declared.path.Path.{Path}
 use Rattle.prog_paths.specs.declared.accesses.places.Placed.{Placed}
 use Rattle.prog_paths.specs.declared.accesses.places.Question.{Question as Asked}
-use Rattle.prog_paths.specs.Asked.{asks, question_between, placed_from, all_from, asked_by, asked_among}
+use Rattle.prog_paths.specs.Asked.{asks, question_between, placed_from, all_from, accesses_by, program_from, asked_by, asked_among}
 use Rattle.prog_paths.specs.Places.{IsAt}
 
 -- ---- lists of places
@@ -35,6 +35,16 @@ all-more old new whole n paths path lt is e h =
 
 pub all-end : (old whole : List Placed) (n : ℕ) (paths : List Path) → length paths ≤ n → old ++ all_from n (drop n paths) ≡ whole → old ≡ whole
 all-end old whole n paths le h = sym (append-nil old) ∙ ap (λ (l : List Path). old ++ all_from n l) (sym (drop_all n paths le)) ∙ h
+
+pub program-more : (program : ℕ) (old new whole : List Placed) (n : ℕ) (paths : List Path) (path : Path) → n < length paths → path ≡ get_or paths n path → new ≡ old ++ placed_from n 0 (accesses_by program path) → old ++ program_from program n (drop n paths) ≡ whole → new ++ program_from program (n + 1) (drop (n + 1) paths) ≡ whole
+program-more program old new whole n paths path lt is e h =
+    ap (λ (l : List Placed). l ++ program_from program (n + 1) (drop (n + 1) paths)) e
+    ∙ append_assoc old (placed_from n 0 (accesses_by program path)) (program_from program (n + 1) (drop (n + 1) paths))
+    ∙ ap (λ (l : List Path). old ++ program_from program n l) (sym (drop_more paths n path lt ∙ ap (λ (p : Path). p ∷ drop (n + 1) paths) (sym is)))
+    ∙ h
+
+pub program-end : (program : ℕ) (old whole : List Placed) (n : ℕ) (paths : List Path) → length paths ≤ n → old ++ program_from program n (drop n paths) ≡ whole → old ≡ whole
+program-end program old whole n paths le h = sym (append-nil old) ∙ ap (λ (l : List Path). old ++ program_from program n l) (sym (drop_all n paths le)) ∙ h
 
 -- ---- each stands at its place
 

@@ -93,6 +93,16 @@ abbrev pub all_from : ℕ → List Path → List Placed
 all_from node [] = []
 all_from node (path ∷ rest) = placed_from node 0 path.accesses ++ all_from (node + 1) rest
 
+-- the accesses of a path, where it is one of a program
+abbrev pub accesses_by : ℕ → Path → List Access
+accesses_by program path = if path.program == program then path.accesses else []
+
+-- the accesses of the nodes that are paths of a program, numbered from here on
+abbrev pub program_from : (program node : ℕ) → List Path → List Placed
+program_from program node [] = []
+program_from program node (path ∷ rest) =
+    placed_from node 0 (accesses_by program path) ++ program_from program (node + 1) rest
+
 -- what one access asks of each of some
 abbrev pub asked_by : Placed → List Placed → List Asked
 asked_by first [] = []

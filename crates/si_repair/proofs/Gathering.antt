@@ -1,7 +1,8 @@
 -- The accesses of a program's paths, and the exposed questions between those of two programs.
-use Rattle.std.proofs.Common.{◌≡◌, ◌↔◌, ℕ, zero, suc, ◌+◌, ◌<◌, ◌≤◌, ◌⊎◌, inl, inr, true, List, [], ◌∷◌, ◌++◌, length, take, get_or, refl, sym, subst, ap, ◌∙◌, arith, Contains}
-use Rattle.std.specs.Prelude.{Some, slice_get, All}
-use Rattle.std.proofs.lemmas.List.{take_more, take_all, append-nil}
+use Rattle.std.proofs.Common.{◌≡◌, ◌↔◌, ℕ, zero, suc, ◌+◌, ◌<◌, ◌⊎◌, inl, inr, ◌==◌, Bool, true, false, List, [], ◌∷◌, ◌++◌, length, take, get_or, refl, sym, subst, ap, ◌∙◌, arith, Contains}
+use Rattle.std.specs.Prelude.{Some, slice_get, All, if◌then◌else◌}
+use Rattle.std.proofs.lemmas.Bool.{eq-eqb, eqb-true}
+use Rattle.std.proofs.lemmas.List.{take_more, append-nil}
 use Rattle.std.proofs.lemmas.List.Elements.{Contains-append_left, Contains-append_right, Contains-append_cases, Contains-push, Contains-push_cases, Contains-get_or, All-contains}
 use Rattle.std.proofs.lemmas.Option.{none-some, same_Some, slice_get_within, get_or_from_slice_get, slice_get-get_or}
 use Rattle.prog_check.specs.declared.path.Access.{Access}
@@ -9,7 +10,7 @@ use Rattle.prog_check.specs.declared.path.Path.{Path}
 use Rattle.prog_paths.specs.StaticGraph.{IsAccessOf, AsksOf}
 use Rattle.prog_paths.specs.declared.accesses.places.Placed.{Placed}
 use Rattle.prog_paths.specs.declared.accesses.places.Question.{Question as Asked}
-use Rattle.prog_paths.specs.Asked.{asks, numbers_of, question_between, placed_from, all_from, asked_by, asked_among, questions_of}
+use Rattle.prog_paths.specs.Asked.{asks, numbers_of, question_between, placed_from, all_from, accesses_by, program_from, asked_by, asked_among, questions_of}
 use Rattle.prog_paths.specs.Places.{IsAt}
 use Rattle.prog_paths.proofs.Asked.{placed, all_places_stand, if_yes, asked_by-append, asked_among-append}
 use Rattle.prog_paths.proofs.Membership.{asks-from_Asks}
@@ -23,9 +24,9 @@ use Rattle.repair_laws.specs.Striking.{IsOfProgram}
 use Rattle.repair_laws.specs.Keys.{ExposedOf}
 use Rattle.si_repair.specs.Exposing.{IsPart, AreExposed}
 use Rattle.conflict_pairs.specs.Alike.{HasAccess}
-use Rattle.si_repair.specs.Gathering.{ArePlacesOf, MayMiss, IsExposedTo, IsExposedOf, AreExposedAmong}
+use Rattle.si_repair.specs.Gathering.{MayMiss, IsExposedTo, IsExposedOf, AreExposedAmong}
 use Rattle.si_repair.proofs.Members.{Contains-from_member, just_one}
-use Rattle.si_repair.proofs.Parts.{part-none, part-whole, part-append, part-trans, part-among}
+use Rattle.si_repair.proofs.Parts.{part-none, part-whole, part-append, part-contains, part-trans, part-among}
 
 -- ---- elements
 
@@ -75,96 +76,91 @@ in_node node n (x ∷ xs) (suc i) a e =
     let z : n + 1 + i ≡ n + suc i = omega arith in
     inr (subst (λ (k : ℕ). IsMember (placed node k a) (placed_from node (n + 1) xs)) z (in_node node (n + 1) xs i a e))
 
-in_all : (n : ℕ) (rest : List Path) (i : ℕ) (path : Path) (k : ℕ) (a : Access) → slice_get rest i ≡ Some path → slice_get path.accesses k ≡ Some a → IsMember (placed (n + i) k a) (all_from n rest)
-in_all n [] i path k a e f = absurd (none-some path e)
-in_all n (p ∷ rest) zero path k a e f =
+-- ---- the accesses of a program
+
+-- the accesses on a program's paths, at their places and in order
+pub record ArePlacesOf (nodes : List Path) (program : ℕ) (places : List Placed) : Type 0 where
+  pub part : IsPart (all_from 0 nodes) places
+  pub only : (p : Placed) → Contains places p → IsAt nodes p × IsOfProgram nodes program p.node
+  pub each : (p : Placed) → IsAt nodes p → IsOfProgram nodes program p.node → Contains places p
+
+own_or_none : (b : Bool) (n : ℕ) (xs : List Access) → IsPart (placed_from n 0 xs) (placed_from n 0 (if b then xs else []))
+own_or_none true n xs = part-whole (placed_from n 0 xs)
+own_or_none false n xs = part-none (placed_from n 0 xs)
+
+own_part : (program n : ℕ) (rest : List Path) → IsPart (all_from n rest) (program_from program n rest)
+own_part program n [] = refl
+own_part program n (path ∷ rest) =
+    part-append (placed_from n 0 path.accesses) (all_from (n + 1) rest) (placed_from n 0 (accesses_by program path)) (program_from program (n + 1) rest)
+    (own_or_none (path.program == program) n path.accesses) (own_part program (n + 1) rest)
+
+node_of : (n k : ℕ) (xs : List Access) (p : Placed) → Contains (placed_from n k xs) p → p.node ≡ n
+node_of n k [] p c = absurd (nothing p c)
+node_of n k (x ∷ xs) p c = go (Contains-append_cases (placed n k x ∷ []) (placed_from n (k + 1) xs) p c) (λ i. node_of n (k + 1) xs p i)
+  where
+    go : Contains (placed n k x ∷ []) p ⊎ Contains (placed_from n (k + 1) xs) p → (Contains (placed_from n (k + 1) xs) p → p.node ≡ n) → p.node ≡ n
+    go (inl i) later = ap (λ (q : Placed). q.node) (sym (only_one (placed n k x) p i))
+    go (inr i) later = later i
+
+-- an access is on a path of the program, which stands among the nodes from a number on
+abbrev IsOwnAmong : (program n : ℕ) → List Path → Placed → Type 0
+IsOwnAmong program n rest p = (i : ℕ) × (path : Path) × (slice_get rest i ≡ Some path) × (path.program ≡ program) × (p.node ≡ n + i)
+
+of_own : (b : Bool) (n : ℕ) (xs : List Access) (p : Placed) → Contains (placed_from n 0 (if b then xs else [])) p → (b ≡ true) × (p.node ≡ n)
+of_own true n xs p c = (refl, node_of n 0 xs p c)
+of_own false n xs p c = absurd (nothing p c)
+
+own_among : (program n : ℕ) (rest : List Path) (p : Placed) → Contains (program_from program n rest) p → IsOwnAmong program n rest p
+own_among program n [] p c = absurd (nothing p c)
+own_among program n (path ∷ rest) p c =
+    go (Contains-append_cases (placed_from n 0 (accesses_by program path)) (program_from program (n + 1) rest) p c) (λ i. own_among program (n + 1) rest p i)
+  where
+    go : Contains (placed_from n 0 (accesses_by program path)) p ⊎ Contains (program_from program (n + 1) rest) p → (Contains (program_from program (n + 1) rest) p → IsOwnAmong program (n + 1) rest p) → IsOwnAmong program n (path ∷ rest) p
+    go (inl i) later =
+        let here = of_own (path.program == program) n path.accesses p i in
+        let node = here.1 in
+        (zero, path, refl, eqb-true path.program program here.0, omega (arith, node))
+    go (inr i) later =
+        let w = later i in
+        let node = w.4 in
+        (suc w.0, w.1, w.2, w.3, omega (arith, node))
+
+in_own : (program n : ℕ) (rest : List Path) (i : ℕ) (path : Path) (k : ℕ) (a : Access) → slice_get rest i ≡ Some path → path.program ≡ program → slice_get path.accesses k ≡ Some a → IsMember (placed (n + i) k a) (program_from program n rest)
+in_own program n [] i path k a e own f = absurd (none-some path e)
+in_own program n (p ∷ rest) zero path k a e own f =
     let z : n ≡ n + 0 = omega arith in
     let y : 0 + k ≡ k = omega arith in
-    let own = in_node n 0 p.accesses k a (subst (λ (r : Path). slice_get r.accesses k ≡ Some a) (sym (same_Some p path e)) f) in
-    member_left _ (placed_from n 0 p.accesses) (all_from (n + 1) rest)
-    (subst (λ (m : ℕ). IsMember (placed m k a) (placed_from n 0 p.accesses)) z (subst (λ (m : ℕ). IsMember (placed n m a) (placed_from n 0 p.accesses)) y own))
-in_all n (p ∷ rest) (suc i) path k a e f =
+    let same = same_Some p path e in
+    let mine : accesses_by program p ≡ path.accesses = ap (λ (b : Bool). if b then p.accesses else []) (eq-eqb p.program program (ap (λ (q : Path). q.program) same ∙ own)) ∙ ap (λ (q : Path). q.accesses) same in
+    let here = in_node n 0 (accesses_by program p) k a (subst (λ (l : List Access). slice_get l k ≡ Some a) (sym mine) f) in
+    member_left _ (placed_from n 0 (accesses_by program p)) (program_from program (n + 1) rest)
+    (subst (λ (m : ℕ). IsMember (placed m k a) (placed_from n 0 (accesses_by program p))) z (subst (λ (m : ℕ). IsMember (placed n m a) (placed_from n 0 (accesses_by program p))) y here))
+in_own program n (p ∷ rest) (suc i) path k a e own f =
     let z : n + 1 + i ≡ n + suc i = omega arith in
-    member_right _ (placed_from n 0 p.accesses) (all_from (n + 1) rest)
-    (subst (λ (m : ℕ). IsMember (placed m k a) (all_from (n + 1) rest)) z (in_all (n + 1) rest i path k a e f))
+    member_right _ (placed_from n 0 (accesses_by program p)) (program_from program (n + 1) rest)
+    (subst (λ (m : ℕ). IsMember (placed m k a) (program_from program (n + 1) rest)) z (in_own program (n + 1) rest i path k a e own f))
 
-in_places : (nodes : List Path) (p : Placed) → IsAt nodes p → Contains (all_from 0 nodes) p
-in_places nodes p at =
-    let z : 0 + p.node ≡ p.node = omega arith in
-    Contains-from_member (all_from 0 nodes) p (subst (λ (m : ℕ). IsMember (placed m p.number p.access) (all_from 0 nodes)) z (in_all 0 nodes p.node at.0 p.number p.access at.1 at.2))
+pub placed_of : (nodes : List Path) (program : ℕ) → ArePlacesOf nodes program (program_from program 0 nodes)
+placed_of nodes program = record { part = own_part program 0 nodes; only = only; each = each }
+  where
+    only : (p : Placed) → Contains (program_from program 0 nodes) p → IsAt nodes p × IsOfProgram nodes program p.node
+    only p c =
+        let listed = part-contains (all_from 0 nodes) (program_from program 0 nodes) p (own_part program 0 nodes) c in
+        let own = own_among program 0 nodes p c in
+        let node = own.4 in
+        let here : own.0 ≡ p.node = omega (arith, node) in
+        (All-contains (λ (q : Placed). IsAt nodes q) (all_from 0 nodes) p (all_places_stand nodes) listed, (own.1, subst (λ (x : ℕ). slice_get nodes x ≡ Some own.1) here own.2, own.3))
 
--- of these accesses, those on paths of a program, in order
-pub record AreOfProgram (nodes : List Path) (program : ℕ) (all places : List Placed) : Type 0 where
-  pub part : IsPart all places
-  pub only : (p : Placed) → Contains places p → Contains all p × IsOfProgram nodes program p.node
-  pub each : (p : Placed) → Contains all p → IsOfProgram nodes program p.node → Contains places p
+    each : (p : Placed) → IsAt nodes p → IsOfProgram nodes program p.node → Contains (program_from program 0 nodes) p
+    each p at of =
+        let z : 0 + p.node ≡ p.node = omega arith in
+        let own : at.0.program ≡ program = ap (λ (q : Path). q.program) (same_Some at.0 of.0 (sym at.1 ∙ of.1)) ∙ of.2 in
+        Contains-from_member (program_from program 0 nodes) p
+        (subst (λ (m : ℕ). IsMember (placed m p.number p.access) (program_from program 0 nodes)) z (in_own program 0 nodes p.node at.0 p.number p.access at.1 own at.2))
 
-pub ArePlacesOf-from_all : (nodes : List Path) (program : ℕ) (all places : List Placed) → all ≡ all_from 0 nodes → AreOfProgram nodes program all places → ArePlacesOf nodes program places
-ArePlacesOf-from_all nodes program all places is h = record {
-  part = subst (λ (l : List Placed). IsPart l places) is h.part;
-  only = λ p c. let k = h.only p c in (All-contains (λ (q : Placed). IsAt nodes q) (all_from 0 nodes) p (all_places_stand nodes) (subst (λ (l : List Placed). Contains l p) is k.0), k.1);
-  each = λ p at of. h.each p (subst (λ (l : List Placed). Contains l p) (sym is) (in_places nodes p at)) of;
-}
-
--- a listed place is a node of the list
-pub listed_within : (nodes : List Path) (all : List Placed) (n : ℕ) (d : Placed) → n < length all → all ≡ all_from 0 nodes → (get_or all n d).node < length nodes
-listed_within nodes all n d lt is =
-    let at = subst (λ (l : List Placed). All (λ (p : Placed). IsAt nodes p) l) (sym is) (all_places_stand nodes) n d lt in
-    slice_get_within nodes (get_or all n d).node at.0 at.1
-
-pub of_program : (nodes : List Path) (x program : ℕ) (d : Path) → x < length nodes → (get_or nodes x d).program ≡ program → IsOfProgram nodes program x
-of_program nodes x program d lt e = (get_or nodes x d, slice_get-get_or nodes x d lt, e)
-
-pub program-of : (nodes : List Path) (x program : ℕ) (d : Path) → IsOfProgram nodes program x → (get_or nodes x d).program ≡ program
-program-of nodes x program d h = ap (λ (p : Path). p.program) (get_or_from_slice_get nodes x h.0 d h.1) ∙ h.2
-
-module _ (nodes : List Path) (program : ℕ) (all places : List Placed) (n : ℕ) (d : Placed) (lt : n < length all) (h : AreOfProgram nodes program (take n all) places) where
-  pub AreOfProgram-more : (more : List Placed) → IsOfProgram nodes program (get_or all n d).node → more ≡ places ++ get_or all n d ∷ [] → AreOfProgram nodes program (take (n + 1) all) more
-  AreOfProgram-more more here added = subst (λ (l : List Placed). AreOfProgram nodes program (take (n + 1) all) l) (sym added) (record { part = part; only = only; each = each })
-    where
-      part : IsPart (take (n + 1) all) (places ++ get_or all n d ∷ [])
-      part =
-          subst (λ (l : List Placed). IsPart l (places ++ get_or all n d ∷ [])) (sym (take_more all n d lt))
-          (part-append (take n all) (get_or all n d ∷ []) places (get_or all n d ∷ []) h.part (part-whole (get_or all n d ∷ [])))
-
-      only : (p : Placed) → Contains (places ++ get_or all n d ∷ []) p → Contains (take (n + 1) all) p × IsOfProgram nodes program p.node
-      only p c = go (Contains-push_cases places (get_or all n d) p c)
-        where
-          go : Contains places p ⊎ (get_or all n d ≡ p) → Contains (take (n + 1) all) p × IsOfProgram nodes program p.node
-          go (inl k) = let o = h.only p k in (still_first n all d p lt o.0, o.1)
-          go (inr k) = subst (λ (q : Placed). Contains (take (n + 1) all) q × IsOfProgram nodes program q.node) k (last_first n all d lt, here)
-
-      each : (p : Placed) → Contains (take (n + 1) all) p → IsOfProgram nodes program p.node → Contains (places ++ get_or all n d ∷ []) p
-      each p c of = go (among_first n all d p lt c)
-        where
-          go : Contains (take n all) p ⊎ (get_or all n d ≡ p) → Contains (places ++ get_or all n d ∷ []) p
-          go (inl k) = Contains-append_left places (get_or all n d ∷ []) p (h.each p k of)
-          go (inr k) = subst (λ (q : Placed). Contains (places ++ get_or all n d ∷ []) q) k (Contains-push places (get_or all n d))
-
-  pub AreOfProgram-same : (more : List Placed) → (IsOfProgram nodes program (get_or all n d).node → ⊥) → more ≡ places → AreOfProgram nodes program (take (n + 1) all) more
-  AreOfProgram-same more other is = subst (λ (l : List Placed). AreOfProgram nodes program (take (n + 1) all) l) (sym is) (record { part = part; only = λ p c. let o = h.only p c in (still_first n all d p lt o.0, o.1); each = each })
-    where
-      part : IsPart (take (n + 1) all) places
-      part =
-          subst (λ (l : List Placed). IsPart l places) (sym (take_more all n d lt))
-          (subst (λ (l : List Placed). IsPart (take n all ++ get_or all n d ∷ []) l) (append-nil places)
-          (part-append (take n all) (get_or all n d ∷ []) places [] h.part (part-none (get_or all n d ∷ []))))
-
-      each : (p : Placed) → Contains (take (n + 1) all) p → IsOfProgram nodes program p.node → Contains places p
-      each p c of = go (among_first n all d p lt c)
-        where
-          go : Contains (take n all) p ⊎ (get_or all n d ≡ p) → Contains places p
-          go (inl k) = h.each p k of
-          go (inr k) = absurd (other (subst (λ (q : Placed). IsOfProgram nodes program q.node) (sym k) of))
-
-pub AreOfProgram-none : (nodes : List Path) (program : ℕ) (all places : List Placed) → places ≡ [] → AreOfProgram nodes program (take 0 all) places
-AreOfProgram-none nodes program all places is = subst (λ (l : List Placed). AreOfProgram nodes program [] l) (sym is) (record { part = refl; only = λ p c. absurd (nothing p c); each = λ p c of. absurd (nothing p c) })
-
-pub AreOfProgram-all : (nodes : List Path) (program : ℕ) (all places : List Placed) (n : ℕ) → length all ≤ n → AreOfProgram nodes program (take n all) places → AreOfProgram nodes program all places
-AreOfProgram-all nodes program all places n le h = subst (λ (l : List Placed). AreOfProgram nodes program l places) (take_all n all le) h
-
-pub places_stand : (nodes : List Path) (program : ℕ) (places : List Placed) → ArePlacesOf nodes program places → All (λ (p : Placed). IsAt nodes p) places
-places_stand nodes program places h k d lt = (h.only (get_or places k d) (Contains-get_or places k d lt)).0
+pub places_stand : (nodes : List Path) (program : ℕ) → All (λ (p : Placed). IsAt nodes p) (program_from program 0 nodes)
+places_stand nodes program k d lt =
+    ((placed_of nodes program).only (get_or (program_from program 0 nodes) k d) (Contains-get_or (program_from program 0 nodes) k d lt)).0
 
 -- ---- verdicts
 

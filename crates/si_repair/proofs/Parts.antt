@@ -1,6 +1,7 @@
 -- Parts of lists, and what parts of lists of accesses ask.
 use Rattle.std.proofs.Common.{◌≡◌, ◌⊎◌, inl, inr, Bool, true, false, List, [], ◌∷◌, ◌++◌, refl, sym, subst, ap, ◌∙◌}
-use Rattle.std.specs.Prelude.{if◌then◌else◌}
+use Rattle.std.specs.Prelude.{if◌then◌else◌, Contains}
+use Rattle.std.proofs.lemmas.List.Elements.{Contains-append_left, Contains-append_right, Contains-append_cases}
 use Rattle.prog_paths.specs.declared.accesses.places.Placed.{Placed}
 use Rattle.prog_paths.specs.declared.accesses.places.Question.{Question as Asked}
 use Rattle.prog_paths.specs.Asked.{asks, question_between, asked_by, asked_among}
@@ -18,6 +19,15 @@ pub part-append : {A : Type 0} (xs ys ps qs : List A) → IsPart xs ps → IsPar
 part-append {A = A} [] ys ps qs h k = subst (λ (l : List A). IsPart ys (l ++ qs)) (sym h) k
 part-append (x ∷ xs) ys ps qs (inl h) k = inl (part-append xs ys ps qs h k)
 part-append {A = A} (x ∷ xs) ys ps qs (inr (tail, e, h)) k = inr (tail ++ qs, ap (λ (l : List A). l ++ qs) e, part-append xs ys tail qs h k)
+
+pub part-contains : {A : Type 0} (xs ps : List A) (p : A) → IsPart xs ps → Contains ps p → Contains xs p
+part-contains {A = A} [] ps p h c = subst (λ (l : List A). Contains l p) h c
+part-contains (x ∷ xs) ps p (inl h) c = Contains-append_right (x ∷ []) xs p (part-contains xs ps p h c)
+part-contains {A = A} (x ∷ xs) ps p (inr (tail, e, h)) c = go (Contains-append_cases (x ∷ []) tail p (subst (λ (l : List A). Contains l p) e c)) (λ i. part-contains xs tail p h i)
+  where
+    go : Contains (x ∷ []) p ⊎ Contains tail p → (Contains tail p → Contains xs p) → Contains (x ∷ xs) p
+    go (inl i) later = Contains-append_left (x ∷ []) xs p i
+    go (inr i) later = Contains-append_right (x ∷ []) xs p (later i)
 
 pub part-trans : {A : Type 0} (xs ys zs : List A) → IsPart xs ys → IsPart ys zs → IsPart xs zs
 part-trans {A = A} [] ys zs h k = subst (λ (l : List A). IsPart l zs) h k

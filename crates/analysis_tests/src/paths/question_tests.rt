@@ -4,7 +4,7 @@ use crate::examples::paths_of;
 use crate::told::is_told;
 use example_sets::{LEDGER, MOVE, SMALL_BANK, TRANSFER};
 use order_facts::{Closed, Node};
-use prog_paths::{Access, Changers, Path, all_places, closed_facts};
+use prog_paths::{Access, Changers, Path, Placed, all_places, closed_facts, program_places};
 use std::alloc::{AllocError, Global};
 use std::process::Abort;
 use std::test::Fail;
@@ -155,15 +155,26 @@ fn an_unknown_is_no_parameter(rt: HostRuntime) -> Result<(), Fail> {
     check(&rt, rt.alloc(), &MOVED)
 }
 
-/// The accesses that change table 0, each by its path and its number there.
-fn shown_changers(alloc: Global, paths: &[Path]) -> Result<String, AllocError> {
+/// Accesses, each by its path and its number there.
+fn shown_places(alloc: Global, places: &[Placed]) -> Result<String, AllocError> {
     let mut text = String::new(alloc);
-    let places = all_places(alloc, paths)?;
-    let changers = Changers::of(alloc, &places)?;
-    for place in changers.of_table(0) {
+    for place in places {
         write!(text, "{} {}; ", place.node, place.number)?;
     }
     Ok(text)
+}
+
+/// The accesses that change table 0.
+fn shown_changers(alloc: Global, paths: &[Path]) -> Result<String, AllocError> {
+    let places = all_places(alloc, paths)?;
+    let changers = Changers::of(alloc, &places)?;
+    shown_places(alloc, changers.of_table(0))
+}
+
+/// The accesses of the program of a number.
+fn shown_accesses(alloc: Global, paths: &[Path], program: usize) -> Result<String, AllocError> {
+    let places = program_places(alloc, paths, program)?;
+    shown_places(alloc, &places)
 }
 
 #[test]
@@ -172,5 +183,14 @@ fn the_changers_of_a_table_are_its_writes(rt: HostRuntime) -> Result<(), Fail> {
     let shown = shown_changers(rt.alloc(), &paths);
     drop(paths);
     is_told(&rt, shown?.as_str(), "2 1; 3 2; ");
+    Ok(())
+}
+
+#[test]
+fn the_accesses_of_a_program_are_those_of_its_paths(rt: HostRuntime) -> Result<(), Fail> {
+    let paths = paths_of(rt.alloc(), SMALL_BANK)?;
+    let shown = shown_accesses(rt.alloc(), &paths, 4);
+    drop(paths);
+    is_told(&rt, shown?.as_str(), "4 0; 4 1; 4 2; 5 0; 5 1; 5 2; ");
     Ok(())
 }

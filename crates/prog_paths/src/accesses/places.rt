@@ -1,6 +1,6 @@
 //! Accesses at their places, and what two of them ask.
 ghost use Rattle.std.specs.Prelude.{◌≡◌, ◌++◌, IfOk, OnOk};
-ghost use Rattle.prog_paths.specs.Asked.{kinds_depend, is_in_order, asks, question_between, placed_from, all_from};
+ghost use Rattle.prog_paths.specs.Asked.{kinds_depend, is_in_order, asks, question_between, placed_from, all_from, accesses_by, program_from};
 
 use crate::accesses::asking::{asks_read_write, asks_write_read, both_write};
 use prog_check::{Access, Kind, Path};
@@ -84,6 +84,32 @@ pub fn all_places(alloc: Global, paths: &[Path]) -> Result<Vec<Placed>, AllocErr
     let mut places = Vec::new(alloc);
     for (node, path) in paths.iter().enumerate() {
         push_node(&mut places, node, path.accesses.as_slice())?;
+    }
+    Ok(places)
+}
+
+/// The accesses of a path, where it is one of a program.
+fn accesses_by(path: &Path, program: usize) -> &[Access]
+    ensures { result.now ≡ accesses_by program path.now }
+{
+    if path.program == program {
+        path.accesses.as_slice()
+    } else {
+        &[]
+    }
+}
+
+/// The accesses on the paths of a program.
+pub fn program_places(
+    alloc: Global,
+    paths: &[Path],
+    program: usize,
+) -> Result<Vec<Placed>, AllocError>
+    ensures { IfOk result (λ places. places.items ≡ program_from program 0 paths.now) }
+{
+    let mut places = Vec::new(alloc);
+    for (node, path) in paths.iter().enumerate() {
+        push_node(&mut places, node, accesses_by(path, program))?;
     }
     Ok(places)
 }

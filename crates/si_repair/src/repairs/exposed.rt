@@ -1,17 +1,16 @@
 //! The exposed questions of a pair of programs.
-ghost use Rattle.std.specs.Prelude.{◌≡◌, ◌↔◌, ◌<◌, [], ◌∷◌, length, All, IfOk, IsTrue};
-ghost use Rattle.prog_paths.specs.Asked.{ChangesSingleCells, all_from, numbers_of, question_between};
+ghost use Rattle.std.specs.Prelude.{◌↔◌, [], ◌∷◌, All, IfOk, IsTrue};
+ghost use Rattle.prog_paths.specs.Asked.{ChangesSingleCells, numbers_of, question_between};
 ghost use Rattle.prog_paths.specs.Places.{IsAt};
 ghost use Rattle.prog_paths.specs.StaticGraph.{IsAccessOf};
 ghost use Rattle.conflict_pairs.specs.Verdicts.{IsRight};
-ghost use Rattle.repair_laws.specs.Striking.{IsOfProgram};
 ghost use Rattle.si_repair.specs.Exposing.{AreExposed};
 ghost use Rattle.conflict_pairs.specs.Alike.{HasAccess};
-ghost use Rattle.si_repair.specs.Gathering.{ArePlacesOf, MayMiss, IsExposedTo, AreExposedAmong};
+ghost use Rattle.si_repair.specs.Gathering.{MayMiss, IsExposedTo, AreExposedAmong};
 
 use conflict_pairs::{Verdict, verdict};
 use prog_check::{Access, Path};
-use prog_paths::{Placed, Question, all_places, asks_read_write, question_between};
+use prog_paths::{Placed, Question, asks_read_write, program_places, question_between};
 use repair_laws::Pair;
 use std::alloc::{AllocError, Global};
 
@@ -22,33 +21,6 @@ pub fn access_at(paths: &[Path], node: usize, number: usize) -> Access
 {
     let accesses = paths[node].accesses.as_slice();
     accesses[number]
-}
-
-/// Whether a node is a path of a program.
-fn is_of_program(paths: &[Path], node: usize, program: usize) -> bool
-    requires { node < length paths.now }
-    ensures { IsTrue result ↔ IsOfProgram paths.now program node }
-{
-    paths[node].program == program
-}
-
-/// Those of all accesses that are on the paths of a program.
-fn places_of(
-    alloc: Global,
-    paths: &[Path],
-    all: &[Placed],
-    program: usize,
-) -> Result<Vec<Placed>, AllocError>
-    requires { all.now ≡ all_from 0 paths.now }
-    ensures { IfOk result (λ places. ArePlacesOf paths.now program places.items) }
-{
-    let mut places = Vec::new(alloc);
-    for place in all {
-        if is_of_program(paths, place.node, program) {
-            places.push(*place)?;
-        }
-    }
-    Ok(places)
 }
 
 /// Whether both use one table, and the first may miss what the second changes.
@@ -140,23 +112,6 @@ fn exposed_among(
     Ok(questions)
 }
 
-/// The exposed questions of a pair, among all accesses of the paths.
-fn exposed_in(
-    alloc: Global,
-    paths: &[Path],
-    all: &[Placed],
-    pair: Pair,
-) -> Result<Vec<Question>, AllocError>
-    requires single { All ChangesSingleCells paths.now }
-    requires all { all.now ≡ all_from 0 paths.now }
-    ensures { IfOk result (λ questions. AreExposed paths.now pair questions.items) }
-{
-    let firsts = places_of(alloc, paths, all, pair.from)?;
-    let seconds = places_of(alloc, paths, all, pair.to)?;
-    let questions = exposed_among(alloc, paths, &firsts, &seconds)?;
-    Ok(questions)
-}
-
 /// The exposed questions of a pair, in order: its first program may miss what its second changes,
 /// and no two accesses cover it.
 pub fn exposed_questions(
@@ -167,6 +122,8 @@ pub fn exposed_questions(
     requires { All ChangesSingleCells paths.now }
     ensures { IfOk result (λ questions. AreExposed paths.now pair questions.items) }
 {
-    let all = all_places(alloc, paths)?;
-    exposed_in(alloc, paths, &all, pair)
+    let firsts = program_places(alloc, paths, pair.from)?;
+    let seconds = program_places(alloc, paths, pair.to)?;
+    let questions = exposed_among(alloc, paths, &firsts, &seconds)?;
+    Ok(questions)
 }
