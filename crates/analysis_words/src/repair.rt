@@ -1,6 +1,7 @@
 //! What a repair puts into a set, in words.
-ghost use Rattle.std.specs.Prelude.{◌≡◌, [], IfNone, IfOk, IfSome, string_bytes};
+ghost use Rattle.std.specs.Prelude.{◌≡◌, [], All, IfNone, IfOk, IfSome, string_bytes};
 ghost use Rattle.prog_tree.specs.Tree.{draft_tree};
+ghost use Rattle.prog_paths.specs.Asked.{ChangesSingleCells};
 ghost use Rattle.analysis_words.specs.Repairs.{TellsPair, TellsRepair};
 
 use crate::looks::{first_of_each, look_words, looked_at, reason_words};
@@ -9,7 +10,7 @@ use crate::shown::Shown;
 use prog_check::ProgramSet;
 use prog_paths::{Question, paths};
 use prog_tree::{Expr, Key, Name, Stmt};
-use si_repair::{Pair, exposed_questions};
+use si_repair::{Pair, exposed_questions, first_exposed};
 use std::alloc::{AllocError, Global};
 use text_places::SetText;
 
@@ -114,15 +115,16 @@ fn promoted_words(
 }
 
 // The looks for which a pair is kept apart: each one that has a `keep` now, else the first.
-fn reasons(
-    alloc: Global,
-    repair: Repair<'_, '_>,
-    questions: &[Question],
-) -> Result<String, AllocError> {
+fn reasons(alloc: Global, repair: Repair<'_, '_>, pair: Pair) -> Result<String, AllocError>
+    requires { All ChangesSingleCells repair.shown.paths.now }
+{
+    let paths = repair.shown.paths;
     if repair.promoting {
-        return promoted_words(alloc, repair.shown, questions);
+        let questions = exposed_questions(alloc, paths, pair)?;
+        return promoted_words(alloc, repair.shown, &questions);
     }
-    reason_words(alloc, repair.shown, questions.first())
+    let first = first_exposed(alloc, paths, pair)?;
+    reason_words(alloc, repair.shown, first.as_ref())
 }
 
 // The pair of this number in the plan: what is put where, and why.
@@ -131,15 +133,15 @@ fn pair_words(
     repair: Repair<'_, '_>,
     number: usize,
     pair: Pair,
-    questions: &[Question],
 ) -> Result<String, AllocError>
+    requires { All ChangesSingleCells repair.shown.paths.now }
     ensures { IfOk result (λ words. TellsPair (draft_tree repair.entry.shown.set.now) pair
         (string_bytes words)) }
 {
     let put = put_text(alloc, repair, number, pair)?;
     let verb = "could miss a change of";
     let sentence = pair_sentence(alloc, repair.shown.set, pair, verb, &put)?;
-    let reasons = reasons(alloc, repair, questions)?;
+    let reasons = reasons(alloc, repair, pair)?;
     let words = format!(in alloc; "{sentence}{reasons}")?;
     Ok(words)
 }
@@ -178,8 +180,7 @@ pub fn repair_words(
         "repaired: the two of each of these pairs clash now where both are under way at once\n"
     )?;
     for (number, pair) in pairs.iter().enumerate() {
-        let questions = exposed_questions(alloc, &paths, *pair)?;
-        let said = pair_words(alloc, repair, number, *pair, &questions)?;
+        let said = pair_words(alloc, repair, number, *pair)?;
         words.push_str(&said)?;
     }
     Ok(Some(words))

@@ -176,6 +176,17 @@ exposed-from_verdict nodes first second v at_first at_second misses right =
       λ h. exact.exposed.1 (h.exposed.0, λ _. h.exposed.1),
     )
 
+-- ---- the accesses of an exposed question of a pair, at their places
+
+abbrev pub read_of : (nodes : List Path) (pair : Pair) → ExposedOf nodes pair → Placed
+read_of nodes pair e = placed e.question.question.x e.question.question.a e.question.mine
+
+abbrev pub change_of : (nodes : List Path) (pair : Pair) → ExposedOf nodes pair → Placed
+change_of nodes pair e = placed e.question.question.y e.question.question.b e.question.theirs
+
+pub misses_of : (nodes : List Path) (pair : Pair) (e : ExposedOf nodes pair) → IsExposedTo nodes (read_of nodes pair e) (change_of nodes pair e)
+misses_of nodes pair e = record { misses = record { table = e.question.asked.table; kinds = e.question.kinds }; exposed = e.question.holds }
+
 -- ---- questions among accesses
 
 module _ (nodes : List Path) where
@@ -199,7 +210,7 @@ module _ (nodes : List Path) where
     each = λ v w i j h. absurd (n (subst (λ (p : Placed). IsExposedTo nodes p y) (sym (only_one x v i)) (subst (λ (p : Placed). IsExposedTo nodes v p) (sym (only_one y w j)) h)));
   }
 
-  first_moved : (xs ys zs : List Placed) (q : Asked) → ((x : Placed) → Contains xs x → Contains ys x) → IsExposedOf nodes xs zs q → IsExposedOf nodes ys zs q
+  pub first_moved : (xs ys zs : List Placed) (q : Asked) → ((x : Placed) → Contains xs x → Contains ys x) → IsExposedOf nodes xs zs q → IsExposedOf nodes ys zs q
   first_moved xs ys zs q move e = record { first = e.first; second = e.second; in_firsts = move e.first e.in_firsts; in_seconds = e.in_seconds; exposed = e.exposed; is = e.is }
 
   second_moved : (xs ys zs : List Placed) (q : Asked) → ((y : Placed) → Contains ys y → Contains zs y) → IsExposedOf nodes xs ys q → IsExposedOf nodes xs zs q
@@ -280,45 +291,39 @@ module _ (nodes : List Path) where
 
   -- ---- the questions of a pair
 
-  pub AreExposed-from_places : (pair : Pair) (xs ys : List Placed) (qs : List Asked) → ArePlacesOf nodes pair.from xs → ArePlacesOf nodes pair.to ys → AreExposedAmong nodes xs ys qs → AreExposed nodes pair qs
-  AreExposed-from_places pair xs ys qs firsts seconds h = record { part = part; only = only; each = each }
-    where
-      part : IsPart (questions_of nodes) qs
-      part = part-trans (questions_of nodes) (asked_among xs ys) qs (part-among (all_from 0 nodes) xs ys firsts.part seconds.part) h.part
+  module _ (pair : Pair) (xs ys : List Placed) (firsts : ArePlacesOf nodes pair.from xs) (seconds : ArePlacesOf nodes pair.to ys) where
+    pub in_firsts : (e : ExposedOf nodes pair) → Contains xs (read_of nodes pair e)
+    in_firsts e = firsts.each (read_of nodes pair e) e.question.asked.at_mine (subst (λ (n : ℕ). IsOfProgram nodes pair.from n) (sym e.question.from) e.of_pair.0)
 
-      only : (q : Asked) → Contains qs q → (e : ExposedOf nodes pair) × (e.question.question ≡ numbers_of q)
-      only q c =
-          let b = h.only q c in
-          let f = firsts.only b.first b.in_firsts in
-          let s = seconds.only b.second b.in_seconds in (
-            record {
-              x = b.first.node;
-              y = b.second.node;
-              of_pair = (f.1, s.1);
-              question = record {
-                question = numbers_of (question_between b.first b.second);
-                from = refl;
-                to = refl;
-                mine = b.first.access;
-                theirs = b.second.access;
-                asked = record { at_mine = f.0; at_theirs = s.0; table = b.exposed.misses.table };
-                kinds = b.exposed.misses.kinds;
-                holds = b.exposed.exposed;
-              };
-            },
-            ap numbers_of (sym b.is),
-          )
+    pub in_seconds : (e : ExposedOf nodes pair) → Contains ys (change_of nodes pair e)
+    in_seconds e = seconds.each (change_of nodes pair e) e.question.asked.at_theirs (subst (λ (n : ℕ). IsOfProgram nodes pair.to n) (sym e.question.to) e.of_pair.1)
 
-      each : (e : ExposedOf nodes pair) → (q : Asked) × Contains qs q × (e.question.question ≡ numbers_of q)
-      each e =
-          let w = e.question in
-          let first = placed w.question.x w.question.a w.mine in
-          let second = placed w.question.y w.question.b w.theirs in
-          let exposed : IsExposedTo nodes first second = record { misses = record { table = w.asked.table; kinds = w.kinds }; exposed = w.holds } in (
-            question_between first second,
-            h.each first second
-                (firsts.each first w.asked.at_mine (subst (λ (n : ℕ). IsOfProgram nodes pair.from n) (sym w.from) e.of_pair.0))
-                (seconds.each second w.asked.at_theirs (subst (λ (n : ℕ). IsOfProgram nodes pair.to n) (sym w.to) e.of_pair.1))
-                exposed,
-            refl,
-          )
+    -- what is exposed between their accesses is of the pair
+    pub of_pair-exposed : (q : Asked) → IsExposedOf nodes xs ys q → (e : ExposedOf nodes pair) × (e.question.question ≡ numbers_of q)
+    of_pair-exposed q b =
+        let f = firsts.only b.first b.in_firsts in
+        let s = seconds.only b.second b.in_seconds in (
+          record {
+            x = b.first.node;
+            y = b.second.node;
+            of_pair = (f.1, s.1);
+            question = record {
+              question = numbers_of (question_between b.first b.second);
+              from = refl;
+              to = refl;
+              mine = b.first.access;
+              theirs = b.second.access;
+              asked = record { at_mine = f.0; at_theirs = s.0; table = b.exposed.misses.table };
+              kinds = b.exposed.misses.kinds;
+              holds = b.exposed.exposed;
+            };
+          },
+          ap numbers_of (sym b.is),
+        )
+
+    pub AreExposed-from_places : (qs : List Asked) → AreExposedAmong nodes xs ys qs → AreExposed nodes pair qs
+    AreExposed-from_places qs h = record {
+      part = part-trans (questions_of nodes) (asked_among xs ys) qs (part-among (all_from 0 nodes) xs ys firsts.part seconds.part) h.part;
+      only = λ q c. of_pair-exposed q (h.only q c);
+      each = λ e. (question_between (read_of nodes pair e) (change_of nodes pair e), h.each (read_of nodes pair e) (change_of nodes pair e) (in_firsts e) (in_seconds e) (misses_of nodes pair e), refl);
+    }

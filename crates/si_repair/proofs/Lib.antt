@@ -10,6 +10,7 @@ pub mod Searching
 pub mod Closings
 pub mod Turns
 pub mod Gathering
+pub mod Firsts
 pub mod Ranking
 pub mod Marking
 pub mod Naming

@@ -4,6 +4,7 @@ use Rattle.prog_tree.specs.Syntax.{DraftTree}
 use Rattle.prog_check.specs.declared.path.Path.{Path}
 use Rattle.prog_paths.specs.declared.accesses.places.Question.{Question as Asked}
 use Rattle.prog_paths.specs.Asked.{numbers_of, questions_of}
+use Rattle.prog_paths.specs.Listing.{IsBefore}
 use Rattle.repair_laws.specs.declared.plan.Pair.{Pair}
 use Rattle.repair_laws.specs.Keys.{ExposedOf}
 use Rattle.repair_laws.specs.Refusals.{HasRangeRead, IsCoverable, StopsAtKey, StopsAtBody}
@@ -23,6 +24,18 @@ pub record AreExposed (nodes : List Path) (pair : Pair) (questions : List Asked)
       → (e : ExposedOf nodes pair) × (e.question.question ≡ numbers_of q)
   pub each : (e : ExposedOf nodes pair)
       → (q : Asked) × Contains questions q × (e.question.question ≡ numbers_of q)
+
+-- the first of all questions of the paths that is exposed, and of the pair
+pub record IsFirstOfExposed (nodes : List Path) (pair : Pair) (q : Asked) : Type 0 where
+  pub listed : Contains (questions_of nodes) q
+  pub exposed : (e : ExposedOf nodes pair) × (e.question.question ≡ numbers_of q)
+  pub first : (e : ExposedOf nodes pair)
+      → (e.question.question ≡ numbers_of q) ⊎ IsBefore (numbers_of q) e.question.question
+
+-- the same, or that the pair has none
+abbrev pub IsFirstExposed : List Path → Pair → Option Asked → Type 0
+IsFirstExposed nodes pair None = ¬ ExposedOf nodes pair
+IsFirstExposed nodes pair (Some q) = IsFirstOfExposed nodes pair q
 
 -- which reads of the pair no keep covers: a range comes before an unknown key, and that before an access in a body
 abbrev pub IsObstacle : DraftTree → Pair → Option Obstacle → Type 0

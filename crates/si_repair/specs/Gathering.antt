@@ -1,5 +1,5 @@
 -- Which accesses are exposed to others: words of private clauses.
-use Rattle.std.specs.Prelude.{◌≡◌, ℕ, List, Contains}
+use Rattle.std.specs.Prelude.{◌≡◌, ℕ, List, [], ◌∷◌, take, Contains, Option, Some, None}
 use Rattle.prog_check.specs.declared.path.Path.{Path}
 use Rattle.prog_paths.specs.StaticGraph.{AsksReadWrite, IsExposed}
 use Rattle.prog_paths.specs.declared.accesses.places.Placed.{Placed}
@@ -42,3 +42,9 @@ pub record AreExposedAmong (nodes : List Path) (firsts seconds : List Placed)
   pub only : (q : Asked) → Contains questions q → IsExposedOf nodes firsts seconds q
   pub each : (first second : Placed) → Contains firsts first → Contains seconds second
       → IsExposedTo nodes first second → Contains questions (question_between first second)
+
+-- the first such question, or that there is none: no first access ahead of its own has any
+abbrev pub IsFirstAmong : List Path → List Placed → List Placed → Option Asked → Type 0
+IsFirstAmong nodes firsts seconds None = AreExposedAmong nodes firsts seconds []
+IsFirstAmong nodes firsts seconds (Some q) =
+    (n : ℕ) × (rest : List Asked) × AreExposedAmong nodes (take n firsts) seconds (q ∷ rest)

@@ -17,4 +17,6 @@ pub use plans::Plan;
 pub use plans::planning::plan;
 pub use repair_laws::Pair;
 pub use repairs::materialise::materialise;
-pub use repairs::{Obstacle, RepairFault, exposed_questions, has_unknown_key, promote};
+pub use repairs::{
+    Obstacle, RepairFault, exposed_questions, first_exposed, has_unknown_key, promote,
+};

@@ -8,7 +8,9 @@ use prog_check::ProgramSet;
 use prog_paths::Question;
 use prog_text::print;
 use prog_tree::Sequence;
-use si_repair::{Pair, Plan, RepairFault, exposed_questions, materialise, plan, promote};
+use si_repair::{
+    Pair, Plan, RepairFault, exposed_questions, first_exposed, materialise, plan, promote,
+};
 use std::alloc::{AllocError, Global};
 use std::process::Abort;
 use std::test::Fail;
@@ -75,6 +77,32 @@ fn what_is_not_covered_is_exposed(rt: HostRuntime) -> Result<(), Fail> {
         let exposed = exposed_of(&rt, rt.alloc(), text, pair)?;
         assert!(rt; exposed.len() == wanted.len());
         for (question, numbers) in exposed.iter().zip(wanted) {
+            assert!(rt; [question.x, question.a, question.y, question.b] == *numbers);
+        }
+    }
+    Ok(())
+}
+
+/// The first exposed question of a pair of the programs of a text.
+fn first_of(
+    rt: &impl Abort,
+    alloc: Global,
+    text: &str,
+    pair: Pair,
+) -> Result<Option<Question>, Fail> {
+    let paths = paths_of(alloc, text)?;
+    assert!(rt; paths.iter().all(|path| changes_single_cells(path)));
+    let first = first_exposed(alloc, &paths, pair);
+    drop(paths);
+    Ok(first?)
+}
+
+#[test]
+fn the_first_that_is_exposed_is_found(rt: HostRuntime) -> Result<(), Fail> {
+    for &(text, pair, wanted) in EXPOSED.iter() {
+        let first = first_of(&rt, rt.alloc(), text, pair)?;
+        assert!(rt; first.is_some() != wanted.is_empty());
+        if let (Some(question), Some(numbers)) = (first, wanted.first()) {
             assert!(rt; [question.x, question.a, question.y, question.b] == *numbers);
         }
     }

@@ -4,9 +4,9 @@ ghost use Rattle.prog_paths.specs.Asked.{ChangesSingleCells, numbers_of, questio
 ghost use Rattle.prog_paths.specs.Places.{IsAt};
 ghost use Rattle.prog_paths.specs.StaticGraph.{IsAccessOf};
 ghost use Rattle.conflict_pairs.specs.Verdicts.{IsRight};
-ghost use Rattle.si_repair.specs.Exposing.{AreExposed};
+ghost use Rattle.si_repair.specs.Exposing.{AreExposed, IsFirstExposed};
 ghost use Rattle.conflict_pairs.specs.Alike.{HasAccess};
-ghost use Rattle.si_repair.specs.Gathering.{MayMiss, IsExposedTo, AreExposedAmong};
+ghost use Rattle.si_repair.specs.Gathering.{MayMiss, IsExposedTo, AreExposedAmong, IsFirstAmong};
 
 use conflict_pairs::{Verdict, verdict};
 use prog_check::{Access, Path};
@@ -126,4 +126,42 @@ pub fn exposed_questions(
     let seconds = program_places(alloc, paths, pair.to)?;
     let questions = exposed_among(alloc, paths, &firsts, &seconds)?;
     Ok(questions)
+}
+
+/// The first question of an access that is exposed to another, or none.
+fn first_among(
+    alloc: Global,
+    paths: &[Path],
+    firsts: &[Placed],
+    seconds: &[Placed],
+) -> Result<Option<Question>, AllocError>
+    requires single { All ChangesSingleCells paths.now }
+    requires firsts { All (λ p. IsAt paths.now p) firsts.now }
+    requires seconds { All (λ p. IsAt paths.now p) seconds.now }
+    ensures { IfOk result (λ found. IsFirstAmong paths.now firsts.now seconds.now found) }
+{
+    for place in firsts {
+        let questions = exposed_to(alloc, paths, place, seconds)?;
+        let found = questions.first().copied();
+        if found.is_some() {
+            return Ok(found);
+        }
+    }
+    Ok(None)
+}
+
+/// The first of the exposed questions of a pair, or none; of no access behind the one that asks it
+/// is anything judged.
+pub fn first_exposed(
+    alloc: Global,
+    paths: &[Path],
+    pair: Pair,
+) -> Result<Option<Question>, AllocError>
+    requires { All ChangesSingleCells paths.now }
+    ensures { IfOk result (λ found. IsFirstExposed paths.now pair found) }
+{
+    let reads = program_places(alloc, paths, pair.from)?;
+    let changes = program_places(alloc, paths, pair.to)?;
+    let found = first_among(alloc, paths, &reads, &changes)?;
+    Ok(found)
 }

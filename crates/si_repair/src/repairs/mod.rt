@@ -14,7 +14,7 @@ mod names;
 mod promotion;
 mod reads;
 
-pub use exposed::exposed_questions;
+pub use exposed::{exposed_questions, first_exposed};
 pub use fault::RepairFault;
 pub use promotion::promote;
 pub use reads::{Obstacle, has_unknown_key};

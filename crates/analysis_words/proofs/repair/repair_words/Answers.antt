@@ -10,9 +10,9 @@ use Rattle.analysis_words.specs.Repairs.{TellsRepair, heading}
 use Rattle.analysis_words.proofs.TellsMore.{tells_more}
 use Rattle.analysis_words.proofs.repair.repair_words.Goals as goal
 
-pub exposed_questions-requires : goal.exposed_questions-requires
-exposed_questions-requires c =
-    subst (λ (l : List Path). All ChangesSingleCells l) (sym (c.deref-in-loop-number.ensures.value ∙ c.in_ok-paths.ensures.exact))
+pub pair_words-requires : goal.pair_words-requires
+pair_words-requires c =
+    subst (λ (l : List Path). All ChangesSingleCells l) (sym (c.deref.ensures.value ∙ c.in_ok-paths.ensures.exact))
     (law_of_single_changes (draft_tree c.args.set.now))
 
 pub loop-number-preserved : goal.loop-number-preserved
@@ -20,7 +20,7 @@ loop-number-preserved c =
     tells_more (draft_tree c.args.set.now) c.args.pairs.now c.loop-number.number _ heading c.loop-number.invariant.0
     (string_bytes c.loop-number.words) (string_bytes c.push_str.new.self) (string_bytes c.in_ok-said.said) c.loop-number-test.true
     c.loop-number.invariant.2
-    (c.in_ok-push_str.ensures.bytes ∙ ap (λ l. string_bytes c.loop-number.words ++ l) c.deref-in-loop-number-3.ensures)
+    (c.in_ok-push_str.ensures.bytes ∙ ap (λ l. string_bytes c.loop-number.words ++ l) c.deref-in-loop-number.ensures)
     c.loop-number.invariant.1 c.in_ok-said.ensures
 
 pub returns-clause-said : goal.returns-clause-said

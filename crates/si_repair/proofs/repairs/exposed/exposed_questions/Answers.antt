@@ -17,7 +17,7 @@ pub returns : goal.returns
 returns c =
     let nodes = c.args.paths.now in
     let pair = c.args.pair in
-    AreExposed-from_places nodes pair c.deref.result.now c.deref-2.result.now c.in_ok-questions.questions.items
+    AreExposed-from_places nodes pair c.deref.result.now c.deref-2.result.now
     (subst (λ (l : List Placed). ArePlacesOf nodes pair.from l) (sym (c.deref.ensures.value ∙ c.in_ok-firsts.ensures)) (placed_of nodes pair.from))
     (subst (λ (l : List Placed). ArePlacesOf nodes pair.to l) (sym (c.deref-2.ensures.value ∙ c.in_ok-seconds.ensures)) (placed_of nodes pair.to))
-    c.in_ok-questions.ensures
+    c.in_ok-questions.questions.items c.in_ok-questions.ensures

@@ -1,0 +1,7 @@
+use Rattle.std.proofs.Common.{take, []}
+use Rattle.si_repair.specs.Gathering.{AreExposedAmong}
+use Rattle.si_repair.proofs.repairs.exposed.first_among.Given as goal
+
+-- none of the accesses so far is exposed to any
+abbrev pub invariant-loop-place : goal.invariant-loop-place
+invariant-loop-place l = AreExposedAmong l.paths (take l.place-index l.firsts) l.seconds []
