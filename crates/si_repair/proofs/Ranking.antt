@@ -1,8 +1,8 @@
 -- Pairs of parameters in order, and which of them exposed questions force equal.
-use Rattle.std.proofs.Common.{◌≡◌, ℕ, zero, suc, ◌+◌, ◌<◌, ◌≤◌, ◌⊎◌, inl, inr, List, [], ◌∷◌, ◌++◌, length, take, get_or, refl, sym, subst, ap, ◌∙◌, arith, Contains}
+use Rattle.std.proofs.Common.{◌≡◌, ℕ, zero, suc, ◌+◌, ◌<◌, ◌≤◌, ◌⊎◌, inl, inr, List, [], ◌∷◌, ◌++◌, length, take, drop, get_or, refl, sym, subst, ap, ◌∙◌, arith, Contains}
 use Rattle.std.specs.Prelude.{slice_get, All}
-use Rattle.std.proofs.lemmas.List.{take_more, take_all, append_assoc}
-use Rattle.std.proofs.lemmas.List.Elements.{Contains-append_left, Contains-append_right, Contains-append_cases, Contains-push, Contains-push_cases, Contains-get_or}
+use Rattle.std.proofs.lemmas.List.{take_more, take_all, take-append-drop, append_assoc}
+use Rattle.std.proofs.lemmas.List.Elements.{Contains-append_left, Contains-append_right, Contains-append_cases, Contains-push, Contains-push_cases, Contains-get_or, All-contains}
 use Rattle.std.proofs.lemmas.Option.{slice_get_within, get_or_from_slice_get}
 use Rattle.order_facts.specs.declared.steps.Fact.{Fact}
 use Rattle.prog_check.specs.declared.path.Term.TheVariants.{Param}
@@ -11,16 +11,19 @@ use Rattle.prog_check.specs.declared.path.Path.{Path}
 use Rattle.prog_paths.specs.Meeting.{IsSingle}
 use Rattle.prog_paths.specs.StaticGraph.{Question, AsksOf}
 use Rattle.prog_paths.specs.Questions.{AreEqualWhereTheyMeet}
+use Rattle.prog_paths.specs.declared.accesses.places.Placed.{Placed}
 use Rattle.prog_paths.specs.declared.accesses.places.Question.{Question as Asked}
-use Rattle.prog_paths.specs.Asked.{numbers_of, ChangesSingleCells}
+use Rattle.prog_paths.specs.Asked.{numbers_of, question_between, ChangesSingleCells}
+use Rattle.prog_paths.specs.Places.{IsAt}
 use Rattle.prog_paths.proofs.Questions.{law_of_equal_terms}
 use Rattle.prog_paths.proofs.Shown.{single_at, may_touch-second}
 use Rattle.prog_paths.proofs.Marked.{same_access}
 use Rattle.repair_laws.specs.declared.plan.Pair.{Pair}
 use Rattle.repair_laws.specs.Keys.{ExposedOf, IsForcedEqual, IsLeastForced, IsKeyOf}
 use Rattle.si_repair.specs.Exposing.{AreExposed}
-use Rattle.si_repair.specs.Forcing.{AreMissed, IsMissed, AreFactsOf, PutEqual, AreLeft, ForceEqual, IsEarlier, ArePairsRising, pairs_of, all_pairs, AreForced}
-use Rattle.si_repair.proofs.Gathering.{nothing, among_first, still_first, last_first}
+use Rattle.si_repair.specs.Forcing.{AreMissed, IsMissed, AreFactsOf, PutEqual, AreLeft, ForceEqual, IsEarlier, ArePairsRising, pairs_of, all_pairs, AreForced, AreForcedAmong}
+use Rattle.si_repair.specs.Gathering.{AreExposedAmong}
+use Rattle.si_repair.proofs.Gathering.{ArePlacesOf, nothing, only_one, among_first, still_first, last_first, first_moved, of_pair-exposed, AreExposed-from_places}
 
 -- ---- pairs in order
 
@@ -203,57 +206,66 @@ put-forces nodes q facts i j all is missed f =
     ((law_of_equal_terms mine theirs h.asked.table (single_theirs nodes q mine theirs all h) (Param i) (Param j)).1 (f mine theirs h))
 
 module _ (nodes : List Path) (firsts seconds : ℕ) where
-  pub AreForced-none : (qs : List Asked) (pairs : List (ℕ × ℕ)) → pairs ≡ all_pairs firsts seconds → AreForced nodes (take 0 qs) firsts seconds pairs
-  AreForced-none qs pairs is = subst (λ (l : List (ℕ × ℕ)). AreForced nodes [] firsts seconds l) (sym is) (record {
+  pub AreForced-none : (pairs : List (ℕ × ℕ)) → pairs ≡ all_pairs firsts seconds → AreForced nodes [] firsts seconds pairs
+  AreForced-none pairs is = subst (λ (l : List (ℕ × ℕ)). AreForced nodes [] firsts seconds l) (sym is) (record {
     only = λ i j c. let o = of_all firsts seconds (i, j) c in (o.0, o.1, λ q k. absurd (nothing q k));
     each = λ i j a b f. in_all firsts seconds i j a b;
     rise = all_rise firsts seconds;
   })
 
-  pub AreForced-more : (qs : List Asked) (n : ℕ) (d : Asked) (facts : List Fact) (old new : List (ℕ × ℕ)) → n < length qs → All ChangesSingleCells nodes → IsMissed nodes (get_or qs n d) → AreFactsOf nodes (get_or qs n d) facts → AreLeft facts old new → AreForced nodes (take n qs) firsts seconds old → AreForced nodes (take (n + 1) qs) firsts seconds new
-  AreForced-more qs n d facts old new lt all missed is left h = record { only = only; each = each; rise = left.rise h.rise }
+  -- one more question
+  AreForced-push : (qs : List Asked) (next : Asked) (facts : List Fact) (old new : List (ℕ × ℕ)) → All ChangesSingleCells nodes → IsMissed nodes next → AreFactsOf nodes next facts → AreLeft facts old new → AreForced nodes qs firsts seconds old → AreForced nodes (qs ++ next ∷ []) firsts seconds new
+  AreForced-push qs next facts old new all missed is left h = record { only = only; each = each; rise = left.rise h.rise }
     where
-      only : (i j : ℕ) → Contains new (i, j) → (i < firsts) × (j < seconds) × ForceEqual nodes (take (n + 1) qs) i j
+      only : (i j : ℕ) → Contains new (i, j) → (i < firsts) × (j < seconds) × ForceEqual nodes (qs ++ next ∷ []) i j
       only i j c =
           let l = left.only (i, j) c in
           let o = h.only i j l.0 in
-          (o.0, o.1, λ q k. go q l.1 o.2 (among_first n qs d q lt k))
+          (o.0, o.1, λ q k. go q l.1 o.2 (Contains-push_cases qs next q k))
         where
-          go : (q : Asked) → PutEqual facts (i, j) → ForceEqual nodes (take n qs) i j → Contains (take n qs) q ⊎ (get_or qs n d ≡ q) → ForcesEqual nodes q i j
+          go : (q : Asked) → PutEqual facts (i, j) → ForceEqual nodes qs i j → Contains qs q ⊎ (next ≡ q) → ForcesEqual nodes q i j
           go q put before (inl k) = before q k
-          go q put before (inr k) = subst (λ (r : Asked). ForcesEqual nodes r i j) k (forces-put nodes (get_or qs n d) facts i j all is put)
+          go q put before (inr k) = subst (λ (r : Asked). ForcesEqual nodes r i j) k (forces-put nodes next facts i j all is put)
 
-      each : (i j : ℕ) → i < firsts → j < seconds → ForceEqual nodes (take (n + 1) qs) i j → Contains new (i, j)
+      each : (i j : ℕ) → i < firsts → j < seconds → ForceEqual nodes (qs ++ next ∷ []) i j → Contains new (i, j)
       each i j a b f =
-          left.each (i, j) (h.each i j a b (λ q k. f q (still_first n qs d q lt k)))
-          (put-forces nodes (get_or qs n d) facts i j all is missed (f (get_or qs n d) (last_first n qs d lt)))
+          left.each (i, j) (h.each i j a b (λ q k. f q (Contains-append_left qs (next ∷ []) q k)))
+          (put-forces nodes next facts i j all is missed (f next (Contains-push qs next)))
 
-  pub AreForced-all : (qs : List Asked) (n : ℕ) (pairs : List (ℕ × ℕ)) → length qs ≤ n → AreForced nodes (take n qs) firsts seconds pairs → AreForced nodes qs firsts seconds pairs
-  AreForced-all qs n pairs le h = subst (λ (l : List Asked). AreForced nodes l firsts seconds pairs) (take_all n qs le) h
+  pub AreForced-more : (earlier qs : List Asked) (n : ℕ) (d : Asked) (facts : List Fact) (old new : List (ℕ × ℕ)) → n < length qs → All ChangesSingleCells nodes → IsMissed nodes (get_or qs n d) → AreFactsOf nodes (get_or qs n d) facts → AreLeft facts old new → AreForced nodes (earlier ++ take n qs) firsts seconds old → AreForced nodes (earlier ++ take (n + 1) qs) firsts seconds new
+  AreForced-more earlier qs n d facts old new lt all missed is left h =
+      subst (λ (l : List Asked). AreForced nodes l firsts seconds new)
+      (append_assoc earlier (take n qs) (get_or qs n d ∷ []) ∙ ap (λ (l : List Asked). earlier ++ l) (sym (take_more qs n d lt)))
+      (AreForced-push (earlier ++ take n qs) (get_or qs n d) facts old new all missed is left h)
 
 -- ---- the key
 
+moved : (nodes : List Path) (pair : Pair) (e : ExposedOf nodes pair) (q : Asked) → e.question.question ≡ numbers_of q → AreMissed nodes q e.question.mine e.question.theirs
+moved nodes pair e q is = record { asked = subst (λ (r : Question). AsksOf nodes r e.question.mine e.question.theirs) is e.question.asked; kinds = e.question.kinds }
+
+-- what one access may miss of others is missed
+pub missed_by : (nodes : List Path) (first : Placed) (seconds : List Placed) (qs : List Asked) → IsAt nodes first → All (λ (p : Placed). IsAt nodes p) seconds → AreExposedAmong nodes (first ∷ []) seconds qs → All (λ (q : Asked). IsMissed nodes q) qs
+missed_by nodes first seconds qs at all h k d lt =
+    let b = h.only (get_or qs k d) (Contains-get_or qs k d lt) in
+    let at_first = subst (λ (p : Placed). IsAt nodes p) (only_one first b.first b.in_firsts) at in
+    let at_second = All-contains (λ (p : Placed). IsAt nodes p) seconds b.second all b.in_seconds in
+    let missed : AreMissed nodes (question_between b.first b.second) b.first.access b.second.access = record { asked = record { at_mine = at_first; at_theirs = at_second; table = b.exposed.misses.table }; kinds = b.exposed.misses.kinds } in
+    (b.first.access, b.second.access, subst (λ (q : Asked). AreMissed nodes q b.first.access b.second.access) (sym b.is) missed)
+
+-- what the pair forces equal, each list of some of its exposed questions does
+by-forced : (nodes : List Path) (pair : Pair) (qs : List Asked) → ((q : Asked) → Contains qs q → (e : ExposedOf nodes pair) × (e.question.question ≡ numbers_of q)) → (i j : ℕ) → IsForcedEqual nodes pair i j → ForceEqual nodes qs i j
+by-forced nodes pair qs only i j f q c mine theirs h =
+    let o = only q c in
+    let e = o.0 in
+    let own = moved nodes pair e q o.1 in
+    let same_mine = same_access nodes q.x q.a e.question.mine mine own.asked.at_mine h.asked.at_mine in
+    let same_theirs = same_access nodes q.y q.b e.question.theirs theirs own.asked.at_theirs h.asked.at_theirs in
+    subst (λ (t : Access). AreEqualWhereTheyMeet mine t (Param i) (Param j)) same_theirs
+    (subst (λ (m : Access). AreEqualWhereTheyMeet m e.question.theirs (Param i) (Param j)) same_mine (f e))
+
 module _ (nodes : List Path) (pair : Pair) (qs : List Asked) (exposed : AreExposed nodes pair qs) where
-  moved : (e : ExposedOf nodes pair) (q : Asked) → e.question.question ≡ numbers_of q → AreMissed nodes q e.question.mine e.question.theirs
-  moved e q is = record { asked = subst (λ (r : Question). AsksOf nodes r e.question.mine e.question.theirs) is e.question.asked; kinds = e.question.kinds }
-
-  pub missed_each : All (λ (q : Asked). IsMissed nodes q) qs
-  missed_each k d lt =
-      let o = exposed.only (get_or qs k d) (Contains-get_or qs k d lt) in
-      (o.0.question.mine, o.0.question.theirs, moved o.0 (get_or qs k d) o.1)
-
   forced-by : (i j : ℕ) → ForceEqual nodes qs i j → IsForcedEqual nodes pair i j
-  forced-by i j f e = let q = exposed.each e in f q.0 q.1 e.question.mine e.question.theirs (moved e q.0 q.2)
-
-  by-forced : (i j : ℕ) → IsForcedEqual nodes pair i j → ForceEqual nodes qs i j
-  by-forced i j f q c mine theirs h =
-      let o = exposed.only q c in
-      let e = o.0 in
-      let own = moved e q o.1 in
-      let same_mine = same_access nodes q.x q.a e.question.mine mine own.asked.at_mine h.asked.at_mine in
-      let same_theirs = same_access nodes q.y q.b e.question.theirs theirs own.asked.at_theirs h.asked.at_theirs in
-      subst (λ (t : Access). AreEqualWhereTheyMeet mine t (Param i) (Param j)) same_theirs
-      (subst (λ (m : Access). AreEqualWhereTheyMeet m e.question.theirs (Param i) (Param j)) same_mine (f e))
+  forced-by i j f e = let q = exposed.each e in f q.0 q.1 e.question.mine e.question.theirs (moved nodes pair e q.0 q.2)
 
   least-of : (firsts seconds : ℕ) (p : ℕ × ℕ) (rest : List (ℕ × ℕ)) → AreForced nodes qs firsts seconds (p ∷ rest) → IsLeastForced nodes pair firsts seconds p.0 p.1
   least-of firsts seconds p rest h =
@@ -262,7 +274,7 @@ module _ (nodes : List Path) (pair : Pair) (qs : List Asked) (exposed : AreExpos
       record { first_inside = own.0; second_inside = own.1; forced = forced-by p.0 p.1 own.2; least = least }
     where
       least : (k l : ℕ) → k < firsts → l < seconds → IsForcedEqual nodes pair k l → (p.0 < k) ⊎ ((p.0 ≡ k) × (p.1 ≤ l))
-      least k l a b f = go (Contains-append_cases (p ∷ []) rest (k, l) (h.each k l a b (by-forced k l f)))
+      least k l a b f = go (Contains-append_cases (p ∷ []) rest (k, l) (h.each k l a b (by-forced nodes pair qs exposed.only k l f)))
         where
           same : Contains {X = ℕ × ℕ} [] (k, l) ⊎ (p ≡ (k, l)) → (p.0 < k) ⊎ ((p.0 ≡ k) × (p.1 ≤ l))
           same (inl n) = absurd (nothing (k, l) n)
@@ -276,6 +288,24 @@ module _ (nodes : List Path) (pair : Pair) (qs : List Asked) (exposed : AreExpos
           go (inl c) = same (Contains-push_cases [] p (k, l) c)
           go (inr c) = earlier (h.rise.0 (k, l) c)
 
-  pub IsKeyOf-first : (firsts seconds : ℕ) (pairs : List (ℕ × ℕ)) → AreForced nodes qs firsts seconds pairs → IsKeyOf nodes pair firsts seconds (slice_get pairs 0)
-  IsKeyOf-first firsts seconds [] h = λ i j a b f. nothing (i, j) (h.each i j a b (by-forced i j f))
+  IsKeyOf-first : (firsts seconds : ℕ) (pairs : List (ℕ × ℕ)) → AreForced nodes qs firsts seconds pairs → IsKeyOf nodes pair firsts seconds (slice_get pairs 0)
+  IsKeyOf-first firsts seconds [] h = λ i j a b f. nothing (i, j) (h.each i j a b (by-forced nodes pair qs exposed.only i j f))
   IsKeyOf-first firsts seconds (p ∷ rest) h = least-of firsts seconds p rest h
+
+module _ (nodes : List Path) (pair : Pair) (xs ys : List Placed) (reads : ArePlacesOf nodes pair.from xs) (changes : ArePlacesOf nodes pair.to ys) where
+  pub IsKeyOf-among : (firsts seconds : ℕ) (pairs : List (ℕ × ℕ)) → AreForcedAmong nodes xs ys firsts seconds pairs → IsKeyOf nodes pair firsts seconds (slice_get pairs 0)
+  IsKeyOf-among firsts seconds pairs h = go h.all
+    where
+      among_all : (x : Placed) → Contains (take h.asked xs) x → Contains xs x
+      among_all x c = subst (λ (l : List Placed). Contains l x) (take-append-drop h.asked xs) (Contains-append_left (take h.asked xs) (drop h.asked xs) x c)
+
+      only : (q : Asked) → Contains h.questions q → (e : ExposedOf nodes pair) × (e.question.question ≡ numbers_of q)
+      only q c = of_pair-exposed nodes pair xs ys reads changes q (first_moved nodes (take h.asked xs) xs ys q among_all (h.exposed.only q c))
+
+      go : (length xs ≤ h.asked) ⊎ (pairs ≡ []) → IsKeyOf nodes pair firsts seconds (slice_get pairs 0)
+      go (inl all) =
+          let exposed = subst (λ (l : List Placed). AreExposedAmong nodes l ys h.questions) (take_all h.asked xs all) h.exposed in
+          IsKeyOf-first nodes pair h.questions (AreExposed-from_places nodes pair xs ys reads changes h.questions exposed) firsts seconds pairs h.forced
+      go (inr none) =
+          subst (λ (l : List (ℕ × ℕ)). IsKeyOf nodes pair firsts seconds (slice_get l 0)) (sym none)
+          (λ i j a b f. nothing (i, j) (subst (λ (l : List (ℕ × ℕ)). Contains l (i, j)) none (h.forced.each i j a b (by-forced nodes pair h.questions only i j f))))

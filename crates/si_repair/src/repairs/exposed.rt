@@ -70,7 +70,7 @@ fn is_exposed(
 }
 
 /// The questions of an access that is exposed to some of others.
-fn exposed_to(
+pub fn exposed_to(
     alloc: Global,
     paths: &[Path],
     first: &Placed,

@@ -1,13 +1,15 @@
 //! The key under which the two programs of a pair meet.
-ghost use Rattle.std.specs.Prelude.{◌≡◌, ◌↔◌, ◌++◌, All, IfOk, OnOk, IsTrue};
+ghost use Rattle.std.specs.Prelude.{◌≡◌, ◌↔◌, ◌++◌, ℕ, List, All, IfOk, OnOk, IsTrue};
 ghost use Rattle.prog_paths.specs.Asked.{ChangesSingleCells};
+ghost use Rattle.prog_paths.specs.Places.{IsAt};
+ghost use Rattle.prog_paths.specs.declared.accesses.places.Question.{Question as Asked};
 ghost use Rattle.repair_laws.specs.Keys.{IsKeyOf};
-ghost use Rattle.si_repair.specs.Forcing.{IsMissed, AreFactsOf, PutEqual, AreLeft, AreForced, pairs_of, all_pairs};
+ghost use Rattle.si_repair.specs.Forcing.{IsMissed, AreFactsOf, PutEqual, AreLeft, AreForced, AreForcedAmong, pairs_of, all_pairs};
 
-use crate::repairs::exposed::{access_at, exposed_questions};
+use crate::repairs::exposed::{access_at, exposed_to};
 use order_facts::{Closed, Node};
 use prog_check::Path;
-use prog_paths::{Question, closed_facts};
+use prog_paths::{Placed, Question, closed_facts, program_places};
 use repair_laws::Pair;
 use std::alloc::{AllocError, Global};
 
@@ -74,23 +76,50 @@ fn all_pairs(
     Ok(pairs)
 }
 
-/// The pairs of parameters that each of the questions forces equal, wherever it meets.
-fn forced_pairs(
+/// Those of some pairs of parameters that each of the questions forces equal, wherever it meets.
+fn left_of(
     alloc: Global,
     paths: &[Path],
     questions: &[Question],
+    pairs: Vec<(usize, usize)>,
+) -> Result<Vec<(usize, usize)>, AllocError>
+    requires single { All ChangesSingleCells paths.now }
+    requires missed { All (λ q. IsMissed paths.now q) questions.now }
+    ensures { IfOk result (λ left. (earlier : List Asked) (firsts seconds : ℕ)
+        → AreForced paths.now earlier firsts seconds pairs.items
+        → AreForced paths.now (earlier ++ questions.now) firsts seconds left.items) }
+{
+    let mut left = pairs;
+    for question in questions {
+        let closed = facts_of(alloc, paths, question)?;
+        left = left_by(alloc, &closed, &left)?;
+    }
+    Ok(left)
+}
+
+/// The pairs of parameters that each exposed question of some accesses to others forces equal. No
+/// more is asked where none is left.
+fn forced_pairs(
+    alloc: Global,
+    paths: &[Path],
+    reads: &[Placed],
+    changes: &[Placed],
     firsts: usize,
     seconds: usize,
 ) -> Result<Vec<(usize, usize)>, AllocError>
     requires single { All ChangesSingleCells paths.now }
-    requires missed { All (λ q. IsMissed paths.now q) questions.now }
+    requires reads { All (λ p. IsAt paths.now p) reads.now }
+    requires changes { All (λ p. IsAt paths.now p) changes.now }
     ensures { IfOk result (λ pairs.
-        AreForced paths.now questions.now firsts seconds pairs.items) }
+        AreForcedAmong paths.now reads.now changes.now firsts seconds pairs.items) }
 {
     let mut pairs = all_pairs(alloc, firsts, seconds)?;
-    for question in questions {
-        let closed = facts_of(alloc, paths, question)?;
-        pairs = left_by(alloc, &closed, &pairs)?;
+    for read in reads {
+        if pairs.is_empty() {
+            return Ok(pairs);
+        }
+        let questions = exposed_to(alloc, paths, read, changes)?;
+        pairs = left_of(alloc, paths, &questions, pairs)?;
     }
     Ok(pairs)
 }
@@ -107,7 +136,8 @@ pub fn key_of(
     requires { All ChangesSingleCells paths.now }
     ensures { IfOk result (λ key. IsKeyOf paths.now pair firsts seconds key) }
 {
-    let questions = exposed_questions(alloc, paths, pair)?;
-    let forced = forced_pairs(alloc, paths, &questions, firsts, seconds)?;
+    let reads = program_places(alloc, paths, pair.from)?;
+    let changes = program_places(alloc, paths, pair.to)?;
+    let forced = forced_pairs(alloc, paths, &reads, &changes, firsts, seconds)?;
     Ok(forced.first().copied())
 }

@@ -1,7 +1,11 @@
-use Rattle.std.proofs.Common.{take}
+use Rattle.std.proofs.Common.{List, take}
+use Rattle.prog_paths.specs.declared.accesses.places.Question.{Question}
 use Rattle.si_repair.specs.Forcing.{AreForced}
+use Rattle.si_repair.specs.Gathering.{AreExposedAmong}
 use Rattle.si_repair.proofs.repairs.key.forced_pairs.Given as goal
 
--- the pairs that the questions so far force
-abbrev pub invariant-loop-question : goal.invariant-loop-question
-invariant-loop-question l = AreForced l.paths (take l.question-index l.questions) l.firsts l.seconds l.pairs.items
+-- the pairs that the exposed questions of the accesses so far force
+abbrev pub invariant-loop-read : goal.invariant-loop-read
+invariant-loop-read l =
+    (questions : List Question) × AreExposedAmong l.paths (take l.read-index l.reads) l.changes questions
+    × AreForced l.paths questions l.firsts l.seconds l.pairs.items
