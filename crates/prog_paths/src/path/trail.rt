@@ -33,17 +33,32 @@ fn copy_accesses(alloc: Global, accesses: &Accesses) -> Result<Accesses, AllocEr
 }
 
 impl Trail {
-    /// A copy that takes the first block of a branch, or the second.
-    pub fn choosing(&self, alloc: Global, first: bool) -> Result<Trail, AllocError>
-        ensures { IfOk result (λ trail. trail ≡ choosing_first first self.now) }
+    fn copied(&self, alloc: Global) -> Result<Trail, AllocError>
+        ensures { IfOk result (λ copy. copy ≡ self.now) }
     {
-        let mut choices = copy_choices(alloc, &self.choices)?;
-        choices.push(first)?;
         Ok(Trail {
-            choices,
+            choices: copy_choices(alloc, &self.choices)?,
             accesses: copy_accesses(alloc, &self.accesses)?,
             unknown: self.unknown,
         })
+    }
+
+    /// The trail that takes the first block of a branch, or the second.
+    pub fn taking(self, first: bool) -> Result<Trail, AllocError>
+        ensures { IfOk result (λ trail. trail ≡ choosing_first first self) }
+    {
+        let mut trail = self;
+        trail.choices.push(first)?;
+        Ok(trail)
+    }
+
+    /// A copy that does.
+    pub fn choosing(&self, alloc: Global, first: bool) -> Result<Trail, AllocError>
+        ensures { IfOk result (λ trail. trail ≡ choosing_first first self.now) }
+    {
+        let copy = self.copied(alloc)?;
+        let trail = copy.taking(first)?;
+        Ok(trail)
     }
 }
 

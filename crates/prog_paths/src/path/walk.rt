@@ -1,6 +1,6 @@
 //! The walk along a program's committing paths. It enters no block that always aborts, so each way
 //! that it keeps is one of the paths that are listed.
-ghost use Rattle.std.specs.Prelude.{◌≡◌, ◌+◌, ◌≤◌, ◌++◌, ◌∷◌, [], true, map, min, IfOk, OnOk};
+ghost use Rattle.std.specs.Prelude.{◌≡◌, ◌+◌, ◌≤◌, ◌∷◌, [], true, map, min, IfOk};
 ghost use Rattle.prog_tree.specs.Tree.{stmt_tree, block_tree};
 ghost use Rattle.prog_check.specs.Paths.{statement_count, routes};
 ghost use Rattle.prog_paths.specs.Trails.{IsLow, AreLow, alone, passes, commits, past_body, along, all_along};
@@ -176,15 +176,6 @@ fn pass_all(
     Ok(passed)
 }
 
-fn append(trails: &mut Vec<Trail>, more: Vec<Trail>) -> Result<(), AllocError>
-    ensures { OnOk result (trails.new.items ≡ trails.old.items ++ more.items) }
-{
-    for trail in more {
-        trails.push(trail)?;
-    }
-    Ok(())
-}
-
 /// All trails behind a statement of this number.
 #[cycle(walk)]
 fn walk_stmt(
@@ -210,15 +201,11 @@ fn walk_stmt(
             let mut passed = Vec::new(alloc);
             for trail in trails {
                 let on = trail.choosing(alloc, true)?;
-                append(
-                    &mut passed,
-                    walk_block(alloc, set, params, number + 1, then, on)?,
-                )?;
-                let on = trail.choosing(alloc, false)?;
-                append(
-                    &mut passed,
-                    walk_block(alloc, set, params, second, otherwise, on)?,
-                )?;
+                let mut ways = walk_block(alloc, set, params, number + 1, then, on)?;
+                passed.append(&mut ways)?;
+                let on = trail.taking(false)?;
+                let mut ways = walk_block(alloc, set, params, second, otherwise, on)?;
+                passed.append(&mut ways)?;
             }
             Ok(passed)
         }

@@ -67,14 +67,14 @@ walk_stmt-loop-trail-preserved t c =
     let counted = c.count_statements.ensures.counted in
     let room = c.requires.few in
     let second : c.count_statements.result ≡ statement_count a = omega (arith, size, counted, room) in
-    let first_walked = c.in_ok-walk_block-in-Branch.ensures ∙ ap (λ t. map (along tables params t) (routes (n + 1) a)) c.in_ok-on-in-Branch.ensures in
+    let first_walked = c.in_ok-ways-in-Branch.ensures ∙ ap (λ t. map (along tables params t) (routes (n + 1) a)) c.in_ok-on-in-Branch.ensures in
     let second_walked =
-    c.in_ok-walk_block-in-Branch-2.ensures
+    c.in_ok-ways-in-Branch-2.ensures
     ∙ (λ i. map (along tables params (c.in_ok-on-in-Branch-2.ensures i)) (routes (n + 1 + second i) b)) in
     record {
       passed =
-          c.in_ok-append-in-Branch-2.ensures
-          ∙ (λ i. (c.in_ok-append-in-Branch.ensures ∙ ap (λ l. before ++ l) first_walked) i ++ second_walked i)
+          c.in_ok-append-in-Branch-2.ensures.items
+          ∙ (λ i. (c.in_ok-append-in-Branch.ensures.items ∙ ap (λ l. before ++ l) first_walked) i ++ second_walked i)
           ∙ more_trails tables params n x (test_tree branch.test) a b c.loop-trail.yielded trail before is c.loop-trail.invariant.passed;
       low = low_back n trail c.next.new.self.rest.items c.loop-trail.trail-iterator.rest.items (told c.next.result _ _ trail c.in-Some.is c.next.ensures.steps).0 c.loop-trail.invariant.low;
     }
