@@ -4,54 +4,14 @@ ghost use Rattle.prog_tree.specs.Tree.{draft_tree};
 ghost use Rattle.analysis_words.specs.Repairs.{SaysObstacle, SaysStop, limits_text, obstacle_reason, obstacle_verb};
 ghost use Rattle.si_repair.specs.declared.repairs.fault.RepairFault.TheVariants as f;
 
-use crate::looks::{first_of_each, is_under_unknown_key, looked_at, meets_body, reason_words};
+use crate::looks::reason_words;
 use crate::pairs::pair_sentence;
 use crate::shown::Shown;
 use prog_check::{MAX_ACCESSES, MAX_STATEMENTS, MAX_TABLES, ProgramSet};
-use prog_paths::{Question, paths};
-use si_repair::{Obstacle, Pair, RepairFault, exposed_questions};
+use prog_paths::paths;
+use si_repair::{Obstacle, Pair, RepairFault, hindered_question};
 use std::alloc::{AllocError, Global};
 use text_places::SetText;
-
-// The first look at a range.
-fn range_look(
-    alloc: Global,
-    shown: Shown<'_>,
-    questions: &[Question],
-) -> Result<String, AllocError> {
-    let firsts = first_of_each(alloc, shown, questions)?;
-    for question in &firsts {
-        let cells = looked_at(alloc, shown, *question)?;
-        if cells.contains("..") {
-            return reason_words(alloc, shown, Some(question));
-        }
-    }
-    Ok(String::new(alloc))
-}
-
-// The first look under a key that no parameters and numbers tell.
-fn unknown_look(
-    alloc: Global,
-    shown: Shown<'_>,
-    questions: &[Question],
-) -> Result<String, AllocError> {
-    let found = questions
-        .iter()
-        .find(|question| is_under_unknown_key(shown, question));
-    reason_words(alloc, shown, found)
-}
-
-// The first look that stands in the body of an `each`, or at what such a body changes.
-fn body_look(
-    alloc: Global,
-    shown: Shown<'_>,
-    questions: &[Question],
-) -> Result<String, AllocError> {
-    let found = questions
-        .iter()
-        .find(|question| meets_body(shown, question));
-    reason_words(alloc, shown, found)
-}
 
 // What the first program of a pair does, before the name of the second.
 fn obstacle_verb(obstacle: Obstacle) -> &'static str
@@ -86,18 +46,14 @@ fn obstructed_look(
     obstacle: Obstacle,
 ) -> Result<String, AllocError> {
     let paths = paths(alloc, set)?;
-    let questions = exposed_questions(alloc, &paths, pair)?;
+    let found = hindered_question(alloc, set.draft(), &paths, pair, obstacle)?;
     let text = SetText::new(alloc, text)?;
     let shown = Shown {
         text: &text,
         set,
         paths: &paths,
     };
-    match obstacle {
-        Obstacle::RangeRead => range_look(alloc, shown, &questions),
-        Obstacle::UnknownKey => unknown_look(alloc, shown, &questions),
-        Obstacle::BodyRead => body_look(alloc, shown, &questions),
-    }
+    reason_words(alloc, shown, found.as_ref())
 }
 
 // The pair that can't be promoted.

@@ -166,7 +166,7 @@ not_unknown pair (e, h) = known_key (subst HasUnknownKey (sym (mine_is pair e)) 
 -- the statement of number 1 is no range
 one_cell : (st : StatementTree) → IsStatementAt 0 move_program.body 1 st → IsRange st → ⊥
 one_cell st (inl h) r = let e = h.0 in absurd (omega (arith, e))
-one_cell st (inr (inl (inl h))) r = subst IsRange h.1 r
+one_cell st (inr (inl (inl h))) r = false≢true (subst IsRange h.1 r)
 one_cell st (inr (inl (inr (inl h)))) r = let e = h.0 in absurd (omega (arith, e))
 one_cell st (inr (inl (inr (inr h)))) r = absurd h
 one_cell st (inr (inr h)) r = absurd h

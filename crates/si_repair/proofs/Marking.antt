@@ -1,11 +1,11 @@
 -- Marked statements by their numbers, and exposed reads that no keep covers.
 use Rattle.std.proofs.Common.{◌≡◌, ◌↔◌, ℕ, zero, suc, ◌+◌, ◌<◌, ◌≤◌, ◌⊎◌, inl, inr, Bool, true, false, not, List, [], ◌∷◌, ◌++◌, length, take, get_or, refl, sym, subst, ap, ◌∙◌, arith, Contains, length-append}
-use Rattle.std.specs.Prelude.{Option, Some, None, slice_get, All}
+use Rattle.std.specs.Prelude.{Option, Some, None, is_some, slice_get, All}
 use Rattle.std.proofs.lemmas.Bool.{false≢true}
 use Rattle.std.proofs.lemmas.List.{take_all, append_assoc}
 use Rattle.std.proofs.lemmas.List.Elements.{Contains-get_or}
+use Rattle.std.proofs.lemmas.Option.{slice_get_within, get_or_from_slice_get, slice_get-get_or}
 use Rattle.prog_tree.specs.Syntax.{StatementTree, BlockTree, BlockEnd, Then, Branch, Each, ProgramTree, DraftTree, StmtTree, Plain, Fork, block_from}
-use Rattle.prog_tree.specs.Syntax as s
 use Rattle.prog_check.specs.Paths.{statement_count, paths_of}
 use Rattle.prog_check.specs.Uses.{as_count}
 use Rattle.prog_check.specs.declared.path.Access.{Access}
@@ -18,20 +18,12 @@ use Rattle.repair_laws.specs.Keys.{ExposedOf}
 use Rattle.repair_laws.specs.Refusals.{IsStatementAt, IsRange, HasUnknownKey, HasRangeRead, HasUnknownRead, HasBodyRead}
 use Rattle.si_repair.specs.Exposing.{AreExposed, IsObstacle}
 use Rattle.si_repair.specs.Gathering.{HasRead, HasBoth}
-use Rattle.si_repair.specs.Obstacles.{is_range, range_marks, program_ranges, ReadsMarked, ReadsUnknown, MeetsInBody, obstacle_of}
+use Rattle.si_repair.specs.Obstacles.{range_marks, program_ranges, Hinders, HasHindered, IsFirstHindered, obstacle_of}
+use Rattle.si_repair.specs.declared.repairs.reads.Obstacle.{Obstacle}
+use Rattle.si_repair.specs.declared.repairs.reads.Obstacle.TheVariants.{RangeRead, UnknownKey, BodyRead}
 use Rattle.si_repair.proofs.Gathering.{nothing, among_first}
 
 -- ---- statements
-
-range-true : (st : StatementTree) → is_range st ≡ true → IsRange st
-range-true (s.Count x table range) h = tt
-range-true (s.Sum x table range) h = tt
-range-true st h = absurd (false≢true h)
-
-true-range : (st : StatementTree) → IsRange st → is_range st ≡ true
-true-range (s.Count x table range) h = refl
-true-range (s.Sum x table range) h = refl
-true-range st h = absurd h
 
 -- a marked statement of a block
 record MarkedAt (first : ℕ) (b : BlockTree) (number : ℕ) : Type 0 where
@@ -85,7 +77,7 @@ statement-from_mark : (first : ℕ) (b : BlockTree) (n : ℕ) → get_or (range_
 statement-from_mark first BlockEnd n h = absurd (false≢true h)
 statement-from_mark first (Then st rest) zero h =
     let e : first + 0 ≡ first = omega arith in
-    record { statement = st; at = inl (e, refl); range = range-true st h }
+    record { statement = st; at = inl (e, refl); range = h }
 statement-from_mark first (Then st rest) (suc n) h =
     let e : first + 1 + n ≡ first + suc n = omega arith in
     let m = subst (λ (k : ℕ). MarkedAt (first + 1) rest k) e (statement-from_mark (first + 1) rest n h) in
@@ -133,7 +125,7 @@ statement-from_mark first (Branch test a b rest) (suc n) h =
     go (inr i) one two three = behind i.0 i.1 two three (either_marked (range_marks b) (range_marks rest) i.0 i.2)
 statement-from_mark first (Each l body rest) zero h =
     let e : first + 0 ≡ first = omega arith in
-    record { statement = as_count l; at = inl (e, refl); range = tt }
+    record { statement = as_count l; at = inl (e, refl); range = refl }
 statement-from_mark first (Each l body rest) (suc n) h =
     go (either_marked (range_marks body) (range_marks rest) n h)
     (λ k i. statement-from_mark (first + 1) body k i)
@@ -166,7 +158,7 @@ mark-from_statement : (first : ℕ) (b : BlockTree) (number : ℕ) (st : Stateme
 mark-from_statement first BlockEnd number st h r = absurd h
 mark-from_statement first (Then t rest) number st (inl h) r =
     let is = h.0 in
-    (0, omega (arith, is), true-range t (subst IsRange h.1 r))
+    (0, omega (arith, is), subst IsRange h.1 r)
 mark-from_statement first (Then t rest) number st (inr h) r =
     let m = mark-from_statement (first + 1) rest number st h r in
     let is = m.1 in
@@ -204,75 +196,39 @@ mark-from_statement first (Each l body rest) number st (inr (inr h)) r =
 
 -- ---- reads among questions
 
-module _ (nodes : List Path) (marks : List Bool) (qs : List Asked) (n : ℕ) (d : Asked) (lt : n < length qs) (read : Access) (at : IsAccessOf nodes (get_or qs n d).x (get_or qs n d).a read) where
-  pub marked-found : get_or marks read.place false ≡ true → ReadsMarked nodes marks qs
-  marked-found h = record { question = get_or qs n d; listed = Contains-get_or qs n d lt; read = read; at = at; marked = h }
+pub in_body-sure : (sure : Bool) → (not sure ≡ true) ↔ (sure ≡ false)
+in_body-sure true = (λ h. absurd (false≢true h), λ h. absurd (false≢true (sym h)))
+in_body-sure false = (λ h. refl, λ h. refl)
 
-  pub marked-more : (get_or marks read.place false ≡ true → ⊥) → (ReadsMarked nodes marks (take n qs) → ⊥) → ReadsMarked nodes marks (take (n + 1) qs) → ⊥
-  marked-more not_here not_before h = go (among_first n qs d h.question lt h.listed)
-    where
-      go : Contains (take n qs) h.question ⊎ (get_or qs n d ≡ h.question) → ⊥
-      go (inl k) = not_before (record { question = h.question; listed = k; read = h.read; at = h.at; marked = h.marked })
-      go (inr k) =
-          let own = subst (λ (q : Asked). IsAccessOf nodes q.x q.a h.read) (sym k) h.at in
-          not_here (subst (λ (a : Access). get_or marks a.place false ≡ true) (same_access nodes (get_or qs n d).x (get_or qs n d).a h.read read own at) h.marked)
+module _ (nodes : List Path) (marks : List Bool) (obstacle : Obstacle) (qs : List Asked) where
+  pub hindered-none : HasHindered nodes marks obstacle (take 0 qs) → ⊥
+  hindered-none h = nothing h.0 h.1
 
-  pub unknown-found : HasUnknownKey read → ReadsUnknown nodes qs
-  unknown-found h = record { question = get_or qs n d; listed = Contains-get_or qs n d lt; read = read; at = at; unknown = h }
+  pub hindered-all : (n : ℕ) → length qs ≤ n → (HasHindered nodes marks obstacle (take n qs) → ⊥) → HasHindered nodes marks obstacle qs → ⊥
+  hindered-all n le before h = before (subst (λ (l : List Asked). HasHindered nodes marks obstacle l) (sym (take_all n qs le)) h)
 
-  pub unknown-more : (HasUnknownKey read → ⊥) → (ReadsUnknown nodes (take n qs) → ⊥) → ReadsUnknown nodes (take (n + 1) qs) → ⊥
-  unknown-more not_here not_before h = go (among_first n qs d h.question lt h.listed)
-    where
-      go : Contains (take n qs) h.question ⊎ (get_or qs n d ≡ h.question) → ⊥
-      go (inl k) = not_before (record { question = h.question; listed = k; read = h.read; at = h.at; unknown = h.unknown })
-      go (inr k) =
-          let own = subst (λ (q : Asked). IsAccessOf nodes q.x q.a h.read) (sym k) h.at in
-          not_here (subst HasUnknownKey (same_access nodes (get_or qs n d).x (get_or qs n d).a h.read read own at) h.unknown)
+  -- there is one just where a first one is found
+  pub hindered-some : (o : Option Asked) → IsFirstHindered nodes marks obstacle qs o → (is_some o ≡ true) ↔ HasHindered nodes marks obstacle qs
+  hindered-some None none = (λ h. absurd (false≢true h), λ h. absurd (none h))
+  hindered-some (Some q) (n, at, own, before) =
+      let listed = subst (λ (p : Asked). Contains qs p) (get_or_from_slice_get qs n q q at) (Contains-get_or qs n q (slice_get_within qs n q at)) in
+      (λ h. (q, listed, own), λ h. refl)
 
-pub sure-from : (sure : Bool) → not sure ≡ false → sure ≡ true
-sure-from true h = refl
-sure-from false h = absurd (false≢true (sym h))
+  module _ (n : ℕ) (d : Asked) (lt : n < length qs) (read other : Access) (at_read : IsAccessOf nodes (get_or qs n d).x (get_or qs n d).a read) (at_other : IsAccessOf nodes (get_or qs n d).y (get_or qs n d).b other) (before : HasHindered nodes marks obstacle (take n qs) → ⊥) where
+    pub hindered-found : Hinders obstacle marks read other → IsFirstHindered nodes marks obstacle qs (Some (get_or qs n d))
+    hindered-found h = (n, slice_get-get_or qs n d lt, record { read = read; other = other; at_read = at_read; at_other = at_other; hinders = h }, before)
 
--- neither of the two is in a body
-not_in_body : (read other : Bool) → read ≡ true → other ≡ true → (read ≡ false) ⊎ (other ≡ false) → ⊥
-not_in_body read other a b (inl e) = false≢true (sym e ∙ a)
-not_in_body read other a b (inr e) = false≢true (sym e ∙ b)
-
-module _ (nodes : List Path) (qs : List Asked) (n : ℕ) (d : Asked) (lt : n < length qs) (read other : Access) (at_read : IsAccessOf nodes (get_or qs n d).x (get_or qs n d).a read) (at_other : IsAccessOf nodes (get_or qs n d).y (get_or qs n d).b other) where
-  pub body-found : (read.sure ≡ false) ⊎ (other.sure ≡ false) → MeetsInBody nodes qs
-  body-found h = record { question = get_or qs n d; listed = Contains-get_or qs n d lt; read = read; other = other; at_read = at_read; at_other = at_other; in_body = h }
-
-  pub body-more : read.sure ≡ true → other.sure ≡ true → (MeetsInBody nodes (take n qs) → ⊥) → MeetsInBody nodes (take (n + 1) qs) → ⊥
-  body-more first second not_before h = go (among_first n qs d h.question lt h.listed)
-    where
-      go : Contains (take n qs) h.question ⊎ (get_or qs n d ≡ h.question) → ⊥
-      go (inl k) = not_before (record { question = h.question; listed = k; read = h.read; other = h.other; at_read = h.at_read; at_other = h.at_other; in_body = h.in_body })
-      go (inr k) =
-          let own_read = subst (λ (q : Asked). IsAccessOf nodes q.x q.a h.read) (sym k) h.at_read in
-          let own_other = subst (λ (q : Asked). IsAccessOf nodes q.y q.b h.other) (sym k) h.at_other in
-          let same_read = same_access nodes (get_or qs n d).x (get_or qs n d).a h.read read own_read at_read in
-          let same_other = same_access nodes (get_or qs n d).y (get_or qs n d).b h.other other own_other at_other in
-          not_in_body h.read.sure h.other.sure (ap (λ (a : Access). a.sure) same_read ∙ first) (ap (λ (a : Access). a.sure) same_other ∙ second) h.in_body
-
-module _ (nodes : List Path) (qs : List Asked) where
-  pub body-none : MeetsInBody nodes (take 0 qs) → ⊥
-  body-none h = nothing h.question h.listed
-
-  pub body-all : (n : ℕ) → length qs ≤ n → (MeetsInBody nodes (take n qs) → ⊥) → MeetsInBody nodes qs → ⊥
-  body-all n le no_read h = no_read (subst (λ (l : List Asked). MeetsInBody nodes l) (sym (take_all n qs le)) h)
-
-module _ (nodes : List Path) (marks : List Bool) (qs : List Asked) where
-  pub marked-none : ReadsMarked nodes marks (take 0 qs) → ⊥
-  marked-none h = nothing h.question h.listed
-
-  pub marked-all : (n : ℕ) → length qs ≤ n → (ReadsMarked nodes marks (take n qs) → ⊥) → ReadsMarked nodes marks qs → ⊥
-  marked-all n le no_read h = no_read (subst (λ (l : List Asked). ReadsMarked nodes marks l) (sym (take_all n qs le)) h)
-
-  pub unknown-none : ReadsUnknown nodes (take 0 qs) → ⊥
-  unknown-none h = nothing h.question h.listed
-
-  pub unknown-all : (n : ℕ) → length qs ≤ n → (ReadsUnknown nodes (take n qs) → ⊥) → ReadsUnknown nodes qs → ⊥
-  unknown-all n le no_read h = no_read (subst (λ (l : List Asked). ReadsUnknown nodes l) (sym (take_all n qs le)) h)
+    pub hindered-more : (Hinders obstacle marks read other → ⊥) → HasHindered nodes marks obstacle (take (n + 1) qs) → ⊥
+    hindered-more not_here h = go (among_first n qs d h.0 lt h.1)
+      where
+        go : Contains (take n qs) h.0 ⊎ (get_or qs n d ≡ h.0) → ⊥
+        go (inl k) = before (h.0, k, h.2)
+        go (inr k) =
+            let own_read = subst (λ (q : Asked). IsAccessOf nodes q.x q.a h.2.read) (sym k) h.2.at_read in
+            let own_other = subst (λ (q : Asked). IsAccessOf nodes q.y q.b h.2.other) (sym k) h.2.at_other in
+            let same_read = same_access nodes (get_or qs n d).x (get_or qs n d).a h.2.read read own_read at_read in
+            let same_other = same_access nodes (get_or qs n d).y (get_or qs n d).b h.2.other other own_other at_other in
+            not_here (subst (λ (a : Access). Hinders obstacle marks read a) same_other (subst (λ (a : Access). Hinders obstacle marks a h.2.other) same_read h.2.hinders))
 
 -- ---- obstacles of a pair
 
@@ -289,12 +245,30 @@ HasBoth-each nodes pair qs exposed k d lt =
     )
 
 module _ (draft : DraftTree) (nodes : List Path) (is : nodes ≡ paths_of draft) (pair : Pair) (qs : List Asked) (exposed : AreExposed nodes pair qs) where
-  -- the exposed question of a listed one
-  of_listed : (q : Asked) → Contains qs q → (read : Access) → IsAccessOf nodes q.x q.a read → (e : ExposedOf nodes pair) × (e.question.mine ≡ read)
-  of_listed q c read at =
-      let o = exposed.only q c in
-      let own = subst (λ (r : Question). IsAccessOf nodes r.x r.a o.0.question.mine) o.1 o.0.question.asked.at_mine in
-      (o.0, same_access nodes q.x q.a o.0.question.mine read own at)
+  -- an exposed question of the pair that an obstacle hinders
+  of_hindered : (marks : List Bool) (obstacle : Obstacle) → HasHindered nodes marks obstacle qs → (e : ExposedOf nodes pair) × Hinders obstacle marks e.question.mine e.question.theirs
+  of_hindered marks obstacle h =
+      let o = exposed.only h.0 h.1 in
+      let w = h.2 in
+      let mine = subst (λ (r : Question). IsAccessOf nodes r.x r.a o.0.question.mine) o.1 o.0.question.asked.at_mine in
+      let theirs = subst (λ (r : Question). IsAccessOf nodes r.y r.b o.0.question.theirs) o.1 o.0.question.asked.at_theirs in
+      let same_read = same_access nodes h.0.x h.0.a o.0.question.mine w.read mine w.at_read in
+      let same_other = same_access nodes h.0.y h.0.b o.0.question.theirs w.other theirs w.at_other in
+      (o.0, subst (λ (a : Access). Hinders obstacle marks o.0.question.mine a) (sym same_other) (subst (λ (a : Access). Hinders obstacle marks a w.other) (sym same_read) w.hinders))
+
+  hindered_of : (marks : List Bool) (obstacle : Obstacle) (e : ExposedOf nodes pair) → Hinders obstacle marks e.question.mine e.question.theirs → HasHindered nodes marks obstacle qs
+  hindered_of marks obstacle e h =
+      let q = exposed.each e in (
+        q.0,
+        q.1,
+        record {
+          read = e.question.mine;
+          other = e.question.theirs;
+          at_read = subst (λ (r : Question). IsAccessOf nodes r.x r.a e.question.mine) q.2 e.question.asked.at_mine;
+          at_other = subst (λ (r : Question). IsAccessOf nodes r.y r.b e.question.theirs) q.2 e.question.asked.at_theirs;
+          hinders = h;
+        },
+      )
 
   module _ (marks : List Bool) (marks_are : marks ≡ program_ranges (slice_get draft.programs pair.from)) where
     range-of : (o : Option ProgramTree) → slice_get draft.programs pair.from ≡ o → (place : ℕ) → get_or (program_ranges o) place false ≡ true → (p : ProgramTree) × (slice_get draft.programs pair.from ≡ Some p) × MarkedAt 0 p.body place
@@ -303,92 +277,52 @@ module _ (draft : DraftTree) (nodes : List Path) (is : nodes ≡ paths_of draft)
         let e : 0 + place ≡ place = omega arith in
         (p, at, subst (λ (k : ℕ). MarkedAt 0 p.body k) e (statement-from_mark 0 p.body place h))
 
-    range-from_marks : ReadsMarked nodes marks qs → HasRangeRead draft pair
-    range-from_marks h =
-        let o = of_listed h.question h.listed h.read h.at in
-        let place = h.read.place in
-        let r = range-of (slice_get draft.programs pair.from) refl place (subst (λ (m : List Bool). get_or m place false ≡ true) marks_are h.marked) in
-        go o.0 o.1 r.0 r.1 r.2
-      where
-        go : (e : ExposedOf nodes pair) → e.question.mine ≡ h.read → (p : ProgramTree) → slice_get draft.programs pair.from ≡ Some p → MarkedAt 0 p.body h.read.place → HasRangeRead draft pair
-        go e same p at m =
-            subst (λ (ns : List Path). (e : ExposedOf ns pair) × (p : ProgramTree) × (slice_get draft.programs pair.from ≡ Some p) × (statement : StatementTree) × IsStatementAt 0 p.body e.question.mine.place statement × IsRange statement) is
-            (e, p, at, m.statement, subst (λ (a : Access). IsStatementAt 0 p.body a.place m.statement) (sym same) m.at, m.range)
+    abbrev RangeReadOf : List Path → Type 0
+    RangeReadOf ns =
+        (e : ExposedOf ns pair) × (p : ProgramTree) × (slice_get draft.programs pair.from ≡ Some p) × (statement : StatementTree) × IsStatementAt 0 p.body e.question.mine.place statement × IsRange statement
 
-    marks-from_range : HasRangeRead draft pair → ReadsMarked nodes marks qs
-    marks-from_range h = go (subst (λ (ns : List Path). (e : ExposedOf ns pair) × (p : ProgramTree) × (slice_get draft.programs pair.from ≡ Some p) × (statement : StatementTree) × IsStatementAt 0 p.body e.question.mine.place statement × IsRange statement) (sym is) h)
+    range-from_marks : HasHindered nodes marks RangeRead qs → HasRangeRead draft pair
+    range-from_marks h =
+        let o = of_hindered marks RangeRead h in
+        let place = o.0.question.mine.place in
+        let r = range-of (slice_get draft.programs pair.from) refl place (subst (λ (m : List Bool). get_or m place false ≡ true) marks_are o.1) in
+        subst RangeReadOf is (o.0, r.0, r.1, r.2.statement, r.2.at, r.2.range)
+
+    marks-from_range : HasRangeRead draft pair → HasHindered nodes marks RangeRead qs
+    marks-from_range h = go (subst RangeReadOf (sym is) h)
       where
-        go : ((e : ExposedOf nodes pair) × (p : ProgramTree) × (slice_get draft.programs pair.from ≡ Some p) × (statement : StatementTree) × IsStatementAt 0 p.body e.question.mine.place statement × IsRange statement) → ReadsMarked nodes marks qs
+        go : RangeReadOf nodes → HasHindered nodes marks RangeRead qs
         go (e, p, at, st, here, range) =
-            let q = exposed.each e in
             let m = mark-from_statement 0 p.body e.question.mine.place st here range in
             let number = m.1 in
             let same : m.0 ≡ e.question.mine.place = omega (arith, number) in
-            record {
-              question = q.0;
-              listed = q.1;
-              read = e.question.mine;
-              at = subst (λ (r : Question). IsAccessOf nodes r.x r.a e.question.mine) q.2 e.question.asked.at_mine;
-              marked = subst (λ (l : List Bool). get_or l e.question.mine.place false ≡ true) (sym (marks_are ∙ ap program_ranges at)) (subst (λ (k : ℕ). get_or (range_marks p.body) k false ≡ true) same m.2);
-            }
+            hindered_of marks RangeRead e
+            (subst (λ (l : List Bool). get_or l e.question.mine.place false ≡ true) (sym (marks_are ∙ ap program_ranges at)) (subst (λ (k : ℕ). get_or (range_marks p.body) k false ≡ true) same m.2))
 
-  unknown-from_reads : ReadsUnknown nodes qs → HasUnknownRead draft pair
-  unknown-from_reads h =
-      let o = of_listed h.question h.listed h.read h.at in
-      subst (λ (ns : List Path). (e : ExposedOf ns pair) × HasUnknownKey e.question.mine) is (o.0, subst HasUnknownKey (sym o.1) h.unknown)
+  abbrev UnknownReadOf : List Path → Type 0
+  UnknownReadOf ns = (e : ExposedOf ns pair) × HasUnknownKey e.question.mine
 
-  reads-from_unknown : HasUnknownRead draft pair → ReadsUnknown nodes qs
-  reads-from_unknown h = go (subst (λ (ns : List Path). (e : ExposedOf ns pair) × HasUnknownKey e.question.mine) (sym is) h)
-    where
-      go : ((e : ExposedOf nodes pair) × HasUnknownKey e.question.mine) → ReadsUnknown nodes qs
-      go (e, unknown) =
-          let q = exposed.each e in
-          record {
-            question = q.0;
-            listed = q.1;
-            read = e.question.mine;
-            at = subst (λ (r : Question). IsAccessOf nodes r.x r.a e.question.mine) q.2 e.question.asked.at_mine;
-            unknown = unknown;
-          }
+  unknown-from_reads : (marks : List Bool) → HasHindered nodes marks UnknownKey qs → HasUnknownRead draft pair
+  unknown-from_reads marks h = subst UnknownReadOf is (of_hindered marks UnknownKey h)
+
+  reads-from_unknown : (marks : List Bool) → HasUnknownRead draft pair → HasHindered nodes marks UnknownKey qs
+  reads-from_unknown marks h = let o = subst UnknownReadOf (sym is) h in hindered_of marks UnknownKey o.0 o.1
 
   abbrev BodyReadOf : List Path → Type 0
   BodyReadOf ns = (e : ExposedOf ns pair) × ((e.question.mine.sure ≡ false) ⊎ (e.question.theirs.sure ≡ false))
 
-  body-from_meets : MeetsInBody nodes qs → HasBodyRead draft pair
-  body-from_meets h =
-      let o = exposed.only h.question h.listed in
-      let mine = subst (λ (r : Question). IsAccessOf nodes r.x r.a o.0.question.mine) o.1 o.0.question.asked.at_mine in
-      let theirs = subst (λ (r : Question). IsAccessOf nodes r.y r.b o.0.question.theirs) o.1 o.0.question.asked.at_theirs in
-      let same_read = same_access nodes h.question.x h.question.a o.0.question.mine h.read mine h.at_read in
-      let same_other = same_access nodes h.question.y h.question.b o.0.question.theirs h.other theirs h.at_other in
-      subst BodyReadOf is (o.0, go o.0.question.mine o.0.question.theirs same_read same_other h.in_body)
-    where
-      go : (a b : Access) → a ≡ h.read → b ≡ h.other → (h.read.sure ≡ false) ⊎ (h.other.sure ≡ false) → (a.sure ≡ false) ⊎ (b.sure ≡ false)
-      go a b e f (inl k) = inl (ap (λ (z : Access). z.sure) e ∙ k)
-      go a b e f (inr k) = inr (ap (λ (z : Access). z.sure) f ∙ k)
+  body-from_meets : (marks : List Bool) → HasHindered nodes marks BodyRead qs → HasBodyRead draft pair
+  body-from_meets marks h = subst BodyReadOf is (of_hindered marks BodyRead h)
 
-  meets-from_body : HasBodyRead draft pair → MeetsInBody nodes qs
-  meets-from_body h = go (subst BodyReadOf (sym is) h)
-    where
-      go : BodyReadOf nodes → MeetsInBody nodes qs
-      go (e, in_body) =
-          let q = exposed.each e in
-          record {
-            question = q.0;
-            listed = q.1;
-            read = e.question.mine;
-            other = e.question.theirs;
-            at_read = subst (λ (r : Question). IsAccessOf nodes r.x r.a e.question.mine) q.2 e.question.asked.at_mine;
-            at_other = subst (λ (r : Question). IsAccessOf nodes r.y r.b e.question.theirs) q.2 e.question.asked.at_theirs;
-            in_body = in_body;
-          }
+  meets-from_body : (marks : List Bool) → HasBodyRead draft pair → HasHindered nodes marks BodyRead qs
+  meets-from_body marks h = let o = subst BodyReadOf (sym is) h in hindered_of marks BodyRead o.0 o.1
 
   -- what the three tests find is the first obstacle
   module _ (marks : List Bool) (are : marks ≡ program_ranges (slice_get draft.programs pair.from)) where
-    pub IsObstacle-first : (reads_range reads_unknown in_body : Bool) → (reads_range ≡ true) ↔ ReadsMarked nodes marks qs → (reads_unknown ≡ true) ↔ ReadsUnknown nodes qs → (in_body ≡ true) ↔ MeetsInBody nodes qs → IsObstacle draft pair (obstacle_of reads_range reads_unknown in_body)
+    pub IsObstacle-first : (reads_range reads_unknown in_body : Bool) → (reads_range ≡ true) ↔ HasHindered nodes marks RangeRead qs → (reads_unknown ≡ true) ↔ HasHindered nodes marks UnknownKey qs → (in_body ≡ true) ↔ HasHindered nodes marks BodyRead qs → IsObstacle draft pair (obstacle_of reads_range reads_unknown in_body)
     IsObstacle-first true u b range unknown meets = range-from_marks marks are (range.0 refl)
-    IsObstacle-first false true b range unknown meets = (λ h. false≢true (range.1 (marks-from_range marks are h)), unknown-from_reads (unknown.0 refl))
+    IsObstacle-first false true b range unknown meets = (λ h. false≢true (range.1 (marks-from_range marks are h)), unknown-from_reads marks (unknown.0 refl))
     IsObstacle-first false false true range unknown meets =
-        (λ h. false≢true (range.1 (marks-from_range marks are h)), λ h. false≢true (unknown.1 (reads-from_unknown h)), body-from_meets (meets.0 refl))
+        (λ h. false≢true (range.1 (marks-from_range marks are h)), λ h. false≢true (unknown.1 (reads-from_unknown marks h)), body-from_meets marks (meets.0 refl))
     IsObstacle-first false false false range unknown meets =
-        (λ h. false≢true (range.1 (marks-from_range marks are h)), λ h. false≢true (unknown.1 (reads-from_unknown h)), λ h. false≢true (meets.1 (meets-from_body h)))
+        (λ h. false≢true (range.1 (marks-from_range marks are h)), λ h. false≢true (unknown.1 (reads-from_unknown marks h)), λ h. false≢true (meets.1 (meets-from_body marks h)))

@@ -1,22 +1,19 @@
 -- Which statements of a program are ranges, and what exposed reads are: words of private clauses.
-use Rattle.std.specs.Prelude.{◌≡◌, ◌⊎◌, Bool, true, false, List, [], ◌∷◌, ◌++◌, Contains, Option, Some, None, slice_index_or}
-use Rattle.prog_tree.specs.Syntax.{StatementTree, BlockTree, BlockEnd, Then, Branch, Each, ProgramTree}
-use Rattle.prog_tree.specs.Syntax as s
+use Rattle.std.specs.Prelude.{◌≡◌, ◌⊎◌, ℕ, Bool, true, false, List, [], ◌∷◌, ◌++◌, take, Contains, Option, Some, None, slice_get, slice_index_or}
+use Rattle.prog_tree.specs.Syntax.{BlockTree, BlockEnd, Then, Branch, Each, ProgramTree, DraftTree}
 use Rattle.prog_check.specs.declared.path.Access.{Access}
 use Rattle.prog_check.specs.declared.path.Path.{Path}
+use Rattle.prog_check.specs.Paths.{paths_of}
 use Rattle.prog_check.specs.Uses.{as_count}
 use Rattle.prog_paths.specs.StaticGraph.{IsAccessOf}
 use Rattle.prog_paths.specs.declared.accesses.places.Question.{Question as Asked}
-use Rattle.repair_laws.specs.Refusals.{HasUnknownKey}
+use Rattle.repair_laws.specs.declared.plan.Pair.{Pair}
+use Rattle.repair_laws.specs.Refusals.{is_range, HasUnknownKey}
+use Rattle.si_repair.specs.Exposing.{AreExposed}
 use Rattle.si_repair.specs.declared.repairs.reads.Obstacle.{Obstacle}
 use Rattle.si_repair.specs.declared.repairs.reads.Obstacle.TheVariants.{RangeRead, UnknownKey, BodyRead}
 
 -- ---- ranges
-
-abbrev pub is_range : StatementTree → Bool
-is_range (s.Count x table range) = true
-is_range (s.Sum x table range) = true
-is_range statement = false
 
 -- for each statement of a block in the order of the text, whether it is a range
 abbrev pub range_marks : BlockTree → List Bool
@@ -32,31 +29,42 @@ program_ranges (Some p) = range_marks p.body
 
 -- ---- reads
 
--- a question's first access is of a statement that is marked
-pub record ReadsMarked (nodes : List Path) (marks : List Bool) (questions : List Asked) : Type 0 where
-  pub question : Asked
-  pub listed : Contains questions question
-  pub read : Access
-  pub at : IsAccessOf nodes question.x question.a read
-  pub marked : slice_index_or marks read.place false ≡ true
+-- one of the two stands in the body of an `each`
+abbrev pub MeetInBody : (read other : Access) → Type 0
+MeetInBody read other = (read.sure ≡ false) ⊎ (other.sure ≡ false)
 
--- a question's first access has a key of unknown value
-pub record ReadsUnknown (nodes : List Path) (questions : List Asked) : Type 0 where
-  pub question : Asked
-  pub listed : Contains questions question
-  pub read : Access
-  pub at : IsAccessOf nodes question.x question.a read
-  pub unknown : HasUnknownKey read
+-- What keeps a read from being promoted, with the access that it may miss: by these marks its statement is a range, no
+-- parameters and numbers tell its key, or one of the two stands in the body of an `each`.
+abbrev pub Hinders : Obstacle → (marks : List Bool) → (read other : Access) → Type 0
+Hinders RangeRead marks read other = slice_index_or marks read.place false ≡ true
+Hinders UnknownKey marks read other = HasUnknownKey read
+Hinders BodyRead marks read other = MeetInBody read other
 
--- one of a question's two accesses stands in the body of an `each`
-pub record MeetsInBody (nodes : List Path) (questions : List Asked) : Type 0 where
-  pub question : Asked
-  pub listed : Contains questions question
+-- it keeps that of a question
+pub record IsHindered (nodes : List Path) (marks : List Bool) (obstacle : Obstacle) (q : Asked) : Type 0 where
   pub read : Access
   pub other : Access
-  pub at_read : IsAccessOf nodes question.x question.a read
-  pub at_other : IsAccessOf nodes question.y question.b other
-  pub in_body : (read.sure ≡ false) ⊎ (other.sure ≡ false)
+  pub at_read : IsAccessOf nodes q.x q.a read
+  pub at_other : IsAccessOf nodes q.y q.b other
+  pub hinders : Hinders obstacle marks read other
+
+-- or that of some of these
+abbrev pub HasHindered : List Path → List Bool → Obstacle → List Asked → Type 0
+HasHindered nodes marks obstacle questions =
+    (q : Asked) × Contains questions q × IsHindered nodes marks obstacle q
+
+-- the first of them that it keeps, or none
+abbrev pub IsFirstHindered : List Path → List Bool → Obstacle → List Asked → Option Asked → Type 0
+IsFirstHindered nodes marks obstacle questions None = ¬ HasHindered nodes marks obstacle questions
+IsFirstHindered nodes marks obstacle questions (Some q) =
+    (n : ℕ) × (slice_get questions n ≡ Some q) × IsHindered nodes marks obstacle q
+    × ¬ HasHindered nodes marks obstacle (take n questions)
+
+-- the same of the exposed questions of a pair
+abbrev pub IsFirstHinderedOf : DraftTree → Pair → Obstacle → Option Asked → Type 0
+IsFirstHinderedOf draft pair obstacle found =
+    (questions : List Asked) × AreExposed (paths_of draft) pair questions
+    × IsFirstHindered (paths_of draft) (program_ranges (slice_get draft.programs pair.from)) obstacle questions found
 
 -- The obstacle of a pair that reads a range or not, under an unknown key or not, and in a body or not: a range comes
 -- first, then an unknown key.

@@ -18,5 +18,6 @@ pub use plans::planning::plan;
 pub use repair_laws::Pair;
 pub use repairs::materialise::materialise;
 pub use repairs::{
-    Obstacle, RepairFault, exposed_questions, first_exposed, has_unknown_key, promote,
+    Obstacle, RepairFault, exposed_questions, first_exposed, has_unknown_key, hindered_question,
+    promote,
 };

@@ -5,11 +5,12 @@ use crate::repairs::sets::MOVE_IN_A_BODY;
 use conflict_pairs::changes_single_cells;
 use example_sets::{KEPT_PAY, MOVE, PAY, REPORT, SMALL_BANK, TRANSFER, set_of};
 use prog_check::ProgramSet;
-use prog_paths::Question;
+use prog_paths::{Question, paths};
 use prog_text::print;
 use prog_tree::Sequence;
 use si_repair::{
-    Pair, Plan, RepairFault, exposed_questions, first_exposed, materialise, plan, promote,
+    Obstacle, Pair, Plan, RepairFault, exposed_questions, first_exposed, hindered_question,
+    materialise, plan, promote,
 };
 use std::alloc::{AllocError, Global};
 use std::process::Abort;
@@ -106,6 +107,44 @@ fn the_first_that_is_exposed_is_found(rt: HostRuntime) -> Result<(), Fail> {
             assert!(rt; [question.x, question.a, question.y, question.b] == *numbers);
         }
     }
+    Ok(())
+}
+
+/// The first exposed question of a pair of programs whose read no `keep` covers.
+fn hindered_in(
+    alloc: Global,
+    set: &ProgramSet,
+    pair: Pair,
+    obstacle: Obstacle,
+) -> Result<Option<Question>, AllocError> {
+    let paths = paths(alloc, set)?;
+    hindered_question(alloc, set.draft(), &paths, pair, obstacle)
+}
+
+/// The same of the programs of a text.
+fn hindered_of(
+    alloc: Global,
+    text: &str,
+    pair: Pair,
+    obstacle: Obstacle,
+) -> Result<Option<Question>, Fail> {
+    let set = set_of(alloc, text)?;
+    let found = hindered_in(alloc, &set, pair, obstacle);
+    drop(set);
+    Ok(found?)
+}
+
+#[test]
+fn what_no_keep_covers_is_found(rt: HostRuntime) -> Result<(), Fail> {
+    let found = hindered_of(rt.alloc(), MOVE_IN_A_BODY, ITSELF, Obstacle::BodyRead)?;
+    assert!(rt; found.is_some());
+    if let Some(question) = found {
+        assert!(rt; [question.x, question.a, question.y, question.b] == [0, 1, 0, 2]);
+    }
+    let found = hindered_of(rt.alloc(), MOVE_IN_A_BODY, ITSELF, Obstacle::RangeRead)?;
+    assert!(rt; found.is_none());
+    let found = hindered_of(rt.alloc(), MOVE_IN_A_BODY, ITSELF, Obstacle::UnknownKey)?;
+    assert!(rt; found.is_none());
     Ok(())
 }
 

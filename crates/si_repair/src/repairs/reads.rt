@@ -4,11 +4,11 @@ ghost use Rattle.prog_tree.specs.Syntax.{BlockTree};
 ghost use Rattle.prog_tree.specs.Tree.{with_stmt, block_tree, draft_tree};
 ghost use Rattle.prog_check.specs.Paths.{paths_of};
 ghost use Rattle.repair_laws.specs.Refusals.{IsUnknownTerm, IsUnknownSecond, HasUnknownKey};
-ghost use Rattle.si_repair.specs.Gathering.{HasRead, HasBoth};
+ghost use Rattle.si_repair.specs.Gathering.{HasBoth};
 ghost use Rattle.si_repair.specs.Exposing.{AreExposed, IsObstacle};
-ghost use Rattle.si_repair.specs.Obstacles.{range_marks, program_ranges, ReadsMarked, ReadsUnknown, MeetsInBody, obstacle_of};
+ghost use Rattle.si_repair.specs.Obstacles.{range_marks, program_ranges, MeetInBody, Hinders, HasHindered, IsFirstHindered, IsFirstHinderedOf, obstacle_of};
 
-use crate::repairs::exposed::access_at;
+use crate::repairs::exposed::{access_at, exposed_questions};
 use prog_check::{Access, Column, Path, Term};
 use prog_paths::Question;
 use prog_tree::{Block, Draft, Stmt};
@@ -91,20 +91,6 @@ fn is_range(marks: &[bool], number: usize) -> bool
     number < marks.len() && marks[number]
 }
 
-/// Whether the first access of some question is of a statement that is marked.
-fn reads_marked(paths: &[Path], marks: &[bool], questions: &[Question]) -> bool
-    requires { All (λ q. HasRead paths.now q) questions.now }
-    ensures { IsTrue result ↔ ReadsMarked paths.now marks.now questions.now }
-{
-    for question in questions {
-        let read = access_at(paths, question.x, question.a);
-        if is_range(marks, read.place) {
-            return true;
-        }
-    }
-    false
-}
-
 fn is_unknown(term: Term) -> bool
     ensures { IsTrue result ↔ IsUnknownTerm term }
 {
@@ -127,33 +113,56 @@ pub fn has_unknown_key(access: &Access) -> bool
     is_unknown(access.first.low) || is_unknown_second(access.second)
 }
 
-/// Whether the first access of some question has a key of unknown value.
-fn reads_unknown(paths: &[Path], questions: &[Question]) -> bool
-    requires { All (λ q. HasRead paths.now q) questions.now }
-    ensures { IsTrue result ↔ ReadsUnknown paths.now questions.now }
+/// Whether an access stands in the body of an `each`.
+fn is_in_body(access: &Access) -> bool
+    ensures { IsTrue result ↔ (access.now.sure ≡ false) }
 {
-    for question in questions {
-        let read = access_at(paths, question.x, question.a);
-        if has_unknown_key(&read) {
-            return true;
-        }
-    }
-    false
+    !access.sure
 }
 
-/// Whether an access of some question stands in the body of an `each`.
-fn meets_in_body(paths: &[Path], questions: &[Question]) -> bool
+fn meet_in_body(read: &Access, other: &Access) -> bool
+    ensures { IsTrue result ↔ MeetInBody read.now other.now }
+{
+    is_in_body(read) || is_in_body(other)
+}
+
+/// Whether this is why no keep covers a read, with the access that it may miss.
+fn hinders(obstacle: Obstacle, marks: &[bool], read: &Access, other: &Access) -> bool
+    ensures { IsTrue result ↔ Hinders obstacle marks.now read.now other.now }
+{
+    match obstacle {
+        Obstacle::RangeRead => is_range(marks, read.place),
+        Obstacle::UnknownKey => has_unknown_key(read),
+        Obstacle::BodyRead => meet_in_body(read, other),
+    }
+}
+
+/// The first question whose read no keep covers for this reason.
+fn first_hindered(
+    paths: &[Path],
+    marks: &[bool],
+    questions: &[Question],
+    obstacle: Obstacle,
+) -> Option<Question>
     requires { All (λ q. HasBoth paths.now q) questions.now }
-    ensures { IsTrue result ↔ MeetsInBody paths.now questions.now }
+    ensures { IsFirstHindered paths.now marks.now obstacle questions.now result }
 {
     for question in questions {
         let read = access_at(paths, question.x, question.a);
         let other = access_at(paths, question.y, question.b);
-        if !read.sure || !other.sure {
-            return true;
+        if hinders(obstacle, marks, &read, &other) {
+            return Some(*question);
         }
     }
-    false
+    None
+}
+
+/// Whether there is one.
+fn is_hindered(paths: &[Path], marks: &[bool], questions: &[Question], obstacle: Obstacle) -> bool
+    requires { All (λ q. HasBoth paths.now q) questions.now }
+    ensures { IsTrue result ↔ HasHindered paths.now marks.now obstacle questions.now }
+{
+    first_hindered(paths, marks, questions, obstacle).is_some()
 }
 
 /// The obstacle of a pair that reads a range or not, under an unknown key or not, and in a body or
@@ -186,8 +195,27 @@ pub fn first_obstacle(
     ensures { IfOk result (λ obstacle. IsObstacle (draft_tree draft.now) pair obstacle) }
 {
     let ranges = ranges_of(alloc, draft, pair.from)?;
-    let reads_range = reads_marked(paths, &ranges, questions);
-    let unknown_key = reads_unknown(paths, questions);
-    let in_body = meets_in_body(paths, questions);
+    let marks = ranges.as_slice();
+    let reads_range = is_hindered(paths, marks, questions, Obstacle::RangeRead);
+    let unknown_key = is_hindered(paths, marks, questions, Obstacle::UnknownKey);
+    let in_body = is_hindered(paths, marks, questions, Obstacle::BodyRead);
     Ok(obstacle_of(reads_range, unknown_key, in_body))
+}
+
+/// The first exposed question of a pair whose read no keep covers for this reason, or none.
+pub fn hindered_question(
+    alloc: Global,
+    draft: &Draft,
+    paths: &[Path],
+    pair: Pair,
+    obstacle: Obstacle,
+) -> Result<Option<Question>, AllocError>
+    requires { paths.now ≡ paths_of (draft_tree draft.now) }
+    ensures { IfOk result (λ found.
+        IsFirstHinderedOf (draft_tree draft.now) pair obstacle found) }
+{
+    let marks = ranges_of(alloc, draft, pair.from)?;
+    let questions = exposed_questions(alloc, paths, pair)?;
+    let found = first_hindered(paths, &marks, &questions, obstacle);
+    Ok(found)
 }
