@@ -1,6 +1,7 @@
 -- Instances of programs with the numbers that samples give their parameters.
-use Rattle.std.specs.Prelude.{ℕ, Bool, true, false, ◌+◌, ◌==◌, if◌then◌else◌, List, [], ◌∷◌, ◌++◌, Option, Some, None, codes, slice_get}
+use Rattle.std.specs.Prelude.{ℕ, Bool, true, false, ◌+◌, ◌==◌, if◌then◌else◌, List, [], ◌∷◌, ◌++◌, codes, slice_get}
 use Rattle.std.specs.Fmt.{signed_decimal}
+use Rattle.std.specs.Option.{option_map_or}
 use Rattle.order_facts.specs.Sample.{sample_number}
 use Rattle.order_facts.specs.declared.sample.Choice.{Choice}
 use Rattle.order_facts.specs.declared.steps.Node.{Node}
@@ -35,13 +36,9 @@ abbrev pub numbers_text : List Choice → (is_first : Bool) → List Name → Li
 numbers_text sample is_first [] = []
 numbers_text sample is_first (name ∷ names) = given_from sample is_first 0 (name ∷ names) ++ codes ")"
 
--- the parameters of a path's program
-abbrev pub params_by : DraftTree → Option Path → List Name
-params_by set None = []
-params_by set (Some path) = program_params set path.program
-
+-- the parameters of a node's program
 abbrev pub params_along : DraftTree → List Path → (node : ℕ) → List Name
-params_along set paths node = params_by set (slice_get paths node)
+params_along set paths node = option_map_or (λ (path : Path). program_params set path.program) (slice_get paths node) []
 
 -- the numbers of an instance of a node, the first or the second of a sample
 abbrev pub numbers_of : DraftTree → List Path → List Choice → (is_first : Bool) → (node : ℕ) → List ℕ

@@ -1,7 +1,8 @@
 -- What the nodes of a set and their accesses are called in words.
-use Rattle.std.specs.Prelude.{ℕ, ◌≡◌, ◌⊎◌, Bool, true, false, not, List, [], ◌∷◌, ◌++◌, Option, Some, None, codes, map, slice_get}
+use Rattle.std.specs.Prelude.{ℕ, ◌≡◌, ◌⊎◌, Bool, true, false, not, List, [], ◌∷◌, ◌++◌, Option, Some, None, codes, map, slice_get, option_and_then}
 use Rattle.std.specs.Fmt.{decimal}
 use Rattle.std.specs.List.{flat_map}
+use Rattle.std.specs.Option.{option_map_or}
 use Rattle.text_places.specs.Landmarks.{HasNoStatement, IsStatementPlace}
 use Rattle.text_places.specs.Places.{line_number}
 use Rattle.text_places.specs.Quotes.{visible}
@@ -30,32 +31,20 @@ abbrev pub node_name : DraftTree → List Path → (node : ℕ) → List ℕ
 node_name set paths node = name_along set node (slice_get paths node)
 
 -- the access of a number of a node
-abbrev pub access_along : (access : ℕ) → Option Path → Option Access
-access_along access None = None
-access_along access (Some path) = slice_get path.accesses access
-
 abbrev pub access_of : List Path → (node access : ℕ) → Option Access
-access_of paths node access = access_along access (slice_get paths node)
+access_of paths node access = option_and_then (λ (path : Path). slice_get path.accesses access) (slice_get paths node)
 
 -- what is said of an access that is sure or not: one that is not may be made in many turns, or in none
 abbrev pub turns_by : (sure : Bool) → List ℕ
 turns_by true = []
 turns_by false = codes " in each turn of its `each`"
 
-abbrev pub turns_in : Option Access → List ℕ
-turns_in None = []
-turns_in (Some access) = turns_by access.sure
-
 abbrev pub turns_text : List Path → (node access : ℕ) → List ℕ
-turns_text paths node access = turns_in (access_of paths node access)
+turns_text paths node access = option_map_or (λ (a : Access). turns_by a.sure) (access_of paths node access) []
 
 -- an access that is there stands in the body of an `each`
-abbrev pub is_unsure : Option Access → Bool
-is_unsure None = false
-is_unsure (Some access) = not access.sure
-
 abbrev pub is_in_body : List Path → (node access : ℕ) → Bool
-is_in_body paths node access = is_unsure (access_of paths node access)
+is_in_body paths node access = option_map_or (λ (a : Access). not a.sure) (access_of paths node access) false
 
 -- the statement of this access of a node stands here
 pub record IsAccessPlace (text : List ℕ) (paths : List Path) (node access at : ℕ) : Type 0 where

@@ -1,7 +1,8 @@
 -- What the words of a fault of a certificate have to say.
-use Rattle.std.specs.Prelude.{ℕ, ◌≡◌, ◌==◌, Bool, if◌then◌else◌, List, [], ◌++◌, Option, Some, None, codes, length, option_map, slice_get, zip}
+use Rattle.std.specs.Prelude.{ℕ, ◌≡◌, ◌==◌, Bool, if◌then◌else◌, List, [], ◌++◌, Option, Some, None, codes, length, option_map, unwrap_or, slice_get, zip}
 use Rattle.std.specs.Fmt.{decimal}
 use Rattle.std.specs.List.{prefix_len}
+use Rattle.std.specs.Option.{option_map_or}
 use Rattle.prog_tree.specs.Syntax.{DraftTree}
 use Rattle.prog_check.specs.declared.path.Path.{Path}
 use Rattle.prog_paths.specs.Asked.{limit}
@@ -20,13 +21,9 @@ use Rattle.analysis_words.specs.Nodes.{node_name, IsAccessText}
 abbrev pub IsNoCertificate : List ℕ → Type 0
 IsNoCertificate bytes = (certificate : Certificate) → ¬ IsTextOf certificate bytes
 
-abbrev pub or_zero : Option ℕ → ℕ
-or_zero None = 0
-or_zero (Some number) = number
-
 -- the number of a node in a list; one that has none counts as 0
 abbrev pub number_at : List ℕ → (node : ℕ) → ℕ
-number_at numbers node = or_zero (slice_get numbers node)
+number_at numbers node = unwrap_or (slice_get numbers node) 0
 
 abbrev pub level_of : Certificate → (node : ℕ) → ℕ
 level_of certificate node = number_at certificate.levels node
@@ -47,15 +44,15 @@ is_told (told, path) = told == body_size path
 abbrev pub first_mistold : (bodies : List ℕ) → List Path → ℕ
 first_mistold bodies paths = prefix_len is_told (zip bodies paths)
 
-abbrev pub body_size_in : Option Path → ℕ
-body_size_in None = 0
-body_size_in (Some path) = body_size path
+-- how many of its accesses stand in bodies; none where there is no such node
+abbrev pub body_size_at : List Path → (node : ℕ) → ℕ
+body_size_at paths node = option_map_or body_size (slice_get paths node) 0
 
 -- how many accesses of a node stand in bodies, by a certificate and by the paths
 abbrev pub mistold_text : DraftTree → List Path → Certificate → (node : ℕ) → List ℕ
 mistold_text set paths certificate node =
     codes "bodies: " ++ (decimal (number_at certificate.bodies node) ++ (codes " of " ++ (node_name set paths node
-    ++ (codes ", which has " ++ (decimal (body_size_in (slice_get paths node)) ++ codes "; ")))))
+    ++ (codes ", which has " ++ (decimal (body_size_at paths node) ++ codes "; ")))))
 
 abbrev pub count_text : (what : List ℕ) → (count nodes : ℕ) → List ℕ
 count_text what count nodes = what ++ (codes ": " ++ (decimal count ++ (codes ", nodes: " ++ (decimal nodes ++ codes "; "))))

@@ -4,7 +4,7 @@ ghost use Rattle.prog_tree.specs.Tree.{draft_tree};
 ghost use Rattle.prog_check.specs.Paths.{paths_of};
 ghost use Rattle.robust_cert.specs.Reading.{IsTextOf};
 ghost use Rattle.robust_cert.specs.declared.fault.CertFault.TheVariants.{Dangerous, LevelFalls};
-ghost use Rattle.analysis_words.specs.Saying.{asked_in, body_size_in, broken_rule, count_text, counts_text, entry_of, first_mistold, front_of, is_told, json_words, mistold_text, IsAskedText, IsNoCertificate, IsOfFault, IsQuestionText, IsSaidOf};
+ghost use Rattle.analysis_words.specs.Saying.{asked_in, body_size_at, broken_rule, count_text, counts_text, entry_of, first_mistold, front_of, is_told, json_words, mistold_text, IsAskedText, IsNoCertificate, IsOfFault, IsQuestionText, IsSaidOf};
 
 use crate::levels::{level_text, number_at};
 use crate::shown::{Shown, access_text, node_name};
@@ -63,8 +63,8 @@ fn first_mistold(bodies: &[u32], paths: &[Path]) -> usize
 }
 
 // How many accesses of a node stand in bodies.
-fn body_size_in(shown: Shown<'_>, node: usize) -> usize
-    ensures { result ≡ body_size_in (slice_get shown.entry.paths.now node) }
+fn body_size_at(shown: Shown<'_>, node: usize) -> usize
+    ensures { result ≡ body_size_at shown.entry.paths.now node }
 {
     match shown.paths.get(node) {
         Some(path) => body_size(path),
@@ -84,7 +84,7 @@ fn mistold_text(
 {
     let told = number_at(certificate.bodies.as_slice(), node);
     let name = node_name(alloc, shown, node)?;
-    let size = body_size_in(shown, node);
+    let size = body_size_at(shown, node);
     format!(in alloc; "bodies: {told} of {name}, which has {size}; ")
 }
 

@@ -1,5 +1,6 @@
 -- Which statements of a program are ranges, and what exposed reads are: words of private clauses.
 use Rattle.std.specs.Prelude.{◌≡◌, ◌⊎◌, ℕ, Bool, true, false, List, [], ◌∷◌, ◌++◌, take, Contains, Option, Some, None, slice_get, slice_index_or}
+use Rattle.std.specs.Option.{option_map_or}
 use Rattle.prog_tree.specs.Syntax.{BlockTree, BlockEnd, Then, Branch, Each, ProgramTree, DraftTree}
 use Rattle.prog_check.specs.declared.path.Access.{Access}
 use Rattle.prog_check.specs.declared.path.Path.{Path}
@@ -24,8 +25,7 @@ range_marks (Each l body rest) = is_range (as_count l) ∷ (range_marks body ++ 
 
 -- the same for a program, where there is one
 abbrev pub program_ranges : Option ProgramTree → List Bool
-program_ranges None = []
-program_ranges (Some p) = range_marks p.body
+program_ranges program = option_map_or (λ (p : ProgramTree). range_marks p.body) program []
 
 -- ---- reads
 
