@@ -10,12 +10,12 @@ use Rattle.order_facts.specs.declared.steps.Node.TheVariants.{Number}
 use Rattle.order_facts.specs.Chain.{IsStep, IsChainFrom, IsChain, RunsBetween, HasContradiction}
 use Rattle.prog_check.specs.declared.path.Column.{Column}
 use Rattle.prog_check.specs.declared.path.Access.{Access}
-use Rattle.prog_paths.specs.Questions.{column_facts, column_or_zero, second_facts, question_facts}
+use Rattle.prog_paths.specs.Questions.{mine_node, their_node, column_facts, column_or_zero, second_facts, question_facts}
 use Rattle.order_facts.proofs.Reach.{IsIn}
 use Rattle.order_facts.proofs.Chains.{IsIn-from_Contains, Contains-from_IsIn}
 use Rattle.conflict_pairs.specs.Verdicts.{IsFall, HasFall}
 use Rattle.prog_paths.specs.Shown.{Falls}
-use Rattle.conflict_pairs.specs.Search.{FallsBetween, FallsAtOnce, FoundWithin, lower_nodes, upper_nodes}
+use Rattle.conflict_pairs.specs.Search.{FallsBetween, FallsAtOnce, FoundWithin}
 
 -- ---- among more facts
 
@@ -82,6 +82,18 @@ end_at end m t None (Some d) f (inr (inr (inr (inr i)))) = absurd i
 end_at end m t (Some c) d f (inr (inr (inl e))) = (2, ap (λ (g : Fact). Some (end g)) e)
 end_at end m t (Some c) d f (inr (inr (inr (inl e)))) = (3, ap (λ (g : Fact). Some (end g)) e)
 end_at end m t (Some c) d f (inr (inr (inr (inr i)))) = absurd i
+
+-- the lower nodes of a question's facts
+abbrev pub lower_nodes : Access → Access → List Node
+lower_nodes mine theirs =
+    mine_node mine.first.low ∷ their_node theirs.first.low
+    ∷ mine_node (column_or_zero mine.second).low ∷ their_node (column_or_zero theirs.second).low ∷ []
+
+-- the upper nodes of a question's facts
+abbrev pub upper_nodes : Access → Access → List Node
+upper_nodes mine theirs =
+    their_node theirs.first.low ∷ mine_node mine.first.high
+    ∷ their_node (column_or_zero theirs.second).low ∷ mine_node (column_or_zero mine.second).high ∷ []
 
 pub lower-place : (mine theirs : Access) (f : Fact) → Contains (question_facts mine theirs) f → (i : ℕ) × (slice_get (lower_nodes mine theirs) i ≡ Some f.lo)
 lower-place mine theirs f c = end_at (λ g. g.lo) mine.first theirs.first mine.second theirs.second f (IsIn-from_Contains (question_facts mine theirs) f c)

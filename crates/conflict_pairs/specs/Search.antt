@@ -1,5 +1,5 @@
 -- What the search for a verdict finds, over the facts alone.
-use Rattle.std.specs.Prelude.{◌≡◌, ◌<◌, ◌≤◌, ◌⊎◌, ℕ, List, [], ◌∷◌, length, All, Option, None, Some, slice_get}
+use Rattle.std.specs.Prelude.{◌≡◌, ◌<◌, ◌≤◌, ◌⊎◌, ℕ, List, length, All, Option, None, Some, slice_get}
 use Rattle.order_facts.specs.declared.steps.Node.{Node}
 use Rattle.order_facts.specs.declared.steps.Fact.{Fact}
 use Rattle.order_facts.specs.Chain.{IsConsistent, IsOfI64, Meets}
@@ -7,7 +7,7 @@ use Rattle.order_facts.specs.Sample.{sample_number, assignment_of, IsSampled}
 use Rattle.prog_check.specs.declared.path.Kind.{Kind}
 use Rattle.prog_paths.specs.StaticGraph.{Question, AsksReadWrite}
 use Rattle.prog_check.specs.declared.path.Access.{Access}
-use Rattle.prog_paths.specs.Questions.{mine_node, their_node, column_or_zero, question_facts}
+use Rattle.prog_paths.specs.Questions.{question_facts}
 use Rattle.conflict_pairs.specs.Verdicts.{IsFall, FallsShortest, IsShortest}
 use Rattle.conflict_pairs.specs.declared.verdicts.Verdict.{Verdict}
 use Rattle.conflict_pairs.specs.declared.verdicts.Verdict.TheVariants.{Apart, Covered, Exposed}
@@ -30,18 +30,6 @@ FoundWithin (Some chain) count = length chain ≤ count
 pub record FallsAtOnce (facts : List Fact) (chain : List Node) : Type 0 where
   pub falls : Falls facts chain
   pub two : length chain ≡ 2
-
--- the lower nodes of a question's facts
-abbrev pub lower_nodes : Access → Access → List Node
-lower_nodes mine theirs =
-    mine_node mine.first.low ∷ their_node theirs.first.low
-    ∷ mine_node (column_or_zero mine.second).low ∷ their_node (column_or_zero theirs.second).low ∷ []
-
--- the upper nodes of a question's facts
-abbrev pub upper_nodes : Access → Access → List Node
-upper_nodes mine theirs =
-    their_node theirs.first.low ∷ mine_node mine.first.high
-    ∷ their_node (column_or_zero theirs.second).low ∷ mine_node (column_or_zero mine.second).high ∷ []
 
 -- ---- covered
 

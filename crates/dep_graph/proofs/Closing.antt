@@ -6,13 +6,18 @@ use Rattle.std.proofs.lemmas.Bool.Decides.{eqb_tells}
 use Rattle.prog_paths.specs.StaticGraph.{Leads, here, onward}
 use Rattle.order_facts.specs.Square.{Grid, entry, Joins, RaisesEntry, JoinsThrough}
 use Rattle.dep_graph.specs.Reaching.{JoinsEachToItself, IsReachOf}
-use Rattle.dep_graph.specs.Reaching.{leads_through}
 
 pub Leads-trans : {edge : ℕ → ℕ → Type 0} {x y z : ℕ} → Leads edge x y → Leads edge y z → Leads edge x z
 Leads-trans here w = w
 Leads-trans (onward e v) w = onward e (Leads-trans v w)
 
--- ---- through nodes below a bound
+-- ---- through the nodes below a bound alone
+
+-- the same node, or joined by an edge; one more node joins what leads to it to what it leads to
+unfoldable pub leads_through : (ℕ → ℕ → Bool) → ℕ → ℕ → ℕ → Bool
+leads_through edge zero x y = x == y || edge x y
+leads_through edge (suc k) x y =
+    leads_through edge k x y || (leads_through edge k x k && leads_through edge k k y)
 
 through_one : (edge : ℕ → ℕ → Bool) (x y : ℕ) → edge x y ≡ true → (k : ℕ) → leads_through edge k x y ≡ true
 unfolding leads_through

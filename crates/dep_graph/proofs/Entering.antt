@@ -9,7 +9,7 @@ use Rattle.order_facts.specs.Square.{Grid, entry, Joins, IsSquareOf, Enters}
 use Rattle.dep_graph.specs.Reaching.{IsReachOf}
 use Rattle.prog_paths.proofs.Grids.{test-from_joined, joined-from_test}
 use Rattle.dep_graph.specs.Triple.{ClosesAt}
-use Rattle.dep_graph.specs.Marks.{Marks, mark_at, has_edge, has_vulnerable, HasEdge, HasVulnerable}
+use Rattle.dep_graph.specs.Marks.{Marks, mark_at, has_edge, has_vulnerable, HasVulnerable}
 use Rattle.dep_graph.specs.Counting.{IsCountOf}
 use Rattle.dep_graph.proofs.Counts.{IsCountOf-same}
 use Rattle.dep_graph.proofs.Alike.{IsWithin, Leads-within}
@@ -31,6 +31,12 @@ place_of p (m ∷ ms) h = go (or_cases (p m) _ h) (λ t. place_of p ms t)
     go (inr b) rest = let r = rest b in (suc r.0, omega (arith, r.1), r.2)
 
 -- ---- the tables of a graph
+
+-- some question gives an edge from the node x to the node y
+pub record HasEdge (t : Marks) (x y : ℕ) : Type 0 where
+  pub x_inside : x < t.nodes
+  pub y_inside : y < t.nodes
+  pub has : has_edge t.marks x y ≡ true
 
 -- what a graph keeps of its table
 pub record Keeps (t : Marks) (edges vulnerable reach : Grid) : Type 0 where

@@ -10,12 +10,11 @@ use Rattle.dep_graph.specs.Counting.{IsCountOf}
 use Rattle.order_facts.specs.Square.{Grid, entry, Joins}
 use Rattle.dep_graph.specs.Triple.{ClosesAt, IsLeastTriple}
 use Rattle.dep_graph.specs.Ways.{IsLeastWay}
-use Rattle.dep_graph.specs.Marks.{HasEdge}
 use Rattle.dep_graph.specs.Marking.{marks_of}
 use Rattle.dep_graph.specs.Danger.{IsFirstExposure, IsLeastDanger}
 use Rattle.dep_graph.proofs.Counts.{IsCountOf-same}
 use Rattle.dep_graph.proofs.Alike.{IsWithin, Leads-within, IsLeastWay-alike, IsDangerousAt-within}
-use Rattle.dep_graph.proofs.Entering.{Keeps, HasEdge-joined, Joins-edge, HasVulnerable-joined, Joins-vulnerable, dangerous-from_closes, closes-from_dangerous, IsCountOf-reach}
+use Rattle.dep_graph.proofs.Entering.{HasEdge, Keeps, HasEdge-joined, Joins-edge, HasVulnerable-joined, Joins-vulnerable, dangerous-from_closes, closes-from_dangerous, IsCountOf-reach}
 use Rattle.dep_graph.proofs.Standing.{static-from_HasEdge, HasEdge-from_static, vulnerable-from_HasVulnerable, HasVulnerable-from_vulnerable, IsLeastExposed-from_first}
 
 module _ (t : Table) (edges vulnerable reach : Grid) (k : Keeps (marks_of t) edges vulnerable reach) (paths : List Path) (s : StandsFor t paths) where

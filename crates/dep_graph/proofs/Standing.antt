@@ -26,10 +26,11 @@ use Rattle.conflict_pairs.specs.Verdicts.{mine_of, theirs_of, IsRightOf, IsRight
 use Rattle.conflict_pairs.specs.Table.{Entry, Table, IsRightEntry, StandsFor}
 use Rattle.conflict_pairs.specs.Law.{can_meet, is_exposed}
 use Rattle.dep_graph.specs.declared.danger.Exposure.{Exposure}
-use Rattle.dep_graph.specs.Marks.{mark_at, HasEdge, HasVulnerable, IsFirstVulnerable}
+use Rattle.dep_graph.specs.Marks.{mark_at, HasVulnerable, IsFirstVulnerable}
 use Rattle.dep_graph.specs.Marking.{mark_of, marks_of}
 use Rattle.dep_graph.specs.Danger.{IsFirstExposure, IsLeastExposed}
 use Rattle.dep_graph.proofs.Alike.{IsWithin}
+use Rattle.dep_graph.proofs.Entering.{HasEdge}
 use Rattle.dep_graph.proofs.Entries.{IsEntryAt, entry_at}
 use Rattle.dep_graph.proofs.Placing.{IsExposedAt, IsLeastAt}
 

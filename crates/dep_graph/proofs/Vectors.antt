@@ -4,7 +4,7 @@ use Rattle.std.specs.Prelude.{◌==◌}
 use Rattle.prog_paths.specs.Listing.{IsAtMost}
 use Rattle.dep_graph.specs.Ways.{IsWay}
 use Rattle.dep_graph.specs.Counting.{IsCountOf, none, counted, passed}
-use Rattle.dep_graph.specs.Reaching.{leads_through}
+use Rattle.dep_graph.proofs.Closing.{leads_through}
 
 -- 0 to 4 to 2 stands before 0 to 5 to 1
 before : IsAtMost (0 ∷ 4 ∷ 2 ∷ []) (0 ∷ 5 ∷ 1 ∷ [])

@@ -22,12 +22,6 @@ has_edge marks x y = list_any (gives_edge x y) marks
 abbrev pub has_vulnerable : List Mark → ℕ → ℕ → Bool
 has_vulnerable marks x y = list_any (gives_vulnerable x y) marks
 
--- some question gives an edge from the node x to the node y
-pub record HasEdge (t : Marks) (x y : ℕ) : Type 0 where
-  pub x_inside : x < t.nodes
-  pub y_inside : y < t.nodes
-  pub has : has_edge t.marks x y ≡ true
-
 -- some question makes the edge from the node x to the node y vulnerable
 pub record HasVulnerable (t : Marks) (x y : ℕ) : Type 0 where
   pub x_inside : x < t.nodes

@@ -1,18 +1,7 @@
 -- Which node reaches which, and how a square table is filled with that.
-use Rattle.std.specs.Prelude.{◌≡◌, ◌↔◌, ℕ, ◌<◌, Bool, true, ◌||◌, ◌&&◌, ◌==◌}
-use Rattle.std.proofs.Common.{zero, suc}
+use Rattle.std.specs.Prelude.{◌≡◌, ◌↔◌, ℕ, ◌<◌, true, ◌||◌, ◌==◌}
 use Rattle.prog_paths.specs.StaticGraph.{Leads}
 use Rattle.order_facts.specs.Square.{Grid, entry, Joins}
-
--- ---- through the nodes below a bound alone
-
--- the same node, or joined by an edge; one more node joins what leads to it to what it leads to
-unfoldable pub leads_through : (ℕ → ℕ → Bool) → ℕ → ℕ → ℕ → Bool
-leads_through edge zero x y = x == y || edge x y
-leads_through edge (suc k) x y =
-    leads_through edge k x y || (leads_through edge k x k && leads_through edge k k y)
-
--- ---- tables
 
 -- the one table joins what the other joins, and each node to itself
 pub record JoinsEachToItself (new old : Grid) : Type 0 where

@@ -3,8 +3,8 @@ use Rattle.std.specs.Prelude.{Option}
 use Rattle.prog_check.specs.declared.path.Column.{Column}
 use Rattle.order_facts.specs.declared.steps.Node.{Node}
 use Rattle.prog_paths.specs.Questions.{mine_node, their_node}
-use Rattle.conflict_pairs.specs.Search.{FoundWithin, lower_nodes, upper_nodes}
-use Rattle.conflict_pairs.proofs.Falling.{found_for}
+use Rattle.conflict_pairs.specs.Search.{FoundWithin}
+use Rattle.conflict_pairs.proofs.Falling.{lower_nodes, upper_nodes, found_for}
 use Rattle.conflict_pairs.proofs.Trimming.{FallsShortest-found}
 use Rattle.conflict_pairs.proofs.apart.contradiction.Goals as goal
 

@@ -1,7 +1,6 @@
 use Rattle.std.proofs.Common.{◌≡◌, ◌<◌, ℕ, ◌∙◌, subst, arith}
 use Rattle.order_facts.specs.Square.{entry}
-use Rattle.dep_graph.specs.Reaching.{leads_through}
-use Rattle.dep_graph.proofs.Closing.{entries-first, entries-next, IsReachOf-from_through}
+use Rattle.dep_graph.proofs.Closing.{leads_through, entries-first, entries-next, IsReachOf-from_through}
 use Rattle.dep_graph.proofs.closure.close.Goals as goal
 
 pub loop-through-init : goal.loop-through-init

@@ -1,6 +1,6 @@
 use Rattle.std.proofs.Common.{◌≡◌, ℕ, ◌<◌}
 use Rattle.order_facts.specs.Square.{entry}
-use Rattle.dep_graph.specs.Reaching.{leads_through}
+use Rattle.dep_graph.proofs.Closing.{leads_through}
 use Rattle.dep_graph.proofs.closure.close.Given as goal
 
 -- the nodes below `through` are passed through
