@@ -5,7 +5,7 @@ use Rattle.prog_check.specs.declared.path.Path.{Path}
 use Rattle.prog_paths.specs.declared.accesses.places.Question.{Question}
 use Rattle.dep_graph.specs.declared.danger.Danger.{Danger}
 use Rattle.dep_graph.specs.declared.danger.Exposure.{Exposure}
-use Rattle.analysis_words.specs.Instances.{instance_text, numbers_of}
+use Rattle.analysis_words.specs.Instances.{instance_text, numbers_along}
 use Rattle.analysis_words.specs.Nodes.{node_name, turns_text}
 use Rattle.analysis_words.specs.SharedWords.{other_run}
 
@@ -30,13 +30,13 @@ change_text set paths edge =
 abbrev pub twin_look_text : DraftTree → List Path → Exposure → List ℕ
 twin_look_text set paths edge =
     codes "two runs of " ++ (node_name set paths edge.question.x
-    ++ (codes ": one" ++ (numbers_of set paths edge.sample true edge.question.x
+    ++ (codes ": one" ++ (numbers_along set paths edge.sample true edge.question.x
     ++ (codes " looks here" ++ turns_text paths edge.question.x edge.question.a))))
 
 abbrev pub twin_change_text : DraftTree → List Path → Exposure → List ℕ
 twin_change_text set paths edge =
     codes "the other"
-    ++ (numbers_of set paths edge.sample false edge.question.y ++ unseen_text paths edge.question.y edge.question.b)
+    ++ (numbers_along set paths edge.sample false edge.question.y ++ unseen_text paths edge.question.y edge.question.b)
 
 -- all that is said of an edge
 abbrev pub told_text : DraftTree → List Path → Exposure → List ℕ

@@ -41,10 +41,10 @@ abbrev pub params_along : DraftTree → List Path → (node : ℕ) → List Name
 params_along set paths node = option_map_or (λ (path : Path). program_params set path.program) (slice_get paths node) []
 
 -- the numbers of an instance of a node, the first or the second of a sample
-abbrev pub numbers_of : DraftTree → List Path → List Choice → (is_first : Bool) → (node : ℕ) → List ℕ
-numbers_of set paths sample is_first node = numbers_text sample is_first (params_along set paths node)
+abbrev pub numbers_along : DraftTree → List Path → List Choice → (is_first : Bool) → (node : ℕ) → List ℕ
+numbers_along set paths sample is_first node = numbers_text sample is_first (params_along set paths node)
 
 -- the instance with its name, as `` `Move` with (from = 0, to = 7)``
 abbrev pub instance_text : DraftTree → List Path → List Choice → (is_first : Bool) → (node : ℕ) → List ℕ
 instance_text set paths sample is_first node =
-    node_name set paths node ++ numbers_of set paths sample is_first node
+    node_name set paths node ++ numbers_along set paths sample is_first node

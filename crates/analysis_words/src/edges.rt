@@ -4,7 +4,7 @@ ghost use Rattle.prog_tree.specs.Tree.{draft_tree};
 ghost use Rattle.analysis_words.specs.Edges.{change_text, look_text, told_text, twin_change_text, twin_look_text, unseen_text, IsRepeated, IsSameQuestion};
 ghost use Rattle.analysis_words.specs.Refusing.{LacksQuestion, ShowsEdge, ShowsQuestion, ShowsTwins};
 
-use crate::instances::{instance_text, numbers_of};
+use crate::instances::{instance_text, numbers_along};
 use crate::pointed::point_at_access;
 use crate::shared_words::other_run;
 use crate::shown::{Shown, node_name, turns_text};
@@ -53,7 +53,7 @@ fn twin_look_text(alloc: Global, shown: Shown<'_>, edge: &Exposure) -> Result<St
         ≡ twin_look_text (draft_tree shown.entry.set.now) shown.entry.paths.now edge.now) }
 {
     let name = node_name(alloc, shown, edge.question.x)?;
-    let numbers = numbers_of(alloc, shown, &edge.sample, true, edge.question.x)?;
+    let numbers = numbers_along(alloc, shown, &edge.sample, true, edge.question.x)?;
     let turns = turns_text(shown, edge.question.x, edge.question.a);
     format!(in alloc; "two runs of {name}: one{numbers} looks here{turns}")
 }
@@ -62,7 +62,7 @@ fn twin_change_text(alloc: Global, shown: Shown<'_>, edge: &Exposure) -> Result<
     ensures { IfOk result (λ text. string_bytes text
         ≡ twin_change_text (draft_tree shown.entry.set.now) shown.entry.paths.now edge.now) }
 {
-    let numbers = numbers_of(alloc, shown, &edge.sample, false, edge.question.y)?;
+    let numbers = numbers_along(alloc, shown, &edge.sample, false, edge.question.y)?;
     let unseen = unseen_text(alloc, shown, edge.question.y, edge.question.b)?;
     format!(in alloc; "the other{numbers}{unseen}")
 }

@@ -1,7 +1,7 @@
 //! Instances of programs with the numbers that samples give their parameters.
 ghost use Rattle.std.specs.Prelude.{◌≡◌, IfOk, string_bytes};
 ghost use Rattle.prog_tree.specs.Tree.{draft_tree};
-ghost use Rattle.analysis_words.specs.Instances.{given, given_from, instance_text, node_of, numbers_of, numbers_text, opening, params_along};
+ghost use Rattle.analysis_words.specs.Instances.{given, given_from, instance_text, node_of, numbers_along, numbers_text, opening, params_along};
 
 use crate::shown::{Shown, node_name};
 use fault_words::program_params;
@@ -91,14 +91,14 @@ fn params_along<'a>(shown: Shown<'a>, node: usize) -> &'a [Name]
 
 /// Each parameter of a node's program with the number that a sample gives it in the first or the
 /// second instance.
-pub fn numbers_of(
+pub fn numbers_along(
     alloc: Global,
     shown: Shown<'_>,
     sample: &Sample,
     is_first: bool,
     node: usize,
 ) -> Result<String, AllocError>
-    ensures { IfOk result (λ text. string_bytes text ≡ numbers_of
+    ensures { IfOk result (λ text. string_bytes text ≡ numbers_along
         (draft_tree shown.entry.set.now) shown.entry.paths.now sample.now is_first node) }
 {
     numbers_text(alloc, sample, is_first, params_along(shown, node))
@@ -116,6 +116,6 @@ pub fn instance_text(
         (draft_tree shown.entry.set.now) shown.entry.paths.now sample.now is_first node) }
 {
     let name = node_name(alloc, shown, node)?;
-    let numbers = numbers_of(alloc, shown, sample, is_first, node)?;
+    let numbers = numbers_along(alloc, shown, sample, is_first, node)?;
     format!(in alloc; "{name}{numbers}")
 }

@@ -7,9 +7,9 @@ use Rattle.prog_check.specs.declared.path.Path.{Path}
 use Rattle.repair_laws.specs.declared.plan.Pair.{Pair}
 use Rattle.repair_laws.specs.Closing.{Closes, pair_from}
 use Rattle.si_repair.specs.declared.plans.closing.Triple.{Triple}
-use Rattle.si_repair.specs.Planning.{ClosesTriple, ClosesBehind, ClosesFrom, Adds, LacksPair, AreWithout}
+use Rattle.si_repair.specs.Planning.{ClosesTriple, ClosesBehind, ClosesFrom, AddsTriples, LacksPair, AreWithout}
 
-adds-same : (old new : List Triple) (P Q : Triple → Type 0) → ((t : Triple) → P t → Q t) → ((t : Triple) → Q t → P t) → Adds old new P → Adds old new Q
+adds-same : (old new : List Triple) (P Q : Triple → Type 0) → ((t : Triple) → P t → Q t) → ((t : Triple) → Q t → P t) → AddsTriples old new P → AddsTriples old new Q
 adds-same old new P Q to from adds t = (λ c. forth ((adds t).0 c), λ h. (adds t).1 (back h))
   where
     forth : Contains old t ⊎ P t → Contains old t ⊎ Q t
@@ -20,7 +20,7 @@ adds-same old new P Q to from adds t = (λ c. forth ((adds t).0 c), λ h. (adds 
     back (inl c) = inl c
     back (inr h) = inr (from t h)
 
-adds-pushed : (old new : List Triple) (P : Triple → Type 0) (u : Triple) → Adds old new P → Adds old (new ++ u ∷ []) (λ t. P t ⊎ (u ≡ t))
+adds-pushed : (old new : List Triple) (P : Triple → Type 0) (u : Triple) → AddsTriples old new P → AddsTriples old (new ++ u ∷ []) (λ t. P t ⊎ (u ≡ t))
 adds-pushed old new P u adds t = (λ c. to (Contains-push_cases new u t c), λ h. from h)
   where
     to : Contains new t ⊎ (u ≡ t) → Contains old t ⊎ (P t ⊎ (u ≡ t))
@@ -36,7 +36,7 @@ adds-pushed old new P u adds t = (λ c. to (Contains-push_cases new u t c), λ h
     from (inr (inl h)) = Contains-append_left new (u ∷ []) t ((adds t).1 (inr h))
     from (inr (inr e)) = subst (λ (v : Triple). Contains (new ++ u ∷ []) v) e (Contains-push new u)
 
-adds-then : (old mid new : List Triple) (P Q : Triple → Type 0) → Adds old mid P → Adds mid new Q → Adds old new (λ t. P t ⊎ Q t)
+adds-then : (old mid new : List Triple) (P Q : Triple → Type 0) → AddsTriples old mid P → AddsTriples mid new Q → AddsTriples old new (λ t. P t ⊎ Q t)
 adds-then old mid new P Q first second t = (λ c. to ((second t).0 c), λ h. from h)
   where
     to : Contains mid t ⊎ Q t → Contains old t ⊎ (P t ⊎ Q t)
@@ -92,8 +92,8 @@ module _ (nodes : List Path) where
   -- ---- behind a pair
 
   module _ (pair : Pair) where
-    module _ (third : ℕ) (old new : List Triple) (adds : Adds old new (ClosesBehind nodes pair third)) where
-      pub behind-pushed : (u : Triple) → u.first ≡ pair.from → u.second ≡ pair.to → u.third ≡ third → Closes nodes pair.from pair.to third → Adds old (new ++ u ∷ []) (ClosesBehind nodes pair (third + 1))
+    module _ (third : ℕ) (old new : List Triple) (adds : AddsTriples old new (ClosesBehind nodes pair third)) where
+      pub behind-pushed : (u : Triple) → u.first ≡ pair.from → u.second ≡ pair.to → u.third ≡ third → Closes nodes pair.from pair.to third → AddsTriples old (new ++ u ∷ []) (ClosesBehind nodes pair (third + 1))
       behind-pushed u a b c closes =
           adds-same old (new ++ u ∷ []) (λ t. ClosesBehind nodes pair third t ⊎ (u ≡ t)) (ClosesBehind nodes pair (third + 1)) to (λ t h. from t (cases_eq t.third third) h)
           (adds-pushed old new (ClosesBehind nodes pair third) u adds)
@@ -109,7 +109,7 @@ module _ (nodes : List Path) where
           from t (inl e) h = inr (same_triple u t (a ∙ ap (λ (p : Pair). p.from) (sym h.0)) (b ∙ ap (λ (p : Pair). p.to) (sym h.0)) (c ∙ sym e))
           from t (inr n) h = let l = h.1 in let k : t.third < third = omega (arith, l, n) in inl (h.0, k, h.2)
 
-      pub behind-passed : (Closes nodes pair.from pair.to third → ⊥) → Adds old new (ClosesBehind nodes pair (third + 1))
+      pub behind-passed : (Closes nodes pair.from pair.to third → ⊥) → AddsTriples old new (ClosesBehind nodes pair (third + 1))
       behind-passed not =
           adds-same old new (ClosesBehind nodes pair third) (ClosesBehind nodes pair (third + 1)) (λ t h. let l = h.1 in (h.0, omega (arith, l), h.2)) (λ t h. from t (cases_eq t.third third) h)
           adds
@@ -121,7 +121,7 @@ module _ (nodes : List Path) where
   -- ---- from a program
 
   module _ (programs : ℕ) where
-    pub from-more : (first second : ℕ) (old mid new : List Triple) → Adds old mid (ClosesFrom nodes first second programs) → Adds mid new (ClosesBehind nodes (pair_from first second) programs) → Adds old new (ClosesFrom nodes first (second + 1) programs)
+    pub from-more : (first second : ℕ) (old mid new : List Triple) → AddsTriples old mid (ClosesFrom nodes first second programs) → AddsTriples mid new (ClosesBehind nodes (pair_from first second) programs) → AddsTriples old new (ClosesFrom nodes first (second + 1) programs)
     from-more first second old mid new adds more =
         adds-same old new (λ t. ClosesFrom nodes first second programs t ⊎ ClosesBehind nodes (pair_from first second) programs t) (ClosesFrom nodes first (second + 1) programs) to (λ t h. from t (cases_eq t.second second) h)
         (adds-then old mid new (ClosesFrom nodes first second programs) (ClosesBehind nodes (pair_from first second) programs) adds more)
@@ -142,7 +142,7 @@ module _ (nodes : List Path) where
         (t : Triple)
         → Contains triples t ↔ ((t.first < first) × (t.second < programs) × (t.third < programs) × ClosesTriple nodes t)
 
-    pub all-more : (first : ℕ) (old new : List Triple) → AreClosingBelow first old → Adds old new (ClosesFrom nodes first programs programs) → AreClosingBelow (first + 1) new
+    pub all-more : (first : ℕ) (old new : List Triple) → AreClosingBelow first old → AddsTriples old new (ClosesFrom nodes first programs programs) → AreClosingBelow (first + 1) new
     all-more first old new are more t = (λ c. to ((more t).0 c), λ h. (more t).1 (from (cases_eq t.first first) h))
       where
         to : Contains old t ⊎ ClosesFrom nodes first programs programs t → (t.first < first + 1) × (t.second < programs) × (t.third < programs) × ClosesTriple nodes t

@@ -26,7 +26,7 @@ use Rattle.si_repair.specs.Promoting.{IsObstacleFault}
 use Rattle.si_repair.specs.Repairing.{IsSafeRepair, StopsNowhere, IsRepairFault}
 use Rattle.si_repair.proofs.Behind.{none_marked, promoted-none}
 use Rattle.si_repair.proofs.Fewer.{fewer_marks_small}
-use Rattle.si_repair.proofs.Limits.{IsSmall, size_fault, small_fits, sound_small}
+use Rattle.si_repair.proofs.Limits.{IsWithinLimits, size_fault, small_fits, sound_small}
 use Rattle.si_repair.proofs.Marks.{marks-none, marks-same}
 use Rattle.si_repair.proofs.Repaired.{safe_repair}
 
@@ -133,7 +133,7 @@ promoted_at_once draft plan n covered result own (marked, exposed, is) sound = p
         let more = contains-longer plan (k + 1) n h.0 (omega (arith, less)) h.1 in
         (exposed program number).1 (h.0, subst (λ (l : List Pair). Contains l h.0) (sym own.0) more, h.2, h.3, h.4) in
         small_fits (promoted_by draft marks)
-        (fewer_marks_small draft marks marked also (subst (λ (d : DraftTree). IsSmall d) is (sound_small result sound)))
+        (fewer_marks_small draft marks marked also (subst (λ (d : DraftTree). IsWithinLimits d) is (sound_small result sound)))
         (subst (λ (d : DraftTree). IsTooLarge d) made large)
 
     passed : StopsBefore draft plan n

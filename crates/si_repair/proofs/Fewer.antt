@@ -16,7 +16,7 @@ use Rattle.prog_check.specs.Tables.{declaration, grows}
 use Rattle.prog_check.specs.Uses.{used_table, is_abort, as_count}
 use Rattle.repair_laws.specs.Materialised.{Met, plain_table, column_of, keep_in, keeps_for, columns_for, in_front, with_front, all_with_front, materialised_by}
 use Rattle.repair_laws.specs.Promoted.{cell_read, keep_of, with_keeps, all_with_keeps, promoted_by}
-use Rattle.si_repair.proofs.Limits.{IsSmallProgram, AreSmallPrograms, IsSmall}
+use Rattle.si_repair.proofs.Limits.{IsSmallProgram, AreSmallPrograms, IsWithinLimits}
 
 -- ---- weights
 
@@ -219,7 +219,7 @@ count-as tables made st = ap (λ (g : Bool). length (kinds_of g st)) (go (used_t
 -- ---- drafts
 
 -- where all pairs make a small draft, so do the first of them
-pub fewer_met_small : (draft : DraftTree) (made new : List Met) → IsSmall (materialised_by draft (made ++ new)) → IsSmall (materialised_by draft made)
+pub fewer_met_small : (draft : DraftTree) (made new : List Met) → IsWithinLimits (materialised_by draft (made ++ new)) → IsWithinLimits (materialised_by draft made)
 fewer_met_small draft made new small =
     let table : Met → TableDecl = λ m. plain_table m.table in
     let fewer = draft.tables ++ map table made in
@@ -242,7 +242,7 @@ fewer_met_small draft made new small =
 
 -- where more marks make a small draft, so do fewer
 pub fewer_marks_small : (draft : DraftTree) (marked all : ℕ → ℕ → Bool) → ((program number : ℕ) → marked program number ≡ true → all program number ≡ true)
-    → IsSmall (promoted_by draft all) → IsSmall (promoted_by draft marked)
+    → IsWithinLimits (promoted_by draft all) → IsWithinLimits (promoted_by draft marked)
 fewer_marks_small draft marked all also small = record {
   tables = small.tables;
   programs = subst (λ n. n ≤ 16) (as-many 0 draft.programs) small.programs;

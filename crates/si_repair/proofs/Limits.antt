@@ -101,7 +101,7 @@ abbrev pub AreSmallPrograms : List TableDecl → List ProgramTree → Type 0
 AreSmallPrograms tables [] = Unit {0}
 AreSmallPrograms tables (p ∷ ps) = IsSmallProgram tables p × AreSmallPrograms tables ps
 
-pub record IsSmall (draft : DraftTree) : Type 0 where
+pub record IsWithinLimits (draft : DraftTree) : Type 0 where
   pub tables : length draft.tables ≤ 64
   pub programs : length draft.programs ≤ 16
   pub each : AreSmallPrograms draft.tables draft.programs
@@ -138,7 +138,7 @@ module _ (tables : List TableDecl) where
       (programs-pass (earlier ++ p.name ∷ []) ps (omega (arith, few, longer)) small.1)
 
 -- a small draft is not too large
-pub small_fits : (draft : DraftTree) → IsSmall draft → IsTooLarge draft → ⊥
+pub small_fits : (draft : DraftTree) → IsWithinLimits draft → IsTooLarge draft → ⊥
 small_fits draft small large =
     let tables = small.tables in
     let names = length-map draft.tables (λ (d : TableDecl). d.name) in
@@ -170,7 +170,7 @@ small-programs tables first (p ∷ ps) sound = (own, small-programs tables (firs
       accesses = sym (many_accesses tables (first + 0) p) ∙ light-paths (program_paths tables (first + 0) p) here.few_accesses;
     }
 
-pub sound_small : (draft : DraftTree) → IsSound draft → IsSmall draft
+pub sound_small : (draft : DraftTree) → IsSound draft → IsWithinLimits draft
 sound_small draft sound = record {
   tables = sound.few_tables;
   programs = sound.few_programs;

@@ -25,7 +25,7 @@ use Rattle.si_repair.specs.declared.repairs.keeps.Meeting.{Meeting}
 use Rattle.si_repair.specs.Checking.{IsRefused}
 use Rattle.si_repair.specs.Repairing.{IsSafeRepair, StopsNowhere, IsRepairFault}
 use Rattle.si_repair.proofs.Fewer.{fewer_met_small}
-use Rattle.si_repair.proofs.Limits.{IsSmall, size_fault, small_fits, sound_small}
+use Rattle.si_repair.proofs.Limits.{IsWithinLimits, size_fault, small_fits, sound_small}
 use Rattle.si_repair.proofs.Repaired.{safe_repair}
 
 -- ---- one name and one key
@@ -127,7 +127,7 @@ small_whole draft plan result sound (made, met, is) k less (part, own, large) =
     let firsts = take (k + 1) made in
     let same = same_draft draft (take (k + 1) plan) part (materialised_by draft firsts) own (firsts, met_first draft plan made (k + 1) met, refl) in
     let whole = is ∙ ap (materialised_by draft) (sym (take-append-drop (k + 1) made)) in
-    let small = fewer_met_small draft firsts (drop (k + 1) made) (subst (λ (d : DraftTree). IsSmall d) whole (sound_small result sound)) in
+    let small = fewer_met_small draft firsts (drop (k + 1) made) (subst (λ (d : DraftTree). IsWithinLimits d) whole (sound_small result sound)) in
     small_fits (materialised_by draft firsts) small (subst (λ (d : DraftTree). IsTooLarge d) same large)
 
 -- the same of the first pairs alone

@@ -63,8 +63,8 @@ ClosesFrom nodes first bound programs t =
     (t.first ≡ first) × (t.second < bound) × (t.third < programs) × ClosesTriple nodes t
 
 -- the new list has what the old one has, and the triples of which P holds
-abbrev pub Adds : (old new : List Triple) → (P : Triple → Type 0) → Type 0
-Adds old new P = (t : Triple) → Contains new t ↔ (Contains old t ⊎ P t)
+abbrev pub AddsTriples : (old new : List Triple) → (P : Triple → Type 0) → Type 0
+AddsTriples old new P = (t : Triple) → Contains new t ↔ (Contains old t ⊎ P t)
 
 -- the list has just the triples of so many programs that close a structure
 abbrev pub AreClosing : List Path → ℕ → List Triple → Type 0

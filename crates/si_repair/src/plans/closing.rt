@@ -1,7 +1,7 @@
 //! Which programs close a dangerous structure.
 ghost use Rattle.std.specs.Prelude.{◌≡◌, ◌<◌, OnOk, IfOk};
 ghost use Rattle.conflict_pairs.specs.Table.{StandsFor};
-ghost use Rattle.si_repair.specs.Planning.{first_pair, second_pair, Adds, ClosesBehind, ClosesFrom, AreClosing};
+ghost use Rattle.si_repair.specs.Planning.{first_pair, second_pair, AddsTriples, ClosesBehind, ClosesFrom, AreClosing};
 
 use crate::plans::nodes::{ProgramNodes, begins_in};
 use dep_graph::Graph;
@@ -47,7 +47,7 @@ fn push_behind(
     requires graph { StandsFor graph.now nodes.now.paths }
     requires from { pair.from < nodes.now.programs }
     requires to { pair.to < nodes.now.programs }
-    ensures { OnOk result (Adds triples.old.items triples.new.items
+    ensures { OnOk result (AddsTriples triples.old.items triples.new.items
         (ClosesBehind nodes.now.paths pair nodes.now.programs)) }
 {
     let firsts = nodes.of(pair.from);
@@ -74,7 +74,7 @@ fn push_from(
 ) -> Result<(), AllocError>
     requires graph { StandsFor graph.now nodes.now.paths }
     requires first { first < nodes.now.programs }
-    ensures { OnOk result (Adds triples.old.items triples.new.items
+    ensures { OnOk result (AddsTriples triples.old.items triples.new.items
         (ClosesFrom nodes.now.paths first nodes.now.programs nodes.now.programs)) }
 {
     for second in 0..nodes.programs() {

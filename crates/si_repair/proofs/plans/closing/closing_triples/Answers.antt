@@ -1,7 +1,7 @@
 use Rattle.std.proofs.Common.{List, sym, subst, arith}
 use Rattle.prog_check.specs.declared.path.Path.{Path}
 use Rattle.conflict_pairs.specs.Table.{StandsFor}
-use Rattle.si_repair.specs.Planning.{NodesBy, ClosesFrom, Adds}
+use Rattle.si_repair.specs.Planning.{NodesBy, ClosesFrom, AddsTriples}
 use Rattle.si_repair.proofs.Closings.{AreClosingBelow, all-more}
 use Rattle.si_repair.proofs.plans.closing.closing_triples.Goals as goal
 
@@ -15,7 +15,7 @@ loop-first-preserved c =
     let first = c.loop-first.first in
     let paths = c.in_ok-nodes.ensures.paths in
     let programs = c.in_ok-nodes.ensures.programs in
-    let more = subst (λ (n : NodesBy). Adds old new (ClosesFrom n.paths first n.programs n.programs)) (λ i. record { paths = paths i; programs = programs i }) c.in_ok-push_from.ensures in
+    let more = subst (λ (n : NodesBy). AddsTriples old new (ClosesFrom n.paths first n.programs n.programs)) (λ i. record { paths = paths i; programs = programs i }) c.in_ok-push_from.ensures in
     all-more c.args.paths.now c.args.programs first old new c.loop-first.invariant more
 
 pub returns : goal.returns

@@ -1,6 +1,6 @@
 use Rattle.std.proofs.Common.{refl, subst, arith}
 use Rattle.std.proofs.lemmas.Bool.{both_ways}
-use Rattle.si_repair.specs.Planning.{ClosesBehind, Adds}
+use Rattle.si_repair.specs.Planning.{ClosesBehind, AddsTriples}
 use Rattle.si_repair.proofs.Searching.{nodes-below, closes-from_begins, begins-from_closes}
 use Rattle.si_repair.proofs.Closings.{behind-pushed, behind-passed}
 use Rattle.si_repair.proofs.plans.closing.push_behind.Goals as goal
@@ -35,4 +35,4 @@ loop-third-preserved c =
     ]
 
 pub returns : goal.returns
-returns c = subst (λ n. Adds c.args.triples.now.items c.loop-third.triples.items (ClosesBehind c.args.nodes.now.paths c.args.pair n)) (omega arith) c.loop-third.invariant
+returns c = subst (λ n. AddsTriples c.args.triples.now.items c.loop-third.triples.items (ClosesBehind c.args.nodes.now.paths c.args.pair n)) (omega arith) c.loop-third.invariant
