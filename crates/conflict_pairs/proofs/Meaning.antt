@@ -1,5 +1,5 @@
 -- What the facts of a question say, in the words of meeting and covering.
-use Rattle.std.proofs.Common.{◌≡◌, ℕ, List, refl, sym, subst, ◌∙◌}
+use Rattle.std.proofs.Common.{◌≡◌, ◌↔◌, ℕ, Bool, true, List, refl, sym, subst, ◌∙◌}
 use Rattle.std.specs.Prelude.{All, Some, slice_get, get_or, Result, Ok, Err, IfOk}
 use Rattle.std.proofs.lemmas.Option.{get_or_from_slice_get, same_Some}
 use Rattle.order_facts.specs.declared.steps.Node.{Node}
@@ -10,15 +10,17 @@ use Rattle.order_facts.specs.Sample.{assignment_of}
 use Rattle.prog_check.specs.declared.path.Access.{Access}
 use Rattle.prog_check.specs.declared.path.Path.{Path}
 use Rattle.prog_paths.specs.Meeting.{MeetsUnder, CanMeet, MayTouch}
-use Rattle.prog_paths.specs.StaticGraph.{IsAccessOf, IsCovered}
+use Rattle.prog_paths.specs.StaticGraph.{AsksOf, IsAccessOf, IsCovered}
 use Rattle.prog_paths.specs.Questions.{question_facts}
+use Rattle.prog_paths.specs.Shown.{Falls}
 use Rattle.prog_paths.proofs.Questions.{law_of_meeting, law_of_questions}
 use Rattle.prog_paths.specs.Asked.{IsQuestion, ChangesSingleCells, two, between}
 use Rattle.conflict_pairs.specs.declared.verdicts.Verdict.{Verdict}
 use Rattle.conflict_pairs.specs.declared.verdicts.Verdict.TheVariants.{Apart, Covered, Exposed}
 use Rattle.conflict_pairs.specs.Verdicts.{HasFall, NumbersFall, IsShortest, mine_of, theirs_of, IsCoveredBy, IsExposedBy, IsRightOf, IsRight}
-use Rattle.conflict_pairs.specs.Search.{CoversAt, IsCoverFound, ShowEqualAt, IsNoCover, IsUncovered, IsJudged}
-use Rattle.prog_paths.proofs.Shown.{IsPair, apart-from_Falls, same-from_CoversBy, CoversBy-from_same, single_at, may_touch-second}
+use Rattle.conflict_pairs.specs.Law.{IsExposedQuestion, TellsExposed}
+use Rattle.conflict_pairs.specs.Search.{CoversAt, IsCoverFound, ShowEqualAt, IsNoCover, IsLeftOpen, IsUncovered, IsJudged}
+use Rattle.prog_paths.proofs.Shown.{IsPair, no_way-from_Falls, apart-from_Falls, same-from_CoversBy, CoversBy-from_same, single_at, may_touch-second}
 
 -- an access of one of two paths
 pub access-first : (x y : Path) (k : ℕ) (a : Access) → IsAccessOf (two x y) 0 k a → slice_get x.accesses k ≡ Some a
@@ -93,33 +95,50 @@ module _ (x y : Path) (a b : ℕ) (mine theirs : Access) (pair : IsPair mine the
   right-from_judged (Covered m t chains) h = covered-right m t chains h.0 h.1 h.2
   right-from_judged (Exposed sample) h = exposed-right sample h.0 h.1
 
+  -- what the facts leave open is exposed
+  exposed-open : IsLeftOpen x.accesses y.accesses mine theirs ↔ IsExposedQuestion (two x y) (between a b) mine theirs
+  exposed-open = (
+    λ h. (can_meet h.0, λ asks c. h.1 h.0 (between a b) asks c.first c.second (CoversAt-from_IsCovered (can_meet h.0) c)),
+    λ h. ((law_of_questions mine theirs pair.table pair.single).1 h.0, λ k q asks m t covers. h.1 asks (IsCovered-from_CoversAt m t covers)),
+  )
+
+-- the accesses of a question between two paths
+module _ (x y : Path) (a b : ℕ) (q : IsQuestion (two x y) (between a b)) (single_y : ChangesSingleCells y) (mine theirs : Access) (asked : AsksOf (two x y) (between a b) mine theirs) where
+  own_mine : slice_get x.accesses a ≡ Some mine
+  own_mine = access-first x y a mine asked.at_mine
+
+  own_theirs : slice_get y.accesses b ≡ Some theirs
+  own_theirs = access-second x y b theirs asked.at_theirs
+
+  mine_is : (d : Access) → get_or x.accesses a d ≡ mine
+  mine_is d = get_or_from_slice_get x.accesses a mine d own_mine
+
+  theirs_is : (e : Access) → get_or y.accesses b e ≡ theirs
+  theirs_is e = get_or_from_slice_get y.accesses b theirs e own_theirs
+
+  same_theirs : q.theirs ≡ theirs
+  same_theirs = same_Some _ _ (sym (access-second x y b q.theirs q.asked.at_theirs) ∙ own_theirs)
+
+  asked_pair : IsPair mine theirs
+  asked_pair = record {
+    table = asked.table;
+    single = single_at y b theirs single_y own_theirs (subst MayTouch same_theirs (may_touch-second (between a b) q.mine q.theirs q.asks));
+  }
+
 -- what is said of the accesses at these places is right of the question
 pub IsRight-from_IsJudged : (x y : Path) (a b : ℕ) (d e : Access) → IsQuestion (two x y) (between a b) → ChangesSingleCells x → ChangesSingleCells y → (v : Verdict) → IsJudged x.accesses y.accesses (get_or x.accesses a d) (get_or y.accesses b e) v → IsRight (two x y) (between a b) v
 IsRight-from_IsJudged x y a b d e q single_x single_y v h mine theirs asked =
-    right-from_judged x y a b mine theirs pair single_x single_y v
-    (subst (λ (n : Access). IsJudged x.accesses y.accesses n theirs v) first_is
-    (subst (λ (n : Access). IsJudged x.accesses y.accesses (get_or x.accesses a d) n v) second_is h))
-  where
-    at_mine : slice_get x.accesses a ≡ Some mine
-    at_mine = access-first x y a mine asked.at_mine
+    right-from_judged x y a b mine theirs (asked_pair x y a b q single_y mine theirs asked) single_x single_y v
+    (subst (λ (n : Access). IsJudged x.accesses y.accesses n theirs v) (mine_is x y a b q single_y mine theirs asked d)
+    (subst (λ (n : Access). IsJudged x.accesses y.accesses (get_or x.accesses a d) n v) (theirs_is x y a b q single_y mine theirs asked e) h))
 
-    at_theirs : slice_get y.accesses b ≡ Some theirs
-    at_theirs = access-second x y b theirs asked.at_theirs
-
-    first_is : get_or x.accesses a d ≡ mine
-    first_is = get_or_from_slice_get x.accesses a mine d at_mine
-
-    second_is : get_or y.accesses b e ≡ theirs
-    second_is = get_or_from_slice_get y.accesses b theirs e at_theirs
-
-    same_second : q.theirs ≡ theirs
-    same_second = same_Some _ _ (sym (access-second x y b q.theirs q.asked.at_theirs) ∙ at_theirs)
-
-    pair : IsPair mine theirs
-    pair = record {
-      table = asked.table;
-      single = single_at y b theirs single_y at_theirs (subst MayTouch same_second (may_touch-second (between a b) q.mine q.theirs q.asks));
-    }
+-- so is what is said of them alone, whether it is exposed
+TellsExposed-from_open : (x y : Path) (a b : ℕ) (d e : Access) → IsQuestion (two x y) (between a b) → ChangesSingleCells x → ChangesSingleCells y → (told : Bool) → (told ≡ true) ↔ IsLeftOpen x.accesses y.accesses (get_or x.accesses a d) (get_or y.accesses b e) → TellsExposed (two x y) (between a b) told
+TellsExposed-from_open x y a b d e q single_x single_y told h mine theirs asked =
+    let open_is = exposed-open x y a b mine theirs (asked_pair x y a b q single_y mine theirs asked) single_x single_y in
+    let own = subst (λ (n : Access). (told ≡ true) ↔ IsLeftOpen x.accesses y.accesses n theirs) (mine_is x y a b q single_y mine theirs asked d)
+    (subst (λ (n : Access). (told ≡ true) ↔ IsLeftOpen x.accesses y.accesses (get_or x.accesses a d) n) (theirs_is x y a b q single_y mine theirs asked e) h) in
+    (λ t. open_is.0 (own.0 t), λ k. own.1 (open_is.1 k))
 
 -- the same of lists that are the paths' accesses
 pub IsRight-from_lists : (x y : Path) (a b : ℕ) (xs ys : List Access) (d e : Access) → IsQuestion (two x y) (between a b) → ChangesSingleCells x → ChangesSingleCells y → xs ≡ x.accesses → ys ≡ y.accesses → (v : Verdict) → IsJudged xs ys (get_or xs a d) (get_or ys b e) v → IsRight (two x y) (between a b) v
@@ -127,6 +146,29 @@ IsRight-from_lists x y a b xs ys d e q single_x single_y is_xs is_ys v h =
     IsRight-from_IsJudged x y a b d e q single_x single_y v
     (subst (λ (l : List Access). IsJudged l y.accesses (get_or l a d) (get_or y.accesses b e) v) is_xs
     (subst (λ (l : List Access). IsJudged xs l (get_or xs a d) (get_or l b e) v) is_ys h))
+
+pub TellsExposed-from_lists : (x y : Path) (a b : ℕ) (xs ys : List Access) (d e : Access) → IsQuestion (two x y) (between a b) → ChangesSingleCells x → ChangesSingleCells y → xs ≡ x.accesses → ys ≡ y.accesses → (told : Bool) → (told ≡ true) ↔ IsLeftOpen xs ys (get_or xs a d) (get_or ys b e) → TellsExposed (two x y) (between a b) told
+TellsExposed-from_lists x y a b xs ys d e q single_x single_y is_xs is_ys told h =
+    TellsExposed-from_open x y a b d e q single_x single_y told
+    (subst (λ (l : List Access). (told ≡ true) ↔ IsLeftOpen l y.accesses (get_or l a d) (get_or y.accesses b e)) is_xs
+    (subst (λ (l : List Access). (told ≡ true) ↔ IsLeftOpen xs l (get_or xs a d) (get_or l b e)) is_ys h))
+
+-- ---- what is left open
+
+pub fallen-not_open : (xs ys : List Access) (mine theirs : Access) (chain : List Node) → Falls (question_facts mine theirs) chain → IsLeftOpen xs ys mine theirs → ⊥
+fallen-not_open xs ys mine theirs chain f h = no_way-from_Falls (question_facts mine theirs) chain f h.0
+
+module _ (xs ys : List Access) (mine theirs : Access) (fs : List Fact) (is : fs ≡ question_facts mine theirs) where
+  pub open-met : IsLeftOpen xs ys mine theirs → facts.IsConsistent fs
+  open-met h = subst (λ (gs : List Fact). facts.IsConsistent gs) (sym is) h.0
+
+  pub open-uncovered : facts.IsConsistent fs → IsNoCover fs mine.kind theirs.kind xs ys → IsLeftOpen xs ys mine theirs
+  open-uncovered k none = (subst (λ (gs : List Fact). facts.IsConsistent gs) is k, subst (λ (gs : List Fact). IsNoCover gs mine.kind theirs.kind xs ys) is none)
+
+  pub covered-not_open : (m t : ℕ) → IsCoverFound fs mine.kind theirs.kind xs ys m t → IsLeftOpen xs ys mine theirs → ⊥
+  covered-not_open m t found h =
+      let own = subst (λ (gs : List Fact). IsCoverFound gs mine.kind theirs.kind xs ys m t) is found in
+      h.1 h.0 (between 0 0) (own.asks (between 0 0)) m t own.first.covers
 
 -- ---- where nothing covers
 

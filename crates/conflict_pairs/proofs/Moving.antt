@@ -1,5 +1,5 @@
 -- A question between two paths is that of a list in which they stand.
-use Rattle.std.proofs.Common.{◌≡◌, ℕ, ◌<◌, ◌⊎◌, inl, inr, true, List, ◌&&◌, refl, sym, subst, ap, ◌∙◌, arith, get_or, length}
+use Rattle.std.proofs.Common.{◌≡◌, ℕ, ◌<◌, ◌⊎◌, inl, inr, Bool, true, List, ◌&&◌, refl, sym, subst, ap, ◌∙◌, arith, get_or, length}
 use Rattle.std.specs.Prelude.{Some, slice_get, All, ◌==◌}
 use Rattle.std.proofs.lemmas.Bool.{false≢true, eqb-true, and_parts, or_cases}
 use Rattle.std.proofs.lemmas.Option.{slice_get_within, get_or_from_slice_get, same_Some}
@@ -15,6 +15,7 @@ use Rattle.conflict_pairs.specs.declared.verdicts.Verdict.{Verdict}
 use Rattle.conflict_pairs.specs.declared.verdicts.Verdict.TheVariants.{Apart, Covered, Exposed}
 use Rattle.prog_paths.specs.Asked.{Asks, IsQuestion, ChangesSingleCells, two, between, asks, kinds_depend, both_write, is_in_order, numbers_of}
 use Rattle.conflict_pairs.specs.Alike.{IsAsked}
+use Rattle.conflict_pairs.specs.Law.{TellsExposed}
 use Rattle.conflict_pairs.specs.Verdicts.{IsCoveredBy, IsRightOf, IsRight}
 use Rattle.prog_paths.specs.Places.{IsAt}
 use Rattle.prog_paths.proofs.Membership.{depends-Asks}
@@ -114,6 +115,19 @@ module _ (paths : List Path) (x y : Path) (i a j b : ℕ) (at_x : slice_get path
   pub IsRight-there : (v : Verdict) → IsRight (two x y) (between a b) v → IsRight paths here v
   IsRight-there v h mine theirs asked =
       right_there mine theirs v (h mine theirs (record { at_mine = access_moved paths (two x y) i 0 x at_x refl a mine asked.at_mine; at_theirs = access_moved paths (two x y) j 1 y at_y refl b theirs asked.at_theirs; table = asked.table }))
+
+  pub TellsExposed-there : (told : Bool) → TellsExposed (two x y) (between a b) told → TellsExposed paths here told
+  TellsExposed-there told h mine theirs asked =
+      let own = h mine theirs (record { at_mine = access_moved paths (two x y) i 0 x at_x refl a mine asked.at_mine; at_theirs = access_moved paths (two x y) j 1 y at_y refl b theirs asked.at_theirs; table = asked.table }) in (
+        λ t. let e = own.0 t in (e.0, λ asks c. e.1 asks (cover_back mine theirs c)),
+        λ e. own.1 (e.0, λ asks c. e.1 asks (cover_there mine theirs c)),
+      )
+
+pub TellsExposed-placed : (paths : List Path) (first second : Placed) (x y : Path) → IsAt paths first → IsAt paths second → x ≡ get_or paths first.node x → y ≡ get_or paths second.node y → (told : Bool) → TellsExposed (two x y) (between first.number second.number) told → TellsExposed paths (record { x = first.node; a = first.number; y = second.node; b = second.number }) told
+TellsExposed-placed paths first second x y at_first at_second is_x is_y told h =
+    TellsExposed-there paths x y first.node first.number second.node second.number
+    (at_first.1 ∙ ap Some (sym (is_x ∙ path_is paths first x at_first)))
+    (at_second.1 ∙ ap Some (sym (is_y ∙ path_is paths second y at_second))) told h
 
 pub IsRight-placed : (paths : List Path) (first second : Placed) (x y : Path) → IsAt paths first → IsAt paths second → x ≡ get_or paths first.node x → y ≡ get_or paths second.node y → (v : Verdict) → IsRight (two x y) (between first.number second.number) v → IsRight paths (record { x = first.node; a = first.number; y = second.node; b = second.number }) v
 IsRight-placed paths first second x y at_first at_second is_x is_y v h =

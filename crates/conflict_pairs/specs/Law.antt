@@ -1,5 +1,5 @@
 -- The laws of verdicts: they are exact.
-use Rattle.std.specs.Prelude.{◌↔◌, List, Bool, true, false}
+use Rattle.std.specs.Prelude.{◌≡◌, ◌↔◌, List, Bool, true, false}
 use Rattle.prog_check.specs.declared.path.Access.{Access}
 use Rattle.prog_check.specs.declared.path.Path.{Path}
 use Rattle.prog_paths.specs.Meeting.{CanMeet}
@@ -41,6 +41,11 @@ IsCoveredQuestion nodes q mine theirs =
 abbrev pub IsExposedQuestion : List Path → Question → Access → Access → Type 0
 IsExposedQuestion nodes q mine theirs =
     CanMeet mine theirs × (AsksReadWrite q mine.kind theirs.kind → ¬ IsCovered nodes q.x q.y mine theirs)
+
+-- the answer says whether the question is exposed
+abbrev pub TellsExposed : List Path → Question → Bool → Type 0
+TellsExposed nodes q told =
+    (mine theirs : Access) → AsksOf nodes q mine theirs → (told ≡ true) ↔ IsExposedQuestion nodes q mine theirs
 
 -- which of the three a verdict is
 pub record IsExact (nodes : List Path) (q : Question) (mine theirs : Access) (verdict : Verdict) : Type 0 where

@@ -58,6 +58,12 @@ abbrev pub IsNoCover : List Fact → Kind → Kind → List Access → List Acce
 IsNoCover facts mine theirs xs ys =
     IsConsistent facts → (q : Question) → AsksReadWrite q mine theirs → (m t : ℕ) → ¬ CoversAt facts xs ys m t
 
+-- the facts of two accesses can be met, and nothing in their lists covers by them
+abbrev pub IsLeftOpen : List Access → List Access → Access → Access → Type 0
+IsLeftOpen xs ys mine theirs =
+    IsConsistent (question_facts mine theirs)
+    × IsNoCover (question_facts mine theirs) mine.kind theirs.kind xs ys
+
 -- what the facts say where nothing covers: a chain falls, or they are met by the sample, and not covered
 abbrev pub IsUncovered : List Fact → Verdict → Type 0
 IsUncovered facts (Apart chain) = FallsShortest facts chain

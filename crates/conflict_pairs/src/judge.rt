@@ -1,12 +1,13 @@
 //! The verdict on a question.
-ghost use Rattle.std.specs.Prelude.{◌≡◌, All, IfOk, IfSome, IfNone, IsOk};
+ghost use Rattle.std.specs.Prelude.{◌≡◌, ◌↔◌, All, IfOk, IfSome, IfNone, IsOk, IsTrue};
 ghost use Rattle.order_facts.specs.Chain.{IsConsistent};
 ghost use Rattle.prog_paths.specs.Questions.{question_facts};
 ghost use Rattle.prog_check.specs.declared.path.Access.{Access};
 ghost use Rattle.prog_paths.specs.Asked.{IsQuestion, ChangesSingleCells, two, between};
 ghost use Rattle.conflict_pairs.specs.Verdicts.{HasFall, NumbersFall, IsShortest, IsRight};
 ghost use Rattle.conflict_pairs.specs.Alike.{IsAsked, IsJudgedAt, AreJudged};
-ghost use Rattle.conflict_pairs.specs.Search.{CoversAt, ShowEqualAt, IsCoverFound, IsNoCover, IsUncovered, IsJudged};
+ghost use Rattle.conflict_pairs.specs.Law.{TellsExposed};
+ghost use Rattle.conflict_pairs.specs.Search.{CoversAt, ShowEqualAt, IsCoverFound, IsNoCover, IsLeftOpen, IsUncovered, IsJudged};
 
 use crate::apart::{contradiction, number_fall};
 use crate::chain::Chain;
@@ -125,6 +126,62 @@ pub fn verdict(alloc: Global, x: &Path, a: usize, y: &Path, b: usize) -> Result<
     let xs = x.accesses.as_slice();
     let ys = y.accesses.as_slice();
     judged(alloc, xs, ys, &xs[a], &ys[b])
+}
+
+/// Whether the closed facts of two accesses can be met, and nothing in their lists covers.
+fn open_closed(
+    alloc: Global,
+    xs: &[Access],
+    ys: &[Access],
+    mine: &Access,
+    theirs: &Access,
+) -> Result<bool, AllocError>
+    ensures { IfOk result (λ told. IsTrue told ↔ IsLeftOpen xs.now ys.now mine.now theirs.now) }
+{
+    let closed = closed_facts(alloc, mine, theirs)?;
+    if !closed.consistent() {
+        return Ok(false);
+    }
+    match cover(&closed, mine.kind, theirs.kind, xs, ys) {
+        Some(_) => Ok(false),
+        None => Ok(true),
+    }
+}
+
+/// The same, at once where two of its numbers fall.
+fn is_left_open(
+    alloc: Global,
+    xs: &[Access],
+    ys: &[Access],
+    mine: &Access,
+    theirs: &Access,
+) -> Result<bool, AllocError>
+    ensures { IfOk result (λ told. IsTrue told ↔ IsLeftOpen xs.now ys.now mine.now theirs.now) }
+{
+    match number_fall(mine, theirs) {
+        Some(_) => Ok(false),
+        None => open_closed(alloc, xs, ys, mine, theirs),
+    }
+}
+
+/// Whether the question of access `a` of one path against access `b` of another is exposed: what
+/// its verdict says, without chains and sample.
+pub fn is_exposed_question(
+    alloc: Global,
+    x: &Path,
+    a: usize,
+    y: &Path,
+    b: usize,
+) -> Result<bool, AllocError>
+    requires question { IsQuestion (two x.now y.now) (between a b) }
+    requires single_x { ChangesSingleCells x.now }
+    requires single_y { ChangesSingleCells y.now }
+    ensures { IfOk result
+        (λ exposed. TellsExposed (two x.now y.now) (between a b) exposed) }
+{
+    let xs = x.accesses.as_slice();
+    let ys = y.accesses.as_slice();
+    is_left_open(alloc, xs, ys, &xs[a], &ys[b])
 }
 
 /// What the facts say of a question of the paths.

@@ -24,7 +24,7 @@ pub use chain::Chain;
 pub use condition::{changes_single_cells, is_question};
 pub use fault::PairFault;
 pub use interning::{Interned, Interner, intern_all};
-pub use judge::verdict;
+pub use judge::{is_exposed_question, verdict};
 pub use laws::law_of_verdicts;
 pub use listing::pairs;
 pub use parallel::pairs_par;

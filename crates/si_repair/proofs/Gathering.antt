@@ -15,10 +15,7 @@ use Rattle.prog_paths.specs.Places.{IsAt}
 use Rattle.prog_paths.proofs.Asked.{placed, all_places_stand, if_yes, asked_by-append, asked_among-append}
 use Rattle.prog_paths.proofs.Membership.{asks-from_Asks}
 use Rattle.prog_paths.proofs.Segments.{IsMember, member_left, member_right}
-use Rattle.conflict_pairs.specs.declared.verdicts.Verdict.{Verdict}
-use Rattle.conflict_pairs.specs.Verdicts.{IsRight}
-use Rattle.conflict_pairs.specs.Law.{IsExposedVerdict}
-use Rattle.conflict_pairs.proofs.Exactness.{law_of_verdicts}
+use Rattle.conflict_pairs.specs.Law.{TellsExposed}
 use Rattle.repair_laws.specs.declared.plan.Pair.{Pair}
 use Rattle.repair_laws.specs.Striking.{IsOfProgram}
 use Rattle.repair_laws.specs.Keys.{ExposedOf}
@@ -162,18 +159,18 @@ pub places_stand : (nodes : List Path) (program : ℕ) → All (λ (p : Placed).
 places_stand nodes program k d lt =
     ((placed_of nodes program).only (get_or (program_from program 0 nodes) k d) (Contains-get_or (program_from program 0 nodes) k d lt)).0
 
--- ---- verdicts
+-- ---- what is told of a question
 
 pub asks-from_misses : (first second : Placed) → MayMiss first second → asks first second ≡ true
 asks-from_misses first second h = asks-from_Asks first second h.table (inl h.kinds)
 
--- a right verdict says whether the first access is exposed to the second
-pub exposed-from_verdict : (nodes : List Path) (first second : Placed) (v : Verdict) → IsAt nodes first → IsAt nodes second → MayMiss first second → IsRight nodes (numbers_of (question_between first second)) v → IsExposedVerdict v ↔ IsExposedTo nodes first second
-exposed-from_verdict nodes first second v at_first at_second misses right =
+-- an answer that tells whether the question is exposed tells whether the first access is exposed to the second
+pub exposed-from_told : (nodes : List Path) (first second : Placed) (told : Bool) → IsAt nodes first → IsAt nodes second → MayMiss first second → TellsExposed nodes (numbers_of (question_between first second)) told → (told ≡ true) ↔ IsExposedTo nodes first second
+exposed-from_told nodes first second told at_first at_second misses h =
     let asked : AsksOf nodes (numbers_of (question_between first second)) first.access second.access = record { at_mine = at_first; at_theirs = at_second; table = misses.table } in
-    let exact = law_of_verdicts nodes (numbers_of (question_between first second)) first.access second.access v asked right in (
-      λ says. let e = exact.exposed.0 says in record { misses = misses; exposed = (e.0, e.1 misses.kinds) },
-      λ h. exact.exposed.1 (h.exposed.0, λ _. h.exposed.1),
+    let exact = h first.access second.access asked in (
+      λ t. let e = exact.0 t in record { misses = misses; exposed = (e.0, e.1 misses.kinds) },
+      λ k. exact.1 (k.exposed.0, λ _. k.exposed.1),
     )
 
 -- ---- the accesses of an exposed question of a pair, at their places

@@ -5,7 +5,8 @@ use crate::examples::{paths_of, wide_paths};
 use crate::pairs::sets::{IN_A_BODY, NUMBERS, table_of, table_of_threads};
 use crate::told::is_told;
 use conflict_pairs::{
-    Chain, PairFault, PairTable, Verdict, changes_single_cells, is_question, verdict,
+    Chain, PairFault, PairTable, Verdict, changes_single_cells, is_exposed_question, is_question,
+    verdict,
 };
 use example_sets::{MOVE, SMALL_BANK, TRANSFER};
 use order_facts::Node;
@@ -69,6 +70,21 @@ fn judged(
     verdict(alloc, x, a, y, b)
 }
 
+/// Whether the question of two such accesses is exposed.
+fn exposed(
+    rt: &impl Abort,
+    alloc: Global,
+    x: &Path,
+    a: usize,
+    y: &Path,
+    b: usize,
+) -> Result<bool, AllocError> {
+    assert!(rt; is_question(x, a, y, b));
+    assert!(rt; changes_single_cells(x));
+    assert!(rt; changes_single_cells(y));
+    is_exposed_question(alloc, x, a, y, b)
+}
+
 /// The verdict on the accesses at two places.
 fn said(
     rt: &impl Abort,
@@ -79,7 +95,9 @@ fn said(
 ) -> Result<String, AllocError> {
     let x = paths.get(mine.0).expect(rt, "the path is there");
     let y = paths.get(theirs.0).expect(rt, "the path is there");
+    let exposed = exposed(rt, alloc, x, mine.1, y, theirs.1)?;
     let verdict = judged(rt, alloc, x, mine.1, y, theirs.1)?;
+    assert!(rt; exposed == verdict.is_exposed());
     let shown = shown(alloc, &verdict);
     drop(verdict);
     shown

@@ -3,12 +3,12 @@ ghost use Rattle.std.specs.Prelude.{◌↔◌, [], ◌∷◌, All, IfOk, IsTrue}
 ghost use Rattle.prog_paths.specs.Asked.{ChangesSingleCells, numbers_of, question_between};
 ghost use Rattle.prog_paths.specs.Places.{IsAt};
 ghost use Rattle.prog_paths.specs.StaticGraph.{IsAccessOf};
-ghost use Rattle.conflict_pairs.specs.Verdicts.{IsRight};
+ghost use Rattle.conflict_pairs.specs.Law.{TellsExposed};
 ghost use Rattle.si_repair.specs.Exposing.{AreExposed, IsFirstExposed};
 ghost use Rattle.conflict_pairs.specs.Alike.{HasAccess};
 ghost use Rattle.si_repair.specs.Gathering.{MayMiss, IsExposedTo, AreExposedAmong, IsFirstAmong};
 
-use conflict_pairs::{Verdict, verdict};
+use conflict_pairs::is_exposed_question;
 use prog_check::{Access, Path};
 use prog_paths::{Placed, Question, asks_read_write, program_places, question_between};
 use repair_laws::Pair;
@@ -31,23 +31,23 @@ fn may_miss(first: &Placed, second: &Placed) -> bool
         && asks_read_write(first.access.kind, second.access.kind)
 }
 
-/// The verdict on what an access may miss of another.
-fn verdict_between(
+/// Whether what an access may miss of another is exposed.
+fn exposed_between(
     alloc: Global,
     paths: &[Path],
     first: &Placed,
     second: &Placed,
-) -> Result<Verdict, AllocError>
+) -> Result<bool, AllocError>
     requires single { All ChangesSingleCells paths.now }
     requires first { IsAt paths.now first.now }
     requires second { IsAt paths.now second.now }
     requires misses { MayMiss first.now second.now }
-    ensures { IfOk result (λ verdict.
-        IsRight paths.now (numbers_of (question_between first.now second.now)) verdict) }
+    ensures { IfOk result (λ exposed.
+        TellsExposed paths.now (numbers_of (question_between first.now second.now)) exposed) }
 {
     let x = &paths[first.node];
     let y = &paths[second.node];
-    verdict(alloc, x, first.number, y, second.number)
+    is_exposed_question(alloc, x, first.number, y, second.number)
 }
 
 /// Whether the first may miss what the second changes, and no two accesses cover them.
@@ -65,8 +65,8 @@ fn is_exposed(
     if !may_miss(first, second) {
         return Ok(false);
     }
-    let verdict = verdict_between(alloc, paths, first, second)?;
-    Ok(verdict.is_exposed())
+    let exposed = exposed_between(alloc, paths, first, second)?;
+    Ok(exposed)
 }
 
 /// The questions of an access that is exposed to some of others.

@@ -1,0 +1,13 @@
+use Rattle.prog_paths.specs.Asked.{numbers_of, question_between}
+use Rattle.conflict_pairs.specs.Law.{TellsExposed}
+use Rattle.conflict_pairs.proofs.Meaning.{IfOk_then}
+use Rattle.conflict_pairs.proofs.Moving.{TellsExposed-placed}
+use Rattle.si_repair.proofs.repairs.exposed.exposed_between.Goals as goal
+
+pub returns : goal.returns
+returns c =
+    let nodes = c.args.paths.now in
+    let first = c.args.first.now in
+    let second = c.args.second.now in
+    IfOk_then c.is_exposed_question.result (λ told. TellsExposed nodes (numbers_of (question_between first second)) told) c.is_exposed_question.ensures
+    (λ told h. TellsExposed-placed nodes first second c.index-paths-first.result c.index-paths-second.result c.requires.first c.requires.second c.index-paths-first.is c.index-paths-second.is told h)
