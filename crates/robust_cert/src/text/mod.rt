@@ -3,6 +3,7 @@
 pub mod compact;
 pub mod heads;
 pub mod middles;
+pub mod part;
 pub mod reading;
 pub mod seen;
 pub mod shape;

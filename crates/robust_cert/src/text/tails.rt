@@ -7,16 +7,17 @@ ghost use Rattle.robust_cert.specs.Sharing.{reason_at};
 
 use crate::chain::Chain;
 use crate::entries::Reason;
-use crate::text::writing::{push_before, push_chain, push_chains};
-use order_facts::Node;
+use crate::text::part::{JsonPart, push_list};
+use crate::text::writing::push_before;
 use std::alloc::{AllocError, Global};
 
-fn push_apart_tail(text: &mut String, chain: &[Node]) -> Result<(), AllocError>
-    ensures { OnOk result
+fn push_apart_tail(text: &mut String, chain: &Chain) -> Result<(), AllocError>
+    ensures text { OnOk result
         (string_bytes text.new ≡ string_bytes text.old ++ apart_tail_text chain.now) }
+    ensures fits { OnOk result (ChainFits chain.now) }
 {
     text.push_str(",")?;
-    push_chain(text, chain)?;
+    chain.push(text)?;
     text.push_str("]")
 }
 
@@ -33,7 +34,7 @@ fn push_cover_tail(
     text.push_str(",")?;
     push_before(text, mine, ",")?;
     push_before(text, theirs, ",")?;
-    push_chains(text, chains)?;
+    push_list(text, chains)?;
     text.push_str("]")
 }
 
@@ -44,7 +45,7 @@ pub(crate) fn push_tail(text: &mut String, reason: &Reason) -> Result<(), AllocE
     ensures fits { OnOk result (ReasonFits reason.now) }
 {
     match reason {
-        Reason::Apart(chain) => push_apart_tail(text, chain.as_slice()),
+        Reason::Apart(chain) => push_apart_tail(text, chain),
         Reason::Cover {
             mine,
             theirs,

@@ -2,34 +2,28 @@
 
 ghost use Rattle.std.specs.Prelude.{◌≡◌, ◌++◌, ◌==◌, All, IfOk, OnOk, codes, decimal, string_bytes};
 ghost use Rattle.std.specs.List.{list_all};
-ghost use Rattle.robust_cert.specs.Ranges.{IsSmall, ChainFits};
-ghost use Rattle.robust_cert.specs.Json.{node_data, chain_data, entry_data, whole_data, list_data, has_no_bodies, first_data, second_data, certificate_data, certificate_text, QuestionFits, EntryFits, CertificateFits, Appends, shared_text};
+ghost use Rattle.robust_cert.specs.Ranges.{IsSmall};
+ghost use Rattle.robust_cert.specs.Json.{node_data, entry_data, list_data, has_no_bodies, first_data, second_data, certificate_data, certificate_text, QuestionFits, EntryFits, CertificateFits, Appends, shared_text};
 ghost use Rattle.robust_cert.specs.Reading.{IsTextOf};
 ghost use Rattle.robust_cert.specs.Parts.{first_text, head_text, second_text, AreTailsOf, next_entry_text};
 ghost use Rattle.robust_cert.specs.Sharing.{entry_with, reason_at, entry_told, entries_told, IsWithin};
 
 use crate::certificate::{Certificate, Question};
-use crate::chain::Chain;
 use crate::entries::{Entries, Reason, Told};
 use crate::text::heads::Heads;
 use crate::text::middles::Middles;
+use crate::text::part::push_list;
 use crate::text::tails::{push_tail, tail_at, tails_of};
 use itoa::{Buffer, Integer};
 use order_facts::Node;
 use std::alloc::{AllocError, Global};
 
-// Adds the digits of a number, behind a sign where it is negative.
-fn push_number<I: Integer>(text: &mut String, number: I) -> Result<(), AllocError>
+/// Adds the digits of a number, behind a sign where it is negative.
+pub(crate) fn push_number<I: Integer>(text: &mut String, number: I) -> Result<(), AllocError>
     ensures { OnOk result (string_bytes text.new ≡ string_bytes text.old ++ I.text number) }
 {
     let mut digits = Buffer::new();
     text.push_str(digits.format(number))
-}
-
-fn push_whole(text: &mut String, number: u32) -> Result<(), AllocError>
-    ensures { OnOk result (Appends text.old text.new (whole_data number)) }
-{
-    push_number(text, number)
 }
 
 /// Adds a number, and a piece behind it.
@@ -54,7 +48,8 @@ fn push_lettered<I: Integer>(text: &mut String, letter: &str, number: I) -> Resu
     push_before(text, number, "]")
 }
 
-fn push_node(text: &mut String, node: Node) -> Result<(), AllocError>
+/// Adds the text of a node.
+pub(crate) fn push_node(text: &mut String, node: Node) -> Result<(), AllocError>
     ensures { OnOk result (Appends text.old text.new (node_data node)) }
 {
     match node {
@@ -64,37 +59,6 @@ fn push_node(text: &mut String, node: Node) -> Result<(), AllocError>
         Node::TheirsUnknown(index) => push_lettered(text, "[\"v\",", index),
         Node::Number(number) => push_lettered(text, "[\"n\",", number),
     }
-}
-
-pub(crate) fn push_chain(text: &mut String, chain: &[Node]) -> Result<(), AllocError>
-    ensures { OnOk result (Appends text.old text.new (chain_data chain.now)) }
-{
-    let [first, others @ ..] = chain else {
-        return text.push_str("[]");
-    };
-    text.push_str("[")?;
-    push_node(text, *first)?;
-    for node in others {
-        text.push_str(",")?;
-        push_node(text, *node)?;
-    }
-    text.push_str("]")
-}
-
-pub(crate) fn push_chains(text: &mut String, chains: &[Chain]) -> Result<(), AllocError>
-    ensures text { OnOk result (Appends text.old text.new (list_data chain_data chains.now)) }
-    ensures fits { OnOk result (All ChainFits chains.now) }
-{
-    let [first, others @ ..] = chains else {
-        return text.push_str("[]");
-    };
-    text.push_str("[")?;
-    push_chain(text, first.as_slice())?;
-    for chain in others {
-        text.push_str(",")?;
-        push_chain(text, chain.as_slice())?;
-    }
-    text.push_str("]")
 }
 
 /// Adds the kind of an entry, with what stands round it, and the numbers of the first access.
@@ -191,22 +155,6 @@ fn push_entries(text: &mut String, entries: &Entries) -> Result<(), AllocError>
     push_told(text, told, reasons)
 }
 
-fn push_numbers(text: &mut String, numbers: &[u32]) -> Result<(), AllocError>
-    ensures text { OnOk result (Appends text.old text.new (list_data whole_data numbers.now)) }
-    ensures fits { OnOk result (All IsSmall numbers.now) }
-{
-    let [first, others @ ..] = numbers else {
-        return text.push_str("[]");
-    };
-    text.push_str("[")?;
-    push_whole(text, *first)?;
-    for number in others {
-        text.push_str(",")?;
-        push_whole(text, *number)?;
-    }
-    text.push_str("]")
-}
-
 // The members that both versions have, up to the version.
 fn push_shared(text: &mut String, certificate: &Certificate) -> Result<(), AllocError>
     ensures text { OnOk result (string_bytes text.new
@@ -217,7 +165,7 @@ fn push_shared(text: &mut String, certificate: &Certificate) -> Result<(), Alloc
     text.push_str("\"entries\":")?;
     push_entries(text, &certificate.entries)?;
     text.push_str(",\"levels\":")?;
-    push_numbers(text, certificate.levels.as_slice())
+    push_list(text, certificate.levels.as_slice())
 }
 
 fn push_first(text: &mut String, certificate: &Certificate) -> Result<(), AllocError>
@@ -235,7 +183,7 @@ fn push_second(text: &mut String, certificate: &Certificate) -> Result<(), Alloc
     ensures fits { OnOk result (CertificateFits certificate.now) }
 {
     text.push_str("{\"bodies\":")?;
-    push_numbers(text, certificate.bodies.as_slice())?;
+    push_list(text, certificate.bodies.as_slice())?;
     text.push_str(",")?;
     push_shared(text, certificate)?;
     text.push_str(",\"version\":2}")

@@ -1,8 +1,0 @@
-use Rattle.std.proofs.Common.{◌≡◌, ◌++◌, OnOk, string_bytes, subst, arith}
-use Rattle.std.proofs.lemmas.Grind.{common_steps}
-use Rattle.robust_cert.specs.Json.{node_data}
-use Rattle.robust_cert.proofs.Texts.{bracketed_lem}
-use Rattle.robust_cert.proofs.text.writing.push_chain.Goals as goal
-
-pub returns : goal.returns
-returns c = subst (λ s. OnOk c.push_str-3.result (string_bytes c.push_str-3.new.self ≡ string_bytes c.args.text.now ++ s)) (bracketed_lem node_data c.args.chain.now) (grind (arith, common_steps))
