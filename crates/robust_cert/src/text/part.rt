@@ -1,14 +1,19 @@
 //! The parts of a certificate's text that stand in lists, and these lists.
 
-ghost use Rattle.std.specs.Prelude.{All, OnOk};
+ghost use Rattle.std.specs.Prelude.{◌≡◌, ◌≢◌, List, All, Err, IfOk, OnOk};
 ghost use Rattle.serde_json.specs.Data.{Data};
+ghost use Rattle.serde_json.specs.View.{view};
 ghost use Rattle.robust_cert.specs.Ranges.{IsSmall, NodeFits, ChainFits};
 ghost use Rattle.robust_cert.specs.Json.{whole_data, node_data, chain_data, list_data, Appends};
 
 use crate::chain::Chain;
+use crate::fault::Untaken;
+use crate::text::shape::{node_of, small_of};
 use crate::text::writing::{push_node, push_number};
 use order_facts::Node;
-use std::alloc::AllocError;
+use prog_tree::Sequence;
+use serde_json::Value;
+use std::alloc::{AllocError, Global};
 
 /// A part of a certificate's text.
 pub(crate) trait JsonPart: Drop {
@@ -26,6 +31,12 @@ pub(crate) trait JsonPart: Drop {
         requires { can_push self.now }
         ensures text { OnOk result (Appends text.old text.new (json self.now)) }
         ensures fits { OnOk result (fits self.now) };
+
+    /// The part of a JSON value.
+    fn from_value(alloc: Global, value: &Value) -> Result<Self, Untaken>
+        ensures ok { IfOk result (λ part. fits part × (view value.now ≡ json part)) }
+        ensures misshapen { result ≡ Err Untaken.Misshapen
+            → (part : Self) → fits part → view value.now ≢ json part };
 }
 
 impl JsonPart for u32 {
@@ -35,6 +46,13 @@ impl JsonPart for u32 {
 
     fn push(&self, text: &mut String) -> Result<(), AllocError> {
         push_number(text, *self)
+    }
+
+    fn from_value(_: Global, value: &Value) -> Result<Self, Untaken> {
+        let Some(number) = small_of(value) else {
+            return Err(Untaken::Misshapen);
+        };
+        Ok(number)
     }
 }
 
@@ -48,6 +66,13 @@ impl JsonPart for Node {
     fn push(&self, text: &mut String) -> Result<(), AllocError> {
         push_node(text, *self)
     }
+
+    fn from_value(_: Global, value: &Value) -> Result<Self, Untaken> {
+        let Some(node) = node_of(value) else {
+            return Err(Untaken::Misshapen);
+        };
+        Ok(node)
+    }
 }
 
 impl JsonPart for Chain {
@@ -57,6 +82,14 @@ impl JsonPart for Chain {
 
     fn push(&self, text: &mut String) -> Result<(), AllocError> {
         push_list(text, self.as_slice())
+    }
+
+    fn from_value(alloc: Global, value: &Value) -> Result<Self, Untaken> {
+        let nodes = list_of::<Node>(alloc, value)?;
+        match Chain::from_vec(nodes.into_vec()) {
+            Some(chain) => Ok(chain),
+            None => unreachable!(),
+        }
     }
 }
 
@@ -76,4 +109,21 @@ pub(crate) fn push_list<T: JsonPart>(text: &mut String, parts: &[T]) -> Result<(
         part.push(text)?;
     }
     text.push_str("]")
+}
+
+/// The list of a JSON value.
+pub(crate) fn list_of<T: JsonPart>(alloc: Global, value: &Value) -> Result<Sequence<T>, Untaken>
+    ensures ok { IfOk result (λ parts. All T.fits parts
+        × (view value.now ≡ list_data T.json parts)) }
+    ensures misshapen { result ≡ Err Untaken.Misshapen
+        → (parts : List T) → All T.fits parts → view value.now ≢ list_data T.json parts }
+{
+    let Value::Array(items) = value else {
+        return Err(Untaken::Misshapen);
+    };
+    let mut parts = Vec::with_capacity(alloc, items.len())?;
+    for item in items {
+        parts.push(T::from_value(alloc, item)?)?;
+    }
+    Ok(Sequence::from_vec(parts))
 }

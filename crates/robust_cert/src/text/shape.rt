@@ -10,7 +10,7 @@ ghost use Rattle.robust_cert.specs.declared.certificate.Question.{Question};
 ghost use Rattle.robust_cert.specs.declared.certificate.Entry.{Entry};
 ghost use Rattle.robust_cert.specs.declared.entries.Reason.{Reason};
 ghost use Rattle.robust_cert.specs.Ranges.{IsSmall, NodeFits, ChainFits};
-ghost use Rattle.robust_cert.specs.Json.{whole_data, node_data, chain_data, QuestionFits, list_data, entry_data, EntryFits, apart_items, cover_items, AreNumbersOf, IsWordedAs};
+ghost use Rattle.robust_cert.specs.Json.{whole_data, node_data, QuestionFits, list_data, entry_data, EntryFits, apart_items, cover_items, AreNumbersOf, IsWordedAs};
 ghost use Rattle.robust_cert.specs.Parts.{ReasonFits};
 ghost use Rattle.robust_cert.specs.Sharing.{entry_with};
 
@@ -18,8 +18,8 @@ use crate::certificate::Question;
 use crate::chain::Chain;
 use crate::entries::{Entries, Reason};
 use crate::fault::Untaken;
+use crate::text::part::{JsonPart, list_of};
 use order_facts::Node;
-use prog_tree::Sequence;
 use serde_json::Value;
 use std::alloc::Global;
 
@@ -47,7 +47,8 @@ fn integer_of(value: &Value) -> Option<i64>
     value.as_i64()
 }
 
-fn node_of(value: &Value) -> Option<Node>
+/// A node, which is a letter and a number.
+pub fn node_of(value: &Value) -> Option<Node>
     ensures some { IfSome result (λ node. NodeFits node × (view value.now ≡ node_data node)) }
     ensures none { IfNone result ((node : Node) → NodeFits node → view value.now ≢ node_data node) }
 {
@@ -62,44 +63,6 @@ fn node_of(value: &Value) -> Option<Node>
         "n" => Some(Node::Number(integer_of(number)?)),
         _ => None,
     }
-}
-
-fn chain_of(alloc: Global, value: &Value) -> Result<Chain, Untaken>
-    ensures ok { IfOk result (λ chain. ChainFits chain × (view value.now ≡ chain_data chain)) }
-    ensures misshapen { result ≡ Err Untaken.Misshapen
-        → (chain : List Node) → ChainFits chain → view value.now ≢ chain_data chain }
-{
-    let Value::Array(items) = value else {
-        return Err(Untaken::Misshapen);
-    };
-    let mut nodes = Vec::with_capacity(alloc, items.len())?;
-    for item in items {
-        let Some(node) = node_of(item) else {
-            return Err(Untaken::Misshapen);
-        };
-        nodes.push(node)?;
-    }
-    match Chain::from_vec(nodes) {
-        Some(chain) => Ok(chain),
-        None => unreachable!(),
-    }
-}
-
-fn chains_of(alloc: Global, value: &Value) -> Result<Sequence<Chain>, Untaken>
-    ensures ok { IfOk result (λ chains. All ChainFits chains
-        × (view value.now ≡ list_data chain_data chains)) }
-    ensures misshapen { result ≡ Err Untaken.Misshapen
-        → (chains : List (List Node)) → All ChainFits chains
-        → view value.now ≢ list_data chain_data chains }
-{
-    let Value::Array(items) = value else {
-        return Err(Untaken::Misshapen);
-    };
-    let mut chains = Vec::with_capacity(alloc, items.len())?;
-    for item in items {
-        chains.push(chain_of(alloc, item)?)?;
-    }
-    Ok(Sequence::from_vec(chains))
 }
 
 fn question_of(x: &Value, a: &Value, y: &Value, b: &Value) -> Option<Question>
@@ -125,7 +88,7 @@ fn apart_of(alloc: Global, items: &[Value]) -> Result<Reason, Untaken>
     let [chain] = items else {
         return Err(Untaken::Misshapen);
     };
-    let chain = chain_of(alloc, chain)?;
+    let chain = Chain::from_value(alloc, chain)?;
     Ok(Reason::Apart(chain))
 }
 
@@ -142,7 +105,7 @@ fn cover_of(alloc: Global, items: &[Value]) -> Result<Reason, Untaken>
     let (Some(mine), Some(theirs)) = (small_of(mine), small_of(theirs)) else {
         return Err(Untaken::Misshapen);
     };
-    let chains = chains_of(alloc, chains)?;
+    let chains = list_of(alloc, chains)?;
     Ok(Reason::Cover {
         mine,
         theirs,
@@ -207,25 +170,4 @@ pub fn entries_of(alloc: Global, items: Vec<Value>) -> Result<Entries, Untaken>
         entries.push(question, reason)?;
     }
     Ok(entries)
-}
-
-/// Whole numbers below 2^32, as levels are.
-pub fn numbers_of(alloc: Global, value: &Value) -> Result<Sequence<u32>, Untaken>
-    ensures ok { IfOk result (λ numbers. All IsSmall numbers
-        × (view value.now ≡ list_data whole_data numbers)) }
-    ensures misshapen { result ≡ Err Untaken.Misshapen
-        → (numbers : List ℕ) → All IsSmall numbers
-        → view value.now ≢ list_data whole_data numbers }
-{
-    let Value::Array(items) = value else {
-        return Err(Untaken::Misshapen);
-    };
-    let mut numbers = Vec::with_capacity(alloc, items.len())?;
-    for item in items {
-        let Some(number) = small_of(item) else {
-            return Err(Untaken::Misshapen);
-        };
-        numbers.push(number)?;
-    }
-    Ok(Sequence::from_vec(numbers))
 }

@@ -10,7 +10,8 @@ ghost use Rattle.robust_cert.specs.Reading.{version_of, number_of, IsShared, IsN
 use crate::certificate::Certificate;
 use crate::entries::Entries;
 use crate::fault::Untaken;
-use crate::text::shape::{entries_of, numbers_of};
+use crate::text::part::list_of;
+use crate::text::shape::entries_of;
 use crate::text::version::Version;
 use prog_tree::Sequence;
 use serde_json::{Map, Value};
@@ -64,7 +65,7 @@ fn shared_of(
         return Err(Untaken::Misshapen);
     };
     let entries = entries_of(alloc, entries)?;
-    let levels = numbers_of(alloc, &levels)?;
+    let levels = list_of(alloc, &levels)?;
     Ok((entries, levels))
 }
 
@@ -100,7 +101,7 @@ fn second_of(alloc: Global, mut members: Map<String, Value>) -> Result<Certifica
     let Some(bodies) = take_member(&mut members, "bodies") else {
         return Err(Untaken::Misshapen);
     };
-    let bodies = numbers_of(alloc, &bodies)?;
+    let bodies = list_of(alloc, &bodies)?;
     let (entries, levels) = shared_of(alloc, members)?;
     Ok(Certificate {
         entries,
