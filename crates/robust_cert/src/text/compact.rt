@@ -7,15 +7,16 @@ use crate::certificate::{Certificate, Question};
 use crate::chain::Chain;
 use crate::entries::{Entries, Reason};
 use crate::fault::Untaken;
+use crate::text::part::JsonPart;
 use crate::text::seen::Seen;
 use crate::text::whole::no_bodies;
 use order_facts::{Node, Nodes};
 use prog_tree::Sequence;
 use std::alloc::Global;
 
-// What is still to be read.
+/// What is still to be read.
 #[derive(Drop)]
-struct Cursor<'a> {
+pub(crate) struct Cursor<'a> {
     alloc: Global,
     rest: &'a [u8],
 }
@@ -68,7 +69,7 @@ impl<'a> Cursor<'a> {
         Err(Untaken::Misshapen)
     }
 
-    fn small(&mut self) -> Result<u32, Untaken> {
+    pub(crate) fn small(&mut self) -> Result<u32, Untaken> {
         u32::try_from(self.digits()?).map_err(|_| Untaken::Misshapen)
     }
 
@@ -96,7 +97,7 @@ impl<'a> Cursor<'a> {
         Ok(*letter)
     }
 
-    fn node(&mut self) -> Result<Node, Untaken> {
+    pub(crate) fn node(&mut self) -> Result<Node, Untaken> {
         let node = match self.letter()? {
             b'm' => Node::Mine(self.small()? as usize),
             b'u' => Node::MineUnknown(self.small()? as usize),
@@ -122,20 +123,14 @@ impl<'a> Cursor<'a> {
         self.nodes_behind(first, second)
     }
 
-    // Reads the nodes behind two. Each item of a list takes a byte at least, so as many turns as
-    // bytes are left are enough.
+    // Reads the nodes behind two.
     fn nodes_behind(&mut self, first: Node, second: Node) -> Result<Nodes, Untaken> {
         let mut nodes = Vec::from_slice(self.alloc, &[first, second])?;
-        for _turn in 0..self.rest.len() {
-            nodes.push(self.node()?)?;
-            if !self.has_more()? {
-                return Ok(Nodes::from_vec(nodes));
-            }
-        }
-        Err(Untaken::Misshapen)
+        self.parts(&mut nodes)?;
+        Ok(Nodes::from_vec(nodes))
     }
 
-    fn chain(&mut self) -> Result<Chain, Untaken> {
+    pub(crate) fn chain(&mut self) -> Result<Chain, Untaken> {
         if self.eat(b"[]") {
             return chain_of(Nodes::from_vec(Vec::new(self.alloc)));
         }
@@ -143,19 +138,27 @@ impl<'a> Cursor<'a> {
         chain_of(self.nodes()?)
     }
 
-    fn chains(&mut self) -> Result<Sequence<Chain>, Untaken> {
-        if self.eat(b"[]") {
-            return Ok(Sequence::from_vec(Vec::new(self.alloc)));
-        }
-        self.expect(b"[")?;
-        let mut chains = Vec::with_capacity(self.alloc, 2)?;
+    // Reads parts up to the end of their list. Each takes a byte at least, so as many turns as
+    // bytes are left are enough.
+    fn parts<T: JsonPart>(&mut self, parts: &mut Vec<T>) -> Result<(), Untaken> {
         for _turn in 0..self.rest.len() {
-            chains.push(self.chain()?)?;
+            parts.push(T::read(self)?)?;
             if !self.has_more()? {
-                return Ok(Sequence::from_vec(chains));
+                return Ok(());
             }
         }
         Err(Untaken::Misshapen)
+    }
+
+    // Reads a list. In a table with one key column the chains of a cover are two.
+    fn list<T: JsonPart>(&mut self) -> Result<Sequence<T>, Untaken> {
+        if self.eat(b"[]") {
+            return Ok(Sequence::new(self.alloc));
+        }
+        self.expect(b"[")?;
+        let mut parts = Vec::with_capacity(self.alloc, 2)?;
+        self.parts(&mut parts)?;
+        Ok(Sequence::from_vec(parts))
     }
 
     fn question(&mut self) -> Result<Question, Untaken> {
@@ -207,7 +210,7 @@ impl<'a> Cursor<'a> {
         Ok(Reason::Cover {
             mine: self.small_before_comma()?,
             theirs: self.small_before_comma()?,
-            chains: self.chains()?,
+            chains: self.list()?,
         })
     }
 
@@ -227,27 +230,12 @@ impl<'a> Cursor<'a> {
         Err(Untaken::Misshapen)
     }
 
-    fn numbers(&mut self) -> Result<Sequence<u32>, Untaken> {
-        let mut numbers = Vec::new(self.alloc);
-        if self.eat(b"[]") {
-            return Ok(Sequence::from_vec(numbers));
-        }
-        self.expect(b"[")?;
-        for _turn in 0..self.rest.len() {
-            numbers.push(self.small()?)?;
-            if !self.has_more()? {
-                return Ok(Sequence::from_vec(numbers));
-            }
-        }
-        Err(Untaken::Misshapen)
-    }
-
     // Reads the entries and the levels, with their names.
     fn shared(&mut self) -> Result<(Entries, Sequence<u32>), Untaken> {
         self.expect(b"\"entries\":")?;
         let entries = self.entries()?;
         self.expect(b",\"levels\":")?;
-        let levels = self.numbers()?;
+        let levels = self.list()?;
         Ok((entries, levels))
     }
 
@@ -274,7 +262,7 @@ impl<'a> Cursor<'a> {
 
     fn second(&mut self) -> Result<Certificate, Untaken> {
         self.expect(b"{\"bodies\":")?;
-        let bodies = self.numbers()?;
+        let bodies = self.list()?;
         self.expect(b",")?;
         let (entries, levels) = self.shared()?;
         self.end()?;

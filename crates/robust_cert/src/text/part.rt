@@ -8,6 +8,7 @@ ghost use Rattle.robust_cert.specs.Json.{whole_data, node_data, chain_data, list
 
 use crate::chain::Chain;
 use crate::fault::Untaken;
+use crate::text::compact::Cursor;
 use crate::text::shape::{node_of, small_of};
 use crate::text::writing::{push_node, push_number};
 use order_facts::Node;
@@ -37,6 +38,9 @@ pub(crate) trait JsonPart: Drop {
         ensures ok { IfOk result (λ part. fits part × (view value.now ≡ json part)) }
         ensures misshapen { result ≡ Err Untaken.Misshapen
             → (part : Self) → fits part → view value.now ≢ json part };
+
+    /// The part that comes next in the very text that `push` adds. Nothing is promised of it.
+    fn read(cursor: &mut Cursor<'_>) -> Result<Self, Untaken>;
 }
 
 impl JsonPart for u32 {
@@ -53,6 +57,10 @@ impl JsonPart for u32 {
             return Err(Untaken::Misshapen);
         };
         Ok(number)
+    }
+
+    fn read(cursor: &mut Cursor<'_>) -> Result<Self, Untaken> {
+        cursor.small()
     }
 }
 
@@ -73,6 +81,10 @@ impl JsonPart for Node {
         };
         Ok(node)
     }
+
+    fn read(cursor: &mut Cursor<'_>) -> Result<Self, Untaken> {
+        cursor.node()
+    }
 }
 
 impl JsonPart for Chain {
@@ -90,6 +102,10 @@ impl JsonPart for Chain {
             Some(chain) => Ok(chain),
             None => unreachable!(),
         }
+    }
+
+    fn read(cursor: &mut Cursor<'_>) -> Result<Self, Untaken> {
+        cursor.chain()
     }
 }
 
