@@ -17,7 +17,8 @@ use Rattle.prog_check.specs.Paths.{Route, statement_count, no_steps, passing, bo
 use Rattle.prog_check.specs.Uses.{as_count}
 use Rattle.prog_paths.specs.Trails.{unknown_behind}
 use Rattle.prog_paths.specs.Choices.{choices_behind, choices_by, choices_taken}
-use Rattle.prog_paths.proofs.Segments.{IsMember, member_left, member_right, Segment, segment_none, segment_join}
+use Rattle.prog_paths.proofs.Elements.{IsMember, member_left, member_right, member_map}
+use Rattle.prog_paths.proofs.Segments.{Segment, segment_none, segment_join}
 use Rattle.prog_paths.proofs.Numbers.{AllI64, BlockFits}
 use Rattle.prog_paths.proofs.Ranges.{EnvOfI64, all_append, Ranged, TurnsOfI64, listed_i64}
 use Rattle.prog_paths.proofs.Walking.{unknown_append, accesses_append}
@@ -25,12 +26,7 @@ use Rattle.prog_paths.proofs.Parts.{then_goes, value_goes, seen_in, listed, Did,
 use Rattle.prog_paths.proofs.Rounds.{Turned, close_env, rounds, by_turns, passed_counts, zeros, zeros_i64, zeros_length}
 use Rattle.prog_paths.proofs.Values.{Agrees, agrees_first, agrees_behind, EnvFits, assigned, BlockSound, RemovesPlain}
 
--- ---- members of maps and of routes one behind the other
-
-pub member_map : {A B : Type 0} (f : A → B) (x : A) (xs : List A) → IsMember x xs → IsMember (f x) (map f xs)
-member_map f x [] h = absurd h
-member_map f x (y ∷ xs) (inl e) = inl (ap f e)
-member_map f x (y ∷ xs) (inr h) = inr (member_map f x xs h)
+-- ---- routes one behind the other
 
 member_followed : (route later : Route) (xs ys : List Route) → IsMember route xs → IsMember later ys → IsMember (joined route later) (followed_by xs ys)
 member_followed route later [] ys h k = absurd h

@@ -1,8 +1,9 @@
--- Elements of lists: at a place, behind a map, passing a test.
-use Rattle.std.proofs.Common.{◌≡◌, ℕ, ◌⊎◌, inl, inr, Bool, true, List, [], ◌∷◌, map, refl, sym, subst, ap, ◌∙◌, arith, zero, suc, Contains, Some}
-use Rattle.std.specs.Prelude.{slice_get}
+-- Elements of lists: at a place, behind a map, passing a test, and by recursion.
+use Rattle.std.proofs.Common.{◌≡◌, ℕ, ◌⊎◌, inl, inr, Bool, true, List, [], ◌∷◌, ◌++◌, map, refl, sym, subst, ap, ◌∙◌, arith, zero, suc, Contains, Some}
+use Rattle.std.specs.Prelude.{slice_get, All}
 use Rattle.std.specs.List.{list_any}
 use Rattle.std.proofs.lemmas.Bool.{false≢true, or_cases}
+use Rattle.std.proofs.lemmas.List.Elements.{All-contains}
 use Rattle.std.proofs.lemmas.List.Folds.{list_any_at}
 use Rattle.std.proofs.lemmas.Option.{none-some, same_Some, slice_get_within, get_or_from_slice_get, slice_get-get_or}
 
@@ -44,3 +45,50 @@ any_in {A = A} p (x ∷ xs) h = go (or_cases (p x) _ h) (λ t. any_in p xs t)
 
 pub in_any : {A : Type 0} (p : A → Bool) (xs : List A) (x : A) → Contains xs x → p x ≡ true → list_any p xs ≡ true
 in_any {A = A} p xs x (k, lt, is) h = list_any_at p xs k x lt (subst (λ (y : A). p y ≡ true) (sym is) h)
+
+-- ---- by recursion, for proofs that go along the list
+
+abbrev pub IsMember : {A : Type 0} → A → List A → Type 0
+IsMember x [] = ⊥
+IsMember x (y ∷ ys) = (y ≡ x) ⊎ IsMember x ys
+
+pub member_from_contains : {A : Type 0} (xs : List A) (x : A) → Contains xs x → IsMember x xs
+member_from_contains [] x (k, lt, is) = absurd (omega (arith, lt))
+member_from_contains (y ∷ xs) x (zero, lt, is) = inl is
+member_from_contains (y ∷ xs) x (suc k, lt, is) = inr (member_from_contains xs x (k, omega (arith, lt), is))
+
+pub contains_from_member : {A : Type 0} (xs : List A) (x : A) → IsMember x xs → Contains xs x
+contains_from_member [] x h = absurd h
+contains_from_member (y ∷ xs) x (inl e) = (zero, omega arith, e)
+contains_from_member (y ∷ xs) x (inr h) = later y x xs (contains_from_member xs x h)
+
+pub member_all : {A : Type 0} (P : A → Type 0) (xs : List A) (x : A) → All P xs → IsMember x xs → P x
+member_all P xs x all h = All-contains P xs x all (contains_from_member xs x h)
+
+pub member_left : {A : Type 0} (x : A) (xs ys : List A) → IsMember x xs → IsMember x (xs ++ ys)
+member_left x [] ys h = absurd h
+member_left x (y ∷ xs) ys (inl e) = inl e
+member_left x (y ∷ xs) ys (inr h) = inr (member_left x xs ys h)
+
+pub member_right : {A : Type 0} (x : A) (xs ys : List A) → IsMember x ys → IsMember x (xs ++ ys)
+member_right x [] ys h = h
+member_right x (y ∷ xs) ys h = inr (member_right x xs ys h)
+
+pub member_either : {A : Type 0} (x : A) (xs ys : List A) → IsMember x (xs ++ ys) → IsMember x xs ⊎ IsMember x ys
+member_either x [] ys h = inr h
+member_either x (y ∷ xs) ys (inl e) = inl (inl e)
+member_either {A = A} x (y ∷ xs) ys (inr h) = go (member_either x xs ys h)
+  where
+    go : IsMember x xs ⊎ IsMember x ys → IsMember x (y ∷ xs) ⊎ IsMember x ys
+    go (inl k) = inl (inr k)
+    go (inr k) = inr k
+
+pub member_map : {A B : Type 0} (f : A → B) (x : A) (xs : List A) → IsMember x xs → IsMember (f x) (map f xs)
+member_map f x [] h = absurd h
+member_map f x (y ∷ xs) (inl e) = inl (ap f e)
+member_map f x (y ∷ xs) (inr h) = inr (member_map f x xs h)
+
+pub member_mapped : {A B : Type 0} (f : A → B) (xs : List A) (y : B) → IsMember y (map f xs) → (x : A) × IsMember x xs × (f x ≡ y)
+member_mapped f [] y h = absurd h
+member_mapped f (x ∷ xs) y (inl e) = (x, inl refl, e)
+member_mapped f (x ∷ xs) y (inr h) = let r = member_mapped f xs y h in (r.0, inr r.1, r.2)

@@ -1,8 +1,7 @@
 -- Which questions stand in the list of all questions.
-use Rattle.std.proofs.Common.{◌≡◌, ℕ, ◌<◌, ◌+◌, ◌⊎◌, inl, inr, Bool, true, false, ◌||◌, ◌&&◌, List, [], ◌∷◌, ◌++◌, length, get_or, refl, sym, subst, ap, ◌∙◌, arith, zero, suc, Contains}
-use Rattle.std.specs.Prelude.{Some, slice_get, All, if◌then◌else◌, nat_lt, nat_le, ◌==◌}
+use Rattle.std.proofs.Common.{◌≡◌, ℕ, ◌+◌, ◌⊎◌, inl, inr, Bool, true, false, ◌||◌, ◌&&◌, List, [], ◌∷◌, ◌++◌, refl, sym, subst, ap, ◌∙◌, arith, zero, suc}
+use Rattle.std.specs.Prelude.{Some, slice_get, if◌then◌else◌, nat_lt, nat_le, ◌==◌}
 use Rattle.std.proofs.lemmas.Bool.{false≢true, eqb-true, eq-eqb, ltb-true, lt-ltb, leb-true, le-leb, and_from, and_parts, or_cases, or_left, or_right}
-use Rattle.std.proofs.lemmas.List.Elements.{All-head, All-tail}
 use Rattle.std.proofs.lemmas.Option.{none-some, same_Some}
 use Rattle.prog_check.specs.declared.path.Kind.{Kind}
 use Rattle.prog_check.specs.declared.path.Kind.TheVariants.{Reads, Sees, Lacks, Writes, Adds}
@@ -16,102 +15,61 @@ use Rattle.prog_paths.specs.Asked.{numbers_of}
 use Rattle.prog_paths.specs.Places.{IsAt}
 use Rattle.prog_paths.specs.Listing.{IsAskedOf, LawOfListing}
 use Rattle.prog_paths.proofs.Asked.{placed, all_places_stand}
-
--- ---- membership by recursion
-
-abbrev In : {A : Type 0} → A → List A → Type 0
-In x [] = ⊥
-In x (y ∷ ys) = (y ≡ x) ⊎ In x ys
-
-In-from_Contains : (qs : List Asked) (q : Asked) → Contains qs q → In q qs
-In-from_Contains qs q c = go qs c.0 c.1 c.2
-  where
-    go : (rest : List Asked) (k : ℕ) → k < length rest → get_or rest k q ≡ q → In q rest
-    go [] k h e = absurd (omega arith)
-    go (r ∷ rest) zero h e = inl e
-    go (r ∷ rest) (suc k) h e = inr (go rest k (omega arith) e)
-
-Contains-from_In : (qs : List Asked) (q : Asked) → In q qs → Contains qs q
-Contains-from_In [] q i = absurd i
-Contains-from_In (r ∷ qs) q (inl e) = (zero, omega arith, e)
-Contains-from_In (r ∷ qs) q (inr i) = let c = Contains-from_In qs q i in (suc c.0, omega (arith, c.1), c.2)
-
-In-left : {A : Type 0} (x : A) (xs ys : List A) → In x xs → In x (xs ++ ys)
-In-left x [] ys i = absurd i
-In-left x (y ∷ xs) ys (inl e) = inl e
-In-left x (y ∷ xs) ys (inr i) = inr (In-left x xs ys i)
-
-In-right : {A : Type 0} (x : A) (xs ys : List A) → In x ys → In x (xs ++ ys)
-In-right x [] ys i = i
-In-right x (y ∷ xs) ys i = inr (In-right x xs ys i)
-
-In-split : {A : Type 0} (x : A) (xs ys : List A) → In x (xs ++ ys) → In x xs ⊎ In x ys
-In-split x [] ys i = inr i
-In-split x (y ∷ xs) ys (inl e) = inl (inl e)
-In-split x (y ∷ xs) ys (inr i) = go (In-split x xs ys i)
-  where
-    go : In x xs ⊎ In x ys → In x (y ∷ xs) ⊎ In x ys
-    go (inl k) = inl (inr k)
-    go (inr k) = inr k
-
-All-in : {A : Type 0} (P : A → Type 0) (xs : List A) (x : A) → All P xs → In x xs → P x
-All-in P [] x h i = absurd i
-All-in P (y ∷ xs) x h (inl e) = subst P e (All-head P y xs h)
-All-in P (y ∷ xs) x h (inr i) = All-in P xs x (All-tail P y xs h) i
+use Rattle.prog_paths.proofs.Elements.{IsMember, member_from_contains, contains_from_member, member_all, member_left, member_right, member_either}
 
 -- ---- what is asked
 
-into_if : (b : Bool) (q x : Asked) (l : List Asked) → In q l → In q (if b then x ∷ l else l)
+into_if : (b : Bool) (q x : Asked) (l : List Asked) → IsMember q l → IsMember q (if b then x ∷ l else l)
 into_if true q x l i = inr i
 into_if false q x l i = i
 
-first_if : (b : Bool) (q x : Asked) (l : List Asked) → b ≡ true → x ≡ q → In q (if b then x ∷ l else l)
+first_if : (b : Bool) (q x : Asked) (l : List Asked) → b ≡ true → x ≡ q → IsMember q (if b then x ∷ l else l)
 first_if true q x l h e = inl e
 first_if false q x l h e = absurd (false≢true h)
 
-out_of_if : (b : Bool) (q x : Asked) (l : List Asked) → In q (if b then x ∷ l else l) → ((b ≡ true) × (x ≡ q)) ⊎ In q l
+out_of_if : (b : Bool) (q x : Asked) (l : List Asked) → IsMember q (if b then x ∷ l else l) → ((b ≡ true) × (x ≡ q)) ⊎ IsMember q l
 out_of_if true q x l (inl e) = inl (refl, e)
 out_of_if true q x l (inr i) = inr i
 out_of_if false q x l i = inr i
 
-into_by : (first second : Placed) (seconds : List Placed) → asks first second ≡ true → In second seconds → In (question_between first second) (asked_by first seconds)
+into_by : (first second : Placed) (seconds : List Placed) → asks first second ≡ true → IsMember second seconds → IsMember (question_between first second) (asked_by first seconds)
 into_by first second [] h i = absurd i
 into_by first second (s ∷ rest) h (inl e) = first_if (asks first s) _ _ (asked_by first rest) (ap (asks first) e ∙ h) (ap (question_between first) e)
 into_by first second (s ∷ rest) h (inr i) = into_if (asks first s) _ _ (asked_by first rest) (into_by first second rest h i)
 
 -- one that some place of a list is asked about
 abbrev IsBy : Placed → List Placed → Asked → Type 0
-IsBy first seconds q = (second : Placed) × In second seconds × (asks first second ≡ true) × (question_between first second ≡ q)
+IsBy first seconds q = (second : Placed) × IsMember second seconds × (asks first second ≡ true) × (question_between first second ≡ q)
 
-out_of_by : (first : Placed) (seconds : List Placed) (q : Asked) → In q (asked_by first seconds) → IsBy first seconds q
+out_of_by : (first : Placed) (seconds : List Placed) (q : Asked) → IsMember q (asked_by first seconds) → IsBy first seconds q
 out_of_by first [] q i = absurd i
 out_of_by first (s ∷ rest) q i = go (out_of_if (asks first s) q (question_between first s) (asked_by first rest) i) (λ k. out_of_by first rest q k)
   where
-    go : ((asks first s ≡ true) × (question_between first s ≡ q)) ⊎ In q (asked_by first rest) → (In q (asked_by first rest) → IsBy first rest q) → IsBy first (s ∷ rest) q
+    go : ((asks first s ≡ true) × (question_between first s ≡ q)) ⊎ IsMember q (asked_by first rest) → (IsMember q (asked_by first rest) → IsBy first rest q) → IsBy first (s ∷ rest) q
     go (inl h) later = (s, inl refl, h.0, h.1)
     go (inr k) later = let w = later k in (w.0, inr w.1, w.2, w.3)
 
-into_among : (firsts seconds : List Placed) (first second : Placed) → In first firsts → In second seconds → asks first second ≡ true → In (question_between first second) (asked_among firsts seconds)
+into_among : (firsts seconds : List Placed) (first second : Placed) → IsMember first firsts → IsMember second seconds → asks first second ≡ true → IsMember (question_between first second) (asked_among firsts seconds)
 into_among [] seconds first second i j h = absurd i
 into_among (f ∷ firsts) seconds first second (inl e) j h =
-    subst (λ (g : Placed). In (question_between first second) (asked_by g seconds ++ asked_among firsts seconds)) (sym e)
-    (In-left _ (asked_by first seconds) (asked_among firsts seconds) (into_by first second seconds h j))
-into_among (f ∷ firsts) seconds first second (inr i) j h = In-right _ (asked_by f seconds) (asked_among firsts seconds) (into_among firsts seconds first second i j h)
+    subst (λ (g : Placed). IsMember (question_between first second) (asked_by g seconds ++ asked_among firsts seconds)) (sym e)
+    (member_left _ (asked_by first seconds) (asked_among firsts seconds) (into_by first second seconds h j))
+into_among (f ∷ firsts) seconds first second (inr i) j h = member_right _ (asked_by f seconds) (asked_among firsts seconds) (into_among firsts seconds first second i j h)
 
 abbrev IsAmong : List Placed → List Placed → Asked → Type 0
-IsAmong firsts seconds q = (first : Placed) × In first firsts × IsBy first seconds q
+IsAmong firsts seconds q = (first : Placed) × IsMember first firsts × IsBy first seconds q
 
-out_of_among : (firsts seconds : List Placed) (q : Asked) → In q (asked_among firsts seconds) → IsAmong firsts seconds q
+out_of_among : (firsts seconds : List Placed) (q : Asked) → IsMember q (asked_among firsts seconds) → IsAmong firsts seconds q
 out_of_among [] seconds q i = absurd i
-out_of_among (f ∷ firsts) seconds q i = go (In-split q (asked_by f seconds) (asked_among firsts seconds) i) (λ k. out_of_among firsts seconds q k)
+out_of_among (f ∷ firsts) seconds q i = go (member_either q (asked_by f seconds) (asked_among firsts seconds) i) (λ k. out_of_among firsts seconds q k)
   where
-    go : In q (asked_by f seconds) ⊎ In q (asked_among firsts seconds) → (In q (asked_among firsts seconds) → IsAmong firsts seconds q) → IsAmong (f ∷ firsts) seconds q
+    go : IsMember q (asked_by f seconds) ⊎ IsMember q (asked_among firsts seconds) → (IsMember q (asked_among firsts seconds) → IsAmong firsts seconds q) → IsAmong (f ∷ firsts) seconds q
     go (inl k) later = (f, inl refl, out_of_by f seconds q k)
     go (inr k) later = let w = later k in (w.0, inr w.1, w.2)
 
 -- ---- all places
 
-in_node : (node n : ℕ) (xs : List Access) (i : ℕ) (a : Access) → slice_get xs i ≡ Some a → In (placed node (n + i) a) (placed_from node n xs)
+pub in_node : (node n : ℕ) (xs : List Access) (i : ℕ) (a : Access) → slice_get xs i ≡ Some a → IsMember (placed node (n + i) a) (placed_from node n xs)
 in_node node n [] i a e = absurd (none-some a e)
 in_node node n (x ∷ xs) zero a e =
     let z : n ≡ n + 0 = omega arith in
@@ -119,26 +77,26 @@ in_node node n (x ∷ xs) zero a e =
     inl (λ k. placed node (z k) (s k))
 in_node node n (x ∷ xs) (suc i) a e =
     let z : n + 1 + i ≡ n + suc i = omega arith in
-    inr (subst (λ (k : ℕ). In (placed node k a) (placed_from node (n + 1) xs)) z (in_node node (n + 1) xs i a e))
+    inr (subst (λ (k : ℕ). IsMember (placed node k a) (placed_from node (n + 1) xs)) z (in_node node (n + 1) xs i a e))
 
-in_all : (n : ℕ) (rest : List Path) (i : ℕ) (path : Path) (k : ℕ) (a : Access) → slice_get rest i ≡ Some path → slice_get path.accesses k ≡ Some a → In (placed (n + i) k a) (all_from n rest)
+in_all : (n : ℕ) (rest : List Path) (i : ℕ) (path : Path) (k : ℕ) (a : Access) → slice_get rest i ≡ Some path → slice_get path.accesses k ≡ Some a → IsMember (placed (n + i) k a) (all_from n rest)
 in_all n [] i path k a e f = absurd (none-some path e)
 in_all n (p ∷ rest) zero path k a e f =
     let z : n ≡ n + 0 = omega arith in
     let s = same_Some p path e in
     let own = in_node n 0 p.accesses k a (subst (λ (r : Path). slice_get r.accesses k ≡ Some a) (sym s) f) in
     let y : 0 + k ≡ k = omega arith in
-    In-left _ (placed_from n 0 p.accesses) (all_from (n + 1) rest)
-    (subst (λ (m : ℕ). In (placed m k a) (placed_from n 0 p.accesses)) z (subst (λ (m : ℕ). In (placed n m a) (placed_from n 0 p.accesses)) y own))
+    member_left _ (placed_from n 0 p.accesses) (all_from (n + 1) rest)
+    (subst (λ (m : ℕ). IsMember (placed m k a) (placed_from n 0 p.accesses)) z (subst (λ (m : ℕ). IsMember (placed n m a) (placed_from n 0 p.accesses)) y own))
 in_all n (p ∷ rest) (suc i) path k a e f =
     let z : n + 1 + i ≡ n + suc i = omega arith in
-    In-right _ (placed_from n 0 p.accesses) (all_from (n + 1) rest)
-    (subst (λ (m : ℕ). In (placed m k a) (all_from (n + 1) rest)) z (in_all (n + 1) rest i path k a e f))
+    member_right _ (placed_from n 0 p.accesses) (all_from (n + 1) rest)
+    (subst (λ (m : ℕ). IsMember (placed m k a) (all_from (n + 1) rest)) z (in_all (n + 1) rest i path k a e f))
 
-in_places : (paths : List Path) (p : Placed) → IsAt paths p → In p (all_from 0 paths)
+in_places : (paths : List Path) (p : Placed) → IsAt paths p → IsMember p (all_from 0 paths)
 in_places paths p at =
     let z : 0 + p.node ≡ p.node = omega arith in
-    subst (λ (m : ℕ). In (placed m p.number p.access) (all_from 0 paths)) z (in_all 0 paths p.node at.0 p.number p.access at.1 at.2)
+    subst (λ (m : ℕ). IsMember (placed m p.number p.access) (all_from 0 paths)) z (in_all 0 paths p.node at.0 p.number p.access at.1 at.2)
 
 -- ---- the test of kinds and tables
 
@@ -197,26 +155,26 @@ asks-from_Asks first second table h = and_from (first.access.table == second.acc
 
 -- ---- the law
 
-asked-from_in : (paths : List Path) (q : Asked) → In q (questions_of paths) → IsAskedOf paths q
+asked-from_in : (paths : List Path) (q : Asked) → IsMember q (questions_of paths) → IsAskedOf paths q
 asked-from_in paths q i =
     let w = out_of_among (all_from 0 paths) (all_from 0 paths) q i in
     let v = w.2 in
     subst (λ (r : Asked). IsAskedOf paths r) v.3
-    (of_places w.0 v.0 (All-in (λ p. IsAt paths p) (all_from 0 paths) w.0 (all_places_stand paths) w.1) (All-in (λ p. IsAt paths p) (all_from 0 paths) v.0 (all_places_stand paths) v.1) v.2)
+    (of_places w.0 v.0 (member_all (λ p. IsAt paths p) (all_from 0 paths) w.0 (all_places_stand paths) w.1) (member_all (λ p. IsAt paths p) (all_from 0 paths) v.0 (all_places_stand paths) v.1) v.2)
   where
     of_places : (first second : Placed) → IsAt paths first → IsAt paths second → asks first second ≡ true → IsAskedOf paths (question_between first second)
     of_places first second a b e =
         let k = Asks-from_asks first second e in
         record { mine = first.access; theirs = second.access; asked = record { at_mine = a; at_theirs = b; table = k.0 }; mine_kind = refl; their_kind = refl; asks = k.1 }
 
-in-from_asked : (paths : List Path) (q : Asked) → IsAskedOf paths q → In q (questions_of paths)
+in-from_asked : (paths : List Path) (q : Asked) → IsAskedOf paths q → IsMember q (questions_of paths)
 in-from_asked paths q h =
     let first : Placed = placed q.x q.a h.mine in
     let second : Placed = placed q.y q.b h.theirs in
     let own = into_among (all_from 0 paths) (all_from 0 paths) first second (in_places paths first h.asked.at_mine) (in_places paths second h.asked.at_theirs) (asks-from_Asks first second h.asked.table h.asks) in
     let mine = h.mine_kind in
     let theirs = h.their_kind in
-    subst (λ (r : Asked). In r (questions_of paths)) (λ i. record { x = q.x; a = q.a; y = q.y; b = q.b; mine = sym mine i; theirs = sym theirs i }) own
+    subst (λ (r : Asked). IsMember r (questions_of paths)) (λ i. record { x = q.x; a = q.a; y = q.y; b = q.b; mine = sym mine i; theirs = sym theirs i }) own
 
 pub law_of_listing : LawOfListing
-law_of_listing paths q = (λ c. asked-from_in paths q (In-from_Contains (questions_of paths) q c), λ h. Contains-from_In (questions_of paths) q (in-from_asked paths q h))
+law_of_listing paths q = (λ c. asked-from_in paths q (member_from_contains (questions_of paths) q c), λ h. contains_from_member (questions_of paths) q (in-from_asked paths q h))

@@ -18,8 +18,8 @@ use Rattle.prog_check.specs.Accesses.{param_or, is_unknown, single, term_of, nex
 use Rattle.prog_check.specs.declared.path.Path.{Path}
 use Rattle.prog_check.specs.Paths.{Passed, Route, routes, accesses_along, path_of, program_paths, paths_from, paths_of}
 use Rattle.prog_paths.specs.Meeting.{Assignment, IsOfI64, IsWithin, IsWithinSecond, number_under, second_under, cell_under, is_unknown_at, column_has, second_has, has_unknown, with_own, IsTimeOf}
-use Rattle.prog_paths.specs.Own.{IsMember, AreOwn, LawOfOwnUnknowns, LawOfCovers, LawOfTimes, LawOfValues}
-use Rattle.prog_paths.proofs.Segments.{member_either}
+use Rattle.prog_paths.specs.Own.{AreOwn, LawOfOwnUnknowns, LawOfCovers, LawOfTimes, LawOfValues}
+use Rattle.prog_paths.proofs.Elements.{IsMember, member_from_contains, member_either}
 use Rattle.prog_paths.proofs.SingleCells.{all-append}
 
 -- ---- the unknowns of a statement
@@ -174,10 +174,10 @@ module _ (params : List Name) where
         go further (inl h) = ((owned_here u p a h).between n is).0
         go further (inr h) = let later = further h in omega (arith, low, later)
 
-    own : (u : ℕ) (ps : List Passed) → AreOwn (accesses_along tables params u ps)
-    own u [] a b m k loose sure n is = absurd m
-    own u (p ∷ ps) a b m k loose sure n is =
-        go (λ x y. own (behind u p) ps a b x y loose sure n is) (member_either a here later m) (member_either b here later k)
+    own_along : (u : ℕ) (ps : List Passed) (a b : Access) → IsMember a (accesses_along tables params u ps) → IsMember b (accesses_along tables params u ps) → a.sure ≡ false → b.sure ≡ true → (n : ℕ) → has_unknown b n ≡ true → has_unknown a n ≡ false
+    own_along u [] a b m k loose sure n is = absurd m
+    own_along u (p ∷ ps) a b m k loose sure n is =
+        go (λ x y. own_along (behind u p) ps a b x y loose sure n is) (member_either a here later m) (member_either b here later k)
       where
         here : List Access
         here = accesses_of tables params u p.sure p.number p.statement
@@ -193,6 +193,11 @@ module _ (params : List Name) where
         go further (inl x) (inr y) = false_from_ne_true (has_unknown a n) (λ has. let low = from_here (behind u p) ps b y n is in let high = ((owned_here u p a x).between n has).1 in absurd (omega (arith, low, high)))
         go further (inr x) (inl y) = false_from_ne_true (has_unknown a n) (λ has. let low = from_here (behind u p) ps a x n has in let high = ((owned_here u p b y).between n is).1 in absurd (omega (arith, low, high)))
         go further (inr x) (inr y) = further x y
+
+    own : (u : ℕ) (ps : List Passed) → AreOwn (accesses_along tables params u ps)
+    own u ps a b m k =
+        let all = accesses_along tables params u ps in
+        own_along u ps a b (member_from_contains all a m) (member_from_contains all b k)
 
 -- ---- the paths of a draft
 

@@ -1,20 +1,16 @@
 -- The laws of accesses in the bodies of `each`, which are made at many times: their unknowns are their own, so the cell of
 -- an access that covers is the same at each time of any other.
-use Rattle.std.specs.Prelude.{◌≡◌, ℕ, ℤ, List, [], ◌∷◌, ◌⊎◌, true, false, All}
+use Rattle.std.specs.Prelude.{◌≡◌, ℕ, ℤ, List, true, false, All, Contains}
 use Rattle.prog_tree.specs.declared.cell.Cell.{Cell}
 use Rattle.prog_tree.specs.Syntax.{DraftTree}
 use Rattle.prog_check.specs.declared.path.Access.{Access}
 use Rattle.prog_check.specs.Paths.{paths_of}
 use Rattle.prog_paths.specs.Meeting.{Assignment, IsOfI64, IsOf, MayCover, cell_under, has_unknown, with_own, IsTime}
 
-abbrev pub IsMember : {A : Type 0} → A → List A → Type 0
-IsMember x [] = ⊥
-IsMember x (y ∷ ys) = (y ≡ x) ⊎ IsMember x ys
-
 -- among these accesses no unknown of one in a body is an end of a sure one
 abbrev pub AreOwn : List Access → Type 0
 AreOwn accesses =
-    (a b : Access) → IsMember a accesses → IsMember b accesses → a.sure ≡ false → b.sure ≡ true
+    (a b : Access) → Contains accesses a → Contains accesses b → a.sure ≡ false → b.sure ≡ true
     → (n : ℕ) → has_unknown b n ≡ true → has_unknown a n ≡ false
 
 -- so it is on each path of a draft
@@ -24,7 +20,7 @@ LawOfOwnUnknowns = (draft : DraftTree) → All (λ path. AreOwn path.accesses) (
 -- there the cell of an access that covers is the same at each time of any other
 abbrev pub LawOfCovers : Type 0
 LawOfCovers =
-    (accesses : List Access) → AreOwn accesses → (a b : Access) → IsMember a accesses → IsMember b accesses
+    (accesses : List Access) → AreOwn accesses → (a b : Access) → Contains accesses a → Contains accesses b
     → MayCover b → (v w : Assignment) → IsTime a v w → cell_under w b ≡ cell_under v b
 
 -- an assignment of i64 is one at each time

@@ -1,27 +1,19 @@
 -- The accesses of a sound set's nodes: what sees, lacks or adds is of a grow table, what writes is of a plain one.
-use Rattle.std.proofs.Common.{◌≡◌, ℕ, suc, ◌+◌, Bool, true, false, List, [], ◌∷◌, ◌⊎◌, inl, inr, map, refl, sym, subst, arith}
+use Rattle.std.proofs.Common.{◌≡◌, ℕ, suc, ◌+◌, Bool, true, false, List, [], ◌∷◌, ◌⊎◌, inl, inr, refl, sym, subst, arith}
 use Rattle.std.specs.Prelude.{Some, slice_get}
 use Rattle.prog_tree.specs.declared.table.TableDecl.{TableDecl}
-use Rattle.prog_tree.specs.Syntax.{Name, ProgramTree, DraftTree}
+use Rattle.prog_tree.specs.Syntax.{ProgramTree, DraftTree}
 use Rattle.prog_check.specs.declared.path.Access.{Access}
 use Rattle.prog_check.specs.declared.path.Kind.{Kind}
 use Rattle.prog_check.specs.declared.path.Kind.TheVariants.{Sees, Lacks, Writes, Adds}
 use Rattle.prog_check.specs.declared.path.Path.{Path}
-use Rattle.prog_check.specs.Paths.{Route, routes, path_of, program_paths, paths_from, paths_of, accesses_along}
+use Rattle.prog_check.specs.Paths.{routes, path_of, program_paths, paths_from, paths_of, accesses_along}
 use Rattle.prog_check.specs.Sound.{IsSound}
+use Rattle.prog_paths.proofs.Elements.{IsMember, member_either, member_mapped}
 use Rattle.prog_paths.proofs.KindsFit.{KindFits, AccessFits, route_fits}
 use Rattle.prog_paths.proofs.Programs.{member_at}
-use Rattle.prog_paths.proofs.Segments.{IsMember, member_either}
 
 -- ---- a node is a path of a program
-
-of_route : (tables : List TableDecl) (number : ℕ) (params : List Name) (rs : List Route) (path : Path) →
-    IsMember path (map (path_of tables number params) rs) →
-    (r : Route) × IsMember r rs × (path_of tables number params r ≡ path)
-of_route tables number params [] path h = absurd h
-of_route tables number params (r ∷ rs) path (inl e) = (r, inl refl, e)
-of_route tables number params (r ∷ rs) path (inr h) =
-    let k = of_route tables number params rs path h in (k.0, inr k.1, k.2)
 
 abbrev OfProgram : List TableDecl → ℕ → List ProgramTree → Path → Type 0
 OfProgram tables first ps path =
@@ -54,7 +46,7 @@ pub access_fits : (set : DraftTree) → IsSound set → (x a : ℕ) (path : Path
 access_fits set fine x a path access at_node at_access =
     let k = of_program set.tables 0 set.programs path (member_at (paths_of set) x path at_node) in
     let p = fine.programs k.0 k.1 k.2 in
-    let r = of_route set.tables (0 + k.0) k.1.params (routes 0 k.1.body) path k.3 in
+    let r = member_mapped (path_of set.tables (0 + k.0) k.1.params) (routes 0 k.1.body) path k.3 in
     let member : IsMember access (accesses_along set.tables k.1.params 0 r.0.passed) =
     subst (λ (q : Path). IsMember access q.accesses) (sym r.2) (member_at path.accesses a access at_access) in
     route_fits set.tables k.1.params k.1.body p.grow_tables_stay r.0 r.1 access member

@@ -11,8 +11,8 @@ use Rattle.prog_check.specs.Paths.{paths_of}
 use Rattle.prog_paths.specs.Meeting.{Assignment, IsTime, cell_under, MayCover, AreSameCell, MeetAsOwn}
 use Rattle.prog_paths.specs.Own.{AreOwn}
 use Rattle.prog_paths.specs.StaticGraph.{IsAccessOf, IsCovered, IsExposed, IsVulnerable, AsksReadWrite}
+use Rattle.prog_paths.proofs.Elements.{contains_at}
 use Rattle.prog_paths.proofs.Own.{law_of_own_unknowns, law_of_covers}
-use Rattle.prog_paths.proofs.Programs.{member_at}
 use Rattle.history_book.specs.Dependencies.{start_at}
 use Rattle.history_book.specs.History.{Instance}
 use Rattle.history_book.proofs.DependencyLaws.{Looks, Changes, DependsOn, depends_tells}
@@ -54,8 +54,8 @@ module _ (set : DraftTree) (opening : TableState) (h : List Instance) (is : IsHi
 
       same : cell_under time a ≡ cell_under f.v a
       same =
-          law_of_covers f.path.accesses (own_unknowns i f) t.access a (member_at f.path.accesses t.number t.access t.at)
-          (member_at f.path.accesses n a here) covers f.v time at_time
+          law_of_covers f.path.accesses (own_unknowns i f) t.access a (contains_at f.path.accesses t.number t.access t.at)
+          (contains_at f.path.accesses n a here) covers f.v time at_time
 
   module _ (i j : ℕ) (one : HasCommitted h i) (other : HasCommitted h j) (differ : i ≢ j) (both : AreConcurrent h i j) where
     -- of two concurrent instances one depends on the other by a look alone

@@ -13,8 +13,8 @@ use Rattle.prog_paths.specs.declared.accesses.places.Question.{Question as Asked
 use Rattle.prog_paths.specs.Asked.{asks, numbers_of, question_between, placed_from, all_from, accesses_by, program_from, asked_by, asked_among, questions_of}
 use Rattle.prog_paths.specs.Places.{IsAt}
 use Rattle.prog_paths.proofs.Asked.{placed, all_places_stand, if_yes, asked_by-append, asked_among-append}
-use Rattle.prog_paths.proofs.Membership.{asks-from_Asks}
-use Rattle.prog_paths.proofs.Segments.{IsMember, member_left, member_right}
+use Rattle.prog_paths.proofs.Elements.{IsMember, contains_from_member, member_left, member_right}
+use Rattle.prog_paths.proofs.Membership.{asks-from_Asks, in_node}
 use Rattle.conflict_pairs.specs.Law.{TellsExposed}
 use Rattle.repair_laws.specs.declared.plan.Pair.{Pair}
 use Rattle.repair_laws.specs.Striking.{IsOfProgram}
@@ -22,7 +22,7 @@ use Rattle.repair_laws.specs.Keys.{ExposedOf}
 use Rattle.si_repair.specs.Exposing.{IsPart, AreExposed}
 use Rattle.conflict_pairs.specs.Alike.{HasAccess}
 use Rattle.si_repair.specs.Gathering.{MayMiss, IsExposedTo, IsExposedOf, AreExposedAmong}
-use Rattle.si_repair.proofs.Members.{Contains-from_member, just_one}
+use Rattle.si_repair.proofs.Members.{just_one}
 use Rattle.si_repair.proofs.Parts.{part-none, part-whole, part-append, part-contains, part-trans, part-among}
 
 -- ---- elements
@@ -60,18 +60,6 @@ pub access_is : (nodes : List Path) (x a : ℕ) (path : Path) (d : Access) → p
 access_is nodes x a path d is h =
     let there = access_there nodes x a path is h in
     (path, slice_get-get_or nodes x path (node_there nodes x a h) ∙ ap Some (sym is), slice_get-get_or path.accesses a d (slice_get_within path.accesses a h.0 there))
-
--- ---- places
-
-in_node : (node n : ℕ) (xs : List Access) (i : ℕ) (a : Access) → slice_get xs i ≡ Some a → IsMember (placed node (n + i) a) (placed_from node n xs)
-in_node node n [] i a e = absurd (none-some a e)
-in_node node n (x ∷ xs) zero a e =
-    let z : n ≡ n + 0 = omega arith in
-    let s = same_Some x a e in
-    inl (λ k. placed node (z k) (s k))
-in_node node n (x ∷ xs) (suc i) a e =
-    let z : n + 1 + i ≡ n + suc i = omega arith in
-    inr (subst (λ (k : ℕ). IsMember (placed node k a) (placed_from node (n + 1) xs)) z (in_node node (n + 1) xs i a e))
 
 -- ---- the accesses of a program
 
@@ -152,7 +140,7 @@ placed_of nodes program = record { part = own_part program 0 nodes; only = only;
     each p at of =
         let z : 0 + p.node ≡ p.node = omega arith in
         let own : at.0.program ≡ program = ap (λ (q : Path). q.program) (same_Some at.0 of.0 (sym at.1 ∙ of.1)) ∙ of.2 in
-        Contains-from_member (program_from program 0 nodes) p
+        contains_from_member (program_from program 0 nodes) p
         (subst (λ (m : ℕ). IsMember (placed m p.number p.access) (program_from program 0 nodes)) z (in_own program 0 nodes p.node at.0 p.number p.access at.1 own at.2))
 
 pub places_stand : (nodes : List Path) (program : ℕ) → All (λ (p : Placed). IsAt nodes p) (program_from program 0 nodes)

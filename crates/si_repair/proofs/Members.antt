@@ -1,16 +1,10 @@
 -- Elements of lists, and what is told of a table's entries.
-use Rattle.std.proofs.Common.{◌≡◌, zero, suc, List, [], ◌∷◌, inl, inr, refl, sym, subst, arith}
+use Rattle.std.proofs.Common.{zero, suc, List, [], ◌∷◌, refl, sym, subst, arith}
 use Rattle.std.specs.Prelude.{Contains}
 use Rattle.std.proofs.lemmas.List.Elements.{Contains-append_left, Contains-append_right}
-use Rattle.prog_paths.proofs.Segments.{IsMember}
 use Rattle.conflict_pairs.specs.Table.{Entry as Judged}
 use Rattle.robust_cert.specs.declared.certificate.Entry.{Entry}
 use Rattle.si_repair.specs.Telling.{told_by, told_of}
-
-pub Contains-from_member : {A : Type 0} (xs : List A) (x : A) → IsMember x xs → Contains xs x
-Contains-from_member [] x i = absurd i
-Contains-from_member (y ∷ xs) x (inl e) = (zero, omega arith, e)
-Contains-from_member (y ∷ xs) x (inr i) = let c = Contains-from_member xs x i in (suc c.0, omega (arith, c.1), c.2)
 
 pub just_one : {A : Type 0} (x : A) → Contains (x ∷ []) x
 just_one x = (zero, omega arith, refl)
