@@ -1,5 +1,5 @@
 -- What the words of a certificate have to say.
-use Rattle.std.specs.Prelude.{ℕ, zero, suc, ◌≡◌, ◌-◌, ◌==◌, ◌+◌, ◌⊎◌, Bool, true, false, List, [], ◌++◌, codes, filter, if◌then◌else◌, length, min}
+use Rattle.std.specs.Prelude.{ℕ, ◌≡◌, ◌-◌, ◌+◌, ◌⊎◌, Bool, true, false, List, [], ◌∷◌, ◌++◌, codes, filter, length, min, take}
 use Rattle.std.specs.Fmt.{decimal}
 use Rattle.prog_tree.specs.Syntax.{DraftTree}
 use Rattle.prog_check.specs.declared.path.Path.{Path}
@@ -7,7 +7,7 @@ use Rattle.prog_paths.specs.Asked.{limit, questions_of}
 use Rattle.robust_cert.specs.declared.certificate.Certificate.{Certificate}
 use Rattle.robust_cert.specs.declared.certificate.Entry.{Entry}
 use Rattle.robust_cert.specs.declared.certificate.Entry.TheVariants.{Apart, Cover}
-use Rattle.analysis_words.specs.Saying.{level_text}
+use Rattle.analysis_words.specs.Saying.{level_list}
 use Rattle.analysis_words.specs.SharedWords.{more_text}
 
 abbrev pub is_apart : Entry → Bool
@@ -26,23 +26,14 @@ abbrev pub entries_text : Certificate → List ℕ
 entries_text certificate =
     reasons_text (apart_count certificate.entries) (length certificate.entries - apart_count certificate.entries)
 
--- what stands before the level of a node: nothing before the first
-abbrev pub comma_before : (node : ℕ) → List ℕ
-comma_before node = if node == 0 then [] else codes ", "
+-- the first eight nodes
+abbrev pub first_nodes : List ℕ
+first_nodes = 0 ∷ 1 ∷ 2 ∷ 3 ∷ 4 ∷ 5 ∷ 6 ∷ 7 ∷ []
 
-abbrev pub listed_level : DraftTree → List Path → Certificate → (node : ℕ) → List ℕ
-listed_level set paths certificate node = comma_before node ++ level_text set paths certificate node
-
--- the levels of so many nodes
-abbrev pub first_levels : DraftTree → List Path → Certificate → (count : ℕ) → List ℕ
-first_levels set paths certificate zero = []
-first_levels set paths certificate (suc node) =
-    first_levels set paths certificate node ++ listed_level set paths certificate node
-
--- the levels of the first eight nodes, and how many nodes there are more
+-- their levels, as far as there are so many nodes, and how many nodes there are more
 abbrev pub levels_text : DraftTree → List Path → Certificate → List ℕ
 levels_text set paths certificate =
-    first_levels set paths certificate (min 8 (length paths)) ++ more_text (length paths - 8)
+    level_list set paths certificate (take (length paths) first_nodes) ++ more_text (length paths - 8)
 
 -- how many questions are covered by the access that covers most, and which it is; nothing where none covers
 abbrev pub IsMostText : (text : List ℕ) → Type 0

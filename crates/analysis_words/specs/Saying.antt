@@ -1,7 +1,7 @@
 -- What the words of a fault of a certificate have to say.
-use Rattle.std.specs.Prelude.{ℕ, ◌≡◌, ◌==◌, Bool, if◌then◌else◌, List, [], ◌++◌, Option, Some, None, codes, length, option_map, unwrap_or, slice_get, zip}
+use Rattle.std.specs.Prelude.{ℕ, ◌≡◌, ◌==◌, Bool, if◌then◌else◌, List, [], ◌∷◌, ◌++◌, Option, Some, None, codes, length, option_map, unwrap_or, slice_get, zip}
 use Rattle.std.specs.Fmt.{decimal}
-use Rattle.std.specs.List.{prefix_len}
+use Rattle.std.specs.List.{flat_map, prefix_len}
 use Rattle.std.specs.Option.{option_map_or}
 use Rattle.prog_tree.specs.Syntax.{DraftTree}
 use Rattle.prog_check.specs.declared.path.Path.{Path}
@@ -32,6 +32,15 @@ level_of certificate node = number_at certificate.levels node
 abbrev pub level_text : DraftTree → List Path → Certificate → (node : ℕ) → List ℕ
 level_text set paths certificate node =
     decimal (level_of certificate node) ++ (codes " of " ++ node_name set paths node)
+
+abbrev pub further_level : DraftTree → List Path → Certificate → (node : ℕ) → List ℕ
+further_level set paths certificate node = codes ", " ++ level_text set paths certificate node
+
+-- the levels of nodes, as ``2 of `Pay:t`, 3 of `Pay:f` ``
+abbrev pub level_list : DraftTree → List Path → Certificate → (nodes : List ℕ) → List ℕ
+level_list set paths certificate [] = []
+level_list set paths certificate (first ∷ others) =
+    level_text set paths certificate first ++ flat_map (further_level set paths certificate) others
 
 abbrev pub entry_text : (entry : ℕ) → List ℕ
 entry_text entry = codes "entry " ++ (decimal entry ++ codes ": ")
@@ -67,6 +76,10 @@ counts_text set paths certificate =
     else count_text (codes "bodies") (length certificate.bodies) (length paths))
     else count_text (codes "levels") (length certificate.levels) (length paths)
 
+-- the levels of nodes that edges join
+abbrev pub along_text : DraftTree → List Path → Certificate → (nodes : List ℕ) → List ℕ
+along_text set paths certificate nodes = codes "levels " ++ (level_list set paths certificate nodes ++ codes ": ")
+
 -- what the words begin with: the entry that the line of the fault names, or the levels of its nodes, or the counts that
 -- are not those of the nodes
 abbrev pub front_of : DraftTree → List Path → Certificate → CertFault → List ℕ
@@ -74,11 +87,8 @@ front_of set paths certificate (c.NoSuchEntry entry) = entry_text entry
 front_of set paths certificate (c.EntryOrder entry) = entry_text entry
 front_of set paths certificate (c.BadCover entry) = entry_text entry
 front_of set paths certificate (c.BadChain entry) = entry_text entry
-front_of set paths certificate (c.LevelFalls x y) =
-    codes "levels " ++ (level_text set paths certificate x ++ (codes ", " ++ (level_text set paths certificate y ++ codes ": ")))
-front_of set paths certificate (c.Dangerous x y z) =
-    codes "levels " ++ (level_text set paths certificate x ++ (codes ", " ++ (level_text set paths certificate y
-    ++ (codes ", " ++ (level_text set paths certificate z ++ codes ": ")))))
+front_of set paths certificate (c.LevelFalls x y) = along_text set paths certificate (x ∷ y ∷ [])
+front_of set paths certificate (c.Dangerous x y z) = along_text set paths certificate (x ∷ y ∷ z ∷ [])
 front_of set paths certificate c.PathCount = counts_text set paths certificate
 front_of set paths certificate c.TooLarge =
     codes "more than " ++ (decimal limit ++ codes " pairs of accesses would have to be compared")

@@ -3,10 +3,9 @@ ghost use Rattle.std.specs.Prelude.{◌≡◌, IfNone, IfOk, IfSome, slice_get, 
 ghost use Rattle.prog_tree.specs.Tree.{draft_tree};
 ghost use Rattle.prog_check.specs.Paths.{paths_of};
 ghost use Rattle.robust_cert.specs.Reading.{IsTextOf};
-ghost use Rattle.robust_cert.specs.declared.fault.CertFault.TheVariants.{Dangerous, LevelFalls};
-ghost use Rattle.analysis_words.specs.Saying.{asked_in, body_size_at, broken_rule, count_text, counts_text, entry_of, first_mistold, front_of, is_told, json_words, mistold_text, IsAskedText, IsNoCertificate, IsOfFault, IsQuestionText, IsSaidOf};
+ghost use Rattle.analysis_words.specs.Saying.{along_text, asked_in, body_size_at, broken_rule, count_text, counts_text, entry_of, first_mistold, front_of, is_told, json_words, mistold_text, IsAskedText, IsNoCertificate, IsOfFault, IsQuestionText, IsSaidOf};
 
-use crate::levels::{level_text, number_at};
+use crate::levels::{level_list, number_at};
 use crate::shown::{Shown, access_text, node_name};
 use prog_check::{Path, ProgramSet};
 use prog_paths::{MAX_QUESTIONS, paths};
@@ -117,38 +116,18 @@ fn counts_text(
     mistold_text(alloc, shown, certificate, node)
 }
 
-// The levels at both ends of an edge.
-fn falling_text(
+// The levels of nodes that edges join.
+fn along_text(
     alloc: Global,
     shown: Shown<'_>,
     certificate: &Certificate,
-    x: usize,
-    y: usize,
+    nodes: &[usize],
 ) -> Result<String, AllocError>
-    ensures { IfOk result (λ text. string_bytes text ≡ front_of (draft_tree shown.entry.set.now)
-        shown.entry.paths.now certificate.now (LevelFalls x y)) }
+    ensures { IfOk result (λ text. string_bytes text ≡ along_text
+        (draft_tree shown.entry.set.now) shown.entry.paths.now certificate.now nodes.now) }
 {
-    let first = level_text(alloc, shown, certificate, x)?;
-    let second = level_text(alloc, shown, certificate, y)?;
-    format!(in alloc; "levels {first}, {second}: ")
-}
-
-// The levels along two edges in a row.
-fn dangerous_text(
-    alloc: Global,
-    shown: Shown<'_>,
-    certificate: &Certificate,
-    x: usize,
-    y: usize,
-    z: usize,
-) -> Result<String, AllocError>
-    ensures { IfOk result (λ text. string_bytes text ≡ front_of (draft_tree shown.entry.set.now)
-        shown.entry.paths.now certificate.now (Dangerous x y z)) }
-{
-    let first = level_text(alloc, shown, certificate, x)?;
-    let second = level_text(alloc, shown, certificate, y)?;
-    let third = level_text(alloc, shown, certificate, z)?;
-    format!(in alloc; "levels {first}, {second}, {third}: ")
+    let levels = level_list(alloc, shown, certificate, nodes)?;
+    format!(in alloc; "levels {levels}: ")
 }
 
 // What the words of a fault begin with.
@@ -166,8 +145,8 @@ fn front_of(
         | CertFault::EntryOrder(entry)
         | CertFault::BadCover(entry)
         | CertFault::BadChain(entry) => format!(in alloc; "entry {entry}: "),
-        CertFault::LevelFalls(x, y) => falling_text(alloc, shown, certificate, x, y),
-        CertFault::Dangerous(x, y, z) => dangerous_text(alloc, shown, certificate, x, y, z),
+        CertFault::LevelFalls(x, y) => along_text(alloc, shown, certificate, &[x, y]),
+        CertFault::Dangerous(x, y, z) => along_text(alloc, shown, certificate, &[x, y, z]),
         CertFault::PathCount => counts_text(alloc, shown, certificate),
         CertFault::TooLarge => format!(in alloc;
             "more than {MAX_QUESTIONS} pairs of accesses would have to be compared"

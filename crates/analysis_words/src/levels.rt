@@ -1,7 +1,7 @@
 //! The numbers that a certificate tells of its nodes.
 ghost use Rattle.std.specs.Prelude.{◌≡◌, IfOk, string_bytes};
 ghost use Rattle.prog_tree.specs.Tree.{draft_tree};
-ghost use Rattle.analysis_words.specs.Saying.{level_of, level_text, number_at};
+ghost use Rattle.analysis_words.specs.Saying.{level_list, level_of, level_text, number_at};
 
 use crate::shown::{Shown, node_name};
 use robust_cert::Certificate;
@@ -23,8 +23,8 @@ fn level_of(certificate: &Certificate, node: usize) -> u32
     number_at(certificate.levels.as_slice(), node)
 }
 
-/// A level and the node that has it.
-pub fn level_text(
+// A level and the node that has it.
+fn level_text(
     alloc: Global,
     shown: Shown<'_>,
     certificate: &Certificate,
@@ -36,4 +36,26 @@ pub fn level_text(
     let name = node_name(alloc, shown, node)?;
     let level = level_of(certificate, node);
     format!(in alloc; "{level} of {name}")
+}
+
+/// The levels of nodes.
+pub fn level_list(
+    alloc: Global,
+    shown: Shown<'_>,
+    certificate: &Certificate,
+    nodes: &[usize],
+) -> Result<String, AllocError>
+    ensures { IfOk result (λ text. string_bytes text ≡ level_list
+        (draft_tree shown.entry.set.now) shown.entry.paths.now certificate.now nodes.now) }
+{
+    let [first, others @ ..] = nodes else {
+        return Ok(String::new(alloc));
+    };
+    let mut text = level_text(alloc, shown, certificate, *first)?;
+    for node in others {
+        let level = level_text(alloc, shown, certificate, *node)?;
+        text.push_str(", ")?;
+        text.push_str(&level)?;
+    }
+    Ok(text)
 }

@@ -1,13 +1,13 @@
 //! What a certificate shows of a robust set, in words.
-ghost use Rattle.std.specs.Prelude.{◌≡◌, IfOk, string_bytes};
+ghost use Rattle.std.specs.Prelude.{◌≡◌, IfOk, string_bytes, take};
 ghost use Rattle.prog_tree.specs.Tree.{draft_tree};
 ghost use Rattle.prog_check.specs.Paths.{paths_of};
 ghost use Rattle.robust_cert.specs.declared.certificate.Question.{Question};
 ghost use Rattle.robust_cert.specs.Sharing.{entry_told, entry_with, IsWithin};
-ghost use Rattle.analysis_words.specs.Robust.{apart_count, comma_before, entries_text, first_levels, is_apart, IsMostText, levels_text, listed_level, questions_text, reasons_text, SaysRobust};
+ghost use Rattle.analysis_words.specs.Robust.{apart_count, entries_text, is_apart, IsMostText, levels_text, questions_text, reasons_text, SaysRobust};
 
 use crate::covering::{Covering, most_covering};
-use crate::levels::level_text;
+use crate::levels::level_list;
 use crate::limits::MAX_LEVELS;
 use crate::shared_words::more_text;
 use crate::shown::{Shown, access_text};
@@ -94,43 +94,11 @@ fn most_text(
     covering_text(alloc, count, &access)
 }
 
-// What stands before the level of a node.
-fn comma_before(node: usize) -> &'static str
-    ensures { result.now ≡ comma_before node }
+// As many of the nodes as there are.
+fn up_to(nodes: &[usize], count: usize) -> &[usize]
+    ensures { result.now ≡ take count nodes.now }
 {
-    if node == 0 { "" } else { ", " }
-}
-
-fn listed_level(
-    alloc: Global,
-    shown: Shown<'_>,
-    certificate: &Certificate,
-    node: usize,
-) -> Result<String, AllocError>
-    ensures { IfOk result (λ text. string_bytes text ≡ listed_level
-        (draft_tree shown.entry.set.now) shown.entry.paths.now certificate.now node) }
-{
-    let comma = comma_before(node);
-    let level = level_text(alloc, shown, certificate, node)?;
-    format!(in alloc; "{comma}{level}")
-}
-
-// The levels of so many nodes.
-fn first_levels(
-    alloc: Global,
-    shown: Shown<'_>,
-    certificate: &Certificate,
-    count: usize,
-) -> Result<String, AllocError>
-    ensures { IfOk result (λ text. string_bytes text ≡ first_levels
-        (draft_tree shown.entry.set.now) shown.entry.paths.now certificate.now count) }
-{
-    let mut text = String::new(alloc);
-    for node in 0..count {
-        let level = listed_level(alloc, shown, certificate, node)?;
-        text.push_str(&level)?;
-    }
-    Ok(text)
+    nodes.get(..count).unwrap_or(nodes)
 }
 
 // The levels of the first nodes, and how many nodes there are more.
@@ -143,7 +111,8 @@ fn levels_text(
         (draft_tree shown.entry.set.now) shown.entry.paths.now certificate.now) }
 {
     let nodes = shown.paths.len();
-    let first = first_levels(alloc, shown, certificate, nodes.min(MAX_LEVELS))?;
+    let first_nodes: [usize; MAX_LEVELS] = [0, 1, 2, 3, 4, 5, 6, 7];
+    let first = level_list(alloc, shown, certificate, up_to(&first_nodes, nodes))?;
     let more = more_text(alloc, nodes.saturating_sub(MAX_LEVELS))?;
     format!(in alloc; "{first}{more}")
 }
