@@ -6,10 +6,11 @@ use Rattle.order_facts.specs.Sample.{sample_number}
 use Rattle.order_facts.specs.declared.sample.Choice.{Choice}
 use Rattle.order_facts.specs.declared.steps.Node.{Node}
 use Rattle.order_facts.specs.declared.steps.Node.TheVariants.{Mine, Theirs}
-use Rattle.prog_tree.specs.Syntax.{Name, DraftTree}
+use Rattle.prog_tree.specs.Syntax.{Name}
+use Rattle.prog_tree.specs.Tree.{draft_tree}
 use Rattle.prog_check.specs.declared.path.Path.{Path}
 use Rattle.fault_words.specs.Naming.{program_params}
-use Rattle.analysis_words.specs.Nodes.{node_name}
+use Rattle.analysis_words.specs.Nodes.{node_name, Sight}
 
 -- a parameter of the first or of the second instance
 abbrev pub node_of : (is_first : Bool) → (number : ℕ) → Node
@@ -37,14 +38,14 @@ numbers_text sample is_first [] = []
 numbers_text sample is_first (name ∷ names) = given_from sample is_first 0 (name ∷ names) ++ codes ")"
 
 -- the parameters of a node's program
-abbrev pub params_along : DraftTree → List Path → (node : ℕ) → List Name
-params_along set paths node = option_map_or (λ (path : Path). program_params set path.program) (slice_get paths node) []
+abbrev pub params_along : Sight → (node : ℕ) → List Name
+params_along sight node = option_map_or (λ (path : Path). program_params (draft_tree sight.set) path.program) (slice_get sight.paths node) []
 
 -- the numbers of an instance of a node, the first or the second of a sample
-abbrev pub numbers_along : DraftTree → List Path → List Choice → (is_first : Bool) → (node : ℕ) → List ℕ
-numbers_along set paths sample is_first node = numbers_text sample is_first (params_along set paths node)
+abbrev pub numbers_along : Sight → List Choice → (is_first : Bool) → (node : ℕ) → List ℕ
+numbers_along sight sample is_first node = numbers_text sample is_first (params_along sight node)
 
 -- the instance with its name, as `` `Move` with (from = 0, to = 7)``
-abbrev pub instance_text : DraftTree → List Path → List Choice → (is_first : Bool) → (node : ℕ) → List ℕ
-instance_text set paths sample is_first node =
-    node_name set paths node ++ numbers_along set paths sample is_first node
+abbrev pub instance_text : Sight → List Choice → (is_first : Bool) → (node : ℕ) → List ℕ
+instance_text sight sample is_first node =
+    node_name sight node ++ numbers_along sight sample is_first node

@@ -7,9 +7,25 @@ use Rattle.text_places.specs.Landmarks.{HasNoStatement, IsStatementPlace}
 use Rattle.text_places.specs.Places.{line_number}
 use Rattle.text_places.specs.Quotes.{visible}
 use Rattle.prog_tree.specs.Syntax.{DraftTree}
+use Rattle.prog_tree.specs.Tree.{draft_tree}
+use Rattle.prog_tree.specs.declared.program.Draft.{Draft}
 use Rattle.prog_check.specs.declared.path.Access.{Access}
 use Rattle.prog_check.specs.declared.path.Path.{Path}
+use Rattle.prog_check.specs.Paths.{paths_of}
 use Rattle.fault_words.specs.Naming.{program_name}
+use Rattle.analysis_words.specs.declared.shown.Shown.{Shown}
+
+-- a set with its text and its paths, which are the nodes
+pub record Sight : Type 0 where
+  pub text : List ℕ
+  pub set : Draft
+  pub paths : List Path
+
+abbrev pub seen : Shown → Sight
+seen shown = record { text = shown.text.now; set = shown.set.now; paths = shown.paths.now }
+
+abbrev pub sight_of : (text : List ℕ) → Draft → Sight
+sight_of text set = record { text = text; set = set; paths = paths_of (draft_tree set) }
 
 -- where a path takes a branch's first block, and where its second
 abbrev pub letter_of : (takes_first : Bool) → List ℕ
@@ -27,40 +43,40 @@ name_along set node None = codes "node " ++ decimal node
 name_along set node (Some path) =
     codes "`" ++ (program_name set path.program ++ (branches_text path.choices ++ codes "`"))
 
-abbrev pub node_name : DraftTree → List Path → (node : ℕ) → List ℕ
-node_name set paths node = name_along set node (slice_get paths node)
+abbrev pub node_name : Sight → (node : ℕ) → List ℕ
+node_name sight node = name_along (draft_tree sight.set) node (slice_get sight.paths node)
 
 -- the access of a number of a node
-abbrev pub access_of : List Path → (node access : ℕ) → Option Access
-access_of paths node access = option_and_then (λ (path : Path). slice_get path.accesses access) (slice_get paths node)
+abbrev pub access_of : Sight → (node access : ℕ) → Option Access
+access_of sight node access = option_and_then (λ (path : Path). slice_get path.accesses access) (slice_get sight.paths node)
 
 -- what is said of an access that is sure or not: one that is not may be made in many turns, or in none
 abbrev pub turns_by : (sure : Bool) → List ℕ
 turns_by true = []
 turns_by false = codes " in each turn of its `each`"
 
-abbrev pub turns_text : List Path → (node access : ℕ) → List ℕ
-turns_text paths node access = option_map_or (λ (a : Access). turns_by a.sure) (access_of paths node access) []
+abbrev pub turns_text : Sight → (node access : ℕ) → List ℕ
+turns_text sight node access = option_map_or (λ (a : Access). turns_by a.sure) (access_of sight node access) []
 
 -- an access that is there stands in the body of an `each`
-abbrev pub is_in_body : List Path → (node access : ℕ) → Bool
-is_in_body paths node access = option_map_or (λ (a : Access). not a.sure) (access_of paths node access) false
+abbrev pub is_in_body : Sight → (node access : ℕ) → Bool
+is_in_body sight node access = option_map_or (λ (a : Access). not a.sure) (access_of sight node access) false
 
 -- the statement of this access of a node stands here
-pub record IsAccessPlace (text : List ℕ) (paths : List Path) (node access at : ℕ) : Type 0 where
+pub record IsAccessPlace (sight : Sight) (node access at : ℕ) : Type 0 where
   pub path : Path
-  pub of_node : slice_get paths node ≡ Some path
+  pub of_node : slice_get sight.paths node ≡ Some path
   pub accessed : Access
   pub of_path : slice_get path.accesses access ≡ Some accessed
-  pub stands : IsStatementPlace text path.program accessed.place at
+  pub stands : IsStatementPlace sight.text path.program accessed.place at
 
 -- there is no such node, no such access of it, or no statement of its number in the text
-pub data HasNoAccess (text : List ℕ) (paths : List Path) (node access : ℕ) : Type 0 where
-  NoNode : slice_get paths node ≡ None → HasNoAccess text paths node access
-  NoneOfNode : (path : Path) → slice_get paths node ≡ Some path → slice_get path.accesses access ≡ None
-      → HasNoAccess text paths node access
-  NoStatement : (path : Path) → slice_get paths node ≡ Some path → (accessed : Access) → slice_get path.accesses access ≡ Some accessed
-      → HasNoStatement text path.program accessed.place → HasNoAccess text paths node access
+pub data HasNoAccess (sight : Sight) (node access : ℕ) : Type 0 where
+  NoNode : slice_get sight.paths node ≡ None → HasNoAccess sight node access
+  NoneOfNode : (path : Path) → slice_get sight.paths node ≡ Some path → slice_get path.accesses access ≡ None
+      → HasNoAccess sight node access
+  NoStatement : (path : Path) → slice_get sight.paths node ≡ Some path → (accessed : Access) → slice_get path.accesses access ≡ Some accessed
+      → HasNoStatement sight.text path.program accessed.place → HasNoAccess sight node access
 
 -- bytes of an input in one line, as a terminal may show them
 abbrev pub IsInOneLine : List ℕ → Type 0
@@ -68,9 +84,9 @@ IsInOneLine line = (bytes : List ℕ) × (line ≡ map visible bytes)
 
 -- the words name an access of a node by its node and by the line of its statement, which they show, as
 -- `` `price[item] = 7` of `Set` in line 4``
-abbrev pub IsAccessText : (text : List ℕ) → DraftTree → List Path → (node access : ℕ) → (words : List ℕ) → Type 0
-IsAccessText text set paths node access words =
-    ((at : ℕ) × IsAccessPlace text paths node access at × (statement : List ℕ) × IsInOneLine statement
-    × (words ≡ codes "`" ++ (statement ++ (codes "` of " ++ (node_name set paths node ++ (codes " in line " ++ decimal (line_number text at)))))))
-    ⊎ (HasNoAccess text paths node access
-    × (words ≡ codes "access " ++ (decimal access ++ (codes " of " ++ (node_name set paths node ++ codes ", which it has not")))))
+abbrev pub IsAccessText : Sight → (node access : ℕ) → (words : List ℕ) → Type 0
+IsAccessText sight node access words =
+    ((at : ℕ) × IsAccessPlace sight node access at × (statement : List ℕ) × IsInOneLine statement
+    × (words ≡ codes "`" ++ (statement ++ (codes "` of " ++ (node_name sight node ++ (codes " in line " ++ decimal (line_number sight.text at)))))))
+    ⊎ (HasNoAccess sight node access
+    × (words ≡ codes "access " ++ (decimal access ++ (codes " of " ++ (node_name sight node ++ codes ", which it has not")))))

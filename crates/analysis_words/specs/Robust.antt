@@ -1,12 +1,12 @@
 -- What the words of a certificate have to say.
 use Rattle.std.specs.Prelude.{ℕ, ◌≡◌, ◌-◌, ◌+◌, ◌⊎◌, Bool, true, false, List, [], ◌∷◌, ◌++◌, codes, filter, length, min, take}
 use Rattle.std.specs.Fmt.{decimal}
-use Rattle.prog_tree.specs.Syntax.{DraftTree}
 use Rattle.prog_check.specs.declared.path.Path.{Path}
 use Rattle.prog_paths.specs.Asked.{limit, questions_of}
 use Rattle.robust_cert.specs.declared.certificate.Certificate.{Certificate}
 use Rattle.robust_cert.specs.declared.certificate.Entry.{Entry}
 use Rattle.robust_cert.specs.declared.certificate.Entry.TheVariants.{Apart, Cover}
+use Rattle.analysis_words.specs.Nodes.{Sight}
 use Rattle.analysis_words.specs.Saying.{level_list}
 use Rattle.analysis_words.specs.SharedWords.{more_text}
 
@@ -31,9 +31,9 @@ abbrev pub first_nodes : List ℕ
 first_nodes = 0 ∷ 1 ∷ 2 ∷ 3 ∷ 4 ∷ 5 ∷ 6 ∷ 7 ∷ []
 
 -- their levels, as far as there are so many nodes, and how many nodes there are more
-abbrev pub levels_text : DraftTree → List Path → Certificate → List ℕ
-levels_text set paths certificate =
-    level_list set paths certificate (take (length paths) first_nodes) ++ more_text (length paths - 8)
+abbrev pub levels_text : Sight → Certificate → List ℕ
+levels_text sight certificate =
+    level_list sight certificate (take (length sight.paths) first_nodes) ++ more_text (length sight.paths - 8)
 
 -- how many questions are covered by the access that covers most, and which it is; nothing where none covers
 abbrev pub IsMostText : (text : List ℕ) → Type 0
@@ -52,7 +52,7 @@ questions_text certificate asked most =
     ++ (decimal (asked - length certificate.entries) ++ codes " are in order by the levels\n"))))))
 
 -- the words have the line of all questions that the paths ask, and that of the levels
-abbrev pub SaysRobust : DraftTree → List Path → Certificate → (words : List ℕ) → Type 0
-SaysRobust set paths certificate words =
+abbrev pub SaysRobust : Sight → Certificate → (words : List ℕ) → Type 0
+SaysRobust sight certificate words =
     (most : List ℕ) × IsMostText most
-    × (words ≡ questions_text certificate (asked_count paths) most ++ (codes "levels: " ++ (levels_text set paths certificate ++ codes "\n")))
+    × (words ≡ questions_text certificate (asked_count sight.paths) most ++ (codes "levels: " ++ (levels_text sight certificate ++ codes "\n")))

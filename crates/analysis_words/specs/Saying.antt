@@ -3,7 +3,6 @@ use Rattle.std.specs.Prelude.{ℕ, ◌≡◌, ◌==◌, Bool, if◌then◌else�
 use Rattle.std.specs.Fmt.{decimal}
 use Rattle.std.specs.List.{flat_map, prefix_len}
 use Rattle.std.specs.Option.{option_map_or}
-use Rattle.prog_tree.specs.Syntax.{DraftTree}
 use Rattle.prog_check.specs.declared.path.Path.{Path}
 use Rattle.prog_paths.specs.Asked.{limit}
 use Rattle.robust_cert.specs.Accepted.{body_size}
@@ -15,7 +14,7 @@ use Rattle.robust_cert.specs.declared.fault.CertFault.{CertFault}
 use Rattle.robust_cert.specs.declared.fault.CertFault.TheVariants as c
 use Rattle.robust_cert.specs.declared.fault.JsonFault.{JsonFault}
 use Rattle.robust_cert.specs.declared.fault.JsonFault.TheVariants as j
-use Rattle.analysis_words.specs.Nodes.{node_name, IsAccessText}
+use Rattle.analysis_words.specs.Nodes.{node_name, IsAccessText, Sight}
 
 -- the bytes are the text of no certificate
 abbrev pub IsNoCertificate : List ℕ → Type 0
@@ -29,18 +28,18 @@ abbrev pub level_of : Certificate → (node : ℕ) → ℕ
 level_of certificate node = number_at certificate.levels node
 
 -- a level and the node that has it, as ``2 of `Pay:t` ``
-abbrev pub level_text : DraftTree → List Path → Certificate → (node : ℕ) → List ℕ
-level_text set paths certificate node =
-    decimal (level_of certificate node) ++ (codes " of " ++ node_name set paths node)
+abbrev pub level_text : Sight → Certificate → (node : ℕ) → List ℕ
+level_text sight certificate node =
+    decimal (level_of certificate node) ++ (codes " of " ++ node_name sight node)
 
-abbrev pub further_level : DraftTree → List Path → Certificate → (node : ℕ) → List ℕ
-further_level set paths certificate node = codes ", " ++ level_text set paths certificate node
+abbrev pub further_level : Sight → Certificate → (node : ℕ) → List ℕ
+further_level sight certificate node = codes ", " ++ level_text sight certificate node
 
 -- the levels of nodes, as ``2 of `Pay:t`, 3 of `Pay:f` ``
-abbrev pub level_list : DraftTree → List Path → Certificate → (nodes : List ℕ) → List ℕ
-level_list set paths certificate [] = []
-level_list set paths certificate (first ∷ others) =
-    level_text set paths certificate first ++ flat_map (further_level set paths certificate) others
+abbrev pub level_list : Sight → Certificate → (nodes : List ℕ) → List ℕ
+level_list sight certificate [] = []
+level_list sight certificate (first ∷ others) =
+    level_text sight certificate first ++ flat_map (further_level sight certificate) others
 
 abbrev pub entry_text : (entry : ℕ) → List ℕ
 entry_text entry = codes "entry " ++ (decimal entry ++ codes ": ")
@@ -58,41 +57,41 @@ abbrev pub body_size_at : List Path → (node : ℕ) → ℕ
 body_size_at paths node = option_map_or body_size (slice_get paths node) 0
 
 -- how many accesses of a node stand in bodies, by a certificate and by the paths
-abbrev pub mistold_text : DraftTree → List Path → Certificate → (node : ℕ) → List ℕ
-mistold_text set paths certificate node =
-    codes "bodies: " ++ (decimal (number_at certificate.bodies node) ++ (codes " of " ++ (node_name set paths node
-    ++ (codes ", which has " ++ (decimal (body_size_at paths node) ++ codes "; ")))))
+abbrev pub mistold_text : Sight → Certificate → (node : ℕ) → List ℕ
+mistold_text sight certificate node =
+    codes "bodies: " ++ (decimal (number_at certificate.bodies node) ++ (codes " of " ++ (node_name sight node
+    ++ (codes ", which has " ++ (decimal (body_size_at sight.paths node) ++ codes "; ")))))
 
 abbrev pub count_text : (what : List ℕ) → (count nodes : ℕ) → List ℕ
 count_text what count nodes = what ++ (codes ": " ++ (decimal count ++ (codes ", nodes: " ++ (decimal nodes ++ codes "; "))))
 
 -- how many levels and nodes there are; or where these are as many, how many numbers of `bodies`; or where those are too,
 -- the first of these numbers that is wrong
-abbrev pub counts_text : DraftTree → List Path → Certificate → List ℕ
-counts_text set paths certificate =
-    if length certificate.levels == length paths
-    then (if length certificate.bodies == length paths
-    then mistold_text set paths certificate (first_mistold certificate.bodies paths)
-    else count_text (codes "bodies") (length certificate.bodies) (length paths))
-    else count_text (codes "levels") (length certificate.levels) (length paths)
+abbrev pub counts_text : Sight → Certificate → List ℕ
+counts_text sight certificate =
+    if length certificate.levels == length sight.paths
+    then (if length certificate.bodies == length sight.paths
+    then mistold_text sight certificate (first_mistold certificate.bodies sight.paths)
+    else count_text (codes "bodies") (length certificate.bodies) (length sight.paths))
+    else count_text (codes "levels") (length certificate.levels) (length sight.paths)
 
 -- the levels of nodes that edges join
-abbrev pub along_text : DraftTree → List Path → Certificate → (nodes : List ℕ) → List ℕ
-along_text set paths certificate nodes = codes "levels " ++ (level_list set paths certificate nodes ++ codes ": ")
+abbrev pub along_text : Sight → Certificate → (nodes : List ℕ) → List ℕ
+along_text sight certificate nodes = codes "levels " ++ (level_list sight certificate nodes ++ codes ": ")
 
 -- what the words begin with: the entry that the line of the fault names, or the levels of its nodes, or the counts that
 -- are not those of the nodes
-abbrev pub front_of : DraftTree → List Path → Certificate → CertFault → List ℕ
-front_of set paths certificate (c.NoSuchEntry entry) = entry_text entry
-front_of set paths certificate (c.EntryOrder entry) = entry_text entry
-front_of set paths certificate (c.BadCover entry) = entry_text entry
-front_of set paths certificate (c.BadChain entry) = entry_text entry
-front_of set paths certificate (c.LevelFalls x y) = along_text set paths certificate (x ∷ y ∷ [])
-front_of set paths certificate (c.Dangerous x y z) = along_text set paths certificate (x ∷ y ∷ z ∷ [])
-front_of set paths certificate c.PathCount = counts_text set paths certificate
-front_of set paths certificate c.TooLarge =
+abbrev pub front_of : Sight → Certificate → CertFault → List ℕ
+front_of sight certificate (c.NoSuchEntry entry) = entry_text entry
+front_of sight certificate (c.EntryOrder entry) = entry_text entry
+front_of sight certificate (c.BadCover entry) = entry_text entry
+front_of sight certificate (c.BadChain entry) = entry_text entry
+front_of sight certificate (c.LevelFalls x y) = along_text sight certificate (x ∷ y ∷ [])
+front_of sight certificate (c.Dangerous x y z) = along_text sight certificate (x ∷ y ∷ z ∷ [])
+front_of sight certificate c.PathCount = counts_text sight certificate
+front_of sight certificate c.TooLarge =
     codes "more than " ++ (decimal limit ++ codes " pairs of accesses would have to be compared")
-front_of set paths certificate c.Memory = codes "memory ran out"
+front_of sight certificate c.Memory = codes "memory ran out"
 
 -- what does not hold of the entry, or of the levels
 abbrev pub broken_rule : CertFault → List ℕ
@@ -125,28 +124,28 @@ abbrev pub asked_in : Certificate → (entry : ℕ) → Option Question
 asked_in certificate entry = option_map question_told (slice_get certificate.entries entry)
 
 -- the words name both accesses of a question, if there is one
-abbrev pub IsQuestionText : (text : List ℕ) → DraftTree → List Path → Option Question → (words : List ℕ) → Type 0
-IsQuestionText text set paths None words = words ≡ codes "its question"
-IsQuestionText text set paths (Some q) words =
-    (mine theirs : List ℕ) × IsAccessText text set paths q.x q.a mine × IsAccessText text set paths q.y q.b theirs
+abbrev pub IsQuestionText : Sight → Option Question → (words : List ℕ) → Type 0
+IsQuestionText sight None words = words ≡ codes "its question"
+IsQuestionText sight (Some q) words =
+    (mine theirs : List ℕ) × IsAccessText sight q.x q.a mine × IsAccessText sight q.y q.b theirs
     × (words ≡ mine ++ (codes " against " ++ theirs))
 
 -- the words name the question of an entry before what does not hold of it; where no entry is meant there are none
-abbrev pub IsAskedText : (text : List ℕ) → DraftTree → List Path → Certificate → (entry : Option ℕ) → (words : List ℕ) → Type 0
-IsAskedText text set paths certificate None words = words ≡ []
-IsAskedText text set paths certificate (Some entry) words =
-    (question : List ℕ) × IsQuestionText text set paths (asked_in certificate entry) question × (words ≡ question ++ codes ": ")
+abbrev pub IsAskedText : Sight → Certificate → (entry : Option ℕ) → (words : List ℕ) → Type 0
+IsAskedText sight certificate None words = words ≡ []
+IsAskedText sight certificate (Some entry) words =
+    (question : List ℕ) × IsQuestionText sight (asked_in certificate entry) question × (words ≡ question ++ codes ": ")
 
 -- the words of a fault of a certificate for a set of these paths
-abbrev pub IsOfFault : (text : List ℕ) → DraftTree → List Path → Certificate → CertFault → (words : List ℕ) → Type 0
-IsOfFault text set paths certificate fault words =
-    (asked : List ℕ) × IsAskedText text set paths certificate (entry_of fault) asked
-    × (words ≡ front_of set paths certificate fault ++ (asked ++ (broken_rule fault ++ codes "\n")))
+abbrev pub IsOfFault : Sight → Certificate → CertFault → (words : List ℕ) → Type 0
+IsOfFault sight certificate fault words =
+    (asked : List ℕ) × IsAskedText sight certificate (entry_of fault) asked
+    × (words ≡ front_of sight certificate fault ++ (asked ++ (broken_rule fault ++ codes "\n")))
 
 -- the words of a fault of the certificate that the bytes are
-abbrev pub IsSaidOf : (text bytes : List ℕ) → DraftTree → List Path → CertFault → (words : List ℕ) → Type 0
-IsSaidOf text bytes set paths fault words =
-    (certificate : Certificate) × IsTextOf certificate bytes × IsOfFault text set paths certificate fault words
+abbrev pub IsSaidOf : Sight → (bytes : List ℕ) → CertFault → (words : List ℕ) → Type 0
+IsSaidOf sight bytes fault words =
+    (certificate : Certificate) × IsTextOf certificate bytes × IsOfFault sight certificate fault words
 
 -- why bytes are no certificate
 abbrev pub json_words : JsonFault → List ℕ

@@ -1,7 +1,7 @@
 //! What follows from a dangerous structure, and what helps.
 ghost use Rattle.std.specs.Prelude.{◌≡◌, false, IfOk, string_bytes};
-ghost use Rattle.prog_tree.specs.Tree.{draft_tree};
 ghost use Rattle.analysis_words.specs.Helping.{clashing_text, keep_text, keepers_text, meets_body, outside_text, parameter_text, shared_text, IsHelp};
+ghost use Rattle.analysis_words.specs.Nodes.{seen};
 ghost use Rattle.analysis_words.specs.Refusing.{IsAdvice, IsTwinAdvice, advice_text, circle_text, step_text, twin_advice_text, way_text};
 
 use crate::looks::{is_under_unknown_key, meets_body};
@@ -19,8 +19,7 @@ fn step_text(
     last: usize,
     next: usize,
 ) -> Result<String, AllocError>
-    ensures { IfOk result (λ text. string_bytes text
-        ≡ step_text (draft_tree shown.entry.set.now) shown.entry.paths.now last next) }
+    ensures { IfOk result (λ text. string_bytes text ≡ step_text (seen shown.entry) last next) }
 {
     let other = other_run(last, next);
     let next = node_name(alloc, shown, next)?;
@@ -34,8 +33,7 @@ fn way_text(
     from: usize,
     nodes: &[usize],
 ) -> Result<String, AllocError>
-    ensures { IfOk result (λ text. string_bytes text
-        ≡ way_text (draft_tree shown.entry.set.now) shown.entry.paths.now from nodes.now) }
+    ensures { IfOk result (λ text. string_bytes text ≡ way_text (seen shown.entry) from nodes.now) }
 {
     let mut text = String::new(alloc);
     let mut last = from;
@@ -49,8 +47,7 @@ fn way_text(
 
 // The circle along both edges and the way back.
 fn circle_text(alloc: Global, shown: Shown<'_>, danger: &Danger) -> Result<String, AllocError>
-    ensures { IfOk result (λ text. string_bytes text
-        ≡ circle_text (draft_tree shown.entry.set.now) shown.entry.paths.now danger.now) }
+    ensures { IfOk result (λ text. string_bytes text ≡ circle_text (seen shown.entry) danger.now) }
 {
     let first = node_name(alloc, shown, danger.x)?;
     let other = other_run(danger.x, danger.y);
@@ -61,8 +58,7 @@ fn circle_text(alloc: Global, shown: Shown<'_>, danger: &Danger) -> Result<Strin
 
 // The two of a question, as those that keep one cell.
 fn keepers_text(alloc: Global, shown: Shown<'_>, question: Question) -> Result<String, AllocError>
-    ensures { IfOk result (λ text. string_bytes text
-        ≡ keepers_text (draft_tree shown.entry.set.now) shown.entry.paths.now question) }
+    ensures { IfOk result (λ text. string_bytes text ≡ keepers_text (seen shown.entry) question) }
 {
     let reader = node_name(alloc, shown, question.x)?;
     if question.x == question.y {
@@ -74,8 +70,7 @@ fn keepers_text(alloc: Global, shown: Shown<'_>, question: Question) -> Result<S
 
 // The same two, as those that clash.
 fn clashing_text(alloc: Global, shown: Shown<'_>, question: Question) -> Result<String, AllocError>
-    ensures { IfOk result (λ text. string_bytes text
-        ≡ clashing_text (draft_tree shown.entry.set.now) shown.entry.paths.now question) }
+    ensures { IfOk result (λ text. string_bytes text ≡ clashing_text (seen shown.entry) question) }
 {
     let reader = node_name(alloc, shown, question.x)?;
     if question.x == question.y {
@@ -104,7 +99,7 @@ fn shared_text(
     cells: &str,
 ) -> Result<String, AllocError>
     ensures { IfOk result (λ text. string_bytes text
-        ≡ shared_text (draft_tree shown.entry.set.now) shown.entry.paths.now question cells.now) }
+        ≡ shared_text (seen shown.entry) question cells.now) }
 {
     let keepers = keepers_text(alloc, shown, question)?;
     let outside = outside_text(meets_body(shown, &question));
@@ -119,8 +114,8 @@ fn keep_text(
     cells: &str,
     line: usize,
 ) -> Result<String, AllocError>
-    ensures { IfOk result (λ text. string_bytes text ≡ keep_text
-        (draft_tree shown.entry.set.now) shown.entry.paths.now question cells.now line) }
+    ensures { IfOk result (λ text. string_bytes text
+        ≡ keep_text (seen shown.entry) question cells.now line) }
 {
     let clashing = clashing_text(alloc, shown, question)?;
     format!(in alloc; "`keep {cells};` behind line {line}, so that {clashing}")
@@ -134,8 +129,8 @@ fn parameter_text(
     cells: &str,
     line: usize,
 ) -> Result<String, AllocError>
-    ensures { IfOk result (λ text. string_bytes text ≡ parameter_text
-        (draft_tree shown.entry.set.now) shown.entry.paths.now question cells.now line) }
+    ensures { IfOk result (λ text. string_bytes text
+        ≡ parameter_text (seen shown.entry) question cells.now line) }
 {
     let clashing = clashing_text(alloc, shown, question)?;
     format!(in alloc;
@@ -146,7 +141,7 @@ fn parameter_text(
 // Whether no keep of its own covers what the first of a question looks at: cells of a range, or
 // where one of both stands in the body of an `each`.
 fn takes_shared_cell(shown: Shown<'_>, question: &Question, cells: &str) -> bool
-    ensures { result ≡ false → meets_body shown.entry.paths.now question.now ≡ false }
+    ensures { result ≡ false → meets_body (seen shown.entry) question.now ≡ false }
 {
     cells.contains("..") || meets_body(shown, question)
 }
@@ -154,8 +149,7 @@ fn takes_shared_cell(shown: Shown<'_>, question: &Question, cells: &str) -> bool
 // What makes the two of a question clash: the first keeps the cell that it looks at, or both keep
 // one cell.
 fn help(alloc: Global, shown: Shown<'_>, question: Question) -> Result<String, AllocError>
-    ensures { IfOk result (λ text. IsHelp shown.entry.text.now (draft_tree shown.entry.set.now)
-        shown.entry.paths.now question (string_bytes text)) }
+    ensures { IfOk result (λ text. IsHelp (seen shown.entry) question (string_bytes text)) }
 {
     let Some(place) = access_place(shown, question.x, question.a) else {
         let keepers = keepers_text(alloc, shown, question)?;
@@ -199,8 +193,7 @@ fn twin_advice_text(alloc: Global, help: &str) -> Result<String, AllocError>
 
 /// Why nothing hinders both edges, how the circle closes, and what to do about it.
 pub fn advice(alloc: Global, shown: Shown<'_>, danger: &Danger) -> Result<String, AllocError>
-    ensures { IfOk result (λ words. IsAdvice shown.entry.text.now
-        (draft_tree shown.entry.set.now) shown.entry.paths.now danger.now (string_bytes words)) }
+    ensures { IfOk result (λ words. IsAdvice (seen shown.entry) danger.now (string_bytes words)) }
 {
     let circle = circle_text(alloc, shown, danger)?;
     let first = help(alloc, shown, danger.first.question)?;
@@ -211,8 +204,7 @@ pub fn advice(alloc: Global, shown: Shown<'_>, danger: &Danger) -> Result<String
 
 /// The same where both edges are one.
 pub fn twin_advice(alloc: Global, shown: Shown<'_>, danger: &Danger) -> Result<String, AllocError>
-    ensures { IfOk result (λ words. IsTwinAdvice shown.entry.text.now
-        (draft_tree shown.entry.set.now) shown.entry.paths.now danger.now (string_bytes words)) }
+    ensures { IfOk result (λ words. IsTwinAdvice (seen shown.entry) danger.now (string_bytes words)) }
 {
     let help = help(alloc, shown, danger.first.question)?;
     let words = twin_advice_text(alloc, &help)?;

@@ -1,8 +1,7 @@
 //! The faults of a certificate in words.
-ghost use Rattle.std.specs.Prelude.{◌≡◌, IfNone, IfOk, IfSome, slice_get, string_bytes};
-ghost use Rattle.prog_tree.specs.Tree.{draft_tree};
-ghost use Rattle.prog_check.specs.Paths.{paths_of};
+ghost use Rattle.std.specs.Prelude.{◌≡◌, IfNone, IfOk, IfSome, string_bytes};
 ghost use Rattle.robust_cert.specs.Reading.{IsTextOf};
+ghost use Rattle.analysis_words.specs.Nodes.{seen, sight_of};
 ghost use Rattle.analysis_words.specs.Saying.{along_text, asked_in, body_size_at, broken_rule, count_text, counts_text, entry_of, first_mistold, front_of, is_told, json_words, mistold_text, IsAskedText, IsNoCertificate, IsOfFault, IsQuestionText, IsSaidOf};
 
 use crate::levels::{level_list, number_at};
@@ -30,8 +29,7 @@ fn question_text(
     shown: Shown<'_>,
     question: Option<Question>,
 ) -> Result<String, AllocError>
-    ensures { IfOk result (λ words. IsQuestionText shown.entry.text.now
-        (draft_tree shown.entry.set.now) shown.entry.paths.now question (string_bytes words)) }
+    ensures { IfOk result (λ words. IsQuestionText (seen shown.entry) question (string_bytes words)) }
 {
     let Some(asked) = question else {
         let none = format!(in alloc; "its question")?;
@@ -78,8 +76,8 @@ fn mistold_text(
     certificate: &Certificate,
     node: usize,
 ) -> Result<String, AllocError>
-    ensures { IfOk result (λ text. string_bytes text ≡ mistold_text
-        (draft_tree shown.entry.set.now) shown.entry.paths.now certificate.now node) }
+    ensures { IfOk result (λ text. string_bytes text
+        ≡ mistold_text (seen shown.entry) certificate.now node) }
 {
     let told = number_at(certificate.bodies.as_slice(), node);
     let name = node_name(alloc, shown, node)?;
@@ -100,8 +98,8 @@ fn counts_text(
     shown: Shown<'_>,
     certificate: &Certificate,
 ) -> Result<String, AllocError>
-    ensures { IfOk result (λ text. string_bytes text ≡ counts_text
-        (draft_tree shown.entry.set.now) shown.entry.paths.now certificate.now) }
+    ensures { IfOk result (λ text. string_bytes text
+        ≡ counts_text (seen shown.entry) certificate.now) }
 {
     let nodes = shown.paths.len();
     let levels = certificate.levels.len();
@@ -123,8 +121,8 @@ fn along_text(
     certificate: &Certificate,
     nodes: &[usize],
 ) -> Result<String, AllocError>
-    ensures { IfOk result (λ text. string_bytes text ≡ along_text
-        (draft_tree shown.entry.set.now) shown.entry.paths.now certificate.now nodes.now) }
+    ensures { IfOk result (λ text. string_bytes text
+        ≡ along_text (seen shown.entry) certificate.now nodes.now) }
 {
     let levels = level_list(alloc, shown, certificate, nodes)?;
     format!(in alloc; "levels {levels}: ")
@@ -137,8 +135,8 @@ fn front_of(
     certificate: &Certificate,
     fault: CertFault,
 ) -> Result<String, AllocError>
-    ensures { IfOk result (λ front. string_bytes front ≡ front_of (draft_tree shown.entry.set.now)
-        shown.entry.paths.now certificate.now fault) }
+    ensures { IfOk result (λ front. string_bytes front
+        ≡ front_of (seen shown.entry) certificate.now fault) }
 {
     match fault {
         CertFault::NoSuchEntry(entry)
@@ -206,8 +204,7 @@ fn asked_text(
     certificate: &Certificate,
     fault: CertFault,
 ) -> Result<String, AllocError>
-    ensures { IfOk result (λ words. IsAskedText shown.entry.text.now
-        (draft_tree shown.entry.set.now) shown.entry.paths.now certificate.now (entry_of fault)
+    ensures { IfOk result (λ words. IsAskedText (seen shown.entry) certificate.now (entry_of fault)
         (string_bytes words)) }
 {
     let Some(entry) = entry_of(fault) else {
@@ -225,8 +222,7 @@ fn sentence(
     certificate: &Certificate,
     fault: CertFault,
 ) -> Result<String, AllocError>
-    ensures { IfOk result (λ words. IsOfFault shown.entry.text.now
-        (draft_tree shown.entry.set.now) shown.entry.paths.now certificate.now fault
+    ensures { IfOk result (λ words. IsOfFault (seen shown.entry) certificate.now fault
         (string_bytes words)) }
 {
     let front = front_of(alloc, shown, certificate, fault)?;
@@ -258,8 +254,8 @@ pub fn certificate_words(
     part: &[u8],
     fault: CertFault,
 ) -> Result<Option<String>, AllocError>
-    ensures said { IfOk result (λ said. IfSome said (λ words. IsSaidOf text.now part.now
-        (draft_tree set.now) (paths_of (draft_tree set.now)) fault (string_bytes words))) }
+    ensures said { IfOk result (λ said. IfSome said (λ words. IsSaidOf
+        (sight_of text.now set.now) part.now fault (string_bytes words))) }
     ensures none { IfOk result (λ said. IfNone said (IsNoCertificate part.now)) }
 {
     let Some(certificate) = certificate_of(alloc, part)? else {

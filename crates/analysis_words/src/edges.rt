@@ -1,7 +1,7 @@
 //! The edges of a dangerous structure in words.
 ghost use Rattle.std.specs.Prelude.{◌≡◌, ◌↔◌, IfNone, IfOk, IfSome, IsTrue, string_bytes};
-ghost use Rattle.prog_tree.specs.Tree.{draft_tree};
 ghost use Rattle.analysis_words.specs.Edges.{change_text, look_text, told_text, twin_change_text, twin_look_text, unseen_text, IsRepeated, IsSameQuestion};
+ghost use Rattle.analysis_words.specs.Nodes.{seen};
 ghost use Rattle.analysis_words.specs.Refusing.{LacksQuestion, ShowsEdge, ShowsQuestion, ShowsTwins};
 
 use crate::instances::{instance_text, numbers_along};
@@ -14,8 +14,7 @@ use std::alloc::{AllocError, Global};
 
 // What is said where the first instance of a question looks.
 fn look_text(alloc: Global, shown: Shown<'_>, edge: &Exposure) -> Result<String, AllocError>
-    ensures { IfOk result (λ text. string_bytes text
-        ≡ look_text (draft_tree shown.entry.set.now) shown.entry.paths.now edge.now) }
+    ensures { IfOk result (λ text. string_bytes text ≡ look_text (seen shown.entry) edge.now) }
 {
     let reader = instance_text(alloc, shown, &edge.sample, true, edge.question.x)?;
     let turns = turns_text(shown, edge.question.x, edge.question.a);
@@ -29,8 +28,7 @@ fn unseen_text(
     node: usize,
     access: usize,
 ) -> Result<String, AllocError>
-    ensures { IfOk result
-        (λ text. string_bytes text ≡ unseen_text shown.entry.paths.now node access) }
+    ensures { IfOk result (λ text. string_bytes text ≡ unseen_text (seen shown.entry) node access) }
 {
     let turns = turns_text(shown, node, access);
     format!(in alloc; " changes here{turns} what that looked at, unseen by it")
@@ -38,8 +36,7 @@ fn unseen_text(
 
 // What is said where the second one changes that.
 fn change_text(alloc: Global, shown: Shown<'_>, edge: &Exposure) -> Result<String, AllocError>
-    ensures { IfOk result (λ text. string_bytes text
-        ≡ change_text (draft_tree shown.entry.set.now) shown.entry.paths.now edge.now) }
+    ensures { IfOk result (λ text. string_bytes text ≡ change_text (seen shown.entry) edge.now) }
 {
     let other = other_run(edge.question.x, edge.question.y);
     let writer = instance_text(alloc, shown, &edge.sample, false, edge.question.y)?;
@@ -49,8 +46,7 @@ fn change_text(alloc: Global, shown: Shown<'_>, edge: &Exposure) -> Result<Strin
 
 // The same of two instances of one node, each of which may be the first.
 fn twin_look_text(alloc: Global, shown: Shown<'_>, edge: &Exposure) -> Result<String, AllocError>
-    ensures { IfOk result (λ text. string_bytes text
-        ≡ twin_look_text (draft_tree shown.entry.set.now) shown.entry.paths.now edge.now) }
+    ensures { IfOk result (λ text. string_bytes text ≡ twin_look_text (seen shown.entry) edge.now) }
 {
     let name = node_name(alloc, shown, edge.question.x)?;
     let numbers = numbers_along(alloc, shown, &edge.sample, true, edge.question.x)?;
@@ -60,7 +56,7 @@ fn twin_look_text(alloc: Global, shown: Shown<'_>, edge: &Exposure) -> Result<St
 
 fn twin_change_text(alloc: Global, shown: Shown<'_>, edge: &Exposure) -> Result<String, AllocError>
     ensures { IfOk result (λ text. string_bytes text
-        ≡ twin_change_text (draft_tree shown.entry.set.now) shown.entry.paths.now edge.now) }
+        ≡ twin_change_text (seen shown.entry) edge.now) }
 {
     let numbers = numbers_along(alloc, shown, &edge.sample, false, edge.question.y)?;
     let unseen = unseen_text(alloc, shown, edge.question.y, edge.question.b)?;
@@ -69,8 +65,7 @@ fn twin_change_text(alloc: Global, shown: Shown<'_>, edge: &Exposure) -> Result<
 
 // All that is said of an edge.
 fn told_text(alloc: Global, shown: Shown<'_>, edge: &Exposure) -> Result<String, AllocError>
-    ensures { IfOk result (λ text. string_bytes text
-        ≡ told_text (draft_tree shown.entry.set.now) shown.entry.paths.now edge.now) }
+    ensures { IfOk result (λ text. string_bytes text ≡ told_text (seen shown.entry) edge.now) }
 {
     let look = look_text(alloc, shown, edge)?;
     let change = change_text(alloc, shown, edge)?;
@@ -107,8 +102,7 @@ fn is_one(question: Question, other: Question, told: &str, other_told: &str) -> 
 
 /// Whether both edges are the same, in the same sample.
 pub fn is_repeated(alloc: Global, shown: Shown<'_>, danger: &Danger) -> Result<bool, AllocError>
-    ensures { IfOk result (λ yes. IsTrue yes ↔ IsRepeated
-        (draft_tree shown.entry.set.now) shown.entry.paths.now danger.now) }
+    ensures { IfOk result (λ yes. IsTrue yes ↔ IsRepeated (seen shown.entry) danger.now) }
 {
     let told = told_text(alloc, shown, &danger.first)?;
     let second = told_text(alloc, shown, &danger.second)?;
@@ -129,10 +123,9 @@ fn question_words(
     look: &str,
     change: &str,
 ) -> Result<Option<String>, AllocError>
-    ensures said { IfOk result (λ said. IfSome said (λ words. ShowsQuestion shown.entry.text.now
-        shown.entry.paths.now question look.now change.now (string_bytes words))) }
-    ensures none { IfOk result (λ said. IfNone said
-        (LacksQuestion shown.entry.text.now shown.entry.paths.now question)) }
+    ensures said { IfOk result (λ said. IfSome said (λ words. ShowsQuestion (seen shown.entry)
+        question look.now change.now (string_bytes words))) }
+    ensures none { IfOk result (λ said. IfNone said (LacksQuestion (seen shown.entry) question)) }
 {
     let Some(reader) = point_at_access(alloc, shown, question.x, question.a, look)? else {
         return Ok(None);
@@ -151,10 +144,10 @@ pub fn edge_words(
     shown: Shown<'_>,
     edge: &Exposure,
 ) -> Result<Option<String>, AllocError>
-    ensures said { IfOk result (λ said. IfSome said (λ words. ShowsEdge shown.entry.text.now
-        (draft_tree shown.entry.set.now) shown.entry.paths.now edge.now (string_bytes words))) }
+    ensures said { IfOk result (λ said. IfSome said (λ words. ShowsEdge (seen shown.entry) edge.now
+        (string_bytes words))) }
     ensures none { IfOk result (λ said. IfNone said
-        (LacksQuestion shown.entry.text.now shown.entry.paths.now edge.now.question)) }
+        (LacksQuestion (seen shown.entry) edge.now.question)) }
 {
     let look = look_text(alloc, shown, edge)?;
     let change = change_text(alloc, shown, edge)?;
@@ -167,10 +160,10 @@ pub fn twin_words(
     shown: Shown<'_>,
     edge: &Exposure,
 ) -> Result<Option<String>, AllocError>
-    ensures said { IfOk result (λ said. IfSome said (λ words. ShowsTwins shown.entry.text.now
-        (draft_tree shown.entry.set.now) shown.entry.paths.now edge.now (string_bytes words))) }
+    ensures said { IfOk result (λ said. IfSome said (λ words. ShowsTwins (seen shown.entry) edge.now
+        (string_bytes words))) }
     ensures none { IfOk result (λ said. IfNone said
-        (LacksQuestion shown.entry.text.now shown.entry.paths.now edge.now.question)) }
+        (LacksQuestion (seen shown.entry) edge.now.question)) }
 {
     let look = twin_look_text(alloc, shown, edge)?;
     let change = twin_change_text(alloc, shown, edge)?;

@@ -1,7 +1,7 @@
 //! Instances of programs with the numbers that samples give their parameters.
 ghost use Rattle.std.specs.Prelude.{◌≡◌, IfOk, string_bytes};
-ghost use Rattle.prog_tree.specs.Tree.{draft_tree};
 ghost use Rattle.analysis_words.specs.Instances.{given, given_from, instance_text, node_of, numbers_along, numbers_text, opening, params_along};
+ghost use Rattle.analysis_words.specs.Nodes.{seen};
 
 use crate::shown::{Shown, node_name};
 use fault_words::program_params;
@@ -80,8 +80,7 @@ fn numbers_text(
 
 // The parameters of a node's program.
 fn params_along<'a>(shown: Shown<'a>, node: usize) -> &'a [Name]
-    ensures { result.now
-        ≡ params_along (draft_tree shown.entry.set.now) shown.entry.paths.now node }
+    ensures { result.now ≡ params_along (seen shown.entry) node }
 {
     match shown.paths.get(node) {
         Some(path) => program_params(shown.set.draft(), path.program),
@@ -98,8 +97,8 @@ pub fn numbers_along(
     is_first: bool,
     node: usize,
 ) -> Result<String, AllocError>
-    ensures { IfOk result (λ text. string_bytes text ≡ numbers_along
-        (draft_tree shown.entry.set.now) shown.entry.paths.now sample.now is_first node) }
+    ensures { IfOk result (λ text. string_bytes text
+        ≡ numbers_along (seen shown.entry) sample.now is_first node) }
 {
     numbers_text(alloc, sample, is_first, params_along(shown, node))
 }
@@ -112,8 +111,8 @@ pub fn instance_text(
     is_first: bool,
     node: usize,
 ) -> Result<String, AllocError>
-    ensures { IfOk result (λ text. string_bytes text ≡ instance_text
-        (draft_tree shown.entry.set.now) shown.entry.paths.now sample.now is_first node) }
+    ensures { IfOk result (λ text. string_bytes text
+        ≡ instance_text (seen shown.entry) sample.now is_first node) }
 {
     let name = node_name(alloc, shown, node)?;
     let numbers = numbers_along(alloc, shown, sample, is_first, node)?;

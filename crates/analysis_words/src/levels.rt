@@ -1,6 +1,6 @@
 //! The numbers that a certificate tells of its nodes.
 ghost use Rattle.std.specs.Prelude.{◌≡◌, IfOk, string_bytes};
-ghost use Rattle.prog_tree.specs.Tree.{draft_tree};
+ghost use Rattle.analysis_words.specs.Nodes.{seen};
 ghost use Rattle.analysis_words.specs.Saying.{level_list, level_of, level_text, number_at};
 
 use crate::shown::{Shown, node_name};
@@ -30,8 +30,8 @@ fn level_text(
     certificate: &Certificate,
     node: usize,
 ) -> Result<String, AllocError>
-    ensures { IfOk result (λ text. string_bytes text ≡ level_text
-        (draft_tree shown.entry.set.now) shown.entry.paths.now certificate.now node) }
+    ensures { IfOk result (λ text. string_bytes text
+        ≡ level_text (seen shown.entry) certificate.now node) }
 {
     let name = node_name(alloc, shown, node)?;
     let level = level_of(certificate, node);
@@ -45,8 +45,8 @@ pub fn level_list(
     certificate: &Certificate,
     nodes: &[usize],
 ) -> Result<String, AllocError>
-    ensures { IfOk result (λ text. string_bytes text ≡ level_list
-        (draft_tree shown.entry.set.now) shown.entry.paths.now certificate.now nodes.now) }
+    ensures { IfOk result (λ text. string_bytes text
+        ≡ level_list (seen shown.entry) certificate.now nodes.now) }
 {
     let [first, others @ ..] = nodes else {
         return Ok(String::new(alloc));

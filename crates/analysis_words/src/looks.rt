@@ -1,6 +1,7 @@
 //! What a program looks at that another may change unseen.
 ghost use Rattle.std.specs.Prelude.{◌≡◌, ◌↔◌, IsTrue};
 ghost use Rattle.analysis_words.specs.Helping.{meets_body, IsUnderUnknownKey};
+ghost use Rattle.analysis_words.specs.Nodes.{seen};
 
 use crate::shown::{Shown, access_of, access_place, cells_at, is_in_body, node_name, turns_text};
 use prog_paths::Question;
@@ -40,7 +41,7 @@ pub fn looked_at(
 
 /// Whether the key of a look is told by no parameters and numbers.
 pub fn is_under_unknown_key(shown: Shown<'_>, question: &Question) -> bool
-    ensures { IsTrue result ↔ IsUnderUnknownKey shown.entry.paths.now question.now }
+    ensures { IsTrue result ↔ IsUnderUnknownKey (seen shown.entry) question.now }
 {
     let Some(look) = access_of(shown, question.x, question.a) else {
         return false;
@@ -51,7 +52,7 @@ pub fn is_under_unknown_key(shown: Shown<'_>, question: &Question) -> bool
 /// Whether the look of a question, or what changes what it looks at, stands in the body of an
 /// `each`.
 pub fn meets_body(shown: Shown<'_>, question: &Question) -> bool
-    ensures { result ≡ meets_body shown.entry.paths.now question.now }
+    ensures { result ≡ meets_body (seen shown.entry) question.now }
 {
     is_in_body(shown, question.x, question.a) || is_in_body(shown, question.y, question.b)
 }

@@ -1,6 +1,6 @@
 //! Accesses pointed at in the text of a set.
 ghost use Rattle.std.specs.Prelude.{IfNone, IfOk, IfSome, string_bytes};
-ghost use Rattle.analysis_words.specs.Nodes.{HasNoAccess};
+ghost use Rattle.analysis_words.specs.Nodes.{seen, HasNoAccess};
 ghost use Rattle.analysis_words.specs.Refusing.{PointsAtAccess};
 
 use crate::shown::{Shown, access_place};
@@ -16,11 +16,9 @@ pub fn point_at_access(
     access: usize,
     sentence: &str,
 ) -> Result<Option<String>, AllocError>
-    ensures said { IfOk result (λ said. IfSome said (λ words.
-        PointsAtAccess shown.entry.text.now shown.entry.paths.now node access
-        sentence.now (string_bytes words))) }
-    ensures none { IfOk result (λ said. IfNone said
-        (HasNoAccess shown.entry.text.now shown.entry.paths.now node access)) }
+    ensures said { IfOk result (λ said. IfSome said (λ words. PointsAtAccess (seen shown.entry) node
+        access sentence.now (string_bytes words))) }
+    ensures none { IfOk result (λ said. IfNone said (HasNoAccess (seen shown.entry) node access)) }
 {
     let Some(place) = access_place(shown, node, access) else {
         return Ok(None);

@@ -1,7 +1,6 @@
 //! The refusal of a set in words.
 ghost use Rattle.std.specs.Prelude.{IfNone, IfOk, IfSome, string_bytes};
-ghost use Rattle.prog_tree.specs.Tree.{draft_tree};
-ghost use Rattle.prog_check.specs.Paths.{paths_of};
+ghost use Rattle.analysis_words.specs.Nodes.{seen, sight_of};
 ghost use Rattle.analysis_words.specs.Refusing.{LacksDanger, ShowsBoth, ShowsDanger, ShowsOne, ShowsRefusal};
 
 use crate::advice::{advice, twin_advice};
@@ -25,10 +24,9 @@ fn both_words(
     shown: Shown<'_>,
     danger: &Danger,
 ) -> Result<Option<String>, AllocError>
-    ensures said { IfOk result (λ said. IfSome said (λ words. ShowsBoth shown.entry.text.now
-        (draft_tree shown.entry.set.now) shown.entry.paths.now danger.now (string_bytes words))) }
-    ensures none { IfOk result (λ said. IfNone said
-        (LacksDanger shown.entry.text.now shown.entry.paths.now danger.now)) }
+    ensures said { IfOk result (λ said. IfSome said (λ words. ShowsBoth (seen shown.entry)
+        danger.now (string_bytes words))) }
+    ensures none { IfOk result (λ said. IfNone said (LacksDanger (seen shown.entry) danger.now)) }
 {
     let Some(first) = edge_words(alloc, shown, &danger.first)? else {
         return Ok(None);
@@ -43,10 +41,9 @@ fn both_words(
 
 // The edge of a danger that is both, and what follows.
 fn one_words(alloc: Global, shown: Shown<'_>, danger: &Danger) -> Result<Option<String>, AllocError>
-    ensures said { IfOk result (λ said. IfSome said (λ words. ShowsOne shown.entry.text.now
-        (draft_tree shown.entry.set.now) shown.entry.paths.now danger.now (string_bytes words))) }
-    ensures none { IfOk result (λ said. IfNone said
-        (LacksDanger shown.entry.text.now shown.entry.paths.now danger.now)) }
+    ensures said { IfOk result (λ said. IfSome said (λ words. ShowsOne (seen shown.entry) danger.now
+        (string_bytes words))) }
+    ensures none { IfOk result (λ said. IfNone said (LacksDanger (seen shown.entry) danger.now)) }
 {
     let Some(edge) = twin_words(alloc, shown, &danger.first)? else {
         return Ok(None);
@@ -62,10 +59,9 @@ fn danger_words(
     shown: Shown<'_>,
     danger: &Danger,
 ) -> Result<Option<String>, AllocError>
-    ensures said { IfOk result (λ said. IfSome said (λ words. ShowsDanger shown.entry.text.now
-        (draft_tree shown.entry.set.now) shown.entry.paths.now danger.now (string_bytes words))) }
-    ensures none { IfOk result (λ said. IfNone said
-        (LacksDanger shown.entry.text.now shown.entry.paths.now danger.now)) }
+    ensures said { IfOk result (λ said. IfSome said (λ words. ShowsDanger (seen shown.entry)
+        danger.now (string_bytes words))) }
+    ensures none { IfOk result (λ said. IfNone said (LacksDanger (seen shown.entry) danger.now)) }
 {
     if is_repeated(alloc, shown, danger)? {
         return one_words(alloc, shown, danger);
@@ -83,11 +79,10 @@ pub fn refusal_words(
     danger: &Danger,
     plan: &Plan,
 ) -> Result<Option<String>, AllocError>
-    ensures said { IfOk result (λ said. IfSome said (λ words. ShowsRefusal text.now
-        (draft_tree set.now) (paths_of (draft_tree set.now)) danger.now plan.now.pairs
-        (string_bytes words))) }
+    ensures said { IfOk result (λ said. IfSome said (λ words. ShowsRefusal
+        (sight_of text.now set.now) danger.now plan.now.pairs (string_bytes words))) }
     ensures none { IfOk result (λ said. IfNone said
-        (LacksDanger text.now (paths_of (draft_tree set.now)) danger.now)) }
+        (LacksDanger (sight_of text.now set.now) danger.now)) }
 {
     let paths = paths(alloc, set)?;
     let text = SetText::new(alloc, text)?;

@@ -1,9 +1,8 @@
 //! What a certificate shows of a robust set, in words.
 ghost use Rattle.std.specs.Prelude.{◌≡◌, IfOk, string_bytes, take};
-ghost use Rattle.prog_tree.specs.Tree.{draft_tree};
-ghost use Rattle.prog_check.specs.Paths.{paths_of};
 ghost use Rattle.robust_cert.specs.declared.certificate.Question.{Question};
 ghost use Rattle.robust_cert.specs.Sharing.{entry_told, entry_with, IsWithin};
+ghost use Rattle.analysis_words.specs.Nodes.{seen, sight_of};
 ghost use Rattle.analysis_words.specs.Robust.{apart_count, entries_text, is_apart, IsMostText, levels_text, questions_text, reasons_text, SaysRobust};
 
 use crate::covering::{Covering, most_covering};
@@ -107,8 +106,8 @@ fn levels_text(
     shown: Shown<'_>,
     certificate: &Certificate,
 ) -> Result<String, AllocError>
-    ensures { IfOk result (λ text. string_bytes text ≡ levels_text
-        (draft_tree shown.entry.set.now) shown.entry.paths.now certificate.now) }
+    ensures { IfOk result (λ text. string_bytes text
+        ≡ levels_text (seen shown.entry) certificate.now) }
 {
     let nodes = shown.paths.len();
     let first_nodes: [usize; MAX_LEVELS] = [0, 1, 2, 3, 4, 5, 6, 7];
@@ -141,8 +140,8 @@ fn sentence(
     shown: Shown<'_>,
     certificate: &Certificate,
 ) -> Result<String, AllocError>
-    ensures { IfOk result (λ words. SaysRobust (draft_tree shown.entry.set.now)
-        shown.entry.paths.now certificate.now (string_bytes words)) }
+    ensures { IfOk result (λ words. SaysRobust (seen shown.entry) certificate.now
+        (string_bytes words)) }
 {
     let most = most_text(alloc, shown, certificate)?;
     let asked = question_count(shown.paths);
@@ -160,8 +159,8 @@ pub fn robust_words(
     set: &ProgramSet,
     certificate: &Certificate,
 ) -> Result<String, AllocError>
-    ensures { IfOk result (λ words. SaysRobust (draft_tree set.now)
-        (paths_of (draft_tree set.now)) certificate.now (string_bytes words)) }
+    ensures { IfOk result (λ words. SaysRobust (sight_of text.now set.now)
+        certificate.now (string_bytes words)) }
 {
     let paths = paths(alloc, set)?;
     let text = SetText::new(alloc, text)?;

@@ -1,7 +1,6 @@
 //! Nodes and their accesses, as they stand in the text of a set.
 ghost use Rattle.std.specs.Prelude.{◌≡◌, IfNone, IfOk, IfSome, flat_map, string_bytes};
-ghost use Rattle.prog_tree.specs.Tree.{draft_tree};
-ghost use Rattle.analysis_words.specs.Nodes.{access_of, branches_text, is_in_body, letter_of, node_name, turns_by, turns_text, HasNoAccess, IsAccessPlace, IsAccessText, IsInOneLine};
+ghost use Rattle.analysis_words.specs.Nodes.{access_of, branches_text, is_in_body, letter_of, node_name, seen, turns_by, turns_text, HasNoAccess, IsAccessPlace, IsAccessText, IsInOneLine};
 
 use crate::limits::MAX_STATEMENT;
 use fault_words::program_name;
@@ -99,8 +98,7 @@ pub fn branches_text(alloc: Global, choices: &[bool]) -> Result<String, AllocErr
 
 /// The name of a node: its program's, with a letter for each branch of the path.
 pub fn node_name(alloc: Global, shown: Shown<'_>, node: usize) -> Result<String, AllocError>
-    ensures { IfOk result (λ name. string_bytes name
-        ≡ node_name (draft_tree shown.entry.set.now) shown.entry.paths.now node) }
+    ensures { IfOk result (λ name. string_bytes name ≡ node_name (seen shown.entry) node) }
 {
     let Some(path) = shown.paths.get(node) else {
         return format!(in alloc; "node {node}");
@@ -112,7 +110,7 @@ pub fn node_name(alloc: Global, shown: Shown<'_>, node: usize) -> Result<String,
 
 /// The access of a number of a node.
 pub fn access_of(shown: Shown<'_>, node: usize, access: usize) -> Option<Access>
-    ensures { result ≡ access_of shown.entry.paths.now node access }
+    ensures { result ≡ access_of (seen shown.entry) node access }
 {
     let path = shown.paths.get(node)?;
     path.accesses.as_slice().get(access).copied()
@@ -131,7 +129,7 @@ fn turns_by(sure: bool) -> &'static str
 
 /// What is said of an access that may be made in many turns, or in none.
 pub fn turns_text(shown: Shown<'_>, node: usize, access: usize) -> &'static str
-    ensures { result.now ≡ turns_text shown.entry.paths.now node access }
+    ensures { result.now ≡ turns_text (seen shown.entry) node access }
 {
     match access_of(shown, node, access) {
         Some(access) => turns_by(access.sure),
@@ -141,7 +139,7 @@ pub fn turns_text(shown: Shown<'_>, node: usize, access: usize) -> &'static str
 
 /// Whether an access of a node stands in the body of an `each`.
 pub fn is_in_body(shown: Shown<'_>, node: usize, access: usize) -> bool
-    ensures { result ≡ is_in_body shown.entry.paths.now node access }
+    ensures { result ≡ is_in_body (seen shown.entry) node access }
 {
     match access_of(shown, node, access) {
         Some(access) => !access.sure,
@@ -151,10 +149,8 @@ pub fn is_in_body(shown: Shown<'_>, node: usize, access: usize) -> bool
 
 /// Where the statement of an access stands.
 pub fn access_place(shown: Shown<'_>, node: usize, access: usize) -> Option<usize>
-    ensures found { IfSome result
-        (IsAccessPlace shown.entry.text.now shown.entry.paths.now node access) }
-    ensures none { IfNone result
-        (HasNoAccess shown.entry.text.now shown.entry.paths.now node access) }
+    ensures found { IfSome result (IsAccessPlace (seen shown.entry) node access) }
+    ensures none { IfNone result (HasNoAccess (seen shown.entry) node access) }
 {
     let path = shown.paths.get(node)?;
     let access = path.accesses.as_slice().get(access)?;
@@ -168,8 +164,8 @@ pub fn access_text(
     node: usize,
     access: usize,
 ) -> Result<String, AllocError>
-    ensures { IfOk result (λ words. IsAccessText shown.entry.text.now
-        (draft_tree shown.entry.set.now) shown.entry.paths.now node access (string_bytes words)) }
+    ensures { IfOk result (λ words. IsAccessText (seen shown.entry) node access
+        (string_bytes words)) }
 {
     let name = node_name(alloc, shown, node)?;
     let Some(place) = access_place(shown, node, access) else {

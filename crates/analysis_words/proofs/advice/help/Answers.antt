@@ -2,9 +2,9 @@ use Rattle.std.proofs.Common.{◌∙◌, ◌++◌, List, ℕ, ap, codes, string_
 use Rattle.std.proofs.lemmas.Bool.{false≢true}
 use Rattle.std.proofs.lemmas.Result.{IfOk-weaker}
 use Rattle.text_places.specs.Places.{line_number}
-use Rattle.prog_tree.specs.Tree.{draft_tree}
 use Rattle.analysis_words.specs.Helping.{keep_text, parameter_text, shared_text}
 use Rattle.analysis_words.specs.Helping.IsHelp.{OfNoLook, KeptByBoth, KeptByFirst, KeptByParameter}
+use Rattle.analysis_words.specs.Nodes.{seen}
 use Rattle.analysis_words.proofs.advice.help.Goals as goal
 
 pub returns-in_default : goal.returns-in_default
@@ -17,7 +17,7 @@ returns-then-takes_shared_cell c =
     let shown = c.args.shown in
     let stands = rw c.in-Some.is at c.access_place.ensures.found in
     IfOk-weaker c.shared_text.result _ _ (λ text is. KeptByBoth c.in-Some.place stands (string_bytes c.in_ok-found.found) c.in_ok-found.ensures
-    (is ∙ ap (shared_text (draft_tree shown.set.now) shown.paths.now c.args.question) c.as_str-cells.ensures.value)) c.shared_text.ensures
+    (is ∙ ap (shared_text (seen shown) c.args.question) c.as_str-cells.ensures.value)) c.shared_text.ensures
 
 pub returns-then-is_under_unknown_key : goal.returns-then-is_under_unknown_key
 returns-then-is_under_unknown_key c =
@@ -27,7 +27,7 @@ returns-then-is_under_unknown_key c =
     let line = c.line_number-line.ensures ∙ ap (λ (text : List ℕ). line_number text c.in-Some.place) c.bytes.ensures in
     IfOk-weaker c.parameter_text.result _ _ (λ text is. KeptByParameter c.in-Some.place stands (string_bytes c.in_ok-found.found) c.in_ok-found.ensures
     (c.takes_shared_cell.ensures c.if-takes_shared_cell.false) (c.is_under_unknown_key.ensures.0 c.if-is_under_unknown_key.true)
-    (is ∙ (λ i. parameter_text (draft_tree shown.set.now) shown.paths.now c.args.question (cells i) (line i)))) c.parameter_text.ensures
+    (is ∙ (λ i. parameter_text (seen shown) c.args.question (cells i) (line i)))) c.parameter_text.ensures
 
 pub returns : goal.returns
 returns c =
@@ -37,4 +37,4 @@ returns c =
     let line = c.line_number-line.ensures ∙ ap (λ (text : List ℕ). line_number text c.in-Some.place) c.bytes.ensures in
     IfOk-weaker c.keep_text.result _ _ (λ text is. KeptByFirst c.in-Some.place stands (string_bytes c.in_ok-found.found) c.in_ok-found.ensures
     (c.takes_shared_cell.ensures c.if-takes_shared_cell.false) (λ h. false≢true (sym c.if-is_under_unknown_key.false ∙ c.is_under_unknown_key.ensures.1 h))
-    (is ∙ (λ i. keep_text (draft_tree shown.set.now) shown.paths.now c.args.question (cells i) (line i)))) c.keep_text.ensures
+    (is ∙ (λ i. keep_text (seen shown) c.args.question (cells i) (line i)))) c.keep_text.ensures

@@ -1,6 +1,6 @@
 use Rattle.std.proofs.Common.{◌∙◌, ℕ, Option, rules, string_bytes, subst, sym}
-use Rattle.prog_tree.specs.Tree.{draft_tree}
 use Rattle.robust_cert.specs.declared.certificate.Question.{Question}
+use Rattle.analysis_words.specs.Nodes.{seen}
 use Rattle.analysis_words.specs.Saying.{IsAskedText, IsQuestionText}
 use Rattle.analysis_words.proofs.certificate_faults.asked_text.Goals as goal
 
@@ -9,9 +9,8 @@ returns-in_default c = rw (sym c.entry_of.ensures ∙ c.in_default.is) (search r
 
 pub returns : goal.returns
 returns c =
-    let shown = c.args.shown in
-    let set = draft_tree shown.set.now in
+    let sight = seen c.args.shown in
     let question = string_bytes c.in_ok-question.question in
-    let asked = subst (λ (o : Option Question). IsQuestionText shown.text.now set shown.paths.now o question) c.asked_in.ensures c.in_ok-question.ensures in
-    subst (λ (o : Option ℕ). IsAskedText shown.text.now set shown.paths.now c.args.certificate.now o (string_bytes c.in_ok-words.words)) (sym c.in-Some.is ∙ c.entry_of.ensures)
+    let asked = subst (λ (o : Option Question). IsQuestionText sight o question) c.asked_in.ensures c.in_ok-question.ensures in
+    subst (λ (o : Option ℕ). IsAskedText sight c.args.certificate.now o (string_bytes c.in_ok-words.words)) (sym c.in-Some.is ∙ c.entry_of.ensures)
     (question, asked, c.in_ok-words.ensures.ok)

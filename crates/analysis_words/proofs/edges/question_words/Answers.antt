@@ -1,5 +1,5 @@
 use Rattle.std.proofs.Common.{inl, inr}
-use Rattle.analysis_words.specs.Nodes.{HasNoAccess}
+use Rattle.analysis_words.specs.Nodes.{seen, HasNoAccess}
 use Rattle.analysis_words.proofs.Unsaid.{unsaid}
 use Rattle.analysis_words.proofs.edges.question_words.Goals as goal
 
@@ -7,10 +7,10 @@ pub returns-in_default-clause-none : goal.returns-in_default-clause-none
 returns-in_default-clause-none c =
     let shown = c.args.shown in
     let q = c.args.question in
-    inl (unsaid _ (HasNoAccess shown.text.now shown.paths.now q.x q.a) c.in_default.is c.in_ok-reader.ensures.none)
+    inl (unsaid _ (HasNoAccess (seen shown) q.x q.a) c.in_default.is c.in_ok-reader.ensures.none)
 
 pub returns-in_default-2-clause-none : goal.returns-in_default-2-clause-none
 returns-in_default-2-clause-none c =
     let shown = c.args.shown in
     let q = c.args.question in
-    inr (unsaid _ (HasNoAccess shown.text.now shown.paths.now q.y q.b) c.in_default-2.is c.in_ok-writer.ensures.none)
+    inr (unsaid _ (HasNoAccess (seen shown) q.y q.b) c.in_default-2.is c.in_ok-writer.ensures.none)

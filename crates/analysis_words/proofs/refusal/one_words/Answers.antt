@@ -1,4 +1,5 @@
 use Rattle.std.proofs.Common.{rules, inl, string_bytes}
+use Rattle.analysis_words.specs.Nodes.{seen}
 use Rattle.analysis_words.specs.Refusing.{LacksQuestion}
 use Rattle.analysis_words.proofs.Unsaid.{unsaid}
 use Rattle.analysis_words.proofs.refusal.one_words.Goals as goal
@@ -16,4 +17,4 @@ pub returns-in_default-clause-none : goal.returns-in_default-clause-none
 returns-in_default-clause-none c =
     let shown = c.args.shown in
     let q = c.args.danger.now.first.question in
-    inl (unsaid _ (LacksQuestion shown.text.now shown.paths.now q) c.in_default.is c.in_ok-edge.ensures.none)
+    inl (unsaid _ (LacksQuestion (seen shown) q) c.in_default.is c.in_ok-edge.ensures.none)
