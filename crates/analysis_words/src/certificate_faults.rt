@@ -6,11 +6,11 @@ ghost use Rattle.analysis_words.specs.Saying.{along_text, asked_in, body_size_at
 
 use crate::levels::{level_list, number_at};
 use crate::shown::{Shown, access_text, node_name};
+use crate::shown_set::ShownSet;
 use prog_check::{Path, ProgramSet};
-use prog_paths::{MAX_QUESTIONS, paths};
+use prog_paths::MAX_QUESTIONS;
 use robust_cert::{CertFault, Certificate, JsonFault, Question, body_size, from_json};
 use std::alloc::{AllocError, Global};
-use text_places::SetText;
 
 // The question of an entry.
 fn asked_in(certificate: &Certificate, entry: usize) -> Option<Question>
@@ -261,13 +261,8 @@ pub fn certificate_words(
     let Some(certificate) = certificate_of(alloc, part)? else {
         return Ok(None);
     };
-    let paths = paths(alloc, set)?;
-    let text = SetText::new(alloc, text)?;
-    let shown = Shown {
-        text: &text,
-        set,
-        paths: &paths,
-    };
+    let whole = ShownSet::new(alloc, text, set)?;
+    let shown = whole.shown();
     let words = sentence(alloc, shown, &certificate, fault)?;
     Ok(Some(words))
 }

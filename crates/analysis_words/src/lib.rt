@@ -20,6 +20,7 @@ mod repair_faults;
 mod robust;
 mod shared_words;
 mod shown;
+mod shown_set;
 mod ways;
 
 pub use certificate_faults::{certificate_words, json_words};

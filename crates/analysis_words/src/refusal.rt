@@ -7,13 +7,12 @@ use crate::advice::{advice, twin_advice};
 use crate::edges::{edge_words, is_repeated, twin_words};
 use crate::left::left_text;
 use crate::shown::Shown;
+use crate::shown_set::ShownSet;
 use crate::ways::ways_of;
 use dep_graph::Danger;
 use prog_check::ProgramSet;
-use prog_paths::paths;
 use si_repair::Plan;
 use std::alloc::{AllocError, Global};
-use text_places::SetText;
 
 const NO_ORDER: &str =
     "a run of this set may have no serial order, since two changes in a row can be missed\n";
@@ -84,13 +83,8 @@ pub fn refusal_words(
     ensures none { IfOk result (λ said. IfNone said
         (LacksDanger (sight_of text.now set.now) danger.now)) }
 {
-    let paths = paths(alloc, set)?;
-    let text = SetText::new(alloc, text)?;
-    let shown = Shown {
-        text: &text,
-        set,
-        paths: &paths,
-    };
+    let whole = ShownSet::new(alloc, text, set)?;
+    let shown = whole.shown();
     let Some(front) = danger_words(alloc, shown, danger)? else {
         return Ok(None);
     };

@@ -7,12 +7,12 @@ ghost use Rattle.analysis_words.specs.Repairs.{TellsPair, TellsRepair};
 use crate::looks::{first_of_each, look_words, looked_at, reason_words};
 use crate::pairs::{pair_sentence, quoted_name};
 use crate::shown::Shown;
+use crate::shown_set::ShownSet;
 use prog_check::ProgramSet;
-use prog_paths::{Question, paths};
+use prog_paths::Question;
 use prog_tree::{Expr, Key, Name, Stmt};
 use si_repair::{Pair, exposed_questions, first_exposed};
 use std::alloc::{AllocError, Global};
-use text_places::SetText;
 
 // A set with its text, and what a repair made of it, by keeps behind looks or by new tables.
 #[derive(Clone, Copy)]
@@ -164,13 +164,8 @@ pub fn repair_words(
     if pairs.is_empty() {
         return Ok(None);
     }
-    let paths = paths(alloc, set)?;
-    let text = SetText::new(alloc, text)?;
-    let shown = Shown {
-        text: &text,
-        set,
-        paths: &paths,
-    };
+    let whole = ShownSet::new(alloc, text, set)?;
+    let shown = whole.shown();
     let repair = Repair {
         shown,
         repaired,

@@ -6,12 +6,10 @@ ghost use Rattle.si_repair.specs.declared.repairs.fault.RepairFault.TheVariants 
 
 use crate::looks::reason_words;
 use crate::pairs::pair_sentence;
-use crate::shown::Shown;
+use crate::shown_set::ShownSet;
 use prog_check::{MAX_ACCESSES, MAX_STATEMENTS, MAX_TABLES, ProgramSet};
-use prog_paths::paths;
 use si_repair::{Obstacle, Pair, RepairFault, hindered_question};
 use std::alloc::{AllocError, Global};
-use text_places::SetText;
 
 // What the first program of a pair does, before the name of the second.
 fn obstacle_verb(obstacle: Obstacle) -> &'static str
@@ -45,14 +43,9 @@ fn obstructed_look(
     pair: Pair,
     obstacle: Obstacle,
 ) -> Result<String, AllocError> {
-    let paths = paths(alloc, set)?;
-    let found = hindered_question(alloc, set.draft(), &paths, pair, obstacle)?;
-    let text = SetText::new(alloc, text)?;
-    let shown = Shown {
-        text: &text,
-        set,
-        paths: &paths,
-    };
+    let whole = ShownSet::new(alloc, text, set)?;
+    let shown = whole.shown();
+    let found = hindered_question(alloc, set.draft(), shown.paths, pair, obstacle)?;
     reason_words(alloc, shown, found.as_ref())
 }
 

@@ -10,11 +10,11 @@ use crate::levels::level_list;
 use crate::limits::MAX_LEVELS;
 use crate::shared_words::more_text;
 use crate::shown::{Shown, access_text};
+use crate::shown_set::ShownSet;
 use prog_check::ProgramSet;
-use prog_paths::{paths, question_count};
+use prog_paths::question_count;
 use robust_cert::{Certificate, Entries, Reason, Told};
 use std::alloc::{AllocError, Global};
-use text_places::SetText;
 
 // Whether questions with this reason never meet.
 fn is_never(reason: &Reason) -> bool
@@ -162,12 +162,7 @@ pub fn robust_words(
     ensures { IfOk result (λ words. SaysRobust (sight_of text.now set.now)
         certificate.now (string_bytes words)) }
 {
-    let paths = paths(alloc, set)?;
-    let text = SetText::new(alloc, text)?;
-    let shown = Shown {
-        text: &text,
-        set,
-        paths: &paths,
-    };
+    let whole = ShownSet::new(alloc, text, set)?;
+    let shown = whole.shown();
     sentence(alloc, shown, certificate)
 }
