@@ -1,5 +1,5 @@
 -- Each evaluation that ends Ready follows exactly one committing path of its program, under an assignment with its arguments.
-use Rattle.std.proofs.Common.{◌≡◌, ℕ, zero, suc, Bool, true, false, List, [], ◌∷◌, ◌⊎◌, inl, inr, zip, refl, sym, subst, ap, ◌∙◌}
+use Rattle.std.proofs.Common.{◌≡◌, ℕ, zero, suc, Bool, true, false, List, [], ◌∷◌, ◌⊎◌, inl, inr, zip, refl, sym, subst, ap, ◌∙◌, arith}
 use Rattle.std.specs.Prelude.{ℤ, Option, Some, None, slice_get, if◌then◌else◌}
 use Rattle.std.specs.Option.{option_or}
 use Rattle.prog_tree.specs.declared.cell.Cell.{Cell}
@@ -56,7 +56,7 @@ whole m path v p q no_looks none s =
     }
   where
     look : (c : Cell) → LooksAt p.looks c ⊎ Held path.accesses v c (λ kind. FoundAs kind (HasRow m c) (Changes q.changes c)) → Touch path.accesses v c (λ kind. FoundAs kind (HasRow m c) (Changes q.changes c))
-    look c (inl h) = absurd (subst (λ ls. LooksAt ls c) no_looks h)
+    look c (inl h) = let looked = subst (λ ls. LooksAt ls c) no_looks h in let inside = looked.1.1 in absurd (omega (arith, inside))
     look c (inr h) = touch_of path.accesses v c (λ kind. FoundAs kind (HasRow m c) (Changes q.changes c)) h
 
     change : (c : Cell) → Changes p.changes c ⊎ Held path.accesses v c (λ kind. ChangedAs kind (HasRow m c)) → Touch path.accesses v c (λ kind. ChangedAs kind (HasRow m c))

@@ -1,6 +1,7 @@
 -- Each statement that goes on follows its accesses.
 use Rattle.std.proofs.Common.{◌≡◌, ℕ, suc, ◌+◌, Bool, true, false, List, [], ◌∷◌, ◌++◌, ◌⊎◌, inl, inr, length, map, refl, sym, subst, ap, ◌∙◌, arith, append-nil}
-use Rattle.std.specs.Prelude.{ℤ, pos, Option, Some, None, is_some, if◌then◌else◌, slice_get}
+use Rattle.std.specs.Prelude.{ℤ, pos, Contains, Option, Some, None, is_some, if◌then◌else◌, slice_get}
+use Rattle.std.proofs.lemmas.List.Elements.{Contains-push_cases}
 use Rattle.std.specs.List.{find}
 use Rattle.std.specs.Cmp.Lexicographic.{nat_list_eq_equiv}
 use Rattle.std.specs.Option.{option_or}
@@ -65,14 +66,11 @@ absent_goes None go q other stops e = (refl, e)
 -- ---- looks
 
 looks_last : (ls : List Look) (l : Look) (c : Cell) → LooksAt (ls ++ l ∷ []) c → LooksAt ls c ⊎ IsLookOf l c
-looks_last [] l c (inl h) = inr h
-looks_last [] l c (inr h) = absurd h
-looks_last (k ∷ ls) l c (inl h) = inl (inl h)
-looks_last (k ∷ ls) l c (inr h) = go (looks_last ls l c h)
+looks_last ls l c (k, at, of) = go (Contains-push_cases ls l k at)
   where
-    go : LooksAt ls c ⊎ IsLookOf l c → (IsLookOf k c ⊎ LooksAt ls c) ⊎ IsLookOf l c
-    go (inl d) = inl (inr d)
-    go (inr d) = inr d
+    go : Contains ls k ⊎ (l ≡ k) → LooksAt ls c ⊎ IsLookOf l c
+    go (inl d) = inl (k, d, of)
+    go (inr e) = inr (subst (λ (z : Look). IsLookOf z c) (sym e) of)
 
 module _ (m : TableState) where
   -- each look that is new is in an access that fits

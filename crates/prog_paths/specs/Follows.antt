@@ -1,5 +1,5 @@
 -- What it means that a run follows a path under an assignment.
-use Rattle.std.specs.Prelude.{◌≡◌, ℕ, true, false, List, [], ◌∷◌, is_some, slice_get, Some, ◌⊎◌}
+use Rattle.std.specs.Prelude.{◌≡◌, ℕ, true, false, List, Contains, is_some, slice_get, Some, ◌⊎◌}
 use Rattle.prog_tree.specs.declared.cell.Cell.{Cell}
 use Rattle.prog_tree.specs.declared.look.Look.{Look}
 use Rattle.prog_tree.specs.declared.look.Look.TheVariants as look
@@ -20,8 +20,7 @@ IsLookOf (look.One cell found) c = c ≡ cell
 IsLookOf (look.Range region own rows) c = (is_in region c ≡ true) × (is_cell_among own c ≡ false)
 
 abbrev pub LooksAt : List Look → Cell → Type 0
-LooksAt [] c = ⊥
-LooksAt (l ∷ ls) c = IsLookOf l c ⊎ LooksAt ls c
+LooksAt looks c = (l : Look) × Contains looks l × IsLookOf l c
 
 abbrev pub Changes : ChangeSet → Cell → Type 0
 Changes s c = is_some (change_at s c) ≡ true

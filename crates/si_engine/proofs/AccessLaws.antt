@@ -1,7 +1,7 @@
 -- What committed instances look at, change and keep, by the accesses of the nodes that they follow.
-use Rattle.std.proofs.Common.{◌≡◌, ◌≢◌, ℕ, ◌<◌, true, List, [], ◌∷◌, ◌⊎◌, inl, inr, refl, sym, subst, ◌∙◌}
+use Rattle.std.proofs.Common.{◌≡◌, ◌≢◌, ℕ, ◌<◌, true, List, ◌⊎◌, inl, inr, refl, sym, subst, ◌∙◌}
 use Rattle.std.specs.Prelude.{Some, is_some, slice_get, IsTrue, not}
-use Rattle.std.proofs.lemmas.Bool.{cases_order, and_parts, not-true, or_cases, or_left, or_right}
+use Rattle.std.proofs.lemmas.Bool.{cases_order, and_parts, not-true, or_left, or_right}
 use Rattle.prog_tree.specs.declared.cell.Cell.{Cell}
 use Rattle.prog_tree.specs.declared.look.Look.{Look}
 use Rattle.prog_tree.specs.declared.look.Look.TheVariants as look
@@ -18,6 +18,7 @@ use Rattle.prog_paths.specs.Follows.{IsLookOf, LooksAt, KeepsCell, FoundAs, Chan
 use Rattle.prog_paths.specs.Meeting.{Assignment, IsOf, IsTime, MeetAsOwn}
 use Rattle.prog_paths.specs.StaticGraph.{Question, HasQuestion}
 use Rattle.prog_check.specs.declared.path.Kind.{Kind}
+use Rattle.prog_paths.proofs.Elements.{any_in}
 use Rattle.prog_paths.proofs.KindsFit.{KindFits}
 use Rattle.prog_paths.proofs.Own.{law_of_times}
 use Rattle.history_book.specs.Dependencies.{start_at, evaluation_at}
@@ -36,13 +37,7 @@ look_of (look.Range region own rows) c h =
     let k = and_parts (is_in region c) (not (is_cell_among own c)) h in (k.0, not-true (is_cell_among own c) k.1)
 
 looks_of : (ls : List Look) (c : Cell) → some_looks_at ls c ≡ true → LooksAt ls c
-looks_of [] c h = absurd (cc)
-looks_of (l ∷ ls) c h = go (or_cases (looks_at l c) (some_looks_at ls c) h) (looks_of ls c)
-  where
-    go : (looks_at l c ≡ true) ⊎ (some_looks_at ls c ≡ true) → (some_looks_at ls c ≡ true → LooksAt ls c) →
-        LooksAt (l ∷ ls) c
-    go (inl here) later = inl (look_of l c here)
-    go (inr there) later = inr (later there)
+looks_of ls c h = let r = any_in (λ l. looks_at l c) ls h in (r.0, r.1, look_of r.0 c r.2)
 
 module _ (set : DraftTree) (opening : TableState) (h : List Instance) (is : IsHistory set opening h) where
   -- ---- what two instances touch
