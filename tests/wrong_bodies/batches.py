@@ -1,13 +1,14 @@
 """Which edits share one check.
 
 An edit of one plain function makes a function of its own, which stands beside the right one: all of these share one
-check. Any other edit is made in place: at most one to a function, and none to a function that names another edited one.
+check. Any other edit is made in place, and joins a check in which no function that it leaves without a proof is named.
+One that changes more than functions has a check of its own.
 """
 import os
 from dataclasses import dataclass, field
 
 from edits import BadEdit, apply
-from functions import calls, function_at, functions_of
+from functions import calls, calls_itself, function_at, functions_of
 from twins import add_twins, has_twin
 
 # how many edits of functions of their own share one check: as many as memory holds
@@ -28,6 +29,8 @@ class Batch:
     bodies: list = field(default_factory=list)
     texts: dict = field(default_factory=dict)  # as the edits make them
     turned: dict = field(default_factory=dict)  # for each edit, the files and paths of the functions that have its lines
+    in_place: list = field(default_factory=list)  # those of the bodies that make no functions of their own
+    unproved: list = field(default_factory=list)  # the functions that these leave without a proof and don't turn
 
     def functions(self, bodies):
         """Returns the functions that have the lines of these edits."""
@@ -69,13 +72,46 @@ def wrong_body(edit, texts):
     return WrongBody(edit, tuple(named or dict.fromkeys(changed)), is_alone)
 
 
+def names_one(body, functions):
+    return any(calls(caller, callee) for caller in body.functions for callee in functions if caller != callee)
+
+
 def are_apart(body, others):
+    """Whether an edit in place turns no function of the others, and neither names one that the other turns."""
     for other in others:
-        if body.is_alone or other.is_alone:
+        if any(it in other.functions for it in body.functions):
             return False
-        pairs = [(a, b) for a in body.functions for b in other.functions]
-        if any(a == b or calls(a, b) or calls(b, a) for a, b in pairs):
+        if names_one(body, other.functions) or names_one(other, body.functions):
             return False
+    return True
+
+
+def unproved_with(body, functions):
+    """Returns the functions that lead to one that an edit turns in place and keep their own bodies, as those of a trait
+    and those in a cycle of calls do: a check has no proof of them."""
+    kept = [it for it in functions if not it.is_plain or calls_itself(it)]
+    found, new = [], list(body.functions)
+    while new:
+        new = [it for it in kept if it not in found and any(calls(it, other) for other in new)]
+        found += new
+    return found
+
+
+def is_joined(body, batch, functions):
+    """Makes an edit in place in a batch, if it goes there beside the others, and returns whether it does."""
+    unproved = unproved_with(body, functions)
+    if any(names_one(it, unproved) for it in batch.bodies) or names_one(body, batch.unproved):
+        return False
+    if not are_apart(body, batch.in_place):
+        return False
+    try:
+        batch.texts, _ = apply(body.edit, batch.texts)
+    except BadEdit:
+        return False
+    batch.turned[body.edit.name] = [(it.file, it.path) for it in body.functions]
+    batch.bodies.append(body)
+    batch.in_place.append(body)
+    batch.unproved += unproved
     return True
 
 
@@ -85,20 +121,12 @@ def batches_of(bodies, texts):
     count = -(-len(beside) // MOST_TWINS)
     # edits of one function, and so of one cost, go to different checks
     batches = [Batch(part, *add_twins(part, texts)) for part in (beside[at::count] for at in range(count))]
-    in_place = []
+    functions = all_functions(texts)
     for body in bodies:
         if body in beside:
             continue
-        for batch in [*in_place, Batch(texts=texts)]:
-            if not are_apart(body, batch.bodies):
-                continue
-            try:
-                batch.texts, _ = apply(body.edit, batch.texts)
-            except BadEdit:
-                continue
-            batch.bodies.append(body)
-            batch.turned[body.edit.name] = [(it.file, it.path) for it in body.functions]
-            if batch not in in_place:
-                in_place.append(batch)
-            break
-    return batches + in_place
+        open_to_it = [] if body.is_alone else [it for it in batches if not any(other.is_alone for other in it.bodies)]
+        if not any(is_joined(body, it, functions) for it in open_to_it):
+            batches.append(Batch(texts=texts))
+            is_joined(body, batches[-1], functions)
+    return batches

@@ -67,7 +67,7 @@ def type_of_impl(head):
     name, _, rest = trait.partition("<")
     # a lifetime is no part of the name
     words = [it for it in re.findall(r"(?<!['\w])\w+", rest) if it not in params]
-    return owner + name.split("::")[-1] + "".join(it[0].upper() + it[1:] for it in words), True
+    return "".join(it[0].upper() + it[1:] for it in [owner, name.split("::")[-1], *words]), True
 
 
 def home_of(plain, owner, module):
@@ -129,14 +129,21 @@ def function_at(functions, line):
     return min(having, key=lambda it: it.last - it.first, default=None)
 
 
+def body_text(function):
+    """Returns a function's text behind its head and its clauses."""
+    return function.text[function.body - function.span[0] :]
+
+
 def calls(caller, callee):
-    """Whether a function's text names another as something that it calls, or hands on."""
-    return bool(re.search(rf"(?<!fn )\b{re.escape(callee.path[-1])}\b", caller.text.partition("{")[2] + caller.text))
+    """Whether a function's body names another as something that it calls, or hands on: a method behind a value or a
+    type, any other by no value."""
+    name, owner = re.escape(callee.path[-1]), callee.path[-2:-1]
+    is_method = bool(owner) and owner[0][:1].isupper()
+    return bool(re.search(rf"(?:\.\s*|::){name}\b" if is_method else rf"(?<![.\w]){name}\b(?!\s*:(?!:))", body_text(caller)))
 
 
 def calls_itself(function):
     """Whether a function's body names the function, by no value or module but its own."""
     name = re.escape(function.path[-1])
     owner = re.escape(function.path[-2]) if len(function.path) > 1 else "Self"
-    body = function.text[function.body - function.span[0] :]
-    return bool(re.search(rf"(?<![.:\w]){name}\b(?!\s*:)|\b(?:self\.|Self::|{owner}::){name}\b", body))
+    return bool(re.search(rf"(?<![.:\w]){name}\b(?!\s*:)|\b(?:self\.|Self::|{owner}::){name}\b", body_text(function)))
