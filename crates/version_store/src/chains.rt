@@ -7,7 +7,7 @@ ghost use Rattle.version_store.specs.Reading.{AllRise, chain_at, value_at, numbe
 ghost use Rattle.version_store.specs.Reading.{with_opening_row, with_commit, cut_from, IsGrown};
 ghost use Rattle.version_store.specs.Reading.{MakesAt, MakesEach, MakesTouched, KeepsBelow, OthersHold};
 ghost use Rattle.version_store.specs.StandsFor.{no_chain, size, trimmed, EachHolds};
-ghost use Rattle.version_store.specs.Touches.{with_touch};
+ghost use Rattle.version_store.specs.Touches.{first_touch, with_touch};
 ghost use Rattle.version_store.specs.Trimming.{within, beyond};
 ghost use Rattle.version_store.specs.Trims.{TrimsAll};
 
@@ -65,6 +65,18 @@ impl Chains {
         }
     }
 
+    // Gives a cell a chain of one touch, in place of the one that it has.
+    fn begin(&mut self, cell: Cell, number: u64, touch: Touch) -> Result<(), AllocError>
+        ensures ok { OnOk result
+            (MakesAt cell (λ chain. first_touch number touch) self.old self.new) }
+        ensures err { OnErr result (MakesEach (λ c chain. chain) self.old self.new) }
+        ensures hold { EachHolds self.old → EachHolds self.new }
+    {
+        let chain = Chain::of(self.alloc, number, touch)?;
+        self.chains.insert(cell, chain)?;
+        Ok(())
+    }
+
     // Adds a touch to the chain of a cell, behind the others.
     fn add(&mut self, cell: Cell, number: u64, touch: Touch) -> Result<(), AllocError>
         ensures ok { OnOk result (MakesAt cell (with_touch number touch) self.old self.new) }
@@ -75,10 +87,7 @@ impl Chains {
             chain.add(number, touch)?;
             return Ok(());
         }
-        let mut chain = Chain::new(self.alloc);
-        chain.add(number, touch)?;
-        self.chains.insert(cell, chain)?;
-        Ok(())
+        self.begin(cell, number, touch)
     }
 
     // Drops the chain of a cell, of which nothing is left.
@@ -123,7 +132,7 @@ impl Chains {
     {
         let mut chains = Chains::new(alloc);
         for (cell, value) in opening.iter() {
-            chains.add(*cell, 0, Touch::Change(Some(*value)))?;
+            chains.begin(*cell, 0, Touch::Change(Some(*value)))?;
         }
         Ok(chains)
     }

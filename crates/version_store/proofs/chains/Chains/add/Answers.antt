@@ -1,12 +1,14 @@
-use Rattle.std.proofs.Common.{◌∙◌, ap, sym, subst}
-use Rattle.std.specs.Prelude.{IsSome}
+use Rattle.std.proofs.Common.{◌∙◌, sym, subst}
+use Rattle.std.specs.Prelude.{IsSome, OnErr, OnOk}
 use Rattle.std.specs.BTreeMap.{BTreeMap}
+use Rattle.std.proofs.lemmas.Result.{on_ok_weaker}
 use Rattle.prog_tree.specs.declared.cell.Cell.{Cell}
 use Rattle.prog_tree.specs.Table.{at_cell}
-use Rattle.version_store.specs.Touches.{with_touch}
-use Rattle.version_store.specs.StandsFor.{Chain}
-use Rattle.version_store.proofs.ChainsLaws.{IsWritten, made_found, made_absent, same_chains, at_error}
-use Rattle.version_store.proofs.HoldLaws.{hold_found, hold_written, touch_holds}
+use Rattle.version_store.specs.Reading.{MakesAt, MakesEach}
+use Rattle.version_store.specs.StandsFor.{Chain, EachHolds}
+use Rattle.version_store.specs.Touches.{first_touch, with_touch}
+use Rattle.version_store.proofs.ChainsLaws.{made_first, made_found, same_chains, at_error}
+use Rattle.version_store.proofs.HoldLaws.{hold_found, touch_holds}
 use Rattle.version_store.proofs.chains.Chains.add.Goals as goal
 
 pub returns-in_err-add-clause-err : goal.returns-in_err-add-clause-err
@@ -29,10 +31,15 @@ returns-in-Some-clause-ok c =
 pub returns-clause-ok : goal.returns-clause-ok
 returns-clause-ok c =
     let m = c.self.inside.chains.entries in
-    let chain = c.add-2.new.self in
-    let made = c.in_ok-add-2.ensures.ok ∙ ap (with_touch c.args.number c.args.touch) c.new-chain.ensures in
-    rw (← c.self.view_is) (made_absent m c.insert.new.self.entries c.args.cell (with_touch c.args.number c.args.touch) chain c.in_default.ensures.value made
-    (subst (λ (old : BTreeMap Cell Chain). IsWritten old.entries c.insert.new.self.entries c.args.cell chain) c.get_mut.follows.holds-at-none c.in_ok-insert.ensures.updates.0))
+    let n = c.begin.new.self in
+    rw (← c.self.view_is)
+    (on_ok_weaker c.begin.result (made_first m n c.args.cell (with_touch c.args.number c.args.touch) c.in_default.ensures.value)
+    (subst (λ (old : BTreeMap Cell Chain). OnOk c.begin.result (MakesAt c.args.cell (λ chain. first_touch c.args.number c.args.touch) old.entries n)) c.get_mut.follows.holds-at-none c.begin.ensures.ok))
+
+pub returns-clause-err : goal.returns-clause-err
+returns-clause-err c =
+    rw (← c.self.view_is)
+    (subst (λ (old : BTreeMap Cell Chain). OnErr c.begin.result (MakesEach (λ cell chain. chain) old.entries c.begin.new.self)) c.get_mut.follows.holds-at-none c.begin.ensures.err)
 
 pub returns-in_err-add-clause-hold : goal.returns-in_err-add-clause-hold
 returns-in_err-add-clause-hold c =
@@ -55,8 +62,5 @@ returns-in-Some-clause-hold c =
 
 pub returns-clause-hold : goal.returns-clause-hold
 returns-clause-hold c =
-    let m = c.self.inside.chains.entries in
-    let chain = c.add-2.new.self in
     rw (← c.self.view_is)
-    (hold_written m c.insert.new.self.entries c.args.cell chain (λ none. touch_holds c.args.number c.args.touch c.new-chain.result (sym c.in_ok-add-2.ensures.ok ∙ none))
-    (subst (λ (old : BTreeMap Cell Chain). IsWritten old.entries c.insert.new.self.entries c.args.cell chain) c.get_mut.follows.holds-at-none c.in_ok-insert.ensures.updates.0))
+    (subst (λ (old : BTreeMap Cell Chain). EachHolds old.entries → EachHolds c.begin.new.self) c.get_mut.follows.holds-at-none c.begin.ensures.hold)
