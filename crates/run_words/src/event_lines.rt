@@ -27,23 +27,22 @@ fn cut(bytes: &[u8], separator: u8) -> (&[u8], &[u8])
 }
 
 // The first word of a line, and what stands behind it.
-fn cut_word(line: &[u8]) -> (&str, &[u8]) {
-    let (word, rest) = cut(line.trim_ascii(), b' ');
-    (as_text(word), rest)
+fn cut_word(line: &[u8]) -> (&[u8], &[u8]) {
+    cut(line.trim_ascii(), b' ')
 }
 
 // How many steps are done by a line with this behind its `step`.
 fn step_count(words: &[u8]) -> usize {
     let (_instance, rest) = cut_word(words);
     let (times, _) = cut_word(rest);
-    times.parse::<usize>().unwrap_or(1)
+    as_text(times).parse::<usize>().unwrap_or(1)
 }
 
 // How many events a line of a script is.
 fn event_count(line: &[u8]) -> usize {
     let (word, rest) = cut_word(line);
     match word {
-        "step" => step_count(rest),
+        b"step" => step_count(rest),
         _ if is_event(word) => 1,
         _ => 0,
     }

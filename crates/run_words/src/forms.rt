@@ -22,9 +22,12 @@ pub fn first_words(kind: PartKind) -> &'static [&'static str] {
     }
 }
 
-/// Whether a line that begins with a word is an event, or several.
-pub fn is_event(first: &str) -> bool {
-    first != "row" && first_words(PartKind::Script).contains(&first)
+/// Whether a line of a script that begins with a word is an event, or several: all but rows are.
+pub fn is_event(first: &[u8]) -> bool {
+    matches!(
+        first,
+        b"begin" | b"begin-at" | b"step" | b"commit" | b"abort" | b"vacuum"
+    )
 }
 
 /// The command that reads lines which begin with a word, of such as not every list has.
@@ -32,7 +35,7 @@ pub fn command_of(first: &str) -> Option<&'static str> {
     match first {
         "record" => Some("audit"),
         "job" => Some("work"),
-        _ if is_event(first) => Some("run"),
+        _ if is_event(first.as_bytes()) => Some("run"),
         _ => None,
     }
 }
