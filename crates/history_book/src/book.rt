@@ -193,6 +193,13 @@ impl<'a> Book<'a> {
         self.store.state(self.store.commits())
     }
 
+    /// The rows after all commits, in the order of their cells.
+    pub fn table_rows(&self) -> Result<Sequence<(Cell, i64)>, AllocError>
+        ensures { IfOk result (λ rows. rows ≡ state_in self.now (length self.now.rows)) }
+    {
+        self.store.state_rows(self.store.commits())
+    }
+
     /// Whether no begin can succeed.
     pub fn is_full(&self) -> bool
         ensures { result ≡ is_full self.now }

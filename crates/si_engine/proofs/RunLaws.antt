@@ -1,10 +1,12 @@
 -- Laws on the lines of events, one after another.
-use Rattle.std.proofs.Common.{◌≡◌, Bool, true, false, Option, List, [], ◌∷◌, ◌++◌, ℕ, length, refl, subst, Result, Ok, Err, IfOk, OnOk, OnErr, sym, ap, ◌∙◌, append_assoc}
-use Rattle.std.proofs.lemmas.List.{length-map}
+use Rattle.std.proofs.Common.{◌≡◌, Bool, true, false, Option, List, [], ◌∷◌, ◌++◌, ℕ, ℤ, ◌+◌, ◌<◌, length, get_or, drop, refl, subst, Result, Ok, Err, IfOk, OnOk, OnErr, sym, ap, ◌∙◌, append_assoc}
+use Rattle.std.proofs.lemmas.List.{drop_more, length-map}
 use Rattle.std.proofs.lemmas.List.Concat.{flat_map-cons}
 use Rattle.std.specs.List.{zip}
 use Rattle.prog_tree.specs.Syntax.{DraftTree}
 use Rattle.prog_tree.specs.Table.{TableState}
+use Rattle.prog_tree.specs.declared.cell.Cell.{Cell}
+use Rattle.prog_tree.specs.declared.table.TableDecl.{TableDecl}
 use Rattle.si_engine.specs.declared.event.Event.{Event}
 use Rattle.si_engine.specs.declared.event.Reply.{Reply}
 use Rattle.si_engine.specs.declared.output.finding.Serializability.{Serializability}
@@ -14,10 +16,10 @@ use Rattle.prog_tree.specs.declared.program.Draft.{Draft}
 use Rattle.history_book.specs.History.{Instance, state_after}
 use Rattle.history_book.specs.View.{BookView, state_in, history_of, instance_of}
 use Rattle.si_engine.specs.Machine.{Machine, new_machine, machine_step, machine_after, replies_of}
-use Rattle.si_engine.proofs.OutputLaws.{adds_first_of, adds_both, adds_behind}
+use Rattle.si_engine.proofs.OutputLaws.{adds_first_of, adds_both, adds_behind, adds_line}
 use Rattle.si_engine.specs.Headline.{commit_in, commits_said}
 use Rattle.si_engine.specs.Runs.{event_lines, row_lines, end_lines, run_lines, history_of_run, AddsLines, AddsFirst, AddsEnd, AddsRun, IsRunOf, done, refused, stopped, IsUnreadRun, unread, IsRunReply}
-use Rattle.si_engine.specs.Printed.{reply_line}
+use Rattle.si_engine.specs.Printed.{reply_line, row_line}
 use Rattle.si_engine.specs.Reading.{ForInput}
 use Rattle.si_engine.specs.Script.{IsScript, IsScriptFault}
 use Rattle.si_engine.specs.Writing.{IsJust, WritesOr}
@@ -86,6 +88,20 @@ on_ok (Err e) f h = h
 pub on_err : {X E P Q : Type 0} (r : Result X E) → (P → Q) → OnErr r P → OnErr r Q
 on_err (Ok x) f h = h
 on_err (Err e) f h = f h
+
+-- the line of the next row is added behind those of the first ones
+pub next_row :
+    (set : DraftTree) (rows : TableState) (i : ℕ) (d : Cell × ℤ) (tables : List TableDecl) (told : List (List ℕ)) (s t u : List ℕ) → i < length rows → tables ≡ set.tables →
+    row_lines set rows ≡ told ++ row_lines set (drop i rows) → AddsLines told s t → u ≡ t ++ row_line tables (get_or rows i d).0 (get_or rows i d).1 →
+    (more : List (List ℕ)) × (row_lines set rows ≡ more ++ row_lines set (drop (i + 1) rows)) × AddsLines more s u
+next_row set rows i d tables told s t u within same lines added written =
+    let line = row_line set.tables (get_or rows i d).0 (get_or rows i d).1 in (
+      told ++ line ∷ [],
+      lines
+          ∙ (ap (λ (m : TableState). told ++ row_lines set m) (drop_more rows i d within)
+          ∙ sym (append_assoc told (line ∷ []) (row_lines set (drop (i + 1) rows)))),
+      adds_line told line s t u added (written ∙ ap (λ ts. t ++ row_line ts (get_or rows i d).0 (get_or rows i d).1) same),
+    )
 
 -- the lines of the rows that a book leaves
 pub rows_left : (v : BookView) (d : Draft) (rows : TableState) → d ≡ v.set → rows ≡ state_in v (length v.rows)

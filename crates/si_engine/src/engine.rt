@@ -13,7 +13,7 @@ use crate::event::{Event, Reply};
 use history_book::{BeginFault, Book};
 use prog_check::ProgramSet;
 use prog_run::{Run, RunFault};
-use prog_tree::Rows;
+use prog_tree::{Cell, Rows, Sequence};
 use std::alloc::{AllocError, Global};
 use std::marker::Model;
 
@@ -129,12 +129,12 @@ impl<'a> Engine<'a> {
         &self.book
     }
 
-    /// The rows after all commits.
-    pub fn table(&self) -> Result<Rows, AllocError>
+    /// The rows after all commits, in the order of their cells.
+    pub fn table(&self) -> Result<Sequence<(Cell, i64)>, AllocError>
         ensures { IfOk result (λ rows. let h = self.now.machine.history in
             rows ≡ state_after (draft_tree self.now.set) self.now.opening h (length h)) }
     {
-        self.book.table()
+        self.book.table_rows()
     }
 
     fn begin(&mut self, program: usize, args: &[i64]) -> Result<Reply, AllocError>

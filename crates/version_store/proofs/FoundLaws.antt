@@ -100,6 +100,12 @@ pub record IsLeft (left : Cells Chain) : Type 0 where
   pub sorted : IsStrictlySortedBy cell_cmp (cells_of left)
   pub rises : (c : Cell) (chain : Chain) → at_cell left c ≡ Some chain → RisesFrom 0 chain.versions
 
+all_left : (chains : Cells Chain) → IsStrictlySortedBy cell_cmp (cells_of chains) → AllRise chains → IsLeft chains
+all_left chains sorted rise = record {
+  sorted = sorted;
+  rises = λ c chain found. subst (λ (o : Option Chain). RisesFrom 0 (unwrap_or o no_chain).versions) found (rise c);
+}
+
 between_left : (p : Cell → Bool) (chains between : Cells Chain) → IsStrictlySortedBy cell_cmp (cells_of chains) → AllRise chains → between ≡ filter (λ e. p e.0) chains → IsLeft between
 between_left p chains between sorted rise is = record {
   sorted = subst (λ (cs : List Cell). IsStrictlySortedBy cell_cmp cs) (cells-filter p chains ∙ ap cells_of (sym is)) (IsStrictlySortedBy-filter cell_cmp p (cells_of chains) sorted);
@@ -183,6 +189,9 @@ gains_first region n low high chains between sorted rise corners is = record {
   joined = ap (found_rows (seen_in region n)) is ∙ found_where (seen_in region n) (is_between low high) chains (λ c chain apart. outside_region region n c chain (beside region low high c corners apart));
 }
 
+pub gains_all : (seen : Seen) (chains left : Cells Chain) → IsStrictlySortedBy cell_cmp (cells_of chains) → AllRise chains → left ≡ chains → Gains seen chains left []
+gains_all seen chains left sorted rise is = subst (λ (es : Cells Chain). Gains seen chains es []) (sym is) record { walk = all_left chains sorted rise; joined = refl }
+
 pub gains_more :
     (seen : Seen) (chains left rest : Cells Chain) (k : Cell) (chain : Chain) (rows next : TableState) → left ≡ (k, chain) ∷ rest → Gains seen chains left rows →
     (RisesFrom 0 chain.versions → next ≡ rows ++ found_row k (seen k chain)) → Gains seen chains rest next
@@ -194,13 +203,18 @@ gains_more seen chains left rest k chain rows next is so_far adds = record {
     h : Gains seen chains ((k, chain) ∷ rest) rows
     h = subst (λ (es : Cells Chain). Gains seen chains es rows) is so_far
 
+pub gained_of :
+    (seen : Seen) → ((c : Cell) → seen c no_chain ≡ None) → (chains left : Cells Chain) (rows : TableState) → IsStrictlySortedBy cell_cmp (cells_of chains) → left ≡ [] →
+    Gains seen chains left rows → IsSeen seen chains rows
+gained_of seen unseen chains left rows sorted none h =
+    subst (λ (m : TableState). IsSeen seen chains m)
+    (sym (sym (append-nil rows) ∙ ap (λ es. rows ++ found_rows seen es) (sym none) ∙ h.joined))
+    (is_seen seen unseen chains sorted)
+
 pub gained :
     (region : Region) (n : ℕ) (chains left : Cells Chain) (rows : TableState) → IsStrictlySortedBy cell_cmp (cells_of chains) → left ≡ [] →
     Gains (seen_in region n) chains left rows → IsSeen (seen_in region n) chains rows
-gained region n chains left rows sorted none h =
-    subst (λ (m : TableState). IsSeen (seen_in region n) chains m)
-    (sym (sym (append-nil rows) ∙ ap (λ es. rows ++ found_rows (seen_in region n) es) (sym none) ∙ h.joined))
-    (is_seen (seen_in region n) (no_chain_in region n) chains sorted)
+gained region n = gained_of (seen_in region n) (no_chain_in region n)
 
 pub gained_nothing : (region : Region) (n : ℕ) (chains : Cells Chain) → AreCorners region None → IsSeen (seen_in region n) chains []
 gained_nothing region n chains corners = (IsTableState-nil, λ c. sym (outside_region region n c (chain_at chains c) (corners c)))

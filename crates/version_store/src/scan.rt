@@ -27,6 +27,18 @@ impl Chains {
         Ok(Sequence::from_vec(rows))
     }
 
+    /// The rows of all tables after the first `start` commits, in the order of their cells.
+    pub fn state_rows(&self, start: u64) -> Result<Sequence<(Cell, i64)>, AllocError>
+        ensures { IfOk result (λ rows. AllRise self.now →
+            IsSeen (seen_anywhere start) self.now rows) }
+    {
+        let mut rows = Vec::new(self.alloc);
+        for (cell, chain) in self.chains.iter() {
+            push_row(&mut rows, cell, chain.value_at(start))?;
+        }
+        Ok(Sequence::from_vec(rows))
+    }
+
     /// Whether some rows are those of a region after the first `start` commits, but for those of
     /// some `own` cells.
     pub fn are_held(&self, start: u64, region: &Region, own: &[Cell], rows: &[(Cell, i64)]) -> bool

@@ -114,6 +114,17 @@ impl Store {
         self.chains.state(start)
     }
 
+    /// The rows of all tables after the first `start` commits, in the order of their cells.
+    pub fn state_rows(&self, start: u64) -> Result<Sequence<(Cell, i64)>, AllocError>
+        requires above { self.now.floor ≤ start }
+        requires within { start ≤ self.now.commits }
+        ensures { IfOk result (λ rows. (opening : TableState) → (ws : List ChangeSet) →
+            StandsFor self.now opening ws →
+            rows ≡ state_at opening ws start) }
+    {
+        self.chains.state_rows(start)
+    }
+
     /// The clash of what an instance changes and keeps with the commits above its start.
     pub fn clash(&self, start: u64, changes: &Changes) -> Option<Clash>
         requires above { self.now.floor ≤ start }

@@ -169,6 +169,23 @@ fn scans_are_those_of_the_list(rt: HostRuntime) {
     drop(store);
 }
 
+/// The rows of all tables after as many commits as the store can tell of.
+fn state_rows(rt: &impl Abort, store: &Store, start: u64) -> Vec<(Cell, i64)> {
+    assert!(rt; store.floor() <= start && start <= store.commits());
+    store.state_rows(start).expect(rt, "memory").into_vec()
+}
+
+#[test]
+fn states_are_those_of_the_list(rt: HostRuntime) {
+    let store = worked_store(&rt, rt.alloc());
+    for start in 0..6 {
+        let rows = rows_after(&rt, rt.alloc(), OPENING, &COMMITS[..start], 1, 3);
+        let found = state_rows(&rt, &store, start as u64);
+        assert!(rt; found.as_slice() == rows.as_slice(), "at {start}");
+    }
+    drop(store);
+}
+
 /// Own cells, a cell that is looked for among them, and whether it is found.
 const OWN: [(&[Cell], Cell, bool); 5] = [
     (&[FIRST, THIRD], THIRD, true),

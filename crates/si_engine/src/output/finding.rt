@@ -8,7 +8,7 @@ ghost use Rattle.si_engine.specs.Runs.{row_lines, end_lines, AddsLines, AddsFirs
 use crate::output::printed::{push_last_line, push_row_line};
 use crate::witness::{NoWitness, Witness};
 use history_book::{Book, OrderFault};
-use prog_tree::{Draft, Rows};
+use prog_tree::{Cell, Draft};
 use std::alloc::AllocError;
 
 /// What the last line says of the commits of a book.
@@ -21,14 +21,14 @@ pub enum Serializability {
 }
 
 /// Adds the line of each row. Where memory runs out, some first lines were added.
-pub fn push_rows(set: &Draft, rows: &Rows, out: &mut String) -> Result<(), AllocError>
+pub fn push_rows(set: &Draft, rows: &[(Cell, i64)], out: &mut String) -> Result<(), AllocError>
     ensures ok { OnOk result (AddsLines (row_lines (draft_tree set.now) rows.now)
         (string_bytes out.old) (string_bytes out.new)) }
     ensures err { OnErr result (AddsFirst (row_lines (draft_tree set.now) rows.now)
         (string_bytes out.old) (string_bytes out.new)) }
 {
-    for (cell, value) in rows.iter() {
-        push_row_line(out, &set.tables, cell, *value)?;
+    for row in rows {
+        push_row_line(out, &set.tables, row)?;
     }
     Ok(())
 }
@@ -70,8 +70,8 @@ pub fn push_findings_before<W: Witness>(
     ensures err { OnErr result (AddsFirst (end_lines (draft_tree book.now.set) book.now.opening
         (history_of book.now.rows)) (string_bytes out.old) (string_bytes out.new)) }
 {
-    let table = book.table()?;
-    push_rows(book.set().draft(), &table, out)?;
+    let table = book.table_rows()?;
+    push_rows(book.set().draft(), table.as_slice(), out)?;
     push_order(book, out, witness)
 }
 

@@ -201,13 +201,13 @@ fn write_row_line(
 pub fn push_row_line(
     text: &mut String,
     tables: &[TableDecl],
-    cell: &Cell,
-    value: i64,
+    row: &(Cell, i64),
 ) -> Result<(), AllocError>
-    ensures { AddsOrStays text.old text.new result (row_line tables.now cell.now value) }
+    ensures { AddsOrStays text.old text.new result (row_line tables.now row.now.0 row.now.1) }
 {
+    let (cell, value) = row;
     let start = text.as_bytes().len();
-    let written = write_row_line(text, tables, cell, value);
+    let written = write_row_line(text, tables, cell, *value);
     or_cut(text, start, written)
 }
 

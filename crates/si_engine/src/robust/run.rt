@@ -15,7 +15,7 @@ use crate::engine::Engine;
 use crate::event::{Event, Reply};
 use crate::witness::{NoWitness, Witness};
 use history_book::{Book, OrderFault};
-use prog_tree::{Rows, Sequence};
+use prog_tree::{Cell, Rows, Sequence};
 use robust_cert::RobustSet;
 use std::alloc::{AllocError, Global};
 
@@ -28,8 +28,8 @@ pub struct Outcome {
     pub committed: Sequence<usize>,
     /// A serial order of the commits, by their numbers, which begin at 1.
     pub order: Sequence<usize>,
-    /// The rows that are left.
-    pub table: Rows,
+    /// The rows that are left, in the order of their cells.
+    pub table: Sequence<(Cell, i64)>,
 }
 
 // Notes the instance of a commit.

@@ -55,7 +55,7 @@ fn list_outcome(
         (string_bytes out.old) (string_bytes out.new)) }
 {
     list_replies(&set.tables, events, outcome.replies.as_slice(), out)?;
-    push_rows(set, &outcome.table, out)?;
+    push_rows(set, outcome.table.as_slice(), out)?;
     push_last_line(out, Serializability::Order, outcome.order.as_slice())
 }
 

@@ -51,9 +51,9 @@ fn counts_text(alloc: Global, outcomes: &[JobOutcome]) -> Result<String, AllocEr
 fn work_text(alloc: Global, outcomes: &[JobOutcome], book: &Book<'_>) -> Result<String, AllocError>
     ensures { IfOk result (λ text. string_bytes text ≡ work_text outcomes.now book.now) }
 {
-    let table = book.table()?;
+    let table = book.table_rows()?;
     let mut text = counts_text(alloc, outcomes)?;
-    push_rows(book.set().draft(), &table, &mut text)?;
+    push_rows(book.set().draft(), table.as_slice(), &mut text)?;
     Ok(text)
 }
 

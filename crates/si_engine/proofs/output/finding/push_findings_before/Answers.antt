@@ -11,12 +11,12 @@ use Rattle.si_engine.proofs.output.finding.push_findings_before.Goals as goal
 pub returns-in_err-push_rows-clause-err : goal.returns-in_err-push_rows-clause-err
 returns-in_err-push_rows-clause-err g c =
     let exit = err_from_is_err_and c.from_residual-in_err-push_rows.result c.from_residual-in_err-push_rows.ensures.1 in
-    let rows = rows_left c.args.book.now c.draft.result.now c.in_ok-table.table (c.draft.ensures.same ∙ c.set.ensures) c.in_ok-table.ensures in
+    let rows = rows_left c.args.book.now c.draft.result.now c.as_slice.result.now (c.draft.ensures.same ∙ c.set.ensures) (c.as_slice.ensures ∙ c.in_ok-table.ensures) in
     rw (exit.1) (subst (λ (lines : List (List ℕ)). AddsFirst lines (string_bytes c.args.out.now) (string_bytes c.push_rows.new.out)) rows c.in_err-push_rows.ensures.err)
 
 pub returns-clause-err : goal.returns-clause-err
 returns-clause-err g c =
-    let rows = rows_left c.args.book.now c.draft.result.now c.in_ok-table.table (c.draft.ensures.same ∙ c.set.ensures) c.in_ok-table.ensures in
+    let rows = rows_left c.args.book.now c.draft.result.now c.as_slice.result.now (c.draft.ensures.same ∙ c.set.ensures) (c.as_slice.ensures ∙ c.in_ok-table.ensures) in
     on_err c.push_order.result
     (adds_all (end_lines (draft_tree c.args.book.now.set) c.args.book.now.opening (history_of c.args.book.now.rows)) _ _ _
     (subst (λ (lines : List (List ℕ)). AddsLines lines (string_bytes c.args.out.now) (string_bytes c.push_rows.new.out)) rows c.in_ok-push_rows.ensures.ok))
@@ -30,7 +30,7 @@ returns-clause-ok g c =
     let old = string_bytes c.args.out.now in
     let before = string_bytes c.push_rows.new.out in
     let new = string_bytes c.push_order.new.out in
-    let rows = rows_left book c.draft.result.now c.in_ok-table.table (c.draft.ensures.same ∙ c.set.ensures) c.in_ok-table.ensures in
+    let rows = rows_left book c.draft.result.now c.as_slice.result.now (c.draft.ensures.same ∙ c.set.ensures) (c.as_slice.ensures ∙ c.in_ok-table.ensures) in
     let added = subst (λ (lines : List (List ℕ)). AddsLines lines old before) rows c.in_ok-push_rows.ensures.ok in
     IfOk-weaker c.push_order.result
     (λ finding. (last : List ℕ) × IsLastLine set book.opening h finding last × (new ≡ before ++ last))

@@ -10,7 +10,8 @@ or_cut-requires c = may_be_cut _ _ _ _ c.write_row_line-written.ensures _ (ap le
 
 pub returns : goal.returns
 returns c =
-    let fits : FitsSigned w64 c.args.value = search rules in
-    subst (λ v. AddsOrStays c.args.text.now c.or_cut.new.text c.or_cut.result (row_line c.args.tables.now c.args.cell.now v)) (to_z-of_z w64 c.args.value fits)
+    let value = c.args.row.now.1 in
+    let fits : FitsSigned w64 value = search rules in
+    subst (λ v. AddsOrStays c.args.text.now c.or_cut.new.text c.or_cut.result (row_line c.args.tables.now c.args.row.now.0 v)) (to_z-of_z w64 value fits)
     (is_cut_back _ _ _ _ c.write_row_line-written.ensures _ (ap length c.as_bytes-start.ensures.value) c.or_cut.new.text c.or_cut.result
     c.or_cut.ensures.same c.or_cut.ensures.ok c.or_cut.ensures.err)
