@@ -1,6 +1,6 @@
 -- Laws of the writers of cells.
 use Rattle.std.proofs.Common.{◌≡◌, ◌∙◌, ℕ, zero, suc, ◌+◌, ◌<◌, ◌≤◌, leb, nat_lt, Bool, true, false, cond, ◌||◌, if◌then◌else◌, List, [], ◌∷◌, ◌++◌, length, get_or, refl, ap, sym, subst, arith}
-use Rattle.std.specs.Prelude.{nat_le, Option, Some, None, IfSome, IsSome, All, unwrap_or}
+use Rattle.std.specs.Prelude.{nat_le, Option, Some, None, IfSome, All, unwrap_or}
 use Rattle.std.specs.Cmp.{eq_by_cmp_equiv}
 use Rattle.std.specs.List.Sorted.{IsStrictlySortedBy, IsNonDecreasingBy}
 use Rattle.std.specs.Option.{option_or}
@@ -72,24 +72,14 @@ one_more_number n cells left rest k old now next is so_far added = record {
 
 -- ---- one number more at a cell
 
-pub added_found :
-    (m n : Cells (List ℕ)) (cell : Cell) (number : ℕ) (old new : List ℕ) → Some old ≡ at_cell m cell → new ≡ old ++ number ∷ [] →
-    (IsSome (at_cell m cell) → (c : Cell) → at_cell n c ≡ cond (is_same_cell cell c) (Some new) (at_cell m c)) → IsAddedAt (is_same_cell cell) number m n
-added_found m n cell number old new found is written c =
-    ap (λ (o : Option (List ℕ)). unwrap_or o []) (written (subst (λ (o : Option (List ℕ)). IsSome o) found refl) c) ∙ go (is_same_cell cell c) (λ same. cell_is cell c same)
-  where
-    go : (b : Bool) → (b ≡ true → cell ≡ c) → unwrap_or (cond b (Some new) (at_cell m c)) [] ≡ (if b then numbers_at m c ++ number ∷ [] else numbers_at m c)
-    go true same = is ∙ ap (λ (o : Option (List ℕ)). unwrap_or o [] ++ number ∷ []) (found ∙ ap (at_cell m) (same refl))
-    go false same = refl
-
-pub added_absent :
-    (m n : Cells (List ℕ)) (cell : Cell) (number : ℕ) (new : List ℕ) → None ≡ at_cell m cell → new ≡ number ∷ [] →
+pub added_entry :
+    (m n : Cells (List ℕ)) (cell : Cell) (number : ℕ) (new : List ℕ) → new ≡ numbers_at m cell ++ number ∷ [] →
     ((c : Cell) → at_cell n c ≡ cond (is_same_cell cell c) (Some new) (at_cell m c)) → IsAddedAt (is_same_cell cell) number m n
-added_absent m n cell number new absent is written c =
+added_entry m n cell number new is written c =
     ap (λ (o : Option (List ℕ)). unwrap_or o []) (written c) ∙ go (is_same_cell cell c) (λ same. cell_is cell c same)
   where
     go : (b : Bool) → (b ≡ true → cell ≡ c) → unwrap_or (cond b (Some new) (at_cell m c)) [] ≡ (if b then numbers_at m c ++ number ∷ [] else numbers_at m c)
-    go true same = is ∙ ap (λ (o : Option (List ℕ)). unwrap_or o [] ++ number ∷ []) (absent ∙ ap (at_cell m) (same refl))
+    go true same = is ∙ ap (λ x. numbers_at m x ++ number ∷ []) (same refl)
     go false same = refl
 
 -- ---- the bisection

@@ -44,13 +44,9 @@ impl Writers {
     fn add(&mut self, cell: Cell, number: usize) -> Result<(), AllocError>
         ensures { OnOk result (IsAddedAt (is_same_cell cell) number self.old self.new) }
     {
-        if let Some(numbers) = self.cells.get_mut(&cell) {
-            numbers.push(number)?;
-            return Ok(());
-        }
-        let mut numbers = Sequence::new(self.alloc);
+        let entry = self.cells.entry(cell)?;
+        let numbers = entry.or_insert(Sequence::new(self.alloc));
         numbers.push(number)?;
-        self.cells.insert(cell, numbers)?;
         Ok(())
     }
 
