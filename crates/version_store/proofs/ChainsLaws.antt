@@ -31,14 +31,6 @@ pub made_found :
     (IsSome (at_cell m cell) → IsWritten m n cell new) → MakesAt cell f m n
 made_found m n cell f old new found is written = made m n cell f new (is ∙ ap (λ o. f (unwrap_or o no_chain)) found) (written (subst (λ (o : Option Chain). IsSome o) found refl))
 
--- where a cell has no chain, what is made of nothing is made of its chain
-pub made_first : (m n : Cells Chain) (cell : Cell) (f : Chain → Chain) → None ≡ at_cell m cell → MakesAt cell (λ chain. f no_chain) m n → MakesAt cell f m n
-made_first m n cell f absent first c = first c ∙ go (is_same_cell cell c) (λ same. cell_is cell c same)
-  where
-    go : (b : Bool) → (b ≡ true → cell ≡ c) → (if b then f no_chain else chain_at m c) ≡ (if b then f (chain_at m c) else chain_at m c)
-    go true same = ap (λ o. f (unwrap_or o no_chain)) absent ∙ ap (λ x. f (chain_at m x)) (same refl)
-    go false same = refl
-
 -- what makes nothing new changes nothing
 pub same_chains : (m n : Cells Chain) (cell : Cell) → MakesAt cell (λ chain. chain) m n → (c : Cell) → chain_at n c ≡ chain_at m c
 same_chains m n cell h c = h c ∙ go (is_same_cell cell c)

@@ -3,6 +3,7 @@ use Rattle.std.proofs.Common.{◌≡◌, ◌∙◌, ℕ, Bool, true, false, cond
 use Rattle.std.specs.Prelude.{Option, Some, None, IsSome}
 use Rattle.prog_tree.specs.declared.cell.Cell.{Cell}
 use Rattle.prog_tree.specs.Table.{Cells, at_cell, is_same_cell}
+use Rattle.prog_tree.proofs.TableStates.{cell_is}
 use Rattle.version_store.specs.declared.touches.Touch.{Touch}
 use Rattle.version_store.specs.declared.touches.Touch.TheVariants.{Change, Keep}
 use Rattle.version_store.specs.Reading.{OthersHold}
@@ -61,3 +62,11 @@ pub hold_left :
     (m n : Cells Chain) (cell : Cell) (old new : Chain) (is_empty : Bool) → Some old ≡ at_cell m cell → (new ≡ no_chain → is_empty ≡ true) → is_empty ≡ false →
     (IsSome (at_cell m cell) → IsWritten m n cell new) → EachHolds m → EachHolds n
 hold_left m n cell old new is_empty found tells left written = hold_found m n cell old new found (λ holds none. let clash : true ≡ false = sym (tells none) ∙ left in cc) written
+
+-- where the chain of a cell holds something too, all do
+pub hold_beside : (m : Cells Chain) (cell : Cell) → HoldsSome (at_cell m cell) → OthersHold cell m → EachHolds m
+hold_beside m cell holds others c = go (is_same_cell cell c) (λ same. cell_is cell c same) (λ apart. others c apart)
+  where
+    go : (b : Bool) → (b ≡ true → cell ≡ c) → (b ≡ false → HoldsSome (at_cell m c)) → HoldsSome (at_cell m c)
+    go true same apart = subst (λ (d : Cell). HoldsSome (at_cell m d)) (same refl) holds
+    go false same apart = apart refl

@@ -6,12 +6,12 @@ use Rattle.std.proofs.lemmas.Bool.Decides.{nat_tests}
 use Rattle.std.proofs.lemmas.Map.Keys.{sorted_tail}
 use Rattle.prog_tree.specs.declared.cell.Cell.{Cell}
 use Rattle.prog_tree.specs.ChangeSet.{ChangeSet}
-use Rattle.prog_tree.specs.Table.{cell_cmp, Cells, cells_of, at_cell, is_same_cell, is_cell_among, TableState, row_at}
+use Rattle.prog_tree.specs.Table.{cell_cmp, Cells, cells_of, at_cell, is_same_cell, is_cell_among}
 use Rattle.version_store.specs.declared.touches.Touch.{Touch}
 use Rattle.version_store.specs.declared.touches.Touch.TheVariants.{Change, Keep}
-use Rattle.version_store.specs.StandsFor.{Chain, no_chain, EachHolds}
-use Rattle.version_store.specs.Reading.{chain_at, with_entry, with_opening_row, with_version, with_mark, with_commit, cut_from, IsGrown, MakesAt, MakesEach, MakesTouched}
-use Rattle.version_store.specs.Touches.{touches_of, first_touch, with_touch, with_touches}
+use Rattle.version_store.specs.StandsFor.{Chain, EachHolds}
+use Rattle.version_store.specs.Reading.{chain_at, with_entry, with_version, with_mark, with_commit, cut_from, IsGrown, MakesAt, MakesTouched}
+use Rattle.version_store.specs.Touches.{touches_of, with_touch, with_touches}
 use Rattle.version_store.proofs.ChainsLaws.{entry_turn, same_turned}
 use Rattle.version_store.proofs.TouchLaws.{among_touches, commit_touches}
 
@@ -41,19 +41,6 @@ one_more_entry {A = A} f entries left rest k entry before now next is so_far mad
     go : (b : Bool) (c : Cell) → cond b (Some entry) (at_cell rest c) ≡ None → at_cell rest c ≡ None
     go true c none = absurd (cc)
     go false c none = none
-
--- an opening row begins the chain of its cell
-abbrev pub opens_with : ℤ → Chain → Chain
-opens_with value chain = first_touch 0 (Change (Some value))
-
--- all opening rows were put in, where there was no chain
-pub all_opened : (opening rest : TableState) (now : Cells Chain) → rest ≡ [] → AddsEntries opens_with opening rest [] now →
-    MakesEach (λ c. with_opening_row (row_at opening c)) [] now
-all_opened opening rest now none h c = ap (λ (es : TableState). with_entry opens_with (at_cell es c) (chain_at now c)) (sym none) ∙ h.ends c ∙ go (row_at opening c)
-  where
-    go : (o : Option ℤ) → with_entry opens_with o no_chain ≡ with_opening_row o no_chain
-    go None = refl
-    go (Some value) = refl
 
 -- ---- walks over the touches of a commit
 

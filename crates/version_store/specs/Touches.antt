@@ -5,7 +5,7 @@ use Rattle.prog_tree.specs.ChangeSet.{ChangeSet, ChangedCells}
 use Rattle.prog_tree.specs.Table.{Cells, is_same_cell}
 use Rattle.version_store.specs.declared.touches.Touch.{Touch}
 use Rattle.version_store.specs.declared.touches.Touch.TheVariants.{Change, Keep}
-use Rattle.version_store.specs.StandsFor.{Chain, no_chain}
+use Rattle.version_store.specs.StandsFor.{Chain}
 use Rattle.version_store.specs.Reading.{with_version, with_mark}
 
 -- some changed cells, then some kept ones, each with what is done to it
@@ -20,10 +20,6 @@ touches_of w = touches_left w.cells w.kept
 abbrev pub with_touch : ℕ → Touch → Chain → Chain
 with_touch n (Change value) chain = with_version n value chain
 with_touch n Keep chain = with_mark n chain
-
--- the chain of one touch
-abbrev pub first_touch : ℕ → Touch → Chain
-first_touch n touch = with_touch n touch no_chain
 
 -- the chain of a cell with those of the touches that are of this cell
 abbrev pub with_touches : ℕ → Cells Touch → Cell → Chain → Chain

@@ -1,9 +1,9 @@
 //! What the store keeps of one cell.
-ghost use Rattle.std.specs.Prelude.{◌≡◌, ◌↔◌, ◌≤◌, ◌+◌, length, [], drop, None, IfOk, IsTrue, OnOk, OnErr};
+ghost use Rattle.std.specs.Prelude.{◌≡◌, ◌↔◌, ◌≤◌, ◌+◌, length, [], drop, None, IsTrue, OnOk, OnErr};
 ghost use Rattle.version_store.specs.Reading.{RisesFrom, IsCutAt, value_at};
 ghost use Rattle.version_store.specs.Reading.{last_number_or, last_number, cut_from};
 ghost use Rattle.version_store.specs.StandsFor.{no_chain, trimmed};
-ghost use Rattle.version_store.specs.Touches.{first_touch, with_touch};
+ghost use Rattle.version_store.specs.Touches.{with_touch};
 ghost use Rattle.version_store.specs.Trimming.{versions_kept, marks_kept};
 
 use crate::touches::Touch;
@@ -57,15 +57,6 @@ impl Chain {
             versions: Versions::new(alloc),
             marks: Vec::new(alloc),
         }
-    }
-
-    /// A chain of one touch.
-    pub fn of(alloc: Global, number: u64, touch: Touch) -> Result<Self, AllocError>
-        ensures { IfOk result (λ chain. chain ≡ first_touch number touch) }
-    {
-        let mut chain = Chain::new(alloc);
-        chain.add(number, touch)?;
-        Ok(chain)
     }
 
     /// What the cell held after the first `number` commits.

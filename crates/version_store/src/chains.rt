@@ -7,7 +7,7 @@ ghost use Rattle.version_store.specs.Reading.{AllRise, chain_at, value_at, numbe
 ghost use Rattle.version_store.specs.Reading.{with_opening_row, with_commit, cut_from, IsGrown};
 ghost use Rattle.version_store.specs.Reading.{MakesAt, MakesEach, MakesTouched, KeepsBelow, OthersHold};
 ghost use Rattle.version_store.specs.StandsFor.{no_chain, size, trimmed, EachHolds};
-ghost use Rattle.version_store.specs.Touches.{first_touch, with_touch};
+ghost use Rattle.version_store.specs.Touches.{with_touch};
 ghost use Rattle.version_store.specs.Trimming.{within, beyond};
 ghost use Rattle.version_store.specs.Trims.{TrimsAll};
 
@@ -65,31 +65,6 @@ impl Chains {
         }
     }
 
-    // Gives a cell a chain of one touch, in place of the one that it has.
-    fn begin(&mut self, cell: Cell, number: u64, touch: Touch) -> Result<(), AllocError>
-        ensures ok { OnOk result
-            (MakesAt cell (λ chain. first_touch number touch) self.old self.new) }
-        ensures err { OnErr result (MakesEach (λ c chain. chain) self.old self.new) }
-        ensures hold { EachHolds self.old → EachHolds self.new }
-    {
-        let chain = Chain::of(self.alloc, number, touch)?;
-        self.chains.insert(cell, chain)?;
-        Ok(())
-    }
-
-    // Adds a touch to the chain of a cell, behind the others.
-    fn add(&mut self, cell: Cell, number: u64, touch: Touch) -> Result<(), AllocError>
-        ensures ok { OnOk result (MakesAt cell (with_touch number touch) self.old self.new) }
-        ensures err { OnErr result (MakesEach (λ c chain. chain) self.old self.new) }
-        ensures hold { EachHolds self.old → EachHolds self.new }
-    {
-        if let Some(chain) = self.chains.get_mut(&cell) {
-            chain.add(number, touch)?;
-            return Ok(());
-        }
-        self.begin(cell, number, touch)
-    }
-
     // Drops the chain of a cell, of which nothing is left.
     fn drop_empty(&mut self, cell: &Cell)
         requires { chain_at self.old cell.now ≡ no_chain }
@@ -98,6 +73,42 @@ impl Chains {
         ensures hold { OthersHold cell.now self.old → EachHolds self.new }
     {
         let _ = self.chains.remove(cell);
+    }
+
+    // Whether a cell has a chain of which nothing is left.
+    fn has_empty(&self, cell: &Cell) -> bool
+        ensures empty { IsTrue result → chain_at self.now cell.now ≡ no_chain }
+        ensures left { IsFalse result → OthersHold cell.now self.now → EachHolds self.now }
+    {
+        match self.chains.get(cell) {
+            Some(chain) => chain.is_empty(),
+            None => false,
+        }
+    }
+
+    // Drops the chain of a cell, if nothing is left of it.
+    fn drop_if_empty(&mut self, cell: &Cell)
+        ensures chains { MakesEach (λ c chain. chain) self.old self.new }
+        ensures hold { OthersHold cell.now self.old → EachHolds self.new }
+    {
+        if self.has_empty(cell) {
+            self.drop_empty(cell);
+        }
+    }
+
+    // Adds a touch to the chain of a cell, behind the others.
+    fn add(&mut self, cell: Cell, number: u64, touch: Touch) -> Result<(), AllocError>
+        ensures ok { OnOk result (MakesAt cell (with_touch number touch) self.old self.new) }
+        ensures err { OnErr result (MakesEach (λ c chain. chain) self.old self.new) }
+        ensures hold { EachHolds self.old → EachHolds self.new }
+    {
+        let entry = self.chains.entry(cell)?;
+        let chain = entry.or_insert(Chain::new(self.alloc));
+        let Ok(()) = chain.add(number, touch) else {
+            self.drop_if_empty(&cell);
+            return Err(AllocError);
+        };
+        Ok(())
     }
 
     // Cuts the chain of a cell, and answers whether it is there and nothing is left of it.
@@ -132,7 +143,7 @@ impl Chains {
     {
         let mut chains = Chains::new(alloc);
         for (cell, value) in opening.iter() {
-            chains.begin(*cell, 0, Touch::Change(Some(*value)))?;
+            chains.add(*cell, 0, Touch::Change(Some(*value)))?;
         }
         Ok(chains)
     }
