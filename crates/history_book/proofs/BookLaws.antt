@@ -1,5 +1,5 @@
 -- A book stays true.
-use Rattle.std.proofs.Common.{◌≡◌, ℕ, suc, ◌+◌, ◌<◌, ◌≤◌, get_or, List, [], ◌∷◌, ◌++◌, length, refl, ap, sym, ◌∙◌, subst, arith}
+use Rattle.std.proofs.Common.{◌≡◌, ℕ, suc, ◌+◌, ◌<◌, ◌≤◌, get_or, List, [], ◌∷◌, ◌++◌, length, refl, ap, sym, ◌∙◌, subst, true≢false, arith}
 use Rattle.std.specs.Prelude.{All, Option, Some, IsSome, None, slice_get}
 use Rattle.std.specs.BTreeMap.{is_at}
 use Rattle.std.proofs.lemmas.Option.{slice_get-get_or}
@@ -206,6 +206,17 @@ found_active v number i book found = All-found (is_at (nat_cmp number)) (IsTrueA
 -- one of a ticket's number and start
 pub active_known : (v : BookView) (t : TicketView) (i : Instance) → IsTrueBook v → active_at v t ≡ Some i → (n : ℕ) × IsTrueActive v (n, i)
 active_known v t i book found = found_active v t.number i book (with_start-is t.start (lookup (is_at (nat_cmp t.number)) v.active) i found).0
+
+-- it sees commits from the floor on
+pub start_known : (v : BookView) (t : TicketView) → IsTrueBook v → IsSome (active_at v t) → (v.floor ≤ t.start) × (t.start ≤ length v.rows)
+start_known v t book found = go (active_at v t) refl found
+  where
+    go : (o : Option Instance) → active_at v t ≡ o → IsSome o → (v.floor ≤ t.start) × (t.start ≤ length v.rows)
+    go None is h = absurd (true≢false (sym h))
+    go (Some i) is h =
+        let same = (with_start-is t.start (lookup (is_at (nat_cmp t.number)) v.active) i is).1 in
+        let known = (active_known v t i book is).1 in
+        (subst (λ (n : ℕ). v.floor ≤ n) same known.floor, subst (λ (n : ℕ). n ≤ length v.rows) same known.start)
 
 -- its number is there
 pub number_known : (v : BookView) (t : TicketView) → IsSome (active_at v t) → IsSome (lookup (is_at (nat_cmp t.number)) v.active)

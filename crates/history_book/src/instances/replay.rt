@@ -75,6 +75,15 @@ impl<'a> Book<'a> {
         }
     }
 
+    // An active instance sees commits from the floor on.
+    fn know_start(&self, ticket: &Ticket)
+        requires { IsSome (active_at self.now ticket.now) }
+        ensures above { self.now.floor ≤ ticket.now.start }
+        ensures within { ticket.now.start ≤ length self.now.rows }
+    {
+        self.commits();
+    }
+
     /// The next store statement of a run, or its end. What it asks for is read in the book, as the
     /// ticket's instance sees it.
     pub fn advance(&self, ticket: &Ticket, run: &mut Run<'_>) -> Result<Next, AllocError>
@@ -84,10 +93,8 @@ impl<'a> Book<'a> {
         ensures own { StaysOwn (state_in self.now ticket.now.start) run.old run.new }
         ensures err { OnErr result (StopsShort run.old run.new) }
     {
-        let Some(active) = self.active_instance(ticket) else {
-            unreachable!()
-        };
-        self.advance_at(active.start, run)
+        self.know_start(ticket);
+        self.advance_at(ticket.start(), run)
     }
 
     // Goes on with a run to its end.
