@@ -1,13 +1,11 @@
 -- Runs that are answered from what a table state holds.
-use Rattle.std.proofs.Common.{◌≡◌, Bool, true, false, cond, List, [], ◌∷◌, ◌++◌, ℤ, Option, Some, None, Result, Ok, Err, IfErr, IfSome, refl, ap, sym, subst, ◌∙◌}
+use Rattle.std.proofs.Common.{◌≡◌, Bool, true, false, cond, List, [], ◌∷◌, ◌++◌, ℤ, Option, Some, None, IfSome, refl, ap, sym, subst, ◌∙◌}
 use Rattle.std.specs.List.{list_all}
 use Rattle.prog_tree.specs.declared.cell.Cell.{Cell}
 use Rattle.prog_tree.specs.declared.cell.Region.{Region}
 use Rattle.prog_tree.specs.declared.look.Look.{Look}
 use Rattle.prog_tree.specs.declared.look.Look.TheVariants as look
 use Rattle.prog_tree.specs.Table.{TableState, is_in, row_at, rows_in}
-use Rattle.prog_run.specs.declared.fault.AnswerFault.{AnswerFault}
-use Rattle.prog_run.specs.declared.fault.AnswerFault.TheVariants.{NotAsked, BadRows, Memory}
 use Rattle.prog_run.specs.declared.next.Next.{Next}
 use Rattle.prog_run.specs.declared.next.Next.TheVariants.{Get, Scan, Did, Done}
 use Rattle.prog_run.specs.declared.next.Question.{Question}
@@ -16,7 +14,7 @@ use Rattle.prog_run.specs.Looks.{IsFound, AreFound, region_look}
 use Rattle.prog_tree.specs.Evaluation.{own_cells, rows_without}
 use Rattle.prog_run.specs.Cursor.{BeginsWith}
 use Rattle.prog_run.specs.Step.{question_after, deeds_after, changes_after}
-use Rattle.prog_run.specs.View.{RunView, IsAdvance, IsAnswered, IsRefusedBy, IsTrueRun, SameBegin, begun, scan_fault, asked_cell, asked_region, result_of}
+use Rattle.prog_run.specs.View.{RunView, IsAdvance, IsAnswered, IsTrueRun, SameBegin, begun, scan_fault, asked_cell, asked_region, result_of}
 use Rattle.std.specs.Prelude.{IsSome, slice_get}
 use Rattle.std.specs.Option.{option_map}
 use Rattle.std.proofs.lemmas.Option.{slice_get-map}
@@ -93,13 +91,6 @@ all_in region (row ∷ m) = go (is_in region row.0) refl (all_in region m)
 pub no_scan_fault : (m : TableState) (asked : Option Question) (region : Region) (rows : TableState) → asked ≡ Some (Range region) → rows ≡ rows_in region m → scan_fault (asked_region asked) rows ≡ None
 no_scan_fault m asked region rows is same =
     ap (λ a. scan_fault (asked_region a) rows) is ∙ ap (scan_fault (Some region)) same ∙ (rw (all_in region m) refl)
-
--- an answer without a fault fails for want of memory alone
-pub memory_alone : (answer : Result Next AnswerFault) (fault : Option AnswerFault) → fault ≡ None → IsRefusedBy fault answer → IfErr answer (λ f. f ≡ Memory)
-memory_alone (Ok next) fault none refused = tt
-memory_alone (Err Memory) fault none refused = refl
-memory_alone (Err NotAsked) fault none refused = let never : None ≡ Some NotAsked = sym none ∙ refused in absurd (cc)
-memory_alone (Err BadRows) fault none refused = let never : None ≡ Some BadRows = sym none ∙ refused in absurd (cc)
 
 -- ---- a run that is over
 

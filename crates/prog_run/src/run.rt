@@ -175,12 +175,50 @@ impl<'a> Run<'a> {
         ensures same { SameBegin self.old self.new }
         ensures err { OnErr result (self.new ≡ self.old) }
     {
-        let Some(Asked::OfRegion { region, usage }) = self.asked else {
-            return Err(AnswerFault::NotAsked);
-        };
-        if !are_in(&region, rows.as_slice()) {
-            return Err(AnswerFault::BadRows);
+        if let Some(fault) = self.rows_fault(rows.as_slice()) {
+            return Err(fault);
         }
+        Ok(self.answer_rows(rows)?)
+    }
+
+    // The region whose rows it asks for, if it does.
+    fn asked_region(&self) -> Option<Region>
+        ensures region { result ≡ asked_region self.now.asked }
+        ensures true_run { IsTrueRun self.now }
+    {
+        let asked = self.asked?;
+        asked.region()
+    }
+
+    // What is wrong with an answer of these rows.
+    fn rows_fault(&self, rows: &[(Cell, i64)]) -> Option<AnswerFault>
+        ensures fault { result ≡ scan_fault (asked_region self.now.asked) rows.now }
+        ensures true_run { IsTrueRun self.now }
+    {
+        let Some(region) = self.asked_region() else {
+            return Some(AnswerFault::NotAsked);
+        };
+        if are_in(&region, rows) {
+            return None;
+        }
+        Some(AnswerFault::BadRows)
+    }
+
+    /// Answers as `answer_scan` does, for a caller that knows that the run asks for rows, and that
+    /// these lie in its region: they are not tested.
+    pub fn answer_rows(&mut self, rows: Sequence<(Cell, i64)>) -> Result<Next, AllocError>
+        requires { scan_fault (asked_region self.old.asked) rows ≡ None }
+        ensures answered { IfOk result
+            (λ next. IfSome (asked_region self.old.asked)
+            (λ region. IsAnswered (region_look self.old.changes region rows) next self.old
+            self.new)) }
+        ensures true_run { IsTrueRun self.new }
+        ensures same { SameBegin self.old self.new }
+        ensures err { OnErr result (self.new ≡ self.old) }
+    {
+        let Some(Asked::OfRegion { region, usage }) = self.asked else {
+            unreachable!()
+        };
         let step = self
             .cursor
             .answer_region(self.alloc, &mut self.progress, region, usage, rows)?;

@@ -7,10 +7,12 @@ ghost use Rattle.prog_tree.specs.Evaluation.{cell_of};
 ghost use Rattle.prog_tree.specs.Tree.{key_tree, range_tree, stmt_tree};
 ghost use Rattle.prog_tree.specs.Value.{same_name};
 ghost use Rattle.prog_run.specs.Cursor.{is_store_stmt};
-ghost use Rattle.prog_run.specs.Task.{AskedTree, TaskTree, use_tree, region_use_tree};
+ghost use Rattle.prog_run.specs.Looks.{question_of};
+ghost use Rattle.prog_run.specs.Task.{AskedTree, TaskTree, asked_tree, use_tree, region_use_tree};
 ghost use Rattle.prog_run.specs.Task.{task_tree};
 ghost use Rattle.prog_run.specs.Task.{task_at, task_in, task_of_stmt};
 ghost use Rattle.prog_run.specs.Step.{next_asking};
+ghost use Rattle.prog_run.specs.View.{asked_region};
 
 use crate::next::Next;
 use prog_check::ProgramSet;
@@ -77,6 +79,16 @@ impl Asked<'_> {
         match self {
             Asked::OfCell { cell, .. } => Next::Get(cell),
             Asked::OfRegion { region, .. } => Next::Scan(region),
+        }
+    }
+
+    /// The region whose rows are asked for, if any are.
+    pub fn region(self) -> Option<Region>
+        ensures { result ≡ asked_region (Some (question_of (asked_tree self.entry))) }
+    {
+        match self {
+            Asked::OfCell { .. } => None,
+            Asked::OfRegion { region, .. } => Some(region),
         }
     }
 }

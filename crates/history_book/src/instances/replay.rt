@@ -68,7 +68,7 @@ impl<'a> Book<'a> {
             }
             Next::Scan(region) => {
                 let rows = self.rows_for(start, run, &region)?;
-                let next = taken(run.answer_scan(rows))?;
+                let next = run.answer_rows(rows)?;
                 Ok(next)
             }
             next => Ok(next),

@@ -3,15 +3,15 @@ use Rattle.prog_tree.specs.declared.look.Look.TheVariants as look
 use Rattle.prog_run.specs.declared.next.Question.TheVariants.{One, Range}
 use Rattle.prog_run.specs.Looks.{AreFound, region_look}
 use Rattle.prog_run.specs.Step.{question_after}
-use Rattle.prog_run.specs.View.{IsAnswered, asked_cell, asked_region}
+use Rattle.prog_run.specs.View.{IsAnswered, asked_cell}
 use Rattle.history_book.specs.View.{state_in}
-use Rattle.history_book.proofs.ReplayLaws.{answered_cell, answered_region, begun_as_first, found_cell, found_region, no_scan_fault, memory_alone, steps_behind}
+use Rattle.history_book.proofs.ReplayLaws.{answered_cell, answered_region, begun_as_first, found_cell, found_region, no_scan_fault, steps_behind}
 use Rattle.history_book.proofs.book.Book.advance_at.Goals as goal
 
-pub taken-requires-in-Scan : goal.taken-requires-in-Scan
-taken-requires-in-Scan c =
+pub answer_rows-requires : goal.answer_rows-requires
+answer_rows-requires c =
     let asked = c.in_ok-next.ensures.advance.asked ∙ ap question_after c.in-Scan.is in
-    memory_alone c.answer_scan.result _ (no_scan_fault (state_in c.args.self.now c.args.start) c.advance.new.self.asked c.in-Scan.region _ asked c.in_ok-rows-in-Scan.ensures) c.answer_scan.ensures.refused
+    no_scan_fault (state_in c.args.self.now c.args.start) c.advance.new.self.asked c.in-Scan.region _ asked c.in_ok-rows-in-Scan.ensures
 
 pub returns-in_ok-next-in-Get-clause-ok : goal.returns-in_ok-next-in-Get-clause-ok
 returns-in_ok-next-in-Get-clause-ok c =
@@ -42,26 +42,24 @@ returns-in_ok-next-in-Get-clause-own c =
 pub returns-in_ok-next-in-Scan-clause-ok : goal.returns-in_ok-next-in-Scan-clause-ok
 returns-in_ok-next-in-Scan-clause-ok c =
     let old = c.advance.new.self in
-    let new = c.answer_scan.new.self in
+    let new = c.answer_rows.new.self in
     let rows = c.in_ok-rows-in-Scan.rows in
     let next = c.in_ok-next-in-Scan.next in
     let asked = c.in_ok-next.ensures.advance.asked ∙ ap question_after c.in-Scan.is in
-    let answered = subst (λ r. IfOk r (λ next. IfSome (asked_region old.asked) (λ region. IsAnswered (region_look old.changes region rows) next old new))) c.in_ok-next-in-Scan.ensures.ok c.answer_scan.ensures.answered in
     steps_behind (region_look old.changes c.in-Scan.region rows) _ next _ old new (Range c.in-Scan.region) (ap question_after c.in-Scan.is) c.in_ok-next.ensures.advance
-    (answered_region old new c.in-Scan.region rows next asked answered)
+    (answered_region old new c.in-Scan.region rows next asked c.in_ok-next-in-Scan.ensures.answered)
 
 pub returns-in_ok-next-in-Scan-clause-own : goal.returns-in_ok-next-in-Scan-clause-own
 returns-in_ok-next-in-Scan-clause-own c =
     let m = state_in c.args.self.now c.args.start in
     let old = c.advance.new.self in
-    let new = c.answer_scan.new.self in
+    let new = c.answer_rows.new.self in
     let rows = c.in_ok-rows-in-Scan.rows in
     let next = c.in_ok-next-in-Scan.next in
     let asked = c.in_ok-next.ensures.advance.asked ∙ ap question_after c.in-Scan.is in
     let before = subst (AreFound m) (sym c.in_ok-next.ensures.advance.looks) c.requires.found in
-    let answered = subst (λ r. IfOk r (λ next. IfSome (asked_region old.asked) (λ region. IsAnswered (region_look old.changes region rows) next old new))) c.in_ok-next-in-Scan.ensures.ok c.answer_scan.ensures.answered in
     record {
-      found = found_region m old new c.in-Scan.region rows next c.in_ok-rows-in-Scan.ensures before (answered_region old new c.in-Scan.region rows next asked answered);
-      true_run = c.answer_scan.ensures.true_run;
-      same = begun_as_first _ old new c.advance.ensures.same c.answer_scan.ensures.same;
+      found = found_region m old new c.in-Scan.region rows next c.in_ok-rows-in-Scan.ensures before (answered_region old new c.in-Scan.region rows next asked c.in_ok-next-in-Scan.ensures.answered);
+      true_run = c.answer_rows.ensures.true_run;
+      same = begun_as_first _ old new c.advance.ensures.same c.answer_rows.ensures.same;
     }

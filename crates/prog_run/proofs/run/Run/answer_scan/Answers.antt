@@ -1,103 +1,25 @@
-use Rattle.std.proofs.Common.{◌≡◌, true, false, [], ◌∷◌, ◌++◌, rules, refl, sym, ap, subst, ◌∙◌}
-use Rattle.std.specs.Prelude.{Some}
-use Rattle.std.specs.List.{list_all}
+use Rattle.std.proofs.Common.{ap, sym, ◌∙◌}
 use Rattle.std.proofs.lemmas.Result.{err_from_is_err_and}
-use Rattle.prog_tree.specs.Table.{is_in}
-use Rattle.prog_tree.specs.Tree.{program_tree}
-use Rattle.prog_tree.specs.Steps.{looked}
-use Rattle.prog_run.specs.Cursor.{cursor_tree}
-use Rattle.prog_run.specs.Looks.{region_look, seen_rows}
-use Rattle.prog_run.specs.Task.{region_use_tree, rows_flow}
-use Rattle.prog_run.specs.Step.{deeds_after, changes_after, question_after, end_after}
-use Rattle.prog_run.specs.View.{RunView, IsTrueRun, IsTrueTo, question_in}
-use Rattle.prog_run.specs.declared.task.Asked.TheVariants as asked
-use Rattle.prog_run.proofs.GrowLemmas.{true_at}
-use Rattle.prog_run.proofs.RefusalLaws.{rows_fault, memory_refuses}
-use Rattle.prog_run.proofs.StepLemmas.{rows_step, answer_adds, asked_for_rows, true_answered, unchanged}
+use Rattle.prog_run.specs.View.{asked_region, scan_fault}
+use Rattle.prog_run.specs.declared.next.Next.{Next}
+use Rattle.prog_run.proofs.RefusalLaws.{fault_refuses, memory_refuses}
 use Rattle.prog_run.proofs.run.Run.answer_scan.Goals as goal
 
-pub returns-then-not-are_in-clause-refused : goal.returns-then-not-are_in-clause-refused
-returns-then-not-are_in-clause-refused c =
-    let s = c.in-Some-OfRegion in
-    let waits : c.self.inside.asked ≡ Some (asked.OfRegion s.region s.usage) = first_of (search rules, cc) in
-    let question = ap (λ (v : RunView). v.asked) (sym c.self.view_is) ∙ ap question_in waits in
-    let within = ap (list_all (λ row. is_in s.region row.0)) (sym c.as_slice.ensures) ∙ sym c.are_in.ensures ∙ c.if-not-are_in.true in
-    rows_fault _ s.region c.args.rows false question within
+pub returns-in-Some-clause-refused : goal.returns-in-Some-clause-refused
+returns-in-Some-clause-refused c =
+    let waits = asked_region c.args.self.now.asked in
+    fault_refuses Next waits c.args.rows c.in-Some.fault (ap (scan_fault waits) (sym c.as_slice.ensures) ∙ sym c.in-Some.ensures.fault)
 
-pub returns-in_err-step-clause-refused : goal.returns-in_err-step-clause-refused
-returns-in_err-step-clause-refused c =
-    let s = c.in-Some-OfRegion in
-    let waits : c.self.inside.asked ≡ Some (asked.OfRegion s.region s.usage) = first_of (search rules, cc) in
-    let question = ap (λ (v : RunView). v.asked) (sym c.self.view_is) ∙ ap question_in waits in
-    let within = ap (list_all (λ row. is_in s.region row.0)) (sym c.as_slice.ensures) ∙ sym c.are_in.ensures ∙ c.if-not-are_in.false in
+pub answer_rows-requires : goal.answer_rows-requires
+answer_rows-requires c =
+    ap (scan_fault (asked_region c.args.self.now.asked)) (sym c.as_slice.ensures) ∙ sym c.in_default.ensures.fault
+
+pub returns-in_err-answer_rows-clause-refused : goal.returns-in_err-answer_rows-clause-refused
+returns-in_err-answer_rows-clause-refused c =
     let refusal = err_from_is_err_and c.from_residual.result c.from_residual.ensures.1 in
-    memory_refuses c.from_residual.result refusal.0 _ refusal.1 refusal.2 (rows_fault _ s.region c.args.rows true question within)
+    memory_refuses c.from_residual.result refusal.0 _ refusal.1 refusal.2
+    (ap (scan_fault (asked_region c.args.self.now.asked)) (sym c.as_slice.ensures) ∙ sym c.in_default.ensures.fault)
 
 pub returns-clause-refused : goal.returns-clause-refused
 returns-clause-refused c =
-    let s = c.in-Some-OfRegion in
-    let waits : c.self.inside.asked ≡ Some (asked.OfRegion s.region s.usage) = first_of (search rules, cc) in
-    let question = ap (λ (v : RunView). v.asked) (sym c.self.view_is) ∙ ap question_in waits in
-    let within = ap (list_all (λ row. is_in s.region row.0)) (sym c.as_slice.ensures) ∙ sym c.are_in.ensures ∙ c.if-not-are_in.false in
-    rows_fault _ s.region c.args.rows true question within
-
-pub returns-in_default-clause-true_run : goal.returns-in_default-clause-true_run
-returns-in_default-clause-true_run c =
-    let r = c.self.inside in
-    subst IsTrueRun c.self.view_is (true_at _ (cursor_tree r.cursor) r.progress refl refl refl refl c.self.invariant.0)
-
-pub returns-then-not-are_in-clause-true_run : goal.returns-then-not-are_in-clause-true_run
-returns-then-not-are_in-clause-true_run c =
-    let r = c.self.inside in
-    subst IsTrueRun c.self.view_is (true_at _ (cursor_tree r.cursor) r.progress refl refl refl refl c.self.invariant.0)
-
-pub returns-in_err-step-clause-true_run : goal.returns-in_err-step-clause-true_run
-returns-in_err-step-clause-true_run c =
-    let r = c.self.inside in
-    let new = cursor_tree c.answer_region.new.self in
-    let q = c.answer_region.new.progress in
-    let e = c.in_err-step.ensures in
-    true_at _ new q refl refl refl refl (unchanged (IsTrueTo r.set.now.tables.items (program_tree r.program.now) r.args r.end) (cursor_tree r.cursor) new r.progress q e.err e.err_progress c.self.invariant.0)
-
--- the run is true to its program after the step too
-still_true : (c : goal.After-next) → IsTrueTo c.self.inside.set.now.tables.items (program_tree c.self.inside.program.now) c.self.inside.args c.end-self-inside.result (cursor_tree c.answer_region.new.self) c.answer_region.new.progress
-still_true c =
-    let r = c.self.inside in
-    let s = c.in-Some-OfRegion in
-    let old = cursor_tree r.cursor in
-    let new = cursor_tree c.answer_region.new.self in
-    let q = c.answer_region.new.progress in
-    let n = c.in_ok-step.step in
-    let waits : r.asked ≡ Some (asked.OfRegion s.region s.usage) = first_of (search rules, cc) in
-    let at = c.self.invariant.1 (asked.OfRegion s.region s.usage) waits in
-    let step = rows_step r.set.now.tables.items old new r.progress q s.region (region_use_tree s.usage) c.args.rows at.1 n c.in_ok-step.ensures.cursor c.in_ok-step.ensures.flow in
-    true_answered r.set.now.tables.items (program_tree r.program.now) r.args r.end c.end-self-inside.result old new r.progress q n at.0 c.end-self-inside.ensures c.self.invariant.0 step
-
-pub invariant_of-self-2 : goal.invariant_of-self-2
-invariant_of-self-2 c = (still_true c, λ a e. absurd (cc))
-
-pub returns-clause-true_run : goal.returns-clause-true_run
-returns-clause-true_run c = true_at _ (cursor_tree c.answer_region.new.self) c.answer_region.new.progress refl refl refl refl (still_true c)
-
-pub returns-clause-answered : goal.returns-clause-answered
-returns-clause-answered c =
-    let r = c.self.inside in
-    let s = c.in-Some-OfRegion in
-    let p = r.progress in
-    let q = c.answer_region.new.progress in
-    let n = c.in_ok-step.step in
-    let rows = c.args.rows in
-    let look = region_look p.changes s.region rows in
-    let half = rows_flow (region_use_tree s.usage) s.region (seen_rows p.changes s.region rows) (looked look p) in
-    let adds = answer_adds look half n p q c.in_ok-step.ensures.flow in
-    let waits : r.asked ≡ Some (asked.OfRegion s.region s.usage) = first_of (search rules, cc) in
-    asked_for_rows _ s.region _ (ap (λ (v : RunView). v.asked) (sym c.self.view_is) ∙ ap question_in waits)
-    (record {
-      deeds = adds.0 ∙ (λ i. deeds_after (sym c.next.ensures i) (c.self.view_is i).deeds);
-      changes = adds.3 ∙ (λ i. changes_after (sym c.next.ensures i) (c.self.view_is i).changes);
-      replies = adds.4 ∙ ap (λ (v : RunView). v.replies) c.self.view_is;
-      looks = adds.1 ∙ ap (λ (v : RunView). v.looks ++ region_look v.changes s.region rows ∷ []) c.self.view_is;
-      asked = refl;
-      finished = ap question_after c.next.ensures ∙ adds.2;
-      end = c.end-self-inside.ensures ∙ ap end_after (sym c.next.ensures);
-    })
+    ap (scan_fault (asked_region c.args.self.now.asked)) (sym c.as_slice.ensures) ∙ sym c.in_default.ensures.fault
