@@ -11,13 +11,17 @@ use crate::search::shortest_chain;
 use crate::square::Square;
 use crate::steps::{Fact, Node};
 use crate::ways::{is_orderly, reaches};
+use smallvec::SmallVec;
 use std::alloc::{AllocError, Global};
 use std::marker::Model;
+
+// How many facts are kept without an allocation: as many as a question has.
+const FEW_FACTS: usize = 4;
 
 /// Facts, and which node they put below which.
 #[derive(Drop)]
 pub struct Closed {
-    facts: Vec<Fact>,
+    facts: SmallVec<Fact, FEW_FACTS>,
     matrix: Square,
     consistent: bool,
 }
@@ -44,9 +48,9 @@ impl Closed {
     pub fn of(alloc: Global, facts: &[Fact]) -> Result<Closed, AllocError>
         ensures { IfOk result (λ closed. closed ≡ facts.now) }
     {
-        let facts = Vec::from_slice(alloc, facts)?;
-        let matrix = matrix_of(alloc, &facts)?;
-        let consistent = is_orderly(&facts, &matrix);
+        let facts = SmallVec::from_slice(alloc, facts)?;
+        let matrix = matrix_of(alloc, facts.as_slice())?;
+        let consistent = is_orderly(facts.as_slice(), &matrix);
         Ok(Closed {
             facts,
             matrix,
@@ -66,7 +70,7 @@ impl Closed {
     pub fn entails(&self, x: Node, y: Node) -> bool
         ensures { IsTrue result ↔ Entails self.now x y }
     {
-        !self.consistent || reaches(&self.facts, &self.matrix, x, y)
+        !self.consistent || reaches(self.facts.as_slice(), &self.matrix, x, y)
     }
 
     /// Whether every assignment of i64 that meets all facts gives both the same.
@@ -91,10 +95,10 @@ impl Closed {
         ensures complete { IfOk result
             (λ found. IsConsistent self.now → Entails self.now x y → IsSome found) }
     {
-        if !reaches(&self.facts, &self.matrix, x, y) {
+        if !reaches(self.facts.as_slice(), &self.matrix, x, y) {
             return Ok(None);
         }
-        let chain = shortest_chain(*self.facts.allocator(), &self.facts, x, y)?;
+        let chain = shortest_chain(*self.facts.allocator(), self.facts.as_slice(), x, y)?;
         Ok(Some(chain))
     }
 
@@ -109,7 +113,7 @@ impl Closed {
         if !self.consistent {
             return Ok(None);
         }
-        let sample = Sample::of(*self.facts.allocator(), &self.facts, &self.matrix)?;
+        let sample = Sample::of(*self.facts.allocator(), self.facts.as_slice(), &self.matrix)?;
         Ok(Some(sample))
     }
 }

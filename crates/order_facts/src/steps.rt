@@ -4,6 +4,9 @@ ghost use Rattle.std.specs.Prelude.{◌≡◌, ◌↔◌, IsTrue, Contains};
 ghost use Rattle.order_facts.specs.Chain.{floor_of, ceiling_of, IsPlainStep, IsStep, IsChain};
 ghost use Rattle.order_facts.specs.Reaches.{is_below};
 
+use std::alloc::Global;
+use std::default::MadeWith;
+
 /// What a fact speaks of.
 #[derive(Clone, Copy, PartialEq, Eq, Debug)]
 pub enum Node {
@@ -19,6 +22,17 @@ pub enum Node {
 pub struct Fact {
     pub lo: Node,
     pub hi: Node,
+}
+
+// An unused place among facts.
+impl MadeWith<Global> for Fact {
+    fn made_with(_alloc: Global) -> Fact {
+        let number = Node::Number(0);
+        Fact {
+            lo: number,
+            hi: number,
+        }
+    }
 }
 
 /// The least number that a node can be.

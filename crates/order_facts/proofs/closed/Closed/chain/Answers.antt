@@ -7,12 +7,12 @@ use Rattle.order_facts.proofs.closed.Closed.chain.Goals as goal
 
 pub returns-then-not-reaches-clause-none : goal.returns-then-not-reaches-clause-none
 returns-then-not-reaches-clause-none c =
-    let answer = rw (c.deref.ensures.value, c.self.view_is) at c.reaches.ensures in
+    let answer = rw (c.as_slice.ensures, c.self.view_is) at c.reaches.ensures in
     λ other o r. false≢true (sym c.if-not-reaches.true ∙ answer ∙ reaches-from_chain c.args.self.now c.args.x c.args.y other o r)
 
 pub returns-then-not-reaches-clause-complete : goal.returns-then-not-reaches-clause-complete
 returns-then-not-reaches-clause-complete c =
-    let answer = rw (c.deref.ensures.value, c.self.view_is) at c.reaches.ensures in
+    let answer = rw (c.as_slice.ensures, c.self.view_is) at c.reaches.ensures in
     λ consistent h. absurd (false≢true (sym c.if-not-reaches.true ∙ answer ∙ reaches-from_Entails c.args.self.now c.args.x c.args.y (orderly_from_IsConsistent c.args.self.now consistent) h))
 
 pub returns-clause-tight : goal.returns-clause-tight
