@@ -19,7 +19,7 @@ use std::marker::Model;
 const FEW_FACTS: usize = 4;
 
 /// Facts, and which node they put below which.
-#[derive(Drop)]
+#[derive(Debug, Drop)]
 pub struct Closed {
     facts: SmallVec<Fact, FEW_FACTS>,
     matrix: Square,

@@ -9,7 +9,7 @@ use std::alloc::{AllocError, Global};
 use std::marker::Model;
 
 /// Facts of the form `lo <= hi`, in the order in which they were added.
-#[derive(Drop)]
+#[derive(Debug, Drop)]
 pub struct Facts {
     items: Vec<Fact>,
 }

@@ -15,14 +15,14 @@ use std::alloc::{AllocError, Global};
 use std::marker::Model;
 
 /// A parameter or an unknown, and the number that it gets.
-#[derive(Clone, Copy)]
+#[derive(Clone, Copy, Debug)]
 pub struct Choice {
     node: Node,
     number: i64,
 }
 
 /// A number for each node.
-#[derive(Drop)]
+#[derive(Debug, Drop)]
 pub struct Sample {
     choices: Vec<Choice>,
 }

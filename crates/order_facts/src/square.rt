@@ -9,7 +9,7 @@ use std::alloc::{AllocError, Global};
 use std::marker::Model;
 
 /// For each two nodes, whether the first is joined to the second.
-#[derive(Drop)]
+#[derive(Debug, Drop)]
 pub struct Square {
     size: usize,
     width: usize,

@@ -18,7 +18,7 @@ pub enum Node {
 }
 
 /// The fact that `lo` is at most `hi`.
-#[derive(Clone, Copy)]
+#[derive(Clone, Copy, PartialEq, Eq, Debug)]
 pub struct Fact {
     pub lo: Node,
     pub hi: Node,

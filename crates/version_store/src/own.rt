@@ -7,7 +7,7 @@ use std::marker::Model;
 
 /// Cells that an instance has changed itself, among which others are looked for. A run tells them
 /// by rising cells; then a look takes few steps. Contracts see the cells.
-#[derive(Drop)]
+#[derive(Debug, Drop)]
 pub struct OwnCells<'a> {
     cells: &'a [Cell],
     rise: bool,
