@@ -1,6 +1,8 @@
 -- Laws of what a vacuum leaves of one cell.
 use Rattle.std.proofs.Common.{◌≡◌, ◌∙◌, ℕ, ℤ, zero, suc, ◌+◌, ◌<◌, ◌≤◌, max, Bool, true, false, cond, if◌then◌else◌, leb, nat_lt, List, [], ◌∷◌, ◌++◌, length, take, drop, get_or, drop-cons, drop_of_length-le, add-one, refl, ap, sym, subst, arith, append_assoc, append-nil}
 use Rattle.std.specs.Prelude.{Option, Some, None, is_some, filter, not}
+use Rattle.std.specs.List.{prefix_len}
+use Rattle.std.proofs.Math.Numerals.{one-add}
 use Rattle.std.proofs.lemmas.Bool.{le-leb, lt-leb}
 use Rattle.std.proofs.lemmas.Bool.Decides.{nat_tests}
 use Rattle.std.proofs.lemmas.List.Filters.{length-filter_both}
@@ -276,19 +278,14 @@ outdates_all f vs outdated place ends h =
     ∙ ap (λ xs. drop outdated (take place vs) ++ xs) (sym none)
     ∙ seam outdated place vs h.bound
 
--- the same for marks
-pub marks_first_above : (f : ℕ) (ms : List ℕ) (place : ℕ) → place < length ms → f < get_or ms place 0 → marks_kept f (drop place ms) ≡ drop place ms
-marks_first_above f ms place within above =
-    ap (marks_kept f) first ∙ ap (λ b. cond b (marks_kept f (drop (suc place) ms)) (get_or ms place 0 ∷ drop (suc place) ms)) (lt-leb (get_or ms place 0) f above) ∙ sym first
+-- ---- marks
+
+-- those at the front that are at most the floor go
+pub marks_left : (f : ℕ) (ms : List ℕ) → drop (prefix_len (λ (m : ℕ). leb m f) ms) ms ≡ marks_kept f ms
+marks_left f [] = refl
+marks_left f (m ∷ ms) = go (leb m f) (marks_left f ms)
   where
-    first : drop place ms ≡ get_or ms place 0 ∷ drop (suc place) ms
-    first = drop-cons ms place 0 within
-
-pub marks_more : (f : ℕ) (ms : List ℕ) (place : ℕ) → place < length ms → get_or ms place 0 ≤ f → marks_kept f (drop (place + 1) ms) ≡ marks_kept f (drop place ms)
-marks_more f ms place within low =
-    ap (λ n. marks_kept f (drop n ms)) (add-one place)
-    ∙ ap (λ b. cond b (marks_kept f (drop (suc place) ms)) (get_or ms place 0 ∷ drop (suc place) ms)) (sym (le-leb (get_or ms place 0) f low))
-    ∙ ap (marks_kept f) (sym (drop-cons ms place 0 within))
-
-pub marks_ended : (f : ℕ) (ms : List ℕ) (place : ℕ) → length ms ≤ place → marks_kept f (drop place ms) ≡ marks_kept f ms → marks_kept f ms ≡ drop (length ms) ms
-marks_ended f ms place ends h = sym h ∙ ap (marks_kept f) (drop_of_length-le ms ends) ∙ sym (drop_of_length-le ms (omega arith))
+    go : (b : Bool) → drop (prefix_len (λ (m : ℕ). leb m f) ms) ms ≡ marks_kept f ms →
+        drop (cond b (1 + prefix_len (λ (m : ℕ). leb m f) ms) 0) (m ∷ ms) ≡ cond b (marks_kept f ms) (m ∷ ms)
+    go true rest = ap (λ n. drop n (m ∷ ms)) (one-add (prefix_len (λ (m : ℕ). leb m f) ms)) ∙ rest
+    go false rest = refl

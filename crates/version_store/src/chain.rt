@@ -1,10 +1,10 @@
 //! What the store keeps of one cell.
-ghost use Rattle.std.specs.Prelude.{◌≡◌, ◌↔◌, ◌≤◌, ◌+◌, length, [], drop, None, IsTrue, OnOk, OnErr};
-ghost use Rattle.version_store.specs.Reading.{RisesFrom, IsCutAt, value_at};
+ghost use Rattle.std.specs.Prelude.{◌≡◌, ◌↔◌, ◌≤◌, ◌+◌, length, leb, None, IsTrue, OnOk, OnErr};
+ghost use Rattle.std.specs.List.{prefix_len};
+ghost use Rattle.version_store.specs.Reading.{RisesFrom, value_at};
 ghost use Rattle.version_store.specs.Reading.{last_number_or, last_number, cut_from};
 ghost use Rattle.version_store.specs.StandsFor.{no_chain, trimmed};
 ghost use Rattle.version_store.specs.Touches.{with_touch};
-ghost use Rattle.version_store.specs.Trimming.{versions_kept, marks_kept};
 
 use crate::touches::Touch;
 use crate::versions::{Versions, drop_first};
@@ -38,15 +38,10 @@ fn last_mark(marks: &[u64]) -> u64
 
 // How many of the marks go at a floor: those at most it.
 fn outdated_marks(marks: &[u64], floor: u64) -> usize
-    ensures bound { result ≤ length marks.now }
-    ensures kept { marks_kept floor marks.now ≡ drop result marks.now }
+    ensures value { result ≡ prefix_len (λ mark. leb mark floor) marks.now }
+    ensures within { result ≤ length marks.now }
 {
-    for place in 0..marks.len() {
-        if marks[place] > floor {
-            return place;
-        }
-    }
-    marks.len()
+    marks.iter().take_while(|mark| **mark <= floor).count()
 }
 
 impl Chain {
