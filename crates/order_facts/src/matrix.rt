@@ -13,8 +13,8 @@ fn enter_ends(matrix: &mut Square, facts: &[Fact], from: usize)
     requires from { from < length facts.now }
     ensures { EntersEnds matrix.old matrix.new facts.now from }
 {
-    for to in 0..facts.len() {
-        if is_below(facts[from].hi, facts[to].lo) {
+    for (to, fact) in facts.iter().enumerate() {
+        if is_below(facts[from].hi, fact.lo) {
             matrix.raise(from, to);
         }
     }
