@@ -6,8 +6,9 @@ ghost use Rattle.version_store.specs.Reading.{last_number_or, last_number, cut_f
 ghost use Rattle.version_store.specs.StandsFor.{no_chain, trimmed};
 ghost use Rattle.version_store.specs.Touches.{with_touch};
 
+use crate::rare::Rare;
 use crate::touches::Touch;
-use crate::versions::{Versions, drop_first};
+use crate::versions::Versions;
 use std::alloc::{AllocError, Global};
 use std::marker::Model;
 
@@ -15,7 +16,7 @@ use std::marker::Model;
 #[derive(Debug, Drop)]
 pub struct Chain {
     versions: Versions,
-    marks: Vec<u64>,
+    marks: Rare<u64>,
 }
 
 impl Model for Chain {
@@ -23,7 +24,7 @@ impl Model for Chain {
 
     ghost Value = { Chain };
 
-    ghost view = { λ c. record { versions = c.versions; marks = c.marks.items } };
+    ghost view = { λ c. record { versions = c.versions; marks = c.marks } };
 }
 
 // The last mark, or 0.
@@ -50,7 +51,7 @@ impl Chain {
     {
         Chain {
             versions: Versions::new(alloc),
-            marks: Vec::new(alloc),
+            marks: Rare::new(alloc),
         }
     }
 
@@ -65,7 +66,8 @@ impl Chain {
     pub fn last_number(&self) -> u64
         ensures { result ≡ last_number self.now }
     {
-        self.versions.last_number().max(last_mark(&self.marks))
+        let mark = last_mark(self.marks.as_slice());
+        self.versions.last_number().max(mark)
     }
 
     /// Adds a touch behind the others.
@@ -93,8 +95,8 @@ impl Chain {
         ensures chain { self.new ≡ trimmed floor self.old }
         ensures count { length self.new.versions + result ≡ length self.old.versions }
     {
-        let marks = outdated_marks(&self.marks, floor);
-        drop_first(&mut self.marks, marks);
+        let marks = outdated_marks(self.marks.as_slice(), floor);
+        self.marks.drop_first(marks);
         self.versions.trim(floor)
     }
 
@@ -102,6 +104,6 @@ impl Chain {
     pub fn is_empty(&self) -> bool
         ensures { IsTrue result ↔ (self.now ≡ no_chain) }
     {
-        self.versions.is_empty() && self.marks.is_empty()
+        self.versions.is_empty() && self.marks.as_slice().is_empty()
     }
 }

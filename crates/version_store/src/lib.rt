@@ -8,6 +8,7 @@ mod found;
 mod laws;
 mod own;
 mod pending;
+mod rare;
 mod scan;
 mod store;
 mod touches;

@@ -4,6 +4,7 @@ ghost use Rattle.std.specs.Prelude.{◌≡◌, ◌↔◌, ◌≤◌, ◌+◌, �
 ghost use Rattle.version_store.specs.Reading.{RisesFrom, IsCutAt, value_after, version_numbers, last_number_or};
 ghost use Rattle.version_store.specs.Trimming.{versions_kept};
 
+use crate::rare::Rare;
 use crate::version::Version;
 use std::alloc::{AllocError, Global};
 use std::marker::Model;
@@ -12,7 +13,7 @@ use std::marker::Model;
 /// want it.
 #[derive(Debug, Drop)]
 pub struct Versions {
-    older: Vec<Version>,
+    older: Rare<Version>,
     newest: Option<Version>,
 }
 
@@ -22,9 +23,9 @@ impl Model for Versions {
 
     ghost Value = { List (ℕ × Option ℤ) };
 
-    ghost view = { λ v. with_newest v.older.items v.newest };
+    ghost view = { λ v. with_newest v.older v.newest };
 
-    ghost invariant = { λ v. HasNewest v.older.items v.newest };
+    ghost invariant = { λ v. HasNewest v.older v.newest };
 }
 
 // How many versions are at most a number.
@@ -75,24 +76,13 @@ fn are_within(versions: &[Version], floor: u64) -> bool
     versions.iter().all(|version| version.number <= floor)
 }
 
-/// Drops the first items, and where there are any gives back the room that is not needed.
-pub fn drop_first<T: Drop>(items: &mut Vec<T>, count: usize)
-    requires { count ≤ length items.old.items }
-    ensures { items.new.items ≡ drop count items.old.items }
-{
-    if count > 0 {
-        items.drain(..count);
-        items.shrink_to_fit();
-    }
-}
-
 // Drops what a vacuum at the floor takes, and answers how many versions that were.
-fn trim_list(versions: &mut Vec<Version>, floor: u64) -> usize
-    ensures versions { versions.new.items ≡ versions_kept floor [] versions.old.items }
-    ensures count { length versions.new.items + result ≡ length versions.old.items }
+fn trim_list(versions: &mut Rare<Version>, floor: u64) -> usize
+    ensures versions { versions.new ≡ versions_kept floor [] versions.old }
+    ensures count { length versions.new + result ≡ length versions.old }
 {
-    let outdated = outdated_versions(versions, floor);
-    drop_first(versions, outdated);
+    let outdated = outdated_versions(versions.as_slice(), floor);
+    versions.drop_first(outdated);
     outdated
 }
 
@@ -101,7 +91,7 @@ impl Versions {
         ensures { result ≡ [] }
     {
         Versions {
-            older: Vec::new(alloc),
+            older: Rare::new(alloc),
             newest: None,
         }
     }
@@ -124,7 +114,7 @@ impl Versions {
         if newest.number <= number {
             return newest.value;
         }
-        value_among(&self.older, number)
+        value_among(self.older.as_slice(), number)
     }
 
     /// Adds a version behind the others.
@@ -159,12 +149,11 @@ impl Versions {
         let Some(newest) = self.newest else {
             return 0;
         };
-        if newest.number > floor || !are_within(&self.older, floor) {
+        if newest.number > floor || !are_within(self.older.as_slice(), floor) {
             return trim_list(&mut self.older, floor);
         }
-        let older = self.older.len();
+        let older = self.older.as_slice().len();
         self.older.clear();
-        self.older.shrink_to_fit();
         if newest.value.is_some() {
             return older;
         }

@@ -6,6 +6,6 @@ use Rattle.version_store.proofs.chain.Chain.cut_from.Goals as goal
 pub returns : goal.returns
 returns c =
     let n = c.args.number in
-    let marks : c.retain.new.self.items ≡ filter (λ (m : ℕ). nat_lt m n) c.self.inside.marks.items =
+    let marks : c.retain.new.self ≡ filter (λ (m : ℕ). nat_lt m n) c.self.inside.marks =
     filter_same _ (λ (m : ℕ). nat_lt m n) _ (λ m b f k. search rules) _ _ c.retain.ensures.filtered in
     rw (← c.self.view_is) (λ i. record { versions = c.cut_from.ensures i; marks = marks i })

@@ -9,7 +9,7 @@ use Rattle.version_store.proofs.versions.Versions.value_at.Goals as goal
 pub returns-then-newest-number : goal.returns-then-newest-number
 returns-then-newest-number c = λ rises.
     let n = c.args.number in
-    let vs = c.self.inside.older.items in
+    let vs = c.self.inside.older in
     let v = c.in_ok-newest.newest in
     let whole : vs ++ v ∷ [] ≡ c.args.self.now = ap (with_newest vs) (sym c.in_ok-newest.was) ∙ c.self.view_is in
     let low : v.0 ≤ n = subst (λ (v : ℕ × Option ℤ). v.0 ≤ n) c.newest.view_is c.if-newest-number.true in
@@ -18,10 +18,10 @@ returns-then-newest-number c = λ rises.
 pub returns : goal.returns
 returns c = λ rises.
     let n = c.args.number in
-    let vs = c.self.inside.older.items in
+    let vs = c.self.inside.older in
     let v = c.in_ok-newest.newest in
     let whole : vs ++ v ∷ [] ≡ c.args.self.now = ap (with_newest vs) (sym c.in_ok-newest.was) ∙ c.self.view_is in
     let high : n < v.0 = subst (λ (v : ℕ × Option ℤ). n < v.0) c.newest.view_is c.if-newest-number.false in
     let older = rises_older 0 vs (v ∷ []) (subst (RisesFrom 0) (sym whole) rises) in
-    subst (λ (ws : List (ℕ × Option ℤ)). RisesFrom 0 ws → c.value_among.result ≡ value_after n None ws) c.deref.ensures.value c.value_among.ensures older
+    subst (λ (ws : List (ℕ × Option ℤ)). RisesFrom 0 ws → c.value_among.result ≡ value_after n None ws) c.as_slice.ensures c.value_among.ensures older
     ∙ value_older n vs v (lt-leb v.0 n high) ∙ ap (value_after n None) whole
