@@ -1,9 +1,12 @@
 //! Runs step by step: the questions that they ask, and what their readers say.
 
+ghost use Rattle.std.specs.Prelude.{◌≡◌};
+ghost use Rattle.prog_run.specs.Step.{question_after};
+
 use crate::told::is_told;
 use example_sets::{SMALL_BANK, set_of};
 use prog_check::ProgramSet;
-use prog_run::{AnswerFault, Look, Next, Run};
+use prog_run::{AnswerFault, Deed, Look, Next, Run};
 use prog_tree::{Cell, Region, Sequence};
 use std::alloc::{AllocError, Global};
 use std::process::Abort;
@@ -417,5 +420,30 @@ fn runs_end_so(rt: HostRuntime) -> Result<(), Fail> {
     for example in ENDS {
         play(&rt, rt.alloc(), example)?;
     }
+    Ok(())
+}
+
+/// The region whose rows a run asks for.
+fn asked_for(rt: &impl Abort, run: &mut Run<'_>) -> Region
+    ensures { run.new.asked ≡ question_after (Next.Scan result) }
+{
+    let Next::Scan(region) = run.advance().expect(rt, "memory") else {
+        panic!(rt; "no rows are asked for")
+    };
+    region
+}
+
+fn take_known(rt: &impl Abort, alloc: Global, set: &ProgramSet) {
+    let mut run = Run::new(alloc, set, 0, &[]).expect(rt, "a run");
+    let region = asked_for(rt, &mut run);
+    let next = run.answer_rows(Sequence::new(alloc)).expect(rt, "memory");
+    assert!(rt; next == Next::Did(Deed::Summed(region, 0)));
+}
+
+#[test]
+fn rows_that_are_known_to_lie_there_are_taken(rt: HostRuntime) -> Result<(), Fail> {
+    let set = set_of(rt.alloc(), TOTALS)?;
+    take_known(&rt, rt.alloc(), &set);
+    drop(set);
     Ok(())
 }
