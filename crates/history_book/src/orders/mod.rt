@@ -2,6 +2,7 @@
 
 pub mod dependency;
 pub mod fits;
+pub mod kept_region;
 pub mod nearby;
 pub mod order;
 pub mod own_set;

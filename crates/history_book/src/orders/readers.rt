@@ -178,7 +178,7 @@ fn add_sight(
     match sight {
         Sight::One(cell) => add_cell(precedence, reader, start, cell, writers)?,
         Sight::Range { region, own } => {
-            add_region(precedence, reader, start, region, own, writers)?
+            add_region(precedence, reader, start, region.get(), own, writers)?
         }
     }
     Ok(())

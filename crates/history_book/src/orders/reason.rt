@@ -28,7 +28,7 @@ fn takes_in(sight: &Sight, cell: &Cell) -> bool
 {
     match sight {
         Sight::One(own) => own.cmp(cell).is_eq(),
-        Sight::Range { region, own } => region.contains(cell) && !own.contains(cell),
+        Sight::Range { region, own } => region.get().contains(cell) && !own.contains(cell),
     }
 }
 
@@ -111,7 +111,7 @@ fn missed(sight: &Sight, cell: &Cell) -> Reason
 {
     match sight {
         Sight::One(_) => Reason::Missed(*cell),
-        Sight::Range { region, .. } => Reason::MissedIn(*region, *cell),
+        Sight::Range { region, .. } => Reason::MissedIn(*region.get(), *cell),
     }
 }
 

@@ -5,9 +5,10 @@ ghost use Rattle.std.specs.List.Sorted.{IsStrictlySortedBy};
 ghost use Rattle.prog_tree.specs.Table.{cell_cmp, cells_of};
 ghost use Rattle.history_book.specs.Traces.{sight_of, trace_of};
 
+use crate::orders::kept_region::KeptRegion;
 use crate::orders::own_set::OwnSet;
 use prog_run::Run;
-use prog_tree::{Cell, Changes, Look, Region, Sequence};
+use prog_tree::{Cell, Changes, Look, Sequence};
 use std::alloc::{AllocError, Global};
 use std::marker::Model;
 
@@ -16,7 +17,7 @@ use std::marker::Model;
 pub enum Sight {
     One(Cell),
     /// A region, but for its `own` cells: the ones that the instance had changed.
-    Range { region: Region, own: OwnSet },
+    Range { region: KeptRegion, own: OwnSet },
 }
 
 impl Sight {
@@ -27,7 +28,7 @@ impl Sight {
         match (self, other) {
             (Sight::One(cell), Sight::One(c)) => cell == c,
             (Sight::Range { region, own }, Sight::Range { region: r, own: o }) => {
-                region == r && own.as_slice() == o.as_slice()
+                region.is_same(r) && own.as_slice() == o.as_slice()
             }
             _ => false,
         }
@@ -74,7 +75,7 @@ fn sight_of(alloc: Global, look: &Look) -> Result<Sight, AllocError>
     match look {
         Look::One(cell, _) => Ok(Sight::One(*cell)),
         Look::Range { region, own, .. } => Ok(Sight::Range {
-            region: *region,
+            region: KeptRegion::new(alloc, *region)?,
             own: OwnSet::from_slice(alloc, own.as_slice())?,
         }),
     }
