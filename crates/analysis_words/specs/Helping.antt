@@ -1,11 +1,12 @@
 -- What helps against an edge of a dangerous structure.
-use Rattle.std.specs.Prelude.{ℕ, ◌≡◌, ◌==◌, ◌||◌, Bool, true, false, if◌then◌else◌, List, [], ◌++◌, Some, codes}
+use Rattle.std.specs.Prelude.{ℕ, ◌≡◌, ◌⊎◌, ◌==◌, ◌||◌, Bool, true, false, if◌then◌else◌, List, [], ◌++◌, Some, codes}
 use Rattle.std.specs.Fmt.{decimal}
 use Rattle.text_places.specs.Places.{line_number}
+use Rattle.prog_tree.specs.Tree.{draft_tree}
 use Rattle.prog_check.specs.declared.path.Access.{Access}
 use Rattle.prog_paths.specs.declared.accesses.places.Question.{Question}
-use Rattle.repair_laws.specs.Refusals.{HasUnknownKey}
-use Rattle.analysis_words.specs.Nodes.{access_of, is_in_body, node_name, HasNoAccess, IsAccessPlace, IsInOneLine, Sight}
+use Rattle.repair_laws.specs.Refusals.{HasUnknownKey, IsRangeAt}
+use Rattle.analysis_words.specs.Nodes.{access_of, is_in_body, node_name, program_of, HasNoAccess, IsAccessPlace, IsInOneLine, Sight}
 
 -- the look of a question, or what changes what it looks at, stands in the body of an `each`
 abbrev pub meets_body : Sight → Question → Bool
@@ -14,6 +15,16 @@ meets_body sight q = is_in_body sight q.x q.a || is_in_body sight q.y q.b
 -- the key of its look is told by no parameters and numbers
 abbrev pub IsUnderUnknownKey : Sight → Question → Type 0
 IsUnderUnknownKey sight q = (look : Access) × (access_of sight q.x q.a ≡ Some look) × HasUnknownKey look
+
+-- the statement of its look is a range
+abbrev pub LooksAtRange : Sight → Question → Type 0
+LooksAtRange sight q =
+    (program : ℕ) × (program_of sight q.x ≡ Some program) × (look : Access) × (access_of sight q.x q.a ≡ Some look)
+    × IsRangeAt (draft_tree sight.set) program look.place
+
+-- no keep of its own covers what it looks at: the cells of a range, or where one of both stands in a body
+abbrev pub TakesSharedCell : Sight → Question → Type 0
+TakesSharedCell sight q = LooksAtRange sight q ⊎ (meets_body sight q ≡ true)
 
 -- the two of a question, as those that keep one cell
 abbrev pub keepers_text : Sight → Question → List ℕ
@@ -51,10 +62,11 @@ parameter_text sight q cells line =
 pub data IsHelp (sight : Sight) (q : Question) (help : List ℕ) : Type 0 where
   OfNoLook : HasNoAccess sight q.x q.a → help ≡ codes "a cell that " ++ keepers_text sight q → IsHelp sight q help
   KeptByBoth : (at : ℕ) → IsAccessPlace sight q.x q.a at → (cells : List ℕ) → IsInOneLine cells
+      → TakesSharedCell sight q
       → help ≡ shared_text sight q cells → IsHelp sight q help
   KeptByFirst : (at : ℕ) → IsAccessPlace sight q.x q.a at → (cells : List ℕ) → IsInOneLine cells
-      → meets_body sight q ≡ false → ¬ IsUnderUnknownKey sight q
+      → ¬ TakesSharedCell sight q → ¬ IsUnderUnknownKey sight q
       → help ≡ keep_text sight q cells (line_number sight.text at) → IsHelp sight q help
   KeptByParameter : (at : ℕ) → IsAccessPlace sight q.x q.a at → (cells : List ℕ) → IsInOneLine cells
-      → meets_body sight q ≡ false → IsUnderUnknownKey sight q
+      → ¬ TakesSharedCell sight q → IsUnderUnknownKey sight q
       → help ≡ parameter_text sight q cells (line_number sight.text at) → IsHelp sight q help

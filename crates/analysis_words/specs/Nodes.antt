@@ -1,5 +1,5 @@
 -- What the nodes of a set and their accesses are called in words.
-use Rattle.std.specs.Prelude.{ℕ, ◌≡◌, ◌⊎◌, Bool, true, false, not, List, [], ◌∷◌, ◌++◌, Option, Some, None, codes, map, slice_get, option_and_then}
+use Rattle.std.specs.Prelude.{ℕ, ◌≡◌, ◌⊎◌, Bool, true, false, not, List, [], ◌∷◌, ◌++◌, Option, Some, None, codes, map, slice_get, option_and_then, option_map}
 use Rattle.std.specs.Fmt.{decimal}
 use Rattle.std.specs.List.{flat_map}
 use Rattle.std.specs.Option.{option_map_or}
@@ -45,6 +45,10 @@ name_along set node (Some path) =
 
 abbrev pub node_name : Sight → (node : ℕ) → List ℕ
 node_name sight node = name_along (draft_tree sight.set) node (slice_get sight.paths node)
+
+-- the program of a node
+abbrev pub program_of : Sight → (node : ℕ) → Option ℕ
+program_of sight node = option_map (λ (path : Path). path.program) (slice_get sight.paths node)
 
 -- the access of a number of a node
 abbrev pub access_of : Sight → (node access : ℕ) → Option Access

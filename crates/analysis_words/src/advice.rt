@@ -1,10 +1,10 @@
 //! What follows from a dangerous structure, and what helps.
-ghost use Rattle.std.specs.Prelude.{◌≡◌, false, IfOk, string_bytes};
-ghost use Rattle.analysis_words.specs.Helping.{clashing_text, keep_text, keepers_text, meets_body, outside_text, parameter_text, shared_text, IsHelp};
+ghost use Rattle.std.specs.Prelude.{◌≡◌, ◌↔◌, IfOk, IsTrue, string_bytes};
+ghost use Rattle.analysis_words.specs.Helping.{clashing_text, keep_text, keepers_text, outside_text, parameter_text, shared_text, IsHelp, TakesSharedCell};
 ghost use Rattle.analysis_words.specs.Nodes.{seen};
 ghost use Rattle.analysis_words.specs.Refusing.{IsAdvice, IsTwinAdvice, advice_text, circle_text, step_text, twin_advice_text, way_text};
 
-use crate::looks::{is_under_unknown_key, meets_body};
+use crate::looks::{is_under_unknown_key, looks_at_range, meets_body};
 use crate::shared_words::other_run;
 use crate::shown::{Shown, access_place, cells_at, node_name};
 use dep_graph::Danger;
@@ -140,10 +140,17 @@ fn parameter_text(
 
 // Whether no keep of its own covers what the first of a question looks at: cells of a range, or
 // where one of both stands in the body of an `each`.
-fn takes_shared_cell(shown: Shown<'_>, question: &Question, cells: &str) -> bool
-    ensures { result ≡ false → meets_body (seen shown.entry) question.now ≡ false }
+fn takes_shared_cell(
+    alloc: Global,
+    shown: Shown<'_>,
+    question: &Question,
+) -> Result<bool, AllocError>
+    ensures { IfOk result (λ yes. IsTrue yes ↔ TakesSharedCell (seen shown.entry) question.now) }
 {
-    cells.contains("..") || meets_body(shown, question)
+    if meets_body(shown, question) {
+        return Ok(true);
+    }
+    looks_at_range(alloc, shown, question)
 }
 
 // What makes the two of a question clash: the first keeps the cell that it looks at, or both keep
@@ -159,7 +166,8 @@ fn help(alloc: Global, shown: Shown<'_>, question: Question) -> Result<String, A
     let line = line_number(shown.text.bytes(), place);
     let found = cells_at(alloc, shown.text, place)?;
     let cells = found.as_str();
-    if takes_shared_cell(shown, &question, cells) {
+    let is_shared = takes_shared_cell(alloc, shown, &question)?;
+    if is_shared {
         return shared_text(alloc, shown, question, cells);
     }
     if is_under_unknown_key(shown, &question) {

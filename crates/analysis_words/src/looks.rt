@@ -1,11 +1,13 @@
 //! What a program looks at that another may change unseen.
-ghost use Rattle.std.specs.Prelude.{◌≡◌, ◌↔◌, IsTrue};
-ghost use Rattle.analysis_words.specs.Helping.{meets_body, IsUnderUnknownKey};
+ghost use Rattle.std.specs.Prelude.{◌≡◌, ◌↔◌, IfOk, IsTrue};
+ghost use Rattle.analysis_words.specs.Helping.{meets_body, IsUnderUnknownKey, LooksAtRange};
 ghost use Rattle.analysis_words.specs.Nodes.{seen};
 
-use crate::shown::{Shown, access_of, access_place, cells_at, is_in_body, node_name, turns_text};
+use crate::shown::{
+    Shown, access_of, access_place, cells_at, is_in_body, node_name, program_of, turns_text,
+};
 use prog_paths::Question;
-use si_repair::has_unknown_key;
+use si_repair::{has_unknown_key, is_range_at};
 use std::alloc::{AllocError, Global};
 use text_places::{line_number, point_out};
 
@@ -47,6 +49,23 @@ pub fn is_under_unknown_key(shown: Shown<'_>, question: &Question) -> bool
         return false;
     };
     has_unknown_key(&look)
+}
+
+/// Whether the statement of a question's look is a range.
+pub fn looks_at_range(
+    alloc: Global,
+    shown: Shown<'_>,
+    question: &Question,
+) -> Result<bool, AllocError>
+    ensures { IfOk result (λ yes. IsTrue yes ↔ LooksAtRange (seen shown.entry) question.now) }
+{
+    let Some(program) = program_of(shown, question.x) else {
+        return Ok(false);
+    };
+    let Some(look) = access_of(shown, question.x, question.a) else {
+        return Ok(false);
+    };
+    is_range_at(alloc, shown.set.draft(), program, look.place)
 }
 
 /// Whether the look of a question, or what changes what it looks at, stands in the body of an

@@ -1,6 +1,6 @@
 //! Nodes and their accesses, as they stand in the text of a set.
 ghost use Rattle.std.specs.Prelude.{◌≡◌, IfNone, IfOk, IfSome, flat_map, string_bytes};
-ghost use Rattle.analysis_words.specs.Nodes.{access_of, branches_text, is_in_body, letter_of, node_name, seen, turns_by, turns_text, HasNoAccess, IsAccessPlace, IsAccessText, IsInOneLine};
+ghost use Rattle.analysis_words.specs.Nodes.{access_of, branches_text, is_in_body, letter_of, node_name, program_of, seen, turns_by, turns_text, HasNoAccess, IsAccessPlace, IsAccessText, IsInOneLine};
 
 use crate::limits::MAX_STATEMENT;
 use fault_words::program_name;
@@ -106,6 +106,14 @@ pub fn node_name(alloc: Global, shown: Shown<'_>, node: usize) -> Result<String,
     let branches = branches_text(alloc, path.choices.as_slice())?;
     let name = program_name(shown.set, path.program);
     format!(in alloc; "`{name}{branches}`")
+}
+
+/// The program of a node.
+pub fn program_of(shown: Shown<'_>, node: usize) -> Option<usize>
+    ensures { result ≡ program_of (seen shown.entry) node }
+{
+    let path = shown.paths.get(node)?;
+    Some(path.program)
 }
 
 /// The access of a number of a node.

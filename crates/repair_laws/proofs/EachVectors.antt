@@ -172,7 +172,7 @@ one_cell st (inr (inl (inr (inr h)))) r = absurd h
 one_cell st (inr (inr h)) r = absurd h
 
 not_range : HasRangeRead move_set (record { from = 0; to = 0 }) → ⊥
-not_range (e, p, at, st, stands, range) =
+not_range (e, (p, at, st, stands, range)) =
     let program : move_program ≡ p = same_Some move_program p at in
     let place : 1 ≡ e.question.mine.place = ap (λ (a : Access). a.place) (mine_is (record { from = 0; to = 0 }) e) in
     one_cell st (subst (λ n. IsStatementAt 0 move_program.body n st) (sym place) (subst (λ (q : ProgramTree). IsStatementAt 0 q.body e.question.mine.place st) (sym program) stands)) range

@@ -15,7 +15,7 @@ use Rattle.prog_paths.specs.declared.accesses.places.Question.{Question as Asked
 use Rattle.prog_paths.proofs.Marked.{same_access}
 use Rattle.repair_laws.specs.declared.plan.Pair.{Pair}
 use Rattle.repair_laws.specs.Keys.{ExposedOf}
-use Rattle.repair_laws.specs.Refusals.{IsStatementAt, IsRange, HasUnknownKey, HasRangeRead, HasUnknownRead, HasBodyRead}
+use Rattle.repair_laws.specs.Refusals.{IsStatementAt, IsRange, IsRangeAt, HasUnknownKey, HasRangeRead, HasUnknownRead, HasBodyRead}
 use Rattle.si_repair.specs.Exposing.{AreExposed, IsObstacle}
 use Rattle.si_repair.specs.Gathering.{HasRead, HasBoth}
 use Rattle.si_repair.specs.Obstacles.{range_marks, program_ranges, Hinders, HasHindered, IsFirstHindered, obstacle_of}
@@ -194,6 +194,23 @@ mark-from_statement first (Each l body rest) number st (inr (inr h)) r =
     let sizes = marks-length body in
     (suc (length (range_marks body) + m.0), omega (arith, is, sizes), marked_right (range_marks body) (range_marks rest) m.0 m.2)
 
+-- ---- the statement of a number
+
+module _ (draft : DraftTree) (program number : ℕ) where
+  pub range_at-from_mark : (o : Option ProgramTree) → slice_get draft.programs program ≡ o → get_or (program_ranges o) number false ≡ true → IsRangeAt draft program number
+  range_at-from_mark None at h = absurd (false≢true h)
+  range_at-from_mark (Some p) at h =
+      let e : 0 + number ≡ number = omega arith in
+      let m = subst (λ (k : ℕ). MarkedAt 0 p.body k) e (statement-from_mark 0 p.body number h) in
+      (p, at, m.statement, m.at, m.range)
+
+  pub mark-from_range_at : IsRangeAt draft program number → get_or (program_ranges (slice_get draft.programs program)) number false ≡ true
+  mark-from_range_at (p, at, st, here, range) =
+      let m = mark-from_statement 0 p.body number st here range in
+      let is = m.1 in
+      let same : m.0 ≡ number = omega (arith, is) in
+      subst (λ (o : Option ProgramTree). get_or (program_ranges o) number false ≡ true) (sym at) (subst (λ (k : ℕ). get_or (range_marks p.body) k false ≡ true) same m.2)
+
 -- ---- reads among questions
 
 pub in_body-sure : (sure : Bool) → (not sure ≡ true) ↔ (sure ≡ false)
@@ -271,33 +288,24 @@ module _ (draft : DraftTree) (nodes : List Path) (is : nodes ≡ paths_of draft)
       )
 
   module _ (marks : List Bool) (marks_are : marks ≡ program_ranges (slice_get draft.programs pair.from)) where
-    range-of : (o : Option ProgramTree) → slice_get draft.programs pair.from ≡ o → (place : ℕ) → get_or (program_ranges o) place false ≡ true → (p : ProgramTree) × (slice_get draft.programs pair.from ≡ Some p) × MarkedAt 0 p.body place
-    range-of None at place h = absurd (false≢true h)
-    range-of (Some p) at place h =
-        let e : 0 + place ≡ place = omega arith in
-        (p, at, subst (λ (k : ℕ). MarkedAt 0 p.body k) e (statement-from_mark 0 p.body place h))
-
     abbrev RangeReadOf : List Path → Type 0
-    RangeReadOf ns =
-        (e : ExposedOf ns pair) × (p : ProgramTree) × (slice_get draft.programs pair.from ≡ Some p) × (statement : StatementTree) × IsStatementAt 0 p.body e.question.mine.place statement × IsRange statement
+    RangeReadOf ns = (e : ExposedOf ns pair) × IsRangeAt draft pair.from e.question.mine.place
 
     range-from_marks : HasHindered nodes marks RangeRead qs → HasRangeRead draft pair
     range-from_marks h =
         let o = of_hindered marks RangeRead h in
         let place = o.0.question.mine.place in
-        let r = range-of (slice_get draft.programs pair.from) refl place (subst (λ (m : List Bool). get_or m place false ≡ true) marks_are o.1) in
-        subst RangeReadOf is (o.0, r.0, r.1, r.2.statement, r.2.at, r.2.range)
+        let r = range_at-from_mark draft pair.from place (slice_get draft.programs pair.from) refl (subst (λ (m : List Bool). get_or m place false ≡ true) marks_are o.1) in
+        subst RangeReadOf is (o.0, r)
 
     marks-from_range : HasRangeRead draft pair → HasHindered nodes marks RangeRead qs
     marks-from_range h = go (subst RangeReadOf (sym is) h)
       where
         go : RangeReadOf nodes → HasHindered nodes marks RangeRead qs
-        go (e, p, at, st, here, range) =
-            let m = mark-from_statement 0 p.body e.question.mine.place st here range in
-            let number = m.1 in
-            let same : m.0 ≡ e.question.mine.place = omega (arith, number) in
+        go (e, range) =
+            let place = e.question.mine.place in
             hindered_of marks RangeRead e
-            (subst (λ (l : List Bool). get_or l e.question.mine.place false ≡ true) (sym (marks_are ∙ ap program_ranges at)) (subst (λ (k : ℕ). get_or (range_marks p.body) k false ≡ true) same m.2))
+            (subst (λ (m : List Bool). get_or m place false ≡ true) (sym marks_are) (mark-from_range_at draft pair.from place range))
 
   abbrev UnknownReadOf : List Path → Type 0
   UnknownReadOf ns = (e : ExposedOf ns pair) × HasUnknownKey e.question.mine

@@ -19,5 +19,5 @@ pub use repair_laws::Pair;
 pub use repairs::materialise::materialise;
 pub use repairs::{
     Obstacle, RepairFault, exposed_questions, first_exposed, has_unknown_key, hindered_question,
-    promote,
+    is_range_at, promote,
 };

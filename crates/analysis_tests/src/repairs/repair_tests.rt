@@ -10,7 +10,7 @@ use prog_text::print;
 use prog_tree::Sequence;
 use si_repair::{
     Obstacle, Pair, Plan, RepairFault, exposed_questions, first_exposed, hindered_question,
-    materialise, plan, promote,
+    is_range_at, materialise, plan, promote,
 };
 use std::alloc::{AllocError, Global};
 use std::process::Abort;
@@ -145,6 +145,26 @@ fn what_no_keep_covers_is_found(rt: HostRuntime) -> Result<(), Fail> {
     assert!(rt; found.is_none());
     let found = hindered_of(rt.alloc(), MOVE_IN_A_BODY, ITSELF, Obstacle::UnknownKey)?;
     assert!(rt; found.is_none());
+    Ok(())
+}
+
+/// Statements of the one program of a set with an `each`, and whether they are ranges.
+const RANGES: [(usize, bool); 4] = [(0, true), (1, false), (2, false), (3, false)];
+
+/// Whether the statement of a number of the first program of a text is a range.
+fn first_has_range(alloc: Global, text: &str, number: usize) -> Result<bool, Fail> {
+    let set = set_of(alloc, text)?;
+    let found = is_range_at(alloc, set.draft(), 0, number);
+    drop(set);
+    Ok(found?)
+}
+
+#[test]
+fn an_each_is_a_range_and_its_body_is_not(rt: HostRuntime) -> Result<(), Fail> {
+    for &(number, wanted) in RANGES.iter() {
+        let found = first_has_range(rt.alloc(), MOVE_IN_A_BODY, number)?;
+        assert!(rt; found == wanted);
+    }
     Ok(())
 }
 

@@ -17,4 +17,4 @@ mod reads;
 pub use exposed::{exposed_questions, first_exposed};
 pub use fault::RepairFault;
 pub use promotion::promote;
-pub use reads::{Obstacle, has_unknown_key, hindered_question};
+pub use reads::{Obstacle, has_unknown_key, hindered_question, is_range_at};

@@ -3,7 +3,7 @@ ghost use Rattle.std.specs.Prelude.{◌≡◌, ◌↔◌, ◌++◌, false, All, 
 ghost use Rattle.prog_tree.specs.Syntax.{BlockTree};
 ghost use Rattle.prog_tree.specs.Tree.{with_stmt, block_tree, draft_tree};
 ghost use Rattle.prog_check.specs.Paths.{paths_of};
-ghost use Rattle.repair_laws.specs.Refusals.{IsUnknownTerm, IsUnknownSecond, HasUnknownKey};
+ghost use Rattle.repair_laws.specs.Refusals.{IsRangeAt, IsUnknownTerm, IsUnknownSecond, HasUnknownKey};
 ghost use Rattle.si_repair.specs.Gathering.{HasBoth};
 ghost use Rattle.si_repair.specs.Exposing.{AreExposed, IsObstacle};
 ghost use Rattle.si_repair.specs.Obstacles.{range_marks, program_ranges, MeetInBody, Hinders, HasHindered, IsFirstHindered, IsFirstHinderedOf, obstacle_of};
@@ -89,6 +89,21 @@ fn is_range(marks: &[bool], number: usize) -> bool
     ensures { result ≡ slice_index_or marks.now number false }
 {
     number < marks.len() && marks[number]
+}
+
+/// Whether the statement of a number of a program is a range.
+pub fn is_range_at(
+    alloc: Global,
+    draft: &Draft,
+    program: usize,
+    number: usize,
+) -> Result<bool, AllocError>
+    ensures { IfOk result (λ yes.
+        IsTrue yes ↔ IsRangeAt (draft_tree draft.now) program number) }
+{
+    let ranges = ranges_of(alloc, draft, program)?;
+    let yes = is_range(&ranges, number);
+    Ok(yes)
 }
 
 fn is_unknown(term: Term) -> bool

@@ -12,12 +12,12 @@ returns-in_default c =
     OfNoLook (rw c.in_default.is at c.access_place.ensures.none)
     (c.in_ok-lost.ensures.ok ∙ ap (λ (l : List ℕ). codes "a cell that " ++ l) c.in_ok-keepers.ensures)
 
-pub returns-then-takes_shared_cell : goal.returns-then-takes_shared_cell
-returns-then-takes_shared_cell c =
+pub returns-then-is_shared : goal.returns-then-is_shared
+returns-then-is_shared c =
     let shown = c.args.shown in
     let stands = rw c.in-Some.is at c.access_place.ensures.found in
     IfOk-weaker c.shared_text.result _ _ (λ text is. KeptByBoth c.in-Some.place stands (string_bytes c.in_ok-found.found) c.in_ok-found.ensures
-    (is ∙ ap (shared_text (seen shown) c.args.question) c.as_str-cells.ensures.value)) c.shared_text.ensures
+    (c.in_ok-is_shared.ensures.0 c.if-is_shared.true) (is ∙ ap (shared_text (seen shown) c.args.question) c.as_str-cells.ensures.value)) c.shared_text.ensures
 
 pub returns-then-is_under_unknown_key : goal.returns-then-is_under_unknown_key
 returns-then-is_under_unknown_key c =
@@ -26,7 +26,7 @@ returns-then-is_under_unknown_key c =
     let cells = c.as_str-cells.ensures.value in
     let line = c.line_number-line.ensures ∙ ap (λ (text : List ℕ). line_number text c.in-Some.place) c.bytes.ensures in
     IfOk-weaker c.parameter_text.result _ _ (λ text is. KeptByParameter c.in-Some.place stands (string_bytes c.in_ok-found.found) c.in_ok-found.ensures
-    (c.takes_shared_cell.ensures c.if-takes_shared_cell.false) (c.is_under_unknown_key.ensures.0 c.if-is_under_unknown_key.true)
+    (λ h. false≢true (sym c.if-is_shared.false ∙ c.in_ok-is_shared.ensures.1 h)) (c.is_under_unknown_key.ensures.0 c.if-is_under_unknown_key.true)
     (is ∙ (λ i. parameter_text (seen shown) c.args.question (cells i) (line i)))) c.parameter_text.ensures
 
 pub returns : goal.returns
@@ -36,5 +36,5 @@ returns c =
     let cells = c.as_str-cells.ensures.value in
     let line = c.line_number-line.ensures ∙ ap (λ (text : List ℕ). line_number text c.in-Some.place) c.bytes.ensures in
     IfOk-weaker c.keep_text.result _ _ (λ text is. KeptByFirst c.in-Some.place stands (string_bytes c.in_ok-found.found) c.in_ok-found.ensures
-    (c.takes_shared_cell.ensures c.if-takes_shared_cell.false) (λ h. false≢true (sym c.if-is_under_unknown_key.false ∙ c.is_under_unknown_key.ensures.1 h))
+    (λ h. false≢true (sym c.if-is_shared.false ∙ c.in_ok-is_shared.ensures.1 h)) (λ h. false≢true (sym c.if-is_under_unknown_key.false ∙ c.is_under_unknown_key.ensures.1 h))
     (is ∙ (λ i. keep_text (seen shown) c.args.question (cells i) (line i)))) c.keep_text.ensures
