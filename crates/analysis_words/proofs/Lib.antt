@@ -3,6 +3,7 @@ mod AskedEntry
 mod Listing
 mod NoCertificate
 mod Ranges
+mod Spacing
 mod TellsMore
 mod Stopped
 mod Unsaid

@@ -6,7 +6,8 @@ use Rattle.prog_tree.specs.Tree.{draft_tree}
 use Rattle.prog_check.specs.declared.path.Access.{Access}
 use Rattle.prog_paths.specs.declared.accesses.places.Question.{Question}
 use Rattle.repair_laws.specs.Refusals.{HasUnknownKey, IsRangeAt}
-use Rattle.analysis_words.specs.Nodes.{access_of, is_in_body, node_name, program_of, HasNoAccess, IsAccessPlace, IsInOneLine, Sight}
+use Rattle.analysis_words.specs.Nodes.{access_of, is_in_body, node_name, program_of, HasNoAccess, IsAccessPlace, Sight}
+use Rattle.analysis_words.specs.Quoting.{quoted_cells}
 
 -- the look of a question, or what changes what it looks at, stands in the body of an `each`
 abbrev pub meets_body : Sight → Question → Bool
@@ -61,12 +62,9 @@ parameter_text sight q cells line =
 -- what makes the two of a question clash: the first keeps what it looks at, or both keep one cell
 pub data IsHelp (sight : Sight) (q : Question) (help : List ℕ) : Type 0 where
   OfNoLook : HasNoAccess sight q.x q.a → help ≡ codes "a cell that " ++ keepers_text sight q → IsHelp sight q help
-  KeptByBoth : (at : ℕ) → IsAccessPlace sight q.x q.a at → (cells : List ℕ) → IsInOneLine cells
-      → TakesSharedCell sight q
-      → help ≡ shared_text sight q cells → IsHelp sight q help
-  KeptByFirst : (at : ℕ) → IsAccessPlace sight q.x q.a at → (cells : List ℕ) → IsInOneLine cells
-      → ¬ TakesSharedCell sight q → ¬ IsUnderUnknownKey sight q
-      → help ≡ keep_text sight q cells (line_number sight.text at) → IsHelp sight q help
-  KeptByParameter : (at : ℕ) → IsAccessPlace sight q.x q.a at → (cells : List ℕ) → IsInOneLine cells
-      → ¬ TakesSharedCell sight q → IsUnderUnknownKey sight q
-      → help ≡ parameter_text sight q cells (line_number sight.text at) → IsHelp sight q help
+  KeptByBoth : (at : ℕ) → IsAccessPlace sight q.x q.a at → TakesSharedCell sight q
+      → help ≡ shared_text sight q (quoted_cells sight.text at) → IsHelp sight q help
+  KeptByFirst : (at : ℕ) → IsAccessPlace sight q.x q.a at → ¬ TakesSharedCell sight q → ¬ IsUnderUnknownKey sight q
+      → help ≡ keep_text sight q (quoted_cells sight.text at) (line_number sight.text at) → IsHelp sight q help
+  KeptByParameter : (at : ℕ) → IsAccessPlace sight q.x q.a at → ¬ TakesSharedCell sight q → IsUnderUnknownKey sight q
+      → help ≡ parameter_text sight q (quoted_cells sight.text at) (line_number sight.text at) → IsHelp sight q help

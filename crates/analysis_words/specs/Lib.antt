@@ -3,6 +3,7 @@ pub mod Helping
 pub mod Instances
 pub mod Left
 pub mod Nodes
+pub mod Quoting
 pub mod Refusing
 pub mod Repairs
 pub mod Robust

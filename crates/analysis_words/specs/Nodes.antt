@@ -1,11 +1,10 @@
 -- What the nodes of a set and their accesses are called in words.
-use Rattle.std.specs.Prelude.{ℕ, ◌≡◌, ◌⊎◌, Bool, true, false, not, List, [], ◌∷◌, ◌++◌, Option, Some, None, codes, map, slice_get, option_and_then, option_map}
+use Rattle.std.specs.Prelude.{ℕ, ◌≡◌, ◌⊎◌, Bool, true, false, not, List, [], ◌∷◌, ◌++◌, Option, Some, None, codes, slice_get, option_and_then, option_map}
 use Rattle.std.specs.Fmt.{decimal}
 use Rattle.std.specs.List.{flat_map}
 use Rattle.std.specs.Option.{option_map_or}
 use Rattle.text_places.specs.Landmarks.{HasNoStatement, IsStatementPlace}
 use Rattle.text_places.specs.Places.{line_number}
-use Rattle.text_places.specs.Quotes.{visible}
 use Rattle.prog_tree.specs.Syntax.{DraftTree}
 use Rattle.prog_tree.specs.Tree.{draft_tree}
 use Rattle.prog_tree.specs.declared.program.Draft.{Draft}
@@ -13,6 +12,7 @@ use Rattle.prog_check.specs.declared.path.Access.{Access}
 use Rattle.prog_check.specs.declared.path.Path.{Path}
 use Rattle.prog_check.specs.Paths.{paths_of}
 use Rattle.fault_words.specs.Naming.{program_name}
+use Rattle.analysis_words.specs.Quoting.{quoted_statement}
 use Rattle.analysis_words.specs.declared.shown.Shown.{Shown}
 
 -- a set with its text and its paths, which are the nodes
@@ -82,15 +82,11 @@ pub data HasNoAccess (sight : Sight) (node access : ℕ) : Type 0 where
   NoStatement : (path : Path) → slice_get sight.paths node ≡ Some path → (accessed : Access) → slice_get path.accesses access ≡ Some accessed
       → HasNoStatement sight.text path.program accessed.place → HasNoAccess sight node access
 
--- bytes of an input in one line, as a terminal may show them
-abbrev pub IsInOneLine : List ℕ → Type 0
-IsInOneLine line = (bytes : List ℕ) × (line ≡ map visible bytes)
-
 -- the words name an access of a node by its node and by the line of its statement, which they show, as
 -- `` `price[item] = 7` of `Set` in line 4``
 abbrev pub IsAccessText : Sight → (node access : ℕ) → (words : List ℕ) → Type 0
 IsAccessText sight node access words =
-    ((at : ℕ) × IsAccessPlace sight node access at × (statement : List ℕ) × IsInOneLine statement
-    × (words ≡ codes "`" ++ (statement ++ (codes "` of " ++ (node_name sight node ++ (codes " in line " ++ decimal (line_number sight.text at)))))))
+    ((at : ℕ) × IsAccessPlace sight node access at
+    × (words ≡ codes "`" ++ (quoted_statement sight.text at ++ (codes "` of " ++ (node_name sight node ++ (codes " in line " ++ decimal (line_number sight.text at)))))))
     ⊎ (HasNoAccess sight node access
     × (words ≡ codes "access " ++ (decimal access ++ (codes " of " ++ (node_name sight node ++ codes ", which it has not")))))

@@ -5,8 +5,9 @@ ghost use Rattle.analysis_words.specs.Nodes.{seen};
 ghost use Rattle.analysis_words.specs.Refusing.{IsAdvice, IsTwinAdvice, advice_text, circle_text, step_text, twin_advice_text, way_text};
 
 use crate::looks::{is_under_unknown_key, looks_at_range, meets_body};
+use crate::quoted::quoted_cells;
 use crate::shared_words::other_run;
-use crate::shown::{Shown, access_place, cells_at, node_name};
+use crate::shown::{Shown, access_place, node_name};
 use dep_graph::Danger;
 use prog_paths::Question;
 use std::alloc::{AllocError, Global};
@@ -164,7 +165,7 @@ fn help(alloc: Global, shown: Shown<'_>, question: Question) -> Result<String, A
         return Ok(lost);
     };
     let line = line_number(shown.text.bytes(), place);
-    let found = cells_at(alloc, shown.text, place)?;
+    let found = quoted_cells(alloc, shown.text, place)?;
     let cells = found.as_str();
     let is_shared = takes_shared_cell(alloc, shown, &question)?;
     if is_shared {

@@ -14,6 +14,7 @@ mod limits;
 mod looks;
 mod pairs;
 mod pointed;
+mod quoted;
 mod refusal;
 mod repair;
 mod repair_faults;

@@ -3,9 +3,8 @@ ghost use Rattle.std.specs.Prelude.{◌≡◌, ◌↔◌, IfOk, IsTrue};
 ghost use Rattle.analysis_words.specs.Helping.{meets_body, IsUnderUnknownKey, LooksAtRange};
 ghost use Rattle.analysis_words.specs.Nodes.{seen};
 
-use crate::shown::{
-    Shown, access_of, access_place, cells_at, is_in_body, node_name, program_of, turns_text,
-};
+use crate::quoted::quoted_cells;
+use crate::shown::{Shown, access_of, access_place, is_in_body, node_name, program_of, turns_text};
 use prog_paths::Question;
 use si_repair::{has_unknown_key, is_range_at};
 use std::alloc::{AllocError, Global};
@@ -36,7 +35,7 @@ pub fn looked_at(
     question: Question,
 ) -> Result<String, AllocError> {
     match access_place(shown, question.x, question.a) {
-        Some(place) => cells_at(alloc, shown.text, place),
+        Some(place) => quoted_cells(alloc, shown.text, place),
         None => Ok(String::new(alloc)),
     }
 }

@@ -1,12 +1,12 @@
 //! Nodes and their accesses, as they stand in the text of a set.
 ghost use Rattle.std.specs.Prelude.{◌≡◌, IfNone, IfOk, IfSome, flat_map, string_bytes};
-ghost use Rattle.analysis_words.specs.Nodes.{access_of, branches_text, is_in_body, letter_of, node_name, program_of, seen, turns_by, turns_text, HasNoAccess, IsAccessPlace, IsAccessText, IsInOneLine};
+ghost use Rattle.analysis_words.specs.Nodes.{access_of, branches_text, is_in_body, letter_of, node_name, program_of, seen, turns_by, turns_text, HasNoAccess, IsAccessPlace, IsAccessText};
 
-use crate::limits::MAX_STATEMENT;
+use crate::quoted::quoted_statement;
 use fault_words::program_name;
 use prog_check::{Access, Path, ProgramSet};
 use std::alloc::{AllocError, Global};
-use text_places::{SetText, as_text, before, behind, line_number, table_name, visible_text};
+use text_places::{SetText, line_number};
 
 /// A set with its text and its paths, which are the nodes.
 #[derive(Clone, Copy)]
@@ -14,56 +14,6 @@ pub struct Shown<'a> {
     pub text: &'a SetText<'a>,
     pub set: &'a ProgramSet,
     pub paths: &'a [Path],
-}
-
-fn ends_statement(byte: u8) -> bool {
-    byte == b';' || byte == b'{' || byte == b'\n'
-}
-
-// The words of bytes, with a space in place of each run of blanks.
-fn spaced_words(alloc: Global, bytes: &[u8]) -> Result<String, AllocError> {
-    let mut line = String::new(alloc);
-    for word in as_text(bytes).split_ascii_whitespace() {
-        if !line.is_empty() {
-            line.push(' ')?;
-        }
-        line.push_str(word)?;
-    }
-    Ok(line)
-}
-
-// The same in one line, as a terminal may show it.
-fn in_one_line(alloc: Global, bytes: &[u8]) -> Result<String, AllocError>
-    ensures { IfOk result (λ line. IsInOneLine (string_bytes line)) }
-{
-    let words = spaced_words(alloc, bytes)?;
-    let line = visible_text(alloc, words.as_bytes())?;
-    Ok(line)
-}
-
-// The statement at a place of a text without comments, to its `;`, to the `{` of its body, or to
-// the end of its line.
-fn statement_at(alloc: Global, plain: &[u8], place: usize) -> Result<String, AllocError>
-    ensures { IfOk result (λ statement. IsInOneLine (string_bytes statement)) }
-{
-    let rest = behind(plain, place);
-    let len = rest
-        .iter()
-        .take_while(|byte| !ends_statement(**byte))
-        .count();
-    in_one_line(alloc, before(rest, len.min(MAX_STATEMENT)))
-}
-
-/// The cell or the range that the statement at a place of a set's text names, with its table.
-pub fn cells_at(alloc: Global, text: &SetText<'_>, place: usize) -> Result<String, AllocError>
-    ensures { IfOk result (λ cells. IsInOneLine (string_bytes cells)) }
-{
-    let rest = behind(text.plain(), place);
-    let len = rest.iter().take_while(|byte| **byte != b']').count();
-    let front = before(rest, len.saturating_add(1));
-    let key = front.iter().take_while(|byte| **byte != b'[').count();
-    let start = key.saturating_sub(table_name(front).len());
-    in_one_line(alloc, behind(front, start))
 }
 
 // The letter of a branch that a path takes.
@@ -180,7 +130,7 @@ pub fn access_text(
         let missing = format!(in alloc; "access {access} of {name}, which it has not")?;
         return Ok(missing);
     };
-    let statement = statement_at(alloc, shown.text.plain(), place)?;
+    let statement = quoted_statement(alloc, shown.text, place)?;
     let line = line_number(shown.text.bytes(), place);
     let words = format!(in alloc; "`{statement}` of {name} in line {line}")?;
     Ok(words)

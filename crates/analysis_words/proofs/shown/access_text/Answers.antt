@@ -1,4 +1,4 @@
-use Rattle.std.proofs.Common.{◌∙◌, ◌++◌, List, ℕ, ap, codes, inl, inr, string_bytes}
+use Rattle.std.proofs.Common.{◌∙◌, ◌++◌, List, ℕ, ap, codes, inl, inr}
 use Rattle.std.specs.Fmt.{decimal}
 use Rattle.text_places.specs.Places.{line_number}
 use Rattle.analysis_words.proofs.shown.access_text.Goals as goal
@@ -14,12 +14,10 @@ returns-in_default c =
 pub returns : goal.returns
 returns c =
     let name = c.in_ok-name.ensures in
-    let statement = string_bytes c.in_ok-statement.statement in
+    let statement = c.in_ok-statement.ensures in
     let line = c.line_number-line.ensures ∙ ap (λ (text : List ℕ). line_number text c.in-Some.place) c.bytes.ensures in
     inl (
       c.in-Some.place,
       rw c.in-Some.is at c.access_place.ensures.found,
-      statement,
-      c.in_ok-statement.ensures,
-      c.in_ok-words.ensures.ok ∙ (λ i. codes "`" ++ (statement ++ (codes "` of " ++ (name i ++ (codes " in line " ++ decimal (line i)))))),
+      c.in_ok-words.ensures.ok ∙ (λ i. codes "`" ++ (statement i ++ (codes "` of " ++ (name i ++ (codes " in line " ++ decimal (line i)))))),
     )
