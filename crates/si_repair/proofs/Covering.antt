@@ -162,6 +162,10 @@ refused_with draft pairs (Some s) none refused = absurd (cc)
 
 -- ---- the first pair that stops a plan
 
+-- with no keeps a sound draft stays sound
+pub sound_with_none : (draft : DraftTree) → IsSound draft → IsSoundWith draft []
+sound_with_none draft sound = (draft, (none_marked, marks-none (paths_of draft), sym (promoted-none draft)), sound)
+
 -- what is made of pairs that are covered is refused for its size
 too_large : (draft : DraftTree) (pairs : List Pair) (covered : List Covered) → IsSound draft → AreCovered draft pairs covered → (h : IsRefusedWith draft pairs) → IsTooLarge h.0
 too_large draft pairs covered sound own (result, made, (found, is, known)) =

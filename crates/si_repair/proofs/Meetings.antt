@@ -1,12 +1,14 @@
 -- What is made of the pairs of a plan is one draft alone, and where it gets too large.
-use Rattle.std.proofs.Common.{◌≡◌, ℕ, ◌+◌, ◌-◌, min, ◌<◌, ◌≤◌, ◌⊎◌, inl, inr, List, [], ◌∷◌, ◌++◌, map, length, get_or, take, drop, zero, suc, refl, sym, ap, subst, ◌∙◌, arith, append_assoc}
-use Rattle.std.specs.Prelude.{Option, Some, None, slice_get, All}
+use Rattle.std.proofs.Common.{◌≡◌, ℕ, ◌+◌, ◌-◌, min, ◌<◌, ◌≤◌, ◌⊎◌, inl, inr, true, false, List, [], ◌∷◌, ◌++◌, map, length, get_or, take, drop, zero, suc, refl, sym, ap, subst, ◌∙◌, arith, append_assoc}
+use Rattle.std.specs.Prelude.{Option, Some, None, IfNone, IfSome, is_some, slice_get, All}
 use Rattle.std.proofs.Math.Nat.{min-le_right}
 use Rattle.std.proofs.lemmas.Bool.{true≢false, cases_lt}
 use Rattle.std.proofs.lemmas.List.{map-append, append-nil, length-append, length-map, length-take, length-take-le, take_more, take_all, take-map, take-take, take-append-drop}
 use Rattle.std.proofs.lemmas.List.Elements.{All-head, All-tail, All-push, All-nil, All-take}
 use Rattle.std.proofs.lemmas.Option.{slice_get_within}
 use Rattle.prog_tree.specs.Syntax.{Name, ProgramTree, DraftTree}
+use Rattle.prog_tree.specs.Tree.{draft_tree}
+use Rattle.prog_tree.specs.declared.program.Draft.{Draft}
 use Rattle.prog_check.specs.declared.path.Path.{Path}
 use Rattle.prog_check.specs.Faults.{table_names}
 use Rattle.prog_check.specs.Names.{is_among}
@@ -184,6 +186,15 @@ met_all draft items plan n made e past met =
 
 -- ---- the first pair that stops a plan
 
+-- what was made of a draft is sound, and what was not is refused
+pub sound_made : (d : DraftTree) (o : Option Draft) → is_some o ≡ true → IfSome o (λ s. draft_tree s ≡ d) → IfSome o (λ s. IsSound (draft_tree s)) → IsSound d
+sound_made d None some made sound = absurd (cc)
+sound_made d (Some s) some made sound = subst (λ (t : DraftTree). IsSound t) made sound
+
+pub refused_made : (d : DraftTree) (o : Option Draft) → is_some o ≡ false → IfNone o (IsRefused d) → IsRefused d
+refused_made d None none refused = refused
+refused_made d (Some s) none refused = absurd (cc)
+
 -- pairs that are met make a draft with a fault only where there are some
 pub some_met : (draft : DraftTree) (plan : List Pair) (made : List Met) → IsSound draft → AreMet draft plan made → IsRefused (materialised_by draft made) → 0 < length made
 some_met draft plan [] sound met refused =
@@ -196,6 +207,10 @@ pub met_firsts : (draft : DraftTree) (plan : List Pair) (made : List Meeting) (n
 met_firsts draft plan made n met inside =
     subst (AreMet draft (take n plan)) (take-map met_of n made)
     (subst (λ (l : List Pair). AreMet draft l (take n (all_met made))) (take-take n (length made) plan inside) (met_first draft (take (length made) plan) (all_met made) n met))
+
+-- and their keys are those of programs
+pub firsts_have_keys : (draft : DraftTree) (made : List Meeting) (n : ℕ) → All (HasKey draft) (all_met made) → All (HasKey draft) (all_met (take n made))
+firsts_have_keys draft made n keys = subst (λ (l : List Met). All (HasKey draft) l) (take-map met_of n made) (All-take (HasKey draft) n (all_met made) keys)
 
 -- no more pairs are met than the plan has
 pub few_met : (draft : DraftTree) (plan : List Pair) (made : List Meeting) → AreMet draft (take (length made) plan) (all_met made) → length made ≤ length plan

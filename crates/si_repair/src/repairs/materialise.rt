@@ -1,5 +1,5 @@
 //! Repairs by new tables: both programs of a pair keep one row of a table of their own.
-ghost use Rattle.std.specs.Prelude.{◌≡◌, ◌+◌, ◌-◌, ◌<◌, true, false, List, [], ◌∷◌, ◌++◌, All, IfErr, IfOk, IfSome, IfNone, OnOk, length, take};
+ghost use Rattle.std.specs.Prelude.{◌≡◌, ◌+◌, ◌-◌, ◌<◌, List, [], ◌∷◌, ◌++◌, All, IfErr, IfOk, IfSome, IfNone, OnOk, length, take};
 ghost use Rattle.prog_tree.specs.Tree.{draft_tree};
 ghost use Rattle.prog_check.specs.Paths.{paths_of};
 ghost use Rattle.prog_check.specs.Sound.{IsSound};
@@ -12,6 +12,7 @@ ghost use Rattle.si_repair.specs.Repairing.{IsSafeRepair, StopsNowhere, IsRepair
 ghost use Rattle.si_repair.specs.declared.repairs.fault.RepairFault.TheVariants.{TooMany};
 
 use crate::plans::Plan;
+use crate::repairs::bisecting::{Firsts, most_that_fit};
 use crate::repairs::checked::checked;
 use crate::repairs::fault::RepairFault;
 use crate::repairs::front::materialised;
@@ -99,17 +100,28 @@ fn with_meetings(
     checked(alloc, whole)
 }
 
-/// Whether the set with what the pairs make breaks no limit.
-fn fit(alloc: Global, set: &ProgramSet, made: &[Meeting]) -> Result<bool, AllocError>
-    requires { All (HasKey (draft_tree set.now)) (all_met made.now) }
-    ensures sound { IfOk result (λ all_fit. all_fit ≡ true
-        → IsSound (materialised_by (draft_tree set.now) (all_met made.now))) }
-    ensures refused { IfOk result (λ all_fit. all_fit ≡ false
-        → IsRefused (materialised_by (draft_tree set.now) (all_met made.now))) }
-{
-    match with_meetings(alloc, set, made)? {
-        Some(_) => Ok(true),
-        None => Ok(false),
+/// The pairs that were met, of which the first ones are made.
+#[derive(Drop)]
+struct FirstMeetings<'a> {
+    set: &'a ProgramSet,
+    made: &'a [Meeting],
+}
+
+impl<'a> Firsts for FirstMeetings<'a> {
+    ghost stands = { λ firsts. All (HasKey (draft_tree firsts.set.now)) (all_met firsts.made.now) };
+
+    ghost count = { λ firsts. length firsts.made.now };
+
+    ghost fits = { λ firsts n. IsSound (materialised_by (draft_tree firsts.set.now)
+        (all_met (take n firsts.made.now))) };
+
+    ghost is_refused = { λ firsts n. IsRefused (materialised_by (draft_tree firsts.set.now)
+        (all_met (take n firsts.made.now))) };
+
+    /// Whether the set with what the first pairs make breaks no limit.
+    fn fit(&self, alloc: Global, n: usize) -> Result<bool, AllocError> {
+        let repaired = with_meetings(alloc, self.set, &self.made[..n])?;
+        Ok(repaired.is_some())
     }
 }
 
@@ -128,16 +140,8 @@ fn first_stop(
     ensures { IfOk result (λ stopping. IsRepairFault
         (StopsMaterialising (draft_tree set.now) pairs.now) pairs.now (TooMany stopping)) }
 {
-    let mut fitting = 0;
-    let mut large = made.len();
-    while large - fitting > 1 {
-        let middle = fitting + (large - fitting) / 2;
-        if fit(alloc, set, &made[..middle])? {
-            fitting = middle;
-        } else {
-            large = middle;
-        }
-    }
+    let firsts = FirstMeetings { set, made };
+    let fitting = most_that_fit(alloc, &firsts, made.len())?;
     Ok(made[fitting].pair)
 }
 

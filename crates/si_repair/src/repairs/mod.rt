@@ -1,6 +1,7 @@
 //! Repairs of a set by a plan: both programs of a pair keep a row, or one keeps the rows it read.
 
 mod behind;
+mod bisecting;
 mod checked;
 mod copies;
 mod exposed;

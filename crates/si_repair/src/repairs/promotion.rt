@@ -1,5 +1,5 @@
 //! Repairs by promotion: a program keeps the cell that it read.
-ghost use Rattle.std.specs.Prelude.{◌≡◌, ◌<◌, true, false, All, IfErr, IfNone, IfOk, IfSome, OnOk, length, take};
+ghost use Rattle.std.specs.Prelude.{◌≡◌, ◌<◌, All, IfErr, IfNone, IfOk, IfSome, OnOk, length, take};
 ghost use Rattle.prog_tree.specs.Tree.{draft_tree};
 ghost use Rattle.prog_check.specs.Paths.{paths_of};
 ghost use Rattle.prog_check.specs.Sound.{IsSound};
@@ -13,6 +13,7 @@ ghost use Rattle.si_repair.specs.declared.repairs.fault.RepairFault.TheVariants.
 
 use crate::plans::Plan;
 use crate::repairs::behind::promoted_draft;
+use crate::repairs::bisecting::{Firsts, most_that_fit};
 use crate::repairs::checked::checked;
 use crate::repairs::exposed::exposed_questions;
 use crate::repairs::fault::RepairFault;
@@ -141,22 +142,31 @@ fn with_keeps(
     checked(alloc, whole)
 }
 
-/// Whether the set with keeps for these pairs breaks no limit.
-fn fit(
-    alloc: Global,
-    set: &ProgramSet,
-    paths: &[Path],
-    covered: &[Covered],
-) -> Result<bool, AllocError>
-    requires paths { paths.now ≡ paths_of (draft_tree set.now) }
-    requires covered { All (IsCovered (draft_tree set.now)) covered.now }
-    ensures sound { IfOk result (λ all_fit. all_fit ≡ true
-        → IsSoundWith (draft_tree set.now) (pairs_of covered.now)) }
-    ensures refused { IfOk result (λ all_fit. all_fit ≡ false
-        → IsRefusedWith (draft_tree set.now) (pairs_of covered.now)) }
-{
-    let made = with_keeps(alloc, set, paths, covered)?;
-    Ok(made.is_some())
+/// The pairs that keeps cover, of which the first ones get theirs.
+#[derive(Drop)]
+struct FirstCovered<'a> {
+    set: &'a ProgramSet,
+    paths: &'a [Path],
+    covered: &'a [Covered],
+}
+
+impl<'a> Firsts for FirstCovered<'a> {
+    ghost stands = { λ firsts. (firsts.paths.now ≡ paths_of (draft_tree firsts.set.now))
+        × All (IsCovered (draft_tree firsts.set.now)) firsts.covered.now };
+
+    ghost count = { λ firsts. length firsts.covered.now };
+
+    ghost fits = { λ firsts n. IsSoundWith (draft_tree firsts.set.now)
+        (pairs_of (take n firsts.covered.now)) };
+
+    ghost is_refused = { λ firsts n. IsRefusedWith (draft_tree firsts.set.now)
+        (pairs_of (take n firsts.covered.now)) };
+
+    /// Whether the set with keeps for the first pairs breaks no limit.
+    fn fit(&self, alloc: Global, n: usize) -> Result<bool, AllocError> {
+        let promoted = with_keeps(alloc, self.set, self.paths, &self.covered[..n])?;
+        Ok(promoted.is_some())
+    }
 }
 
 /// The first of the pairs with which what they make is too large, where with all of them it is.
@@ -176,16 +186,12 @@ fn first_stop(
     ensures { IfOk result (λ stopping. IsRepairFault
         (StopsPromotion (draft_tree set.now) pairs.now) pairs.now (TooMany stopping)) }
 {
-    let mut fitting = 0;
-    let mut large = covered.len();
-    while large - fitting > 1 {
-        let middle = fitting + (large - fitting) / 2;
-        if fit(alloc, set, paths, &covered[..middle])? {
-            fitting = middle;
-        } else {
-            large = middle;
-        }
-    }
+    let firsts = FirstCovered {
+        set,
+        paths,
+        covered,
+    };
+    let fitting = most_that_fit(alloc, &firsts, covered.len())?;
     Ok(covered[fitting].pair)
 }
 
