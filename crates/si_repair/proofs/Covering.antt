@@ -21,7 +21,7 @@ use Rattle.repair_laws.proofs.RightLaws.{law_of_repair_sizes}
 use Rattle.si_repair.specs.declared.repairs.fault.RepairFault.{RepairFault}
 use Rattle.si_repair.specs.declared.repairs.fault.RepairFault.TheVariants as fault
 use Rattle.si_repair.specs.declared.repairs.promotion.Covered.{Covered}
-use Rattle.si_repair.specs.Covering.{pairs_of, AreCovered, AreGathered, HasItsQuestions, IsCovered, IsRefusedWith, IsSoundWith}
+use Rattle.si_repair.specs.Covering.{pairs_of, AreCovered, AreGathered, HasItsQuestions, HasCoveredReads, IsRefusedWith, IsSoundWith}
 use Rattle.si_repair.specs.Promoting.{IsObstacleFault}
 use Rattle.si_repair.specs.Repairing.{IsSafeRepair, StopsNowhere, IsRepairFault}
 use Rattle.si_repair.proofs.Behind.{none_marked, promoted-none}
@@ -37,14 +37,14 @@ one-promoted draft plan a b h k = h.2 ∙ ap (promoted_by draft) (marks-same (pa
 -- ---- pairs that are covered
 
 pub none_covered : (draft : DraftTree) → AreCovered draft [] []
-none_covered draft = (refl, All-nil (IsCovered draft))
+none_covered draft = (refl, All-nil (HasCoveredReads draft))
 
 pub one_more_covered : (draft : DraftTree) (pairs : List Pair) (n : ℕ) (d : Pair) (covered : List Covered) (next : Covered)
-    → n < length pairs → next.pair ≡ get_or pairs n d → AreCovered draft (take n pairs) covered → IsCovered draft next
+    → n < length pairs → next.pair ≡ get_or pairs n d → AreCovered draft (take n pairs) covered → HasCoveredReads draft next
     → AreCovered draft (take (n + 1) pairs) (covered ++ next ∷ [])
 one_more_covered draft pairs n d covered next inside is before own = (
   map-append (λ (c : Covered). c.pair) covered (next ∷ []) ∙ (λ i. before.0 i ++ is i ∷ []) ∙ sym (take_more pairs n d inside),
-  All-push (IsCovered draft) covered next before.1 own,
+  All-push (HasCoveredReads draft) covered next before.1 own,
 )
 
 pub all_covered : (draft : DraftTree) (pairs : List Pair) (n : ℕ) (covered : List Covered) → length pairs ≤ n → AreCovered draft (take n pairs) covered
@@ -52,14 +52,14 @@ pub all_covered : (draft : DraftTree) (pairs : List Pair) (n : ℕ) (covered : L
 all_covered draft pairs n covered past own = subst (λ (l : List Pair). AreCovered draft l covered) (take_all n pairs past) own
 
 -- their questions are those that are exposed
-pub has_questions : (draft : DraftTree) (covered : List Covered) → All (IsCovered draft) covered → All (HasItsQuestions (paths_of draft)) covered
-has_questions draft covered own = All-weaker (IsCovered draft) (HasItsQuestions (paths_of draft)) (λ c h. h.1) covered own
+pub has_questions : (draft : DraftTree) (covered : List Covered) → All (HasCoveredReads draft) covered → All (HasItsQuestions (paths_of draft)) covered
+has_questions draft covered own = All-weaker (HasCoveredReads draft) (HasItsQuestions (paths_of draft)) (λ c h. h.1) covered own
 
 may_promote : (draft : DraftTree) (pairs : List Pair) (covered : List Covered) → AreCovered draft pairs covered → MayPromote draft pairs
 may_promote draft pairs covered own pair c =
     All-contains (IsCoverable draft) pairs pair
     (subst (λ (l : List Pair). All (IsCoverable draft) l) own.0
-    (All-map (IsCoverable draft) (λ (x : Covered). x.pair) covered (All-weaker (IsCovered draft) (λ (x : Covered). IsCoverable draft x.pair) (λ x h. h.0) covered own.1)))
+    (All-map (IsCoverable draft) (λ (x : Covered). x.pair) covered (All-weaker (HasCoveredReads draft) (λ (x : Covered). IsCoverable draft x.pair) (λ x h. h.0) covered own.1)))
     c
 
 -- there are as many as they cover pairs
@@ -81,7 +81,7 @@ pub covered_firsts : (draft : DraftTree) (plan : List Pair) (covered : List Cove
     → AreCovered draft (take n plan) (take n covered)
 covered_firsts draft plan covered n own inside = (
   sym (take-map (λ (c : Covered). c.pair) n covered) ∙ ap (take n) own.0 ∙ take-take n (length covered) plan inside,
-  All-take (IsCovered draft) n covered own.1,
+  All-take (HasCoveredReads draft) n covered own.1,
 )
 
 -- of all first pairs that are covered, the one at a place is the plan's there

@@ -21,7 +21,7 @@ use Rattle.prog_paths.proofs.Marked.{same_access}
 use Rattle.repair_laws.specs.declared.plan.Pair.{Pair}
 use Rattle.repair_laws.specs.Keys.{ExposedOf, IsForcedEqual, IsLeastForced, IsKeyOf}
 use Rattle.si_repair.specs.Exposing.{AreExposed}
-use Rattle.si_repair.specs.Forcing.{AreMissed, IsMissed, AreFactsOf, PutEqual, AreLeft, ForceEqual, IsEarlier, ArePairsRising, pairs_of, all_pairs, AreForced, AreForcedAmong}
+use Rattle.si_repair.specs.Forcing.{AreMissed, IsMissed, AreFactsOf, PutEqual, AreLeft, ForceEqual, IsEarlier, ArePairsRising, params_with, all_pairs, AreForced, AreForcedAmong}
 use Rattle.si_repair.specs.Gathering.{AreExposedAmong}
 use Rattle.si_repair.proofs.Gathering.{ArePlacesOf, nothing, only_one, among_first, still_first, last_first, first_moved, of_pair-exposed, AreExposed-from_places}
 
@@ -79,38 +79,38 @@ by_last (suc a) (suc b) h = next (by_last a b (omega (arith, h)))
     next (inl k) = inl (omega (arith, k))
     next (inr k) = inr (ap suc k)
 
-pub pairs_of-next : (i n : ℕ) → pairs_of i (n + 1) ≡ pairs_of i n ++ (i, n) ∷ []
-pairs_of-next i n = let e : n + 1 ≡ suc n = omega arith in ap (pairs_of i) e
+pub params_with-next : (i n : ℕ) → params_with i (n + 1) ≡ params_with i n ++ (i, n) ∷ []
+params_with-next i n = let e : n + 1 ≡ suc n = omega arith in ap (params_with i) e
 
-pub all_pairs-next : (n seconds : ℕ) → all_pairs (n + 1) seconds ≡ all_pairs n seconds ++ pairs_of n seconds
+pub all_pairs-next : (n seconds : ℕ) → all_pairs (n + 1) seconds ≡ all_pairs n seconds ++ params_with n seconds
 all_pairs-next n seconds = let e : n + 1 ≡ suc n = omega arith in ap (λ (m : ℕ). all_pairs m seconds) e
 
 -- one more pair at the end of pairs
-pub pairs-more : (old now new : List (ℕ × ℕ)) (i n : ℕ) → new ≡ now ++ (i, n) ∷ [] → now ≡ old ++ pairs_of i n → new ≡ old ++ pairs_of i (n + 1)
+pub pairs-more : (old now new : List (ℕ × ℕ)) (i n : ℕ) → new ≡ now ++ (i, n) ∷ [] → now ≡ old ++ params_with i n → new ≡ old ++ params_with i (n + 1)
 pairs-more old now new i n added h =
-    added ∙ ap (λ (l : List (ℕ × ℕ)). l ++ (i, n) ∷ []) h ∙ append_assoc old (pairs_of i n) ((i, n) ∷ []) ∙ ap (λ (l : List (ℕ × ℕ)). old ++ l) (sym (pairs_of-next i n))
+    added ∙ ap (λ (l : List (ℕ × ℕ)). l ++ (i, n) ∷ []) h ∙ append_assoc old (params_with i n) ((i, n) ∷ []) ∙ ap (λ (l : List (ℕ × ℕ)). old ++ l) (sym (params_with-next i n))
 
-of_pairs : (i n : ℕ) (p : ℕ × ℕ) → Contains (pairs_of i n) p → (p.0 ≡ i) × (p.1 < n)
+of_pairs : (i n : ℕ) (p : ℕ × ℕ) → Contains (params_with i n) p → (p.0 ≡ i) × (p.1 < n)
 of_pairs i zero p c = absurd (nothing p c)
-of_pairs i (suc n) p c = go (Contains-push_cases (pairs_of i n) (i, n) p c) (λ k. of_pairs i n p k)
+of_pairs i (suc n) p c = go (Contains-push_cases (params_with i n) (i, n) p c) (λ k. of_pairs i n p k)
   where
-    go : Contains (pairs_of i n) p ⊎ ((i, n) ≡ p) → (Contains (pairs_of i n) p → (p.0 ≡ i) × (p.1 < n)) → (p.0 ≡ i) × (p.1 < suc n)
+    go : Contains (params_with i n) p ⊎ ((i, n) ≡ p) → (Contains (params_with i n) p → (p.0 ≡ i) × (p.1 < n)) → (p.0 ≡ i) × (p.1 < suc n)
     go (inl k) rest = let r = rest k in let less = r.1 in (r.0, omega (arith, less))
     go (inr e) rest = let second = ap (λ (q : ℕ × ℕ). q.1) e in (ap (λ (q : ℕ × ℕ). q.0) (sym e), omega (arith, second))
 
-in_pairs : (i n j : ℕ) → j < n → Contains (pairs_of i n) (i, j)
+in_pairs : (i n j : ℕ) → j < n → Contains (params_with i n) (i, j)
 in_pairs i zero j lt = absurd (omega (arith, lt))
 in_pairs i (suc n) j lt = go (by_last j n lt) (λ k. in_pairs i n j k)
   where
-    go : (j < n) ⊎ (n ≡ j) → (j < n → Contains (pairs_of i n) (i, j)) → Contains (pairs_of i n ++ (i, n) ∷ []) (i, j)
-    go (inl k) rest = Contains-append_left (pairs_of i n) ((i, n) ∷ []) (i, j) (rest k)
-    go (inr k) rest = subst (λ (m : ℕ). Contains (pairs_of i n ++ (i, n) ∷ []) (i, m)) k (Contains-push (pairs_of i n) (i, n))
+    go : (j < n) ⊎ (n ≡ j) → (j < n → Contains (params_with i n) (i, j)) → Contains (params_with i n ++ (i, n) ∷ []) (i, j)
+    go (inl k) rest = Contains-append_left (params_with i n) ((i, n) ∷ []) (i, j) (rest k)
+    go (inr k) rest = subst (λ (m : ℕ). Contains (params_with i n ++ (i, n) ∷ []) (i, m)) k (Contains-push (params_with i n) (i, n))
 
 of_all : (m n : ℕ) (p : ℕ × ℕ) → Contains (all_pairs m n) p → (p.0 < m) × (p.1 < n)
 of_all zero n p c = absurd (nothing p c)
-of_all (suc m) n p c = go (Contains-append_cases (all_pairs m n) (pairs_of m n) p c) (λ k. of_all m n p k)
+of_all (suc m) n p c = go (Contains-append_cases (all_pairs m n) (params_with m n) p c) (λ k. of_all m n p k)
   where
-    go : Contains (all_pairs m n) p ⊎ Contains (pairs_of m n) p → (Contains (all_pairs m n) p → (p.0 < m) × (p.1 < n)) → (p.0 < suc m) × (p.1 < n)
+    go : Contains (all_pairs m n) p ⊎ Contains (params_with m n) p → (Contains (all_pairs m n) p → (p.0 < m) × (p.1 < n)) → (p.0 < suc m) × (p.1 < n)
     go (inl k) rest = let r = rest k in let less = r.0 in (omega (arith, less), r.1)
     go (inr k) rest = let r = of_pairs m n p k in let same = r.0 in (omega (arith, same), r.1)
 
@@ -118,19 +118,19 @@ in_all : (m n i j : ℕ) → i < m → j < n → Contains (all_pairs m n) (i, j)
 in_all zero n i j lt k = absurd (omega (arith, lt))
 in_all (suc m) n i j lt k = go (by_last i m lt) (λ h. in_all m n i j h k)
   where
-    go : (i < m) ⊎ (m ≡ i) → (i < m → Contains (all_pairs m n) (i, j)) → Contains (all_pairs m n ++ pairs_of m n) (i, j)
-    go (inl h) rest = Contains-append_left (all_pairs m n) (pairs_of m n) (i, j) (rest h)
-    go (inr h) rest = subst (λ (l : ℕ). Contains (all_pairs m n ++ pairs_of m n) (l, j)) h (Contains-append_right (all_pairs m n) (pairs_of m n) (m, j) (in_pairs m n j k))
+    go : (i < m) ⊎ (m ≡ i) → (i < m → Contains (all_pairs m n) (i, j)) → Contains (all_pairs m n ++ params_with m n) (i, j)
+    go (inl h) rest = Contains-append_left (all_pairs m n) (params_with m n) (i, j) (rest h)
+    go (inr h) rest = subst (λ (l : ℕ). Contains (all_pairs m n ++ params_with m n) (l, j)) h (Contains-append_right (all_pairs m n) (params_with m n) (m, j) (in_pairs m n j k))
 
-pairs_rise : (i n : ℕ) → ArePairsRising (pairs_of i n)
+pairs_rise : (i n : ℕ) → ArePairsRising (params_with i n)
 pairs_rise i zero = tt
-pairs_rise i (suc n) = rising-push (pairs_of i n) (i, n) (pairs_rise i n) (λ y c. let o = of_pairs i n y c in inr (o.0, o.1))
+pairs_rise i (suc n) = rising-push (params_with i n) (i, n) (pairs_rise i n) (λ y c. let o = of_pairs i n y c in inr (o.0, o.1))
 
 all_rise : (m n : ℕ) → ArePairsRising (all_pairs m n)
 all_rise zero n = tt
-all_rise (suc m) n = rising-append (all_pairs m n) (pairs_of m n) (all_rise m n) (pairs_rise m n) before
+all_rise (suc m) n = rising-append (all_pairs m n) (params_with m n) (all_rise m n) (pairs_rise m n) before
   where
-    before : (x y : ℕ × ℕ) → Contains (all_pairs m n) x → Contains (pairs_of m n) y → IsEarlier x y
+    before : (x y : ℕ × ℕ) → Contains (all_pairs m n) x → Contains (params_with m n) y → IsEarlier x y
     before x y i j =
         let less = (of_all m n x i).0 in
         let same = (of_pairs m n y j).0 in

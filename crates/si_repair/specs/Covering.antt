@@ -18,15 +18,15 @@ abbrev pub HasItsQuestions : List Path → Covered → Type 0
 HasItsQuestions nodes covered = AreExposed nodes covered.pair covered.questions.items
 
 -- and keeps cover its reads
-abbrev pub IsCovered : DraftTree → Covered → Type 0
-IsCovered draft covered = IsCoverable draft covered.pair × HasItsQuestions (paths_of draft) covered
+abbrev pub HasCoveredReads : DraftTree → Covered → Type 0
+HasCoveredReads draft covered = IsCoverable draft covered.pair × HasItsQuestions (paths_of draft) covered
 
 abbrev pub pairs_of : List Covered → List Pair
 pairs_of covered = map (λ c. c.pair) covered
 
 -- these are the pairs, each of which keeps cover
 abbrev pub AreCovered : DraftTree → List Pair → List Covered → Type 0
-AreCovered draft pairs covered = (pairs_of covered ≡ pairs) × All (IsCovered draft) covered
+AreCovered draft pairs covered = (pairs_of covered ≡ pairs) × All (HasCoveredReads draft) covered
 
 -- all pairs of a plan, or, where no keeps cover a pair, those before it, and the fault of this one
 abbrev pub AreGathered : DraftTree → List Pair → List Covered → Option RepairFault → Type 0

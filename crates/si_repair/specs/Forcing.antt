@@ -55,14 +55,14 @@ pub record AreLeft (facts : List Fact) (old new : List (ℕ × ℕ)) : Type 0 wh
   pub rise : ArePairsRising old → ArePairsRising new
 
 -- one parameter with each of so many, in order
-abbrev pub pairs_of : ℕ → (seconds : ℕ) → List (ℕ × ℕ)
-pairs_of first zero = []
-pairs_of first (suc n) = pairs_of first n ++ (first, n) ∷ []
+abbrev pub params_with : ℕ → (seconds : ℕ) → List (ℕ × ℕ)
+params_with first zero = []
+params_with first (suc n) = params_with first n ++ (first, n) ∷ []
 
 -- each of so many parameters with each of so many others, in order
 abbrev pub all_pairs : (firsts seconds : ℕ) → List (ℕ × ℕ)
 all_pairs zero seconds = []
-all_pairs (suc n) seconds = all_pairs n seconds ++ pairs_of n seconds
+all_pairs (suc n) seconds = all_pairs n seconds ++ params_with n seconds
 
 -- the pairs of parameters that the questions force equal, in order
 pub record AreForced (nodes : List Path) (questions : List Asked) (firsts seconds : ℕ)

@@ -14,16 +14,16 @@ use Rattle.repair_laws.specs.Promoted.{cell_read, with_keeps}
 use Rattle.repair_laws.specs.Refusals.{HasRangeRead, StopsAtKey, StopsAtBody}
 use Rattle.si_repair.specs.declared.repairs.fault.RepairFault.{RepairFault}
 use Rattle.si_repair.specs.declared.repairs.fault.RepairFault.TheVariants.{RangeRead, UnknownKey, BodyRead, TooMany, Memory}
-use Rattle.si_repair.specs.declared.repairs.marks.Mark.{Mark}
+use Rattle.si_repair.specs.declared.repairs.marks.MarkedStatement.{MarkedStatement}
 
 -- ---- marks
 
 -- a mark is of the statement of this number in this program
-abbrev pub is_at : (program number : ℕ) → Mark → Bool
+abbrev pub is_at : (program number : ℕ) → MarkedStatement → Bool
 is_at program number mark = (mark.program == program) && (mark.number == number)
 
 -- some mark is
-abbrev pub is_marked : List Mark → (program number : ℕ) → Bool
+abbrev pub is_marked : List MarkedStatement → (program number : ℕ) → Bool
 is_marked marks program number = list_any (is_at program number) marks
 
 -- ---- reads

@@ -10,7 +10,7 @@ ghost use Rattle.repair_laws.specs.Promoted.{keep_of, with_keeps, all_with_keeps
 ghost use Rattle.si_repair.specs.Promoting.{is_marked, cell_read_by, count_by, with_keeps_in, HasFewStatements, promoted_program};
 
 use crate::repairs::copies::{copy_names, copy_tables};
-use crate::repairs::marks::{Mark, is_marked};
+use crate::repairs::marks::{MarkedStatement, is_marked};
 use prog_paths::count_statements;
 use prog_tree::{Block, Draft, Key, Name, Program, Stmt};
 use std::alloc::{AllocError, Global};
@@ -89,7 +89,7 @@ fn push_some(stmts: &mut Vec<Stmt>, stmt: Option<Stmt>) -> Result<(), AllocError
 #[cycle(keeps)]
 fn keeps_in_stmt(
     alloc: Global,
-    marks: &[Mark],
+    marks: &[MarkedStatement],
     program: usize,
     number: usize,
     stmt: &Stmt,
@@ -131,7 +131,7 @@ fn keeps_in_stmt(
 #[cycle(keeps)]
 fn keeps_in_block(
     alloc: Global,
-    marks: &[Mark],
+    marks: &[MarkedStatement],
     program: usize,
     number: usize,
     block: &Block,
@@ -160,7 +160,7 @@ fn keeps_in_block(
 /// The program of this number with keeps.
 fn promoted_program(
     alloc: Global,
-    marks: &[Mark],
+    marks: &[MarkedStatement],
     number: usize,
     program: &Program,
 ) -> Result<Program, AllocError>
@@ -179,7 +179,7 @@ fn promoted_program(
 /// All programs with keeps.
 fn promoted_programs(
     alloc: Global,
-    marks: &[Mark],
+    marks: &[MarkedStatement],
     programs: &[Program],
 ) -> Result<Vec<Program>, AllocError>
     requires { All HasFewStatements programs.now }
@@ -194,7 +194,11 @@ fn promoted_programs(
 }
 
 /// A draft with keeps behind the statements that are marked.
-pub fn promoted_draft(alloc: Global, draft: &Draft, marks: &[Mark]) -> Result<Draft, AllocError>
+pub fn promoted_draft(
+    alloc: Global,
+    draft: &Draft,
+    marks: &[MarkedStatement],
+) -> Result<Draft, AllocError>
     requires { IsSound (draft_tree draft.now) }
     ensures { IfOk result (λ kept. draft_tree kept
         ≡ promoted_by (draft_tree draft.now) (is_marked marks.now)) }

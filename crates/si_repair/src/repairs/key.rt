@@ -4,7 +4,7 @@ ghost use Rattle.prog_paths.specs.Asked.{ChangesSingleCells};
 ghost use Rattle.prog_paths.specs.Places.{IsAt};
 ghost use Rattle.prog_paths.specs.declared.accesses.places.Question.{Question as Asked};
 ghost use Rattle.repair_laws.specs.Keys.{IsKeyOf};
-ghost use Rattle.si_repair.specs.Forcing.{IsMissed, AreFactsOf, PutEqual, AreLeft, AreForced, AreForcedAmong, pairs_of, all_pairs};
+ghost use Rattle.si_repair.specs.Forcing.{IsMissed, AreFactsOf, PutEqual, AreLeft, AreForced, AreForcedAmong, params_with, all_pairs};
 
 use crate::repairs::exposed::{access_at, exposed_to};
 use order_facts::{Closed, Node};
@@ -53,7 +53,7 @@ fn push_pairs(
     first: usize,
     seconds: usize,
 ) -> Result<(), AllocError>
-    ensures { OnOk result (pairs.new.items ≡ pairs.old.items ++ pairs_of first seconds) }
+    ensures { OnOk result (pairs.new.items ≡ pairs.old.items ++ params_with first seconds) }
 {
     for second in 0..seconds {
         pairs.push((first, second))?;

@@ -11,26 +11,29 @@ use std::alloc::AllocError;
 
 /// The statement of a number in the program of a number.
 #[derive(Clone, Copy, Debug, PartialEq, Eq)]
-pub struct Mark {
+pub struct MarkedStatement {
     pub program: usize,
     pub number: usize,
 }
 
-fn is_at(mark: &Mark, program: usize, number: usize) -> bool
+fn is_at(mark: &MarkedStatement, program: usize, number: usize) -> bool
     ensures { result ≡ is_at program number mark.now }
 {
     mark.program == program && mark.number == number
 }
 
 /// Whether a statement is one of those that are marked.
-pub fn is_marked(marks: &[Mark], program: usize, number: usize) -> bool
+pub fn is_marked(marks: &[MarkedStatement], program: usize, number: usize) -> bool
     ensures { result ≡ is_marked marks.now program number }
 {
     marks.iter().any(|mark| is_at(mark, program, number))
 }
 
 /// The marks with one more, unless it is there.
-fn with_mark(mut marks: Vec<Mark>, mark: Mark) -> Result<Vec<Mark>, AllocError>
+fn with_mark(
+    mut marks: Vec<MarkedStatement>,
+    mark: MarkedStatement,
+) -> Result<Vec<MarkedStatement>, AllocError>
     ensures { IfOk result (λ more. (program number : ℕ)
         → is_marked more.items program number
         ≡ (is_marked marks.items program number || is_at program number mark)) }
@@ -55,8 +58,8 @@ pub fn with_reads(
     paths: &[Path],
     pair: Pair,
     questions: &[Question],
-    marks: Vec<Mark>,
-) -> Result<Vec<Mark>, AllocError>
+    marks: Vec<MarkedStatement>,
+) -> Result<Vec<MarkedStatement>, AllocError>
     requires { All (HasRead paths.now) questions.now }
     ensures { IfOk result (λ more. (program number : ℕ)
         → is_marked more.items program number
@@ -65,7 +68,7 @@ pub fn with_reads(
 {
     let mut more = marks;
     for question in questions {
-        let mark = Mark {
+        let mark = MarkedStatement {
             program: pair.from,
             number: place_of(paths, question),
         };

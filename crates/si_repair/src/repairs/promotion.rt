@@ -6,7 +6,7 @@ ghost use Rattle.prog_check.specs.Sound.{IsSound};
 ghost use Rattle.repair_laws.specs.Promoted.{IsPromoted, MarksExposed};
 ghost use Rattle.repair_laws.specs.Refusals.{IsCoverable, StopsPromotion};
 ghost use Rattle.si_repair.specs.Exposing.{AreExposed};
-ghost use Rattle.si_repair.specs.Covering.{pairs_of, AreCovered, AreGathered, HasItsQuestions, IsCovered, IsRefusedWith, IsSoundWith};
+ghost use Rattle.si_repair.specs.Covering.{pairs_of, AreCovered, AreGathered, HasItsQuestions, HasCoveredReads, IsRefusedWith, IsSoundWith};
 ghost use Rattle.si_repair.specs.Promoting.{is_marked, IsObstacleFault};
 ghost use Rattle.si_repair.specs.Repairing.{IsSafeRepair, StopsNowhere, IsRepairFault};
 ghost use Rattle.si_repair.specs.declared.repairs.fault.RepairFault.TheVariants.{TooMany};
@@ -17,7 +17,7 @@ use crate::repairs::bisecting::{Firsts, most_that_fit};
 use crate::repairs::checked::checked;
 use crate::repairs::exposed::exposed_questions;
 use crate::repairs::fault::RepairFault;
-use crate::repairs::marks::{Mark, with_reads};
+use crate::repairs::marks::{MarkedStatement, with_reads};
 use crate::repairs::reads::{Obstacle, first_obstacle};
 use prog_check::{Path, ProgramSet};
 use prog_paths::{Question, paths};
@@ -109,7 +109,11 @@ fn covered_pairs(
 }
 
 /// The marks of the exposed reads of these pairs.
-fn marks_of(alloc: Global, paths: &[Path], covered: &[Covered]) -> Result<Vec<Mark>, AllocError>
+fn marked_statements(
+    alloc: Global,
+    paths: &[Path],
+    covered: &[Covered],
+) -> Result<Vec<MarkedStatement>, AllocError>
     requires { All (HasItsQuestions paths.now) covered.now }
     ensures { IfOk result (λ marks.
         MarksExposed paths.now (pairs_of covered.now) (is_marked marks.items)) }
@@ -129,7 +133,7 @@ fn with_keeps(
     covered: &[Covered],
 ) -> Result<Option<ProgramSet>, AllocError>
     requires paths { paths.now ≡ paths_of (draft_tree set.now) }
-    requires covered { All (IsCovered (draft_tree set.now)) covered.now }
+    requires covered { All (HasCoveredReads (draft_tree set.now)) covered.now }
     ensures made { IfOk result (λ o. IfSome o
         (λ s. IsPromoted (draft_tree set.now) (pairs_of covered.now) (draft_tree s))) }
     ensures sound { IfOk result (λ o. IfSome o (λ s. IsSound (draft_tree s))) }
@@ -137,7 +141,7 @@ fn with_keeps(
         (IsRefusedWith (draft_tree set.now) (pairs_of covered.now))) }
 {
     let draft = set.draft();
-    let marks = marks_of(alloc, paths, covered)?;
+    let marks = marked_statements(alloc, paths, covered)?;
     let whole = promoted_draft(alloc, draft, &marks)?;
     checked(alloc, whole)
 }
@@ -152,7 +156,7 @@ struct FirstCovered<'a> {
 
 impl<'a> Firsts for FirstCovered<'a> {
     ghost stands = { λ firsts. (firsts.paths.now ≡ paths_of (draft_tree firsts.set.now))
-        × All (IsCovered (draft_tree firsts.set.now)) firsts.covered.now };
+        × All (HasCoveredReads (draft_tree firsts.set.now)) firsts.covered.now };
 
     ghost count = { λ firsts. length firsts.covered.now };
 

@@ -4,7 +4,7 @@ use Rattle.prog_tree.specs.Tree.{draft_tree}
 use Rattle.prog_check.specs.declared.path.Path.{Path}
 use Rattle.si_repair.specs.declared.repairs.promotion.Covered.{Covered}
 use Rattle.si_repair.specs.Exposing.{AreExposed}
-use Rattle.si_repair.specs.Covering.{AreCovered, IsCovered}
+use Rattle.si_repair.specs.Covering.{AreCovered, HasCoveredReads}
 use Rattle.si_repair.proofs.Covering.{none_covered, one_more_covered, all_covered}
 use Rattle.si_repair.proofs.repairs.promotion.covered_pairs.Goals as goal
 
@@ -18,7 +18,7 @@ loop-pair-preserved c =
     let n = c.loop-pair.pair-index in
     let pair = get_or pairs n (record { from = 0; to = 0 }) in
     let next : Covered = record { pair = pair; questions = c.in-Ok.questions } in
-    let own : IsCovered draft next = (c.in-Ok.ensures.passed, subst (λ (l : List Path). AreExposed l pair c.in-Ok.questions.items) c.requires c.in-Ok.ensures.exposed) in
+    let own : HasCoveredReads draft next = (c.in-Ok.ensures.passed, subst (λ (l : List Path). AreExposed l pair c.in-Ok.questions.items) c.requires c.in-Ok.ensures.exposed) in
     subst (λ (l : List Covered). AreCovered draft (take (n + 1) pairs) l) (sym c.in_ok-push-in-Ok.ensures.items)
     (one_more_covered draft pairs n _ c.loop-pair.covered.items next c.loop-pair-test.true refl c.loop-pair.invariant own)
 

@@ -5,7 +5,7 @@ use Rattle.repair_laws.specs.declared.plan.Pair.{Pair}
 use Rattle.repair_laws.specs.Promoted.{IsPromoted}
 use Rattle.si_repair.specs.declared.repairs.fault.RepairFault.{RepairFault}
 use Rattle.si_repair.specs.declared.repairs.promotion.Covered.{Covered}
-use Rattle.si_repair.specs.Covering.{pairs_of, AreCovered, AreGathered, IsCovered, IsRefusedWith}
+use Rattle.si_repair.specs.Covering.{pairs_of, AreCovered, AreGathered, HasCoveredReads, IsRefusedWith}
 use Rattle.si_repair.proofs.Covering.{gathered_firsts, gathered_stopped, promoted_safe, some_covered, stops_none, wholly_promoted}
 use Rattle.si_repair.proofs.repairs.promotion.promote.Goals as goal
 
@@ -21,7 +21,7 @@ with_keeps-requires-clause-covered c =
     let plan = c.args.plan.now.pairs in
     let all = c.in_ok-gathered.gathered in
     let own = of_plan plan all.covered.items all.fault _ c.args.set.now c.as_slice-pairs.result.now c.draft.ensures.same c.as_slice-pairs.ensures c.in_ok-gathered.ensures in
-    subst (λ (l : List Covered). All (IsCovered draft) l) (sym c.deref-3.ensures.value) (gathered_firsts draft plan all.covered.items all.fault own).1
+    subst (λ (l : List Covered). All (HasCoveredReads draft) l) (sym c.deref-3.ensures.value) (gathered_firsts draft plan all.covered.items all.fault own).1
 
 pub first_stop-requires-clause-covered : goal.first_stop-requires-clause-covered
 first_stop-requires-clause-covered c =

@@ -11,8 +11,8 @@ use Rattle.si_repair.specs.Promoting.{is_marked}
 use Rattle.si_repair.proofs.Covering.{has_questions, none_then}
 use Rattle.si_repair.proofs.repairs.promotion.with_keeps.Goals as goal
 
-pub marks_of-requires : goal.marks_of-requires
-marks_of-requires c =
+pub marked_statements-requires : goal.marked_statements-requires
+marked_statements-requires c =
     subst (λ (l : List Path). All (HasItsQuestions l) c.args.covered.now) (sym c.requires.paths) (has_questions (draft_tree c.args.set.now) c.args.covered.now c.requires.covered)
 
 pub returns-clause-made : goal.returns-clause-made

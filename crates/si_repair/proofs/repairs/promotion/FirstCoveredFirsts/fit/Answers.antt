@@ -1,7 +1,7 @@
 use Rattle.std.proofs.Common.{◌∙◌, sym, take}
 use Rattle.std.proofs.lemmas.List.Elements.{All-take}
 use Rattle.prog_tree.specs.Tree.{draft_tree}
-use Rattle.si_repair.specs.Covering.{pairs_of, IsCovered}
+use Rattle.si_repair.specs.Covering.{pairs_of, HasCoveredReads}
 use Rattle.si_repair.proofs.Covering.{refused_with, sound_with}
 use Rattle.si_repair.proofs.repairs.promotion.FirstCoveredFirsts.fit.Goals as goal
 
@@ -9,7 +9,7 @@ pub with_keeps-requires-clause-paths : goal.with_keeps-requires-clause-paths
 with_keeps-requires-clause-paths c = c.requires.stands.0
 
 pub with_keeps-requires-clause-covered : goal.with_keeps-requires-clause-covered
-with_keeps-requires-clause-covered c = All-take (IsCovered (draft_tree c.args.self.now.set.now)) c.args.n c.args.self.now.covered.now c.requires.stands.1
+with_keeps-requires-clause-covered c = All-take (HasCoveredReads (draft_tree c.args.self.now.set.now)) c.args.n c.args.self.now.covered.now c.requires.stands.1
 
 pub returns-clause-fits : goal.returns-clause-fits
 returns-clause-fits c fits =

@@ -3,17 +3,17 @@ use Rattle.std.proofs.lemmas.List.{map-append, take_all, take_more}
 use Rattle.prog_paths.specs.declared.accesses.places.Question.{Question}
 use Rattle.repair_laws.specs.declared.plan.Pair.{Pair}
 use Rattle.repair_laws.specs.Promoted.{MarksExposed}
-use Rattle.si_repair.specs.declared.repairs.marks.Mark.{Mark}
+use Rattle.si_repair.specs.declared.repairs.marks.MarkedStatement.{MarkedStatement}
 use Rattle.si_repair.specs.declared.repairs.promotion.Covered.{Covered}
 use Rattle.si_repair.specs.Covering.{pairs_of, HasItsQuestions}
 use Rattle.si_repair.specs.Exposing.{AreExposed}
 use Rattle.si_repair.specs.Promoting.{is_marked}
 use Rattle.si_repair.proofs.Marking.{HasRead-each}
 use Rattle.si_repair.proofs.Marks.{adds-reads, marks-none, marks-more}
-use Rattle.si_repair.proofs.repairs.promotion.marks_of.Goals as goal
+use Rattle.si_repair.proofs.repairs.promotion.marked_statements.Goals as goal
 
 pub loop-each-init : goal.loop-each-init
-loop-each-init c = subst (λ (ms : List Mark). MarksExposed c.args.paths.now [] (is_marked ms)) (sym c.new-marks.ensures.items) (marks-none c.args.paths.now)
+loop-each-init c = subst (λ (ms : List MarkedStatement). MarksExposed c.args.paths.now [] (is_marked ms)) (sym c.new-marks.ensures.items) (marks-none c.args.paths.now)
 
 pub with_reads-requires : goal.with_reads-requires
 with_reads-requires c =

@@ -2,7 +2,7 @@ use Rattle.std.proofs.Common.{take}
 use Rattle.repair_laws.specs.Promoted.{MarksExposed}
 use Rattle.si_repair.specs.Covering.{pairs_of}
 use Rattle.si_repair.specs.Promoting.{is_marked}
-use Rattle.si_repair.proofs.repairs.promotion.marks_of.Given as goal
+use Rattle.si_repair.proofs.repairs.promotion.marked_statements.Given as goal
 
 -- the exposed reads of the pairs so far are marked
 abbrev pub invariant-loop-each : goal.invariant-loop-each
