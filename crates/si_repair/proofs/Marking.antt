@@ -18,7 +18,7 @@ use Rattle.repair_laws.specs.Keys.{ExposedOf}
 use Rattle.repair_laws.specs.Refusals.{IsStatementAt, IsRange, IsRangeAt, HasUnknownKey, HasRangeRead, HasUnknownRead, HasBodyRead}
 use Rattle.si_repair.specs.Exposing.{AreExposed, IsObstacle}
 use Rattle.si_repair.specs.Gathering.{HasRead, HasBoth}
-use Rattle.si_repair.specs.Obstacles.{range_marks, program_ranges, Hinders, HasHindered, IsFirstHindered, obstacle_of}
+use Rattle.si_repair.specs.Obstacles.{range_marks, program_ranges, Hinders, HasHindered, IsFirstHindered, IsHindered, IsMarkedAt, obstacle_of}
 use Rattle.si_repair.specs.declared.repairs.reads.Obstacle.{Obstacle}
 use Rattle.si_repair.specs.declared.repairs.reads.Obstacle.TheVariants.{RangeRead, UnknownKey, BodyRead}
 use Rattle.si_repair.proofs.Gathering.{nothing, among_first}
@@ -217,25 +217,25 @@ pub in_body-sure : (sure : Bool) → (not sure ≡ true) ↔ (sure ≡ false)
 in_body-sure true = (λ h. absurd (false≢true h), λ h. absurd (false≢true (sym h)))
 in_body-sure false = (λ h. refl, λ h. refl)
 
-module _ (nodes : List Path) (marks : List Bool) (obstacle : Obstacle) (qs : List Asked) where
-  pub hindered-none : HasHindered nodes marks obstacle (take 0 qs) → ⊥
+module _ (nodes : List Path) (ranges : ℕ → Type 0) (obstacle : Obstacle) (qs : List Asked) where
+  pub hindered-none : HasHindered nodes ranges obstacle (take 0 qs) → ⊥
   hindered-none h = nothing h.0 h.1
 
-  pub hindered-all : (n : ℕ) → length qs ≤ n → (HasHindered nodes marks obstacle (take n qs) → ⊥) → HasHindered nodes marks obstacle qs → ⊥
-  hindered-all n le before h = before (subst (λ (l : List Asked). HasHindered nodes marks obstacle l) (sym (take_all n qs le)) h)
+  pub hindered-all : (n : ℕ) → length qs ≤ n → (HasHindered nodes ranges obstacle (take n qs) → ⊥) → HasHindered nodes ranges obstacle qs → ⊥
+  hindered-all n le before h = before (subst (λ (l : List Asked). HasHindered nodes ranges obstacle l) (sym (take_all n qs le)) h)
 
   -- there is one just where a first one is found
-  pub hindered-some : (o : Option Asked) → IsFirstHindered nodes marks obstacle qs o → (is_some o ≡ true) ↔ HasHindered nodes marks obstacle qs
+  pub hindered-some : (o : Option Asked) → IsFirstHindered nodes ranges obstacle qs o → (is_some o ≡ true) ↔ HasHindered nodes ranges obstacle qs
   hindered-some None none = (λ h. absurd (false≢true h), λ h. absurd (none h))
   hindered-some (Some q) (n, at, own, before) =
       let listed = subst (λ (p : Asked). Contains qs p) (get_or_from_slice_get qs n q q at) (Contains-get_or qs n q (slice_get_within qs n q at)) in
       (λ h. (q, listed, own), λ h. refl)
 
-  module _ (n : ℕ) (d : Asked) (lt : n < length qs) (read other : Access) (at_read : IsAccessOf nodes (get_or qs n d).x (get_or qs n d).a read) (at_other : IsAccessOf nodes (get_or qs n d).y (get_or qs n d).b other) (before : HasHindered nodes marks obstacle (take n qs) → ⊥) where
-    pub hindered-found : Hinders obstacle marks read other → IsFirstHindered nodes marks obstacle qs (Some (get_or qs n d))
+  module _ (n : ℕ) (d : Asked) (lt : n < length qs) (read other : Access) (at_read : IsAccessOf nodes (get_or qs n d).x (get_or qs n d).a read) (at_other : IsAccessOf nodes (get_or qs n d).y (get_or qs n d).b other) (before : HasHindered nodes ranges obstacle (take n qs) → ⊥) where
+    pub hindered-found : Hinders obstacle ranges read other → IsFirstHindered nodes ranges obstacle qs (Some (get_or qs n d))
     hindered-found h = (n, slice_get-get_or qs n d lt, record { read = read; other = other; at_read = at_read; at_other = at_other; hinders = h }, before)
 
-    pub hindered-more : (Hinders obstacle marks read other → ⊥) → HasHindered nodes marks obstacle (take (n + 1) qs) → ⊥
+    pub hindered-more : (Hinders obstacle ranges read other → ⊥) → HasHindered nodes ranges obstacle (take (n + 1) qs) → ⊥
     hindered-more not_here h = go (among_first n qs d h.0 lt h.1)
       where
         go : Contains (take n qs) h.0 ⊎ (get_or qs n d ≡ h.0) → ⊥
@@ -245,7 +245,28 @@ module _ (nodes : List Path) (marks : List Bool) (obstacle : Obstacle) (qs : Lis
             let own_other = subst (λ (q : Asked). IsAccessOf nodes q.y q.b h.2.other) (sym k) h.2.at_other in
             let same_read = same_access nodes (get_or qs n d).x (get_or qs n d).a h.2.read read own_read at_read in
             let same_other = same_access nodes (get_or qs n d).y (get_or qs n d).b h.2.other other own_other at_other in
-            not_here (subst (λ (a : Access). Hinders obstacle marks read a) same_other (subst (λ (a : Access). Hinders obstacle marks a h.2.other) same_read h.2.hinders))
+            not_here (subst (λ (a : Access). Hinders obstacle ranges read a) same_other (subst (λ (a : Access). Hinders obstacle ranges a h.2.other) same_read h.2.hinders))
+
+-- ranges that are told alike hinder alike
+module _ (nodes : List Path) where
+  hinders-alike : (P Q : ℕ → Type 0) → ((n : ℕ) → P n → Q n) → (obstacle : Obstacle) (read other : Access) → Hinders obstacle P read other → Hinders obstacle Q read other
+  hinders-alike P Q more RangeRead read other h = more read.place h
+  hinders-alike P Q more UnknownKey read other h = h
+  hinders-alike P Q more BodyRead read other h = h
+
+  hindered-alike : (P Q : ℕ → Type 0) → ((n : ℕ) → P n → Q n) → (obstacle : Obstacle) (q : Asked) → IsHindered nodes P obstacle q → IsHindered nodes Q obstacle q
+  hindered-alike P Q more obstacle q h = record {
+    read = h.read;
+    other = h.other;
+    at_read = h.at_read;
+    at_other = h.at_other;
+    hinders = hinders-alike P Q more obstacle h.read h.other h.hinders;
+  }
+
+  pub first-alike : (P Q : ℕ → Type 0) → ((n : ℕ) → P n → Q n) → ((n : ℕ) → Q n → P n) → (obstacle : Obstacle) (qs : List Asked) (o : Option Asked) → IsFirstHindered nodes P obstacle qs o → IsFirstHindered nodes Q obstacle qs o
+  first-alike P Q more less obstacle qs None none = λ h. none (h.0, h.1, hindered-alike Q P less obstacle h.0 h.2)
+  first-alike P Q more less obstacle qs (Some q) (n, at, own, before) =
+      (n, at, hindered-alike P Q more obstacle q own, λ h. before (h.0, h.1, hindered-alike Q P less obstacle h.0 h.2))
 
 -- ---- obstacles of a pair
 
@@ -263,18 +284,18 @@ HasBoth-each nodes pair qs exposed k d lt =
 
 module _ (draft : DraftTree) (nodes : List Path) (is : nodes ≡ paths_of draft) (pair : Pair) (qs : List Asked) (exposed : AreExposed nodes pair qs) where
   -- an exposed question of the pair that an obstacle hinders
-  of_hindered : (marks : List Bool) (obstacle : Obstacle) → HasHindered nodes marks obstacle qs → (e : ExposedOf nodes pair) × Hinders obstacle marks e.question.mine e.question.theirs
-  of_hindered marks obstacle h =
+  of_hindered : (ranges : ℕ → Type 0) (obstacle : Obstacle) → HasHindered nodes ranges obstacle qs → (e : ExposedOf nodes pair) × Hinders obstacle ranges e.question.mine e.question.theirs
+  of_hindered ranges obstacle h =
       let o = exposed.only h.0 h.1 in
       let w = h.2 in
       let mine = subst (λ (r : Question). IsAccessOf nodes r.x r.a o.0.question.mine) o.1 o.0.question.asked.at_mine in
       let theirs = subst (λ (r : Question). IsAccessOf nodes r.y r.b o.0.question.theirs) o.1 o.0.question.asked.at_theirs in
       let same_read = same_access nodes h.0.x h.0.a o.0.question.mine w.read mine w.at_read in
       let same_other = same_access nodes h.0.y h.0.b o.0.question.theirs w.other theirs w.at_other in
-      (o.0, subst (λ (a : Access). Hinders obstacle marks o.0.question.mine a) (sym same_other) (subst (λ (a : Access). Hinders obstacle marks a w.other) (sym same_read) w.hinders))
+      (o.0, subst (λ (a : Access). Hinders obstacle ranges o.0.question.mine a) (sym same_other) (subst (λ (a : Access). Hinders obstacle ranges a w.other) (sym same_read) w.hinders))
 
-  hindered_of : (marks : List Bool) (obstacle : Obstacle) (e : ExposedOf nodes pair) → Hinders obstacle marks e.question.mine e.question.theirs → HasHindered nodes marks obstacle qs
-  hindered_of marks obstacle e h =
+  hindered_of : (ranges : ℕ → Type 0) (obstacle : Obstacle) (e : ExposedOf nodes pair) → Hinders obstacle ranges e.question.mine e.question.theirs → HasHindered nodes ranges obstacle qs
+  hindered_of ranges obstacle e h =
       let q = exposed.each e in (
         q.0,
         q.1,
@@ -291,46 +312,46 @@ module _ (draft : DraftTree) (nodes : List Path) (is : nodes ≡ paths_of draft)
     abbrev RangeReadOf : List Path → Type 0
     RangeReadOf ns = (e : ExposedOf ns pair) × IsRangeAt draft pair.from e.question.mine.place
 
-    range-from_marks : HasHindered nodes marks RangeRead qs → HasRangeRead draft pair
+    range-from_marks : HasHindered nodes (IsMarkedAt marks) RangeRead qs → HasRangeRead draft pair
     range-from_marks h =
-        let o = of_hindered marks RangeRead h in
+        let o = of_hindered (IsMarkedAt marks) RangeRead h in
         let place = o.0.question.mine.place in
         let r = range_at-from_mark draft pair.from place (slice_get draft.programs pair.from) refl (subst (λ (m : List Bool). get_or m place false ≡ true) marks_are o.1) in
         subst RangeReadOf is (o.0, r)
 
-    marks-from_range : HasRangeRead draft pair → HasHindered nodes marks RangeRead qs
+    marks-from_range : HasRangeRead draft pair → HasHindered nodes (IsMarkedAt marks) RangeRead qs
     marks-from_range h = go (subst RangeReadOf (sym is) h)
       where
-        go : RangeReadOf nodes → HasHindered nodes marks RangeRead qs
+        go : RangeReadOf nodes → HasHindered nodes (IsMarkedAt marks) RangeRead qs
         go (e, range) =
             let place = e.question.mine.place in
-            hindered_of marks RangeRead e
+            hindered_of (IsMarkedAt marks) RangeRead e
             (subst (λ (m : List Bool). get_or m place false ≡ true) (sym marks_are) (mark-from_range_at draft pair.from place range))
 
   abbrev UnknownReadOf : List Path → Type 0
   UnknownReadOf ns = (e : ExposedOf ns pair) × HasUnknownKey e.question.mine
 
-  unknown-from_reads : (marks : List Bool) → HasHindered nodes marks UnknownKey qs → HasUnknownRead draft pair
-  unknown-from_reads marks h = subst UnknownReadOf is (of_hindered marks UnknownKey h)
+  unknown-from_reads : (ranges : ℕ → Type 0) → HasHindered nodes ranges UnknownKey qs → HasUnknownRead draft pair
+  unknown-from_reads ranges h = subst UnknownReadOf is (of_hindered ranges UnknownKey h)
 
-  reads-from_unknown : (marks : List Bool) → HasUnknownRead draft pair → HasHindered nodes marks UnknownKey qs
-  reads-from_unknown marks h = let o = subst UnknownReadOf (sym is) h in hindered_of marks UnknownKey o.0 o.1
+  reads-from_unknown : (ranges : ℕ → Type 0) → HasUnknownRead draft pair → HasHindered nodes ranges UnknownKey qs
+  reads-from_unknown ranges h = let o = subst UnknownReadOf (sym is) h in hindered_of ranges UnknownKey o.0 o.1
 
   abbrev BodyReadOf : List Path → Type 0
   BodyReadOf ns = (e : ExposedOf ns pair) × ((e.question.mine.sure ≡ false) ⊎ (e.question.theirs.sure ≡ false))
 
-  body-from_meets : (marks : List Bool) → HasHindered nodes marks BodyRead qs → HasBodyRead draft pair
-  body-from_meets marks h = subst BodyReadOf is (of_hindered marks BodyRead h)
+  body-from_meets : (ranges : ℕ → Type 0) → HasHindered nodes ranges BodyRead qs → HasBodyRead draft pair
+  body-from_meets ranges h = subst BodyReadOf is (of_hindered ranges BodyRead h)
 
-  meets-from_body : (marks : List Bool) → HasBodyRead draft pair → HasHindered nodes marks BodyRead qs
-  meets-from_body marks h = let o = subst BodyReadOf (sym is) h in hindered_of marks BodyRead o.0 o.1
+  meets-from_body : (ranges : ℕ → Type 0) → HasBodyRead draft pair → HasHindered nodes ranges BodyRead qs
+  meets-from_body ranges h = let o = subst BodyReadOf (sym is) h in hindered_of ranges BodyRead o.0 o.1
 
   -- what the three tests find is the first obstacle
   module _ (marks : List Bool) (are : marks ≡ program_ranges (slice_get draft.programs pair.from)) where
-    pub IsObstacle-first : (reads_range reads_unknown in_body : Bool) → (reads_range ≡ true) ↔ HasHindered nodes marks RangeRead qs → (reads_unknown ≡ true) ↔ HasHindered nodes marks UnknownKey qs → (in_body ≡ true) ↔ HasHindered nodes marks BodyRead qs → IsObstacle draft pair (obstacle_of reads_range reads_unknown in_body)
+    pub IsObstacle-first : (reads_range reads_unknown in_body : Bool) → (reads_range ≡ true) ↔ HasHindered nodes (IsMarkedAt marks) RangeRead qs → (reads_unknown ≡ true) ↔ HasHindered nodes (IsMarkedAt marks) UnknownKey qs → (in_body ≡ true) ↔ HasHindered nodes (IsMarkedAt marks) BodyRead qs → IsObstacle draft pair (obstacle_of reads_range reads_unknown in_body)
     IsObstacle-first true u b range unknown meets = range-from_marks marks are (range.0 refl)
-    IsObstacle-first false true b range unknown meets = (λ h. false≢true (range.1 (marks-from_range marks are h)), unknown-from_reads marks (unknown.0 refl))
+    IsObstacle-first false true b range unknown meets = (λ h. false≢true (range.1 (marks-from_range marks are h)), unknown-from_reads (IsMarkedAt marks) (unknown.0 refl))
     IsObstacle-first false false true range unknown meets =
-        (λ h. false≢true (range.1 (marks-from_range marks are h)), λ h. false≢true (unknown.1 (reads-from_unknown marks h)), body-from_meets marks (meets.0 refl))
+        (λ h. false≢true (range.1 (marks-from_range marks are h)), λ h. false≢true (unknown.1 (reads-from_unknown (IsMarkedAt marks) h)), body-from_meets (IsMarkedAt marks) (meets.0 refl))
     IsObstacle-first false false false range unknown meets =
-        (λ h. false≢true (range.1 (marks-from_range marks are h)), λ h. false≢true (unknown.1 (reads-from_unknown marks h)), λ h. false≢true (meets.1 (meets-from_body marks h)))
+        (λ h. false≢true (range.1 (marks-from_range marks are h)), λ h. false≢true (unknown.1 (reads-from_unknown (IsMarkedAt marks) h)), λ h. false≢true (meets.1 (meets-from_body (IsMarkedAt marks) h)))

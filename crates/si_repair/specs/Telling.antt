@@ -1,4 +1,4 @@
--- What a certificate tells of the entries of a table: words of private clauses.
+-- What a certificate tells of the entries of a table, and why a set is not analysed.
 use Rattle.std.specs.Prelude.{◌≡◌, ℕ, List, [], ◌∷◌, length, All}
 use Rattle.std.specs.List.{flat_map}
 use Rattle.order_facts.specs.declared.steps.Node.{Node}

@@ -6,7 +6,7 @@ ghost use Rattle.prog_check.specs.Paths.{paths_of};
 ghost use Rattle.repair_laws.specs.Refusals.{IsRangeAt, IsUnknownTerm, IsUnknownSecond, HasUnknownKey};
 ghost use Rattle.si_repair.specs.Gathering.{HasBoth};
 ghost use Rattle.si_repair.specs.Exposing.{AreExposed, IsObstacle};
-ghost use Rattle.si_repair.specs.Obstacles.{range_marks, program_ranges, MeetInBody, Hinders, HasHindered, IsFirstHindered, IsFirstHinderedOf, obstacle_of};
+ghost use Rattle.si_repair.specs.Obstacles.{range_marks, program_ranges, IsMarkedAt, MeetInBody, Hinders, HasHindered, IsFirstHindered, IsFirstHinderedOf, obstacle_of};
 
 use crate::repairs::exposed::{access_at, exposed_questions};
 use prog_check::{Access, Column, Path, Term};
@@ -143,7 +143,7 @@ fn meet_in_body(read: &Access, other: &Access) -> bool
 
 /// Whether this is why no keep covers a read, with the access that it may miss.
 fn hinders(obstacle: Obstacle, marks: &[bool], read: &Access, other: &Access) -> bool
-    ensures { IsTrue result ↔ Hinders obstacle marks.now read.now other.now }
+    ensures { IsTrue result ↔ Hinders obstacle (IsMarkedAt marks.now) read.now other.now }
 {
     match obstacle {
         Obstacle::RangeRead => is_range(marks, read.place),
@@ -160,7 +160,7 @@ fn first_hindered(
     obstacle: Obstacle,
 ) -> Option<Question>
     requires { All (λ q. HasBoth paths.now q) questions.now }
-    ensures { IsFirstHindered paths.now marks.now obstacle questions.now result }
+    ensures { IsFirstHindered paths.now (IsMarkedAt marks.now) obstacle questions.now result }
 {
     for question in questions {
         let read = access_at(paths, question.x, question.a);
@@ -175,7 +175,8 @@ fn first_hindered(
 /// Whether there is one.
 fn is_hindered(paths: &[Path], marks: &[bool], questions: &[Question], obstacle: Obstacle) -> bool
     requires { All (λ q. HasBoth paths.now q) questions.now }
-    ensures { IsTrue result ↔ HasHindered paths.now marks.now obstacle questions.now }
+    ensures { IsTrue result
+        ↔ HasHindered paths.now (IsMarkedAt marks.now) obstacle questions.now }
 {
     first_hindered(paths, marks, questions, obstacle).is_some()
 }

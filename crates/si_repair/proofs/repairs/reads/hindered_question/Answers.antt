@@ -1,14 +1,15 @@
-use Rattle.std.proofs.Common.{Bool, List, ◌∙◌, sym, subst}
+use Rattle.std.proofs.Common.{Bool, List, ◌∙◌, refl, sym, subst}
 use Rattle.std.specs.Prelude.{All, slice_get}
 use Rattle.prog_tree.specs.Tree.{draft_tree}
 use Rattle.prog_check.specs.declared.path.Path.{Path}
 use Rattle.prog_paths.specs.Asked.{ChangesSingleCells}
 use Rattle.prog_paths.specs.declared.accesses.places.Question.{Question}
 use Rattle.prog_paths.proofs.SingleCells.{law_of_single_changes}
+use Rattle.repair_laws.specs.Refusals.{IsRangeAt}
 use Rattle.si_repair.specs.Exposing.{AreExposed}
 use Rattle.si_repair.specs.Gathering.{HasBoth}
-use Rattle.si_repair.specs.Obstacles.{program_ranges, IsFirstHindered}
-use Rattle.si_repair.proofs.Marking.{HasBoth-each}
+use Rattle.si_repair.specs.Obstacles.{program_ranges, IsFirstHindered, IsMarkedAt}
+use Rattle.si_repair.proofs.Marking.{first-alike, mark-from_range_at, range_at-from_mark, HasBoth-each}
 use Rattle.si_repair.proofs.repairs.reads.hindered_question.Goals as goal
 
 pub exposed_questions-requires : goal.exposed_questions-requires
@@ -21,12 +22,19 @@ first_hindered-found-requires c =
 
 pub returns : goal.returns
 returns c =
+    let draft = draft_tree c.args.draft.now in
+    let from = c.args.pair.from in
     let nodes = c.args.paths.now in
+    let obstacle = c.args.obstacle in
     let questions = c.in_ok-questions.questions.items in
     let found = c.first_hindered-found.result in
-    let listed = subst (λ (l : List Question). IsFirstHindered nodes c.deref.result.now c.args.obstacle l found) c.deref-2.ensures.value c.first_hindered-found.ensures in
-    let marked = subst (λ (m : List Bool). IsFirstHindered nodes m c.args.obstacle questions found) (c.deref.ensures.value ∙ c.in_ok-marks.ensures) listed in (
+    let marks = program_ranges (slice_get draft.programs from) in
+    let listed = subst (λ (l : List Question). IsFirstHindered nodes (IsMarkedAt c.deref.result.now) obstacle l found) c.deref-2.ensures.value c.first_hindered-found.ensures in
+    let marked = subst (λ (m : List Bool). IsFirstHindered nodes (IsMarkedAt m) obstacle questions found) (c.deref.ensures.value ∙ c.in_ok-marks.ensures) listed in
+    let told =
+    first-alike nodes (IsMarkedAt marks) (IsRangeAt draft from) (λ n h. range_at-from_mark draft from n (slice_get draft.programs from) refl h) (λ n h. mark-from_range_at draft from n h)
+    obstacle questions found marked in (
       questions,
       subst (λ (ns : List Path). AreExposed ns c.args.pair questions) c.requires c.in_ok-questions.ensures,
-      subst (λ (ns : List Path). IsFirstHindered ns (program_ranges (slice_get (draft_tree c.args.draft.now).programs c.args.pair.from)) c.args.obstacle questions found) c.requires marked,
+      subst (λ (ns : List Path). IsFirstHindered ns (IsRangeAt draft from) obstacle questions found) c.requires told,
     )
