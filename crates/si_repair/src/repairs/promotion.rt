@@ -199,6 +199,38 @@ fn first_stop(
     Ok(covered[fitting].pair)
 }
 
+/// The set with keeps for pairs that were gathered, or the fault of the first that stops them: what
+/// is not too large with all of them is not with the first ones alone.
+fn promoted_or_stop(
+    alloc: Global,
+    set: &ProgramSet,
+    paths: &[Path],
+    pairs: &[Pair],
+    gathered: CoveredPairs,
+) -> Result<ProgramSet, RepairFault>
+    requires paths { paths.now ≡ paths_of (draft_tree set.now) }
+    requires sound { IsSound (draft_tree set.now) }
+    requires gathered { AreGathered (draft_tree set.now) pairs.now
+        gathered.covered.items gathered.fault }
+    ensures made { IfOk result
+        (λ s. IsPromoted (draft_tree set.now) pairs.now (draft_tree s)) }
+    ensures safe { IfOk result
+        (λ s. IsSafeRepair (draft_tree set.now) pairs.now (draft_tree s)) }
+    ensures goes { OnOk result (StopsNowhere
+        (StopsPromotion (draft_tree set.now) pairs.now) pairs.now) }
+    ensures refused { IfErr result (λ fault. IsRepairFault
+        (StopsPromotion (draft_tree set.now) pairs.now) pairs.now fault) }
+{
+    let Some(promoted) = with_keeps(alloc, set, paths, &gathered.covered)? else {
+        let stopping = first_stop(alloc, set, paths, pairs, &gathered.covered)?;
+        return Err(RepairFault::TooMany(stopping));
+    };
+    if let Some(fault) = gathered.fault {
+        return Err(fault);
+    }
+    Ok(promoted)
+}
+
 /// The set in which the first program of each pair of a plan keeps, behind each of its reads that
 /// is exposed to the second, the cell that it read. The first pair that can't be is the fault's.
 pub fn promote(alloc: Global, set: &ProgramSet, plan: &Plan) -> Result<ProgramSet, RepairFault>
@@ -214,13 +246,5 @@ pub fn promote(alloc: Global, set: &ProgramSet, plan: &Plan) -> Result<ProgramSe
     let paths = paths(alloc, set)?;
     let pairs = plan.pairs.as_slice();
     let gathered = covered_pairs(alloc, set.draft(), &paths, pairs)?;
-    // What is not too large with all these pairs is not with the first ones alone.
-    let Some(promoted) = with_keeps(alloc, set, &paths, &gathered.covered)? else {
-        let stopping = first_stop(alloc, set, &paths, pairs, &gathered.covered)?;
-        return Err(RepairFault::TooMany(stopping));
-    };
-    if let Some(fault) = gathered.fault {
-        return Err(fault);
-    }
-    Ok(promoted)
+    promoted_or_stop(alloc, set, &paths, pairs, gathered)
 }

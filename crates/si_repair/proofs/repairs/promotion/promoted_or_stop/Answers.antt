@@ -1,0 +1,70 @@
+use Rattle.std.proofs.Common.{◌<◌, All, List, Option, length, subst, sym, take}
+use Rattle.prog_tree.specs.Tree.{draft_tree}
+use Rattle.repair_laws.specs.Promoted.{IsPromoted}
+use Rattle.si_repair.specs.declared.repairs.fault.RepairFault.{RepairFault}
+use Rattle.si_repair.specs.declared.repairs.promotion.Covered.{Covered}
+use Rattle.si_repair.specs.Covering.{pairs_of, AreCovered, AreGathered, HasCoveredReads, IsRefusedWith}
+use Rattle.si_repair.proofs.Covering.{gathered_firsts, gathered_stopped, promoted_safe, some_covered, stops_none, wholly_promoted}
+use Rattle.si_repair.proofs.repairs.promotion.promoted_or_stop.Goals as goal
+
+pub with_keeps-requires-clause-covered : goal.with_keeps-requires-clause-covered
+with_keeps-requires-clause-covered c =
+    let draft = draft_tree c.args.set.now in
+    let all = c.args.gathered in
+    subst (λ (l : List Covered). All (HasCoveredReads draft) l) (sym c.deref.ensures.value) (gathered_firsts draft c.args.pairs.now all.covered.items all.fault c.requires.gathered).1
+
+pub first_stop-requires-clause-covered : goal.first_stop-requires-clause-covered
+first_stop-requires-clause-covered c =
+    let draft = draft_tree c.args.set.now in
+    let all = c.args.gathered in
+    subst (λ (l : List Covered). AreCovered draft (take (length l) c.args.pairs.now) l) (sym c.deref-in_default.ensures.value)
+    (gathered_firsts draft c.args.pairs.now all.covered.items all.fault c.requires.gathered)
+
+pub first_stop-requires-clause-some : goal.first_stop-requires-clause-some
+first_stop-requires-clause-some c =
+    let draft = draft_tree c.args.set.now in
+    let all = c.args.gathered in
+    let items = all.covered.items in
+    let refused = subst (λ (l : List Covered). IsRefusedWith draft (pairs_of l)) c.deref.ensures.value (rw c.in_default.is at c.in_ok-promoted.ensures.refused) in
+    subst (λ (l : List Covered). 0 < length l) (sym c.deref-in_default.ensures.value)
+    (some_covered draft (take (length items) c.args.pairs.now) items c.requires.sound (gathered_firsts draft c.args.pairs.now items all.fault c.requires.gathered) refused)
+
+pub first_stop-requires-clause-large : goal.first_stop-requires-clause-large
+first_stop-requires-clause-large c =
+    let draft = draft_tree c.args.set.now in
+    let refused = subst (λ (l : List Covered). IsRefusedWith draft (pairs_of l)) c.deref.ensures.value (rw c.in_default.is at c.in_ok-promoted.ensures.refused) in
+    subst (λ (l : List Covered). IsRefusedWith draft (pairs_of l)) (sym c.deref-in_default.ensures.value) refused
+
+pub returns-in-Some-fault-clause-refused : goal.returns-in-Some-fault-clause-refused
+returns-in-Some-fault-clause-refused c =
+    let draft = draft_tree c.args.set.now in
+    let items = c.args.gathered.covered.items in
+    let made = subst (λ (l : List Covered). IsPromoted draft (pairs_of l) (draft_tree c.in-Some.promoted)) c.deref.ensures.value (rw c.in-Some.is at c.in_ok-promoted.ensures.made) in
+    let sound = rw c.in-Some.is at c.in_ok-promoted.ensures.sound in
+    gathered_stopped draft c.args.pairs.now items (draft_tree c.in-Some.promoted) c.in-Some-fault.fault
+    (subst (λ (o : Option RepairFault). AreGathered draft c.args.pairs.now items o) c.in-Some-fault.is c.requires.gathered) made sound
+
+pub returns-clause-made : goal.returns-clause-made
+returns-clause-made c =
+    let draft = draft_tree c.args.set.now in
+    let items = c.args.gathered.covered.items in
+    let whole = subst (λ (o : Option RepairFault). AreGathered draft c.args.pairs.now items o) c.in_default-fault.is c.requires.gathered in
+    let made = subst (λ (l : List Covered). IsPromoted draft (pairs_of l) (draft_tree c.in-Some.promoted)) c.deref.ensures.value (rw c.in-Some.is at c.in_ok-promoted.ensures.made) in
+    wholly_promoted draft c.args.pairs.now items (draft_tree c.in-Some.promoted) whole made
+
+pub returns-clause-safe : goal.returns-clause-safe
+returns-clause-safe c =
+    let draft = draft_tree c.args.set.now in
+    let items = c.args.gathered.covered.items in
+    let whole = subst (λ (o : Option RepairFault). AreGathered draft c.args.pairs.now items o) c.in_default-fault.is c.requires.gathered in
+    let made = subst (λ (l : List Covered). IsPromoted draft (pairs_of l) (draft_tree c.in-Some.promoted)) c.deref.ensures.value (rw c.in-Some.is at c.in_ok-promoted.ensures.made) in
+    promoted_safe draft c.args.pairs.now items (draft_tree c.in-Some.promoted) c.requires.sound whole made
+
+pub returns-clause-goes : goal.returns-clause-goes
+returns-clause-goes c =
+    let draft = draft_tree c.args.set.now in
+    let items = c.args.gathered.covered.items in
+    let whole = subst (λ (o : Option RepairFault). AreGathered draft c.args.pairs.now items o) c.in_default-fault.is c.requires.gathered in
+    let made = subst (λ (l : List Covered). IsPromoted draft (pairs_of l) (draft_tree c.in-Some.promoted)) c.deref.ensures.value (rw c.in-Some.is at c.in_ok-promoted.ensures.made) in
+    let sound = rw c.in-Some.is at c.in_ok-promoted.ensures.sound in
+    stops_none draft c.args.pairs.now items (draft_tree c.in-Some.promoted) whole made sound
