@@ -6,10 +6,9 @@ use Rattle.std.proofs.lemmas.List.Folds.{list_any_more}
 use Rattle.prog_paths.specs.declared.accesses.mark.Mark.{Mark}
 use Rattle.prog_paths.specs.StaticGraph.{Leads, IsDangerousAt}
 use Rattle.order_facts.specs.Square.{Grid, entry, Joins, IsSquareOf, Enters}
-use Rattle.dep_graph.specs.Reaching.{IsReachOf}
 use Rattle.prog_paths.proofs.Grids.{test-from_joined, joined-from_test}
 use Rattle.dep_graph.specs.Triple.{ClosesAt}
-use Rattle.dep_graph.specs.Marks.{Marks, mark_at, has_edge, has_vulnerable, HasVulnerable}
+use Rattle.dep_graph.specs.Marks.{Marks, mark_at, has_edge, has_vulnerable, HasVulnerable, IsGraphOf}
 use Rattle.dep_graph.specs.Counting.{IsCountOf}
 use Rattle.dep_graph.proofs.Counts.{IsCountOf-same}
 use Rattle.dep_graph.proofs.Alike.{IsWithin, Leads-within}
@@ -38,13 +37,7 @@ pub record HasEdge (t : Marks) (x y : ℕ) : Type 0 where
   pub y_inside : y < t.nodes
   pub has : has_edge t.marks x y ≡ true
 
--- what a graph keeps of its table
-pub record Keeps (t : Marks) (edges vulnerable reach : Grid) : Type 0 where
-  pub edges_are : IsSquareOf edges t.nodes (has_edge t.marks)
-  pub vulnerable_are : IsSquareOf vulnerable t.nodes (has_vulnerable t.marks)
-  pub reach_is : IsReachOf reach edges
-
-module _ (t : Marks) (edges vulnerable reach : Grid) (k : Keeps t edges vulnerable reach) where
+module _ (t : Marks) (edges vulnerable reach : Grid) (k : IsGraphOf t edges vulnerable reach) where
   pub HasEdge-joined : IsWithin (Joins edges) (HasEdge t)
   HasEdge-joined x y j =
       let size = k.edges_are.size_is in

@@ -10,14 +10,15 @@ use Rattle.dep_graph.specs.Counting.{IsCountOf}
 use Rattle.order_facts.specs.Square.{Grid, entry, Joins}
 use Rattle.dep_graph.specs.Triple.{ClosesAt, IsLeastTriple}
 use Rattle.dep_graph.specs.Ways.{IsLeastWay}
+use Rattle.dep_graph.specs.Marks.{IsGraphOf}
 use Rattle.dep_graph.specs.Marking.{marks_of}
 use Rattle.dep_graph.specs.Danger.{IsFirstExposure, IsLeastDanger}
 use Rattle.dep_graph.proofs.Counts.{IsCountOf-same}
 use Rattle.dep_graph.proofs.Alike.{IsWithin, Leads-within, IsLeastWay-alike, IsDangerousAt-within}
-use Rattle.dep_graph.proofs.Entering.{HasEdge, Keeps, HasEdge-joined, Joins-edge, HasVulnerable-joined, Joins-vulnerable, dangerous-from_closes, closes-from_dangerous, IsCountOf-reach}
+use Rattle.dep_graph.proofs.Entering.{HasEdge, HasEdge-joined, Joins-edge, HasVulnerable-joined, Joins-vulnerable, dangerous-from_closes, closes-from_dangerous, IsCountOf-reach}
 use Rattle.dep_graph.proofs.Standing.{static-from_HasEdge, HasEdge-from_static, vulnerable-from_HasVulnerable, HasVulnerable-from_vulnerable, IsLeastExposed-from_first}
 
-module _ (t : Table) (edges vulnerable reach : Grid) (k : Keeps (marks_of t) edges vulnerable reach) (paths : List Path) (s : StandsFor t paths) where
+module _ (t : Table) (edges vulnerable reach : Grid) (k : IsGraphOf (marks_of t) edges vulnerable reach) (paths : List Path) (s : StandsFor t paths) where
   static-joined : IsWithin (Joins edges) (StaticEdge paths)
   static-joined x y j = static-from_HasEdge t paths s x y (HasEdge-joined (marks_of t) edges vulnerable reach k x y j)
 

@@ -1,8 +1,10 @@
 -- What a table's questions with their verdicts make of the graph.
 use Rattle.std.specs.Prelude.{◌≡◌, ℕ, List, length, ◌<◌, ◌≤◌, Bool, true, false, slice_index_or}
 use Rattle.std.specs.List.{list_any}
+use Rattle.order_facts.specs.Square.{Grid, IsSquareOf}
 use Rattle.prog_paths.specs.declared.accesses.mark.Mark.{Mark}
 use Rattle.prog_paths.specs.Marks.{gives_edge, gives_vulnerable}
+use Rattle.dep_graph.specs.Reaching.{IsReachOf}
 
 -- how many nodes there are, and what each question gives
 pub record Marks : Type 0 where
@@ -27,6 +29,12 @@ pub record HasVulnerable (t : Marks) (x y : ℕ) : Type 0 where
   pub x_inside : x < t.nodes
   pub y_inside : y < t.nodes
   pub has : has_vulnerable t.marks x y ≡ true
+
+-- the edges that these questions give, those that they make vulnerable, and which node reaches which
+pub record IsGraphOf (t : Marks) (edges vulnerable reach : Grid) : Type 0 where
+  pub edges_are : IsSquareOf edges t.nodes (has_edge t.marks)
+  pub vulnerable_are : IsSquareOf vulnerable t.nodes (has_vulnerable t.marks)
+  pub reach_is : IsReachOf reach edges
 
 -- the first place of a question that makes the edge from x to y vulnerable
 pub record IsFirstVulnerable (marks : List Mark) (x y n : ℕ) : Type 0 where

@@ -33,21 +33,14 @@ pub struct Graph<'a> {
 
 impl<'a> Model for Graph<'a> {
     ghost use Rattle.conflict_pairs.specs.Table.{Table};
-    ghost use Rattle.dep_graph.specs.Marks.{has_edge, has_vulnerable};
+    ghost use Rattle.dep_graph.specs.Marks.{IsGraphOf};
     ghost use Rattle.dep_graph.specs.Marking.{marks_of};
-    ghost use Rattle.order_facts.specs.Square.{IsSquareOf};
-    ghost use Rattle.dep_graph.specs.Reaching.{IsReachOf};
 
     ghost Value = { Table };
 
     ghost view = { λ g. g.table.now };
 
-    ghost invariant = { λ g. record {
-      edges : IsSquareOf g.edges g.table.now.nodes (has_edge (marks_of g.table.now).marks);
-      vulnerable : IsSquareOf g.vulnerable g.table.now.nodes
-          (has_vulnerable (marks_of g.table.now).marks);
-      reach : IsReachOf g.reach g.edges;
-    } };
+    ghost invariant = { λ g. IsGraphOf (marks_of g.table.now) g.edges g.vulnerable g.reach };
 }
 
 /// Which nodes are joined by an edge, and which by a vulnerable one.

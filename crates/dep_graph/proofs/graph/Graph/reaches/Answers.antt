@@ -3,8 +3,6 @@ use Rattle.std.specs.Prelude.{IsTrue}
 use Rattle.prog_check.specs.declared.path.Path.{Path}
 use Rattle.prog_paths.specs.StaticGraph.{StaticEdge, Leads}
 use Rattle.conflict_pairs.specs.Table.{Table, StandsFor}
-use Rattle.dep_graph.specs.Marking.{marks_of}
-use Rattle.dep_graph.proofs.Entering.{Keeps}
 use Rattle.dep_graph.proofs.Laws.{reaches-right}
 use Rattle.dep_graph.proofs.graph.Graph.reaches.Goals as goal
 
@@ -13,7 +11,6 @@ returns c =
     let g = c.self.inside in
     let x = c.args.x in
     let y = c.args.y in
-    let keeps : Keeps (marks_of g.table.now) g.edges g.vulnerable g.reach = record { edges_are = c.self.invariant.edges; vulnerable_are = c.self.invariant.vulnerable; reach_is = c.self.invariant.reach } in
     let x_inside = subst (λ (t : Table). x < t.nodes) (sym c.self.view_is) c.requires.x in
     let y_inside = subst (λ (t : Table). y < t.nodes) (sym c.self.view_is) c.requires.y in
-    subst (λ (t : Table). (paths : List Path) → StandsFor t paths → (IsTrue c.get.result ↔ Leads (StaticEdge paths) x y)) c.self.view_is (λ paths s. reaches-right g.table.now g.edges g.vulnerable g.reach keeps paths s x y x_inside y_inside c.get.result c.get.ensures)
+    subst (λ (t : Table). (paths : List Path) → StandsFor t paths → (IsTrue c.get.result ↔ Leads (StaticEdge paths) x y)) c.self.view_is (λ paths s. reaches-right g.table.now g.edges g.vulnerable g.reach c.self.invariant paths s x y x_inside y_inside c.get.result c.get.ensures)
