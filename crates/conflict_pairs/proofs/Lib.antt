@@ -4,7 +4,7 @@ pub mod Covering
 pub mod Meaning
 pub mod Zipped
 pub mod Likeness
-pub mod OneKind
+pub mod OneClass
 pub mod Entries
 pub mod Serving
 pub mod Numbered

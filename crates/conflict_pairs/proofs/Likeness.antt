@@ -20,8 +20,8 @@ use Rattle.conflict_pairs.specs.declared.verdicts.Verdict.{Verdict}
 use Rattle.conflict_pairs.specs.declared.verdicts.Verdict.TheVariants.{Apart, Covered, Exposed}
 use Rattle.conflict_pairs.specs.Verdicts.{IsRight}
 use Rattle.conflict_pairs.specs.Search.{CoversAt, IsJudged}
-use Rattle.conflict_pairs.specs.Alike.{AreAlike, CoverAlike, CoversToo, HaveSameCovers, accesses_in, accesses_at, AreClasses, IsAsked, HasAccess, IsLikeAt, IsLike, IsJudgedAt}
-use Rattle.conflict_pairs.specs.Kinds.{AreOneKind}
+use Rattle.conflict_pairs.specs.Alike.{AreAlike, CoverAlike, CoversToo, HaveSameCovers, accesses_in, accesses_at, AreCoverClasses, IsAsked, HasAccess, IsLikeAt, IsLike, IsJudgedAt}
+use Rattle.conflict_pairs.specs.Classes.{AreOneClass}
 use Rattle.conflict_pairs.proofs.Meaning.{IsRight-from_lists}
 use Rattle.conflict_pairs.proofs.Moving.{single-first, single-second, IsQuestion-asked, IsRight-asked}
 
@@ -122,7 +122,7 @@ classes-more paths old new n c long added h before x lt = subst (λ (l : List �
         let is : get_or (old ++ c ∷ []) x 0 ≡ c = get_or_push old c 0 x (long ∙ sym here) in
         subst (λ (k : ℕ). HaveSameCovers (accesses_at paths x) (accesses_at paths k)) (sym is) (subst (λ (k : ℕ). HaveSameCovers (accesses_at paths k) (accesses_at paths c)) (sym here) h)
 
-pub one_class : (paths : List Path) (classes : List ℕ) (x y : ℕ) → AreClasses paths classes → x < length classes → y < length classes → get_or classes x 0 ≡ get_or classes y 0 → HaveSameCovers (accesses_at paths x) (accesses_at paths y)
+pub one_class : (paths : List Path) (classes : List ℕ) (x y : ℕ) → AreCoverClasses paths classes → x < length classes → y < length classes → get_or classes x 0 ≡ get_or classes y 0 → HaveSameCovers (accesses_at paths x) (accesses_at paths y)
 one_class paths classes x y h lt le same_class =
     covers-through (accesses_at paths x) (accesses_at paths (get_or classes x 0)) (accesses_at paths y) (h.same x lt)
     (subst (λ (k : ℕ). HaveSameCovers (accesses_at paths y) (accesses_at paths k)) (sym same_class) (h.same y le))
@@ -131,8 +131,8 @@ pub access_unique : (paths : List Path) (x a : ℕ) (one other : Access) → IsA
 access_unique paths x a one other h k =
     same_Some one other (sym h.2 ∙ subst (λ (p : Path). slice_get p.accesses a ≡ Some other) (sym (same_Some h.0 k.0 (sym h.1 ∙ k.1))) k.2)
 
--- accesses of one kind are alike, as the covers of their nodes
-pub like_at-classes : (paths : List Path) (classes : List ℕ) (p q : Placed) → AreClasses paths classes → IsAt paths p → IsAt paths q → AreOneKind classes p q → IsLikeAt paths p.node p.number q.node q.number
+-- accesses of one class are alike, as the covers of their nodes
+pub like_at-classes : (paths : List Path) (classes : List ℕ) (p q : Placed) → AreCoverClasses paths classes → IsAt paths p → IsAt paths q → AreOneClass classes p q → IsLikeAt paths p.node p.number q.node q.number
 like_at-classes paths classes p q classed at_p at_q h = record {
   mine = p.access;
   other = q.access;

@@ -17,12 +17,12 @@ use Rattle.conflict_pairs.specs.declared.pairing.PlacePair.{PlacePair}
 use Rattle.conflict_pairs.specs.declared.verdicts.Verdict.{Verdict}
 use Rattle.conflict_pairs.specs.Alike.{AreShown, IsAsked, IsLike}
 use Rattle.conflict_pairs.specs.Interning.{AreInterned, IsServed}
-use Rattle.conflict_pairs.specs.Kinds.{starts_from}
+use Rattle.conflict_pairs.specs.Classes.{starts_from}
 use Rattle.conflict_pairs.specs.Pairing.{IsAskedAt, IsWithin, StandsAt, asked_at, no_place, place_at, question_at, questions_at}
 use Rattle.conflict_pairs.specs.Table.{entries_of}
 use Rattle.conflict_pairs.proofs.Collecting.{all_asked}
 use Rattle.conflict_pairs.proofs.Numbered.{entries-length}
-use Rattle.conflict_pairs.proofs.OneKind.{place-stands, starts-length}
+use Rattle.conflict_pairs.proofs.OneClass.{place-stands, starts-length}
 
 -- ---- what each of a list gives
 

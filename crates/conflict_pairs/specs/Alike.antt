@@ -48,7 +48,7 @@ abbrev pub accesses_at : List Path → ℕ → List Access
 accesses_at paths x = accesses_in (slice_get paths x)
 
 -- each node has the number of one with the same covers
-pub record AreClasses (paths : List Path) (classes : List ℕ) : Type 0 where
+pub record AreCoverClasses (paths : List Path) (classes : List ℕ) : Type 0 where
   pub one_each : length classes ≡ length paths
   pub same : (x : ℕ) → x < length classes
       → HaveSameCovers (accesses_at paths x) (accesses_at paths (get_or classes x 0))

@@ -3,6 +3,6 @@ pub mod Verdicts
 pub mod Search
 pub mod Alike
 pub mod Pairing
-pub mod Kinds
+pub mod Classes
 pub mod Table
 pub mod Law

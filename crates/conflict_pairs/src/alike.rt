@@ -1,6 +1,6 @@
 //! Accesses that are alike, and nodes with the same covers.
 ghost use Rattle.std.specs.Prelude.{◌≡◌, ◌↔◌, ◌<◌, length, IsTrue, IfOk};
-ghost use Rattle.conflict_pairs.specs.Alike.{AreAlike, CoverAlike, HaveSameCovers, accesses_at, AreClasses};
+ghost use Rattle.conflict_pairs.specs.Alike.{AreAlike, CoverAlike, HaveSameCovers, accesses_at, AreCoverClasses};
 
 use prog_check::{Access, Column, Kind, Path};
 use prog_paths::may_cover;
@@ -62,7 +62,7 @@ fn have_same_covers(xs: &[Access], ys: &[Access]) -> bool
 }
 
 /// The first node with the covers of a node.
-fn class_of(paths: &[Path], x: usize) -> usize
+fn cover_class_of(paths: &[Path], x: usize) -> usize
     requires { x < length paths.now }
     ensures { HaveSameCovers (accesses_at paths.now x) (accesses_at paths.now result) }
 {
@@ -76,12 +76,12 @@ fn class_of(paths: &[Path], x: usize) -> usize
 }
 
 /// For each node the first one with the same covers.
-pub fn classes_of(alloc: Global, paths: &[Path]) -> Result<Vec<usize>, AllocError>
-    ensures { IfOk result (λ classes. AreClasses paths.now classes.items) }
+pub fn cover_classes_of(alloc: Global, paths: &[Path]) -> Result<Vec<usize>, AllocError>
+    ensures { IfOk result (λ classes. AreCoverClasses paths.now classes.items) }
 {
     let mut classes = Vec::with_capacity(alloc, paths.len())?;
     for x in 0..paths.len() {
-        classes.push(class_of(paths, x))?;
+        classes.push(cover_class_of(paths, x))?;
     }
     Ok(classes)
 }

@@ -6,12 +6,12 @@
 mod alike;
 mod apart;
 mod chain;
+mod classes;
 mod condition;
 mod cover;
 mod fault;
 mod interning;
 mod judge;
-mod kinds;
 mod laws;
 mod limits;
 mod listing;

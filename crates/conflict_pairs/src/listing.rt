@@ -3,14 +3,14 @@ ghost use Rattle.std.specs.Prelude.{◌≡◌, ◌↔◌, ◌++◌, ◌<◌, ◌
 ghost use Rattle.conflict_pairs.specs.declared.fault.PairFault as PairFault;
 ghost use Rattle.prog_paths.specs.Asked.{ChangesSingleCells, all_from, asked_by, asked_among, questions_of, limit};
 ghost use Rattle.conflict_pairs.specs.Alike.{AreJudged, AreListed};
-ghost use Rattle.conflict_pairs.specs.Kinds.{starts_from};
+ghost use Rattle.conflict_pairs.specs.Classes.{starts_from};
 ghost use Rattle.conflict_pairs.specs.Pairing.{IsWithin, StandsAt, place_at, questions_at};
 ghost use Rattle.conflict_pairs.specs.Table.{StandsFor};
 
+use crate::classes::AccessClasses;
 use crate::fault::PairFault;
 use crate::interning::{Interned, intern_all};
 use crate::judge::verdicts_of;
-use crate::kinds::Kinds;
 use crate::limits::MOST_PLACES;
 use crate::pairing::{PlacePair, number_among, pair_of, question_of};
 use crate::table::PairTable;
@@ -121,8 +121,8 @@ pub fn questions_of(alloc: Global, paths: &[Path], count: usize) -> Result<Quest
     }
     let starts = starts_of(alloc, paths)?;
     let pairs = all_questions(alloc, &places, &starts, count)?;
-    let kinds = Kinds::of(alloc, paths, &places)?;
-    let Interned { values, numbers } = intern_all(alloc, &kinds, &pairs)?;
+    let classes = AccessClasses::of(alloc, paths, &places)?;
+    let Interned { values, numbers } = intern_all(alloc, &classes, &pairs)?;
     let judged = questions_between(alloc, &places, &values)?;
     Ok(Questions {
         places,

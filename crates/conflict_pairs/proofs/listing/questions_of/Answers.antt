@@ -7,7 +7,7 @@ use Rattle.prog_paths.specs.Asked.{all_from, asked_among}
 use Rattle.conflict_pairs.specs.declared.pairing.PlacePair.{PlacePair}
 use Rattle.conflict_pairs.specs.Alike.{AreShown, IsLike}
 use Rattle.conflict_pairs.specs.Interning.{AreInterned}
-use Rattle.conflict_pairs.specs.Kinds.{starts_from}
+use Rattle.conflict_pairs.specs.Classes.{starts_from}
 use Rattle.conflict_pairs.specs.Pairing.{IsAskedAt, IsWithin, StandsAt, asked_at, questions_at}
 use Rattle.conflict_pairs.proofs.Paired.{all-stand, all_within, asked-pairs, shown-pairs}
 use Rattle.conflict_pairs.proofs.listing.questions_of.Goals as goal
@@ -29,14 +29,14 @@ intern_all-requires c =
     let within = subst (λ (l : List Placed). All (IsWithin l) c.in_ok-pairs.pairs.items) places c.in_ok-pairs.ensures.within in
     let all =
     subst (λ (l : List Placed). questions_at l c.in_ok-pairs.pairs.items ≡ asked_among l l) places c.in_ok-pairs.ensures.questions in
-    subst (λ (l : List Path). All (IsAskedAt l) c.deref-4.result.now) (sym c.in_ok-kinds.ensures)
+    subst (λ (l : List Path). All (IsAskedAt l) c.deref-4.result.now) (sym c.in_ok-classes.ensures)
     (subst (λ (l : List PlacePair). All (IsAskedAt paths) l) (sym c.deref-4.ensures.value) (asked-pairs paths c.in_ok-pairs.pairs.items within all))
 
 pub questions_between-requires : goal.questions_between-requires
 questions_between-requires c =
     let values = c.in_ok-values.field-0.values.items in
     let places = c.deref-5.ensures.value ∙ c.in_ok-places.ensures in
-    let sound = subst (λ (l : List Path). All (IsAskedAt l) values) c.in_ok-kinds.ensures c.in_ok-values.ensures.sound in
+    let sound = subst (λ (l : List Path). All (IsAskedAt l) values) c.in_ok-classes.ensures c.in_ok-values.ensures.sound in
     subst (λ (l : List Placed). All (IsWithin l) c.deref-6.result.now) (sym places)
     (subst (λ (l : List PlacePair). All (IsWithin (all_from 0 c.args.paths.now)) l) (sym c.deref-6.ensures.value) (all_within c.args.paths.now values sound))
 
@@ -48,8 +48,8 @@ returns-clause-listed c =
     let numbers = c.in_ok-values.field-0.numbers.items in
     let places = c.deref.ensures.value ∙ c.in_ok-places.ensures in
     let interned =
-    subst (λ (l : List Path). AreInterned (IsAskedAt l) (λ p v. IsLike l (asked_at l p) (asked_at l v)) pairs values numbers) c.in_ok-kinds.ensures
-    (subst (λ (l : List PlacePair). AreInterned (IsAskedAt c.in_ok-kinds.kinds) (λ p v. IsLike c.in_ok-kinds.kinds (asked_at c.in_ok-kinds.kinds p) (asked_at c.in_ok-kinds.kinds v)) l values numbers) c.deref-4.ensures.value c.in_ok-values.ensures) in
+    subst (λ (l : List Path). AreInterned (IsAskedAt l) (λ p v. IsLike l (asked_at l p) (asked_at l v)) pairs values numbers) c.in_ok-classes.ensures
+    (subst (λ (l : List PlacePair). AreInterned (IsAskedAt c.in_ok-classes.classes) (λ p v. IsLike c.in_ok-classes.classes (asked_at c.in_ok-classes.classes p) (asked_at c.in_ok-classes.classes v)) l values numbers) c.deref-4.ensures.value c.in_ok-values.ensures) in
     let judged = c.in_ok-judged.ensures ∙ (λ i. questions_at ((c.deref-5.ensures.value ∙ c.in_ok-places.ensures) i) (c.deref-6.ensures.value i)) in
     record {
       all = (λ i. questions_at (sym c.deref.ensures.value i) pairs) ∙ c.in_ok-pairs.ensures.questions ∙ (λ i. asked_among (places i) (places i));

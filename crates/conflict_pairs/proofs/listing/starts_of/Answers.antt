@@ -1,8 +1,8 @@
 use Rattle.std.proofs.Common.{◌+◌, length, ap, arith}
 use Rattle.prog_check.specs.declared.path.Access.{Access}
 use Rattle.std.specs.Prelude.{List}
-use Rattle.conflict_pairs.specs.Kinds.{starts_from}
-use Rattle.conflict_pairs.proofs.OneKind.{starts-more, left-more}
+use Rattle.conflict_pairs.specs.Classes.{starts_from}
+use Rattle.conflict_pairs.proofs.OneClass.{starts-more, left-more}
 use Rattle.conflict_pairs.proofs.listing.starts_of.Goals as goal
 
 pub overflow_add-start : goal.overflow_add-start

@@ -1,6 +1,6 @@
 use Rattle.std.proofs.Common.{◌≡◌, ◌+◌, ◌++◌, drop, length}
 use Rattle.prog_paths.specs.Asked.{all_from}
-use Rattle.conflict_pairs.specs.Kinds.{starts_from}
+use Rattle.conflict_pairs.specs.Classes.{starts_from}
 use Rattle.conflict_pairs.proofs.listing.starts_of.Given as goal
 
 -- the starts so far, with those of the nodes that are left, and how many accesses are left

@@ -1,4 +1,4 @@
--- Kinds of accesses: those that are alike, at nodes with the same covers, may have one number.
+-- Classes of accesses: those that are alike, at nodes with the same covers, may have one number.
 use Rattle.std.specs.Prelude.{◌≡◌, ℕ, ◌+◌, ◌<◌, List, [], ◌∷◌, length, Some, slice_get, get_or}
 use Rattle.prog_check.specs.declared.path.Path.{Path}
 use Rattle.prog_paths.specs.declared.accesses.places.Placed.{Placed}
@@ -6,22 +6,22 @@ use Rattle.prog_paths.specs.Asked.{all_from}
 use Rattle.conflict_pairs.specs.Alike.{AreAlike, IsLikeAt}
 use Rattle.conflict_pairs.specs.Pairing.{place_at}
 
--- ---- kinds, made of the classes of nodes
+-- ---- classes of accesses, made of those of nodes by their covers
 
--- the node of an access has a class
-abbrev pub HasClass : List ℕ → Placed → Type 0
-HasClass classes p = p.node < length classes
+-- the node of an access has a class of covers
+abbrev pub HasCoverClass : List ℕ → Placed → Type 0
+HasCoverClass classes p = p.node < length classes
 
--- two accesses are alike, at nodes of one class
-pub record AreOneKind (classes : List ℕ) (p q : Placed) : Type 0 where
+-- two accesses are alike, at nodes of one class of covers
+pub record AreOneClass (classes : List ℕ) (p q : Placed) : Type 0 where
   pub class : get_or classes p.node 0 ≡ get_or classes q.node 0
   pub alike : AreAlike p.access q.access
 
--- each access has a number, and those with one number are of one kind
+-- each access has a number, and those with one number are of one class
 pub record AreNumbered (classes : List ℕ) (places : List Placed) (numbers : List ℕ) : Type 0 where
   pub one_each : length numbers ≡ length places
   pub same : (i j : ℕ) (p q : Placed) → slice_get places i ≡ Some p → slice_get places j ≡ Some q
-      → get_or numbers i 0 ≡ get_or numbers j 0 → AreOneKind classes p q
+      → get_or numbers i 0 ≡ get_or numbers j 0 → AreOneClass classes p q
 
 -- ---- the numbers of accesses among all
 
@@ -37,7 +37,7 @@ AreLikePlaces paths m n =
     (place_at (all_from 0 paths) n).node (place_at (all_from 0 paths) n).number
 
 -- each access of the paths has a number, and those with one number are alike, as the covers of their nodes
-pub record AreKinds (paths : List Path) (numbers : List ℕ) : Type 0 where
+pub record AreAccessClasses (paths : List Path) (numbers : List ℕ) : Type 0 where
   pub one_each : length numbers ≡ length (all_from 0 paths)
   pub alike : (m n : ℕ) → m < length (all_from 0 paths) → n < length (all_from 0 paths)
       → get_or numbers m 0 ≡ get_or numbers n 0 → AreLikePlaces paths m n

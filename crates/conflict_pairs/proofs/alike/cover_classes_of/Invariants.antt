@@ -1,6 +1,6 @@
 use Rattle.std.proofs.Common.{◌≡◌, ℕ, ◌<◌, length, get_or}
 use Rattle.conflict_pairs.specs.Alike.{HaveSameCovers, accesses_at}
-use Rattle.conflict_pairs.proofs.alike.classes_of.Given as goal
+use Rattle.conflict_pairs.proofs.alike.cover_classes_of.Given as goal
 
 -- the nodes so far have nodes with the same covers
 abbrev pub invariant-loop-x : goal.invariant-loop-x

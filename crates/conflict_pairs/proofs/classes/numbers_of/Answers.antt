@@ -1,5 +1,5 @@
-use Rattle.conflict_pairs.proofs.OneKind.{AreNumbered-from}
-use Rattle.conflict_pairs.proofs.kinds.numbers_of.Goals as goal
+use Rattle.conflict_pairs.proofs.OneClass.{AreNumbered-from}
+use Rattle.conflict_pairs.proofs.classes.numbers_of.Goals as goal
 
 pub returns : goal.returns
 returns c =

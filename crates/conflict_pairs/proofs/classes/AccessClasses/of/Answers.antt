@@ -1,8 +1,8 @@
 use Rattle.std.proofs.Common.{List, ℕ, subst}
 use Rattle.prog_paths.specs.declared.accesses.places.Placed.{Placed}
-use Rattle.conflict_pairs.specs.Kinds.{AreNumbered}
-use Rattle.conflict_pairs.proofs.OneKind.{each_has_class, AreKinds-from}
-use Rattle.conflict_pairs.proofs.kinds.Kinds.of.Goals as goal
+use Rattle.conflict_pairs.specs.Classes.{AreNumbered}
+use Rattle.conflict_pairs.proofs.OneClass.{each_has_class, AreAccessClasses-from}
+use Rattle.conflict_pairs.proofs.classes.AccessClasses.of.Goals as goal
 
 pub numbers_of-requires : goal.numbers_of-requires
 numbers_of-requires c = rw c.deref.ensures.value (each_has_class c.args.paths.now c.in_ok-classes.classes.items c.args.places.now c.in_ok-classes.ensures c.requires)
@@ -13,4 +13,4 @@ invariant_of-result c =
     let numbered =
     subst (λ (l : List Placed). AreNumbered c.in_ok-classes.classes.items l numbers) c.requires
     (subst (λ (l : List ℕ). AreNumbered l c.args.places.now numbers) c.deref.ensures.value c.in_ok-numbers.ensures) in
-    AreKinds-from c.args.paths.now c.in_ok-classes.classes.items numbers c.in_ok-classes.ensures numbered
+    AreAccessClasses-from c.args.paths.now c.in_ok-classes.classes.items numbers c.in_ok-classes.ensures numbered

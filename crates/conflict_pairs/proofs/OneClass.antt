@@ -1,4 +1,4 @@
--- Kinds of accesses, and where their numbers stand.
+-- Classes of accesses, and where their numbers stand.
 use Rattle.std.proofs.Common.{◌≡◌, ℕ, ◌<◌, ◌≤◌, ◌+◌, List, [], ◌∷◌, ◌++◌, length, get_or, drop, refl, sym, subst, ap, ◌∙◌, arith, append_assoc, length-append, zero, suc}
 use Rattle.std.specs.Prelude.{All, Some, slice_get}
 use Rattle.std.specs.List.{AllZip}
@@ -12,18 +12,18 @@ use Rattle.prog_paths.specs.Asked.{placed_from, all_from}
 use Rattle.prog_paths.specs.Places.{IsAt}
 use Rattle.prog_paths.specs.StaticGraph.{IsAccessOf}
 use Rattle.prog_paths.proofs.Asked.{placed, all_places_stand}
-use Rattle.conflict_pairs.specs.Alike.{AreAlike, AreClasses, HasAccess}
+use Rattle.conflict_pairs.specs.Alike.{AreAlike, AreCoverClasses, HasAccess}
 use Rattle.conflict_pairs.specs.Interning.{IsServed}
-use Rattle.conflict_pairs.specs.Kinds.{HasClass, AreOneKind, AreNumbered, starts_from, AreLikePlaces, AreKinds}
+use Rattle.conflict_pairs.specs.Classes.{HasCoverClass, AreOneClass, AreNumbered, starts_from, AreLikePlaces, AreAccessClasses}
 use Rattle.conflict_pairs.specs.Pairing.{no_place, place_at}
 use Rattle.conflict_pairs.proofs.Serving.{served-at}
 use Rattle.conflict_pairs.proofs.Zipped.{AllZip-lengths}
 use Rattle.conflict_pairs.proofs.Likeness.{alike-back, alike-through, like_at-classes}
 
--- ---- one number, one kind
+-- ---- one number, one class
 
-one_kind : (classes : List ℕ) (firsts : List Placed) (p q : Placed) (m n : ℕ) → IsServed (AreOneKind classes) firsts p m → IsServed (AreOneKind classes) firsts q n → m ≡ n → AreOneKind classes p q
-one_kind classes firsts p q m n h k same =
+one_class : (classes : List ℕ) (firsts : List Placed) (p q : Placed) (m n : ℕ) → IsServed (AreOneClass classes) firsts p m → IsServed (AreOneClass classes) firsts q n → m ≡ n → AreOneClass classes p q
+one_class classes firsts p q m n h k same =
     let is : h.value ≡ k.value = same_Some h.value k.value (sym h.at ∙ ap (slice_get firsts) same ∙ k.at) in
     record {
       class = h.serves.class ∙ ap (λ (r : Placed). get_or classes r.node 0) is ∙ sym k.serves.class;
@@ -32,23 +32,23 @@ one_kind classes firsts p q m n h k same =
           (subst (λ (r : Placed). AreAlike r.access q.access) (sym is) (alike-back q.access k.value.access k.serves.alike));
     }
 
-pub AreNumbered-from : (classes : List ℕ) (firsts places : List Placed) (numbers : List ℕ) → AllZip (IsServed (AreOneKind classes) firsts) places numbers → AreNumbered classes places numbers
+pub AreNumbered-from : (classes : List ℕ) (firsts places : List Placed) (numbers : List ℕ) → AllZip (IsServed (AreOneClass classes) firsts) places numbers → AreNumbered classes places numbers
 AreNumbered-from classes firsts places numbers h = record {
-  one_each = sym (AllZip-lengths (IsServed (AreOneKind classes) firsts) places numbers h);
-  same = λ i j p q at_p at_q same. one_kind classes firsts p q (get_or numbers i 0) (get_or numbers j 0) (kind i p at_p) (kind j q at_q) same;
+  one_each = sym (AllZip-lengths (IsServed (AreOneClass classes) firsts) places numbers h);
+  same = λ i j p q at_p at_q same. one_class classes firsts p q (get_or numbers i 0) (get_or numbers j 0) (served i p at_p) (served j q at_q) same;
 }
   where
-    kind : (i : ℕ) (p : Placed) → slice_get places i ≡ Some p → IsServed (AreOneKind classes) firsts p (get_or numbers i 0)
-    kind i p at = served-at (AreOneKind classes) firsts places numbers i p (get_or numbers i 0) 0 h at refl
+    served : (i : ℕ) (p : Placed) → slice_get places i ≡ Some p → IsServed (AreOneClass classes) firsts p (get_or numbers i 0)
+    served i p at = served-at (AreOneClass classes) firsts places numbers i p (get_or numbers i 0) 0 h at refl
 
 -- ---- places
 
-pub each_has_class : (paths : List Path) (classes : List ℕ) (places : List Placed) → AreClasses paths classes → places ≡ all_from 0 paths → All (HasClass classes) places
+pub each_has_class : (paths : List Path) (classes : List ℕ) (places : List Placed) → AreCoverClasses paths classes → places ≡ all_from 0 paths → All (HasCoverClass classes) places
 each_has_class paths classes places classed is =
-    subst (λ (l : List Placed). All (HasClass classes) l) (sym is)
-    (All-weaker (λ p. IsAt paths p) (HasClass classes) (λ p at. has p at) (all_from 0 paths) (all_places_stand paths))
+    subst (λ (l : List Placed). All (HasCoverClass classes) l) (sym is)
+    (All-weaker (λ p. IsAt paths p) (HasCoverClass classes) (λ p at. has p at) (all_from 0 paths) (all_places_stand paths))
   where
-    has : (p : Placed) → IsAt paths p → HasClass classes p
+    has : (p : Placed) → IsAt paths p → HasCoverClass classes p
     has p at = let within = slice_get_within paths p.node at.0 at.1 in omega (arith, within, classed.one_each)
 
 placed-length : (node n : ℕ) (xs : List Access) → length (placed_from node n xs) ≡ length xs
@@ -132,13 +132,13 @@ place-stands paths x a h =
     let e : 0 + x ≡ x = omega arith in
     place-from 0 paths [] x a h.0 h.1 ∙ ap (λ (k : ℕ). Some (placed k a h.0)) e
 
--- ---- the kinds of all accesses
+-- ---- the classes of all accesses
 
-module _ (paths : List Path) (classes numbers : List ℕ) (classed : AreClasses paths classes) (numbered : AreNumbered classes (all_from 0 paths) numbers) where
+module _ (paths : List Path) (classes numbers : List ℕ) (classed : AreCoverClasses paths classes) (numbered : AreNumbered classes (all_from 0 paths) numbers) where
   alike : (m n : ℕ) → m < length (all_from 0 paths) → n < length (all_from 0 paths) → get_or numbers m 0 ≡ get_or numbers n 0 → AreLikePlaces paths m n
   alike m n lt le same =
       like_at-classes paths classes (place_at (all_from 0 paths) m) (place_at (all_from 0 paths) n) classed (all_places_stand paths m no_place lt) (all_places_stand paths n no_place le)
       (numbered.same m n (place_at (all_from 0 paths) m) (place_at (all_from 0 paths) n) (slice_get-get_or (all_from 0 paths) m no_place lt) (slice_get-get_or (all_from 0 paths) n no_place le) same)
 
-  pub AreKinds-from : AreKinds paths numbers
-  AreKinds-from = record { one_each = numbered.one_each; alike = alike }
+  pub AreAccessClasses-from : AreAccessClasses paths numbers
+  AreAccessClasses-from = record { one_each = numbered.one_each; alike = alike }

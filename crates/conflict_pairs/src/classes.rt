@@ -1,11 +1,11 @@
-//! Kinds of accesses: what is said of one is said of each other of its kind.
+//! Classes of accesses: what is said of one is said of each other of its class.
 ghost use Rattle.std.specs.Prelude.{◌≡◌, ◌<◌, length, get_or, IsTrue, All, IfOk};
 ghost use Rattle.prog_paths.specs.Asked.{all_from};
 ghost use Rattle.conflict_pairs.specs.Alike.{IsLike};
-ghost use Rattle.conflict_pairs.specs.Kinds.{HasClass, AreOneKind, AreNumbered, AreLikePlaces};
+ghost use Rattle.conflict_pairs.specs.Classes.{HasCoverClass, AreOneClass, AreNumbered, AreLikePlaces};
 ghost use Rattle.conflict_pairs.specs.Pairing.{IsAskedAt, asked_at};
 
-use crate::alike::{are_alike, classes_of};
+use crate::alike::{are_alike, cover_classes_of};
 use crate::interning::{Interner, intern_all};
 use crate::pairing::PlacePair;
 use prog_check::Path;
@@ -13,30 +13,31 @@ use prog_paths::Placed;
 use std::alloc::{AllocError, Global};
 use std::marker::Model;
 
-/// The kinds of all accesses of a list of paths, by their numbers. Two accesses of one kind are
+/// The classes of all accesses of a list of paths, by their numbers. Two accesses of one class are
 /// alike, and so are the covers of their nodes.
 #[derive(Drop)]
-pub struct Kinds<'a> {
+pub struct AccessClasses<'a> {
     paths: &'a [Path],
-    // For each access among all the number of its kind.
+    // For each access among all the number of its class.
     numbers: Vec<usize>,
 }
 
-impl<'a> Model for Kinds<'a> {
+impl<'a> Model for AccessClasses<'a> {
     ghost use Rattle.std.specs.Prelude.{List};
     ghost use Rattle.prog_check.specs.declared.path.Path.{Path};
-    ghost use Rattle.conflict_pairs.specs.Kinds.{AreKinds};
+    ghost use Rattle.conflict_pairs.specs.Classes.{AreAccessClasses};
 
     ghost Value = { List Path };
 
     ghost view = { λ k. k.paths.now };
 
-    ghost invariant = { λ k. AreKinds k.paths.now k.numbers.items };
+    ghost invariant = { λ k. AreAccessClasses k.paths.now k.numbers.items };
 }
 
-/// Gives one number to the accesses of one kind.
+/// Gives one number to the accesses of one class.
 #[derive(Drop)]
 struct Numbering<'a> {
+    // For each node the first one with the same covers.
     classes: &'a [usize],
 }
 
@@ -45,11 +46,11 @@ impl<'a> Interner for Numbering<'a> {
 
     type Value = Placed;
 
-    ghost takes = { λ numbering place. HasClass numbering.classes.now place };
+    ghost takes = { λ numbering place. HasCoverClass numbering.classes.now place };
 
-    ghost is_sound = { λ numbering first. HasClass numbering.classes.now first };
+    ghost is_sound = { λ numbering first. HasCoverClass numbering.classes.now first };
 
-    ghost serves = { λ numbering place first. AreOneKind numbering.classes.now place first };
+    ghost serves = { λ numbering place first. AreOneClass numbering.classes.now place first };
 
     fn hash(&self, place: &Placed) -> usize {
         self.classes[place.node]
@@ -67,44 +68,48 @@ impl<'a> Interner for Numbering<'a> {
     }
 }
 
-/// For each access the number of its kind, as far as kinds are remembered.
+/// For each access the number of its class, as far as classes are remembered.
 fn numbers_of(alloc: Global, classes: &[usize], places: &[Placed]) -> Result<Vec<usize>, AllocError>
-    requires { All (HasClass classes.now) places.now }
+    requires { All (HasCoverClass classes.now) places.now }
     ensures { IfOk result (λ numbers. AreNumbered classes.now places.now numbers.items) }
 {
     Ok(intern_all(alloc, &Numbering { classes }, places)?.numbers)
 }
 
-/// The kind of the access of a number.
-fn kind_at(numbers: &[usize], n: usize) -> usize
+/// The class of the access of a number.
+fn class_at(numbers: &[usize], n: usize) -> usize
     requires { n < length numbers.now }
     ensures { result ≡ get_or numbers.now n 0 }
 {
     numbers[n]
 }
 
-impl<'a> Kinds<'a> {
-    /// The kinds of the accesses of some paths, which stand at these places.
-    pub fn of(alloc: Global, paths: &'a [Path], places: &[Placed]) -> Result<Kinds<'a>, AllocError>
+impl<'a> AccessClasses<'a> {
+    /// The classes of the accesses of some paths, which stand at these places.
+    pub fn of(
+        alloc: Global,
+        paths: &'a [Path],
+        places: &[Placed],
+    ) -> Result<AccessClasses<'a>, AllocError>
         requires { places.now ≡ all_from 0 paths.now }
-        ensures { IfOk result (λ kinds. kinds ≡ paths.now) }
+        ensures { IfOk result (λ classes. classes ≡ paths.now) }
     {
-        let classes = classes_of(alloc, paths)?;
+        let classes = cover_classes_of(alloc, paths)?;
         let numbers = numbers_of(alloc, &classes, places)?;
-        Ok(Kinds { paths, numbers })
+        Ok(AccessClasses { paths, numbers })
     }
 
-    /// Whether the accesses of two numbers are of one kind.
+    /// Whether the accesses of two numbers are of one class.
     fn is_same(&self, one: u32, other: u32) -> bool
         requires one { one < length (all_from 0 self.now) }
         requires other { other < length (all_from 0 self.now) }
         ensures { IsTrue result → AreLikePlaces self.now one other }
     {
-        kind_at(&self.numbers, one as usize) == kind_at(&self.numbers, other as usize)
+        class_at(&self.numbers, one as usize) == class_at(&self.numbers, other as usize)
     }
 }
 
-impl<'a> Interner for Kinds<'a> {
+impl<'a> Interner for AccessClasses<'a> {
     type Key = PlacePair;
 
     type Value = PlacePair;
@@ -116,8 +121,8 @@ impl<'a> Interner for Kinds<'a> {
     ghost serves = { λ paths pair judged. IsLike paths (asked_at paths pair) (asked_at paths judged) };
 
     fn hash(&self, pair: &PlacePair) -> usize {
-        let first = kind_at(&self.numbers, pair.first as usize);
-        let second = kind_at(&self.numbers, pair.second as usize);
+        let first = class_at(&self.numbers, pair.first as usize);
+        let second = class_at(&self.numbers, pair.second as usize);
         first.wrapping_mul(65_536).wrapping_add(second)
     }
 

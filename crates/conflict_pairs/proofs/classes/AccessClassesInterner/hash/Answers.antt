@@ -1,16 +1,16 @@
 use Rattle.std.proofs.Common.{List, ℕ, ◌<◌, length, sym, subst}
 use Rattle.prog_check.specs.declared.path.Path.{Path}
 use Rattle.prog_paths.specs.Asked.{all_from}
-use Rattle.conflict_pairs.proofs.kinds.KindsInterner.hash.Goals as goal
+use Rattle.conflict_pairs.proofs.classes.AccessClassesInterner.hash.Goals as goal
 
-pub kind_at-first-requires : goal.kind_at-first-requires
-kind_at-first-requires c =
+pub class_at-first-requires : goal.class_at-first-requires
+class_at-first-requires c =
     let n = c.args.pair.now.first in
     let within = subst (λ (l : List Path). n < length (all_from 0 l)) (sym c.self.view_is) c.requires.within.first_within in
     rw c.deref.ensures.value (subst (λ (k : ℕ). n < k) (sym c.self.invariant.one_each) within)
 
-pub kind_at-second-requires : goal.kind_at-second-requires
-kind_at-second-requires c =
+pub class_at-second-requires : goal.class_at-second-requires
+class_at-second-requires c =
     let n = c.args.pair.now.second in
     let within = subst (λ (l : List Path). n < length (all_from 0 l)) (sym c.self.view_is) c.requires.within.second_within in
     rw c.deref-2.ensures.value (subst (λ (k : ℕ). n < k) (sym c.self.invariant.one_each) within)
