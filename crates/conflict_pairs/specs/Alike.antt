@@ -1,6 +1,6 @@
 -- When one verdict serves two questions: their accesses are equal but for their places, and so are the covers of their
 -- paths.
-use Rattle.std.specs.Prelude.{◌≡◌, ℕ, ◌<◌, List, [], length, Option, Some, None, slice_get, get_or, true}
+use Rattle.std.specs.Prelude.{◌≡◌, ℕ, ◌<◌, List, [], length, Option, Some, None, slice_get, slice_index_or, true}
 use Rattle.std.specs.List.{AllZip}
 use Rattle.prog_check.specs.declared.path.Access.{Access}
 use Rattle.prog_check.specs.declared.path.Path.{Path}
@@ -51,7 +51,7 @@ accesses_at paths x = accesses_in (slice_get paths x)
 pub record AreCoverClasses (paths : List Path) (classes : List ℕ) : Type 0 where
   pub one_each : length classes ≡ length paths
   pub same : (x : ℕ) → x < length classes
-      → HaveSameCovers (accesses_at paths x) (accesses_at paths (get_or classes x 0))
+      → HaveSameCovers (accesses_at paths x) (accesses_at paths (slice_index_or classes x 0))
 
 -- ---- questions
 

@@ -1,5 +1,5 @@
 -- Classes of accesses: those that are alike, at nodes with the same covers, may have one number.
-use Rattle.std.specs.Prelude.{◌≡◌, ℕ, ◌+◌, ◌<◌, List, [], ◌∷◌, length, Some, slice_get, get_or}
+use Rattle.std.specs.Prelude.{◌≡◌, ℕ, ◌+◌, ◌<◌, List, [], ◌∷◌, length, Some, slice_get, slice_index_or}
 use Rattle.prog_check.specs.declared.path.Path.{Path}
 use Rattle.prog_paths.specs.declared.accesses.places.Placed.{Placed}
 use Rattle.prog_paths.specs.Asked.{all_from}
@@ -14,14 +14,14 @@ HasCoverClass classes p = p.node < length classes
 
 -- two accesses are alike, at nodes of one class of covers
 pub record AreOneClass (classes : List ℕ) (p q : Placed) : Type 0 where
-  pub class : get_or classes p.node 0 ≡ get_or classes q.node 0
+  pub class : slice_index_or classes p.node 0 ≡ slice_index_or classes q.node 0
   pub alike : AreAlike p.access q.access
 
 -- each access has a number, and those with one number are of one class
 pub record AreNumbered (classes : List ℕ) (places : List Placed) (numbers : List ℕ) : Type 0 where
   pub one_each : length numbers ≡ length places
   pub same : (i j : ℕ) (p q : Placed) → slice_get places i ≡ Some p → slice_get places j ≡ Some q
-      → get_or numbers i 0 ≡ get_or numbers j 0 → AreOneClass classes p q
+      → slice_index_or numbers i 0 ≡ slice_index_or numbers j 0 → AreOneClass classes p q
 
 -- ---- the numbers of accesses among all
 
@@ -40,4 +40,4 @@ AreLikePlaces paths m n =
 pub record AreAccessClasses (paths : List Path) (numbers : List ℕ) : Type 0 where
   pub one_each : length numbers ≡ length (all_from 0 paths)
   pub alike : (m n : ℕ) → m < length (all_from 0 paths) → n < length (all_from 0 paths)
-      → get_or numbers m 0 ≡ get_or numbers n 0 → AreLikePlaces paths m n
+      → slice_index_or numbers m 0 ≡ slice_index_or numbers n 0 → AreLikePlaces paths m n

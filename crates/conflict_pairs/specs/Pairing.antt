@@ -1,5 +1,5 @@
 -- Questions by the numbers of their two accesses among all.
-use Rattle.std.specs.Prelude.{◌≡◌, ℕ, ◌+◌, ◌<◌, List, length, map, get_or, slice_get, None, Some, false}
+use Rattle.std.specs.Prelude.{◌≡◌, ℕ, ◌+◌, ◌<◌, List, length, map, slice_index_or, slice_get, None, Some, false}
 use Rattle.prog_check.specs.declared.path.Kind.TheVariants.{Reads}
 use Rattle.prog_check.specs.declared.path.Path.{Path}
 use Rattle.prog_check.specs.declared.path.Term.TheVariants.{Param}
@@ -26,7 +26,7 @@ no_place = record {
 
 -- the access of a number
 abbrev pub place_at : List Placed → ℕ → Placed
-place_at places n = get_or places n no_place
+place_at places n = slice_index_or places n no_place
 
 -- the question between the accesses of a pair
 abbrev pub question_at : List Placed → PlacePair → Asked
@@ -43,7 +43,7 @@ pub record IsWithin (places : List Placed) (pair : PlacePair) : Type 0 where
 -- an access has the number where its node's accesses begin and its own number on
 pub record StandsAt (starts : List ℕ) (places : List Placed) (p : Placed) : Type 0 where
   pub has_start : p.node < length starts
-  pub stands : slice_get places (get_or starts p.node 0 + p.number) ≡ Some p
+  pub stands : slice_get places (slice_index_or starts p.node 0 + p.number) ≡ Some p
 
 -- the question of a pair of accesses of the paths
 abbrev pub asked_at : List Path → PlacePair → Asked

@@ -1,5 +1,5 @@
 -- A table of questions with their verdicts, and which paths it stands for.
-use Rattle.std.specs.Prelude.{◌≡◌, ℕ, List, [], ◌∷◌, length, map, All, get_or}
+use Rattle.std.specs.Prelude.{◌≡◌, ℕ, List, [], ◌∷◌, length, map, All, slice_index_or}
 use Rattle.std.specs.List.{flat_map}
 use Rattle.std.specs.declared.vec.Vec.{Vec}
 use Rattle.std.specs.declared.alloc.Global.{Global}
@@ -28,7 +28,7 @@ verdicts_in = flat_map (λ part. part.items)
 
 -- the verdict of a number
 abbrev pub verdict_at : List Verdict → ℕ → Verdict
-verdict_at verdicts n = get_or verdicts n (Apart [])
+verdict_at verdicts n = slice_index_or verdicts n (Apart [])
 
 -- a question with the verdict of a number
 abbrev pub entry_by : List Verdict → Asked → ℕ → Entry

@@ -1,5 +1,5 @@
 //! Classes of accesses: what is said of one is said of each other of its class.
-ghost use Rattle.std.specs.Prelude.{◌≡◌, ◌<◌, length, get_or, IsTrue, All, IfOk};
+ghost use Rattle.std.specs.Prelude.{◌≡◌, ◌<◌, length, slice_index_or, IsTrue, All, IfOk};
 ghost use Rattle.prog_paths.specs.Asked.{all_from};
 ghost use Rattle.conflict_pairs.specs.Alike.{IsLike};
 ghost use Rattle.conflict_pairs.specs.Classes.{HasCoverClass, AreOneClass, AreNumbered, AreLikePlaces};
@@ -79,7 +79,7 @@ fn numbers_of(alloc: Global, classes: &[usize], places: &[Placed]) -> Result<Vec
 /// The class of the access of a number.
 fn class_at(numbers: &[usize], n: usize) -> usize
     requires { n < length numbers.now }
-    ensures { result ≡ get_or numbers.now n 0 }
+    ensures { result ≡ slice_index_or numbers.now n 0 }
 {
     numbers[n]
 }

@@ -1,5 +1,5 @@
 -- Entries as questions that have the numbers of their reasons.
-use Rattle.std.specs.Prelude.{ℕ, ◌<◌, List, [], length, map, get_or}
+use Rattle.std.specs.Prelude.{ℕ, ◌<◌, List, [], length, map, slice_index_or}
 use Rattle.robust_cert.specs.declared.certificate.Question.{Question}
 use Rattle.robust_cert.specs.declared.certificate.Entry.{Entry}
 use Rattle.robust_cert.specs.declared.certificate.Entry as entry
@@ -28,7 +28,7 @@ asked_anew q (entry.TheVariants.Cover other mine theirs chains) = entry.TheVaria
 
 -- the reason of a number
 abbrev pub reason_at : List Reason → ℕ → Reason
-reason_at reasons n = get_or reasons n (Apart [])
+reason_at reasons n = slice_index_or reasons n (Apart [])
 
 -- a question with the reason of its number
 abbrev pub entry_told : List Reason → Told → Entry

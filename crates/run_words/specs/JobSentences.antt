@@ -1,5 +1,5 @@
 -- What is said of a job that did not commit.
-use Rattle.std.specs.Prelude.{ℕ, ℤ, pos, ◌≡◌, ◌-◌, ◌==◌, ⊤, if◌then◌else◌, List, [], ◌++◌, Option, Some, None, codes, fold, get_or, length, map, slice_get, take}
+use Rattle.std.specs.Prelude.{ℕ, ℤ, pos, ◌≡◌, ◌-◌, ◌==◌, ⊤, if◌then◌else◌, List, [], ◌++◌, Option, Some, None, codes, fold, slice_index_or, length, map, slice_get, take}
 use Rattle.std.specs.Fmt.{decimal, signed_decimal}
 use Rattle.std.specs.List.{range_with_len}
 use Rattle.prog_tree.specs.Syntax.{DraftTree, Name}
@@ -20,7 +20,7 @@ argument_text (Some name) argument = name ++ (codes " = " ++ signed_decimal argu
 
 -- the argument of a number
 abbrev pub argument_at : List Name → List ℤ → (number : ℕ) → List ℕ
-argument_at params args number = argument_text (slice_get params number) (get_or args number (pos 0))
+argument_at params args number = argument_text (slice_get params number) (slice_index_or args number (pos 0))
 
 -- so many arguments, with commas
 abbrev pub arguments_to : List Name → List ℤ → (count : ℕ) → List ℕ
