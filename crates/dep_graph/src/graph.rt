@@ -17,7 +17,7 @@ use crate::mark::entry_mark;
 use crate::triple::least_triple;
 use conflict_pairs::PairTable;
 use order_facts::Square;
-use prog_paths::{enter_edges, enter_vulnerable};
+use prog_paths::EdgeTables;
 use prog_tree::Sequence;
 use std::alloc::{AllocError, Global};
 use std::marker::Model;
@@ -43,28 +43,19 @@ impl<'a> Model for Graph<'a> {
     ghost invariant = { λ g. IsGraphOf (marks_of g.table.now) g.edges g.vulnerable g.reach };
 }
 
-/// Which nodes are joined by an edge, and which by a vulnerable one.
-#[derive(Drop)]
-struct Edges {
-    all: Square,
-    vulnerable: Square,
-}
-
 /// The edges that a table's questions give.
-fn edges_of(alloc: Global, table: &PairTable) -> Result<Edges, AllocError>
-    ensures all { IfOk result
-        (λ e. IsSquareOf e.all table.now.nodes (has_edge (marks_of table.now).marks)) }
+fn edges_of(alloc: Global, table: &PairTable) -> Result<EdgeTables, AllocError>
+    ensures edges { IfOk result
+        (λ e. IsSquareOf e.edges table.now.nodes (has_edge (marks_of table.now).marks)) }
     ensures vulnerable { IfOk result
         (λ e. IsSquareOf e.vulnerable table.now.nodes (has_vulnerable (marks_of table.now).marks)) }
 {
-    let mut all = Square::new(alloc, table.nodes())?;
-    let mut vulnerable = Square::new(alloc, table.nodes())?;
+    let mut tables = EdgeTables::new(alloc, table.nodes())?;
     for n in 0..table.len() {
         let mark = entry_mark(table, n);
-        enter_edges(&mut all, mark);
-        enter_vulnerable(&mut vulnerable, mark);
+        tables.enter(mark);
     }
-    Ok(Edges { all, vulnerable })
+    Ok(tables)
 }
 
 /// How many nodes are joined to the node.
@@ -87,10 +78,7 @@ impl<'a> Graph<'a> {
     pub fn build(alloc: Global, table: &'a PairTable) -> Result<Graph<'a>, AllocError>
         ensures { IfOk result (λ g. g ≡ table.now) }
     {
-        let Edges {
-            all: edges,
-            vulnerable,
-        } = edges_of(alloc, table)?;
+        let EdgeTables { edges, vulnerable } = edges_of(alloc, table)?;
         let reach = close(alloc, &edges)?;
         Ok(Graph {
             table,

@@ -10,7 +10,7 @@ mod path;
 pub use accesses::asking::{asks_read_write, asks_write_read, both_write, may_cover, may_touch};
 pub use accesses::changers::Changers;
 pub use accesses::count::{is_too_large, question_count};
-pub use accesses::mark::{Mark, enter_edges, enter_vulnerable, mark_by};
+pub use accesses::mark::{EdgeTables, Mark, mark_by};
 pub use accesses::places::{Placed, Question, all_places, asks, program_places, question_between};
 pub use accesses::question::{
     QuestionFacts, closed_facts, column_or_zero, mine_node, question_facts, second_terms,

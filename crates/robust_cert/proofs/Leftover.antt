@@ -17,7 +17,7 @@ use Rattle.prog_paths.proofs.Grids.{test-from_joined, joined-from_test}
 use Rattle.prog_paths.proofs.Marked.{edge-from_mark, vulnerable-from_mark, mark-from_edge, mark-from_vulnerable}
 use Rattle.robust_cert.specs.declared.certificate.Entry.{Entry}
 use Rattle.robust_cert.specs.declared.certificate.Entry.TheVariants.{Apart, Cover}
-use Rattle.robust_cert.specs.declared.checking.left.Left.{Left}
+use Rattle.prog_paths.specs.declared.accesses.mark.EdgeTables.{EdgeTables}
 use Rattle.robust_cert.specs.declared.checking.telling.Telling.{Telling}
 use Rattle.robust_cert.specs.declared.checking.telling.Telling as telling
 use Rattle.robust_cert.specs.Accepted.{question_of, IsToldApart, IsTold, IsLeft, IsLeftVulnerable}
@@ -89,7 +89,7 @@ module _ (nodes : List Path) (entries : List Entry) (rise : RiseBy question_of e
       in_any (λ q. gives_vulnerable x y (mark_under entries q)) (questions_of nodes) g.question ((law_of_listing nodes g.question).1 g.asked)
       (g.gives (may_meet told) (may_be_exposed told) (exposed-untold entries (numbers_of g.question) g.holds))
 
-  module _ (left : Left) (l : Leaves nodes entries left) where
+  module _ (left : EdgeTables) (l : Leaves nodes entries left) where
     pub left-from_joins : (x y : ℕ) → Joins left.edges x y → IsLeft nodes entries x y
     left-from_joins x y j = left-from_listed x y (test-from_joined left.edges (length nodes) (some_edge entries (questions_of nodes)) l.edges x y j)
 

@@ -16,14 +16,14 @@ use Rattle.prog_paths.proofs.Asked.{asked_by-append, asked_among-append}
 use Rattle.prog_paths.proofs.Changing.{seconds_ask}
 use Rattle.prog_paths.proofs.Order.{law_of_order}
 use Rattle.robust_cert.specs.declared.certificate.Entry.{Entry}
-use Rattle.robust_cert.specs.declared.checking.left.Left.{Left}
+use Rattle.prog_paths.specs.declared.accesses.mark.EdgeTables.{EdgeTables}
 use Rattle.prog_paths.specs.declared.accesses.mark.Mark.{Mark}
 use Rattle.robust_cert.specs.declared.checking.telling.Telling.{Telling}
 use Rattle.robust_cert.specs.Accepted.{question_of}
 use Rattle.order_facts.specs.Square.{Grid, entry, IsEmptySquare, IsSquareOf, Enters}
-use Rattle.prog_paths.specs.Marks.{gives_edge, gives_vulnerable}
+use Rattle.prog_paths.specs.Marks.{gives_edge, gives_vulnerable, EntersMark}
 use Rattle.robust_cert.specs.Telling.{telling_of, mark_with, mark_under, IsBehind}
-use Rattle.robust_cert.specs.Leaving.{some_edge, some_vulnerable, Leaves, EntersMark, IsReady, Passes}
+use Rattle.robust_cert.specs.Leaving.{some_edge, some_vulnerable, Leaves, IsReady, Passes}
 use Rattle.robust_cert.proofs.Cursor.{before_trans}
 
 -- ---- lists in two parts
@@ -81,10 +81,10 @@ square-from_empty old new size test empty e = record {
 -- ---- a pass over no question, over one, and over two parts
 
 module _ (entries : List Entry) where
-  pub Passes-none : (cursor : ℕ) (s : Left) → Passes entries [] cursor cursor s s
+  pub Passes-none : (cursor : ℕ) (s : EdgeTables) → Passes entries [] cursor cursor s s
   Passes-none cursor s = record { edges = Enters-nothing s.edges; vulnerable = Enters-nothing s.vulnerable; cursor = λ q behind all. behind }
 
-  pub Passes-one : (q : Asked) (told : Telling) (m : Mark) (from to : ℕ) (old new : Left) → told ≡ telling_of entries (numbers_of q) → m ≡ mark_with q told → EntersMark old new m → IsBehind entries to (numbers_of q) → Passes entries (q ∷ []) from to old new
+  pub Passes-one : (q : Asked) (told : Telling) (m : Mark) (from to : ℕ) (old new : EdgeTables) → told ≡ telling_of entries (numbers_of q) → m ≡ mark_with q told → EntersMark old new m → IsBehind entries to (numbers_of q) → Passes entries (q ∷ []) from to old new
   Passes-one q told m from to old new tells is e behind = record {
     edges = Enters-alike old.edges new.edges (λ x y. gives_edge x y m) (some_edge entries (q ∷ [])) (λ x y. ap (λ (n : Mark). gives_edge x y n) own ∙ sym (or-false (gives_edge x y (mark_under entries q)))) e.edges;
     vulnerable = Enters-alike old.vulnerable new.vulnerable (λ x y. gives_vulnerable x y m) (some_vulnerable entries (q ∷ [])) (λ x y. ap (λ (n : Mark). gives_vulnerable x y n) own ∙ sym (or-false (gives_vulnerable x y (mark_under entries q)))) e.vulnerable;
@@ -94,7 +94,7 @@ module _ (entries : List Entry) where
       own : m ≡ mark_under entries q
       own = is ∙ ap (mark_with q) tells
 
-  pub Passes-append : (xs ys : List Asked) (a b c : ℕ) (old mid new : Left) → Passes entries xs a b old mid → Passes entries ys b c mid new → Passes entries (xs ++ ys) a c old new
+  pub Passes-append : (xs ys : List Asked) (a b c : ℕ) (old mid new : EdgeTables) → Passes entries xs a b old mid → Passes entries ys b c mid new → Passes entries (xs ++ ys) a c old new
   Passes-append xs ys a b c old mid new first second = record {
     edges = Enters-append old.edges mid.edges new.edges (some_edge entries xs) (some_edge entries ys) (some_edge entries (xs ++ ys)) (λ i j. list_any-append (λ q. gives_edge i j (mark_under entries q)) xs ys) first.edges second.edges;
     vulnerable = Enters-append old.vulnerable mid.vulnerable new.vulnerable (some_vulnerable entries xs) (some_vulnerable entries ys) (some_vulnerable entries (xs ++ ys)) (λ i j. list_any-append (λ q. gives_vulnerable i j (mark_under entries q)) xs ys) first.vulnerable second.vulnerable;
@@ -104,7 +104,7 @@ module _ (entries : List Entry) where
   ready-left : (xs ys : List Asked) (a : ℕ) → IsReady entries (xs ++ ys) a → IsReady entries xs a
   ready-left xs ys a r = record { entries_rise = r.entries_rise; questions_rise = rise-left xs ys r.questions_rise; behind = All-left (λ q. IsBehind entries a (numbers_of q)) xs ys r.behind }
 
-  ready-right : (xs ys : List Asked) (a b : ℕ) (old new : Left) → IsReady entries (xs ++ ys) a → Passes entries xs a b old new → IsReady entries ys b
+  ready-right : (xs ys : List Asked) (a b : ℕ) (old new : EdgeTables) → IsReady entries (xs ++ ys) a → Passes entries xs a b old new → IsReady entries ys b
   ready-right xs ys a b old new r p = record {
     entries_rise = r.entries_rise;
     questions_rise = rise-right xs ys r.questions_rise;
@@ -116,7 +116,7 @@ module _ (entries : List Entry) where
   one_more : {A : Type 0} (n : ℕ) (xs : List A) (d : A) → n < length xs → take n xs ++ (get_or xs n d ∷ drop (n + 1) xs) ≡ xs
   one_more n xs d lt = ap (λ l. take n xs ++ l) (sym (drop_more xs n d lt)) ∙ take-append-drop n xs
 
-  module _ (first : Placed) (places : List Placed) (n : ℕ) (d : Placed) (lt : n < length places) (from at : ℕ) (old now : Left) where
+  module _ (first : Placed) (places : List Placed) (n : ℕ) (d : Placed) (lt : n < length places) (from at : ℕ) (old now : EdgeTables) where
     pub asked-ready : IsReady entries (asked_by first places) from → Passes entries (asked_by first (take n places)) from at old now → IsReady entries (asked_by first (get_or places n d ∷ [])) at
     asked-ready r p =
         let rest = drop (n + 1) places in
@@ -125,7 +125,7 @@ module _ (entries : List Entry) where
         let behind = ready-right (asked_by first (take n places)) (asked_by first (x ∷ rest)) from at old now (subst (λ (l : List Asked). IsReady entries l from) (sym whole) r) p in
         ready-left (asked_by first (x ∷ [])) (asked_by first rest) at (subst (λ (l : List Asked). IsReady entries l at) (asked_by-append first (x ∷ []) rest) behind)
 
-    pub asked-more : (to : ℕ) (new : Left) → Passes entries (asked_by first (take n places)) from at old now → Passes entries (asked_by first (get_or places n d ∷ [])) at to now new → Passes entries (asked_by first (take (n + 1) places)) from to old new
+    pub asked-more : (to : ℕ) (new : EdgeTables) → Passes entries (asked_by first (take n places)) from at old now → Passes entries (asked_by first (get_or places n d ∷ [])) at to now new → Passes entries (asked_by first (take (n + 1) places)) from to old new
     asked-more to new p q =
         let x = get_or places n d in
         let parts : asked_by first (take n places) ++ asked_by first (x ∷ []) ≡ asked_by first (take (n + 1) places) = sym (asked_by-append first (take n places) (x ∷ [])) ∙ ap (asked_by first) (sym (take_more places n d lt)) in
@@ -136,7 +136,7 @@ module _ (entries : List Entry) where
   among-one : (x : Placed) (rest seconds : List Placed) → asked_among (x ∷ rest) seconds ≡ asked_by x seconds ++ asked_among rest seconds
   among-one x rest seconds = refl
 
-  module _ (firsts seconds : List Placed) (n : ℕ) (d : Placed) (lt : n < length firsts) (from at : ℕ) (old now : Left) where
+  module _ (firsts seconds : List Placed) (n : ℕ) (d : Placed) (lt : n < length firsts) (from at : ℕ) (old now : EdgeTables) where
     among-ready : IsReady entries (asked_among firsts seconds) from → Passes entries (asked_among (take n firsts) seconds) from at old now → IsReady entries (asked_by (get_or firsts n d) seconds) at
     among-ready r p =
         let rest = drop (n + 1) firsts in
@@ -145,7 +145,7 @@ module _ (entries : List Entry) where
         let behind = ready-right (asked_among (take n firsts) seconds) (asked_among (x ∷ rest) seconds) from at old now (subst (λ (l : List Asked). IsReady entries l from) (sym whole) r) p in
         ready-left (asked_by x seconds) (asked_among rest seconds) at behind
 
-    among-more : (to : ℕ) (new : Left) → Passes entries (asked_among (take n firsts) seconds) from at old now → Passes entries (asked_by (get_or firsts n d) seconds) at to now new → Passes entries (asked_among (take (n + 1) firsts) seconds) from to old new
+    among-more : (to : ℕ) (new : EdgeTables) → Passes entries (asked_among (take n firsts) seconds) from at old now → Passes entries (asked_by (get_or firsts n d) seconds) at to now new → Passes entries (asked_among (take (n + 1) firsts) seconds) from to old new
     among-more to new p q =
         let x = get_or firsts n d in
         let parts : asked_among (take n firsts) seconds ++ asked_by x seconds ≡ asked_among (take (n + 1) firsts) seconds =
@@ -155,14 +155,14 @@ module _ (entries : List Entry) where
         subst (λ (l : List Asked). Passes entries l from to old new) parts (Passes-append (asked_among (take n firsts) seconds) (asked_by x seconds) from at to old now new p q)
 
   -- the changers of its table stand for all
-  module _ (places changers seconds : List Placed) (n : ℕ) (d : Placed) (lt : n < length places) (from at : ℕ) (old now : Left) (are_seconds : seconds ≡ of_table (get_or places n d).access.table changers) (are_changers : (table : ℕ) → of_table table changers ≡ changers_of table places) where
+  module _ (places changers seconds : List Placed) (n : ℕ) (d : Placed) (lt : n < length places) (from at : ℕ) (old now : EdgeTables) (are_seconds : seconds ≡ of_table (get_or places n d).access.table changers) (are_changers : (table : ℕ) → of_table table changers ≡ changers_of table places) where
     same : asked_by (get_or places n d) seconds ≡ asked_by (get_or places n d) places
     same = seconds_ask (get_or places n d) places changers seconds are_seconds are_changers
 
     pub seconds-ready : IsReady entries (asked_among places places) from → Passes entries (asked_among (take n places) places) from at old now → IsReady entries (asked_by (get_or places n d) seconds) at
     seconds-ready r p = subst (λ (l : List Asked). IsReady entries l at) (sym same) (among-ready places places n d lt from at old now r p)
 
-    pub seconds-more : (to : ℕ) (new : Left) → Passes entries (asked_among (take n places) places) from at old now → Passes entries (asked_by (get_or places n d) seconds) at to now new → Passes entries (asked_among (take (n + 1) places) places) from to old new
+    pub seconds-more : (to : ℕ) (new : EdgeTables) → Passes entries (asked_among (take n places) places) from at old now → Passes entries (asked_by (get_or places n d) seconds) at to now new → Passes entries (asked_among (take (n + 1) places) places) from to old new
     seconds-more to new p q = among-more places places n d lt from at old now to new p (subst (λ (l : List Asked). Passes entries l at to now new) same q)
 
   -- ---- the whole
@@ -170,7 +170,7 @@ module _ (entries : List Entry) where
   pub all-ready : (paths : List Path) → RiseBy question_of entries → IsReady entries (questions_of paths) 0
   all-ready paths rise = record { entries_rise = rise; questions_rise = law_of_order paths; behind = λ k d lt j e none at. absurd (omega (arith, none)) }
 
-  pub leaves-from_enters : (paths : List Path) (old new : Left) → IsEmptySquare old.edges (length paths) → IsEmptySquare old.vulnerable (length paths) → Enters old.edges new.edges (some_edge entries (questions_of paths)) → Enters old.vulnerable new.vulnerable (some_vulnerable entries (questions_of paths)) → Leaves paths entries new
+  pub leaves-from_enters : (paths : List Path) (old new : EdgeTables) → IsEmptySquare old.edges (length paths) → IsEmptySquare old.vulnerable (length paths) → Enters old.edges new.edges (some_edge entries (questions_of paths)) → Enters old.vulnerable new.vulnerable (some_vulnerable entries (questions_of paths)) → Leaves paths entries new
   leaves-from_enters paths old new edges vulnerable e v = record {
     edges = square-from_empty old.edges new.edges (length paths) (some_edge entries (questions_of paths)) edges e;
     vulnerable = square-from_empty old.vulnerable new.vulnerable (length paths) (some_vulnerable entries (questions_of paths)) vulnerable v;

@@ -8,7 +8,7 @@ use Rattle.prog_check.specs.declared.path.Path.{Path}
 use Rattle.prog_paths.specs.Listing.{RiseBy}
 use Rattle.robust_cert.specs.declared.certificate.Entry.{Entry}
 use Rattle.robust_cert.specs.declared.certificate.Certificate.{Certificate}
-use Rattle.robust_cert.specs.declared.checking.left.Left.{Left}
+use Rattle.prog_paths.specs.declared.accesses.mark.EdgeTables.{EdgeTables}
 use Rattle.robust_cert.specs.declared.fault.CertFault.{CertFault}
 use Rattle.robust_cert.specs.declared.fault.CertFault.TheVariants.{TooLarge, PathCount, NoSuchEntry, EntryOrder, BadChain, BadCover, LevelFalls, Dangerous, Memory}
 use Rattle.robust_cert.specs.Accepted.{question_of, Holds, IsLeft, IsLeftVulnerable, level_of, IsAccepted}
@@ -27,7 +27,7 @@ module _ (nodes : List Path) (c : Certificate) (s : StandTo nodes c (length c.en
   all-hold : All (Holds nodes) c.entries
   all-hold = subst (λ (l : List Entry). All (Holds nodes) l) (take_all (length c.entries) c.entries (omega arith)) s.holds
 
-  module _ (left : Left) (l : Leaves nodes c.entries left) where
+  module _ (left : EdgeTables) (l : Leaves nodes c.entries left) where
     falls-at : (x y : ℕ) → FallsAlong left.edges c.levels x y → FallsAt nodes c x y
     falls-at x y f = record { edge = left-from_joins nodes c.entries all-rise left l x y f.edge; falls = f.falls }
 

@@ -7,8 +7,7 @@ use Rattle.prog_paths.specs.declared.accesses.places.Question.{Question as Asked
 use Rattle.prog_paths.specs.Asked.{numbers_of, questions_of}
 use Rattle.prog_paths.specs.Listing.{IsBefore, RiseBy}
 use Rattle.robust_cert.specs.declared.certificate.Entry.{Entry}
-use Rattle.robust_cert.specs.declared.checking.left.Left.{Left}
-use Rattle.prog_paths.specs.declared.accesses.mark.Mark.{Mark}
+use Rattle.prog_paths.specs.declared.accesses.mark.EdgeTables.{EdgeTables}
 use Rattle.robust_cert.specs.Accepted.{question_of}
 use Rattle.order_facts.specs.Square.{IsSquareOf, Enters}
 use Rattle.prog_paths.specs.Marks.{gives_edge, gives_vulnerable}
@@ -23,16 +22,11 @@ abbrev pub some_vulnerable : List Entry → List Asked → ℕ → ℕ → Bool
 some_vulnerable entries questions x y = list_any (λ q. gives_vulnerable x y (mark_under entries q)) questions
 
 -- the tables have the edges that the entries leave of the paths' questions
-pub record Leaves (nodes : List Path) (entries : List Entry) (left : Left) : Type 0 where
+pub record Leaves (nodes : List Path) (entries : List Entry) (left : EdgeTables) : Type 0 where
   pub edges : IsSquareOf left.edges (length nodes) (some_edge entries (questions_of nodes))
   pub vulnerable : IsSquareOf left.vulnerable (length nodes) (some_vulnerable entries (questions_of nodes))
 
 -- ---- a pass
-
--- what one mark gives is entered
-pub record EntersMark (old new : Left) (m : Mark) : Type 0 where
-  pub edges : Enters old.edges new.edges (λ x y. gives_edge x y m)
-  pub vulnerable : Enters old.vulnerable new.vulnerable (λ x y. gives_vulnerable x y m)
 
 -- the questions rise, and stand behind all entries before the cursor
 pub record IsReady (entries : List Entry) (questions : List Asked) (cursor : ℕ) : Type 0 where
@@ -42,7 +36,7 @@ pub record IsReady (entries : List Entry) (questions : List Asked) (cursor : ℕ
 
 -- what the questions give is entered, and the cursor stands behind no question that follows
 pub record Passes (entries : List Entry) (questions : List Asked) (from to : ℕ)
-    (old new : Left) : Type 0 where
+    (old new : EdgeTables) : Type 0 where
   pub edges : Enters old.edges new.edges (some_edge entries questions)
   pub vulnerable : Enters old.vulnerable new.vulnerable (some_vulnerable entries questions)
   pub cursor : (q : Question) → IsBehind entries from q → All (λ p. IsBefore (numbers_of p) q) questions

@@ -1,6 +1,6 @@
 -- Levels that fall, or don't rise, in a table of edges.
 use Rattle.std.specs.Prelude.{◌≡◌, ℕ, ◌<◌, ◌≤◌, List, [], ◌∷◌, slice_index_or}
-use Rattle.robust_cert.specs.declared.checking.left.Left.{Left}
+use Rattle.prog_paths.specs.declared.accesses.mark.EdgeTables.{EdgeTables}
 use Rattle.robust_cert.specs.declared.checking.levels.Edge.{Edge}
 use Rattle.robust_cert.specs.declared.checking.levels.Triple.{Triple}
 use Rattle.robust_cert.specs.declared.fault.CertFault.{CertFault}
@@ -59,12 +59,12 @@ pub record IsLeastStay (vulnerable : Grid) (levels : List ℕ) (t : Triple) : Ty
   pub least : (x y z : ℕ) → Stays vulnerable levels x y z → IsAtMost (t.x ∷ t.y ∷ t.z ∷ []) (x ∷ y ∷ z ∷ [])
 
 -- the levels never fall along an edge, and rise over two vulnerable ones
-pub record RiseOver (left : Left) (levels : List ℕ) : Type 0 where
+pub record RiseOver (left : EdgeTables) (levels : List ℕ) : Type 0 where
   pub never_fall : (x y : ℕ) → ¬ FallsAlong left.edges levels x y
   pub rise : (x y z : ℕ) → ¬ Stays left.vulnerable levels x y z
 
 -- which fault the levels have
-abbrev pub IsLevelFault : Left → List ℕ → CertFault → Type 0
+abbrev pub IsLevelFault : EdgeTables → List ℕ → CertFault → Type 0
 IsLevelFault left levels (LevelFalls x y) = IsLeastFall left.edges levels (record { x = x; y = y })
 IsLevelFault left levels (Dangerous x y z) =
     ((u v : ℕ) → ¬ FallsAlong left.edges levels u v)

@@ -1,6 +1,7 @@
 //! Which node is joined to which, and which cell is one of some.
 
 use order_facts::Square;
+use prog_paths::{EdgeTables, Mark};
 use prog_tree::{Cell, is_among, is_among_rising};
 
 #[test]
@@ -18,6 +19,26 @@ fn a_square_joins_one_way(rt: HostRuntime) {
         square.get(1, 1),
     ];
     assert!(rt; joined == [true, false, false, true]);
+}
+
+#[test]
+fn a_question_gives_edges_both_ways_and_a_vulnerable_one(rt: HostRuntime) {
+    let mut tables = EdgeTables::new(rt.alloc(), 3).expect(&rt, "memory");
+    tables.enter(Mark {
+        x: 0,
+        y: 2,
+        forward: true,
+        backward: true,
+        vulnerable: true,
+    });
+    let edges = [
+        tables.edges.get(0, 2),
+        tables.edges.get(2, 0),
+        tables.edges.get(0, 1),
+    ];
+    let vulnerable = [tables.vulnerable.get(0, 2), tables.vulnerable.get(2, 0)];
+    assert!(rt; edges == [true, true, false]);
+    assert!(rt; vulnerable == [true, false]);
 }
 
 #[test]

@@ -1,11 +1,12 @@
 //! What a question gives, and how it is entered into square tables.
-ghost use Rattle.std.specs.Prelude.{◌≡◌};
-ghost use Rattle.order_facts.specs.Square.{Enters};
-ghost use Rattle.prog_paths.specs.Marks.{mark_by, gives_edge, gives_vulnerable};
+ghost use Rattle.std.specs.Prelude.{◌≡◌, IfOk};
+ghost use Rattle.order_facts.specs.Square.{Enters, IsEmptySquare};
+ghost use Rattle.prog_paths.specs.Marks.{mark_by, gives_edge, gives_vulnerable, EntersMark};
 
 use crate::accesses::asking::{asks_read_write, asks_write_read, both_write};
 use crate::accesses::places::Question;
 use order_facts::Square;
+use std::alloc::{AllocError, Global};
 
 /// What one question gives: an edge from the node `x` to the node `y`, one back, a vulnerable one.
 #[derive(Clone, Copy)]
@@ -37,9 +38,9 @@ pub fn mark_by(question: Question, meets: bool, exposed: bool) -> Mark
     }
 }
 
-/// Enters the edges of a mark.
+// Enters the edges of a mark.
 #[inline]
-pub fn enter_edges(edges: &mut Square, mark: Mark)
+fn enter_edges(edges: &mut Square, mark: Mark)
     ensures { Enters edges.old edges.new (λ x y. gives_edge x y mark) }
 {
     if mark.x < edges.size() && mark.y < edges.size() {
@@ -52,12 +53,41 @@ pub fn enter_edges(edges: &mut Square, mark: Mark)
     }
 }
 
-/// Enters the vulnerable edge of a mark.
+// Enters the vulnerable edge of a mark.
 #[inline]
-pub fn enter_vulnerable(vulnerable: &mut Square, mark: Mark)
+fn enter_vulnerable(vulnerable: &mut Square, mark: Mark)
     ensures { Enters vulnerable.old vulnerable.new (λ x y. gives_vulnerable x y mark) }
 {
     if mark.vulnerable && mark.x < vulnerable.size() && mark.y < vulnerable.size() {
         vulnerable.raise(mark.x, mark.y);
+    }
+}
+
+/// Which nodes are joined by an edge, and which by a vulnerable one.
+#[derive(Drop)]
+pub struct EdgeTables {
+    pub edges: Square,
+    pub vulnerable: Square,
+}
+
+impl EdgeTables {
+    /// Tables of so many nodes that join none of them.
+    pub fn new(alloc: Global, nodes: usize) -> Result<EdgeTables, AllocError>
+        ensures edges { IfOk result (λ tables. IsEmptySquare tables.edges nodes) }
+        ensures vulnerable { IfOk result (λ tables. IsEmptySquare tables.vulnerable nodes) }
+    {
+        Ok(EdgeTables {
+            edges: Square::new(alloc, nodes)?,
+            vulnerable: Square::new(alloc, nodes)?,
+        })
+    }
+
+    /// Enters what a question gives.
+    #[inline]
+    pub fn enter(&mut self, mark: Mark)
+        ensures { EntersMark self.old self.new mark }
+    {
+        enter_edges(&mut self.edges, mark);
+        enter_vulnerable(&mut self.vulnerable, mark);
     }
 }

@@ -4,35 +4,18 @@ ghost use Rattle.prog_paths.specs.Asked.{asked_by, asked_among};
 ghost use Rattle.prog_paths.specs.Listing.{RiseBy};
 ghost use Rattle.order_facts.specs.Square.{Enters};
 ghost use Rattle.robust_cert.specs.Accepted.{question_of};
-ghost use Rattle.robust_cert.specs.Leaving.{some_edge, some_vulnerable, Leaves, EntersMark, IsReady, Passes};
+ghost use Rattle.robust_cert.specs.Leaving.{some_edge, some_vulnerable, Leaves, IsReady, Passes};
 
 use crate::checking::numbers::Numbers;
 use crate::checking::telling::{mark_with, told};
 use crate::entries::Entries;
-use order_facts::Square;
 use prog_check::Path;
-use prog_paths::{
-    Changers, Mark, Placed, all_places, asks, enter_edges, enter_vulnerable, question_between,
-};
+use prog_paths::{Changers, EdgeTables, Placed, all_places, asks, question_between};
 use std::alloc::{AllocError, Global};
-
-/// Which nodes are joined by an edge that is left, and by a vulnerable one.
-#[derive(Drop)]
-pub struct Left {
-    pub edges: Square,
-    pub vulnerable: Square,
-}
-
-fn enter(left: &mut Left, mark: Mark)
-    ensures { EntersMark left.old left.new mark }
-{
-    enter_edges(&mut left.edges, mark);
-    enter_vulnerable(&mut left.vulnerable, mark);
-}
 
 /// Enters what an access asks of another, where it asks.
 fn enter_question(
-    left: &mut Left,
+    left: &mut EdgeTables,
     entries: &Entries,
     cursor: usize,
     first: &Placed,
@@ -47,13 +30,13 @@ fn enter_question(
     }
     let question = question_between(first, second);
     let (telling, behind) = told(entries, cursor, Numbers::of_question(question));
-    enter(left, mark_with(question, telling));
+    left.enter(mark_with(question, telling));
     behind
 }
 
 /// Enters what one access asks of each.
 fn enter_asked(
-    left: &mut Left,
+    left: &mut EdgeTables,
     entries: &Entries,
     cursor: usize,
     first: &Placed,
@@ -72,7 +55,7 @@ fn enter_asked(
 /// Enters what each asks of each. Only the changers of its table are looked through.
 fn enter_all(
     alloc: Global,
-    left: &mut Left,
+    left: &mut EdgeTables,
     entries: &Entries,
     places: &[Placed],
 ) -> Result<(), AllocError>
@@ -92,15 +75,12 @@ fn enter_all(
 }
 
 /// What the entries leave of the paths' questions. Both rise, so one pass over both is enough.
-pub fn left_of(alloc: Global, paths: &[Path], entries: &Entries) -> Result<Left, AllocError>
+pub fn left_of(alloc: Global, paths: &[Path], entries: &Entries) -> Result<EdgeTables, AllocError>
     requires { RiseBy question_of entries.now }
     ensures { IfOk result (λ left. Leaves paths.now entries.now left) }
 {
     let places = all_places(alloc, paths)?;
-    let mut left = Left {
-        edges: Square::new(alloc, paths.len())?,
-        vulnerable: Square::new(alloc, paths.len())?,
-    };
+    let mut left = EdgeTables::new(alloc, paths.len())?;
     enter_all(alloc, &mut left, entries, &places)?;
     Ok(left)
 }

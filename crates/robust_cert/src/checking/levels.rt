@@ -3,9 +3,9 @@ ghost use Rattle.std.specs.Prelude.{◌≡◌, ℕ, ◌<◌, ◌≤◌, length, 
 ghost use Rattle.order_facts.specs.Square.{Joins};
 ghost use Rattle.robust_cert.specs.Levels.{FallsAlong, FallsFirst, IsLeastFall, Stays, StaysFirst, IsLowestBehind, StaysFirstBy, IsLeastFirstEdge, IsLeastStay, RiseOver, IsLevelFault};
 
-use crate::checking::left::Left;
 use crate::fault::CertFault;
 use order_facts::Square;
+use prog_paths::EdgeTables;
 
 /// Two nodes in a row.
 #[derive(Clone, Copy)]
@@ -134,7 +134,7 @@ fn least_stay(vulnerable: &Square, levels: &[u32]) -> Option<Triple>
 }
 
 /// Whether the levels rise over the edges, or where they don't first.
-pub fn check_levels(left: &Left, levels: &[u32]) -> Result<(), CertFault>
+pub fn check_levels(left: &EdgeTables, levels: &[u32]) -> Result<(), CertFault>
     requires edges { length levels.now ≡ left.now.edges.size }
     requires vulnerable { length levels.now ≡ left.now.vulnerable.size }
     ensures rise { OnOk result (RiseOver left.now levels.now) }

@@ -7,6 +7,6 @@ use Rattle.dep_graph.proofs.graph.edges_of.Given as goal
 -- the questions before `n` are entered
 abbrev pub invariant-loop-n : goal.invariant-loop-n
 invariant-loop-n l = record {
-  all : IsSquareOf l.all l.table.nodes (has_edge (take l.n (marks_of l.table).marks));
-  vulnerable : IsSquareOf l.vulnerable l.table.nodes (has_vulnerable (take l.n (marks_of l.table).marks));
+  edges : IsSquareOf l.tables.edges l.table.nodes (has_edge (take l.n (marks_of l.table).marks));
+  vulnerable : IsSquareOf l.tables.vulnerable l.table.nodes (has_vulnerable (take l.n (marks_of l.table).marks));
 }

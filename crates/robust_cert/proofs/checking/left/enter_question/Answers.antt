@@ -29,5 +29,5 @@ returns c =
     let tells : told.0 ≡ telling_of es (numbers_of q) = c.told-telling.ensures.telling ∙ ap (telling_of es) (sym named) in
     let is = c.mark_with.ensures ∙ ap (λ (p : Asked). mark_with p told.0) c.question_between-question.ensures in
     let behind = subst (λ (p : Question). IsBehind es told.1 p) (sym named) c.told-telling.ensures.behind in
-    subst (λ (l : List Asked). Passes es l c.args.cursor told.1 c.args.left.now c.enter.new.left) (sym (if_yes (asks c.args.first.now c.args.second.now) q [] asked))
-    (Passes-one es q told.0 c.mark_with.result c.args.cursor told.1 c.args.left.now c.enter.new.left tells is c.enter.ensures behind)
+    subst (λ (l : List Asked). Passes es l c.args.cursor told.1 c.args.left.now c.enter.new.self) (sym (if_yes (asks c.args.first.now c.args.second.now) q [] asked))
+    (Passes-one es q told.0 c.mark_with.result c.args.cursor told.1 c.args.left.now c.enter.new.self tells is c.enter.ensures behind)

@@ -15,7 +15,8 @@ pub returns : goal.returns
 returns c =
     let es = c.args.entries.now in
     let places = c.deref.ensures.value ∙ c.in_ok-places.ensures in
+    let old = c.in_ok-left.left in
     let new = c.enter_all.new.left in
-    leaves-from_enters es c.args.paths.now _ new c.in_ok-new.ensures c.in_ok-new-2.ensures
-    (subst (λ (ps : List Placed). Enters c.in_ok-new.field-0 new.edges (some_edge es (asked_among ps ps))) places c.in_ok-enter_all.ensures.edges)
-    (subst (λ (ps : List Placed). Enters c.in_ok-new-2.field-0 new.vulnerable (some_vulnerable es (asked_among ps ps))) places c.in_ok-enter_all.ensures.vulnerable)
+    leaves-from_enters es c.args.paths.now old new c.in_ok-left.ensures.edges c.in_ok-left.ensures.vulnerable
+    (subst (λ (ps : List Placed). Enters old.edges new.edges (some_edge es (asked_among ps ps))) places c.in_ok-enter_all.ensures.edges)
+    (subst (λ (ps : List Placed). Enters old.vulnerable new.vulnerable (some_vulnerable es (asked_among ps ps))) places c.in_ok-enter_all.ensures.vulnerable)
