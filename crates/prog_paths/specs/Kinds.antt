@@ -9,6 +9,6 @@ abbrev pub items_of : {A : Type 0} → Option A → List A
 items_of (Some x) = x ∷ []
 items_of None = []
 
-abbrev pub access_at : (table : ℕ) (columns : Columns) (sure : Bool) (place : ℕ) → Kind → Access
-access_at table columns sure place kind =
+abbrev pub access_with : (table : ℕ) (columns : Columns) (sure : Bool) (place : ℕ) → Kind → Access
+access_with table columns sure place kind =
     record { kind = kind; table = table; first = columns.first; second = columns.second; place = place; sure = sure }

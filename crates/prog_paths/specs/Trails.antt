@@ -24,10 +24,10 @@ columns_by params unknown (Plain s) = columns_of params unknown s
 columns_by params unknown (Fork test a b) = None
 columns_by params unknown (Loop l body) = columns_of params unknown (as_count l)
 
-abbrev pub accesses_by : List TableDecl → (params : List Name) → (unknown : ℕ) (sure : Bool) (number : ℕ) → StmtTree → List Access
-accesses_by tables params unknown sure number (Plain s) = accesses_of tables params unknown sure number s
-accesses_by tables params unknown sure number (Fork test a b) = []
-accesses_by tables params unknown sure number (Loop l body) = accesses_of tables params unknown sure number (as_count l)
+abbrev pub accesses_added : List TableDecl → (params : List Name) → (unknown : ℕ) (sure : Bool) (number : ℕ) → StmtTree → List Access
+accesses_added tables params unknown sure number (Plain s) = accesses_of tables params unknown sure number s
+accesses_added tables params unknown sure number (Fork test a b) = []
+accesses_added tables params unknown sure number (Loop l body) = accesses_of tables params unknown sure number (as_count l)
 
 -- a block that is one statement
 abbrev pub alone : StmtTree → BlockTree
@@ -61,7 +61,7 @@ trail_of choices accesses unknown = record { choices = choices; accesses = acces
 -- a trail behind a statement itself, without its blocks
 abbrev pub past : List TableDecl → (params : List Name) → (sure : Bool) (number : ℕ) → StmtTree → Trail → Trail
 past tables params sure number s t =
-    trail_of t.choices (t.accesses ++ accesses_by tables params t.unknown sure number s)
+    trail_of t.choices (t.accesses ++ accesses_added tables params t.unknown sure number s)
     (next_unknown t.unknown (columns_by params t.unknown s))
 
 -- a trail behind the body of an `each`

@@ -1,7 +1,7 @@
 //! Ways through a program as far as they have come.
 ghost use Rattle.std.specs.Prelude.{◌≡◌, ◌<◌, ◌++◌, map, IfOk, OnOk};
 ghost use Rattle.prog_tree.specs.Tree.{stmt_tree};
-ghost use Rattle.prog_paths.specs.Kinds.{items_of, access_at};
+ghost use Rattle.prog_paths.specs.Kinds.{items_of, access_with};
 ghost use Rattle.prog_paths.specs.Trails.{past, choosing_first};
 
 use crate::path::columns::{Columns, columns_of};
@@ -71,7 +71,7 @@ fn add_access(
     kind: Option<Kind>,
 ) -> Result<(), AllocError>
     ensures { OnOk result (accesses.new
-        ≡ accesses.old ++ map (access_at table columns sure place) (items_of kind)) }
+        ≡ accesses.old ++ map (access_with table columns sure place) (items_of kind)) }
 {
     if let Some(kind) = kind {
         accesses.push(Access {
