@@ -7,7 +7,7 @@ mod laws;
 mod limits;
 mod path;
 
-pub use accesses::asking::{asks_read_write, asks_write_read, both_write, may_cover, may_touch};
+pub use accesses::asking::{asks_read_write, may_cover, may_touch};
 pub use accesses::changers::Changers;
 pub use accesses::count::{is_too_large, question_count};
 pub use accesses::mark::{EdgeTables, Mark, mark_by};
@@ -19,7 +19,7 @@ pub use accesses::question::{
 pub use laws::{
     law_of_listing, law_of_own_unknowns, law_of_paths, law_of_questions, law_of_single_changes,
 };
-pub use limits::MAX_QUESTIONS;
+pub use limits::{MAX_COUNTED, MAX_QUESTIONS};
 pub use path::listing::paths;
 pub use path::walk::count_statements;
 pub use prog_check::{Access, Accesses, Choices, Column, Kind, Path, Term};
