@@ -72,12 +72,6 @@ fn told_text(alloc: Global, shown: Shown<'_>, edge: &Exposure) -> Result<String,
     format!(in alloc; "{look}; {change}")
 }
 
-fn is_same_text(text: &str, other: &str) -> bool
-    ensures { IsTrue result ↔ (text.now ≡ other.now) }
-{
-    text == other
-}
-
 // Whether two accesses are one, by their nodes and numbers.
 fn is_same_access(node: usize, access: usize, other_node: usize, other_access: usize) -> bool
     ensures { IsTrue result ↔ ((node ≡ other_node) × (access ≡ other_access)) }
@@ -97,7 +91,7 @@ fn is_same_question(question: Question, other: Question) -> bool
 fn is_one(question: Question, other: Question, told: &str, other_told: &str) -> bool
     ensures { IsTrue result ↔ (IsSameQuestion question other × (told.now ≡ other_told.now)) }
 {
-    is_same_question(question, other) && is_same_text(told, other_told)
+    is_same_question(question, other) && told == other_told
 }
 
 /// Whether both edges are the same, in the same sample.

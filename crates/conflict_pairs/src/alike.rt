@@ -2,7 +2,7 @@
 ghost use Rattle.std.specs.Prelude.{◌≡◌, ◌↔◌, ◌<◌, length, IsTrue, IfOk};
 ghost use Rattle.conflict_pairs.specs.Alike.{AreAlike, CoverAlike, HaveSameCovers, accesses_at, AreCoverClasses};
 
-use prog_check::{Access, Column, Kind, Path};
+use prog_check::{Access, Column, Path};
 use prog_paths::may_cover;
 use std::alloc::{AllocError, Global};
 
@@ -22,19 +22,13 @@ fn is_same_second(one: Option<Column>, other: Option<Column>) -> bool
     }
 }
 
-fn is_same_kind(one: Kind, other: Kind) -> bool
-    ensures { IsTrue result ↔ (one ≡ other) }
-{
-    one == other
-}
-
 /// Whether two accesses are equal but for their places.
 pub fn are_alike(one: &Access, other: &Access) -> bool
     ensures { IsTrue result → AreAlike one.now other.now }
 {
     one.table == other.table
         && one.sure == other.sure
-        && is_same_kind(one.kind, other.kind)
+        && one.kind == other.kind
         && is_same_column(one.first, other.first)
         && is_same_second(one.second, other.second)
 }

@@ -1,9 +1,9 @@
 //! Tests of what a verdict needs.
-ghost use Rattle.std.specs.Prelude.{◌≡◌, ◌↔◌, IsTrue};
+ghost use Rattle.std.specs.Prelude.{◌↔◌, IsTrue};
 ghost use Rattle.prog_paths.specs.Meeting.{MayTouch, IsSingle, IsSingleSecond};
 ghost use Rattle.prog_paths.specs.Asked.{IsQuestion, ChangesSingleCells, two, between};
 
-use prog_check::{Access, Column, Path, Term};
+use prog_check::{Access, Column, Path};
 use prog_paths::{Placed, asks, may_touch};
 
 /// Whether access `a` of one path against access `b` of another is a question.
@@ -28,17 +28,11 @@ pub fn is_question(x: &Path, a: usize, y: &Path, b: usize) -> bool
     asks(&first, &second)
 }
 
-fn is_same(one: Term, other: Term) -> bool
-    ensures { IsTrue result ↔ (one ≡ other) }
-{
-    one == other
-}
-
 fn is_single_second(column: Option<Column>) -> bool
     ensures { IsTrue result ↔ IsSingleSecond column }
 {
     match column {
-        Some(column) => is_same(column.low, column.high),
+        Some(column) => column.low == column.high,
         None => true,
     }
 }
@@ -47,7 +41,7 @@ fn is_single_change(access: &Access) -> bool
     ensures { IsTrue result ↔ (MayTouch access.now → IsSingle access.now) }
 {
     let first = access.first;
-    !may_touch(access) || (is_same(first.low, first.high) && is_single_second(access.second))
+    !may_touch(access) || (first.low == first.high && is_single_second(access.second))
 }
 
 /// Whether each access of a path that changes or keeps is of a single cell, as it is on the paths
