@@ -14,7 +14,7 @@ use Rattle.repair_laws.specs.declared.plan.Pair.{Pair}
 use Rattle.repair_laws.specs.Keys.{ExposedOf}
 use Rattle.repair_laws.specs.Promoted.{IsExposedAt, MarksExposed}
 use Rattle.si_repair.specs.Exposing.{AreExposed}
-use Rattle.si_repair.specs.Promoting.{place_in, access_at, place_of, reads_at, HasExposedRead, AddsReads}
+use Rattle.si_repair.specs.Promoting.{place_in, access_at, place_of, reads_at}
 
 -- ---- the statement of a question
 
@@ -27,6 +27,17 @@ exposed-access : (nodes : List Path) (pair : Pair) (q : Asked) (e : ExposedOf no
 exposed-access nodes pair q e same = subst (λ (n : Question). IsAccessOf nodes n.x n.a e.question.mine) same e.question.asked.at_mine
 
 -- ---- the statements of a pair's exposed reads
+
+-- the statement of this number in this program has a read that is exposed to the second program of the pair
+abbrev pub HasExposedRead : List Path → Pair → (program number : ℕ) → Type 0
+HasExposedRead nodes pair program number =
+    (pair.from ≡ program) × (e : ExposedOf nodes pair) × (e.question.mine.place ≡ number)
+
+-- the new marks are the old ones, and the statements with an exposed read of the pair
+abbrev pub AddsReads : List Path → Pair → (old new : ℕ → ℕ → Bool) → Type 0
+AddsReads nodes pair old new =
+    (program number : ℕ)
+    → (new program number ≡ true) ↔ ((old program number ≡ true) ⊎ HasExposedRead nodes pair program number)
 
 module _ (nodes : List Path) (pair : Pair) (questions : List Asked) (exposed : AreExposed nodes pair questions) (program number : ℕ) where
   read-exposed : list_any (reads_at nodes pair program number) questions ≡ true → HasExposedRead nodes pair program number

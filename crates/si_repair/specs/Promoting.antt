@@ -1,5 +1,5 @@
--- Marked statements, and what one pair of a plan adds to them.
-use Rattle.std.specs.Prelude.{◌≡◌, ◌↔◌, ℕ, ◌+◌, ◌≤◌, ◌⊎◌, ◌&&◌, ◌==◌, Bool, true, List, Option, Some, None, slice_get}
+-- Marked statements, and what keeps behind them make of a program.
+use Rattle.std.specs.Prelude.{◌≡◌, ℕ, ◌+◌, ◌≤◌, ◌&&◌, ◌==◌, Bool, List, Option, Some, None, slice_get}
 use Rattle.std.specs.List.{list_any}
 use Rattle.prog_tree.specs.Syntax.{Name, KeyTree, StmtTree, Plain, Fork, Loop, ProgramTree, DraftTree}
 use Rattle.prog_tree.specs.Tree.{block_tree}
@@ -9,7 +9,6 @@ use Rattle.prog_check.specs.declared.path.Path.{Path}
 use Rattle.prog_check.specs.Paths.{statement_count}
 use Rattle.prog_paths.specs.declared.accesses.places.Question.{Question as Asked}
 use Rattle.repair_laws.specs.declared.plan.Pair.{Pair}
-use Rattle.repair_laws.specs.Keys.{ExposedOf}
 use Rattle.repair_laws.specs.Promoted.{cell_read, with_keeps}
 use Rattle.repair_laws.specs.Refusals.{HasRangeRead, StopsAtKey, StopsAtBody}
 use Rattle.si_repair.specs.declared.repairs.fault.RepairFault.{RepairFault}
@@ -43,17 +42,6 @@ place_of nodes q = place_in (access_at (slice_get nodes q.x) q.a)
 -- a question of a pair is asked by the statement of this number in this program
 abbrev pub reads_at : List Path → Pair → (program number : ℕ) → Asked → Bool
 reads_at nodes pair program number q = (pair.from == program) && (place_of nodes q == number)
-
--- the statement of this number in this program has a read that is exposed to the second program of the pair
-abbrev pub HasExposedRead : List Path → Pair → (program number : ℕ) → Type 0
-HasExposedRead nodes pair program number =
-    (pair.from ≡ program) × (e : ExposedOf nodes pair) × (e.question.mine.place ≡ number)
-
--- the new marks are the old ones, and the statements with an exposed read of the pair
-abbrev pub AddsReads : List Path → Pair → (old new : ℕ → ℕ → Bool) → Type 0
-AddsReads nodes pair old new =
-    (program number : ℕ)
-    → (new program number ≡ true) ↔ ((old program number ≡ true) ⊎ HasExposedRead nodes pair program number)
 
 -- ---- statements
 

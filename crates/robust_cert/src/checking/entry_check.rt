@@ -18,10 +18,12 @@ fn is_behind_last(entries: &Entries, k: usize) -> bool
     ensures { (e : Entry) → slice_get entries.now k ≡ Some e
         → (IsTrue result ↔ IsBehindLast entries.now k e) }
 {
-    k == 0
-        || Numbers::of_told(entries.question(k - 1)).is_before(Numbers::of_told(entries.question(
-            k,
-        )))
+    if k == 0 {
+        return true;
+    }
+    let last = Numbers::of_told(entries.question(k - 1));
+    let this = Numbers::of_told(entries.question(k));
+    last.is_before(this)
 }
 
 /// Whether the entry of a number is about a question, stands behind the last, and says what holds.
