@@ -1,3 +1,5 @@
+//! Draws of numbers by several passes of one counter.
+
 ghost use Rattle.std.specs.Prelude.{◌≡◌};
 ghost use Rattle.job_counter.specs.Passes.{counter_of, name_of};
 

@@ -19,4 +19,6 @@ mod paths;
 #[cfg(test)]
 mod repairs;
 #[cfg(test)]
+mod square_tests;
+#[cfg(test)]
 mod told;

@@ -3,8 +3,7 @@
 //! refuses none.
 
 use crate::certificates::checked_tests::told;
-use crate::certificates::text_tests::TRANSFERS;
-use crate::examples::KEPT_PAYS;
+use crate::examples::{KEPT_PAYS, TRANSFERS};
 use example_sets::{KEPT_PAY, TRANSFER, checked_when_asked_again};
 use prog_check::ProgramSet;
 use robust_cert::{CertFault, Certificate, JsonFault, RobustSet, from_json, verify};

@@ -1,6 +1,6 @@
 //! Certificates as text, told by hand.
 
-use crate::examples::KEPT_PAYS;
+use crate::examples::{KEPT_PAYS, KEPT_REPORTS, TRANSFERS};
 use order_facts::Node;
 use prog_tree::Sequence;
 use robust_cert::{
@@ -14,19 +14,6 @@ const EMPTY: &str = "{\"entries\":[],\"levels\":[],\"version\":1}";
 
 /// The ledger set.
 const LEDGER: &str = "{\"entries\":[],\"levels\":[2,3,2],\"version\":1}";
-
-/// The report set, repaired.
-const REPORT: &str =
-    "{\"entries\":[[\"cover\",2,2,0,2,0,0,[[[\"m\",0],[\"t\",0]],[[\"t\",0],[\"m\",0]]]]],\
-    \"levels\":[3,3,3],\"version\":1}";
-
-/// The transfer set.
-pub const TRANSFERS: &str =
-    "{\"entries\":[[\"cover\",0,0,0,1,1,1,[[[\"m\",0],[\"t\",0]],[[\"t\",0],[\"m\",0]]]],\
-    [\"cover\",0,0,0,3,1,3,[[[\"m\",0],[\"t\",1]],[[\"t\",1],[\"m\",0]]]],\
-    [\"cover\",0,2,0,1,3,1,[[[\"m\",1],[\"t\",0]],[[\"t\",0],[\"m\",1]]]],\
-    [\"cover\",0,2,0,3,3,3,[[[\"m\",1],[\"t\",1]],[[\"t\",1],[\"m\",1]]]]],\
-    \"levels\":[1],\"version\":1}";
 
 /// Each kind of entry and node, numbers at the ends of their ranges, and empty lists.
 const EACH_KIND: &str =
@@ -42,7 +29,7 @@ const BODIES: &str = "{\"bodies\":[0,4294967295,7],\"entries\":[],\"levels\":[3]
 const WRITTEN: [(&str, &str); 13] = [
     (EMPTY, EMPTY),
     (LEDGER, LEDGER),
-    (REPORT, REPORT),
+    (KEPT_REPORTS, KEPT_REPORTS),
     (TRANSFERS, TRANSFERS),
     (EACH_KIND, EACH_KIND),
     (
@@ -283,7 +270,7 @@ const REPORT_WITH_BODIES: &str =
 
 #[test]
 fn a_certificate_is_built_and_written(rt: HostRuntime) {
-    assert!(rt; is_report_written(&rt, rt.alloc(), [0, 0, 0], REPORT));
+    assert!(rt; is_report_written(&rt, rt.alloc(), [0, 0, 0], KEPT_REPORTS));
     assert!(rt; is_report_written(&rt, rt.alloc(), [0, 0, 6], REPORT_WITH_BODIES));
 }
 
@@ -481,14 +468,19 @@ fn all_have(rt: &impl Abort, alloc: Global, texts: &[&str], fault: JsonFault) {
     }
 }
 
+/// Asserts that no text is JSON that lacks bytes at the end of this one.
+fn no_front_is_json(rt: &impl Abort, alloc: Global, text: &str) {
+    let bytes = text.as_bytes();
+    for length in 0..bytes.len() {
+        let found = fault_of(alloc, &bytes[..length]);
+        assert!(rt; found == Some(JsonFault::NotJson), "{length} of {text}");
+    }
+}
+
 #[test]
 fn a_text_that_is_cut_is_no_json(rt: HostRuntime) {
-    for text in [EMPTY, REPORT, TRANSFERS, KEPT_PAYS] {
-        let bytes = text.as_bytes();
-        for length in 0..bytes.len() {
-            let found = fault_of(rt.alloc(), &bytes[..length]);
-            assert!(rt; found == Some(JsonFault::NotJson), "{length} of {text}");
-        }
+    for text in [EMPTY, KEPT_REPORTS, TRANSFERS, KEPT_PAYS] {
+        no_front_is_json(&rt, rt.alloc(), text);
     }
 }
 

@@ -3,4 +3,3 @@
 mod path_tests;
 mod question_tests;
 mod shown;
-mod square_tests;

@@ -1,7 +1,7 @@
 //! What the analysis of sets finds: the text of a certificate, or the least dangerous structure.
 
 use crate::dangers::shown;
-use crate::examples::{KEPT_PAYS, SKEW};
+use crate::examples::{KEPT_PAYS, KEPT_REPORTS, SKEW, TRANSFERS};
 use crate::repairs::sets::{APART, COLUMNS, KEPT_REPORT};
 use crate::told::is_told;
 use example_sets::{KEPT_PAY, LEDGER, PAY, REPORT, SMALL_BANK, TRANSFER, set_of};
@@ -96,19 +96,8 @@ fn sets_without_covers_are_certified(rt: HostRuntime) -> Result<(), Fail> {
 /// Sets, and their certificates with covers.
 const COVERED: [(&str, &str); 4] = [
     (KEPT_PAY, KEPT_PAYS),
-    (
-        KEPT_REPORT,
-        "{\"entries\":[[\"cover\",2,2,0,2,0,0,[[[\"m\",0],[\"t\",0]],[[\"t\",0],[\"m\",0]]]]],\
-        \"levels\":[3,3,3],\"version\":1}",
-    ),
-    (
-        TRANSFER,
-        "{\"entries\":[[\"cover\",0,0,0,1,1,1,[[[\"m\",0],[\"t\",0]],[[\"t\",0],[\"m\",0]]]],\
-        [\"cover\",0,0,0,3,1,3,[[[\"m\",0],[\"t\",1]],[[\"t\",1],[\"m\",0]]]],\
-        [\"cover\",0,2,0,1,3,1,[[[\"m\",1],[\"t\",0]],[[\"t\",0],[\"m\",1]]]],\
-        [\"cover\",0,2,0,3,3,3,[[[\"m\",1],[\"t\",1]],[[\"t\",1],[\"m\",1]]]]],\
-        \"levels\":[1],\"version\":1}",
-    ),
+    (KEPT_REPORT, KEPT_REPORTS),
+    (TRANSFER, TRANSFERS),
     (
         COLUMNS,
         "{\"entries\":[[\"cover\",0,2,0,3,0,1,[[[\"m\",0],[\"n\",5],[\"t\",1]],[[\"t\",1],\

@@ -1,8 +1,7 @@
-//! Which node is joined to which, and which cell is one of some.
+//! Which node is joined to which.
 
 use order_facts::Square;
 use prog_paths::{EdgeTables, Mark};
-use prog_tree::{Cell, is_among, is_among_rising};
 
 #[test]
 fn a_square_joins_one_way(rt: HostRuntime) {
@@ -68,23 +67,4 @@ fn a_row_takes_in_another_and_is_walked(rt: HostRuntime) {
         square.next(2, 0),
     ];
     assert!(rt; walked == [Some(1), Some(69), Some(69), None]);
-}
-
-fn cell(table: usize, second: i64) -> Cell {
-    Cell {
-        table,
-        first: 7,
-        second,
-    }
-}
-
-#[test]
-fn cells_are_told_apart_by_all_their_parts(rt: HostRuntime) {
-    let cells = [cell(0, 1), cell(1, 0)];
-    for (table, second, among) in [(0, 1, true), (0, 0, false), (1, 1, false)] {
-        let cell = cell(table, second);
-        assert!(rt; is_among(&cells, &cell) == among, "{table} {second}");
-        assert!(rt; is_among_rising(&cells, &cell) == among, "{table} {second}");
-    }
-    assert!(rt; !is_among(&[], &cell(0, 1)) && !is_among_rising(&[], &cell(0, 1)));
 }
