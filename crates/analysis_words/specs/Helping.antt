@@ -46,12 +46,14 @@ outside_text false = []
 -- a cell in place of these, which both keep, and surely: so in no body of an `each`, which may have no turn
 abbrev pub shared_text : Sight → Question → (cells : List ℕ) → List ℕ
 shared_text sight q cells =
-    codes "one cell that stands for `" ++ (cells ++ (codes "`, which " ++ (keepers_text sight q ++ outside_text (meets_body sight q))))
+    codes "one cell that stands for `" ++ (cells ++ (codes "`, which "
+    ++ (keepers_text sight q ++ outside_text (meets_body sight q))))
 
 -- the cell itself, which the first keeps behind its look
 abbrev pub keep_text : Sight → Question → (cells : List ℕ) → (line : ℕ) → List ℕ
 keep_text sight q cells line =
-    codes "`keep " ++ (cells ++ (codes ";` behind line " ++ (decimal line ++ (codes ", so that " ++ clashing_text sight q))))
+    codes "`keep " ++ (cells ++ (codes ";` behind line " ++ (decimal line
+    ++ (codes ", so that " ++ clashing_text sight q))))
 
 -- the same where its key has to be told by a parameter first
 abbrev pub parameter_text : Sight → Question → (cells : List ℕ) → (line : ℕ) → List ℕ

@@ -39,7 +39,8 @@ numbers_text sample is_first (name ∷ names) = given_from sample is_first 0 (na
 
 -- the parameters of a node's program
 abbrev pub params_along : Sight → (node : ℕ) → List Name
-params_along sight node = option_map_or (λ (path : Path). program_params (draft_tree sight.set) path.program) (slice_get sight.paths node) []
+params_along sight node =
+    option_map_or (λ (path : Path). program_params (draft_tree sight.set) path.program) (slice_get sight.paths node) []
 
 -- the numbers of an instance of a node, the first or the second of a sample
 abbrev pub numbers_along : Sight → List Choice → (is_first : Bool) → (node : ℕ) → List ℕ

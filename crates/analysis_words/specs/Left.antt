@@ -9,13 +9,15 @@ use Rattle.analysis_words.specs.SharedWords.{more_text, other_run}
 
 -- the two programs of a pair, as `` `Look` and `Set` `` or `` `Look` and another `Look` ``
 abbrev pub pair_text : DraftTree → Pair → List ℕ
-pair_text set pair = quoted_name set pair.from ++ (codes " and " ++ (other_run pair.from pair.to ++ quoted_name set pair.to))
+pair_text set pair =
+    quoted_name set pair.from ++ (codes " and " ++ (other_run pair.from pair.to ++ quoted_name set pair.to))
 
 abbrev pub further_text : DraftTree → Pair → List ℕ
 further_text set pair = codes ", " ++ pair_text set pair
 
 abbrev pub pair_count_text : (count : ℕ) → List ℕ
-pair_count_text count = if count == 1 then codes "one pair of programs has" else decimal count ++ codes " pairs of programs have"
+pair_count_text count =
+    if count == 1 then codes "one pair of programs has" else decimal count ++ codes " pairs of programs have"
 
 -- how many pairs there are, and the first eight
 abbrev pub left_text : DraftTree → List Pair → List ℕ

@@ -52,7 +52,8 @@ program_of sight node = option_map (λ (path : Path). path.program) (slice_get s
 
 -- the access of a number of a node
 abbrev pub access_of : Sight → (node access : ℕ) → Option Access
-access_of sight node access = option_and_then (λ (path : Path). slice_get path.accesses access) (slice_get sight.paths node)
+access_of sight node access =
+    option_and_then (λ (path : Path). slice_get path.accesses access) (slice_get sight.paths node)
 
 -- what is said of an access that is sure or not: one that is not may be made in many turns, or in none
 abbrev pub turns_by : (sure : Bool) → List ℕ
@@ -79,7 +80,8 @@ pub data HasNoAccess (sight : Sight) (node access : ℕ) : Type 0 where
   NoNode : slice_get sight.paths node ≡ None → HasNoAccess sight node access
   NoneOfNode : (path : Path) → slice_get sight.paths node ≡ Some path → slice_get path.accesses access ≡ None
       → HasNoAccess sight node access
-  NoStatement : (path : Path) → slice_get sight.paths node ≡ Some path → (accessed : Access) → slice_get path.accesses access ≡ Some accessed
+  NoStatement : (path : Path) → slice_get sight.paths node ≡ Some path
+      → (accessed : Access) → slice_get path.accesses access ≡ Some accessed
       → HasNoStatement sight.text path.program accessed.place → HasNoAccess sight node access
 
 -- the words name an access of a node by its node and by the line of its statement, which they show, as
@@ -87,6 +89,8 @@ pub data HasNoAccess (sight : Sight) (node access : ℕ) : Type 0 where
 abbrev pub IsAccessText : Sight → (node access : ℕ) → (words : List ℕ) → Type 0
 IsAccessText sight node access words =
     ((at : ℕ) × IsAccessPlace sight node access at
-    × (words ≡ codes "`" ++ (quoted_statement sight.text at ++ (codes "` of " ++ (node_name sight node ++ (codes " in line " ++ decimal (line_number sight.text at)))))))
+    × (words ≡ codes "`" ++ (quoted_statement sight.text at ++ (codes "` of " ++ (node_name sight node
+    ++ (codes " in line " ++ decimal (line_number sight.text at)))))))
     ⊎ (HasNoAccess sight node access
-    × (words ≡ codes "access " ++ (decimal access ++ (codes " of " ++ (node_name sight node ++ codes ", which it has not")))))
+    × (words ≡ codes "access " ++ (decimal access ++ (codes " of " ++ (node_name sight node
+    ++ codes ", which it has not")))))

@@ -41,7 +41,8 @@ TellsRepair set plan words = (parts : List ℕ) × TellsPairs set plan parts × 
 -- the limits that a set may pass with the statements for its pairs
 abbrev pub limits_text : List ℕ
 limits_text =
-    decimal 64 ++ (codes " tables, " ++ (decimal 256 ++ (codes " statements of a program, " ++ (decimal 24 ++ codes " accesses on a way through it"))))
+    decimal 64 ++ (codes " tables, " ++ (decimal 256 ++ (codes " statements of a program, "
+    ++ (decimal 24 ++ codes " accesses on a way through it"))))
 
 -- what the first program of a pair does that stops a repair, before the name of the second
 abbrev pub obstacle_verb : Obstacle → List ℕ
@@ -65,7 +66,8 @@ SaysObstacle set hindrance pair words =
 -- which limits a set is above with the statements for a pair, and what to do
 abbrev pub limit_rest : List ℕ
 limit_rest =
-    codes ", and with the statements for that the set is above a limit: " ++ (limits_text ++ codes "; have fewer programs, or merge some")
+    codes ", and with the statements for that the set is above a limit: "
+    ++ (limits_text ++ codes "; have fewer programs, or merge some")
 
 -- the words say of the pair that stops a repair why it does; of want of memory there are none
 abbrev pub SaysStop : DraftTree → RepairFault → (words : List ℕ) → Type 0

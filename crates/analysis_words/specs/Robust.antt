@@ -38,7 +38,9 @@ levels_text sight certificate =
 -- how many questions are covered by the access that covers most, and which it is; nothing where none covers
 abbrev pub IsMostText : (text : List ℕ) → Type 0
 IsMostText text =
-    (text ≡ []) ⊎ ((count : ℕ) × (access : List ℕ) × (text ≡ codes " (" ++ (decimal count ++ (codes " of them by " ++ (access ++ codes ")")))))
+    (text ≡ [])
+    ⊎ ((count : ℕ) × (access : List ℕ)
+    × (text ≡ codes " (" ++ (decimal count ++ (codes " of them by " ++ (access ++ codes ")")))))
 
 -- how many questions the paths ask, no further than one above the limit
 abbrev pub asked_count : List Path → ℕ
@@ -55,4 +57,5 @@ questions_text certificate asked most =
 abbrev pub SaysRobust : Sight → Certificate → (words : List ℕ) → Type 0
 SaysRobust sight certificate words =
     (most : List ℕ) × IsMostText most
-    × (words ≡ questions_text certificate (asked_count sight.paths) most ++ (codes "levels: " ++ (levels_text sight certificate ++ codes "\n")))
+    × (words ≡ questions_text certificate (asked_count sight.paths) most
+    ++ (codes "levels: " ++ (levels_text sight certificate ++ codes "\n")))

@@ -24,10 +24,12 @@ columns_by params unknown (Plain s) = columns_of params unknown s
 columns_by params unknown (Fork test a b) = None
 columns_by params unknown (Loop l body) = columns_of params unknown (as_count l)
 
-abbrev pub accesses_added : List TableDecl → (params : List Name) → (unknown : ℕ) (sure : Bool) (number : ℕ) → StmtTree → List Access
+abbrev pub accesses_added : List TableDecl → (params : List Name)
+    → (unknown : ℕ) (sure : Bool) (number : ℕ) → StmtTree → List Access
 accesses_added tables params unknown sure number (Plain s) = accesses_of tables params unknown sure number s
 accesses_added tables params unknown sure number (Fork test a b) = []
-accesses_added tables params unknown sure number (Loop l body) = accesses_of tables params unknown sure number (as_count l)
+accesses_added tables params unknown sure number (Loop l body) =
+    accesses_of tables params unknown sure number (as_count l)
 
 -- a block that is one statement
 abbrev pub alone : StmtTree → BlockTree

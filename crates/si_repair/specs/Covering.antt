@@ -32,7 +32,8 @@ AreCovered draft pairs covered = (pairs_of covered ≡ pairs) × All (HasCovered
 abbrev pub AreGathered : DraftTree → List Pair → List Covered → Option RepairFault → Type 0
 AreGathered draft plan covered None = AreCovered draft plan covered
 AreGathered draft plan covered (Some fault) =
-    (n : ℕ) × (pair : Pair) × (slice_get plan n ≡ Some pair) × AreCovered draft (take n plan) covered × IsObstacleFault draft pair fault
+    (n : ℕ) × (pair : Pair) × (slice_get plan n ≡ Some pair)
+    × AreCovered draft (take n plan) covered × IsObstacleFault draft pair fault
 
 -- with keeps for these pairs a draft is sound
 abbrev pub IsSoundWith : DraftTree → List Pair → Type 0
