@@ -42,7 +42,7 @@ fn further_pairs(alloc: Global, set: &ProgramSet, pairs: &[Pair]) -> Result<Stri
 
 // Those that are named.
 fn named(pairs: &[Pair]) -> &[Pair]
-    ensures { result.now ≡ take 7 pairs.now }
+    ensures { result.now ≡ take MAX_FURTHER pairs.now }
 {
     pairs.get(..MAX_FURTHER).unwrap_or(pairs)
 }

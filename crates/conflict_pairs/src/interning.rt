@@ -49,7 +49,7 @@ const SLOTS: usize = 16_381;
 const SPREAD: usize = 0x9E37_79B9_7F4A_7C15;
 
 fn slot_of(hash: usize) -> usize
-    ensures { result < 16381 }
+    ensures { result < SLOTS }
 {
     (hash.wrapping_mul(SPREAD) >> 32) % SLOTS
 }

@@ -75,7 +75,8 @@ fn meetings(
 
 /// As many of the pairs as new tables fit, and one more, with which the set is too large.
 fn pairs_that_fit<'a>(draft: &Draft, pairs: &'a [Pair]) -> &'a [Pair]
-    ensures { result.now ≡ take (1 + (64 - length (draft_tree draft.now).tables)) pairs.now }
+    ensures { result.now
+        ≡ take (1 + (MAX_TABLES - length (draft_tree draft.now).tables)) pairs.now }
 {
     let room = MAX_TABLES.saturating_sub(draft.tables.len());
     let most = pairs.len().min(1 + room);
