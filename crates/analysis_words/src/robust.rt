@@ -1,7 +1,7 @@
 //! What a certificate shows of a robust set, in words.
 ghost use Rattle.std.specs.Prelude.{◌≡◌, IfOk, string_bytes, take};
 ghost use Rattle.robust_cert.specs.declared.certificate.Question.{Question};
-ghost use Rattle.robust_cert.specs.Sharing.{entry_told, entry_with, IsWithin};
+ghost use Rattle.robust_cert.specs.Sharing.{entry_told, entry_with, HasReason};
 ghost use Rattle.analysis_words.specs.Nodes.{seen, sight_of};
 ghost use Rattle.analysis_words.specs.Robust.{apart_count, entries_text, is_apart, IsMostText, levels_text, questions_text, reasons_text, SaysRobust};
 
@@ -27,7 +27,7 @@ fn is_never(reason: &Reason) -> bool
 }
 
 fn is_apart(told: &Told, reasons: &[Reason]) -> bool
-    requires { IsWithin reasons.now told.now }
+    requires { HasReason reasons.now told.now }
     ensures { result ≡ is_apart (entry_told reasons.now told.now) }
 {
     is_never(&reasons[told.reason])

@@ -18,7 +18,7 @@ use Rattle.conflict_pairs.specs.declared.verdicts.Verdict.{Verdict}
 use Rattle.conflict_pairs.specs.Alike.{AreShown, IsAsked, IsLike}
 use Rattle.conflict_pairs.specs.Interning.{AreInterned, IsServed}
 use Rattle.conflict_pairs.specs.Classes.{starts_from}
-use Rattle.conflict_pairs.specs.Pairing.{IsAskedAt, IsWithin, StandsAt, asked_at, no_place, place_at, question_at, questions_at}
+use Rattle.conflict_pairs.specs.Pairing.{IsAskedAt, HasPlaces, StandsAt, asked_at, no_place, place_at, question_at, questions_at}
 use Rattle.conflict_pairs.specs.Table.{entries_of}
 use Rattle.conflict_pairs.proofs.Collecting.{all_asked}
 use Rattle.conflict_pairs.proofs.Numbered.{entries-length}
@@ -65,12 +65,12 @@ module _ {Key Told : Type 0} (f : Key → Told) (Serves : Told → Told → Type
 -- ---- pairs of accesses of paths
 
 -- pairs whose questions are all that the paths ask
-pub asked-pairs : (paths : List Path) (pairs : List PlacePair) → All (IsWithin (all_from 0 paths)) pairs → questions_at (all_from 0 paths) pairs ≡ questions_of paths → All (IsAskedAt paths) pairs
+pub asked-pairs : (paths : List Path) (pairs : List PlacePair) → All (HasPlaces (all_from 0 paths)) pairs → questions_at (all_from 0 paths) pairs ≡ questions_of paths → All (IsAskedAt paths) pairs
 asked-pairs paths pairs within all k d lt =
     let asked = All-given (question_at (all_from 0 paths)) (IsAsked paths) pairs (subst (λ (l : List Asked). All (IsAsked paths) l) (sym all) (all_asked paths)) in
     record { within = within k d lt; asked = asked k d lt }
 
-pub all_within : (paths : List Path) (pairs : List PlacePair) → All (IsAskedAt paths) pairs → All (IsWithin (all_from 0 paths)) pairs
+pub all_within : (paths : List Path) (pairs : List PlacePair) → All (IsAskedAt paths) pairs → All (HasPlaces (all_from 0 paths)) pairs
 all_within paths pairs h k d lt = (h k d lt).within
 
 -- pairs that stand for others show their questions
@@ -103,7 +103,7 @@ changers-stand starts places changers seconds table is all h =
 pub place-any : (places : List Placed) (n : ℕ) (d : Placed) → n < length places → get_or places n d ≡ place_at places n
 place-any places n d lt = get_or_from_slice_get places n (place_at places n) d (slice_get-get_or places n no_place lt)
 
-pub question-any : (places : List Placed) (pair : PlacePair) (d e : Placed) → IsWithin places pair → question_between (get_or places pair.first d) (get_or places pair.second e) ≡ question_at places pair
+pub question-any : (places : List Placed) (pair : PlacePair) (d e : Placed) → HasPlaces places pair → question_between (get_or places pair.first d) (get_or places pair.second e) ≡ question_at places pair
 question-any places pair d e h =
     λ i. question_between (place-any places pair.first d h.first_within i) (place-any places pair.second e h.second_within i)
 

@@ -36,7 +36,7 @@ abbrev pub questions_at : List Placed → List PlacePair → List Asked
 questions_at places pairs = map (question_at places) pairs
 
 -- both numbers of a pair are those of accesses
-pub record IsWithin (places : List Placed) (pair : PlacePair) : Type 0 where
+pub record HasPlaces (places : List Placed) (pair : PlacePair) : Type 0 where
   pub first_within : pair.first < length places
   pub second_within : pair.second < length places
 
@@ -51,5 +51,5 @@ asked_at paths pair = question_at (all_from 0 paths) pair
 
 -- a pair of accesses of the paths, of which the first asks something of the second
 pub record IsAskedAt (paths : List Path) (pair : PlacePair) : Type 0 where
-  pub within : IsWithin (all_from 0 paths) pair
+  pub within : HasPlaces (all_from 0 paths) pair
   pub asked : IsAsked paths (asked_at paths pair)

@@ -4,7 +4,7 @@ ghost use Rattle.conflict_pairs.specs.declared.fault.PairFault as PairFault;
 ghost use Rattle.prog_paths.specs.Asked.{ChangesSingleCells, all_from, asked_by, asked_among, questions_of, limit};
 ghost use Rattle.conflict_pairs.specs.Alike.{AreJudged, AreListed};
 ghost use Rattle.conflict_pairs.specs.Classes.{starts_from};
-ghost use Rattle.conflict_pairs.specs.Pairing.{IsWithin, StandsAt, place_at, questions_at};
+ghost use Rattle.conflict_pairs.specs.Pairing.{HasPlaces, StandsAt, place_at, questions_at};
 ghost use Rattle.conflict_pairs.specs.Table.{StandsFor};
 
 use crate::classes::AccessClasses;
@@ -46,10 +46,10 @@ fn push_questions(
     requires number { number < length places.now }
     requires first { place_at places.now number ≡ first.now }
     requires seconds { All (StandsAt starts.now places.now) seconds.now }
-    requires within { All (IsWithin places.now) pairs.old.items }
+    requires within { All (HasPlaces places.now) pairs.old.items }
     ensures questions { OnOk result (questions_at places.now pairs.new.items
         ≡ questions_at places.now pairs.old.items ++ asked_by first.now seconds.now) }
-    ensures within { OnOk result (All (IsWithin places.now) pairs.new.items) }
+    ensures within { OnOk result (All (HasPlaces places.now) pairs.new.items) }
 {
     for second in seconds {
         if asks(first, second) {
@@ -71,7 +71,7 @@ fn all_questions(
     requires stand { All (StandsAt starts.now places.now) places.now }
     ensures questions { IfOk result (λ pairs.
         questions_at places.now pairs.items ≡ asked_among places.now places.now) }
-    ensures within { IfOk result (λ pairs. All (IsWithin places.now) pairs.items) }
+    ensures within { IfOk result (λ pairs. All (HasPlaces places.now) pairs.items) }
 {
     let changers = Changers::of(alloc, places)?;
     let mut pairs = Vec::with_capacity(alloc, room)?;
@@ -98,7 +98,7 @@ fn questions_between(
     places: &[Placed],
     pairs: &[PlacePair],
 ) -> Result<Vec<Question>, AllocError>
-    requires { All (IsWithin places.now) pairs.now }
+    requires { All (HasPlaces places.now) pairs.now }
     ensures { IfOk result (λ questions. questions.items ≡ questions_at places.now pairs.now) }
 {
     let mut questions = Vec::with_capacity(alloc, pairs.len())?;
@@ -113,7 +113,7 @@ pub fn questions_of(alloc: Global, paths: &[Path], count: usize) -> Result<Quest
     requires { length (questions_of paths.now) ≤ limit }
     ensures listed { IfOk result (λ qs. AreListed paths.now
         (questions_at qs.places.items qs.pairs.items) qs.judged.items qs.numbers.items) }
-    ensures within { IfOk result (λ qs. All (IsWithin qs.places.items) qs.pairs.items) }
+    ensures within { IfOk result (λ qs. All (HasPlaces qs.places.items) qs.pairs.items) }
 {
     let places = all_places(alloc, paths)?;
     if places.len() > MOST_PLACES {
@@ -138,7 +138,7 @@ pub fn table_of(paths: &[Path], questions: Questions, verdicts: Vec<Verdict>) ->
     requires listed { AreListed paths.now
         (questions_at questions.places.items questions.pairs.items) questions.judged.items
         questions.numbers.items }
-    requires within { All (IsWithin questions.places.items) questions.pairs.items }
+    requires within { All (HasPlaces questions.places.items) questions.pairs.items }
     requires judged { AreJudged paths.now questions.judged.items verdicts.items }
     ensures { StandsFor result paths.now }
 {

@@ -1,6 +1,6 @@
 //! Questions by the numbers of their two accesses among all: a table has many questions.
 ghost use Rattle.std.specs.Prelude.{◌≡◌, ◌<◌, ◌+◌, ◌^◌, length, slice_index_or};
-ghost use Rattle.conflict_pairs.specs.Pairing.{IsWithin, question_at};
+ghost use Rattle.conflict_pairs.specs.Pairing.{HasPlaces, question_at};
 
 use prog_paths::{Placed, Question, question_between};
 
@@ -34,7 +34,7 @@ pub fn number_among(starts: &[usize], place: &Placed) -> usize
 
 /// The question between the accesses of a pair.
 pub fn question_of(places: &[Placed], pair: PlacePair) -> Question
-    requires { IsWithin places.now pair }
+    requires { HasPlaces places.now pair }
     ensures { result ≡ question_at places.now pair }
 {
     question_between(&places[pair.first as usize], &places[pair.second as usize])

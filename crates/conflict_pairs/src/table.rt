@@ -1,6 +1,6 @@
 //! The table of all questions with their verdicts.
 ghost use Rattle.std.specs.Prelude.{◌≡◌, ◌<◌, ◌↔◌, [], IsTrue, All, Some, length, slice_get};
-ghost use Rattle.conflict_pairs.specs.Pairing.{IsWithin, questions_at};
+ghost use Rattle.conflict_pairs.specs.Pairing.{HasPlaces, questions_at};
 ghost use Rattle.conflict_pairs.specs.Table.{Entry, entries_of};
 
 use crate::pairing::{PlacePair, question_of};
@@ -22,7 +22,7 @@ pub struct PairTable {
 
 impl Model for PairTable {
     ghost use Rattle.std.specs.Prelude.{◌≡◌, ◌<◌, length, All};
-    ghost use Rattle.conflict_pairs.specs.Pairing.{IsWithin, questions_at};
+    ghost use Rattle.conflict_pairs.specs.Pairing.{HasPlaces, questions_at};
     ghost use Rattle.conflict_pairs.specs.Table.{Table, entries_of};
 
     ghost Value = { Table };
@@ -36,7 +36,7 @@ impl Model for PairTable {
 
     ghost invariant = { λ t. record {
       one_each : length t.pairs.items ≡ length t.numbers.items;
-      placed : All (IsWithin t.places.items) t.pairs.items;
+      placed : All (HasPlaces t.places.items) t.pairs.items;
       within : All (λ n. n < length t.verdicts.items) t.numbers.items;
     } };
 }
@@ -51,7 +51,7 @@ impl PairTable {
         verdicts: Vec<Verdict>,
     ) -> Self
         requires one_each { length pairs.items ≡ length numbers.items }
-        requires placed { All (IsWithin places.items) pairs.items }
+        requires placed { All (HasPlaces places.items) pairs.items }
         requires within { All (λ n. n < length verdicts.items) numbers.items }
         ensures nodes { result.nodes ≡ nodes }
         ensures verdicts { result.verdicts ≡ verdicts.items }

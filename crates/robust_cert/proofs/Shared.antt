@@ -9,7 +9,7 @@ use Rattle.robust_cert.specs.declared.certificate.Entry.{Entry}
 use Rattle.robust_cert.specs.declared.entries.Reason.{Reason}
 use Rattle.robust_cert.specs.declared.entries.Reason.TheVariants.{Apart, Cover}
 use Rattle.robust_cert.specs.declared.entries.Told.{Told}
-use Rattle.robust_cert.specs.Sharing.{question_told, asked_anew, entry_with, reason_at, entry_told, entries_told, IsWithin}
+use Rattle.robust_cert.specs.Sharing.{question_told, asked_anew, entry_with, reason_at, entry_told, entries_told, HasReason}
 
 -- ---- a question with its reason
 
@@ -64,23 +64,23 @@ module _ (rs : List Reason) where
 -- ---- one reason more
 
 module _ (rs : List Reason) (r : Reason) where
-  pub within-longer : (t : Told) → IsWithin rs t → IsWithin (rs ++ r ∷ []) t
+  pub within-longer : (t : Told) → HasReason rs t → HasReason (rs ++ r ∷ []) t
   within-longer t lt = subst (λ (n : ℕ). t.reason < n) (sym (length-append rs (r ∷ []))) (omega (arith, lt))
 
-  pub all-within-longer : (ts : List Told) → All (IsWithin rs) ts → All (IsWithin (rs ++ r ∷ [])) ts
+  pub all-within-longer : (ts : List Told) → All (HasReason rs) ts → All (HasReason (rs ++ r ∷ [])) ts
   all-within-longer ts h k d lt = within-longer (get_or ts k d) (h k d lt)
 
-  pub last-within : (q : Question) → IsWithin (rs ++ r ∷ []) record { question = q; reason = length rs }
+  pub last-within : (q : Question) → HasReason (rs ++ r ∷ []) record { question = q; reason = length rs }
   last-within q = subst (λ (n : ℕ). length rs < n) (sym (length-append rs (r ∷ []))) (omega arith)
 
-  entry-longer : (t : Told) → IsWithin rs t → entry_told (rs ++ r ∷ []) t ≡ entry_told rs t
+  entry-longer : (t : Told) → HasReason rs t → entry_told (rs ++ r ∷ []) t ≡ entry_told rs t
   entry-longer t lt = ap (entry_with t.question) (get_or_append_left rs (r ∷ []) (Apart []) t.reason lt)
 
-  pub told-longer : (ts : List Told) → All (IsWithin rs) ts → entries_told (rs ++ r ∷ []) ts ≡ entries_told rs ts
+  pub told-longer : (ts : List Told) → All (HasReason rs) ts → entries_told (rs ++ r ∷ []) ts ≡ entries_told rs ts
   told-longer [] h = refl
   told-longer (t ∷ ts) h =
-      ap (λ (e : Entry). e ∷ entries_told (rs ++ r ∷ []) ts) (entry-longer t (All-head (IsWithin rs) t ts h))
-      ∙ ap (λ (l : List Entry). entry_told rs t ∷ l) (told-longer ts (All-tail (IsWithin rs) t ts h))
+      ap (λ (e : Entry). e ∷ entries_told (rs ++ r ∷ []) ts) (entry-longer t (All-head (HasReason rs) t ts h))
+      ∙ ap (λ (l : List Entry). entry_told rs t ∷ l) (told-longer ts (All-tail (HasReason rs) t ts h))
 
   last-reason : (xs : List Reason) → get_or (xs ++ r ∷ []) (length xs) (Apart []) ≡ r
   last-reason [] = refl
@@ -90,12 +90,12 @@ module _ (rs : List Reason) (r : Reason) where
   pub entry-last : (q : Question) → entry_told (rs ++ r ∷ []) record { question = q; reason = length rs } ≡ entry_with q r
   entry-last q = ap (entry_with q) (last-reason rs)
 
-  pub told-own : (ts : List Told) (q : Question) → All (IsWithin rs) ts
+  pub told-own : (ts : List Told) (q : Question) → All (HasReason rs) ts
       → entries_told (rs ++ r ∷ []) (ts ++ record { question = q; reason = length rs } ∷ []) ≡ entries_told rs ts ++ entry_with q r ∷ []
   told-own ts q h =
       told-push (rs ++ r ∷ []) ts record { question = q; reason = length rs }
       ∙ ap (λ (l : List Entry). l ++ entry_told (rs ++ r ∷ []) record { question = q; reason = length rs } ∷ []) (told-longer ts h)
       ∙ ap (λ (e : Entry). entries_told rs ts ++ e ∷ []) (entry-last q)
 
-  pub all-within-own : (ts : List Told) (q : Question) → All (IsWithin rs) ts → All (IsWithin (rs ++ r ∷ [])) (ts ++ record { question = q; reason = length rs } ∷ [])
-  all-within-own ts q h = All-push (IsWithin (rs ++ r ∷ [])) ts record { question = q; reason = length rs } (all-within-longer ts h) (last-within q)
+  pub all-within-own : (ts : List Told) (q : Question) → All (HasReason rs) ts → All (HasReason (rs ++ r ∷ [])) (ts ++ record { question = q; reason = length rs } ∷ [])
+  all-within-own ts q h = All-push (HasReason (rs ++ r ∷ [])) ts record { question = q; reason = length rs } (all-within-longer ts h) (last-within q)

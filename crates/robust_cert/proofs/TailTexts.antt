@@ -12,7 +12,7 @@ use Rattle.robust_cert.specs.declared.entries.Reason.TheVariants.{Apart}
 use Rattle.robust_cert.specs.declared.entries.Told.{Told}
 use Rattle.robust_cert.specs.Json.{list_data, entry_data, EntryFits}
 use Rattle.robust_cert.specs.Parts.{tail_text, ReasonFits, AreTailsOf}
-use Rattle.robust_cert.specs.Sharing.{entry_with, reason_at, entry_told, entries_told, IsWithin}
+use Rattle.robust_cert.specs.Sharing.{entry_with, reason_at, entry_told, entries_told, HasReason}
 use Rattle.robust_cert.proofs.Shared.{reason_any, told-push}
 use Rattle.robust_cert.proofs.Texts.{behind_commas, bracketed_lem}
 
@@ -72,7 +72,7 @@ write_all rs (x ∷ xs) i t old one two three some past e f g =
     ∙ ap (λ (s : List ℕ). old ++ s) (bracketed_lem entry_data (entries_told rs (x ∷ xs)))
 
 -- the first entry and those behind it are all
-module _ (rs : List Reason) (ts : List Told) (i : ℕ) (t : Told) (r : Reason) (some : 1 ≤ length ts) (past : length (take (length ts - 1) (drop 1 ts)) ≤ i) (within : All (IsWithin rs) ts) (here : r ≡ get_or rs (get_or ts 0 t).reason r) where
+module _ (rs : List Reason) (ts : List Told) (i : ℕ) (t : Told) (r : Reason) (some : 1 ≤ length ts) (past : length (take (length ts - 1) (drop 1 ts)) ≤ i) (within : All (HasReason rs) ts) (here : r ≡ get_or rs (get_or ts 0 t).reason r) where
   first_told : entry_with (get_or ts 0 t).question r ≡ entry_told rs (get_or ts 0 t)
   first_told = ap (entry_with (get_or ts 0 t).question) (here ∙ reason_any rs (get_or ts 0 t).reason r (within 0 t some))
 

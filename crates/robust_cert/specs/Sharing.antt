@@ -39,5 +39,5 @@ abbrev pub entries_told : List Reason → List Told → List Entry
 entries_told reasons told = map (entry_told reasons) told
 
 -- there is a reason of that number
-abbrev pub IsWithin : List Reason → Told → Type 0
-IsWithin reasons t = t.reason < length reasons
+abbrev pub HasReason : List Reason → Told → Type 0
+HasReason reasons t = t.reason < length reasons

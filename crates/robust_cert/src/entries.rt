@@ -2,7 +2,7 @@
 //! one.
 ghost use Rattle.std.specs.Prelude.{◌≡◌, ◌<◌, ◌↔◌, [], ◌∷◌, ◌++◌, All, IsTrue, OnOk, OnErr, Some, length, slice_get};
 ghost use Rattle.robust_cert.specs.declared.certificate.Entry.{Entry};
-ghost use Rattle.robust_cert.specs.Sharing.{question_told, asked_anew, entry_with, entries_told, IsWithin};
+ghost use Rattle.robust_cert.specs.Sharing.{question_told, asked_anew, entry_with, entries_told, HasReason};
 
 use crate::certificate::Question;
 use crate::chain::Chain;
@@ -41,13 +41,13 @@ pub struct Entries {
 impl Model for Entries {
     ghost use Rattle.std.specs.Prelude.{List, All};
     ghost use Rattle.robust_cert.specs.declared.certificate.Entry.{Entry};
-    ghost use Rattle.robust_cert.specs.Sharing.{entries_told, IsWithin};
+    ghost use Rattle.robust_cert.specs.Sharing.{entries_told, HasReason};
 
     ghost Value = { List Entry };
 
     ghost view = { λ e. entries_told e.reasons.items e.told.items };
 
-    ghost invariant = { λ e. All (IsWithin e.reasons.items) e.told.items };
+    ghost invariant = { λ e. All (HasReason e.reasons.items) e.told.items };
 }
 
 impl Entries {
@@ -62,7 +62,7 @@ impl Entries {
 
     /// The entries of questions that have the numbers of their reasons.
     pub fn of(told: Vec<Told>, reasons: Vec<Reason>) -> Self
-        requires { All (IsWithin reasons.items) told.items }
+        requires { All (HasReason reasons.items) told.items }
         ensures { result ≡ entries_told reasons.items told.items }
     {
         Entries { told, reasons }
@@ -127,7 +127,7 @@ impl Entries {
     /// each reason.
     pub fn parts(&self) -> (&[Told], &[Reason])
         ensures entries { self.now ≡ entries_told result.1.now result.0.now }
-        ensures within { All (IsWithin result.1.now) result.0.now }
+        ensures within { All (HasReason result.1.now) result.0.now }
     {
         (self.told.as_slice(), self.reasons.as_slice())
     }

@@ -27,7 +27,7 @@ use Rattle.robust_cert.specs.declared.entries.Reason.{Reason}
 use Rattle.robust_cert.specs.declared.entries.Told.{Told}
 use Rattle.robust_cert.specs.Accepted.{body_size}
 use Rattle.robust_cert.specs.Ranges.{IsSmall}
-use Rattle.robust_cert.specs.Sharing.{entry_with, reason_at, entry_told, entries_told, IsWithin}
+use Rattle.robust_cert.specs.Sharing.{entry_with, reason_at, entry_told, entries_told, HasReason}
 use Rattle.si_repair.specs.Telling.{told_question, told_by, told_of, reason_of, told_numbered, Gives, IsOfFew, AskedFits, VerdictFits}
 use Rattle.si_repair.proofs.Telling.{IsEntryOf, entries_stand}
 use Rattle.si_repair.proofs.Smallness.{AreEndsSmall, question-small, falls-small, chains-small, pairs-below, access-below}
@@ -115,10 +115,10 @@ numbered_tells rs q (Apart chain) n is = ap (λ (r : Reason). entry_with (told_q
 numbered_tells rs q (Covered m t chains) n is = ap (λ (r : Reason). entry_with (told_question q) r ∷ []) is
 numbered_tells rs q (Exposed sample) n is = refl
 
-numbered_within : (rs : List Reason) (q : Asked) (v : Verdict) (n : ℕ) → n < length rs → All (IsWithin rs) (told_numbered q v n)
-numbered_within rs q (Apart chain) n lt = All-cons (IsWithin rs) (record { question = told_question q; reason = n }) [] lt (All-nil (IsWithin rs))
-numbered_within rs q (Covered m t chains) n lt = All-cons (IsWithin rs) (record { question = told_question q; reason = n }) [] lt (All-nil (IsWithin rs))
-numbered_within rs q (Exposed sample) n lt = All-nil (IsWithin rs)
+numbered_within : (rs : List Reason) (q : Asked) (v : Verdict) (n : ℕ) → n < length rs → All (HasReason rs) (told_numbered q v n)
+numbered_within rs q (Apart chain) n lt = All-cons (HasReason rs) (record { question = told_question q; reason = n }) [] lt (All-nil (HasReason rs))
+numbered_within rs q (Covered m t chains) n lt = All-cons (HasReason rs) (record { question = told_question q; reason = n }) [] lt (All-nil (HasReason rs))
+numbered_within rs q (Exposed sample) n lt = All-nil (HasReason rs)
 
 pub numbered_more : (old new : List Told) (rs : List Reason) (q : Asked) (v : Verdict) (n : ℕ) → IsServed Gives rs v n → new ≡ old ++ told_numbered q v n → entries_told rs new ≡ entries_told rs old ++ told_by q v
 numbered_more old new rs q v n given added =
@@ -126,10 +126,10 @@ numbered_more old new rs q v n given added =
     ∙ map-append (entry_told rs) old (told_numbered q v n)
     ∙ ap (λ (l : List Entry). entries_told rs old ++ l) (numbered_tells rs q v n (get_or_from_slice_get rs n given.value _ given.at ∙ given.serves))
 
-pub within_more : (old new : List Told) (rs : List Reason) (q : Asked) (v : Verdict) (n : ℕ) → IsServed Gives rs v n → new ≡ old ++ told_numbered q v n → All (IsWithin rs) old → All (IsWithin rs) new
+pub within_more : (old new : List Told) (rs : List Reason) (q : Asked) (v : Verdict) (n : ℕ) → IsServed Gives rs v n → new ≡ old ++ told_numbered q v n → All (HasReason rs) old → All (HasReason rs) new
 within_more old new rs q v n given added h =
-    subst (λ (l : List Told). All (IsWithin rs) l) (sym added)
-    (All-append (IsWithin rs) old (told_numbered q v n) h (numbered_within rs q v n (served-within Gives rs v n given)))
+    subst (λ (l : List Told). All (HasReason rs) l) (sym added)
+    (All-append (HasReason rs) old (told_numbered q v n) h (numbered_within rs q v n (served-within Gives rs v n given)))
 
 -- ---- one more level
 

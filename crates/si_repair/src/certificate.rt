@@ -5,7 +5,7 @@ ghost use Rattle.prog_paths.specs.Few.{AreFew};
 ghost use Rattle.conflict_pairs.specs.Table.{StandsFor};
 ghost use Rattle.robust_cert.specs.Accepted.{body_size};
 ghost use Rattle.robust_cert.specs.Ranges.{IsSmall};
-ghost use Rattle.robust_cert.specs.Sharing.{entries_told, IsWithin};
+ghost use Rattle.robust_cert.specs.Sharing.{entries_told, HasReason};
 ghost use Rattle.si_repair.specs.Telling.{told_question, told_of, told_numbered, AreGiven, AreLevels, IsOfFew, AskedFits};
 
 use crate::reasons::reasons_of;
@@ -70,7 +70,7 @@ fn all_told(
     requires given { AreGiven table.now.verdicts given.now.values.items given.now.numbers.items }
     ensures entries { IfOk result (λ told.
         entries_told given.now.values.items told.items ≡ told_of table.now.entries) }
-    ensures within { IfOk result (λ told. All (IsWithin given.now.values.items) told.items) }
+    ensures within { IfOk result (λ told. All (HasReason given.now.values.items) told.items) }
 {
     let mut told = Vec::with_capacity(alloc, table.len())?;
     for n in 0..table.len() {

@@ -6,7 +6,7 @@ ghost use Rattle.robust_cert.specs.Ranges.{IsSmall};
 ghost use Rattle.robust_cert.specs.Json.{node_data, entry_data, list_data, has_no_bodies, first_data, second_data, certificate_data, certificate_text, QuestionFits, EntryFits, CertificateFits, Appends, shared_text};
 ghost use Rattle.robust_cert.specs.Reading.{IsTextOf};
 ghost use Rattle.robust_cert.specs.Parts.{first_text, head_text, second_text, AreTailsOf, next_entry_text};
-ghost use Rattle.robust_cert.specs.Sharing.{entry_with, reason_at, entry_told, entries_told, IsWithin};
+ghost use Rattle.robust_cert.specs.Sharing.{entry_with, reason_at, entry_told, entries_told, HasReason};
 
 use crate::certificate::{Certificate, Question};
 use crate::entries::{Entries, Reason, Told};
@@ -114,7 +114,7 @@ fn push_next(
 ) -> Result<(), AllocError>
     requires head { first_text heads.now ≡ first_text told.question }
     requires tails { AreTailsOf reasons.now tails.now }
-    requires within { IsWithin reasons.now told }
+    requires within { HasReason reasons.now told }
     ensures text { OnOk result (string_bytes text.new ≡ string_bytes text.old
         ++ next_entry_text told.question (reason_at reasons.now told.reason)) }
     ensures fits { OnOk result (EntryFits (entry_told reasons.now told)) }
@@ -126,7 +126,7 @@ fn push_next(
 
 // Adds the entries of questions that have the numbers of their reasons.
 fn push_told(text: &mut String, told: &[Told], reasons: &[Reason]) -> Result<(), AllocError>
-    requires { All (IsWithin reasons.now) told.now }
+    requires { All (HasReason reasons.now) told.now }
     ensures text { OnOk result (Appends text.old text.new
         (list_data entry_data (entries_told reasons.now told.now))) }
     ensures fits { OnOk result (All EntryFits (entries_told reasons.now told.now)) }

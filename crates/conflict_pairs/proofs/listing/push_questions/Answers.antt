@@ -3,7 +3,7 @@ use Rattle.std.specs.Prelude.{All}
 use Rattle.std.proofs.lemmas.List.Elements.{All-push}
 use Rattle.prog_paths.specs.Asked.{asked_by}
 use Rattle.conflict_pairs.specs.declared.pairing.PlacePair.{PlacePair}
-use Rattle.conflict_pairs.specs.Pairing.{IsWithin, question_at, questions_at}
+use Rattle.conflict_pairs.specs.Pairing.{HasPlaces, question_at, questions_at}
 use Rattle.conflict_pairs.proofs.Entries.{asked-end, asked-yes, asked-no}
 use Rattle.conflict_pairs.proofs.Paired.{given-pushed, number-fits, number-is, number-small, number-there, pair-question}
 use Rattle.conflict_pairs.proofs.listing.push_questions.Goals as goal
@@ -42,14 +42,14 @@ loop-second-preserved c =
                 (number-is starts places c.requires.few _ (c.requires.seconds c.loop-second.second-index _ (omega arith)) w.number_among.result w.number_among.ensures)))
                 c.loop-second.invariant.questions;
             within =
-                subst (λ (l : List PlacePair). All (IsWithin places) l) (sym added)
-                (All-push (IsWithin places) old w.pair_of.result c.loop-second.invariant.within (record { first_within = first_there; second_within = second_there }));
+                subst (λ (l : List PlacePair). All (HasPlaces places) l) (sym added)
+                (All-push (HasPlaces places) old w.pair_of.result c.loop-second.invariant.within (record { first_within = first_there; second_within = second_there }));
           }
       | else-asks w ↦ record {
         questions =
             asked-no (questions_at places old) (questions_at places new) whole first c.loop-second.second-index c.args.seconds.now _ (omega arith) (sym c.asks.ensures ∙ w.if-asks.false)
             (ap (λ (v : Vec PlacePair Global). questions_at places v.items) w.pairs-is) c.loop-second.invariant.questions;
-        within = subst (λ (v : Vec PlacePair Global). All (IsWithin places) v.items) (sym w.pairs-is) c.loop-second.invariant.within;
+        within = subst (λ (v : Vec PlacePair Global). All (HasPlaces places) v.items) (sym w.pairs-is) c.loop-second.invariant.within;
       }
     ]
 

@@ -8,7 +8,7 @@ use Rattle.conflict_pairs.specs.declared.pairing.PlacePair.{PlacePair}
 use Rattle.conflict_pairs.specs.Alike.{AreShown, IsLike}
 use Rattle.conflict_pairs.specs.Interning.{AreInterned}
 use Rattle.conflict_pairs.specs.Classes.{starts_from}
-use Rattle.conflict_pairs.specs.Pairing.{IsAskedAt, IsWithin, StandsAt, asked_at, questions_at}
+use Rattle.conflict_pairs.specs.Pairing.{IsAskedAt, HasPlaces, StandsAt, asked_at, questions_at}
 use Rattle.conflict_pairs.proofs.Paired.{all-stand, all_within, asked-pairs, shown-pairs}
 use Rattle.conflict_pairs.proofs.listing.questions_of.Goals as goal
 
@@ -26,7 +26,7 @@ pub intern_all-requires : goal.intern_all-requires
 intern_all-requires c =
     let paths = c.args.paths.now in
     let places = c.deref.ensures.value ∙ c.in_ok-places.ensures in
-    let within = subst (λ (l : List Placed). All (IsWithin l) c.in_ok-pairs.pairs.items) places c.in_ok-pairs.ensures.within in
+    let within = subst (λ (l : List Placed). All (HasPlaces l) c.in_ok-pairs.pairs.items) places c.in_ok-pairs.ensures.within in
     let all =
     subst (λ (l : List Placed). questions_at l c.in_ok-pairs.pairs.items ≡ asked_among l l) places c.in_ok-pairs.ensures.questions in
     subst (λ (l : List Path). All (IsAskedAt l) c.deref-4.result.now) (sym c.in_ok-classes.ensures)
@@ -37,8 +37,8 @@ questions_between-requires c =
     let values = c.in_ok-values.field-0.values.items in
     let places = c.deref-5.ensures.value ∙ c.in_ok-places.ensures in
     let sound = subst (λ (l : List Path). All (IsAskedAt l) values) c.in_ok-classes.ensures c.in_ok-values.ensures.sound in
-    subst (λ (l : List Placed). All (IsWithin l) c.deref-6.result.now) (sym places)
-    (subst (λ (l : List PlacePair). All (IsWithin (all_from 0 c.args.paths.now)) l) (sym c.deref-6.ensures.value) (all_within c.args.paths.now values sound))
+    subst (λ (l : List Placed). All (HasPlaces l) c.deref-6.result.now) (sym places)
+    (subst (λ (l : List PlacePair). All (HasPlaces (all_from 0 c.args.paths.now)) l) (sym c.deref-6.ensures.value) (all_within c.args.paths.now values sound))
 
 pub returns-clause-listed : goal.returns-clause-listed
 returns-clause-listed c =
@@ -59,4 +59,4 @@ returns-clause-listed c =
     }
 
 pub returns-clause-within : goal.returns-clause-within
-returns-clause-within c = subst (λ (l : List Placed). All (IsWithin l) c.in_ok-pairs.pairs.items) c.deref.ensures.value c.in_ok-pairs.ensures.within
+returns-clause-within c = subst (λ (l : List Placed). All (HasPlaces l) c.in_ok-pairs.pairs.items) c.deref.ensures.value c.in_ok-pairs.ensures.within

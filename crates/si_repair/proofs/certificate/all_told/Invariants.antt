@@ -1,6 +1,6 @@
 use Rattle.std.proofs.Common.{◌≡◌, ◌++◌, drop}
 use Rattle.std.specs.Prelude.{All}
-use Rattle.robust_cert.specs.Sharing.{entries_told, IsWithin}
+use Rattle.robust_cert.specs.Sharing.{entries_told, HasReason}
 use Rattle.si_repair.specs.Telling.{told_of}
 use Rattle.si_repair.proofs.certificate.all_told.Given as goal
 
@@ -8,5 +8,5 @@ use Rattle.si_repair.proofs.certificate.all_told.Given as goal
 abbrev pub invariant-loop-n : goal.invariant-loop-n
 invariant-loop-n l = record {
   entries : entries_told l.given.values.items l.told.items ++ told_of (drop l.n l.table.entries) ≡ told_of l.table.entries;
-  within : All (IsWithin l.given.values.items) l.told.items;
+  within : All (HasReason l.given.values.items) l.told.items;
 }

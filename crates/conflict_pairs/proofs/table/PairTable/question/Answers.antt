@@ -2,7 +2,7 @@ use Rattle.std.proofs.Common.{◌≡◌, ℕ, ◌<◌, List, length, sym, ap, su
 use Rattle.std.specs.Prelude.{Some, slice_get}
 use Rattle.prog_paths.specs.declared.accesses.places.Placed.{Placed}
 use Rattle.conflict_pairs.specs.declared.pairing.PlacePair.{PlacePair}
-use Rattle.conflict_pairs.specs.Pairing.{IsWithin, question_at, questions_at}
+use Rattle.conflict_pairs.specs.Pairing.{HasPlaces, question_at, questions_at}
 use Rattle.conflict_pairs.specs.Table.{Entry, Table}
 use Rattle.conflict_pairs.proofs.Numbered.{entries-at}
 use Rattle.conflict_pairs.proofs.Paired.{pair-at, pairs-length}
@@ -22,8 +22,8 @@ question_of-requires c =
     subst (λ (k : ℕ). c.args.n < k)
     (sym (ap (λ (t : Table). length t.entries) c.self.view_is) ∙ pairs-length inside.verdicts.items inside.places.items inside.pairs.items inside.numbers.items c.self.invariant.one_each)
     c.requires in
-    subst (λ (l : List Placed). IsWithin l c.index.result.now) (sym c.deref.ensures.value)
-    (subst (λ (p : PlacePair). IsWithin inside.places.items p) (sym c.index.ensures) (c.self.invariant.placed c.args.n c.index.result.now within))
+    subst (λ (l : List Placed). HasPlaces l c.index.result.now) (sym c.deref.ensures.value)
+    (subst (λ (p : PlacePair). HasPlaces inside.places.items p) (sym c.index.ensures) (c.self.invariant.placed c.args.n c.index.result.now within))
 
 pub returns : goal.returns
 returns c e at =
