@@ -45,7 +45,7 @@ fn covers(closed: &Closed, mine: &Access, theirs: &Access) -> bool
 }
 
 /// The number of the first access that covers with one of the first path.
-fn covering(closed: &Closed, mine: &Access, theirs: &[Access]) -> Option<usize>
+fn first_covering(closed: &Closed, mine: &Access, theirs: &[Access]) -> Option<usize>
     ensures some { IfSome result (λ t. (of_theirs : Access)
         × (slice_get theirs.now t ≡ Some of_theirs) × CoversBy closed.now mine.now of_theirs) }
     ensures first { IfSome result (λ t. (j : ℕ) (of_theirs : Access) → j < t
@@ -64,7 +64,7 @@ pub fn least_cover(closed: &Closed, mine: &[Access], theirs: &[Access]) -> Optio
     ensures none { IfNone result ((m t : ℕ) → ¬ CoversAt closed.now mine.now theirs.now m t) }
 {
     for (m, of_mine) in mine.iter().enumerate() {
-        if let Some(t) = covering(closed, of_mine, theirs) {
+        if let Some(t) = first_covering(closed, of_mine, theirs) {
             return Some((m, t));
         }
     }

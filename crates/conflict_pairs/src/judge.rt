@@ -58,7 +58,7 @@ fn chains_at(
 }
 
 /// What is said of a question that nothing covers.
-fn uncovered(closed: &Closed, mine: &Access, theirs: &Access) -> Result<Verdict, AllocError>
+fn uncovered_verdict(closed: &Closed, mine: &Access, theirs: &Access) -> Result<Verdict, AllocError>
     requires { closed.now ≡ question_facts mine.now theirs.now }
     ensures { IfOk result (λ verdict. IsUncovered closed.now verdict) }
 {
@@ -72,7 +72,7 @@ fn uncovered(closed: &Closed, mine: &Access, theirs: &Access) -> Result<Verdict,
 }
 
 /// What the closed facts say of the question of two accesses of two paths.
-fn judged_closed(
+fn verdict_by_closed(
     alloc: Global,
     xs: &[Access],
     ys: &[Access],
@@ -90,13 +90,13 @@ fn judged_closed(
             chains,
         });
     }
-    let verdict = uncovered(&closed, mine, theirs)?;
+    let verdict = uncovered_verdict(&closed, mine, theirs)?;
     Ok(verdict)
 }
 
 /// What the facts say of the question of two accesses of two paths, at once where two of its
 /// numbers fall.
-fn judged(
+fn verdict_by_facts(
     alloc: Global,
     xs: &[Access],
     ys: &[Access],
@@ -109,7 +109,7 @@ fn judged(
 {
     match number_fall(mine, theirs) {
         Some(chain) => Ok(Verdict::Apart(chain)),
-        None => judged_closed(alloc, xs, ys, mine, theirs),
+        None => verdict_by_closed(alloc, xs, ys, mine, theirs),
     }
 }
 
@@ -125,7 +125,7 @@ pub fn verdict(alloc: Global, x: &Path, a: usize, y: &Path, b: usize) -> Result<
 {
     let xs = x.accesses.as_slice();
     let ys = y.accesses.as_slice();
-    judged(alloc, xs, ys, &xs[a], &ys[b])
+    verdict_by_facts(alloc, xs, ys, &xs[a], &ys[b])
 }
 
 /// Whether the closed facts of two accesses can be met, and nothing in their lists covers.
@@ -191,7 +191,7 @@ fn verdict_of(alloc: Global, paths: &[Path], question: &Question) -> Result<Verd
 {
     let xs = paths[question.x].accesses.as_slice();
     let ys = paths[question.y].accesses.as_slice();
-    judged(alloc, xs, ys, &xs[question.a], &ys[question.b])
+    verdict_by_facts(alloc, xs, ys, &xs[question.a], &ys[question.b])
 }
 
 /// The verdicts on some questions, in their order.

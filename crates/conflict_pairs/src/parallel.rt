@@ -51,7 +51,7 @@ fn parts_of(
 }
 
 /// The verdicts of all parts, one part after the other.
-fn joined(alloc: Global, parts: Vec<Vec<Verdict>>) -> Result<Vec<Verdict>, AllocError>
+fn all_verdicts(alloc: Global, parts: Vec<Vec<Verdict>>) -> Result<Vec<Verdict>, AllocError>
     ensures { IfOk result (λ verdicts. verdicts.items ≡ verdicts_in parts.items) }
 {
     let mut verdicts = Vec::new(alloc);
@@ -79,6 +79,6 @@ pub fn pairs_par(
     }
     let questions = questions_of(alloc, paths, count)?;
     let parts = parts_of(rt, alloc, paths, &questions.judged)?;
-    let verdicts = joined(alloc, parts)?;
+    let verdicts = all_verdicts(alloc, parts)?;
     Ok(table_of(paths, questions, verdicts))
 }

@@ -17,7 +17,7 @@ use robust_cert::{Certificate, Entries, Question, Reason, Told, body_size};
 use std::alloc::{AllocError, Global};
 
 /// A number as a certificate has it.
-pub(crate) fn small(number: usize) -> u32
+pub(crate) fn as_u32(number: usize) -> u32
     requires { IsSmall number }
     ensures { result ≡ number }
 {
@@ -29,10 +29,10 @@ fn told_question(asked: conflict_pairs::Question) -> Question
     ensures { result ≡ told_question asked }
 {
     Question {
-        x: small(asked.x),
-        a: small(asked.a),
-        y: small(asked.y),
-        b: small(asked.b),
+        x: as_u32(asked.x),
+        a: as_u32(asked.a),
+        y: as_u32(asked.y),
+        b: as_u32(asked.b),
     }
 }
 
@@ -98,7 +98,7 @@ fn levels_of(alloc: Global, graph: &Graph<'_>) -> Result<Vec<u32>, AllocError>
 {
     let mut levels = Vec::with_capacity(alloc, graph.nodes())?;
     for x in 0..graph.nodes() {
-        levels.push(small(graph.level(x)))?;
+        levels.push(as_u32(graph.level(x)))?;
     }
     Ok(levels)
 }
@@ -110,7 +110,7 @@ fn bodies_of(alloc: Global, paths: &[Path]) -> Result<Vec<u32>, AllocError>
 {
     let mut bodies = Vec::with_capacity(alloc, paths.len())?;
     for path in paths {
-        bodies.push(small(body_size(path)))?;
+        bodies.push(as_u32(body_size(path)))?;
     }
     Ok(bodies)
 }

@@ -2,7 +2,7 @@
 ghost use Rattle.std.specs.Prelude.{◌≡◌, All, IsTrue, IfOk};
 ghost use Rattle.si_repair.specs.Telling.{reason_of, Gives, AreGiven, TightFits, VerdictFits};
 
-use crate::certificate::small;
+use crate::certificate::as_u32;
 use conflict_pairs::{Interned, Interner, Verdict, intern_all};
 use order_facts::{Node, Nodes};
 use prog_tree::Sequence;
@@ -45,8 +45,8 @@ fn reason_of(alloc: Global, verdict: &Verdict) -> Result<Reason, AllocError>
             theirs,
             chains,
         } => Ok(Reason::Cover {
-            mine: small(*mine),
-            theirs: small(*theirs),
+            mine: as_u32(*mine),
+            theirs: as_u32(*theirs),
             chains: copies_of(alloc, chains.as_slice())?,
         }),
         Verdict::Exposed(_) => Ok(Reason::Cover {
@@ -106,16 +106,16 @@ fn is_given(reason: &Reason, verdict: &Verdict) -> bool
 }
 
 // A number for what was seen and one thing more.
-fn mixed(seen: usize, number: usize) -> usize {
+fn mix(seen: usize, number: usize) -> usize {
     seen.wrapping_mul(2_531).wrapping_add(number)
 }
 
 fn node_mark(node: Node) -> usize {
     match node {
-        Node::Mine(index) => mixed(1, index),
-        Node::MineUnknown(index) => mixed(2, index),
-        Node::Theirs(index) => mixed(3, index),
-        Node::TheirsUnknown(index) => mixed(4, index),
+        Node::Mine(index) => mix(1, index),
+        Node::MineUnknown(index) => mix(2, index),
+        Node::Theirs(index) => mix(3, index),
+        Node::TheirsUnknown(index) => mix(4, index),
         Node::Number(number) => number.unsigned_abs() as usize,
     }
 }
@@ -125,7 +125,7 @@ fn chain_mark(chain: &conflict_pairs::Chain) -> usize {
     match chain.as_slice() {
         [] => 0,
         [only] => node_mark(*only),
-        [first, second, ..] => mixed(node_mark(*first), node_mark(*second)),
+        [first, second, ..] => mix(node_mark(*first), node_mark(*second)),
     }
 }
 
@@ -134,7 +134,7 @@ fn chains_mark(chains: &[conflict_pairs::Chain]) -> usize {
     match chains {
         [] => 0,
         [only] => chain_mark(only),
-        [first, .., last] => mixed(chain_mark(first), chain_mark(last)),
+        [first, .., last] => mix(chain_mark(first), chain_mark(last)),
     }
 }
 
@@ -146,7 +146,7 @@ fn reason_mark(verdict: &Verdict) -> usize {
             mine,
             theirs,
             chains,
-        } => mixed(mixed(*mine, *theirs), chains_mark(chains.as_slice())),
+        } => mix(mix(*mine, *theirs), chains_mark(chains.as_slice())),
         Verdict::Exposed(_) => 0,
     }
 }

@@ -6,7 +6,7 @@ ghost use Rattle.repair_laws.specs.Plans.{IsPlan};
 ghost use Rattle.si_repair.specs.Planning.{AreClosing, AreOfPrograms, IsBeforeTurn, IsPartialPlan};
 
 use crate::plans::closing::Triple;
-use crate::plans::open::{is_open_at, without};
+use crate::plans::open::{is_open_at, triples_without};
 use repair_laws::Pair;
 use std::alloc::{AllocError, Global};
 
@@ -26,7 +26,7 @@ fn take_turn(alloc: Global, partial: PartialPlan, turn: Pair) -> Result<PartialP
     if !is_open_at(&partial.left, turn) {
         return Ok(partial);
     }
-    let left = without(alloc, &partial.left, turn)?;
+    let left = triples_without(alloc, &partial.left, turn)?;
     let mut plan = partial.plan;
     plan.push(turn)?;
     Ok(PartialPlan { plan, left })

@@ -35,7 +35,11 @@ pub fn is_open_at(triples: &[Triple], turn: Pair) -> bool
 }
 
 /// The triples that don't have the pair.
-pub fn without(alloc: Global, triples: &[Triple], pair: Pair) -> Result<Vec<Triple>, AllocError>
+pub fn triples_without(
+    alloc: Global,
+    triples: &[Triple],
+    pair: Pair,
+) -> Result<Vec<Triple>, AllocError>
     ensures { IfOk result (λ left. AreWithout triples.now pair left.items) }
 {
     let mut left = Vec::new(alloc);

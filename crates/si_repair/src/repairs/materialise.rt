@@ -13,9 +13,9 @@ ghost use Rattle.si_repair.specs.declared.repairs.fault.RepairFault.TheVariants.
 
 use crate::plans::Plan;
 use crate::repairs::bisecting::{Firsts, most_that_fit};
-use crate::repairs::checked::checked;
+use crate::repairs::checked::checked_set;
 use crate::repairs::fault::RepairFault;
-use crate::repairs::front::materialised;
+use crate::repairs::front::materialised_draft;
 use crate::repairs::keeps::Meeting;
 use crate::repairs::key::key_of;
 use crate::repairs::names::free_name;
@@ -97,8 +97,8 @@ fn with_meetings(
         (IsRefused (materialised_by (draft_tree set.now) (all_met made.now)))) }
 {
     let draft = set.draft();
-    let whole = materialised(alloc, draft, made)?;
-    checked(alloc, whole)
+    let whole = materialised_draft(alloc, draft, made)?;
+    checked_set(alloc, whole)
 }
 
 /// The pairs that were met, of which the first ones are made.

@@ -14,7 +14,7 @@ ghost use Rattle.si_repair.specs.declared.repairs.fault.RepairFault.TheVariants.
 use crate::plans::Plan;
 use crate::repairs::behind::promoted_draft;
 use crate::repairs::bisecting::{Firsts, most_that_fit};
-use crate::repairs::checked::checked;
+use crate::repairs::checked::checked_set;
 use crate::repairs::exposed::exposed_questions;
 use crate::repairs::fault::RepairFault;
 use crate::repairs::marks::{MarkedStatement, with_reads};
@@ -143,7 +143,7 @@ fn with_keeps(
     let draft = set.draft();
     let marks = marked_statements(alloc, paths, covered)?;
     let whole = promoted_draft(alloc, draft, &marks)?;
-    checked(alloc, whole)
+    checked_set(alloc, whole)
 }
 
 /// The pairs that keeps cover, of which the first ones get theirs.

@@ -4,8 +4,8 @@ use Rattle.dep_graph.specs.Counting.{IsCountOf}
 use Rattle.si_repair.proofs.Fitting.{count-within, small_from, pushed}
 use Rattle.si_repair.proofs.certificate.levels_of.Goals as goal
 
-pub small-requires : goal.small-requires
-small-requires c =
+pub as_u32-requires : goal.as_u32-requires
+as_u32-requires c =
     let few = c.requires in
     let within = count-within _ (length few.paths) c.level.result (c.level.ensures few.paths few.stands) in
     let bound = few.few.paths in
@@ -15,7 +15,7 @@ pub loop-x-preserved : goal.loop-x-preserved
 loop-x-preserved c = record {
   one_each = omega (arith, c.in_ok-push.ensures.len, c.loop-x.invariant.one_each);
   counted = λ paths s.
-      pushed (λ x n. IsCountOf (λ u. Leads (StaticEdge paths) u x) (length paths) n) c.loop-x.levels.items c.push.new.self.items c.small.result c.loop-x.x c.loop-x.invariant.one_each c.in_ok-push.ensures.items (c.loop-x.invariant.counted paths s) (rw c.small.ensures (c.level.ensures paths s));
+      pushed (λ x n. IsCountOf (λ u. Leads (StaticEdge paths) u x) (length paths) n) c.loop-x.levels.items c.push.new.self.items c.as_u32.result c.loop-x.x c.loop-x.invariant.one_each c.in_ok-push.ensures.items (c.loop-x.invariant.counted paths s) (rw c.as_u32.ensures (c.level.ensures paths s));
 }
 
 pub returns : goal.returns

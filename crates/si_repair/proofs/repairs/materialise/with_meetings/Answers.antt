@@ -11,9 +11,9 @@ use Rattle.si_repair.proofs.repairs.materialise.with_meetings.Goals as goal
 pub returns-clause-made : goal.returns-clause-made
 returns-clause-made c =
     let is = c.in_ok-whole.ensures ∙ ap (λ (d : Draft). materialised_by (draft_tree d) (all_met c.args.made.now)) c.draft-draft.ensures.same in
-    subst (λ (d : DraftTree). IfOk c.checked.result (λ o. IfSome o (λ s. draft_tree s ≡ d))) is c.checked.ensures.made
+    subst (λ (d : DraftTree). IfOk c.checked_set.result (λ o. IfSome o (λ s. draft_tree s ≡ d))) is c.checked_set.ensures.made
 
 pub returns-clause-refused : goal.returns-clause-refused
 returns-clause-refused c =
     let is = c.in_ok-whole.ensures ∙ ap (λ (d : Draft). materialised_by (draft_tree d) (all_met c.args.made.now)) c.draft-draft.ensures.same in
-    subst (λ (d : DraftTree). IfOk c.checked.result (λ o. IfNone o (IsRefused d))) is c.checked.ensures.refused
+    subst (λ (d : DraftTree). IfOk c.checked_set.result (λ o. IfNone o (IsRefused d))) is c.checked_set.ensures.refused

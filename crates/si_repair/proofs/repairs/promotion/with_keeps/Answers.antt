@@ -20,7 +20,7 @@ returns-clause-made c =
     let marked = is_marked c.in_ok-marks.marks.items in
     let exposed = subst (λ (l : List Path). MarksExposed l (pairs_of c.args.covered.now) marked) c.requires.paths c.in_ok-marks.ensures in
     let is = c.in_ok-whole.ensures ∙ (λ i. promoted_by (draft_tree (c.draft-draft.ensures.same i)) (is_marked (c.deref.ensures.value i))) in
-    IfOk-weaker c.checked.result _ _ (λ o some. IfSome_then o some (λ s made. (marked, exposed, made ∙ is))) c.checked.ensures.made
+    IfOk-weaker c.checked_set.result _ _ (λ o some. IfSome_then o some (λ s made. (marked, exposed, made ∙ is))) c.checked_set.ensures.made
 
 pub returns-clause-refused : goal.returns-clause-refused
 returns-clause-refused c =
@@ -28,5 +28,5 @@ returns-clause-refused c =
     let marked = is_marked c.in_ok-marks.marks.items in
     let exposed = subst (λ (l : List Path). MarksExposed l (pairs_of c.args.covered.now) marked) c.requires.paths c.in_ok-marks.ensures in
     let is = c.in_ok-whole.ensures ∙ (λ i. promoted_by (draft_tree (c.draft-draft.ensures.same i)) (is_marked (c.deref.ensures.value i))) in
-    IfOk-weaker c.checked.result _ _ (λ o none. none_then o _ _ (λ refused. (promoted_by draft marked, (marked, exposed, refl), subst (λ (d : DraftTree). IsRefused d) is refused)) none)
-    c.checked.ensures.refused
+    IfOk-weaker c.checked_set.result _ _ (λ o none. none_then o _ _ (λ refused. (promoted_by draft marked, (marked, exposed, refl), subst (λ (d : DraftTree). IsRefused d) is refused)) none)
+    c.checked_set.ensures.refused

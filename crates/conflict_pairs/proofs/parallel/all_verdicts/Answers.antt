@@ -1,7 +1,7 @@
 use Rattle.std.proofs.Common.{◌≡◌, length, ap, arith}
 use Rattle.conflict_pairs.specs.Table.{verdicts_in}
 use Rattle.conflict_pairs.proofs.Parts.{joined-more, joined-end}
-use Rattle.conflict_pairs.proofs.parallel.joined.Goals as goal
+use Rattle.conflict_pairs.proofs.parallel.all_verdicts.Goals as goal
 
 pub loop-part-init : goal.loop-part-init
 loop-part-init c = rw c.new-verdicts.ensures.items (ap verdicts_in c.into_iter-part-iterator.ensures.into_iter_gives.0)

@@ -1,5 +1,5 @@
 use Rattle.conflict_pairs.proofs.Meaning.{IsJudged-from_uncovered}
-use Rattle.conflict_pairs.proofs.judge.judged_closed.Goals as goal
+use Rattle.conflict_pairs.proofs.judge.verdict_by_closed.Goals as goal
 
 pub returns : goal.returns
 returns c =
