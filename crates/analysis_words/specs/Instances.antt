@@ -22,15 +22,15 @@ abbrev pub opening : (number : ℕ) → List ℕ
 opening number = if number == 0 then codes " with (" else codes ", "
 
 -- a parameter with the number that a sample gives it
-abbrev pub given : List Choice → (is_first : Bool) → (number : ℕ) → Name → List ℕ
-given sample is_first number name =
+abbrev pub given_text : List Choice → (is_first : Bool) → (number : ℕ) → Name → List ℕ
+given_text sample is_first number name =
     opening number ++ (name ++ (codes " = " ++ signed_decimal (sample_number sample (node_of is_first number))))
 
 -- parameters that are counted from this number on
 abbrev pub given_from : List Choice → (is_first : Bool) → (number : ℕ) → List Name → List ℕ
 given_from sample is_first number [] = []
 given_from sample is_first number (name ∷ names) =
-    given sample is_first number name ++ given_from sample is_first (number + 1) names
+    given_text sample is_first number name ++ given_from sample is_first (number + 1) names
 
 -- each parameter with its number, as ` with (from = 0, to = 7)`; nothing where there is none
 abbrev pub numbers_text : List Choice → (is_first : Bool) → List Name → List ℕ

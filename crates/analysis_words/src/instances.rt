@@ -1,6 +1,6 @@
 //! Instances of programs with the numbers that samples give their parameters.
 ghost use Rattle.std.specs.Prelude.{◌≡◌, IfOk, string_bytes};
-ghost use Rattle.analysis_words.specs.Instances.{given, given_from, instance_text, node_of, numbers_along, numbers_text, opening, params_along};
+ghost use Rattle.analysis_words.specs.Instances.{given_text, given_from, instance_text, node_of, numbers_along, numbers_text, opening, params_along};
 ghost use Rattle.analysis_words.specs.Nodes.{seen};
 
 use crate::shown::{Shown, node_name};
@@ -28,7 +28,7 @@ fn opening(number: usize) -> &'static str
 }
 
 // A parameter with the number that a sample gives it.
-fn given(
+fn given_text(
     alloc: Global,
     sample: &Sample,
     is_first: bool,
@@ -36,7 +36,7 @@ fn given(
     name: &Name,
 ) -> Result<String, AllocError>
     ensures { IfOk result (λ text. string_bytes text
-        ≡ given sample.now is_first number name.now) }
+        ≡ given_text sample.now is_first number name.now) }
 {
     let opening = opening(number);
     let value = sample.get(node_of(is_first, number));
@@ -44,7 +44,7 @@ fn given(
 }
 
 // All parameters with their numbers, from the bracket on that opens.
-fn listed(
+fn given_list(
     alloc: Global,
     sample: &Sample,
     is_first: bool,
@@ -55,7 +55,7 @@ fn listed(
 {
     let mut text = String::new(alloc);
     for (number, name) in params.iter().enumerate() {
-        let given = given(alloc, sample, is_first, number, name)?;
+        let given = given_text(alloc, sample, is_first, number, name)?;
         text.push_str(&given)?;
     }
     Ok(text)
@@ -74,7 +74,7 @@ fn numbers_text(
     let [_, ..] = params else {
         return Ok(String::new(alloc));
     };
-    let listed = listed(alloc, sample, is_first, params)?;
+    let listed = given_list(alloc, sample, is_first, params)?;
     format!(in alloc; "{listed})")
 }
 

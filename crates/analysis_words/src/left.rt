@@ -41,7 +41,7 @@ fn further_pairs(alloc: Global, set: &ProgramSet, pairs: &[Pair]) -> Result<Stri
 }
 
 // Those that are named.
-fn named(pairs: &[Pair]) -> &[Pair]
+fn first_named(pairs: &[Pair]) -> &[Pair]
     ensures { result.now ≡ take MAX_FURTHER pairs.now }
 {
     pairs.get(..MAX_FURTHER).unwrap_or(pairs)
@@ -66,7 +66,7 @@ pub fn left_text(alloc: Global, set: &ProgramSet, pairs: &[Pair]) -> Result<Stri
     };
     let count = pair_count_text(alloc, pairs.len())?;
     let first = pair_text(alloc, set, *first)?;
-    let further = further_pairs(alloc, set, named(others))?;
+    let further = further_pairs(alloc, set, first_named(others))?;
     let more = more_text(alloc, others.len().saturating_sub(MAX_FURTHER))?;
     format!(in alloc; "for the whole set {count} to be kept apart: {first}{further}{more}\n")
 }

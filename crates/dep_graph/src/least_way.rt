@@ -11,7 +11,7 @@ use order_facts::Square;
 use std::alloc::{AllocError, Global};
 
 /// The least node that an edge leads to and that is so many steps from the end.
-fn nearer(edges: &Square, distances: &[Option<usize>], node: usize, steps: usize) -> usize
+fn nearer_node(edges: &Square, distances: &[Option<usize>], node: usize, steps: usize) -> usize
     requires node { node < edges.now.size }
     requires size { length distances.now ≡ edges.now.size }
     requires some { (w : ℕ) × StepsNearer edges.now distances.now node steps w }
@@ -48,7 +48,7 @@ fn walk(
     let mut left = steps;
     while left > 0 {
         left -= 1;
-        at = nearer(edges, distances, at, left);
+        at = nearer_node(edges, distances, at, left);
         way.push(at)?;
     }
     Ok(way)

@@ -7,7 +7,7 @@ ghost use Rattle.robust_cert.specs.Accepted.{question_of};
 ghost use Rattle.robust_cert.specs.Leaving.{some_edge, some_vulnerable, Leaves, IsReady, Passes};
 
 use crate::checking::numbers::Numbers;
-use crate::checking::telling::{mark_with, told};
+use crate::checking::telling::{mark_with, telling_at};
 use crate::entries::Entries;
 use prog_check::Path;
 use prog_paths::{Changers, EdgeTables, Placed, all_places, asks, question_between};
@@ -29,7 +29,7 @@ fn enter_question(
         return cursor;
     }
     let question = question_between(first, second);
-    let (telling, behind) = told(entries, cursor, Numbers::of_question(question));
+    let (telling, behind) = telling_at(entries, cursor, Numbers::of_question(question));
     left.enter(mark_with(question, telling));
     behind
 }

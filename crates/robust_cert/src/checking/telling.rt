@@ -29,7 +29,7 @@ fn told_by(reason: &Reason) -> Telling
 }
 
 /// The first entry from the cursor on that stands not before the question.
-fn advanced(entries: &Entries, cursor: usize, question: Numbers) -> usize
+fn cursor_at(entries: &Entries, cursor: usize, question: Numbers) -> usize
     requires { IsBehind entries.now cursor (question_with question) }
     ensures passed { IsBehind entries.now result (question_with question) }
     ensures stops { (e : Entry) → slice_get entries.now result ≡ Some e
@@ -43,13 +43,13 @@ fn advanced(entries: &Entries, cursor: usize, question: Numbers) -> usize
 }
 
 /// What the entries tell of the question, and the cursor for the questions behind it.
-pub fn told(entries: &Entries, cursor: usize, question: Numbers) -> (Telling, usize)
+pub fn telling_at(entries: &Entries, cursor: usize, question: Numbers) -> (Telling, usize)
     requires rising { RiseBy question_of entries.now }
     requires behind { IsBehind entries.now cursor (question_with question) }
     ensures telling { result.0 ≡ telling_of entries.now (question_with question) }
     ensures behind { IsBehind entries.now result.1 (question_with question) }
 {
-    let at = advanced(entries, cursor, question);
+    let at = cursor_at(entries, cursor, question);
     if at < entries.len() && Numbers::of_told(entries.question(at)).is_same(question) {
         (told_by(entries.reason(at)), at)
     } else {

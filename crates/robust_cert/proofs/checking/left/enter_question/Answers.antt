@@ -10,8 +10,8 @@ use Rattle.robust_cert.specs.Leaving.{Passes}
 use Rattle.robust_cert.proofs.Passing.{Passes-one}
 use Rattle.robust_cert.proofs.checking.left.enter_question.Goals as goal
 
-pub told-telling-requires-clause-behind : goal.told-telling-requires-clause-behind
-told-telling-requires-clause-behind c =
+pub telling_at-telling-requires-clause-behind : goal.telling_at-telling-requires-clause-behind
+telling_at-telling-requires-clause-behind c =
     let es = c.args.entries.now in
     let q : Asked = question_between c.args.first.now c.args.second.now in
     let asked : asks c.args.first.now c.args.second.now ≡ true = sym c.asks.ensures ∙ c.if-not-asks.false in
@@ -24,10 +24,10 @@ returns c =
     let es = c.args.entries.now in
     let q : Asked = question_between c.args.first.now c.args.second.now in
     let asked : asks c.args.first.now c.args.second.now ≡ true = sym c.asks.ensures ∙ c.if-not-asks.false in
-    let told = c.told-telling.result in
+    let told = c.telling_at-telling.result in
     let named : numbers_of q ≡ question_with c.of_question.result = sym (c.of_question.ensures ∙ ap numbers_of c.question_between-question.ensures) in
-    let tells : told.0 ≡ telling_of es (numbers_of q) = c.told-telling.ensures.telling ∙ ap (telling_of es) (sym named) in
+    let tells : told.0 ≡ telling_of es (numbers_of q) = c.telling_at-telling.ensures.telling ∙ ap (telling_of es) (sym named) in
     let is = c.mark_with.ensures ∙ ap (λ (p : Asked). mark_with p told.0) c.question_between-question.ensures in
-    let behind = subst (λ (p : Question). IsBehind es told.1 p) (sym named) c.told-telling.ensures.behind in
+    let behind = subst (λ (p : Question). IsBehind es told.1 p) (sym named) c.telling_at-telling.ensures.behind in
     subst (λ (l : List Asked). Passes es l c.args.cursor told.1 c.args.left.now c.enter.new.self) (sym (if_yes (asks c.args.first.now c.args.second.now) q [] asked))
     (Passes-one es q told.0 c.mark_with.result c.args.cursor told.1 c.args.left.now c.enter.new.self tells is c.enter.ensures behind)

@@ -1,6 +1,6 @@
 use Rattle.std.proofs.Common.{◌≡◌, ◌++◌, drop, string_bytes}
 use Rattle.analysis_words.specs.Instances.{given_from}
-use Rattle.analysis_words.proofs.instances.listed.Given as goal
+use Rattle.analysis_words.proofs.instances.given_list.Given as goal
 
 -- what comes behind the text so far makes it the whole
 abbrev pub invariant-loop-number : goal.invariant-loop-number

@@ -1,7 +1,7 @@
 use Rattle.std.proofs.Common.{◌≤◌, ℕ, length, subst}
 use Rattle.robust_cert.specs.Telling.{question_with}
 use Rattle.robust_cert.proofs.Cursor.{behind-more, stops-here, none-past}
-use Rattle.robust_cert.proofs.checking.telling.advanced.Goals as goal
+use Rattle.robust_cert.proofs.checking.telling.cursor_at.Goals as goal
 
 pub loop-at-preserved : goal.loop-at-preserved
 loop-at-preserved c =
