@@ -7,6 +7,7 @@ ghost use Rattle.prog_check.specs.Names.{place_among};
 ghost use Rattle.prog_paths.specs.Columns.{columns_with};
 ghost use Rattle.prog_paths.specs.Trails.{columns_by};
 
+use crate::limits::MAX_UNKNOWNS;
 use prog_check::{Column, Term};
 use prog_tree::{Expr, Key, Name, Range, Stmt};
 
@@ -61,7 +62,7 @@ fn single(term: Term) -> Column
 }
 
 fn columns_of_key(params: &[Name], unknown: usize, key: &Key) -> Columns
-    requires { unknown < 1024 }
+    requires { unknown < MAX_UNKNOWNS }
     ensures { columns_with result ≡ key_columns params.now unknown (key_tree key.now) }
 {
     match key {
@@ -87,7 +88,7 @@ fn columns_of_key(params: &[Name], unknown: usize, key: &Key) -> Columns
 }
 
 fn columns_of_range(params: &[Name], unknown: usize, range: &Range) -> Columns
-    requires { unknown < 1024 }
+    requires { unknown < MAX_UNKNOWNS }
     ensures { columns_with result ≡ range_columns params.now unknown (range_tree range.now) }
 {
     match range {
@@ -118,7 +119,7 @@ fn columns_of_range(params: &[Name], unknown: usize, range: &Range) -> Columns
 
 /// The columns of a statement's cells, or none where it has no table.
 pub fn columns_of(params: &[Name], unknown: usize, stmt: &Stmt) -> Option<Columns>
-    requires { unknown < 1024 }
+    requires { unknown < MAX_UNKNOWNS }
     ensures { option_map columns_with result ≡ columns_by params.now unknown (stmt_tree stmt.now) }
 {
     match stmt {

@@ -7,7 +7,7 @@ ghost use Rattle.prog_paths.specs.Trails.{path_with};
 
 use crate::path::trail::Trail;
 use crate::path::walk::walk_block;
-use prog_check::{Path, ProgramSet};
+use prog_check::{MAX_STATEMENTS, Path, ProgramSet};
 use prog_tree::{Program, Sequence};
 use std::alloc::{AllocError, Global};
 
@@ -38,7 +38,7 @@ fn add_paths(
     program: &Program,
     paths: &mut Vec<Path>,
 ) -> Result<(), AllocError>
-    requires { statement_count (program_tree program.now).body ≤ 256 }
+    requires { statement_count (program_tree program.now).body ≤ MAX_STATEMENTS }
     ensures { OnOk result (paths.new.items ≡ paths.old.items
         ++ program_paths set.now.tables.items number (program_tree program.now)) }
 {

@@ -4,6 +4,7 @@ ghost use Rattle.prog_tree.specs.Tree.{stmt_tree};
 ghost use Rattle.prog_paths.specs.Kinds.{items_of, access_with};
 ghost use Rattle.prog_paths.specs.Trails.{past, choosing_first};
 
+use crate::limits::MAX_UNKNOWNS;
 use crate::path::columns::{Columns, columns_of};
 use crate::path::kinds::{kinds, table_used};
 use prog_check::{Access, Accesses, Choices, Kind, ProgramSet};
@@ -96,7 +97,7 @@ pub fn pass(
     stmt: &Stmt,
     trail: &mut Trail,
 ) -> Result<(), AllocError>
-    requires { trail.old.unknown < 1024 }
+    requires { trail.old.unknown < MAX_UNKNOWNS }
     ensures { OnOk result (trail.new
         ≡ past set.now.tables.items params.now sure number (stmt_tree stmt.now) trail.old) }
 {

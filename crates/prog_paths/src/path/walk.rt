@@ -7,7 +7,7 @@ ghost use Rattle.prog_paths.specs.Trails.{IsLow, AreLow, alone, passes, commits,
 
 use crate::limits::MAX_COUNTED;
 use crate::path::trail::{Trail, pass};
-use prog_check::ProgramSet;
+use prog_check::{MAX_STATEMENTS, ProgramSet};
 use prog_tree::{Block, Name, Stmt};
 use std::alloc::{AllocError, Global};
 
@@ -79,7 +79,7 @@ fn pass_inside(
     stmt: &Stmt,
     trail: Trail,
 ) -> Result<Trail, AllocError>
-    requires few { number + statement_count (alone (stmt_tree stmt.now)) ≤ 256 }
+    requires few { number + statement_count (alone (stmt_tree stmt.now)) ≤ MAX_STATEMENTS }
     requires low { IsLow number trail }
     ensures { IfOk result (λ r. r
         ≡ past_body set.now.tables.items params.now number (alone (stmt_tree stmt.now)) trail) }
@@ -115,7 +115,7 @@ fn pass_body(
     body: &Block,
     trail: Trail,
 ) -> Result<Trail, AllocError>
-    requires few { number + statement_count (block_tree body.now) ≤ 256 }
+    requires few { number + statement_count (block_tree body.now) ≤ MAX_STATEMENTS }
     requires low { IsLow number trail }
     ensures { IfOk result (λ r. r
         ≡ past_body set.now.tables.items params.now number (block_tree body.now) trail) }
@@ -137,7 +137,7 @@ fn pass_whole(
     stmt: &Stmt,
     trail: Trail,
 ) -> Result<Trail, AllocError>
-    requires few { number + statement_count (alone (stmt_tree stmt.now)) ≤ 256 }
+    requires few { number + statement_count (alone (stmt_tree stmt.now)) ≤ MAX_STATEMENTS }
     requires low { IsLow number trail }
     requires passes { passes (stmt_tree stmt.now) ≡ true }
     ensures { IfOk result (λ r. r ∷ [] ≡ map (along set.now.tables.items params.now trail)
@@ -163,7 +163,7 @@ fn pass_all(
     stmt: &Stmt,
     trails: Vec<Trail>,
 ) -> Result<Vec<Trail>, AllocError>
-    requires few { number + statement_count (alone (stmt_tree stmt.now)) ≤ 256 }
+    requires few { number + statement_count (alone (stmt_tree stmt.now)) ≤ MAX_STATEMENTS }
     requires low { AreLow number trails.items }
     requires passes { passes (stmt_tree stmt.now) ≡ true }
     ensures { IfOk result (λ r. r.items ≡ all_along set.now.tables.items params.now trails.items
@@ -186,7 +186,7 @@ fn walk_stmt(
     stmt: &Stmt,
     trails: Vec<Trail>,
 ) -> Result<Vec<Trail>, AllocError>
-    requires few { number + statement_count (alone (stmt_tree stmt.now)) ≤ 256 }
+    requires few { number + statement_count (alone (stmt_tree stmt.now)) ≤ MAX_STATEMENTS }
     requires low { AreLow number trails.items }
     ensures { IfOk result (λ r. r.items ≡ all_along set.now.tables.items params.now trails.items
         (routes number (alone (stmt_tree stmt.now)))) }
@@ -224,7 +224,7 @@ pub fn walk_block(
     block: &Block,
     trail: Trail,
 ) -> Result<Vec<Trail>, AllocError>
-    requires few { number + statement_count (block_tree block.now) ≤ 256 }
+    requires few { number + statement_count (block_tree block.now) ≤ MAX_STATEMENTS }
     requires low { IsLow number trail }
     ensures { IfOk result (λ r. r.items ≡ map (along set.now.tables.items params.now trail)
         (routes number (block_tree block.now))) }

@@ -11,6 +11,7 @@ ghost use Rattle.si_repair.specs.Promoting.{is_marked, cell_read_by, count_by, w
 
 use crate::repairs::copies::{copy_names, copy_tables};
 use crate::repairs::marks::{MarkedStatement, is_marked};
+use prog_check::MAX_STATEMENTS;
 use prog_paths::count_statements;
 use prog_tree::{Block, Draft, Key, Name, Program, Stmt};
 use std::alloc::{AllocError, Global};
@@ -94,7 +95,7 @@ fn keeps_in_stmt(
     number: usize,
     stmt: &Stmt,
 ) -> Result<NumberedStmt, AllocError>
-    requires { number + count_by (stmt_tree stmt.now) ≤ 256 }
+    requires { number + count_by (stmt_tree stmt.now) ≤ MAX_STATEMENTS }
     ensures next { IfOk result (λ kept. kept.next ≡ number + count_by (stmt_tree stmt.now)) }
     ensures kept { IfOk result (λ kept. stmt_tree kept.stmt
         ≡ with_keeps_in (is_marked marks.now program) number (stmt_tree stmt.now)) }
@@ -136,7 +137,7 @@ fn keeps_in_block(
     number: usize,
     block: &Block,
 ) -> Result<NumberedBlock, AllocError>
-    requires { number + statement_count (block_tree block.now) ≤ 256 }
+    requires { number + statement_count (block_tree block.now) ≤ MAX_STATEMENTS }
     ensures next { IfOk result (λ kept.
         kept.next ≡ number + statement_count (block_tree block.now)) }
     ensures kept { IfOk result (λ kept. block_tree kept.block
