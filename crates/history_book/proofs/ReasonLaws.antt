@@ -9,6 +9,7 @@ use Rattle.prog_tree.specs.declared.cell.Cell.{Cell}
 use Rattle.prog_tree.specs.declared.cell.Region.{Region}
 use Rattle.prog_tree.specs.Table.{is_same_cell, is_cell_among}
 use Rattle.prog_tree.proofs.TableStates.{cell_is}
+use Rattle.prog_tree.proofs.CellSets.{same-itself}
 use Rattle.history_book.specs.Reasons.{Changed, Looked, LookedAlone, LookedIn, PutsBefore, IsReason, changed_before, change_reason, by_change, missed_by, missed_at, by_look, told_reason}
 use Rattle.history_book.specs.TraceView.{TraceView}
 use Rattle.history_book.specs.Traces.{takes_in, looked_at, changed_at, trace_at, some_changed, changes_again, sees_change, misses_change, trace_depends}
@@ -16,7 +17,7 @@ use Rattle.history_book.specs.declared.orders.reason.Reason.{Reason}
 use Rattle.history_book.specs.declared.orders.reason.Reason.TheVariants as reason
 use Rattle.history_book.specs.declared.orders.trace.Sight.{Sight}
 use Rattle.history_book.specs.declared.orders.trace.Sight.TheVariants as sight
-use Rattle.history_book.proofs.TestLaws.{same_itself, lt_told, le_told, lt_tells, le_tells, ne_tells, any_at}
+use Rattle.history_book.proofs.TestLaws.{lt_told, le_told, lt_tells, le_tells, ne_tells, any_at}
 
 -- ---- the first that passes a test
 
@@ -93,7 +94,7 @@ look_passed a t cs n other o left inside same is none =
 -- a cell that stands among others is one of them
 among_at : (cs : List Cell) (n : ℕ) (other : Cell) → n < length cs → is_cell_among cs (get_or cs n other) ≡ true
 among_at [] n other inside = absurd (omega (arith, inside))
-among_at (c ∷ cs) zero other inside = or_left (is_same_cell c c) (is_cell_among cs c) (same_itself c)
+among_at (c ∷ cs) zero other inside = or_left (is_same_cell c c) (is_cell_among cs c) (same-itself c)
 among_at (c ∷ cs) (suc n) other inside =
     let d = get_or cs n other in
     or_right (is_same_cell d c) (is_cell_among cs d) (among_at cs n other (omega (arith, inside)))
@@ -266,7 +267,7 @@ module _ (p : Sight → Bool) (s : Sight) (passes : p s ≡ true) where
   any_contained (t ∷ ts) (suc n) inside is = or_right (p t) (list_any p ts) (any_contained ts n (omega (arith, inside)) is)
 
 looked_alone : (t : TraceView) (c : Cell) → LookedAlone t c → Looked t c
-looked_alone t c h = any_contained (λ s. takes_in s c) (sight.One c) (same_itself c) t.looked h.0 h.1 h.2
+looked_alone t c h = any_contained (λ s. takes_in s c) (sight.One c) (same-itself c) t.looked h.0 h.1 h.2
 
 looked_in : (t : TraceView) (region : Region) (c : Cell) → LookedIn t region c → Looked t c
 looked_in t region c h = any_contained (λ s. takes_in s c) (sight.Range region h.0) h.2 t.looked h.1.0 h.1.1 h.1.2

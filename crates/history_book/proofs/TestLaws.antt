@@ -1,15 +1,13 @@
 -- Tests and what they tell.
 use Rattle.std.proofs.Common.{◌≡◌, ◌∙◌, ◌==◌, ◌⊎◌, inl, inr, ℕ, ◌<◌, ◌≤◌, nat_lt, Bool, true, false, true≢false, ◌||◌, not, List, [], ◌∷◌, refl, ap, sym, subst, arith}
 use Rattle.std.specs.Prelude.{nat_le}
-use Rattle.std.specs.Cmp.{tied_itself}
 use Rattle.std.specs.List.{list_any}
-use Rattle.std.specs.Ordering.{is_eq}
 use Rattle.std.proofs.lemmas.Bool.Decides.{nat_tests}
 use Rattle.std.proofs.lemmas.Bool.{or_cases, or_left, or_right}
 use Rattle.prog_tree.specs.declared.cell.Cell.{Cell}
 use Rattle.prog_tree.specs.Table.{is_same_cell, is_cell_among}
-use Rattle.prog_tree.proofs.TableLemmas.{cell_total}
 use Rattle.prog_tree.proofs.TableStates.{cell_is}
+use Rattle.prog_tree.proofs.CellSets.{same-itself}
 
 pub lt_told : (i j : ℕ) → nat_lt i j ≡ true → i < j
 lt_told i j h = grind (arith, nat_tests)
@@ -54,9 +52,6 @@ ne_told i j h same = true≢false (sym h ∙ ap not (subst (λ k. (i == k) ≡ t
 pub apart_by_lt : (i j : ℕ) → i < j → not (i == j) ≡ true
 apart_by_lt i j h = ap not (ne_tells i j (λ same. omega (arith, h, same)))
 
-pub same_itself : (c : Cell) → is_same_cell c c ≡ true
-same_itself c = ap is_eq (tied_itself cell_total c)
-
 -- a cell among others that passes a test
 pub any_at : (q : Cell → Bool) (cs : List Cell) (c : Cell) → is_cell_among cs c ≡ true → q c ≡ true → list_any q cs ≡ true
 any_at q [] c among holds = absurd (cc)
@@ -77,7 +72,7 @@ any_some q [] h = absurd (cc)
 any_some q (d ∷ cs) h = go (or_cases (q d) (list_any q cs) h) (any_some q cs)
   where
     go : (q d ≡ true) ⊎ (list_any q cs ≡ true) → (list_any q cs ≡ true → PassesAmong q cs) → PassesAmong q (d ∷ cs)
-    go (inl here) rest = record { cell = d; among = or_left (is_same_cell d d) (is_cell_among cs d) (same_itself d); passes = here }
+    go (inl here) rest = record { cell = d; among = or_left (is_same_cell d d) (is_cell_among cs d) (same-itself d); passes = here }
     go (inr later) rest =
         let found = rest later in
         record { cell = found.cell; among = or_right (is_same_cell found.cell d) (is_cell_among cs found.cell) found.among; passes = found.passes }

@@ -1,5 +1,5 @@
 -- The traces of a history say what depends on what in it.
-use Rattle.std.proofs.Common.{◌≡◌, ◌∙◌, ◌==◌, ℕ, zero, suc, ◌<◌, ◌≤◌, nat_lt, ℤ, Bool, true, false, cond, ◌&&◌, ◌||◌, not, List, [], ◌∷◌, ◌++◌, length, map, refl, ap, sym, arith}
+use Rattle.std.proofs.Common.{◌≡◌, ◌∙◌, ◌==◌, ℕ, zero, suc, ◌<◌, ◌≤◌, nat_lt, ℤ, Bool, ◌&&◌, ◌||◌, not, List, [], ◌∷◌, ◌++◌, length, map, refl, ap, sym, arith}
 use Rattle.std.specs.Prelude.{nat_le, Option, Some, None, is_some, slice_get, unwrap_or}
 use Rattle.std.specs.Option.{option_map}
 use Rattle.std.specs.List.{list_any}
@@ -12,7 +12,7 @@ use Rattle.prog_tree.specs.ChangeSet.{ChangedCells, change_at}
 use Rattle.prog_tree.specs.Evaluation.{Evaluation}
 use Rattle.prog_tree.specs.LookedAt.{looks_at, some_looks_at, has_looked}
 use Rattle.prog_tree.specs.Syntax.{DraftTree}
-use Rattle.prog_tree.specs.Table.{TableState, Cells, cells_of, at_cell, is_same_cell, is_cell_among}
+use Rattle.prog_tree.specs.Table.{TableState, cells_of}
 use Rattle.history_book.specs.Dependencies.{run_found, start_found, start_at, changes_some, evaluation_at, depends}
 use Rattle.history_book.specs.History.{Instance, state_after, StartsBelow}
 use Rattle.history_book.specs.Orders.{IsReduced}
@@ -20,6 +20,7 @@ use Rattle.history_book.specs.Placing.{IsOrderFault}
 use Rattle.history_book.specs.TraceView.{TraceView}
 use Rattle.history_book.specs.Traces.{sight_of, trace_of, trace_in, traces_of, takes_in, looked_at, changed_at, trace_at, SeesEarlier, some_changed, trace_depends, no_trace}
 use Rattle.prog_tree.specs.Tree.{draft_tree}
+use Rattle.prog_tree.proofs.CellSets.{among-some}
 use Rattle.history_book.specs.TrueBook.{IsTrueBook}
 use Rattle.history_book.specs.View.{BookView, instance_of, history_of, traces_in, trace_for}
 use Rattle.history_book.specs.declared.instances.row.HistoryRow.{HistoryRow}
@@ -36,14 +37,6 @@ any_map p f (x ∷ xs) = ap (λ b. p (f x) || b) (any_map p f xs)
 
 any_same : {X : Type 0} (p q : X → Bool) (xs : List X) → ((x : X) → p x ≡ q x) → list_any p xs ≡ list_any q xs
 any_same p q xs same i = list_any (λ x. same x i) xs
-
-among_cells : {A : Type 0} (m : Cells A) (c : Cell) → is_cell_among (cells_of m) c ≡ is_some (at_cell m c)
-among_cells [] c = refl
-among_cells (e ∷ es) c = ap (λ b. is_same_cell c e.0 || b) (among_cells es c) ∙ go (is_same_cell c e.0)
-  where
-    go : (b : Bool) → (b || is_some (at_cell es c)) ≡ is_some (cond b (Some e.1) (at_cell es c))
-    go true = refl
-    go false = refl
 
 takes_looks : (l : Look) (c : Cell) → takes_in (sight_of l) c ≡ looks_at l c
 takes_looks (look.One cell held) c = refl
@@ -84,7 +77,7 @@ module _ (set : DraftTree) (opening : TableState) (h : List Instance) where
 
   same_writes : (i j : ℕ) → some_changed (changed_at (trace j)) (trace i) ≡ changes_some (λ c. is_some (change_at (at j).changes c)) (at i).changes.cells
   same_writes i j =
-      some_changes (changed_at (trace j)) (λ c. is_some (change_at (at j).changes c)) (start_at h i) (at i).changes.cells (at i).looks (λ c. among_cells (at j).changes.cells c)
+      some_changes (changed_at (trace j)) (λ c. is_some (change_at (at j).changes c)) (start_at h i) (at i).changes.cells (at i).looks (λ c. among-some (at j).changes.cells c)
 
   same_looks : (i j : ℕ) → some_changed (looked_at (trace j)) (trace i) ≡ changes_some (has_looked (at j)) (at i).changes.cells
   same_looks i j =

@@ -10,7 +10,7 @@ use Rattle.std.proofs.lemmas.Bool.{and_from, and_parts, or_cases, or_left, or_ri
 use Rattle.prog_tree.specs.declared.cell.Cell.{Cell}
 use Rattle.prog_tree.specs.declared.cell.Region.{Region}
 use Rattle.prog_tree.specs.Table.{cell_cmp, Cells, cells_of, at_cell, is_same_cell}
-use Rattle.version_store.proofs.ChainsLaws.{none_behind}
+use Rattle.prog_tree.proofs.CellSets.{same-itself, none-behind}
 use Rattle.history_book.specs.Orders.{is_one_of, IsUpTo}
 use Rattle.history_book.specs.Reduced.{writers_of, HasWriters, RiseFrom, AreWithin, AllRiseWithin, Pairs, is_pair_among, steps_from, steps_of, writers_steps, last_seen, first_missed, seen_pairs, missed_pairs, reader_pairs, region_pairs, sight_pairs, sights_pairs, readers_pairs}
 use Rattle.history_book.specs.TraceView.{TraceView}
@@ -18,7 +18,7 @@ use Rattle.history_book.specs.Traces.{takes_in, looked_at, changed_at, trace_at,
 use Rattle.history_book.specs.declared.orders.trace.Sight.{Sight}
 use Rattle.history_book.specs.declared.orders.trace.Sight.TheVariants as sight
 use Rattle.history_book.proofs.RiseLaws.{weaken, writers_rise, IsWriter, writer_changed, writer_upto, seen_is, missed_is}
-use Rattle.history_book.proofs.TestLaws.{lt_tells, le_tells, eq_told, eq_itself, ne_tells, apart_by_lt, same_itself, any_at}
+use Rattle.history_book.proofs.TestLaws.{lt_tells, le_tells, eq_told, eq_itself, ne_tells, apart_by_lt, any_at}
 
 -- ---- a map of writers
 
@@ -31,12 +31,12 @@ of_writers_by : (traces : List TraceView) (m : Cells (List ℕ)) → IsStrictlyS
     ((c : Cell) (ws : List ℕ) → at_cell m c ≡ Some ws → ws ≡ writers_of traces c) → OfWriters traces m
 of_writers_by traces [] sorted has = tt
 of_writers_by traces (e ∷ es) sorted has = (
-  has e.0 e.1 (ap (λ b. cond b (Some e.1) (at_cell es e.0)) (same_itself e.0)),
+  has e.0 e.1 (ap (λ b. cond b (Some e.1) (at_cell es e.0)) (same-itself e.0)),
   of_writers_by traces es (sorted_tail cell_cmp e.0 (cells_of es) sorted) (λ c ws found. has c ws (kept c ws (is_same_cell c e.0) refl found)),
 )
   where
     kept : (c : Cell) (ws : List ℕ) (b : Bool) → is_same_cell c e.0 ≡ b → at_cell es c ≡ Some ws → cond (is_same_cell c e.0) (Some e.1) (at_cell es c) ≡ Some ws
-    kept c ws true is found = let none = none_behind e.0 c es sorted is in absurd (cc)
+    kept c ws true is found = let none = none-behind e.0 c es sorted is in absurd (cc)
     kept c ws false is found = ap (λ b. cond b (Some e.1) (at_cell es c)) is ∙ found
 
 pub of_writers : (traces : List TraceView) (m : Cells (List ℕ)) → IsStrictlySortedBy cell_cmp (cells_of m) → HasWriters traces m → OfWriters traces m
@@ -178,7 +178,7 @@ module _ (traces : List TraceView) where
         go false taken = tt
 
     each_sight : (m : Cells (List ℕ)) (s : Sight) → OfWriters traces m → HasWriters traces m → ((c : Cell) → takes_in s c ≡ true → Looked c) → Each (sight_pairs r start m s)
-    each_sight m (sight.One cell) of has takes = subst (λ (ws : List ℕ). Each (reader_pairs r start ws)) (sym (has cell)) (each_reader cell (takes cell (same_itself cell)))
+    each_sight m (sight.One cell) of has takes = subst (λ (ws : List ℕ). Each (reader_pairs r start ws)) (sym (has cell)) (each_reader cell (takes cell (same-itself cell)))
     each_sight m (sight.Range region own) of has takes = each_region region own m of takes
 
     each_sights : (m : Cells (List ℕ)) (ss : List Sight) → OfWriters traces m → HasWriters traces m → ((c : Cell) → list_any (λ s. takes_in s c) ss ≡ true → Looked c) →

@@ -1,17 +1,15 @@
 -- Laws of the writers of cells.
-use Rattle.std.proofs.Common.{◌≡◌, ◌∙◌, ℕ, zero, suc, ◌+◌, ◌<◌, ◌≤◌, leb, nat_lt, Bool, true, false, cond, ◌||◌, if◌then◌else◌, List, [], ◌∷◌, ◌++◌, length, get_or, refl, ap, sym, subst, arith}
+use Rattle.std.proofs.Common.{◌≡◌, ◌∙◌, ℕ, zero, suc, ◌+◌, ◌<◌, ◌≤◌, leb, nat_lt, Bool, true, false, cond, ◌||◌, if◌then◌else◌, List, [], ◌∷◌, ◌++◌, length, get_or, refl, ap, subst, arith}
 use Rattle.std.specs.Prelude.{nat_le, Option, Some, None, IfSome, All, unwrap_or}
-use Rattle.std.specs.Cmp.{eq_by_cmp_equiv}
 use Rattle.std.specs.List.Sorted.{IsStrictlySortedBy, IsNonDecreasingBy}
 use Rattle.std.specs.Option.{option_or}
 use Rattle.std.proofs.lemmas.Bool.Decides.{nat_tests}
 use Rattle.std.proofs.lemmas.List.Elements.{All-head, All-tail}
 use Rattle.std.proofs.lemmas.Map.Keys.{sorted_tail}
 use Rattle.prog_tree.specs.declared.cell.Cell.{Cell}
-use Rattle.prog_tree.specs.Table.{cell_cmp, Cells, cells_of, at_cell, is_same_cell, is_cell_among}
-use Rattle.prog_tree.proofs.TableLemmas.{cell_total}
+use Rattle.prog_tree.specs.Table.{cell_cmp, Cells, at_cell, is_same_cell, is_cell_among}
+use Rattle.prog_tree.proofs.CellSets.{same-turned, not-behind}
 use Rattle.prog_tree.proofs.TableStates.{cell_is}
-use Rattle.version_store.proofs.ChainsLaws.{none_behind}
 use Rattle.history_book.specs.Reduced.{numbers_at, IsAddedAt, RiseFrom, AreWithin, AllRiseWithin, IsCutBy, last_seen, first_missed}
 
 -- ---- walks over the cells of a commit
@@ -23,31 +21,6 @@ with_number here n ws = if here then ws ++ n ∷ [] else ws
 pub record AddsNumber (n : ℕ) (cells rest : List Cell) (old now : Cells (List ℕ)) : Type 0 where
   pub sorted : IsStrictlySortedBy cell_cmp rest
   pub ends : (c : Cell) → with_number (is_cell_among rest c) n (numbers_at now c) ≡ with_number (is_cell_among cells c) n (numbers_at old c)
-
--- the cells of a map that has something at each of some cells
-abbrev marks : List Cell → Cells (Unit {0})
-marks [] = []
-marks (c ∷ cs) = (c, tt) ∷ marks cs
-
-cells_of-marks : (cs : List Cell) → cells_of (marks cs) ≡ cs
-cells_of-marks [] = refl
-cells_of-marks (c ∷ cs) = ap (λ ds. c ∷ ds) (cells_of-marks cs)
-
-none_marked : (cs : List Cell) (c : Cell) → at_cell (marks cs) c ≡ None → is_cell_among cs c ≡ false
-none_marked [] c none = refl
-none_marked (d ∷ cs) c none = go (is_same_cell c d) (none_marked cs c) none
-  where
-    go : (b : Bool) → (at_cell (marks cs) c ≡ None → is_cell_among cs c ≡ false) → cond b (Some tt) (at_cell (marks cs) c) ≡ None → (b || is_cell_among cs c) ≡ false
-    go true rest h = absurd (cc)
-    go false rest h = rest h
-
-same_turned : (a b : Cell) → is_same_cell a b ≡ is_same_cell b a
-same_turned a b = (eq_by_cmp_equiv cell_total).symm a b
-
--- the first of cells in order is not behind itself
-not_behind : (k c : Cell) (rest : List Cell) → IsStrictlySortedBy cell_cmp (k ∷ rest) → is_same_cell c k ≡ true → is_cell_among rest c ≡ false
-not_behind k c rest sorted same =
-    none_marked rest c (none_behind k c (marks rest) (subst (λ (cs : List Cell). IsStrictlySortedBy cell_cmp (k ∷ cs)) (sym (cells_of-marks rest)) sorted) same)
 
 pub one_more_number :
     (n : ℕ) (cells left rest : List Cell) (k : Cell) (old now next : Cells (List ℕ)) → left ≡ k ∷ rest → AddsNumber n cells left old now →
@@ -62,8 +35,8 @@ one_more_number n cells left rest k old now next is so_far added = record {
 
     turn : (c : Cell) → with_number (is_cell_among rest c) n (numbers_at next c) ≡ with_number (is_cell_among (k ∷ rest) c) n (numbers_at now c)
     turn c =
-        ap (with_number (is_cell_among rest c) n) (added c ∙ ap (λ b. with_number b n (numbers_at now c)) (same_turned k c))
-        ∙ go (is_same_cell c k) (λ same. not_behind k c rest h.sorted same)
+        ap (with_number (is_cell_among rest c) n) (added c ∙ ap (λ b. with_number b n (numbers_at now c)) (same-turned k c))
+        ∙ go (is_same_cell c k) (λ same. not-behind k c rest h.sorted same)
       where
         go : (b : Bool) → (b ≡ true → is_cell_among rest c ≡ false) →
             with_number (is_cell_among rest c) n (with_number b n (numbers_at now c)) ≡ with_number (b || is_cell_among rest c) n (numbers_at now c)

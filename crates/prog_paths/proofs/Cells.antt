@@ -1,18 +1,14 @@
 -- Which cells are changed and kept after one more.
 use Rattle.std.proofs.Common.{◌≡◌, Bool, true, false, ◌⊎◌, inl, inr, refl, sym, ap, ◌∙◌, cond}
 use Rattle.std.specs.Prelude.{ℤ, Option, Some, is_some}
-use Rattle.std.specs.Cmp.{eq_by_cmp_equiv}
 use Rattle.std.proofs.lemmas.Bool.{or_cases, or_left, or_right}
 use Rattle.prog_tree.specs.declared.cell.Cell.{Cell}
 use Rattle.prog_tree.specs.Table.{is_same_cell, is_cell_among}
 use Rattle.prog_tree.specs.ChangeSet.{ChangeSet, change_at, with_change, with_kept}
-use Rattle.prog_tree.proofs.CellSets.{among-insert}
-use Rattle.prog_tree.proofs.TableLemmas.{cell_total, at_cell-with_cell}
+use Rattle.prog_tree.proofs.CellSets.{among-insert, same-itself}
+use Rattle.prog_tree.proofs.TableLemmas.{at_cell-with_cell}
 use Rattle.prog_tree.proofs.TableStates.{cell_is}
 use Rattle.prog_paths.specs.Follows.{Changes, KeepsCell}
-
-pub cell_same : (c : Cell) → is_same_cell c c ≡ true
-cell_same c = (eq_by_cmp_equiv cell_total).refl c
 
 -- ---- changes
 
@@ -32,7 +28,7 @@ changes_either s cell w c h = go (change_either s cell w c (change_at (with_chan
     go (inr k) = inr (ap is_some k ∙ h)
 
 pub changes_here : (s : ChangeSet) (cell : Cell) (w : Option ℤ) → Changes (with_change s cell w) cell
-changes_here s cell w = ap is_some (at_cell-with_cell s.cells cell w cell ∙ ap (λ b. cond b (Some w) (change_at s cell)) (cell_same cell))
+changes_here s cell w = ap is_some (at_cell-with_cell s.cells cell w cell ∙ ap (λ b. cond b (Some w) (change_at s cell)) (same-itself cell))
 
 pub changes_stay : (s : ChangeSet) (cell : Cell) (w : Option ℤ) (c : Cell) → Changes s c → Changes (with_change s cell w) c
 changes_stay s cell w c h = ap is_some (at_cell-with_cell s.cells cell w c) ∙ go (is_same_cell c cell)
@@ -54,4 +50,4 @@ pub keeps_stay : (s : ChangeSet) (cell c : Cell) → KeepsCell s c → KeepsCell
 keeps_stay s cell c h = among-insert s.kept cell c ∙ or_right (is_same_cell c cell) (is_cell_among s.kept c) h
 
 pub keeps_here : (s : ChangeSet) (cell : Cell) → KeepsCell (with_kept s cell) cell
-keeps_here s cell = among-insert s.kept cell cell ∙ or_left (is_same_cell cell cell) (is_cell_among s.kept cell) (cell_same cell)
+keeps_here s cell = among-insert s.kept cell cell ∙ or_left (is_same_cell cell cell) (is_cell_among s.kept cell) (same-itself cell)

@@ -13,9 +13,10 @@ use Rattle.std.specs.List.Sorted.{IsSorted, IsStrictlySortedBy}
 use Rattle.std.proofs.lemmas.List.Kept.{IsStrictlySortedBy-filter}
 use Rattle.prog_tree.specs.declared.cell.Cell.{Cell}
 use Rattle.prog_tree.specs.declared.cell.Region.{Region}
-use Rattle.prog_tree.specs.Table.{cell_cmp, is_in, is_same_cell, is_cell_among, cells_of, at_cell, TableState, row_at, with_row, without_row}
+use Rattle.prog_tree.specs.Table.{cell_cmp, is_in, is_same_cell, is_cell_among, cells_of, TableState, row_at, with_row, without_row}
 use Rattle.prog_tree.specs.ChangeSet.{ChangedCells, changes_in, changed_row, changed}
 use Rattle.prog_tree.specs.Evaluation.{total_of, rows_without}
+use Rattle.prog_tree.proofs.CellSets.{none-above}
 use Rattle.prog_tree.proofs.TableLemmas.{cell_total, find_is, absent_rest}
 use Rattle.prog_tree.proofs.ChangedLemmas.{row_at-changed}
 use Rattle.prog_run.specs.Seen.{rows_before, AreAbsent, own_row}
@@ -33,13 +34,8 @@ all_absent_rest : (row : Cell × ℤ) (m : TableState) (es : ChangedCells) → A
 all_absent_rest row m [] h = tt
 all_absent_rest row m (e ∷ es) h = (absent_rest e.0 row m h.0, all_absent_rest row m es h.1)
 
--- a cell before all others is not among them
-not_at : (k : Cell) (es : ChangedCells) → AllByRecursion (λ y. cell_cmp k y ≡ Less) (cells_of es) → at_cell es k ≡ None
-not_at k [] h = refl
-not_at k (e ∷ es) h = ap (λ o. cond (is_eq o) (Some e.1) (at_cell es k)) h.0 ∙ not_at k es h.1
-
 still_absent : (m : TableState) (e : Cell × Option ℤ) (es : ChangedCells) → AllByRecursion (λ y. cell_cmp e.0 y ≡ Less) (cells_of es) → row_at m e.0 ≡ None → row_at (changed m es) e.0 ≡ None
-still_absent m e es above absent = row_at-changed m es e.0 ∙ ap (λ o. own_or o (row_at m e.0)) (not_at e.0 es above) ∙ absent
+still_absent m e es above absent = row_at-changed m es e.0 ∙ ap (λ o. own_or o (row_at m e.0)) (none-above e.0 es above) ∙ absent
   where
     own_or : Option (Option ℤ) → Option ℤ → Option ℤ
     own_or (Some w) o = w

@@ -1,17 +1,25 @@
 -- Laws of lists of cells: which cells are among them, and what one more at its place does.
 use Rattle.std.proofs.Common.{◌≡◌, ◌∙◌, Bool, true, false, ◌||◌, cond, List, [], ◌∷◌, refl, ap, sym}
-use Rattle.std.specs.Prelude.{Some, is_some}
+use Rattle.std.specs.Prelude.{Some, None, is_some}
 use Rattle.std.specs.BTreeSet.{insert_key}
+use Rattle.std.specs.Cmp.{eq_by_cmp_equiv}
 use Rattle.std.specs.declared.cmp.Ordering.{Ordering}
 use Rattle.std.specs.declared.cmp.Ordering.TheVariants.{Less, Equal, Greater}
 use Rattle.std.specs.List.{AllByRecursion}
 use Rattle.std.specs.List.Sorted.{IsStrictlySortedBy}
-use Rattle.std.specs.Ordering.{match_ordering, ordering_reverse}
+use Rattle.std.specs.Ordering.{is_eq, match_ordering, ordering_reverse}
 use Rattle.std.proofs.Math.Bool.{or_assoc, or_comm, or_self_left}
+use Rattle.std.proofs.lemmas.Map.Keys.{sorted_head}
 use Rattle.prog_tree.specs.declared.cell.Cell.{Cell}
 use Rattle.prog_tree.specs.Table.{cell_cmp, Cells, cells_of, at_cell, is_same_cell, is_cell_among}
 use Rattle.prog_tree.proofs.TableLemmas.{cell_total}
-use Rattle.prog_tree.proofs.TableStates.{same_cell}
+use Rattle.prog_tree.proofs.TableStates.{same_cell, cell_is}
+
+pub same-itself : (c : Cell) → is_same_cell c c ≡ true
+same-itself c = (eq_by_cmp_equiv cell_total).refl c
+
+pub same-turned : (a b : Cell) → is_same_cell a b ≡ is_same_cell b a
+same-turned a b = (eq_by_cmp_equiv cell_total).symm a b
 
 pub turned : (a b : Cell) → cell_cmp a b ≡ Greater → cell_cmp b a ≡ Less
 turned a b h = cell_total.antisymm b a ∙ ap ordering_reverse h
@@ -24,6 +32,25 @@ among-some {A = A} (e ∷ m) c = ap (λ b. is_same_cell c e.0 || b) (among-some 
     go : (b : Bool) → (b || is_some (at_cell m c)) ≡ is_some (cond b (Some e.1) (at_cell m c))
     go true = refl
     go false = refl
+
+-- ---- a cell before all others
+
+-- it has no entry among theirs
+pub none-above : {A : Type 0} (k : Cell) (rest : Cells A) → AllByRecursion (λ d. cell_cmp k d ≡ Less) (cells_of rest) → at_cell rest k ≡ None
+none-above k [] below = refl
+none-above k (e ∷ rest) below = ap (λ o. cond (is_eq o) (Some e.1) (at_cell rest k)) below.0 ∙ none-above k rest below.1
+
+-- the first of cells in order has no entry behind itself
+pub none-behind : {A : Type 0} (k c : Cell) (rest : Cells A) → IsStrictlySortedBy cell_cmp (k ∷ cells_of rest) → is_same_cell c k ≡ true → at_cell rest c ≡ None
+none-behind k c rest sorted same = ap (at_cell rest) (cell_is c k same) ∙ none-above k rest (sorted_head cell_cmp k (cells_of rest) sorted)
+
+not_above : (k : Cell) (rest : List Cell) → AllByRecursion (λ d. cell_cmp k d ≡ Less) rest → is_cell_among rest k ≡ false
+not_above k [] below = refl
+not_above k (d ∷ rest) below = ap (λ o. is_eq o || is_cell_among rest k) below.0 ∙ not_above k rest below.1
+
+-- the first of cells in order is not behind itself
+pub not-behind : (k c : Cell) (rest : List Cell) → IsStrictlySortedBy cell_cmp (k ∷ rest) → is_same_cell c k ≡ true → is_cell_among rest c ≡ false
+not-behind k c rest sorted same = ap (is_cell_among rest) (cell_is c k same) ∙ not_above k rest (sorted_head cell_cmp k rest sorted)
 
 -- ---- one more cell, at its place in the order
 

@@ -1,16 +1,10 @@
 -- Laws of one written chain.
-use Rattle.std.proofs.Common.{◌≡◌, ◌∙◌, Bool, true, false, ◌||◌, cond, if◌then◌else◌, List, [], ◌∷◌, refl, ap, sym, subst}
+use Rattle.std.proofs.Common.{◌≡◌, ◌∙◌, Bool, true, false, cond, if◌then◌else◌, [], ◌∷◌, refl, ap, sym, subst}
 use Rattle.std.specs.Prelude.{Option, Some, None, IsSome, Result, Ok, Err, OnErr, unwrap_or}
-use Rattle.std.specs.Cmp.{eq_by_cmp_equiv}
-use Rattle.std.specs.declared.cmp.Ordering.{Ordering}
-use Rattle.std.specs.declared.cmp.Ordering.TheVariants.{Less}
-use Rattle.std.specs.List.{AllByRecursion}
 use Rattle.std.specs.List.Sorted.{IsStrictlySortedBy}
-use Rattle.std.specs.Ordering.{is_eq}
-use Rattle.std.proofs.lemmas.Map.Keys.{sorted_head}
 use Rattle.prog_tree.specs.declared.cell.Cell.{Cell}
-use Rattle.prog_tree.specs.Table.{cell_cmp, Cells, cells_of, at_cell, is_same_cell, is_cell_among}
-use Rattle.prog_tree.proofs.TableLemmas.{cell_total}
+use Rattle.prog_tree.specs.Table.{cell_cmp, Cells, cells_of, at_cell, is_same_cell}
+use Rattle.prog_tree.proofs.CellSets.{same-turned, none-behind}
 use Rattle.prog_tree.proofs.TableStates.{cell_is}
 use Rattle.version_store.specs.StandsFor.{Chain, no_chain}
 use Rattle.version_store.specs.Reading.{chain_at, with_entry, MakesAt}
@@ -57,35 +51,14 @@ not_made m cell f absent none c = go (is_same_cell cell c) (λ same. cell_is cel
 
 -- ---- walks over cells in order
 
-pub same_turned : (a b : Cell) → is_same_cell a b ≡ is_same_cell b a
-same_turned a b = (eq_by_cmp_equiv cell_total).symm a b
-
-is_not_eq : (o : Ordering) → o ≡ Less → is_eq o ≡ false
-is_not_eq o less = ap is_eq less
-
-none_above : {A : Type 0} (k : Cell) (rest : Cells A) → AllByRecursion (λ d. cell_cmp k d ≡ Less) (cells_of rest) → at_cell rest k ≡ None
-none_above k [] below = refl
-none_above k (e ∷ rest) below = ap (λ b. cond b (Some e.1) (at_cell rest k)) (is_not_eq (cell_cmp k e.0) below.0) ∙ none_above k rest below.1
-
--- the first of cells in order is not behind itself
-pub none_behind : {A : Type 0} (k c : Cell) (rest : Cells A) → IsStrictlySortedBy cell_cmp (k ∷ cells_of rest) → is_same_cell c k ≡ true → at_cell rest c ≡ None
-none_behind k c rest sorted same = ap (at_cell rest) (cell_is c k same) ∙ none_above k rest (sorted_head cell_cmp k (cells_of rest) sorted)
-
-not_above : (k : Cell) (rest : List Cell) → AllByRecursion (λ d. cell_cmp k d ≡ Less) rest → is_cell_among rest k ≡ false
-not_above k [] below = refl
-not_above k (d ∷ rest) below = ap (λ b. b || is_cell_among rest k) (is_not_eq (cell_cmp k d) below.0) ∙ not_above k rest below.1
-
-pub not_behind : (k c : Cell) (rest : List Cell) → IsStrictlySortedBy cell_cmp (k ∷ rest) → is_same_cell c k ≡ true → is_cell_among rest c ≡ false
-not_behind k c rest sorted same = ap (is_cell_among rest) (cell_is c k same) ∙ not_above k rest (sorted_head cell_cmp k rest sorted)
-
 -- one more entry of a map was put into the chains
 pub entry_turn :
     {A : Type 0} (f : A → Chain → Chain) (before after : Cells Chain) (k : Cell) (entry : A) (rest : Cells A) →
     IsStrictlySortedBy cell_cmp (k ∷ cells_of rest) → MakesAt k (f entry) before after →
     (c : Cell) → with_entry f (at_cell rest c) (chain_at after c) ≡ with_entry f (at_cell ((k, entry) ∷ rest) c) (chain_at before c)
 entry_turn f before after k entry rest sorted made c =
-    ap (with_entry f (at_cell rest c)) (made c ∙ ap (λ b. if b then f entry (chain_at before c) else chain_at before c) (same_turned k c))
-    ∙ go (is_same_cell c k) (λ same. none_behind k c rest sorted same)
+    ap (with_entry f (at_cell rest c)) (made c ∙ ap (λ b. if b then f entry (chain_at before c) else chain_at before c) (same-turned k c))
+    ∙ go (is_same_cell c k) (λ same. none-behind k c rest sorted same)
   where
     go : (b : Bool) → (b ≡ true → at_cell rest c ≡ None) →
         with_entry f (at_cell rest c) (if b then f entry (chain_at before c) else chain_at before c) ≡ with_entry f (cond b (Some entry) (at_cell rest c)) (chain_at before c)

@@ -1,11 +1,9 @@
 -- How many versions a vacuum leaves: cell by cell, and together.
 use Rattle.std.proofs.Common.{◌≡◌, ◌∙◌, ℕ, ℤ, suc, ◌+◌, ◌<◌, ◌≤◌, Bool, true, false, ◌||◌, ◌&&◌, not, cond, if◌then◌else◌, leb, nat_lt, List, [], ◌∷◌, ◌++◌, length, map, refl, ap, sym, arith, append_assoc, append-nil, length-append}
 use Rattle.std.specs.Prelude.{Option, Some, None, is_some, filter, nat_le, unwrap_or}
-use Rattle.std.specs.Cmp.{tied_itself}
 use Rattle.std.specs.List.{list_any}
 use Rattle.std.specs.List.Sorted.{IsStrictlySortedBy}
 use Rattle.std.specs.Map.{values_of}
-use Rattle.std.specs.Ordering.{is_eq}
 use Rattle.std.proofs.Math.Bool.{or-false}
 use Rattle.std.proofs.lemmas.Bool.{le-leb, lt-leb}
 use Rattle.std.proofs.lemmas.Bool.Decides.{nat_tests}
@@ -18,13 +16,12 @@ use Rattle.std.proofs.lemmas.Map.Keys.{sorted_tail}
 use Rattle.prog_tree.specs.declared.cell.Cell.{Cell}
 use Rattle.prog_tree.specs.ChangeSet.{ChangeSet}
 use Rattle.prog_tree.specs.Table.{cell_cmp, Cells, cells_of, at_cell, is_same_cell, TableState, IsTableState, row_at}
-use Rattle.prog_tree.proofs.TableLemmas.{cell_total}
+use Rattle.prog_tree.proofs.CellSets.{same-itself, none-behind, same-turned}
 use Rattle.prog_tree.proofs.TableStates.{cell_is}
 use Rattle.version_store.specs.Reading.{RisesFrom, chain_at}
 use Rattle.version_store.specs.StandsFor.{Chain, no_chain, version_by, changes_of, chain_of, trimmed, size, AreCommits}
 use Rattle.version_store.specs.Trimming.{shown, versions_kept}
 use Rattle.version_store.specs.Versions.{Version, versions_from, versions_of, is_newest, is_retained, retained, versions_at}
-use Rattle.version_store.proofs.ChainsLaws.{none_behind, same_turned}
 use Rattle.version_store.proofs.TrimLaws.{kept_above}
 use Rattle.version_store.proofs.VersionLaws.{chain_rises, made_by, of_row}
 
@@ -35,9 +32,6 @@ is_of c v = is_same_cell c v.cell
 
 abbrev pub is_not_of : Cell → Version → Bool
 is_not_of c v = not (is_same_cell c v.cell)
-
-same_itself : (c : Cell) → is_same_cell c c ≡ true
-same_itself c = ap is_eq (tied_itself cell_total c)
 
 none_of_others : (k : Cell) (ys : List Version) → filter (is_of k) (filter (is_not_of k) ys) ≡ []
 none_of_others k [] = refl
@@ -62,7 +56,7 @@ others_of c k (y ∷ ys) apart = go (is_same_cell k y.cell) refl (others_of c k 
 
 no_versions : (ys : List Version) → ((c : Cell) → 0 ≡ length (filter (is_of c) ys)) → 0 ≡ length ys
 no_versions [] h = refl
-no_versions (y ∷ ys) h = absurd (let one : 0 ≡ suc (length (filter (is_of y.cell) ys)) = h y.cell ∙ ap (λ b. length (cond b (y ∷ filter (is_of y.cell) ys) (filter (is_of y.cell) ys))) (same_itself y.cell) in omega arith)
+no_versions (y ∷ ys) h = absurd (let one : 0 ≡ suc (length (filter (is_of y.cell) ys)) = h y.cell ∙ ap (λ b. length (cond b (y ∷ filter (is_of y.cell) ys) (filter (is_of y.cell) ys))) (same-itself y.cell) in omega arith)
 
 -- chains that have as many versions of each cell as a list have as many together
 pub size_grouped : (chains : Cells Chain) (ys : List Version) → IsStrictlySortedBy cell_cmp (cells_of chains) →
@@ -72,7 +66,7 @@ size_grouped ((k, chain) ∷ rest) ys sorted h =
     let others = size_grouped rest (filter (is_not_of k) ys) (sorted_tail cell_cmp k (cells_of rest) sorted) (λ c. go (is_same_cell c k) c refl) in
     let both : length (filter (is_of k) ys) + length (filter (is_not_of k) ys) ≡ length ys = length-filter_both (is_of k) (is_not_of k) (λ v. refl) ys in
     let first : length chain.versions ≡ length (filter (is_of k) ys) =
-    sym (ap (λ b. length (here b k).versions) (same_itself k)) ∙ h k in
+    sym (ap (λ b. length (here b k).versions) (same-itself k)) ∙ h k in
     let sum : size ((k, chain) ∷ rest) ≡ length chain.versions + size rest = sum_by-cons (λ (x : Chain). length x.versions) chain (values_of rest) in
     omega (arith, others, both, first, sum)
   where
@@ -81,7 +75,7 @@ size_grouped ((k, chain) ∷ rest) ys sorted h =
 
     go : (b : Bool) (c : Cell) → is_same_cell c k ≡ b → length (chain_at rest c).versions ≡ length (filter (is_of c) (filter (is_not_of k) ys))
     go true c same =
-        ap (λ o. length (unwrap_or o no_chain).versions) (none_behind k c rest sorted same)
+        ap (λ o. length (unwrap_or o no_chain).versions) (none-behind k c rest sorted same)
         ∙ ap length (sym (none_of_others c ys))
         ∙ ap (λ x. length (filter (is_of c) (filter (is_not_of x) ys))) (cell_is c k same)
     go false c apart =
@@ -105,7 +99,7 @@ own_of_commit c n (e ∷ es) sorted = go (is_same_cell c e.0) refl (own_of_commi
   where
     go : (b : Bool) → is_same_cell c e.0 ≡ b → own c (map (made_by n) es) ≡ version_by n (at_cell es c) →
         map pair_of_version (cond b (made_by n e ∷ filter (is_of c) (map (made_by n) es)) (filter (is_of c) (map (made_by n) es))) ≡ version_by n (cond b (Some e.1) (at_cell es c))
-    go true same rest = ap (λ vs. (n, e.1) ∷ vs) (rest ∙ ap (version_by n) (none_behind e.0 c es sorted same))
+    go true same rest = ap (λ vs. (n, e.1) ∷ vs) (rest ∙ ap (version_by n) (none-behind e.0 c es sorted same))
     go false apart rest = rest
 
 own_of_rows : (c : Cell) (rows : TableState) → IsTableState rows → own c (map of_row rows) ≡ shown 0 (row_at rows c)
@@ -114,7 +108,7 @@ own_of_rows c (e ∷ es) sorted = go (is_same_cell c e.0) refl (own_of_rows c es
   where
     go : (b : Bool) → is_same_cell c e.0 ≡ b → own c (map of_row es) ≡ shown 0 (row_at es c) →
         map pair_of_version (cond b (of_row e ∷ filter (is_of c) (map of_row es)) (filter (is_of c) (map of_row es))) ≡ shown 0 (cond b (Some e.1) (row_at es c))
-    go true same rest = ap (λ vs. (0, Some e.1) ∷ vs) (rest ∙ ap (shown 0) (none_behind e.0 c es sorted same))
+    go true same rest = ap (λ vs. (0, Some e.1) ∷ vs) (rest ∙ ap (shown 0) (none-behind e.0 c es sorted same))
     go false apart rest = rest
 
 own_from : (c : Cell) (n : ℕ) (ws : List ChangeSet) → AreCommits ws → own c (versions_from n ws) ≡ changes_of c n ws
@@ -146,7 +140,7 @@ newer_own c x n f (v ∷ vs) same = turn ∙ go (is_same_cell c v.cell) (newer_o
     rest_of = list_any (λ u. is_same_cell u.cell x && (nat_lt n u.number && nat_le u.number f)) vs
 
     turn : (is_same_cell v.cell x && newer) || rest_of ≡ (is_same_cell c v.cell && newer) || rest_of
-    turn = ap (λ b. (b && newer) || rest_of) (same_turned v.cell x ∙ ap (λ y. is_same_cell y v.cell) (sym same))
+    turn = ap (λ b. (b && newer) || rest_of) (same-turned v.cell x ∙ ap (λ y. is_same_cell y v.cell) (sym same))
 
     go : (b : Bool) → rest_of ≡ list_any (λ (u : ℕ × Option ℤ). nat_lt n u.0 && nat_le u.0 f) (own c vs) →
         (b && newer) || rest_of ≡ list_any (λ (u : ℕ × Option ℤ). nat_lt n u.0 && nat_le u.0 f) (map pair_of_version (cond b (v ∷ filter (is_of c) vs) (filter (is_of c) vs)))

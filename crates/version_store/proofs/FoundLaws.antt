@@ -15,13 +15,13 @@ use Rattle.std.proofs.lemmas.Map.Keys.{sorted_tail}
 use Rattle.prog_tree.specs.declared.cell.Cell.{Cell}
 use Rattle.prog_tree.specs.declared.cell.Region.{Region}
 use Rattle.prog_tree.specs.Table.{cell_cmp, Cells, cells_of, at_cell, is_same_cell, is_in, is_cell_among, TableState, IsTableState, row_at}
+use Rattle.prog_tree.proofs.CellSets.{none-behind}
 use Rattle.prog_tree.proofs.TableLemmas.{cell_total, find_is}
 use Rattle.prog_tree.proofs.TableStates.{same_cell, cell_is, same_state, IsTableState-nil}
 use Rattle.version_store.specs.StandsFor.{Chain, no_chain}
 use Rattle.version_store.specs.Reading.{AllRise, RisesFrom, chain_at, value_at}
 use Rattle.prog_tree.specs.Corners.{is_between, AreCorners}
 use Rattle.version_store.specs.Regions.{seen_in, seen_left, found_row, found_rows, IsSeen}
-use Rattle.version_store.proofs.ChainsLaws.{none_behind}
 use Rattle.version_store.proofs.ScanLaws.{seen_at, or_none}
 
 abbrev pub Seen : Type 0
@@ -62,7 +62,7 @@ row_at-found_rows seen (e ∷ es) h c =
     turn : (b : Bool) → is_same_cell c e.0 ≡ b → row_at (found_rows seen es) c ≡ seen_at seen c (at_cell es c) →
         cond b (option_or (seen e.0 e.1) (row_at (found_rows seen es) c)) (row_at (found_rows seen es) c) ≡ seen_at seen c (cond b (Some e.1) (at_cell es c))
     turn true same rest =
-        ap (option_or (seen e.0 e.1)) (rest ∙ ap (seen_at seen c) (none_behind e.0 c es h same))
+        ap (option_or (seen e.0 e.1)) (rest ∙ ap (seen_at seen c) (none-behind e.0 c es h same))
         ∙ or_none (seen e.0 e.1) ∙ ap (λ x. seen x e.1) (sym (cell_is c e.0 same))
     turn false apart rest = rest
 
@@ -126,7 +126,7 @@ rest_left k chain rest h = record {
 }
   where
     go : (b : Bool) (c : Cell) (x : Chain) → is_same_cell c k ≡ b → at_cell rest c ≡ Some x → RisesFrom 0 x.versions
-    go true c x same found = let none = none_behind k c rest h.sorted same in absurd (cc)
+    go true c x same found = let none = none-behind k c rest h.sorted same in absurd (cc)
     go false c x apart found = h.rises c x (ap (λ b. cond b (Some chain) (at_cell rest c)) apart ∙ found)
 
 -- the chains in which nothing is seen do not matter

@@ -8,12 +8,12 @@ use Rattle.std.specs.Option.{option_or}
 use Rattle.std.proofs.lemmas.Map.Keys.{sorted_tail}
 use Rattle.prog_tree.specs.declared.cell.Cell.{Cell}
 use Rattle.prog_tree.specs.Table.{cell_cmp, Cells, cells_of, at_cell, is_same_cell, TableState, IsTableState, row_at}
+use Rattle.prog_tree.proofs.CellSets.{none-behind}
 use Rattle.prog_tree.proofs.TableLemmas.{cell_total, at_cell-with_cell}
 use Rattle.prog_tree.proofs.TableStates.{cell_is, IsTableState-nil, IsTableState-with_row}
 use Rattle.version_store.specs.StandsFor.{Chain, no_chain}
 use Rattle.version_store.specs.Reading.{AllRise, RisesFrom, chain_at}
 use Rattle.version_store.specs.Regions.{with_found}
-use Rattle.version_store.proofs.ChainsLaws.{none_behind}
 
 -- what is seen of a cell, with a chain or without one
 abbrev pub seen_at : (Cell → Chain → Option ℤ) → Cell → Option Chain → Option ℤ
@@ -62,7 +62,7 @@ gathers_more seen chains left rest k chain rows next rise is so_far adds = recor
     added = adds (subst (λ (o : Option Chain). RisesFrom 0 (unwrap_or o no_chain).versions) here (rise k))
 
     within : (b : Bool) (c : Cell) (x : Chain) → is_same_cell c k ≡ b → at_cell rest c ≡ Some x → at_cell chains c ≡ Some x
-    within true c x same found = let none = none_behind k c rest h.sorted same in absurd (cc)
+    within true c x same found = let none = none-behind k c rest h.sorted same in absurd (cc)
     within false c x apart found = h.within c x (ap (λ b. cond b (Some chain) (at_cell rest c)) apart ∙ found)
 
     turn : (c : Cell) → option_or (seen_at seen c (at_cell rest c)) (row_at (with_found rows k (seen k chain)) c) ≡ option_or (seen_at seen c (at_cell ((k, chain) ∷ rest) c)) (row_at rows c)
@@ -72,7 +72,7 @@ gathers_more seen chains left rest k chain rows next rise is so_far adds = recor
             option_or (seen_at seen c (at_cell rest c)) (cond b (option_or (seen k chain) (row_at rows c)) (row_at rows c))
             ≡ option_or (seen_at seen c (cond b (Some chain) (at_cell rest c))) (row_at rows c)
         go true same =
-            ap (λ o. option_or (seen_at seen c o) (option_or (seen k chain) (row_at rows c))) (none_behind k c rest h.sorted same)
+            ap (λ o. option_or (seen_at seen c o) (option_or (seen k chain) (row_at rows c))) (none-behind k c rest h.sorted same)
             ∙ ap (λ x. option_or (seen x chain) (row_at rows c)) (sym (cell_is c k same))
         go false apart = refl
 

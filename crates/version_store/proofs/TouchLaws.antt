@@ -7,14 +7,13 @@ use Rattle.std.proofs.lemmas.Map.Keys.{sorted_tail}
 use Rattle.prog_tree.specs.declared.cell.Cell.{Cell}
 use Rattle.prog_tree.specs.ChangeSet.{ChangeSet, ChangedCells, change_at, touches_cell}
 use Rattle.prog_tree.specs.Table.{cell_cmp, Cells, cells_of, at_cell, is_same_cell, is_cell_among}
-use Rattle.prog_tree.proofs.CellSets.{among-some}
+use Rattle.prog_tree.proofs.CellSets.{among-some, same-turned, none-behind, not-behind}
 use Rattle.version_store.specs.declared.touches.Touch.{Touch}
 use Rattle.version_store.specs.declared.touches.Touch.TheVariants.{Change}
 use Rattle.version_store.specs.StandsFor.{Chain}
 use Rattle.version_store.specs.Reading.{with_version, with_mark, with_change_by, with_mark_by, with_commit}
 use Rattle.version_store.specs.Touches.{touches_left, touches_of, with_touches}
 use Rattle.version_store.specs.Trimming.{numbered, touches_by}
-use Rattle.version_store.proofs.ChainsLaws.{same_turned, none_behind, not_behind}
 
 -- ---- the cells
 
@@ -48,8 +47,8 @@ changed_touches :
 changed_touches n [] ts c chain sorted = refl
 changed_touches n (e ∷ changed) ts c chain sorted =
     changed_touches n changed ts c (if is_same_cell e.0 c then with_version n e.1 chain else chain) (sorted_tail cell_cmp e.0 (cells_of changed) sorted)
-    ∙ ap (λ b. with_touches n ts c (with_change_by n (at_cell changed c) (if b then with_version n e.1 chain else chain))) (same_turned e.0 c)
-    ∙ ap (with_touches n ts c) (go (is_same_cell c e.0) (λ same. none_behind e.0 c changed sorted same))
+    ∙ ap (λ b. with_touches n ts c (with_change_by n (at_cell changed c) (if b then with_version n e.1 chain else chain))) (same-turned e.0 c)
+    ∙ ap (with_touches n ts c) (go (is_same_cell c e.0) (λ same. none-behind e.0 c changed sorted same))
   where
     go : (b : Bool) → (b ≡ true → at_cell changed c ≡ None) →
         with_change_by n (at_cell changed c) (if b then with_version n e.1 chain else chain) ≡ with_change_by n (cond b (Some e.1) (at_cell changed c)) chain
@@ -60,8 +59,8 @@ kept_touches : (n : ℕ) (kept : List Cell) (c : Cell) (chain : Chain) → IsStr
 kept_touches n [] c chain sorted = refl
 kept_touches n (k ∷ kept) c chain sorted =
     kept_touches n kept c (if is_same_cell k c then with_mark n chain else chain) (sorted_tail cell_cmp k kept sorted)
-    ∙ ap (λ b. with_mark_by n (is_cell_among kept c) (if b then with_mark n chain else chain)) (same_turned k c)
-    ∙ go (is_same_cell c k) (λ same. not_behind k c kept sorted same)
+    ∙ ap (λ b. with_mark_by n (is_cell_among kept c) (if b then with_mark n chain else chain)) (same-turned k c)
+    ∙ go (is_same_cell c k) (λ same. not-behind k c kept sorted same)
   where
     go : (b : Bool) → (b ≡ true → is_cell_among kept c ≡ false) → with_mark_by n (is_cell_among kept c) (if b then with_mark n chain else chain) ≡ with_mark_by n (b || is_cell_among kept c) chain
     go true none = ap (λ a. with_mark_by n a (with_mark n chain)) (none refl)

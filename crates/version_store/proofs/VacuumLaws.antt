@@ -3,10 +3,10 @@ use Rattle.std.proofs.Common.{◌≡◌, ◌∙◌, ℕ, ◌+◌, ◌-◌, ◌^�
 use Rattle.std.proofs.lemmas.Bool.{le-leb}
 use Rattle.prog_tree.specs.declared.cell.Cell.{Cell}
 use Rattle.prog_tree.specs.Table.{Cells, is_same_cell, is_cell_among}
+use Rattle.prog_tree.proofs.CellSets.{same-turned}
 use Rattle.version_store.specs.Reading.{chain_at, MakesAt}
 use Rattle.version_store.specs.StandsFor.{Chain, trimmed, size, EachHolds}
 use Rattle.version_store.specs.Trimming.{numbered, within, beyond, TakesWithin}
-use Rattle.version_store.proofs.ChainsLaws.{same_turned}
 use Rattle.version_store.proofs.TrimLaws.{trimmed_again}
 
 -- ---- touches are added
@@ -85,4 +85,4 @@ vacuums_more f before now next first left rest cell count n total takes made hol
         (is_cell_among (within f left) c ≡ false → chain_at now c ≡ trimmed f (chain_at before c)) →
         (if b then trimmed f (chain_at now c) else chain_at now c) ≡ trimmed f (chain_at before c)
     turn c true same none later = h.same c
-    turn c false apart none later = later (ap (λ cells. is_cell_among cells c) within_left ∙ ap (λ b. b || is_cell_among (within f rest) c) (same_turned c cell ∙ apart) ∙ none)
+    turn c false apart none later = later (ap (λ cells. is_cell_among cells c) within_left ∙ ap (λ b. b || is_cell_among (within f rest) c) (same-turned c cell ∙ apart) ∙ none)

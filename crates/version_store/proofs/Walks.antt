@@ -7,12 +7,13 @@ use Rattle.std.proofs.lemmas.Map.Keys.{sorted_tail}
 use Rattle.prog_tree.specs.declared.cell.Cell.{Cell}
 use Rattle.prog_tree.specs.ChangeSet.{ChangeSet}
 use Rattle.prog_tree.specs.Table.{cell_cmp, Cells, cells_of, at_cell, is_same_cell, is_cell_among}
+use Rattle.prog_tree.proofs.CellSets.{same-turned}
 use Rattle.version_store.specs.declared.touches.Touch.{Touch}
 use Rattle.version_store.specs.declared.touches.Touch.TheVariants.{Change, Keep}
 use Rattle.version_store.specs.StandsFor.{Chain, EachHolds}
 use Rattle.version_store.specs.Reading.{chain_at, with_entry, with_version, with_mark, with_commit, cut_from, IsGrown, MakesAt, MakesTouched}
 use Rattle.version_store.specs.Touches.{touches_of, with_touch, with_touches}
-use Rattle.version_store.proofs.ChainsLaws.{entry_turn, same_turned}
+use Rattle.version_store.proofs.ChainsLaws.{entry_turn}
 use Rattle.version_store.proofs.TouchLaws.{among_touches, commit_touches}
 
 -- with the entries that are left, the chains are what they will be at the end, and these are entries of the map
@@ -95,7 +96,7 @@ one_more_touch n touches left rest k touch before now next is so_far made holds_
   apart = λ c none.
       let both = h.apart c none in
       let neither = not_either (is_same_cell c k) (is_cell_among (cells_of rest) c) both.0 in
-      (neither.1, made c ∙ ap (λ b. if b then with_touch n touch (chain_at now c) else chain_at now c) (same_turned k c ∙ neither.0) ∙ both.1);
+      (neither.1, made c ∙ ap (λ b. if b then with_touch n touch (chain_at now c) else chain_at now c) (same-turned k c ∙ neither.0) ∙ both.1);
   hold = λ holds. holds_next (h.hold holds);
 }
   where
@@ -151,7 +152,7 @@ pub one_more_cut :
     MakesAt k (cut_from n) now next → (EachHolds now → EachHolds next) → CutsTouches n touches rest before next
 one_more_cut n touches left rest k touch before now next is so_far made holds_next = record {
   ends = λ c.
-      ap (λ x. if is_cell_among (cells_of rest) c then cut_from n x else x) (made c ∙ ap (λ b. if b then cut_from n (chain_at now c) else chain_at now c) (same_turned k c))
+      ap (λ x. if is_cell_among (cells_of rest) c then cut_from n x else x) (made c ∙ ap (λ b. if b then cut_from n (chain_at now c) else chain_at now c) (same-turned k c))
       ∙ go (is_same_cell c k) (is_cell_among (cells_of rest) c) (chain_at now c)
       ∙ h.ends c;
   hold = λ holds. holds_next (h.hold holds);
