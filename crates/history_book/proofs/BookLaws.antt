@@ -117,7 +117,7 @@ true-ended v number e endings active book found this none more is by_number =
     nil_right (n ∷ ns) = ap (λ ms. n ∷ ms) (nil_right ns)
 
 -- the history with one more row
-history-push : (rows : List HistoryRow) (row : HistoryRow) → history_of (rows ++ row ∷ []) ≡ history_of rows ++ instance_of row ∷ []
+pub history-push : (rows : List HistoryRow) (row : HistoryRow) → history_of (rows ++ row ∷ []) ≡ history_of rows ++ instance_of row ∷ []
 history-push rows row = map-append instance_of rows (row ∷ [])
 
 pub true-committed :

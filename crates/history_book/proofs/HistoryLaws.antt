@@ -75,11 +75,11 @@ last_touch-at c k (w ∷ ws) (suc n) v found touches =
 -- ---- lawful histories
 
 -- an element of a list with one more is one of the list, or that one
-one_of : {X : Type 0} (xs : List X) (x y : X) (n : ℕ) → slice_get (xs ++ x ∷ []) n ≡ Some y → (slice_get xs n ≡ Some y) ⊎ ((n ≡ length xs) × (x ≡ y))
-one_of [] x y zero found = inr (refl, cc)
-one_of [] x y (suc n) found = absurd (cc)
-one_of (z ∷ xs) x y zero found = inl found
-one_of (z ∷ xs) x y (suc n) found = go (one_of xs x y n found)
+pub get-push : {X : Type 0} (xs : List X) (x y : X) (n : ℕ) → slice_get (xs ++ x ∷ []) n ≡ Some y → (slice_get xs n ≡ Some y) ⊎ ((n ≡ length xs) × (x ≡ y))
+get-push [] x y zero found = inr (refl, cc)
+get-push [] x y (suc n) found = absurd (cc)
+get-push (z ∷ xs) x y zero found = inl found
+get-push (z ∷ xs) x y (suc n) found = go (get-push xs x y n found)
   where
     go : (slice_get xs n ≡ Some y) ⊎ ((n ≡ length xs) × (x ≡ y)) → (slice_get xs n ≡ Some y) ⊎ ((suc n ≡ suc (length xs)) × (x ≡ y))
     go (inl before) = inl before
@@ -105,7 +105,7 @@ module _ (set_of : DraftTree) (opening : TableState) where
 
     either : (j : ℕ) (b : Instance) → nth_instance (h ++ i ∷ []) j ≡ Some b → IsEither j b
     either zero b found = absurd (cc)
-    either (suc n) b found = go (one_of h i b n found)
+    either (suc n) b found = go (get-push h i b n found)
       where
         go : (slice_get h n ≡ Some b) ⊎ ((n ≡ length h) × (i ≡ b)) → IsEither (suc n) b
         go (inl old) = inl old

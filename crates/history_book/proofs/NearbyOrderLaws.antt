@@ -5,6 +5,7 @@ use Rattle.std.specs.List.{range_with_len}
 use Rattle.std.proofs.lemmas.Bool.{cases_lt, false≢true, false_from_ne_true}
 use Rattle.std.proofs.lemmas.Bool.Decides.{eqb_tells}
 use Rattle.std.proofs.lemmas.List.{get_or-set_same, get_or-set_other, length-set, length-replicate}
+use Rattle.std.proofs.Math.Bool.{or-true, or-false}
 use Rattle.history_book.specs.Nearby.{AreHorizons}
 use Rattle.history_book.specs.NearbyOrder.{is_marked, AreMarked, IsMarkedBelow, IsFreeTest, IsFirstFree, IsHolder, IsTestedBelow, AreHolders}
 use Rattle.history_book.specs.Orders.{is_one_of, is_free, first_free, placed_by, least_order, IsUpTo}
@@ -85,15 +86,7 @@ marked-more marks placed p within are n = go (eqb_tells p n) ∙ sym (one-push p
   where
     go : Same p n → is_marked (set marks p true) n ≡ (is_one_of placed n || p == n)
     go (inl e) = rw e.0 (subst (λ m. is_marked (set marks p true) m ≡ (is_one_of placed n || true)) e.1 (get_or-set_same marks p true false within ∙ sym (or-true (is_one_of placed n))))
-      where
-        or-true : (b : Bool) → (b || true) ≡ true
-        or-true true = refl
-        or-true false = refl
     go (inr e) = rw e.0 (get_or-set_other marks p n true false (λ s. e.1 (sym s)) ∙ are n ∙ sym (or-false (is_one_of placed n)))
-      where
-        or-false : (b : Bool) → (b || false) ≡ b
-        or-false true = refl
-        or-false false = refl
 
 -- ---- turns
 

@@ -5,6 +5,7 @@ use Rattle.std.specs.List.{list_all, range_with_len}
 use Rattle.std.proofs.lemmas.Bool.Decides.{nat_tests, leb_tells}
 use Rattle.std.proofs.lemmas.List.Folds.{list_any-append, list_any_at, list_all-map}
 use Rattle.std.proofs.lemmas.List.{length-append}
+use Rattle.std.proofs.Math.Bool.{or-true}
 use Rattle.history_book.specs.Orders.{is_one_of}
 use Rattle.history_book.specs.Serial.{is_each_once}
 
@@ -187,9 +188,5 @@ next_within n placed rest m once =
     self : (m == m) ≡ true
     self = grind (arith, nat_tests)
 
-    all : (a : Bool) → (a || true) ≡ true
-    all true = refl
-    all false = refl
-
     last : (a b : Bool) → b ≡ true → (a || (b || is_one_of rest m)) ≡ true
-    last a b is = ap (λ t. a || (t || is_one_of rest m)) is ∙ all a
+    last a b is = ap (λ t. a || (t || is_one_of rest m)) is ∙ or-true a

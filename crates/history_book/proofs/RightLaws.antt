@@ -21,9 +21,7 @@ use Rattle.history_book.proofs.ClashLaws.{last_touches}
 use Rattle.history_book.proofs.EndingLaws.{true_rows-push, true_row-in_longer}
 use Rattle.history_book.proofs.HistoryLaws.{lawful-nil, lawful-push, length-commits_of}
 use Rattle.history_book.proofs.StateLaws.{nth_instance-behind, state_at-commits_after, commits_of-is}
-
-history-push : (rows : List HistoryRow) (r : HistoryRow) → history_of (rows ++ r ∷ []) ≡ history_of rows ++ instance_of r ∷ []
-history-push rows r = map-append instance_of rows (r ∷ [])
+use Rattle.history_book.proofs.BookLaws.{history-push}
 
 module _ (set : DraftTree) (opening : TableState) where
   -- ---- right rows are lawful

@@ -7,15 +7,16 @@ use Rattle.std.specs.Option.{option_or}
 use Rattle.prog_tree.specs.declared.cell.Cell.{Cell}
 use Rattle.prog_tree.specs.declared.cell.Region.{Region}
 use Rattle.prog_tree.specs.declared.progress.Progress.{Progress}
-use Rattle.prog_tree.specs.Syntax.{Name, ExprTree, RangeTree, OneRange, TwoRange}
+use Rattle.prog_tree.specs.Syntax.{Name, ExprTree, RangeTree}
 use Rattle.prog_tree.specs.Syntax as s
 use Rattle.prog_tree.specs.Value.{Bindings, same_name, exact, both, value_in, value_of}
 use Rattle.prog_tree.specs.Table.{TableState, at_cell, is_same_cell, is_cell_among, is_in, rows_in, IsI64Cell, IsI64Row}
 use Rattle.prog_tree.specs.ChangeSet.{ChangedCells, ChangeSet, changes_in, with_change}
-use Rattle.prog_tree.specs.Evaluation.{Turn, last_column, turns_of, own_cells, rows_left, rows_seen}
+use Rattle.prog_tree.specs.Evaluation.{Turn, turns_of, own_cells, rows_left, rows_seen}
 use Rattle.prog_tree.proofs.EnvLemmas.{value_in_push}
 use Rattle.prog_tree.specs.Number.{IsI64, is_i64}
 use Rattle.prog_tree.proofs.NumberLaws.{i64_is_tested, IsEntry, written, HasI64Rows-changed}
+use Rattle.prog_tree.proofs.NumberRuns.{IsI64Turn, turns-i64}
 use Rattle.prog_paths.proofs.Numbers.{AllI64, RowsOfI64, LiteralFits}
 use Rattle.prog_paths.proofs.Values.{nth}
 
@@ -89,15 +90,7 @@ change_i64 (entry ∷ entries) c z h e = here (change_i64 entries c z h.1) (is_s
 -- ---- the turns of an `each`
 
 abbrev pub TurnsOfI64 : List Turn → Type 0
-TurnsOfI64 turns = AllByRecursion (λ (turn : Turn). IsI64 turn.0 × IsI64 turn.1) turns
-
-column_i64 : (range : RangeTree) (c : Cell) → IsI64Cell c → IsI64 (last_column range c)
-column_i64 (OneRange low high) c is = is.0
-column_i64 (TwoRange first low high) c is = is.1
-
-turns_i64 : (range : RangeTree) (rows : TableState) → RowsOfI64 rows → TurnsOfI64 (turns_of range rows)
-turns_i64 range [] h = tt
-turns_i64 range (row ∷ rows) h = ((column_i64 range row.0 h.0.0, h.0.1), turns_i64 range rows h.1)
+TurnsOfI64 turns = AllByRecursion IsI64Turn turns
 
 -- the rows that a run sees in a region
 seen_i64 : (m : TableState) (p : Progress) (g : Region) → Ranged m p → RowsOfI64 (rows_seen g p.changes.cells (rows_left g (own_cells g p.changes.cells) m))
@@ -111,4 +104,4 @@ seen_i64 m p g r =
 
 -- so the turns of an `each` are numbers of i64
 pub listed_i64 : (m : TableState) (p : Progress) (g : Region) (range : RangeTree) → Ranged m p → TurnsOfI64 (turns_of range (rows_seen g p.changes.cells (rows_left g (own_cells g p.changes.cells) m)))
-listed_i64 m p g range r = turns_i64 range (rows_seen g p.changes.cells (rows_left g (own_cells g p.changes.cells) m)) (seen_i64 m p g r)
+listed_i64 m p g range r = turns-i64 range (rows_seen g p.changes.cells (rows_left g (own_cells g p.changes.cells) m)) (seen_i64 m p g r)

@@ -1,6 +1,6 @@
 -- The rows that a run sees in a region: those of its look and its own changes, merged in one pass.
 use Rattle.std.proofs.Common.{◌≡◌, ℕ, zero, suc, ◌+◌, List, [], ◌∷◌, ◌++◌, refl, ap, sym, subst, ◌∙◌, true, false, not, cond, arith, ◌<◌, length, take, drop, get_or, add-one, drop-cons, append_assoc}
-use Rattle.std.specs.Prelude.{ℤ, ◌+ℤ◌, Bool, ◌||◌, Option, Some, None, filter}
+use Rattle.std.specs.Prelude.{ℤ, ◌+ℤ◌, Bool, ◌||◌, Option, Some, None, filter, unwrap_or}
 use Rattle.std.proofs.Math.Numerals.{one-add}
 use Rattle.std.specs.declared.cmp.Ordering.{Ordering}
 use Rattle.std.specs.declared.cmp.Ordering.TheVariants.{Less, Equal, Greater}
@@ -35,11 +35,7 @@ all_absent_rest row m [] h = tt
 all_absent_rest row m (e ∷ es) h = (absent_rest e.0 row m h.0, all_absent_rest row m es h.1)
 
 still_absent : (m : TableState) (e : Cell × Option ℤ) (es : ChangedCells) → AllByRecursion (λ y. cell_cmp e.0 y ≡ Less) (cells_of es) → row_at m e.0 ≡ None → row_at (changed m es) e.0 ≡ None
-still_absent m e es above absent = row_at-changed m es e.0 ∙ ap (λ o. own_or o (row_at m e.0)) (none-above e.0 es above) ∙ absent
-  where
-    own_or : Option (Option ℤ) → Option ℤ → Option ℤ
-    own_or (Some w) o = w
-    own_or None o = o
+still_absent m e es above absent = row_at-changed m es e.0 ∙ ap (λ o. unwrap_or o (row_at m e.0)) (none-above e.0 es above) ∙ absent
 
 -- ---- rows without those of some cells
 

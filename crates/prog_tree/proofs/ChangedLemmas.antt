@@ -1,6 +1,6 @@
 -- What a state holds after changes.
 use Rattle.std.proofs.Common.{◌≡◌, [], ◌∷◌, refl, ap, sym, ◌∙◌, cond, true, false}
-use Rattle.std.specs.Prelude.{ℤ, Option, Some, None, not, Bool}
+use Rattle.std.specs.Prelude.{ℤ, Option, Some, None, not, Bool, unwrap_or}
 use Rattle.std.specs.Ordering.{eq_by_cmp, is_eq}
 use Rattle.std.specs.Cmp.{alike_right, eq_by_cmp_equiv}
 use Rattle.std.specs.FinMap.{find}
@@ -26,13 +26,9 @@ row_at-changed_row : (m : TableState) (k : Cell) (w : Option ℤ) (q : Cell) →
 row_at-changed_row m k (Some v) q = at_cell-with_cell m k v q
 row_at-changed_row m k None q = row_at-without_row m k q
 
-abbrev own_or : Option (Option ℤ) → Option ℤ → Option ℤ
-own_or (Some w) o = w
-own_or None o = o
-
 -- a cell holds what was changed last, or what it held
-pub row_at-changed : (m : TableState) (changes : ChangedCells) (q : Cell) → row_at (changed m changes) q ≡ own_or (at_cell changes q) (row_at m q)
+pub row_at-changed : (m : TableState) (changes : ChangedCells) (q : Cell) → row_at (changed m changes) q ≡ unwrap_or (at_cell changes q) (row_at m q)
 row_at-changed m [] q = refl
 row_at-changed m (e ∷ es) q =
     row_at-changed_row (changed m es) e.0 e.1 q ∙ ap (cond (eq_by_cmp cell_cmp q e.0) e.1) (row_at-changed m es q)
-    ∙ elim (eq_by_cmp cell_cmp q e.0) as (λ b. cond b e.1 (own_or (at_cell es q) (row_at m q)) ≡ own_or (cond b (Some e.1) (at_cell es q)) (row_at m q)) [ true ↦ refl | false ↦ refl ]
+    ∙ elim (eq_by_cmp cell_cmp q e.0) as (λ b. cond b e.1 (unwrap_or (at_cell es q) (row_at m q)) ≡ unwrap_or (cond b (Some e.1) (at_cell es q)) (row_at m q)) [ true ↦ refl | false ↦ refl ]

@@ -20,6 +20,8 @@ use Rattle.history_book.specs.View as book
 use Rattle.history_book.specs.View.{BookView, state_in, instance_of, history_of, start_fault, full_fault, fault_at, begin_at_fault_of, ticket_at, begun_at}
 use Rattle.history_book.specs.declared.fault.BeginFault.{BeginFault}
 use Rattle.history_book.specs.declared.fault.BeginFault.TheVariants.{WrongArguments, TooOld, TooNew, Full}
+use Rattle.history_book.proofs.HistoryLaws.{get-push}
+use Rattle.version_store.proofs.ChainsLaws.{at_error}
 use Rattle.si_engine.specs.Machine.{Active, Machine, active_of, is_full, at_begin, begin_at_by}
 use Rattle.si_engine.specs.View.{EngineView, instance_in, active_in, begun_of, machine_of, IsHeld, IsEngine, StaysOver, IsAnswerTo, MayLackMemory, Applies, numbered, answer_to, takes_memory}
 use Rattle.si_engine.specs.declared.active.ActiveRun.{ActiveRun}
@@ -27,8 +29,8 @@ use Rattle.si_engine.specs.declared.event.Event.{Event}
 use Rattle.si_engine.specs.declared.event.Event.TheVariants as event
 use Rattle.si_engine.specs.declared.event.Reply.{Reply}
 use Rattle.si_engine.specs.declared.event.Reply.TheVariants as reply
-use Rattle.si_engine.proofs.EngineLaws.{view_of, on_err}
-use Rattle.si_engine.proofs.PlaceLaws.{get-push, numbered-push, length-numbered}
+use Rattle.si_engine.proofs.EngineLaws.{view_of}
+use Rattle.si_engine.proofs.PlaceLaws.{numbered-push, length-numbered}
 
 -- ---- what is wrong with a begin
 
@@ -120,7 +122,7 @@ module _ (v : BookView) (runs : List (Option ActiveRun)) (kept : IsEngine v runs
       pub begin_lacks : {old new : EngineView} {r : Result Reply AllocError} → view_of v runs ≡ old → StaysOver old new →
           IfOk r (IsAnswerTo begin_event old new) → OnErr r (new ≡ old) → Applies begin_event old new r
       begin_lacks {r = r} seen over step same =
-          record { over = over; step = step; err = same; memory = on_err r (subst (MayLackMemory begin_event) seen begin_takes_memory) }
+          record { over = over; step = step; err = same; memory = at_error r (subst (MayLackMemory begin_event) seen begin_takes_memory) }
 
       -- and its start is not above the number of commits
       start_within : start ≤ length v.rows

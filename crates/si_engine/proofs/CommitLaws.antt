@@ -11,6 +11,7 @@ use Rattle.history_book.specs.Runs.{committed_in, ended_in, row_in}
 use Rattle.history_book.specs.View.{BookView, instance_of, history_of, active_at, commits_in, done_in}
 use Rattle.history_book.specs.declared.instances.row.Ending.{Ending}
 use Rattle.history_book.specs.declared.instances.row.Ending.TheVariants as ending
+use Rattle.history_book.proofs.BookLaws.{history-push}
 use Rattle.si_engine.specs.Machine.{Machine, with_begun, commit_by, machine_step}
 use Rattle.si_engine.specs.View.{instance_in, machine_of, IsEngine, Applies, IsCommitReply, takes_memory}
 use Rattle.si_engine.specs.declared.active.ActiveRun.{ActiveRun}
@@ -18,7 +19,7 @@ use Rattle.si_engine.specs.declared.event.Event.TheVariants as event
 use Rattle.si_engine.specs.declared.event.Reply.{Reply}
 use Rattle.si_engine.specs.declared.event.Reply.TheVariants as reply
 use Rattle.si_engine.proofs.ClashLaws.{clash_is}
-use Rattle.si_engine.proofs.EngineLaws.{view_of, answered, lacked, Leaves, leaves_ended, leaves_committed, history-push, begun-set, with_active_is, is_active, engine-leaves}
+use Rattle.si_engine.proofs.EngineLaws.{view_of, answered, lacked, Leaves, leaves_ended, leaves_committed, begun-set, with_active_is, is_active, engine-leaves}
 use Rattle.si_engine.proofs.PlaceLaws.{set-same, put-back}
 
 module _ (v : BookView) (runs : List (Option ActiveRun)) (kept : IsEngine v runs) where

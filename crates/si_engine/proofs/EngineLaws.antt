@@ -5,7 +5,7 @@ use Rattle.std.specs.BTreeMap.{is_at}
 use Rattle.std.specs.Map.{lookup}
 use Rattle.std.specs.Ordering.{nat_cmp}
 use Rattle.std.proofs.lemmas.Bool.Decides.{nat_tests}
-use Rattle.std.proofs.lemmas.List.{map-append, map-set, length-map, length-set, length-append}
+use Rattle.std.proofs.lemmas.List.{map-set, length-map, length-set, length-append}
 use Rattle.std.proofs.lemmas.Option.{slice_get-map, slice_get_within}
 use Rattle.std.specs.declared.alloc.AllocError.{AllocError}
 use Rattle.prog_tree.specs.declared.deed.Deed.{Deed}
@@ -22,6 +22,7 @@ use Rattle.history_book.specs.View.{BookView, instance_of, history_of, active_at
 use Rattle.history_book.specs.declared.instances.row.Ending.{Ending}
 use Rattle.history_book.specs.declared.instances.row.HistoryRow.{HistoryRow}
 use Rattle.history_book.proofs.HistoryLaws.{state_after-push}
+use Rattle.history_book.proofs.BookLaws.{history-push}
 use Rattle.si_engine.specs.Machine.{Active, Machine, least_start, at_end, deed_or_end, stepped, with_begun, if_active, with_active, machine_step}
 use Rattle.si_engine.specs.View.{EngineView, instance_in, active_in, begun_of, machine_of, IsHeld, IsActive, IsEngine, StaysOver, IsAnswerTo, answer_without, MayLackMemory, Applies, IsAfterStep, numbered, takes_memory}
 use Rattle.si_engine.specs.declared.active.ActiveRun.{ActiveRun}
@@ -48,11 +49,6 @@ answered over step = record { over = over; step = step; err = tt; memory = tt }
 -- an event was not, since memory ran out
 pub lacked : {e : Event} {old new : EngineView} {f : AllocError} → new ≡ old → MayLackMemory e old → Applies e old new (Err f)
 lacked same memory = record { over = (ap (λ (x : EngineView). x.set) same, ap (λ (x : EngineView). x.opening) same); step = tt; err = same; memory = memory }
-
--- a fact that holds holds after an error
-pub on_err : {T E P : Type 0} (r : Result T E) → P → OnErr r P
-on_err (Ok x) holds = tt
-on_err (Err e) holds = holds
 
 -- ---- what a book keeps where an instance leaves it
 
@@ -88,9 +84,6 @@ leaves_withdrawn v number = record {
 }
 
 -- the states that instances see are those of the longer history
-pub history-push : (rows : List HistoryRow) (row : HistoryRow) → history_of (rows ++ row ∷ []) ≡ history_of rows ++ instance_of row ∷ []
-history-push rows row = map-append instance_of rows (row ∷ [])
-
 state-push : (v : BookView) (number : ℕ) (row : HistoryRow) (n : ℕ) → n ≤ length v.rows → state_in (committed_in v number row) n ≡ state_in v n
 state-push v number row n within =
     let inside : n ≤ length (history_of v.rows) = omega (arith, length-map v.rows instance_of) in

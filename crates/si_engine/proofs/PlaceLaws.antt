@@ -34,17 +34,6 @@ set-same (z ∷ xs) (suc i) x at = ap (λ ys. z ∷ ys) (set-same xs i x at)
 pub put-back : {X : Type 0} (xs ys : List X) (i : ℕ) (x y : X) → ys ≡ set xs i x → set ys i y ≡ set xs i y
 put-back xs ys i x y taken = ap (λ zs. set zs i y) taken ∙ set-set xs i x y
 
--- an element of a list with one more is one of the list, or that one
-pub get-push : {X : Type 0} (xs : List X) (x y : X) (i : ℕ) → slice_get (xs ++ x ∷ []) i ≡ Some y → (slice_get xs i ≡ Some y) ⊎ ((i ≡ length xs) × (x ≡ y))
-get-push [] x y zero found = inr (refl, cc)
-get-push [] x y (suc i) found = absurd (cc)
-get-push (z ∷ xs) x y zero found = inl found
-get-push {X = X} (z ∷ xs) x y (suc i) found = go (get-push xs x y i found)
-  where
-    go : (slice_get xs i ≡ Some y) ⊎ ((i ≡ length xs) × (x ≡ y)) → (slice_get xs i ≡ Some y) ⊎ ((suc i ≡ suc (length xs)) × (x ≡ y))
-    go (inl before) = inl before
-    go (inr here) = inr (ap suc here.0, here.1)
-
 -- a number is that of another, or not
 pub same_number : (i j : ℕ) → (j ≡ i) ⊎ (j ≡ i → ⊥)
 same_number zero zero = inl refl

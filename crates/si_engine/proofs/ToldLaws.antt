@@ -17,14 +17,14 @@ use Rattle.prog_tree.specs.Table.{TableState}
 use Rattle.version_store.specs.Clash.{clash_of}
 use Rattle.version_store.specs.Versions.{reclaimed}
 use Rattle.history_book.specs.History.{Instance, evaluation, commits_of}
-use Rattle.history_book.proofs.HistoryLaws.{evaluation-push}
+use Rattle.history_book.proofs.HistoryLaws.{evaluation-push, get-push}
 use Rattle.si_engine.specs.declared.event.Event.{Event}
 use Rattle.si_engine.specs.declared.event.Event.TheVariants as event
 use Rattle.si_engine.specs.declared.event.Reply.{Reply}
 use Rattle.si_engine.specs.declared.event.Reply.TheVariants as reply
 use Rattle.si_engine.specs.Headline.{Exchange, Call, call_in, IsBegunBy, IsReadyWith, IsCommittedAs, committed_at, commit_in, commits_said}
 use Rattle.si_engine.specs.Machine.{Active, Machine, new_machine, is_full, at_begin, at_end, deed_or_end, with_begun, if_active, admitted, begin_by, begin_at_by, commit_by, least_start, machine_step, replies_of, machine_after}
-use Rattle.si_engine.proofs.PlaceLaws.{get-set_same, get-set_other, get-push, same_number}
+use Rattle.si_engine.proofs.PlaceLaws.{get-set_same, get-set_other, same_number}
 
 -- ---- lists
 

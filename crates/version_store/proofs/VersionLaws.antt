@@ -1,6 +1,6 @@
 -- The chain of a cell in a history.
 use Rattle.std.proofs.Common.{◌≡◌, ◌∙◌, ℕ, ℤ, zero, suc, ◌+◌, ◌<◌, ◌≤◌, max, Bool, true, false, ◌||◌, cond, if◌then◌else◌, leb, nat_lt, List, [], ◌∷◌, ◌++◌, length, take, refl, ap, sym, arith, append_assoc, append-nil}
-use Rattle.std.specs.Prelude.{Option, Some, None, is_some, fold, filter}
+use Rattle.std.specs.Prelude.{Option, Some, None, is_some, fold, filter, unwrap_or}
 use Rattle.std.proofs.lemmas.Bool.{le-leb, lt-leb}
 use Rattle.prog_tree.specs.declared.cell.Cell.{Cell}
 use Rattle.prog_tree.specs.ChangeSet.{ChangeSet, change_at, changed}
@@ -12,11 +12,6 @@ use Rattle.version_store.specs.Reading.{RisesFrom, value_after, value_at, versio
 use Rattle.version_store.specs.Trimming.{shown}
 use Rattle.version_store.specs.StandsFor.{version_by, changes_of, marks_of, chain_of}
 use Rattle.version_store.specs.Versions.{Version}
-
--- what was changed, or what was held
-abbrev own_or : Option (Option ℤ) → Option ℤ → Option ℤ
-own_or (Some w) o = w
-own_or None o = o
 
 abbrev state_from : TableState → List ChangeSet → TableState
 state_from m ws = fold (λ n w. changed n w.cells) m ws
@@ -41,7 +36,7 @@ value_from c n k (suc j) m (w ∷ ws) end = go (change_at w c) (row_at-changed m
     within : leb k n ≡ true
     within = le-leb k n (omega arith)
 
-    go : (o : Option (Option ℤ)) → row_at (changed m w.cells) c ≡ own_or o (row_at m c) →
+    go : (o : Option (Option ℤ)) → row_at (changed m w.cells) c ≡ unwrap_or o (row_at m c) →
         value_after n (row_at m c) (version_by k o ++ changes_of c (k + 1) ws) ≡ value_after n (row_at (changed m w.cells) c) (changes_of c (k + 1) ws)
     go None is = ap (λ x. value_after n x (changes_of c (k + 1) ws)) (sym is)
     go (Some x) is = ap (λ b. value_after n (cond b x (row_at m c)) (changes_of c (k + 1) ws)) within ∙ ap (λ x. value_after n x (changes_of c (k + 1) ws)) (sym is)
