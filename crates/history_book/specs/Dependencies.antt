@@ -1,6 +1,7 @@
 -- Dependencies between the instances of a history, as tests, which compute.
-use Rattle.std.specs.Prelude.{ℕ, nat_lt, nat_le, ◌==◌, Bool, not, ◌&&◌, ◌||◌, is_some, List, Option, Some, None}
+use Rattle.std.specs.Prelude.{ℕ, nat_lt, nat_le, ◌==◌, Bool, not, ◌&&◌, ◌||◌, is_some, List, Option}
 use Rattle.std.specs.List.{list_any}
+use Rattle.std.specs.Option.{option_map_or}
 use Rattle.prog_tree.specs.declared.cell.Cell.{Cell}
 use Rattle.prog_tree.specs.ChangeSet.{ChangedCells, change_at}
 use Rattle.prog_tree.specs.Evaluation.{Evaluation}
@@ -11,13 +12,11 @@ use Rattle.history_book.specs.History.{Instance, nothing, eval_of, nth_instance,
 
 -- what an instance, if there is one, does on a table state
 abbrev pub run_found : DraftTree → Option Instance → TableState → Evaluation
-run_found set None m = nothing
-run_found set (Some i) m = eval_of set i m
+run_found set found m = option_map_or (λ (i : Instance). eval_of set i m) found nothing
 
 -- how many commits an instance sees, if there is one
 abbrev pub start_found : Option Instance → ℕ
-start_found None = 0
-start_found (Some i) = i.start
+start_found found = option_map_or (λ (i : Instance). i.start) found 0
 
 -- how many commits the instance of a number sees
 abbrev pub start_at : List Instance → ℕ → ℕ

@@ -1,5 +1,6 @@
 -- Histories of committed instances.
 use Rattle.std.specs.Prelude.{◌≡◌, ℕ, zero, suc, ◌-◌, ◌<◌, ℤ, true, All, List, [], ◌∷◌, ◌++◌, length, Option, Some, None, slice_get}
+use Rattle.std.specs.Option.{option_map_or}
 use Rattle.prog_tree.specs.declared.cell.Cell.{Cell}
 use Rattle.prog_tree.specs.declared.deed.End.TheVariants.{Ready, Aborted}
 use Rattle.prog_tree.specs.declared.deed.Cause.TheVariants.{Asked}
@@ -23,8 +24,7 @@ nothing =
     record { ending = Aborted Asked; deeds = []; replies = []; changes = no_changes; looks = [] }
 
 abbrev pub eval_found : Option ProgramTree → List TableDecl → List ℤ → TableState → Evaluation
-eval_found None tables args m = nothing
-eval_found (Some p) tables args m = eval tables p args m
+eval_found found tables args m = option_map_or (λ (p : ProgramTree). eval tables p args m) found nothing
 
 -- what an instance does on a table state
 unfoldable pub eval_of : DraftTree → Instance → TableState → Evaluation

@@ -1,6 +1,6 @@
 -- Which words are reserved, and what each of them begins.
 use Rattle.std.specs.Prelude.{ℕ, Bool, List, Option, Some, None}
-use Rattle.std.specs.Option.{is_some}
+use Rattle.std.specs.Option.{is_some, option_and_then}
 use Rattle.prog_text.specs.Spelling.{reserved_as}
 use Rattle.prog_text.specs.declared.lexing.token.Token.{Token}
 use Rattle.prog_text.specs.declared.lexing.token.Sign.TheVariants as sign
@@ -30,8 +30,7 @@ begun_by other = None
 
 -- what begins with some token, of which there may be none
 abbrev pub begun : Option Token → Option Beginning
-begun None = None
-begun (Some u) = begun_by u
+begun token = option_and_then begun_by token
 
 -- what begins with a word
 abbrev pub beginning_of : (word : List ℕ) → Option Beginning
