@@ -13,13 +13,13 @@ use Rattle.std.specs.List.Sorted.{IsSorted, IsStrictlySortedBy}
 use Rattle.std.proofs.lemmas.List.Kept.{IsStrictlySortedBy-filter}
 use Rattle.prog_tree.specs.declared.cell.Cell.{Cell}
 use Rattle.prog_tree.specs.declared.cell.Region.{Region}
-use Rattle.prog_tree.specs.Table.{cell_cmp, is_in, is_same_cell, is_cell_among, cells_of, TableState, row_at, with_row, without_row}
+use Rattle.prog_tree.specs.Table.{cell_cmp, is_in, is_same_cell, is_cell_among, cells_of, TableState, row_at, with_row, without_row, row_held}
 use Rattle.prog_tree.specs.ChangeSet.{ChangedCells, changes_in, changed_row, changed}
 use Rattle.prog_tree.specs.Evaluation.{total_of, rows_without}
 use Rattle.prog_tree.proofs.CellSets.{none-above}
 use Rattle.prog_tree.proofs.TableLemmas.{cell_total, find_is, absent_rest}
 use Rattle.prog_tree.proofs.ChangedLemmas.{row_at-changed}
-use Rattle.prog_run.specs.Seen.{rows_before, AreAbsent, own_row}
+use Rattle.prog_run.specs.Seen.{rows_before, AreAbsent}
 
 -- ---- rows of cells that were not changed
 
@@ -136,26 +136,26 @@ first_changed c m (e ∷ es) h all ordered absent =
 
 -- where the first change comes before all rows, so does its row
 first_change : (e : Cell × Option ℤ) (m : TableState) (es : ChangedCells) → IsBeforeFirst e.0 m → IsStrictlySortedBy cell_cmp (cells_of (e ∷ es)) → AreAbsent m (e ∷ es) →
-    changed m (e ∷ es) ≡ own_row e.0 e.1 ++ changed m es
+    changed m (e ∷ es) ≡ row_held e.0 e.1 ++ changed m es
 unfolding IsStrictlySortedBy
 first_change e m es h ordered absent = by_change e.1
   where
-    by_change : (w : Option ℤ) → changed_row (changed m es) e.0 w ≡ own_row e.0 w ++ changed m es
+    by_change : (w : Option ℤ) → changed_row (changed m es) e.0 w ≡ row_held e.0 w ++ changed m es
     by_change (Some v) = first_set (changed m es) e.0 v (first_changed e.0 m es h ordered.0 ordered.1 absent.1)
     by_change None = without_absent e.0 (changed m es) (still_absent m e es ordered.0 absent.0)
 
 -- the rows before the first change, its row, and then the others with the other changes
 pub merged : (e : Cell × Option ℤ) (es : ChangedCells) (m : TableState) → IsStrictlySortedBy cell_cmp (cells_of (e ∷ es)) → AreAbsent m (e ∷ es) →
-    changed m (e ∷ es) ≡ take (rows_before e.0 m) m ++ (own_row e.0 e.1 ++ changed (drop (rows_before e.0 m) m) es)
+    changed m (e ∷ es) ≡ take (rows_before e.0 m) m ++ (row_held e.0 e.1 ++ changed (drop (rows_before e.0 m) m) es)
 unfolding IsStrictlySortedBy
 merged e es [] ordered absent = first_change e [] es tt ordered absent
 merged e es (row ∷ m) ordered absent = by_order (cell_cmp row.0 e.0) refl (merged e es m ordered (all_absent_rest row m (e ∷ es) absent))
   where
-    by_order : (o : Ordering) → cell_cmp row.0 e.0 ≡ o → changed m (e ∷ es) ≡ take (rows_before e.0 m) m ++ (own_row e.0 e.1 ++ changed (drop (rows_before e.0 m) m) es) →
-        let n = cond (is_lt o) (1 + rows_before e.0 m) 0 in changed (row ∷ m) (e ∷ es) ≡ take n (row ∷ m) ++ (own_row e.0 e.1 ++ changed (drop n (row ∷ m)) es)
+    by_order : (o : Ordering) → cell_cmp row.0 e.0 ≡ o → changed m (e ∷ es) ≡ take (rows_before e.0 m) m ++ (row_held e.0 e.1 ++ changed (drop (rows_before e.0 m) m) es) →
+        let n = cond (is_lt o) (1 + rows_before e.0 m) 0 in changed (row ∷ m) (e ∷ es) ≡ take n (row ∷ m) ++ (row_held e.0 e.1 ++ changed (drop n (row ∷ m)) es)
     by_order Less is rest =
         front_stays row m (e ∷ es) (is, before_more row.0 e.0 is es ordered.0) ∙ ap (λ (rows : TableState). row ∷ rows) rest
-        ∙ ap (λ n. take n (row ∷ m) ++ (own_row e.0 e.1 ++ changed (drop n (row ∷ m)) es)) (sym (one-add (rows_before e.0 m)))
+        ∙ ap (λ n. take n (row ∷ m) ++ (row_held e.0 e.1 ++ changed (drop n (row ∷ m)) es)) (sym (one-add (rows_before e.0 m)))
     by_order Equal is rest = let held = ap (λ o. cond (is_eq o) (Some row.1) (row_at m e.0)) (turned row.0 e.0 Equal is) in absurd (cc)
     by_order Greater is rest = first_change e (row ∷ m) es (turned row.0 e.0 Greater is) ordered absent
 
@@ -189,13 +189,13 @@ module _ (own : ChangedCells) (i : ℕ) (d : Cell × Option ℤ) (left : TableSt
   merge_more rest is = subst (λ rows. IsToMerge rows (drop (i + 1) own)) (sym is)
       (record { ordered = at.ordered.1; absent = absent_behind n left (drop (i + 1) own) at.absent.1 })
 
-  pub merge_one : (seen front rest both one all : TableState) → front ≡ take n left → rest ≡ drop n left → both ≡ seen ++ front → one ≡ both ++ own_row change.0 change.1 →
+  pub merge_one : (seen front rest both one all : TableState) → front ≡ take n left → rest ≡ drop n left → both ≡ seen ++ front → one ≡ both ++ row_held change.0 change.1 →
       seen ++ changed left (drop i own) ≡ all → one ++ changed rest (drop (i + 1) own) ≡ all
   merge_one seen front rest both one all before behind joined added h =
-      (λ k. (added ∙ ap (λ rows. rows ++ own_row change.0 change.1) (joined ∙ ap (λ rows. seen ++ rows) before)) k ++ changed (behind k) (drop (i + 1) own))
-      ∙ append_assoc (seen ++ take n left) (own_row change.0 change.1) (changed (drop n left) (drop (i + 1) own))
-      ∙ append_assoc seen (take n left) (own_row change.0 change.1 ++ changed (drop n left) (drop (i + 1) own))
-      ∙ ap (λ k. seen ++ (take k left ++ (own_row change.0 change.1 ++ changed (drop k left) (drop (i + 1) own)))) count
+      (λ k. (added ∙ ap (λ rows. rows ++ row_held change.0 change.1) (joined ∙ ap (λ rows. seen ++ rows) before)) k ++ changed (behind k) (drop (i + 1) own))
+      ∙ append_assoc (seen ++ take n left) (row_held change.0 change.1) (changed (drop n left) (drop (i + 1) own))
+      ∙ append_assoc seen (take n left) (row_held change.0 change.1 ++ changed (drop n left) (drop (i + 1) own))
+      ∙ ap (λ k. seen ++ (take k left ++ (row_held change.0 change.1 ++ changed (drop k left) (drop (i + 1) own)))) count
       ∙ ap (λ rows. seen ++ rows) (sym (merged change (drop (i + 1) own) left at.ordered at.absent))
       ∙ ap (λ es. seen ++ changed left es) (sym split) ∙ h
 

@@ -1,5 +1,5 @@
 -- What a run sees in a region: the rows of a look, with its own changes among them.
-use Rattle.std.specs.Prelude.{◌≡◌, ℕ, ℤ, [], ◌∷◌, Option, Some, None, unwrap_or}
+use Rattle.std.specs.Prelude.{◌≡◌, ℕ, [], ◌∷◌, None, unwrap_or}
 use Rattle.std.specs.List.{prefix_len}
 use Rattle.std.specs.Ordering.{is_lt}
 use Rattle.prog_tree.specs.declared.cell.Cell.{Cell}
@@ -15,11 +15,6 @@ rows_before c rows = prefix_len (λ row. is_lt (cell_cmp row.0 c)) rows
 abbrev pub AreAbsent : TableState → ChangedCells → Type 0
 AreAbsent rows [] = Unit {0}
 AreAbsent rows (entry ∷ entries) = (row_at rows entry.0 ≡ None) × AreAbsent rows entries
-
--- the row that a change makes; a removal makes none
-abbrev pub own_row : Cell → Option ℤ → TableState
-own_row c (Some v) = (c, v) ∷ []
-own_row c None = []
 
 -- the rows that a run sees, of what its look found
 abbrev pub seen_by : Found → TableState

@@ -2,12 +2,12 @@
 ghost use Rattle.std.specs.Prelude.{◌≡◌, ◌↔◌, ◌≤◌, ◌++◌, length, option_copied, IfOk, IfSome, IsTrue, OnOk};
 ghost use Rattle.std.specs.List.{list_all};
 ghost use Rattle.std.specs.List.Sorted.{IsSorted, IsStrictlySortedBy};
-ghost use Rattle.prog_tree.specs.Table.{TableState, cell_cmp, is_in, cells_of, rows_in};
+ghost use Rattle.prog_tree.specs.Table.{TableState, cell_cmp, is_in, cells_of, rows_in, row_held};
 ghost use Rattle.prog_tree.specs.ChangeSet.{changes_in, changed};
 ghost use Rattle.prog_tree.specs.Evaluation.{total_of, rows_without};
 ghost use Rattle.prog_tree.specs.Value.{exact};
 ghost use Rattle.prog_run.specs.Looks.{AreFound, IsFoundLast, region_look, seen_rows};
-ghost use Rattle.prog_run.specs.Seen.{rows_before, AreAbsent, own_row, seen_by};
+ghost use Rattle.prog_run.specs.Seen.{rows_before, AreAbsent, seen_by};
 
 use prog_tree::{Cell, Changes, Look, Region, Sequence, is_among_rising};
 use std::alloc::{AllocError, Global};
@@ -113,7 +113,7 @@ fn before(cell: &Cell, rows: &[(Cell, i64)]) -> usize
 
 // Adds the row that a change makes: none if it removes the cell.
 fn add_own(rows: &mut Vec<(Cell, i64)>, cell: Cell, change: Option<i64>) -> Result<(), AllocError>
-    ensures { OnOk result (rows.new.items ≡ rows.old.items ++ own_row cell change) }
+    ensures { OnOk result (rows.new.items ≡ rows.old.items ++ row_held cell change) }
 {
     if let Some(value) = change {
         rows.push((cell, value))?;

@@ -1,5 +1,5 @@
 -- Cells, regions and table states.
-use Rattle.std.specs.Prelude.{ℤ, ◌==◌, int_le, Bool, ◌&&◌, not, List, map, filter, Option}
+use Rattle.std.specs.Prelude.{ℤ, ◌==◌, int_le, Bool, ◌&&◌, not, List, [], ◌∷◌, map, filter, Option, Some, None}
 use Rattle.std.specs.List.{list_any, All}
 use Rattle.std.specs.List.Sorted.{IsStrictlySortedBy}
 use Rattle.std.specs.Ordering.{nat_cmp, int_cmp, ordering_then}
@@ -64,6 +64,11 @@ row_at = at_cell
 
 abbrev pub with_row : TableState → Cell → ℤ → TableState
 with_row = with_cell
+
+-- the row of a cell, where it holds something
+abbrev pub row_held : Cell → Option ℤ → TableState
+row_held c None = []
+row_held c (Some v) = (c, v) ∷ []
 
 abbrev pub without_row : TableState → Cell → TableState
 without_row m c = filter (λ row. not (is_same_cell c row.0)) m

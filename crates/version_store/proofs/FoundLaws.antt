@@ -14,14 +14,14 @@ use Rattle.std.proofs.lemmas.List.Kept.{IsStrictlySortedBy-filter}
 use Rattle.std.proofs.lemmas.Map.Keys.{sorted_tail}
 use Rattle.prog_tree.specs.declared.cell.Cell.{Cell}
 use Rattle.prog_tree.specs.declared.cell.Region.{Region}
-use Rattle.prog_tree.specs.Table.{cell_cmp, Cells, cells_of, at_cell, is_same_cell, is_in, is_cell_among, TableState, IsTableState, row_at}
+use Rattle.prog_tree.specs.Table.{cell_cmp, Cells, cells_of, at_cell, is_same_cell, is_in, is_cell_among, TableState, IsTableState, row_at, row_held}
 use Rattle.prog_tree.proofs.CellSets.{none-behind}
 use Rattle.prog_tree.proofs.TableLemmas.{cell_total, find_is}
 use Rattle.prog_tree.proofs.TableStates.{same_cell, cell_is, same_state, IsTableState-nil}
 use Rattle.version_store.specs.StandsFor.{Chain, no_chain}
 use Rattle.version_store.specs.Reading.{AllRise, RisesFrom, chain_at, value_at}
 use Rattle.prog_tree.specs.Corners.{is_between, AreCorners}
-use Rattle.version_store.specs.Regions.{seen_in, seen_left, found_row, found_rows, IsSeen}
+use Rattle.version_store.specs.Regions.{seen_in, seen_left, found_rows, IsSeen}
 use Rattle.version_store.proofs.ScanLaws.{seen_at, or_none}
 
 abbrev pub Seen : Type 0
@@ -29,7 +29,7 @@ Seen = Cell → Chain → Option ℤ
 
 -- ---- the order of the rows
 
-above_one : (P : Cell → Type 0) (k : Cell) (o : Option ℤ) (rows : TableState) → P k → AllByRecursion P (cells_of rows) → AllByRecursion P (cells_of (found_row k o ++ rows))
+above_one : (P : Cell → Type 0) (k : Cell) (o : Option ℤ) (rows : TableState) → P k → AllByRecursion P (cells_of rows) → AllByRecursion P (cells_of (row_held k o ++ rows))
 above_one P k None rows p h = h
 above_one P k (Some v) rows p h = (p, h)
 
@@ -37,7 +37,7 @@ above_all : (P : Cell → Type 0) (seen : Seen) (es : Cells Chain) → AllByRecu
 above_all P seen [] h = tt
 above_all P seen (e ∷ es) h = above_one P e.0 (seen e.0 e.1) (found_rows seen es) h.0 (above_all P seen es h.1)
 
-one_more : (k : Cell) (o : Option ℤ) (rows : TableState) → AllByRecursion (λ d. cell_cmp k d ≡ Less) (cells_of rows) → IsTableState rows → IsTableState (found_row k o ++ rows)
+one_more : (k : Cell) (o : Option ℤ) (rows : TableState) → AllByRecursion (λ d. cell_cmp k d ≡ Less) (cells_of rows) → IsTableState rows → IsTableState (row_held k o ++ rows)
 unfolding IsStrictlySortedBy
 one_more k None rows below h = h
 one_more k (Some v) rows below h = (below, h)
@@ -49,14 +49,14 @@ in_order seen (e ∷ es) h = one_more e.0 (seen e.0 e.1) (found_rows seen es) (a
 
 -- ---- the rows at a cell
 
-row_at-found_row : (k : Cell) (o : Option ℤ) (rows : TableState) (c : Cell) → row_at (found_row k o ++ rows) c ≡ cond (is_same_cell c k) (option_or o (row_at rows c)) (row_at rows c)
-row_at-found_row k None rows c = elim (is_same_cell c k) as (λ b. row_at rows c ≡ cond b (row_at rows c) (row_at rows c)) [ true ↦ refl | false ↦ refl ]
-row_at-found_row k (Some v) rows c = refl
+row_at-row_held : (k : Cell) (o : Option ℤ) (rows : TableState) (c : Cell) → row_at (row_held k o ++ rows) c ≡ cond (is_same_cell c k) (option_or o (row_at rows c)) (row_at rows c)
+row_at-row_held k None rows c = elim (is_same_cell c k) as (λ b. row_at rows c ≡ cond b (row_at rows c) (row_at rows c)) [ true ↦ refl | false ↦ refl ]
+row_at-row_held k (Some v) rows c = refl
 
 row_at-found_rows : (seen : Seen) (es : Cells Chain) → IsStrictlySortedBy cell_cmp (cells_of es) → (c : Cell) → row_at (found_rows seen es) c ≡ seen_at seen c (at_cell es c)
 row_at-found_rows seen [] h c = refl
 row_at-found_rows seen (e ∷ es) h c =
-    row_at-found_row e.0 (seen e.0 e.1) (found_rows seen es) c
+    row_at-row_held e.0 (seen e.0 e.1) (found_rows seen es) c
     ∙ turn (is_same_cell c e.0) refl (row_at-found_rows seen es (sorted_tail cell_cmp e.0 (cells_of es) h) c)
   where
     turn : (b : Bool) → is_same_cell c e.0 ≡ b → row_at (found_rows seen es) c ≡ seen_at seen c (at_cell es c) →
@@ -134,9 +134,9 @@ found_where : (seen : Seen) (p : Cell → Bool) (es : Cells Chain) → ((c : Cel
 found_where seen p [] outside = refl
 found_where seen p (e ∷ es) outside = go (p e.0) refl (found_where seen p es outside)
   where
-    go : (b : Bool) → p e.0 ≡ b → found_rows seen (filter (λ e. p e.0) es) ≡ found_rows seen es → found_rows seen (cond b (e ∷ filter (λ e. p e.0) es) (filter (λ e. p e.0) es)) ≡ found_row e.0 (seen e.0 e.1) ++ found_rows seen es
-    go true inside rest = ap (λ rows. found_row e.0 (seen e.0 e.1) ++ rows) rest
-    go false apart rest = rest ∙ ap (λ o. found_row e.0 o ++ found_rows seen es) (sym (outside e.0 e.1 apart))
+    go : (b : Bool) → p e.0 ≡ b → found_rows seen (filter (λ e. p e.0) es) ≡ found_rows seen es → found_rows seen (cond b (e ∷ filter (λ e. p e.0) es) (filter (λ e. p e.0) es)) ≡ row_held e.0 (seen e.0 e.1) ++ found_rows seen es
+    go true inside rest = ap (λ rows. row_held e.0 (seen e.0 e.1) ++ rows) rest
+    go false apart rest = rest ∙ ap (λ o. row_held e.0 o ++ found_rows seen es) (sym (outside e.0 e.1 apart))
 
 beside : (region : Region) (low high c : Cell) → AreCorners region (Some (low, high)) → is_between low high c ≡ false → is_in region c ≡ false
 beside region low high c corners apart = go (is_in region c) (corners.1 c)
@@ -194,10 +194,10 @@ gains_all seen chains left sorted rise is = subst (λ (es : Cells Chain). Gains 
 
 pub gains_more :
     (seen : Seen) (chains left rest : Cells Chain) (k : Cell) (chain : Chain) (rows next : TableState) → left ≡ (k, chain) ∷ rest → Gains seen chains left rows →
-    (RisesFrom 0 chain.versions → next ≡ rows ++ found_row k (seen k chain)) → Gains seen chains rest next
+    (RisesFrom 0 chain.versions → next ≡ rows ++ row_held k (seen k chain)) → Gains seen chains rest next
 gains_more seen chains left rest k chain rows next is so_far adds = record {
   walk = rest_left k chain rest h.walk;
-  joined = ap (λ m. m ++ found_rows seen rest) (adds (first_rises k chain rest h.walk)) ∙ append_assoc rows (found_row k (seen k chain)) (found_rows seen rest) ∙ h.joined;
+  joined = ap (λ m. m ++ found_rows seen rest) (adds (first_rises k chain rest h.walk)) ∙ append_assoc rows (row_held k (seen k chain)) (found_rows seen rest) ∙ h.joined;
 }
   where
     h : Gains seen chains ((k, chain) ∷ rest) rows
@@ -239,7 +239,7 @@ matches_first region own n low high chains between rows sorted rise corners is =
 
 -- a step: what is behind the row of a chain goes on exactly where the rest does
 abbrev pub GoesOn : Cell → Option ℤ → (rest : TableState) → Option TableState → Type 0
-GoesOn k o rest after = (m : TableState) → (after ≡ Some m) ↔ (found_row k o ++ m ≡ rest)
+GoesOn k o rest after = (m : TableState) → (after ≡ Some m) ↔ (row_held k o ++ m ≡ rest)
 
 pub matches_more :
     (seen : Seen) (chains left behind : Cells Chain) (k : Cell) (chain : Chain) (o : Option ℤ) (rest after rows : TableState) → left ≡ (k, chain) ∷ behind →
@@ -252,8 +252,8 @@ matches_more seen chains left behind k chain o rest after rows is so_far sees go
     h : Matches seen chains ((k, chain) ∷ behind) rest rows
     h = subst (λ (es : Cells Chain). Matches seen chains es rest rows) is so_far
 
-    found : found_row k (seen k chain) ++ found_rows seen behind ≡ found_row k o ++ found_rows seen behind
-    found = ap (λ x. found_row k x ++ found_rows seen behind) (sym (sees (first_rises k chain behind h.walk)))
+    found : row_held k (seen k chain) ++ found_rows seen behind ≡ row_held k o ++ found_rows seen behind
+    found = ap (λ x. row_held k x ++ found_rows seen behind) (sym (sees (first_rises k chain behind h.walk)))
 
     some_is : Some after ≡ Some (found_rows seen behind) → found_rows seen behind ≡ after
     some_is e = cc
@@ -267,8 +267,8 @@ mismatch seen chains left behind k chain o rest rows is so_far sees goes same =
     h : Matches seen chains ((k, chain) ∷ behind) rest rows
     h = subst (λ (es : Cells Chain). Matches seen chains es rest rows) is so_far
 
-    found : found_row k (seen k chain) ++ found_rows seen behind ≡ found_row k o ++ found_rows seen behind
-    found = ap (λ x. found_row k x ++ found_rows seen behind) (sym (sees (first_rises k chain behind h.walk)))
+    found : row_held k (seen k chain) ++ found_rows seen behind ≡ row_held k o ++ found_rows seen behind
+    found = ap (λ x. row_held k x ++ found_rows seen behind) (sym (sees (first_rises k chain behind h.walk)))
 
 -- what is found but for own cells is all that is seen but for them
 pub left_is :

@@ -1,8 +1,8 @@
 //! What is found in the chain of a cell, and the rows that it adds to others.
 ghost use Rattle.std.specs.Prelude.{◌≡◌, ◌↔◌, ◌++◌, Some, OnOk, option_copied};
-ghost use Rattle.prog_tree.specs.Table.{TableState};
+ghost use Rattle.prog_tree.specs.Table.{TableState, row_held};
 ghost use Rattle.version_store.specs.Reading.{RisesFrom, value_at};
-ghost use Rattle.version_store.specs.Regions.{seen_in, seen_left, with_found, found_row};
+ghost use Rattle.version_store.specs.Regions.{seen_in, seen_left, with_found};
 
 use crate::chain::Chain;
 use crate::own::OwnCells;
@@ -54,7 +54,7 @@ pub fn push_row(
     cell: &Cell,
     found: Option<i64>,
 ) -> Result<(), AllocError>
-    ensures { OnOk result (rows.new.items ≡ rows.old.items ++ found_row cell.now found) }
+    ensures { OnOk result (rows.new.items ≡ rows.old.items ++ row_held cell.now found) }
 {
     if let Some(value) = found {
         rows.push((*cell, value))?;
@@ -69,7 +69,7 @@ pub fn behind<'r>(
     found: Option<i64>,
 ) -> Option<&'r [(Cell, i64)]>
     ensures { (rest : TableState) →
-        (option_copied result ≡ Some rest) ↔ (found_row cell.now found ++ rest ≡ rows.now) }
+        (option_copied result ≡ Some rest) ↔ (row_held cell.now found ++ rest ≡ rows.now) }
 {
     let Some(value) = found else {
         return Some(rows);

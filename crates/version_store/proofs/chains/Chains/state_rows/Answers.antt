@@ -1,7 +1,7 @@
 use Rattle.std.proofs.Common.{◌∙◌, ◌++◌, ap, refl, subst, sym}
 use Rattle.std.specs.List.Sorted.{IsStrictlySortedBy}
-use Rattle.prog_tree.specs.Table.{cell_cmp, Cells, cells_of, TableState}
-use Rattle.version_store.specs.Regions.{seen_anywhere, found_row, IsSeen}
+use Rattle.prog_tree.specs.Table.{cell_cmp, Cells, cells_of, TableState, row_held}
+use Rattle.version_store.specs.Regions.{seen_anywhere, IsSeen}
 use Rattle.version_store.specs.StandsFor.{Chain}
 use Rattle.version_store.proofs.FoundLaws.{gains_all, gains_more, gained_of}
 use Rattle.version_store.proofs.chains.Chains.state_rows.Goals as goal
@@ -16,7 +16,7 @@ pub loop-cell-preserved : goal.loop-cell-preserved
 loop-cell-preserved c = λ rise.
     gains_more (seen_anywhere c.args.start) c.args.self.now c.loop-cell.cell-iterator c.next.new.self c.in-Some.cell.now c.in-Some.chain.now c.loop-cell.rows.items c.push_row.new.rows.items
     c.in-Some.ensures.steps (c.loop-cell.invariant rise)
-    (λ rises. c.in_ok-push_row.ensures ∙ ap (λ o. c.loop-cell.rows.items ++ found_row c.in-Some.cell.now o) (c.value_at.ensures rises))
+    (λ rises. c.in_ok-push_row.ensures ∙ ap (λ o. c.loop-cell.rows.items ++ row_held c.in-Some.cell.now o) (c.value_at.ensures rises))
 
 pub returns : goal.returns
 returns c = λ rise.
