@@ -77,3 +77,11 @@ pub record StandsFor (s : StoreView) (opening : TableState) (ws : List ChangeSet
   pub commits : s.commits ≡ length ws
   pub floor : s.floor ≤ s.commits
   pub versions : s.versions ≡ length (retained opening ws s.floor)
+
+-- something is so in each history that a store stands for
+abbrev pub InEachHistory : StoreView → (TableState → List ChangeSet → Type 0) → Type 0
+InEachHistory s P = (opening : TableState) (ws : List ChangeSet) → StandsFor s opening ws → P opening ws
+
+-- a store stands for what another stood for
+abbrev pub KeepsHistories : (old new : StoreView) → Type 0
+KeepsHistories old new = InEachHistory old (λ opening ws. StandsFor new opening ws)

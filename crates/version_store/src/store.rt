@@ -1,12 +1,11 @@
 //! The store, over the chains of all cells.
-ghost use Rattle.std.specs.Prelude.{◌≡◌, ◌+◌, ◌-◌, ◌<◌, ◌≤◌, ◌^◌, List, [], ◌∷◌, ◌++◌, length};
+ghost use Rattle.std.specs.Prelude.{◌≡◌, ◌+◌, ◌-◌, ◌<◌, ◌≤◌, ◌^◌, [], ◌∷◌, ◌++◌, length};
 ghost use Rattle.std.specs.Prelude.{◌↔◌, IfOk, IsTrue, OnErr};
-ghost use Rattle.prog_tree.specs.ChangeSet.{ChangeSet};
 ghost use Rattle.prog_tree.specs.Evaluation.{rows_left};
-ghost use Rattle.prog_tree.specs.Table.{TableState, rows_in, row_at};
+ghost use Rattle.prog_tree.specs.Table.{rows_in, row_at};
 ghost use Rattle.version_store.specs.Clash.{IsClash};
 ghost use Rattle.version_store.specs.Commits.{state_at};
-ghost use Rattle.version_store.specs.StandsFor.{StandsFor};
+ghost use Rattle.version_store.specs.StandsFor.{StandsFor, InEachHistory, KeepsHistories};
 ghost use Rattle.version_store.specs.Told.{told};
 ghost use Rattle.version_store.specs.Versions.{retained, reclaimed};
 
@@ -73,9 +72,8 @@ impl Store {
     pub fn get(&self, start: u64, cell: &Cell) -> Option<i64>
         requires above { self.now.floor ≤ start }
         requires within { start ≤ self.now.commits }
-        ensures { (opening : TableState) → (ws : List ChangeSet) →
-            StandsFor self.now opening ws →
-            result ≡ row_at (state_at opening ws start) cell.now }
+        ensures { InEachHistory self.now (λ opening ws.
+            result ≡ row_at (state_at opening ws start) cell.now) }
     {
         self.chains.get(start, cell)
     }
@@ -84,9 +82,8 @@ impl Store {
     pub fn scan(&self, start: u64, region: &Region) -> Result<Sequence<(Cell, i64)>, AllocError>
         requires above { self.now.floor ≤ start }
         requires within { start ≤ self.now.commits }
-        ensures { IfOk result (λ rows. (opening : TableState) → (ws : List ChangeSet) →
-            StandsFor self.now opening ws →
-            rows ≡ rows_in region.now (state_at opening ws start)) }
+        ensures { IfOk result (λ rows. InEachHistory self.now (λ opening ws.
+            rows ≡ rows_in region.now (state_at opening ws start))) }
     {
         self.chains.scan(start, region)
     }
@@ -96,9 +93,8 @@ impl Store {
     pub fn are_held(&self, start: u64, region: &Region, own: &[Cell], rows: &[(Cell, i64)]) -> bool
         requires above { self.now.floor ≤ start }
         requires within { start ≤ self.now.commits }
-        ensures { (opening : TableState) → (ws : List ChangeSet) →
-            StandsFor self.now opening ws →
-            IsTrue result ↔ (rows_left region.now own.now (state_at opening ws start) ≡ rows.now) }
+        ensures { InEachHistory self.now (λ opening ws.
+            IsTrue result ↔ (rows_left region.now own.now (state_at opening ws start) ≡ rows.now)) }
     {
         self.chains.are_held(start, region, own, rows)
     }
@@ -107,9 +103,8 @@ impl Store {
     pub fn state(&self, start: u64) -> Result<Rows, AllocError>
         requires above { self.now.floor ≤ start }
         requires within { start ≤ self.now.commits }
-        ensures { IfOk result (λ rows. (opening : TableState) → (ws : List ChangeSet) →
-            StandsFor self.now opening ws →
-            rows ≡ state_at opening ws start) }
+        ensures { IfOk result (λ rows. InEachHistory self.now (λ opening ws.
+            rows ≡ state_at opening ws start)) }
     {
         self.chains.state(start)
     }
@@ -118,9 +113,8 @@ impl Store {
     pub fn state_rows(&self, start: u64) -> Result<Sequence<(Cell, i64)>, AllocError>
         requires above { self.now.floor ≤ start }
         requires within { start ≤ self.now.commits }
-        ensures { IfOk result (λ rows. (opening : TableState) → (ws : List ChangeSet) →
-            StandsFor self.now opening ws →
-            rows ≡ state_at opening ws start) }
+        ensures { IfOk result (λ rows. InEachHistory self.now (λ opening ws.
+            rows ≡ state_at opening ws start)) }
     {
         self.chains.state_rows(start)
     }
@@ -129,9 +123,8 @@ impl Store {
     pub fn clash(&self, start: u64, changes: &Changes) -> Option<Clash>
         requires above { self.now.floor ≤ start }
         requires within { start ≤ self.now.commits }
-        ensures { (opening : TableState) → (ws : List ChangeSet) →
-            StandsFor self.now opening ws →
-            IsClash ws start changes.now (told result) }
+        ensures { InEachHistory self.now (λ opening ws.
+            IsClash ws start changes.now (told result)) }
     {
         first_clash(&self.chains, start, changes)
     }
@@ -142,12 +135,10 @@ impl Store {
         ensures number { IfOk result (λ number. number ≡ self.old.commits + 1) }
         ensures commits { IfOk result (λ number. self.new.commits ≡ number) }
         ensures floor { self.new.floor ≡ self.old.floor }
-        ensures stands { IfOk result (λ number. (opening : TableState) → (ws : List ChangeSet) →
-            StandsFor self.old opening ws →
-            StandsFor self.new opening (ws ++ changes.now ∷ [])) }
+        ensures stands { IfOk result (λ number. InEachHistory self.old (λ opening ws.
+            StandsFor self.new opening (ws ++ changes.now ∷ []))) }
         ensures err { OnErr result (self.new.commits ≡ self.old.commits) }
-        ensures err_stands { OnErr result ((opening : TableState) → (ws : List ChangeSet) →
-            StandsFor self.old opening ws → StandsFor self.new opening ws) }
+        ensures err_stands { OnErr result (KeepsHistories self.old self.new) }
     {
         let number = self.commits + 1;
         let Some(versions) = self.versions.checked_add(changes.iter().len() as u64) else {
@@ -170,13 +161,11 @@ impl Store {
     pub fn vacuum(&mut self, floor: u64) -> u64
         requires rises { self.old.floor ≤ floor }
         requires within { floor ≤ self.old.commits }
-        ensures count { (opening : TableState) → (ws : List ChangeSet) →
-            StandsFor self.old opening ws →
-            result ≡ reclaimed opening ws self.old.floor floor }
+        ensures count { InEachHistory self.old (λ opening ws.
+            result ≡ reclaimed opening ws self.old.floor floor) }
         ensures floor { self.new.floor ≡ floor }
         ensures commits { self.new.commits ≡ self.old.commits }
-        ensures stands { (opening : TableState) → (ws : List ChangeSet) →
-            StandsFor self.old opening ws → StandsFor self.new opening ws }
+        ensures stands { KeepsHistories self.old self.new }
     {
         self.chains.in_order();
         let count = self.chains.vacuum(&mut self.pending, floor);
@@ -188,9 +177,8 @@ impl Store {
 
     /// How many versions it keeps.
     pub fn versions(&self) -> u64
-        ensures { (opening : TableState) → (ws : List ChangeSet) →
-            StandsFor self.now opening ws →
-            result ≡ length (retained opening ws self.now.floor) }
+        ensures { InEachHistory self.now (λ opening ws.
+            result ≡ length (retained opening ws self.now.floor)) }
     {
         self.versions
     }

@@ -1,13 +1,11 @@
 //! How a book keeps what an instance ended in.
 
-ghost use Rattle.std.specs.Prelude.{◌≡◌, ◌+◌, ◌-◌, ◌<◌, ◌^◌, [], ◌∷◌, ◌++◌, length, List, None, IsSome, IfOk, OnOk, OnErr};
+ghost use Rattle.std.specs.Prelude.{◌≡◌, ◌+◌, ◌-◌, ◌<◌, ◌^◌, [], ◌∷◌, ◌++◌, length, None, IsSome, IfOk, OnOk, OnErr};
 ghost use Rattle.std.specs.BTreeMap.{is_at};
 ghost use Rattle.std.specs.Map.{lookup};
 ghost use Rattle.std.specs.Ordering.{nat_cmp};
-ghost use Rattle.prog_tree.specs.ChangeSet.{ChangeSet};
-ghost use Rattle.prog_tree.specs.Table.{TableState};
 ghost use Rattle.prog_tree.specs.Tree.{draft_tree};
-ghost use Rattle.version_store.specs.StandsFor.{StandsFor};
+ghost use Rattle.version_store.specs.StandsFor.{StandsFor, InEachHistory, KeepsHistories};
 ghost use Rattle.history_book.specs.Runs.{ended_in, committed_in, IsCommit};
 ghost use Rattle.history_book.specs.TrueBook.{IsTrueEnding, committed};
 ghost use Rattle.history_book.specs.View.{history_of, instance_of, done_in};
@@ -37,13 +35,12 @@ fn add_commit(
         ≡ endings.old.items ++ Ending.Committed (store.old.commits + 1) ∷ []) }
     ensures traces { OnOk result (traces.new.items ≡ traces.old.items ++ trace ∷ []) }
     ensures floor { store.new.floor ≡ store.old.floor }
-    ensures stands { OnOk result ((opening : TableState) → (ws : List ChangeSet) →
-        StandsFor store.old opening ws → StandsFor store.new opening (ws ++ changes.now ∷ [])) }
+    ensures stands { OnOk result (InEachHistory store.old (λ opening ws.
+        StandsFor store.new opening (ws ++ changes.now ∷ []))) }
     ensures err_rows { OnErr result (rows.new.items ≡ rows.old.items) }
     ensures err_endings { OnErr result (endings.new.items ≡ endings.old.items) }
     ensures err_traces { OnErr result (traces.new.items ≡ traces.old.items) }
-    ensures err_stands { OnErr result ((opening : TableState) → (ws : List ChangeSet) →
-        StandsFor store.old opening ws → StandsFor store.new opening ws) }
+    ensures err_stands { OnErr result (KeepsHistories store.old store.new) }
 {
     rows.reserve(1)?;
     endings.reserve(1)?;
