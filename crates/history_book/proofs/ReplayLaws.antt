@@ -8,8 +8,6 @@ use Rattle.prog_tree.specs.declared.look.Look.TheVariants as look
 use Rattle.prog_tree.specs.Table.{TableState, is_in, row_at, rows_in}
 use Rattle.prog_run.specs.declared.next.Next.{Next}
 use Rattle.prog_run.specs.declared.next.Next.TheVariants.{Get, Scan, Did, Done}
-use Rattle.prog_run.specs.declared.next.Question.{Question}
-use Rattle.prog_run.specs.declared.next.Question.TheVariants.{One, Range}
 use Rattle.prog_run.specs.Looks.{IsFound, AreFound, region_look}
 use Rattle.prog_tree.specs.Evaluation.{own_cells, rows_without}
 use Rattle.prog_run.specs.Cursor.{BeginsWith}
@@ -37,12 +35,12 @@ answered_with : (m : TableState) (l : Look) (next : Next) (old new : RunView) �
 answered_with m l next old new answered before here = subst (AreFound m) (sym answered.looks) (found_more m old.looks l before here)
 
 -- the question for a cell was answered
-pub answered_cell : (old new : RunView) (cell : Cell) (held : Option ℤ) (next : Next) → old.asked ≡ Some (One cell) → IfSome (asked_cell old.asked) (λ c. IsAnswered (look.One c held) next old new)
+pub answered_cell : (old new : RunView) (cell : Cell) (held : Option ℤ) (next : Next) → old.asked ≡ Some (Get cell) → IfSome (asked_cell old.asked) (λ c. IsAnswered (look.One c held) next old new)
     → IsAnswered (look.One cell held) next old new
 answered_cell old new cell held next asked answered = subst (λ a. IfSome (asked_cell a) (λ c. IsAnswered (look.One c held) next old new)) asked answered
 
 -- the question for a region was answered
-pub answered_region : (old new : RunView) (region : Region) (rows : TableState) (next : Next) → old.asked ≡ Some (Range region)
+pub answered_region : (old new : RunView) (region : Region) (rows : TableState) (next : Next) → old.asked ≡ Some (Scan region)
     → IfSome (asked_region old.asked) (λ r. IsAnswered (region_look old.changes r rows) next old new) → IsAnswered (region_look old.changes region rows) next old new
 answered_region old new region rows next asked answered = subst (λ a. IfSome (asked_region a) (λ r. IsAnswered (region_look old.changes r rows) next old new)) asked answered
 
@@ -68,7 +66,7 @@ goes_on next first old new deeds changes replies l answered = record {
 }
 
 -- an answer goes on from where the run was before it asked
-pub steps_behind : (l : Look) (asking next : Next) (first old new : RunView) (question : Question) → question_after asking ≡ Some question → IsAdvance asking first old → IsAnswered l next old new
+pub steps_behind : (l : Look) (asking next : Next) (first old new : RunView) (question : Next) → question_after asking ≡ Some question → IsAdvance asking first old → IsAnswered l next old new
     → StepsTo next first new
 steps_behind l (Get cell) next first old new question is advance answered = goes_on next first old new advance.deeds advance.changes advance.replies l answered
 steps_behind l (Scan region) next first old new question is advance answered = goes_on next first old new advance.deeds advance.changes advance.replies l answered
@@ -88,7 +86,7 @@ all_in region (row ∷ m) = go (is_in region row.0) refl (all_in region m)
     go true here rest = rw (here, rest) refl
     go false here rest = rest
 
-pub no_scan_fault : (m : TableState) (asked : Option Question) (region : Region) (rows : TableState) → asked ≡ Some (Range region) → rows ≡ rows_in region m → scan_fault (asked_region asked) rows ≡ None
+pub no_scan_fault : (m : TableState) (asked : Option Next) (region : Region) (rows : TableState) → asked ≡ Some (Scan region) → rows ≡ rows_in region m → scan_fault (asked_region asked) rows ≡ None
 no_scan_fault m asked region rows is same =
     ap (λ a. scan_fault (asked_region a) rows) is ∙ ap (scan_fault (Some region)) same ∙ (rw (all_in region m) refl)
 

@@ -24,9 +24,8 @@ use Rattle.prog_run.specs.Looks.{AreFound, asked_by, region_look, seen_rows}
 use Rattle.prog_run.specs.Statement.{changes_with, IsFlow, IsBegun}
 use Rattle.prog_run.specs.Step.{next_of, asked_after, question_after, end_after, deeds_after, changes_after, rest_after, cursor_after, cursor_behind, IsAt, IsStep}
 use Rattle.prog_run.specs.View.{IsTrueTo, IsWaiting, asked_region, question_in}
-use Rattle.prog_run.specs.declared.next.Next.TheVariants.{Get}
-use Rattle.prog_run.specs.declared.next.Question.{Question}
-use Rattle.prog_run.specs.declared.next.Question.TheVariants.{Range}
+use Rattle.prog_run.specs.declared.next.Next.TheVariants.{Get, Scan}
+use Rattle.prog_run.specs.declared.next.Next.{Next}
 use Rattle.prog_run.specs.declared.next.Step.{Step}
 use Rattle.prog_run.specs.declared.next.Step.TheVariants.{Asks, Did, Over}
 use Rattle.prog_run.specs.declared.task.Asked.{Asked}
@@ -158,7 +157,7 @@ answer_adds l f (Over (Aborted cause)) p q h = (h.1, h.2, refl, h.3, h.4)
 answer_adds l f (Over Ready) p q h = absurd h
 
 -- what is so of the region that a run asks for
-pub asked_for_rows : (waits : Option Question) (region : Region) (P : Region → Type 0) → waits ≡ Some (Range region) → P region → IfSome (asked_region waits) P
+pub asked_for_rows : (waits : Option Next) (region : Region) (P : Region → Type 0) → waits ≡ Some (Scan region) → P region → IfSome (asked_region waits) P
 asked_for_rows waits region P is holds = subst (λ o. IfSome (asked_region o) P) (sym is) holds
 
 -- ---- steps without the store and then a step at the store are a step

@@ -26,8 +26,7 @@ use Rattle.prog_run.specs.declared.fault.AnswerFault.TheVariants.{NotAsked, BadR
 use Rattle.prog_run.specs.declared.fault.RunFault.TheVariants.{NoSuchProgram}
 use Rattle.prog_run.specs.declared.next.Next.TheVariants as next
 use Rattle.prog_run.specs.declared.next.Step.TheVariants as step
-use Rattle.prog_run.specs.declared.next.Question.{Question}
-use Rattle.prog_run.specs.declared.next.Question.TheVariants.{One, Range}
+use Rattle.prog_run.specs.declared.next.Next.{Next}
 
 -- ---- in short
 
@@ -65,11 +64,11 @@ answered = (cell_2 (pos 7) (pos 1), pos 9) ∷ (cell_2 (pos 7) (pos 3), pos 4) �
 
 -- ---- questions
 
-abbrev asked_of : StatementTree → Progress → Option Question
+abbrev asked_of : StatementTree → Progress → Option Next
 asked_of st p = option_and_then (asked_by p.changes) (task_of tables st p.env)
 
 -- let x = get t[d] else 0;
-pub get_asks : asked_of (s.Get (codes "x") (codes "t") (s.One (Named (codes "d"))) (number (pos 0))) nothing_yet ≡ Some (One (cell (pos 7)))
+pub get_asks : asked_of (s.Get (codes "x") (codes "t") (s.One (Named (codes "d"))) (number (pos 0))) nothing_yet ≡ Some (next.Get (cell (pos 7)))
 get_asks = refl
 
 -- let x = need e[d, 2]; of a cell that the run has set, and of one that it has removed
@@ -84,11 +83,11 @@ pub overflow_asks_nothing : asked_of (s.Insert (codes "t") (s.One (number (pos 1
 overflow_asks_nothing = refl
 
 -- let x = get t[1] else greatest + 1; the other value comes after the look
-pub else_comes_later : asked_of (s.Get (codes "x") (codes "t") (s.One (number (pos 1))) too_large) nothing_yet ≡ Some (One (cell (pos 1)))
+pub else_comes_later : asked_of (s.Get (codes "x") (codes "t") (s.One (number (pos 1))) too_large) nothing_yet ≡ Some (next.Get (cell (pos 1)))
 else_comes_later = refl
 
 -- let n = count e[d, 1..3]; own changes don't answer it
-pub count_asks : asked_of (s.Count (codes "n") (codes "e") (s.TwoRange (Named (codes "d")) (number (pos 1)) (number (pos 3)))) own ≡ Some (Range region)
+pub count_asks : asked_of (s.Count (codes "n") (codes "e") (s.TwoRange (Named (codes "d")) (number (pos 1)) (number (pos 3)))) own ≡ Some (next.Scan region)
 count_asks = refl
 
 -- ---- looks
@@ -128,7 +127,7 @@ head = record { key = codes "k"; value = codes "x"; table = codes "e"; range = s
 abbrev body : BlockTree
 body = Then (s.Put (codes "t") (s.One (Named (codes "k"))) (Named (codes "x"))) BlockEnd
 
-pub each_asks : option_and_then (asked_by own.changes) (next_task tables (Each head body BlockEnd) own.env) ≡ Some (Range region)
+pub each_asks : option_and_then (asked_by own.changes) (next_task tables (Each head body BlockEnd) own.env) ≡ Some (next.Scan region)
 each_asks = refl
 
 pub each_deed : rows_flow (Lists head body) region seen nothing_yet ≡ GoesOn (did (Listed region 2) nothing_yet)

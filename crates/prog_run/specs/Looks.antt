@@ -8,8 +8,8 @@ use Rattle.prog_tree.specs.declared.progress.Progress.{Progress}
 use Rattle.prog_tree.specs.Table.{TableState, row_at}
 use Rattle.prog_tree.specs.ChangeSet.{ChangeSet, change_at}
 use Rattle.prog_tree.specs.Evaluation.{rows_without, rows_left, own_cells, rows_seen}
-use Rattle.prog_run.specs.declared.next.Question.{Question}
-use Rattle.prog_run.specs.declared.next.Question.TheVariants.{One, Range}
+use Rattle.prog_run.specs.declared.next.Next.{Next}
+use Rattle.prog_run.specs.declared.next.Next.TheVariants.{Get, Scan}
 use Rattle.prog_run.specs.Task.{AskedTree, OfCell, OfRegion, TaskTree}
 use Rattle.prog_run.specs.Task as task
 
@@ -37,18 +37,18 @@ abbrev pub FoundBefore : Progress → Progress → Type 0
 FoundBefore p q = (m : TableState) → AreFound m q.looks → AreFound m p.looks
 
 -- what a statement that looks at a cell asks: nothing where the run has changed the cell
-abbrev pub asked_for : ChangeSet → Cell → Option Question
-asked_for changes cell = if is_some (change_at changes cell) then None else Some (One cell)
+abbrev pub asked_for : ChangeSet → Cell → Option Next
+asked_for changes cell = if is_some (change_at changes cell) then None else Some (Get cell)
 
 -- what a look asks
-abbrev pub question_of : AskedTree → Question
-question_of (OfCell cell usage) = One cell
-question_of (OfRegion region usage) = Range region
+abbrev pub question_of : AskedTree → Next
+question_of (OfCell cell usage) = Get cell
+question_of (OfRegion region usage) = Scan region
 
 -- what a task asks; those that change a cell ask nothing
-abbrev pub asked_by : ChangeSet → TaskTree → Option Question
+abbrev pub asked_by : ChangeSet → TaskTree → Option Next
 asked_by changes (task.Ask (OfCell cell usage)) = asked_for changes cell
-asked_by changes (task.Ask (OfRegion region usage)) = Some (Range region)
+asked_by changes (task.Ask (OfRegion region usage)) = Some (Scan region)
 asked_by changes _ = None
 
 -- a look at a region, of a run with these changes, that found these rows; those of the cells that it had changed are left out

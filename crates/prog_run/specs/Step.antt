@@ -16,8 +16,6 @@ use Rattle.prog_run.specs.Statement.{changes_with, IsFlow}
 use Rattle.prog_run.specs.Looks.{AreFound, FoundBefore, asked_by, question_of}
 use Rattle.prog_run.specs.declared.next.Next.{Next}
 use Rattle.prog_run.specs.declared.next.Next.TheVariants.{Get, Scan, Did, Done}
-use Rattle.prog_run.specs.declared.next.Question.{Question}
-use Rattle.prog_run.specs.declared.next.Question.TheVariants.{One, Range}
 use Rattle.prog_run.specs.declared.next.Step.{Step}
 use Rattle.prog_run.specs.declared.next.Step.TheVariants as step
 use Rattle.prog_run.specs.declared.task.Asked.{Asked}
@@ -25,8 +23,7 @@ use Rattle.prog_run.specs.declared.task.Asked.TheVariants as asked
 
 -- what a run answers to its caller where it asks
 abbrev pub next_asking : Asked → Next
-next_asking (asked.OfCell cell usage) = Get cell
-next_asking (asked.OfRegion region usage) = Scan region
+next_asking asked = question_of (asked_tree asked)
 
 -- what a run answers to its caller where a step comes to this
 abbrev pub next_of : Step → Next
@@ -39,10 +36,10 @@ abbrev pub asked_after : Step → Option Asked
 asked_after (step.Asks asked) = Some asked
 asked_after _ = None
 
--- the question that waits after a step
-abbrev pub question_after : Next → Option Question
-question_after (Get cell) = Some (One cell)
-question_after (Scan region) = Some (Range region)
+-- what the run asks after a step
+abbrev pub question_after : Next → Option Next
+question_after (Get cell) = Some (Get cell)
+question_after (Scan region) = Some (Scan region)
 question_after _ = None
 
 -- the deeds after a step

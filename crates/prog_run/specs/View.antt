@@ -1,6 +1,7 @@
 -- What contracts see of a run.
 use Rattle.std.specs.Prelude.{◌≡◌, ℤ, ◌==◌, List, [], ◌∷◌, ◌++◌, Option, Some, None, Result, Ok, Err, option_map, take, length, if◌then◌else◌}
 use Rattle.std.specs.List.{list_all}
+use Rattle.std.specs.Option.{option_or}
 use Rattle.prog_tree.specs.declared.cell.Cell.{Cell}
 use Rattle.prog_tree.specs.declared.cell.Region.{Region}
 use Rattle.prog_tree.specs.declared.deed.Deed.{Deed}
@@ -26,9 +27,7 @@ use Rattle.prog_run.specs.declared.fault.RunFault.TheVariants.{NoSuchProgram, Wr
 use Rattle.prog_run.specs.declared.fault.RunFault.TheVariants as b
 use Rattle.prog_run.specs.declared.next.Next.{Next}
 use Rattle.prog_run.specs.declared.next.Next.TheVariants.{Get, Scan, Done}
-use Rattle.prog_run.specs.declared.next.Question.{Question}
 use Rattle.prog_run.specs.declared.task.Asked.{Asked}
-use Rattle.prog_run.specs.declared.next.Question.TheVariants.{One, Range}
 
 -- a run: what it was begun with, what it has done, what it waits for, and how it ended
 pub record RunView : Type 0 where
@@ -39,7 +38,7 @@ pub record RunView : Type 0 where
   pub replies : List ℤ
   pub changes : ChangeSet
   pub looks : List Look
-  pub asked : Option Question
+  pub asked : Option Next
   pub end : Option End
 
 -- what the program does on a table state
@@ -62,16 +61,7 @@ IsTrueRun v = (m : TableState) → AreFound m v.looks → IsTrueAt v m
 
 -- what a run that waits or is over answers to each call
 abbrev pub standing_next : RunView → Option Next
-standing_next v = by_question v.asked
-  where
-    by_end : Option End → Option Next
-    by_end (Some end) = Some (Done end)
-    by_end None = None
-
-    by_question : Option Question → Option Next
-    by_question (Some (One cell)) = Some (Get cell)
-    by_question (Some (Range region)) = Some (Scan region)
-    by_question None = by_end v.end
+standing_next v = option_or v.asked (option_map (λ end. Done end) v.end)
 
 -- it has the same program, tables and arguments
 pub record SameBegin (old new : RunView) : Type 0 where
@@ -99,13 +89,13 @@ pub record IsAnswered (look : Look) (next : Next) (old new : RunView) : Type 0 w
   pub end : new.end ≡ end_after next
 
 -- the cell that the run asks for
-abbrev pub asked_cell : Option Question → Option Cell
-asked_cell (Some (One cell)) = Some cell
+abbrev pub asked_cell : Option Next → Option Cell
+asked_cell (Some (Get cell)) = Some cell
 asked_cell _ = None
 
 -- the region that the run asks for
-abbrev pub asked_region : Option Question → Option Region
-asked_region (Some (Range region)) = Some region
+abbrev pub asked_region : Option Next → Option Region
+asked_region (Some (Scan region)) = Some region
 asked_region _ = None
 
 -- what is wrong with an answer about a cell
@@ -150,7 +140,7 @@ abbrev pub IsTrueTo : List TableDecl → ProgramTree → List ℤ → Option End
 IsTrueTo tables program args over c p = (m : TableState) → AreFound m p.looks → comes_to tables m over c p ≡ eval tables program args m
 
 -- the question that waits, as a caller sees it
-abbrev pub question_in : Option Asked → Option Question
+abbrev pub question_in : Option Asked → Option Next
 question_in = option_map (λ asked. question_of (asked_tree asked))
 
 -- a look that waits is that of the next statement, and the run is not over

@@ -12,6 +12,6 @@ mod statement;
 mod task;
 
 pub use fault::{AnswerFault, RunFault};
-pub use next::{Next, Question};
+pub use next::Next;
 pub use prog_tree::{Cause, Deed, End, Look};
 pub use run::Run;

@@ -19,15 +19,6 @@ pub enum Next {
     Done(End),
 }
 
-/// What a run asks its snapshot.
-#[derive(Clone, Copy, Debug, PartialEq, Eq)]
-pub enum Question {
-    /// What a cell holds.
-    One(Cell),
-    /// The rows of a region.
-    Range(Region),
-}
-
 /// What one store statement comes to, as the run keeps it.
 #[derive(Clone, Copy, Debug)]
 pub enum Step<'a> {

@@ -1,6 +1,6 @@
 use Rattle.std.proofs.Common.{sym, subst, ap, ◌∙◌, IfOk, IfSome}
 use Rattle.prog_tree.specs.declared.look.Look.TheVariants as look
-use Rattle.prog_run.specs.declared.next.Question.TheVariants.{One, Range}
+use Rattle.prog_run.specs.declared.next.Next.TheVariants.{Get, Scan}
 use Rattle.prog_run.specs.Looks.{AreFound, region_look}
 use Rattle.prog_run.specs.Step.{question_after}
 use Rattle.prog_run.specs.View.{IsAnswered, asked_cell}
@@ -21,7 +21,7 @@ returns-in_ok-next-in-Get-clause-ok c =
     let next = c.in_ok-next-in-Get.next in
     let asked = c.in_ok-next.ensures.advance.asked ∙ ap question_after c.in-Get.is in
     let answered = subst (λ r. IfOk r (λ next. IfSome (asked_cell old.asked) (λ cell. IsAnswered (look.One cell held) next old new))) c.in_ok-next-in-Get.ensures.ok c.answer_get.ensures.answered in
-    steps_behind (look.One c.in-Get.cell held) _ next _ old new (One c.in-Get.cell) (ap question_after c.in-Get.is) c.in_ok-next.ensures.advance (answered_cell old new c.in-Get.cell held next asked answered)
+    steps_behind (look.One c.in-Get.cell held) _ next _ old new (Get c.in-Get.cell) (ap question_after c.in-Get.is) c.in_ok-next.ensures.advance (answered_cell old new c.in-Get.cell held next asked answered)
 
 pub returns-in_ok-next-in-Get-clause-own : goal.returns-in_ok-next-in-Get-clause-own
 returns-in_ok-next-in-Get-clause-own c =
@@ -46,7 +46,7 @@ returns-in_ok-next-in-Scan-clause-ok c =
     let rows = c.in_ok-rows-in-Scan.rows in
     let next = c.in_ok-next-in-Scan.next in
     let asked = c.in_ok-next.ensures.advance.asked ∙ ap question_after c.in-Scan.is in
-    steps_behind (region_look old.changes c.in-Scan.region rows) _ next _ old new (Range c.in-Scan.region) (ap question_after c.in-Scan.is) c.in_ok-next.ensures.advance
+    steps_behind (region_look old.changes c.in-Scan.region rows) _ next _ old new (Scan c.in-Scan.region) (ap question_after c.in-Scan.is) c.in_ok-next.ensures.advance
     (answered_region old new c.in-Scan.region rows next asked c.in_ok-next-in-Scan.ensures.answered)
 
 pub returns-in_ok-next-in-Scan-clause-own : goal.returns-in_ok-next-in-Scan-clause-own
