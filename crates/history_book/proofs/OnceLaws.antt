@@ -3,34 +3,21 @@ use Rattle.std.proofs.Common.{◌≡◌, ◌==◌, ℕ, zero, suc, ◌+◌, ◌<
 use Rattle.std.specs.Prelude.{◌&&◌, ◌||◌, slice_set}
 use Rattle.std.specs.List.{list_all, range_with_len}
 use Rattle.std.proofs.lemmas.Bool.Decides.{nat_tests, leb_tells}
-use Rattle.std.proofs.lemmas.List.Folds.{list_any-append, list_any_at, list_all-map}
+use Rattle.std.proofs.lemmas.List.Folds.{list_any-append, list_all-map}
 use Rattle.std.proofs.lemmas.List.{length-append}
-use Rattle.std.proofs.Math.Bool.{or-true}
+use Rattle.std.proofs.Math.Bool.{or-true, or-false}
 use Rattle.history_book.specs.Orders.{is_one_of}
 use Rattle.history_book.specs.Serial.{is_each_once}
+use Rattle.history_book.proofs.NumberLists.{one-at, one-push}
+use Rattle.history_book.proofs.TestLaws.{eq_tells, ne_tells}
 
 -- ---- one number more
 
-one_more : (xs : List ℕ) (x m : ℕ) → is_one_of (xs ++ x ∷ []) m ≡ (is_one_of xs m || ((x == m) || false))
-one_more xs x m = list_any-append (λ k. k == m) xs (x ∷ [])
-
 more_here : (xs : List ℕ) (x m : ℕ) → x ≡ m → is_one_of (xs ++ x ∷ []) m ≡ true
-more_here xs x m same =
-    let is : (x == m) ≡ true = grind (arith, nat_tests) in
-    one_more xs x m ∙ ap (λ b. is_one_of xs m || (b || false)) is ∙ last (is_one_of xs m)
-  where
-    last : (b : Bool) → (b || true) ≡ true
-    last true = refl
-    last false = refl
+more_here xs x m same = one-push xs x m ∙ ap (λ b. is_one_of xs m || b) (eq_tells x m same) ∙ or-true (is_one_of xs m)
 
 more_elsewhere : (xs : List ℕ) (x m : ℕ) → (x ≡ m → ⊥) → is_one_of (xs ++ x ∷ []) m ≡ is_one_of xs m
-more_elsewhere xs x m other =
-    let is : (x == m) ≡ false = grind (arith, nat_tests) in
-    one_more xs x m ∙ ap (λ b. is_one_of xs m || (b || false)) is ∙ last (is_one_of xs m)
-  where
-    last : (b : Bool) → (b || false) ≡ b
-    last true = refl
-    last false = refl
+more_elsewhere xs x m other = one-push xs x m ∙ ap (λ b. is_one_of xs m || b) (ne_tells x m other) ∙ or-false (is_one_of xs m)
 
 -- a number outside the range changes no mark
 pub unmarked : (xs : List ℕ) (x a n : ℕ) → ((m : ℕ) → a ≤ m → m < a + n → x ≡ m → ⊥) → map (is_one_of xs) (range_with_len a n) ≡ map (is_one_of (xs ++ x ∷ [])) (range_with_len a n)
@@ -147,18 +134,11 @@ whole n order once = go (length order == n) refl once
     go true is h = record { size = grind (arith, nat_tests); all = λ m low high. in_range (is_one_of order) 1 n h m low (omega arith) }
     go false is h = absurd (true≢false (sym h))
 
--- the numbers of a list are in it
-pub is_in_at : (order : List ℕ) (i d : ℕ) → i < length order → is_one_of order (get_or order i d) ≡ true
-is_in_at order i d within = list_any_at (λ k. k == get_or order i d) order i d within (self (get_or order i d))
-  where
-    self : (k : ℕ) → (k == k) ≡ true
-    self k = grind (arith, nat_tests)
-
 -- where each number stands once, all are in the range
 pub within_range : (n : ℕ) (order : List ℕ) → is_each_once n order ≡ true → (i d : ℕ) → i < length order → (1 ≤ get_or order i d) × (get_or order i d ≤ n)
 within_range n order once i d within =
     let w = whole n order once in
-    no_other n order w.size w.all (get_or order i d) (is_in_at order i d within)
+    no_other n order w.size w.all (get_or order i d) (one-at order i d within)
 
 -- ---- one number twice
 
