@@ -22,7 +22,7 @@ use Rattle.history_book.specs.Traces.{sight_of, trace_of, trace_in, traces_of, t
 use Rattle.prog_tree.specs.Tree.{draft_tree}
 use Rattle.prog_tree.proofs.CellSets.{among-some}
 use Rattle.history_book.specs.TrueBook.{IsTrueBook}
-use Rattle.history_book.specs.View.{BookView, instance_of, history_of, traces_in, trace_for}
+use Rattle.history_book.specs.View.{BookView, instance_of, history_of, traces_in}
 use Rattle.history_book.specs.declared.instances.row.HistoryRow.{HistoryRow}
 use Rattle.history_book.specs.declared.orders.order.OrderFault.{OrderFault}
 use Rattle.history_book.specs.declared.orders.order.OrderFault.TheVariants as fault
@@ -131,6 +131,10 @@ module _ (set : DraftTree) (opening : TableState) (h : List Instance) where
 pub same_fault : (n : ℕ) (reduced before : ℕ → ℕ → Bool) (e : OrderFault) → IsReduced n reduced before → IsOrderFault reduced e → IsOrderFault before e
 same_fault n reduced before (fault.Cycle numbers) r cycle = cycle_same n reduced before r numbers.items cycle
 same_fault n reduced before fault.Memory r memory = tt
+
+-- what an instance looked at and changed on the state that it sees
+abbrev pub trace_for : BookView → Instance → TraceView
+trace_for v i = trace_in (draft_tree v.set) v.opening (history_of v.rows) i
 
 -- a book with one more commit is traced where it has one more trace
 pub traced-committed :

@@ -17,7 +17,7 @@ use Rattle.history_book.specs.History.{Instance, nth_item, commits_of, state_aft
 use Rattle.history_book.specs.Serial.{Fits}
 use Rattle.history_book.specs.Ticket.{TicketView}
 use Rattle.history_book.specs.TraceView.{TraceView}
-use Rattle.history_book.specs.Traces.{trace_in, traces_of}
+use Rattle.history_book.specs.Traces.{traces_of}
 use Rattle.history_book.specs.declared.fault.BeginFault.{BeginFault}
 use Rattle.history_book.specs.declared.fault.BeginFault.TheVariants.{NoSuchProgram, WrongArguments, TooOld, TooNew, Full, Memory}
 use Rattle.history_book.specs.declared.instances.row.Ending.{Ending}
@@ -64,10 +64,6 @@ state_in v n = state_after (draft_tree v.set) v.opening (history_of v.rows) n
 -- what an instance does on the state that it sees
 abbrev pub done_in : BookView → Instance → Evaluation
 done_in v i = evaluation (draft_tree v.set) v.opening (history_of v.rows) i
-
--- what it looked at and changed there
-abbrev pub trace_for : BookView → Instance → TraceView
-trace_for v i = trace_in (draft_tree v.set) v.opening (history_of v.rows) i
 
 -- the traces of its commits
 abbrev pub traces_in : BookView → List TraceView

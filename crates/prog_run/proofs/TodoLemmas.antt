@@ -16,10 +16,14 @@ use Rattle.prog_tree.specs.Value.{holds_of}
 use Rattle.prog_tree.specs.Table.{TableState}
 use Rattle.prog_tree.specs.Steps.{closed, did, looked}
 use Rattle.prog_tree.specs.Evaluation.{Flow, GoesOn, Stops, and_then, Turn, turns_of, begun_turn, run_turns, run_statement, run_block, with_value, ended, region_of, own_cells, rows_left, rows_seen}
-use Rattle.prog_run.specs.Todo.{TurnsTree, OpenTree, CursorTree, named, head_of, finish_turns, finish_block, finish_all, todo, weight, turns_weight, open_weight, weight_of_all, weight_left, entered, listed, next_turn, in_turn, with_rest}
+use Rattle.prog_run.specs.Todo.{TurnsTree, OpenTree, CursorTree, named, head_of, finish_turns, finish_block, finish_all, todo, weight, turns_weight, open_weight, weight_of_all, weight_left, listed, next_turn, in_turn, with_rest, inside}
 use Rattle.prog_run.specs.Cursor.{IsLocalStep, SameTodo, KeepsStore}
 use Rattle.prog_run.specs.declared.cursor.Standing.TheVariants.{Moved, Over}
 use Rattle.prog_run.proofs.FrontLemmas.{begins_same}
+
+-- inside a block of a branch, before which so many names are bound
+abbrev pub entered : BlockTree → ℕ → BlockTree → CursorTree → CursorTree
+entered block scope rest c = inside (record { rest = block; scope = scope; turns = None }) rest c
 
 pub and_then_assoc : (f : Flow) (g h : Progress → Flow) → and_then (and_then f g) h ≡ and_then f (λ q. and_then (g q) h)
 and_then_assoc (GoesOn p) g h = refl

@@ -78,10 +78,6 @@ weight_left c = weight_of_all c.outer + open_weight c.here
 abbrev pub inside : OpenTree → BlockTree → CursorTree → CursorTree
 inside block rest c = record { here = block; outer = c.outer ++ record c.here { rest = rest } ∷ [] }
 
--- inside a block of a branch, before which so many names are bound
-abbrev pub entered : BlockTree → ℕ → BlockTree → CursorTree → CursorTree
-entered block scope rest c = inside (record { rest = block; scope = scope; turns = None }) rest c
-
 -- before the first turn of an `each` whose rows are listed
 abbrev pub listed : TurnsTree → ℕ → BlockTree → CursorTree → CursorTree
 listed turns scope rest c = inside (record { rest = BlockEnd; scope = scope; turns = Some turns }) rest c

@@ -15,9 +15,13 @@ use Rattle.prog_text.specs.declared.reading.read_error.ReadError.{ReadError}
 use Rattle.prog_text.specs.declared.reading.read_error.ReadError.TheVariants as errors
 use Rattle.prog_text.specs.declared.lexing.token.Token.{Token}
 use Rattle.prog_text.specs.Reading.{Stop, Unexpected, Reading, ◌>>=◌, Fails, after_sign, behind_sign, expect, test_at, statement_at, block_at, second_at, behind_second, behind_first, branch_at, listing_at, behind_turns, each_at, more_at, body_at, as_plain, unexpected}
-use Rattle.prog_text.specs.OpenBlocks.{in_front, outward, unread, unread_behind_end, unread_behind_if, unread_behind_each, unread_from_statement}
+use Rattle.prog_text.specs.OpenBlocks.{in_front, outward, unread, unread_behind_end, unread_behind_if, unread_behind_each}
 use Rattle.prog_text.proofs.Enough.{body_is}
 use Rattle.prog_text.specs.declared.lexing.token.Sign.TheVariants as sign
+
+-- what is still to be read in front of a statement without blocks
+unfoldable pub unread_from_statement : List Open → List Stmt → List Token → Reading BlockTree
+unread_from_statement stack done ts = outward (reverse stack) (in_front done (more_at body_at ts))
 
 in_front-nil : (read : Reading BlockTree) → in_front [] read ≡ read
 unfolding in_front

@@ -9,7 +9,7 @@ use Rattle.prog_text.specs.declared.reading.blocks.Open.TheVariants.{First, Seco
 use Rattle.prog_text.specs.declared.reading.cursor.Cursor.{Cursor}
 use Rattle.prog_text.specs.declared.reading.read_error.ReadError.{ReadError}
 use Rattle.prog_text.specs.declared.lexing.token.Token.{Token}
-use Rattle.prog_text.specs.Reading.{Reading, ◌>>=◌, Fails, behind_first, behind_second, branch_at, behind_turns, each_at, more_at, body_at}
+use Rattle.prog_text.specs.Reading.{Reading, ◌>>=◌, Fails, behind_first, behind_second, branch_at, behind_turns, each_at, body_at}
 
 -- statements that were read, in front of what is read of their block
 unfoldable pub in_front : List Stmt → Reading BlockTree → Reading BlockTree
@@ -47,10 +47,6 @@ unread_behind_if stack done ts = outward (reverse stack) (in_front done (branch_
 -- the same behind the word `each`
 unfoldable pub unread_behind_each : List Open → List Stmt → List Token → Reading BlockTree
 unread_behind_each stack done ts = outward (reverse stack) (in_front done (each_at body_at ts))
-
--- the same in front of a statement without blocks
-unfoldable pub unread_from_statement : List Open → List Stmt → List Token → Reading BlockTree
-unread_from_statement stack done ts = outward (reverse stack) (in_front done (more_at body_at ts))
 
 -- what is still to be read of a block
 abbrev pub unread_of : Body → Cursor → Reading BlockTree

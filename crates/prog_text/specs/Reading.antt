@@ -40,11 +40,6 @@ abbrev pub Gives : {X Y : Type 0} → (X → Y) → Result X ReadError → Resul
 Gives view (Ok x) read = read ≡ Ok (view x)
 Gives view (Err e) read = Fails e read
 
--- What is still to be read, seen by `next`, gives what the reading gives, unless memory runs out.
-abbrev pub Goes : {X Y : Type 0} → (X → Result Y Stop) → Result X ReadError → Result Y Stop → Type 0
-Goes next (Ok x) read = next x ≡ read
-Goes next (Err e) read = Fails e read
-
 -- the first of these tokens doesn't fit here
 abbrev pub unexpected : {A : Type 0} → List Token → Result A Stop
 unexpected ts = Err (Unexpected (length ts))

@@ -21,8 +21,7 @@ use Rattle.prog_tree.proofs.TableLemmas.{cell_total}
 use Rattle.prog_tree.proofs.TableStates.{same_cell, cell_is}
 use Rattle.version_store.specs.declared.touches.Touch.{Touch}
 use Rattle.version_store.specs.Clash.{last_touch, IsClash, IsFirst, first_above, lesser, with_cells, touched, clash_of}
-use Rattle.version_store.specs.Touches.{touches_of}
-use Rattle.version_store.proofs.TouchLaws.{among_touches}
+use Rattle.version_store.proofs.TouchLaws.{among_touches, touches_of}
 
 -- ---- the order of cells
 

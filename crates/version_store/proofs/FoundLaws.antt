@@ -3,7 +3,7 @@ use Rattle.std.proofs.Common.{◌≡◌, ◌∙◌, ℕ, ℤ, Bool, true, false,
 use Rattle.std.specs.Prelude.{◌↔◌, ◌==◌, IsTrue, length, Option, Some, None, filter, unwrap_or}
 use Rattle.std.specs.Cmp.{tied_itself}
 use Rattle.std.specs.declared.cmp.Ordering.TheVariants.{Less}
-use Rattle.std.specs.List.{AllByRecursion}
+use Rattle.std.specs.List.{AllByRecursion, flat_map}
 use Rattle.std.specs.List.Sorted.{IsStrictlySortedBy}
 use Rattle.std.specs.FinMap.Entries.{find-where_key}
 use Rattle.std.specs.Ordering.{is_eq}
@@ -21,8 +21,12 @@ use Rattle.prog_tree.proofs.TableStates.{same_cell, cell_is, same_state, IsTable
 use Rattle.version_store.specs.StandsFor.{Chain, no_chain}
 use Rattle.version_store.specs.Reading.{AllRise, RisesFrom, chain_at, value_at}
 use Rattle.prog_tree.specs.Corners.{is_between, AreCorners}
-use Rattle.version_store.specs.Regions.{seen_in, seen_left, found_rows, IsSeen}
+use Rattle.version_store.specs.Regions.{seen_in, seen_left, IsSeen}
 use Rattle.version_store.proofs.ScanLaws.{seen_at, or_none}
+
+-- the rows of what is seen of chains, in their order
+abbrev pub found_rows : (Cell → Chain → Option ℤ) → Cells Chain → TableState
+found_rows seen = flat_map (λ (entry : Cell × Chain). row_held entry.0 (seen entry.0 entry.1))
 
 abbrev pub Seen : Type 0
 Seen = Cell → Chain → Option ℤ

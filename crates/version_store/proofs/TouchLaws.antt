@@ -12,8 +12,17 @@ use Rattle.version_store.specs.declared.touches.Touch.{Touch}
 use Rattle.version_store.specs.declared.touches.Touch.TheVariants.{Change}
 use Rattle.version_store.specs.StandsFor.{Chain}
 use Rattle.version_store.specs.Reading.{with_version, with_mark, with_change_by, with_mark_by, with_commit}
-use Rattle.version_store.specs.Touches.{touches_left, touches_of, with_touches}
+use Rattle.version_store.specs.Touches.{touches_left, with_touch}
 use Rattle.version_store.specs.Trimming.{numbered, touches_by}
+
+-- the touches of a commit
+abbrev pub touches_of : ChangeSet → Cells Touch
+touches_of w = touches_left w.cells w.kept
+
+-- the chain of a cell with those of the touches that are of this cell
+abbrev pub with_touches : ℕ → Cells Touch → Cell → Chain → Chain
+with_touches n [] c chain = chain
+with_touches n (t ∷ ts) c chain = with_touches n ts c (if is_same_cell t.0 c then with_touch n t.1 chain else chain)
 
 -- ---- the cells
 

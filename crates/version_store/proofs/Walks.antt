@@ -12,9 +12,9 @@ use Rattle.version_store.specs.declared.touches.Touch.{Touch}
 use Rattle.version_store.specs.declared.touches.Touch.TheVariants.{Change, Keep}
 use Rattle.version_store.specs.StandsFor.{Chain, EachHolds}
 use Rattle.version_store.specs.Reading.{chain_at, with_entry, with_version, with_mark, with_commit, cut_from, IsGrown, MakesAt, MakesTouched}
-use Rattle.version_store.specs.Touches.{touches_of, with_touch, with_touches}
+use Rattle.version_store.specs.Touches.{with_touch}
 use Rattle.version_store.proofs.ChainsLaws.{entry_turn}
-use Rattle.version_store.proofs.TouchLaws.{among_touches, commit_touches}
+use Rattle.version_store.proofs.TouchLaws.{among_touches, commit_touches, touches_of, with_touches}
 
 -- with the entries that are left, the chains are what they will be at the end, and these are entries of the map
 pub record AddsEntries {A : Type 0} (f : A → Chain → Chain) (entries rest : Cells A) (before now : Cells Chain) : Type 0 where

@@ -1,9 +1,8 @@
 -- The rows of regions.
 use Rattle.std.specs.Prelude.{◌≡◌, ℕ, ℤ, List, [], Option, Some, None, if◌then◌else◌}
-use Rattle.std.specs.List.{flat_map}
 use Rattle.prog_tree.specs.declared.cell.Cell.{Cell}
 use Rattle.prog_tree.specs.declared.cell.Region.{Region}
-use Rattle.prog_tree.specs.Table.{is_in, is_cell_among, Cells, TableState, IsTableState, row_at, with_row, row_held}
+use Rattle.prog_tree.specs.Table.{is_in, is_cell_among, Cells, TableState, IsTableState, row_at, with_row}
 use Rattle.version_store.specs.StandsFor.{Chain}
 use Rattle.version_store.specs.Reading.{chain_at, value_at}
 
@@ -23,10 +22,6 @@ seen_anywhere n c chain = value_at n chain
 abbrev pub with_found : TableState → Cell → Option ℤ → TableState
 with_found rows c None = rows
 with_found rows c (Some value) = with_row rows c value
-
--- the rows of what is seen of chains, in their order
-abbrev pub found_rows : (Cell → Chain → Option ℤ) → Cells Chain → TableState
-found_rows seen = flat_map (λ (entry : Cell × Chain). row_held entry.0 (seen entry.0 entry.1))
 
 -- a table state has of each cell what is seen of its chain
 abbrev pub IsSeen : (Cell → Chain → Option ℤ) → Cells Chain → TableState → Type 0

@@ -1,8 +1,8 @@
 -- The touches of a commit, one behind another, and what each does to a chain.
-use Rattle.std.specs.Prelude.{ℕ, List, [], ◌∷◌, ◌++◌, map, if◌then◌else◌}
+use Rattle.std.specs.Prelude.{ℕ, List, [], ◌++◌, map}
 use Rattle.prog_tree.specs.declared.cell.Cell.{Cell}
-use Rattle.prog_tree.specs.ChangeSet.{ChangeSet, ChangedCells}
-use Rattle.prog_tree.specs.Table.{Cells, is_same_cell}
+use Rattle.prog_tree.specs.ChangeSet.{ChangedCells}
+use Rattle.prog_tree.specs.Table.{Cells}
 use Rattle.version_store.specs.declared.touches.Touch.{Touch}
 use Rattle.version_store.specs.declared.touches.Touch.TheVariants.{Change, Keep}
 use Rattle.version_store.specs.StandsFor.{Chain}
@@ -12,16 +12,7 @@ use Rattle.version_store.specs.Reading.{with_version, with_mark}
 abbrev pub touches_left : ChangedCells → List Cell → Cells Touch
 touches_left changed kept = map (λ e. (e.0, Change e.1)) changed ++ map (λ c. (c, Keep)) kept
 
--- the touches of a commit
-abbrev pub touches_of : ChangeSet → Cells Touch
-touches_of w = touches_left w.cells w.kept
-
 -- a chain with what a commit of a number does to its cell
 abbrev pub with_touch : ℕ → Touch → Chain → Chain
 with_touch n (Change value) chain = with_version n value chain
 with_touch n Keep chain = with_mark n chain
-
--- the chain of a cell with those of the touches that are of this cell
-abbrev pub with_touches : ℕ → Cells Touch → Cell → Chain → Chain
-with_touches n [] c chain = chain
-with_touches n (t ∷ ts) c chain = with_touches n ts c (if is_same_cell t.0 c then with_touch n t.1 chain else chain)

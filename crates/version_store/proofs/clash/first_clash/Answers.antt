@@ -1,8 +1,9 @@
 use Rattle.version_store.specs.Reading.{number_at}
 use Rattle.version_store.specs.Told.{told}
-use Rattle.version_store.specs.Touches.{touches_left, touches_of}
+use Rattle.version_store.specs.Touches.{touches_left}
 use Rattle.version_store.proofs.ClashLaws.{finds_more, finds_all}
 use Rattle.version_store.proofs.clash.first_clash.Goals as goal
+use Rattle.version_store.proofs.TouchLaws.{touches_of}
 
 pub loop-cell-preserved : goal.loop-cell-preserved
 loop-cell-preserved c =

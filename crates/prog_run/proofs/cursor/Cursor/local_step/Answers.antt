@@ -3,9 +3,8 @@ use Rattle.std.specs.Prelude.{Bool, if◌then◌else◌}
 use Rattle.prog_tree.specs.declared.stmt.Block.{Block}
 use Rattle.prog_tree.specs.Tree.{test_tree, with_stmt, stmts_tree, block_tree}
 use Rattle.prog_tree.proofs.TreeLemmas.{branch_tree}
-use Rattle.prog_run.specs.Todo.{entered}
 use Rattle.prog_run.specs.Cursor.{cursor_tree}
-use Rattle.prog_run.proofs.TodoLemmas.{branch_moves}
+use Rattle.prog_run.proofs.TodoLemmas.{branch_moves, entered}
 use Rattle.prog_run.proofs.cursor.Cursor.local_step.Goals as goal
 
 chosen_tree : (v : Bool) (a b : Block) → block_tree (if v then a else b) ≡ (if v then block_tree a else block_tree b)

@@ -1,7 +1,8 @@
-use Rattle.version_store.specs.Touches.{touches_left, touches_of}
+use Rattle.version_store.specs.Touches.{touches_left}
 use Rattle.version_store.proofs.ChainsLaws.{at_error}
 use Rattle.version_store.proofs.Walks.{one_more_touch, commit_added, commit_grown}
 use Rattle.version_store.proofs.chains.Chains.add_touches.Goals as goal
+use Rattle.version_store.proofs.TouchLaws.{touches_of}
 
 pub loop-cell-preserved : goal.loop-cell-preserved
 loop-cell-preserved c =

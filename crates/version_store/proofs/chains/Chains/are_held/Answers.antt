@@ -5,9 +5,9 @@ use Rattle.prog_tree.specs.declared.cell.Cell.{Cell}
 use Rattle.prog_tree.specs.Table.{cell_cmp, Cells, cells_of}
 use Rattle.prog_tree.specs.Corners.{is_between}
 use Rattle.version_store.specs.Reading.{RisesFrom}
-use Rattle.version_store.specs.Regions.{seen_left, found_rows}
+use Rattle.version_store.specs.Regions.{seen_left}
 use Rattle.version_store.specs.StandsFor.{Chain}
-use Rattle.version_store.proofs.FoundLaws.{matches_first, matches_more, mismatch, matched, unmatched, empty_is, left_is, left_nothing}
+use Rattle.version_store.proofs.FoundLaws.{matches_first, matches_more, mismatch, matched, unmatched, empty_is, left_is, left_nothing, found_rows}
 use Rattle.version_store.proofs.chains.Chains.are_held.Goals as goal
 
 pub returns-in_default : goal.returns-in_default

@@ -1,6 +1,7 @@
-use Rattle.version_store.specs.Touches.{touches_left, touches_of}
+use Rattle.version_store.specs.Touches.{touches_left}
 use Rattle.version_store.proofs.Walks.{one_more_cut, commit_cut}
 use Rattle.version_store.proofs.chains.Chains.cut_touched.Goals as goal
+use Rattle.version_store.proofs.TouchLaws.{touches_of}
 
 pub loop-cell-preserved : goal.loop-cell-preserved
 loop-cell-preserved c =

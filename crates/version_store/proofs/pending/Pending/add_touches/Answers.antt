@@ -1,7 +1,7 @@
 use Rattle.std.proofs.Common.{◌++◌, ◌∙◌, ap}
 use Rattle.prog_tree.specs.Table.{cells_of}
-use Rattle.version_store.specs.Touches.{touches_left, touches_of}
-use Rattle.version_store.proofs.TouchLaws.{numbered_touches}
+use Rattle.version_store.specs.Touches.{touches_left}
+use Rattle.version_store.proofs.TouchLaws.{numbered_touches, touches_of}
 use Rattle.version_store.proofs.VacuumLaws.{adds_all}
 use Rattle.version_store.proofs.pending.Pending.add_touches.Goals as goal
 
