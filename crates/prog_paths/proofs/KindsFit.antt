@@ -63,9 +63,9 @@ module _ (tables : List TableDecl) where
   kinds_fit (s.Count name table range) h = by_reads (grows (declaration tables table))
   kinds_fit (s.Sum name table range) h = by_reads (grows (declaration tables table))
   kinds_fit (s.Lacks table key) h = by_lacks (grows (declaration tables table))
-  kinds_fit (s.Put table key value) h = by_writes (grows (declaration tables table)) h
+  kinds_fit (s.Put table key value) h = by_writes (grows (declaration tables table)) (h refl)
   kinds_fit (s.Insert table key value) h = by_insert (grows (declaration tables table))
-  kinds_fit (s.Delete table key) h = by_writes (grows (declaration tables table)) h
+  kinds_fit (s.Delete table key) h = by_writes (grows (declaration tables table)) (h refl)
   kinds_fit (s.Keep table key) h = by_keeps (grows (declaration tables table))
   kinds_fit (s.Reply value) h = tt
   kinds_fit s.Abort h = tt
@@ -127,7 +127,7 @@ module _ (tables : List TableDecl) where
       (plain_append first second (body_plain (number + 1) a h.0) (body_plain (number + 1 + statement_count a) b h.1))
       (body_plain (number + 1 + statement_count a + statement_count b) rest h.2)
   body_plain number (Each l body rest) h = (
-    tt,
+    h.0,
     plain_append (body_passed (number + 1) body) (body_passed (number + 1 + statement_count body) rest) (body_plain (number + 1) body h.1) (body_plain (number + 1 + statement_count body) rest h.2),
   )
 
@@ -167,7 +167,7 @@ module _ (tables : List TableDecl) where
   routes_plain number (Each l body rest) h =
       let own = body_passed (number + 1) body in
       let later = routes (number + 1 + statement_count body) rest in
-      routes_map (passing number (as_count l)) (map (going_round (number + 1) body) later) (λ r p. (tt, p))
+      routes_map (passing number (as_count l)) (map (going_round (number + 1) body) later) (λ r p. (h.0, p))
       (routes_map (going_round (number + 1) body) later (λ r p. plain_append own r.passed (body_plain (number + 1) body h.1) p) (routes_plain (number + 1 + statement_count body) rest h.2))
 
   -- each access on a route of a sound block fits its table

@@ -75,7 +75,7 @@ new_apart params None h = tt
 new_apart params (Some y) h = is_apart params y h
 
 deletes_plain : (tables : List TableDecl) (st : StatementTree) → OverwritesPlain tables st → DeletesPlain tables st
-deletes_plain tables (s.Delete table key) h = h
+deletes_plain tables (s.Delete table key) h = h refl
 deletes_plain tables st h = tt
 
 block_sound : (tables : List TableDecl) (params : List Name) (block : BlockTree) → AllNew (IsNoneOf params) block → AllStatements (OverwritesPlain tables) block → BlockSound tables params block
