@@ -1,5 +1,5 @@
 -- Dependencies between the instances of a history, as tests, which compute.
-use Rattle.std.specs.Prelude.{ℕ, nat_lt, nat_le, ◌==◌, Bool, not, ◌&&◌, ◌||◌, is_some, List, Option}
+use Rattle.std.specs.Prelude.{ℕ, Bool, is_some, List, Option}
 use Rattle.std.specs.List.{list_any}
 use Rattle.std.specs.Option.{option_map_or}
 use Rattle.prog_tree.specs.declared.cell.Cell.{Cell}
@@ -9,6 +9,7 @@ use Rattle.prog_tree.specs.LookedAt.{has_looked}
 use Rattle.prog_tree.specs.Syntax.{DraftTree}
 use Rattle.prog_tree.specs.Table.{TableState}
 use Rattle.history_book.specs.History.{Instance, nothing, eval_of, nth_instance, state_after}
+use Rattle.history_book.specs.DependsBy.{Part, changes_again_by, sees_change_by, misses_change_by, depends_by}
 
 -- what an instance, if there is one, does on a table state
 abbrev pub run_found : DraftTree → Option Instance → TableState → Evaluation
@@ -31,21 +32,24 @@ module _ (set : DraftTree) (opening : TableState) (h : List Instance) where
   abbrev pub evaluation_at : ℕ → Evaluation
   evaluation_at n = run_found set (nth_instance h n) (state_after set opening h (start_at h n))
 
-  -- both change a cell, in commit order
+  -- its part in the order of commits
+  abbrev pub part_at : ℕ → Part
+  part_at n =
+      record {
+        start = start_at h n;
+        changes = λ c. is_some (change_at (evaluation_at n).changes c);
+        looks = has_looked (evaluation_at n);
+        changes_some = λ p. changes_some p (evaluation_at n).changes.cells;
+      }
+
   abbrev pub write_write : ℕ → ℕ → Bool
-  write_write i j =
-      nat_lt i j && changes_some (λ c. is_some (change_at (evaluation_at j).changes c)) (evaluation_at i).changes.cells
+  write_write i j = changes_again_by part_at i j
 
-  -- the second looks at a cell that the first changes, and its snapshot has the change
   abbrev pub write_read : ℕ → ℕ → Bool
-  write_read i j =
-      nat_le i (start_at h j) && changes_some (has_looked (evaluation_at j)) (evaluation_at i).changes.cells
+  write_read i j = sees_change_by part_at i j
 
-  -- the first looks at a cell that the second changes, and its snapshot lacks the change
   abbrev pub read_write : ℕ → ℕ → Bool
-  read_write i j =
-      nat_lt (start_at h i) j && changes_some (has_looked (evaluation_at i)) (evaluation_at j).changes.cells
+  read_write i j = misses_change_by part_at i j
 
-  -- one of two different instances has to stand before the other in every serial order that gives the same
   abbrev pub depends : ℕ → ℕ → Bool
-  depends i j = not (i == j) && (write_write i j || (write_read i j || read_write i j))
+  depends i j = depends_by part_at i j

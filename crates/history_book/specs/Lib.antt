@@ -2,6 +2,7 @@ pub mod ActiveSet
 pub mod AnyFit
 pub mod Audit
 pub mod Dependencies
+pub mod DependsBy
 pub mod History
 pub mod Nearby
 pub mod NearbyOrder

@@ -1,5 +1,5 @@
 -- What each commit looked at and changed, and what of it depends on what.
-use Rattle.std.specs.Prelude.{◌≡◌, ◌≤◌, ℕ, zero, suc, nat_lt, nat_le, ◌==◌, Bool, not, ◌&&◌, ◌||◌, List, [], map, Option, Some, None, slice_get, unwrap_or}
+use Rattle.std.specs.Prelude.{◌≡◌, ◌≤◌, ℕ, zero, suc, Bool, not, ◌&&◌, List, [], map, Option, Some, None, slice_get, unwrap_or}
 use Rattle.std.specs.List.{list_any}
 use Rattle.prog_tree.specs.declared.cell.Cell.{Cell}
 use Rattle.prog_tree.specs.declared.look.Look.{Look}
@@ -11,6 +11,7 @@ use Rattle.history_book.specs.History.{Instance, evaluation}
 use Rattle.history_book.specs.TraceView.{TraceView}
 use Rattle.history_book.specs.declared.orders.trace.Sight.{Sight}
 use Rattle.history_book.specs.declared.orders.trace.Sight.TheVariants as sight
+use Rattle.history_book.specs.DependsBy.{Part, changes_again_by, sees_change_by, misses_change_by, depends_by}
 
 -- a look without what it found
 abbrev pub sight_of : Look → Sight
@@ -63,20 +64,24 @@ abbrev pub some_changed : (Cell → Bool) → TraceView → Bool
 some_changed p t = list_any p t.changed
 
 module _ (traces : List TraceView) where
-  -- both changed a cell, in commit order
+  -- the part of a commit number in the order of commits
+  abbrev pub part_of : ℕ → Part
+  part_of n =
+      record {
+        start = (trace_at traces n).start;
+        changes = changed_at (trace_at traces n);
+        looks = looked_at (trace_at traces n);
+        changes_some = λ p. some_changed p (trace_at traces n);
+      }
+
   abbrev pub changes_again : ℕ → ℕ → Bool
-  changes_again i j = nat_lt i j && some_changed (changed_at (trace_at traces j)) (trace_at traces i)
+  changes_again i j = changes_again_by part_of i j
 
-  -- the second looked at a cell that the first changed, and its snapshot had the change
   abbrev pub sees_change : ℕ → ℕ → Bool
-  sees_change i j =
-      nat_le i (trace_at traces j).start && some_changed (looked_at (trace_at traces j)) (trace_at traces i)
+  sees_change i j = sees_change_by part_of i j
 
-  -- the first looked at a cell that the second changed, and its snapshot lacked the change
   abbrev pub misses_change : ℕ → ℕ → Bool
-  misses_change i j =
-      nat_lt (trace_at traces i).start j && some_changed (looked_at (trace_at traces i)) (trace_at traces j)
+  misses_change i j = misses_change_by part_of i j
 
-  -- one of two different commits has to stand before the other in every serial order that gives the same
   abbrev pub trace_depends : ℕ → ℕ → Bool
-  trace_depends i j = not (i == j) && (changes_again i j || (sees_change i j || misses_change i j))
+  trace_depends i j = depends_by part_of i j
