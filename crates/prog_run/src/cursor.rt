@@ -13,7 +13,7 @@ use crate::block::{Names, OpenBlock, Turns, turns_over};
 use crate::next::Step;
 use crate::notes::note_turn;
 use crate::region::{Found, look_at_region};
-use crate::statement::{begin, count_rows, sum_rows};
+use crate::statement::{OVERFLOW, begin, count_rows, sum_rows};
 use crate::task::{RegionUse, task_of};
 use prog_check::ProgramSet;
 use prog_tree::{Block, Cause, Cell, Deed, End, Listing, Look, Progress, Region, Sequence, Stmt};
@@ -91,7 +91,7 @@ impl<'a> Cursor<'a> {
         match stmt {
             Stmt::Bind { name, value } => {
                 let Some(value) = value.value(&progress.env) else {
-                    return Ok(Standing::Over(End::Aborted(Cause::Overflow)));
+                    return Ok(Standing::Over(OVERFLOW));
                 };
                 progress.env.bind(name, value)?;
                 self.here.rest = rest;
@@ -99,7 +99,7 @@ impl<'a> Cursor<'a> {
             }
             Stmt::Reply { value } => {
                 let Some(value) = value.value(&progress.env) else {
-                    return Ok(Standing::Over(End::Aborted(Cause::Overflow)));
+                    return Ok(Standing::Over(OVERFLOW));
                 };
                 progress.replies.push(value)?;
                 self.here.rest = rest;
@@ -112,7 +112,7 @@ impl<'a> Cursor<'a> {
                 otherwise,
             } => {
                 let Some(holds) = test.holds(&progress.env) else {
-                    return Ok(Standing::Over(End::Aborted(Cause::Overflow)));
+                    return Ok(Standing::Over(OVERFLOW));
                 };
                 let block = OpenBlock {
                     rest: chosen(holds, then, otherwise).stmts.as_slice(),
@@ -171,7 +171,7 @@ impl<'a> Cursor<'a> {
             unreachable!()
         };
         let Some(task) = task_of(set, stmt, &progress.env) else {
-            return Ok(Step::Over(End::Aborted(Cause::Overflow)));
+            return Ok(Step::Over(OVERFLOW));
         };
         let step = begin(progress, task)?;
         self.go_on(step);

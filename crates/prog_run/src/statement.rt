@@ -14,7 +14,8 @@ use crate::task::{Asked, CellUse, Task};
 use prog_tree::{Cause, Cell, Deed, End, Expr, Look, Name, Progress, Region};
 use std::alloc::AllocError;
 
-const OVERFLOW: End = End::Aborted(Cause::Overflow);
+/// The end of a run with a number that is no i64.
+pub const OVERFLOW: End = End::Aborted(Cause::Overflow);
 
 /// Does a task, or says what it asks: a cell that the run has changed is not asked.
 pub fn begin<'a>(progress: &mut Progress<'a>, task: Task<'a>) -> Result<Step<'a>, AllocError>
