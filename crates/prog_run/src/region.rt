@@ -1,7 +1,7 @@
 //! What a run sees in a region.
 ghost use Rattle.std.specs.Prelude.{◌≡◌, ◌↔◌, ◌≤◌, ◌++◌, length, option_copied, IfOk, IfSome, IsTrue, OnOk};
 ghost use Rattle.std.specs.List.{list_all};
-ghost use Rattle.std.specs.List.Sorted.{IsSorted, IsStrictlySortedBy};
+ghost use Rattle.std.specs.List.Sorted.{IsStrictlySortedBy};
 ghost use Rattle.prog_tree.specs.Table.{TableState, cell_cmp, is_in, cells_of, rows_in, row_held};
 ghost use Rattle.prog_tree.specs.ChangeSet.{changes_in, changed};
 ghost use Rattle.prog_tree.specs.Evaluation.{total_of, rows_without};
@@ -9,14 +9,14 @@ ghost use Rattle.prog_tree.specs.Value.{exact};
 ghost use Rattle.prog_run.specs.Looks.{AreFound, IsFoundLast, region_look, seen_rows};
 ghost use Rattle.prog_run.specs.Seen.{rows_before, AreAbsent, seen_by};
 
-use prog_tree::{Cell, Changes, Look, Region, Sequence, is_among_rising};
+use prog_tree::{Cell, Changes, Look, Region, RisingCells, Sequence};
 use std::alloc::{AllocError, Global};
 
 /// What a look at a region found.
 #[derive(Drop)]
 pub struct Found {
     /// The cells of the region that the run had changed.
-    pub own: Sequence<Cell>,
+    pub own: RisingCells,
     /// The rows of all other cells.
     pub rows: Sequence<(Cell, i64)>,
     /// The rows with the run's own changes among them, where it has made some.
@@ -83,22 +83,21 @@ pub fn own_changes(
 }
 
 /// The cells of changes.
-pub fn cells(alloc: Global, own: &[(Cell, Option<i64>)]) -> Result<Sequence<Cell>, AllocError>
-    ensures { IfOk result (λ cells. cells ≡ cells_of own.now) }
+pub fn cells(alloc: Global, own: &[(Cell, Option<i64>)]) -> Result<Vec<Cell>, AllocError>
+    ensures { IfOk result (λ cells. cells.items ≡ cells_of own.now) }
 {
     let mut cells = Vec::with_capacity(alloc, own.len())?;
     for (cell, _) in own {
         cells.push(*cell)?;
     }
-    Ok(Sequence::from_vec(cells))
+    Ok(cells)
 }
 
-// Takes away the rows of some cells that rise.
-fn remove_own(rows: &mut Vec<(Cell, i64)>, own: &[Cell])
-    requires { IsSorted cell_cmp own.now }
+// Takes away the rows of some cells.
+fn remove_own(rows: &mut Vec<(Cell, i64)>, own: &RisingCells)
     ensures { rows.new.items ≡ rows_without own.now rows.old.items }
 {
-    rows.retain(|(cell, _)| !is_among_rising(own, cell));
+    rows.retain(|(cell, _)| !own.contains(cell));
 }
 
 // How many rows stand in front whose cells come before this one.
@@ -183,14 +182,15 @@ pub fn look_at_region(
     let own = own_changes(alloc, changes, &region)?;
     if own.is_empty() {
         return Ok(Found {
-            own: Sequence::new(alloc),
+            own: RisingCells::new(alloc),
             rows,
             changed: None,
         });
     }
-    let left_out = cells(alloc, &own)?;
+    let own_cells = cells(alloc, &own)?;
+    let left_out = RisingCells::from_vec(own_cells);
     let mut rows = rows.into_vec();
-    remove_own(&mut rows, left_out.as_slice());
+    remove_own(&mut rows, &left_out);
     let seen = merge(alloc, &rows, &own)?;
     Ok(Found {
         own: left_out,

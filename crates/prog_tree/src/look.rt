@@ -3,6 +3,7 @@
 ghost use Rattle.std.specs.Prelude.{◌≡◌, ◌↔◌, IsTrue};
 
 use crate::cell::{Cell, Region};
+use crate::rising::RisingCells;
 use crate::sequence::Sequence;
 
 /// What an instance found in its snapshot.
@@ -14,7 +15,7 @@ pub enum Look {
     /// instance had changed.
     Range {
         region: Region,
-        own: Sequence<Cell>,
+        own: RisingCells,
         rows: Sequence<(Cell, i64)>,
     },
 }

@@ -5,7 +5,6 @@ pub mod fits;
 pub mod kept_region;
 pub mod nearby;
 pub mod order;
-pub mod own_set;
 pub mod precedence;
 pub mod readers;
 pub mod reason;

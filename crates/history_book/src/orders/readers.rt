@@ -9,11 +9,10 @@ ghost use Rattle.history_book.specs.Reduced.{seen_pairs, missed_pairs, reader_pa
 ghost use Rattle.history_book.specs.Reduced.{sight_pairs, region_pairs, sights_pairs, readers_pairs};
 ghost use Rattle.history_book.specs.Precedence.{precedes};
 
-use crate::orders::own_set::OwnSet;
 use crate::orders::precedence::Precedence;
 use crate::orders::trace::{Sight, Trace};
 use crate::orders::writers::{Writers, first_missed, last_seen};
-use prog_tree::{Cell, Region};
+use prog_tree::{Cell, Region, RisingCells};
 use std::alloc::{AllocError, Global};
 
 // Puts a number and each of the next before the one behind it.
@@ -128,7 +127,7 @@ fn add_cell(
 }
 
 // Whether a region has a cell that is not one of the reader's own.
-fn takes_in(region: &Region, own: &OwnSet, cell: &Cell) -> bool
+fn takes_in(region: &Region, own: &RisingCells, cell: &Cell) -> bool
     ensures { result ≡ takes_in (Sight.Range region.now own.now) cell.now }
 {
     if !region.contains(cell) {
@@ -143,7 +142,7 @@ fn add_region(
     reader: usize,
     start: u64,
     region: &Region,
-    own: &OwnSet,
+    own: &RisingCells,
     writers: &Writers,
 ) -> Result<(), AllocError>
     requires reader { IsUpTo (length precedence.old) reader }

@@ -6,9 +6,8 @@ ghost use Rattle.prog_tree.specs.Table.{cell_cmp, cells_of};
 ghost use Rattle.history_book.specs.Traces.{sight_of, trace_of};
 
 use crate::orders::kept_region::KeptRegion;
-use crate::orders::own_set::OwnSet;
 use prog_run::Run;
-use prog_tree::{Cell, Changes, Look, Sequence};
+use prog_tree::{Cell, Changes, Look, RisingCells, Sequence};
 use std::alloc::{AllocError, Global};
 use std::marker::Model;
 
@@ -17,7 +16,10 @@ use std::marker::Model;
 pub enum Sight {
     One(Cell),
     /// A region, but for its `own` cells: the ones that the instance had changed.
-    Range { region: KeptRegion, own: OwnSet },
+    Range {
+        region: KeptRegion,
+        own: RisingCells,
+    },
 }
 
 impl Sight {
@@ -76,7 +78,7 @@ fn sight_of(alloc: Global, look: &Look) -> Result<Sight, AllocError>
         Look::One(cell, _) => Ok(Sight::One(*cell)),
         Look::Range { region, own, .. } => Ok(Sight::Range {
             region: KeptRegion::new(alloc, *region)?,
-            own: OwnSet::from_slice(alloc, own.as_slice())?,
+            own: own.copy(alloc)?,
         }),
     }
 }

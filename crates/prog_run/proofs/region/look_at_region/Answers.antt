@@ -12,10 +12,10 @@ use Rattle.prog_run.proofs.OwnLemmas.{all_seen, look_of_all}
 use Rattle.prog_run.proofs.SeenLemmas.{own_absent}
 use Rattle.prog_run.proofs.region.look_at_region.Goals as goal
 
-pub remove_own-requires : goal.remove_own-requires
-remove_own-requires c =
+pub from_vec-left_out-requires : goal.from_vec-left_out-requires
+from_vec-left_out-requires c =
     let own = c.in_ok-own.own.items in
-    let mine : c.as_slice.result.now ≡ cells_of own = c.as_slice.ensures ∙ c.in_ok-left_out.ensures ∙ ap (λ (es : ChangedCells). cells_of es) c.deref.ensures.value in
+    let mine : c.in_ok-own_cells.own_cells.items ≡ cells_of own = c.in_ok-own_cells.ensures ∙ ap (λ (es : ChangedCells). cells_of es) c.deref.ensures.value in
     subst (IsSorted cell_cmp) (sym mine) (no_fall (cells_of own) c.in_ok-own.ensures.ordered)
 
 pub merge-requires-clause-ordered : goal.merge-requires-clause-ordered
@@ -25,8 +25,8 @@ merge-requires-clause-ordered c =
 pub merge-requires-clause-absent : goal.merge-requires-clause-absent
 merge-requires-clause-absent c =
     let cells = c.args.changes.now.cells in
-    let mine : c.as_slice.result.now ≡ own_cells c.args.region cells =
-    c.as_slice.ensures ∙ c.in_ok-left_out.ensures ∙ ap (λ (es : ChangedCells). cells_of es) (c.deref.ensures.value ∙ c.in_ok-own.ensures.own) in
+    let mine : c.from_vec-left_out.result ≡ own_cells c.args.region cells =
+    c.from_vec-left_out.ensures ∙ c.in_ok-own_cells.ensures ∙ ap (λ (es : ChangedCells). cells_of es) (c.deref.ensures.value ∙ c.in_ok-own.ensures.own) in
     let left = c.deref-2.ensures.value ∙ c.remove_own.ensures ∙ (λ i. rows_without (mine i) (c.into_vec-rows.ensures i)) in
     let own = c.deref-3.ensures.value ∙ c.in_ok-own.ensures.own in
     subst (λ (rows : TableState). AreAbsent rows c.deref-3.result.now) (sym left)
@@ -35,15 +35,15 @@ merge-requires-clause-absent c =
 pub returns-clause-look : goal.returns-clause-look
 returns-clause-look c =
     let cells = c.args.changes.now.cells in
-    let told : c.in_ok-left_out.left_out ≡ own_cells c.args.region cells = c.in_ok-left_out.ensures ∙ ap (λ (es : ChangedCells). cells_of es) (c.deref.ensures.value ∙ c.in_ok-own.ensures.own) in
-    let left = c.from_vec.ensures ∙ c.remove_own.ensures ∙ (λ i. rows_without ((c.as_slice.ensures ∙ told) i) (c.into_vec-rows.ensures i)) in
+    let told : c.from_vec-left_out.result ≡ own_cells c.args.region cells = c.from_vec-left_out.ensures ∙ c.in_ok-own_cells.ensures ∙ ap (λ (es : ChangedCells). cells_of es) (c.deref.ensures.value ∙ c.in_ok-own.ensures.own) in
+    let left = c.from_vec.ensures ∙ c.remove_own.ensures ∙ (λ i. rows_without (told i) (c.into_vec-rows.ensures i)) in
     λ i. look.Range c.args.region (told i) (left i)
 
 pub returns-clause-seen : goal.returns-clause-seen
 returns-clause-seen c =
     let cells = c.args.changes.now.cells in
-    let mine : c.as_slice.result.now ≡ own_cells c.args.region cells =
-    c.as_slice.ensures ∙ c.in_ok-left_out.ensures ∙ ap (λ (es : ChangedCells). cells_of es) (c.deref.ensures.value ∙ c.in_ok-own.ensures.own) in
+    let mine : c.from_vec-left_out.result ≡ own_cells c.args.region cells =
+    c.from_vec-left_out.ensures ∙ c.in_ok-own_cells.ensures ∙ ap (λ (es : ChangedCells). cells_of es) (c.deref.ensures.value ∙ c.in_ok-own.ensures.own) in
     let left = c.deref-2.ensures.value ∙ c.remove_own.ensures ∙ (λ i. rows_without (mine i) (c.into_vec-rows.ensures i)) in
     let own = c.deref-3.ensures.value ∙ c.in_ok-own.ensures.own in
     c.from_vec-2.ensures ∙ c.in_ok-seen.ensures ∙ (λ i. changed (left i) (own i))
