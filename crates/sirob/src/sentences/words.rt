@@ -129,13 +129,13 @@ fn words_of(
     }
 }
 
-// Why no serial order is sure.
-fn refused_set_words(alloc: Global, kept: &Kept) -> Result<Option<String>, AllocError> {
+// Why no serial order is sure; of a run that ended in a cycle, which lines do nothing.
+fn unserializable_words(alloc: Global, kept: &Kept) -> Result<Option<String>, AllocError> {
     match &kept.found {
         Some(Finding::Refused(danger)) => {
             refusal_sentence(alloc, KeptInput::of(&kept.input), danger)
         }
-        _ => Ok(None),
+        _ => refused_sentence(alloc, kept),
     }
 }
 
@@ -159,7 +159,7 @@ fn done_sentence(alloc: Global, mode: Mode, kept: &Kept) -> Result<Option<String
     }
 }
 
-// What is to be said of how a command ended.
+// What is to be said of how a command ended, beside its cycle.
 fn ending_words(
     alloc: Global,
     mode: Mode,
@@ -167,24 +167,25 @@ fn ending_words(
     ended: Result<Status, CommandFault>,
 ) -> Result<Option<String>, AllocError> {
     match ended {
-        Ok(Status::Unserializable) => refused_set_words(alloc, kept),
+        Ok(Status::Unserializable) => unserializable_words(alloc, kept),
         Ok(Status::Done) => done_sentence(alloc, mode, kept),
         Ok(Status::Faulty | Status::Memory) => Ok(None),
         Err(fault) => words_of(alloc, mode, KeptInput::of(&kept.input), fault),
     }
 }
 
-/// Says on the standard error what is wrong with an input, why its set is refused, or in which cycle
-/// its commits end, unless memory runs out for it.
+/// Says on the standard error what is wrong with an input, why its set is refused, in which cycle
+/// its commits end, or which lines do nothing, unless memory runs out for it.
 pub fn explain(
     rt: &(impl AllocGlobal + Eprint),
     mode: Mode,
     kept: &Kept,
     ended: Result<Status, CommandFault>,
 ) {
+    if let (Ok(Status::Unserializable), Some(cycle)) = (ended, &kept.cycle) {
+        let _ = rt.eprint(cycle);
+    }
     if let Ok(Some(words)) = ending_words(rt.alloc(), mode, kept, ended) {
         let _ = rt.eprint(&words);
-    } else if let (Ok(Status::Unserializable), Some(cycle)) = (ended, &kept.cycle) {
-        let _ = rt.eprint(cycle);
     }
 }
