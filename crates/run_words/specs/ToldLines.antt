@@ -1,5 +1,5 @@
 -- The lines of a script that do nothing, as they are told.
-use Rattle.std.specs.Prelude.{ℕ, ◌≡◌, ◌==◌, ◌⊎◌, ◌||◌, Bool, true, false, List, [], ◌∷◌, ◌++◌, Option, Some, None, codes, drop, if◌then◌else◌, slice_get}
+use Rattle.std.specs.Prelude.{ℕ, ◌≡◌, ◌==◌, ◌<◌, ◌≤◌, ◌+◌, ◌-◌, ◌^◌, ◌⊎◌, ◌||◌, Bool, true, false, List, [], ◌∷◌, ◌++◌, Option, Some, None, codes, drop, if◌then◌else◌, length, min, slice_get}
 use Rattle.std.specs.Fmt.{decimal}
 use Rattle.text_places.specs.Places.{HasNoLine}
 use Rattle.si_engine.specs.declared.event.Event.{Event}
@@ -73,6 +73,50 @@ IsOneMore before after = (after ≡ before) ⊎ ((refused : Refused) × (after �
 -- at most one line more is told, behind those before; where memory runs out for them, none is told any more
 abbrev pub TellsOneMore : (before after : Refusals) → Type 0
 TellsOneMore before after = IsOneMore (told_lines before) (told_lines after) ⊎ (after.is_lost ≡ true)
+
+-- so many lines are told at most
+abbrev pub most_told : ℕ
+most_told = 8
+
+-- one more, up to the greatest count
+abbrev pub one_more : (count : ℕ) → ℕ
+one_more count = min (count + 1) (2 ^ 64 - 1)
+
+-- no line is told or counted
+abbrev pub CountsNone : (before after : Refusals) → Type 0
+CountsNone before after =
+    (after.told.items ≡ before.told.items) × (after.following ≡ before.following) × (after.more ≡ before.more)
+
+-- a line is told behind the others, which are fewer than may be
+abbrev pub TellsOne : (before after : Refusals) → Type 0
+TellsOne before after =
+    (length before.told.items < most_told)
+    × ((refused : Refused) × (after.told.items ≡ before.told.items ++ refused ∷ []))
+    × (after.following ≡ before.following) × (after.more ≡ before.more)
+
+-- a line is counted with those that follow a begin that is refused
+abbrev pub CountsFollowing : (before after : Refusals) → Type 0
+CountsFollowing before after =
+    (after.told.items ≡ before.told.items) × (after.following ≡ one_more before.following) × (after.more ≡ before.more)
+
+-- as many lines are told as may be, and one more is counted
+abbrev pub CountsFurther : (before after : Refusals) → Type 0
+CountsFurther before after =
+    (most_told ≤ length before.told.items)
+    × (after.told.items ≡ before.told.items) × (after.following ≡ before.following) × (after.more ≡ one_more before.more)
+
+-- a line is told, or counted in one of two ways
+abbrev pub IsCountedIn : (before after : Refusals) → Type 0
+IsCountedIn before after = TellsOne before after ⊎ (CountsFollowing before after ⊎ CountsFurther before after)
+
+-- one more line is told or counted, unless it is the last one again
+abbrev pub CountsOneMore : (before after : Refusals) → Type 0
+CountsOneMore before after = ((after.last ≡ before.last) × CountsNone before after) ⊎ IsCountedIn before after
+
+-- what is told stays, and so do the counts
+abbrev pub TellsNoMore : (before after : Refusals) → Type 0
+TellsNoMore before after =
+    (told_lines after ≡ told_lines before) × (after.following ≡ before.following) × (after.more ≡ before.more)
 
 -- the words point at the front of the line, with its line in the whole input; a line that the part has not is left out
 abbrev pub TellsLine : (ahead part : List ℕ) → Refused → (words : List ℕ) → Type 0

@@ -1,9 +1,9 @@
 //! The lines of a script that do nothing, in words.
-ghost use Rattle.std.specs.Prelude.{◌≡◌, ◌≢◌, ◌<◌, ◌↔◌, ◌++◌, List, ℕ, [], true, false, None, Some, IsOk, IsTrue, IfNone, IfOk, IfSome, OnOk, drop, length, slice_get, string_bytes, vec_len};
+ghost use Rattle.std.specs.Prelude.{◌≡◌, ◌≢◌, ◌<◌, ◌↔◌, ◌++◌, ◌⊎◌, List, ℕ, [], true, false, None, Some, IsOk, IsTrue, IfNone, IfOk, IfSome, OnOk, drop, length, slice_get, string_bytes, vec_len};
 ghost use Rattle.text_places.specs.Places.{HasNoLine};
 ghost use Rattle.run_words.specs.EachLine.{TellsEach};
 ghost use Rattle.run_words.specs.PartPointing.{HasNoLineOf, PointsAtLineIn};
-ghost use Rattle.run_words.specs.ToldLines.{does_nothing, first_told, following_text, further_text, is_refusal, refuses, refuses_begin, refuses_instance, refuses_number, told_lines, IsOneMore, TellsLine, TellsOneMore, TellsRefused};
+ghost use Rattle.run_words.specs.ToldLines.{does_nothing, first_told, following_text, further_text, is_refusal, refuses, refuses_begin, refuses_instance, refuses_number, told_lines, CountsOneMore, IsOneMore, TellsLine, TellsNoMore, TellsOneMore, TellsRefused};
 
 use crate::begin_numbers::{Numbers, Vacuums, number_words};
 use crate::event_lines::EventLines;
@@ -109,6 +109,8 @@ impl Refusals {
     /// Of no event yet.
     pub fn new(alloc: Global) -> Self
         ensures none { told_lines result ≡ [] }
+        ensures following { result.following ≡ 0 }
+        ensures further { result.more ≡ 0 }
         ensures held { result.is_lost ≡ false }
     {
         Refusals {
@@ -124,10 +126,12 @@ impl Refusals {
         }
     }
 
-    // Adds a line, once; where it is the first, it is told.
+    // Tells or counts a line, unless it is the last one again; the first one is told.
     fn add(&mut self, line: usize, refusal: Refusal) -> Result<(), AllocError>
         ensures more { OnOk result (IsOneMore self.old.told.items self.new.told.items) }
         ensures some { OnOk result (0 < vec_len self.new.told) }
+        ensures last { OnOk result (self.new.last ≡ line) }
+        ensures counted { OnOk result (CountsOneMore self.old self.new) }
         ensures held { self.new.is_lost ≡ self.old.is_lost }
     {
         let is_first = self.told.is_empty();
@@ -157,6 +161,7 @@ impl Refusals {
     fn add_event(&mut self, part: &[u8], number: usize, refusal: Refusal) -> Result<(), AllocError>
         ensures more { OnOk result (IsOneMore self.old.told.items self.new.told.items) }
         ensures some { OnOk result (0 < vec_len self.new.told) }
+        ensures counted { OnOk result (CountsOneMore self.old self.new) }
         ensures held { self.new.is_lost ≡ self.old.is_lost }
     {
         let line = self.lines.line_of(part, number);
@@ -177,6 +182,7 @@ impl Refusals {
         ensures more { OnOk result (IsOneMore self.old.told.items self.new.told.items) }
         ensures some { does_nothing event.now reply.now ≡ true
             → OnOk result (0 < vec_len self.new.told) }
+        ensures counted { OnOk result (CountsOneMore self.old self.new) }
         ensures held { self.new.is_lost ≡ self.old.is_lost }
     {
         if let Some(start) = refused_start(event, reply) {
@@ -216,8 +222,9 @@ impl Refusals {
 
     /// Looks at the next event of the script that a part is, with its reply and the book behind it.
     pub fn look(&mut self, part: &[u8], event: &Event, reply: &Reply, book: &Book<'_>)
-        ensures stays { is_refusal reply.now ≡ false → told_lines self.new ≡ told_lines self.old }
+        ensures stays { is_refusal reply.now ≡ false → TellsNoMore self.old self.new }
         ensures more { TellsOneMore self.old self.new }
+        ensures counted { CountsOneMore self.old self.new ⊎ (self.new.is_lost ≡ true) }
         ensures some { does_nothing event.now reply.now ≡ true → self.new.is_lost ≡ false
             → 0 < length (told_lines self.new) }
     {
