@@ -1,5 +1,6 @@
 //! Places of a part of an input, with their lines in the part and in the whole input.
-ghost use Rattle.std.specs.Prelude.{◌≡◌, IfOk, string_bytes};
+ghost use Rattle.std.specs.Prelude.{◌≡◌, ◌++◌, IfOk, map, string_bytes};
+ghost use Rattle.text_places.specs.Quotes.{pointed_out, visible};
 ghost use Rattle.run_words.specs.InInput.{input_line, input_line_text, numbered_text, PointsInPart};
 
 use std::alloc::{AllocError, Global};
@@ -47,8 +48,11 @@ pub fn point_in_part(
     place: usize,
     sentence: &str,
 ) -> Result<String, AllocError>
-    ensures { IfOk result (λ words. PointsInPart part.entry.ahead.now part.entry.bytes.now
+    ensures points { IfOk result (λ words. PointsInPart part.entry.ahead.now part.entry.bytes.now
         place (string_bytes words)) }
+    ensures said { IfOk result (λ words. string_bytes words ≡ pointed_out part.entry.bytes.now place
+        (map visible sentence.now
+        ++ input_line_text part.entry.ahead.now part.entry.bytes.now place)) }
 {
     let line = input_line_text(alloc, part, place)?;
     let shown = visible_text(alloc, sentence.as_bytes())?;

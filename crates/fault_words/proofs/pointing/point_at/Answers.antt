@@ -2,7 +2,12 @@ use Rattle.std.proofs.Common.{◌∙◌, ap, map}
 use Rattle.text_places.specs.Quotes.{pointed_out, visible}
 use Rattle.fault_words.proofs.pointing.point_at.Goals as goal
 
-pub returns : goal.returns
-returns c =
+pub returns-clause-points : goal.returns-clause-points
+returns-clause-points c =
     let shown = c.in_ok-shown.ensures ∙ ap (map visible) c.as_bytes.ensures.value in
     (c.args.sentence.now, c.in_ok-words.ensures ∙ ap (pointed_out c.args.text.now c.args.place) (c.deref.ensures ∙ shown))
+
+pub returns-clause-said : goal.returns-clause-said
+returns-clause-said c =
+    let shown = c.in_ok-shown.ensures ∙ ap (map visible) c.as_bytes.ensures.value in
+    c.in_ok-words.ensures ∙ ap (pointed_out c.args.text.now c.args.place) (c.deref.ensures ∙ shown)
