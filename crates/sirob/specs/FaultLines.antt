@@ -22,14 +22,13 @@ use Rattle.si_repair.specs.declared.fault.AnalyseFault.TheVariants as q
 use Rattle.si_repair.specs.declared.repairs.fault.RepairFault.{RepairFault}
 use Rattle.si_repair.specs.declared.repairs.fault.RepairFault.TheVariants as u
 use Rattle.repair_laws.specs.declared.plan.Pair.{Pair}
-use Rattle.si_engine.specs.declared.input.part_fault.PartFault.{PartFault}
 use Rattle.si_engine.specs.declared.input.part_fault.PartFault.TheVariants as script
-use Rattle.si_engine.specs.Texts.{line_fault_text}
+use Rattle.si_engine.specs.Texts.{input_fault_text, part_fault_text}
 use Rattle.si_engine.specs.declared.input.line_fault.LineFault.TheVariants as line
 use Rattle.si_engine.specs.declared.input.source.InputFault.TheVariants as i
 use Rattle.sirob.specs.declared.worker_fault.WorkerFault.{WorkerFault}
 use Rattle.sirob.specs.declared.worker_fault.WorkerFault.TheVariants as w
-use Rattle.sirob.specs.Faults.{code_of, part_code}
+use Rattle.sirob.specs.Faults.{part_code}
 
 -- a code and a byte's place
 abbrev pub at_byte : List ℕ → ℕ → List ℕ
@@ -106,12 +105,6 @@ certificate_fault (k.Dangerous x y z) = codes "K7" ++ (spaced x ++ (spaced y ++ 
 certificate_fault k.TooLarge = codes "K8"
 certificate_fault k.Memory = codes "memory"
 
--- a fault of the sink is never told
-abbrev pub part_fault : PartFault → List ℕ
-part_fault (script.Input fault) = code_of fault
-part_fault (script.Line fault) = line_fault_text fault
-part_fault script.WriteFault = codes "I5"
-
 abbrev pub row_code : RowFault → List ℕ
 row_code r.NoSuchProgram = codes "H1"
 row_code r.WrongArguments = codes "H2"
@@ -135,7 +128,7 @@ worker_fault w.TooManyJobs = codes "W5"
 worker_fault w.Memory = codes "memory"
 
 abbrev pub fault_text : CommandFault → List ℕ
-fault_text (Input fault) = code_of fault
+fault_text (Input fault) = input_fault_text fault
 fault_text (Parts fault) = part_code fault
 fault_text (Text fault) = text_fault fault
 fault_text (Check fault) = check_fault fault
@@ -143,7 +136,7 @@ fault_text (Analysis fault) = analyse_fault fault
 fault_text (Repair fault) = repair_fault fault
 fault_text (Json fault) = json_fault fault
 fault_text (Certificate fault) = certificate_fault fault
-fault_text (Script fault) = part_fault fault
+fault_text (Script fault) = part_fault_text fault
 fault_text (Audit fault) = audit_fault fault
 fault_text (Work fault) = worker_fault fault
 

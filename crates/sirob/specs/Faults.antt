@@ -1,7 +1,5 @@
--- The codes of faults of the input, and what is told of faults of workers.
+-- The codes of faults of the parts, and what is told of faults of workers.
 use Rattle.std.specs.Prelude.{ℕ, List, codes}
-use Rattle.si_engine.specs.declared.input.source.InputFault.{InputFault}
-use Rattle.si_engine.specs.declared.input.source.InputFault.TheVariants.{TooLong, ReadFault, Memory}
 use Rattle.si_workers.specs.declared.fault.WorkFault.{WorkFault}
 use Rattle.si_workers.specs.declared.fault.WorkFault.TheVariants as work
 use Rattle.sirob.specs.declared.parts.SplitFault.{SplitFault}
@@ -10,11 +8,6 @@ use Rattle.sirob.specs.declared.worker_fault.WorkerFault.{WorkerFault}
 use Rattle.sirob.specs.declared.worker_fault.WorkerFault.TheVariants as told
 
 -- the code that a fault line gives
-abbrev pub code_of : InputFault → List ℕ
-code_of TooLong = codes "I3"
-code_of ReadFault = codes "I4"
-code_of Memory = codes "memory"
-
 abbrev pub part_code : SplitFault → List ℕ
 part_code MissingPart = codes "I1"
 part_code ExtraPart = codes "I2"

@@ -1,7 +1,7 @@
 //! What keeps a command from its work, and the line that says so.
 ghost use Rattle.std.specs.Prelude.{◌≡◌, IfOk, string_bytes};
-ghost use Rattle.sirob.specs.Faults.{code_of, part_code};
-ghost use Rattle.sirob.specs.FaultLines.{text_fault, place_text, in_set, check_fault, part_fault, row_code, audit_fault, fault_line, is_memory};
+ghost use Rattle.sirob.specs.Faults.{part_code};
+ghost use Rattle.sirob.specs.FaultLines.{text_fault, place_text, in_set, check_fault, row_code, audit_fault, fault_line, is_memory};
 
 use crate::analysis_fault::{analyse_fault, certificate_fault, json_fault, repair_fault};
 use crate::parts::SplitFault;
@@ -29,17 +29,6 @@ pub enum CommandFault {
     Script(PartFault),
     Audit(AuditFault),
     Work(WorkerFault),
-}
-
-// A fault of the source, by its code.
-fn input_fault(alloc: Global, fault: InputFault) -> Result<String, AllocError>
-    ensures { IfOk result (λ text. string_bytes text ≡ code_of fault) }
-{
-    match fault {
-        InputFault::TooLong => format!(in alloc; "I3"),
-        InputFault::ReadFault => format!(in alloc; "I4"),
-        InputFault::Memory => format!(in alloc; "memory"),
-    }
 }
 
 fn split_fault(alloc: Global, fault: SplitFault) -> Result<String, AllocError>
@@ -108,17 +97,6 @@ fn check_fault(alloc: Global, fault: CheckFault) -> Result<String, AllocError>
     }
 }
 
-// A fault of the second part. That of the sink is never told.
-fn part_fault(alloc: Global, fault: PartFault) -> Result<String, AllocError>
-    ensures { IfOk result (λ text. string_bytes text ≡ part_fault fault) }
-{
-    match fault {
-        PartFault::Input(fault) => input_fault(alloc, fault),
-        PartFault::Line(fault) => format!(in alloc; "{fault}"),
-        PartFault::WriteFault => format!(in alloc; "I5"),
-    }
-}
-
 // A fault of a record, by its code.
 fn row_code(fault: RowFault) -> &'static str
     ensures { result.now ≡ row_code fault }
@@ -152,7 +130,7 @@ pub fn fault_line(alloc: Global, fault: CommandFault) -> Result<String, AllocErr
     ensures { IfOk result (λ line. string_bytes line ≡ fault_line fault) }
 {
     let text = match fault {
-        CommandFault::Input(fault) => input_fault(alloc, fault)?,
+        CommandFault::Input(fault) => format!(in alloc; "{fault}")?,
         CommandFault::Parts(fault) => split_fault(alloc, fault)?,
         CommandFault::Text(fault) => text_fault(alloc, fault)?,
         CommandFault::Check(fault) => check_fault(alloc, fault)?,
@@ -160,7 +138,7 @@ pub fn fault_line(alloc: Global, fault: CommandFault) -> Result<String, AllocErr
         CommandFault::Repair(fault) => repair_fault(alloc, fault)?,
         CommandFault::Json(fault) => json_fault(alloc, fault)?,
         CommandFault::Certificate(fault) => certificate_fault(alloc, fault)?,
-        CommandFault::Script(fault) => part_fault(alloc, fault)?,
+        CommandFault::Script(fault) => format!(in alloc; "{fault}")?,
         CommandFault::Audit(fault) => audit_fault(alloc, fault)?,
         CommandFault::Work(fault) => worker_fault(alloc, fault)?,
     };
