@@ -10,3 +10,4 @@ pub mod Telling
 pub mod Leaving
 pub mod Levels
 pub mod Flaws
+pub mod Texts

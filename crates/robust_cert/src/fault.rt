@@ -3,6 +3,8 @@
 ghost use Rattle.std.specs.Prelude.{◌≡◌};
 
 use std::alloc::{AllocError, AllocFailed};
+use std::error::Error;
+use std::fmt;
 
 /// Why bytes are no certificate.
 #[derive(Clone, Copy, Debug, PartialEq, Eq)]
@@ -15,6 +17,24 @@ pub enum JsonFault {
     WrongVersion,
     Memory,
 }
+
+impl fmt::Display for JsonFault {
+    ghost use Rattle.std.specs.Prelude.{Some};
+    ghost use Rattle.robust_cert.specs.Texts.{json_fault_text};
+
+    ghost output = { λ fault. Some (json_fault_text fault) };
+
+    fn fmt<W: fmt::Write>(&self, f: &mut fmt::Formatter<W>) -> fmt::Result {
+        match self {
+            JsonFault::NotJson => f.write_str("J1"),
+            JsonFault::WrongShape => f.write_str("J2"),
+            JsonFault::WrongVersion => f.write_str("J3"),
+            JsonFault::Memory => f.write_str("memory"),
+        }
+    }
+}
+
+impl Error for JsonFault {}
 
 /// Why a certificate isn't accepted for a set, in the order in which it is looked at.
 #[derive(Clone, Copy, Debug, PartialEq, Eq)]
@@ -37,6 +57,29 @@ pub enum CertFault {
     Dangerous(usize, usize, usize),
     Memory,
 }
+
+impl fmt::Display for CertFault {
+    ghost use Rattle.std.specs.Prelude.{Some};
+    ghost use Rattle.robust_cert.specs.Texts.{cert_fault_text};
+
+    ghost output = { λ fault. Some (cert_fault_text fault) };
+
+    fn fmt<W: fmt::Write>(&self, f: &mut fmt::Formatter<W>) -> fmt::Result {
+        match self {
+            CertFault::PathCount => f.write_str("K1"),
+            CertFault::NoSuchEntry(entry) => write!(f, "K2 {entry}"),
+            CertFault::EntryOrder(entry) => write!(f, "K3 {entry}"),
+            CertFault::BadChain(entry) => write!(f, "K4 {entry}"),
+            CertFault::BadCover(entry) => write!(f, "K5 {entry}"),
+            CertFault::LevelFalls(x, y) => write!(f, "K6 {x} {y}"),
+            CertFault::Dangerous(x, y, z) => write!(f, "K7 {x} {y} {z}"),
+            CertFault::TooLarge => f.write_str("K8"),
+            CertFault::Memory => f.write_str("memory"),
+        }
+    }
+}
+
+impl Error for CertFault {}
 
 impl From<AllocError> for CertFault {
     ghost use Rattle.robust_cert.specs.declared.fault.CertFault.TheVariants.{Memory};

@@ -10,3 +10,4 @@ pub mod Planning
 pub mod Promoting
 pub mod Repairing
 pub mod Telling
+pub mod Texts

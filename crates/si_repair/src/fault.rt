@@ -2,6 +2,8 @@
 
 use conflict_pairs::PairFault;
 use std::alloc::AllocError;
+use std::error::Error;
+use std::fmt;
 
 /// Why a set is not analysed.
 #[derive(Clone, Copy, Debug, PartialEq, Eq)]
@@ -10,6 +12,22 @@ pub enum AnalyseFault {
     TooLarge,
     Memory,
 }
+
+impl fmt::Display for AnalyseFault {
+    ghost use Rattle.std.specs.Prelude.{Some};
+    ghost use Rattle.si_repair.specs.Texts.{analyse_fault_text};
+
+    ghost output = { λ fault. Some (analyse_fault_text fault) };
+
+    fn fmt<W: fmt::Write>(&self, f: &mut fmt::Formatter<W>) -> fmt::Result {
+        match self {
+            AnalyseFault::TooLarge => f.write_str("Q1"),
+            AnalyseFault::Memory => f.write_str("memory"),
+        }
+    }
+}
+
+impl Error for AnalyseFault {}
 
 impl From<AllocError> for AnalyseFault {
     ghost use Rattle.std.specs.Prelude.{◌≡◌};

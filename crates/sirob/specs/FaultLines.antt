@@ -13,15 +13,12 @@ use Rattle.history_book.specs.declared.audit.AuditFault.{AuditFault}
 use Rattle.history_book.specs.declared.audit.AuditFault.TheVariants as a
 use Rattle.history_book.specs.declared.audit.RowFault.{RowFault}
 use Rattle.history_book.specs.declared.audit.RowFault.TheVariants as r
-use Rattle.robust_cert.specs.declared.fault.CertFault.{CertFault}
+use Rattle.robust_cert.specs.Texts.{cert_fault_text, json_fault_text, spaced}
 use Rattle.robust_cert.specs.declared.fault.CertFault.TheVariants as k
-use Rattle.robust_cert.specs.declared.fault.JsonFault.{JsonFault}
 use Rattle.robust_cert.specs.declared.fault.JsonFault.TheVariants as j
-use Rattle.si_repair.specs.declared.fault.AnalyseFault.{AnalyseFault}
+use Rattle.si_repair.specs.Texts.{analyse_fault_text, repair_fault_text}
 use Rattle.si_repair.specs.declared.fault.AnalyseFault.TheVariants as q
-use Rattle.si_repair.specs.declared.repairs.fault.RepairFault.{RepairFault}
 use Rattle.si_repair.specs.declared.repairs.fault.RepairFault.TheVariants as u
-use Rattle.repair_laws.specs.declared.plan.Pair.{Pair}
 use Rattle.si_engine.specs.declared.input.part_fault.PartFault.TheVariants as script
 use Rattle.si_engine.specs.Texts.{input_fault_text, part_fault_text}
 use Rattle.si_engine.specs.declared.input.line_fault.LineFault.TheVariants as line
@@ -68,43 +65,6 @@ check_fault (c.TooMany place) = in_set (codes "C10") place
 check_fault (c.TooManyPaths place) = in_set (codes "C11") place
 check_fault c.Memory = codes "memory"
 
-abbrev pub analyse_fault : AnalyseFault → List ℕ
-analyse_fault q.TooLarge = codes "Q1"
-analyse_fault q.Memory = codes "memory"
-
--- a number behind a space
-abbrev pub spaced : ℕ → List ℕ
-spaced n = codes " " ++ decimal n
-
--- a code and a pair of programs
-abbrev pub of_pair : List ℕ → Pair → List ℕ
-of_pair code pair = code ++ (spaced pair.from ++ spaced pair.to)
-
-abbrev pub repair_fault : RepairFault → List ℕ
-repair_fault (u.RangeRead pair) = of_pair (codes "U1") pair
-repair_fault (u.UnknownKey pair) = of_pair (codes "U2") pair
-repair_fault (u.BodyRead pair) = of_pair (codes "U5") pair
-repair_fault (u.TooMany pair) = of_pair (codes "U3") pair
-repair_fault u.Memory = codes "memory"
-
-abbrev pub json_fault : JsonFault → List ℕ
-json_fault j.NotJson = codes "J1"
-json_fault j.WrongShape = codes "J2"
-json_fault j.WrongVersion = codes "J3"
-json_fault j.Memory = codes "memory"
-
--- a code, and the entry from 0, or the nodes
-abbrev pub certificate_fault : CertFault → List ℕ
-certificate_fault k.PathCount = codes "K1"
-certificate_fault (k.NoSuchEntry entry) = codes "K2" ++ spaced entry
-certificate_fault (k.EntryOrder entry) = codes "K3" ++ spaced entry
-certificate_fault (k.BadChain entry) = codes "K4" ++ spaced entry
-certificate_fault (k.BadCover entry) = codes "K5" ++ spaced entry
-certificate_fault (k.LevelFalls x y) = codes "K6" ++ (spaced x ++ spaced y)
-certificate_fault (k.Dangerous x y z) = codes "K7" ++ (spaced x ++ (spaced y ++ spaced z))
-certificate_fault k.TooLarge = codes "K8"
-certificate_fault k.Memory = codes "memory"
-
 abbrev pub row_code : RowFault → List ℕ
 row_code r.NoSuchProgram = codes "H1"
 row_code r.WrongArguments = codes "H2"
@@ -132,10 +92,10 @@ fault_text (Input fault) = input_fault_text fault
 fault_text (Parts fault) = part_code fault
 fault_text (Text fault) = text_fault fault
 fault_text (Check fault) = check_fault fault
-fault_text (Analysis fault) = analyse_fault fault
-fault_text (Repair fault) = repair_fault fault
-fault_text (Json fault) = json_fault fault
-fault_text (Certificate fault) = certificate_fault fault
+fault_text (Analysis fault) = analyse_fault_text fault
+fault_text (Repair fault) = repair_fault_text fault
+fault_text (Json fault) = json_fault_text fault
+fault_text (Certificate fault) = cert_fault_text fault
 fault_text (Script fault) = part_fault_text fault
 fault_text (Audit fault) = audit_fault fault
 fault_text (Work fault) = worker_fault fault

@@ -3,7 +3,6 @@ ghost use Rattle.std.specs.Prelude.{◌≡◌, IfOk, string_bytes};
 ghost use Rattle.sirob.specs.Faults.{part_code};
 ghost use Rattle.sirob.specs.FaultLines.{text_fault, place_text, in_set, check_fault, row_code, audit_fault, fault_line, is_memory};
 
-use crate::analysis_fault::{analyse_fault, certificate_fault, json_fault, repair_fault};
 use crate::parts::SplitFault;
 use crate::worker_fault::{WorkerFault, worker_fault};
 use history_book::{AuditFault, RowFault};
@@ -134,10 +133,10 @@ pub fn fault_line(alloc: Global, fault: CommandFault) -> Result<String, AllocErr
         CommandFault::Parts(fault) => split_fault(alloc, fault)?,
         CommandFault::Text(fault) => text_fault(alloc, fault)?,
         CommandFault::Check(fault) => check_fault(alloc, fault)?,
-        CommandFault::Analysis(fault) => analyse_fault(alloc, fault)?,
-        CommandFault::Repair(fault) => repair_fault(alloc, fault)?,
-        CommandFault::Json(fault) => json_fault(alloc, fault)?,
-        CommandFault::Certificate(fault) => certificate_fault(alloc, fault)?,
+        CommandFault::Analysis(fault) => format!(in alloc; "{fault}")?,
+        CommandFault::Repair(fault) => format!(in alloc; "{fault}")?,
+        CommandFault::Json(fault) => format!(in alloc; "{fault}")?,
+        CommandFault::Certificate(fault) => format!(in alloc; "{fault}")?,
         CommandFault::Script(fault) => format!(in alloc; "{fault}")?,
         CommandFault::Audit(fault) => audit_fault(alloc, fault)?,
         CommandFault::Work(fault) => worker_fault(alloc, fault)?,

@@ -2,7 +2,6 @@
 //! of programs, runs scripts, audits histories, and does jobs on threads.
 #![tactic(auto)]
 
-mod analysis_fault;
 mod command_fault;
 mod command_line;
 mod commands;
