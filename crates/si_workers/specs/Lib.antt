@@ -13,6 +13,7 @@ pub mod Limits
 pub mod OutcomeIn
 pub mod Outcomes
 pub mod Settled
+pub mod Stops
 pub mod Tally
 pub mod Texts
 pub mod Told

@@ -17,7 +17,7 @@ use Rattle.si_workers.specs.declared.job.Job.{Job}
 use Rattle.si_workers.specs.declared.job.JobEnd.{JobEnd}
 use Rattle.si_workers.specs.declared.job.JobEnd.TheVariants as end
 use Rattle.si_workers.specs.declared.job.JobOutcome.{JobOutcome}
-use Rattle.si_workers.specs.declared.worker.Stop.{Stop}
+use Rattle.si_workers.specs.declared.stop.Stop.{Stop}
 
 -- ---- a worker
 

@@ -16,6 +16,7 @@ mod limits;
 mod notes;
 mod run;
 mod shared;
+mod stop;
 mod tally;
 mod threads;
 mod told;

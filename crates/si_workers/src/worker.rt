@@ -10,10 +10,11 @@ ghost use Rattle.si_workers.specs.Work.{AreDrawn, HasCause, HasReplies, IsDrawn,
 use crate::desk::Desk;
 use crate::job::{Job, JobEnd, JobOutcome};
 use crate::limits::{MAX_JOBS, VACUUM_AFTER};
-use history_book::{BeginFault, CommitFault, EndFault, ScanFault, Ticket, Unused};
+use crate::stop::Stop;
+use history_book::{BeginFault, CommitFault, EndFault, Ticket, Unused};
 use job_counter::{Counter, Pass};
 use prog_check::ProgramSet;
-use prog_run::{AnswerFault, Next, Run};
+use prog_run::{Next, Run};
 use prog_tree::{Cause, Cell, End, Region, Sequence};
 use std::alloc::Global;
 
@@ -23,15 +24,6 @@ pub struct Done {
     pub pass: Pass,
     pub reports: Vec<(usize, JobOutcome)>,
     pub no_memory: bool,
-}
-
-/// Why a job has no outcome.
-#[derive(Clone, Copy, PartialEq, Eq)]
-pub enum Stop {
-    /// The book does not know the instance, or takes the run for a foreign one; or the run did not
-    /// take an answer.
-    Lost,
-    NoMemory,
 }
 
 // The rows of a region, which the book is not asked for where the run has just looked at it.
@@ -46,16 +38,9 @@ fn rows_for<'a, D: Desk<'a>>(
     ensures { D.ended desk.new ≡ D.ended desk.old }
 {
     if let Some(rows) = run.rows_again(region) {
-        let Ok(rows) = Sequence::from_slice(alloc, rows) else {
-            return Err(Stop::NoMemory);
-        };
-        return Ok(rows);
+        return Ok(Sequence::from_slice(alloc, rows)?);
     }
-    match desk.scan(job, ticket, region) {
-        Ok(rows) => Ok(rows),
-        Err(ScanFault::Memory) => Err(Stop::NoMemory),
-        Err(ScanFault::NoSuchTicket) => Err(Stop::Lost),
-    }
+    Ok(desk.scan(job, ticket, region)?)
 }
 
 // One step of a run, with what it asks for read in the book.
@@ -68,26 +53,17 @@ fn step<'a, D: Desk<'a>>(
 ) -> Result<Next, Stop>
     ensures { D.ended desk.new ≡ D.ended desk.old }
 {
-    let Ok(next) = run.advance() else {
-        return Err(Stop::NoMemory);
-    };
-    let answered = match next {
+    let next = run.advance()?;
+    match next {
         Next::Get(cell) => {
-            let Ok(held) = desk.get(job, ticket, &cell) else {
-                return Err(Stop::Lost);
-            };
-            run.answer_get(held)
+            let held = desk.get(job, ticket, &cell)?;
+            Ok(run.answer_get(held)?)
         }
         Next::Scan(region) => {
             let rows = rows_for(alloc, desk, job, ticket, run, &region)?;
-            run.answer_scan(rows)
+            Ok(run.answer_scan(rows)?)
         }
         next => Ok(next),
-    };
-    match answered {
-        Ok(next) => Ok(next),
-        Err(AnswerFault::Memory) => Err(Stop::NoMemory),
-        Err(_) => Err(Stop::Lost),
     }
 }
 
