@@ -10,7 +10,7 @@ use Rattle.prog_check.specs.declared.path.Kind.TheVariants.{Reads, Writes}
 use Rattle.prog_check.specs.declared.path.Path.{Path}
 use Rattle.dep_graph.specs.declared.danger.Danger.{Danger}
 use Rattle.dep_graph.specs.declared.danger.Exposure.{Exposure}
-use Rattle.sirob.specs.Refusal.{node_head, sample_text, refusal_text}
+use Rattle.sirob.specs.Refusal.{path_name, path_params, sample_text, refusal_text}
 
 -- a program that copies the row of one key to another
 abbrev copies : Name → ℤ → ℤ → ProgramTree
@@ -40,14 +40,20 @@ unfolding digits
 refused_pair = refl
 
 -- a program of two parameters, and a path of it through three branches
-abbrev branching : ProgramTree
-branching = record { name = codes "P"; params = codes "k" ∷ codes "v" ∷ []; body = BlockEnd }
+abbrev branching : DraftTree
+branching = record {
+  tables = [];
+  programs = record { name = codes "P"; params = codes "k" ∷ codes "v" ∷ []; body = BlockEnd } ∷ [];
+}
 
 abbrev way : Path
 way = record { program = 0; choices = true ∷ false ∷ true ∷ []; accesses = [] }
 
-letter_for_each_branch : node_head (branching ∷ []) (way ∷ []) 0 ≡ (codes "P:tet", 2)
+letter_for_each_branch : path_name branching (way ∷ []) 0 ≡ codes "P:tet"
 letter_for_each_branch = refl
+
+both_parameters : path_params branching (way ∷ []) 0 ≡ 2
+both_parameters = refl
 
 -- a parameter without a choice is 0
 chosen_numbers : sample_text (record { node = Mine 1; number = neg_ℤ (pos 3) } ∷ []) 2 1 ≡ codes "(0, -3) (0)"

@@ -4,9 +4,10 @@ use Rattle.std.specs.Fmt.{decimal}
 use Rattle.std.specs.List.{flat_map, range_with_len}
 use Rattle.order_facts.specs.Sample.{sample_number}
 use Rattle.order_facts.specs.declared.sample.Choice.{Choice}
-use Rattle.prog_tree.specs.Syntax.{Name, ProgramTree, DraftTree}
+use Rattle.prog_tree.specs.Syntax.{Name, DraftTree}
 use Rattle.prog_check.specs.declared.path.Path.{Path}
 use Rattle.prog_check.specs.Paths.{paths_of}
+use Rattle.fault_words.specs.Naming.{program_name, program_params}
 use Rattle.analysis_words.specs.Nodes.{branches_text}
 use Rattle.analysis_words.specs.Instances.{node_of}
 use Rattle.text_places.specs.Listing.{bracketed}
@@ -15,20 +16,22 @@ use Rattle.dep_graph.specs.declared.danger.Exposure.{Exposure}
 
 -- ---- nodes
 
--- the name of a program and how many parameters it has; one that is not there has no name and none
-abbrev pub head_of : Option ProgramTree → Name × ℕ
-head_of None = ([], 0)
-head_of (Some program) = (program.name, length program.params)
+-- the name of a path: its program's, with a letter for each branch
+abbrev pub name_along : DraftTree → Option Path → Name
+name_along set None = []
+name_along set (Some path) = program_name set path.program ++ branches_text path.choices
 
--- the same of the program of a path
-abbrev pub head_along : List ProgramTree → Option Path → Name × ℕ
-head_along programs None = ([], 0)
-head_along programs (Some path) =
-    let head = head_of (slice_get programs path.program) in (head.0 ++ branches_text path.choices, head.1)
+-- how many parameters the program of a path has
+abbrev pub params_along : DraftTree → Option Path → ℕ
+params_along set None = 0
+params_along set (Some path) = length (program_params set path.program)
 
--- the name of a node of some paths and how many parameters it has
-abbrev pub node_head : List ProgramTree → List Path → ℕ → Name × ℕ
-node_head programs paths node = head_along programs (slice_get paths node)
+-- the same of a node of some paths
+abbrev pub path_name : DraftTree → List Path → (node : ℕ) → Name
+path_name set paths node = name_along set (slice_get paths node)
+
+abbrev pub path_params : DraftTree → List Path → (node : ℕ) → ℕ
+path_params set paths node = params_along set (slice_get paths node)
 
 -- ---- samples
 
@@ -50,13 +53,12 @@ abbrev pub access_text : (node : ℕ) → Name → (access : ℕ) → List ℕ
 access_text node name access = decimal node ++ (codes ":" ++ (name ++ (codes " " ++ decimal access)))
 
 -- an exposed question with its sample, as `0:Balance 1, 4:WriteCheck:t 2, (0) (0, 0)`
-abbrev pub exposure_text : List ProgramTree → List Path → Exposure → List ℕ
-exposure_text programs paths e =
+abbrev pub exposure_text : DraftTree → List Path → Exposure → List ℕ
+exposure_text set paths e =
     let q = e.question in
-    let mine = node_head programs paths q.x in
-    let theirs = node_head programs paths q.y in
-    access_text q.x mine.0 q.a
-    ++ (codes ", " ++ (access_text q.y theirs.0 q.b ++ (codes ", " ++ sample_text e.sample mine.1 theirs.1)))
+    access_text q.x (path_name set paths q.x) q.a
+    ++ (codes ", " ++ (access_text q.y (path_name set paths q.y) q.b
+    ++ (codes ", " ++ sample_text e.sample (path_params set paths q.x) (path_params set paths q.y))))
 
 -- nodes, each behind a space
 abbrev pub nodes_text : List ℕ → List ℕ
@@ -65,6 +67,6 @@ nodes_text nodes = flat_map (λ n. codes " " ++ decimal n) nodes
 -- the refusal of a set: the two vulnerable edges, each by a question, and the way back
 abbrev pub refusal_text : DraftTree → Danger → List ℕ
 refusal_text set d =
-    let edge = exposure_text set.programs (paths_of set) in
+    let edge = exposure_text set (paths_of set) in
     codes "refused\nfirst " ++ (edge d.first ++ (codes "\nsecond " ++ (edge d.second
     ++ (codes "\nback" ++ (nodes_text d.back ++ codes "\n")))))

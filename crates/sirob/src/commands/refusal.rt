@@ -1,56 +1,44 @@
 //! The text that refuses a set.
-ghost use Rattle.std.specs.Prelude.{◌≡◌, IfOk, map, slice_get, string_bytes};
-ghost use Rattle.prog_tree.specs.Tree.{draft_tree, program_tree};
-ghost use Rattle.sirob.specs.Refusal.{head_of, node_head, access_text, sample_numbers, sample_text, exposure_text, nodes_text, refusal_text};
+ghost use Rattle.std.specs.Prelude.{◌≡◌, IfOk, string_bytes};
+ghost use Rattle.prog_tree.specs.Tree.{draft_tree};
+ghost use Rattle.sirob.specs.Refusal.{path_name, path_params, access_text, sample_numbers, sample_text, exposure_text, nodes_text, refusal_text};
 
 use analysis_words::{branches_text, node_of};
 use conflict_pairs::Question;
 use dep_graph::{Danger, Exposure};
+use fault_words::{program_name, program_params};
 use order_facts::Sample;
 use prog_check::{Path, ProgramSet};
 use prog_paths::paths;
-use prog_tree::Program;
 use std::alloc::{AllocError, Global};
 use text_places::bracketed;
 
-// The name of a program, and how many parameters it has.
-fn program_head(programs: &[Program], number: usize) -> (&str, usize)
-    ensures name { result.0.now
-        ≡ (head_of (slice_get (map program_tree programs.now) number)).0 }
-    ensures params { result.1 ≡ (head_of (slice_get (map program_tree programs.now) number)).1 }
-{
-    match programs.get(number) {
-        None => ("", 0),
-        Some(program) => (program.name.as_str(), program.params.len()),
-    }
-}
-
-// What is told of a node: its name, and how many parameters it has.
-#[derive(Drop)]
-struct NodeHead {
-    name: String,
-    params: usize,
-}
-
-fn node_head(
+// The name of a node: that of its path's program, with a letter for each branch.
+fn path_name(
     alloc: Global,
-    programs: &[Program],
+    set: &ProgramSet,
     paths: &[Path],
     node: usize,
-) -> Result<NodeHead, AllocError>
-    ensures name { IfOk result (λ head. string_bytes head.name
-        ≡ (node_head (map program_tree programs.now) paths.now node).0) }
-    ensures params { IfOk result (λ head. head.params
-        ≡ (node_head (map program_tree programs.now) paths.now node).1) }
+) -> Result<String, AllocError>
+    ensures { IfOk result (λ name. string_bytes name
+        ≡ path_name (draft_tree set.now) paths.now node) }
 {
     let Some(path) = paths.get(node) else {
-        let name = String::new(alloc);
-        return Ok(NodeHead { name, params: 0 });
+        return Ok(String::new(alloc));
     };
-    let (program, params) = program_head(programs, path.program);
+    let program = program_name(set, path.program);
     let branches = branches_text(alloc, path.choices.as_slice())?;
-    let name = format!(in alloc; "{program}{branches}")?;
-    Ok(NodeHead { name, params })
+    format!(in alloc; "{program}{branches}")
+}
+
+// How many parameters the program of a node's path has.
+fn path_params(set: &ProgramSet, paths: &[Path], node: usize) -> usize
+    ensures { result ≡ path_params (draft_tree set.now) paths.now node }
+{
+    match paths.get(node) {
+        Some(path) => program_params(set.draft(), path.program).len(),
+        None => 0,
+    }
 }
 
 // The numbers that a sample gives the parameters of the first or of the second of its nodes.
@@ -95,19 +83,21 @@ fn access_text(alloc: Global, node: usize, name: &str, access: usize) -> Result<
 // An exposed question with its sample.
 fn exposure_text(
     alloc: Global,
-    programs: &[Program],
+    set: &ProgramSet,
     paths: &[Path],
     exposure: &Exposure,
 ) -> Result<String, AllocError>
     ensures { IfOk result (λ text. string_bytes text
-        ≡ exposure_text (map program_tree programs.now) paths.now exposure.now) }
+        ≡ exposure_text (draft_tree set.now) paths.now exposure.now) }
 {
     let Question { x, a, y, b, .. } = exposure.question;
-    let mine = node_head(alloc, programs, paths, x)?;
-    let theirs = node_head(alloc, programs, paths, y)?;
-    let first = access_text(alloc, x, mine.name.as_str(), a)?;
-    let second = access_text(alloc, y, theirs.name.as_str(), b)?;
-    let sample = sample_text(alloc, &exposure.sample, mine.params, theirs.params)?;
+    let mine = path_name(alloc, set, paths, x)?;
+    let theirs = path_name(alloc, set, paths, y)?;
+    let first = access_text(alloc, x, mine.as_str(), a)?;
+    let second = access_text(alloc, y, theirs.as_str(), b)?;
+    let my_params = path_params(set, paths, x);
+    let their_params = path_params(set, paths, y);
+    let sample = sample_text(alloc, &exposure.sample, my_params, their_params)?;
     format!(in alloc; "{first}, {second}, {sample}")
 }
 
@@ -127,10 +117,9 @@ pub fn refusal_text(alloc: Global, set: &ProgramSet, danger: &Danger) -> Result<
     ensures { IfOk result (λ text. string_bytes text
         ≡ refusal_text (draft_tree set.now) danger.now) }
 {
-    let programs = set.draft().programs.as_slice();
     let paths = paths(alloc, set)?;
-    let first = exposure_text(alloc, programs, paths.as_slice(), &danger.first)?;
-    let second = exposure_text(alloc, programs, paths.as_slice(), &danger.second)?;
+    let first = exposure_text(alloc, set, paths.as_slice(), &danger.first)?;
+    let second = exposure_text(alloc, set, paths.as_slice(), &danger.second)?;
     let back = nodes_text(alloc, danger.back.as_slice())?;
     format!(in alloc; "refused\nfirst {first}\nsecond {second}\nback{back}\n")
 }
