@@ -1,7 +1,7 @@
 //! The lines on which the events of a script stand.
-ghost use Rattle.std.specs.Prelude.{◌<◌, length};
 
 use crate::forms::is_event;
+use si_engine::cut;
 use text_places::{as_text, behind};
 
 /// How far a script was read to find the line of an event.
@@ -12,18 +12,6 @@ pub struct EventLines {
     line: usize,
     // How many events stand on the lines so far.
     events: usize,
-}
-
-// The bytes before the first separator, and those behind it.
-fn cut(bytes: &[u8], separator: u8) -> (&[u8], &[u8])
-    ensures shorter { 0 < length bytes.now → length result.1.now < length bytes.now }
-{
-    let len = bytes.iter().take_while(|byte| **byte != separator).count();
-    let (first, behind) = bytes.split_at(len);
-    match behind {
-        [] => (first, behind),
-        [_, rest @ ..] => (first, rest),
-    }
 }
 
 // The first word of a line, and what stands behind it.

@@ -3,7 +3,7 @@ ghost use Rattle.std.specs.Prelude.{IfOk, string_bytes};
 ghost use Rattle.run_words.specs.Shown.{IsShownWord};
 
 use crate::limits::MAX_WORD;
-use si_engine::line_words;
+use si_engine::{line_words, without_return};
 use std::alloc::{AllocError, Global};
 use text_places::{as_text, before, line_at, visible_text};
 
@@ -19,10 +19,7 @@ pub fn words_of(alloc: Global, line: &[u8]) -> Result<Vec<&str>, AllocError> {
 
 /// The line that begins at a place, without what ends it.
 pub fn line_bytes(part: &[u8], front: usize) -> &[u8] {
-    match line_at(part, front) {
-        [rest @ .., b'\r'] => rest,
-        bytes => bytes,
-    }
+    without_return(line_at(part, front))
 }
 
 /// A word as people are told of it: of a long one a first part.

@@ -4,8 +4,8 @@ use example_sets::set_of;
 use prog_check::ProgramSet;
 use prog_tree::{Cell, Rows};
 use si_engine::{
-    Bytes, Records, add_row, is_skipped, line_words, number_between, numbers, program_number,
-    read_part, row_line, unsigned,
+    Bytes, Records, add_row, cut, is_skipped, line_words, number_between, numbers, program_number,
+    read_part, row_line, unsigned, without_return,
 };
 use std::alloc::Global;
 use std::process::Abort;
@@ -44,6 +44,14 @@ fn numbers_are_read(rt: HostRuntime) {
     assert!(rt; number_between(1, 64, b"64") == Some(64));
     assert!(rt; unsigned(b"18446744073709551615") == Some(u64::MAX));
     assert!(rt; is_skipped(b"# Find"));
+}
+
+#[test]
+fn lines_are_cut(rt: HostRuntime) {
+    let (first, rest) = cut(b"step 0\r\ncommit 0", b'\n');
+    assert!(rt; without_return(first) == b"step 0".as_slice());
+    let (last, behind) = cut(rest, b'\n');
+    assert!(rt; last == b"commit 0".as_slice() && behind.is_empty());
 }
 
 const PART: &[u8] = b"# rows\nrow s 1 = 2\nrecord Look 1 at 0 gives 1\n";

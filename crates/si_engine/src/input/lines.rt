@@ -25,7 +25,8 @@ pub fn cut_around<T>(items: &[T], place: usize) -> (&[T], &[T])
     }
 }
 
-/// The bytes before the first separator and those behind it, of which there are none if there is no separator.
+/// The bytes before the first separator and those behind it, of which there are none if there is no
+/// separator.
 pub fn cut(bytes: &[u8], separator: u8) -> (&[u8], &[u8])
     ensures first { result.0.now ≡ before_first (λ b. b == separator) bytes.now }
     ensures rest { result.1.now ≡ after_first (λ b. b == separator) bytes.now }
