@@ -17,8 +17,8 @@ line_number text place = count_by is_feed (take place text) + 1
 abbrev pub ends_line : List ℕ → Bool
 ends_line bytes = list_all is_feed (drop (length bytes - 1) bytes)
 
-abbrev pub is_space : ℕ → Bool
-is_space byte = byte == 32
+abbrev pub is_indent : ℕ → Bool
+is_indent byte = byte == 32
 
 -- how many bytes of its line stand before the place
 abbrev pub inset : (text : List ℕ) → (place : ℕ) → ℕ
@@ -34,7 +34,7 @@ line_start text place = length (take place text) - inset text place
 
 -- in its line only spaces stand before the place
 abbrev pub begins_line : (text : List ℕ) → (place : ℕ) → Bool
-begins_line text place = list_all is_space (drop (line_start text place) (take place text))
+begins_line text place = list_all is_indent (drop (line_start text place) (take place text))
 
 -- the line of the place, without its line feed
 abbrev pub line_at : (text : List ℕ) → (place : ℕ) → List ℕ

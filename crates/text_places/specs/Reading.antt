@@ -1,15 +1,8 @@
 -- The words, blanks and comments of a text that may have any fault.
-use Rattle.std.specs.Prelude.{ℕ, ◌-◌, ◌==◌, Bool, false, not, ◌&&◌, ◌||◌, List, [], ◌∷◌, drop, length, nat_le, take, if◌then◌else◌}
+use Rattle.std.specs.Prelude.{ℕ, ◌-◌, ◌==◌, Bool, false, not, ◌&&◌, ◌||◌, List, [], ◌∷◌, drop, length, take, if◌then◌else◌}
 use Rattle.std.specs.List.{prefix_len, suffix_len}
+use Rattle.prog_text.specs.Lexing.{is_space, is_word_byte}
 use Rattle.text_places.specs.Places.{is_feed}
-
--- a letter, a digit or `_`
-abbrev pub is_word_byte : ℕ → Bool
-is_word_byte b = ((nat_le 65 b && nat_le b 90) || (nat_le 97 b && nat_le b 122)) || ((nat_le 48 b && nat_le b 57) || b == 95)
-
--- what separates words and signs
-abbrev pub is_blank : ℕ → Bool
-is_blank byte = (byte == 32 || byte == 9) || (byte == 10 || byte == 13)
 
 -- a byte belongs to a comment: one is open, or the byte begins one, and no line feed ends it
 abbrev pub is_in_comment : (is_open : Bool) → ℕ → Bool
@@ -25,10 +18,10 @@ abbrev pub without_comments : List ℕ → List ℕ
 without_comments text = blank_from false text
 
 abbrev pub behind_blanks : List ℕ → List ℕ
-behind_blanks bytes = drop (prefix_len is_blank bytes) bytes
+behind_blanks bytes = drop (prefix_len is_space bytes) bytes
 
 abbrev pub before_blanks : List ℕ → List ℕ
-before_blanks bytes = take (length bytes - suffix_len is_blank bytes) bytes
+before_blanks bytes = take (length bytes - suffix_len is_space bytes) bytes
 
 -- the word at the front
 abbrev pub first_word : List ℕ → List ℕ
@@ -56,7 +49,7 @@ begins_word text place = stands_free text place && not (prefix_len is_word_byte 
 
 -- where the last word or sign before a place ends, in a text without comments: behind it stand only blanks
 abbrev pub last_end : (plain : List ℕ) → (place : ℕ) → ℕ
-last_end plain place = length (take place plain) - suffix_len is_blank (take place plain)
+last_end plain place = length (take place plain) - suffix_len is_space (take place plain)
 
 -- the same in any text: behind it stand only blanks and comments
 abbrev pub end_before : (text : List ℕ) → (place : ℕ) → ℕ

@@ -1,7 +1,8 @@
 -- The words and signs of a text that may have any fault.
 use Rattle.std.specs.Prelude.{ℕ, ◌-◌, ◌==◌, Bool, false, not, ◌&&◌, ◌||◌, List, [], ◌∷◌, drop, length, take, if◌then◌else◌}
 use Rattle.std.specs.List.{before_first, prefix_len, suffix_len}
-use Rattle.text_places.specs.Reading.{before_blanks, behind_blanks, is_blank, is_word_byte, last_word, stands_free}
+use Rattle.prog_text.specs.Lexing.{is_space, is_word_byte}
+use Rattle.text_places.specs.Reading.{before_blanks, behind_blanks, last_word, stands_free}
 
 -- two bytes are one sign: `..`, `<=`, `>=`, `==` or `!=`
 abbrev pub is_double : (first second : ℕ) → Bool
@@ -39,7 +40,7 @@ last_token bytes = drop (length bytes - last_token_len bytes) bytes
 -- no blank stands at the front, and a word does only where a word may begin
 abbrev pub begins_by : (is_free : Bool) → List ℕ → Bool
 begins_by is_free [] = false
-begins_by is_free (byte ∷ bytes) = not (is_blank byte) && (not (is_word_byte byte) || is_free)
+begins_by is_free (byte ∷ bytes) = not (is_space byte) && (not (is_word_byte byte) || is_free)
 
 -- a word or a sign begins here; each byte of a sign does
 abbrev pub begins_token : (text : List ℕ) → (place : ℕ) → Bool

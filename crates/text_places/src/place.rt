@@ -1,7 +1,7 @@
 //! The line and the column of a place. A place behind the end of a text stands for its end.
 ghost use Rattle.std.specs.Prelude.{◌≡◌, ◌≤◌, count_by, drop, length, take, IfNone, IfSome};
 ghost use Rattle.std.specs.List.{before_first, list_all};
-ghost use Rattle.text_places.specs.Places.{begins_line, column, ends_line, inset, is_feed, is_space, line_at, line_number, line_start, HasNoLine, IsLineFront};
+ghost use Rattle.text_places.specs.Places.{begins_line, column, ends_line, inset, is_feed, is_indent, line_at, line_number, line_start, HasNoLine, IsLineFront};
 
 use crate::byte_kind::{ByteKind, first_count, last_count};
 
@@ -58,16 +58,16 @@ pub fn ends_line(bytes: &[u8]) -> bool
     }
 }
 
-fn is_space(byte: u8) -> bool
-    ensures { result ≡ is_space byte }
+fn is_indent(byte: u8) -> bool
+    ensures { result ≡ is_indent byte }
 {
     byte == b' '
 }
 
-fn are_spaces(bytes: &[u8]) -> bool
-    ensures { result ≡ list_all is_space bytes.now }
+fn are_indents(bytes: &[u8]) -> bool
+    ensures { result ≡ list_all is_indent bytes.now }
 {
-    bytes.iter().all(|byte| is_space(*byte))
+    bytes.iter().all(|byte| is_indent(*byte))
 }
 
 /// How many bytes of its line stand before a place.
@@ -96,7 +96,7 @@ fn line_start(text: &[u8], place: usize) -> usize
 pub fn begins_line(text: &[u8], place: usize) -> bool
     ensures { result ≡ begins_line text.now place }
 {
-    are_spaces(behind(before(text, place), line_start(text, place)))
+    are_indents(behind(before(text, place), line_start(text, place)))
 }
 
 // The bytes before the first line feed.
