@@ -1,12 +1,11 @@
 -- The nearest of names, with one name more.
-use Rattle.std.proofs.Common.{◌≡◌, ◌<◌, ◌≤◌, ◌∙◌, ℕ, List, [], ◌∷◌, ◌++◌, ◌+◌, Option, Some, None, ap, arith, append_assoc, get_or, length, map, option_map, refl, subst, sym, take}
+use Rattle.std.proofs.Common.{◌≡◌, ◌<◌, ◌≤◌, ◌∙◌, ℕ, List, [], ◌∷◌, ◌++◌, ◌+◌, Option, Some, None, ap, arith, append_assoc, fold, get_or, length, map, option_map, refl, subst, sym, take}
 use Rattle.std.specs.Prelude.{All}
-use Rattle.std.specs.List.{flat_map}
-use Rattle.std.proofs.lemmas.List.{append-nil, map_push, take_more}
-use Rattle.std.proofs.lemmas.List.Concat.{flat_map-append}
+use Rattle.std.proofs.lemmas.List.{map_push, take_more}
 use Rattle.std.proofs.lemmas.List.Elements.{All-append, All-cons, All-nil, All-push, All-weaker}
-use Rattle.text_places.specs.Listing.{with_listed}
-use Rattle.fault_words.specs.Nearest.{IsNearest, edits, further, quoted, quoted_list, too_many_edits}
+use Rattle.std.proofs.lemmas.List.Sums.{fold-append}
+use Rattle.text_places.specs.Listing.{listed, with_listed}
+use Rattle.fault_words.specs.Nearest.{IsNearest, edits, quoted, too_many_edits}
 
 -- the fewest edits so far
 abbrev pub fewest_by : (word : List ℕ) → Option (List ℕ) → ℕ
@@ -58,20 +57,22 @@ no_nearer word names (Some near) name many found = record {
   least = All-push (λ other. edits word near ≤ edits word other) found.behind name found.least many;
 }
 
--- a list with one name more
-pub listed_more : (names : List (List ℕ)) (name : List ℕ)
-    → with_listed (quoted_list names) (quoted name) ≡ quoted_list (names ++ name ∷ [])
-listed_more [] name = sym (append-nil (quoted name))
-listed_more (first ∷ others) name =
-    append_assoc (quoted first) (flat_map further others) (further name)
-    ∙ ap (λ l. quoted first ++ l) (ap (λ l. flat_map further others ++ l) (sym (append-nil (further name)))
-    ∙ sym (flat_map-append further others (name ∷ [])))
-
 -- the texts of one name more
 texts_more : {X : Type 0} (text_of : X → List ℕ) (names : List X) (i : ℕ) (d : X) → i < length names
     → map text_of (take (i + 1) names) ≡ map text_of (take i names) ++ text_of (get_or names i d) ∷ []
 texts_more text_of names i d within =
     ap (map text_of) (take_more names i d within) ∙ map_push text_of (take i names) (get_or names i d)
+
+-- a list with one name more
+pub listed_more : {X : Type 0} (text_of : X → List ℕ) (names : List X) (i : ℕ) (d : X) → i < length names
+    → with_listed (listed (map quoted (map text_of (take i names)))) (quoted (text_of (get_or names i d)))
+    ≡ listed (map quoted (map text_of (take (i + 1) names)))
+listed_more text_of names i d within =
+    let before = map text_of (take i names) in
+    let name = text_of (get_or names i d) in
+    sym (ap (λ (l : List (List ℕ)). listed (map quoted l)) (texts_more text_of names i d within)
+    ∙ ap (fold with_listed []) (map_push quoted before name)
+    ∙ fold-append with_listed [] (map quoted before) (quoted name ∷ []))
 
 -- the same of names that are seen by their texts: one that takes fewer edits is the best of one more
 pub nearer_so_far : {X : Type 0} (text_of : X → List ℕ) (word : List ℕ) (names : List X) (i : ℕ) (d : X) (best after : Option X)

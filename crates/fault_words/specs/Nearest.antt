@@ -1,8 +1,8 @@
 -- The name that was meant by a word, and how people are told.
-use Rattle.std.specs.Prelude.{ℕ, ◌≡◌, ◌<◌, ◌≤◌, ◌⊎◌, All, List, [], ◌∷◌, ◌++◌, Option, Some, None, codes, length, min, nat_eq}
-use Rattle.std.specs.List.{flat_map}
+use Rattle.std.specs.Prelude.{ℕ, ◌≡◌, ◌<◌, ◌≤◌, ◌⊎◌, All, List, [], ◌∷◌, ◌++◌, Option, Some, None, codes, length, map, min, nat_eq}
 use Rattle.std.specs.Str.{chars}
 use Rattle.strsim.specs.Edits.{levenshtein_row}
+use Rattle.text_places.specs.Listing.{listed}
 
 -- how many characters have to be put in, taken out or changed to make a name of a word
 abbrev pub edits : (word name : List ℕ) → ℕ
@@ -33,18 +33,10 @@ IsMeant word names (Some near) = (length word ≤ most_meant) × IsNearest word 
 abbrev pub quoted : (name : List ℕ) → List ℕ
 quoted name = codes "`" ++ (name ++ codes "`")
 
-abbrev pub further : (name : List ℕ) → List ℕ
-further name = codes ", " ++ quoted name
-
--- names between backquotes, with commas between them
-abbrev pub quoted_list : (names : List (List ℕ)) → List ℕ
-quoted_list [] = []
-quoted_list (first ∷ others) = quoted first ++ flat_map further others
-
--- all of the names
+-- all of the names, between backquotes
 abbrev pub all_text : (names : List (List ℕ)) → List ℕ
 all_text [] = codes "there is none"
-all_text (first ∷ others) = codes "known are " ++ quoted_list (first ∷ others)
+all_text (first ∷ others) = codes "known are " ++ listed (map quoted (first ∷ others))
 
 abbrev pub known_text : (names : List (List ℕ)) → (meant : Option (List ℕ)) → List ℕ
 known_text names None = all_text names

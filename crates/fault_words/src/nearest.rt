@@ -1,6 +1,7 @@
 //! The name that was meant.
 ghost use Rattle.std.specs.Prelude.{◌≡◌, Contains, IfOk, IfSome, map, option_map, string_bytes};
-ghost use Rattle.fault_words.specs.Nearest.{IsMeant, TellsKnown, all_text, edits, quoted, quoted_list};
+ghost use Rattle.text_places.specs.Listing.{listed};
+ghost use Rattle.fault_words.specs.Nearest.{IsMeant, TellsKnown, all_text, edits, quoted};
 
 use crate::limits::{MAX_EDITS, MAX_MEANT};
 use std::alloc::{AllocError, Global};
@@ -48,7 +49,7 @@ fn quoted(alloc: Global, name: &str) -> Result<String, AllocError>
 // Names between backquotes, with commas between them.
 fn quoted_list(alloc: Global, names: &[&str]) -> Result<String, AllocError>
     ensures { IfOk result (λ list. string_bytes list
-        ≡ quoted_list (map (λ name. name.now) names.now)) }
+        ≡ listed (map quoted (map (λ name. name.now) names.now))) }
 {
     let mut list = String::new(alloc);
     for name in names {

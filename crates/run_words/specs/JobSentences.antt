@@ -1,11 +1,11 @@
 -- What is said of a job that did not commit.
-use Rattle.std.specs.Prelude.{ℕ, ℤ, pos, ◌≡◌, ◌-◌, ◌==◌, ⊤, if◌then◌else◌, List, [], ◌++◌, Option, Some, None, codes, fold, slice_index_or, length, map, slice_get, take}
+use Rattle.std.specs.Prelude.{ℕ, ℤ, pos, ◌≡◌, ◌-◌, ◌==◌, ⊤, if◌then◌else◌, List, [], ◌++◌, Option, Some, None, codes, slice_index_or, length, map, slice_get, take}
 use Rattle.std.specs.Fmt.{decimal, signed_decimal}
 use Rattle.std.specs.List.{range_with_len}
 use Rattle.prog_tree.specs.Syntax.{DraftTree, Name}
 use Rattle.prog_tree.specs.declared.deed.Cause.{Cause}
 use Rattle.prog_tree.specs.declared.deed.Cause.TheVariants.{Asked, Missing, Present, Overflow}
-use Rattle.text_places.specs.Listing.{with_listed}
+use Rattle.text_places.specs.Listing.{listed}
 use Rattle.fault_words.specs.Naming.{cell_text, program_name, program_params}
 use Rattle.version_store.specs.declared.clash.Clash.{Clash}
 use Rattle.si_workers.specs.declared.job.Job.{Job}
@@ -24,7 +24,7 @@ argument_at params args number = argument_text (slice_get params number) (slice_
 
 -- so many arguments, with commas
 abbrev pub arguments_to : List Name → List ℤ → (count : ℕ) → List ℕ
-arguments_to params args count = fold with_listed [] (map (argument_at params args) (range_with_len 0 count))
+arguments_to params args count = listed (map (argument_at params args) (range_with_len 0 count))
 
 abbrev pub arguments_text : List Name → List ℤ → List ℕ
 arguments_text params args = arguments_to params args (length args)

@@ -1,5 +1,5 @@
 -- Lists with commas.
-use Rattle.std.specs.Prelude.{ℕ, ℤ, List, [], ◌∷◌, ◌++◌, codes}
+use Rattle.std.specs.Prelude.{ℕ, ℤ, List, [], ◌∷◌, ◌++◌, codes, fold}
 use Rattle.std.specs.Fmt.{signed_decimal}
 use Rattle.std.specs.List.{flat_map}
 
@@ -10,6 +10,10 @@ comma_behind (byte ∷ bytes) = codes ", "
 
 abbrev pub with_listed : (list word : List ℕ) → List ℕ
 with_listed list word = list ++ (comma_behind list ++ word)
+
+-- words with commas between them
+abbrev pub listed : (words : List (List ℕ)) → List ℕ
+listed words = fold with_listed [] words
 
 -- numbers, each behind a comma
 abbrev pub further_numbers : List ℤ → List ℕ
