@@ -12,6 +12,7 @@ use Rattle.si_workers.specs.declared.job.Job.{Job}
 use Rattle.si_workers.specs.declared.job.JobEnd.{JobEnd}
 use Rattle.si_workers.specs.declared.job.JobEnd.TheVariants.{Aborted, Clashed}
 use Rattle.si_workers.specs.declared.job.JobOutcome.{JobOutcome}
+use Rattle.run_words.specs.Limits.{most_arguments}
 
 -- an argument with the name of its parameter, as `from = 3`; one that has no parameter stands alone
 abbrev pub argument_text : Option Name → ℤ → List ℕ
@@ -33,12 +34,12 @@ arguments_text params args = arguments_to params args (length args)
 abbrev pub further_arguments : (count : ℕ) → List ℕ
 further_arguments count = if count == 0 then [] else codes ", .."
 
--- the call of a job with its first twelve arguments, as `` `Transfer(from = 3, to = 5, amount = 20)` ``
+-- the call of a job with its first arguments, as `` `Transfer(from = 3, to = 5, amount = 20)` ``
 abbrev pub call_text : DraftTree → Job → List ℕ
 call_text set job =
     codes "`" ++ (program_name set job.program ++ (codes "("
-    ++ (arguments_text (program_params set job.program) (take 12 job.args)
-    ++ (further_arguments (length job.args - 12) ++ codes ")`"))))
+    ++ (arguments_text (program_params set job.program) (take most_arguments job.args)
+    ++ (further_arguments (length job.args - most_arguments) ++ codes ")`"))))
 
 -- why an instance aborts
 abbrev pub cause_text : DraftTree → Cause → List ℕ

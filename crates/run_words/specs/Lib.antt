@@ -3,6 +3,7 @@ pub mod EachLine
 pub mod InInput
 pub mod JobSentences
 pub mod JobSpots
+pub mod Limits
 pub mod LostJobs
 pub mod PartPointing
 pub mod Shown

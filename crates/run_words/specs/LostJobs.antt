@@ -14,6 +14,7 @@ use Rattle.si_workers.specs.Ways.{is_in}
 use Rattle.run_words.specs.EachLine.{TellsEach}
 use Rattle.run_words.specs.InInput.{input_line_text}
 use Rattle.run_words.specs.JobSentences.{IsJobSentence}
+use Rattle.run_words.specs.Limits.{most_told}
 
 -- a job ended in this way
 abbrev pub is_lost_by : Way → Option JobOutcome → Bool
@@ -51,14 +52,14 @@ TellsJob set jobs outcomes ahead part number line =
 abbrev pub more_text : (count : ℕ) → List ℕ
 more_text count = if count == 0 then [] else codes "  and " ++ (decimal count ++ codes " more\n")
 
--- how many jobs these are, behind a heading, a line for each of the first eight, as `tells` says, and how many more
+-- how many jobs these are, behind a heading, a line for each of the first ones, as `tells` says, and how many more
 -- there are; nothing where there is none
 abbrev pub TellsLost : (tells : ℕ → List ℕ → Type 0) → (heading : List ℕ) → (numbers : List ℕ) → (words : List ℕ) → Type 0
 TellsLost tells heading [] words = words ≡ []
 TellsLost tells heading (number ∷ numbers) words =
-    (lines : List ℕ) × TellsEach tells (take 8 (number ∷ numbers)) lines
+    (lines : List ℕ) × TellsEach tells (take most_told (number ∷ numbers)) lines
     × (words ≡ heading ++ (decimal (length (number ∷ numbers))
-    ++ (codes "\n" ++ (lines ++ more_text (length (number ∷ numbers) - 8)))))
+    ++ (codes "\n" ++ (lines ++ more_text (length (number ∷ numbers) - most_told)))))
 
 -- the jobs that were refused, then those that aborted, then those that clashed
 abbrev pub TellsLosses : (tells : ℕ → List ℕ → Type 0) → List JobOutcome → (words : List ℕ) → Type 0

@@ -4,6 +4,7 @@ use Rattle.std.specs.List.{starts_with}
 use Rattle.text_places.specs.Landmarks.{HasNoRecord, IsRecordPlace}
 use Rattle.text_places.specs.Places.{ends_line, HasNoLine, IsLineFront}
 use Rattle.fault_words.specs.Pointing.{PointsAt}
+use Rattle.history_book.specs.View.{most_endings}
 use Rattle.history_book.specs.declared.audit.AuditFault.{AuditFault}
 use Rattle.history_book.specs.declared.audit.AuditFault.TheVariants as a
 use Rattle.si_engine.specs.declared.input.line_fault.LineFault.{LineFault}
@@ -32,7 +33,7 @@ HasNoLineOf part None = ⊤
 
 -- the record that the line of a fault names; of too many, the first that is too much
 abbrev pub record_of_fault : AuditFault → Option ℕ
-record_of_fault a.Full = Some 100000
+record_of_fault a.Full = Some most_endings
 record_of_fault (a.Row number fault) = Some number
 record_of_fault a.Memory = None
 

@@ -9,6 +9,7 @@ use Rattle.si_engine.specs.declared.event.Reply.TheVariants as reply
 use Rattle.run_words.specs.declared.refusals.Refusals.{Refusals}
 use Rattle.run_words.specs.declared.refusals.Refused.{Refused}
 use Rattle.run_words.specs.EachLine.{TellsEach}
+use Rattle.run_words.specs.Limits.{most_told}
 use Rattle.run_words.specs.PartPointing.{PointsAtLineIn}
 
 -- those that are told, in order; none where memory ran out for them
@@ -73,10 +74,6 @@ IsOneMore before after = (after ≡ before) ⊎ ((refused : Refused) × (after �
 -- at most one line more is told, behind those before; where memory runs out for them, none is told any more
 abbrev pub TellsOneMore : (before after : Refusals) → Type 0
 TellsOneMore before after = IsOneMore (told_lines before) (told_lines after) ⊎ (after.is_lost ≡ true)
-
--- so many lines are told at most
-abbrev pub most_told : ℕ
-most_told = 8
 
 -- one more, up to the greatest count
 abbrev pub one_more : (count : ℕ) → ℕ

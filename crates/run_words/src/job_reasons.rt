@@ -2,6 +2,7 @@
 ghost use Rattle.std.specs.Prelude.{◌≡◌, IfOk, slice_get, string_bytes, take};
 ghost use Rattle.prog_tree.specs.Tree.{draft_tree};
 ghost use Rattle.run_words.specs.JobSentences.{argument_text, arguments_text, call_text, clash_text, further_arguments, tries_text, IsJobSentence, IsReason, IsSentence};
+ghost use Rattle.run_words.specs.Limits.{most_arguments};
 
 use crate::limits::MAX_ARGUMENTS;
 use crate::refusals::{full_words, wrong_arguments};
@@ -48,7 +49,7 @@ fn arguments_text(alloc: Global, params: &[Name], args: &[i64]) -> Result<String
 
 // The first arguments of a call.
 fn first_arguments(args: &[i64]) -> &[i64]
-    ensures { result.now ≡ take 12 args.now }
+    ensures { result.now ≡ take most_arguments args.now }
 {
     args.get(..MAX_ARGUMENTS).unwrap_or(args)
 }

@@ -3,6 +3,7 @@ ghost use Rattle.std.specs.Prelude.{◌≡◌, ◌++◌, [], ◌∷◌, List, �
 ghost use Rattle.prog_tree.specs.Tree.{draft_tree};
 ghost use Rattle.text_places.specs.Landmarks.{HasNoJob, IsJobPlace};
 ghost use Rattle.run_words.specs.EachLine.{TellsEach};
+ghost use Rattle.run_words.specs.Limits.{most_told};
 ghost use Rattle.run_words.specs.LostJobs.{is_lost_by, more_text, numbers_lost, place_text, IsJobLine, IsJobText, TellsJob, TellsLosses, TellsLost};
 
 use crate::in_input::{Part, input_line_text};
@@ -139,7 +140,7 @@ fn more_text(alloc: Global, count: usize) -> Result<String, AllocError>
 
 // The first ones of some numbers.
 fn first_ones(numbers: &[usize]) -> &[usize]
-    ensures { result.now ≡ take 8 numbers.now }
+    ensures { result.now ≡ take most_told numbers.now }
 {
     numbers.get(..MAX_TOLD).unwrap_or(numbers)
 }
@@ -153,7 +154,7 @@ fn first_lines(
 ) -> Result<String, AllocError>
     ensures { IfOk result (λ lines. TellsEach (TellsJob (draft_tree set.now) told.entry.jobs.now
         told.entry.outcomes.now told.entry.part.ahead.now told.entry.part.bytes.now)
-        (take 8 numbers.now) (string_bytes lines)) }
+        (take most_told numbers.now) (string_bytes lines)) }
 {
     let mut lines = String::new(alloc);
     push_jobs(alloc, set, told, first_ones(numbers), &mut lines)?;

@@ -1,5 +1,6 @@
 pub mod ByteKinds
 pub mod Landmarks
+pub mod Limits
 pub mod Listing
 pub mod Places
 pub mod Quotes

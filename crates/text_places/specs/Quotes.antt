@@ -1,18 +1,19 @@
 -- How people see a place of a text: its line and a mark under it.
 use Rattle.std.specs.Prelude.{ℕ, ◌-◌, ◌==◌, nat_lt, ◌&&◌, List, ◌++◌, codes, drop, map, replicate, take, if◌then◌else◌}
 use Rattle.std.specs.Fmt.{decimal}
+use Rattle.text_places.specs.Limits.{most_before, most_line}
 use Rattle.text_places.specs.Places.{column, inset, line_at, line_number}
 
 -- printable ASCII stands for itself, a tab for a space, and any other byte for a question mark
 abbrev pub visible : ℕ → ℕ
 visible byte = if nat_lt 31 byte && nat_lt byte 127 then byte else if byte == 9 then 32 else 63
 
--- of a long line sixty bytes before the place are shown, and a hundred in all
+-- of a long line so many bytes before the place are shown, and so many in all
 abbrev pub left_out : (text : List ℕ) → (place : ℕ) → ℕ
-left_out text place = inset text place - 60
+left_out text place = inset text place - most_before
 
 abbrev pub shown_line : (text : List ℕ) → (place : ℕ) → List ℕ
-shown_line text place = map visible (take 100 (drop (left_out text place) (line_at text place)))
+shown_line text place = map visible (take most_line (drop (left_out text place) (line_at text place)))
 
 -- a sign under the place
 abbrev pub mark : (text : List ℕ) → (place : ℕ) → List ℕ

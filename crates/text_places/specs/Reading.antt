@@ -2,6 +2,7 @@
 use Rattle.std.specs.Prelude.{ℕ, ◌-◌, ◌==◌, Bool, false, not, ◌&&◌, ◌||◌, List, [], ◌∷◌, drop, length, take, if◌then◌else◌}
 use Rattle.std.specs.List.{prefix_len, suffix_len}
 use Rattle.prog_text.specs.Lexing.{is_space, is_word_byte}
+use Rattle.text_places.specs.Limits.{short_len}
 use Rattle.text_places.specs.Places.{is_feed}
 
 -- a byte belongs to a comment: one is open, or the byte begins one, and no line feed ends it
@@ -27,9 +28,9 @@ before_blanks bytes = take (length bytes - suffix_len is_space bytes) bytes
 abbrev pub first_word : List ℕ → List ℕ
 first_word bytes = take (prefix_len is_word_byte bytes) bytes
 
--- the word at the front, of which eight bytes tell whether it is one of at most seven
+-- the word at the front, of which so many bytes tell whether it is a short one
 abbrev pub short_word : List ℕ → List ℕ
-short_word bytes = first_word (take 8 bytes)
+short_word bytes = first_word (take short_len bytes)
 
 -- the word at the end
 abbrev pub last_word : List ℕ → List ℕ

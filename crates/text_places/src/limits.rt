@@ -1,7 +1,10 @@
-//! How much of a long line is shown.
+//! How much of a long line is shown, and how much of a word is read.
 
-/// Bytes before the place.
+/// Bytes of a line before the place.
 pub const MAX_BEFORE: usize = 60;
 
-/// Bytes in all.
+/// Bytes of a line in all.
 pub const MAX_SHOWN: usize = 100;
+
+/// Bytes that tell whether a word is one of at most seven.
+pub const SHORT_WORD: usize = 8;

@@ -5,6 +5,7 @@ ghost use Rattle.prog_text.specs.Lexing.{is_space, is_word_byte};
 ghost use Rattle.text_places.specs.Reading.{before_blanks, begins_word, behind_blanks, behind_word, first_word, is_in_comment, last_end, last_word, short_word, stands_free, without_comments};
 
 use crate::byte_kind::{ByteKind, first_count, last_count};
+use crate::limits::SHORT_WORD;
 use crate::place::{before, behind};
 use std::alloc::{AllocError, Global};
 
@@ -74,7 +75,7 @@ pub fn first_word(bytes: &[u8]) -> &[u8]
 pub fn short_word(bytes: &[u8]) -> &[u8]
     ensures { result.now ≡ short_word bytes.now }
 {
-    first_word(before(bytes, 8))
+    first_word(before(bytes, SHORT_WORD))
 }
 
 /// The word at the end, empty where there is none.
