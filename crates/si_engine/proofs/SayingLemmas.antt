@@ -8,6 +8,7 @@ use Rattle.si_engine.specs.declared.input.line_fault.LineFault.TheVariants as f
 use Rattle.si_engine.specs.declared.input.part_fault.PartFault.TheVariants as fault
 use Rattle.si_engine.specs.declared.input.source.InputFault.{InputFault}
 use Rattle.si_engine.specs.declared.input.source.InputFault.TheVariants as i
+use Rattle.si_engine.specs.Limits.{input_limit}
 use Rattle.si_engine.specs.Lines.{lines_of}
 use Rattle.si_engine.specs.Reading.{CanGive, ForInput}
 use Rattle.si_engine.specs.RowLines.{◌>>=◌, Fails, IsFault}
@@ -96,15 +97,15 @@ longer_than n = (replicate (n + 1) 0, subst (λ (k : ℕ). n < k) (sym (length-r
 
 -- the bytes can't be had
 pub unread_part : {Y : Type 0} (read : List ℕ → Result Y LineFault) (f : InputFault) (left : Option (List ℕ)) (failed : Bool)
-    → (f ≡ i.TooLong → IfSome left (λ all. 16777216 < length all)) → (f ≡ i.ReadFault → failed ≡ true) → failed ≡ false
+    → (f ≡ i.TooLong → IfSome left (λ all. input_limit < length all)) → (f ≡ i.ReadFault → failed ≡ true) → failed ≡ false
     → ForInput left (λ part. IsPartFault (read part) part (fault.Input f))
-unread_part read i.TooLong None failed long fails works = let input = longer_than 16777216 in (input.0, tt, input.1)
+unread_part read i.TooLong None failed long fails works = let input = longer_than input_limit in (input.0, tt, input.1)
 unread_part read i.TooLong (Some bytes) failed long fails works = (bytes, refl, long refl)
 unread_part read i.ReadFault left failed long fails works = let never : true ≡ false = sym (fails refl) ∙ works in absurd (cc)
 unread_part read i.Memory None failed long fails works = ([], tt, tt)
 unread_part read i.Memory (Some bytes) failed long fails works = (bytes, refl, tt)
 
 -- the bytes can't be read without this fault
-pub fault_here : {Y : Type 0} (read : List ℕ → Result Y LineFault) (left : Option (List ℕ)) (items part : List ℕ) (f : LineFault) → part ≡ items → length items ≤ 16777216
+pub fault_here : {Y : Type 0} (read : List ℕ → Result Y LineFault) (left : Option (List ℕ)) (items part : List ℕ) (f : LineFault) → part ≡ items → length items ≤ input_limit
     → CanGive left items → Fails f (read part) → ForInput left (λ bytes. IsPartFault (read bytes) bytes (fault.Line f))
 fault_here read left items part f same short can fails = (items, can, (short, subst (λ (p : List ℕ). Fails f (read p)) same fails))

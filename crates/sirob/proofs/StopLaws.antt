@@ -21,6 +21,7 @@ use Rattle.si_engine.specs.declared.input.part_fault.PartFault.{PartFault}
 use Rattle.si_engine.specs.declared.input.part_fault.PartFault.TheVariants as s
 use Rattle.si_engine.specs.declared.input.source.InputFault.{InputFault}
 use Rattle.si_engine.specs.declared.input.source.InputFault.TheVariants as i
+use Rattle.si_engine.specs.Limits.{input_limit}
 use Rattle.si_engine.specs.Reading.{CanGive, ForInput}
 use Rattle.si_engine.specs.Records.{records_of, IsRecords, IsRecordsFault}
 use Rattle.si_engine.specs.RowLines.{Fails}
@@ -51,7 +52,7 @@ stops_at_once mode input f h = ((λ no_memory. (h no_memory, refl)), (λ memory.
 
 -- reading this input stopped
 stops_at : (mode : Mode) (f : InputFault) (input : List ℕ) (failed : Bool)
-    → (f ≡ i.TooLong → 16777216 < length input) → (f ≡ i.ReadFault → failed ≡ true) → failed ≡ false → IsStop mode input (fault.Input f) []
+    → (f ≡ i.TooLong → input_limit < length input) → (f ≡ i.ReadFault → failed ≡ true) → failed ≡ false → IsStop mode input (fault.Input f) []
 stops_at mode i.TooLong input failed long fails works = stops_at_once mode input (fault.Input i.TooLong) (λ e. long refl)
 stops_at mode i.ReadFault input failed long fails works =
     let never : true ≡ false = sym (fails refl) ∙ works in absurd (cc)
@@ -64,10 +65,10 @@ longer_than n = (replicate (n + 1) 0, subst (λ (k : ℕ). n < k) (sym (length-r
 -- reading stopped
 stops_reading :
     (mode : Mode) (f : InputFault) (left : Option (List ℕ)) (failed : Bool)
-    → (f ≡ i.TooLong → IfSome left (λ all. 16777216 < length all)) → (f ≡ i.ReadFault → failed ≡ true) → failed ≡ false
+    → (f ≡ i.TooLong → IfSome left (λ all. input_limit < length all)) → (f ≡ i.ReadFault → failed ≡ true) → failed ≡ false
     → ForInput left (λ input. IsStop mode input (fault.Input f) [])
 stops_reading mode f None failed long fails works =
-    let input = longer_than 16777216 in (input.0, tt, stops_at mode f input.0 failed (λ e. input.1) fails works)
+    let input = longer_than input_limit in (input.0, tt, stops_at mode f input.0 failed (λ e. input.1) fails works)
 stops_reading mode f (Some bytes) failed long fails works = (bytes, refl, stops_at mode f bytes failed long fails works)
 
 -- a fault up to the text is one of the input
@@ -124,7 +125,7 @@ line_fails read (l.TooManyEvents n) wrong no_memory = wrong
 line_fails read l.Memory wrong no_memory = absurd (cc)
 
 -- a fault of a part that is no longer than an input may be is one of its lines
-part_fails : {Y : Type 0} (read : Result Y LineFault) (part : List ℕ) (Q : PartFault → Type 0) → length part ≤ 16777216
+part_fails : {Y : Type 0} (read : Result Y LineFault) (part : List ℕ) (Q : PartFault → Type 0) → length part ≤ input_limit
     → ((f : LineFault) → read ≡ Err f → Q (s.Line f)) → (f : PartFault) → IsPartFault read part f → is_memory (fault.Script f) ≡ false → Q f
 part_fails read part Q within told (s.Input i.TooLong) wrong no_memory = absurd (omega (arith, wrong, within))
 part_fails read part Q within told (s.Input i.ReadFault) wrong no_memory = absurd wrong
@@ -133,7 +134,7 @@ part_fails read part Q within told (s.Line f) wrong no_memory = told f (line_fai
 part_fails read part Q within told s.WriteFault wrong no_memory = absurd wrong
 
 -- a run of the script that a part is
-script_done : (robust : Bool) (set : DraftTree) (part : List ℕ) → MayRun robust set → length part ≤ 16777216
+script_done : (robust : Bool) (set : DraftTree) (part : List ℕ) → MayRun robust set → length part ≤ input_limit
     → (written : List ℕ) (inner : Result Serializability PartFault) → IsRunOf set part written inner → IfOk inner (MayEnd robust)
     → IsPartDone (Run robust) set part written (as_command inner)
 script_done robust set part may within _ _ (r.done script is finding written adds) ends = (inl (may, (finding, ends, script, is.read, adds, refl)), tt)
@@ -153,7 +154,7 @@ ends_freely (Ok finding) = tt
 ends_freely (Err f) = tt
 
 -- a run of the bytes at hand
-reply_done : (robust : Bool) (set : DraftTree) (left part : List ℕ) → MayRun robust set → left ≡ part → length part ≤ 16777216
+reply_done : (robust : Bool) (set : DraftTree) (left part : List ℕ) → MayRun robust set → left ≡ part → length part ≤ input_limit
     → (written : List ℕ) (inner : Result Serializability PartFault) → IsReplyOn robust set left false written inner → IsPartDone (Run robust) set part written (as_command inner)
 reply_done false set left part may same within written inner (input, is, run) =
     script_done false set part may within written inner (subst (λ (p : List ℕ). IsRunOf set p written inner) (is ∙ same) run) (ends_freely inner)
@@ -166,7 +167,7 @@ pub records_read : (set : DraftTree) (left part : List ℕ) (records : ItemList 
 records_read set left part records same (input, is, read) = subst (λ (p : List ℕ). records_of set p ≡ Ok records) (is ∙ same) read.read
 
 -- those that could not
-pub records_refused : (set : DraftTree) (left part : List ℕ) (f : PartFault) → left ≡ part → length part ≤ 16777216
+pub records_refused : (set : DraftTree) (left part : List ℕ) (f : PartFault) → left ≡ part → length part ≤ input_limit
     → ForInput (Some left) (λ part. IsRecordsFault set part f) → is_memory (fault.Script f) ≡ false → IsRefusedPart Audit set part (fault.Script f)
 records_refused set left part f same within (input, is, wrong) no_memory =
     part_fails (records_of set part) part (λ g. IsRefusedPart Audit set part (fault.Script g)) within (λ g e. e) f
@@ -178,7 +179,7 @@ pub jobs_read : (set : DraftTree) (left part : List ℕ) (list : ItemList Job) �
 jobs_read set left part list same (input, is, read) = subst (λ (p : List ℕ). jobs_of set p ≡ Ok list) (is ∙ same) read.read
 
 -- those that could not
-pub jobs_refused : (set : DraftTree) (left part : List ℕ) (f : PartFault) → left ≡ part → length part ≤ 16777216
+pub jobs_refused : (set : DraftTree) (left part : List ℕ) (f : PartFault) → left ≡ part → length part ≤ input_limit
     → ForInput (Some left) (λ part. IsJobsFault set part f) → is_memory (fault.Script f) ≡ false → IsRefusedJobs set part (fault.Script f)
 jobs_refused set left part f same within (input, is, wrong) no_memory =
     part_fails (jobs_of set part) part (λ g. IsRefusedJobs set part (fault.Script g)) within (λ g e. (g, refl, e)) f
@@ -399,7 +400,7 @@ not_broken false pulls before counted few none = refl
 not_broken true pulls before counted few none = let all = counted refl in absurd (omega (arith, all, few, none))
 
 pub part_run : (robust : Bool) (set : DraftTree) (left part : List ℕ) (broken failed : Bool) (old new : Option (List ℕ)) (inner : Result Serializability PartFault)
-    → MayRun robust set → left ≡ part → length part ≤ 16777216 → broken ≡ false → WritesOr (Err s.WriteFault) (IsReplyOn robust set left broken) failed old new inner
+    → MayRun robust set → left ≡ part → length part ≤ input_limit → broken ≡ false → WritesOr (Err s.WriteFault) (IsReplyOn robust set left broken) failed old new inner
     → WritesOr (Err write_lost) (IsPartDone (Run robust) set part) failed old new (as_command inner)
 part_run robust set left part true failed old new inner may same within works writes = absurd (cc)
 part_run robust set left part false failed old new inner may same within works writes =
@@ -426,7 +427,7 @@ done_of_part mode input set part failed old new ended two has writes =
 
 -- the source could not be read
 unread_source : (mode : Mode) (f : InputFault) (left : Option (List ℕ)) (source_failed : Bool)
-    → (f ≡ i.TooLong → IfSome left (λ all. 16777216 < length all)) → (f ≡ i.ReadFault → source_failed ≡ true) → (source_failed ≡ true → f ≡ i.ReadFault)
+    → (f ≡ i.TooLong → IfSome left (λ all. input_limit < length all)) → (f ≡ i.ReadFault → source_failed ≡ true) → (source_failed ≡ true → f ≡ i.ReadFault)
     → IsSourceDone mode left source_failed [] (Err (fault.Input f))
 unread_source mode f left true long fails is = (ap (λ (g : InputFault). Err (fault.Input g)) (is refl), refl)
 unread_source mode f left false long fails is =
@@ -434,7 +435,7 @@ unread_source mode f left false long fails is =
     (stop.0, stop.1, (tt, stop.2))
 
 pub read_stopped : (mode : Mode) (f : InputFault) (left : Option (List ℕ)) (source_failed failed : Bool) (old : Option (List ℕ)) → failed ≡ false
-    → (f ≡ i.TooLong → IfSome left (λ all. 16777216 < length all)) → (f ≡ i.ReadFault → source_failed ≡ true) → (source_failed ≡ true → f ≡ i.ReadFault)
+    → (f ≡ i.TooLong → IfSome left (λ all. input_limit < length all)) → (f ≡ i.ReadFault → source_failed ≡ true) → (source_failed ≡ true → f ≡ i.ReadFault)
     → WritesOr (Err write_lost) (IsSourceDone mode left source_failed) failed old old (Err (fault.Input f))
 read_stopped mode f left source_failed true old works long fails is = absurd (cc)
 read_stopped mode f left source_failed false old works long fails is = ([], unread_source mode f left source_failed long fails is, Appends-nil old)
