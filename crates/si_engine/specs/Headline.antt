@@ -23,7 +23,7 @@ use Rattle.si_engine.specs.Machine.{Machine, new_machine, replies_of, machine_af
 abbrev pub Exchange : Type 0
 Exchange = Event × Reply
 
--- what a begin asks for: the program of a number, with arguments
+-- a program by its number, and its arguments: what a begin asks for
 pub record Call : Type 0 where
   pub program : ℕ
   pub args : List ℤ

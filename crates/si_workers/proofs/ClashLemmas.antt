@@ -11,7 +11,8 @@ use Rattle.std.proofs.lemmas.List.Sums.{sum_by-cons}
 use Rattle.std.proofs.lemmas.Slice.Eq.{slice_eq-Decides}
 use Rattle.history_book.specs.declared.instances.row.Ending.{Ending}
 use Rattle.history_book.specs.declared.instances.row.Ending.TheVariants.{Committed, Clashed, Aborted}
-use Rattle.si_workers.specs.Calls.{Call, call_of, called_in, is_same_call}
+use Rattle.si_engine.specs.Headline.{Call}
+use Rattle.si_workers.specs.Calls.{call_of, called_in, is_same_call}
 use Rattle.si_workers.specs.KeptAndTold.{Tidings, is_clash_of, tries_in, clashes_of, clashes_kept, clashes_told}
 use Rattle.si_workers.specs.Outcomes.{AreAsMany, AreClashesTold, IsClashTold}
 use Rattle.si_workers.specs.declared.job.Job.{Job}

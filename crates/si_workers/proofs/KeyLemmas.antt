@@ -10,7 +10,8 @@ use Rattle.prog_tree.proofs.TableLemmas.{cell_total}
 use Rattle.prog_tree.specs.Table.{cell_cmp}
 use Rattle.prog_tree.specs.declared.deed.Cause.{Cause}
 use Rattle.version_store.specs.declared.clash.Clash.{Clash}
-use Rattle.si_workers.specs.Calls.{Call, is_same_call, is_same_cause, is_same_clash}
+use Rattle.si_engine.specs.Headline.{Call}
+use Rattle.si_workers.specs.Calls.{is_same_call, is_same_cause, is_same_clash}
 use Rattle.si_workers.specs.Keys.{call_at, cause_at, clash_at, call_cmp, cause_cmp, abort_cmp, clash_cmp}
 use Rattle.si_workers.specs.declared.call.AbortKey.{AbortKey}
 use Rattle.si_workers.specs.declared.call.CallKey.{CallKey}

@@ -8,7 +8,8 @@ use Rattle.si_workers.specs.declared.job.Job.{Job}
 use Rattle.si_workers.specs.declared.job.JobEnd.{JobEnd}
 use Rattle.si_workers.specs.declared.job.JobEnd.TheVariants as end
 use Rattle.si_workers.specs.declared.job.JobOutcome.{JobOutcome}
-use Rattle.si_workers.specs.Calls.{Call, call_of, called_in, is_same_call, is_same_cause, is_same_clash}
+use Rattle.si_engine.specs.Headline.{Call}
+use Rattle.si_workers.specs.Calls.{call_of, called_in, is_same_call, is_same_cause, is_same_clash}
 
 -- each job with what was told of it: its outcome, where there is exactly one
 abbrev pub Tidings : Type 0

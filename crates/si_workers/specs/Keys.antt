@@ -6,7 +6,7 @@ use Rattle.prog_tree.specs.Table.{cell_cmp}
 use Rattle.prog_tree.specs.declared.deed.Cause.{Cause}
 use Rattle.prog_tree.specs.declared.deed.Cause.TheVariants as cause
 use Rattle.version_store.specs.declared.clash.Clash.{Clash}
-use Rattle.si_workers.specs.Calls.{Call}
+use Rattle.si_engine.specs.Headline.{Call}
 use Rattle.si_workers.specs.contracts.call.CauseKeyOrd.TheImpl.{cmp-value}
 use Rattle.si_workers.specs.declared.call.AbortKey.{AbortKey}
 use Rattle.si_workers.specs.declared.call.CallKey.{CallKey}

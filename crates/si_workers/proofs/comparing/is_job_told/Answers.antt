@@ -1,6 +1,7 @@
 use Rattle.std.proofs.Common.{◌↔◌, ◌∙◌, ap, subst}
 use Rattle.std.specs.Prelude.{IsTrue}
-use Rattle.si_workers.specs.Calls.{Call, call_of}
+use Rattle.si_engine.specs.Headline.{Call}
+use Rattle.si_workers.specs.Calls.{call_of}
 use Rattle.si_workers.specs.Outcomes.{AreAsMany}
 use Rattle.si_workers.proofs.comparing.is_job_told.Goals as goal
 

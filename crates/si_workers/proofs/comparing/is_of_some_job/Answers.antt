@@ -1,7 +1,7 @@
 use Rattle.std.proofs.Common.{◌↔◌, ◌<◌, sym, subst}
 use Rattle.std.specs.Prelude.{IsTrue}
 use Rattle.history_book.specs.declared.instances.row.Ending.{Ending}
-use Rattle.si_workers.specs.Calls.{Call}
+use Rattle.si_engine.specs.Headline.{Call}
 use Rattle.si_workers.specs.KeptAndTold.{aborts_told}
 use Rattle.si_workers.specs.Outcomes.{IsOfSomeJob}
 use Rattle.si_workers.proofs.comparing.is_of_some_job.Goals as goal
