@@ -10,7 +10,7 @@ use text_places::{as_text, before, line_at, visible_text};
 /// The words of a line, which spaces part; empty where one is no text.
 pub fn words_of(alloc: Global, line: &[u8]) -> Result<Vec<&str>, AllocError> {
     let found = line_words(alloc, line)?;
-    let mut words = Vec::new(alloc);
+    let mut words = Vec::with_capacity(alloc, found.as_slice().len())?;
     for word in found.as_slice() {
         words.push(as_text(word.as_bytes()))?;
     }

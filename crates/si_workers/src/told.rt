@@ -87,7 +87,7 @@ impl<'j> Tiding<'j> {
 fn nothing_told(alloc: Global, jobs: &[Job]) -> Result<Vec<Told>, AllocError>
     ensures { IfOk result (λ told. told.items ≡ map (λ job. Nothing) jobs.now) }
 {
-    let mut told = Vec::new(alloc);
+    let mut told = Vec::with_capacity(alloc, jobs.len())?;
     for _job in jobs {
         told.push(Told::Nothing)?;
     }
@@ -133,7 +133,7 @@ fn tidings(alloc: Global, jobs: &[Job], told: Vec<Told>) -> Result<Vec<Tiding<'_
     ensures told { IfOk result (λ tidings.
         map (λ t. t.1) tidings.items ≡ map outcome_in told.items) }
 {
-    let mut tidings = Vec::new(alloc);
+    let mut tidings = Vec::with_capacity(alloc, told.len())?;
     for one in told {
         let job = &jobs[tidings.len()];
         tidings.push(Tiding::of(job, one))?;
