@@ -13,7 +13,7 @@ use Rattle.prog_tree.specs.Literals.{HasI64Literals}
 use Rattle.prog_tree.specs.Number.{IsI64}
 use Rattle.prog_tree.specs.Syntax.{Name, Literal, Named, One, BlockEnd, Then, ProgramTree, DraftTree}
 use Rattle.prog_tree.specs.Syntax as s
-use Rattle.prog_tree.specs.Table.{is_same_cell, IsI64Row}
+use Rattle.prog_tree.specs.Table.{is_same_cell, TableState, IsI64Row}
 use Rattle.prog_tree.proofs.TableStates.{cell_is}
 use Rattle.prog_check.specs.Paths.{paths_of}
 use Rattle.prog_check.specs.Sound.{IsSound}
@@ -26,7 +26,7 @@ use Rattle.si_engine.specs.Robustness.{IsHistory}
 use Rattle.si_engine.proofs.CycleLaws.{law_of_cycles}
 
 -- a program that copies the row of one key to another
-abbrev copies : Name → ℤ → ℤ → ProgramTree
+abbrev pub copies : Name → ℤ → ℤ → ProgramTree
 copies name from to = record {
   name = name;
   params = [];
@@ -35,7 +35,7 @@ copies name from to = record {
       (Then (s.Put (codes "t") (One (Literal to)) (Named (codes "x"))) BlockEnd);
 }
 
-abbrev pair : DraftTree
+abbrev pub pair : DraftTree
 pair = record {
   tables = record { name = codes "t"; arity = arity.One; grow = false } ∷ [];
   programs = copies (codes "Left") (pos 1) (pos 2) ∷ copies (codes "Right") (pos 2) (pos 1) ∷ [];
@@ -88,79 +88,105 @@ alone cell c w h = cell_is c cell (go (is_same_cell c cell) h)
     go true k = refl
     go false k = absurd (cc)
 
-abbrev did : Instance → ChangeSet
-did b = (evaluation pair [] skew b).changes
+-- a program without parameters is called rightly without arguments
+pub called_plain : (set : DraftTree) (n : ℕ) (p : ProgramTree) → slice_get set.programs n ≡ Some p → length p.params ≡ 0 →
+    IsCalled set (instance_of n)
+called_plain set n p at none = (p, at, none, All-from_recursion IsI64 [] tt)
 
-left_writes : did (instance_of 0) ≡ record { cells = (second_cell, Some (pos 0)) ∷ []; kept = [] }
+-- one instance of each of two programs of a set
+module _ (set : DraftTree) (rows : TableState) where
+  abbrev pub did : Instance → ChangeSet
+  did b = (evaluation set rows skew b).changes
+
+  abbrev pub IsReady : Instance → Type 0
+  IsReady b = (evaluation set rows skew b).ending ≡ Ready
+
+  -- the instance changes one cell alone
+  abbrev pub ChangesTo : Instance → Cell → ℤ → Type 0
+  ChangesTo b cell value = did b ≡ record { cells = (cell, Some value) ∷ []; kept = [] }
+
+  abbrev Touched : Instance → Cell → Type 0
+  Touched b c = touches_cell (did b) c ≡ true
+
+  -- no cell is changed by both
+  tell_apart : (v w : ℤ) → ChangesTo (instance_of 0) second_cell v → ChangesTo (instance_of 1) first_cell w
+      → (c : Cell) → Touched (instance_of 0) c → Touched (instance_of 1) c → ⊥
+  tell_apart v w left_writes right_writes c left right = differ (ap (λ (x : Cell). x.first) (sym two ∙ one))
+    where
+      one : c ≡ first_cell
+      one = alone first_cell c (Some w) (ap (λ (x : ChangeSet). touches_cell x c) (sym right_writes) ∙ right)
+
+      two : c ≡ second_cell
+      two = alone second_cell c (Some v) (ap (λ (x : ChangeSet). touches_cell x c) (sym left_writes) ∙ left)
+
+      differ : pos 2 ≡ pos 1 → ⊥
+      differ e = cc
+
+  apart : (c : Cell) → (Touched (instance_of 0) c → Touched (instance_of 1) c → ⊥)
+      → (i : ℕ) (a : Instance) → nth_instance skew i ≡ Some a
+      → (j : ℕ) (b : Instance) → nth_instance skew j ≡ Some b → i < j → Touched a c → Touched b c → ⊥
+  apart c never =
+      of_both Apart (of_both (Behind (instance_of 0) 1) (λ l m t. omega (arith, l)) (λ l m t. never m t))
+      (of_both (Behind (instance_of 1) 2) (λ l m t. omega (arith, l)) (λ l m t. omega (arith, l)))
+    where
+      Behind : Instance → ℕ → Instance → ℕ → Type 0
+      Behind a i b j = i < j → Touched a c → Touched b c → ⊥
+
+      Apart : Instance → ℕ → Type 0
+      Apart a i = (j : ℕ) (b : Instance) → nth_instance skew j ≡ Some b → Behind a i b j
+
+  -- they are a lawful history where both are ready, and each changes another cell alone
+  pub lawful_skew : (v w : ℤ) → IsCalled set (instance_of 0) → IsCalled set (instance_of 1)
+      → IsReady (instance_of 0) → IsReady (instance_of 1)
+      → ChangesTo (instance_of 0) second_cell v → ChangesTo (instance_of 1) first_cell w → IsLawful set rows skew
+  lawful_skew v w left_called right_called left_ready right_ready left_writes right_writes = record {
+    called = of_both (λ b j. IsCalled set b) left_called right_called;
+    starts = of_both (λ b j. b.start < j) (omega arith) (omega arith);
+    ready = of_both (λ b j. (evaluation set rows skew b).ending ≡ Ready) left_ready right_ready;
+    apart = λ i j a b c at_i at_j unseen before mine theirs.
+        apart c (tell_apart v w left_writes right_writes c) i a at_i j b at_j before mine theirs;
+  }
+
+  -- each stands before the other
+  pub both_ways : depends set rows skew 1 2 ≡ true → depends set rows skew 2 1 ≡ true
+      → IsCycle (depends set rows skew) (1 ∷ 2 ∷ [])
+  both_ways forth back = record {
+    first = 1;
+    rest = 2 ∷ [];
+    is = refl;
+    leads = (forth, back);
+    least = All-from_recursion (λ n. 1 < n) (2 ∷ []) (omega arith, tt);
+    once = (refl, tt);
+  }
+
+left_writes : ChangesTo pair [] (instance_of 0) second_cell (pos 0)
 unfolding eval_of
 left_writes = refl
 
-right_writes : did (instance_of 1) ≡ record { cells = (first_cell, Some (pos 0)) ∷ []; kept = [] }
+right_writes : ChangesTo pair [] (instance_of 1) first_cell (pos 0)
 unfolding eval_of
 right_writes = refl
 
-ready_at : (n : ℕ) → n ≤ 1 → (evaluation pair [] skew (instance_of n)).ending ≡ Ready
+left_ready : IsReady pair [] (instance_of 0)
 unfolding eval_of
-ready_at zero h = refl
-ready_at (suc zero) h = refl
-ready_at (suc (suc n)) h = absurd (omega (arith, h))
+left_ready = refl
 
--- no cell is changed by both
-abbrev Touched : Instance → Cell → Type 0
-Touched b c = touches_cell (did b) c ≡ true
-
-tell_apart : (c : Cell) → Touched (instance_of 0) c → Touched (instance_of 1) c → ⊥
-tell_apart c left right = differ (ap (λ (x : Cell). x.first) (sym two ∙ one))
-  where
-    one : c ≡ first_cell
-    one = alone first_cell c (Some (pos 0)) (ap (λ w. touches_cell w c) (sym right_writes) ∙ right)
-
-    two : c ≡ second_cell
-    two = alone second_cell c (Some (pos 0)) (ap (λ w. touches_cell w c) (sym left_writes) ∙ left)
-
-    differ : pos 2 ≡ pos 1 → ⊥
-    differ e = cc
-
-apart : (c : Cell) (i : ℕ) (a : Instance) → nth_instance skew i ≡ Some a →
-    (j : ℕ) (b : Instance) → nth_instance skew j ≡ Some b → i < j → Touched a c → Touched b c → ⊥
-apart c =
-    of_both Apart (of_both (Behind (instance_of 0) 1) (λ l m t. omega (arith, l)) (λ l m t. tell_apart c m t))
-    (of_both (Behind (instance_of 1) 2) (λ l m t. omega (arith, l)) (λ l m t. omega (arith, l)))
-  where
-    Behind : Instance → ℕ → Instance → ℕ → Type 0
-    Behind a i b j = i < j → Touched a c → Touched b c → ⊥
-
-    Apart : Instance → ℕ → Type 0
-    Apart a i = (j : ℕ) (b : Instance) → nth_instance skew j ≡ Some b → Behind a i b j
-
-called_with : (n : ℕ) (p : ProgramTree) → slice_get pair.programs n ≡ Some p → length p.params ≡ 0 →
-    IsCalled pair (instance_of n)
-called_with n p at none = (p, at, none, All-from_recursion IsI64 [] tt)
-
-lawful : IsLawful pair [] skew
-lawful = record {
-  called = of_both (λ b j. IsCalled pair b) (called_with 0 (copies (codes "Left") (pos 1) (pos 2)) refl refl)
-      (called_with 1 (copies (codes "Right") (pos 2) (pos 1)) refl refl);
-  starts = of_both (λ b j. b.start < j) (omega arith) (omega arith);
-  ready = of_both (λ b j. (evaluation pair [] skew b).ending ≡ Ready) (ready_at 0 (omega arith))
-      (ready_at 1 (omega arith));
-  apart = λ i j a b c at_i at_j unseen before mine theirs. apart c i a at_i j b at_j before mine theirs;
-}
+right_ready : IsReady pair [] (instance_of 1)
+unfolding eval_of
+right_ready = refl
 
 is_history : IsHistory pair [] skew
-is_history = record { sound = sound; opening_rows = All-from_recursion IsI64Row [] tt; lawful = lawful }
+is_history = record {
+  sound = sound;
+  opening_rows = All-from_recursion IsI64Row [] tt;
+  lawful =
+      lawful_skew pair [] (pos 0) (pos 0) (called_plain pair 0 (copies (codes "Left") (pos 1) (pos 2)) refl refl)
+      (called_plain pair 1 (copies (codes "Right") (pos 2) (pos 1)) refl refl) left_ready right_ready left_writes right_writes;
+}
 
--- each stands before the other
 is_cycle : IsCycle (depends pair [] skew) (1 ∷ 2 ∷ [])
 unfolding eval_of
-is_cycle = record {
-  first = 1;
-  rest = 2 ∷ [];
-  is = refl;
-  leads = (refl, refl);
-  least = All-from_recursion (λ n. 1 < n) (2 ∷ []) (omega arith, tt);
-  once = (refl, tt);
-}
+is_cycle = both_ways pair [] refl refl
 
 pub is_dangerous : IsDangerous (paths_of pair)
 is_dangerous = law_of_cycles pair [] skew is_history (1 ∷ 2 ∷ []) is_cycle

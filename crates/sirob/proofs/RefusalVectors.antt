@@ -1,32 +1,14 @@
 -- Refusals, written by hand.
 use Rattle.std.proofs.Common.{◌≡◌, ℕ, pos, neg_ℤ, true, false, [], ◌∷◌, refl, codes}
-use Rattle.std.specs.Prelude.{ℤ}
 use Rattle.std.specs.Fmt.{digits}
 use Rattle.order_facts.specs.declared.steps.Node.TheVariants.{Mine}
-use Rattle.prog_tree.specs.declared.table.Arity.TheVariants as arity
-use Rattle.prog_tree.specs.Syntax.{Name, Literal, Named, One, BlockEnd, Then, ProgramTree, DraftTree}
-use Rattle.prog_tree.specs.Syntax as s
+use Rattle.prog_tree.specs.Syntax.{BlockEnd, DraftTree}
 use Rattle.prog_check.specs.declared.path.Kind.TheVariants.{Reads, Writes}
 use Rattle.prog_check.specs.declared.path.Path.{Path}
 use Rattle.dep_graph.specs.declared.danger.Danger.{Danger}
 use Rattle.dep_graph.specs.declared.danger.Exposure.{Exposure}
+use Rattle.si_engine.proofs.SkewVectors.{pair}
 use Rattle.sirob.specs.Refusal.{path_name, path_params, sample_text, refusal_text}
-
--- a program that copies the row of one key to another
-abbrev copies : Name → ℤ → ℤ → ProgramTree
-copies name from to = record {
-  name = name;
-  params = [];
-  body =
-      Then (s.Get (codes "x") (codes "t") (One (Literal from)) (Literal (pos 0)))
-      (Then (s.Put (codes "t") (One (Literal to)) (Named (codes "x"))) BlockEnd);
-}
-
-abbrev pair : DraftTree
-pair = record {
-  tables = record { name = codes "t"; arity = arity.One; grow = false } ∷ [];
-  programs = copies (codes "Left") (pos 1) (pos 2) ∷ copies (codes "Right") (pos 2) (pos 1) ∷ [];
-}
 
 -- what the first access of one reads, the second of the other writes
 abbrev crossing : ℕ → ℕ → Exposure
