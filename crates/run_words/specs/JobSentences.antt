@@ -1,5 +1,5 @@
 -- What is said of a job that did not commit.
-use Rattle.std.specs.Prelude.{ℕ, ℤ, pos, ◌≡◌, ◌-◌, ◌==◌, ⊤, if◌then◌else◌, List, [], ◌++◌, Option, Some, None, codes, slice_index_or, length, map, slice_get, take}
+use Rattle.std.specs.Prelude.{ℕ, ℤ, pos, ◌≡◌, ◌-◌, ◌==◌, if◌then◌else◌, List, [], ◌++◌, Option, Some, None, codes, slice_index_or, length, map, slice_get, take}
 use Rattle.std.specs.Fmt.{decimal, signed_decimal}
 use Rattle.std.specs.List.{range_with_len}
 use Rattle.prog_tree.specs.Syntax.{DraftTree, Name}
@@ -10,8 +10,9 @@ use Rattle.fault_words.specs.Naming.{cell_text, program_name, program_params}
 use Rattle.version_store.specs.declared.clash.Clash.{Clash}
 use Rattle.si_workers.specs.declared.job.Job.{Job}
 use Rattle.si_workers.specs.declared.job.JobEnd.{JobEnd}
-use Rattle.si_workers.specs.declared.job.JobEnd.TheVariants.{Aborted, Clashed}
+use Rattle.si_workers.specs.declared.job.JobEnd.TheVariants.{Committed, Aborted, Clashed, Refused}
 use Rattle.si_workers.specs.declared.job.JobOutcome.{JobOutcome}
+use Rattle.run_words.specs.BeginReasons.{begin_reason}
 use Rattle.run_words.specs.Limits.{most_arguments}
 
 -- an argument with the name of its parameter, as `from = 3`; one that has no parameter stands alone
@@ -57,20 +58,21 @@ clash_text set clash tries =
     decimal tries ++ (codes " " ++ (tries_text tries ++ (codes "; at the last one commit " ++ (decimal clash.number
     ++ (codes " changed or kept " ++ (cell_text set clash.cell ++ codes " too, unseen by it"))))))
 
--- why the job did not commit: the abort's cause, or the clash that the outcome tells with its tries
-abbrev pub IsReason : DraftTree → JobEnd → (tries : ℕ) → (reason : List ℕ) → Type 0
-IsReason set (Aborted cause) tries reason = reason ≡ cause_text set cause
-IsReason set (Clashed clash) tries reason = reason ≡ clash_text set clash tries
-IsReason set other tries reason = ⊤
+-- why the job did not commit: the refusal of its begin, the abort's cause, or the clash that the outcome tells with its
+-- tries; nothing of one that did
+abbrev pub reason_of : DraftTree → Job → JobEnd → (tries : ℕ) → List ℕ
+reason_of set job (Committed number replies) tries = []
+reason_of set job (Aborted cause) tries = cause_text set cause
+reason_of set job (Clashed clash) tries = clash_text set clash tries
+reason_of set job (Refused fault) tries = begin_reason set job fault
 
 -- the call of the job, and why it did not commit
-abbrev pub IsSentence : DraftTree → Job → JobOutcome → (sentence : List ℕ) → Type 0
-IsSentence set job outcome sentence =
-    (reason : List ℕ) × IsReason set outcome.job_end outcome.clashes reason
-    × (sentence ≡ call_text set job ++ (codes ", " ++ reason))
+abbrev pub sentence_of : DraftTree → Job → JobOutcome → List ℕ
+sentence_of set job outcome =
+    call_text set job ++ (codes ", " ++ reason_of set job outcome.job_end outcome.clashes)
 
 -- this is said of the job of a number by its outcome, where there are both
 abbrev pub IsJobSentence : DraftTree → List Job → List JobOutcome → (number : ℕ) → (sentence : List ℕ) → Type 0
 IsJobSentence set jobs outcomes number sentence =
     (job : Job) (outcome : JobOutcome) → slice_get jobs number ≡ Some job → slice_get outcomes number ≡ Some outcome
-    → IsSentence set job outcome sentence
+    → sentence ≡ sentence_of set job outcome

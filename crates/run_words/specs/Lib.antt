@@ -1,3 +1,4 @@
+pub mod BeginReasons
 pub mod Cycles
 pub mod EachLine
 pub mod InInput

@@ -1,7 +1,8 @@
 //! Why a job did not commit, in words.
 ghost use Rattle.std.specs.Prelude.{◌≡◌, IfOk, slice_get, string_bytes, take};
 ghost use Rattle.prog_tree.specs.Tree.{draft_tree};
-ghost use Rattle.run_words.specs.JobSentences.{argument_text, arguments_text, call_text, clash_text, further_arguments, tries_text, IsJobSentence, IsReason, IsSentence};
+ghost use Rattle.run_words.specs.BeginReasons.{begin_reason};
+ghost use Rattle.run_words.specs.JobSentences.{argument_text, arguments_text, call_text, clash_text, further_arguments, reason_of, sentence_of, tries_text, IsJobSentence};
 ghost use Rattle.run_words.specs.Limits.{most_arguments};
 
 use crate::limits::MAX_ARGUMENTS;
@@ -79,7 +80,10 @@ fn begin_reason(
     set: &ProgramSet,
     job: &Job,
     fault: BeginFault,
-) -> Result<String, AllocError> {
+) -> Result<String, AllocError>
+    ensures { IfOk result (λ text. string_bytes text
+        ≡ begin_reason (draft_tree set.now) job.now fault) }
+{
     match fault {
         BeginFault::NoSuchProgram => format!(in alloc; "the set has no such program"),
         BeginFault::WrongArguments => wrong_arguments(alloc, set, job.program, job.args.len()),
@@ -121,8 +125,8 @@ fn reason(
     job: &Job,
     outcome: &JobOutcome,
 ) -> Result<String, AllocError>
-    ensures { IfOk result (λ text. IsReason (draft_tree set.now) outcome.now.job_end
-        outcome.now.clashes (string_bytes text)) }
+    ensures { IfOk result (λ text. string_bytes text ≡ reason_of (draft_tree set.now) job.now
+        outcome.now.job_end outcome.now.clashes) }
 {
     match &outcome.job_end {
         JobEnd::Committed { .. } => Ok(String::new(alloc)),
@@ -139,8 +143,8 @@ fn sentence(
     job: &Job,
     outcome: &JobOutcome,
 ) -> Result<String, AllocError>
-    ensures { IfOk result (λ sentence. IsSentence (draft_tree set.now) job.now outcome.now
-        (string_bytes sentence)) }
+    ensures { IfOk result (λ sentence. string_bytes sentence
+        ≡ sentence_of (draft_tree set.now) job.now outcome.now) }
 {
     let call = named_call(alloc, set, job)?;
     let reason = reason(alloc, set, job, outcome)?;

@@ -1,6 +1,9 @@
 //! The lines of a script that do nothing, in words.
 ghost use Rattle.std.specs.Prelude.{◌≡◌, ◌≢◌, ◌<◌, ◌↔◌, ◌++◌, ◌⊎◌, List, ℕ, [], true, false, None, Some, IsOk, IsTrue, IfNone, IfOk, IfSome, OnOk, drop, length, slice_get, string_bytes, vec_len};
 ghost use Rattle.text_places.specs.Places.{HasNoLine};
+ghost use Rattle.prog_tree.specs.Tree.{draft_tree};
+ghost use Rattle.text_places.specs.Listing.{listed};
+ghost use Rattle.run_words.specs.BeginReasons.{full_text, signature, wrong_arguments};
 ghost use Rattle.run_words.specs.EachLine.{TellsEach};
 ghost use Rattle.run_words.specs.PartPointing.{HasNoLineOf, PointsAtLineIn};
 ghost use Rattle.run_words.specs.ToldLines.{does_nothing, first_told, following_text, further_text, is_refusal, refuses, refuses_begin, refuses_instance, refuses_number, told_lines, CountsOneMore, IsOneMore, TellsLine, TellsNoMore, TellsOneMore, TellsRefused};
@@ -13,6 +16,7 @@ use crate::shared_words::counted;
 use fault_words::{program_name, program_params};
 use history_book::{Book, MAX_ENDINGS};
 use prog_check::ProgramSet;
+use prog_tree::Name;
 use si_engine::{Event, Reply};
 use std::alloc::{AllocError, Global};
 use text_places::{line_front, push_listed};
@@ -240,15 +244,23 @@ impl Refusals {
     }
 }
 
-// A program with its parameters.
-fn signature(alloc: Global, set: &ProgramSet, program: usize) -> Result<String, AllocError> {
-    let name = program_name(set, program);
-    let mut params = String::new(alloc);
-    if let Some(program) = set.draft().programs.get(program) {
-        for parameter in &program.params {
-            push_listed(&mut params, parameter.as_str())?;
-        }
+// Parameters, with commas between them.
+fn listed_params(alloc: Global, params: &[Name]) -> Result<String, AllocError>
+    ensures { IfOk result (λ text. string_bytes text ≡ listed params.now) }
+{
+    let mut text = String::new(alloc);
+    for parameter in params {
+        push_listed(&mut text, parameter.as_str())?;
     }
+    Ok(text)
+}
+
+// A program with its parameters.
+fn signature(alloc: Global, set: &ProgramSet, program: usize) -> Result<String, AllocError>
+    ensures { IfOk result (λ text. string_bytes text ≡ signature (draft_tree set.now) program) }
+{
+    let name = program_name(set, program);
+    let params = listed_params(alloc, program_params(set.draft(), program))?;
     format!(in alloc; "{name}({params})")
 }
 
@@ -258,18 +270,20 @@ pub fn wrong_arguments(
     set: &ProgramSet,
     program: usize,
     given: usize,
-) -> Result<String, AllocError> {
+) -> Result<String, AllocError>
+    ensures { IfOk result (λ text. string_bytes text
+        ≡ wrong_arguments (draft_tree set.now) program given) }
+{
     let signature = signature(alloc, set, program)?;
-    let wanted = counted(
-        alloc,
-        program_params(set.draft(), program).len(),
-        "argument",
-    )?;
+    let params = program_params(set.draft(), program);
+    let wanted = counted(alloc, params.len(), "argument")?;
     format!(in alloc; "`{signature}` takes {wanted}, and here it is given {given}")
 }
 
 /// Why no instance begins where there are as many as there may be.
-pub fn full_words(alloc: Global) -> Result<String, AllocError> {
+pub fn full_words(alloc: Global) -> Result<String, AllocError>
+    ensures { IfOk result (λ text. string_bytes text ≡ full_text) }
+{
     format!(in alloc; "{MAX_ENDINGS} instances have ended or are under way, the most")
 }
 

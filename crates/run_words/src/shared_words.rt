@@ -1,6 +1,7 @@
 //! Words that several kinds of faults have.
 ghost use Rattle.std.specs.Prelude.{◌≡◌, IfOk, string_bytes};
 ghost use Rattle.prog_tree.specs.Tree.{draft_tree};
+ghost use Rattle.run_words.specs.BeginReasons.{counted, plural_ending};
 ghost use Rattle.run_words.specs.JobSentences.{cause_text};
 
 use fault_words::cell_text;
@@ -26,8 +27,16 @@ pub fn cause_text(alloc: Global, set: &ProgramSet, cause: Cause) -> Result<Strin
     }
 }
 
+fn plural_ending(count: usize) -> &'static str
+    ensures { result.now ≡ plural_ending count }
+{
+    if count == 1 { "" } else { "s" }
+}
+
 /// So many of something.
-pub fn counted(alloc: Global, count: usize, what: &str) -> Result<String, AllocError> {
-    let ending = if count == 1 { "" } else { "s" };
+pub fn counted(alloc: Global, count: usize, what: &str) -> Result<String, AllocError>
+    ensures { IfOk result (λ text. string_bytes text ≡ counted count what.now) }
+{
+    let ending = plural_ending(count);
     format!(in alloc; "{count} {what}{ending}")
 }
