@@ -42,14 +42,14 @@ behind_text set (Some (MissedIn region cell)) = codes " changed at " ++ cell_tex
 behind_text set None = []
 
 -- the line of a commit, with its call and why it has to stand before the next
-abbrev pub commits_text : DraftTree → (call : List ℕ) → Option Reason → (number next : ℕ) → List ℕ
-commits_text set call reason number next =
+abbrev pub commit_line : DraftTree → (call : List ℕ) → Option Reason → (number next : ℕ) → List ℕ
+commit_line set call reason number next =
     codes "commit " ++ (decimal number ++ (codes ", `" ++ (call ++ (codes "`, " ++ (ahead_text set reason
     ++ (codes " commit " ++ (decimal next ++ (behind_text set reason ++ codes "\n"))))))))
 
 abbrev pub line_text : BookView → (number next : ℕ) → List ℕ
 line_text book number next =
-    commits_text (draft_tree book.set) (call_of (draft_tree book.set) (nth_row book.rows number))
+    commit_line (draft_tree book.set) (call_of (draft_tree book.set) (nth_row book.rows number))
     (told_reason (traces_in book) number next) number next
 
 -- the first of some numbers, or another where there is none

@@ -36,8 +36,8 @@ abbrev pub further_arguments : (count : ℕ) → List ℕ
 further_arguments count = if count == 0 then [] else codes ", .."
 
 -- the call of a job with its first arguments, as `` `Transfer(from = 3, to = 5, amount = 20)` ``
-abbrev pub call_text : DraftTree → Job → List ℕ
-call_text set job =
+abbrev pub named_call_text : DraftTree → Job → List ℕ
+named_call_text set job =
     codes "`" ++ (program_name set job.program ++ (codes "("
     ++ (arguments_text (program_params set job.program) (take most_arguments job.args)
     ++ (further_arguments (length job.args - most_arguments) ++ codes ")`"))))
@@ -69,7 +69,7 @@ reason_of set job (Refused fault) tries = begin_reason set job fault
 -- the call of the job, and why it did not commit
 abbrev pub sentence_of : DraftTree → Job → JobOutcome → List ℕ
 sentence_of set job outcome =
-    call_text set job ++ (codes ", " ++ reason_of set job outcome.job_end outcome.clashes)
+    named_call_text set job ++ (codes ", " ++ reason_of set job outcome.job_end outcome.clashes)
 
 -- this is said of the job of a number by its outcome, where there are both
 abbrev pub IsJobSentence : DraftTree → List Job → List JobOutcome → (number : ℕ) → (sentence : List ℕ) → Type 0

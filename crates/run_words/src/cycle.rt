@@ -1,7 +1,7 @@
 //! The cycle that the commits of a book form, in words.
 ghost use Rattle.std.specs.Prelude.{◌≡◌, ◌++◌, IfOk, OnOk, option_copied, string_bytes};
 ghost use Rattle.prog_tree.specs.Tree.{draft_tree};
-ghost use Rattle.run_words.specs.Cycles.{ahead_text, behind_text, call_of, call_text, commits_text, cycle_text, first_or, line_text, lines_text};
+ghost use Rattle.run_words.specs.Cycles.{ahead_text, behind_text, call_of, call_text, commit_line, cycle_text, first_or, line_text, lines_text};
 
 use fault_words::{cell_text, program_name, region_text};
 use history_book::{Book, HistoryRow, Reason};
@@ -75,7 +75,7 @@ fn behind_text(
 }
 
 // The line of a commit, with its call and why it has to stand before the next.
-fn commits_text(
+fn commit_line(
     alloc: Global,
     set: &ProgramSet,
     call: &str,
@@ -84,7 +84,7 @@ fn commits_text(
     second: usize,
 ) -> Result<String, AllocError>
     ensures { IfOk result (λ line. string_bytes line
-        ≡ commits_text (draft_tree set.now) call.now reason first second) }
+        ≡ commit_line (draft_tree set.now) call.now reason first second) }
 {
     let ahead = ahead_text(alloc, set, reason)?;
     let behind = behind_text(alloc, set, reason)?;
@@ -102,7 +102,7 @@ fn line_text(
     let set = book.set();
     let call = call_of(alloc, set, book.nth_commit(first as u64))?;
     let reason = book.reason(first as u64, second as u64);
-    commits_text(alloc, set, &call, reason, first, second)
+    commit_line(alloc, set, &call, reason, first, second)
 }
 
 // The first of some commits, or another where there is none.

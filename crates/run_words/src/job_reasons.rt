@@ -2,7 +2,7 @@
 ghost use Rattle.std.specs.Prelude.{◌≡◌, IfOk, slice_get, string_bytes, take};
 ghost use Rattle.prog_tree.specs.Tree.{draft_tree};
 ghost use Rattle.run_words.specs.BeginReasons.{begin_reason};
-ghost use Rattle.run_words.specs.JobSentences.{argument_text, arguments_text, call_text, clash_text, further_arguments, reason_of, sentence_of, tries_text, IsJobSentence};
+ghost use Rattle.run_words.specs.JobSentences.{argument_text, arguments_text, named_call_text, clash_text, further_arguments, reason_of, sentence_of, tries_text, IsJobSentence};
 ghost use Rattle.run_words.specs.Limits.{most_arguments};
 
 use crate::limits::MAX_ARGUMENTS;
@@ -64,7 +64,7 @@ fn further_arguments(count: usize) -> &'static str
 
 // The call of a job, as `Transfer(from = 3, to = 5, amount = 20)`.
 fn named_call(alloc: Global, set: &ProgramSet, job: &Job) -> Result<String, AllocError>
-    ensures { IfOk result (λ text. string_bytes text ≡ call_text (draft_tree set.now) job.now) }
+    ensures { IfOk result (λ text. string_bytes text ≡ named_call_text (draft_tree set.now) job.now) }
 {
     let name = program_name(set, job.program);
     let params = program_params(set.draft(), job.program);

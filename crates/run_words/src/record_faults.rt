@@ -21,7 +21,7 @@ struct Cut {
     row: HistoryRow,
 }
 
-fn cut_at(alloc: Global, set: &ProgramSet, part: &[u8], number: usize) -> Option<Cut> {
+fn cut_of_record(alloc: Global, set: &ProgramSet, part: &[u8], number: usize) -> Option<Cut> {
     let ItemList { rows, items } = read_records(alloc, set, &mut Bytes::new(part)).ok()?;
     let mut records = items.into_vec();
     records.truncate(number.saturating_add(1));
@@ -84,7 +84,7 @@ fn late_start(alloc: Global, number: usize, start: u64) -> Result<String, AllocE
     format!(in alloc; "behind `at` stands {start}, and only {before} {stand} before it")
 }
 
-fn clash_text(
+fn record_clash(
     alloc: Global,
     set: &ProgramSet,
     part: Part<'_>,
@@ -130,11 +130,11 @@ fn row_sentence(
 ) -> Result<String, AllocError> {
     match fault {
         RowFault::NoSuchProgram => format!(in alloc; "the set has no such program"),
-        RowFault::Clashed(clash) => clash_text(alloc, set, part, clash),
+        RowFault::Clashed(clash) => record_clash(alloc, set, part, clash),
         RowFault::WrongArguments
         | RowFault::StartTooLate
         | RowFault::NotReady
-        | RowFault::WrongReplies => match cut_at(alloc, set, part.bytes, number) {
+        | RowFault::WrongReplies => match cut_of_record(alloc, set, part.bytes, number) {
             Some(cut) => read_row_sentence(alloc, set, number, cut, fault),
             None => format!(in alloc; "no run of the set can have left this record"),
         },

@@ -9,7 +9,7 @@ use Rattle.prog_tree.specs.declared.table.Arity.TheVariants.{One, Two}
 use Rattle.prog_tree.specs.declared.table.TableDecl.{TableDecl}
 use Rattle.si_engine.specs.declared.event.Event.TheVariants.{Begin, BeginAt, Step, Commit, Abort, Vacuum}
 use Rattle.si_engine.specs.declared.event.Reply.TheVariants.{Begun, NoSuchProgram, WrongArguments, TooOld, TooNew, Full, Did, Ready, Aborted, Committed, Clashed, Withdrawn, Vacuumed, NoSuchInstance, Ended, NotReady}
-use Rattle.si_engine.specs.Printed.{reply_line, row_line}
+use Rattle.si_engine.specs.Printed.{reply_line, printed_row}
 
 -- `t` of one key column, `e` of two
 tables : List TableDecl
@@ -143,11 +143,11 @@ not_ready : reply_line tables (Commit 1) NotReady ≡ codes "1 not ready\n"
 unfolding digits
 not_ready = refl
 
-one_column : row_line tables t7 (neg_ℤ (pos 11)) ≡ codes "row t 7 = -11\n"
+one_column : printed_row tables t7 (neg_ℤ (pos 11)) ≡ codes "row t 7 = -11\n"
 unfolding digits tables t7
 one_column = refl
 
-two_columns : row_line tables e72 (pos 5) ≡ codes "row e 7 -2 = 5\n"
+two_columns : printed_row tables e72 (pos 5) ≡ codes "row e 7 -2 = 5\n"
 unfolding digits tables e72
 two_columns = refl
 

@@ -19,7 +19,7 @@ use Rattle.si_engine.specs.Machine.{Machine, new_machine, machine_step, machine_
 use Rattle.si_engine.proofs.OutputLaws.{adds_first_of, adds_both, adds_behind, adds_line}
 use Rattle.si_engine.specs.Headline.{commit_in, commits_said}
 use Rattle.si_engine.specs.Runs.{event_lines, row_lines, end_lines, run_lines, history_of_run, AddsLines, AddsFirst, AddsEnd, AddsRun, IsRunOf, done, refused, stopped, IsUnreadRun, unread, IsRunReply}
-use Rattle.si_engine.specs.Printed.{reply_line, row_line}
+use Rattle.si_engine.specs.Printed.{reply_line, printed_row}
 use Rattle.si_engine.specs.Reading.{ForInput}
 use Rattle.si_engine.specs.Script.{IsScript, IsScriptFault}
 use Rattle.si_engine.specs.Writing.{IsJust, WritesOr}
@@ -92,15 +92,15 @@ on_err (Err e) f h = f h
 -- the line of the next row is added behind those of the first ones
 pub next_row :
     (set : DraftTree) (rows : TableState) (i : ℕ) (d : Cell × ℤ) (tables : List TableDecl) (told : List (List ℕ)) (s t u : List ℕ) → i < length rows → tables ≡ set.tables →
-    row_lines set rows ≡ told ++ row_lines set (drop i rows) → AddsLines told s t → u ≡ t ++ row_line tables (get_or rows i d).0 (get_or rows i d).1 →
+    row_lines set rows ≡ told ++ row_lines set (drop i rows) → AddsLines told s t → u ≡ t ++ printed_row tables (get_or rows i d).0 (get_or rows i d).1 →
     (more : List (List ℕ)) × (row_lines set rows ≡ more ++ row_lines set (drop (i + 1) rows)) × AddsLines more s u
 next_row set rows i d tables told s t u within same lines added written =
-    let line = row_line set.tables (get_or rows i d).0 (get_or rows i d).1 in (
+    let line = printed_row set.tables (get_or rows i d).0 (get_or rows i d).1 in (
       told ++ line ∷ [],
       lines
           ∙ (ap (λ (m : TableState). told ++ row_lines set m) (drop_more rows i d within)
           ∙ sym (append_assoc told (line ∷ []) (row_lines set (drop (i + 1) rows)))),
-      adds_line told line s t u added (written ∙ ap (λ ts. t ++ row_line ts (get_or rows i d).0 (get_or rows i d).1) same),
+      adds_line told line s t u added (written ∙ ap (λ ts. t ++ printed_row ts (get_or rows i d).0 (get_or rows i d).1) same),
     )
 
 -- the lines of the rows that a book leaves

@@ -103,5 +103,5 @@ row_text_in name One c v = codes "row " ++ (name ++ (codes " " ++ (signed_decima
 row_text_in name Two c v = codes "row " ++ (name ++ (codes " " ++ (signed_decimal c.first ++ (codes " " ++ (signed_decimal c.second ++ (codes " = " ++ (signed_decimal v ++ codes "\n")))))))
 
 -- the line of a row
-abbrev pub row_line : List TableDecl → Cell → ℤ → List ℕ
-row_line tables c v = let head = table_head tables c.table in row_text_in head.0 head.1 c v
+abbrev pub printed_row : List TableDecl → Cell → ℤ → List ℕ
+printed_row tables c v = let head = table_head tables c.table in row_text_in head.0 head.1 c v

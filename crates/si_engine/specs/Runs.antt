@@ -16,7 +16,7 @@ use Rattle.si_engine.specs.declared.input.source.InputFault.TheVariants as input
 use Rattle.si_engine.specs.Headline.{Exchange}
 use Rattle.si_engine.specs.LastLine.{IsLastLine}
 use Rattle.si_engine.specs.Machine.{Machine, new_machine, machine_after, replies_of}
-use Rattle.si_engine.specs.Printed.{reply_line, row_line}
+use Rattle.si_engine.specs.Printed.{reply_line, printed_row}
 use Rattle.si_engine.specs.Reading.{ForInput}
 use Rattle.si_engine.specs.Script.{IsScript, IsScriptFault}
 use Rattle.si_engine.specs.Writing.{WritesOr}
@@ -31,7 +31,7 @@ event_lines set opening events machine = exchange_lines set.tables (zip events (
 
 -- one line for each row of a state, in cell order
 abbrev pub row_lines : DraftTree → TableState → List (List ℕ)
-row_lines set state = map (λ row. row_line set.tables row.0 row.1) state
+row_lines set state = map (λ row. printed_row set.tables row.0 row.1) state
 
 -- one line for each row that a history leaves
 abbrev pub end_lines : DraftTree → TableState → List Instance → List (List ℕ)

@@ -5,7 +5,7 @@ ghost use Rattle.std.specs.Fmt.{signed_decimal};
 ghost use Rattle.std.specs.Prelude.{◌≡◌, ◌++◌, OnOk, OnErr, take, codes, string_bytes};
 ghost use Rattle.std.specs.Str.{IsCharBoundary};
 ghost use Rattle.si_engine.specs.LastLine.{commits_text, last_line};
-ghost use Rattle.si_engine.specs.Printed.{deed_text, cause_text, reply_text, subject, reply_line, row_text_in, row_line};
+ghost use Rattle.si_engine.specs.Printed.{deed_text, cause_text, reply_text, subject, reply_line, row_text_in, printed_row};
 ghost use Rattle.si_engine.specs.Writing.{AddsOrStays, AddsBytes};
 
 use crate::event::{Event, Reply};
@@ -191,7 +191,7 @@ fn write_row_line(
     cell: &Cell,
     value: i64,
 ) -> Result<(), AllocError>
-    ensures { AddsBytes text.old text.new result (row_line tables.now cell.now value) }
+    ensures { AddsBytes text.old text.new result (printed_row tables.now cell.now value) }
 {
     let (name, arity) = table_head(tables, cell.table);
     write_row_in(text, name, arity, cell, value)
@@ -203,7 +203,7 @@ pub fn push_row_line(
     tables: &[TableDecl],
     row: &(Cell, i64),
 ) -> Result<(), AllocError>
-    ensures { AddsOrStays text.old text.new result (row_line tables.now row.now.0 row.now.1) }
+    ensures { AddsOrStays text.old text.new result (printed_row tables.now row.now.0 row.now.1) }
 {
     let (cell, value) = row;
     let start = text.as_bytes().len();
