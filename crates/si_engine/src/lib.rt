@@ -30,7 +30,7 @@ pub use input::row_line::{RowLine, add_row, row_line};
 pub use input::script::{Script, read_script};
 pub use input::source::{DeviceFault, InputFault, Source, read_whole};
 pub use limits::{MAX_EVENTS, MAX_INPUT_BYTES, MAX_INSTANCE, MAX_READS, MAX_STEPS};
-pub use output::finding::{Serializability, push_findings, push_findings_before, push_rows};
+pub use output::finding::{Serializability, push_findings_before, push_rows};
 pub use output::sink::{Sink, write_whole};
 pub use port::Port;
 pub use robust::laws::{
@@ -39,6 +39,6 @@ pub use robust::laws::{
     safe_sets_have_no_cycle, states_have_i64_rows,
 };
 pub use robust::run::{Outcome, order_of, run_robust, run_robust_before};
-pub use robust::script::{run_robust_script, run_robust_script_before};
+pub use robust::script::run_robust_script_before;
 pub use run::{run_script, run_script_before};
 pub use witness::{NoWitness, Witness};

@@ -6,7 +6,7 @@ ghost use Rattle.si_engine.specs.LastLine.{IsLastLine};
 ghost use Rattle.si_engine.specs.Runs.{row_lines, end_lines, AddsLines, AddsFirst, AddsEnd};
 
 use crate::output::printed::{push_last_line, push_row_line};
-use crate::witness::{NoWitness, Witness};
+use crate::witness::Witness;
 use history_book::{Book, OrderFault};
 use prog_tree::{Cell, Draft};
 use std::alloc::AllocError;
@@ -59,7 +59,9 @@ fn push_order<W: Witness>(
     }
 }
 
-/// As `push_findings`, before a witness, which is told a cycle.
+/// Adds the line of each row of a book's table, and then the last line, before a witness, which is
+/// told a cycle. Of several cycles any may be told. Where memory runs out, some first lines of rows
+/// were added.
 pub fn push_findings_before<W: Witness>(
     book: &Book<'_>,
     out: &mut String,
@@ -73,15 +75,4 @@ pub fn push_findings_before<W: Witness>(
     let table = book.table_rows()?;
     push_rows(book.set().draft(), table.as_slice(), out)?;
     push_order(book, out, witness)
-}
-
-/// Adds the line of each row of a book's table, and then the last line. Of several cycles any may be
-/// told. Where memory runs out, some first lines of rows were added.
-pub fn push_findings(book: &Book<'_>, out: &mut String) -> Result<Serializability, AllocError>
-    ensures ok { IfOk result (λ finding. AddsEnd (draft_tree book.now.set) book.now.opening
-        (history_of book.now.rows) finding (string_bytes out.old) (string_bytes out.new)) }
-    ensures err { OnErr result (AddsFirst (end_lines (draft_tree book.now.set) book.now.opening
-        (history_of book.now.rows)) (string_bytes out.old) (string_bytes out.new)) }
-{
-    push_findings_before(book, out, &mut NoWitness)
 }

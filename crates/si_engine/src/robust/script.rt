@@ -16,7 +16,7 @@ use crate::output::printed::{push_last_line, push_reply_line};
 use crate::output::sink::Sink;
 use crate::robust::run::{Outcome, run_robust_before};
 use crate::run::write_end;
-use crate::witness::{NoWitness, Witness};
+use crate::witness::Witness;
 use prog_tree::{Draft, TableDecl};
 use robust_cert::RobustSet;
 use std::alloc::{AllocError, Global};
@@ -99,7 +99,7 @@ fn run_source<S: Source, W: Witness>(
     Ok(Serializability::Order)
 }
 
-/// As `run_robust_script`, before a witness, which is told each reply.
+/// As `run_script_before`, on a set that a certificate was accepted for: the last line is an order.
 pub fn run_robust_script_before<S: Source, K: Sink, W: Witness>(
     alloc: Global,
     set: &RobustSet,
@@ -115,19 +115,4 @@ pub fn run_robust_script_before<S: Source, K: Sink, W: Witness>(
     let mut lines = String::new(alloc);
     let ended = run_source(alloc, set, source, &mut lines, witness);
     write_end(sink, lines.as_bytes(), ended)
-}
-
-/// As `run_script`, on a set that a certificate was accepted for: the last line is an order.
-pub fn run_robust_script<S: Source, K: Sink>(
-    alloc: Global,
-    set: &RobustSet,
-    source: &mut S,
-    sink: &mut K,
-) -> Result<Serializability, PartFault>
-    ensures run { IsRobustScriptRun (draft_tree set.now)
-        (S.left source.old) (S.has_failed source.new)
-        (K.has_failed sink.new) (K.taken sink.old) (K.taken sink.new) result }
-    ensures reads { S.pulls source.new ≤ S.pulls source.old + MAX_READS }
-{
-    run_robust_script_before(alloc, set, source, sink, &mut NoWitness)
 }
