@@ -134,8 +134,8 @@ fn push_lines(
     Ok(())
 }
 
-/// Why the commits of a book have no serial order: the cycle that its `serial_order` answers, commit
-/// by commit.
+/// Why the commits of a book have no serial order: the cycle that its `serial_order` answers,
+/// commit by commit.
 pub fn cycle_words(alloc: Global, book: &Book<'_>, cycle: &[usize]) -> Result<String, AllocError>
     ensures { IfOk result (λ words. string_bytes words ≡ cycle_text book.now cycle.now) }
 {

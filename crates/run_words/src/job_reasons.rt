@@ -64,7 +64,8 @@ fn further_arguments(count: usize) -> &'static str
 
 // The call of a job, as `Transfer(from = 3, to = 5, amount = 20)`.
 fn named_call(alloc: Global, set: &ProgramSet, job: &Job) -> Result<String, AllocError>
-    ensures { IfOk result (λ text. string_bytes text ≡ named_call_text (draft_tree set.now) job.now) }
+    ensures { IfOk result (λ text. string_bytes text
+        ≡ named_call_text (draft_tree set.now) job.now) }
 {
     let name = program_name(set, job.program);
     let params = program_params(set.draft(), job.program);
@@ -108,7 +109,8 @@ fn clash_reason(
     clash: Clash,
     tries: u64,
 ) -> Result<String, AllocError>
-    ensures { IfOk result (λ text. string_bytes text ≡ clash_text (draft_tree set.now) clash tries) }
+    ensures { IfOk result (λ text. string_bytes text
+        ≡ clash_text (draft_tree set.now) clash tries) }
 {
     let tried = tries_text(tries);
     let cell = cell_text(alloc, set, clash.cell)?;

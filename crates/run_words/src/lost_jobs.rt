@@ -198,8 +198,8 @@ fn jobs_lost(
     lost_text(alloc, set, told, heading, &numbers)
 }
 
-/// Which jobs were refused, which aborted and which clashed for good: of each kind how many, and the
-/// first eight; nothing where all committed.
+/// Which jobs were refused, which aborted and which clashed for good: of each kind how many, and
+/// the first eight; nothing where all committed.
 pub fn lost_job_words(
     alloc: Global,
     set: &ProgramSet,

@@ -40,8 +40,8 @@ struct Refused {
     refusal: Refusal,
 }
 
-/// The lines of a script that do nothing, as the run of it tells them: some first ones, and how many
-/// more there are.
+/// The lines of a script that do nothing, as the run of it tells them: some first ones, and how
+/// many more there are.
 #[derive(Drop)]
 pub struct Refusals {
     // How many events were looked at.

@@ -42,8 +42,8 @@ impl<'a> ActiveRun<'a> {
         }
     }
 
-    /// Steps it, through its next deed or to its end, and gives it back where it goes on. An aborted
-    /// one ends in the book.
+    /// Steps it, through its next deed or to its end, and gives it back where it goes on. An
+    /// aborted one ends in the book.
     pub fn step(
         mut self,
         alloc: Global,

@@ -16,9 +16,9 @@ use std::sync::{RwLock, RwLockReadGuard, RwLockWriteGuard, Wait};
 use std::thread::yield_now;
 
 /// A book under one lock, which reads share and each other call has alone. Whenever the lock is
-/// taken, its value is a book. Each call takes the lock, makes the call of `Book` that it names, and
-/// lets go. No clause can name a value under a lock, so what a call does to the book is said by the
-/// contract of `Book`, and here only what holds of its arguments and its result.
+/// taken, its value is a book. Each call takes the lock, makes the call of `Book` that it names,
+/// and lets go. No clause can name a value under a lock, so what a call does to the book is said by
+/// the contract of `Book`, and here only what holds of its arguments and its result.
 #[derive(Drop)]
 pub struct SharedBook<'a> {
     lock: RwLock<Book<'a>>,

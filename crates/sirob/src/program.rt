@@ -20,8 +20,8 @@ use std::rt::Clock;
 use std::sync::Wait;
 use std::thread::Threads;
 
-/// Does what the arguments ask for, from a source to a sink. What is wrong with the arguments goes to the standard
-/// error.
+/// Does what the arguments ask for, from a source to a sink. What is wrong with the arguments goes
+/// to the standard error.
 pub fn carry_out<S: Source, K: Sink>(
     rt: &(impl AllocGlobal + Eprint + Clock + Watched + Threads + Wait + Sync),
     arguments: &io::Result<Vec<String>>,

@@ -1,4 +1,5 @@
-//! Scripts over devices that are slow, and that fail at each of their calls; records, events and witnesses.
+//! Scripts over devices that are slow, and that fail at each of their calls; records, events and
+//! witnesses.
 
 mod device_tests;
 mod event_tests;

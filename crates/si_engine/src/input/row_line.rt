@@ -110,8 +110,8 @@ pub fn row_line(set: &ProgramSet, line: usize, words: &[Word<'_>]) -> Result<Row
     Ok(RowLine { cell, value })
 }
 
-/// Adds a row to those so far; `late` says that a line of another kind stands before it. Behind an error the rows are
-/// of no use.
+/// Adds a row to those so far; `late` says that a line of another kind stands before it. Behind an
+/// error the rows are of no use.
 pub fn add_row(rows: &mut Rows, line: usize, late: bool, row: RowLine) -> Result<(), LineFault>
     ensures placed { OnOk result (row_fault line late (row_at rows.old row.cell) ≡ None) }
     ensures rows { OnOk result (rows.new ≡ with_row rows.old row.cell row.value) }

@@ -123,8 +123,8 @@ impl FromLines for Script {
     }
 }
 
-/// Reads all of a source as a script for a set, or finds its first fault. Behind an error the source may have been read
-/// in part.
+/// Reads all of a source as a script for a set, or finds its first fault. Behind an error the
+/// source may have been read in part.
 pub fn read_script<S: Source>(
     alloc: Global,
     set: &ProgramSet,
