@@ -6,3 +6,4 @@ pub mod Pairing
 pub mod Classes
 pub mod Table
 pub mod Law
+pub mod Texts
