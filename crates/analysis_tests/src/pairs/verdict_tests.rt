@@ -55,7 +55,8 @@ fn shown(alloc: Global, verdict: &Verdict) -> Result<String, AllocError> {
     Ok(text)
 }
 
-/// The verdict on access `a` of one path against access `b` of another.
+/// The verdict on access `a` of one path against access `b` of another, of which the quick answer
+/// tells whether it is exposed.
 fn judged(
     rt: &impl Abort,
     alloc: Global,
@@ -67,22 +68,10 @@ fn judged(
     assert!(rt; is_question(x, a, y, b));
     assert!(rt; changes_single_cells(x));
     assert!(rt; changes_single_cells(y));
-    verdict(alloc, x, a, y, b)
-}
-
-/// Whether the question of two such accesses is exposed.
-fn exposed(
-    rt: &impl Abort,
-    alloc: Global,
-    x: &Path,
-    a: usize,
-    y: &Path,
-    b: usize,
-) -> Result<bool, AllocError> {
-    assert!(rt; is_question(x, a, y, b));
-    assert!(rt; changes_single_cells(x));
-    assert!(rt; changes_single_cells(y));
-    is_exposed_question(alloc, x, a, y, b)
+    let exposed = is_exposed_question(alloc, x, a, y, b)?;
+    let verdict = verdict(alloc, x, a, y, b)?;
+    assert!(rt; exposed == verdict.is_exposed());
+    Ok(verdict)
 }
 
 /// The verdict on the accesses at two places.
@@ -95,9 +84,7 @@ fn said(
 ) -> Result<String, AllocError> {
     let x = paths.get(mine.0).expect(rt, "the path is there");
     let y = paths.get(theirs.0).expect(rt, "the path is there");
-    let exposed = exposed(rt, alloc, x, mine.1, y, theirs.1)?;
     let verdict = judged(rt, alloc, x, mine.1, y, theirs.1)?;
-    assert!(rt; exposed == verdict.is_exposed());
     let shown = shown(alloc, &verdict);
     drop(verdict);
     shown
