@@ -156,7 +156,9 @@ fn is_left_open(
     mine: &Access,
     theirs: &Access,
 ) -> Result<bool, AllocError>
-    ensures { IfOk result (λ told. IsTrue told ↔ IsLeftOpen xs.now ys.now mine.now theirs.now) }
+    ensures told { IfOk result
+        (λ told. IsTrue told ↔ IsLeftOpen xs.now ys.now mine.now theirs.now) }
+    ensures at_once { HasFall (question_facts mine.now theirs.now) → IsOk result }
 {
     match number_fall(mine, theirs) {
         Some(_) => Ok(false),
@@ -165,7 +167,8 @@ fn is_left_open(
 }
 
 /// Whether the question of access `a` of one path against access `b` of another is exposed: what
-/// its verdict says, without chains and sample.
+/// its verdict says, without chains and sample. Where two numbers of a column fall it takes no
+/// memory.
 pub fn is_exposed_question(
     alloc: Global,
     x: &Path,
@@ -176,8 +179,9 @@ pub fn is_exposed_question(
     requires question { IsQuestion (two x.now y.now) (between a b) }
     requires single_x { ChangesSingleCells x.now }
     requires single_y { ChangesSingleCells y.now }
-    ensures { IfOk result
+    ensures exposed { IfOk result
         (λ exposed. TellsExposed (two x.now y.now) (between a b) exposed) }
+    ensures at_once { NumbersFall (two x.now y.now) (between a b) → IsOk result }
 {
     let xs = x.accesses.as_slice();
     let ys = y.accesses.as_slice();

@@ -3,8 +3,8 @@ use Rattle.conflict_pairs.proofs.Meaning.{fallen-not_open}
 use Rattle.conflict_pairs.proofs.judge.is_left_open.Goals as goal
 use Rattle.conflict_pairs.proofs.judge.is_left_open.Goals.{in-Some, in-None}
 
-pub returns : goal.returns
-returns c = elim c.match-number_fall.branch [
+pub returns-clause-told : goal.returns-clause-told
+returns-clause-told c = elim c.match-number_fall.branch [
   | in-Some w ↦
       let shortest = rw w.in-Some.is at c.number_fall.ensures.some in
       rw w.result-is (λ t. absurd (false≢true t), λ h. absurd (fallen-not_open c.args.xs.now c.args.ys.now c.args.mine.now c.args.theirs.now _ shortest.falls h))

@@ -9,5 +9,5 @@ returns c =
     let nodes = c.args.paths.now in
     let first = c.args.first.now in
     let second = c.args.second.now in
-    IfOk_then c.is_exposed_question.result (λ told. TellsExposed nodes (numbers_of (question_between first second)) told) c.is_exposed_question.ensures
+    IfOk_then c.is_exposed_question.result (λ told. TellsExposed nodes (numbers_of (question_between first second)) told) c.is_exposed_question.ensures.exposed
     (λ told h. TellsExposed-placed nodes first second c.index-paths-first.result c.index-paths-second.result c.requires.first c.requires.second c.index-paths-first.is c.index-paths-second.is told h)
