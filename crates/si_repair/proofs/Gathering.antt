@@ -125,7 +125,7 @@ in_own program n (p ∷ rest) (suc i) path k a e own f =
     member_right _ (placed_from n 0 (accesses_by program p)) (program_from program (n + 1) rest)
     (subst (λ (m : ℕ). IsMember (placed m k a) (program_from program (n + 1) rest)) z (in_own program (n + 1) rest i path k a e own f))
 
-pub placed_of : (nodes : List Path) (program : ℕ) → ArePlacesOf nodes program (program_from program 0 nodes)
+placed_of : (nodes : List Path) (program : ℕ) → ArePlacesOf nodes program (program_from program 0 nodes)
 placed_of nodes program = record { part = own_part program 0 nodes; only = only; each = each }
   where
     only : (p : Placed) → Contains (program_from program 0 nodes) p → IsAt nodes p × IsOfProgram nodes program p.node
@@ -143,9 +143,12 @@ placed_of nodes program = record { part = own_part program 0 nodes; only = only;
         contains_from_member (program_from program 0 nodes) p
         (subst (λ (m : ℕ). IsMember (placed m p.number p.access) (program_from program 0 nodes)) z (in_own program 0 nodes p.node at.0 p.number p.access at.1 own at.2))
 
-pub places_stand : (nodes : List Path) (program : ℕ) → All (λ (p : Placed). IsAt nodes p) (program_from program 0 nodes)
-places_stand nodes program k d lt =
-    ((placed_of nodes program).only (get_or (program_from program 0 nodes) k d) (Contains-get_or (program_from program 0 nodes) k d lt)).0
+-- places that are a program's are those of its accesses, and stand in the paths
+pub own_places : (nodes : List Path) (program : ℕ) (places : List Placed) → places ≡ program_from program 0 nodes → ArePlacesOf nodes program places
+own_places nodes program places is = subst (ArePlacesOf nodes program) (sym is) (placed_of nodes program)
+
+pub places_stand : (nodes : List Path) (program : ℕ) (places : List Placed) → places ≡ program_from program 0 nodes → All (λ (p : Placed). IsAt nodes p) places
+places_stand nodes program places is k d lt = ((own_places nodes program places is).only (get_or places k d) (Contains-get_or places k d lt)).0
 
 -- ---- what is told of a question
 

@@ -124,8 +124,7 @@ pub fn exposed_questions(
 {
     let firsts = program_places(alloc, paths, pair.from)?;
     let seconds = program_places(alloc, paths, pair.to)?;
-    let questions = exposed_among(alloc, paths, &firsts, &seconds)?;
-    Ok(questions)
+    exposed_among(alloc, paths, &firsts, &seconds)
 }
 
 /// The first question of an access that is exposed to another, or none.
@@ -162,6 +161,5 @@ pub fn first_exposed(
 {
     let reads = program_places(alloc, paths, pair.from)?;
     let changes = program_places(alloc, paths, pair.to)?;
-    let found = first_among(alloc, paths, &reads, &changes)?;
-    Ok(found)
+    first_among(alloc, paths, &reads, &changes)
 }

@@ -1,24 +1,19 @@
-use Rattle.std.proofs.Common.{List, ◌∙◌, sym, subst}
-use Rattle.std.specs.Prelude.{All}
-use Rattle.prog_paths.specs.Places.{IsAt}
-use Rattle.prog_paths.specs.declared.accesses.places.Placed.{Placed}
-use Rattle.si_repair.proofs.Gathering.{ArePlacesOf, placed_of, places_stand}
+use Rattle.std.proofs.Common.{◌∙◌}
+use Rattle.std.proofs.lemmas.Result.{IfOk-weaker}
+use Rattle.si_repair.proofs.Gathering.{own_places, places_stand}
 use Rattle.si_repair.proofs.Firsts.{first-from_places}
 use Rattle.si_repair.proofs.repairs.exposed.first_exposed.Goals as goal
 
 pub first_among-requires-clause-firsts : goal.first_among-requires-clause-firsts
-first_among-requires-clause-firsts c =
-    subst (λ (l : List Placed). All (λ (p : Placed). IsAt c.args.paths.now p) l) (sym (c.deref.ensures.value ∙ c.in_ok-reads.ensures)) (places_stand c.args.paths.now c.args.pair.from)
+first_among-requires-clause-firsts c = places_stand c.args.paths.now c.args.pair.from c.deref.result.now (c.deref.ensures.value ∙ c.in_ok-reads.ensures)
 
 pub first_among-requires-clause-seconds : goal.first_among-requires-clause-seconds
-first_among-requires-clause-seconds c =
-    subst (λ (l : List Placed). All (λ (p : Placed). IsAt c.args.paths.now p) l) (sym (c.deref-2.ensures.value ∙ c.in_ok-changes.ensures)) (places_stand c.args.paths.now c.args.pair.to)
+first_among-requires-clause-seconds c = places_stand c.args.paths.now c.args.pair.to c.deref-2.result.now (c.deref-2.ensures.value ∙ c.in_ok-changes.ensures)
 
 pub returns : goal.returns
 returns c =
     let nodes = c.args.paths.now in
     let pair = c.args.pair in
-    first-from_places nodes pair c.deref.result.now c.deref-2.result.now
-    (subst (λ (l : List Placed). ArePlacesOf nodes pair.from l) (sym (c.deref.ensures.value ∙ c.in_ok-reads.ensures)) (placed_of nodes pair.from))
-    (subst (λ (l : List Placed). ArePlacesOf nodes pair.to l) (sym (c.deref-2.ensures.value ∙ c.in_ok-changes.ensures)) (placed_of nodes pair.to))
-    c.in_ok-found.found c.in_ok-found.ensures
+    let reads = own_places nodes pair.from c.deref.result.now (c.deref.ensures.value ∙ c.in_ok-reads.ensures) in
+    let changes = own_places nodes pair.to c.deref-2.result.now (c.deref-2.ensures.value ∙ c.in_ok-changes.ensures) in
+    IfOk-weaker c.first_among.result _ _ (λ found. first-from_places nodes pair c.deref.result.now c.deref-2.result.now reads changes found) c.first_among.ensures

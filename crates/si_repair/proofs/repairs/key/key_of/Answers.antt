@@ -1,20 +1,16 @@
 use Rattle.std.proofs.Common.{ℕ, ◌∙◌, List, sym, subst}
-use Rattle.std.specs.Prelude.{Option, All}
-use Rattle.prog_paths.specs.Places.{IsAt}
-use Rattle.prog_paths.specs.declared.accesses.places.Placed.{Placed}
+use Rattle.std.specs.Prelude.{Option}
 use Rattle.repair_laws.specs.Keys.{IsKeyOf}
 use Rattle.si_repair.specs.Forcing.{AreForcedAmong}
-use Rattle.si_repair.proofs.Gathering.{ArePlacesOf, placed_of, places_stand}
+use Rattle.si_repair.proofs.Gathering.{own_places, places_stand}
 use Rattle.si_repair.proofs.Ranking.{IsKeyOf-among}
 use Rattle.si_repair.proofs.repairs.key.key_of.Goals as goal
 
 pub forced_pairs-requires-clause-reads : goal.forced_pairs-requires-clause-reads
-forced_pairs-requires-clause-reads c =
-    subst (λ (l : List Placed). All (λ (p : Placed). IsAt c.args.paths.now p) l) (sym (c.deref.ensures.value ∙ c.in_ok-reads.ensures)) (places_stand c.args.paths.now c.args.pair.from)
+forced_pairs-requires-clause-reads c = places_stand c.args.paths.now c.args.pair.from c.deref.result.now (c.deref.ensures.value ∙ c.in_ok-reads.ensures)
 
 pub forced_pairs-requires-clause-changes : goal.forced_pairs-requires-clause-changes
-forced_pairs-requires-clause-changes c =
-    subst (λ (l : List Placed). All (λ (p : Placed). IsAt c.args.paths.now p) l) (sym (c.deref-2.ensures.value ∙ c.in_ok-changes.ensures)) (places_stand c.args.paths.now c.args.pair.to)
+forced_pairs-requires-clause-changes c = places_stand c.args.paths.now c.args.pair.to c.deref-2.result.now (c.deref-2.ensures.value ∙ c.in_ok-changes.ensures)
 
 pub returns : goal.returns
 returns c =
@@ -26,6 +22,6 @@ returns c =
     let forced = subst (λ (l : List (ℕ × ℕ)). AreForcedAmong nodes reads changes c.args.firsts c.args.seconds l) (sym c.deref-3.ensures.value) c.in_ok-forced.ensures in
     subst (λ (o : Option (ℕ × ℕ)). IsKeyOf nodes pair c.args.firsts c.args.seconds o) (sym (c.copied.ensures ∙ c.first.ensures.value))
     (IsKeyOf-among nodes pair reads changes
-    (subst (λ (l : List Placed). ArePlacesOf nodes pair.from l) (sym (c.deref.ensures.value ∙ c.in_ok-reads.ensures)) (placed_of nodes pair.from))
-    (subst (λ (l : List Placed). ArePlacesOf nodes pair.to l) (sym (c.deref-2.ensures.value ∙ c.in_ok-changes.ensures)) (placed_of nodes pair.to))
+    (own_places nodes pair.from reads (c.deref.ensures.value ∙ c.in_ok-reads.ensures))
+    (own_places nodes pair.to changes (c.deref-2.ensures.value ∙ c.in_ok-changes.ensures))
     c.args.firsts c.args.seconds pairs forced)
