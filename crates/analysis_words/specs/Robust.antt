@@ -4,19 +4,20 @@ use Rattle.std.specs.Fmt.{decimal}
 use Rattle.prog_check.specs.declared.path.Path.{Path}
 use Rattle.prog_paths.specs.Asked.{limit, questions_of}
 use Rattle.robust_cert.specs.declared.certificate.Certificate.{Certificate}
-use Rattle.robust_cert.specs.declared.certificate.Entry.{Entry}
-use Rattle.robust_cert.specs.declared.certificate.Entry.TheVariants.{Apart, Cover}
+use Rattle.robust_cert.specs.declared.entries.Reason.{Reason}
+use Rattle.robust_cert.specs.declared.entries.Reason.TheVariants.{Apart, Cover}
+use Rattle.robust_cert.specs.Sharing.{Entry}
 use Rattle.analysis_words.specs.Nodes.{Sight}
 use Rattle.analysis_words.specs.Saying.{level_list}
 use Rattle.analysis_words.specs.SharedWords.{more_text}
 
-abbrev pub is_apart : Entry → Bool
-is_apart (Apart question chain) = true
-is_apart (Cover question mine theirs chains) = false
+abbrev pub is_apart : Reason → Bool
+is_apart (Apart chain) = true
+is_apart (Cover mine theirs chains) = false
 
 -- of how many questions the two accesses never meet
 abbrev pub apart_count : List Entry → ℕ
-apart_count entries = length (filter is_apart entries)
+apart_count entries = length (filter (λ e. is_apart e.reason) entries)
 
 abbrev pub reasons_text : (apart covered : ℕ) → List ℕ
 reasons_text apart covered = decimal apart ++ (codes " never do, " ++ (decimal covered ++ codes " clash where they do"))

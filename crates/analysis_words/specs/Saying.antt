@@ -7,7 +7,7 @@ use Rattle.prog_check.specs.declared.path.Path.{Path}
 use Rattle.prog_paths.specs.Asked.{limit}
 use Rattle.robust_cert.specs.Accepted.{body_size}
 use Rattle.robust_cert.specs.Reading.{IsTextOf}
-use Rattle.robust_cert.specs.Sharing.{question_told}
+use Rattle.robust_cert.specs.Sharing.{Entry}
 use Rattle.robust_cert.specs.declared.certificate.Certificate.{Certificate}
 use Rattle.robust_cert.specs.declared.certificate.Question.{Question}
 use Rattle.robust_cert.specs.declared.fault.CertFault.{CertFault}
@@ -121,7 +121,7 @@ entry_of c.Memory = None
 
 -- the question of an entry of a certificate
 abbrev pub asked_in : Certificate → (entry : ℕ) → Option Question
-asked_in certificate entry = option_map question_told (slice_get certificate.entries entry)
+asked_in certificate entry = option_map (λ (e : Entry). e.question) (slice_get certificate.entries entry)
 
 -- the words name both accesses of a question, if there is one
 abbrev pub IsQuestionText : Sight → Option Question → (words : List ℕ) → Type 0

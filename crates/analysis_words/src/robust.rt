@@ -1,7 +1,6 @@
 //! What a certificate shows of a robust set, in words.
 ghost use Rattle.std.specs.Prelude.{◌≡◌, IfOk, string_bytes, take};
-ghost use Rattle.robust_cert.specs.declared.certificate.Question.{Question};
-ghost use Rattle.robust_cert.specs.Sharing.{entry_told, entry_with, HasReason};
+ghost use Rattle.robust_cert.specs.Sharing.{reason_at, HasReason};
 ghost use Rattle.analysis_words.specs.Nodes.{seen, sight_of};
 ghost use Rattle.analysis_words.specs.Robust.{apart_count, entries_text, is_apart, IsMostText, levels_text, questions_text, reasons_text, SaysRobust};
 
@@ -18,7 +17,7 @@ use std::alloc::{AllocError, Global};
 
 // Whether questions with this reason never meet.
 fn is_never(reason: &Reason) -> bool
-    ensures { (question : Question) → result ≡ is_apart (entry_with question reason.now) }
+    ensures { result ≡ is_apart reason.now }
 {
     match reason {
         Reason::Apart(_) => true,
@@ -28,7 +27,7 @@ fn is_never(reason: &Reason) -> bool
 
 fn is_apart(told: &Told, reasons: &[Reason]) -> bool
     requires { HasReason reasons.now told.now }
-    ensures { result ≡ is_apart (entry_told reasons.now told.now) }
+    ensures { result ≡ is_apart (reason_at reasons.now told.now.reason) }
 {
     is_never(&reasons[told.reason])
 }

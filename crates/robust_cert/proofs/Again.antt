@@ -25,12 +25,13 @@ use Rattle.serde_json.proofs.Texts.{print-outline}
 use Rattle.order_facts.specs.declared.steps.Node.{Node}
 use Rattle.order_facts.specs.declared.steps.Node.TheVariants.{Mine, MineUnknown, Theirs, TheirsUnknown, Number}
 use Rattle.robust_cert.specs.declared.certificate.Question.{Question}
-use Rattle.robust_cert.specs.declared.certificate.Entry.{Entry}
-use Rattle.robust_cert.specs.declared.certificate.Entry.TheVariants.{Apart, Cover}
 use Rattle.robust_cert.specs.declared.certificate.Certificate.{Certificate}
+use Rattle.robust_cert.specs.declared.entries.Reason.{Reason}
+use Rattle.robust_cert.specs.declared.entries.Reason.TheVariants.{Apart, Cover}
 use Rattle.robust_cert.specs.Ranges.{IsSmall, NodeFits, ChainFits}
-use Rattle.robust_cert.specs.Json.{list_data, whole_data, lettered, node_data, chain_data, QuestionFits, entry_items, entry_data, EntryFits, has_no_bodies, first_data, second_data, certificate_data, certificate_text, CertificateFits, IsValueOf}
+use Rattle.robust_cert.specs.Json.{list_data, whole_data, lettered, node_data, chain_data, QuestionFits, entry_items, entry_data, ReasonFits, EntryFits, has_no_bodies, first_data, second_data, certificate_data, certificate_text, CertificateFits, IsValueOf}
 use Rattle.robust_cert.specs.Reading.{IsTextOf}
+use Rattle.robust_cert.specs.Sharing.{Entry, entry_with}
 use Rattle.robust_cert.proofs.LineEnd.{tokens_line}
 use Rattle.robust_cert.proofs.Texts.{first_whole, second_whole}
 
@@ -118,11 +119,14 @@ question_again k kind q reason u h t =
     array_again k _ (item_again k _ _ (text_again k kind u) (item_again k _ _ (small_again k q.x h.0) (item_again k _ _ (small_again k q.a h.1)
     (item_again k _ _ (small_again k q.y h.2) (item_again k _ _ (small_again k q.b h.3) t)))))
 
+reason_again : (q : Question) (reason : Reason) → QuestionFits q → ReasonFits reason → ReadsBack 4 (entry_data (entry_with q reason))
+reason_again q (Apart chain) f h = question_again 3 (codes "apart") q _ (IsUtf8-are_ascii _ refl) f (item_again 3 _ _ (chain_again 1 chain h) (no_items_again 3))
+reason_again q (Cover mine theirs chains) f h =
+    question_again 3 (codes "cover") q _ (IsUtf8-are_ascii _ refl) f (item_again 3 _ _ (small_again 3 mine h.0) (item_again 3 _ _ (small_again 3 theirs h.1)
+    (item_again 3 _ _ (list_again chain_data ChainFits 2 (chain_again 0) chains h.2) (no_items_again 3))))
+
 entry_again : (entry : Entry) → EntryFits entry → ReadsBack 4 (entry_data entry)
-entry_again (Apart q chain) h = question_again 3 (codes "apart") q _ (IsUtf8-are_ascii _ refl) h.0 (item_again 3 _ _ (chain_again 1 chain h.1) (no_items_again 3))
-entry_again (Cover q mine theirs chains) h =
-    question_again 3 (codes "cover") q _ (IsUtf8-are_ascii _ refl) h.0 (item_again 3 _ _ (small_again 3 mine h.1) (item_again 3 _ _ (small_again 3 theirs h.2)
-    (item_again 3 _ _ (list_again chain_data ChainFits 2 (chain_again 0) chains h.3) (no_items_again 3))))
+entry_again entry h = reason_again entry.question entry.reason h.0 h.1
 
 -- ---- the whole
 

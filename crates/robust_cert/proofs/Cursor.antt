@@ -7,16 +7,13 @@ use Rattle.std.proofs.lemmas.Option.{same_Some, none-some, slice_get-get_or, sli
 use Rattle.prog_paths.specs.StaticGraph.{Question}
 use Rattle.prog_paths.specs.Listing.{IsPlaceBefore, IsBefore, RiseBy}
 use Rattle.prog_paths.proofs.Order.{rise-between}
-use Rattle.robust_cert.specs.declared.certificate.Entry.{Entry}
 use Rattle.robust_cert.specs.declared.checking.telling.Telling.{Telling}
 use Rattle.robust_cert.specs.declared.checking.telling.Telling as telling
 use Rattle.robust_cert.specs.declared.certificate.Question.{Question as Asked}
-use Rattle.robust_cert.specs.declared.certificate.Entry as entry
 use Rattle.robust_cert.specs.declared.entries.Reason.{Reason}
-use Rattle.robust_cert.specs.declared.entries.Reason.TheVariants.{Apart, Cover}
 use Rattle.robust_cert.specs.Accepted.{numbers_told, question_of}
-use Rattle.robust_cert.specs.Telling.{is_same, telling_by, telling_with, telling_of, IsBehind}
-use Rattle.robust_cert.specs.Sharing.{question_told, entry_with}
+use Rattle.robust_cert.specs.Telling.{is_same, telling_with, telling_of, IsBehind}
+use Rattle.robust_cert.specs.Sharing.{Entry}
 use Rattle.robust_cert.proofs.Shared.{entry_at}
 
 -- ---- the order of questions
@@ -87,7 +84,7 @@ behind-differs p q h = false_from_ne_true (is_same p q) (λ e. before_irreflexiv
 skipped : (e : Entry) (rest : List Entry) (q : Question) → is_same (question_of e) q ≡ false → telling_of (e ∷ rest) q ≡ telling_of rest q
 skipped e rest q h = rw h refl
 
-pub met : (e : Entry) (rest : List Entry) (q : Question) → is_same (question_of e) q ≡ true → telling_of (e ∷ rest) q ≡ telling_by e
+pub met : (e : Entry) (rest : List Entry) (q : Question) → is_same (question_of e) q ≡ true → telling_of (e ∷ rest) q ≡ telling_with e.reason
 met e rest q h = rw h refl
 
 untold : (entries : List Entry) (q : Question) → All (λ e. is_same (question_of e) q ≡ false) entries → telling_of entries q ≡ telling.TheVariants.Nothing
@@ -98,11 +95,11 @@ behind-next : (e : Entry) (rest : List Entry) (k : ℕ) (q : Question) → IsBeh
 behind-next e rest k q h j d lt at = h (suc j) d (omega (arith, lt)) at
 
 -- where the cursor stands at an entry about the question, that tells it
-pub told-here : (entries : List Entry) (at : ℕ) (q : Question) → IsBehind entries at q → (e : Entry) → slice_get entries at ≡ Some e → is_same (question_of e) q ≡ true → telling_by e ≡ telling_of entries q
+pub told-here : (entries : List Entry) (at : ℕ) (q : Question) → IsBehind entries at q → (e : Entry) → slice_get entries at ≡ Some e → is_same (question_of e) q ≡ true → telling_with e.reason ≡ telling_of entries q
 told-here [] at q behind e is same = absurd (none-some e is)
 told-here (d ∷ rest) zero q behind e is same =
     let one = same_Some d e is in
-    sym (met d rest q (subst (λ (f : Entry). is_same (question_of f) q ≡ true) (sym one) same) ∙ (λ i. telling_by (one i)))
+    sym (met d rest q (subst (λ (f : Entry). is_same (question_of f) q ≡ true) (sym one) same) ∙ (λ i. telling_with (one i).reason))
 told-here (d ∷ rest) (suc at) q behind e is same =
     told-here rest at q (behind-next d rest at q behind) e is same
     ∙ sym (skipped d rest q (before-differs (question_of d) q (behind 0 d (omega arith) refl)))
@@ -129,7 +126,7 @@ told-nowhere (d ∷ rest) (suc at) q rise behind other =
 pub behind-entry : (entries : List Entry) (k : ℕ) (e : Entry) → RiseBy question_of entries → slice_get entries k ≡ Some e → IsBehind entries k (question_of e)
 behind-entry entries k e rise at j f lt is = rise-between question_of entries rise j k f e is at lt
 
-pub telling-from_entry : (entries : List Entry) (q : Question) (e : Entry) → RiseBy question_of entries → Contains entries e → question_of e ≡ q → telling_of entries q ≡ telling_by e
+pub telling-from_entry : (entries : List Entry) (q : Question) (e : Entry) → RiseBy question_of entries → Contains entries e → question_of e ≡ q → telling_of entries q ≡ telling_with e.reason
 telling-from_entry entries q e rise (k, lt, is) about =
     let at : slice_get entries k ≡ Some e = slice_get-get_or entries k e lt ∙ (λ i. Some (is i)) in
     sym (told-here entries k q (subst (λ (r : Question). IsBehind entries k r) about (behind-entry entries k e rise at)) e at (true-from_same (question_of e) q about))
@@ -138,7 +135,7 @@ telling-from_entry entries q e rise (k, lt, is) about =
 pub record IsToldBy (entries : List Entry) (q : Question) (e : Entry) : Type 0 where
   pub inside : Contains entries e
   pub about : question_of e ≡ q
-  pub tells : telling_of entries q ≡ telling_by e
+  pub tells : telling_of entries q ≡ telling_with e.reason
 
 pub told_cases : (entries : List Entry) (q : Question) → (telling_of entries q ≡ telling.TheVariants.Nothing) ⊎ ((e : Entry) × IsToldBy entries q e)
 told_cases [] q = inl refl
@@ -151,17 +148,9 @@ told_cases (d ∷ rest) q = go (cases_Bool (is_same (question_of d) q)) (told_ca
 
 -- ---- the question and the reason at the cursor
 
-pub question-asked : (e : Entry) → question_of e ≡ numbers_told (question_told e)
-question-asked (entry.TheVariants.Apart q chain) = refl
-question-asked (entry.TheVariants.Cover q mine theirs chains) = refl
-
-pub telling-with : (q : Asked) (reason : Reason) → telling_with reason ≡ telling_by (entry_with q reason)
-telling-with q (Apart chain) = refl
-telling-with q (Cover mine theirs chains) = refl
-
-module _ (entries : List Entry) (at : ℕ) (q : Question) (behind : IsBehind entries at q) (p : Asked) (about : (e : Entry) → slice_get entries at ≡ Some e → p ≡ question_told e) where
+module _ (entries : List Entry) (at : ℕ) (q : Question) (behind : IsBehind entries at q) (p : Asked) (about : (e : Entry) → slice_get entries at ≡ Some e → p ≡ e.question) where
   asked-here : (e : Entry) → slice_get entries at ≡ Some e → numbers_told p ≡ question_of e
-  asked-here e is = ap numbers_told (about e is) ∙ sym (question-asked e)
+  asked-here e is = ap numbers_told (about e is)
 
   module _ (m : Question) (named : m ≡ numbers_told p) where
     -- the cursor goes on, where the question stands before
@@ -178,10 +167,10 @@ module _ (entries : List Entry) (at : ℕ) (q : Question) (behind : IsBehind ent
     stops-here b says against e is before = false≢true (sym against ∙ says.1 (subst (λ (o : Question). IsBefore o q) (sym (named ∙ asked-here e is)) before))
 
   -- what the reason tells, where the question is the same
-  pub reason-tells : (r : Reason) → at < length entries → ((e : Entry) → slice_get entries at ≡ Some e → e ≡ entry_with (question_told e) r) → is_same (numbers_told p) q ≡ true → telling_with r ≡ telling_of entries q
+  pub reason-tells : (r : Reason) → at < length entries → ((e : Entry) → slice_get entries at ≡ Some e → r ≡ e.reason) → is_same (numbers_told p) q ≡ true → telling_with r ≡ telling_of entries q
   reason-tells r lt told same =
       let w = entry_at entries at lt in
-      telling-with (question_told w.0) r ∙ ap telling_by (sym (told w.0 w.1))
+      ap telling_with (told w.0 w.1)
       ∙ told-here entries at q behind w.0 w.1 (subst (λ (o : Question). is_same o q ≡ true) (asked-here w.0 w.1) same)
 
   -- and nothing, where it is another

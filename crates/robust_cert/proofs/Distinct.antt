@@ -7,9 +7,10 @@ use Rattle.serde_json.specs.View.{items_of}
 use Rattle.order_facts.specs.declared.steps.Node.{Node}
 use Rattle.order_facts.specs.declared.steps.Node.TheVariants.{Mine, MineUnknown, Theirs, TheirsUnknown, Number}
 use Rattle.robust_cert.specs.declared.certificate.Question.{Question}
-use Rattle.robust_cert.specs.declared.certificate.Entry.{Entry}
-use Rattle.robust_cert.specs.declared.certificate.Entry.TheVariants.{Apart, Cover}
+use Rattle.robust_cert.specs.declared.entries.Reason.{Reason}
+use Rattle.robust_cert.specs.declared.entries.Reason.TheVariants.{Apart, Cover}
 use Rattle.robust_cert.specs.Json.{node_data, chain_data, list_data, entry_data, whole_data}
+use Rattle.robust_cert.specs.Sharing.{Entry, entry_with}
 use Rattle.robust_cert.proofs.EntryValues.{kinds_differ}
 
 -- ---- a node is in its value
@@ -75,11 +76,20 @@ question x a y b = record { x = x; a = a; y = y; b = b }
 same_question : (p q : Question) → p.x ≡ q.x → p.a ≡ q.a → p.y ≡ q.y → p.b ≡ q.b → p ≡ q
 same_question p q e f g h = let r : question p.x p.a p.y p.b ≡ question q.x q.a q.y q.b = rw (e, f, g, h) refl in r
 
+same_told : (p q : Question) (r s : Reason) → entry_data (entry_with p r) ≡ entry_data (entry_with q s) → entry_with p r ≡ entry_with q s
+same_told p q (Apart c) (Apart d) e =
+    let f = same_question p q (cc) (cc) (cc) (cc) in
+    ap₂ entry_with f (ap Apart (same_chain c d (cc)))
+same_told p q (Apart c) (Cover m t d) e = absurd (kinds_differ (cc))
+same_told p q (Cover m t c) (Apart d) e = absurd (kinds_differ (cc))
+same_told p q (Cover m t c) (Cover n u d) e =
+    let f = same_question p q (cc) (cc) (cc) (cc) in
+    let g = same_list chain_data same_chain c d (cc) in
+    let r : Cover m t c ≡ Cover n u d = cc in
+    ap₂ entry_with f r
+
 same_entry : (a b : Entry) → entry_data a ≡ entry_data b → a ≡ b
-same_entry (Apart p c) (Apart q d) e = let f = same_question p q (cc) (cc) (cc) (cc) in let g = same_chain c d (cc) in cc
-same_entry (Apart p c) (Cover q m t d) e = absurd (kinds_differ (cc))
-same_entry (Cover p m t c) (Apart q d) e = absurd (kinds_differ (cc))
-same_entry (Cover p m t c) (Cover q n u d) e = let f = same_question p q (cc) (cc) (cc) (cc) in let g = same_list chain_data same_chain c d (cc) in cc
+same_entry a b = same_told a.question b.question a.reason b.reason
 
 pub same_entries : (xs ys : List Entry) → list_data entry_data xs ≡ list_data entry_data ys → xs ≡ ys
 same_entries = same_list entry_data same_entry

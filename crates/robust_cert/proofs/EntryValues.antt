@@ -9,35 +9,29 @@ use Rattle.serde_json.specs.View.{view, items_view}
 use Rattle.serde_json.specs.declared.value.Value.{Value, Array}
 use Rattle.serde_json.proofs.Views.{view-Array, items_len-items_view}
 use Rattle.robust_cert.specs.declared.certificate.Question.{Question}
-use Rattle.robust_cert.specs.declared.certificate.Entry.{Entry}
-use Rattle.robust_cert.specs.declared.certificate.Entry as entry
 use Rattle.robust_cert.specs.declared.entries.Reason.{Reason}
 use Rattle.robust_cert.specs.declared.entries.Reason.TheVariants.{Apart, Cover}
-use Rattle.robust_cert.specs.Json.{QuestionFits, EntryFits, entry_items, entry_data, AreNumbersOf, reason_kind, reason_items, IsWordedAs}
-use Rattle.robust_cert.specs.Parts.{ReasonFits}
-use Rattle.robust_cert.specs.Sharing.{entry_with}
+use Rattle.robust_cert.specs.Json.{QuestionFits, ReasonFits, EntryFits, entry_data, AreNumbersOf, IsWordedAs}
+use Rattle.robust_cert.specs.Sharing.{Entry, entry_with}
 
 shown : (value : Value) (items : Vec Value Global) (seen : List Value) → value ≡ Array items → seen ≡ items.items → view value ≡ array (items_view seen)
 shown value items seen is here = ap view is ∙ view-Array items ∙ ap (λ vs. array (items_view vs)) (sym here)
 
 -- fewer than five items are no entry
-pub not_short : (value : Value) (items : Vec Value Global) (seen : List Value) → value ≡ Array items → seen ≡ items.items → length seen < 5 → (entry : Entry) → view value ≢ entry_data entry
-not_short value items seen is here short (entry.TheVariants.Apart q chain) e =
+short_differs : (value : Value) (items : Vec Value Global) (seen : List Value) → value ≡ Array items → seen ≡ items.items → length seen < 5 → (q : Question) (reason : Reason) → view value ≢ entry_data (entry_with q reason)
+short_differs value items seen is here short q (Apart chain) e =
     let n : items_len (items_view seen) ≡ 6 = cc (ap (λ d. option_map items_len (as_array d)) (sym (shown value items seen is here) ∙ e)) in
     omega (arith, items_len-items_view seen)
-not_short value items seen is here short (entry.TheVariants.Cover q mine theirs chains) e =
+short_differs value items seen is here short q (Cover mine theirs chains) e =
     let n : items_len (items_view seen) ≡ 8 = cc (ap (λ d. option_map items_len (as_array d)) (sym (shown value items seen is here) ∙ e)) in
     omega (arith, items_len-items_view seen)
 
--- the value of an entry, by the word and the items of its reason
-told_data : (q : Question) (reason : Reason) → entry_data (entry_with q reason) ≡ entry_items (reason_kind reason) q (reason_items reason)
-told_data q (Apart chain) = refl
-told_data q (Cover mine theirs chains) = refl
+pub not_short : (value : Value) (items : Vec Value Global) (seen : List Value) → value ≡ Array items → seen ≡ items.items → length seen < 5 → (entry : Entry) → view value ≢ entry_data entry
+not_short value items seen is here short entry = short_differs value items seen is here short entry.question entry.reason
 
 -- a question in its range and a reason in its own make an entry in its own
 pub entry_fits : (q : Question) (reason : Reason) → QuestionFits q → ReasonFits reason → EntryFits (entry_with q reason)
-entry_fits q (Apart chain) f g = (f, g)
-entry_fits q (Cover mine theirs chains) f g = (f, g.0, g.1, g.2)
+entry_fits q reason f g = (f, g)
 
 pub kinds_differ : codes "apart" ≢ codes "cover"
 kinds_differ e = let h : ◌≡◌ {A = ℕ} 97 99 = ap (λ (s : List ℕ). slice_index s 0) e in omega (arith, h)
@@ -74,8 +68,7 @@ module _ (value : Value) (items : Vec Value Global) (seen : List Value) (k x a y
   whole = shown value items seen p.is p.here ∙ ap array (five seen k x a y b p.enough p.first p.second p.third p.fourth p.fifth)
 
   pub entry_taken : (q : Question) (reason : Reason) → AreNumbersOf q (view x) (view a) (view y) (view b) → IsWordedAs reason (view k) (items_view (behind seen)) → view value ≡ entry_data (entry_with q reason)
-  entry_taken q reason e f = whole ∙ rw (e.0, e.1, e.2, e.3, f.0, f.1) (sym (told_data q reason))
+  entry_taken q reason e f = whole ∙ rw (e.0, e.1, e.2, e.3, f.0, f.1) refl
 
   pub not_entry : ((reason : Reason) → ReasonFits reason → ¬ IsWordedAs reason (view k) (items_view (behind seen))) → (entry : Entry) → EntryFits entry → view value ≢ entry_data entry
-  not_entry none (entry.TheVariants.Apart q chain) fits g = none (Apart chain) fits.1 (cc (sym whole ∙ g), cc (sym whole ∙ g))
-  not_entry none (entry.TheVariants.Cover q mine theirs chains) fits g = none (Cover mine theirs chains) (fits.1, fits.2, fits.3) (cc (sym whole ∙ g), cc (sym whole ∙ g))
+  not_entry none entry fits g = none entry.reason fits.1 (cc (sym whole ∙ g), cc (sym whole ∙ g))

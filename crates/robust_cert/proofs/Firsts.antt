@@ -1,5 +1,5 @@
 -- Entry by entry: what stands so far, and which fault is the first.
-use Rattle.std.proofs.Common.{◌≡◌, ℕ, ◌<◌, ◌+◌, ◌-◌, ◌↔◌, Bool, true, false, List, [], ◌∷◌, ◌++◌, length, take, get_or, refl, sym, subst, ap, ◌∙◌, arith, zero, suc, Some}
+use Rattle.std.proofs.Common.{◌≡◌, ℕ, ◌<◌, ◌+◌, ◌-◌, ◌↔◌, Bool, true, false, List, [], ◌∷◌, ◌++◌, length, take, get_or, refl, sym, subst, ap, ap₂, ◌∙◌, arith, zero, suc, Some}
 use Rattle.std.specs.Prelude.{slice_get, All}
 use Rattle.std.proofs.lemmas.List.{take_more, length-take-le}
 use Rattle.std.proofs.lemmas.List.Elements.{All-nil, All-cons, All-head, All-tail, All-more, All-push}
@@ -11,7 +11,6 @@ use Rattle.prog_paths.specs.StaticGraph.{Question}
 use Rattle.prog_paths.specs.Asked.{IsQuestion}
 use Rattle.prog_paths.specs.Listing.{IsBefore, RiseBy}
 use Rattle.robust_cert.specs.declared.certificate.Question.{Question as Asked}
-use Rattle.robust_cert.specs.declared.certificate.Entry.{Entry}
 use Rattle.robust_cert.specs.declared.certificate.Certificate.{Certificate}
 use Rattle.robust_cert.specs.declared.entries.Reason.{Reason}
 use Rattle.robust_cert.specs.declared.fault.CertFault.{CertFault}
@@ -19,8 +18,8 @@ use Rattle.robust_cert.specs.declared.fault.CertFault.TheVariants.{TooLarge, Pat
 use Rattle.robust_cert.specs.Accepted.{numbers_told, question_of, IsFitting, ChainsHold, Holds}
 use Rattle.robust_cert.specs.Refused.{StandTo, IsAtFault, IsBehindLast, IsOutOfOrder, HasBadCover, HasBadChain, IsFirstFault}
 use Rattle.robust_cert.specs.Flaws.{IsAskedPair, StandsAt, IsEntryFault, IsFaultAt}
-use Rattle.robust_cert.specs.Sharing.{question_told, entry_with}
-use Rattle.robust_cert.proofs.Cursor.{before_trans, question-asked}
+use Rattle.robust_cert.specs.Sharing.{Entry, entry_with}
+use Rattle.robust_cert.proofs.Cursor.{before_trans}
 use Rattle.robust_cert.proofs.Shared.{entry_at}
 
 slice_get-take : (k : ℕ) (xs : List Entry) (j : ℕ) (x : Entry) → slice_get (take k xs) j ≡ Some x → slice_get xs j ≡ Some x
@@ -88,17 +87,17 @@ module _ (nodes : List Path) (c : Certificate) (k : ℕ) (inside : k < length c.
 -- ---- one entry
 
 -- an entry is about no question
-pub no-question : (nodes : List Path) (entries : List Entry) (k : ℕ) (p : Asked) → ((e : Entry) → slice_get entries k ≡ Some e → p ≡ question_told e) → (q : Question) → q ≡ numbers_told p → (IsQuestion nodes q → ⊥) → IsFaultAt nodes entries k (NoSuchEntry k)
-no-question nodes entries k p about q named against e at = (refl, λ h. against (subst (IsQuestion nodes) (question-asked e ∙ ap numbers_told (sym (about e at)) ∙ sym named) h))
+pub no-question : (nodes : List Path) (entries : List Entry) (k : ℕ) (p : Asked) → ((e : Entry) → slice_get entries k ≡ Some e → p ≡ e.question) → (q : Question) → q ≡ numbers_told p → (IsQuestion nodes q → ⊥) → IsFaultAt nodes entries k (NoSuchEntry k)
+no-question nodes entries k p about q named against e at = (refl, λ h. against (subst (IsQuestion nodes) (ap numbers_told (sym (about e at)) ∙ sym named) h))
 
 -- an entry that isn't the first stands behind the one before it, if their questions do
-module _ (entries : List Entry) (k : ℕ) (inside : k < length entries) (later : 0 < k) (o p : Asked) (before : (e : Entry) → slice_get entries (k - 1) ≡ Some e → o ≡ question_told e) (about : (e : Entry) → slice_get entries k ≡ Some e → p ≡ question_told e)
+module _ (entries : List Entry) (k : ℕ) (inside : k < length entries) (later : 0 < k) (o p : Asked) (before : (e : Entry) → slice_get entries (k - 1) ≡ Some e → o ≡ e.question) (about : (e : Entry) → slice_get entries k ≡ Some e → p ≡ e.question)
     (m n : Question) (first : m ≡ numbers_told o) (second : n ≡ numbers_told p) (b : Bool) (says : (b ≡ true) ↔ IsBefore m n) (e : Entry) (at : slice_get entries k ≡ Some e) where
   second_is : n ≡ question_of e
-  second_is = second ∙ ap numbers_told (about e at) ∙ sym (question-asked e)
+  second_is = second ∙ ap numbers_told (about e at)
 
   first_is : (last : Entry) → slice_get entries (k - 1) ≡ Some last → m ≡ question_of last
-  first_is last is = first ∙ ap numbers_told (before last is) ∙ sym (question-asked last)
+  first_is last is = first ∙ ap numbers_told (before last is)
 
   pub behind-last : (b ≡ true) ↔ IsBehindLast entries k e
   behind-last = (
@@ -108,18 +107,18 @@ module _ (entries : List Entry) (k : ℕ) (inside : k < length entries) (later :
         says.1 (subst (IsBefore m) (sym second_is) (subst (λ (r : Question). IsBefore r (question_of e)) (sym (first_is w.0 w.1)) (h (k - 1) w.0 (omega (arith, later)) w.1))),
   )
 
-module _ (nodes : List Path) (entries : List Entry) (k : ℕ) (p : Asked) (about : (e : Entry) → slice_get entries k ≡ Some e → p ≡ question_told e)
+module _ (nodes : List Path) (entries : List Entry) (k : ℕ) (p : Asked) (about : (e : Entry) → slice_get entries k ≡ Some e → p ≡ e.question)
     (q : Question) (named : q ≡ numbers_told p) (mine theirs : Access) (pair : IsAskedPair nodes q mine theirs) (behind : Bool) (says : (e : Entry) → slice_get entries k ≡ Some e → (behind ≡ true) ↔ IsBehindLast entries k e) where
   asked : (e : Entry) → slice_get entries k ≡ Some e → IsQuestion nodes (question_of e)
   asked e at =
-      subst (IsQuestion nodes) (named ∙ ap numbers_told (about e at) ∙ sym (question-asked e)) (record { mine = mine; theirs = theirs; asked = pair.asked; asks = pair.asks })
+      subst (IsQuestion nodes) (named ∙ ap numbers_told (about e at)) (record { mine = mine; theirs = theirs; asked = pair.asked; asks = pair.asks })
 
   pub order-fault : behind ≡ false → IsFaultAt nodes entries k (EntryOrder k)
   order-fault against e at = (refl, (asked e at, λ b. false≢true (sym against ∙ (says e at).1 b)))
 
-  module _ (r : Reason) (told : (e : Entry) → slice_get entries k ≡ Some e → e ≡ entry_with (question_told e) r) (yes : behind ≡ true) where
+  module _ (r : Reason) (told : (e : Entry) → slice_get entries k ≡ Some e → r ≡ e.reason) (yes : behind ≡ true) where
     same_entry : (e : Entry) → slice_get entries k ≡ Some e → entry_with p r ≡ e
-    same_entry e at = ap (λ (o : Asked). entry_with o r) (about e at) ∙ sym (told e at)
+    same_entry e at = ap₂ entry_with (about e at) (told e at)
 
     pub entry-stands : IsFitting nodes (entry_with p r) → ChainsHold nodes (entry_with p r) → StandsAt nodes entries k
     entry-stands fitting chains e at = (

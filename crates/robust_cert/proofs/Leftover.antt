@@ -1,5 +1,5 @@
 -- The tables have just the edges that are left.
-use Rattle.std.proofs.Common.{◌≡◌, ℕ, ◌⊎◌, inl, inr, true, List, length, sym, ap, ◌∙◌}
+use Rattle.std.proofs.Common.{◌≡◌, ℕ, ◌⊎◌, inl, inr, true, false, List, length, refl, sym, ap, ◌∙◌}
 use Rattle.std.specs.Prelude.{Contains}
 use Rattle.std.proofs.lemmas.Bool.{false≢true}
 use Rattle.prog_check.specs.declared.path.Access.{Access}
@@ -15,34 +15,44 @@ use Rattle.prog_paths.proofs.Edges.{HasQuestion-inside, EdgeOf-inside}
 use Rattle.prog_paths.proofs.Elements.{any_in, in_any}
 use Rattle.prog_paths.proofs.Grids.{test-from_joined, joined-from_test}
 use Rattle.prog_paths.proofs.Marked.{edge-from_mark, vulnerable-from_mark, mark-from_edge, mark-from_vulnerable}
-use Rattle.robust_cert.specs.declared.certificate.Entry.{Entry}
-use Rattle.robust_cert.specs.declared.certificate.Entry.TheVariants.{Apart, Cover}
+use Rattle.robust_cert.specs.declared.entries.Reason.{Reason}
+use Rattle.robust_cert.specs.declared.entries.Reason.TheVariants.{Apart, Cover}
 use Rattle.prog_paths.specs.declared.accesses.mark.EdgeTables.{EdgeTables}
 use Rattle.robust_cert.specs.declared.checking.telling.Telling.{Telling}
 use Rattle.robust_cert.specs.declared.checking.telling.Telling as telling
-use Rattle.robust_cert.specs.Accepted.{question_of, IsToldApart, IsTold, IsLeft, IsLeftVulnerable}
-use Rattle.robust_cert.specs.Telling.{telling_of, may_meet, may_be_exposed, mark_under}
+use Rattle.robust_cert.specs.Accepted.{question_of, SaysApart, IsToldApart, IsTold, IsLeft, IsLeftVulnerable}
+use Rattle.robust_cert.specs.Sharing.{Entry}
+use Rattle.robust_cert.specs.Telling.{telling_with, telling_of, may_meet, may_be_exposed, mark_under}
 use Rattle.robust_cert.specs.Leaving.{some_edge, some_vulnerable, Leaves}
 use Rattle.robust_cert.proofs.Cursor.{telling-from_entry, IsToldBy, told_cases}
 
--- ---- what is told, and the tests of it
+-- ---- what a reason tells, and the tests of it
+
+apart-never_meets : (r : Reason) → SaysApart r → may_meet (telling_with r) ≡ false
+apart-never_meets (Apart chain) says = refl
+apart-never_meets (Cover m t chains) says = absurd says
+
+else-may_meet : (r : Reason) → (SaysApart r → ⊥) → may_meet (telling_with r) ≡ true
+else-may_meet (Apart chain) other = absurd (other tt)
+else-may_meet (Cover m t chains) other = refl
+
+told-not_exposed : (r : Reason) → may_be_exposed (telling_with r) ≡ false
+told-not_exposed (Apart chain) = refl
+told-not_exposed (Cover m t chains) = refl
 
 module _ (entries : List Entry) (q : Question) where
   untold_apart : RiseBy question_of entries → may_meet (telling_of entries q) ≡ true → IsToldApart entries q → ⊥
-  untold_apart rise h (Apart p chain, inside, says) = false≢true (sym (ap may_meet (telling-from_entry entries q (Apart p chain) rise inside says)) ∙ h)
-  untold_apart rise h (Cover p m t chains, inside, says) = says
+  untold_apart rise h (e, inside, says, about) = false≢true (sym (ap may_meet (telling-from_entry entries q e rise inside about) ∙ apart-never_meets e.reason says) ∙ h)
 
   untold : RiseBy question_of entries → may_be_exposed (telling_of entries q) ≡ true → IsTold entries q → ⊥
-  untold rise h (Apart p chain, inside, about) = false≢true (sym (ap may_be_exposed (telling-from_entry entries q (Apart p chain) rise inside about)) ∙ h)
-  untold rise h (Cover p m t chains, inside, about) = false≢true (sym (ap may_be_exposed (telling-from_entry entries q (Cover p m t chains) rise inside about)) ∙ h)
+  untold rise h (e, inside, about) = false≢true (sym (ap may_be_exposed (telling-from_entry entries q e rise inside about) ∙ told-not_exposed e.reason) ∙ h)
 
   may_meet-untold : (IsToldApart entries q → ⊥) → may_meet (telling_of entries q) ≡ true
   may_meet-untold h = go (told_cases entries q)
     where
       go : (telling_of entries q ≡ telling.TheVariants.Nothing) ⊎ ((e : Entry) × IsToldBy entries q e) → may_meet (telling_of entries q) ≡ true
       go (inl n) = ap may_meet n
-      go (inr (Apart p chain, t)) = absurd (h (Apart p chain, t.inside, t.about))
-      go (inr (Cover p m c chains, t)) = ap may_meet t.tells
+      go (inr (e, t)) = ap may_meet t.tells ∙ else-may_meet e.reason (λ says. h (e, t.inside, says, t.about))
 
   exposed-untold : (IsTold entries q → ⊥) → may_be_exposed (telling_of entries q) ≡ true
   exposed-untold h = go (told_cases entries q)

@@ -15,7 +15,6 @@ use Rattle.prog_paths.specs.Listing.{IsBefore, RiseBy}
 use Rattle.prog_paths.proofs.Asked.{asked_by-append, asked_among-append}
 use Rattle.prog_paths.proofs.Changing.{seconds_ask}
 use Rattle.prog_paths.proofs.Order.{law_of_order}
-use Rattle.robust_cert.specs.declared.certificate.Entry.{Entry}
 use Rattle.prog_paths.specs.declared.accesses.mark.EdgeTables.{EdgeTables}
 use Rattle.prog_paths.specs.declared.accesses.mark.Mark.{Mark}
 use Rattle.robust_cert.specs.declared.checking.telling.Telling.{Telling}
@@ -24,6 +23,7 @@ use Rattle.order_facts.specs.Square.{Grid, entry, IsEmptySquare, IsSquareOf, Ent
 use Rattle.prog_paths.specs.Marks.{gives_edge, gives_vulnerable, EntersMark}
 use Rattle.robust_cert.specs.Telling.{telling_of, mark_with, mark_under, IsBehind}
 use Rattle.robust_cert.specs.Leaving.{some_edge, some_vulnerable, Leaves, IsReady, Passes}
+use Rattle.robust_cert.specs.Sharing.{Entry}
 use Rattle.robust_cert.proofs.Cursor.{before_trans}
 
 -- ---- lists in two parts

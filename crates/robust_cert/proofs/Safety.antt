@@ -1,6 +1,6 @@
 -- An accepted certificate leaves no dangerous structure.
-use Rattle.std.proofs.Common.{◌≡◌, ℕ, ◌≤◌, inl, List, subst, arith}
-use Rattle.std.specs.Prelude.{All, Contains}
+use Rattle.std.proofs.Common.{ℕ, ◌≤◌, inl, List, subst, arith}
+use Rattle.std.specs.Prelude.{All}
 use Rattle.std.proofs.lemmas.List.Elements.{All-contains}
 use Rattle.prog_check.specs.declared.path.Access.{Access}
 use Rattle.prog_check.specs.declared.path.Path.{Path}
@@ -15,11 +15,10 @@ use Rattle.prog_paths.proofs.Shown.{IsPair, apart-from_Falls, same-from_CoversBy
 use Rattle.prog_paths.proofs.Marked.{same_access}
 use Rattle.prog_paths.proofs.Edges.{HasQuestion-weaker, EdgeOf-weaker}
 use Rattle.prog_paths.proofs.SingleCells.{law_of_single_changes}
-use Rattle.robust_cert.specs.declared.certificate.Question as cert
-use Rattle.robust_cert.specs.declared.certificate.Entry.{Entry}
-use Rattle.robust_cert.specs.declared.certificate.Entry.TheVariants.{Apart, Cover}
 use Rattle.robust_cert.specs.declared.certificate.Certificate.{Certificate}
-use Rattle.robust_cert.specs.Accepted.{numbers_told, question_of, ChainsHold, Holds, SaysApart, IsToldApart, IsTold, IsLeft, IsLeftVulnerable, LevelsRise, IsAccepted}
+use Rattle.robust_cert.specs.declared.entries.Reason.{Reason}
+use Rattle.robust_cert.specs.declared.entries.Reason.TheVariants.{Apart, Cover}
+use Rattle.robust_cert.specs.Accepted.{question_of, ChainsShow, Holds, SaysApart, IsToldApart, IsTold, IsLeft, IsLeftVulnerable, LevelsRise, IsAccepted}
 use Rattle.robust_cert.specs.Law.{LawOfAcceptance}
 use Rattle.robust_cert.proofs.Chains.{AllEqual-from_ShowEqual, single_of}
 
@@ -41,13 +40,12 @@ module _ (nodes : List Path) (single : All ChangesSingleCells nodes) (c : Certif
 
   -- a question that is told apart never meets
   apart-right : (q : Question) (mine theirs : Access) → AsksOf nodes q mine theirs → Asks q mine.kind theirs.kind → IsToldApart c.entries q → CanMeet mine theirs → ⊥
-  apart-right q mine theirs asked asks (e, inside, says) meet = by e (All-contains (Holds nodes) c.entries e a.holds inside) says
+  apart-right q mine theirs asked asks (e, inside, says, about) meet = by e.reason (All-contains (Holds nodes) c.entries e a.holds inside).chains says
     where
-      by : (e : Entry) → Holds nodes e → SaysApart q e → ⊥
-      by (Cover p m t chains) h s = s
-      by (Apart p chain) h s =
-          let w = h.chains in
-          let own = subst (λ (r : Question). AsksOf nodes r w.0 w.1) s w.2 in
+      by : (r : Reason) → ChainsShow nodes (question_of e) r → SaysApart r → ⊥
+      by (Cover m t chains) w says = says
+      by (Apart chain) w says =
+          let own = subst (λ (r : Question). AsksOf nodes r w.0 w.1) about w.2 in
           let first = same_access nodes q.x q.a w.0 mine own.at_mine asked.at_mine in
           let second = same_access nodes q.y q.b w.1 theirs own.at_theirs asked.at_theirs in
           let falls = subst (λ (t : Access). Falls (question_facts mine t) chain) second (subst (λ (m : Access). Falls (question_facts m w.1) chain) first w.3) in
@@ -55,32 +53,33 @@ module _ (nodes : List Path) (single : All ChangesSingleCells nodes) (c : Certif
 
   -- a question that is told meets only where it is covered
   told-right : (q : Question) (mine theirs : Access) → AsksOf nodes q mine theirs → Asks q mine.kind theirs.kind → IsTold c.entries q → CanMeet mine theirs → IsCovered nodes q.x q.y mine theirs
-  told-right q mine theirs asked asks (e, inside, about) meet = by e (All-contains (Holds nodes) c.entries e a.holds inside) inside about
+  told-right q mine theirs asked asks (e, inside, about) meet =
+      by e.reason (All-contains (Holds nodes) c.entries e a.holds inside).chains (λ says. apart-right q mine theirs asked asks (e, inside, says, about) meet)
     where
-      by : (e : Entry) → Holds nodes e → Contains c.entries e → question_of e ≡ q → IsCovered nodes q.x q.y mine theirs
-      by (Apart p chain) h i s = absurd (apart-right q mine theirs asked asks (Apart p chain, i, s) meet)
-      by (Cover p m t chains) h i s = covered p m t chains h.chains s
-        where
-          covered : (p : cert.Question) (m t : ℕ) (chains : List (List Node)) → ChainsHold nodes (Cover p m t chains) → numbers_told p ≡ q → IsCovered nodes q.x q.y mine theirs
-          covered p m t chains (of_mine, of_theirs, cover, shown) s =
-              let own = subst (λ (r : Question). AsksOf nodes r cover.mine cover.theirs) s cover.asked in
-              let first = same_access nodes q.x q.a cover.mine mine own.at_mine asked.at_mine in
-              let second = same_access nodes q.y q.b cover.theirs theirs own.at_theirs asked.at_theirs in
-              let equal = AllEqual-from_ShowEqual (question_facts cover.mine cover.theirs) (key_pairs of_mine of_theirs) chains shown in
-              let by_own = subst (λ (b : Access). AllEqual (question_facts mine b) (key_pairs of_mine of_theirs)) second (subst (λ (b : Access). AllEqual (question_facts b cover.theirs) (key_pairs of_mine of_theirs)) first equal) in
-              let at_first = subst (λ (r : Question). IsAccessOf nodes r.x m of_mine) s cover.at_mine in
-              let at_second = subst (λ (r : Question). IsAccessOf nodes r.y t of_theirs) s cover.at_theirs in
-              record {
-                first = m;
-                second = t;
-                of_first = of_mine;
-                of_second = of_theirs;
-                at_first = at_first;
-                at_second = at_second;
-                first_covers = cover.mine_covers;
-                second_covers = cover.theirs_covers;
-                same = same-from_CoversBy mine theirs (pair_of q mine theirs asked asks) of_mine of_theirs (single_of nodes single q.x m of_mine at_first cover.mine_covers.1) (single_of nodes single q.y t of_theirs at_second cover.theirs_covers.1) (record { mine_covers = cover.mine_covers; theirs_covers = cover.theirs_covers; table = cover.table; equal = by_own });
-              }
+      covered : (m t : ℕ) (chains : List (List Node)) → ChainsShow nodes (question_of e) (Cover m t chains) → IsCovered nodes q.x q.y mine theirs
+      covered m t chains (of_mine, of_theirs, cover, shown) =
+          let own = subst (λ (r : Question). AsksOf nodes r cover.mine cover.theirs) about cover.asked in
+          let first = same_access nodes q.x q.a cover.mine mine own.at_mine asked.at_mine in
+          let second = same_access nodes q.y q.b cover.theirs theirs own.at_theirs asked.at_theirs in
+          let equal = AllEqual-from_ShowEqual (question_facts cover.mine cover.theirs) (key_pairs of_mine of_theirs) chains shown in
+          let by_own = subst (λ (b : Access). AllEqual (question_facts mine b) (key_pairs of_mine of_theirs)) second (subst (λ (b : Access). AllEqual (question_facts b cover.theirs) (key_pairs of_mine of_theirs)) first equal) in
+          let at_first = subst (λ (r : Question). IsAccessOf nodes r.x m of_mine) about cover.at_mine in
+          let at_second = subst (λ (r : Question). IsAccessOf nodes r.y t of_theirs) about cover.at_theirs in
+          record {
+            first = m;
+            second = t;
+            of_first = of_mine;
+            of_second = of_theirs;
+            at_first = at_first;
+            at_second = at_second;
+            first_covers = cover.mine_covers;
+            second_covers = cover.theirs_covers;
+            same = same-from_CoversBy mine theirs (pair_of q mine theirs asked asks) of_mine of_theirs (single_of nodes single q.x m of_mine at_first cover.mine_covers.1) (single_of nodes single q.y t of_theirs at_second cover.theirs_covers.1) (record { mine_covers = cover.mine_covers; theirs_covers = cover.theirs_covers; table = cover.table; equal = by_own });
+          }
+
+      by : (r : Reason) → ChainsShow nodes (question_of e) r → (SaysApart r → ⊥) → IsCovered nodes q.x q.y mine theirs
+      by (Apart chain) w other = absurd (other tt)
+      by (Cover m t chains) w other = covered m t chains w
 
   -- ---- each edge is left
 

@@ -5,21 +5,10 @@ use Rattle.std.proofs.lemmas.List.{length-map, length-append, map-append, get_or
 use Rattle.std.proofs.lemmas.List.Elements.{All-head, All-tail, All-push}
 use Rattle.std.proofs.lemmas.Option.{same_Some, none-some, get_or_from_slice_get, slice_get-get_or}
 use Rattle.robust_cert.specs.declared.certificate.Question.{Question}
-use Rattle.robust_cert.specs.declared.certificate.Entry.{Entry}
 use Rattle.robust_cert.specs.declared.entries.Reason.{Reason}
-use Rattle.robust_cert.specs.declared.entries.Reason.TheVariants.{Apart, Cover}
+use Rattle.robust_cert.specs.declared.entries.Reason.TheVariants.{Apart}
 use Rattle.robust_cert.specs.declared.entries.Told.{Told}
-use Rattle.robust_cert.specs.Sharing.{question_told, asked_anew, entry_with, reason_at, entry_told, entries_told, HasReason}
-
--- ---- a question with its reason
-
-pub asked-with : (q : Question) (reason : Reason) → question_told (entry_with q reason) ≡ q
-asked-with q (Apart chain) = refl
-asked-with q (Cover mine theirs chains) = refl
-
-pub anew-with : (p q : Question) (reason : Reason) → asked_anew q (entry_with p reason) ≡ entry_with q reason
-anew-with p q (Apart chain) = refl
-anew-with p q (Cover mine theirs chains) = refl
+use Rattle.robust_cert.specs.Sharing.{Entry, entry_with, reason_at, entry_told, entries_told, HasReason}
 
 -- the entry of a number
 pub entry_at : (entries : List Entry) (k : ℕ) → k < length entries → (e : Entry) × (slice_get entries k ≡ Some e) × (get_or entries k e ≡ e)
@@ -47,15 +36,15 @@ module _ (rs : List Reason) where
   told-at (u ∷ ts) zero t e at = sym (same_Some (entry_told rs u) e at)
   told-at (u ∷ ts) (suc k) t e at = told-at ts k t e at
 
-  pub asked-at : (ts : List Told) (k : ℕ) (t : Told) (e : Entry) → slice_get (entries_told rs ts) k ≡ Some e → question_told e ≡ (get_or ts k t).question
-  asked-at ts k t e at = ap question_told (told-at ts k t e at) ∙ asked-with (get_or ts k t).question (reason_at rs (get_or ts k t).reason)
+  pub asked-at : (ts : List Told) (k : ℕ) (t : Told) (e : Entry) → slice_get (entries_told rs ts) k ≡ Some e → e.question ≡ (get_or ts k t).question
+  asked-at ts k t e at = ap (λ (x : Entry). x.question) (told-at ts k t e at)
 
-  pub reason-at : (ts : List Told) (k : ℕ) (t : Told) (e : Entry) → slice_get (entries_told rs ts) k ≡ Some e → e ≡ entry_with (question_told e) (reason_at rs (get_or ts k t).reason)
-  reason-at ts k t e at = told-at ts k t e at ∙ ap (λ (q : Question). entry_with q (reason_at rs (get_or ts k t).reason)) (sym (asked-at ts k t e at))
+  pub reason-at : (ts : List Told) (k : ℕ) (t : Told) (e : Entry) → slice_get (entries_told rs ts) k ≡ Some e → e.reason ≡ reason_at rs (get_or ts k t).reason
+  reason-at ts k t e at = ap (λ (x : Entry). x.reason) (told-at ts k t e at)
 
   -- an entry like another one
-  pub told-like : (ts : List Told) (k : ℕ) (t : Told) (q : Question) (e : Entry) → slice_get (entries_told rs ts) k ≡ Some e → entry_told rs record { question = q; reason = (get_or ts k t).reason } ≡ asked_anew q e
-  told-like ts k t q e at = sym (ap (asked_anew q) (told-at ts k t e at) ∙ anew-with (get_or ts k t).question q (reason_at rs (get_or ts k t).reason))
+  pub told-like : (ts : List Told) (k : ℕ) (t : Told) (q : Question) (e : Entry) → slice_get (entries_told rs ts) k ≡ Some e → entry_told rs record { question = q; reason = (get_or ts k t).reason } ≡ entry_with q e.reason
+  told-like ts k t q e at = ap (entry_with q) (sym (reason-at ts k t e at))
 
   -- one entry more
   pub told-push : (ts : List Told) (t : Told) → entries_told rs (ts ++ t ∷ []) ≡ entries_told rs ts ++ entry_told rs t ∷ []

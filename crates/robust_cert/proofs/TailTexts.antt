@@ -6,13 +6,12 @@ use Rattle.std.proofs.lemmas.List.{take_more, take_all, length-map, map-append, 
 use Rattle.std.proofs.lemmas.List.Elements.{All-push, All-cons}
 use Rattle.std.proofs.lemmas.Grind.{common_steps}
 use Rattle.serde_json.specs.Written.{compact_text}
-use Rattle.robust_cert.specs.declared.certificate.Entry.{Entry}
 use Rattle.robust_cert.specs.declared.entries.Reason.{Reason}
 use Rattle.robust_cert.specs.declared.entries.Reason.TheVariants.{Apart}
 use Rattle.robust_cert.specs.declared.entries.Told.{Told}
-use Rattle.robust_cert.specs.Json.{list_data, entry_data, EntryFits}
-use Rattle.robust_cert.specs.Parts.{tail_text, ReasonFits, AreTailsOf}
-use Rattle.robust_cert.specs.Sharing.{entry_with, reason_at, entry_told, entries_told, HasReason}
+use Rattle.robust_cert.specs.Json.{list_data, entry_data, ReasonFits, EntryFits}
+use Rattle.robust_cert.specs.Parts.{tail_text, AreTailsOf}
+use Rattle.robust_cert.specs.Sharing.{Entry, entry_with, reason_at, entry_told, entries_told, HasReason}
 use Rattle.robust_cert.proofs.Shared.{reason_any, told-push}
 use Rattle.robust_cert.proofs.Texts.{behind_commas, bracketed_lem}
 

@@ -11,15 +11,13 @@ use Rattle.serde_json.specs.View.{items_of}
 use Rattle.serde_json.specs.Written.{compact_text, items_text}
 use Rattle.serde_json.proofs.OnLiterals.{serde_json_on_literals}
 use Rattle.robust_cert.specs.declared.certificate.Question.{Question}
-use Rattle.robust_cert.specs.declared.certificate.Entry.{Entry}
-use Rattle.robust_cert.specs.declared.certificate.Entry as entry
 use Rattle.robust_cert.specs.declared.entries.Reason.{Reason}
 use Rattle.robust_cert.specs.declared.entries.Reason.TheVariants.{Apart, Cover}
 use Rattle.robust_cert.specs.declared.entries.Told.{Told}
 use Rattle.robust_cert.specs.declared.certificate.Certificate.{Certificate}
 use Rattle.robust_cert.specs.Json.{list_data, whole_data, node_data, chain_data, entry_data, first_data, second_data, shared_text}
 use Rattle.robust_cert.specs.Parts.{kind_text, first_text, head_text, second_text, tail_text, next_head_text, next_entry_text}
-use Rattle.robust_cert.specs.Sharing.{entry_with, reason_at, entry_told, entries_told}
+use Rattle.robust_cert.specs.Sharing.{Entry, entry_with, reason_at, entry_told, entries_told}
 use Rattle.robust_cert.proofs.Shared.{told-push}
 
 -- each thing's text behind a comma
@@ -63,13 +61,13 @@ integer_text (pos n) = refl
 integer_text (negsuc n) = refl
 
 apart_text : (q : Question) (chain : List Node)
-    → codes "[\"apart\"," ++ (decimal q.x ++ (codes "," ++ (decimal q.a ++ (codes "," ++ (decimal q.y ++ (codes "," ++ (decimal q.b ++ (codes "," ++ (compact_text (chain_data chain) ++ codes "]"))))))))) ≡ compact_text (entry_data (entry.TheVariants.Apart q chain))
+    → codes "[\"apart\"," ++ (decimal q.x ++ (codes "," ++ (decimal q.a ++ (codes "," ++ (decimal q.y ++ (codes "," ++ (decimal q.b ++ (codes "," ++ (compact_text (chain_data chain) ++ codes "]"))))))))) ≡ compact_text (entry_data (entry_with q (Apart chain)))
 unfolding serde_json_on_literals
 apart_text q chain = refl
 
 cover_text : (q : Question) (mine theirs : ℕ) (chains : List (List Node))
     → codes "[\"cover\"," ++ (decimal q.x ++ (codes "," ++ (decimal q.a ++ (codes "," ++ (decimal q.y ++ (codes "," ++ (decimal q.b ++ (codes "," ++ (decimal mine ++ (codes "," ++ (decimal theirs ++ (codes "," ++ (compact_text (list_data chain_data chains) ++ codes "]")))))))))))))
-    ≡ compact_text (entry_data (entry.TheVariants.Cover q mine theirs chains))
+    ≡ compact_text (entry_data (entry_with q (Cover mine theirs chains)))
 unfolding serde_json_on_literals
 cover_text q mine theirs chains = refl
 

@@ -5,11 +5,11 @@ use Rattle.std.proofs.lemmas.Bool.{and_parts, eqb-true, eq-eqb}
 use Rattle.std.specs.Cmp.Derive.{both_true}
 use Rattle.std.proofs.lemmas.List.{length-replicate}
 use Rattle.serde_json.specs.Data.{unsigned, Data, Members, object}
-use Rattle.robust_cert.specs.declared.certificate.Entry.{Entry}
 use Rattle.robust_cert.specs.declared.certificate.Certificate.{Certificate}
 use Rattle.robust_cert.specs.Ranges.{IsSmall}
 use Rattle.robust_cert.specs.Json.{has_no_bodies, first_data, second_data, IsValueOf}
 use Rattle.robust_cert.specs.Reading.{version_of, IsShared}
+use Rattle.robust_cert.specs.Sharing.{Entry}
 use Rattle.robust_cert.proofs.Distinct.{same_entries, same_numbers}
 
 -- ---- versions

@@ -5,12 +5,12 @@ use Rattle.json.proofs.Printed.Utf8.{IsUtf8-are_ascii}
 use Rattle.order_facts.specs.declared.steps.Node.{Node}
 use Rattle.order_facts.specs.declared.steps.Node.TheVariants.{Mine, MineUnknown, Theirs, TheirsUnknown, Number}
 use Rattle.serde_json.proofs.OnLiterals.{serde_json_on_literals}
-use Rattle.robust_cert.specs.declared.certificate.Entry.{Entry}
-use Rattle.robust_cert.specs.declared.certificate.Entry.TheVariants.{Apart, Cover}
 use Rattle.robust_cert.specs.declared.certificate.Certificate.{Certificate}
+use Rattle.robust_cert.specs.declared.entries.Reason.TheVariants.{Apart, Cover}
 use Rattle.robust_cert.specs.declared.fault.JsonFault.TheVariants.{NotJson, WrongVersion}
 use Rattle.robust_cert.specs.Json.{certificate_text}
 use Rattle.robust_cert.specs.Reading.{HasFault}
+use Rattle.robust_cert.specs.Sharing.{Entry, entry_with}
 
 -- no access stands in a body
 abbrev certificate : List Entry → List ℕ → Certificate
@@ -19,7 +19,7 @@ certificate entries levels = record { entries = entries; levels = levels; bodies
 -- a cover in a table of one key column, for which one node of each side is the same
 abbrev cover : ℕ → ℕ → ℕ → ℕ → ℕ → ℕ → Node → Node → Entry
 cover x a y b mine theirs one other =
-    Cover record { x = x; a = a; y = y; b = b } mine theirs ((one ∷ other ∷ []) ∷ (other ∷ one ∷ []) ∷ [])
+    entry_with record { x = x; a = a; y = y; b = b } (Cover mine theirs ((one ∷ other ∷ []) ∷ (other ∷ one ∷ []) ∷ []))
 
 -- a set without programs
 empty : certificate_text (certificate [] []) ≡ codes "{\"entries\":[],\"levels\":[],\"version\":1}"
@@ -44,7 +44,7 @@ unfolding serde_json_on_literals digits
 transfer = refl
 
 -- reads of t[1] and writes of t[2] never meet; each kind of node, and both ends of i64
-nodes : certificate_text (certificate (Apart record { x = 0; a = 0; y = 4294967295; b = 1 } (Number (pos 2) ∷ MineUnknown 7 ∷ TheirsUnknown 0 ∷ Number (negsuc 9223372036854775807) ∷ Number (pos 9223372036854775807) ∷ []) ∷ []) [])
+nodes : certificate_text (certificate (entry_with record { x = 0; a = 0; y = 4294967295; b = 1 } (Apart (Number (pos 2) ∷ MineUnknown 7 ∷ TheirsUnknown 0 ∷ Number (negsuc 9223372036854775807) ∷ Number (pos 9223372036854775807) ∷ [])) ∷ []) [])
     ≡ codes "{\"entries\":[[\"apart\",0,0,4294967295,1,[[\"n\",2],[\"u\",7],[\"v\",0],[\"n\",-9223372036854775808],[\"n\",9223372036854775807]]]],\"levels\":[],\"version\":1}"
 unfolding serde_json_on_literals digits
 nodes = refl
@@ -55,7 +55,7 @@ unfolding serde_json_on_literals
 not_json d reads = let none : None ≡ Some d = reads.1 in absurd (cc)
 
 -- the pay-each set, repaired: one access stands in a body
-pay_each : certificate_text (record { entries = Cover record { x = 0; a = 1; y = 0; b = 2 } 0 0 ((Number (pos 0) ∷ []) ∷ (Number (pos 0) ∷ []) ∷ []) ∷ []; levels = 1 ∷ []; bodies = 1 ∷ [] })
+pay_each : certificate_text (record { entries = entry_with record { x = 0; a = 1; y = 0; b = 2 } (Cover 0 0 ((Number (pos 0) ∷ []) ∷ (Number (pos 0) ∷ []) ∷ [])) ∷ []; levels = 1 ∷ []; bodies = 1 ∷ [] })
     ≡ codes "{\"bodies\":[1],\"entries\":[[\"cover\",0,1,0,2,0,0,[[[\"n\",0]],[[\"n\",0]]]]],\"levels\":[1],\"version\":2}"
 unfolding serde_json_on_literals digits
 pay_each = refl

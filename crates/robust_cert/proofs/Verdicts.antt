@@ -6,7 +6,6 @@ use Rattle.std.proofs.lemmas.List.{take_all}
 use Rattle.std.proofs.lemmas.Option.{slice_get_within, get_or_from_slice_get}
 use Rattle.prog_check.specs.declared.path.Path.{Path}
 use Rattle.prog_paths.specs.Listing.{RiseBy}
-use Rattle.robust_cert.specs.declared.certificate.Entry.{Entry}
 use Rattle.robust_cert.specs.declared.certificate.Certificate.{Certificate}
 use Rattle.prog_paths.specs.declared.accesses.mark.EdgeTables.{EdgeTables}
 use Rattle.robust_cert.specs.declared.fault.CertFault.{CertFault}
@@ -15,6 +14,7 @@ use Rattle.robust_cert.specs.Accepted.{question_of, Holds, IsLeft, IsLeftVulnera
 use Rattle.robust_cert.specs.Refused.{StandTo, IsFirstFault, FallsAt, StaysAt}
 use Rattle.robust_cert.specs.Leaving.{Leaves}
 use Rattle.robust_cert.specs.Levels.{FallsAlong, Stays, RiseOver, IsLevelFault}
+use Rattle.robust_cert.specs.Sharing.{Entry}
 use Rattle.robust_cert.proofs.Cursor.{behind-entry}
 use Rattle.robust_cert.proofs.Leftover.{left-from_joins, joins-from_left, vulnerable-from_joins, joins-from_vulnerable}
 

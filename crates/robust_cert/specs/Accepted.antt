@@ -10,9 +10,10 @@ use Rattle.prog_paths.specs.Asked.{IsQuestion, questions_of, limit}
 use Rattle.prog_paths.specs.Listing.{RiseBy}
 use Rattle.prog_paths.specs.Shown.{Falls, key_pairs, ShowEqual}
 use Rattle.robust_cert.specs.declared.certificate.Question.{Question}
-use Rattle.robust_cert.specs.declared.certificate.Entry.{Entry}
-use Rattle.robust_cert.specs.declared.certificate.Entry.TheVariants.{Apart, Cover}
 use Rattle.robust_cert.specs.declared.certificate.Certificate.{Certificate}
+use Rattle.robust_cert.specs.declared.entries.Reason.{Reason}
+use Rattle.robust_cert.specs.declared.entries.Reason.TheVariants.{Apart, Cover}
+use Rattle.robust_cert.specs.Sharing.{Entry}
 
 -- ---- what an entry is about
 
@@ -22,8 +23,7 @@ numbers_told q = record { x = q.x; a = q.a; y = q.y; b = q.b }
 
 -- the question that an entry is about
 abbrev pub question_of : Entry → graph.Question
-question_of (Apart q chain) = numbers_told q
-question_of (Cover q mine theirs chains) = numbers_told q
+question_of e = numbers_told e.question
 
 -- ---- when an entry holds
 
@@ -40,22 +40,29 @@ pub record IsCoverOf (nodes : List Path) (q : graph.Question) (m t : ℕ)
   pub theirs_covers : MayCover of_theirs
   pub table : of_mine.table ≡ of_theirs.table
 
--- a cover entry names such accesses, and has two chains for each key column of their table
-abbrev pub IsFitting : List Path → Entry → Type 0
-IsFitting nodes (Apart q chain) = Unit {0}
-IsFitting nodes (Cover q m t chains) =
-    (of_mine : Access) × (of_theirs : Access) × IsCoverOf nodes (numbers_told q) m t of_mine of_theirs
+-- a cover names such accesses, and has two chains for each key column of their table
+abbrev pub FitsQuestion : List Path → graph.Question → Reason → Type 0
+FitsQuestion nodes q (Apart chain) = Unit {0}
+FitsQuestion nodes q (Cover m t chains) =
+    (of_mine : Access) × (of_theirs : Access) × IsCoverOf nodes q m t of_mine of_theirs
     × (length chains ≡ 2 * length (key_pairs of_mine of_theirs))
 
--- the chains hold by the question's facts: one runs from a number to a smaller one; or they show the two cells equal,
--- column by column
-abbrev pub ChainsHold : List Path → Entry → Type 0
-ChainsHold nodes (Apart q chain) =
-    (mine : Access) × (theirs : Access) × AsksOf nodes (numbers_told q) mine theirs
-    × Falls (question_facts mine theirs) chain
-ChainsHold nodes (Cover q m t chains) =
-    (of_mine : Access) × (of_theirs : Access) × (cover : IsCoverOf nodes (numbers_told q) m t of_mine of_theirs)
+-- the reason of an entry fits its question
+abbrev pub IsFitting : List Path → Entry → Type 0
+IsFitting nodes e = FitsQuestion nodes (question_of e) e.reason
+
+-- the chains of a reason hold by the question's facts: one runs from a number to a smaller one; or they show the two
+-- cells equal, column by column
+abbrev pub ChainsShow : List Path → graph.Question → Reason → Type 0
+ChainsShow nodes q (Apart chain) =
+    (mine : Access) × (theirs : Access) × AsksOf nodes q mine theirs × Falls (question_facts mine theirs) chain
+ChainsShow nodes q (Cover m t chains) =
+    (of_mine : Access) × (of_theirs : Access) × (cover : IsCoverOf nodes q m t of_mine of_theirs)
     × ShowEqual (question_facts cover.mine cover.theirs) (key_pairs of_mine of_theirs) chains
+
+-- the chains of an entry hold of its question
+abbrev pub ChainsHold : List Path → Entry → Type 0
+ChainsHold nodes e = ChainsShow nodes (question_of e) e.reason
 
 -- an entry is about a question of the paths, and says of it what holds
 pub record Holds (nodes : List Path) (e : Entry) : Type 0 where
@@ -65,13 +72,14 @@ pub record Holds (nodes : List Path) (e : Entry) : Type 0 where
 
 -- ---- what the entries leave
 
--- an entry says that the question is apart
-abbrev pub SaysApart : graph.Question → Entry → Type 0
-SaysApart q (Apart p chain) = numbers_told p ≡ q
-SaysApart q (Cover p m t chains) = ⊥
+-- a reason says that the two accesses never meet
+abbrev pub SaysApart : Reason → Type 0
+SaysApart (Apart chain) = Unit {0}
+SaysApart (Cover m t chains) = ⊥
 
+-- an entry says so of the question
 abbrev pub IsToldApart : List Entry → graph.Question → Type 0
-IsToldApart entries q = (e : Entry) × Contains entries e × SaysApart q e
+IsToldApart entries q = (e : Entry) × Contains entries e × SaysApart e.reason × (question_of e ≡ q)
 
 -- an entry is about the question
 abbrev pub IsTold : List Entry → graph.Question → Type 0

@@ -10,7 +10,6 @@ use Rattle.prog_paths.specs.StaticGraph.{Question, AsksOf}
 use Rattle.prog_paths.specs.Asked.{Asks}
 use Rattle.prog_paths.specs.Questions.{question_facts}
 use Rattle.prog_paths.specs.Shown.{key_pairs}
-use Rattle.robust_cert.specs.declared.certificate.Entry.{Entry}
 use Rattle.robust_cert.specs.declared.checking.by_facts.AskedPair.{AskedPair}
 use Rattle.robust_cert.specs.declared.checking.flaw.Flaw.{Flaw}
 use Rattle.robust_cert.specs.declared.checking.flaw.Flaw as flaw
@@ -18,6 +17,7 @@ use Rattle.robust_cert.specs.declared.fault.CertFault.{CertFault}
 use Rattle.robust_cert.specs.declared.fault.CertFault.TheVariants.{NoSuchEntry, EntryOrder, BadChain, BadCover}
 use Rattle.robust_cert.specs.Accepted.{IsCoverOf, IsFitting, ChainsHold, Holds}
 use Rattle.robust_cert.specs.Refused.{IsBehindLast, IsNoQuestion, IsOutOfOrder, HasBadCover, HasBadChain}
+use Rattle.robust_cert.specs.Sharing.{Entry}
 
 -- the two accesses are those of a question of the paths
 pub record IsAskedPair (nodes : List Path) (q : Question) (mine theirs : Access) : Type 0 where

@@ -9,12 +9,11 @@ use Rattle.serde_json.specs.Find.{of_integer}
 use Rattle.serde_json.specs.View.{items_of}
 use Rattle.serde_json.specs.Written.{compact_text}
 use Rattle.robust_cert.specs.declared.certificate.Question.{Question}
-use Rattle.robust_cert.specs.declared.certificate.Entry.{Entry}
-use Rattle.robust_cert.specs.declared.certificate.Entry.TheVariants.{Apart, Cover}
 use Rattle.robust_cert.specs.declared.certificate.Certificate.{Certificate}
 use Rattle.robust_cert.specs.declared.entries.Reason.{Reason}
-use Rattle.robust_cert.specs.declared.entries.Reason as reason
+use Rattle.robust_cert.specs.declared.entries.Reason.TheVariants.{Apart, Cover}
 use Rattle.robust_cert.specs.Ranges.{IsSmall, ChainFits}
+use Rattle.robust_cert.specs.Sharing.{Entry}
 
 -- a whole number that isn't negative
 abbrev pub whole_data : ℕ → Data
@@ -53,23 +52,22 @@ abbrev pub cover_items : ℕ → ℕ → List (List Node) → Items
 cover_items mine theirs chains =
     item (whole_data mine) (item (whole_data theirs) (item (list_data chain_data chains) no_items))
 
+-- the word for a reason, and the items that tell it
+abbrev pub reason_kind : Reason → List ℕ
+reason_kind (Apart chain) = codes "apart"
+reason_kind (Cover mine theirs chains) = codes "cover"
+
+abbrev pub reason_items : Reason → Items
+reason_items (Apart chain) = apart_items chain
+reason_items (Cover mine theirs chains) = cover_items mine theirs chains
+
 abbrev pub entry_data : Entry → Data
-entry_data (Apart q chain) = entry_items (codes "apart") q (apart_items chain)
-entry_data (Cover q mine theirs chains) = entry_items (codes "cover") q (cover_items mine theirs chains)
+entry_data e = entry_items (reason_kind e.reason) e.question (reason_items e.reason)
 
 -- four values are the numbers of a question
 abbrev pub AreNumbersOf : Question → Data → Data → Data → Data → Type 0
 AreNumbersOf q x a y b =
     (x ≡ whole_data q.x) × (a ≡ whole_data q.a) × (y ≡ whole_data q.y) × (b ≡ whole_data q.b)
-
--- the word for a reason, and the items that tell it
-abbrev pub reason_kind : Reason → List ℕ
-reason_kind (reason.TheVariants.Apart chain) = codes "apart"
-reason_kind (reason.TheVariants.Cover mine theirs chains) = codes "cover"
-
-abbrev pub reason_items : Reason → Items
-reason_items (reason.TheVariants.Apart chain) = apart_items chain
-reason_items (reason.TheVariants.Cover mine theirs chains) = cover_items mine theirs chains
 
 -- a reason has this word and these items
 abbrev pub IsWordedAs : Reason → Data → Items → Type 0
@@ -122,9 +120,12 @@ Appends old new d = string_bytes new ≡ string_bytes old ++ compact_text d
 abbrev pub QuestionFits : Question → Type 0
 QuestionFits q = IsSmall q.x × IsSmall q.a × IsSmall q.y × IsSmall q.b
 
+abbrev pub ReasonFits : Reason → Type 0
+ReasonFits (Apart chain) = ChainFits chain
+ReasonFits (Cover mine theirs chains) = IsSmall mine × IsSmall theirs × All ChainFits chains
+
 abbrev pub EntryFits : Entry → Type 0
-EntryFits (Apart q chain) = QuestionFits q × ChainFits chain
-EntryFits (Cover q mine theirs chains) = QuestionFits q × IsSmall mine × IsSmall theirs × All ChainFits chains
+EntryFits e = QuestionFits e.question × ReasonFits e.reason
 
 abbrev pub CertificateFits : Certificate → Type 0
 CertificateFits c = All EntryFits c.entries × All IsSmall c.levels × All IsSmall c.bodies

@@ -6,12 +6,12 @@ use Rattle.prog_paths.specs.StaticGraph.{Question}
 use Rattle.prog_paths.specs.declared.accesses.places.Question.{Question as Asked}
 use Rattle.prog_paths.specs.Asked.{numbers_of, questions_of}
 use Rattle.prog_paths.specs.Listing.{IsBefore, RiseBy}
-use Rattle.robust_cert.specs.declared.certificate.Entry.{Entry}
 use Rattle.prog_paths.specs.declared.accesses.mark.EdgeTables.{EdgeTables}
 use Rattle.robust_cert.specs.Accepted.{question_of}
 use Rattle.order_facts.specs.Square.{IsSquareOf, Enters}
 use Rattle.prog_paths.specs.Marks.{gives_edge, gives_vulnerable}
 use Rattle.robust_cert.specs.Telling.{mark_under, IsBehind}
+use Rattle.robust_cert.specs.Sharing.{Entry}
 
 -- some of the questions gives an edge from x to y
 abbrev pub some_edge : List Entry → List Asked → ℕ → ℕ → Bool

@@ -7,8 +7,7 @@ use Rattle.serde_json.specs.Written.{compact_text}
 use Rattle.robust_cert.specs.declared.certificate.Question.{Question}
 use Rattle.robust_cert.specs.declared.entries.Reason.{Reason}
 use Rattle.robust_cert.specs.declared.entries.Reason.TheVariants.{Apart, Cover}
-use Rattle.robust_cert.specs.Ranges.{IsSmall, ChainFits}
-use Rattle.robust_cert.specs.Json.{list_data, chain_data, entry_data}
+use Rattle.robust_cert.specs.Json.{list_data, chain_data, entry_data, ReasonFits}
 use Rattle.robust_cert.specs.Sharing.{entry_with}
 
 -- ---- the head: the kind and the first access
@@ -51,11 +50,6 @@ cover_tail_text mine theirs chains =
 abbrev pub tail_text : Reason → List ℕ
 tail_text (Apart chain) = apart_tail_text chain
 tail_text (Cover mine theirs chains) = cover_tail_text mine theirs chains
-
--- the numbers of a reason are in their ranges
-abbrev pub ReasonFits : Reason → Type 0
-ReasonFits (Apart chain) = ChainFits chain
-ReasonFits (Cover mine theirs chains) = IsSmall mine × IsSmall theirs × All ChainFits chains
 
 -- texts are the tails of reasons, one for each, whose numbers are in their ranges
 pub record AreTailsOf (reasons : List Reason) (tails : List (String Global)) : Type 0 where

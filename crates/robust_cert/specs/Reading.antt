@@ -5,7 +5,6 @@ use Rattle.serde_json.specs.Find.{get, as_number}
 use Rattle.serde_json.specs.Read.{read}
 use Rattle.robust_cert.specs.Json.{whole_data, list_data, entry_data, members_data, EntryFits, IsValueOf}
 use Rattle.robust_cert.specs.Ranges.{IsSmall}
-use Rattle.robust_cert.specs.declared.certificate.Entry.{Entry}
 use Rattle.robust_cert.specs.declared.certificate.Certificate.{Certificate}
 use Rattle.robust_cert.specs.declared.fault.JsonFault.{JsonFault}
 use Rattle.robust_cert.specs.declared.fault.JsonFault.TheVariants.{NotJson, WrongShape, WrongVersion, Memory}
@@ -13,6 +12,7 @@ use Rattle.robust_cert.specs.declared.fault.Untaken.{Untaken}
 use Rattle.robust_cert.specs.declared.fault.Untaken as untaken
 use Rattle.robust_cert.specs.declared.text.version.Version.{Version}
 use Rattle.robust_cert.specs.declared.text.version.Version as version
+use Rattle.robust_cert.specs.Sharing.{Entry}
 
 -- the bytes are the JSON text of a value
 abbrev pub ReadsAs : List ℕ → Data → Type 0

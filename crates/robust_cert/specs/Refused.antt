@@ -3,11 +3,11 @@ use Rattle.std.specs.Prelude.{◌≡◌, ℕ, ◌<◌, ◌≤◌, ◌+◌, List,
 use Rattle.prog_check.specs.declared.path.Path.{Path}
 use Rattle.prog_paths.specs.Asked.{IsQuestion, questions_of, limit}
 use Rattle.prog_paths.specs.Listing.{IsBefore, IsAtMost, RiseBy}
-use Rattle.robust_cert.specs.declared.certificate.Entry.{Entry}
 use Rattle.robust_cert.specs.declared.certificate.Certificate.{Certificate}
 use Rattle.robust_cert.specs.declared.fault.CertFault.{CertFault}
 use Rattle.robust_cert.specs.declared.fault.CertFault.TheVariants.{TooLarge, PathCount, NoSuchEntry, EntryOrder, BadChain, BadCover, LevelFalls, Dangerous, Memory}
 use Rattle.robust_cert.specs.Accepted.{question_of, body_size, IsFitting, ChainsHold, Holds, IsLeft, IsLeftVulnerable, level_of}
+use Rattle.robust_cert.specs.Sharing.{Entry}
 
 -- ---- the whole, in the order in which it is looked at
 

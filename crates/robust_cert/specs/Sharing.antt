@@ -1,28 +1,18 @@
--- Entries as questions that have the numbers of their reasons.
+-- Entries, and how certificates hold them: as questions that have the numbers of their reasons.
 use Rattle.std.specs.Prelude.{ℕ, ◌<◌, List, [], length, map, slice_index_or}
 use Rattle.robust_cert.specs.declared.certificate.Question.{Question}
-use Rattle.robust_cert.specs.declared.certificate.Entry.{Entry}
-use Rattle.robust_cert.specs.declared.certificate.Entry as entry
 use Rattle.robust_cert.specs.declared.entries.Reason.{Reason}
-use Rattle.robust_cert.specs.declared.entries.Reason.TheVariants.{Apart, Cover}
+use Rattle.robust_cert.specs.declared.entries.Reason.TheVariants.{Apart}
 use Rattle.robust_cert.specs.declared.entries.Told.{Told}
 
--- ---- an entry is a question with its reason
-
--- the question that an entry answers
-abbrev pub question_told : Entry → Question
-question_told (entry.TheVariants.Apart q chain) = q
-question_told (entry.TheVariants.Cover q mine theirs chains) = q
+-- a question, and why it leaves nothing to fear
+pub record Entry : Type 0 where
+  pub question : Question
+  pub reason : Reason
 
 -- a question with this reason
 abbrev pub entry_with : Question → Reason → Entry
-entry_with q (Apart chain) = entry.TheVariants.Apart q chain
-entry_with q (Cover mine theirs chains) = entry.TheVariants.Cover q mine theirs chains
-
--- a question with the reason of an entry
-abbrev pub asked_anew : Question → Entry → Entry
-asked_anew q (entry.TheVariants.Apart other chain) = entry.TheVariants.Apart q chain
-asked_anew q (entry.TheVariants.Cover other mine theirs chains) = entry.TheVariants.Cover q mine theirs chains
+entry_with q r = record { question = q; reason = r }
 
 -- ---- reasons have numbers
 

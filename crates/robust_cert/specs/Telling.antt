@@ -5,15 +5,14 @@ use Rattle.prog_paths.specs.declared.accesses.places.Question.{Question as Asked
 use Rattle.prog_paths.specs.Asked.{numbers_of}
 use Rattle.prog_paths.specs.Listing.{IsBefore}
 use Rattle.prog_paths.specs.Marks.{mark_by}
-use Rattle.robust_cert.specs.declared.certificate.Entry.{Entry}
-use Rattle.robust_cert.specs.declared.certificate.Entry.TheVariants.{Apart, Cover}
 use Rattle.robust_cert.specs.declared.entries.Reason.{Reason}
-use Rattle.robust_cert.specs.declared.entries.Reason as reason
+use Rattle.robust_cert.specs.declared.entries.Reason.TheVariants.{Apart, Cover}
 use Rattle.robust_cert.specs.declared.checking.numbers.Numbers.{Numbers}
 use Rattle.robust_cert.specs.declared.checking.telling.Telling.{Telling}
 use Rattle.robust_cert.specs.declared.checking.telling.Telling as telling
 use Rattle.prog_paths.specs.declared.accesses.mark.Mark.{Mark}
 use Rattle.robust_cert.specs.Accepted.{question_of}
+use Rattle.robust_cert.specs.Sharing.{Entry}
 
 -- the question of four numbers
 abbrev pub question_with : Numbers → Question
@@ -23,20 +22,15 @@ question_with n = record { x = n.x; a = n.a; y = n.y; b = n.b }
 abbrev pub is_same : Question → Question → Bool
 is_same p q = p.x == q.x && (p.a == q.a && (p.y == q.y && p.b == q.b))
 
--- what an entry tells of its question
-abbrev pub telling_by : Entry → Telling
-telling_by (Apart q chain) = telling.TheVariants.Apart
-telling_by (Cover q mine theirs chains) = telling.TheVariants.Cover
-
 -- what a reason tells of its question
 abbrev pub telling_with : Reason → Telling
-telling_with (reason.TheVariants.Apart chain) = telling.TheVariants.Apart
-telling_with (reason.TheVariants.Cover mine theirs chains) = telling.TheVariants.Cover
+telling_with (Apart chain) = telling.TheVariants.Apart
+telling_with (Cover mine theirs chains) = telling.TheVariants.Cover
 
 -- what the entries tell of a question
 abbrev pub telling_of : List Entry → Question → Telling
 telling_of [] q = telling.TheVariants.Nothing
-telling_of (e ∷ rest) q = if is_same (question_of e) q then telling_by e else telling_of rest q
+telling_of (e ∷ rest) q = if is_same (question_of e) q then telling_with e.reason else telling_of rest q
 
 -- the entries before this one stand before the question
 abbrev pub IsBehind : List Entry → ℕ → Question → Type 0

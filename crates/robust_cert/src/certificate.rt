@@ -1,6 +1,5 @@
 //! What a certificate is.
 
-use crate::chain::Chain;
 use crate::entries::Entries;
 use prog_tree::Sequence;
 
@@ -11,24 +10,6 @@ pub struct Question {
     pub a: u32,
     pub y: u32,
     pub b: u32,
-}
-
-/// Why a question leaves nothing to fear, as contracts list it: `Entries` holds such entries.
-#[derive(Debug, Drop)]
-pub enum Entry {
-    /// The two accesses never meet.
-    Apart {
-        question: Question,
-        chain: Chain,
-    },
-    /// Where they meet, `mine` of `x` and `theirs` of `y` write one cell. The chains say so, column
-    /// by column: mine to theirs, then theirs to mine.
-    Cover {
-        question: Question,
-        mine: u32,
-        theirs: u32,
-        chains: Sequence<Chain>,
-    },
 }
 
 /// What shows that a set is robust.

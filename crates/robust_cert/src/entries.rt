@@ -1,8 +1,7 @@
 //! The entries of a certificate. There are many, and few different reasons, so entries may share
 //! one.
 ghost use Rattle.std.specs.Prelude.{◌≡◌, ◌<◌, ◌↔◌, [], ◌∷◌, ◌++◌, All, IsTrue, OnOk, OnErr, Some, length, slice_get};
-ghost use Rattle.robust_cert.specs.declared.certificate.Entry.{Entry};
-ghost use Rattle.robust_cert.specs.Sharing.{question_told, asked_anew, entry_with, entries_told, HasReason};
+ghost use Rattle.robust_cert.specs.Sharing.{Entry, entry_with, entries_told, HasReason};
 
 use crate::certificate::Question;
 use crate::chain::Chain;
@@ -40,8 +39,7 @@ pub struct Entries {
 
 impl Model for Entries {
     ghost use Rattle.std.specs.Prelude.{List, All};
-    ghost use Rattle.robust_cert.specs.declared.certificate.Entry.{Entry};
-    ghost use Rattle.robust_cert.specs.Sharing.{entries_told, HasReason};
+    ghost use Rattle.robust_cert.specs.Sharing.{Entry, entries_told, HasReason};
 
     ghost Value = { List Entry };
 
@@ -98,7 +96,7 @@ impl Entries {
     pub fn push_like(&mut self, question: Question, k: usize) -> Result<(), AllocError>
         requires { k < length self.old }
         ensures ok { OnOk result ((e : Entry) → slice_get self.old k ≡ Some e
-            → self.new ≡ self.old ++ asked_anew question e ∷ []) }
+            → self.new ≡ self.old ++ entry_with question e.reason ∷ []) }
         ensures err { OnErr result (self.new ≡ self.old) }
     {
         let Told { reason, .. } = self.told[k];
@@ -109,7 +107,7 @@ impl Entries {
     /// The question of the entry of a number.
     pub fn question(&self, k: usize) -> Question
         requires { k < length self.now }
-        ensures { (e : Entry) → slice_get self.now k ≡ Some e → result ≡ question_told e }
+        ensures { (e : Entry) → slice_get self.now k ≡ Some e → result ≡ e.question }
     {
         self.told[k].question
     }
@@ -117,8 +115,7 @@ impl Entries {
     /// The reason of the entry of a number.
     pub fn reason(&self, k: usize) -> &Reason
         requires { k < length self.now }
-        ensures { (e : Entry) → slice_get self.now k ≡ Some e
-            → e ≡ entry_with (question_told e) result.now }
+        ensures { (e : Entry) → slice_get self.now k ≡ Some e → result.now ≡ e.reason }
     {
         &self.reasons[self.told[k].reason]
     }

@@ -16,7 +16,7 @@ mod laws;
 mod robust;
 mod text;
 
-pub use certificate::{Certificate, Entry, Question};
+pub use certificate::{Certificate, Question};
 pub use chain::Chain;
 pub use checking::bodies::body_size;
 pub use checking::checker::verify;

@@ -15,9 +15,9 @@ use Rattle.conflict_pairs.specs.declared.verdicts.Verdict.{Verdict}
 use Rattle.conflict_pairs.specs.declared.verdicts.Verdict.TheVariants.{Apart, Covered, Exposed}
 use Rattle.conflict_pairs.specs.Table.{Entry as Judged, Table, StandsFor, IsRightEntry}
 use Rattle.conflict_pairs.specs.Verdicts.{mine_of, theirs_of, IsRight, IsRightOf}
-use Rattle.robust_cert.specs.declared.certificate.Entry.{Entry}
-use Rattle.robust_cert.specs.declared.certificate.Entry as told
+use Rattle.robust_cert.specs.declared.entries.Reason as reason
 use Rattle.robust_cert.specs.Accepted.{IsTold, IsToldApart, IsLeft, IsLeftVulnerable}
+use Rattle.robust_cert.specs.Sharing.{Entry, entry_with}
 use Rattle.si_repair.specs.Findings.{IsHarmless, TellsEach}
 use Rattle.si_repair.specs.Telling.{told_question, told_by, told_of}
 use Rattle.si_repair.proofs.Members.{just_one, told_one}
@@ -38,25 +38,25 @@ record IsJudged (paths : List Path) (entries : List Entry) (q : Question) : Type
 module _ (paths : List Path) (entries : List Entry) (q : Question) (mine theirs : Access) where
   meets : (asked : Asked) → numbers_of asked ≡ q → (v : Verdict) → ((x : Entry) → Contains (told_by asked v) x → Contains entries x) → IsRightOf paths q mine theirs v → (IsToldApart entries q → ⊥) → CanMeet mine theirs
   meets asked is (Apart chain) all_told r none =
-      let e = told.TheVariants.Apart (told_question asked) chain in
-      absurd (none (e, all_told e (just_one e), is))
+      let e = entry_with (told_question asked) (reason.TheVariants.Apart chain) in
+      absurd (none (e, all_told e (just_one e), tt, is))
   meets asked is (Covered m t chains) all_told r none = r.can_meet
   meets asked is (Exposed sample) all_told r none = (mine_of sample, theirs_of sample, r.meets)
 
   exposed : (asked : Asked) → numbers_of asked ≡ q → (v : Verdict) → ((x : Entry) → Contains (told_by asked v) x → Contains entries x) → IsRightOf paths q mine theirs v → AsksReadWrite q mine.kind theirs.kind → (IsTold entries q → ⊥) → IsExposed paths q mine theirs
   exposed asked is (Apart chain) all_told r asks none =
-      let e = told.TheVariants.Apart (told_question asked) chain in
+      let e = entry_with (told_question asked) (reason.TheVariants.Apart chain) in
       absurd (none (e, all_told e (just_one e), is))
   exposed asked is (Covered m t chains) all_told r asks none =
-      let e = told.TheVariants.Cover (told_question asked) m t chains in
+      let e = entry_with (told_question asked) (reason.TheVariants.Cover m t chains) in
       absurd (none (e, all_told e (just_one e), is))
   exposed asked is (Exposed sample) all_told r asks none = ((mine_of sample, theirs_of sample, r.meets), r.uncovered asks)
 
   is_told : (asked : Asked) → numbers_of asked ≡ q → (v : Verdict) → ((x : Entry) → Contains (told_by asked v) x → Contains entries x) → IsRightOf paths q mine theirs v → IsHarmless paths q mine theirs → IsTold entries q
   is_told asked is (Apart chain) all_told r h =
-      let e = told.TheVariants.Apart (told_question asked) chain in (e, all_told e (just_one e), is)
+      let e = entry_with (told_question asked) (reason.TheVariants.Apart chain) in (e, all_told e (just_one e), is)
   is_told asked is (Covered m t chains) all_told r h =
-      let e = told.TheVariants.Cover (told_question asked) m t chains in (e, all_told e (just_one e), is)
+      let e = entry_with (told_question asked) (reason.TheVariants.Cover m t chains) in (e, all_told e (just_one e), is)
   is_told asked is (Exposed sample) all_told r (inl apart) = absurd (apart (mine_of sample, theirs_of sample, r.meets))
   is_told asked is (Exposed sample) all_told r (inr covered) = absurd (r.uncovered covered.0 covered.1)
 

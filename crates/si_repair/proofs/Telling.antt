@@ -18,17 +18,17 @@ use Rattle.conflict_pairs.specs.declared.verdicts.Verdict.{Verdict}
 use Rattle.conflict_pairs.specs.declared.verdicts.Verdict.TheVariants.{Apart, Covered, Exposed}
 use Rattle.conflict_pairs.specs.Table.{Entry as Judged, Table, StandsFor, IsRightEntry}
 use Rattle.conflict_pairs.specs.Verdicts.{IsRight, IsCoveredBy}
-use Rattle.robust_cert.specs.declared.certificate.Entry.{Entry}
-use Rattle.robust_cert.specs.declared.certificate.Entry as told
+use Rattle.robust_cert.specs.declared.entries.Reason as reason
 use Rattle.robust_cert.specs.Accepted.{question_of, IsCoverOf, Holds}
+use Rattle.robust_cert.specs.Sharing.{Entry, entry_with}
 use Rattle.si_repair.specs.Findings.{IsOwnEntry}
 use Rattle.si_repair.specs.Telling.{told_question, told_by, told_of}
 
 -- ---- in order
 
 behind-by : (p : Question) (q : Asked) (v : Verdict) → IsBefore p (numbers_of q) → All (λ later. IsBefore p (question_of later)) (told_by q v)
-behind-by p q (Apart chain) h = All-cons (λ later. IsBefore p (question_of later)) (told.TheVariants.Apart (told_question q) chain) [] h (All-nil (λ later. IsBefore p (question_of later)))
-behind-by p q (Covered m t chains) h = All-cons (λ later. IsBefore p (question_of later)) (told.TheVariants.Cover (told_question q) m t chains) [] h (All-nil (λ later. IsBefore p (question_of later)))
+behind-by p q (Apart chain) h = All-cons (λ later. IsBefore p (question_of later)) (entry_with (told_question q) (reason.TheVariants.Apart chain)) [] h (All-nil (λ later. IsBefore p (question_of later)))
+behind-by p q (Covered m t chains) h = All-cons (λ later. IsBefore p (question_of later)) (entry_with (told_question q) (reason.TheVariants.Cover m t chains)) [] h (All-nil (λ later. IsBefore p (question_of later)))
 behind-by p q (Exposed sample) h = All-nil (λ later. IsBefore p (question_of later))
 
 behind : (p : Question) (es : List Judged) → All (λ later. IsBefore p (numbers_of later)) (map (λ (e : Judged). e.question) es) → All (λ later. IsBefore p (question_of later)) (told_of es)
@@ -104,7 +104,7 @@ module _ (paths : List Path) (q : Asked) (asked : IsAskedOf paths q) where
   holds-by : (v : Verdict) → IsRight paths (numbers_of q) v → All (Holds paths) (told_by q v)
   unfolding IsCoverOf-from_covered
   holds-by (Apart chain) right =
-      All-cons (Holds paths) (told.TheVariants.Apart (told_question q) chain) []
+      All-cons (Holds paths) (entry_with (told_question q) (reason.TheVariants.Apart chain)) []
       (record { question = is_question; fitting = tt; chains = (asked.mine, asked.theirs, asked.asked, (right asked.mine asked.theirs asked.asked).1.falls) })
       (All-nil (Holds paths))
   holds-by (Covered m t chains) right =
@@ -112,7 +112,7 @@ module _ (paths : List Path) (q : Asked) (asked : IsAskedOf paths q) where
       let first = r.least.cover.of_first in
       let second = r.least.cover.of_second in
       let cover = IsCoverOf-from_covered m t chains r in
-      All-cons (Holds paths) (told.TheVariants.Cover (told_question q) m t chains) []
+      All-cons (Holds paths) (entry_with (told_question q) (reason.TheVariants.Cover m t chains)) []
       (record {
         question = is_question;
         fitting = (first, second, cover, two_for_each (question_facts asked.mine asked.theirs) (key_pairs first second) chains r.equal);
@@ -123,9 +123,9 @@ module _ (paths : List Path) (q : Asked) (asked : IsAskedOf paths q) where
 
   own-by : (v : Verdict) → IsRight paths (numbers_of q) v → All (IsOwnEntry paths) (told_by q v)
   own-by (Apart chain) right =
-      All-cons (IsOwnEntry paths) (told.TheVariants.Apart (told_question q) chain) [] (λ mine theirs of_question. right mine theirs of_question) (All-nil (IsOwnEntry paths))
+      All-cons (IsOwnEntry paths) (entry_with (told_question q) (reason.TheVariants.Apart chain)) [] (λ mine theirs of_question. right mine theirs of_question) (All-nil (IsOwnEntry paths))
   own-by (Covered m t chains) right =
-      All-cons (IsOwnEntry paths) (told.TheVariants.Cover (told_question q) m t chains) []
+      All-cons (IsOwnEntry paths) (entry_with (told_question q) (reason.TheVariants.Cover m t chains)) []
       (λ mine theirs of_question. let r = right mine theirs of_question in (r.can_meet, r.least, r.shortest)) (All-nil (IsOwnEntry paths))
   own-by (Exposed sample) right = All-nil (IsOwnEntry paths)
 

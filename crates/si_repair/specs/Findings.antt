@@ -12,10 +12,11 @@ use Rattle.prog_paths.specs.Asked.{IsQuestion, questions_of, limit}
 use Rattle.conflict_pairs.specs.Verdicts.{FallsShortest, IsShortest, IsLeastCover}
 use Rattle.dep_graph.specs.Counting.{IsCountOf}
 use Rattle.dep_graph.specs.Danger.{IsLeastDanger}
-use Rattle.robust_cert.specs.declared.certificate.Entry.{Entry}
-use Rattle.robust_cert.specs.declared.certificate.Entry.TheVariants.{Apart, Cover}
 use Rattle.robust_cert.specs.declared.certificate.Certificate.{Certificate}
-use Rattle.robust_cert.specs.Accepted.{numbers_told, IsTold, IsAccepted}
+use Rattle.robust_cert.specs.declared.entries.Reason.{Reason}
+use Rattle.robust_cert.specs.declared.entries.Reason.TheVariants.{Apart, Cover}
+use Rattle.robust_cert.specs.Accepted.{question_of, IsTold, IsAccepted}
+use Rattle.robust_cert.specs.Sharing.{Entry}
 use Rattle.si_repair.specs.declared.finding.Finding.{Finding}
 use Rattle.si_repair.specs.declared.finding.Finding.TheVariants.{Robust, Refused}
 
@@ -32,15 +33,19 @@ AsksFew draft = length (questions_of (paths_of draft)) ≤ limit
 abbrev pub AsksTooMany : DraftTree → Type 0
 AsksTooMany draft = limit < length (questions_of (paths_of draft))
 
--- an entry says apart of a question that can't meet, and else names the least cover; its chains have the fewest nodes
-abbrev pub IsOwnEntry : List Path → Entry → Type 0
-IsOwnEntry nodes (Apart q chain) =
-    (mine theirs : Access) → AsksOf nodes (numbers_told q) mine theirs
+-- a reason says apart of a question that can't meet, and else names the least cover; its chains have the fewest nodes
+abbrev pub IsOwnReason : List Path → graph.Question → Reason → Type 0
+IsOwnReason nodes q (Apart chain) =
+    (mine theirs : Access) → AsksOf nodes q mine theirs
     → ¬ CanMeet mine theirs × FallsShortest (question_facts mine theirs) chain
-IsOwnEntry nodes (Cover q m t chains) =
-    (mine theirs : Access) → AsksOf nodes (numbers_told q) mine theirs
-    → CanMeet mine theirs × IsLeastCover nodes (numbers_told q) mine theirs m t
+IsOwnReason nodes q (Cover m t chains) =
+    (mine theirs : Access) → AsksOf nodes q mine theirs
+    → CanMeet mine theirs × IsLeastCover nodes q mine theirs m t
     × All (IsShortest (question_facts mine theirs)) chains
+
+-- an entry has such a reason
+abbrev pub IsOwnEntry : List Path → Entry → Type 0
+IsOwnEntry nodes e = IsOwnReason nodes (question_of e) e.reason
 
 -- each question that is harmless has an entry
 abbrev pub TellsEach : List Path → List Entry → Type 0

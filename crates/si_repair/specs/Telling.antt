@@ -13,13 +13,12 @@ use Rattle.conflict_pairs.specs.declared.fault.PairFault as pairs
 use Rattle.conflict_pairs.specs.Interning.{AreInterned}
 use Rattle.conflict_pairs.specs.Table.{Entry as Judged, Table, StandsFor}
 use Rattle.robust_cert.specs.declared.certificate.Question.{Question}
-use Rattle.robust_cert.specs.declared.certificate.Entry.{Entry}
-use Rattle.robust_cert.specs.declared.certificate.Entry as told
 use Rattle.robust_cert.specs.declared.entries.Reason.{Reason}
 use Rattle.robust_cert.specs.declared.entries.Reason as reason
 use Rattle.robust_cert.specs.declared.entries.Told.{Told}
 use Rattle.robust_cert.specs.Ranges.{IsSmall, IsOfSmall}
 use Rattle.robust_cert.specs.Json.{QuestionFits}
+use Rattle.robust_cert.specs.Sharing.{Entry, entry_with}
 use Rattle.si_repair.specs.declared.fault.AnalyseFault.{AnalyseFault}
 use Rattle.si_repair.specs.declared.fault.AnalyseFault as faults
 use Rattle.si_repair.specs.Findings.{AreCounted}
@@ -37,8 +36,8 @@ told_question q = record { x = q.x; a = q.a; y = q.y; b = q.b }
 
 -- what is told of a question with its verdict: nothing where it is exposed
 abbrev pub told_by : Asked → Verdict → List Entry
-told_by q (Apart chain) = told.TheVariants.Apart (told_question q) chain ∷ []
-told_by q (Covered m t chains) = told.TheVariants.Cover (told_question q) m t chains ∷ []
+told_by q (Apart chain) = entry_with (told_question q) (reason.TheVariants.Apart chain) ∷ []
+told_by q (Covered m t chains) = entry_with (told_question q) (reason.TheVariants.Cover m t chains) ∷ []
 told_by q (Exposed sample) = []
 
 -- what is told of the entries of a table, in order

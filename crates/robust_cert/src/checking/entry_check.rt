@@ -1,9 +1,9 @@
 //! The entries of a certificate, one after the other.
 ghost use Rattle.std.specs.Prelude.{◌≡◌, ◌↔◌, ◌<◌, length, Some, slice_get, IsTrue, OnOk, IfErr};
-ghost use Rattle.robust_cert.specs.declared.certificate.Entry.{Entry};
 ghost use Rattle.robust_cert.specs.declared.certificate.Certificate.{Certificate};
 ghost use Rattle.robust_cert.specs.Refused.{IsOfSize, StandTo, IsBehindLast, IsFirstFault};
 ghost use Rattle.robust_cert.specs.Flaws.{StandsAt, IsFaultAt};
+ghost use Rattle.robust_cert.specs.Sharing.{Entry};
 
 use crate::certificate::Certificate;
 use crate::checking::flaw::{Flaw, asked_pair, check_reason};

@@ -1,8 +1,8 @@
 //! What the entries tell of a question, and what that leaves.
 ghost use Rattle.std.specs.Prelude.{◌≡◌, Some, slice_get};
 ghost use Rattle.prog_paths.specs.Listing.{IsBefore, RiseBy};
-ghost use Rattle.robust_cert.specs.declared.certificate.Entry.{Entry};
 ghost use Rattle.robust_cert.specs.Accepted.{question_of};
+ghost use Rattle.robust_cert.specs.Sharing.{Entry};
 ghost use Rattle.robust_cert.specs.Telling.{question_with, telling_with, telling_of, IsBehind, may_meet, may_be_exposed, mark_with};
 
 use crate::checking::numbers::Numbers;

@@ -7,12 +7,10 @@ ghost use Rattle.serde_json.specs.Find.{of_integer};
 ghost use Rattle.serde_json.specs.View.{view, items_view};
 ghost use Rattle.order_facts.specs.declared.steps.Node.{Node};
 ghost use Rattle.robust_cert.specs.declared.certificate.Question.{Question};
-ghost use Rattle.robust_cert.specs.declared.certificate.Entry.{Entry};
 ghost use Rattle.robust_cert.specs.declared.entries.Reason.{Reason};
 ghost use Rattle.robust_cert.specs.Ranges.{IsSmall, NodeFits, ChainFits};
-ghost use Rattle.robust_cert.specs.Json.{whole_data, node_data, QuestionFits, list_data, entry_data, EntryFits, apart_items, cover_items, AreNumbersOf, IsWordedAs};
-ghost use Rattle.robust_cert.specs.Parts.{ReasonFits};
-ghost use Rattle.robust_cert.specs.Sharing.{entry_with};
+ghost use Rattle.robust_cert.specs.Json.{whole_data, node_data, QuestionFits, list_data, entry_data, ReasonFits, EntryFits, apart_items, cover_items, AreNumbersOf, IsWordedAs};
+ghost use Rattle.robust_cert.specs.Sharing.{Entry, entry_with};
 
 use crate::certificate::Question;
 use crate::chain::Chain;

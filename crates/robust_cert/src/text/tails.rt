@@ -2,7 +2,8 @@
 
 ghost use Rattle.std.specs.Prelude.{◌≡◌, ◌++◌, ◌<◌, All, IfOk, OnOk, length, string_bytes};
 ghost use Rattle.robust_cert.specs.Ranges.{IsSmall, ChainFits};
-ghost use Rattle.robust_cert.specs.Parts.{apart_tail_text, cover_tail_text, tail_text, ReasonFits, AreTailsOf};
+ghost use Rattle.robust_cert.specs.Json.{ReasonFits};
+ghost use Rattle.robust_cert.specs.Parts.{apart_tail_text, cover_tail_text, tail_text, AreTailsOf};
 ghost use Rattle.robust_cert.specs.Sharing.{reason_at};
 
 use crate::chain::Chain;

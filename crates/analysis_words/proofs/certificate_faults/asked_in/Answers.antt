@@ -1,6 +1,6 @@
 use Rattle.std.proofs.Common.{◌<◌, ◌≤◌, ℕ, ap, option_map, subst, sym}
 use Rattle.std.proofs.lemmas.Option.{slice_get_past}
-use Rattle.robust_cert.specs.Sharing.{question_told}
+use Rattle.robust_cert.specs.Sharing.{Entry}
 use Rattle.analysis_words.proofs.AskedEntry.{asked_within}
 use Rattle.analysis_words.proofs.certificate_faults.asked_in.Goals as goal
 
@@ -12,4 +12,4 @@ returns-then-entry-len c =
 pub returns-else-entry-len : goal.returns-else-entry-len
 returns-else-entry-len c =
     let entry = c.args.entry in
-    sym (ap (option_map question_told) (slice_get_past c.args.certificate.now.entries entry (subst (λ (n : ℕ). n ≤ entry) c.len.ensures c.if-entry-len.false)))
+    sym (ap (option_map (λ (e : Entry). e.question)) (slice_get_past c.args.certificate.now.entries entry (subst (λ (n : ℕ). n ≤ entry) c.len.ensures c.if-entry-len.false)))

@@ -1,7 +1,6 @@
 use Rattle.std.proofs.Common.{ℕ, List, [], ◌∷◌, ◌++◌, ap, ◌∙◌}
-use Rattle.robust_cert.specs.declared.certificate.Entry.{Entry}
 use Rattle.robust_cert.specs.declared.entries.Reason.{Reason}
-use Rattle.robust_cert.specs.Sharing.{entry_with, entries_told}
+use Rattle.robust_cert.specs.Sharing.{Entry, entry_with, entries_told}
 use Rattle.robust_cert.proofs.Fitting.{on_err_anyway}
 use Rattle.robust_cert.proofs.Shared.{told-longer, told-own}
 use Rattle.robust_cert.proofs.entries.Entries.push.Goals as goal

@@ -1,8 +1,7 @@
 use Rattle.std.proofs.Common.{◌≡◌, List, [], ◌∷◌, ◌++◌, sym, ap, subst, ◌∙◌, Some}
 use Rattle.std.specs.Prelude.{slice_get}
-use Rattle.robust_cert.specs.declared.certificate.Entry.{Entry}
 use Rattle.robust_cert.specs.declared.entries.Told.{Told}
-use Rattle.robust_cert.specs.Sharing.{entry_told, entries_told}
+use Rattle.robust_cert.specs.Sharing.{Entry, entry_told, entries_told}
 use Rattle.robust_cert.proofs.Shared.{told-push, told-like}
 use Rattle.robust_cert.proofs.entries.Entries.push_like.Goals as goal
 
