@@ -2,6 +2,7 @@ pub mod Edges
 pub mod Helping
 pub mod Instances
 pub mod Left
+pub mod Limits
 pub mod Nodes
 pub mod Quoting
 pub mod Refusing

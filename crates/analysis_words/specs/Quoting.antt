@@ -5,6 +5,7 @@ use Rattle.std.specs.List.{before_first, prefix_len}
 use Rattle.text_places.specs.Quotes.{visible}
 use Rattle.text_places.specs.Reading.{without_comments}
 use Rattle.text_places.specs.Tokens.{is_before_key, table_name}
+use Rattle.analysis_words.specs.Limits.{most_quoted}
 
 -- ---- one line
 
@@ -38,9 +39,9 @@ abbrev pub is_before_end : ℕ → Bool
 is_before_end byte = not (ends_statement byte)
 
 -- the statement at a place of a text: to its `;`, to the `{` of its body, or to the end of its line, and of a long one
--- sixty bytes
+-- the first bytes
 abbrev pub quoted_statement : (text : List ℕ) → (place : ℕ) → List ℕ
-quoted_statement text place = in_one_line (take 60 (before_first ends_statement (drop place (without_comments text))))
+quoted_statement text place = in_one_line (take most_quoted (before_first ends_statement (drop place (without_comments text))))
 
 -- ---- cells
 

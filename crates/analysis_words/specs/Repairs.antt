@@ -2,6 +2,7 @@
 use Rattle.std.specs.Prelude.{ℕ, ◌≡◌, List, [], ◌∷◌, ◌++◌, codes}
 use Rattle.std.specs.Fmt.{decimal}
 use Rattle.prog_tree.specs.Syntax.{DraftTree}
+use Rattle.prog_check.specs.Limits.{most_tables, most_statements, most_accesses}
 use Rattle.repair_laws.specs.declared.plan.Pair.{Pair}
 use Rattle.fault_words.specs.Naming.{program_name}
 use Rattle.analysis_words.specs.SharedWords.{other_run}
@@ -41,8 +42,8 @@ TellsRepair set plan words = (parts : List ℕ) × TellsPairs set plan parts × 
 -- the limits that a set may pass with the statements for its pairs
 abbrev pub limits_text : List ℕ
 limits_text =
-    decimal 64 ++ (codes " tables, " ++ (decimal 256 ++ (codes " statements of a program, "
-    ++ (decimal 24 ++ codes " accesses on a way through it"))))
+    decimal most_tables ++ (codes " tables, " ++ (decimal most_statements ++ (codes " statements of a program, "
+    ++ (decimal most_accesses ++ codes " accesses on a way through it"))))
 
 -- what the first program of a pair does that stops a repair, before the name of the second
 abbrev pub obstacle_verb : Obstacle → List ℕ

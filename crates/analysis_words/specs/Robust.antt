@@ -7,6 +7,7 @@ use Rattle.robust_cert.specs.declared.certificate.Certificate.{Certificate}
 use Rattle.robust_cert.specs.declared.entries.Reason.{Reason}
 use Rattle.robust_cert.specs.declared.entries.Reason.TheVariants.{Apart, Cover}
 use Rattle.robust_cert.specs.Sharing.{Entry}
+use Rattle.analysis_words.specs.Limits.{most_levels}
 use Rattle.analysis_words.specs.Nodes.{Sight}
 use Rattle.analysis_words.specs.Saying.{level_list}
 use Rattle.analysis_words.specs.SharedWords.{more_text}
@@ -34,7 +35,7 @@ first_nodes = 0 ∷ 1 ∷ 2 ∷ 3 ∷ 4 ∷ 5 ∷ 6 ∷ 7 ∷ []
 -- their levels, as far as there are so many nodes, and how many nodes there are more
 abbrev pub levels_text : Sight → Certificate → List ℕ
 levels_text sight certificate =
-    level_list sight certificate (take (length sight.paths) first_nodes) ++ more_text (length sight.paths - 8)
+    level_list sight certificate (take (length sight.paths) first_nodes) ++ more_text (length sight.paths - most_levels)
 
 -- how many questions are covered by the access that covers most, and which it is; nothing where none covers
 abbrev pub IsMostText : (text : List ℕ) → Type 0
