@@ -6,6 +6,7 @@ use Rattle.prog_tree.specs.Tree.{block_tree}
 use Rattle.prog_tree.specs.declared.program.Program.{Program}
 use Rattle.prog_check.specs.declared.path.Access.{Access}
 use Rattle.prog_check.specs.declared.path.Path.{Path}
+use Rattle.prog_check.specs.Limits.{most_statements}
 use Rattle.prog_check.specs.Paths.{statement_count}
 use Rattle.prog_paths.specs.declared.accesses.places.Question.{Question as Asked}
 use Rattle.repair_laws.specs.declared.plan.Pair.{Pair}
@@ -65,7 +66,7 @@ with_keeps_in marked number (Fork test a b) =
 with_keeps_in marked number (Loop l body) = Loop l body
 
 abbrev pub HasFewStatements : Program → Type 0
-HasFewStatements p = statement_count (block_tree p.body) ≤ 256
+HasFewStatements p = statement_count (block_tree p.body) ≤ most_statements
 
 -- a program with keeps behind its marked statements
 abbrev pub promoted_program : (marked : ℕ → Bool) → ProgramTree → ProgramTree
