@@ -53,10 +53,7 @@ impl JsonPart for u32 {
     }
 
     fn from_value(_: Global, value: &Value) -> Result<Self, Untaken> {
-        let Some(number) = small_of(value) else {
-            return Err(Untaken::Misshapen);
-        };
-        Ok(number)
+        small_of(value).ok_or(Untaken::Misshapen)
     }
 
     fn read(cursor: &mut Cursor<'_>) -> Result<Self, Untaken> {
@@ -76,10 +73,7 @@ impl JsonPart for Node {
     }
 
     fn from_value(_: Global, value: &Value) -> Result<Self, Untaken> {
-        let Some(node) = node_of(value) else {
-            return Err(Untaken::Misshapen);
-        };
-        Ok(node)
+        node_of(value).ok_or(Untaken::Misshapen)
     }
 
     fn read(cursor: &mut Cursor<'_>) -> Result<Self, Untaken> {

@@ -50,9 +50,7 @@ fn certificate_in(alloc: Global, value: Value) -> Result<Certificate, JsonFault>
         → IsFaultOf (view value) fault) }
 {
     let version = version_in(&value)?;
-    let Some(members) = object_of(value) else {
-        return Err(JsonFault::WrongShape);
-    };
+    let members = object_of(value).ok_or(JsonFault::WrongShape)?;
     Ok(certificate_of(alloc, version, members)?)
 }
 

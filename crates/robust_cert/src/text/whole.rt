@@ -58,12 +58,8 @@ fn shared_of(
     ensures misshapen { result ≡ Err Untaken.Misshapen
         → IsNotShared (members_view members.entries) }
 {
-    let Some((entries, levels)) = parts_of(members) else {
-        return Err(Untaken::Misshapen);
-    };
-    let Some(entries) = items_of(entries) else {
-        return Err(Untaken::Misshapen);
-    };
+    let (entries, levels) = parts_of(members).ok_or(Untaken::Misshapen)?;
+    let entries = items_of(entries).ok_or(Untaken::Misshapen)?;
     let entries = entries_of(alloc, entries)?;
     let levels = list_of(alloc, &levels)?;
     Ok((entries, levels))
@@ -98,9 +94,7 @@ fn second_of(alloc: Global, mut members: Map<String, Value>) -> Result<Certifica
     ensures misshapen { result ≡ Err Untaken.Misshapen
         → (c : Certificate) → ¬ IsValueOf c (object (members_view members.entries)) }
 {
-    let Some(bodies) = take_member(&mut members, "bodies") else {
-        return Err(Untaken::Misshapen);
-    };
+    let bodies = take_member(&mut members, "bodies").ok_or(Untaken::Misshapen)?;
     let bodies = list_of(alloc, &bodies)?;
     let (entries, levels) = shared_of(alloc, members)?;
     Ok(Certificate {
