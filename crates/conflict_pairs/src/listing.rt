@@ -12,7 +12,7 @@ use crate::fault::PairFault;
 use crate::interning::{Interned, intern_all};
 use crate::judge::verdicts_of;
 use crate::limits::MOST_PLACES;
-use crate::pairing::{PlacePair, number_among, pair_of, question_of};
+use crate::pairing::{PlacePair, number_among, question_of};
 use crate::table::PairTable;
 use crate::verdicts::Verdict;
 use prog_check::Path;
@@ -53,7 +53,7 @@ fn push_questions(
 {
     for second in seconds {
         if asks(first, second) {
-            pairs.push(pair_of(number, number_among(starts, second)))?;
+            pairs.push(PlacePair::new(number, number_among(starts, second)))?;
         }
     }
     Ok(())

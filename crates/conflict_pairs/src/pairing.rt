@@ -11,15 +11,17 @@ pub struct PlacePair {
     pub second: u32,
 }
 
-pub fn pair_of(first: usize, second: usize) -> PlacePair
-    requires first_fits { first < 2 ^ 32 }
-    requires second_fits { second < 2 ^ 32 }
-    ensures first { result.first ≡ first }
-    ensures second { result.second ≡ second }
-{
-    PlacePair {
-        first: first as u32,
-        second: second as u32,
+impl PlacePair {
+    pub fn new(first: usize, second: usize) -> PlacePair
+        requires first_fits { first < 2 ^ 32 }
+        requires second_fits { second < 2 ^ 32 }
+        ensures first { result.first ≡ first }
+        ensures second { result.second ≡ second }
+    {
+        PlacePair {
+            first: first as u32,
+            second: second as u32,
+        }
     }
 }
 

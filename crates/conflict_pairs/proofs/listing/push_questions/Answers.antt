@@ -15,11 +15,11 @@ number_among-requires-clause-node c = (c.requires.seconds c.loop-second.second-i
 pub number_among-requires-clause-fits : goal.number_among-requires-clause-fits
 number_among-requires-clause-fits c = number-fits c.args.starts.now c.args.places.now c.requires.few _ (c.requires.seconds c.loop-second.second-index _ (omega arith))
 
-pub pair_of-requires-clause-first_fits : goal.pair_of-requires-clause-first_fits
-pair_of-requires-clause-first_fits c = omega (arith, c.requires.number, c.requires.few)
+pub new-requires-clause-first_fits : goal.new-requires-clause-first_fits
+new-requires-clause-first_fits c = omega (arith, c.requires.number, c.requires.few)
 
-pub pair_of-requires-clause-second_fits : goal.pair_of-requires-clause-second_fits
-pair_of-requires-clause-second_fits c = number-small c.args.starts.now c.args.places.now c.requires.few _ (c.requires.seconds c.loop-second.second-index _ (omega arith)) c.number_among.result c.number_among.ensures
+pub new-requires-clause-second_fits : goal.new-requires-clause-second_fits
+new-requires-clause-second_fits c = number-small c.args.starts.now c.args.places.now c.requires.few _ (c.requires.seconds c.loop-second.second-index _ (omega arith)) c.number_among.result c.number_among.ensures
 
 pub loop-second-preserved : goal.loop-second-preserved
 loop-second-preserved c =
@@ -32,18 +32,18 @@ loop-second-preserved c =
     elim c.if-asks.branch [
       | then-asks+in_ok-push w ↦
           let added = ap (λ (v : Vec PlacePair Global). v.items) w.pairs-is ∙ w.in_ok-push.ensures.items in
-          let first_there : w.pair_of.result.first < length places = omega (arith, c.requires.number, w.pair_of.ensures.first) in
-          let second_there : w.pair_of.result.second < length places = omega (arith, number-there starts places c.requires.few _ (c.requires.seconds c.loop-second.second-index _ (omega arith)) w.number_among.result w.number_among.ensures, w.pair_of.ensures.second) in
+          let first_there : w.new.result.first < length places = omega (arith, c.requires.number, w.new.ensures.first) in
+          let second_there : w.new.result.second < length places = omega (arith, number-there starts places c.requires.few _ (c.requires.seconds c.loop-second.second-index _ (omega arith)) w.number_among.result w.number_among.ensures, w.new.ensures.second) in
           record {
             questions =
                 asked-yes (questions_at places old) (questions_at places new) whole first c.loop-second.second-index c.args.seconds.now _ (omega arith) (sym c.asks.ensures ∙ w.if-asks.true)
-                (given-pushed (question_at places) old new w.pair_of.result _ added
-                (pair-question places first _ w.pair_of.result c.args.number w.number_among.result w.pair_of.ensures.first w.pair_of.ensures.second c.requires.first
+                (given-pushed (question_at places) old new w.new.result _ added
+                (pair-question places first _ w.new.result c.args.number w.number_among.result w.new.ensures.first w.new.ensures.second c.requires.first
                 (number-is starts places c.requires.few _ (c.requires.seconds c.loop-second.second-index _ (omega arith)) w.number_among.result w.number_among.ensures)))
                 c.loop-second.invariant.questions;
             within =
                 subst (λ (l : List PlacePair). All (HasPlaces places) l) (sym added)
-                (All-push (HasPlaces places) old w.pair_of.result c.loop-second.invariant.within (record { first_within = first_there; second_within = second_there }));
+                (All-push (HasPlaces places) old w.new.result c.loop-second.invariant.within (record { first_within = first_there; second_within = second_there }));
           }
       | else-asks w ↦ record {
         questions =
