@@ -84,26 +84,26 @@ fn chain_between(closed: &Closed, from: Node, to: Node) -> Result<Chain, AllocEr
     }
 }
 
-/// The chains, with one from one term to another and one back.
-fn with_both(
-    mut chains: Sequence<Chain>,
+/// Adds a chain from one term to another, and one back.
+fn push_both(
     closed: &Closed,
     mine: Term,
     theirs: Term,
-) -> Result<Sequence<Chain>, AllocError>
+    chains: &mut Sequence<Chain>,
+) -> Result<(), AllocError>
     requires consistent { IsConsistent closed.now }
     requires equal { AllEqual closed.now ((mine, theirs) ∷ []) }
-    ensures equal { IfOk result
-        (λ more. (pairs : List (Term × Term)) → ShowEqual closed.now pairs chains
-        → ShowEqual closed.now (pairs ++ (mine, theirs) ∷ []) more) }
-    ensures shortest { IfOk result
-        (λ more. All (IsShortest closed.now) chains → All (IsShortest closed.now) more) }
+    ensures equal { OnOk result
+        ((pairs : List (Term × Term)) → ShowEqual closed.now pairs chains.old
+        → ShowEqual closed.now (pairs ++ (mine, theirs) ∷ []) chains.new) }
+    ensures shortest { OnOk result
+        (All (IsShortest closed.now) chains.old → All (IsShortest closed.now) chains.new) }
 {
     let mine = mine_node(mine);
     let theirs = their_node(theirs);
     chains.push(chain_between(closed, mine, theirs)?)?;
     chains.push(chain_between(closed, theirs, mine)?)?;
-    Ok(chains)
+    Ok(())
 }
 
 /// The chains of two accesses that cover, column by column: mine to theirs, then theirs to mine.
@@ -119,13 +119,11 @@ pub fn cover_chains(
         (λ chains. ShowEqual closed.now (key_pairs mine.now theirs.now) chains) }
     ensures shortest { IfOk result (λ chains. All (IsShortest closed.now) chains) }
 {
-    let none = Sequence::new(alloc);
-    let chains = with_both(none, closed, mine.first.low, theirs.first.low)?;
-    match second_terms(mine.second, theirs.second) {
-        Some((mine, theirs)) => {
-            let all = with_both(chains, closed, mine, theirs)?;
-            Ok(all)
-        }
-        None => Ok(chains),
-    }
+    let mut chains = Sequence::new(alloc);
+    push_both(closed, mine.first.low, theirs.first.low, &mut chains)?;
+    let Some((mine, theirs)) = second_terms(mine.second, theirs.second) else {
+        return Ok(chains);
+    };
+    push_both(closed, mine, theirs, &mut chains)?;
+    Ok(chains)
 }

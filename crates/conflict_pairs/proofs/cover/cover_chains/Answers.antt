@@ -4,11 +4,11 @@ use Rattle.prog_check.specs.declared.path.Term.{Term}
 use Rattle.prog_paths.specs.Shown.{ShowEqual}
 use Rattle.conflict_pairs.proofs.cover.cover_chains.Goals as goal
 
-pub returns-in_ok-all-in-Some-clause-equal : goal.returns-in_ok-all-in-Some-clause-equal
-returns-in_ok-all-in-Some-clause-equal c =
+pub returns-clause-equal : goal.returns-clause-equal
+returns-clause-equal c =
     let mine = c.args.mine.now in
     let theirs = c.args.theirs.now in
     let facts = c.args.closed.now in
-    let first = c.in_ok-chains.ensures.equal [] (subst (λ (cs : List (List Node)). ShowEqual facts [] cs) (sym c.new-none.ensures) tt) in
+    let first = c.in_ok-push_both.ensures.equal [] (subst (λ (cs : List (List Node)). ShowEqual facts [] cs) (sym c.new-chains.ensures) tt) in
     let pairs = ap (λ (ps : List (Term × Term)). (mine.first.low, theirs.first.low) ∷ ps) c.in-Some.ensures in
-    subst (λ (ps : List (Term × Term)). ShowEqual facts ps c.in_ok-all-in-Some.all) pairs (c.in_ok-all-in-Some.ensures.equal ((mine.first.low, theirs.first.low) ∷ []) first)
+    subst (λ (ps : List (Term × Term)). ShowEqual facts ps c.push_both-2.new.chains) pairs (c.in_ok-push_both-2.ensures.equal ((mine.first.low, theirs.first.low) ∷ []) first)
