@@ -1,5 +1,5 @@
 //! The statements behind which a cell is to be kept.
-ghost use Rattle.std.specs.Prelude.{◌≡◌, ◌||◌, ℕ, All, IfOk};
+ghost use Rattle.std.specs.Prelude.{◌≡◌, ◌||◌, ℕ, All, OnOk};
 ghost use Rattle.std.specs.List.{list_any};
 ghost use Rattle.si_repair.specs.Gathering.{HasRead};
 ghost use Rattle.si_repair.specs.Promoting.{is_marked, is_at, reads_at, place_of};
@@ -29,20 +29,17 @@ pub fn is_marked(marks: &[MarkedStatement], program: usize, number: usize) -> bo
     marks.iter().any(|mark| is_at(mark, program, number))
 }
 
-/// The marks with one more, unless it is there.
-fn with_mark(
-    mut marks: Vec<MarkedStatement>,
-    mark: MarkedStatement,
-) -> Result<Vec<MarkedStatement>, AllocError>
-    ensures { IfOk result (λ more. (program number : ℕ)
-        → is_marked more.items program number
-        ≡ (is_marked marks.items program number || is_at program number mark)) }
+/// Adds a mark, unless it is there.
+fn push_mark(marks: &mut Vec<MarkedStatement>, mark: MarkedStatement) -> Result<(), AllocError>
+    ensures { OnOk result ((program number : ℕ)
+        → is_marked marks.new.items program number
+        ≡ (is_marked marks.old.items program number || is_at program number mark)) }
 {
-    if is_marked(&marks, mark.program, mark.number) {
-        return Ok(marks);
+    if is_marked(marks, mark.program, mark.number) {
+        return Ok(());
     }
     marks.push(mark)?;
-    Ok(marks)
+    Ok(())
 }
 
 /// The number of the statement that asks a question.
@@ -53,26 +50,25 @@ fn place_of(paths: &[Path], question: &Question) -> usize
     paths[question.x].accesses.as_slice()[question.a].place
 }
 
-/// The marks with the statements of a pair's exposed reads.
-pub fn with_reads(
+/// Adds the statements of a pair's exposed reads.
+pub fn push_reads(
+    marks: &mut Vec<MarkedStatement>,
     paths: &[Path],
     pair: Pair,
     questions: &[Question],
-    marks: Vec<MarkedStatement>,
-) -> Result<Vec<MarkedStatement>, AllocError>
+) -> Result<(), AllocError>
     requires { All (HasRead paths.now) questions.now }
-    ensures { IfOk result (λ more. (program number : ℕ)
-        → is_marked more.items program number
-        ≡ (is_marked marks.items program number
+    ensures { OnOk result ((program number : ℕ)
+        → is_marked marks.new.items program number
+        ≡ (is_marked marks.old.items program number
         || list_any (reads_at paths.now pair program number) questions.now)) }
 {
-    let mut more = marks;
     for question in questions {
         let mark = MarkedStatement {
             program: pair.from,
             number: place_of(paths, question),
         };
-        more = with_mark(more, mark)?;
+        push_mark(marks, mark)?;
     }
-    Ok(more)
+    Ok(())
 }

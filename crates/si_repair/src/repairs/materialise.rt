@@ -35,25 +35,25 @@ fn params_of(draft: &Draft, number: usize) -> usize
     }
 }
 
-/// The pairs that were met, and behind them another, with its own new name and its key.
-fn met_with(
+/// Adds a pair with its own new name and its key.
+fn push_meeting(
     alloc: Global,
     set: &ProgramSet,
     paths: &[Path],
-    mut made: Vec<Meeting>,
     pair: Pair,
-) -> Result<Vec<Meeting>, AllocError>
+    made: &mut Vec<Meeting>,
+) -> Result<(), AllocError>
     requires { paths.now ≡ paths_of (draft_tree set.now) }
-    ensures { IfOk result (λ all. (earlier : List OfPrograms)
-        → AreMet (draft_tree set.now) earlier (all_met made.items)
-        → AreMet (draft_tree set.now) (earlier ++ pair ∷ []) (all_met all.items)) }
+    ensures { OnOk result ((earlier : List OfPrograms)
+        → AreMet (draft_tree set.now) earlier (all_met made.old.items)
+        → AreMet (draft_tree set.now) (earlier ++ pair ∷ []) (all_met made.new.items)) }
 {
-    let table = free_name(alloc, set, &made)?;
+    let table = free_name(alloc, set, made)?;
     let firsts = params_of(set.draft(), pair.from);
     let seconds = params_of(set.draft(), pair.to);
     let key = key_of(alloc, paths, pair, firsts, seconds)?;
     made.push(Meeting { pair, table, key })?;
-    Ok(made)
+    Ok(())
 }
 
 /// The pairs, each with its own new name and its key.
@@ -68,7 +68,7 @@ fn meetings(
 {
     let mut made = Vec::new(alloc);
     for pair in pairs {
-        made = met_with(alloc, set, paths, made, *pair)?;
+        push_meeting(alloc, set, paths, *pair, &mut made)?;
     }
     Ok(made)
 }

@@ -17,7 +17,7 @@ use crate::repairs::bisecting::{Firsts, most_that_fit};
 use crate::repairs::checked::checked_set;
 use crate::repairs::exposed::exposed_questions;
 use crate::repairs::fault::RepairFault;
-use crate::repairs::marks::{MarkedStatement, with_reads};
+use crate::repairs::marks::{MarkedStatement, push_reads};
 use crate::repairs::reads::{Obstacle, first_obstacle};
 use prog_check::{Path, ProgramSet};
 use prog_paths::{Question, paths};
@@ -120,7 +120,7 @@ fn marked_statements(
 {
     let mut marks = Vec::new(alloc);
     for each in covered {
-        marks = with_reads(paths, each.pair, &each.questions, marks)?;
+        push_reads(&mut marks, paths, each.pair, &each.questions)?;
     }
     Ok(marks)
 }

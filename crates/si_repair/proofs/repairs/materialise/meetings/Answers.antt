@@ -13,7 +13,7 @@ pub loop-pair-preserved : goal.loop-pair-preserved
 loop-pair-preserved c =
     let pairs = c.args.pairs.now in
     let n = c.loop-pair.pair-index in
-    met_next (draft_tree c.args.set.now) pairs pairs n _ (all_met c.in_ok-made.made.items) refl c.loop-pair-test.true (c.in_ok-made.ensures (take n pairs) c.loop-pair.invariant)
+    met_next (draft_tree c.args.set.now) pairs pairs n _ (all_met c.push_meeting.new.made.items) refl c.loop-pair-test.true (c.in_ok-push_meeting.ensures (take n pairs) c.loop-pair.invariant)
 
 pub returns : goal.returns
 returns c =

@@ -15,8 +15,8 @@ use Rattle.si_repair.proofs.repairs.promotion.marked_statements.Goals as goal
 pub loop-each-init : goal.loop-each-init
 loop-each-init c = subst (λ (ms : List MarkedStatement). MarksExposed c.args.paths.now [] (is_marked ms)) (sym c.new-marks.ensures.items) (marks-none c.args.paths.now)
 
-pub with_reads-requires : goal.with_reads-requires
-with_reads-requires c =
+pub push_reads-requires : goal.push_reads-requires
+push_reads-requires c =
     let nodes = c.args.paths.now in
     let each = c.each-item.result in
     let own = subst (HasItsQuestions nodes) (sym c.each-item.is) (c.requires c.loop-each.each-index each c.loop-each-test.true) in
@@ -30,13 +30,13 @@ loop-each-preserved c =
     let each = c.each-item.result in
     let pair = λ (x : Covered). x.pair in
     let old = is_marked c.loop-each.marks.items in
-    let new = is_marked c.in_ok-marks.marks.items in
+    let new = is_marked c.push_reads.new.marks.items in
     let own = subst (HasItsQuestions nodes) (sym c.each-item.is) (c.requires n each c.loop-each-test.true) in
     let exposed = subst (λ (l : List Question). AreExposed nodes each.pair l) (sym c.deref.ensures.value) own in
     let next = ap (map pair) (take_more covered n each c.loop-each-test.true ∙ ap (λ x. take n covered ++ x ∷ []) (sym c.each-item.is)) ∙ map-append pair (take n covered) (each ∷ []) in
     subst (λ (l : List Pair). MarksExposed nodes l new) (sym next)
     (marks-more nodes (pairs_of (take n covered)) each.pair old new c.loop-each.invariant
-    (adds-reads nodes each.pair c.deref.result.now old new exposed c.in_ok-marks.ensures))
+    (adds-reads nodes each.pair c.deref.result.now old new exposed c.in_ok-push_reads.ensures))
 
 pub returns : goal.returns
 returns c =

@@ -12,7 +12,7 @@ use Rattle.repair_laws.specs.Materialised.{Met, params_of, AreMet, IsLeastFree}
 use Rattle.si_repair.specs.declared.repairs.keeps.Meeting.{Meeting}
 use Rattle.si_repair.specs.Carrying.{met_of, all_met, taken_names}
 use Rattle.si_repair.proofs.Meetings.{met_more}
-use Rattle.si_repair.proofs.repairs.materialise.met_with.Goals as goal
+use Rattle.si_repair.proofs.repairs.materialise.push_meeting.Goals as goal
 
 pub key_of-requires : goal.key_of-requires
 key_of-requires c = subst (λ (l : List Path). All ChangesSingleCells l) (sym c.requires) (law_of_single_changes (draft_tree c.args.set.now))
@@ -22,7 +22,7 @@ returns c earlier met =
     let draft = draft_tree c.args.set.now in
     let pair = c.args.pair in
     let key = c.in_ok-key.key in
-    let made = c.args.made.items in
+    let made = c.args.made.now.items in
     let m : Met = record { pair = pair; table = c.in_ok-table.table; key = key } in
     let firsts = c.params_of-firsts.ensures ∙ ap (λ (d : Draft). params_of (draft_tree d) pair.from) c.draft.ensures.same in
     let seconds = c.params_of-seconds.ensures ∙ ap (λ (d : Draft). params_of (draft_tree d) pair.to) c.draft-2.ensures.same in
