@@ -52,7 +52,7 @@ fn reason_of(alloc: Global, verdict: &Verdict) -> Result<Reason, AllocError>
         Verdict::Exposed(_) => Ok(Reason::Cover {
             mine: 0,
             theirs: 0,
-            chains: Sequence::from_vec(Vec::new(alloc)),
+            chains: Sequence::new(alloc),
         }),
     }
 }
