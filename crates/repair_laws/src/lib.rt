@@ -10,4 +10,4 @@ pub use laws::{
     law_of_one_plan, law_of_paths_with_keeps, law_of_plan_steps, law_of_plans, law_of_promoting,
     law_of_sizes,
 };
-pub use plan::Pair;
+pub use plan::{NewTable, Pair};

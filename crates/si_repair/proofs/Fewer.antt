@@ -14,7 +14,8 @@ use Rattle.prog_check.specs.Counts.{access_count, body_count, larger, added_weig
 use Rattle.prog_check.specs.Paths.{statement_count}
 use Rattle.prog_check.specs.Tables.{declaration, grows}
 use Rattle.prog_check.specs.Uses.{used_table, is_abort, as_count}
-use Rattle.repair_laws.specs.Materialised.{Met, plain_table, column_of, keep_in, keeps_for, columns_for, in_front, with_front, all_with_front, materialised_by}
+use Rattle.repair_laws.specs.declared.plan.NewTable.{NewTable}
+use Rattle.repair_laws.specs.Materialised.{plain_table, column_of, keep_in, keeps_for, columns_for, in_front, with_front, all_with_front, materialised_by}
 use Rattle.repair_laws.specs.Promoted.{cell_read, keep_of, with_keeps, all_with_keeps, promoted_by}
 use Rattle.si_repair.proofs.Limits.{IsSmallProgram, AreSmallPrograms, IsWithinLimits}
 
@@ -136,7 +137,7 @@ module _ (fewer more : List TableDecl) (same : (st : StatementTree) → access_c
   front-both [] ys b = refl
   front-both (x ∷ xs) ys b = ap (Then x) (front-both xs ys b)
 
-  lighter-met : (program : ℕ) (params : List Name) (made new : List Met) (b : BlockTree) → IsLighter (in_front (flat_map (keeps_for program params) made) b) (in_front (flat_map (keeps_for program params) (made ++ new)) b)
+  lighter-met : (program : ℕ) (params : List Name) (made new : List NewTable) (b : BlockTree) → IsLighter (in_front (flat_map (keeps_for program params) made) b) (in_front (flat_map (keeps_for program params) (made ++ new)) b)
   lighter-met program params [] [] b = lighter-same b
   lighter-met program params [] (m ∷ new) b =
       let behind = in_front (flat_map (keeps_for program params) new) b in
@@ -150,7 +151,7 @@ module _ (fewer more : List TableDecl) (same : (st : StatementTree) → access_c
       (subst (λ (x : BlockTree). IsLighter (in_front front (in_front less b)) x) (sym (front-both front all b))
       (lighter-front front (in_front less b) (in_front all b) (lighter-met program params made new b)))
 
-  small-fronts : (made new : List Met) (program : ℕ) (ps : List ProgramTree) → AreSmallPrograms more (all_with_front (made ++ new) program ps) → AreSmallPrograms fewer (all_with_front made program ps)
+  small-fronts : (made new : List NewTable) (program : ℕ) (ps : List ProgramTree) → AreSmallPrograms more (all_with_front (made ++ new) program ps) → AreSmallPrograms fewer (all_with_front made program ps)
   small-fronts made new program [] small = tt
   small-fronts made new program (p ∷ ps) small = (
     small-lighter p.name p.params (in_front (flat_map (keeps_for program p.params) made) p.body) (in_front (flat_map (keeps_for program p.params) (made ++ new)) p.body) (lighter-met program p.params made new p.body) small.0,
@@ -192,7 +193,7 @@ module _ (fewer more : List TableDecl) (same : (st : StatementTree) → access_c
 
 -- ---- new tables don't grow
 
-plain-stays : (x : Name) (made : List Met) → grows (declaration (map (λ m. plain_table m.table) made) x) ≡ false
+plain-stays : (x : Name) (made : List NewTable) → grows (declaration (map (λ m. plain_table m.table) made) x) ≡ false
 plain-stays x [] = refl
 plain-stays x (m ∷ made) = go (same_name x m.table) (plain-stays x made)
   where
@@ -200,7 +201,7 @@ plain-stays x (m ∷ made) = go (same_name x m.table) (plain-stays x made)
     go true rest = refl
     go false rest = rest
 
-grows-as : (tables : List TableDecl) (made : List Met) (x : Name) → grows (declaration (tables ++ map (λ m. plain_table m.table) made) x) ≡ grows (declaration tables x)
+grows-as : (tables : List TableDecl) (made : List NewTable) (x : Name) → grows (declaration (tables ++ map (λ m. plain_table m.table) made) x) ≡ grows (declaration tables x)
 grows-as [] made x = plain-stays x made
 grows-as (t ∷ tables) made x = go (same_name x t.name) (grows-as tables made x)
   where
@@ -209,7 +210,7 @@ grows-as (t ∷ tables) made x = go (same_name x t.name) (grows-as tables made x
     go true rest = refl
     go false rest = rest
 
-count-as : (tables : List TableDecl) (made : List Met) (st : StatementTree) → access_count (tables ++ map (λ m. plain_table m.table) made) st ≡ access_count tables st
+count-as : (tables : List TableDecl) (made : List NewTable) (st : StatementTree) → access_count (tables ++ map (λ m. plain_table m.table) made) st ≡ access_count tables st
 count-as tables made st = ap (λ (g : Bool). length (kinds_of g st)) (go (used_table st))
   where
     go : (used : Option (Name × Arity)) → grows_used (tables ++ map (λ m. plain_table m.table) made) used ≡ grows_used tables used
@@ -219,9 +220,9 @@ count-as tables made st = ap (λ (g : Bool). length (kinds_of g st)) (go (used_t
 -- ---- drafts
 
 -- where all pairs make a small draft, so do the first of them
-pub fewer_met_small : (draft : DraftTree) (made new : List Met) → IsWithinLimits (materialised_by draft (made ++ new)) → IsWithinLimits (materialised_by draft made)
+pub fewer_met_small : (draft : DraftTree) (made new : List NewTable) → IsWithinLimits (materialised_by draft (made ++ new)) → IsWithinLimits (materialised_by draft made)
 fewer_met_small draft made new small =
-    let table : Met → TableDecl = λ m. plain_table m.table in
+    let table : NewTable → TableDecl = λ m. plain_table m.table in
     let fewer = draft.tables ++ map table made in
     let more = draft.tables ++ map table (made ++ new) in
     let tables = small.tables in
@@ -236,7 +237,7 @@ fewer_met_small draft made new small =
       each = small-fronts fewer more (λ st. count-as draft.tables made st ∙ sym (count-as draft.tables (made ++ new) st)) made new 0 draft.programs small.each;
     }
   where
-    as-many : (xs ys : List Met) (program : ℕ) (ps : List ProgramTree) → length (all_with_front xs program ps) ≡ length (all_with_front ys program ps)
+    as-many : (xs ys : List NewTable) (program : ℕ) (ps : List ProgramTree) → length (all_with_front xs program ps) ≡ length (all_with_front ys program ps)
     as-many xs ys program [] = refl
     as-many xs ys program (p ∷ ps) = ap suc (as-many xs ys (program + 1) ps)
 

@@ -18,7 +18,7 @@ pub mod Repaired
 pub mod Putting
 pub mod Limits
 pub mod Fewer
-pub mod Meetings
+pub mod NewTables
 pub mod Behind
 pub mod Marks
 pub mod Covering

@@ -15,19 +15,19 @@ use Rattle.prog_tree.specs.Value.{same_name}
 use Rattle.prog_check.specs.Faults.{table_names}
 use Rattle.prog_check.specs.Names.{is_among, place_among}
 use Rattle.prog_check.proofs.NameLemmas.{list_any-map}
-use Rattle.repair_laws.specs.Materialised.{Met, mat_name, IsLeastFree}
+use Rattle.repair_laws.specs.declared.plan.NewTable.{NewTable}
+use Rattle.repair_laws.specs.Materialised.{mat_name, IsLeastFree}
 use Rattle.repair_laws.proofs.PathLaws.{has_place}
-use Rattle.si_repair.specs.Carrying.{met_of, all_met, new_names, taken_names}
-use Rattle.si_repair.specs.declared.repairs.keeps.Meeting.{Meeting}
+use Rattle.si_repair.specs.Carrying.{new_names, taken_names}
 
 -- ---- names that are taken
 
 -- a new table has the name where the table of a pair does
-abbrev pub has_name : Name → Meeting → Bool
+abbrev pub has_name : Name → NewTable → Bool
 has_name name m = same_name name m.table
 
-pub new_is : (name : Name) (made : List Meeting) → is_among (new_names (all_met made)) name ≡ list_any (has_name name) made
-new_is name made = list_any-map (same_name name) (λ (m : Met). m.table) (all_met made) ∙ list_any-map (λ (m : Met). same_name name m.table) met_of made
+pub new_is : (name : Name) (made : List NewTable) → is_among (new_names made) name ≡ list_any (has_name name) made
+new_is name made = list_any-map (same_name name) (λ (m : NewTable). m.table) made
 
 -- a name is taken where it has a place among the names of tables, and else where a new table has it
 place-taken : (names : List Name) (x : Name) (b : Bool) → is_some (place_among names x) ≡ b → is_among names x ≡ b
@@ -91,21 +91,20 @@ pub first_free : (taken : List Name) (n : ℕ) (name : Name) → name ≡ mat_na
 first_free taken n name e free each = (n, e, free, each)
 
 -- not all of the first names are taken, of which there is one more than names that are
-pub one_free : (draft : DraftTree) (made : List Meeting) (n : ℕ) → length draft.tables + length made ≡ n → n < 2 ^ 64
-    → ((k : ℕ) → k < n → is_among (taken_names draft (all_met made)) (mat_name k) ≡ true)
-    → is_among (taken_names draft (all_met made)) (mat_name n) ≡ true → ⊥
+pub one_free : (draft : DraftTree) (made : List NewTable) (n : ℕ) → length draft.tables + length made ≡ n → n < 2 ^ 64
+    → ((k : ℕ) → k < n → is_among (taken_names draft made) (mat_name k) ≡ true)
+    → is_among (taken_names draft made) (mat_name n) ≡ true → ⊥
 one_free draft made n size small each last =
-    let taken = taken_names draft (all_met made) in
+    let taken = taken_names draft made in
     let many = taken_many taken (n + 1) (omega arith) each_one in
     let old = length-map draft.tables (λ (d : TableDecl). d.name) in
-    let met = length-map made met_of in
-    let new = length-map (all_met made) (λ (m : Met). m.table) in
-    let count = length-append (table_names draft) (new_names (all_met made)) in
-    omega (arith, many, old, met, new, count, size)
+    let new = length-map made (λ (m : NewTable). m.table) in
+    let count = length-append (table_names draft) (new_names made) in
+    omega (arith, many, old, new, count, size)
   where
-    each_one : (k : ℕ) → k < n + 1 → is_among (taken_names draft (all_met made)) (mat_name k) ≡ true
+    each_one : (k : ℕ) → k < n + 1 → is_among (taken_names draft made) (mat_name k) ≡ true
     each_one k below = go (cases_lt k n)
       where
-        go : (k < n) ⊎ (n ≤ k) → is_among (taken_names draft (all_met made)) (mat_name k) ≡ true
+        go : (k < n) ⊎ (n ≤ k) → is_among (taken_names draft made) (mat_name k) ≡ true
         go (inl less) = each k less
-        go (inr more) = let same : n ≡ k = omega (arith, below, more) in subst (λ (j : ℕ). is_among (taken_names draft (all_met made)) (mat_name j) ≡ true) same last
+        go (inr more) = let same : n ≡ k = omega (arith, below, more) in subst (λ (j : ℕ). is_among (taken_names draft made) (mat_name j) ≡ true) same last

@@ -12,12 +12,12 @@ use Rattle.prog_tree.specs.declared.stmt.Stmt.{Stmt}
 use Rattle.prog_tree.specs.declared.program.Program.{Program}
 use Rattle.prog_check.specs.declared.path.Path.{Path}
 use Rattle.prog_check.specs.Paths.{paths_of}
+use Rattle.repair_laws.specs.declared.plan.NewTable.{NewTable}
 use Rattle.repair_laws.specs.declared.plan.Pair.{Pair}
 use Rattle.repair_laws.specs.Keys.{IsKeyOf}
-use Rattle.repair_laws.specs.Materialised.{Met, first_of, second_of, is_one, keeps_for, in_front, count_params, params_of, with_front, all_with_front, HasKey, kept_columns}
-use Rattle.si_repair.specs.declared.repairs.keeps.Meeting.{Meeting}
+use Rattle.repair_laws.specs.Materialised.{first_of, second_of, is_one, keeps_for, in_front, count_params, params_of, with_front, all_with_front, HasKey, kept_columns}
 use Rattle.si_repair.proofs.Behind.{with_stmts-append}
-use Rattle.si_repair.specs.Carrying.{met_of, all_met, IsColumn, HasColumns, HaveColumns}
+use Rattle.si_repair.specs.Carrying.{IsColumn, HasColumns, HaveColumns}
 
 -- ---- statements in front of a block
 
@@ -38,7 +38,7 @@ block_front front stmts xs e = with_stmts-append front stmts BlockEnd ∙ front-
 
 -- a copy of a program, behind the keeps of all pairs
 pub program_front :
-    (made : List Met) (number : ℕ) (copy program : Program) (front all : List Stmt)
+    (made : List NewTable) (number : ℕ) (copy program : Program) (front all : List Stmt)
     → program_tree copy ≡ program_tree program
     → map stmt_tree front ≡ map Plain (flat_map (keeps_for number program.params.items) made)
     → all ≡ front ++ copy.body.stmts.items
@@ -47,7 +47,7 @@ program_front made number copy program front all same kept joined =
     let keeps = flat_map (keeps_for number program.params.items) made in
     ap stmts_tree joined ∙ block_front front copy.body.stmts.items keeps kept ∙ ap (λ (p : ProgramTree). in_front keeps p.body) same
 
-pub all_with_front-push : (made : List Met) (n : ℕ) (ps : List ProgramTree) (p : ProgramTree)
+pub all_with_front-push : (made : List NewTable) (n : ℕ) (ps : List ProgramTree) (p : ProgramTree)
     → all_with_front made n (ps ++ p ∷ []) ≡ all_with_front made n ps ++ with_front made (n + length ps) p ∷ []
 all_with_front-push made n [] p = let e : n ≡ n + 0 = omega arith in ap (λ k. with_front made k p ∷ []) e
 all_with_front-push made n (q ∷ ps) p =
@@ -56,16 +56,16 @@ all_with_front-push made n (q ∷ ps) p =
 
 -- ---- columns
 
-pub columns_at : (programs : List Program) (made : List Met) (n : ℕ) (p : Program) → HaveColumns (map program_tree programs) made → n < length programs → p ≡ get_or programs n p → All (HasColumns n (length p.params.items)) made
+pub columns_at : (programs : List Program) (made : List NewTable) (n : ℕ) (p : Program) → HaveColumns (map program_tree programs) made → n < length programs → p ≡ get_or programs n p → All (HasColumns n (length p.params.items)) made
 columns_at programs made n p have inside at = have n (program_tree p) (slice_get-map program_tree programs n ∙ ap (option_map program_tree) (slice_get-get_or programs n p inside ∙ ap Some (sym at)))
 
 -- what holds of all pairs holds of one
-pub met_at : (P : Met → Type 0) (made : List Meeting) (n : ℕ) (m : Meeting) → n < length made → m ≡ get_or made n m → All P (all_met made) → P (met_of m)
-met_at P made n m inside at all = subst P (get_or-map met_of made n m (met_of m) inside ∙ ap met_of (sym at)) (all n (met_of m) (subst (λ (k : ℕ). n < k) (sym (length-map made met_of)) inside))
+pub met_at : (P : NewTable → Type 0) (made : List NewTable) (n : ℕ) (m : NewTable) → n < length made → m ≡ get_or made n m → All P made → P m
+met_at P made n m inside at all = subst P (sym at) (all n m inside)
 
 -- one more program
 pub programs_more :
-    (made : List Met) (programs old new : List Program) (n : ℕ) (p repaired : Program)
+    (made : List NewTable) (programs old new : List Program) (n : ℕ) (p repaired : Program)
     → n < length programs → p ≡ get_or programs n p → new ≡ old ++ repaired ∷ []
     → program_tree repaired ≡ with_front made n (program_tree p)
     → map program_tree old ≡ all_with_front made 0 (take n (map program_tree programs))
@@ -92,7 +92,7 @@ second-inside nodes pair firsts seconds None h = tt
 second-inside nodes pair firsts seconds (Some k) h = h.second_inside
 
 -- so each program has the parameters that it keeps
-columns_of : (draft : DraftTree) (n : ℕ) (p : ProgramTree) → slice_get draft.programs n ≡ Some p → (m : Met) → HasKey draft m → HasColumns n (length p.params) m
+columns_of : (draft : DraftTree) (n : ℕ) (p : ProgramTree) → slice_get draft.programs n ≡ Some p → (m : NewTable) → HasKey draft m → HasColumns n (length p.params) m
 columns_of draft n p at m key = go (m.pair.from == n) refl (m.pair.to == n) refl
   where
     own : params_of draft n ≡ length p.params
@@ -117,5 +117,5 @@ columns_of draft n p at m key = go (m.pair.from == n) refl (m.pair.to == n) refl
     go false e true f = one (second_of m.key) (second f)
     go false e false f = All-nil (IsColumn (length p.params))
 
-pub columns_from_keys : (draft : DraftTree) (made : List Met) → All (HasKey draft) made → HaveColumns draft.programs made
+pub columns_from_keys : (draft : DraftTree) (made : List NewTable) → All (HasKey draft) made → HaveColumns draft.programs made
 columns_from_keys draft made keys n p at = All-weaker (HasKey draft) (HasColumns n (length p.params)) (columns_of draft n p at) made keys

@@ -2,23 +2,17 @@
 use Rattle.std.specs.Prelude.{◌≡◌, ℕ, ◌<◌, List, ◌++◌, map, length, All, Option, Some, None, slice_get}
 use Rattle.prog_tree.specs.Syntax.{Name, ProgramTree, DraftTree}
 use Rattle.prog_check.specs.Faults.{table_names}
-use Rattle.repair_laws.specs.Materialised.{Met, columns_for}
-use Rattle.si_repair.specs.declared.repairs.keeps.Meeting.{Meeting}
+use Rattle.repair_laws.specs.declared.plan.NewTable.{NewTable}
+use Rattle.repair_laws.specs.Materialised.{columns_for}
 
--- ---- pairs with their tables and keys
+-- ---- names
 
-abbrev pub met_of : Meeting → Met
-met_of m = record { pair = m.pair; table = m.table; key = m.key }
-
-abbrev pub all_met : List Meeting → List Met
-all_met made = map met_of made
-
--- the names of their new tables
-abbrev pub new_names : List Met → List Name
+-- the names of new tables
+abbrev pub new_names : List NewTable → List Name
 new_names made = map (λ m. m.table) made
 
 -- the names that no further table may have
-abbrev pub taken_names : DraftTree → List Met → List Name
+abbrev pub taken_names : DraftTree → List NewTable → List Name
 taken_names draft made = table_names draft ++ new_names made
 
 -- ---- columns
@@ -29,11 +23,11 @@ IsColumn count None = Unit {0}
 IsColumn count (Some number) = number < count
 
 -- what a program of this number, with so many parameters, keeps for a pair
-abbrev pub HasColumns : (program count : ℕ) → Met → Type 0
+abbrev pub HasColumns : (program count : ℕ) → NewTable → Type 0
 HasColumns program count m = All (IsColumn count) (columns_for program m)
 
 -- each program has the parameters that it keeps
-abbrev pub HaveColumns : List ProgramTree → List Met → Type 0
+abbrev pub HaveColumns : List ProgramTree → List NewTable → Type 0
 HaveColumns programs made =
     (number : ℕ) (p : ProgramTree) → slice_get programs number ≡ Some p
     → All (HasColumns number (length p.params)) made

@@ -4,26 +4,27 @@ ghost use Rattle.std.specs.List.{flat_map};
 ghost use Rattle.prog_tree.specs.Syntax.{Plain};
 ghost use Rattle.prog_tree.specs.Tree.{stmt_tree, program_tree, draft_tree};
 ghost use Rattle.repair_laws.specs.Materialised.{plain_table, keeps_for, with_front, all_with_front, HasKey, materialised_by};
-ghost use Rattle.si_repair.specs.Carrying.{all_met, HasColumns, HaveColumns};
+ghost use Rattle.si_repair.specs.Carrying.{HasColumns, HaveColumns};
 
 use crate::repairs::copies::copy_tables;
-use crate::repairs::keeps::{Meeting, keeps_for};
+use crate::repairs::keeps::keeps_for;
 use prog_tree::{Arity, Block, Draft, Name, Program, Stmt, TableDecl};
+use repair_laws::NewTable;
 use std::alloc::{AllocError, Global};
 
 /// The tables, and behind them a new one for each pair.
 fn with_tables(
     alloc: Global,
     tables: &[TableDecl],
-    made: &[Meeting],
+    made: &[NewTable],
 ) -> Result<Vec<TableDecl>, AllocError>
     ensures { IfOk result (λ all. all.items
-        ≡ tables.now ++ map (λ m. plain_table m.table) (all_met made.now)) }
+        ≡ tables.now ++ map (λ m. plain_table m.table) made.now) }
 {
     let mut all = copy_tables(alloc, tables)?;
-    for meeting in made {
+    for new_table in made {
         all.push(TableDecl {
-            name: meeting.table.copy()?,
+            name: new_table.table.copy()?,
             arity: Arity::One,
             grow: false,
         })?;
@@ -36,15 +37,15 @@ fn front_of(
     alloc: Global,
     program: usize,
     params: &[Name],
-    made: &[Meeting],
+    made: &[NewTable],
 ) -> Result<Vec<Stmt>, AllocError>
-    requires { All (HasColumns program (length params.now)) (all_met made.now) }
+    requires { All (HasColumns program (length params.now)) made.now }
     ensures { IfOk result (λ front. map stmt_tree front.items
-        ≡ map Plain (flat_map (keeps_for program params.now) (all_met made.now))) }
+        ≡ map Plain (flat_map (keeps_for program params.now) made.now)) }
 {
     let mut front = Vec::new(alloc);
-    for meeting in made {
-        let mut keeps = keeps_for(alloc, program, params, meeting)?;
+    for new_table in made {
+        let mut keeps = keeps_for(alloc, program, params, new_table)?;
         front.append(&mut keeps)?;
     }
     Ok(front)
@@ -55,11 +56,11 @@ fn with_front(
     alloc: Global,
     number: usize,
     program: &Program,
-    made: &[Meeting],
+    made: &[NewTable],
 ) -> Result<Program, AllocError>
-    requires { All (HasColumns number (length program.now.params.items)) (all_met made.now) }
+    requires { All (HasColumns number (length program.now.params.items)) made.now }
     ensures { IfOk result (λ repaired. program_tree repaired
-        ≡ with_front (all_met made.now) number (program_tree program.now)) }
+        ≡ with_front made.now number (program_tree program.now)) }
 {
     let mut stmts = front_of(alloc, number, &program.params, made)?;
     let Program { name, params, body } = program.copy()?;
@@ -76,11 +77,11 @@ fn with_front(
 fn all_with_front(
     alloc: Global,
     programs: &[Program],
-    made: &[Meeting],
+    made: &[NewTable],
 ) -> Result<Vec<Program>, AllocError>
-    requires { HaveColumns (map program_tree programs.now) (all_met made.now) }
+    requires { HaveColumns (map program_tree programs.now) made.now }
     ensures { IfOk result (λ all. map program_tree all.items
-        ≡ all_with_front (all_met made.now) 0 (map program_tree programs.now)) }
+        ≡ all_with_front made.now 0 (map program_tree programs.now)) }
 {
     let mut all = Vec::with_capacity(alloc, programs.len())?;
     for (number, program) in programs.iter().enumerate() {
@@ -93,11 +94,11 @@ fn all_with_front(
 pub(crate) fn materialised_draft(
     alloc: Global,
     draft: &Draft,
-    made: &[Meeting],
+    made: &[NewTable],
 ) -> Result<Draft, AllocError>
-    requires { All (HasKey (draft_tree draft.now)) (all_met made.now) }
+    requires { All (HasKey (draft_tree draft.now)) made.now }
     ensures { IfOk result (λ repaired. draft_tree repaired
-        ≡ materialised_by (draft_tree draft.now) (all_met made.now)) }
+        ≡ materialised_by (draft_tree draft.now) made.now) }
 {
     Ok(Draft {
         tables: with_tables(alloc, &draft.tables, made)?,

@@ -3,20 +3,11 @@ ghost use Rattle.std.specs.Prelude.{◌≡◌, IfOk, length, map};
 ghost use Rattle.prog_tree.specs.Syntax.{Plain};
 ghost use Rattle.prog_tree.specs.Tree.{IsPlain, stmt_tree};
 ghost use Rattle.repair_laws.specs.Materialised.{is_one, columns_for, keep_in, keeps_for};
-ghost use Rattle.si_repair.specs.Carrying.{met_of, IsColumn, HasColumns};
+ghost use Rattle.si_repair.specs.Carrying.{IsColumn, HasColumns};
 
 use prog_tree::{Expr, Key, Name, Stmt};
-use repair_laws::Pair;
+use repair_laws::NewTable;
 use std::alloc::{AllocError, Global};
-
-/// A pair of programs, the new table of which both keep a row, and the row's key: a parameter of
-/// the first program and one of the second, or none for the key 0.
-#[derive(Debug, Drop)]
-pub(crate) struct Meeting {
-    pub pair: Pair,
-    pub table: Name,
-    pub key: Option<(usize, usize)>,
-}
 
 /// Whether one parameter, or 0, serves for both programs.
 fn is_one(key: Option<(usize, usize)>) -> bool
@@ -33,15 +24,15 @@ fn is_one(key: Option<(usize, usize)>) -> bool
 fn columns_for(
     alloc: Global,
     program: usize,
-    meeting: &Meeting,
+    new_table: &NewTable,
 ) -> Result<Vec<Option<usize>>, AllocError>
-    ensures { IfOk result (λ columns. columns.items ≡ columns_for program (met_of meeting.now)) }
+    ensures { IfOk result (λ columns. columns.items ≡ columns_for program new_table.now) }
 {
-    let key = meeting.key;
+    let key = new_table.key;
     let first = key.map(|key| key.0);
     let second = key.map(|key| key.1);
-    let is_first = meeting.pair.from == program;
-    let is_second = meeting.pair.to == program;
+    let is_first = new_table.pair.from == program;
+    let is_second = new_table.pair.to == program;
     if is_first && is_second && !is_one(key) {
         return Ok(Vec::from_array(alloc, [first, second])?);
     }
@@ -74,16 +65,16 @@ pub(crate) fn keeps_for(
     alloc: Global,
     program: usize,
     params: &[Name],
-    meeting: &Meeting,
+    new_table: &NewTable,
 ) -> Result<Vec<Stmt>, AllocError>
-    requires { HasColumns program (length params.now) (met_of meeting.now) }
+    requires { HasColumns program (length params.now) new_table.now }
     ensures { IfOk result (λ keeps. map stmt_tree keeps.items
-        ≡ map Plain (keeps_for program params.now (met_of meeting.now))) }
+        ≡ map Plain (keeps_for program params.now new_table.now)) }
 {
-    let columns = columns_for(alloc, program, meeting)?;
+    let columns = columns_for(alloc, program, new_table)?;
     let mut keeps = Vec::with_capacity(alloc, columns.len())?;
     for column in &columns {
-        keeps.push(keep_in(&meeting.table, params, *column)?)?;
+        keeps.push(keep_in(&new_table.table, params, *column)?)?;
     }
     Ok(keeps)
 }

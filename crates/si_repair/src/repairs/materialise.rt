@@ -3,10 +3,9 @@ ghost use Rattle.std.specs.Prelude.{◌≡◌, ◌+◌, ◌-◌, ◌<◌, List, 
 ghost use Rattle.prog_tree.specs.Tree.{draft_tree};
 ghost use Rattle.prog_check.specs.Paths.{paths_of};
 ghost use Rattle.prog_check.specs.Sound.{IsSound};
-ghost use Rattle.repair_laws.specs.Materialised.{params_of, HasKey, AreMet, materialised_by, IsMaterialised};
+ghost use Rattle.repair_laws.specs.Materialised.{params_of, HasKey, AreNewTables, materialised_by, IsMaterialised};
 ghost use Rattle.repair_laws.specs.Refusals.{StopsMaterialising};
 ghost use Rattle.repair_laws.specs.declared.plan.Pair.{Pair as OfPrograms};
-ghost use Rattle.si_repair.specs.Carrying.{all_met};
 ghost use Rattle.si_repair.specs.Checking.{IsRefused};
 ghost use Rattle.si_repair.specs.Repairing.{IsSafeRepair, StopsNowhere, IsRepairFault};
 ghost use Rattle.si_repair.specs.declared.repairs.fault.RepairFault.TheVariants.{TooMany};
@@ -16,13 +15,12 @@ use crate::repairs::bisecting::{Firsts, most_that_fit};
 use crate::repairs::checked::checked_set;
 use crate::repairs::fault::RepairFault;
 use crate::repairs::front::materialised_draft;
-use crate::repairs::keeps::Meeting;
 use crate::repairs::key::key_of;
 use crate::repairs::names::free_name;
 use prog_check::{MAX_TABLES, Path, ProgramSet};
 use prog_paths::paths;
 use prog_tree::Draft;
-use repair_laws::Pair;
+use repair_laws::{NewTable, Pair};
 use std::alloc::{AllocError, Global};
 
 /// How many parameters the program of a number has: none where there is no such program.
@@ -36,39 +34,39 @@ fn params_of(draft: &Draft, number: usize) -> usize
 }
 
 /// Adds a pair with its own new name and its key.
-fn push_meeting(
+fn push_new_table(
     alloc: Global,
     set: &ProgramSet,
     paths: &[Path],
     pair: Pair,
-    made: &mut Vec<Meeting>,
+    made: &mut Vec<NewTable>,
 ) -> Result<(), AllocError>
     requires { paths.now ≡ paths_of (draft_tree set.now) }
     ensures { OnOk result ((earlier : List OfPrograms)
-        → AreMet (draft_tree set.now) earlier (all_met made.old.items)
-        → AreMet (draft_tree set.now) (earlier ++ pair ∷ []) (all_met made.new.items)) }
+        → AreNewTables (draft_tree set.now) earlier made.old.items
+        → AreNewTables (draft_tree set.now) (earlier ++ pair ∷ []) made.new.items) }
 {
     let table = free_name(alloc, set, made)?;
     let firsts = params_of(set.draft(), pair.from);
     let seconds = params_of(set.draft(), pair.to);
     let key = key_of(alloc, paths, pair, firsts, seconds)?;
-    made.push(Meeting { pair, table, key })?;
+    made.push(NewTable { pair, table, key })?;
     Ok(())
 }
 
 /// The pairs, each with its own new name and its key.
-fn meetings(
+fn new_tables(
     alloc: Global,
     set: &ProgramSet,
     paths: &[Path],
     pairs: &[Pair],
-) -> Result<Vec<Meeting>, AllocError>
+) -> Result<Vec<NewTable>, AllocError>
     requires { paths.now ≡ paths_of (draft_tree set.now) }
-    ensures { IfOk result (λ made. AreMet (draft_tree set.now) pairs.now (all_met made.items)) }
+    ensures { IfOk result (λ made. AreNewTables (draft_tree set.now) pairs.now made.items) }
 {
     let mut made = Vec::new(alloc);
     for pair in pairs {
-        push_meeting(alloc, set, paths, *pair, &mut made)?;
+        push_new_table(alloc, set, paths, *pair, &mut made)?;
     }
     Ok(made)
 }
@@ -84,44 +82,44 @@ fn pairs_that_fit<'a>(draft: &Draft, pairs: &'a [Pair]) -> &'a [Pair]
 }
 
 /// The set with what the pairs make, or none where that breaks a limit.
-fn with_meetings(
+fn with_new_tables(
     alloc: Global,
     set: &ProgramSet,
-    made: &[Meeting],
+    made: &[NewTable],
 ) -> Result<Option<ProgramSet>, AllocError>
-    requires { All (HasKey (draft_tree set.now)) (all_met made.now) }
+    requires { All (HasKey (draft_tree set.now)) made.now }
     ensures made { IfOk result (λ o. IfSome o
-        (λ s. draft_tree s ≡ materialised_by (draft_tree set.now) (all_met made.now))) }
+        (λ s. draft_tree s ≡ materialised_by (draft_tree set.now) made.now)) }
     ensures sound { IfOk result (λ o. IfSome o (λ s. IsSound (draft_tree s))) }
     ensures refused { IfOk result (λ o. IfNone o
-        (IsRefused (materialised_by (draft_tree set.now) (all_met made.now)))) }
+        (IsRefused (materialised_by (draft_tree set.now) made.now))) }
 {
     let draft = set.draft();
     let whole = materialised_draft(alloc, draft, made)?;
     checked_set(alloc, whole)
 }
 
-/// The pairs that were met, of which the first ones are made.
+/// New tables, of which the first ones are made.
 #[derive(Drop)]
-struct FirstMeetings<'a> {
+struct FirstNewTables<'a> {
     set: &'a ProgramSet,
-    made: &'a [Meeting],
+    made: &'a [NewTable],
 }
 
-impl<'a> Firsts for FirstMeetings<'a> {
-    ghost stands = { λ firsts. All (HasKey (draft_tree firsts.set.now)) (all_met firsts.made.now) };
+impl<'a> Firsts for FirstNewTables<'a> {
+    ghost stands = { λ firsts. All (HasKey (draft_tree firsts.set.now)) firsts.made.now };
 
     ghost count = { λ firsts. length firsts.made.now };
 
     ghost fits = { λ firsts n. IsSound (materialised_by (draft_tree firsts.set.now)
-        (all_met (take n firsts.made.now))) };
+        (take n firsts.made.now)) };
 
     ghost is_refused = { λ firsts n. IsRefused (materialised_by (draft_tree firsts.set.now)
-        (all_met (take n firsts.made.now))) };
+        (take n firsts.made.now)) };
 
     /// Whether the set with what the first pairs make breaks no limit.
     fn fit(&self, alloc: Global, n: usize) -> Result<bool, AllocError> {
-        let repaired = with_meetings(alloc, self.set, &self.made[..n])?;
+        let repaired = with_new_tables(alloc, self.set, &self.made[..n])?;
         Ok(repaired.is_some())
     }
 }
@@ -131,17 +129,17 @@ fn first_stop(
     alloc: Global,
     set: &ProgramSet,
     pairs: &[Pair],
-    made: &[Meeting],
+    made: &[NewTable],
 ) -> Result<Pair, AllocError>
-    requires met { AreMet (draft_tree set.now)
-        (take (length made.now) pairs.now) (all_met made.now) }
+    requires met { AreNewTables (draft_tree set.now)
+        (take (length made.now) pairs.now) made.now }
     requires some { 0 < length made.now }
     requires sound { IsSound (draft_tree set.now) }
-    requires large { IsRefused (materialised_by (draft_tree set.now) (all_met made.now)) }
+    requires large { IsRefused (materialised_by (draft_tree set.now) made.now) }
     ensures { IfOk result (λ stopping. IsRepairFault
         (StopsMaterialising (draft_tree set.now) pairs.now) pairs.now (TooMany stopping)) }
 {
-    let firsts = FirstMeetings { set, made };
+    let firsts = FirstNewTables { set, made };
     let fitting = most_that_fit(alloc, &firsts, made.len())?;
     Ok(made[fitting].pair)
 }
@@ -161,8 +159,8 @@ pub fn materialise(alloc: Global, set: &ProgramSet, plan: &Plan) -> Result<Progr
 {
     let paths = paths(alloc, set)?;
     let pairs = plan.pairs.as_slice();
-    let made = meetings(alloc, set, &paths, pairs_that_fit(set.draft(), pairs))?;
-    match with_meetings(alloc, set, &made)? {
+    let made = new_tables(alloc, set, &paths, pairs_that_fit(set.draft(), pairs))?;
+    match with_new_tables(alloc, set, &made)? {
         Some(repaired) => Ok(repaired),
         None => Err(RepairFault::TooMany(first_stop(alloc, set, pairs, &made)?)),
     }

@@ -3,19 +3,19 @@ ghost use Rattle.std.specs.Prelude.{◌≡◌, IfOk};
 ghost use Rattle.prog_tree.specs.Tree.{draft_tree};
 ghost use Rattle.prog_check.specs.Names.{is_among};
 ghost use Rattle.repair_laws.specs.Materialised.{IsLeastFree};
-ghost use Rattle.si_repair.specs.Carrying.{all_met, new_names, taken_names};
+ghost use Rattle.si_repair.specs.Carrying.{new_names, taken_names};
 
-use crate::repairs::keeps::Meeting;
 use prog_check::ProgramSet;
 use prog_tree::Name;
+use repair_laws::NewTable;
 use std::alloc::{AllocError, Global};
 
 /// Whether a new table has the name.
-fn is_new(made: &[Meeting], name: &str) -> bool
-    ensures { result ≡ is_among (new_names (all_met made.now)) name.now }
+fn is_new(made: &[NewTable], name: &str) -> bool
+    ensures { result ≡ is_among (new_names made.now) name.now }
 {
-    for meeting in made {
-        if name == meeting.table.as_str() {
+    for new_table in made {
+        if name == new_table.table.as_str() {
             return true;
         }
     }
@@ -23,8 +23,8 @@ fn is_new(made: &[Meeting], name: &str) -> bool
 }
 
 /// Whether a table of the set or a new one has the name.
-fn is_taken(set: &ProgramSet, made: &[Meeting], name: &str) -> bool
-    ensures { result ≡ is_among (taken_names (draft_tree set.now) (all_met made.now)) name.now }
+fn is_taken(set: &ProgramSet, made: &[NewTable], name: &str) -> bool
+    ensures { result ≡ is_among (taken_names (draft_tree set.now) made.now) name.now }
 {
     set.table_number(name).is_some() || is_new(made, name)
 }
@@ -33,9 +33,9 @@ fn is_taken(set: &ProgramSet, made: &[Meeting], name: &str) -> bool
 pub(crate) fn free_name(
     alloc: Global,
     set: &ProgramSet,
-    made: &[Meeting],
+    made: &[NewTable],
 ) -> Result<Name, AllocError>
-    ensures { IfOk result (IsLeastFree (taken_names (draft_tree set.now) (all_met made.now))) }
+    ensures { IfOk result (IsLeastFree (taken_names (draft_tree set.now) made.now)) }
 {
     let taken = set.draft().tables.len() + made.len();
     for number in 0..=taken {

@@ -2,13 +2,12 @@ use Rattle.std.proofs.Common.{List, map, ap, ◌∙◌}
 use Rattle.std.specs.List.{flat_map}
 use Rattle.prog_tree.specs.Syntax.{Name, Plain}
 use Rattle.repair_laws.specs.Materialised.{keeps_for}
-use Rattle.si_repair.specs.Carrying.{all_met}
 use Rattle.si_repair.proofs.Putting.{program_front}
 use Rattle.si_repair.proofs.repairs.front.with_front.Goals as goal
 
 pub returns : goal.returns
 returns c =
-    let made = all_met c.args.made.now in
+    let made = c.args.made.now in
     let number = c.args.number in
     let program = c.args.program.now in
     let same = c.in_ok-name.ensures in

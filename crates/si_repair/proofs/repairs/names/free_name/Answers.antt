@@ -6,14 +6,14 @@ use Rattle.prog_tree.specs.Syntax.{Name}
 use Rattle.prog_tree.specs.Tree.{draft_tree}
 use Rattle.prog_check.specs.Names.{is_among}
 use Rattle.repair_laws.specs.Materialised.{mat_name, IsLeastFree}
-use Rattle.si_repair.specs.Carrying.{all_met, taken_names}
+use Rattle.si_repair.specs.Carrying.{taken_names}
 use Rattle.si_repair.proofs.Naming.{first_free, one_free}
 use Rattle.si_repair.proofs.repairs.names.free_name.Goals as goal
 use Rattle.si_repair.proofs.repairs.names.free_name.Goals.{else-loop-number-test, then-loop-number-test+in_ok-name+else-not-is_taken+else-number-counter-taken}
 
 pub returns-then-not-is_taken : goal.returns-then-not-is_taken
 returns-then-not-is_taken c =
-    let taken = taken_names (draft_tree c.args.set.now) (all_met c.args.made.now) in
+    let taken = taken_names (draft_tree c.args.set.now) c.args.made.now in
     let n = c.loop-number.number-counter in
     let tested = c.as_str.result.now in
     let spelled : tested ≡ mat_name n = c.as_str.ensures.value ∙ c.in_ok-name.ensures.ok in
@@ -26,7 +26,7 @@ pub unreachable-requires : goal.unreachable-requires
 unreachable-requires c = elim c.loop-number-test.branch [
   | else-loop-number-test w ↦ omega arith
   | then-loop-number-test+in_ok-name+else-not-is_taken+else-number-counter-taken w ↦
-      let taken = taken_names (draft_tree c.args.set.now) (all_met c.args.made.now) in
+      let taken = taken_names (draft_tree c.args.set.now) c.args.made.now in
       let n = c.loop-number.number-counter in
       let same = ap (λ (d : Draft). vec_len d.tables) c.draft.ensures.same in
       let listed = c.args.set.now.tables.ok.0 in

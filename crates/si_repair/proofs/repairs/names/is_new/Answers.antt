@@ -10,13 +10,13 @@ pub returns-then-eq : goal.returns-then-eq
 returns-then-eq c =
     let made = c.args.made.now in
     let name = c.args.name.now in
-    let item = c.meeting-item.result in
+    let item = c.new_table-item.result in
     let same = ap (same_name name) (sym c.as_str.ensures) ∙ sym c.eq.ensures ∙ c.if-eq.true in
-    let passes = ap (has_name name) (sym c.meeting-item.is) ∙ same in
-    sym (new_is name made ∙ list_any_at (has_name name) made c.loop-meeting.meeting-index item c.loop-meeting-test.true passes)
+    let passes = ap (has_name name) (sym c.new_table-item.is) ∙ same in
+    sym (new_is name made ∙ list_any_at (has_name name) made c.loop-new_table.new_table-index item c.loop-new_table-test.true passes)
 
 pub returns : goal.returns
 returns c =
     let made = c.args.made.now in
     let name = c.args.name.now in
-    sym (new_is name made ∙ ap (list_any (has_name name)) (sym (take_all c.loop-meeting.meeting-index made c.loop-meeting-test.false)) ∙ c.loop-meeting.invariant)
+    sym (new_is name made ∙ ap (list_any (has_name name)) (sym (take_all c.loop-new_table.new_table-index made c.loop-new_table-test.false)) ∙ c.loop-new_table.invariant)

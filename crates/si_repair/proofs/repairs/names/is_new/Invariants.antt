@@ -4,5 +4,5 @@ use Rattle.si_repair.proofs.Naming.{has_name}
 use Rattle.si_repair.proofs.repairs.names.is_new.Given as goal
 
 -- none of the tables so far has the name
-abbrev pub invariant-loop-meeting : goal.invariant-loop-meeting
-invariant-loop-meeting l = list_any (has_name l.name) (take l.meeting-index l.made) ≡ false
+abbrev pub invariant-loop-new_table : goal.invariant-loop-new_table
+invariant-loop-new_table l = list_any (has_name l.name) (take l.new_table-index l.made) ≡ false

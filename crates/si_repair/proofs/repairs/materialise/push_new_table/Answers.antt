@@ -1,18 +1,17 @@
 use Rattle.std.proofs.Common.{ℕ, List, [], ◌∷◌, ◌++◌, ap, sym, subst, ◌∙◌}
 use Rattle.std.specs.Prelude.{All}
-use Rattle.std.proofs.lemmas.List.{map-append}
 use Rattle.prog_tree.specs.declared.program.Draft.{Draft}
 use Rattle.prog_tree.specs.Tree.{draft_tree}
 use Rattle.prog_check.specs.declared.path.Path.{Path}
 use Rattle.prog_check.specs.Paths.{paths_of}
 use Rattle.prog_paths.specs.Asked.{ChangesSingleCells}
 use Rattle.prog_paths.proofs.SingleCells.{law_of_single_changes}
+use Rattle.repair_laws.specs.declared.plan.NewTable.{NewTable}
 use Rattle.repair_laws.specs.Keys.{IsKeyOf}
-use Rattle.repair_laws.specs.Materialised.{Met, params_of, AreMet, IsLeastFree}
-use Rattle.si_repair.specs.declared.repairs.keeps.Meeting.{Meeting}
-use Rattle.si_repair.specs.Carrying.{met_of, all_met, taken_names}
-use Rattle.si_repair.proofs.Meetings.{met_more}
-use Rattle.si_repair.proofs.repairs.materialise.push_meeting.Goals as goal
+use Rattle.repair_laws.specs.Materialised.{params_of, AreNewTables, IsLeastFree}
+use Rattle.si_repair.specs.Carrying.{taken_names}
+use Rattle.si_repair.proofs.NewTables.{met_more}
+use Rattle.si_repair.proofs.repairs.materialise.push_new_table.Goals as goal
 
 pub key_of-requires : goal.key_of-requires
 key_of-requires c = subst (λ (l : List Path). All ChangesSingleCells l) (sym c.requires) (law_of_single_changes (draft_tree c.args.set.now))
@@ -23,12 +22,11 @@ returns c earlier met =
     let pair = c.args.pair in
     let key = c.in_ok-key.key in
     let made = c.args.made.now.items in
-    let m : Met = record { pair = pair; table = c.in_ok-table.table; key = key } in
+    let m : NewTable = record { pair = pair; table = c.in_ok-table.table; key = key } in
     let firsts = c.params_of-firsts.ensures ∙ ap (λ (d : Draft). params_of (draft_tree d) pair.from) c.draft.ensures.same in
     let seconds = c.params_of-seconds.ensures ∙ ap (λ (d : Draft). params_of (draft_tree d) pair.to) c.draft-2.ensures.same in
     let by_paths = subst (λ (l : List Path). IsKeyOf l pair c.params_of-firsts.result c.params_of-seconds.result key) c.requires c.in_ok-key.ensures in
     let by_firsts = subst (λ (n : ℕ). IsKeyOf (paths_of draft) pair n c.params_of-seconds.result key) firsts by_paths in
     let own = subst (λ (n : ℕ). IsKeyOf (paths_of draft) pair (params_of draft pair.from) n key) seconds by_firsts in
-    let free = subst (λ (l : List Meeting). IsLeastFree (taken_names draft (all_met l)) m.table) c.deref.ensures.value c.in_ok-table.ensures in
-    let added = ap all_met c.in_ok-push.ensures.items ∙ map-append met_of made (record { pair = pair; table = c.in_ok-table.table; key = key } ∷ []) in
-    subst (λ (l : List Met). AreMet draft (earlier ++ pair ∷ []) l) (sym added) (met_more draft earlier (all_met made) m met free own)
+    let free = subst (λ (l : List NewTable). IsLeastFree (taken_names draft l) m.table) c.deref.ensures.value c.in_ok-table.ensures in
+    subst (λ (l : List NewTable). AreNewTables draft (earlier ++ pair ∷ []) l) (sym c.in_ok-push.ensures.items) (met_more draft earlier made m met free own)

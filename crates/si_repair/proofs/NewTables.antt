@@ -14,16 +14,16 @@ use Rattle.prog_check.specs.Faults.{table_names}
 use Rattle.prog_check.specs.Names.{is_among}
 use Rattle.prog_check.specs.Paths.{paths_of}
 use Rattle.prog_check.specs.Sound.{IsSound}
+use Rattle.repair_laws.specs.declared.plan.NewTable.{NewTable}
 use Rattle.repair_laws.specs.declared.plan.Pair.{Pair}
 use Rattle.repair_laws.specs.Keys.{IsKeyOf, IsLeastForced}
-use Rattle.repair_laws.specs.Materialised.{Met, mat_name, plain_table, IsLeastFree, AreLeastFree, params_of, HasKey, AreMet, all_with_front, materialised_by, IsMaterialised}
+use Rattle.repair_laws.specs.Materialised.{mat_name, plain_table, IsLeastFree, AreLeastFree, params_of, HasKey, AreNewTables, all_with_front, materialised_by, IsMaterialised}
 use Rattle.repair_laws.specs.Refusals.{IsTooLarge, IsTooLargeBy, Reason, StopsMaterialising}
 use Rattle.repair_laws.specs.Refusals as why
 use Rattle.repair_laws.proofs.Materialising.{law_of_materialising}
 use Rattle.repair_laws.proofs.RightLaws.{law_of_repair_sizes}
 use Rattle.si_repair.specs.declared.repairs.fault.RepairFault.TheVariants as fault
-use Rattle.si_repair.specs.Carrying.{met_of, all_met, new_names, taken_names}
-use Rattle.si_repair.specs.declared.repairs.keeps.Meeting.{Meeting}
+use Rattle.si_repair.specs.Carrying.{new_names, taken_names}
 use Rattle.si_repair.specs.Checking.{IsRefused}
 use Rattle.si_repair.specs.Repairing.{IsSafeRepair, StopsNowhere, IsRepairFault}
 use Rattle.si_repair.proofs.Fewer.{fewer_met_small}
@@ -65,17 +65,17 @@ same-key nodes pair firsts seconds (Some k) (Some l) f g = ap Some (same-forced 
 
 -- ---- one draft
 
-same-met : (draft : DraftTree) (taken : List Name) (made others : List Met) → map (λ (m : Met). m.pair) made ≡ map (λ (m : Met). m.pair) others
-    → AreLeastFree taken (map (λ (m : Met). m.table) made) → AreLeastFree taken (map (λ (m : Met). m.table) others)
+same-met : (draft : DraftTree) (taken : List Name) (made others : List NewTable) → map (λ (m : NewTable). m.pair) made ≡ map (λ (m : NewTable). m.pair) others
+    → AreLeastFree taken (map (λ (m : NewTable). m.table) made) → AreLeastFree taken (map (λ (m : NewTable). m.table) others)
     → All (HasKey draft) made → All (HasKey draft) others → made ≡ others
 same-met draft taken [] [] e f g h k = refl
 same-met draft taken [] (y ∷ ys) e f g h k = absurd cc
 same-met draft taken (x ∷ xs) [] e f g h k = absurd cc
 same-met draft taken (x ∷ xs) (y ∷ ys) e f g h k =
     let pair : x.pair ≡ y.pair = cc in
-    let pairs : map (λ (m : Met). m.pair) xs ≡ map (λ (m : Met). m.pair) ys = cc in
+    let pairs : map (λ (m : NewTable). m.pair) xs ≡ map (λ (m : NewTable). m.pair) ys = cc in
     let table = same-free taken x.table y.table f.0 g.0 in
-    let names = subst (λ (name : Name). AreLeastFree (taken ++ name ∷ []) (map (λ (m : Met). m.table) ys)) (sym table) g.1 in
+    let names = subst (λ (name : Name). AreLeastFree (taken ++ name ∷ []) (map (λ (m : NewTable). m.table) ys)) (sym table) g.1 in
     let own = subst (λ (p : Pair). IsKeyOf (paths_of draft) p (params_of draft p.from) (params_of draft p.to) y.key) (sym pair) (All-head (HasKey draft) y ys k) in
     let key = same-key (paths_of draft) x.pair (params_of draft x.pair.from) (params_of draft x.pair.to) x.key y.key (All-head (HasKey draft) x xs h) own in
     let first : x ≡ y = λ i. record { pair = pair i; table = table i; key = key i } in
@@ -94,13 +94,13 @@ free-push taken [] name f g = (subst (λ (l : List Name). IsLeastFree l name) (a
 free-push taken (x ∷ xs) name f g =
     (f.0, free-push (taken ++ x ∷ []) xs name f.1 (subst (λ (l : List Name). IsLeastFree l name) (sym (append_assoc taken (x ∷ []) xs)) g))
 
-pub none_met : (draft : DraftTree) → AreMet draft [] []
+pub none_met : (draft : DraftTree) → AreNewTables draft [] []
 none_met draft = record { pairs = refl; names = tt; keys = All-nil (HasKey draft) }
 
-pub met_more : (draft : DraftTree) (plan : List Pair) (made : List Met) (m : Met) → AreMet draft plan made → IsLeastFree (taken_names draft made) m.table → HasKey draft m → AreMet draft (plan ++ m.pair ∷ []) (made ++ m ∷ [])
+pub met_more : (draft : DraftTree) (plan : List Pair) (made : List NewTable) (m : NewTable) → AreNewTables draft plan made → IsLeastFree (taken_names draft made) m.table → HasKey draft m → AreNewTables draft (plan ++ m.pair ∷ []) (made ++ m ∷ [])
 met_more draft plan made m met free key = record {
-  pairs = map-append (λ (n : Met). n.pair) made (m ∷ []) ∙ ap (λ (l : List Pair). l ++ m.pair ∷ []) met.pairs;
-  names = subst (AreLeastFree (table_names draft)) (sym (map-append (λ (n : Met). n.table) made (m ∷ []))) (free-push (table_names draft) (new_names made) m.table met.names free);
+  pairs = map-append (λ (n : NewTable). n.pair) made (m ∷ []) ∙ ap (λ (l : List Pair). l ++ m.pair ∷ []) met.pairs;
+  names = subst (AreLeastFree (table_names draft)) (sym (map-append (λ (n : NewTable). n.table) made (m ∷ []))) (free-push (table_names draft) (new_names made) m.table met.names free);
   keys = All-push (HasKey draft) made m met.keys key;
 }
 
@@ -116,10 +116,10 @@ free-first (suc n) taken [] f = tt
 free-first (suc n) taken (x ∷ xs) f = (f.0, free-first n (taken ++ x ∷ []) xs f.1)
 
 -- the first pairs are met as they are among all
-met_first : (draft : DraftTree) (plan : List Pair) (made : List Met) (n : ℕ) → AreMet draft plan made → AreMet draft (take n plan) (take n made)
+met_first : (draft : DraftTree) (plan : List Pair) (made : List NewTable) (n : ℕ) → AreNewTables draft plan made → AreNewTables draft (take n plan) (take n made)
 met_first draft plan made n met = record {
-  pairs = sym (take-map (λ (m : Met). m.pair) n made) ∙ ap (take n) met.pairs;
-  names = subst (AreLeastFree (table_names draft)) (take-map (λ (m : Met). m.table) n made) (free-first n (table_names draft) (new_names made) met.names);
+  pairs = sym (take-map (λ (m : NewTable). m.pair) n made) ∙ ap (take n) met.pairs;
+  names = subst (AreLeastFree (table_names draft)) (take-map (λ (m : NewTable). m.table) n made) (free-first n (table_names draft) (new_names made) met.names);
   keys = All-take (HasKey draft) n made met.keys;
 }
 
@@ -133,7 +133,7 @@ small_whole draft plan result sound (made, met, is) k less (part, own, large) =
     small_fits (materialised_by draft firsts) small (subst (λ (d : DraftTree). IsTooLarge d) same large)
 
 -- the same of the first pairs alone
-pub small_first : (draft : DraftTree) (plan : List Pair) (n : ℕ) (made : List Met) → AreMet draft (take n plan) made → IsSound (materialised_by draft made) → n ≤ length plan → AreSmall draft plan n
+pub small_first : (draft : DraftTree) (plan : List Pair) (n : ℕ) (made : List NewTable) → AreNewTables draft (take n plan) made → IsSound (materialised_by draft made) → n ≤ length plan → AreSmall draft plan n
 small_first draft plan n made met sound inside k less (part, own, large) =
     let few = length-take-le n plan inside in
     small_whole draft (take n plan) (materialised_by draft made) sound (made, met, refl) k (omega (arith, less, few))
@@ -176,13 +176,13 @@ no_front n (p ∷ ps) = ap (λ (l : List ProgramTree). p ∷ l) (no_front (n + 1
 pub nothing_made : (draft : DraftTree) → materialised_by draft [] ≡ draft
 nothing_made draft = λ i. record { tables = append-nil draft.tables i; programs = no_front 0 draft.programs i }
 
-pub met_next : (draft : DraftTree) (items plan : List Pair) (n : ℕ) (d : Pair) (made : List Met) → items ≡ plan → n < length items → AreMet draft (take n plan ++ get_or items n d ∷ []) made → AreMet draft (take (n + 1) plan) made
+pub met_next : (draft : DraftTree) (items plan : List Pair) (n : ℕ) (d : Pair) (made : List NewTable) → items ≡ plan → n < length items → AreNewTables draft (take n plan ++ get_or items n d ∷ []) made → AreNewTables draft (take (n + 1) plan) made
 met_next draft items plan n d made e inside met =
-    subst (λ (l : List Pair). AreMet draft l made) (ap (λ (l : List Pair). take n l ++ get_or items n d ∷ []) (sym e) ∙ sym (take_more items n d inside) ∙ ap (take (n + 1)) e) met
+    subst (λ (l : List Pair). AreNewTables draft l made) (ap (λ (l : List Pair). take n l ++ get_or items n d ∷ []) (sym e) ∙ sym (take_more items n d inside) ∙ ap (take (n + 1)) e) met
 
-pub met_all : (draft : DraftTree) (items plan : List Pair) (n : ℕ) (made : List Met) → items ≡ plan → length items ≤ n → AreMet draft (take n plan) made → AreMet draft plan made
+pub met_all : (draft : DraftTree) (items plan : List Pair) (n : ℕ) (made : List NewTable) → items ≡ plan → length items ≤ n → AreNewTables draft (take n plan) made → AreNewTables draft plan made
 met_all draft items plan n made e past met =
-    subst (λ (l : List Pair). AreMet draft l made) (take_all n plan (subst (λ (l : List Pair). length l ≤ n) e past)) met
+    subst (λ (l : List Pair). AreNewTables draft l made) (take_all n plan (subst (λ (l : List Pair). length l ≤ n) e past)) met
 
 -- ---- the first pair that stops a plan
 
@@ -196,45 +196,44 @@ refused_made d None none refused = refused
 refused_made d (Some s) none refused = absurd (cc)
 
 -- pairs that are met make a draft with a fault only where there are some
-pub some_met : (draft : DraftTree) (plan : List Pair) (made : List Met) → IsSound draft → AreMet draft plan made → IsRefused (materialised_by draft made) → 0 < length made
+pub some_met : (draft : DraftTree) (plan : List Pair) (made : List NewTable) → IsSound draft → AreNewTables draft plan made → IsRefused (materialised_by draft made) → 0 < length made
 some_met draft plan [] sound met refused =
     let large = too-large draft plan (materialised_by draft []) sound ([], met, refl) refused in
     absurd (small_fits draft (sound_small draft sound) (subst IsTooLarge (nothing_made draft) large))
 some_met draft plan (x ∷ xs) sound met refused = omega arith
 
 -- the first of the pairs that were met are the plan's first
-pub met_firsts : (draft : DraftTree) (plan : List Pair) (made : List Meeting) (n : ℕ) → AreMet draft (take (length made) plan) (all_met made) → n ≤ length made → AreMet draft (take n plan) (all_met (take n made))
+pub met_firsts : (draft : DraftTree) (plan : List Pair) (made : List NewTable) (n : ℕ) → AreNewTables draft (take (length made) plan) made → n ≤ length made → AreNewTables draft (take n plan) (take n made)
 met_firsts draft plan made n met inside =
-    subst (AreMet draft (take n plan)) (take-map met_of n made)
-    (subst (λ (l : List Pair). AreMet draft l (take n (all_met made))) (take-take n (length made) plan inside) (met_first draft (take (length made) plan) (all_met made) n met))
+    subst (λ (l : List Pair). AreNewTables draft l (take n made)) (take-take n (length made) plan inside) (met_first draft (take (length made) plan) made n met)
 
 -- and their keys are those of programs
-pub firsts_have_keys : (draft : DraftTree) (made : List Meeting) (n : ℕ) → All (HasKey draft) (all_met made) → All (HasKey draft) (all_met (take n made))
-firsts_have_keys draft made n keys = subst (λ (l : List Met). All (HasKey draft) l) (take-map met_of n made) (All-take (HasKey draft) n (all_met made) keys)
+pub firsts_have_keys : (draft : DraftTree) (made : List NewTable) (n : ℕ) → All (HasKey draft) made → All (HasKey draft) (take n made)
+firsts_have_keys draft made n keys = All-take (HasKey draft) n made keys
 
 -- no more pairs are met than the plan has
-pub few_met : (draft : DraftTree) (plan : List Pair) (made : List Meeting) → AreMet draft (take (length made) plan) (all_met made) → length made ≤ length plan
+pub few_met : (draft : DraftTree) (plan : List Pair) (made : List NewTable) → AreNewTables draft (take (length made) plan) made → length made ≤ length plan
 few_met draft plan made met = subst (λ k. k ≤ length plan) (sym count) (min-le_right (length made) (length plan))
   where
     count : length made ≡ min (length made) (length plan)
-    count = sym (length-map made met_of) ∙ sym (length-map (all_met made) (λ (m : Met). m.pair)) ∙ ap length met.pairs ∙ length-take (length made) plan
+    count = sym (length-map made (λ (m : NewTable). m.pair)) ∙ ap length met.pairs ∙ length-take (length made) plan
 
 -- of all first pairs that are met, the one at a place is the plan's there
-pub met_at : (draft : DraftTree) (plan : List Pair) (made : List Meeting) (n : ℕ) (d : Meeting) → AreMet draft (take (length made) plan) (all_met made) → n < length made → slice_get plan n ≡ Some (get_or made n d).pair
+pub met_at : (draft : DraftTree) (plan : List Pair) (made : List NewTable) (n : ℕ) (d : NewTable) → AreNewTables draft (take (length made) plan) made → n < length made → slice_get plan n ≡ Some (get_or made n d).pair
 met_at draft plan made n d met inside = go plan made n met.pairs inside
   where
-    go : (plan : List Pair) (made : List Meeting) (n : ℕ) → map (λ (m : Met). m.pair) (all_met made) ≡ take (length made) plan → n < length made → slice_get plan n ≡ Some (get_or made n d).pair
+    go : (plan : List Pair) (made : List NewTable) (n : ℕ) → map (λ (m : NewTable). m.pair) made ≡ take (length made) plan → n < length made → slice_get plan n ≡ Some (get_or made n d).pair
     go plan [] n e inside = absurd (omega (arith, inside))
     go [] (m ∷ ms) n e inside = absurd cc
     go (p ∷ ps) (m ∷ ms) zero e inside =
         let own : m.pair ≡ p = cc in
         ap Some (sym own)
     go (p ∷ ps) (m ∷ ms) (suc n) e inside =
-        let rest : map (λ (o : Met). o.pair) (all_met ms) ≡ take (length ms) ps = cc in
+        let rest : map (λ (o : NewTable). o.pair) ms ≡ take (length ms) ps = cc in
         go ps ms n rest (omega (arith, inside))
 
 -- where all pairs that fit make a sound draft, these are all that there are
-pub met_whole : (draft : DraftTree) (plan : List Pair) (made : List Met) → AreMet draft (take (1 + (64 - length draft.tables)) plan) made → IsSound (materialised_by draft made) → AreMet draft plan made
+pub met_whole : (draft : DraftTree) (plan : List Pair) (made : List NewTable) → AreNewTables draft (take (1 + (64 - length draft.tables)) plan) made → IsSound (materialised_by draft made) → AreNewTables draft plan made
 met_whole draft plan made met sound = go (cases_lt (length plan) most)
   where
     most : ℕ
@@ -243,24 +242,24 @@ met_whole draft plan made met sound = go (cases_lt (length plan) most)
     few : length draft.tables + length made ≤ 64
     few =
         let tables = (sound_small (materialised_by draft made) sound).tables in
-        let new = λ (m : Met). plain_table m.table in
+        let new = λ (m : NewTable). plain_table m.table in
         let all = length-append draft.tables (map new made) in
         let own = length-map made new in
         omega (arith, tables, all, own)
 
     count : length made ≡ length (take most plan)
-    count = sym (length-map made (λ (m : Met). m.pair)) ∙ ap length met.pairs
+    count = sym (length-map made (λ (m : NewTable). m.pair)) ∙ ap length met.pairs
 
-    go : (length plan < most) ⊎ (most ≤ length plan) → AreMet draft plan made
-    go (inl all) = subst (λ (l : List Pair). AreMet draft l made) (take_all most plan (omega (arith, all))) met
+    go : (length plan < most) ⊎ (most ≤ length plan) → AreNewTables draft plan made
+    go (inl all) = subst (λ (l : List Pair). AreNewTables draft l made) (take_all most plan (omega (arith, all))) met
     go (inr more) =
         let own = length-take-le most plan more in
         absurd (omega (arith, few, count, own))
 
 -- what these make, where that is sound, is what the whole plan makes
-pub all_made : (draft : DraftTree) (plan first : List Pair) (made : List Met) (result : DraftTree) → first ≡ take (1 + (64 - length draft.tables)) plan → AreMet draft first made → result ≡ materialised_by draft made → IsSound result → IsMaterialised draft plan result
+pub all_made : (draft : DraftTree) (plan first : List Pair) (made : List NewTable) (result : DraftTree) → first ≡ take (1 + (64 - length draft.tables)) plan → AreNewTables draft first made → result ≡ materialised_by draft made → IsSound result → IsMaterialised draft plan result
 all_made draft plan first made result is met own sound =
-    (made, met_whole draft plan made (subst (λ (l : List Pair). AreMet draft l made) is met) (subst IsSound own sound), own)
+    (made, met_whole draft plan made (subst (λ (l : List Pair). AreNewTables draft l made) is met) (subst IsSound own sound), own)
 
 -- ---- what is promised of the result
 
