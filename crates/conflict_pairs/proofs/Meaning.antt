@@ -17,8 +17,7 @@ use Rattle.prog_paths.proofs.Questions.{law_of_meeting, law_of_questions}
 use Rattle.prog_paths.specs.Asked.{IsQuestion, ChangesSingleCells, two, between}
 use Rattle.conflict_pairs.specs.declared.verdicts.Verdict.{Verdict}
 use Rattle.conflict_pairs.specs.declared.verdicts.Verdict.TheVariants.{Apart, Covered, Exposed}
-use Rattle.conflict_pairs.specs.Verdicts.{HasFall, NumbersFall, IsShortest, mine_of, theirs_of, IsCoveredBy, IsExposedBy, IsRightOf, IsRight}
-use Rattle.conflict_pairs.specs.Law.{IsExposedQuestion, TellsExposed}
+use Rattle.conflict_pairs.specs.Verdicts.{HasFall, NumbersFall, IsShortest, mine_of, theirs_of, IsCoveredBy, IsExposedBy, IsRightOf, IsRight, IsExposedQuestion, TellsExposed}
 use Rattle.conflict_pairs.specs.Search.{CoversAt, IsCoverFound, ShowEqualAt, IsNoCover, IsLeftOpen, IsUncovered, IsJudged}
 use Rattle.prog_paths.proofs.Shown.{IsPair, no_way-from_Falls, apart-from_Falls, same-from_CoversBy, CoversBy-from_same, single_at, may_touch-second}
 

@@ -15,8 +15,7 @@ use Rattle.conflict_pairs.specs.declared.verdicts.Verdict.{Verdict}
 use Rattle.conflict_pairs.specs.declared.verdicts.Verdict.TheVariants.{Apart, Covered, Exposed}
 use Rattle.prog_paths.specs.Asked.{Asks, IsQuestion, ChangesSingleCells, two, between, asks, kinds_depend, both_write, is_in_order, numbers_of}
 use Rattle.conflict_pairs.specs.Alike.{IsAsked}
-use Rattle.conflict_pairs.specs.Law.{TellsExposed}
-use Rattle.conflict_pairs.specs.Verdicts.{IsCoveredBy, IsRightOf, IsRight}
+use Rattle.conflict_pairs.specs.Verdicts.{IsCoveredBy, IsRightOf, IsRight, TellsExposed}
 use Rattle.prog_paths.specs.Places.{IsAt}
 use Rattle.prog_paths.proofs.Membership.{depends-Asks}
 

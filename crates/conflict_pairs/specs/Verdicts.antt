@@ -1,5 +1,5 @@
 -- When a verdict on a question is right.
-use Rattle.std.specs.Prelude.{◌≡◌, ℕ, ◌<◌, ◌≤◌, ◌⊎◌, ℤ, ◌<ℤ◌, List, length, All, Contains}
+use Rattle.std.specs.Prelude.{◌≡◌, ◌↔◌, ℕ, ◌<◌, ◌≤◌, ◌⊎◌, ℤ, ◌<ℤ◌, Bool, true, false, List, length, All, Contains}
 use Rattle.prog_tree.specs.Number.{IsI64}
 use Rattle.order_facts.specs.declared.steps.Node.{Node}
 use Rattle.order_facts.specs.declared.steps.Node.TheVariants.{Mine, MineUnknown, Theirs, TheirsUnknown, Number}
@@ -106,3 +106,29 @@ IsRightOf nodes q mine theirs (Exposed sample) = IsExposedBy nodes q mine theirs
 abbrev pub IsRight : List Path → Question → Verdict → Type 0
 IsRight nodes q verdict =
     (mine theirs : Access) → AsksOf nodes q mine theirs → IsRightOf nodes q mine theirs verdict
+
+-- ---- what a verdict says
+
+-- the two accesses can meet
+abbrev pub can_meet : Verdict → Bool
+can_meet (Apart _) = false
+can_meet (Covered _ _ _) = true
+can_meet (Exposed _) = true
+
+-- the question is exposed
+abbrev pub is_exposed : Verdict → Bool
+is_exposed (Apart _) = false
+is_exposed (Covered _ _ _) = false
+is_exposed (Exposed _) = true
+
+-- ---- whether a question is exposed
+
+-- it can meet, and is not covered where it asks for a read-write dependency
+abbrev pub IsExposedQuestion : List Path → Question → Access → Access → Type 0
+IsExposedQuestion nodes q mine theirs =
+    CanMeet mine theirs × (AsksReadWrite q mine.kind theirs.kind → ¬ IsCovered nodes q.x q.y mine theirs)
+
+-- the answer says whether it is
+abbrev pub TellsExposed : List Path → Question → Bool → Type 0
+TellsExposed nodes q told =
+    (mine theirs : Access) → AsksOf nodes q mine theirs → (told ≡ true) ↔ IsExposedQuestion nodes q mine theirs

@@ -4,9 +4,8 @@ ghost use Rattle.order_facts.specs.Chain.{IsConsistent};
 ghost use Rattle.prog_paths.specs.Questions.{question_facts};
 ghost use Rattle.prog_check.specs.declared.path.Access.{Access};
 ghost use Rattle.prog_paths.specs.Asked.{IsQuestion, ChangesSingleCells, two, between};
-ghost use Rattle.conflict_pairs.specs.Verdicts.{HasFall, NumbersFall, IsShortest, IsRight};
+ghost use Rattle.conflict_pairs.specs.Verdicts.{HasFall, NumbersFall, IsShortest, IsRight, TellsExposed};
 ghost use Rattle.conflict_pairs.specs.Alike.{IsAsked, IsJudgedAt, AreJudged};
-ghost use Rattle.conflict_pairs.specs.Law.{TellsExposed};
 ghost use Rattle.conflict_pairs.specs.Search.{CoversAt, ShowEqualAt, IsCoverFound, IsNoCover, IsLeftOpen, IsUncovered, IsJudged};
 
 use crate::apart::{contradiction, number_fall};

@@ -1,6 +1,6 @@
 //! What is said of a question.
-ghost use Rattle.std.specs.Prelude.{◌≡◌, ◌↔◌, IsTrue};
-ghost use Rattle.conflict_pairs.specs.Law.{IsExposedVerdict, can_meet, is_exposed};
+ghost use Rattle.std.specs.Prelude.{◌≡◌};
+ghost use Rattle.conflict_pairs.specs.Verdicts.{can_meet, is_exposed};
 
 use crate::chain::Chain;
 use order_facts::Sample;
@@ -28,20 +28,13 @@ impl Verdict {
     pub fn can_meet(&self) -> bool
         ensures { result ≡ can_meet self.now }
     {
-        match self {
-            Verdict::Apart(_) => false,
-            _ => true,
-        }
+        !matches!(self, Verdict::Apart(_))
     }
 
     /// Whether it says that the question is exposed.
     pub fn is_exposed(&self) -> bool
-        ensures test { result ≡ is_exposed self.now }
-        ensures exposed { IsTrue result ↔ IsExposedVerdict self.now }
+        ensures { result ≡ is_exposed self.now }
     {
-        match self {
-            Verdict::Exposed(_) => true,
-            _ => false,
-        }
+        matches!(self, Verdict::Exposed(_))
     }
 }

@@ -4,7 +4,7 @@ use Rattle.std.specs.Prelude.{slice_get}
 use Rattle.conflict_pairs.specs.Table.{Entry}
 use Rattle.prog_paths.specs.declared.accesses.places.Question.{Question}
 use Rattle.conflict_pairs.specs.declared.verdicts.Verdict.{Verdict}
-use Rattle.conflict_pairs.specs.Law.{can_meet, is_exposed}
+use Rattle.conflict_pairs.specs.Verdicts.{can_meet, is_exposed}
 use Rattle.prog_paths.specs.declared.accesses.mark.Mark.{Mark}
 use Rattle.dep_graph.specs.Marks.{mark_at}
 use Rattle.prog_paths.specs.Marks.{mark_by}

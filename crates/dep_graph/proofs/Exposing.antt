@@ -6,7 +6,7 @@ use Rattle.order_facts.specs.declared.sample.Sample.{Sample}
 use Rattle.conflict_pairs.specs.declared.verdicts.Verdict.{Verdict}
 use Rattle.conflict_pairs.specs.declared.verdicts.Verdict.TheVariants.{Apart, Covered, Exposed}
 use Rattle.conflict_pairs.specs.Table.{Entry}
-use Rattle.conflict_pairs.specs.Law.{is_exposed}
+use Rattle.conflict_pairs.specs.Verdicts.{is_exposed}
 use Rattle.prog_paths.specs.declared.accesses.mark.Mark.{Mark}
 use Rattle.prog_paths.specs.Marks.{gives_vulnerable}
 use Rattle.dep_graph.specs.Marks.{IsFirstVulnerable}

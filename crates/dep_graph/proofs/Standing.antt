@@ -22,9 +22,8 @@ use Rattle.prog_paths.proofs.Membership.{law_of_listing}
 use Rattle.prog_paths.proofs.Order.{law_of_order, rise-between}
 use Rattle.conflict_pairs.specs.declared.verdicts.Verdict.{Verdict}
 use Rattle.conflict_pairs.specs.declared.verdicts.Verdict.TheVariants.{Apart, Covered, Exposed}
-use Rattle.conflict_pairs.specs.Verdicts.{mine_of, theirs_of, IsRightOf, IsRight, IsExposedBy}
+use Rattle.conflict_pairs.specs.Verdicts.{mine_of, theirs_of, IsRightOf, IsRight, IsExposedBy, can_meet, is_exposed}
 use Rattle.conflict_pairs.specs.Table.{Entry, Table, IsRightEntry, StandsFor}
-use Rattle.conflict_pairs.specs.Law.{can_meet, is_exposed}
 use Rattle.dep_graph.specs.declared.danger.Exposure.{Exposure}
 use Rattle.dep_graph.specs.Marks.{mark_at, HasVulnerable, IsFirstVulnerable}
 use Rattle.dep_graph.specs.Marking.{mark_of, marks_of}

@@ -3,7 +3,7 @@ use Rattle.std.specs.Prelude.{map}
 use Rattle.prog_paths.specs.declared.accesses.mark.Mark.{Mark}
 use Rattle.prog_paths.specs.Marks.{mark_by}
 use Rattle.conflict_pairs.specs.Table.{Entry, Table}
-use Rattle.conflict_pairs.specs.Law.{can_meet, is_exposed}
+use Rattle.conflict_pairs.specs.Verdicts.{can_meet, is_exposed}
 use Rattle.dep_graph.specs.Marks.{Marks}
 
 -- what an entry gives

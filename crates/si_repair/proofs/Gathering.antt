@@ -15,7 +15,7 @@ use Rattle.prog_paths.specs.Places.{IsAt}
 use Rattle.prog_paths.proofs.Asked.{placed, all_places_stand, if_yes, asked_by-append, asked_among-append}
 use Rattle.prog_paths.proofs.Elements.{IsMember, contains_from_member, member_left, member_right}
 use Rattle.prog_paths.proofs.Membership.{asks-from_Asks, in_node}
-use Rattle.conflict_pairs.specs.Law.{TellsExposed}
+use Rattle.conflict_pairs.specs.Verdicts.{TellsExposed}
 use Rattle.repair_laws.specs.declared.plan.Pair.{Pair}
 use Rattle.repair_laws.specs.Striking.{IsOfProgram}
 use Rattle.repair_laws.specs.Keys.{ExposedOf}

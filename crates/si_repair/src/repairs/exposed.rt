@@ -3,7 +3,7 @@ ghost use Rattle.std.specs.Prelude.{◌↔◌, [], ◌∷◌, All, IfOk, IsTrue}
 ghost use Rattle.prog_paths.specs.Asked.{ChangesSingleCells, numbers_of, question_between};
 ghost use Rattle.prog_paths.specs.Places.{IsAt};
 ghost use Rattle.prog_paths.specs.StaticGraph.{IsAccessOf};
-ghost use Rattle.conflict_pairs.specs.Law.{TellsExposed};
+ghost use Rattle.conflict_pairs.specs.Verdicts.{TellsExposed};
 ghost use Rattle.si_repair.specs.Exposing.{AreExposed, IsFirstExposed};
 ghost use Rattle.conflict_pairs.specs.Alike.{HasAccess};
 ghost use Rattle.si_repair.specs.Gathering.{MayMiss, IsExposedTo, AreExposedAmong, IsFirstAmong};

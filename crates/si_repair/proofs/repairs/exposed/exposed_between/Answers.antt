@@ -1,5 +1,5 @@
 use Rattle.prog_paths.specs.Asked.{numbers_of, question_between}
-use Rattle.conflict_pairs.specs.Law.{TellsExposed}
+use Rattle.conflict_pairs.specs.Verdicts.{TellsExposed}
 use Rattle.conflict_pairs.proofs.Meaning.{IfOk_then}
 use Rattle.conflict_pairs.proofs.Moving.{TellsExposed-placed}
 use Rattle.si_repair.proofs.repairs.exposed.exposed_between.Goals as goal
