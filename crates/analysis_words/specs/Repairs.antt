@@ -8,8 +8,8 @@ use Rattle.fault_words.specs.Naming.{program_name}
 use Rattle.analysis_words.specs.SharedWords.{other_run}
 use Rattle.si_repair.specs.declared.repairs.fault.RepairFault.{RepairFault}
 use Rattle.si_repair.specs.declared.repairs.fault.RepairFault.TheVariants.{RangeRead, UnknownKey, BodyRead, TooMany, Memory}
-use Rattle.si_repair.specs.declared.repairs.reads.Obstacle.{Obstacle}
-use Rattle.si_repair.specs.declared.repairs.reads.Obstacle.TheVariants as obstacle
+use Rattle.si_repair.specs.declared.repairs.obstacles.Obstacle.{Obstacle}
+use Rattle.si_repair.specs.declared.repairs.obstacles.Obstacle.TheVariants as obstacle
 
 -- the name of a program between two backquotes
 abbrev pub quoted_name : DraftTree → (program : ℕ) → List ℕ

@@ -19,8 +19,8 @@ use Rattle.repair_laws.specs.Refusals.{IsStatementAt, IsRange, IsRangeAt, HasUnk
 use Rattle.si_repair.specs.Exposing.{AreExposed, IsObstacle}
 use Rattle.si_repair.specs.Gathering.{HasRead, HasBoth}
 use Rattle.si_repair.specs.Obstacles.{range_marks, program_ranges, Hinders, HasHindered, IsFirstHindered, IsHindered, IsMarkedAt, obstacle_of}
-use Rattle.si_repair.specs.declared.repairs.reads.Obstacle.{Obstacle}
-use Rattle.si_repair.specs.declared.repairs.reads.Obstacle.TheVariants.{RangeRead, UnknownKey, BodyRead}
+use Rattle.si_repair.specs.declared.repairs.obstacles.Obstacle.{Obstacle}
+use Rattle.si_repair.specs.declared.repairs.obstacles.Obstacle.TheVariants.{RangeRead, UnknownKey, BodyRead}
 use Rattle.si_repair.proofs.Gathering.{nothing, among_first}
 
 -- ---- statements

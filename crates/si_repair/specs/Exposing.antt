@@ -8,8 +8,8 @@ use Rattle.prog_paths.specs.Listing.{IsBefore}
 use Rattle.repair_laws.specs.declared.plan.Pair.{Pair}
 use Rattle.repair_laws.specs.Keys.{ExposedOf}
 use Rattle.repair_laws.specs.Refusals.{HasRangeRead, IsCoverable, StopsAtKey, StopsAtBody}
-use Rattle.si_repair.specs.declared.repairs.reads.Obstacle.{Obstacle}
-use Rattle.si_repair.specs.declared.repairs.reads.Obstacle.TheVariants.{RangeRead, UnknownKey, BodyRead}
+use Rattle.si_repair.specs.declared.repairs.obstacles.Obstacle.{Obstacle}
+use Rattle.si_repair.specs.declared.repairs.obstacles.Obstacle.TheVariants.{RangeRead, UnknownKey, BodyRead}
 
 -- a part of a list has some of its elements, in its order
 abbrev pub IsPart : {A : Type 0} → (whole part : List A) → Type 0

@@ -11,8 +11,8 @@ use Rattle.prog_paths.specs.declared.accesses.places.Question.{Question as Asked
 use Rattle.repair_laws.specs.declared.plan.Pair.{Pair}
 use Rattle.repair_laws.specs.Refusals.{is_range, HasUnknownKey, IsRangeAt}
 use Rattle.si_repair.specs.Exposing.{AreExposed}
-use Rattle.si_repair.specs.declared.repairs.reads.Obstacle.{Obstacle}
-use Rattle.si_repair.specs.declared.repairs.reads.Obstacle.TheVariants.{RangeRead, UnknownKey, BodyRead}
+use Rattle.si_repair.specs.declared.repairs.obstacles.Obstacle.{Obstacle}
+use Rattle.si_repair.specs.declared.repairs.obstacles.Obstacle.TheVariants.{RangeRead, UnknownKey, BodyRead}
 
 -- ---- ranges
 

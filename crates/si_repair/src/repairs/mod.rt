@@ -12,10 +12,12 @@ mod key;
 mod marks;
 pub mod materialise;
 mod names;
+mod obstacles;
 mod promotion;
-mod reads;
+mod ranges;
 
 pub use exposed::{exposed_questions, first_exposed};
 pub use fault::RepairFault;
+pub use obstacles::{Obstacle, has_unknown_key, hindered_question};
 pub use promotion::promote;
-pub use reads::{Obstacle, has_unknown_key, hindered_question, is_range_at};
+pub use ranges::is_range_at;

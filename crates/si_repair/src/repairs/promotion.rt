@@ -18,7 +18,7 @@ use crate::repairs::checked::checked_set;
 use crate::repairs::exposed::exposed_questions;
 use crate::repairs::fault::RepairFault;
 use crate::repairs::marks::{MarkedStatement, push_reads};
-use crate::repairs::reads::{Obstacle, first_obstacle};
+use crate::repairs::obstacles::{Obstacle, first_obstacle};
 use prog_check::{Path, ProgramSet};
 use prog_paths::{Question, paths};
 use prog_tree::Draft;

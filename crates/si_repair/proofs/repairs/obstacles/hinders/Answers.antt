@@ -1,7 +1,7 @@
 use Rattle.std.proofs.Common.{◌≡◌, ◌↔◌, ◌∙◌, true, sym, subst}
-use Rattle.si_repair.specs.declared.repairs.reads.Obstacle.{Obstacle}
+use Rattle.si_repair.specs.declared.repairs.obstacles.Obstacle.{Obstacle}
 use Rattle.si_repair.specs.Obstacles.{Hinders, IsMarkedAt}
-use Rattle.si_repair.proofs.repairs.reads.hinders.Goals as goal
+use Rattle.si_repair.proofs.repairs.obstacles.hinders.Goals as goal
 
 pub returns-in-RangeRead : goal.returns-in-RangeRead
 returns-in-RangeRead c =

@@ -1,7 +1,7 @@
 use Rattle.std.proofs.Common.{◌∙◌, sym}
 use Rattle.si_repair.specs.Obstacles.{IsMarkedAt}
 use Rattle.si_repair.proofs.Marking.{hindered-some}
-use Rattle.si_repair.proofs.repairs.reads.is_hindered.Goals as goal
+use Rattle.si_repair.proofs.repairs.obstacles.is_hindered.Goals as goal
 
 pub returns : goal.returns
 returns c =

@@ -1,6 +1,6 @@
 use Rattle.std.proofs.Common.{take}
 use Rattle.si_repair.specs.Obstacles.{HasHindered, IsMarkedAt}
-use Rattle.si_repair.proofs.repairs.reads.first_hindered.Given as goal
+use Rattle.si_repair.proofs.repairs.obstacles.first_hindered.Given as goal
 
 -- none of the questions so far
 abbrev pub invariant-loop-question : goal.invariant-loop-question

@@ -4,7 +4,7 @@ use Rattle.prog_tree.specs.Tree.{with_stmt, block_tree}
 use Rattle.prog_tree.proofs.TreeLemmas.{branch_tree, each_tree}
 use Rattle.si_repair.specs.Obstacles.{range_marks}
 use Rattle.si_repair.proofs.Marking.{branch_marks, each_marks}
-use Rattle.si_repair.proofs.repairs.reads.+marks.Goals as goal
+use Rattle.si_repair.proofs.repairs.ranges.+marks.Goals as goal
 
 pub push_stmt-returns-in_ok-push_block-in-Branch-2 : goal.push_stmt-returns-in_ok-push_block-in-Branch-2
 push_stmt-returns-in_ok-push_block-in-Branch-2 t c rest =

@@ -10,7 +10,7 @@ use Rattle.si_repair.specs.Exposing.{AreExposed}
 use Rattle.si_repair.specs.Gathering.{HasBoth}
 use Rattle.si_repair.specs.Obstacles.{program_ranges, IsFirstHindered, IsMarkedAt}
 use Rattle.si_repair.proofs.Marking.{first-alike, mark-from_range_at, range_at-from_mark, HasBoth-each}
-use Rattle.si_repair.proofs.repairs.reads.hindered_question.Goals as goal
+use Rattle.si_repair.proofs.repairs.obstacles.hindered_question.Goals as goal
 
 pub exposed_questions-requires : goal.exposed_questions-requires
 exposed_questions-requires c = subst (λ (l : List Path). All ChangesSingleCells l) (sym c.requires) (law_of_single_changes (draft_tree c.args.draft.now))

@@ -2,7 +2,7 @@ use Rattle.std.proofs.Common.{◌∙◌, sym, arith}
 use Rattle.std.proofs.lemmas.Bool.{false≢true}
 use Rattle.si_repair.specs.Obstacles.{IsMarkedAt}
 use Rattle.si_repair.proofs.Marking.{hindered-none, hindered-all, hindered-found, hindered-more}
-use Rattle.si_repair.proofs.repairs.reads.first_hindered.Goals as goal
+use Rattle.si_repair.proofs.repairs.obstacles.first_hindered.Goals as goal
 
 pub loop-question-init : goal.loop-question-init
 loop-question-init c = hindered-none c.args.paths.now (IsMarkedAt c.args.marks.now) c.args.obstacle c.args.questions.now

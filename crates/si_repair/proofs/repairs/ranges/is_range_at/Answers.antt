@@ -2,7 +2,7 @@ use Rattle.std.proofs.Common.{Bool, List, false, ◌∙◌, ap, refl, sym}
 use Rattle.std.specs.Prelude.{slice_get, slice_index_or}
 use Rattle.prog_tree.specs.Tree.{draft_tree}
 use Rattle.si_repair.proofs.Marking.{range_at-from_mark, mark-from_range_at}
-use Rattle.si_repair.proofs.repairs.reads.is_range_at.Goals as goal
+use Rattle.si_repair.proofs.repairs.ranges.is_range_at.Goals as goal
 
 pub returns : goal.returns
 returns c =

@@ -1,10 +1,10 @@
 use Rattle.std.proofs.Common.{◌∙◌, sym, subst}
 use Rattle.std.specs.Prelude.{Option}
 use Rattle.prog_tree.specs.Tree.{draft_tree}
-use Rattle.si_repair.specs.declared.repairs.reads.Obstacle.{Obstacle}
+use Rattle.si_repair.specs.declared.repairs.obstacles.Obstacle.{Obstacle}
 use Rattle.si_repair.specs.Exposing.{IsObstacle}
 use Rattle.si_repair.proofs.Marking.{HasBoth-each, IsObstacle-first}
-use Rattle.si_repair.proofs.repairs.reads.first_obstacle.Goals as goal
+use Rattle.si_repair.proofs.repairs.obstacles.first_obstacle.Goals as goal
 
 pub is_hindered-reads_range-requires : goal.is_hindered-reads_range-requires
 is_hindered-reads_range-requires c = HasBoth-each c.args.paths.now c.args.pair c.args.questions.now c.requires.exposed
