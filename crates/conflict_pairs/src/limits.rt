@@ -1,4 +1,4 @@
-//! What is worth threads.
+//! What is worth threads, and how many accesses are numbered.
 
 /// The fewest questions that several threads answer.
 pub const MIN_QUESTIONS_OF_THREADS: usize = 10_000;
@@ -7,4 +7,4 @@ pub const MIN_QUESTIONS_OF_THREADS: usize = 10_000;
 pub const EQUAL_PARTS: usize = 8;
 
 /// The most accesses whose numbers have 32 bits. A list of more would take 500 GB.
-pub const MOST_PLACES: usize = 4_294_967_296;
+pub const MAX_PLACES: usize = 4_294_967_296;

@@ -11,7 +11,7 @@ use crate::classes::AccessClasses;
 use crate::fault::PairFault;
 use crate::interning::{Interned, intern_all};
 use crate::judge::verdicts_of;
-use crate::limits::MOST_PLACES;
+use crate::limits::MAX_PLACES;
 use crate::pairing::{PlacePair, number_among, question_of};
 use crate::table::PairTable;
 use crate::verdicts::Verdict;
@@ -116,7 +116,7 @@ pub fn questions_of(alloc: Global, paths: &[Path], count: usize) -> Result<Quest
     ensures within { IfOk result (λ qs. All (HasPlaces qs.places.items) qs.pairs.items) }
 {
     let places = all_places(alloc, paths)?;
-    if places.len() > MOST_PLACES {
+    if places.len() > MAX_PLACES {
         return Err(AllocError);
     }
     let starts = starts_of(alloc, paths)?;

@@ -6,9 +6,8 @@ use Rattle.prog_paths.specs.declared.accesses.places.Question.{Question}
 use Rattle.conflict_pairs.specs.declared.verdicts.Verdict.{Verdict}
 use Rattle.conflict_pairs.specs.Verdicts.{can_meet, is_exposed}
 use Rattle.prog_paths.specs.declared.accesses.mark.Mark.{Mark}
-use Rattle.dep_graph.specs.Marks.{mark_at}
+use Rattle.dep_graph.specs.Marks.{mark_at, mark_of}
 use Rattle.prog_paths.specs.Marks.{mark_by}
-use Rattle.dep_graph.specs.Marking.{mark_of}
 
 -- the entry at a place, and what it gives
 pub record IsEntryAt (entries : List Entry) (n : ℕ) : Type 0 where

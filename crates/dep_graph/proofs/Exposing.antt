@@ -9,8 +9,7 @@ use Rattle.conflict_pairs.specs.Table.{Entry}
 use Rattle.conflict_pairs.specs.Verdicts.{is_exposed}
 use Rattle.prog_paths.specs.declared.accesses.mark.Mark.{Mark}
 use Rattle.prog_paths.specs.Marks.{gives_vulnerable}
-use Rattle.dep_graph.specs.Marks.{IsFirstVulnerable}
-use Rattle.dep_graph.specs.Marking.{mark_of}
+use Rattle.dep_graph.specs.Marks.{IsFirstVulnerable, mark_of}
 use Rattle.dep_graph.proofs.Entries.{IsEntryAt, entry_at}
 
 sample_of : (v : Verdict) → is_exposed v ≡ true → (sample : Sample) × (v ≡ Exposed sample)

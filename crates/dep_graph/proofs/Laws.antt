@@ -10,8 +10,7 @@ use Rattle.dep_graph.specs.Counting.{IsCountOf}
 use Rattle.order_facts.specs.Square.{Grid, entry, Joins}
 use Rattle.dep_graph.specs.Triple.{ClosesAt, IsLeastTriple}
 use Rattle.dep_graph.specs.Ways.{IsLeastWay}
-use Rattle.dep_graph.specs.Marks.{IsGraphOf}
-use Rattle.dep_graph.specs.Marking.{marks_of}
+use Rattle.dep_graph.specs.Marks.{IsGraphOf, marks_of}
 use Rattle.dep_graph.specs.Danger.{IsFirstExposure, IsLeastDanger}
 use Rattle.dep_graph.proofs.Counts.{IsCountOf-same}
 use Rattle.dep_graph.proofs.Alike.{IsWithin, Leads-within, IsLeastWay-alike, IsDangerousAt-within}

@@ -25,8 +25,7 @@ use Rattle.conflict_pairs.specs.declared.verdicts.Verdict.TheVariants.{Apart, Co
 use Rattle.conflict_pairs.specs.Verdicts.{mine_of, theirs_of, IsRightOf, IsRight, IsExposedBy, can_meet, is_exposed}
 use Rattle.conflict_pairs.specs.Table.{Entry, Table, IsRightEntry, StandsFor}
 use Rattle.dep_graph.specs.declared.danger.Exposure.{Exposure}
-use Rattle.dep_graph.specs.Marks.{mark_at, HasVulnerable, IsFirstVulnerable}
-use Rattle.dep_graph.specs.Marking.{mark_of, marks_of}
+use Rattle.dep_graph.specs.Marks.{mark_at, HasVulnerable, IsFirstVulnerable, mark_of, marks_of}
 use Rattle.dep_graph.specs.Danger.{IsFirstExposure, IsLeastExposed}
 use Rattle.dep_graph.proofs.Alike.{IsWithin}
 use Rattle.dep_graph.proofs.Entering.{HasEdge}

@@ -10,8 +10,7 @@ use Rattle.dep_graph.specs.declared.danger.Danger.{Danger}
 use Rattle.dep_graph.specs.declared.danger.Exposure.{Exposure}
 use Rattle.prog_paths.specs.Listing.{IsAtMost}
 use Rattle.dep_graph.specs.Ways.{IsLeastWay}
-use Rattle.dep_graph.specs.Marks.{IsFirstVulnerable}
-use Rattle.dep_graph.specs.Marking.{marks_of}
+use Rattle.dep_graph.specs.Marks.{IsFirstVulnerable, marks_of}
 
 -- the first entry that makes the edge from x to y vulnerable: its question and its sample
 pub record IsFirstExposure (t : Table) (x y : ℕ) (e : Exposure) : Type 0 where

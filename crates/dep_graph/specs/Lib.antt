@@ -1,4 +1,3 @@
-pub mod Marking
 pub mod Ways
 pub mod Counting
 pub mod Reaching

@@ -1,15 +1,25 @@
 -- What a table's questions with their verdicts make of the graph.
-use Rattle.std.specs.Prelude.{◌≡◌, ℕ, List, length, ◌<◌, ◌≤◌, Bool, true, false, slice_index_or}
+use Rattle.std.specs.Prelude.{◌≡◌, ℕ, List, length, map, ◌<◌, ◌≤◌, Bool, true, false, slice_index_or}
 use Rattle.std.specs.List.{list_any}
 use Rattle.order_facts.specs.Square.{Grid, IsSquareOf}
 use Rattle.prog_paths.specs.declared.accesses.mark.Mark.{Mark}
-use Rattle.prog_paths.specs.Marks.{gives_edge, gives_vulnerable}
+use Rattle.prog_paths.specs.Marks.{mark_by, gives_edge, gives_vulnerable}
+use Rattle.conflict_pairs.specs.Table.{Entry, Table}
+use Rattle.conflict_pairs.specs.Verdicts.{can_meet, is_exposed}
 use Rattle.dep_graph.specs.Reaching.{IsReachOf}
 
 -- how many nodes there are, and what each question gives
 pub record Marks : Type 0 where
   pub nodes : ℕ
   pub marks : List Mark
+
+-- what a question with its verdict gives
+abbrev pub mark_of : Entry → Mark
+mark_of e = mark_by e.question (can_meet e.verdict) (is_exposed e.verdict)
+
+-- what those of a table give
+abbrev pub marks_of : Table → Marks
+marks_of t = record { nodes = t.nodes; marks = map mark_of t.entries }
 
 -- what the question at a place gives
 abbrev pub mark_at : List Mark → ℕ → Mark

@@ -1,8 +1,7 @@
 //! The least dangerous structure of a table.
 
-ghost use Rattle.dep_graph.specs.Marks.{HasVulnerable, IsFirstVulnerable};
+ghost use Rattle.dep_graph.specs.Marks.{HasVulnerable, IsFirstVulnerable, marks_of};
 ghost use Rattle.std.specs.Prelude.{IfOk};
-ghost use Rattle.dep_graph.specs.Marking.{marks_of};
 ghost use Rattle.dep_graph.specs.Danger.{IsFirstExposure};
 
 use crate::mark::entry_mark;

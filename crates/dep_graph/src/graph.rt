@@ -6,8 +6,7 @@ ghost use Rattle.prog_paths.specs.StaticGraph.{StaticEdge, IsVulnerable, Leads, 
 ghost use Rattle.conflict_pairs.specs.Table.{StandsFor};
 ghost use Rattle.dep_graph.specs.Counting.{IsCountOf};
 ghost use Rattle.order_facts.specs.Square.{entry, IsSquareOf};
-ghost use Rattle.dep_graph.specs.Marks.{has_edge, has_vulnerable};
-ghost use Rattle.dep_graph.specs.Marking.{marks_of};
+ghost use Rattle.dep_graph.specs.Marks.{has_edge, has_vulnerable, marks_of};
 ghost use Rattle.dep_graph.specs.Danger.{IsLeastDanger};
 
 use crate::closure::close;
@@ -33,8 +32,7 @@ pub struct Graph<'a> {
 
 impl<'a> Model for Graph<'a> {
     ghost use Rattle.conflict_pairs.specs.Table.{Table};
-    ghost use Rattle.dep_graph.specs.Marks.{IsGraphOf};
-    ghost use Rattle.dep_graph.specs.Marking.{marks_of};
+    ghost use Rattle.dep_graph.specs.Marks.{IsGraphOf, marks_of};
 
     ghost Value = { Table };
 

@@ -1,8 +1,7 @@
 //! What a table's questions with their verdicts make of the graph.
 
 ghost use Rattle.std.specs.Prelude.{◌≡◌, ◌<◌, length};
-ghost use Rattle.dep_graph.specs.Marks.{mark_at};
-ghost use Rattle.dep_graph.specs.Marking.{marks_of};
+ghost use Rattle.dep_graph.specs.Marks.{mark_at, marks_of};
 
 use conflict_pairs::PairTable;
 use prog_paths::{Mark, mark_by};

@@ -1,7 +1,7 @@
 use Rattle.std.proofs.Common.{◌<◌, arith}
 use Rattle.std.proofs.lemmas.List.{length-map}
 use Rattle.prog_paths.specs.Marks.{gives_vulnerable}
-use Rattle.dep_graph.specs.Marking.{mark_of, marks_of}
+use Rattle.dep_graph.specs.Marks.{mark_of, marks_of}
 use Rattle.dep_graph.proofs.Entering.{place_of}
 use Rattle.dep_graph.proofs.danger.first_vulnerable.Goals as goal
 

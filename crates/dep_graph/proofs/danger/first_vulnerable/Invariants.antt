@@ -1,7 +1,6 @@
 use Rattle.std.proofs.Common.{◌≡◌, ℕ, ◌<◌, true}
 use Rattle.prog_paths.specs.Marks.{gives_vulnerable}
-use Rattle.dep_graph.specs.Marks.{mark_at}
-use Rattle.dep_graph.specs.Marking.{marks_of}
+use Rattle.dep_graph.specs.Marks.{mark_at, marks_of}
 use Rattle.dep_graph.proofs.danger.first_vulnerable.Given as goal
 
 abbrev pub invariant-loop-n : goal.invariant-loop-n

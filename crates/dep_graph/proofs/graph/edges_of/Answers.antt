@@ -2,7 +2,7 @@ use Rattle.std.proofs.Common.{◌<◌, length, subst, arith}
 use Rattle.std.proofs.lemmas.List.{length-map}
 use Rattle.prog_paths.specs.declared.accesses.mark.Mark.{Mark}
 use Rattle.prog_paths.specs.Marks.{gives_edge, gives_vulnerable, EntersMark}
-use Rattle.dep_graph.specs.Marking.{mark_of, marks_of}
+use Rattle.dep_graph.specs.Marks.{mark_of, marks_of}
 use Rattle.dep_graph.proofs.Entering.{IsSquareOf-entered}
 use Rattle.dep_graph.proofs.graph.edges_of.Goals as goal
 

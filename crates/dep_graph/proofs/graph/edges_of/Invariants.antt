@@ -1,7 +1,6 @@
 use Rattle.std.proofs.Common.{take}
 use Rattle.order_facts.specs.Square.{IsSquareOf}
-use Rattle.dep_graph.specs.Marks.{has_edge, has_vulnerable}
-use Rattle.dep_graph.specs.Marking.{marks_of}
+use Rattle.dep_graph.specs.Marks.{has_edge, has_vulnerable, marks_of}
 use Rattle.dep_graph.proofs.graph.edges_of.Given as goal
 
 -- the questions before `n` are entered
