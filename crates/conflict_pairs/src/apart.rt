@@ -135,11 +135,16 @@ fn falling_between(
     Ok(best)
 }
 
-/// A shortest chain that shows that no assignment meets the facts of a question.
-pub fn contradiction(closed: &Closed, mine: &Access, theirs: &Access) -> Result<Chain, AllocError>
-    requires facts { closed.now ≡ question_facts mine.now theirs.now }
-    requires contradiction { HasContradiction closed.now }
-    ensures { IfOk result (λ chain. FallsShortest closed.now chain) }
+/// A shortest chain by the facts of a question from a number to a smaller one.
+fn shortest_fall(
+    closed: &Closed,
+    mine: &Access,
+    theirs: &Access,
+) -> Result<Option<Chain>, AllocError>
+    requires { closed.now ≡ question_facts mine.now theirs.now }
+    ensures some { IfOk result (λ found. IfSome found (λ chain. Falls closed.now chain)) }
+    ensures all { IfOk result (λ found. (h : HasContradiction closed.now)
+        → FoundWithin found (length h.chain)) }
 {
     let my_second = column_or_zero(mine.second);
     let second = their_node(column_or_zero(theirs.second).low);
@@ -156,7 +161,16 @@ pub fn contradiction(closed: &Closed, mine: &Access, theirs: &Access) -> Result<
         second,
         mine_node(my_second.high),
     ];
-    match falling_between(closed, &starts, &ends)? {
+    falling_between(closed, &starts, &ends)
+}
+
+/// A shortest chain that shows that no assignment meets the facts of a question.
+pub fn contradiction(closed: &Closed, mine: &Access, theirs: &Access) -> Result<Chain, AllocError>
+    requires facts { closed.now ≡ question_facts mine.now theirs.now }
+    requires contradiction { HasContradiction closed.now }
+    ensures { IfOk result (λ chain. FallsShortest closed.now chain) }
+{
+    match shortest_fall(closed, mine, theirs)? {
         Some(chain) => Ok(chain),
         None => unreachable!(),
     }

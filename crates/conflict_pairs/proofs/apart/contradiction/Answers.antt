@@ -1,37 +1,13 @@
-use Rattle.std.proofs.Common.{◌≡◌, List, [], ◌∷◌, length, ap, subst, ◌∙◌}
+use Rattle.std.proofs.Common.{List, length, subst}
 use Rattle.std.specs.Prelude.{Option}
-use Rattle.prog_check.specs.declared.path.Column.{Column}
 use Rattle.order_facts.specs.declared.steps.Node.{Node}
-use Rattle.prog_paths.specs.Questions.{mine_node, their_node}
 use Rattle.conflict_pairs.specs.Search.{FoundWithin}
-use Rattle.conflict_pairs.proofs.Falling.{lower_nodes, upper_nodes, found_for}
 use Rattle.conflict_pairs.proofs.Trimming.{FallsShortest-found}
 use Rattle.conflict_pairs.proofs.apart.contradiction.Goals as goal
 
 pub unreachable-requires : goal.unreachable-requires
 unreachable-requires c =
-    let mine = c.args.mine.now in
-    let theirs = c.args.theirs.now in
-    let my_low = c.mine_node-2.ensures ∙ ap (λ (col : Column). mine_node col.low) c.column_or_zero-my_second.ensures in
-    let my_high = c.mine_node-4.ensures ∙ ap (λ (col : Column). mine_node col.high) c.column_or_zero-my_second.ensures in
-    let their_low = c.their_node-second.ensures ∙ ap (λ (col : Column). their_node col.low) c.column_or_zero.ensures in
-    let lowers : c.mine_node.result ∷ c.their_node-first.result ∷ c.mine_node-2.result ∷ c.their_node-second.result ∷ [] ≡ lower_nodes mine theirs =
-    (λ i. c.mine_node.ensures i ∷ c.their_node-first.ensures i ∷ my_low i ∷ their_low i ∷ []) in
-    let uppers : c.their_node-first.result ∷ c.mine_node-3.result ∷ c.their_node-second.result ∷ c.mine_node-4.result ∷ [] ≡ upper_nodes mine theirs =
-    (λ i. c.their_node-first.ensures i ∷ c.mine_node-3.ensures i ∷ their_low i ∷ my_high i ∷ []) in
-    let found = found_for mine theirs c.args.closed.now _ _ _ c.requires.facts lowers uppers c.in_ok-chain.ensures.all c.requires.contradiction in
-    subst (λ (o : Option (List Node)). FoundWithin o (length c.requires.contradiction.chain)) c.in-None.is found
+    subst (λ (o : Option (List Node)). FoundWithin o (length c.requires.contradiction.chain)) c.in-None.is (c.in_ok-chain.ensures.all c.requires.contradiction)
 
 pub returns : goal.returns
-returns c =
-    let mine = c.args.mine.now in
-    let theirs = c.args.theirs.now in
-    let my_low = c.mine_node-2.ensures ∙ ap (λ (col : Column). mine_node col.low) c.column_or_zero-my_second.ensures in
-    let my_high = c.mine_node-4.ensures ∙ ap (λ (col : Column). mine_node col.high) c.column_or_zero-my_second.ensures in
-    let their_low = c.their_node-second.ensures ∙ ap (λ (col : Column). their_node col.low) c.column_or_zero.ensures in
-    let lowers : c.mine_node.result ∷ c.their_node-first.result ∷ c.mine_node-2.result ∷ c.their_node-second.result ∷ [] ≡ lower_nodes mine theirs =
-    (λ i. c.mine_node.ensures i ∷ c.their_node-first.ensures i ∷ my_low i ∷ their_low i ∷ []) in
-    let uppers : c.their_node-first.result ∷ c.mine_node-3.result ∷ c.their_node-second.result ∷ c.mine_node-4.result ∷ [] ≡ upper_nodes mine theirs =
-    (λ i. c.their_node-first.ensures i ∷ c.mine_node-3.ensures i ∷ their_low i ∷ my_high i ∷ []) in
-    FallsShortest-found c.args.closed.now _ c.in-Some.chain c.in-Some.is c.in_ok-chain.ensures.some
-    (λ h. found_for mine theirs c.args.closed.now _ _ _ c.requires.facts lowers uppers c.in_ok-chain.ensures.all h)
+returns c = FallsShortest-found c.args.closed.now _ c.in-Some.chain c.in-Some.is c.in_ok-chain.ensures.some c.in_ok-chain.ensures.all
