@@ -11,10 +11,7 @@ use std::alloc::{AllocError, Global};
 pub fn number_at(numbers: &[u32], node: usize) -> u32
     ensures { result ≡ number_at numbers.now node }
 {
-    match numbers.get(node) {
-        Some(number) => *number,
-        None => 0,
-    }
+    numbers.get(node).copied().unwrap_or(0)
 }
 
 fn level_of(certificate: &Certificate, node: usize) -> u32
