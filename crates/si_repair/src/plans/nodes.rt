@@ -14,8 +14,8 @@ fn nodes_of(alloc: Global, paths: &[Path], program: usize) -> Result<Vec<usize>,
     ensures { IfOk result (λ nodes. AreNodesOf paths.now program nodes.items) }
 {
     let mut nodes = Vec::new(alloc);
-    for x in 0..paths.len() {
-        if paths[x].program == program {
+    for (x, path) in paths.iter().enumerate() {
+        if path.program == program {
             nodes.push(x)?;
         }
     }
