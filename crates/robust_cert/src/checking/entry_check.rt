@@ -21,8 +21,8 @@ fn is_behind_last(entries: &Entries, k: usize) -> bool
     if k == 0 {
         return true;
     }
-    let last = Numbers::of_told(entries.question(k - 1));
-    let this = Numbers::of_told(entries.question(k));
+    let last = Numbers::from(entries.question(k - 1));
+    let this = Numbers::from(entries.question(k));
     last.is_before(this)
 }
 
@@ -33,7 +33,7 @@ fn check_entry(paths: &[Path], entries: &Entries, k: usize) -> Result<(), CertFa
     ensures fault { IfErr result (λ fault. IsFaultAt paths.now entries.now k fault) }
 {
     let question = entries.question(k);
-    let Some(asked) = asked_pair(paths, Numbers::of_told(question)) else {
+    let Some(asked) = asked_pair(paths, Numbers::from(question)) else {
         return Err(CertFault::NoSuchEntry(k));
     };
     if !is_behind_last(entries, k) {

@@ -163,7 +163,7 @@ pub fn check_reason(
             theirs,
             chains,
         } => {
-            let question = Numbers::of_told(question);
+            let question = Numbers::from(question);
             let cover = (*mine as usize, *theirs as usize);
             let Some((mine, theirs)) = covers_with(paths, question, asked, cover, chains.len())
             else {

@@ -29,7 +29,7 @@ fn enter_question(
         return cursor;
     }
     let question = question_between(first, second);
-    let (telling, behind) = telling_at(entries, cursor, Numbers::of_question(question));
+    let (telling, behind) = telling_at(entries, cursor, Numbers::from(question));
     left.enter(mark_with(question, telling));
     behind
 }

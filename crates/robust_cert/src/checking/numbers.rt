@@ -1,8 +1,6 @@
 //! The four numbers of a question, and their order.
 ghost use Rattle.std.specs.Prelude.{◌≡◌, ◌↔◌, IsTrue};
-ghost use Rattle.prog_paths.specs.Asked.{numbers_of};
 ghost use Rattle.prog_paths.specs.Listing.{IsPlaceBefore, IsBefore};
-ghost use Rattle.robust_cert.specs.Accepted.{numbers_told};
 ghost use Rattle.robust_cert.specs.Telling.{question_with, is_same};
 
 use crate::certificate;
@@ -23,11 +21,15 @@ fn is_place_before(x: usize, a: usize, y: usize, b: usize) -> bool
     x < y || (x == y && a < b)
 }
 
-impl Numbers {
-    /// Those that a certificate tells of a question.
-    pub fn of_told(question: certificate::Question) -> Numbers
-        ensures { question_with result ≡ numbers_told question }
-    {
+/// Those that a certificate tells of a question.
+impl From<certificate::Question> for Numbers {
+    ghost use Rattle.std.specs.Prelude.{◌≡◌};
+    ghost use Rattle.robust_cert.specs.Accepted.{numbers_told};
+    ghost use Rattle.robust_cert.specs.Telling.{question_with};
+
+    ghost from_gives = { λ question numbers. question_with numbers ≡ numbers_told question };
+
+    fn from(question: certificate::Question) -> Self {
         Numbers {
             x: question.x as usize,
             a: question.a as usize,
@@ -35,11 +37,17 @@ impl Numbers {
             b: question.b as usize,
         }
     }
+}
 
-    /// Those of a question of the paths.
-    pub fn of_question(question: Question) -> Numbers
-        ensures { question_with result ≡ numbers_of question }
-    {
+/// Those of a question of the paths.
+impl From<Question> for Numbers {
+    ghost use Rattle.std.specs.Prelude.{◌≡◌};
+    ghost use Rattle.prog_paths.specs.Asked.{numbers_of};
+    ghost use Rattle.robust_cert.specs.Telling.{question_with};
+
+    ghost from_gives = { λ question numbers. question_with numbers ≡ numbers_of question };
+
+    fn from(question: Question) -> Self {
         Numbers {
             x: question.x,
             a: question.a,
@@ -47,7 +55,9 @@ impl Numbers {
             b: question.b,
         }
     }
+}
 
+impl Numbers {
     pub fn is_before(self, other: Numbers) -> bool
         ensures { IsTrue result ↔ IsBefore (question_with self) (question_with other) }
     {

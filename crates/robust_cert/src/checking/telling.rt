@@ -36,7 +36,7 @@ fn cursor_at(entries: &Entries, cursor: usize, question: Numbers) -> usize
         → ¬ IsBefore (question_of e) (question_with question) }
 {
     let mut at = cursor;
-    while at < entries.len() && Numbers::of_told(entries.question(at)).is_before(question) {
+    while at < entries.len() && Numbers::from(entries.question(at)).is_before(question) {
         at += 1;
     }
     at
@@ -50,7 +50,7 @@ pub fn telling_at(entries: &Entries, cursor: usize, question: Numbers) -> (Telli
     ensures behind { IsBehind entries.now result.1 (question_with question) }
 {
     let at = cursor_at(entries, cursor, question);
-    if at < entries.len() && Numbers::of_told(entries.question(at)).is_same(question) {
+    if at < entries.len() && Numbers::from(entries.question(at)).is_same(question) {
         (told_by(entries.reason(at)), at)
     } else {
         (Telling::Nothing, at)

@@ -7,4 +7,4 @@ pub returns : goal.returns
 returns c e at =
     let later : 0 < c.args.k = omega (arith, c.if-k-eq0.false) in
     behind-last c.args.entries.now c.args.k c.requires later c.question.result c.question-2.result c.question.ensures c.question-2.ensures
-    (question_with c.of_told-last.result) (question_with c.of_told-this.result) c.of_told-last.ensures c.of_told-this.ensures c.is_before.result c.is_before.ensures e at
+    (question_with c.from-last.result) (question_with c.from-this.result) c.from-last.ensures c.from-this.ensures c.is_before.result c.is_before.ensures e at

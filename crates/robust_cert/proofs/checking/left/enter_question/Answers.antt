@@ -15,7 +15,7 @@ telling_at-telling-requires-clause-behind c =
     let es = c.args.entries.now in
     let q : Asked = question_between c.args.first.now c.args.second.now in
     let asked : asks c.args.first.now c.args.second.now ≡ true = sym c.asks.ensures ∙ c.if-not-asks.false in
-    let named : numbers_of q ≡ question_with c.of_question.result = sym (c.of_question.ensures ∙ ap numbers_of c.question_between-question.ensures) in
+    let named : numbers_of q ≡ question_with c.from.result = sym (c.from.ensures ∙ ap numbers_of c.question_between-question.ensures) in
     let all = subst (λ (l : List Asked). All (λ p. IsBehind es c.args.cursor (numbers_of p)) l) (if_yes (asks c.args.first.now c.args.second.now) q [] asked) c.requires.behind in
     subst (λ (p : Question). IsBehind es c.args.cursor p) named (All-head (λ p. IsBehind es c.args.cursor (numbers_of p)) q [] all)
 
@@ -25,7 +25,7 @@ returns c =
     let q : Asked = question_between c.args.first.now c.args.second.now in
     let asked : asks c.args.first.now c.args.second.now ≡ true = sym c.asks.ensures ∙ c.if-not-asks.false in
     let told = c.telling_at-telling.result in
-    let named : numbers_of q ≡ question_with c.of_question.result = sym (c.of_question.ensures ∙ ap numbers_of c.question_between-question.ensures) in
+    let named : numbers_of q ≡ question_with c.from.result = sym (c.from.ensures ∙ ap numbers_of c.question_between-question.ensures) in
     let tells : told.0 ≡ telling_of es (numbers_of q) = c.telling_at-telling.ensures.telling ∙ ap (telling_of es) (sym named) in
     let is = c.mark_with.ensures ∙ ap (λ (p : Asked). mark_with p told.0) c.question_between-question.ensures in
     let behind = subst (λ (p : Question). IsBehind es told.1 p) (sym named) c.telling_at-telling.ensures.behind in

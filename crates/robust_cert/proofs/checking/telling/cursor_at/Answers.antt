@@ -6,12 +6,12 @@ use Rattle.robust_cert.proofs.checking.telling.cursor_at.Goals as goal
 pub loop-at-preserved : goal.loop-at-preserved
 loop-at-preserved c =
     behind-more c.args.entries.now c.loop-at.at (question_with c.args.question) c.loop-at.invariant c.question.result c.question.ensures
-    (question_with c.of_told.result) c.of_told.ensures (c.is_before.ensures.0 c.if-is_before.true)
+    (question_with c.from.result) c.from.ensures (c.is_before.ensures.0 c.if-is_before.true)
 
 pub returns-else-is_before-clause-stops : goal.returns-else-is_before-clause-stops
 returns-else-is_before-clause-stops c =
     stops-here c.args.entries.now c.loop-at.at (question_with c.args.question) c.loop-at.invariant c.question.result c.question.ensures
-    (question_with c.of_told.result) c.of_told.ensures c.is_before.result c.is_before.ensures c.if-is_before.false
+    (question_with c.from.result) c.from.ensures c.is_before.result c.is_before.ensures c.if-is_before.false
 
 pub returns-after-loop-at-clause-stops : goal.returns-after-loop-at-clause-stops
 returns-after-loop-at-clause-stops c e is before =
