@@ -110,10 +110,11 @@ IsCountedIn before after = TellsOne before after ⊎ (CountsFollowing before aft
 abbrev pub CountsOneMore : (before after : Refusals) → Type 0
 CountsOneMore before after = ((after.last ≡ before.last) × CountsNone before after) ⊎ IsCountedIn before after
 
--- what is told stays, and so do the counts
+-- what is told stays, and so do the counts; and no line is lost for want of memory
 abbrev pub TellsNoMore : (before after : Refusals) → Type 0
 TellsNoMore before after =
     (told_lines after ≡ told_lines before) × (after.following ≡ before.following) × (after.more ≡ before.more)
+    × (after.is_lost ≡ before.is_lost)
 
 -- the words point at the front of the line, with its line in the whole input; a line that the part has not is left out
 abbrev pub TellsLine : (ahead part : List ℕ) → Refused → (words : List ℕ) → Type 0
