@@ -9,7 +9,7 @@ use fault_words::{cell_text, ordinal, program_name, program_params};
 use history_book::{AuditFault, HistoryRow, MAX_ENDINGS, RowFault};
 use prog_check::ProgramSet;
 use prog_tree::Sequence;
-use si_engine::{Bytes, ItemList, Records, Reply, read_records};
+use si_engine::{ItemList, Records, Reply, read_lines};
 use std::alloc::{AllocError, Global};
 use text_places::{line_number, record_place};
 use version_store::Clash;
@@ -22,7 +22,7 @@ struct Cut {
 }
 
 fn cut_of_record(alloc: Global, set: &ProgramSet, part: &[u8], number: usize) -> Option<Cut> {
-    let ItemList { rows, items } = read_records(alloc, set, &mut Bytes::new(part)).ok()?;
+    let ItemList { rows, items } = read_lines::<Records>(alloc, set, part).ok()?;
     let mut records = items.into_vec();
     records.truncate(number.saturating_add(1));
     let row = records.pop()?;

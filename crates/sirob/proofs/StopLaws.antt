@@ -23,15 +23,13 @@ use Rattle.si_engine.specs.declared.input.source.InputFault.{InputFault}
 use Rattle.si_engine.specs.declared.input.source.InputFault.TheVariants as i
 use Rattle.si_engine.specs.Limits.{input_limit}
 use Rattle.si_engine.specs.Reading.{CanGive, ForInput}
-use Rattle.si_engine.specs.Records.{records_of, IsRecords, IsRecordsFault}
+use Rattle.si_engine.specs.Records.{records_of}
 use Rattle.si_engine.specs.RowLines.{Fails}
 use Rattle.si_engine.specs.Runs.{end_lines, AddsEnd, AddsFirst, IsRunOf, IsRunReply, IsOrderedReply}
 use Rattle.si_engine.specs.Runs as r
 use Rattle.si_engine.specs.Sayings.{IsPartFault}
 use Rattle.si_engine.specs.Script.{script_of}
 use Rattle.si_engine.specs.Writing.{AppendsFront, IsJust, WritesOr}
-use Rattle.si_workers.specs.declared.job.Job.{Job}
-use Rattle.si_workers.specs.JobLines.{jobs_of, IsJobs, IsJobsFault}
 use Rattle.sirob.specs.declared.command_line.Mode.{Mode}
 use Rattle.sirob.specs.declared.command_line.Mode.TheVariants.{Check, Certify, Verify, Repair, Run, Audit, Work}
 use Rattle.sirob.specs.declared.command_fault.CommandFault.{CommandFault}
@@ -160,30 +158,6 @@ reply_done false set left part may same within written inner (input, is, run) =
     script_done false set part may within written inner (subst (λ (p : List ℕ). IsRunOf set p written inner) (is ∙ same) run) (ends_freely inner)
 reply_done true set left part may same within written inner ((input, is, run), order) =
     script_done true set part may within written inner (subst (λ (p : List ℕ). IsRunOf set p written inner) (is ∙ same) run) order
-
--- the records of a part that could be read
-pub records_read : (set : DraftTree) (left part : List ℕ) (records : ItemList HistoryRow) → left ≡ part
-    → ForInput (Some left) (λ part. IsRecords set part records) → records_of set part ≡ Ok records
-records_read set left part records same (input, is, read) = subst (λ (p : List ℕ). records_of set p ≡ Ok records) (is ∙ same) read.read
-
--- those that could not
-pub records_refused : (set : DraftTree) (left part : List ℕ) (f : PartFault) → left ≡ part → length part ≤ input_limit
-    → ForInput (Some left) (λ part. IsRecordsFault set part f) → is_memory (fault.Script f) ≡ false → IsRefusedPart Audit set part (fault.Script f)
-records_refused set left part f same within (input, is, wrong) no_memory =
-    part_fails (records_of set part) part (λ g. IsRefusedPart Audit set part (fault.Script g)) within (λ g e. e) f
-    (subst (λ (p : List ℕ). IsRecordsFault set p f) (is ∙ same) wrong) no_memory
-
--- the jobs of a part that could be read
-pub jobs_read : (set : DraftTree) (left part : List ℕ) (list : ItemList Job) → left ≡ part
-    → ForInput (Some left) (λ part. IsJobs set part list) → jobs_of set part ≡ Ok list
-jobs_read set left part list same (input, is, read) = subst (λ (p : List ℕ). jobs_of set p ≡ Ok list) (is ∙ same) read.read
-
--- those that could not
-pub jobs_refused : (set : DraftTree) (left part : List ℕ) (f : PartFault) → left ≡ part → length part ≤ input_limit
-    → ForInput (Some left) (λ part. IsJobsFault set part f) → is_memory (fault.Script f) ≡ false → IsRefusedJobs set part (fault.Script f)
-jobs_refused set left part f same within (input, is, wrong) no_memory =
-    part_fails (jobs_of set part) part (λ g. IsRefusedJobs set part (fault.Script g)) within (λ g e. (g, refl, e)) f
-    (subst (λ (p : List ℕ). IsJobsFault set p f) (is ∙ same) wrong) no_memory
 
 -- and so the jobs of a robust set are refused
 pub lines_refused : (workers : ℕ) (set : DraftTree) (part : List ℕ) (f : CommandFault) → IsRobust set → IsRefusedJobs set part f

@@ -232,6 +232,18 @@ impl From<PartFault> for CommandFault {
     }
 }
 
+impl From<LineFault> for CommandFault {
+    ghost use Rattle.std.specs.Prelude.{◌≡◌};
+    ghost use Rattle.sirob.specs.declared.command_fault.CommandFault.TheVariants.{Script};
+    ghost use Rattle.si_engine.specs.declared.input.part_fault.PartFault.TheVariants.{Line};
+
+    ghost from_gives = { λ fault e. e ≡ Script (Line fault) };
+
+    fn from(fault: LineFault) -> Self {
+        CommandFault::Script(PartFault::Line(fault))
+    }
+}
+
 impl From<AuditFault> for CommandFault {
     ghost use Rattle.std.specs.Prelude.{◌≡◌};
     ghost use Rattle.sirob.specs.declared.command_fault.CommandFault.TheVariants.{Audit};

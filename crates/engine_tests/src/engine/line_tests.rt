@@ -5,7 +5,7 @@ use prog_check::ProgramSet;
 use prog_tree::{Cell, Rows};
 use si_engine::{
     Bytes, Records, add_row, cut, is_skipped, line_words, number_between, numbers, program_number,
-    read_part, row_line, unsigned, without_return,
+    read_lines, read_part, row_line, unsigned, without_return,
 };
 use std::alloc::Global;
 use std::process::Abort;
@@ -64,6 +64,14 @@ fn counts(rt: &impl Abort, alloc: Global, set: &ProgramSet) -> (usize, usize) {
     counts
 }
 
+// The same of a part at hand.
+fn counts_at_hand(rt: &impl Abort, alloc: Global, set: &ProgramSet) -> (usize, usize) {
+    let found = read_lines::<Records>(alloc, set, PART).expect(rt, "a part");
+    let counts = (found.rows.len(), found.items.len());
+    drop(found);
+    counts
+}
+
 #[test]
 fn rows_names_and_parts_are_read(rt: HostRuntime) -> Result<(), Fail> {
     let set = set_of(rt.alloc(), SET)?;
@@ -71,6 +79,7 @@ fn rows_names_and_parts_are_read(rt: HostRuntime) -> Result<(), Fail> {
     assert!(rt; held == Some(4));
     assert!(rt; program_number(&set, b"Find") == Some(1));
     assert!(rt; counts(&rt, rt.alloc(), &set) == (1, 1));
+    assert!(rt; counts_at_hand(&rt, rt.alloc(), &set) == (1, 1));
     drop(set);
     Ok(())
 }

@@ -47,8 +47,12 @@ pub trait FromLines: Drop {
         ensures fault { IfErr result (λ fault. IsMisplaced wrong whole line said self.old fault) };
 }
 
-// What the lines of a part make, or its first fault.
-fn read_lines<W: FromLines>(alloc: Global, set: &ProgramSet, part: &[u8]) -> Result<W, LineFault>
+/// What the lines of a part at hand make, or its first fault.
+pub fn read_lines<W: FromLines>(
+    alloc: Global,
+    set: &ProgramSet,
+    part: &[u8],
+) -> Result<W, LineFault>
     ensures { Reads (λ whole. whole) result
         (made_of (W.says (draft_tree set.now)) W.wrong W.whole part.now) }
 {

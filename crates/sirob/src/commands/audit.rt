@@ -1,7 +1,6 @@
 //! The command `audit`: from the bytes of records to the rows that they leave.
-ghost use Rattle.std.specs.Prelude.{◌≡◌, ◌≤◌, false, [], Ok, Err, length, string_bytes, IfOk, IfErr};
+ghost use Rattle.std.specs.Prelude.{◌≡◌, false, [], Ok, Err, string_bytes, IfOk, IfErr};
 ghost use Rattle.prog_tree.specs.Tree.{draft_tree};
-ghost use Rattle.si_engine.specs.Limits.{input_limit};
 ghost use Rattle.si_engine.specs.Records.{records_of};
 ghost use Rattle.si_engine.specs.Writing.{WritesOr};
 ghost use Rattle.sirob.specs.FaultLines.{is_memory};
@@ -16,17 +15,16 @@ use crate::sentences::runs::Keeper;
 use crate::status::Status;
 use history_book::Book;
 use prog_check::ProgramSet;
-use si_engine::{Bytes, ItemList, Records, Sink, push_findings_before, read_records};
+use si_engine::{ItemList, Records, Sink, push_findings_before, read_lines};
 use std::alloc::Global;
 
 // The records that the bytes of a part are.
 fn records_in(alloc: Global, set: &ProgramSet, part: &[u8]) -> Result<Records, CommandFault>
-    requires { length part.now ≤ input_limit }
     ensures ok { IfOk result (λ records. records_of (draft_tree set.now) part.now ≡ Ok records) }
     ensures err { IfErr result (λ fault. is_memory fault ≡ false
         → IsRefusedPart mode.Audit (draft_tree set.now) part.now fault) }
 {
-    Ok(read_records(alloc, set, &mut Bytes::new(part))?)
+    Ok(read_lines::<Records>(alloc, set, part)?)
 }
 
 // Audits the records that the bytes of a part are, and adds the rows that are left and the last
@@ -38,8 +36,7 @@ fn push_audit(
     out: &mut String,
     kept: &mut Kept,
 ) -> Result<Status, CommandFault>
-    requires short { length part.now ≤ input_limit }
-    requires empty { string_bytes out.old ≡ [] }
+    requires { string_bytes out.old ≡ [] }
     ensures { IsPartDone mode.Audit (draft_tree set.now) part.now (string_bytes out.new) result }
 {
     let ItemList {
@@ -62,7 +59,6 @@ pub fn audit_part<K: Sink>(
     sink: &mut K,
     kept: &mut Kept,
 ) -> Result<Status, CommandFault>
-    requires { length part.now ≤ input_limit }
     ensures { WritesOr (Err write_lost) (IsPartDone mode.Audit (draft_tree set.now) part.now)
         (K.has_failed sink.new) (K.taken sink.old) (K.taken sink.new) result }
 {

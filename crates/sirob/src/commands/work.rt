@@ -1,7 +1,6 @@
 //! The command `work`: from the bytes of a list of jobs to what came of them.
-ghost use Rattle.std.specs.Prelude.{◌≡◌, ◌≤◌, false, Ok, Err, length, IfOk, IfErr, string_bytes};
+ghost use Rattle.std.specs.Prelude.{◌≡◌, false, Ok, Err, IfOk, IfErr, string_bytes};
 ghost use Rattle.prog_tree.specs.Tree.{draft_tree};
-ghost use Rattle.si_engine.specs.Limits.{input_limit};
 ghost use Rattle.si_engine.specs.Writing.{WritesOr};
 ghost use Rattle.si_workers.specs.JobLines.{jobs_of};
 ghost use Rattle.sirob.specs.FaultLines.{is_memory};
@@ -20,8 +19,8 @@ use history_book::Book;
 use prog_check::ProgramSet;
 use prog_tree::Sequence;
 use robust_cert::RobustSet;
-use si_engine::{Bytes, ItemList, Sink, push_rows};
-use si_workers::{Finished, JobList, JobOutcome, Way, read_jobs, run_jobs};
+use si_engine::{ItemList, Sink, push_rows, read_lines};
+use si_workers::{Finished, JobList, JobOutcome, Way, run_jobs};
 use std::alloc::{AllocError, Global};
 use std::rt::Clock;
 use std::sync::Wait;
@@ -59,12 +58,11 @@ fn work_text(alloc: Global, outcomes: &[JobOutcome], book: &Book<'_>) -> Result<
 
 // The jobs that the bytes of a part are, for a set that was found robust.
 fn jobs_in(alloc: Global, set: &ProgramSet, part: &[u8]) -> Result<JobList, CommandFault>
-    requires { length part.now ≤ input_limit }
     ensures ok { IfOk result (λ list. jobs_of (draft_tree set.now) part.now ≡ Ok list) }
     ensures err { IfErr result (λ fault. is_memory fault ≡ false
         → IsRefusedJobs (draft_tree set.now) part.now fault) }
 {
-    Ok(read_jobs(alloc, set, &mut Bytes::new(part))?)
+    Ok(read_lines::<JobList>(alloc, set, part)?)
 }
 
 // What came of jobs, and the text that says so.
@@ -81,8 +79,7 @@ fn work_verified<R: AllocGlobal + Eprint + Clock + Watched + Threads + Wait + Sy
     set: &RobustSet,
     part: &[u8],
 ) -> Result<WorkAnswer, CommandFault>
-    requires short { length part.now ≤ input_limit }
-    requires robust { IsRobust (draft_tree set.now) }
+    requires { IsRobust (draft_tree set.now) }
     ensures ok { IfOk result (λ done. GivesWork workers (draft_tree set.now) part.now
         (string_bytes done.text)) }
     ensures err { IfErr result (λ fault. is_memory fault ≡ false
@@ -114,8 +111,7 @@ pub fn work_part<R: AllocGlobal + Eprint + Clock + Watched + Threads + Wait + Sy
     sink: &mut K,
     kept: &mut Kept,
 ) -> Result<Status, CommandFault>
-    requires short { length part.now ≤ input_limit }
-    requires working { K.has_failed sink.old ≡ false }
+    requires { K.has_failed sink.old ≡ false }
     ensures { WritesOr (Err write_lost) (IsPartDone (mode.Work workers) (draft_tree set) part.now)
         (K.has_failed sink.new) (K.taken sink.old) (K.taken sink.new) result }
 {

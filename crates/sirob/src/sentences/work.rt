@@ -3,8 +3,8 @@
 use crate::sentences::kept_input::KeptInput;
 use crate::worker_fault::WorkerFault;
 use run_words::{ToldJobs, lost_job_words};
-use si_engine::Bytes;
-use si_workers::{JobOutcome, MAX_JOBS, MAX_WORKERS, Way, read_jobs};
+use si_engine::read_lines;
+use si_workers::{JobList, JobOutcome, MAX_JOBS, MAX_WORKERS, Way};
 use std::alloc::{AllocError, Global};
 
 /// Which jobs of an input did not commit, given what came of each.
@@ -23,7 +23,7 @@ pub fn lost_sentence(
     let Some(set) = input.set(alloc) else {
         return Ok(None);
     };
-    let Some(list) = read_jobs(alloc, &set, &mut Bytes::new(input.part.bytes)).ok() else {
+    let Some(list) = read_lines::<JobList>(alloc, &set, input.part.bytes).ok() else {
         return Ok(None);
     };
     let told = ToldJobs {

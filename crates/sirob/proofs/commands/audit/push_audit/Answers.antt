@@ -15,7 +15,7 @@ returns-in_err-finding c =
     rw (exit.1, exit.2) (
       tt,
       audit_stopped c.args.set.now c.args.part.now records c.in_ok-book.book (string_bytes c.args.out.now) (string_bytes c.push_findings_before.new.out)
-          c.in_ok-rows.ensures.ok is is_true c.requires.empty c.in_err-finding.ensures.err,
+          c.in_ok-rows.ensures.ok is is_true c.requires c.in_err-finding.ensures.err,
     )
 
 pub returns : goal.returns
@@ -25,6 +25,6 @@ returns c =
     let is_true = subst (λ (b : BookView). IsTrueBook b) c.book.view_is c.book.invariant.0 in
     rw c.of.ensures (
       audit_given c.args.set.now c.args.part.now records c.in_ok-book.book c.in_ok-finding.finding (string_bytes c.args.out.now) (string_bytes c.push_findings_before.new.out)
-          c.in_ok-rows.ensures.ok is is_true c.requires.empty c.in_ok-finding.ensures.ok,
+          c.in_ok-rows.ensures.ok is is_true c.requires c.in_ok-finding.ensures.ok,
       tt,
     )

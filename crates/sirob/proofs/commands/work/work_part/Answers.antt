@@ -18,7 +18,7 @@ returns-in_err-set g c =
     let set = draft_tree c.args.set in
     let part = c.args.part.now in
     rw (exit.1, exit.2)
-    (part_stopped mode set part f _ _ c.requires.working (λ no_memory. part_unanalysed mode set part f tt (c.in_err-set.ensures.err no_memory)))
+    (part_stopped mode set part f _ _ c.requires (λ no_memory. part_unanalysed mode set part f tt (c.in_err-set.ensures.err no_memory)))
 
 pub returns-in-Refused : goal.returns-in-Refused
 returns-in-Refused g c =
@@ -35,7 +35,7 @@ returns-in_err-text-in-Robust g c =
     let part = c.args.part.now in
     let robust = subst (λ (v : Verified). IsVerified c.args.set v) c.in-Robust.is c.in_ok-set.ensures.ok in
     rw (exit.1, exit.2)
-    (part_stopped mode (draft_tree c.args.set) part f _ _ c.requires.working
+    (part_stopped mode (draft_tree c.args.set) part f _ _ c.requires
     (λ no_memory. subst (λ (set : Draft). IsRefusedPart mode (draft_tree set) part f) robust.0 (c.in_err-text-in-Robust.ensures.err no_memory)))
 
 pub returns-in_ok-text-in-Robust : goal.returns-in_ok-text-in-Robust

@@ -19,7 +19,7 @@ returns-in_err-rows-clause-err g c =
     let part = c.args.part.now in
     let f = c.in_err-rows.field-0.0 in
     rw (exit.1, exit.2)
-    (λ no_memory. lines_refused c.args.workers (draft_tree c.args.set.now) part f c.requires.robust
+    (λ no_memory. lines_refused c.args.workers (draft_tree c.args.set.now) part f c.requires
     (subst (λ (set : Draft). IsRefusedJobs (draft_tree set) part f) c.set.ensures.same (c.in_err-rows.ensures.err no_memory)))
 
 pub returns-in_err-outcomes-clause-err : goal.returns-in_err-outcomes-clause-err
@@ -36,7 +36,7 @@ returns-in_err-outcomes-clause-err g c =
       c.args.workers,
       refl,
       record {
-        robust = c.requires.robust;
+        robust = c.requires;
         list = list;
         read = read;
         f = f;
