@@ -1,15 +1,13 @@
 //! Why a job did not commit, in words.
 ghost use Rattle.std.specs.Prelude.{◌≡◌, IfOk, slice_get, string_bytes, take};
 ghost use Rattle.prog_tree.specs.Tree.{draft_tree};
-ghost use Rattle.run_words.specs.BeginReasons.{begin_reason};
 ghost use Rattle.run_words.specs.JobSentences.{argument_text, arguments_text, named_call_text, clash_text, further_arguments, reason_of, sentence_of, tries_text, IsJobSentence};
 ghost use Rattle.run_words.specs.Limits.{most_arguments};
 
+use crate::begin_reasons::begin_reason;
 use crate::limits::MAX_ARGUMENTS;
-use crate::refusals::{full_words, wrong_arguments};
 use crate::shared_words::cause_text;
 use fault_words::{cell_text, program_name, program_params};
-use history_book::BeginFault;
 use prog_check::ProgramSet;
 use prog_tree::Name;
 use si_workers::{Job, JobEnd, JobOutcome};
@@ -73,27 +71,6 @@ fn named_call(alloc: Global, set: &ProgramSet, job: &Job) -> Result<String, Allo
     let arguments = arguments_text(alloc, params, first_arguments(args))?;
     let further = further_arguments(args.len().saturating_sub(MAX_ARGUMENTS));
     format!(in alloc; "`{name}({arguments}{further})`")
-}
-
-// Why an instance of a job did not begin.
-fn begin_reason(
-    alloc: Global,
-    set: &ProgramSet,
-    job: &Job,
-    fault: BeginFault,
-) -> Result<String, AllocError>
-    ensures { IfOk result (λ text. string_bytes text
-        ≡ begin_reason (draft_tree set.now) job.now fault) }
-{
-    match fault {
-        BeginFault::NoSuchProgram => format!(in alloc; "the set has no such program"),
-        BeginFault::WrongArguments => wrong_arguments(alloc, set, job.program, job.args.len()),
-        BeginFault::TooOld { .. } | BeginFault::TooNew { .. } => format!(in alloc;
-            "no instance can begin at its number of commits"
-        ),
-        BeginFault::Full => full_words(alloc),
-        BeginFault::Memory => format!(in alloc; "memory ran out"),
-    }
 }
 
 fn tries_text(tries: u64) -> &'static str

@@ -4,6 +4,7 @@
 #![tactic(auto)]
 
 mod begin_numbers;
+mod begin_reasons;
 mod cycle;
 mod event_lines;
 mod forms;
@@ -17,6 +18,7 @@ mod lost_jobs;
 mod part_faults;
 mod record_faults;
 mod refusals;
+mod refused_lines;
 mod replay;
 mod shared_words;
 
@@ -26,4 +28,5 @@ pub use line_faults::{PartKind, line_fault_words};
 pub use lost_jobs::{ToldJobs, lost_job_words};
 pub use part_faults::{begins_separator, extra_part_words, missing_part_words};
 pub use record_faults::record_words;
-pub use refusals::{Refusals, refused_words};
+pub use refusals::Refusals;
+pub use refused_lines::refused_words;

@@ -1,31 +1,19 @@
-//! The lines of a script that do nothing, in words.
-ghost use Rattle.std.specs.Prelude.{◌≡◌, ◌≢◌, ◌<◌, ◌↔◌, ◌++◌, ◌⊎◌, List, ℕ, [], true, false, None, Some, IsOk, IsTrue, IfNone, IfOk, IfSome, OnOk, drop, length, slice_get, string_bytes, vec_len};
-ghost use Rattle.text_places.specs.Places.{HasNoLine};
-ghost use Rattle.prog_tree.specs.Tree.{draft_tree};
-ghost use Rattle.text_places.specs.Listing.{listed};
-ghost use Rattle.run_words.specs.BeginReasons.{full_text, signature, wrong_arguments};
-ghost use Rattle.run_words.specs.EachLine.{TellsEach};
-ghost use Rattle.run_words.specs.PartPointing.{HasNoLineOf, PointsAtLineIn};
-ghost use Rattle.run_words.specs.ToldLines.{does_nothing, first_told, following_text, further_text, is_refusal, refuses, refuses_begin, refuses_instance, refuses_number, told_lines, CountsOneMore, IsOneMore, TellsLine, TellsNoMore, TellsOneMore, TellsRefused};
+//! Which lines of a script do nothing, as its run goes.
+ghost use Rattle.std.specs.Prelude.{◌≡◌, ◌≢◌, ◌<◌, ◌↔◌, ◌⊎◌, [], true, false, None, IsOk, IsTrue, OnOk, length, slice_get, vec_len};
+ghost use Rattle.run_words.specs.ToldLines.{does_nothing, is_refusal, refuses, refuses_begin, refuses_instance, refuses_number, told_lines, CountsOneMore, IsOneMore, TellsNoMore, TellsOneMore};
 
-use crate::begin_numbers::{Numbers, Vacuums, number_words};
+use crate::begin_numbers::{Numbers, Vacuums};
 use crate::event_lines::EventLines;
-use crate::in_input::{Part, point_in_part};
 use crate::limits::MAX_TOLD;
-use crate::shared_words::counted;
-use fault_words::{program_name, program_params};
-use history_book::{Book, MAX_ENDINGS};
-use prog_check::ProgramSet;
-use prog_tree::Name;
+use history_book::Book;
 use si_engine::{Event, Reply};
 use std::alloc::{AllocError, Global};
-use text_places::{line_front, push_listed};
 
-// Why an event does nothing.
+/// Why an event does nothing.
 #[derive(Clone, Copy, Debug, PartialEq, Eq)]
-enum Refusal {
+pub enum Refusal {
     WrongArguments { program: usize, given: usize },
-    // A begin at a number at which none is possible.
+    /// A begin at a number at which none is possible.
     OtherNumber { start: u64, numbers: Numbers },
     Full,
     NoInstance(usize),
@@ -33,11 +21,11 @@ enum Refusal {
     Ended(usize),
 }
 
-// A line that does nothing.
+/// A line that does nothing.
 #[derive(Clone, Copy)]
-struct Refused {
-    line: usize,
-    refusal: Refusal,
+pub struct Refused {
+    pub line: usize,
+    pub refusal: Refusal,
 }
 
 /// The lines of a script that do nothing, as the run of it tells them: some first ones, and how
@@ -53,8 +41,8 @@ pub struct Refusals {
     last: usize,
     is_begin_refused: bool,
     // Lines that name an instance which does not begin.
-    following: usize,
-    more: usize,
+    pub(crate) following: usize,
+    pub(crate) more: usize,
     // Memory ran out for them.
     is_lost: bool,
 }
@@ -199,8 +187,8 @@ impl Refusals {
         }
     }
 
-    // The lines that are told; none where memory ran out for them.
-    fn told_lines(&self) -> &[Refused]
+    /// The lines that are told; none where memory ran out for them.
+    pub(crate) fn told_lines(&self) -> &[Refused]
         ensures { result.now ≡ told_lines self.now }
     {
         if self.is_lost {
@@ -210,8 +198,8 @@ impl Refusals {
         }
     }
 
-    // The first of them.
-    fn first(&self) -> Option<Refused>
+    /// The first of them.
+    pub(crate) fn first(&self) -> Option<Refused>
         ensures { result ≡ slice_get (told_lines self.now) 0 }
     {
         self.told_lines().first().copied()
@@ -241,201 +229,5 @@ impl Refusals {
         if !self.is_lost && self.note(part, number, event, reply, book).is_err() {
             self.is_lost = true;
         }
-    }
-}
-
-// Parameters, with commas between them.
-fn listed_params(alloc: Global, params: &[Name]) -> Result<String, AllocError>
-    ensures { IfOk result (λ text. string_bytes text ≡ listed params.now) }
-{
-    let mut text = String::new(alloc);
-    for parameter in params {
-        push_listed(&mut text, parameter.as_str())?;
-    }
-    Ok(text)
-}
-
-// A program with its parameters.
-fn signature(alloc: Global, set: &ProgramSet, program: usize) -> Result<String, AllocError>
-    ensures { IfOk result (λ text. string_bytes text ≡ signature (draft_tree set.now) program) }
-{
-    let name = program_name(set, program);
-    let params = listed_params(alloc, program_params(set.draft(), program))?;
-    format!(in alloc; "{name}({params})")
-}
-
-/// That a program takes another number of arguments.
-pub fn wrong_arguments(
-    alloc: Global,
-    set: &ProgramSet,
-    program: usize,
-    given: usize,
-) -> Result<String, AllocError>
-    ensures { IfOk result (λ text. string_bytes text
-        ≡ wrong_arguments (draft_tree set.now) program given) }
-{
-    let signature = signature(alloc, set, program)?;
-    let params = program_params(set.draft(), program);
-    let wanted = counted(alloc, params.len(), "argument")?;
-    format!(in alloc; "`{signature}` takes {wanted}, and here it is given {given}")
-}
-
-/// Why no instance begins where there are as many as there may be.
-pub fn full_words(alloc: Global) -> Result<String, AllocError>
-    ensures { IfOk result (λ text. string_bytes text ≡ full_text) }
-{
-    format!(in alloc; "{MAX_ENDINGS} instances have ended or are under way, the most")
-}
-
-// Why a line does nothing.
-fn sentence(alloc: Global, set: &ProgramSet, refusal: Refusal) -> Result<String, AllocError> {
-    match refusal {
-        Refusal::WrongArguments { program, given } => {
-            let words = wrong_arguments(alloc, set, program, given)?;
-            format!(in alloc; "{words}; no instance begins")
-        }
-        Refusal::OtherNumber { start, numbers } => number_words(alloc, start, numbers),
-        Refusal::Full => {
-            let words = full_words(alloc)?;
-            format!(in alloc; "{words}; no instance begins")
-        }
-        Refusal::NoInstance(instance) => format!(in alloc; "no instance {instance} has begun"),
-        Refusal::NotReady(instance) => format!(in alloc;
-            "instance {instance} has more steps to do before it can commit"
-        ),
-        Refusal::Ended(instance) => format!(in alloc; "instance {instance} has ended before"),
-    }
-}
-
-// A line with why it does nothing; nothing where it is not found.
-fn told_line(
-    alloc: Global,
-    set: &ProgramSet,
-    part: Part<'_>,
-    refused: Refused,
-) -> Result<Option<String>, AllocError>
-    ensures said { IfOk result (λ said. IfSome said (λ words.
-        PointsAtLineIn part.entry.ahead.now part.entry.bytes.now (Some refused.line)
-        (string_bytes words))) }
-    ensures none { IfOk result (λ said. IfNone said (HasNoLine part.entry.bytes.now refused.line)) }
-{
-    let Some(front) = line_front(part.bytes, refused.line) else {
-        return Ok(None);
-    };
-    let sentence = sentence(alloc, set, refused.refusal)?;
-    let words = point_in_part(alloc, part, front, &sentence)?;
-    Ok(Some(words))
-}
-
-// The same; an empty text where the line is not found.
-fn words_or_none(
-    alloc: Global,
-    set: &ProgramSet,
-    part: Part<'_>,
-    refused: Refused,
-) -> Result<String, AllocError>
-    ensures { IfOk result (λ words. TellsLine part.entry.ahead.now part.entry.bytes.now refused
-        (string_bytes words)) }
-{
-    match told_line(alloc, set, part, refused)? {
-        Some(words) => Ok(words),
-        None => Ok(String::new(alloc)),
-    }
-}
-
-// All but the first.
-fn behind_first(lines: &[Refused]) -> &[Refused]
-    ensures { result.now ≡ drop 1 lines.now }
-{
-    lines.get(1..).unwrap_or(&[])
-}
-
-// Adds lines that do nothing.
-fn push_lines(
-    alloc: Global,
-    set: &ProgramSet,
-    part: Part<'_>,
-    told: &[Refused],
-    out: &mut String,
-) -> Result<(), AllocError>
-    ensures { OnOk result ((lines : List ℕ)
-        × TellsEach (TellsLine part.entry.ahead.now part.entry.bytes.now) told.now lines
-        × (string_bytes out.new ≡ string_bytes out.old ++ lines)) }
-{
-    for refused in told {
-        let words = words_or_none(alloc, set, part, *refused)?;
-        out.push_str(&words)?;
-    }
-    Ok(())
-}
-
-// How many lines name an instance that has not begun.
-fn following_text(alloc: Global, count: usize) -> Result<String, AllocError>
-    ensures { IfOk result (λ text. string_bytes text ≡ following_text count) }
-{
-    if count == 0 {
-        return Ok(String::new(alloc));
-    }
-    format!(in alloc; "lines behind it that name an instance which has not begun: {count}\n")
-}
-
-// How many lines more do nothing.
-fn further_text(alloc: Global, count: usize) -> Result<String, AllocError>
-    ensures { IfOk result (λ text. string_bytes text ≡ further_text count) }
-{
-    if count == 0 {
-        return Ok(String::new(alloc));
-    }
-    format!(in alloc; "further lines that do nothing: {count}\n")
-}
-
-// The lines that are told, from the first on, and how many more there are; nothing where the first
-// is not found.
-fn told_words(
-    alloc: Global,
-    set: &ProgramSet,
-    part: Part<'_>,
-    refusals: &Refusals,
-    first: Refused,
-) -> Result<Option<String>, AllocError>
-    ensures said { IfOk result (λ said. IfSome said (λ words.
-        TellsRefused part.entry.ahead.now part.entry.bytes.now (Some first.line) refusals.now
-        (string_bytes words))) }
-    ensures none { IfOk result (λ said. IfNone said (HasNoLine part.entry.bytes.now first.line)) }
-{
-    let Some(first) = told_line(alloc, set, part, first)? else {
-        return Ok(None);
-    };
-    let mut others = String::new(alloc);
-    push_lines(
-        alloc,
-        set,
-        part,
-        behind_first(refusals.told_lines()),
-        &mut others,
-    )?;
-    let following = following_text(alloc, refusals.following)?;
-    let further = further_text(alloc, refusals.more)?;
-    let words = format!(in alloc; "{first}{others}{following}{further}")?;
-    Ok(Some(words))
-}
-
-/// Which lines of a script do nothing, and why; nothing where none is told, or the first of them is
-/// not found.
-pub fn refused_words(
-    alloc: Global,
-    set: &ProgramSet,
-    part: Part<'_>,
-    refusals: &Refusals,
-) -> Result<Option<String>, AllocError>
-    ensures said { IfOk result (λ said. IfSome said (λ words.
-        TellsRefused part.entry.ahead.now part.entry.bytes.now (first_told refusals.now)
-        refusals.now (string_bytes words))) }
-    ensures none { IfOk result (λ said. IfNone said
-        (HasNoLineOf part.entry.bytes.now (first_told refusals.now))) }
-{
-    match refusals.first() {
-        Some(first) => told_words(alloc, set, part, refusals, first),
-        None => Ok(None),
     }
 }

@@ -1,7 +1,7 @@
 use Rattle.std.proofs.Common.{ℕ, ◌≡◌, ◌++◌, List, string_bytes, take}
 use Rattle.run_words.specs.EachLine.{TellsEach}
 use Rattle.run_words.specs.ToldLines.{TellsLine}
-use Rattle.run_words.proofs.refusals.push_lines.Given as goal
+use Rattle.run_words.proofs.refused_lines.push_lines.Given as goal
 
 -- the lines so far are added
 abbrev pub invariant-loop-refused : goal.invariant-loop-refused

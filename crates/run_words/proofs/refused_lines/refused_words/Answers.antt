@@ -1,7 +1,7 @@
 use Rattle.std.proofs.Common.{◌≡◌, ◌∙◌, ℕ, None, Option, Some, IfNone, IfOk, IfSome, ap, string_bytes, subst, sym}
 use Rattle.run_words.specs.PartPointing.{HasNoLineOf}
 use Rattle.run_words.specs.ToldLines.{first_told, line_of, TellsRefused}
-use Rattle.run_words.proofs.refusals.refused_words.Goals as goal
+use Rattle.run_words.proofs.refused_lines.refused_words.Goals as goal
 
 pub returns-in-Some-clause-said : goal.returns-in-Some-clause-said
 returns-in-Some-clause-said c =
