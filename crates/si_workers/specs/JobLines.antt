@@ -14,10 +14,11 @@ use Rattle.si_engine.specs.Numbers.{number_between, numbers_of}
 use Rattle.si_engine.specs.RowLines.{◌>>=◌}
 use Rattle.si_engine.specs.Sayings.{IsPart, IsPartFault}
 use Rattle.si_workers.specs.declared.job.Job.{Job}
+use Rattle.si_workers.specs.Limits.{most_retries}
 
 -- how often a job may be begun anew
 abbrev pub retries_of : List ℕ → Option ℕ
-retries_of word = number_between 0 4294967295 word
+retries_of word = number_between 0 most_retries word
 
 -- the words behind `job`: RETRIES PROGRAM ARG*
 unfoldable pub job_of : DraftTree → (line : ℕ) → List (List ℕ) → Result Job LineFault

@@ -11,7 +11,7 @@ use std::fmt;
 pub enum PartFault {
     Input(InputFault),
     Line(LineFault),
-    /// The sink failed.
+    /// The sink failed, so this is never printed.
     WriteFault,
 }
 
