@@ -12,10 +12,10 @@ abbrev pub begin_after_fault_text : BeginAfterFault → List ℕ
 begin_after_fault_text (Behind commits) = codes "behind at " ++ decimal commits
 begin_after_fault_text (Refused refused) = begin_fault_text refused
 
--- why jobs were not done as they have to be
+-- why jobs were not done as they have to be: a code, and the job from 0
 abbrev pub work_fault_text : WorkFault → List ℕ
-work_fault_text fault.Workers = codes "workers"
-work_fault_text fault.TooManyJobs = codes "too many jobs"
-work_fault_text (fault.NoThread started outcomes book) = codes "no thread behind " ++ decimal started
-work_fault_text (fault.Broken job outcome book) = codes "broken job " ++ decimal job
+work_fault_text fault.Workers = codes "W1"
+work_fault_text fault.TooManyJobs = codes "W5"
+work_fault_text (fault.NoThread started outcomes book) = codes "W2"
+work_fault_text (fault.Broken job outcome book) = codes "W3 " ++ decimal job
 work_fault_text (fault.Memory book) = codes "memory"

@@ -65,10 +65,10 @@ impl fmt::Display for WorkFault<'_> {
 
     fn fmt<W: fmt::Write>(&self, f: &mut fmt::Formatter<W>) -> fmt::Result {
         match self {
-            WorkFault::Workers => f.write_str("workers"),
-            WorkFault::TooManyJobs => f.write_str("too many jobs"),
-            WorkFault::NoThread { started, .. } => write!(f, "no thread behind {started}"),
-            WorkFault::Broken { job, .. } => write!(f, "broken job {job}"),
+            WorkFault::Workers => f.write_str("W1"),
+            WorkFault::TooManyJobs => f.write_str("W5"),
+            WorkFault::NoThread { .. } => f.write_str("W2"),
+            WorkFault::Broken { job, .. } => write!(f, "W3 {job}"),
             WorkFault::Memory { .. } => f.write_str("memory"),
         }
     }

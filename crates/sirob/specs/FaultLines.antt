@@ -13,7 +13,7 @@ use Rattle.history_book.specs.declared.audit.AuditFault.{AuditFault}
 use Rattle.history_book.specs.declared.audit.AuditFault.TheVariants as a
 use Rattle.history_book.specs.declared.audit.RowFault.{RowFault}
 use Rattle.history_book.specs.declared.audit.RowFault.TheVariants as r
-use Rattle.robust_cert.specs.Texts.{cert_fault_text, json_fault_text, spaced}
+use Rattle.robust_cert.specs.Texts.{cert_fault_text, json_fault_text}
 use Rattle.robust_cert.specs.declared.fault.CertFault.TheVariants as k
 use Rattle.robust_cert.specs.declared.fault.JsonFault.TheVariants as j
 use Rattle.si_repair.specs.Texts.{analyse_fault_text, repair_fault_text}
@@ -23,9 +23,8 @@ use Rattle.si_engine.specs.declared.input.part_fault.PartFault.TheVariants as sc
 use Rattle.si_engine.specs.Texts.{input_fault_text, part_fault_text}
 use Rattle.si_engine.specs.declared.input.line_fault.LineFault.TheVariants as line
 use Rattle.si_engine.specs.declared.input.source.InputFault.TheVariants as i
-use Rattle.sirob.specs.declared.worker_fault.WorkerFault.{WorkerFault}
 use Rattle.sirob.specs.declared.worker_fault.WorkerFault.TheVariants as w
-use Rattle.sirob.specs.Faults.{part_code}
+use Rattle.sirob.specs.Faults.{part_code, worker_fault_text}
 
 -- a code and a byte's place
 abbrev pub at_byte : List ℕ → ℕ → List ℕ
@@ -79,14 +78,6 @@ audit_fault a.Full = codes "H7"
 audit_fault (a.Row number fault) = row_code fault ++ (codes " " ++ decimal number)
 audit_fault a.Memory = codes "memory"
 
--- a code, and the job from 0
-abbrev pub worker_fault : WorkerFault → List ℕ
-worker_fault w.Workers = codes "W1"
-worker_fault (w.NoThread started) = codes "W2"
-worker_fault (w.Broken job) = codes "W3" ++ spaced job
-worker_fault w.TooManyJobs = codes "W5"
-worker_fault w.Memory = codes "memory"
-
 abbrev pub fault_text : CommandFault → List ℕ
 fault_text (Input fault) = input_fault_text fault
 fault_text (Parts fault) = part_code fault
@@ -98,7 +89,7 @@ fault_text (Json fault) = json_fault_text fault
 fault_text (Certificate fault) = cert_fault_text fault
 fault_text (Script fault) = part_fault_text fault
 fault_text (Audit fault) = audit_fault fault
-fault_text (Work fault) = worker_fault fault
+fault_text (Work fault) = worker_fault_text fault
 
 -- the whole line, with its line feed
 abbrev pub fault_line : CommandFault → List ℕ

@@ -1,5 +1,6 @@
 -- The codes of faults of the parts, and what is told of faults of workers.
-use Rattle.std.specs.Prelude.{ℕ, List, codes}
+use Rattle.std.specs.Fmt.{decimal}
+use Rattle.std.specs.Prelude.{ℕ, List, ◌++◌, codes}
 use Rattle.si_workers.specs.declared.fault.WorkFault.{WorkFault}
 use Rattle.si_workers.specs.declared.fault.WorkFault.TheVariants as work
 use Rattle.sirob.specs.declared.parts.SplitFault.{SplitFault}
@@ -19,3 +20,11 @@ told_of work.TooManyJobs = told.TooManyJobs
 told_of (work.NoThread started outcomes book) = told.NoThread started
 told_of (work.Broken job outcome book) = told.Broken job
 told_of (work.Memory book) = told.Memory
+
+-- a code, and the job from 0
+abbrev pub worker_fault_text : WorkerFault → List ℕ
+worker_fault_text told.Workers = codes "W1"
+worker_fault_text told.TooManyJobs = codes "W5"
+worker_fault_text (told.NoThread started) = codes "W2"
+worker_fault_text (told.Broken job) = codes "W3 " ++ decimal job
+worker_fault_text told.Memory = codes "memory"

@@ -4,7 +4,7 @@ ghost use Rattle.sirob.specs.Faults.{part_code};
 ghost use Rattle.sirob.specs.FaultLines.{text_fault, place_text, in_set, check_fault, row_code, audit_fault, fault_line, is_memory};
 
 use crate::parts::SplitFault;
-use crate::worker_fault::{WorkerFault, worker_fault};
+use crate::worker_fault::WorkerFault;
 use history_book::{AuditFault, RowFault};
 use prog_check::{CheckFault, Place};
 use prog_text::TextFault;
@@ -139,7 +139,7 @@ pub fn fault_line(alloc: Global, fault: CommandFault) -> Result<String, AllocErr
         CommandFault::Certificate(fault) => format!(in alloc; "{fault}")?,
         CommandFault::Script(fault) => format!(in alloc; "{fault}")?,
         CommandFault::Audit(fault) => audit_fault(alloc, fault)?,
-        CommandFault::Work(fault) => worker_fault(alloc, fault)?,
+        CommandFault::Work(fault) => format!(in alloc; "{fault}")?,
     };
     format!(in alloc; "fault {text}\n")
 }

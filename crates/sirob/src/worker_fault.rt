@@ -1,10 +1,9 @@
 //! What keeps workers from doing jobs as they have to, and the text that says so.
-ghost use Rattle.std.specs.Prelude.{◌≡◌, IfOk, string_bytes};
-ghost use Rattle.sirob.specs.FaultLines.{worker_fault};
+ghost use Rattle.std.specs.Prelude.{◌≡◌};
 ghost use Rattle.sirob.specs.Faults.{told_of};
 
 use si_workers::WorkFault;
-use std::alloc::{AllocError, Global};
+use std::fmt;
 
 /// What is told of a fault of workers.
 #[derive(Clone, Copy, Debug, PartialEq, Eq)]
@@ -34,15 +33,19 @@ impl WorkerFault {
     }
 }
 
-/// The code of a fault of workers, and the job where there is one.
-pub fn worker_fault(alloc: Global, fault: WorkerFault) -> Result<String, AllocError>
-    ensures { IfOk result (λ text. string_bytes text ≡ worker_fault fault) }
-{
-    match fault {
-        WorkerFault::Workers => format!(in alloc; "W1"),
-        WorkerFault::TooManyJobs => format!(in alloc; "W5"),
-        WorkerFault::NoThread { .. } => format!(in alloc; "W2"),
-        WorkerFault::Broken { job } => format!(in alloc; "W3 {job}"),
-        WorkerFault::Memory => format!(in alloc; "memory"),
+impl fmt::Display for WorkerFault {
+    ghost use Rattle.std.specs.Prelude.{Some};
+    ghost use Rattle.sirob.specs.Faults.{worker_fault_text};
+
+    ghost output = { λ fault. Some (worker_fault_text fault) };
+
+    fn fmt<W: fmt::Write>(&self, f: &mut fmt::Formatter<W>) -> fmt::Result {
+        match self {
+            WorkerFault::Workers => f.write_str("W1"),
+            WorkerFault::TooManyJobs => f.write_str("W5"),
+            WorkerFault::NoThread { .. } => f.write_str("W2"),
+            WorkerFault::Broken { job } => write!(f, "W3 {job}"),
+            WorkerFault::Memory => f.write_str("memory"),
+        }
     }
 }
