@@ -37,15 +37,15 @@ use Rattle.sirob.specs.declared.command_fault.CommandFault.TheVariants as fault
 use Rattle.sirob.specs.declared.status.Status.{Status}
 use Rattle.sirob.specs.declared.status.Status.TheVariants as status
 use Rattle.sirob.specs.FaultLines.{fault_line, is_memory}
-use Rattle.sirob.specs.Output.{parts_wanted, Gives, IsAnalysedFor, IsRobust, GivesPart, GivesFirstPart, MayEnd, MayRun, IsAudited, IsChecked, IsRefused, IsRefusedInput, IsRefusedPart, StopsBehind, at_once, behind_lines, memory_line, IsAnswer, done, refused, stopped, IsUnread, IsReply, WritesWithStatus}
+use Rattle.sirob.specs.Output.{parts_wanted, Gives, IsAnalysedFor, IsRobust, GivesPart, GivesFirstPart, MayEnd, MayRun, IsAudited, IsChecked, IsFaultOf, IsFaultOfInput, IsFaultOfPart, StopsBehind, at_once, behind_lines, memory_line, IsAnswer, done, at_fault, stopped, IsUnread, IsReply, WritesWithStatus}
 use Rattle.sirob.specs.Output as u
 use Rattle.sirob.specs.Status.{status_of}
-use Rattle.sirob.specs.Stops.{IsUnanalysedBy, IsUnrepairedBy, IsStop, IsReadFault, Ends, well, in_fault, in_memory, IsSetAndPart, IsPartStop, IsPartDone, IsRefusedJobs, IsInputDone, IsSourceDone, as_command, write_lost}
+use Rattle.sirob.specs.Stops.{IsUnanalysedBy, IsUnrepairedBy, IsStop, IsReadFault, Ends, well, in_fault, in_memory, IsSetAndPart, IsPartStop, IsPartDone, IsFaultOfJobs, IsInputDone, IsSourceDone, as_command, write_lost}
 
 -- ---- how reading an input stops
 
 -- a fault of the input stands before the first line
-pub stops_at_once : (mode : Mode) (input : List ℕ) (f : CommandFault) → (is_memory f ≡ false → IsRefused mode input f) → IsStop mode input f []
+pub stops_at_once : (mode : Mode) (input : List ℕ) (f : CommandFault) → (is_memory f ≡ false → IsFaultOf mode input f) → IsStop mode input f []
 stops_at_once mode input f h = ((λ no_memory. (h no_memory, refl)), (λ memory. at_once))
 
 -- reading this input stopped
@@ -70,37 +70,37 @@ stops_reading mode f None failed long fails works =
 stops_reading mode f (Some bytes) failed long fails works = (bytes, refl, stops_at mode f bytes failed long fails works)
 
 -- a fault up to the text is one of the input
-pub refused_input : (mode : Mode) (wanted : ℕ) (input : List ℕ) (f : CommandFault) → parts_wanted mode ≡ wanted → IsRefusedInput wanted input f → IsRefused mode input f
-refused_input mode wanted input (fault.Input f) is wrong = subst (λ (n : ℕ). IsRefusedInput n input (fault.Input f)) (sym is) wrong
-refused_input mode wanted input (fault.Parts f) is wrong = subst (λ (n : ℕ). IsRefusedInput n input (fault.Parts f)) (sym is) wrong
-refused_input mode wanted input (fault.Text f) is wrong = subst (λ (n : ℕ). IsRefusedInput n input (fault.Text f)) (sym is) wrong
-refused_input mode wanted input (fault.Check f) is wrong = subst (λ (n : ℕ). IsRefusedInput n input (fault.Check f)) (sym is) wrong
-refused_input mode wanted input (fault.Analysis f) is (text, others, divided, count, wrong) = absurd wrong
-refused_input mode wanted input (fault.Repair f) is (text, others, divided, count, wrong) = absurd wrong
-refused_input mode wanted input (fault.Json f) is (text, others, divided, count, wrong) = absurd wrong
-refused_input mode wanted input (fault.Certificate f) is (text, others, divided, count, wrong) = absurd wrong
-refused_input mode wanted input (fault.Script f) is (text, others, divided, count, wrong) = absurd wrong
-refused_input mode wanted input (fault.Audit f) is (text, others, divided, count, wrong) = absurd wrong
-refused_input mode wanted input (fault.Work f) is (text, others, divided, count, wrong) = absurd wrong
+pub fault_up_to_text : (mode : Mode) (wanted : ℕ) (input : List ℕ) (f : CommandFault) → parts_wanted mode ≡ wanted → IsFaultOfInput wanted input f → IsFaultOf mode input f
+fault_up_to_text mode wanted input (fault.Input f) is wrong = subst (λ (n : ℕ). IsFaultOfInput n input (fault.Input f)) (sym is) wrong
+fault_up_to_text mode wanted input (fault.Parts f) is wrong = subst (λ (n : ℕ). IsFaultOfInput n input (fault.Parts f)) (sym is) wrong
+fault_up_to_text mode wanted input (fault.Text f) is wrong = subst (λ (n : ℕ). IsFaultOfInput n input (fault.Text f)) (sym is) wrong
+fault_up_to_text mode wanted input (fault.Check f) is wrong = subst (λ (n : ℕ). IsFaultOfInput n input (fault.Check f)) (sym is) wrong
+fault_up_to_text mode wanted input (fault.Analysis f) is (text, others, divided, count, wrong) = absurd wrong
+fault_up_to_text mode wanted input (fault.Repair f) is (text, others, divided, count, wrong) = absurd wrong
+fault_up_to_text mode wanted input (fault.Json f) is (text, others, divided, count, wrong) = absurd wrong
+fault_up_to_text mode wanted input (fault.Certificate f) is (text, others, divided, count, wrong) = absurd wrong
+fault_up_to_text mode wanted input (fault.Script f) is (text, others, divided, count, wrong) = absurd wrong
+fault_up_to_text mode wanted input (fault.Audit f) is (text, others, divided, count, wrong) = absurd wrong
+fault_up_to_text mode wanted input (fault.Work f) is (text, others, divided, count, wrong) = absurd wrong
 
 -- a set that is not analysed is the fault of its input
-pub set_refused : (input : List ℕ) (set : DraftTree) → IsChecked input set → (f : CommandFault) → IsUnanalysedBy set f → IsRefused Certify input f
-set_refused input set checked f (g, is, wrong) =
-    subst (λ (e : CommandFault). IsRefused Certify input e) (sym is) (tt, set, [], checked, refl, wrong)
+pub unanalysed_set : (input : List ℕ) (set : DraftTree) → IsChecked input set → (f : CommandFault) → IsUnanalysedBy set f → IsFaultOf Certify input f
+unanalysed_set input set checked f (g, is, wrong) =
+    subst (λ (e : CommandFault). IsFaultOf Certify input e) (sym is) (tt, set, [], checked, refl, wrong)
 
 -- and so it is where a part stands behind it
 pub part_unanalysed : (mode : Mode) (set : DraftTree) (part : List ℕ) (f : CommandFault) → IsAnalysedFor mode → IsUnanalysedBy set f
-    → IsRefusedPart mode set part f
+    → IsFaultOfPart mode set part f
 part_unanalysed mode set part f analysed (g, is, wrong) =
-    subst (λ (e : CommandFault). IsRefusedPart mode set part e) (sym is) (analysed, wrong)
+    subst (λ (e : CommandFault). IsFaultOfPart mode set part e) (sym is) (analysed, wrong)
 
 -- nor is one that is not repaired
-pub repair_refused : (promote : Bool) (input : List ℕ) (set : DraftTree) → IsChecked input set → (f : CommandFault) → IsUnrepairedBy promote set f
-    → IsRefused (Repair promote) input f
-repair_refused promote input set checked f (inl (g, is, wrong)) =
-    subst (λ (e : CommandFault). IsRefused (Repair promote) input e) (sym is) (tt, set, [], checked, refl, wrong)
-repair_refused promote input set checked f (inr (g, is, wrong)) =
-    subst (λ (e : CommandFault). IsRefused (Repair promote) input e) (sym is) (set, checked, wrong)
+pub unrepaired_set : (promote : Bool) (input : List ℕ) (set : DraftTree) → IsChecked input set → (f : CommandFault) → IsUnrepairedBy promote set f
+    → IsFaultOf (Repair promote) input f
+unrepaired_set promote input set checked f (inl (g, is, wrong)) =
+    subst (λ (e : CommandFault). IsFaultOf (Repair promote) input e) (sym is) (tt, set, [], checked, refl, wrong)
+unrepaired_set promote input set checked f (inr (g, is, wrong)) =
+    subst (λ (e : CommandFault). IsFaultOf (Repair promote) input e) (sym is) (set, checked, wrong)
 
 -- the canonical text could not be made
 pub stops_printing : (mode : Mode) (input : List ℕ) → IsStop mode input (fault.Input i.Memory) []
@@ -109,7 +109,7 @@ stops_printing mode input = ((λ no_memory. absurd (cc)), (λ memory. at_once))
 -- ---- how a second part ends
 
 -- a fault of the part stands before the first line
-pub part_at_once : (mode : Mode) (set : DraftTree) (part : List ℕ) (f : CommandFault) → (is_memory f ≡ false → IsRefusedPart mode set part f) → IsPartStop mode set part f []
+pub part_at_once : (mode : Mode) (set : DraftTree) (part : List ℕ) (f : CommandFault) → (is_memory f ≡ false → IsFaultOfPart mode set part f) → IsPartStop mode set part f []
 part_at_once mode set part f h = ((λ no_memory. (h no_memory, refl)), (λ memory. inl refl))
 
 -- a fault of a line, where memory did not lack
@@ -137,7 +137,7 @@ script_done : (robust : Bool) (set : DraftTree) (part : List ℕ) → MayRun rob
     → IsPartDone (Run robust) set part written (as_command inner)
 script_done robust set part may within _ _ (r.done script is finding written adds) ends = (inl (may, (finding, ends, script, is.read, adds, refl)), tt)
 script_done robust set part may within _ _ (r.refused f wrong) ends =
-    let told = part_fails (script_of set part) part (λ g. IsRefusedPart (Run robust) set part (fault.Script g)) within (λ g e. (may, e)) f wrong in
+    let told = part_fails (script_of set part) part (λ g. IsFaultOfPart (Run robust) set part (fault.Script g)) within (λ g e. (may, e)) f wrong in
     (tt, part_at_once (Run robust) set part (fault.Script f) told)
 script_done robust set part may within _ _ (r.stopped script is written first) ends = (tt, ((λ no_memory. absurd (cc)), (λ memory. inr (may, script, is.read, first))))
 
@@ -159,11 +159,11 @@ reply_done false set left part may same within written inner (input, is, run) =
 reply_done true set left part may same within written inner ((input, is, run), order) =
     script_done true set part may within written inner (subst (λ (p : List ℕ). IsRunOf set p written inner) (is ∙ same) run) order
 
--- and so the jobs of a robust set are refused
-pub lines_refused : (workers : ℕ) (set : DraftTree) (part : List ℕ) (f : CommandFault) → IsRobust set → IsRefusedJobs set part f
-    → IsRefusedPart (Work workers) set part f
-lines_refused workers set part f robust (g, is, wrong) =
-    subst (λ (e : CommandFault). IsRefusedPart (Work workers) set part e) (sym is) (robust, wrong)
+-- a fault of the lines of jobs is one of the part of a robust set
+pub fault_of_lines : (workers : ℕ) (set : DraftTree) (part : List ℕ) (f : CommandFault) → IsRobust set → IsFaultOfJobs set part f
+    → IsFaultOfPart (Work workers) set part f
+fault_of_lines workers set part f robust (g, is, wrong) =
+    subst (λ (e : CommandFault). IsFaultOfPart (Work workers) set part e) (sym is) (robust, wrong)
 
 -- ---- how an audit ends
 
@@ -217,19 +217,19 @@ part_given Audit input set part has ended written gives = (set, part, has.has, g
 part_given (Work workers) input set part has ended written gives = (set, part, has.has, gives)
 
 -- what is wrong with a part, is wrong with its input
-part_refused : (mode : Mode) (input : List ℕ) (set : DraftTree) (part : List ℕ) → parts_wanted mode ≡ 2 → IsSetAndPart input set part
-    → (f : CommandFault) → IsRefusedPart mode set part f → IsRefused mode input f
-part_refused mode input set part two has (fault.Analysis f) wrong = (wrong.0, set, part ∷ [], has.has, sym two, wrong.1)
-part_refused mode input set part two has (fault.Repair f) wrong = absurd wrong
-part_refused mode input set part two has (fault.Json f) wrong = (set, part, has.has, wrong)
-part_refused mode input set part two has (fault.Certificate f) wrong = (set, part, has.has, wrong)
-part_refused mode input set part two has (fault.Script f) wrong = (set, part, has.has, wrong)
-part_refused mode input set part two has (fault.Audit f) wrong = (set, part, has.has, wrong)
-part_refused mode input set part two has (fault.Work f) wrong = (set, part, has.has, wrong)
-part_refused mode input set part two has (fault.Input f) wrong = absurd wrong
-part_refused mode input set part two has (fault.Parts f) wrong = absurd wrong
-part_refused mode input set part two has (fault.Text f) wrong = absurd wrong
-part_refused mode input set part two has (fault.Check f) wrong = absurd wrong
+fault_of_part : (mode : Mode) (input : List ℕ) (set : DraftTree) (part : List ℕ) → parts_wanted mode ≡ 2 → IsSetAndPart input set part
+    → (f : CommandFault) → IsFaultOfPart mode set part f → IsFaultOf mode input f
+fault_of_part mode input set part two has (fault.Analysis f) wrong = (wrong.0, set, part ∷ [], has.has, sym two, wrong.1)
+fault_of_part mode input set part two has (fault.Repair f) wrong = absurd wrong
+fault_of_part mode input set part two has (fault.Json f) wrong = (set, part, has.has, wrong)
+fault_of_part mode input set part two has (fault.Certificate f) wrong = (set, part, has.has, wrong)
+fault_of_part mode input set part two has (fault.Script f) wrong = (set, part, has.has, wrong)
+fault_of_part mode input set part two has (fault.Audit f) wrong = (set, part, has.has, wrong)
+fault_of_part mode input set part two has (fault.Work f) wrong = (set, part, has.has, wrong)
+fault_of_part mode input set part two has (fault.Input f) wrong = absurd wrong
+fault_of_part mode input set part two has (fault.Parts f) wrong = absurd wrong
+fault_of_part mode input set part two has (fault.Text f) wrong = absurd wrong
+fault_of_part mode input set part two has (fault.Check f) wrong = absurd wrong
 
 part_behind : (mode : Mode) (input : List ℕ) (set : DraftTree) (part : List ℕ) → IsSetAndPart input set part
     → (written : List ℕ) → (written ≡ []) ⊎ GivesFirstPart mode set part written → StopsBehind mode input written
@@ -243,7 +243,7 @@ part_is_input mode input set part two has written (Ok ended) given = (part_given
 part_is_input mode input set part two has written (Err f) given = (
   tt,
   (
-    (λ no_memory. let wrong = given.1.0 no_memory in (part_refused mode input set part two has f wrong.0, wrong.1)),
+    (λ no_memory. let wrong = given.1.0 no_memory in (fault_of_part mode input set part two has f wrong.0, wrong.1)),
     (λ memory. part_behind mode input set part has written (given.1.1 memory)),
   ),
 )
@@ -314,7 +314,7 @@ answered : (mode : Mode) (input lines : List ℕ) (ended : Result Status Command
 answered mode input lines _ _ _ given (well end) = subst (λ (l : List ℕ). IsAnswer mode input l end) (sym (append-nil lines)) (done lines end given.0)
 answered mode input lines _ _ _ given (in_fault f no_memory) =
     let wrong = given.1.0 no_memory in
-    subst (λ (l : List ℕ). IsAnswer mode input (l ++ fault_line f) status.Faulty) (sym wrong.1) (refused f no_memory wrong.0)
+    subst (λ (l : List ℕ). IsAnswer mode input (l ++ fault_line f) status.Faulty) (sym wrong.1) (at_fault f no_memory wrong.0)
 answered mode input lines _ _ _ given (in_memory f) = go (is_memory f) refl
   where
     go : (b : Bool) → is_memory f ≡ b → IsAnswer mode input (lines ++ memory_line) status.Memory
@@ -323,7 +323,7 @@ answered mode input lines _ _ _ given (in_memory f) = go (is_memory f) refl
 
 unread : (ended : Result Status CommandFault) (written : List ℕ) (end : Status) → IsReadFault ended → Ends ended written end → IsUnread written end
 unread _ _ _ is (well end) = absurd (cc)
-unread _ _ _ is (in_fault f no_memory) = let same : f ≡ fault.Input i.ReadFault = cc in subst (λ (g : CommandFault). IsUnread (fault_line g) status.Faulty) (sym same) u.refused
+unread _ _ _ is (in_fault f no_memory) = let same : f ≡ fault.Input i.ReadFault = cc in subst (λ (g : CommandFault). IsUnread (fault_line g) status.Faulty) (sym same) u.at_fault
 unread _ _ _ is (in_memory f) = u.stopped
 
 replied : (mode : Mode) (left : Option (List ℕ)) (failed : Bool) (lines : List ℕ) (ended : Result Status CommandFault) (written : List ℕ) (end : Status)
@@ -389,7 +389,7 @@ input_stopped mode input f false old works stop = ([], (tt, stop), Appends-nil o
 
 -- a fault of a set or its part before anything is written
 pub part_stopped : (mode : Mode) (set : DraftTree) (part : List ℕ) (f : CommandFault) (failed : Bool) (old : Option (List ℕ)) → failed ≡ false
-    → (is_memory f ≡ false → IsRefusedPart mode set part f) → WritesOr (Err write_lost) (IsPartDone mode set part) failed old old (Err f)
+    → (is_memory f ≡ false → IsFaultOfPart mode set part f) → WritesOr (Err write_lost) (IsPartDone mode set part) failed old old (Err f)
 part_stopped mode set part f true old works wrong = absurd (cc)
 part_stopped mode set part f false old works wrong = ([], (tt, part_at_once mode set part f wrong), Appends-nil old)
 

@@ -163,22 +163,22 @@ pub record IsUnrepaired (promote : Bool) (set : DraftTree) (f : RepairFault) : T
 -- ---- the faults of an input
 
 -- the text spells no set without a fault, and this is its first
-abbrev pub IsRefusedText : List ℕ → CommandFault → Type 0
-IsRefusedText text (fault.Text f) = Refuses text f
-IsRefusedText text (fault.Check f) = (set : DraftTree) × Accepts text set × (first_fault set ≡ Some f)
-IsRefusedText text f = ⊥
+abbrev pub IsFaultOfText : List ℕ → CommandFault → Type 0
+IsFaultOfText text (fault.Text f) = Refuses text f
+IsFaultOfText text (fault.Check f) = (set : DraftTree) × Accepts text set × (first_fault set ≡ Some f)
+IsFaultOfText text f = ⊥
 
 -- the first fault of an input of which so many parts are wanted, up to its text
-abbrev pub IsRefusedInput : (wanted : ℕ) → List ℕ → CommandFault → Type 0
-IsRefusedInput wanted input (fault.Input input_fault.TooLong) = input_limit < length input
-IsRefusedInput wanted input (fault.Input f) = ⊥
-IsRefusedInput wanted input (fault.Parts split_fault.MissingPart) =
+abbrev pub IsFaultOfInput : (wanted : ℕ) → List ℕ → CommandFault → Type 0
+IsFaultOfInput wanted input (fault.Input input_fault.TooLong) = input_limit < length input
+IsFaultOfInput wanted input (fault.Input f) = ⊥
+IsFaultOfInput wanted input (fault.Parts split_fault.MissingPart) =
     (length input ≤ input_limit) × (length (parts_of input) < wanted)
-IsRefusedInput wanted input (fault.Parts split_fault.ExtraPart) =
+IsFaultOfInput wanted input (fault.Parts split_fault.ExtraPart) =
     (length input ≤ input_limit) × (wanted < length (parts_of input))
-IsRefusedInput wanted input f =
+IsFaultOfInput wanted input f =
     (text : List ℕ) × (others : List (List ℕ))
-    × IsDivided input (text ∷ others) × (length (text ∷ others) ≡ wanted) × IsRefusedText text f
+    × IsDivided input (text ∷ others) × (length (text ∷ others) ≡ wanted) × IsFaultOfText text f
 
 -- the set is not analysed
 abbrev pub IsUnanalysed : DraftTree → AnalyseFault → Type 0
@@ -194,11 +194,11 @@ IsAnalysedFor (Work workers) = Unit {0}
 IsAnalysedFor mode = ⊥
 
 -- the first fault of the lines of a second part
-abbrev pub IsRefusedLine : Mode → DraftTree → List ℕ → LineFault → Type 0
-IsRefusedLine (Run robust) set part f = MayRun robust set × (script_of set part ≡ Err f)
-IsRefusedLine Audit set part f = records_of set part ≡ Err f
-IsRefusedLine (Work workers) set part f = IsRobust set × (jobs_of set part ≡ Err f)
-IsRefusedLine mode set part f = ⊥
+abbrev pub IsFaultOfLine : Mode → DraftTree → List ℕ → LineFault → Type 0
+IsFaultOfLine (Run robust) set part f = MayRun robust set × (script_of set part ≡ Err f)
+IsFaultOfLine Audit set part f = records_of set part ≡ Err f
+IsFaultOfLine (Work workers) set part f = IsRobust set × (jobs_of set part ≡ Err f)
+IsFaultOfLine mode set part f = ⊥
 
 -- what kept so many workers from doing the jobs that the part is, on a robust set
 pub record IsUndone (workers : ℕ) (set : DraftTree) (part : List ℕ) (told : WorkerFault) : Type 0 where
@@ -211,45 +211,45 @@ pub record IsUndone (workers : ℕ) (set : DraftTree) (part : List ℕ) (told : 
 
 -- the first fault of a set with a second part: of the analysis that comes before its lines; of its lines, of its records
 -- as a history, of its certificate, or of the workers
-abbrev pub IsRefusedPart : Mode → DraftTree → List ℕ → CommandFault → Type 0
-IsRefusedPart mode set part (fault.Analysis f) = IsAnalysedFor mode × IsUnanalysed set f
-IsRefusedPart mode set part (fault.Script (part_fault.Line f)) = IsRefusedLine mode set part f
-IsRefusedPart mode set part (fault.Audit f) =
+abbrev pub IsFaultOfPart : Mode → DraftTree → List ℕ → CommandFault → Type 0
+IsFaultOfPart mode set part (fault.Analysis f) = IsAnalysedFor mode × IsUnanalysed set f
+IsFaultOfPart mode set part (fault.Script (part_fault.Line f)) = IsFaultOfLine mode set part f
+IsFaultOfPart mode set part (fault.Audit f) =
     (mode ≡ Audit) × (records : ItemList HistoryRow)
     × (records_of set part ≡ Ok records) × IsAuditFault set records.rows records.items f
-IsRefusedPart mode set part (fault.Work f) = (workers : ℕ) × (mode ≡ Work workers) × IsUndone workers set part f
-IsRefusedPart mode set part (fault.Json f) = (mode ≡ Verify) × HasFault part f
-IsRefusedPart mode set part (fault.Certificate f) =
+IsFaultOfPart mode set part (fault.Work f) = (workers : ℕ) × (mode ≡ Work workers) × IsUndone workers set part f
+IsFaultOfPart mode set part (fault.Json f) = (mode ≡ Verify) × HasFault part f
+IsFaultOfPart mode set part (fault.Certificate f) =
     (mode ≡ Verify) × (certificate : Certificate)
     × IsTextOf certificate part × IsFirstFault (paths_of set) certificate f
-IsRefusedPart mode set part f = ⊥
+IsFaultOfPart mode set part f = ⊥
 
 -- the input has a second part, of which this is the first fault
-abbrev pub IsRefusedByPart : Mode → List ℕ → CommandFault → Type 0
-IsRefusedByPart mode input f =
-    (set : DraftTree) × (part : List ℕ) × HasPart input set part × IsRefusedPart mode set part f
+abbrev pub IsFaultByPart : Mode → List ℕ → CommandFault → Type 0
+IsFaultByPart mode input f =
+    (set : DraftTree) × (part : List ℕ) × HasPart input set part × IsFaultOfPart mode set part f
 
 -- the input has as many parts as are wanted, and a set that is not analysed, though the command asks for it
-abbrev pub IsRefusedSet : Mode → List ℕ → AnalyseFault → Type 0
-IsRefusedSet mode input f =
+abbrev pub IsFaultOfSet : Mode → List ℕ → AnalyseFault → Type 0
+IsFaultOfSet mode input f =
     IsAnalysedFor mode × (set : DraftTree) × (others : List (List ℕ))
     × HasSet input set others × (length others + 1 ≡ parts_wanted mode) × IsUnanalysed set f
 
 -- the input has a set that is not repaired, though the command asks for it
-abbrev pub IsRefusedRepair : Mode → List ℕ → RepairFault → Type 0
-IsRefusedRepair (Repair promote) input f = (set : DraftTree) × IsChecked input set × IsUnrepaired promote set f
-IsRefusedRepair mode input f = ⊥
+abbrev pub IsFaultOfRepair : Mode → List ℕ → RepairFault → Type 0
+IsFaultOfRepair (Repair promote) input f = (set : DraftTree) × IsChecked input set × IsUnrepaired promote set f
+IsFaultOfRepair mode input f = ⊥
 
 -- the first fault of an input
-abbrev pub IsRefused : Mode → List ℕ → CommandFault → Type 0
-IsRefused mode input (fault.Analysis f) = IsRefusedSet mode input f
-IsRefused mode input (fault.Repair f) = IsRefusedRepair mode input f
-IsRefused mode input (fault.Json f) = IsRefusedByPart mode input (fault.Json f)
-IsRefused mode input (fault.Certificate f) = IsRefusedByPart mode input (fault.Certificate f)
-IsRefused mode input (fault.Script f) = IsRefusedByPart mode input (fault.Script f)
-IsRefused mode input (fault.Audit f) = IsRefusedByPart mode input (fault.Audit f)
-IsRefused mode input (fault.Work f) = IsRefusedByPart mode input (fault.Work f)
-IsRefused mode input f = IsRefusedInput (parts_wanted mode) input f
+abbrev pub IsFaultOf : Mode → List ℕ → CommandFault → Type 0
+IsFaultOf mode input (fault.Analysis f) = IsFaultOfSet mode input f
+IsFaultOf mode input (fault.Repair f) = IsFaultOfRepair mode input f
+IsFaultOf mode input (fault.Json f) = IsFaultByPart mode input (fault.Json f)
+IsFaultOf mode input (fault.Certificate f) = IsFaultByPart mode input (fault.Certificate f)
+IsFaultOf mode input (fault.Script f) = IsFaultByPart mode input (fault.Script f)
+IsFaultOf mode input (fault.Audit f) = IsFaultByPart mode input (fault.Audit f)
+IsFaultOf mode input (fault.Work f) = IsFaultByPart mode input (fault.Work f)
+IsFaultOf mode input f = IsFaultOfInput (parts_wanted mode) input f
 
 -- ---- what is written
 
@@ -370,13 +370,13 @@ pub data IsAnswer (mode : Mode) (input : List ℕ) : List ℕ → Status → Typ
   -- all that the input means
   done : (written : List ℕ) (status : Status) → Gives mode input written status → IsAnswer mode input written status
   -- the line of the first fault, alone
-  refused : (f : CommandFault) → is_memory f ≡ false → IsRefused mode input f → IsAnswer mode input (fault_line f) Faulty
+  at_fault : (f : CommandFault) → is_memory f ≡ false → IsFaultOf mode input f → IsAnswer mode input (fault_line f) Faulty
   -- some first lines of it, or none, and the line of want of memory
   stopped : (written : List ℕ) → StopsBehind mode input written → IsAnswer mode input (written ++ memory_line) Memory
 
 -- what is written of a source that failed, and the status behind it
 pub data IsUnread : List ℕ → Status → Type 0 where
-  refused : IsUnread (fault_line (fault.Input input_fault.ReadFault)) Faulty
+  at_fault : IsUnread (fault_line (fault.Input input_fault.ReadFault)) Faulty
   stopped : IsUnread memory_line Memory
 
 -- what may be written of a source, and the status behind it: the answer to an input that it can give;

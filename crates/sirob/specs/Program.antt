@@ -21,28 +21,29 @@ is_text DisplayVersion = true
 is_text kind = false
 
 -- the words name no mode: they are mistaken, or ask for a text
-pub record AreRefused (words : List Text) : Type 0 where
+pub record NameNoMode (words : List Text) : Type 0 where
   pub faulty : fault_of sirob_app words ≢ []
 
 -- what is written for words that name no mode, and the status behind it
-pub data IsRefusal : ErrorKind → List ℕ → Status → Type 0 where
+pub data IsModeless : ErrorKind → List ℕ → Status → Type 0 where
   -- the text that is asked for
-  told : (kind : ErrorKind) → is_text kind ≡ true → (text : List ℕ) → IsRefusal kind text Done
+  told : (kind : ErrorKind) → is_text kind ≡ true → (text : List ℕ) → IsModeless kind text Done
   -- the line of want of memory, where it lacks for the text
-  untold : (kind : ErrorKind) → is_text kind ≡ true → IsRefusal kind memory_line Memory
+  untold : (kind : ErrorKind) → is_text kind ≡ true → IsModeless kind memory_line Memory
   -- or where it lacks for the words
-  stopped : IsRefusal OutOfMemory memory_line Memory
+  stopped : IsModeless OutOfMemory memory_line Memory
   -- nothing, where the words are mistaken
-  mistaken : (kind : ErrorKind) → is_text kind ≡ false → kind ≢ OutOfMemory → IsRefusal kind [] Faulty
+  mistaken : (kind : ErrorKind) → is_text kind ≡ false → kind ≢ OutOfMemory → IsModeless kind [] Faulty
 
 -- what is written where there are no words, and the status behind it: an argument is no text, or memory lacks
 pub data IsWordless : IoKind → List ℕ → Status → Type 0 where
   no_text : (kind : IoKind) → kind ≢ io.OutOfMemory → IsWordless kind [] Faulty
   stopped : IsWordless io.OutOfMemory memory_line Memory
 
--- what is written for words, and the status behind it: the reply of the mode that they name, or a refusal
+-- what is written for words, and the status behind it: the reply of the mode that they name, or what is written where
+-- they name none
 pub data IsEnd (words : List Text) (left : Option (List ℕ)) (failed : Bool) : List ℕ → Status → Type 0 where
   done : (mode : Mode) → fault_of sirob_app words ≡ [] → IsNamedBy mode (subcommand_of sirob_app words)
       → (written : List ℕ) (status : Status) → IsReply mode left failed written status → IsEnd words left failed written status
-  refused : (kind : ErrorKind) → (kind ≡ OutOfMemory) ⊎ IsAmong kind (fault_of sirob_app words)
-      → (written : List ℕ) (status : Status) → IsRefusal kind written status → IsEnd words left failed written status
+  no_mode : (kind : ErrorKind) → (kind ≡ OutOfMemory) ⊎ IsAmong kind (fault_of sirob_app words)
+      → (written : List ℕ) (status : Status) → IsModeless kind written status → IsEnd words left failed written status

@@ -21,7 +21,7 @@ use Rattle.sirob.specs.declared.command_fault.CommandFault.TheVariants as fault
 use Rattle.sirob.specs.declared.status.Status.{Status}
 use Rattle.sirob.specs.declared.status.Status.TheVariants.{Unserializable, Faulty, Memory}
 use Rattle.sirob.specs.FaultLines.{fault_line, is_memory}
-use Rattle.sirob.specs.Output.{HasPart, Gives, GivesPart, GivesFirstPart, GivesRefusal, IsRobust, IsUnanalysed, IsUnrepaired, IsRefused, IsRefusedPart, StopsBehind, memory_line}
+use Rattle.sirob.specs.Output.{HasPart, Gives, GivesPart, GivesFirstPart, GivesRefusal, IsRobust, IsUnanalysed, IsUnrepaired, IsFaultOf, IsFaultOfPart, StopsBehind, memory_line}
 use Rattle.sirob.specs.Status.{status_of}
 
 -- the sink failed
@@ -54,7 +54,7 @@ pub record IsSetAndPart (input : List ℕ) (set : DraftTree) (part : List ℕ) :
 -- a part stopped with this fault behind these bytes: a fault of the input comes before them all
 abbrev pub IsPartStop : Mode → DraftTree → List ℕ → CommandFault → List ℕ → Type 0
 IsPartStop mode set part f written =
-    (is_memory f ≡ false → IsRefusedPart mode set part f × (written ≡ []))
+    (is_memory f ≡ false → IsFaultOfPart mode set part f × (written ≡ []))
     × (is_memory f ≡ true → (written ≡ []) ⊎ GivesFirstPart mode set part written)
 
 -- what is written for a part, and how it ends
@@ -64,8 +64,8 @@ IsPartDone mode set part written ended =
     × IfErr ended (λ f. IsPartStop mode set part f written)
 
 -- the first fault of the lines of jobs
-abbrev pub IsRefusedJobs : DraftTree → List ℕ → CommandFault → Type 0
-IsRefusedJobs set part f = (g : LineFault) × (f ≡ fault.Script (part_fault.Line g)) × (jobs_of set part ≡ Err g)
+abbrev pub IsFaultOfJobs : DraftTree → List ℕ → CommandFault → Type 0
+IsFaultOfJobs set part f = (g : LineFault) × (f ≡ fault.Script (part_fault.Line g)) × (jobs_of set part ≡ Err g)
 
 -- the end of a script's run as that of a command
 abbrev pub as_command : Result Serializability PartFault → Result Status CommandFault
@@ -77,7 +77,7 @@ as_command (Err f) = Err (fault.Script f)
 -- a command stopped with this fault behind these bytes: a fault of the input comes before them all
 abbrev pub IsStop : Mode → List ℕ → CommandFault → List ℕ → Type 0
 IsStop mode input f written =
-    (is_memory f ≡ false → IsRefused mode input f × (written ≡ []))
+    (is_memory f ≡ false → IsFaultOf mode input f × (written ≡ []))
     × (is_memory f ≡ true → StopsBehind mode input written)
 
 -- what is written for an input, and how it ends

@@ -3,7 +3,7 @@ ghost use Rattle.std.specs.Prelude.{◌≡◌, ◌≤◌, false, length, IfOk, I
 ghost use Rattle.prog_tree.specs.Tree.{draft_tree};
 ghost use Rattle.sirob.specs.FaultLines.{is_memory};
 ghost use Rattle.si_engine.specs.Limits.{input_limit};
-ghost use Rattle.sirob.specs.Output.{IsSoundText, IsChecked, IsRefusedInput, IsRefusedText};
+ghost use Rattle.sirob.specs.Output.{IsSoundText, IsChecked, IsFaultOfInput, IsFaultOfText};
 ghost use Rattle.sirob.specs.Stops.{IsSetAndPart};
 
 use crate::command_fault::CommandFault;
@@ -15,7 +15,7 @@ use std::alloc::Global;
 // The set that a text spells, where it has no fault.
 fn read_set(alloc: Global, text: &[u8]) -> Result<ProgramSet, CommandFault>
     ensures ok { IfOk result (λ set. IsSoundText text.now (draft_tree set)) }
-    ensures err { IfErr result (λ fault. is_memory fault ≡ false → IsRefusedText text.now fault) }
+    ensures err { IfErr result (λ fault. is_memory fault ≡ false → IsFaultOfText text.now fault) }
 {
     let draft = parse(alloc, text)?;
     Ok(check(alloc, draft)?)
@@ -26,7 +26,7 @@ pub fn read_text(alloc: Global, input: &[u8]) -> Result<ProgramSet, CommandFault
     requires { length input.now ≤ input_limit }
     ensures ok { IfOk result (λ set. IsChecked input.now (draft_tree set)) }
     ensures err { IfErr result (λ fault. is_memory fault ≡ false
-        → IsRefusedInput 1 input.now fault) }
+        → IsFaultOfInput 1 input.now fault) }
 {
     let text = one_part(input)?;
     read_set(alloc, text)
@@ -45,7 +45,7 @@ pub fn read_text_and_part(alloc: Global, input: &[u8]) -> Result<ReadSet<'_>, Co
     requires { length input.now ≤ input_limit }
     ensures ok { IfOk result (λ read. IsSetAndPart input.now (draft_tree read.set) read.part.now) }
     ensures err { IfErr result (λ fault. is_memory fault ≡ false
-        → IsRefusedInput 2 input.now fault) }
+        → IsFaultOfInput 2 input.now fault) }
 {
     let parts = two_parts(input)?;
     let set = read_set(alloc, parts.text)?;

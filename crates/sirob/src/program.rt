@@ -3,7 +3,7 @@ ghost use Rattle.std.specs.Prelude.{◌≡◌, ◌≤◌, ◌+◌, [], true, map
 ghost use Rattle.std.specs.IoError.{error_kind};
 ghost use Rattle.clap.specs.Words.{kind_of};
 ghost use Rattle.sirob.specs.Output.{IsReply, WritesWithStatus, memory_line};
-ghost use Rattle.sirob.specs.Program.{is_text, AreRefused, IsRefusal, IsWordless, IsEnd};
+ghost use Rattle.sirob.specs.Program.{is_text, NameNoMode, IsModeless, IsWordless, IsEnd};
 ghost use Rattle.si_engine.specs.Writing.{IsJust};
 
 use crate::command_line::{Mode, read_words};
@@ -35,7 +35,7 @@ pub fn carry_out<S: Source, K: Sink>(
         (K.has_failed sink.new) (K.taken sink.old) (K.taken sink.new) result) }
     ensures reads { S.pulls source.new ≤ S.pulls source.old + MAX_READS }
     ensures refused { IfOk arguments.now (λ words.
-        AreRefused (map string_bytes words.items) → source.new ≡ source.old) }
+        NameNoMode (map string_bytes words.items) → source.new ≡ source.old) }
     ensures unread { IfErr arguments.now (λ error. source.new ≡ source.old) }
 {
     match arguments {
@@ -77,7 +77,7 @@ fn follow<S: Source, K: Sink>(
         (S.has_failed source.new))
         (K.has_failed sink.new) (K.taken sink.old) (K.taken sink.new) result }
     ensures reads { S.pulls source.new ≤ S.pulls source.old + MAX_READS }
-    ensures unread { AreRefused (map string_bytes words.now) → source.new ≡ source.old }
+    ensures unread { NameNoMode (map string_bytes words.now) → source.new ≡ source.old }
 {
     match read_words(rt.alloc(), words) {
         Ok(mode) => run_mode(rt, mode, source, sink),
@@ -87,7 +87,7 @@ fn follow<S: Source, K: Sink>(
 
 // Shows the text that words ask for, or tells what is wrong with them.
 fn refuse_words<K: Sink>(rt: &(impl AllocGlobal + Eprint), error: &Error, sink: &mut K) -> Status
-    ensures { WritesWithStatus (IsRefusal (kind_of error.now))
+    ensures { WritesWithStatus (IsModeless (kind_of error.now))
         (K.has_failed sink.new) (K.taken sink.old) (K.taken sink.new) result }
 {
     if error.kind() == ErrorKind::OutOfMemory {
@@ -102,7 +102,7 @@ fn refuse_words<K: Sink>(rt: &(impl AllocGlobal + Eprint), error: &Error, sink: 
 
 fn show<K: Sink>(alloc: Global, error: &Error, sink: &mut K) -> Status
     requires { is_text (kind_of error.now) ≡ true }
-    ensures { WritesWithStatus (IsRefusal (kind_of error.now))
+    ensures { WritesWithStatus (IsModeless (kind_of error.now))
         (K.has_failed sink.new) (K.taken sink.old) (K.taken sink.new) result }
 {
     match error.to_string(alloc) {

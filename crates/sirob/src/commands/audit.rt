@@ -4,7 +4,7 @@ ghost use Rattle.prog_tree.specs.Tree.{draft_tree};
 ghost use Rattle.si_engine.specs.Records.{records_of};
 ghost use Rattle.si_engine.specs.Writing.{WritesOr};
 ghost use Rattle.sirob.specs.FaultLines.{is_memory};
-ghost use Rattle.sirob.specs.Output.{IsRefusedPart};
+ghost use Rattle.sirob.specs.Output.{IsFaultOfPart};
 ghost use Rattle.sirob.specs.Stops.{IsPartDone, write_lost};
 ghost use Rattle.sirob.specs.declared.command_line.Mode.TheVariants as mode;
 
@@ -22,7 +22,7 @@ use std::alloc::Global;
 fn records_in(alloc: Global, set: &ProgramSet, part: &[u8]) -> Result<Records, CommandFault>
     ensures ok { IfOk result (λ records. records_of (draft_tree set.now) part.now ≡ Ok records) }
     ensures err { IfErr result (λ fault. is_memory fault ≡ false
-        → IsRefusedPart mode.Audit (draft_tree set.now) part.now fault) }
+        → IsFaultOfPart mode.Audit (draft_tree set.now) part.now fault) }
 {
     Ok(read_lines::<Records>(alloc, set, part)?)
 }

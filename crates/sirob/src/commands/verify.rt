@@ -3,7 +3,7 @@ ghost use Rattle.std.specs.Prelude.{◌≡◌, false, Err, IfErr, OnOk};
 ghost use Rattle.prog_tree.specs.Tree.{draft_tree};
 ghost use Rattle.si_engine.specs.Writing.{WritesOr};
 ghost use Rattle.sirob.specs.FaultLines.{is_memory};
-ghost use Rattle.sirob.specs.Output.{IsRefusedPart, ShowsRobust};
+ghost use Rattle.sirob.specs.Output.{IsFaultOfPart, ShowsRobust};
 ghost use Rattle.sirob.specs.Stops.{IsPartDone, write_lost};
 ghost use Rattle.sirob.specs.declared.command_line.Mode.TheVariants as mode;
 
@@ -21,7 +21,7 @@ const ROBUST_LINE: &[u8] = b"robust\n";
 fn check_certificate(alloc: Global, set: ProgramSet, part: &[u8]) -> Result<(), CommandFault>
     ensures ok { OnOk result (ShowsRobust (draft_tree set) part.now) }
     ensures err { IfErr result (λ fault. is_memory fault ≡ false
-        → IsRefusedPart mode.Verify (draft_tree set) part.now fault) }
+        → IsFaultOfPart mode.Verify (draft_tree set) part.now fault) }
 {
     let certificate = from_json(alloc, part)?;
     match verify(alloc, set, &certificate) {

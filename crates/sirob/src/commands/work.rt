@@ -4,8 +4,8 @@ ghost use Rattle.prog_tree.specs.Tree.{draft_tree};
 ghost use Rattle.si_engine.specs.Writing.{WritesOr};
 ghost use Rattle.si_workers.specs.JobLines.{jobs_of};
 ghost use Rattle.sirob.specs.FaultLines.{is_memory};
-ghost use Rattle.sirob.specs.Output.{IsRobust, IsRefusedPart, GivesWork};
-ghost use Rattle.sirob.specs.Stops.{IsPartDone, IsRefusedJobs, write_lost};
+ghost use Rattle.sirob.specs.Output.{IsRobust, IsFaultOfPart, GivesWork};
+ghost use Rattle.sirob.specs.Stops.{IsPartDone, IsFaultOfJobs, write_lost};
 ghost use Rattle.sirob.specs.Work.{ends_in, counts_text, work_text};
 ghost use Rattle.sirob.specs.declared.command_line.Mode.TheVariants as mode;
 
@@ -60,7 +60,7 @@ fn work_text(alloc: Global, outcomes: &[JobOutcome], book: &Book<'_>) -> Result<
 fn jobs_in(alloc: Global, set: &ProgramSet, part: &[u8]) -> Result<JobList, CommandFault>
     ensures ok { IfOk result (λ list. jobs_of (draft_tree set.now) part.now ≡ Ok list) }
     ensures err { IfErr result (λ fault. is_memory fault ≡ false
-        → IsRefusedJobs (draft_tree set.now) part.now fault) }
+        → IsFaultOfJobs (draft_tree set.now) part.now fault) }
 {
     Ok(read_lines::<JobList>(alloc, set, part)?)
 }
@@ -83,7 +83,7 @@ fn work_verified<R: AllocGlobal + Eprint + Clock + Watched + Threads + Wait + Sy
     ensures ok { IfOk result (λ done. GivesWork workers (draft_tree set.now) part.now
         (string_bytes done.text)) }
     ensures err { IfErr result (λ fault. is_memory fault ≡ false
-        → IsRefusedPart (mode.Work workers) (draft_tree set.now) part.now fault) }
+        → IsFaultOfPart (mode.Work workers) (draft_tree set.now) part.now fault) }
 {
     let alloc = rt.alloc();
     let ItemList { rows, items: jobs } = jobs_in(alloc, set.set(), part)?;

@@ -1,7 +1,7 @@
 use Rattle.std.proofs.Common.{map, string_bytes}
 use Rattle.clap.specs.Words.{kind_of}
 use Rattle.sirob.specs.Output.{IsReply}
-use Rattle.sirob.specs.Program.{IsRefusal, IsEnd, done, refused}
+use Rattle.sirob.specs.Program.{IsModeless, IsEnd, done, no_mode}
 use Rattle.sirob.proofs.StopLaws.{writes_as}
 use Rattle.sirob.proofs.program.follow.Goals as goal
 
@@ -20,7 +20,7 @@ returns-in-Err-clause-end g c =
     let left = g.S.Source.left c.args.source.now in
     let failed = g.S.Source.has_failed c.args.source.now in
     let kind = kind_of c.in-Err.error in
-    writes_as (IsRefusal kind) (IsEnd words left failed) _ _ _ _ (refused kind c.in-Err.ensures.fault) c.refuse_words.ensures
+    writes_as (IsModeless kind) (IsEnd words left failed) _ _ _ _ (no_mode kind c.in-Err.ensures.fault) c.refuse_words.ensures
 
 pub returns-in-Ok-clause-unread : goal.returns-in-Ok-clause-unread
-returns-in-Ok-clause-unread g c = λ refused. absurd (refused.faulty c.in-Ok.ensures.fault)
+returns-in-Ok-clause-unread g c = λ given. absurd (given.faulty c.in-Ok.ensures.fault)

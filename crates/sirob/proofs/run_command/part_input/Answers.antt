@@ -5,7 +5,7 @@ use Rattle.si_engine.specs.Writing.{WritesOr}
 use Rattle.sirob.specs.declared.command_line.Mode.{Mode}
 use Rattle.sirob.specs.declared.command_line.Mode.TheVariants.{Verify, Run, Audit}
 use Rattle.sirob.specs.Stops.{IsInputDone, write_lost}
-use Rattle.sirob.proofs.StopLaws.{input_stopped, stops_at_once, refused_input, done_of_part}
+use Rattle.sirob.proofs.StopLaws.{input_stopped, stops_at_once, fault_up_to_text, done_of_part}
 use Rattle.sirob.proofs.run_command.part_input.Goals as goal
 
 pub returns-in_err-set : goal.returns-in_err-set
@@ -16,7 +16,7 @@ returns-in_err-set g c =
     let f = c.in_err-set.field-0.0 in
     rw (exit.1, exit.2)
     (input_stopped mode input f _ _ c.requires.working
-    (stops_at_once mode input f (λ no_memory. refused_input mode 2 input f c.requires.two (c.in_err-set.ensures.err no_memory))))
+    (stops_at_once mode input f (λ no_memory. fault_up_to_text mode 2 input f c.requires.two (c.in_err-set.ensures.err no_memory))))
 
 pub returns-in-Verify : goal.returns-in-Verify
 returns-in-Verify g c =

@@ -2,7 +2,7 @@ use Rattle.std.proofs.Common.{refl}
 use Rattle.std.proofs.lemmas.Result.{err_from_is_err_and}
 use Rattle.prog_tree.specs.Tree.{draft_tree}
 use Rattle.sirob.specs.declared.command_line.Mode.TheVariants.{Work}
-use Rattle.sirob.proofs.StopLaws.{input_stopped, stops_at_once, refused_input, done_of_part}
+use Rattle.sirob.proofs.StopLaws.{input_stopped, stops_at_once, fault_up_to_text, done_of_part}
 use Rattle.sirob.proofs.run_work.work_input.Goals as goal
 
 pub returns-in_err-set : goal.returns-in_err-set
@@ -13,7 +13,7 @@ returns-in_err-set g c =
     let f = c.in_err-set.field-0.0 in
     rw (exit.1, exit.2)
     (input_stopped mode input f _ _ c.requires.working
-    (stops_at_once mode input f (λ no_memory. refused_input mode 2 input f refl (c.in_err-set.ensures.err no_memory))))
+    (stops_at_once mode input f (λ no_memory. fault_up_to_text mode 2 input f refl (c.in_err-set.ensures.err no_memory))))
 
 pub returns : goal.returns
 returns g c =

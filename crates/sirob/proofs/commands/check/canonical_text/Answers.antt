@@ -3,7 +3,7 @@ use Rattle.std.proofs.lemmas.Result.{err_from_is_err_and}
 use Rattle.prog_tree.specs.Tree.{draft_tree}
 use Rattle.prog_text.specs.Canonical.{canonical}
 use Rattle.sirob.specs.declared.command_line.Mode.TheVariants.{Check}
-use Rattle.sirob.proofs.StopLaws.{stops_at_once, stops_printing, refused_input}
+use Rattle.sirob.proofs.StopLaws.{stops_at_once, stops_printing, fault_up_to_text}
 use Rattle.sirob.proofs.commands.check.canonical_text.Goals as goal
 
 pub returns-in_err-set-clause-err : goal.returns-in_err-set-clause-err
@@ -11,7 +11,7 @@ returns-in_err-set-clause-err c =
     let exit = err_from_is_err_and c.from_residual.result c.from_residual.ensures.1 in
     let f = c.in_err-set.field-0.0 in
     let input = c.args.input.now in
-    rw (exit.1, exit.2) (stops_at_once Check input f (λ no_memory. refused_input Check 1 input f refl (c.in_err-set.ensures.err no_memory)))
+    rw (exit.1, exit.2) (stops_at_once Check input f (λ no_memory. fault_up_to_text Check 1 input f refl (c.in_err-set.ensures.err no_memory)))
 
 pub returns-in_err-text-clause-err : goal.returns-in_err-text-clause-err
 returns-in_err-text-clause-err c =

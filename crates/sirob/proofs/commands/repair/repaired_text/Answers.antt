@@ -3,7 +3,7 @@ use Rattle.std.proofs.lemmas.Result.{err_from_is_err_and}
 use Rattle.prog_tree.specs.Tree.{draft_tree}
 use Rattle.prog_text.specs.Canonical.{canonical}
 use Rattle.sirob.specs.declared.command_line.Mode.TheVariants.{Repair}
-use Rattle.sirob.proofs.StopLaws.{stops_at_once, stops_printing, refused_input, repair_refused}
+use Rattle.sirob.proofs.StopLaws.{stops_at_once, stops_printing, fault_up_to_text, unrepaired_set}
 use Rattle.sirob.proofs.commands.repair.repaired_text.Goals as goal
 
 pub returns-in_err-set-clause-err : goal.returns-in_err-set-clause-err
@@ -12,7 +12,7 @@ returns-in_err-set-clause-err c =
     let f = c.in_err-set.field-0.0 in
     let mode = Repair c.args.promoting in
     let input = c.args.input.now in
-    rw (exit.1, exit.2) (stops_at_once mode input f (λ no_memory. refused_input mode 1 input f refl (c.in_err-set.ensures.err no_memory)))
+    rw (exit.1, exit.2) (stops_at_once mode input f (λ no_memory. fault_up_to_text mode 1 input f refl (c.in_err-set.ensures.err no_memory)))
 
 pub returns-in_err-repair-clause-err : goal.returns-in_err-repair-clause-err
 returns-in_err-repair-clause-err c =
@@ -22,7 +22,7 @@ returns-in_err-repair-clause-err c =
     let input = c.args.input.now in
     let set = draft_tree c.in_ok-set.set in
     rw (exit.1, exit.2)
-    (stops_at_once (Repair promoting) input f (λ no_memory. repair_refused promoting input set c.in_ok-set.ensures.ok f (c.in_err-repair.ensures.err no_memory)))
+    (stops_at_once (Repair promoting) input f (λ no_memory. unrepaired_set promoting input set c.in_ok-set.ensures.ok f (c.in_err-repair.ensures.err no_memory)))
 
 pub returns-in_err-text-clause-err : goal.returns-in_err-text-clause-err
 returns-in_err-text-clause-err c =

@@ -5,7 +5,7 @@ use Rattle.prog_tree.specs.Tree.{draft_tree}
 use Rattle.sirob.specs.declared.command_line.Mode.TheVariants.{Work}
 use Rattle.sirob.specs.declared.commands.robust.Verified.{Verified}
 use Rattle.sirob.specs.declared.status.Status.TheVariants as status
-use Rattle.sirob.specs.Output.{GivesRefusal, GivesWork, IsRefusedPart}
+use Rattle.sirob.specs.Output.{GivesRefusal, GivesWork, IsFaultOfPart}
 use Rattle.sirob.specs.Stops.{IsPartDone, IsVerified}
 use Rattle.sirob.proofs.StopLaws.{part_stopped, part_unanalysed, wrote_lines}
 use Rattle.sirob.proofs.commands.work.work_part.Goals as goal
@@ -36,7 +36,7 @@ returns-in_err-text-in-Robust g c =
     let robust = subst (λ (v : Verified). IsVerified c.args.set v) c.in-Robust.is c.in_ok-set.ensures.ok in
     rw (exit.1, exit.2)
     (part_stopped mode (draft_tree c.args.set) part f _ _ c.requires
-    (λ no_memory. subst (λ (set : Draft). IsRefusedPart mode (draft_tree set) part f) robust.0 (c.in_err-text-in-Robust.ensures.err no_memory)))
+    (λ no_memory. subst (λ (set : Draft). IsFaultOfPart mode (draft_tree set) part f) robust.0 (c.in_err-text-in-Robust.ensures.err no_memory)))
 
 pub returns-in_ok-text-in-Robust : goal.returns-in_ok-text-in-Robust
 returns-in_ok-text-in-Robust g c =

@@ -8,9 +8,9 @@ use Rattle.si_workers.specs.Assigned.{assigned}
 use Rattle.si_workers.specs.JobLines.{jobs_of}
 use Rattle.si_workers.specs.Outcomes.{OutcomesCorrespond}
 use Rattle.si_workers.specs.Work.{AreTaken, IsWorkFault}
-use Rattle.sirob.specs.Stops.{IsRefusedJobs}
+use Rattle.sirob.specs.Stops.{IsFaultOfJobs}
 use Rattle.sirob.specs.Work.{work_text}
-use Rattle.sirob.proofs.StopLaws.{lines_refused}
+use Rattle.sirob.proofs.StopLaws.{fault_of_lines}
 use Rattle.sirob.proofs.commands.work.work_verified.Goals as goal
 
 pub returns-in_err-rows-clause-err : goal.returns-in_err-rows-clause-err
@@ -19,8 +19,8 @@ returns-in_err-rows-clause-err g c =
     let part = c.args.part.now in
     let f = c.in_err-rows.field-0.0 in
     rw (exit.1, exit.2)
-    (λ no_memory. lines_refused c.args.workers (draft_tree c.args.set.now) part f c.requires
-    (subst (λ (set : Draft). IsRefusedJobs (draft_tree set) part f) c.set.ensures.same (c.in_err-rows.ensures.err no_memory)))
+    (λ no_memory. fault_of_lines c.args.workers (draft_tree c.args.set.now) part f c.requires
+    (subst (λ (set : Draft). IsFaultOfJobs (draft_tree set) part f) c.set.ensures.same (c.in_err-rows.ensures.err no_memory)))
 
 pub returns-in_err-outcomes-clause-err : goal.returns-in_err-outcomes-clause-err
 returns-in_err-outcomes-clause-err g c =
