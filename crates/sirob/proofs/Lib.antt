@@ -1,7 +1,6 @@
 pub mod CommandLemmas
 pub mod CommandVectors
 pub mod PartLemmas
-pub mod RefusalLemmas
 pub mod RefusalVectors
 pub mod RepairLemmas
 pub mod SeparatorLaws
