@@ -20,7 +20,7 @@ use Rattle.si_engine.proofs.OutputLaws.{adds_first_of, adds_both, adds_behind, a
 use Rattle.si_engine.specs.Headline.{commit_in, commits_said}
 use Rattle.si_engine.specs.Runs.{event_lines, row_lines, end_lines, run_lines, history_of_run, AddsLines, AddsFirst, AddsEnd, AddsRun, IsRunOf, done, refused, stopped, IsUnreadRun, unread, IsRunReply}
 use Rattle.si_engine.specs.Printed.{reply_line, printed_row}
-use Rattle.si_engine.specs.Reading.{ForInput}
+use Rattle.si_engine.specs.Sources.{ForInput}
 use Rattle.si_engine.specs.Script.{IsScript, IsScriptFault}
 use Rattle.si_engine.specs.Writing.{IsJust, WritesOr}
 use Rattle.si_engine.specs.declared.input.part_fault.PartFault.{PartFault}

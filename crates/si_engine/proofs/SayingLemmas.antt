@@ -10,8 +10,8 @@ use Rattle.si_engine.specs.declared.input.source.InputFault.{InputFault}
 use Rattle.si_engine.specs.declared.input.source.InputFault.TheVariants as i
 use Rattle.si_engine.specs.Limits.{input_limit}
 use Rattle.si_engine.specs.Lines.{lines_of}
-use Rattle.si_engine.specs.Reading.{CanGive, ForInput}
-use Rattle.si_engine.specs.RowLines.{◌>>=◌, Fails, IsFault}
+use Rattle.si_engine.specs.Sources.{CanGive, ForInput}
+use Rattle.si_engine.specs.LineFaults.{◌>>=◌, Fails, IsFault}
 use Rattle.si_engine.specs.Sayings.{sayings_from, IsPartFault}
 use Rattle.si_engine.proofs.LineLemmas.{pieces-cut}
 

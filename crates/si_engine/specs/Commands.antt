@@ -13,7 +13,8 @@ use Rattle.si_engine.specs.Limits.{greatest_instance, most_steps}
 use Rattle.si_engine.specs.Lines.{is_skipped, words_of}
 use Rattle.si_engine.specs.Names.{number_named}
 use Rattle.si_engine.specs.Numbers.{numbers_of, number_between, u64_of}
-use Rattle.si_engine.specs.RowLines.{◌>>=◌, row_line_of}
+use Rattle.si_engine.specs.LineFaults.{◌>>=◌}
+use Rattle.si_engine.specs.RowLines.{row_line_of}
 
 -- the words behind `row`: TABLE K = V, or TABLE K1 K2 = V
 unfoldable pub row_command : DraftTree → (line : ℕ) → List (List ℕ) → Result Command LineFault

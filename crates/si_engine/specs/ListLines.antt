@@ -10,7 +10,8 @@ use Rattle.si_engine.specs.declared.input.list_line.ListLine.TheVariants as says
 use Rattle.si_engine.specs.declared.input.line_fault.LineFault.{LineFault}
 use Rattle.si_engine.specs.declared.input.line_fault.LineFault.TheVariants.{BadLine}
 use Rattle.si_engine.specs.Lines.{is_skipped, words_of}
-use Rattle.si_engine.specs.RowLines.{◌>>=◌, row_line_of, row_fault}
+use Rattle.si_engine.specs.LineFaults.{◌>>=◌}
+use Rattle.si_engine.specs.RowLines.{row_line_of, row_fault}
 use Rattle.si_engine.specs.Sayings.{made_of}
 
 -- ---- what a line says

@@ -15,7 +15,7 @@ use Rattle.si_engine.specs.declared.input.part_fault.PartFault.{PartFault}
 use Rattle.si_engine.specs.ListLines.{list_line, list_of}
 use Rattle.si_engine.specs.Names.{number_named}
 use Rattle.si_engine.specs.Numbers.{numbers_of, u64_of}
-use Rattle.si_engine.specs.RowLines.{◌>>=◌}
+use Rattle.si_engine.specs.LineFaults.{◌>>=◌}
 use Rattle.si_engine.specs.Sayings.{IsPart, IsPartFault}
 
 -- ---- what a line says

@@ -1,5 +1,5 @@
 -- Row lines, which scripts, records and jobs share.
-use Rattle.std.specs.Prelude.{ℕ, ℤ, pos, ◌≡◌, Bool, List, [], ◌∷◌, Option, Some, None, Result, Ok, Err, is_some, codes, bytes_eq, option_map, option_and_then, slice_get, if◌then◌else◌}
+use Rattle.std.specs.Prelude.{ℕ, ℤ, pos, Bool, List, [], ◌∷◌, Option, Some, None, Result, Ok, is_some, codes, bytes_eq, option_map, option_and_then, slice_get, if◌then◌else◌}
 use Rattle.std.specs.Option.{ok_or}
 use Rattle.prog_tree.specs.declared.cell.Cell.{Cell}
 use Rattle.prog_tree.specs.declared.table.Arity.{Arity}
@@ -11,15 +11,10 @@ use Rattle.si_engine.specs.declared.input.row_line.Keys.TheVariants.{One, Two}
 use Rattle.si_engine.specs.declared.input.row_line.RowLine.{RowLine}
 use Rattle.si_engine.specs.declared.input.row_line.RowWords.{RowWords}
 use Rattle.si_engine.specs.declared.input.line_fault.LineFault.{LineFault}
-use Rattle.si_engine.specs.declared.input.line_fault.LineFault.TheVariants.{BadLine, UnknownName, WrongKeys, LateRow, RepeatedRow, Memory}
+use Rattle.si_engine.specs.declared.input.line_fault.LineFault.TheVariants.{BadLine, UnknownName, WrongKeys, LateRow, RepeatedRow}
+use Rattle.si_engine.specs.LineFaults.{◌>>=◌}
 use Rattle.si_engine.specs.Names.{number_named}
 use Rattle.si_engine.specs.Numbers.{i64_of}
-
--- one step after another, up to the first fault
-infixl 10 ◌>>=◌
-abbrev pub ◌>>=◌ : {A B : Type 0} → Result A LineFault → (A → Result B LineFault) → Result B LineFault
-(Ok x) >>= f = f x
-(Err fault) >>= f = Err fault
 
 abbrev pub is_equals_sign : List ℕ → Bool
 is_equals_sign word = bytes_eq word (codes "=")
@@ -67,18 +62,3 @@ row_fault line late earlier =
     if late then Some (LateRow line)
     else if is_some earlier then Some (RepeatedRow line)
     else None
-
--- the definition has this fault too; want of memory says nothing of it
-abbrev pub IsFault : LineFault → Option LineFault → Type 0
-IsFault Memory found = Unit {0}
-IsFault fault found = found ≡ Some fault
-
--- the definition has this fault too; want of memory says nothing of it
-abbrev pub Fails : {Y : Type 0} → LineFault → Result Y LineFault → Type 0
-Fails Memory read = Unit {0}
-Fails fault read = read ≡ Err fault
-
--- the code gives what the definition gives, unless memory runs out
-abbrev pub Reads : {X Y : Type 0} → (X → Y) → Result X LineFault → Result Y LineFault → Type 0
-Reads view (Ok x) read = read ≡ Ok (view x)
-Reads view (Err fault) read = Fails fault read

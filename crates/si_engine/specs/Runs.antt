@@ -17,7 +17,7 @@ use Rattle.si_engine.specs.Headline.{Exchange}
 use Rattle.si_engine.specs.LastLine.{IsLastLine}
 use Rattle.si_engine.specs.Machine.{Machine, new_machine, machine_after, replies_of}
 use Rattle.si_engine.specs.Printed.{reply_line, printed_row}
-use Rattle.si_engine.specs.Reading.{ForInput}
+use Rattle.si_engine.specs.Sources.{ForInput}
 use Rattle.si_engine.specs.Script.{IsScript, IsScriptFault}
 use Rattle.si_engine.specs.Writing.{WritesOr}
 

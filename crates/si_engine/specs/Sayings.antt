@@ -6,7 +6,7 @@ use Rattle.si_engine.specs.declared.input.part_fault.PartFault.TheVariants as fa
 use Rattle.si_engine.specs.declared.input.source.InputFault.TheVariants as input_fault
 use Rattle.si_engine.specs.Lines.{lines_of}
 use Rattle.si_engine.specs.Limits.{input_limit}
-use Rattle.si_engine.specs.RowLines.{◌>>=◌, Fails, IsFault}
+use Rattle.si_engine.specs.LineFaults.{◌>>=◌, Fails, IsFault}
 
 -- a saying behind others, unless it is wrong there
 abbrev pub behind : {S : Type 0} → Option LineFault → List S → S → Result (List S) LineFault

@@ -2,7 +2,7 @@
 ghost use Rattle.std.specs.Prelude.{◌≡◌, ◌≤◌, ◌+◌, [], false, true, Err, string_bytes, IfOk, OnOk, OnErr};
 ghost use Rattle.prog_tree.specs.Tree.{draft_tree};
 ghost use Rattle.si_engine.specs.Machine.{machine_after};
-ghost use Rattle.si_engine.specs.Reading.{ForInput};
+ghost use Rattle.si_engine.specs.Sources.{ForInput};
 ghost use Rattle.si_engine.specs.Runs.{event_lines, run_lines, AddsLines, AddsFirst, AddsRun, IsRunOf, IsScriptRun, IsUnreadRun};
 ghost use Rattle.si_engine.specs.View.{StaysOver};
 ghost use Rattle.si_engine.specs.Writing.{IsJust, WritesOr};

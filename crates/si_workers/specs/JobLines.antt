@@ -11,7 +11,7 @@ use Rattle.si_engine.specs.declared.input.part_fault.PartFault.{PartFault}
 use Rattle.si_engine.specs.ListLines.{list_line, list_of}
 use Rattle.si_engine.specs.Names.{number_named}
 use Rattle.si_engine.specs.Numbers.{number_between, numbers_of}
-use Rattle.si_engine.specs.RowLines.{◌>>=◌}
+use Rattle.si_engine.specs.LineFaults.{◌>>=◌}
 use Rattle.si_engine.specs.Sayings.{IsPart, IsPartFault}
 use Rattle.si_workers.specs.declared.job.Job.{Job}
 use Rattle.si_workers.specs.Limits.{most_retries}

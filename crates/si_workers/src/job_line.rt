@@ -1,7 +1,7 @@
 //! Lines of a list of jobs.
 ghost use Rattle.std.specs.Prelude.{◌≡◌};
 ghost use Rattle.prog_tree.specs.Tree.{draft_tree};
-ghost use Rattle.si_engine.specs.RowLines.{Reads};
+ghost use Rattle.si_engine.specs.LineFaults.{Reads};
 ghost use Rattle.si_workers.specs.JobLines.{retries_of, job_of};
 
 use crate::job::Job;

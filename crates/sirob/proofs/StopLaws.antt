@@ -22,9 +22,9 @@ use Rattle.si_engine.specs.declared.input.part_fault.PartFault.TheVariants as s
 use Rattle.si_engine.specs.declared.input.source.InputFault.{InputFault}
 use Rattle.si_engine.specs.declared.input.source.InputFault.TheVariants as i
 use Rattle.si_engine.specs.Limits.{input_limit}
-use Rattle.si_engine.specs.Reading.{CanGive, ForInput}
+use Rattle.si_engine.specs.Sources.{CanGive, ForInput}
 use Rattle.si_engine.specs.Records.{records_of}
-use Rattle.si_engine.specs.RowLines.{Fails}
+use Rattle.si_engine.specs.LineFaults.{Fails}
 use Rattle.si_engine.specs.Runs.{end_lines, AddsEnd, AddsFirst, IsRunOf, IsRunReply, IsOrderedReply}
 use Rattle.si_engine.specs.Runs as r
 use Rattle.si_engine.specs.Sayings.{IsPartFault}

@@ -38,7 +38,7 @@ use Rattle.si_engine.specs.declared.input.line_fault.LineFault.{LineFault}
 use Rattle.si_engine.specs.declared.input.part_fault.PartFault.TheVariants as part_fault
 use Rattle.si_engine.specs.declared.input.source.InputFault.TheVariants as input_fault
 use Rattle.si_engine.specs.Limits.{input_limit}
-use Rattle.si_engine.specs.Reading.{ForInput}
+use Rattle.si_engine.specs.Sources.{ForInput}
 use Rattle.si_engine.specs.Records.{records_of}
 use Rattle.si_engine.specs.Runs.{run_lines, end_lines, AddsFirst, AddsEnd, AddsRun}
 use Rattle.si_engine.specs.Script.{script_of}

@@ -11,7 +11,7 @@ use Rattle.si_engine.specs.declared.input.part_fault.PartFault.{PartFault}
 use Rattle.si_engine.specs.declared.input.part_fault.PartFault.TheVariants as part_fault
 use Rattle.si_engine.specs.declared.input.source.InputFault.TheVariants as input_fault
 use Rattle.si_engine.specs.Limits.{input_limit}
-use Rattle.si_engine.specs.Reading.{ForInput}
+use Rattle.si_engine.specs.Sources.{ForInput}
 use Rattle.si_workers.specs.JobLines.{jobs_of}
 use Rattle.sirob.specs.declared.command_line.Mode.{Mode}
 use Rattle.sirob.specs.declared.commands.robust.Verified.{Verified}

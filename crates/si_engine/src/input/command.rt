@@ -2,7 +2,7 @@
 ghost use Rattle.std.specs.Prelude.{◌≡◌, Ok};
 ghost use Rattle.prog_tree.specs.Tree.{draft_tree};
 ghost use Rattle.si_engine.specs.Commands.{row_command, instance_number, steps_of, call_of, begin_command, begin_at_command, step_command, commit_command, abort_command, vacuum_command, command_of, line_command};
-ghost use Rattle.si_engine.specs.RowLines.{Reads};
+ghost use Rattle.si_engine.specs.LineFaults.{Reads};
 
 use crate::event::Event;
 use crate::input::line_fault::LineFault;

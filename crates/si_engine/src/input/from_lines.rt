@@ -2,8 +2,8 @@
 ghost use Rattle.std.specs.Prelude.{◌≡◌, ◌≤◌, ◌+◌, ◌↔◌, ℕ, List, [], Option, Result, true, false, OnOk, IfOk, IfErr, IsErrOf};
 ghost use Rattle.prog_tree.specs.Syntax.{DraftTree};
 ghost use Rattle.prog_tree.specs.Tree.{draft_tree};
-ghost use Rattle.si_engine.specs.Reading.{ForInput};
-ghost use Rattle.si_engine.specs.RowLines.{Reads};
+ghost use Rattle.si_engine.specs.Sources.{ForInput};
+ghost use Rattle.si_engine.specs.LineFaults.{Reads};
 ghost use Rattle.si_engine.specs.Sayings.{made_of, TakesUp, IsMisplaced, IsPart, IsPartFault};
 
 use crate::input::line_fault::LineFault;

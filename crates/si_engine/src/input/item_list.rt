@@ -1,7 +1,7 @@
 //! Lists of items behind rows.
 ghost use Rattle.std.specs.Prelude.{◌≡◌, ◌++◌, None, OnOk, IfErr};
 ghost use Rattle.si_engine.specs.ListLines.{with_row_in, item_in, item_fault};
-ghost use Rattle.si_engine.specs.RowLines.{IsFault};
+ghost use Rattle.si_engine.specs.LineFaults.{IsFault};
 
 use crate::input::from_lines::FromLines;
 use crate::input::line_fault::LineFault;

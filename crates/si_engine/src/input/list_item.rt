@@ -2,7 +2,7 @@
 ghost use Rattle.std.specs.Prelude.{◌≡◌, ℕ, List, Result, bytes_eq};
 ghost use Rattle.prog_tree.specs.Syntax.{DraftTree};
 ghost use Rattle.prog_tree.specs.Tree.{draft_tree};
-ghost use Rattle.si_engine.specs.RowLines.{Reads};
+ghost use Rattle.si_engine.specs.LineFaults.{Reads};
 
 use crate::input::line_fault::LineFault;
 use crate::input::line_words::Word;

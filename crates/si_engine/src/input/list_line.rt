@@ -2,7 +2,7 @@
 ghost use Rattle.std.specs.Prelude.{◌≡◌};
 ghost use Rattle.prog_tree.specs.Tree.{draft_tree};
 ghost use Rattle.si_engine.specs.ListLines.{list_line_of, list_line};
-ghost use Rattle.si_engine.specs.RowLines.{Reads};
+ghost use Rattle.si_engine.specs.LineFaults.{Reads};
 
 use crate::input::line_fault::LineFault;
 use crate::input::line_words::{Word, line_words};

@@ -3,7 +3,7 @@ ghost use Rattle.std.specs.Prelude.{◌≡◌, ◌≤◌, length, not, IfOk};
 ghost use Rattle.std.specs.List.{prefix_len, before_first, after_first};
 ghost use Rattle.prog_tree.specs.Tree.{draft_tree};
 ghost use Rattle.si_engine.specs.Records.{is_at, is_gives, outcome_of, record_of, record_row_of};
-ghost use Rattle.si_engine.specs.RowLines.{Reads};
+ghost use Rattle.si_engine.specs.LineFaults.{Reads};
 
 use crate::input::line_fault::LineFault;
 use crate::input::line_words::Word;

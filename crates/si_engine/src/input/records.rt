@@ -1,7 +1,7 @@
 //! Lists of records.
 ghost use Rattle.std.specs.Prelude.{◌≡◌, ◌≤◌, ◌+◌, ◌↔◌, true, false, IfOk, IfErr, IsErrOf};
 ghost use Rattle.prog_tree.specs.Tree.{draft_tree};
-ghost use Rattle.si_engine.specs.Reading.{ForInput};
+ghost use Rattle.si_engine.specs.Sources.{ForInput};
 ghost use Rattle.si_engine.specs.Records.{IsRecords, IsRecordsFault};
 
 use crate::input::from_lines::read_part;

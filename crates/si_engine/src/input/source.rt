@@ -1,7 +1,7 @@
 //! Where the input comes from, and how it is read whole.
 ghost use Rattle.std.specs.Prelude.{◌≡◌, ◌<◌, ◌≤◌, ◌+◌, ◌↔◌, ℕ, Bool, List, Option, None, true, length, vec_len, IsErr, IfOk, IfSome, OnOk, OnErr, IsErrOf};
 ghost use Rattle.std.specs.Io.KnownBytes.{ReadConsumes, IsAtEnd};
-ghost use Rattle.si_engine.specs.Reading.{CanGive};
+ghost use Rattle.si_engine.specs.Sources.{CanGive};
 
 use crate::limits::{MAX_INPUT_BYTES, MAX_READS};
 use std::alloc::{AllocError, AllocFailed, Global};

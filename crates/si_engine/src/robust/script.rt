@@ -3,7 +3,7 @@ ghost use Rattle.std.specs.Prelude.{◌≡◌, ◌≤◌, ◌+◌, ◌++◌, ◌
 ghost use Rattle.std.specs.List.{zip};
 ghost use Rattle.prog_tree.specs.Tree.{draft_tree};
 ghost use Rattle.si_engine.specs.LastLine.{last_line};
-ghost use Rattle.si_engine.specs.Reading.{ForInput};
+ghost use Rattle.si_engine.specs.Sources.{ForInput};
 ghost use Rattle.si_engine.specs.Runs.{exchange_lines, outcome_lines, run_lines, AddsLines, AddsFirst, AddsRun, IsRobustScriptRun, IsRunOf, IsUnreadRun};
 
 use crate::event::{Event, Reply};

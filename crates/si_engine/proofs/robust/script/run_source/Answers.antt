@@ -2,7 +2,7 @@ use Rattle.std.proofs.Common.{◌≡◌, List, ℕ, subst, string_bytes}
 use Rattle.std.proofs.lemmas.Result.{err_from_is_err_and}
 use Rattle.prog_tree.specs.declared.program.Draft.{Draft}
 use Rattle.prog_tree.specs.Tree.{draft_tree}
-use Rattle.si_engine.specs.Reading.{ForInput}
+use Rattle.si_engine.specs.Sources.{ForInput}
 use Rattle.si_engine.specs.Script.{IsScript, IsScriptFault}
 use Rattle.si_engine.specs.declared.output.finding.Serializability.TheVariants.{Order}
 use Rattle.si_engine.specs.Runs.{run_lines, AddsFirst, AddsRun}
