@@ -4,7 +4,7 @@ use Rattle.std.specs.Prelude.{ℕ, List, ◌++◌, codes}
 use Rattle.si_engine.specs.declared.input.line_fault.LineFault.{LineFault}
 use Rattle.si_engine.specs.declared.input.line_fault.LineFault.TheVariants as fault
 use Rattle.si_engine.specs.declared.input.part_fault.PartFault.{PartFault}
-use Rattle.si_engine.specs.declared.input.part_fault.PartFault.TheVariants as script
+use Rattle.si_engine.specs.declared.input.part_fault.PartFault.TheVariants as part_fault
 use Rattle.si_engine.specs.declared.input.source.InputFault.{InputFault}
 use Rattle.si_engine.specs.declared.input.source.InputFault.TheVariants as input
 
@@ -27,8 +27,8 @@ input_fault_text input.TooLong = codes "I3"
 input_fault_text input.ReadFault = codes "I4"
 input_fault_text input.Memory = codes "memory"
 
--- why a script is not read, or not run
+-- why a part is not read, or a script not run
 abbrev pub part_fault_text : PartFault → List ℕ
-part_fault_text (script.Input i) = input_fault_text i
-part_fault_text (script.Line l) = line_fault_text l
-part_fault_text script.WriteFault = codes "I5"
+part_fault_text (part_fault.Input i) = input_fault_text i
+part_fault_text (part_fault.Line l) = line_fault_text l
+part_fault_text part_fault.WriteFault = codes "I5"

@@ -72,14 +72,14 @@ stops_reading mode f (Some bytes) failed long fails works = (bytes, refl, stops_
 -- a fault up to the text is one of the input
 pub fault_up_to_text : (mode : Mode) (wanted : ℕ) (input : List ℕ) (f : CommandFault) → parts_wanted mode ≡ wanted → IsFaultOfInput wanted input f → IsFaultOf mode input f
 fault_up_to_text mode wanted input (fault.Input f) is wrong = subst (λ (n : ℕ). IsFaultOfInput n input (fault.Input f)) (sym is) wrong
-fault_up_to_text mode wanted input (fault.Parts f) is wrong = subst (λ (n : ℕ). IsFaultOfInput n input (fault.Parts f)) (sym is) wrong
+fault_up_to_text mode wanted input (fault.Split f) is wrong = subst (λ (n : ℕ). IsFaultOfInput n input (fault.Split f)) (sym is) wrong
 fault_up_to_text mode wanted input (fault.Text f) is wrong = subst (λ (n : ℕ). IsFaultOfInput n input (fault.Text f)) (sym is) wrong
 fault_up_to_text mode wanted input (fault.Check f) is wrong = subst (λ (n : ℕ). IsFaultOfInput n input (fault.Check f)) (sym is) wrong
 fault_up_to_text mode wanted input (fault.Analysis f) is (text, others, divided, count, wrong) = absurd wrong
 fault_up_to_text mode wanted input (fault.Repair f) is (text, others, divided, count, wrong) = absurd wrong
 fault_up_to_text mode wanted input (fault.Json f) is (text, others, divided, count, wrong) = absurd wrong
 fault_up_to_text mode wanted input (fault.Certificate f) is (text, others, divided, count, wrong) = absurd wrong
-fault_up_to_text mode wanted input (fault.Script f) is (text, others, divided, count, wrong) = absurd wrong
+fault_up_to_text mode wanted input (fault.Part f) is (text, others, divided, count, wrong) = absurd wrong
 fault_up_to_text mode wanted input (fault.Audit f) is (text, others, divided, count, wrong) = absurd wrong
 fault_up_to_text mode wanted input (fault.Work f) is (text, others, divided, count, wrong) = absurd wrong
 
@@ -113,7 +113,7 @@ pub part_at_once : (mode : Mode) (set : DraftTree) (part : List ℕ) (f : Comman
 part_at_once mode set part f h = ((λ no_memory. (h no_memory, refl)), (λ memory. inl refl))
 
 -- a fault of a line, where memory did not lack
-line_fails : {Y : Type 0} (read : Result Y LineFault) (f : LineFault) → Fails f read → is_memory (fault.Script (s.Line f)) ≡ false → read ≡ Err f
+line_fails : {Y : Type 0} (read : Result Y LineFault) (f : LineFault) → Fails f read → is_memory (fault.Part (s.Line f)) ≡ false → read ≡ Err f
 line_fails read (l.BadLine n) wrong no_memory = wrong
 line_fails read (l.UnknownName n) wrong no_memory = wrong
 line_fails read (l.WrongKeys n) wrong no_memory = wrong
@@ -124,7 +124,7 @@ line_fails read l.Memory wrong no_memory = absurd (cc)
 
 -- a fault of a part that is no longer than an input may be is one of its lines
 part_fails : {Y : Type 0} (read : Result Y LineFault) (part : List ℕ) (Q : PartFault → Type 0) → length part ≤ input_limit
-    → ((f : LineFault) → read ≡ Err f → Q (s.Line f)) → (f : PartFault) → IsPartFault read part f → is_memory (fault.Script f) ≡ false → Q f
+    → ((f : LineFault) → read ≡ Err f → Q (s.Line f)) → (f : PartFault) → IsPartFault read part f → is_memory (fault.Part f) ≡ false → Q f
 part_fails read part Q within told (s.Input i.TooLong) wrong no_memory = absurd (omega (arith, wrong, within))
 part_fails read part Q within told (s.Input i.ReadFault) wrong no_memory = absurd wrong
 part_fails read part Q within told (s.Input i.Memory) wrong no_memory = absurd (cc)
@@ -137,8 +137,8 @@ script_done : (robust : Bool) (set : DraftTree) (part : List ℕ) → MayRun rob
     → IsPartDone (Run robust) set part written (as_command inner)
 script_done robust set part may within _ _ (r.done script is finding written adds) ends = (inl (may, (finding, ends, script, is.read, adds, refl)), tt)
 script_done robust set part may within _ _ (r.refused f wrong) ends =
-    let told = part_fails (script_of set part) part (λ g. IsFaultOfPart (Run robust) set part (fault.Script g)) within (λ g e. (may, e)) f wrong in
-    (tt, part_at_once (Run robust) set part (fault.Script f) told)
+    let told = part_fails (script_of set part) part (λ g. IsFaultOfPart (Run robust) set part (fault.Part g)) within (λ g e. (may, e)) f wrong in
+    (tt, part_at_once (Run robust) set part (fault.Part f) told)
 script_done robust set part may within _ _ (r.stopped script is written first) ends = (tt, ((λ no_memory. absurd (cc)), (λ memory. inr (may, script, is.read, first))))
 
 -- what a run writes of the bytes at hand
@@ -223,11 +223,11 @@ fault_of_part mode input set part two has (fault.Analysis f) wrong = (wrong.0, s
 fault_of_part mode input set part two has (fault.Repair f) wrong = absurd wrong
 fault_of_part mode input set part two has (fault.Json f) wrong = (set, part, has.has, wrong)
 fault_of_part mode input set part two has (fault.Certificate f) wrong = (set, part, has.has, wrong)
-fault_of_part mode input set part two has (fault.Script f) wrong = (set, part, has.has, wrong)
+fault_of_part mode input set part two has (fault.Part f) wrong = (set, part, has.has, wrong)
 fault_of_part mode input set part two has (fault.Audit f) wrong = (set, part, has.has, wrong)
 fault_of_part mode input set part two has (fault.Work f) wrong = (set, part, has.has, wrong)
 fault_of_part mode input set part two has (fault.Input f) wrong = absurd wrong
-fault_of_part mode input set part two has (fault.Parts f) wrong = absurd wrong
+fault_of_part mode input set part two has (fault.Split f) wrong = absurd wrong
 fault_of_part mode input set part two has (fault.Text f) wrong = absurd wrong
 fault_of_part mode input set part two has (fault.Check f) wrong = absurd wrong
 

@@ -172,9 +172,9 @@ IsFaultOfText text f = ⊥
 abbrev pub IsFaultOfInput : (wanted : ℕ) → List ℕ → CommandFault → Type 0
 IsFaultOfInput wanted input (fault.Input input_fault.TooLong) = input_limit < length input
 IsFaultOfInput wanted input (fault.Input f) = ⊥
-IsFaultOfInput wanted input (fault.Parts split_fault.MissingPart) =
+IsFaultOfInput wanted input (fault.Split split_fault.MissingPart) =
     (length input ≤ input_limit) × (length (parts_of input) < wanted)
-IsFaultOfInput wanted input (fault.Parts split_fault.ExtraPart) =
+IsFaultOfInput wanted input (fault.Split split_fault.ExtraPart) =
     (length input ≤ input_limit) × (wanted < length (parts_of input))
 IsFaultOfInput wanted input f =
     (text : List ℕ) × (others : List (List ℕ))
@@ -213,7 +213,7 @@ pub record IsUndone (workers : ℕ) (set : DraftTree) (part : List ℕ) (told : 
 -- as a history, of its certificate, or of the workers
 abbrev pub IsFaultOfPart : Mode → DraftTree → List ℕ → CommandFault → Type 0
 IsFaultOfPart mode set part (fault.Analysis f) = IsAnalysedFor mode × IsUnanalysed set f
-IsFaultOfPart mode set part (fault.Script (part_fault.Line f)) = IsFaultOfLine mode set part f
+IsFaultOfPart mode set part (fault.Part (part_fault.Line f)) = IsFaultOfLine mode set part f
 IsFaultOfPart mode set part (fault.Audit f) =
     (mode ≡ Audit) × (records : ItemList HistoryRow)
     × (records_of set part ≡ Ok records) × IsAuditFault set records.rows records.items f
@@ -246,7 +246,7 @@ IsFaultOf mode input (fault.Analysis f) = IsFaultOfSet mode input f
 IsFaultOf mode input (fault.Repair f) = IsFaultOfRepair mode input f
 IsFaultOf mode input (fault.Json f) = IsFaultByPart mode input (fault.Json f)
 IsFaultOf mode input (fault.Certificate f) = IsFaultByPart mode input (fault.Certificate f)
-IsFaultOf mode input (fault.Script f) = IsFaultByPart mode input (fault.Script f)
+IsFaultOf mode input (fault.Part f) = IsFaultByPart mode input (fault.Part f)
 IsFaultOf mode input (fault.Audit f) = IsFaultByPart mode input (fault.Audit f)
 IsFaultOf mode input (fault.Work f) = IsFaultByPart mode input (fault.Work f)
 IsFaultOf mode input f = IsFaultOfInput (parts_wanted mode) input f

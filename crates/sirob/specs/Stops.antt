@@ -26,7 +26,7 @@ use Rattle.sirob.specs.Status.{status_of}
 
 -- the sink failed
 abbrev pub write_lost : CommandFault
-write_lost = fault.Script part_fault.WriteFault
+write_lost = fault.Part part_fault.WriteFault
 
 -- ---- an analysis
 
@@ -65,12 +65,12 @@ IsPartDone mode set part written ended =
 
 -- the first fault of the lines of jobs
 abbrev pub IsFaultOfJobs : DraftTree → List ℕ → CommandFault → Type 0
-IsFaultOfJobs set part f = (g : LineFault) × (f ≡ fault.Script (part_fault.Line g)) × (jobs_of set part ≡ Err g)
+IsFaultOfJobs set part f = (g : LineFault) × (f ≡ fault.Part (part_fault.Line g)) × (jobs_of set part ≡ Err g)
 
 -- the end of a script's run as that of a command
 abbrev pub as_command : Result Serializability PartFault → Result Status CommandFault
 as_command (Ok finding) = Ok (status_of finding)
-as_command (Err f) = Err (fault.Script f)
+as_command (Err f) = Err (fault.Part f)
 
 -- ---- an input
 

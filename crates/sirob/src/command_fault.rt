@@ -18,14 +18,14 @@ use std::alloc::{AllocError, Global};
 #[derive(Clone, Copy, Debug, PartialEq, Eq)]
 pub enum CommandFault {
     Input(InputFault),
-    Parts(SplitFault),
+    Split(SplitFault),
     Text(TextFault),
     Check(CheckFault),
     Analysis(AnalyseFault),
     Repair(RepairFault),
     Json(JsonFault),
     Certificate(CertFault),
-    Script(PartFault),
+    Part(PartFault),
     Audit(AuditFault),
     Work(WorkerFault),
 }
@@ -130,14 +130,14 @@ pub fn fault_line(alloc: Global, fault: CommandFault) -> Result<String, AllocErr
 {
     let text = match fault {
         CommandFault::Input(fault) => format!(in alloc; "{fault}")?,
-        CommandFault::Parts(fault) => split_fault(alloc, fault)?,
+        CommandFault::Split(fault) => split_fault(alloc, fault)?,
         CommandFault::Text(fault) => text_fault(alloc, fault)?,
         CommandFault::Check(fault) => check_fault(alloc, fault)?,
         CommandFault::Analysis(fault) => format!(in alloc; "{fault}")?,
         CommandFault::Repair(fault) => format!(in alloc; "{fault}")?,
         CommandFault::Json(fault) => format!(in alloc; "{fault}")?,
         CommandFault::Certificate(fault) => format!(in alloc; "{fault}")?,
-        CommandFault::Script(fault) => format!(in alloc; "{fault}")?,
+        CommandFault::Part(fault) => format!(in alloc; "{fault}")?,
         CommandFault::Audit(fault) => audit_fault(alloc, fault)?,
         CommandFault::Work(fault) => format!(in alloc; "{fault}")?,
     };
@@ -157,12 +157,12 @@ impl From<InputFault> for CommandFault {
 
 impl From<SplitFault> for CommandFault {
     ghost use Rattle.std.specs.Prelude.{◌≡◌};
-    ghost use Rattle.sirob.specs.declared.command_fault.CommandFault.TheVariants.{Parts};
+    ghost use Rattle.sirob.specs.declared.command_fault.CommandFault.TheVariants.{Split};
 
-    ghost from_gives = { λ fault e. e ≡ Parts fault };
+    ghost from_gives = { λ fault e. e ≡ Split fault };
 
     fn from(fault: SplitFault) -> Self {
-        CommandFault::Parts(fault)
+        CommandFault::Split(fault)
     }
 }
 
@@ -223,24 +223,24 @@ impl From<JsonFault> for CommandFault {
 
 impl From<PartFault> for CommandFault {
     ghost use Rattle.std.specs.Prelude.{◌≡◌};
-    ghost use Rattle.sirob.specs.declared.command_fault.CommandFault.TheVariants.{Script};
+    ghost use Rattle.sirob.specs.declared.command_fault.CommandFault.TheVariants.{Part};
 
-    ghost from_gives = { λ fault e. e ≡ Script fault };
+    ghost from_gives = { λ fault e. e ≡ Part fault };
 
     fn from(fault: PartFault) -> Self {
-        CommandFault::Script(fault)
+        CommandFault::Part(fault)
     }
 }
 
 impl From<LineFault> for CommandFault {
     ghost use Rattle.std.specs.Prelude.{◌≡◌};
-    ghost use Rattle.sirob.specs.declared.command_fault.CommandFault.TheVariants.{Script};
+    ghost use Rattle.sirob.specs.declared.command_fault.CommandFault.TheVariants.{Part};
     ghost use Rattle.si_engine.specs.declared.input.part_fault.PartFault.TheVariants.{Line};
 
-    ghost from_gives = { λ fault e. e ≡ Script (Line fault) };
+    ghost from_gives = { λ fault e. e ≡ Part (Line fault) };
 
     fn from(fault: LineFault) -> Self {
-        CommandFault::Script(PartFault::Line(fault))
+        CommandFault::Part(PartFault::Line(fault))
     }
 }
 
@@ -293,8 +293,8 @@ impl CommandFault {
                 | CommandFault::Repair(RepairFault::Memory)
                 | CommandFault::Json(JsonFault::Memory)
                 | CommandFault::Certificate(CertFault::Memory)
-                | CommandFault::Script(PartFault::Input(InputFault::Memory))
-                | CommandFault::Script(PartFault::Line(LineFault::Memory))
+                | CommandFault::Part(PartFault::Input(InputFault::Memory))
+                | CommandFault::Part(PartFault::Line(LineFault::Memory))
                 | CommandFault::Audit(AuditFault::Memory)
                 | CommandFault::Work(WorkerFault::Memory)
         )

@@ -18,6 +18,6 @@ pub fn write_lines<K: Sink>(
 {
     match write_whole(sink, lines) {
         Ok(()) => ended,
-        Err(_) => Err(CommandFault::Script(PartFault::WriteFault)),
+        Err(_) => Err(CommandFault::Part(PartFault::WriteFault)),
     }
 }

@@ -88,7 +88,7 @@ fn set_words(
 ) -> Result<Option<String>, AllocError> {
     match fault {
         CommandFault::Repair(fault) => repair_fault_words(alloc, input.text, set, fault),
-        CommandFault::Script(PartFault::Line(fault)) => {
+        CommandFault::Part(PartFault::Line(fault)) => {
             line_fault_words(alloc, kind_of(mode), set, input.part, fault)
         }
         CommandFault::Audit(fault) => record_words(alloc, set, input.part, fault),
@@ -112,10 +112,10 @@ fn words_of(
             Ok(Some(words))
         }
         CommandFault::Check(fault) => check_words(alloc, input.text, fault),
-        CommandFault::Input(fault) | CommandFault::Script(PartFault::Input(fault)) => {
+        CommandFault::Input(fault) | CommandFault::Part(PartFault::Input(fault)) => {
             input_sentence(alloc, fault)
         }
-        CommandFault::Parts(fault) => part_sentence(alloc, mode, input, fault),
+        CommandFault::Split(fault) => part_sentence(alloc, mode, input, fault),
         CommandFault::Analysis(fault) => analysis_sentence(alloc, fault),
         CommandFault::Work(fault) => work_sentence(alloc, fault),
         CommandFault::Json(fault) => {
