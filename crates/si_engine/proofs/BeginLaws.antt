@@ -11,13 +11,12 @@ use Rattle.prog_tree.specs.declared.program.Draft.{Draft}
 use Rattle.prog_tree.specs.declared.program.Program.{Program}
 use Rattle.prog_tree.specs.Tree.{draft_tree, program_tree}
 use Rattle.prog_run.specs.Looks.{AreFound}
-use Rattle.prog_run.specs.declared.fault.RunFault.TheVariants as run_fault
-use Rattle.prog_run.specs.View.{RunView, IsTrueRun, begin_fault, begun}
+use Rattle.prog_run.specs.View.{RunView, IsTrueRun, begun}
 use Rattle.history_book.specs.History.{Instance}
 use Rattle.history_book.specs.Runs.{IsOwnRun}
 use Rattle.history_book.specs.Ticket.{TicketView}
 use Rattle.history_book.specs.View as book
-use Rattle.history_book.specs.View.{BookView, state_in, instance_of, history_of, start_fault, full_fault, fault_at, begin_at_fault_of, ticket_at, begun_at}
+use Rattle.history_book.specs.View.{BookView, state_in, instance_of, history_of, full_fault, fault_at, begin_at_fault_of, ticket_at, begun_at}
 use Rattle.history_book.specs.declared.fault.BeginFault.{BeginFault}
 use Rattle.history_book.specs.declared.fault.BeginFault.TheVariants.{WrongArguments, TooOld, TooNew, Full}
 use Rattle.history_book.proofs.HistoryLaws.{get-push}
@@ -36,20 +35,6 @@ use Rattle.si_engine.proofs.PlaceLaws.{numbered-push, length-numbered}
 
 program_at : (set_of : Draft) (n : ℕ) (p : Program) → slice_get set_of.programs.items n ≡ Some p → slice_get (draft_tree set_of).programs n ≡ Some (program_tree p)
 program_at set_of n p found = slice_get-map program_tree set_of.programs.items n ∙ ap (option_map program_tree) found
-
--- a run of what a book does not refuse is not refused
-pub no_run_fault : (v : BookView) (start program : ℕ) (args : List ℤ) → begin_at_fault_of v start program args ≡ None →
-    begin_fault (slice_get v.set.programs.items program) args ≡ None
-no_run_fault v start program args none = go (slice_get v.set.programs.items program) none
-  where
-    go : (found : Option Program) → fault_at v start found args ≡ None → begin_fault found args ≡ None
-    go None is = absurd (cc)
-    go (Some p) is = by_size (length p.params.items == length args) is
-      where
-        by_size : (fits : Bool) → cond (not fits) (Some WrongArguments) (option_or (start_fault v start) (full_fault v)) ≡ None →
-            cond fits None (Some run_fault.WrongArguments) ≡ None
-        by_size true is = refl
-        by_size false is = absurd (cc)
 
 -- a begin at a number begins there, or is refused as the book refuses it
 abbrev IsAnswered : Machine → (start program : ℕ) → List ℤ → Option BeginFault → Reply × Machine → Type 0

@@ -31,11 +31,6 @@ pub words-cut : (bs word rest : List ℕ) → 0 < length bs → word ≡ before_
 words-cut bs word rest some first behind full =
     ap (filter (λ w. not (length w == 0))) (pieces-cut 32 bs some ∙ (λ i. sym first i ∷ pieces 32 (sym behind i))) ∙ rw full refl
 
--- an empty piece in front of the words
-pub words-cut_empty : (bs word rest : List ℕ) → 0 < length bs → word ≡ before_first (λ c. c == 32) bs → rest ≡ after_first (λ c. c == 32) bs → (length word == 0) ≡ true → words_of bs ≡ words_of rest
-words-cut_empty bs word rest some first behind empty =
-    ap (filter (λ w. not (length w == 0))) (pieces-cut 32 bs some ∙ (λ i. sym first i ∷ pieces 32 (sym behind i))) ∙ rw empty refl
-
 -- what stands behind the one at a place
 pub behind_place : {X : Type 0} (xs back : List X) (k : ℕ) → back ≡ drop k xs → take (length back - 1) (drop 1 back) ≡ drop (k + 1) xs
 behind_place xs back k is =

@@ -1,14 +1,8 @@
 -- Laws on lines that are added to a text.
-use Rattle.std.proofs.Common.{◌≡◌, List, [], ◌∷◌, ◌++◌, ℕ, refl, sym, ap, ◌∙◌, append_assoc, append-nil}
+use Rattle.std.proofs.Common.{◌≡◌, List, [], ◌∷◌, ◌++◌, ℕ, sym, ap, ◌∙◌, append_assoc, append-nil}
 use Rattle.std.specs.List.{concat}
 use Rattle.std.proofs.lemmas.List.Folds.{concat-append}
 use Rattle.si_engine.specs.Runs.{AddsLines, AddsFirst}
-
-pub adds_nothing : (text : List ℕ) → AddsLines [] text text
-adds_nothing text = sym (append-nil text)
-
-pub adds_none : (lines : List (List ℕ)) (text : List ℕ) → AddsFirst lines text text
-adds_none lines text = ([], lines, refl, adds_nothing text)
 
 -- lines, and then more of them
 pub adds_both : (a b : List (List ℕ)) (s t u : List ℕ) → AddsLines a s t → AddsLines b t u → AddsLines (a ++ b) s u

@@ -56,9 +56,6 @@ as-before (Some t) = refl
 pub told-none : (ts : List Told) → AreToldMore ts ts []
 told-none ts k = as-before (slice_get ts k)
 
-pub told-start : (ts us : List Told) → us ≡ ts → AreToldMore ts us []
-told-start ts us same = subst (λ (vs : List Told). AreToldMore ts vs []) (sym same) (told-none ts)
-
 -- the reports of one list, and those of another behind it
 pub told-both :
     (first next last : List Told) (rs ss : List Report) → AreToldMore first next rs → AreToldMore next last ss → AreToldMore first last (rs ++ ss)

@@ -269,18 +269,6 @@ writes_just P bytes given failed old new status is writes =
     writes_as (IsJust bytes given) P failed old new status
     (λ written ended just. subst (λ w. P w ended) (sym just.0) (subst (λ s. P bytes s) (sym just.1) is)) writes
 
--- all of the bytes were written
-pub wrote_all : (bytes : List ℕ) (given : Status) (failed : Bool) (old new : Option (List ℕ))
-    → failed ≡ false → Appends old new bytes → WritesWithStatus (IsJust bytes given) failed old new given
-wrote_all bytes given false old new works appends = (bytes, (refl, refl), appends)
-wrote_all bytes given true old new works appends = absurd (cc)
-
--- some first of the bytes were written
-pub wrote_front : (bytes : List ℕ) (given : Status) (failed : Bool) (old new : Option (List ℕ))
-    → failed ≡ true → AppendsFront old new bytes → WritesWithStatus (IsJust bytes given) failed old new status.Faulty
-wrote_front bytes given false old new fails appends = absurd (cc)
-wrote_front bytes given true old new fails appends = (refl, bytes, given, (refl, refl), appends)
-
 -- some first of the bytes are some first of them and others
 pub front_before : (old new : Option (List ℕ)) (first second : List ℕ) → AppendsFront old new first → AppendsFront old new (first ++ second)
 front_before old new first second (n, appends) =
