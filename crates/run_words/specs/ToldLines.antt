@@ -131,9 +131,9 @@ abbrev pub further_text : (count : ℕ) → List ℕ
 further_text count =
     if count == 0 then [] else codes "further lines that do nothing: " ++ (decimal count ++ codes "\n")
 
--- the words tell this line, then each other one that is told, and how many more there are
-abbrev pub TellsRefused : (ahead part : List ℕ) → (first : Option ℕ) → Refusals → (words : List ℕ) → Type 0
-TellsRefused ahead part first refusals words =
-    (line lines : List ℕ) × PointsAtLineIn ahead part first line
+-- the words tell the first line, then each other one that is told, and how many more there are
+abbrev pub TellsRefused : (ahead part : List ℕ) → Refusals → (words : List ℕ) → Type 0
+TellsRefused ahead part refusals words =
+    (line lines : List ℕ) × PointsAtLineIn ahead part (first_told refusals) line
     × TellsEach (TellsLine ahead part) (drop 1 (told_lines refusals)) lines
     × (words ≡ line ++ (lines ++ (following_text refusals.following ++ further_text refusals.more)))

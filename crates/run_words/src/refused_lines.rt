@@ -124,9 +124,9 @@ fn told_words(
     refusals: &Refusals,
     first: Refused,
 ) -> Result<Option<String>, AllocError>
+    requires { first_told refusals.now ≡ Some first.line }
     ensures said { IfOk result (λ said. IfSome said (λ words.
-        TellsRefused part.entry.ahead.now part.entry.bytes.now (Some first.line) refusals.now
-        (string_bytes words))) }
+        TellsRefused part.entry.ahead.now part.entry.bytes.now refusals.now (string_bytes words))) }
     ensures none { IfOk result (λ said. IfNone said (HasNoLine part.entry.bytes.now first.line)) }
 {
     let Some(first) = told_line(alloc, set, part, first)? else {
@@ -155,8 +155,7 @@ pub fn refused_words(
     refusals: &Refusals,
 ) -> Result<Option<String>, AllocError>
     ensures said { IfOk result (λ said. IfSome said (λ words.
-        TellsRefused part.entry.ahead.now part.entry.bytes.now (first_told refusals.now)
-        refusals.now (string_bytes words))) }
+        TellsRefused part.entry.ahead.now part.entry.bytes.now refusals.now (string_bytes words))) }
     ensures none { IfOk result (λ said. IfNone said
         (HasNoLineOf part.entry.bytes.now (first_told refusals.now))) }
 {

@@ -1,13 +1,10 @@
-use Rattle.std.proofs.Common.{◌≡◌, ◌∙◌, ℕ, None, Option, Some, IfNone, IfOk, IfSome, ap, string_bytes, subst, sym}
+use Rattle.std.proofs.Common.{◌≡◌, ◌∙◌, ℕ, None, Option, Some, IfNone, IfOk, ap, subst, sym}
 use Rattle.run_words.specs.PartPointing.{HasNoLineOf}
-use Rattle.run_words.specs.ToldLines.{first_told, line_of, TellsRefused}
+use Rattle.run_words.specs.ToldLines.{first_told, line_of}
 use Rattle.run_words.proofs.refused_lines.refused_words.Goals as goal
 
-pub returns-in-Some-clause-said : goal.returns-in-Some-clause-said
-returns-in-Some-clause-said c =
-    let told : first_told c.args.refusals.now ≡ Some c.in-Some.first.line = ap line_of (sym c.first.ensures ∙ c.in-Some.is) in
-    subst (λ (line : Option ℕ). IfOk c.told_words.result (λ said. IfSome said (λ words. TellsRefused c.args.part.ahead.now c.args.part.bytes.now line c.args.refusals.now (string_bytes words))))
-    (sym told) c.told_words.ensures.said
+pub told_words-requires : goal.told_words-requires
+told_words-requires c = ap line_of (sym c.first.ensures ∙ c.in-Some.is)
 
 pub returns-in-Some-clause-none : goal.returns-in-Some-clause-none
 returns-in-Some-clause-none c =
