@@ -13,11 +13,11 @@ use Rattle.version_store.specs.declared.clash.Clash.{Clash}
 use Rattle.si_engine.specs.Headline.{Call}
 use Rattle.si_workers.specs.Calls.{is_same_call, is_same_cause, is_same_clash}
 use Rattle.si_workers.specs.Keys.{call_at, cause_at, clash_at, call_cmp, cause_cmp, abort_cmp, clash_cmp}
-use Rattle.si_workers.specs.declared.call.AbortKey.{AbortKey}
-use Rattle.si_workers.specs.declared.call.CallKey.{CallKey}
-use Rattle.si_workers.specs.declared.call.CauseKey.{CauseKey}
-use Rattle.si_workers.specs.declared.call.CauseKey.TheVariants.{Asked, Missing, Present, Overflow}
-use Rattle.si_workers.specs.declared.call.ClashKey.{ClashKey}
+use Rattle.si_workers.specs.declared.keys.AbortKey.{AbortKey}
+use Rattle.si_workers.specs.declared.keys.CallKey.{CallKey}
+use Rattle.si_workers.specs.declared.keys.CauseKey.{CauseKey}
+use Rattle.si_workers.specs.declared.keys.CauseKey.TheVariants.{Asked, Missing, Present, Overflow}
+use Rattle.si_workers.specs.declared.keys.ClashKey.{ClashKey}
 
 -- ---- keys that compare equal
 

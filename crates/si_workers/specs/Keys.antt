@@ -7,12 +7,12 @@ use Rattle.prog_tree.specs.declared.deed.Cause.{Cause}
 use Rattle.prog_tree.specs.declared.deed.Cause.TheVariants as cause
 use Rattle.version_store.specs.declared.clash.Clash.{Clash}
 use Rattle.si_engine.specs.Headline.{Call}
-use Rattle.si_workers.specs.contracts.call.CauseKeyOrd.TheImpl.{cmp-value}
-use Rattle.si_workers.specs.declared.call.AbortKey.{AbortKey}
-use Rattle.si_workers.specs.declared.call.CallKey.{CallKey}
-use Rattle.si_workers.specs.declared.call.CauseKey.{CauseKey}
-use Rattle.si_workers.specs.declared.call.CauseKey.TheVariants.{Asked, Missing, Present, Overflow}
-use Rattle.si_workers.specs.declared.call.ClashKey.{ClashKey}
+use Rattle.si_workers.specs.contracts.keys.CauseKeyOrd.TheImpl.{cmp-value}
+use Rattle.si_workers.specs.declared.keys.AbortKey.{AbortKey}
+use Rattle.si_workers.specs.declared.keys.CallKey.{CallKey}
+use Rattle.si_workers.specs.declared.keys.CauseKey.{CauseKey}
+use Rattle.si_workers.specs.declared.keys.CauseKey.TheVariants.{Asked, Missing, Present, Overflow}
+use Rattle.si_workers.specs.declared.keys.ClashKey.{ClashKey}
 
 -- ---- what keys stand for
 

@@ -6,9 +6,9 @@ ghost use Rattle.si_workers.specs.Calls.{call_of};
 ghost use Rattle.si_workers.specs.Outcomes.{AreAsMany, AreClashesTold, AreCommitsTold, AreRightTries, Correspond, IsAllOfJobs, IsBroken, IsClashTold, IsCommitOf, IsFirstFallen, IsNamedOnce, IsOfSomeJob, IsOver, IsRecordOf, IsRightEnd, IsRightRefusal, Stands, nearly_full};
 
 use crate::assignment::Assignment;
-use crate::call::CallKey;
 use crate::counts::Counts;
 use crate::job::{Job, JobEnd};
+use crate::keys::CallKey;
 use crate::told::Tiding;
 use history_book::{BeginFault, Book, Ending, HistoryRow, MAX_ENDINGS};
 use std::alloc::{AllocError, Global};

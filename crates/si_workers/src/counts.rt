@@ -5,7 +5,7 @@ ghost use Rattle.si_workers.specs.KeptAndTold.{aborts_told, commits_told};
 ghost use Rattle.si_workers.specs.Keys.{call_at};
 ghost use Rattle.si_workers.specs.Outcomes.{AreAbortsTold, AreAsMany, IsClashKept, IsNamedOnce};
 
-use crate::call::{AbortKey, CallKey, ClashKey};
+use crate::keys::{AbortKey, CallKey, ClashKey};
 use crate::tally::Tally;
 use crate::told::Tiding;
 use history_book::{Clash, Ending};

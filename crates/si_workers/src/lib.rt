@@ -3,7 +3,6 @@
 #![tactic(auto)]
 
 mod assignment;
-mod call;
 mod comparing;
 mod counts;
 mod desk;
@@ -12,6 +11,7 @@ mod gate;
 mod job;
 mod job_line;
 mod job_list;
+mod keys;
 mod limits;
 mod notes;
 mod run;

@@ -4,8 +4,8 @@ ghost use Rattle.std.specs.Prelude.{if◌then◌else◌};
 ghost use Rattle.si_workers.specs.KeptAndTold.{clashes_of, is_abort, is_clash_of, is_clash_on, names, tells_abort};
 ghost use Rattle.si_workers.specs.Keys.{call_at, cause_at, clash_at};
 
-use crate::call::{AbortKey, CallKey, ClashKey};
 use crate::job::JobEnd;
+use crate::keys::{AbortKey, CallKey, ClashKey};
 use crate::tally::Notes;
 use crate::told::Tiding;
 use history_book::Ending;

@@ -49,14 +49,15 @@ pub(crate) fn begin_seeing<'a>(
     Ok(ticket)
 }
 
-// Begins an instance at the newest number.
+// Each call is made by a function on the book itself, where its clause is proved: behind a guard a
+// proof knows only that the value is a book.
+
 fn begin_newest(book: &mut Book<'_>, program: usize, args: &[i64]) -> Result<Ticket, BeginFault>
     ensures { IfErr result IsOfNoNumber }
 {
     book.begin(program, args)
 }
 
-// Begins an instance at a number.
 fn begin_there(
     book: &mut Book<'_>,
     start: u64,
@@ -68,7 +69,6 @@ fn begin_there(
     book.begin_at(start, program, args)
 }
 
-// The rows of a region for the instance of a ticket.
 fn rows_there(
     book: &Book<'_>,
     ticket: &Ticket,
@@ -79,7 +79,6 @@ fn rows_there(
     book.scan(ticket, region)
 }
 
-// Commits the instance of a ticket by its run.
 fn commit_there<'a>(
     book: &mut Book<'a>,
     ticket: Ticket,
@@ -90,14 +89,12 @@ fn commit_there<'a>(
     book.commit(ticket, run)
 }
 
-// Ends the instance of a ticket by its run.
 fn end_there<'a>(book: &mut Book<'a>, ticket: Ticket, run: Run<'a>) -> Result<(), EndFault<'a>>
     ensures { IsEndAnswer ticket run.entry result }
 {
     book.end(ticket, run)
 }
 
-// Withdraws the instance of a ticket.
 fn withdraw_there(book: &mut Book<'_>, ticket: Ticket) -> Result<(), Ticket>
     ensures { IfErr result (λ back. back ≡ ticket) }
 {

@@ -4,7 +4,7 @@ use Rattle.prog_tree.specs.declared.deed.Cause.{Cause}
 use Rattle.si_workers.specs.Counts.{Counted}
 use Rattle.si_workers.specs.KeptAndTold.{aborts_told}
 use Rattle.si_workers.specs.Keys.{call_at, cause_at}
-use Rattle.si_workers.specs.declared.call.CallKey.{CallKey}
+use Rattle.si_workers.specs.declared.keys.CallKey.{CallKey}
 use Rattle.si_workers.proofs.CountLemmas.{positive_told}
 use Rattle.si_workers.proofs.counts.Counts.is_abort_told.Goals as goal
 

@@ -5,7 +5,7 @@ use Rattle.std.specs.List.{list_any}
 use Rattle.si_workers.specs.Counts.{Counted}
 use Rattle.si_workers.specs.KeptAndTold.{is_clash_on}
 use Rattle.si_workers.specs.Keys.{call_at, clash_at}
-use Rattle.si_workers.specs.declared.call.CallKey.{CallKey}
+use Rattle.si_workers.specs.declared.keys.CallKey.{CallKey}
 use Rattle.si_workers.proofs.CountLemmas.{any_told}
 use Rattle.si_workers.proofs.counts.Counts.is_clash_kept.Goals as goal
 
