@@ -7,7 +7,7 @@ use Rattle.si_engine.specs.declared.event.Event.TheVariants as e
 use Rattle.si_engine.specs.declared.input.line_fault.LineFault.TheVariants as f
 use Rattle.si_engine.specs.Lines.{lines_of, words_of}
 use Rattle.si_engine.specs.Numbers.{i64_of, number_between}
-use Rattle.si_engine.specs.Commands.{line_command, command_of, row_command, call_of, begin_command, begin_at_command, step_command, commit_command, abort_command, vacuum_command}
+use Rattle.si_engine.specs.Commands.{line_command, command_of, row_command, call_of, begin_command, begin_at_command, step_command, one_instance, commit_command, abort_command, vacuum_command}
 use Rattle.si_engine.specs.RowLines.{row_line_of}
 use Rattle.si_engine.specs.Sayings.{sayings_from}
 use Rattle.si_engine.specs.Script.{script_of, room_fault}
@@ -112,7 +112,7 @@ unfolding draft line_command command_of step_command
 steps = refl
 
 commit : line_command draft 1 (codes " commit 3") ≡ Ok (Event (e.Commit 3))
-unfolding draft line_command command_of commit_command
+unfolding draft line_command command_of one_instance commit_command
 commit = refl
 
 comment : line_command draft 1 (codes "# commit") ≡ Ok Skip
@@ -124,11 +124,11 @@ unfolding line_command command_of
 spaces_alone = refl
 
 abort : line_command draft 1 (codes "abort 2") ≡ Ok (Event (e.Abort 2))
-unfolding draft line_command command_of abort_command
+unfolding draft line_command command_of one_instance abort_command
 abort = refl
 
 abort_of_nothing : line_command draft 3 (codes "abort") ≡ Err (f.BadLine 3)
-unfolding draft line_command command_of abort_command
+unfolding draft line_command command_of one_instance abort_command
 abort_of_nothing = refl
 
 vacuum : line_command draft 1 (codes "vacuum ") ≡ Ok (Event e.Vacuum)
@@ -176,15 +176,15 @@ script : script_of draft (codes "# rows\nrow e 7 1 = 9\r\nrow t 2 = 5\n\nrow t 1
   rows = (record { table = 0; first = pos 1; second = pos 0 }, pos 4) ∷ (record { table = 0; first = pos 2; second = pos 0 }, pos 5) ∷ (record { table = 1; first = pos 7; second = pos 1 }, pos 9) ∷ [];
   events = e.Begin 0 (pos 1 ∷ []) ∷ e.Step 0 ∷ e.Step 0 ∷ e.Commit 0 ∷ [];
 })
-unfolding draft sayings_from line_command command_of row_command row_line_of begin_command call_of step_command commit_command
+unfolding draft sayings_from line_command command_of row_command row_line_of begin_command call_of step_command one_instance commit_command
 script = refl
 
 row_behind_a_vacuum : script_of draft (codes "vacuum\nabort 0\nrow t 2 = 1") ≡ Err (f.LateRow 3)
-unfolding draft sayings_from line_command command_of row_command row_line_of abort_command vacuum_command
+unfolding draft sayings_from line_command command_of row_command row_line_of one_instance abort_command vacuum_command
 row_behind_a_vacuum = refl
 
 late_row : script_of draft (codes "row t 1 = 1\ncommit 0\n\nrow t 2 = 1\nrow t 1 = 1") ≡ Err (f.LateRow 4)
-unfolding draft sayings_from line_command command_of row_command row_line_of commit_command
+unfolding draft sayings_from line_command command_of row_command row_line_of one_instance commit_command
 late_row = refl
 
 repeated_row : script_of draft (codes "row t 1 = 1\nrow t 2 = 1\n# again\nrow t 01 = 2\njump") ≡ Err (f.RepeatedRow 4)

@@ -48,8 +48,10 @@ begin_at_command draft line (start ∷ words) = do
 abbrev pub instance_number : List ℕ → Option ℕ
 instance_number word = number_between 0 greatest_instance word
 
-abbrev pub steps_of : List ℕ → List ℕ → Option Command
-steps_of instance times = option_and_then (λ i. option_map (says.Steps i) (number_between 1 most_steps times)) (instance_number instance)
+-- so many steps of an instance
+abbrev pub steps_of : (number times : List ℕ) → Option Command
+steps_of number times =
+    option_and_then (λ i. option_map (says.Steps i) (number_between 1 most_steps times)) (instance_number number)
 
 -- the words behind `step`: I, or I N
 unfoldable pub step_command : (line : ℕ) → List (List ℕ) → Result Command LineFault
@@ -57,15 +59,22 @@ step_command line (instance ∷ []) = ok_or (option_map (λ i. says.Steps i 1) (
 step_command line (instance ∷ times ∷ []) = ok_or (steps_of instance times) (BadLine line)
 step_command line words = Err (BadLine line)
 
+-- one word, the number of an instance
+unfoldable pub one_instance : (line : ℕ) → List (List ℕ) → Result ℕ LineFault
+one_instance line (number ∷ []) = ok_or (instance_number number) (BadLine line)
+one_instance line words = Err (BadLine line)
+
 -- the words behind `commit`: I
 unfoldable pub commit_command : (line : ℕ) → List (List ℕ) → Result Command LineFault
-commit_command line (instance ∷ []) = ok_or (option_map (λ i. says.Event (Commit i)) (instance_number instance)) (BadLine line)
-commit_command line words = Err (BadLine line)
+commit_command line words = do
+  instance ← one_instance line words
+  Ok (says.Event (Commit instance))
 
 -- the words behind `abort`: I
 unfoldable pub abort_command : (line : ℕ) → List (List ℕ) → Result Command LineFault
-abort_command line (instance ∷ []) = ok_or (option_map (λ i. says.Event (Abort i)) (instance_number instance)) (BadLine line)
-abort_command line words = Err (BadLine line)
+abort_command line words = do
+  instance ← one_instance line words
+  Ok (says.Event (Abort instance))
 
 -- the words behind `vacuum`: none
 unfoldable pub vacuum_command : (line : ℕ) → List (List ℕ) → Result Command LineFault

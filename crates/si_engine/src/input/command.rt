@@ -1,7 +1,7 @@
 //! Lines of a script as commands.
 ghost use Rattle.std.specs.Prelude.{◌≡◌, Ok};
 ghost use Rattle.prog_tree.specs.Tree.{draft_tree};
-ghost use Rattle.si_engine.specs.Commands.{row_command, instance_number, steps_of, call_of, begin_command, begin_at_command, step_command, commit_command, abort_command, vacuum_command, command_of, line_command};
+ghost use Rattle.si_engine.specs.Commands.{row_command, instance_number, one_instance, steps_of, call_of, begin_command, begin_at_command, step_command, commit_command, abort_command, vacuum_command, command_of, line_command};
 ghost use Rattle.si_engine.specs.LineFaults.{Reads};
 
 use crate::event::Event;
@@ -105,10 +105,10 @@ fn instance(word: &Word<'_>) -> Option<usize>
     number_between(0, MAX_INSTANCE, word.as_bytes())
 }
 
-fn steps(instance: &Word<'_>, times: &Word<'_>) -> Option<Command>
-    ensures { result ≡ steps_of instance.now times.now }
+fn steps(number: &Word<'_>, times: &Word<'_>) -> Option<Command>
+    ensures { result ≡ steps_of number.now times.now }
 {
-    let instance = self::instance(instance)?;
+    let instance = instance(number)?;
     let times = number_between(1, MAX_STEPS, times.as_bytes())?;
     Some(Command::Steps { instance, times })
 }
@@ -125,14 +125,22 @@ fn step(line: usize, words: &[Word<'_>]) -> Result<Command, LineFault>
     step.ok_or(LineFault::BadLine { line })
 }
 
-#[tactic(auto, unfolding(crate::specs::Commands::commit_command))]
-fn commit(line: usize, words: &[Word<'_>]) -> Result<Command, LineFault>
-    ensures { result ≡ commit_command line words.now }
+// The instance that a line names, and nothing else.
+#[tactic(auto, unfolding(crate::specs::Commands::one_instance))]
+fn one_instance(line: usize, words: &[Word<'_>]) -> Result<usize, LineFault>
+    ensures { result ≡ one_instance line words.now }
 {
     let [word] = words else {
         return Err(LineFault::BadLine { line });
     };
-    let instance = instance(word).ok_or(LineFault::BadLine { line })?;
+    instance(word).ok_or(LineFault::BadLine { line })
+}
+
+#[tactic(auto, unfolding(crate::specs::Commands::commit_command))]
+fn commit(line: usize, words: &[Word<'_>]) -> Result<Command, LineFault>
+    ensures { result ≡ commit_command line words.now }
+{
+    let instance = one_instance(line, words)?;
     Ok(Command::Event(Event::Commit(instance)))
 }
 
@@ -140,10 +148,7 @@ fn commit(line: usize, words: &[Word<'_>]) -> Result<Command, LineFault>
 fn abort(line: usize, words: &[Word<'_>]) -> Result<Command, LineFault>
     ensures { result ≡ abort_command line words.now }
 {
-    let [word] = words else {
-        return Err(LineFault::BadLine { line });
-    };
-    let instance = instance(word).ok_or(LineFault::BadLine { line })?;
+    let instance = one_instance(line, words)?;
     Ok(Command::Event(Event::Abort(instance)))
 }
 
