@@ -4,7 +4,9 @@
 
 mod expected;
 mod laws;
+mod limit_faults;
 mod limits;
+mod name_faults;
 mod naming;
 mod nearest;
 mod open_blocks;
