@@ -10,14 +10,14 @@ use Rattle.history_book.specs.Orders.{least_order, IsCycle}
 use Rattle.si_engine.specs.declared.output.finding.Serializability.{Serializability}
 use Rattle.si_engine.specs.declared.output.finding.Serializability.TheVariants.{Order, Cycle}
 
--- commit numbers, each behind a space
-abbrev pub commits_text : List ℕ → List ℕ
-commits_text numbers = flat_map (λ n. codes " " ++ decimal n) numbers
+-- numbers, each behind a space
+abbrev pub spaced_numbers : List ℕ → List ℕ
+spaced_numbers numbers = flat_map (λ n. codes " " ++ decimal n) numbers
 
 -- `order 2 1` or `cycle 1 2`; `order` alone where nothing was committed
 abbrev pub last_line : Serializability → List ℕ → List ℕ
-last_line Order numbers = codes "order" ++ (commits_text numbers ++ codes "\n")
-last_line Cycle numbers = codes "cycle" ++ (commits_text numbers ++ codes "\n")
+last_line Order numbers = codes "order" ++ (spaced_numbers numbers ++ codes "\n")
+last_line Cycle numbers = codes "cycle" ++ (spaced_numbers numbers ++ codes "\n")
 
 -- the least serial order of a history, or a cycle of its commits
 abbrev pub IsFinding : DraftTree → TableState → List Instance → Serializability → List ℕ → Type 0

@@ -1,7 +1,7 @@
 -- The text that refuses a set, by a dangerous structure of it.
 use Rattle.std.specs.Prelude.{ℕ, ℤ, Bool, true, false, List, [], ◌++◌, length, map, Option, Some, None, codes, slice_get}
 use Rattle.std.specs.Fmt.{decimal}
-use Rattle.std.specs.List.{flat_map, range_with_len}
+use Rattle.std.specs.List.{range_with_len}
 use Rattle.order_facts.specs.Sample.{sample_number}
 use Rattle.order_facts.specs.declared.sample.Choice.{Choice}
 use Rattle.prog_tree.specs.Syntax.{Name, DraftTree}
@@ -13,6 +13,7 @@ use Rattle.analysis_words.specs.Instances.{node_of}
 use Rattle.text_places.specs.Listing.{bracketed}
 use Rattle.dep_graph.specs.declared.danger.Danger.{Danger}
 use Rattle.dep_graph.specs.declared.danger.Exposure.{Exposure}
+use Rattle.si_engine.specs.LastLine.{spaced_numbers}
 
 -- ---- nodes
 
@@ -60,13 +61,9 @@ exposure_text set paths e =
     ++ (codes ", " ++ (access_text q.y (path_name set paths q.y) q.b
     ++ (codes ", " ++ sample_text e.sample (path_params set paths q.x) (path_params set paths q.y))))
 
--- nodes, each behind a space
-abbrev pub nodes_text : List ℕ → List ℕ
-nodes_text nodes = flat_map (λ n. codes " " ++ decimal n) nodes
-
 -- the refusal of a set: the two vulnerable edges, each by a question, and the way back
 abbrev pub refusal_text : DraftTree → Danger → List ℕ
 refusal_text set d =
     let edge = exposure_text set (paths_of set) in
     codes "refused\nfirst " ++ (edge d.first ++ (codes "\nsecond " ++ (edge d.second
-    ++ (codes "\nback" ++ (nodes_text d.back ++ codes "\n")))))
+    ++ (codes "\nback" ++ (spaced_numbers d.back ++ codes "\n")))))

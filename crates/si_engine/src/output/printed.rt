@@ -4,7 +4,7 @@
 ghost use Rattle.std.specs.Fmt.{signed_decimal};
 ghost use Rattle.std.specs.Prelude.{◌≡◌, ◌++◌, OnOk, OnErr, take, codes, string_bytes};
 ghost use Rattle.std.specs.Str.{IsCharBoundary};
-ghost use Rattle.si_engine.specs.LastLine.{commits_text, last_line};
+ghost use Rattle.si_engine.specs.LastLine.{last_line, spaced_numbers};
 ghost use Rattle.si_engine.specs.Printed.{deed_text, cause_text, reply_text, subject, reply_line, row_text_in, printed_row};
 ghost use Rattle.si_engine.specs.Writing.{AddsOrStays, AddsBytes};
 
@@ -214,7 +214,7 @@ pub fn push_row_line(
 // Adds a line of a word and numbers.
 fn write_numbers_line(text: &mut String, word: &str, numbers: &[usize]) -> Result<(), AllocError>
     ensures { AddsBytes text.old text.new result
-        (word.now ++ (commits_text numbers.now ++ codes "\n")) }
+        (word.now ++ (spaced_numbers numbers.now ++ codes "\n")) }
 {
     push_word(text, word)?;
     push_numbers(text, numbers)?;

@@ -1,7 +1,8 @@
 //! The text that refuses a set.
 ghost use Rattle.std.specs.Prelude.{◌≡◌, IfOk, string_bytes};
 ghost use Rattle.prog_tree.specs.Tree.{draft_tree};
-ghost use Rattle.sirob.specs.Refusal.{path_name, path_params, access_text, sample_numbers, sample_text, exposure_text, nodes_text, refusal_text};
+ghost use Rattle.si_engine.specs.LastLine.{spaced_numbers};
+ghost use Rattle.sirob.specs.Refusal.{path_name, path_params, access_text, sample_numbers, sample_text, exposure_text, refusal_text};
 
 use analysis_words::{branches_text, node_of};
 use conflict_pairs::Question;
@@ -103,7 +104,7 @@ fn exposure_text(
 
 // Nodes, each behind a space.
 fn nodes_text(alloc: Global, nodes: &[usize]) -> Result<String, AllocError>
-    ensures { IfOk result (λ text. string_bytes text ≡ nodes_text nodes.now) }
+    ensures { IfOk result (λ text. string_bytes text ≡ spaced_numbers nodes.now) }
 {
     let mut text = String::new(alloc);
     for node in nodes {
