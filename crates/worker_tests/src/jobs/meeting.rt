@@ -1,18 +1,15 @@
 //! A gate of the tests, at which two jobs meet.
 
+use crate::jobs::patience::Patience;
 use si_workers::{Gate, Moment};
 use std::sync::atomic::{AtomicU64, Ordering};
-use std::thread;
-use std::time::{Clock, Duration};
+use std::time::Clock;
 
 /// A job, and where a worker is with it.
 pub type At = (usize, Moment);
 
 /// At the first a job is held until the second has come.
 pub type Hold = (At, At);
-
-// A job is held for so many milliseconds at most.
-const MOST_TURNS: u64 = 10_000;
 
 // Which moments of a job have come: each is 1 from then on.
 #[derive(Drop)]
@@ -43,21 +40,19 @@ impl Moments {
 /// Holds jobs 0 and 1 until others have come as far as they have to.
 #[derive(Drop)]
 pub struct Meeting<'h, C: Clock> {
-    clock: &'h C,
     holds: &'h [Hold],
     first: Moments,
     second: Moments,
-    gave_up: AtomicU64,
+    patience: Patience<'h, C>,
 }
 
 impl<'h, C: Clock> Meeting<'h, C> {
     pub fn new(clock: &'h C, holds: &'h [Hold]) -> Meeting<'h, C> {
         Meeting {
-            clock,
             holds,
             first: Moments::none(),
             second: Moments::none(),
-            gave_up: AtomicU64::new(0),
+            patience: Patience::new(clock),
         }
     }
 
@@ -71,20 +66,10 @@ impl<'h, C: Clock> Meeting<'h, C> {
         self.flag(at).load(Ordering::SeqCst) == 1
     }
 
-    fn wait_for(&self, at: At) {
-        for _turn in 0..MOST_TURNS {
-            if self.came(at) {
-                return;
-            }
-            thread::sleep(self.clock, Duration::from_millis(1));
-        }
-        self.gave_up.store(1, Ordering::SeqCst);
-    }
-
     /// Whether each job came to where it was held, and went on because of what it was held for.
     pub fn was_kept(&self) -> bool {
         let holds = self.holds;
-        self.gave_up.load(Ordering::SeqCst) == 0
+        self.patience.was_kept()
             && holds
                 .iter()
                 .all(|(at, until)| self.came(*at) && self.came(*until))
@@ -96,7 +81,7 @@ impl<C: Clock> Gate for Meeting<'_, C> {
         self.flag((job, moment)).store(1, Ordering::SeqCst);
         for (at, until) in self.holds {
             if at.0 == job && at.1 == moment {
-                self.wait_for(*until);
+                self.patience.wait_until(self.flag(*until), 1);
             }
         }
     }

@@ -7,5 +7,6 @@ mod meeting;
 mod memory_tests;
 mod outcomes;
 mod overtaking;
+mod patience;
 mod reader_tests;
 mod transfer_tests;
