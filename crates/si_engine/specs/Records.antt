@@ -11,12 +11,10 @@ use Rattle.si_engine.specs.declared.input.record_line.RecordOutcome.{RecordOutco
 use Rattle.si_engine.specs.declared.input.record_line.RecordWords.{RecordWords}
 use Rattle.si_engine.specs.declared.input.line_fault.LineFault.{LineFault}
 use Rattle.si_engine.specs.declared.input.line_fault.LineFault.TheVariants.{BadLine, UnknownName}
-use Rattle.si_engine.specs.declared.input.part_fault.PartFault.{PartFault}
 use Rattle.si_engine.specs.ListLines.{list_line, list_of}
 use Rattle.si_engine.specs.Names.{number_named}
 use Rattle.si_engine.specs.Numbers.{numbers_of, u64_of}
 use Rattle.si_engine.specs.LineFaults.{◌>>=◌}
-use Rattle.si_engine.specs.Sayings.{IsPart, IsPartFault}
 
 -- ---- what a line says
 
@@ -58,11 +56,3 @@ record_line draft line bytes = list_line (codes "record") record_row_of draft li
 -- the rows and records that all lines of a part make, or the first fault
 abbrev pub records_of : DraftTree → List ℕ → Result (ItemList HistoryRow) LineFault
 records_of draft part = list_of (codes "record") record_row_of draft part
-
--- the bytes are a list of records without a fault
-abbrev pub IsRecords : DraftTree → List ℕ → ItemList HistoryRow → Type 0
-IsRecords draft part records = IsPart (records_of draft part) part records
-
--- the bytes are no list of records without a fault, and this is the first; want of memory says nothing of them
-abbrev pub IsRecordsFault : DraftTree → List ℕ → PartFault → Type 0
-IsRecordsFault draft part f = IsPartFault (records_of draft part) part f

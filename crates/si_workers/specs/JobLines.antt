@@ -7,12 +7,10 @@ use Rattle.si_engine.specs.declared.input.item_list.ItemList.{ItemList}
 use Rattle.si_engine.specs.declared.input.list_line.ListLine.{ListLine}
 use Rattle.si_engine.specs.declared.input.line_fault.LineFault.{LineFault}
 use Rattle.si_engine.specs.declared.input.line_fault.LineFault.TheVariants.{BadLine, UnknownName}
-use Rattle.si_engine.specs.declared.input.part_fault.PartFault.{PartFault}
 use Rattle.si_engine.specs.ListLines.{list_line, list_of}
 use Rattle.si_engine.specs.Names.{number_named}
 use Rattle.si_engine.specs.Numbers.{number_between, numbers_of}
 use Rattle.si_engine.specs.LineFaults.{◌>>=◌}
-use Rattle.si_engine.specs.Sayings.{IsPart, IsPartFault}
 use Rattle.si_workers.specs.declared.job.Job.{Job}
 use Rattle.si_workers.specs.Limits.{most_retries}
 
@@ -37,11 +35,3 @@ job_line draft line bytes = list_line (codes "job") job_of draft line bytes
 -- the rows and jobs that all lines of a part make, or the first fault
 abbrev pub jobs_of : DraftTree → List ℕ → Result (ItemList Job) LineFault
 jobs_of draft part = list_of (codes "job") job_of draft part
-
--- the bytes are a list of jobs without a fault
-abbrev pub IsJobs : DraftTree → List ℕ → ItemList Job → Type 0
-IsJobs draft part list = IsPart (jobs_of draft part) part list
-
--- the bytes are no list of jobs without a fault, and this is the first; want of memory says nothing of them
-abbrev pub IsJobsFault : DraftTree → List ℕ → PartFault → Type 0
-IsJobsFault draft part f = IsPartFault (jobs_of draft part) part f

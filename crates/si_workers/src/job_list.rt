@@ -2,7 +2,8 @@
 ghost use Rattle.std.specs.Prelude.{◌≡◌, ◌≤◌, ◌+◌, ◌↔◌, true, false, IfOk, IfErr, IsErrOf};
 ghost use Rattle.prog_tree.specs.Tree.{draft_tree};
 ghost use Rattle.si_engine.specs.Sources.{ForInput};
-ghost use Rattle.si_workers.specs.JobLines.{IsJobs, IsJobsFault};
+ghost use Rattle.si_engine.specs.Sayings.{IsPart, IsPartFault};
+ghost use Rattle.si_workers.specs.JobLines.{jobs_of};
 
 use crate::job::Job;
 use prog_check::ProgramSet;
@@ -19,11 +20,11 @@ pub fn read_jobs<S: Source>(
     set: &ProgramSet,
     source: &mut S,
 ) -> Result<JobList, PartFault>
-    ensures list { IfOk result (λ list.
-        ForInput (S.left source.old) (λ part. IsJobs (draft_tree set.now) part list)) }
+    ensures list { IfOk result (λ list. ForInput (S.left source.old) (λ part.
+        IsPart (jobs_of (draft_tree set.now) part) part list)) }
     ensures fault { IfErr result (λ fault. S.has_failed source.new ≡ false
         → ForInput (S.left source.old) (λ part.
-        IsJobsFault (draft_tree set.now) part fault)) }
+        IsPartFault (jobs_of (draft_tree set.now) part) part fault)) }
     ensures unread { S.has_failed source.new ≡ true
         ↔ IsErrOf result (PartFault.Input InputFault.ReadFault) }
     ensures reads { S.pulls source.new ≤ S.pulls source.old + MAX_READS }

@@ -2,7 +2,8 @@
 ghost use Rattle.std.specs.Prelude.{◌≡◌, ◌≤◌, ◌+◌, ◌↔◌, true, false, IfOk, IfErr, IsErrOf};
 ghost use Rattle.prog_tree.specs.Tree.{draft_tree};
 ghost use Rattle.si_engine.specs.Sources.{ForInput};
-ghost use Rattle.si_engine.specs.Records.{IsRecords, IsRecordsFault};
+ghost use Rattle.si_engine.specs.Records.{records_of};
+ghost use Rattle.si_engine.specs.Sayings.{IsPart, IsPartFault};
 
 use crate::input::from_lines::read_part;
 use crate::input::item_list::ItemList;
@@ -23,11 +24,11 @@ pub fn read_records<S: Source>(
     set: &ProgramSet,
     source: &mut S,
 ) -> Result<Records, PartFault>
-    ensures records { IfOk result (λ records.
-        ForInput (S.left source.old) (λ part. IsRecords (draft_tree set.now) part records)) }
+    ensures records { IfOk result (λ records. ForInput (S.left source.old) (λ part.
+        IsPart (records_of (draft_tree set.now) part) part records)) }
     ensures fault { IfErr result (λ fault. S.has_failed source.new ≡ false
         → ForInput (S.left source.old) (λ part.
-        IsRecordsFault (draft_tree set.now) part fault)) }
+        IsPartFault (records_of (draft_tree set.now) part) part fault)) }
     ensures unread { S.has_failed source.new ≡ true
         ↔ IsErrOf result (PartFault.Input InputFault.ReadFault) }
     ensures reads { S.pulls source.new ≤ S.pulls source.old + MAX_READS }
