@@ -59,19 +59,19 @@ end_fault_text (end.NotAborted unused) = codes "not aborted"
 end_fault_text (end.ForeignRun place unused) = codes "foreign run"
 end_fault_text (end.Memory unused) = codes "memory"
 
--- what is wrong with a row
+-- what is wrong with a row: a code
 abbrev pub row_fault_text : RowFault → List ℕ
-row_fault_text row.NoSuchProgram = codes "no such program"
-row_fault_text row.WrongArguments = codes "wrong arguments"
-row_fault_text row.StartTooLate = codes "start too late"
-row_fault_text row.NotReady = codes "not ready"
-row_fault_text row.WrongReplies = codes "wrong replies"
-row_fault_text (row.Clashed clash) = clash_text clash
+row_fault_text row.NoSuchProgram = codes "H1"
+row_fault_text row.WrongArguments = codes "H2"
+row_fault_text row.StartTooLate = codes "H3"
+row_fault_text row.NotReady = codes "H4"
+row_fault_text row.WrongReplies = codes "H5"
+row_fault_text (row.Clashed clash) = codes "H6"
 
--- why rows have no book
+-- why rows have no book: a code, and the row from 0
 abbrev pub audit_fault_text : AuditFault → List ℕ
-audit_fault_text audit.Full = codes "full"
-audit_fault_text (audit.Row number fault) = codes "row " ++ (decimal number ++ (codes ": " ++ row_fault_text fault))
+audit_fault_text audit.Full = codes "H7"
+audit_fault_text (audit.Row number fault) = row_fault_text fault ++ (codes " " ++ decimal number)
 audit_fault_text audit.Memory = codes "memory"
 
 -- why there is no order

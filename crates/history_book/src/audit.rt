@@ -42,12 +42,12 @@ impl fmt::Display for RowFault {
 
     fn fmt<W: fmt::Write>(&self, f: &mut fmt::Formatter<W>) -> fmt::Result {
         match self {
-            RowFault::NoSuchProgram => f.write_str("no such program"),
-            RowFault::WrongArguments => f.write_str("wrong arguments"),
-            RowFault::StartTooLate => f.write_str("start too late"),
-            RowFault::NotReady => f.write_str("not ready"),
-            RowFault::WrongReplies => f.write_str("wrong replies"),
-            RowFault::Clashed(clash) => write!(f, "clashed with {}", clash.number),
+            RowFault::NoSuchProgram => f.write_str("H1"),
+            RowFault::WrongArguments => f.write_str("H2"),
+            RowFault::StartTooLate => f.write_str("H3"),
+            RowFault::NotReady => f.write_str("H4"),
+            RowFault::WrongReplies => f.write_str("H5"),
+            RowFault::Clashed(_) => f.write_str("H6"),
         }
     }
 }
@@ -84,8 +84,8 @@ impl fmt::Display for AuditFault {
 
     fn fmt<W: fmt::Write>(&self, f: &mut fmt::Formatter<W>) -> fmt::Result {
         match self {
-            AuditFault::Full => f.write_str("full"),
-            AuditFault::Row { number, fault } => write!(f, "row {number}: {fault}"),
+            AuditFault::Full => f.write_str("H7"),
+            AuditFault::Row { number, fault } => write!(f, "{fault} {number}"),
             AuditFault::Memory => f.write_str("memory"),
         }
     }

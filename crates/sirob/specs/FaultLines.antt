@@ -9,10 +9,8 @@ use Rattle.prog_text.specs.declared.fault.TextFault.{TextFault}
 use Rattle.prog_text.specs.declared.fault.TextFault.TheVariants as t
 use Rattle.sirob.specs.declared.command_fault.CommandFault.{CommandFault}
 use Rattle.sirob.specs.declared.command_fault.CommandFault.TheVariants.{Input, Split, Text, Check, Analysis, Repair, Json, Certificate, Part, Audit, Work}
-use Rattle.history_book.specs.declared.audit.AuditFault.{AuditFault}
+use Rattle.history_book.specs.Texts.{audit_fault_text}
 use Rattle.history_book.specs.declared.audit.AuditFault.TheVariants as a
-use Rattle.history_book.specs.declared.audit.RowFault.{RowFault}
-use Rattle.history_book.specs.declared.audit.RowFault.TheVariants as r
 use Rattle.robust_cert.specs.Texts.{cert_fault_text, json_fault_text}
 use Rattle.robust_cert.specs.declared.fault.CertFault.TheVariants as k
 use Rattle.robust_cert.specs.declared.fault.JsonFault.TheVariants as j
@@ -64,20 +62,6 @@ check_fault (c.TooMany place) = in_set (codes "C10") place
 check_fault (c.TooManyPaths place) = in_set (codes "C11") place
 check_fault c.Memory = codes "memory"
 
-abbrev pub row_code : RowFault → List ℕ
-row_code r.NoSuchProgram = codes "H1"
-row_code r.WrongArguments = codes "H2"
-row_code r.StartTooLate = codes "H3"
-row_code r.NotReady = codes "H4"
-row_code r.WrongReplies = codes "H5"
-row_code (r.Clashed clash) = codes "H6"
-
--- a code and a record, from 0
-abbrev pub audit_fault : AuditFault → List ℕ
-audit_fault a.Full = codes "H7"
-audit_fault (a.Row number fault) = row_code fault ++ (codes " " ++ decimal number)
-audit_fault a.Memory = codes "memory"
-
 abbrev pub fault_text : CommandFault → List ℕ
 fault_text (Input fault) = input_fault_text fault
 fault_text (Split fault) = part_code fault
@@ -88,7 +72,7 @@ fault_text (Repair fault) = repair_fault_text fault
 fault_text (Json fault) = json_fault_text fault
 fault_text (Certificate fault) = cert_fault_text fault
 fault_text (Part fault) = part_fault_text fault
-fault_text (Audit fault) = audit_fault fault
+fault_text (Audit fault) = audit_fault_text fault
 fault_text (Work fault) = worker_fault_text fault
 
 -- the whole line, with its line feed

@@ -1,11 +1,11 @@
 //! What keeps a command from its work, and the line that says so.
 ghost use Rattle.std.specs.Prelude.{◌≡◌, IfOk, string_bytes};
 ghost use Rattle.sirob.specs.Faults.{part_code};
-ghost use Rattle.sirob.specs.FaultLines.{text_fault, place_text, in_set, check_fault, row_code, audit_fault, fault_line, is_memory};
+ghost use Rattle.sirob.specs.FaultLines.{text_fault, place_text, in_set, check_fault, fault_line, is_memory};
 
 use crate::parts::SplitFault;
 use crate::worker_fault::WorkerFault;
-use history_book::{AuditFault, RowFault};
+use history_book::AuditFault;
 use prog_check::{CheckFault, Place};
 use prog_text::TextFault;
 use robust_cert::{CertFault, JsonFault};
@@ -96,34 +96,6 @@ fn check_fault(alloc: Global, fault: CheckFault) -> Result<String, AllocError>
     }
 }
 
-// A fault of a record, by its code.
-fn row_code(fault: RowFault) -> &'static str
-    ensures { result.now ≡ row_code fault }
-{
-    match fault {
-        RowFault::NoSuchProgram => "H1",
-        RowFault::WrongArguments => "H2",
-        RowFault::StartTooLate => "H3",
-        RowFault::NotReady => "H4",
-        RowFault::WrongReplies => "H5",
-        RowFault::Clashed(_) => "H6",
-    }
-}
-
-// A fault of records as a history, by its code and its record, from 0.
-fn audit_fault(alloc: Global, fault: AuditFault) -> Result<String, AllocError>
-    ensures { IfOk result (λ text. string_bytes text ≡ audit_fault fault) }
-{
-    match fault {
-        AuditFault::Full => format!(in alloc; "H7"),
-        AuditFault::Row { number, fault } => {
-            let code = row_code(fault);
-            format!(in alloc; "{code} {number}")
-        }
-        AuditFault::Memory => format!(in alloc; "memory"),
-    }
-}
-
 /// The line that a fault is, with its line feed.
 pub fn fault_line(alloc: Global, fault: CommandFault) -> Result<String, AllocError>
     ensures { IfOk result (λ line. string_bytes line ≡ fault_line fault) }
@@ -138,7 +110,7 @@ pub fn fault_line(alloc: Global, fault: CommandFault) -> Result<String, AllocErr
         CommandFault::Json(fault) => format!(in alloc; "{fault}")?,
         CommandFault::Certificate(fault) => format!(in alloc; "{fault}")?,
         CommandFault::Part(fault) => format!(in alloc; "{fault}")?,
-        CommandFault::Audit(fault) => audit_fault(alloc, fault)?,
+        CommandFault::Audit(fault) => format!(in alloc; "{fault}")?,
         CommandFault::Work(fault) => format!(in alloc; "{fault}")?,
     };
     format!(in alloc; "fault {text}\n")
