@@ -44,7 +44,8 @@ IsJobLine ahead part number sentence line =
     × (line ≡ codes "  " ++ (text ++ (codes ": " ++ (map visible sentence ++ codes "\n"))))
 
 -- where the job of this number stands, its call, and why it did not commit
-abbrev pub TellsJob : DraftTree → List Job → List JobOutcome → (ahead part : List ℕ) → (number : ℕ) → (line : List ℕ) → Type 0
+abbrev pub TellsJob :
+    DraftTree → List Job → List JobOutcome → (ahead part : List ℕ) → (number : ℕ) → (line : List ℕ) → Type 0
 TellsJob set jobs outcomes ahead part number line =
     (sentence : List ℕ) × IsJobSentence set jobs outcomes number sentence × IsJobLine ahead part number sentence line
 
@@ -54,7 +55,8 @@ more_text count = if count == 0 then [] else codes "  and " ++ (decimal count ++
 
 -- how many jobs these are, behind a heading, a line for each of the first ones, as `tells` says, and how many more
 -- there are; nothing where there is none
-abbrev pub TellsLost : (tells : ℕ → List ℕ → Type 0) → (heading : List ℕ) → (numbers : List ℕ) → (words : List ℕ) → Type 0
+abbrev pub TellsLost :
+    (tells : ℕ → List ℕ → Type 0) → (heading : List ℕ) → (numbers : List ℕ) → (words : List ℕ) → Type 0
 TellsLost tells heading [] words = words ≡ []
 TellsLost tells heading (number ∷ numbers) words =
     (lines : List ℕ) × TellsEach tells (take most_told (number ∷ numbers)) lines

@@ -23,7 +23,8 @@ line_of_fault l.Memory = None
 
 -- the words point at the front of the line, with its line in the whole input
 abbrev pub PointsAtLineIn : (ahead part : List ℕ) → Option ℕ → (words : List ℕ) → Type 0
-PointsAtLineIn ahead part (Some line) words = (front : ℕ) × IsLineFront part line front × PointsInPart ahead part front words
+PointsAtLineIn ahead part (Some line) words =
+    (front : ℕ) × IsLineFront part line front × PointsInPart ahead part front words
 PointsAtLineIn ahead part None words = ⊥
 
 -- nothing is pointed at: the fault names no line, or the part has fewer

@@ -124,7 +124,8 @@ TellsLine ahead part refused words =
 -- how many lines name an instance that has not begun
 abbrev pub following_text : (count : ℕ) → List ℕ
 following_text count =
-    if count == 0 then [] else codes "lines behind it that name an instance which has not begun: " ++ (decimal count ++ codes "\n")
+    if count == 0 then []
+    else codes "lines behind it that name an instance which has not begun: " ++ (decimal count ++ codes "\n")
 
 -- how many lines more do nothing
 abbrev pub further_text : (count : ℕ) → List ℕ

@@ -20,7 +20,9 @@ natural_of (b ∷ bs) = if list_all is_digit (b ∷ bs) then Some (digits_value 
 -- digits, or digits behind a minus sign
 abbrev pub integer_of : List ℕ → Option ℤ
 integer_of [] = None
-integer_of (b ∷ bs) = if b == 45 then option_map (λ n. neg_ℤ (pos n)) (natural_of bs) else option_map pos (natural_of (b ∷ bs))
+integer_of (b ∷ bs) =
+    if b == 45 then option_map (λ n. neg_ℤ (pos n)) (natural_of bs)
+    else option_map pos (natural_of (b ∷ bs))
 
 -- a number from low to high
 abbrev pub between : (low high : ℕ) → ℤ → Option ℕ

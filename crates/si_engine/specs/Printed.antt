@@ -28,15 +28,19 @@ table_head tables number = head_of (slice_get tables number)
 -- `t[7]` or `e[7, 2]`
 abbrev pub cell_text_in : Name → Arity → Cell → List ℕ
 cell_text_in name One c = name ++ (codes "[" ++ (signed_decimal c.first ++ codes "]"))
-cell_text_in name Two c = name ++ (codes "[" ++ (signed_decimal c.first ++ (codes ", " ++ (signed_decimal c.second ++ codes "]"))))
+cell_text_in name Two c =
+    name ++ (codes "[" ++ (signed_decimal c.first ++ (codes ", " ++ (signed_decimal c.second ++ codes "]"))))
 
 abbrev pub cell_text : List TableDecl → Cell → List ℕ
 cell_text tables c = let head = table_head tables c.table in cell_text_in head.0 head.1 c
 
 -- `t[1..2]` or `e[7, 1..3]`
 abbrev pub region_in : Name → Arity → Region → List ℕ
-region_in name One r = name ++ (codes "[" ++ (signed_decimal r.first_low ++ (codes ".." ++ (signed_decimal r.first_high ++ codes "]"))))
-region_in name Two r = name ++ (codes "[" ++ (signed_decimal r.first_low ++ (codes ", " ++ (signed_decimal r.second_low ++ (codes ".." ++ (signed_decimal r.second_high ++ codes "]"))))))
+region_in name One r =
+    name ++ (codes "[" ++ (signed_decimal r.first_low ++ (codes ".." ++ (signed_decimal r.first_high ++ codes "]"))))
+region_in name Two r =
+    name ++ (codes "[" ++ (signed_decimal r.first_low ++ (codes ", " ++ (signed_decimal r.second_low
+    ++ (codes ".." ++ (signed_decimal r.second_high ++ codes "]"))))))
 
 abbrev pub region_text : List TableDecl → Region → List ℕ
 region_text tables r = let head = table_head tables r.table in region_in head.0 head.1 r
@@ -77,7 +81,8 @@ reply_text tables (Did deed) = deed_text tables deed
 reply_text tables (Ready replies) = codes "ready" ++ numbers_text replies
 reply_text tables (Aborted cause) = codes "aborted " ++ cause_text tables cause
 reply_text tables (Committed number) = codes "committed " ++ decimal number
-reply_text tables (Clashed clash) = codes "clashed on " ++ (cell_text tables clash.cell ++ (codes " with " ++ decimal clash.number))
+reply_text tables (Clashed clash) =
+    codes "clashed on " ++ (cell_text tables clash.cell ++ (codes " with " ++ decimal clash.number))
 reply_text tables Withdrawn = codes "withdrawn"
 reply_text tables (Vacuumed count) = codes "vacuumed " ++ decimal count
 reply_text tables NoSuchInstance = codes "no such instance"
@@ -99,8 +104,11 @@ reply_line tables event reply = subject event ++ (reply_text tables reply ++ cod
 
 -- `row t 1 = 5` or `row e 7 2 = 5`
 abbrev pub row_text_in : Name → Arity → Cell → ℤ → List ℕ
-row_text_in name One c v = codes "row " ++ (name ++ (codes " " ++ (signed_decimal c.first ++ (codes " = " ++ (signed_decimal v ++ codes "\n")))))
-row_text_in name Two c v = codes "row " ++ (name ++ (codes " " ++ (signed_decimal c.first ++ (codes " " ++ (signed_decimal c.second ++ (codes " = " ++ (signed_decimal v ++ codes "\n")))))))
+row_text_in name One c v =
+    codes "row " ++ (name ++ (codes " " ++ (signed_decimal c.first ++ (codes " = " ++ (signed_decimal v ++ codes "\n")))))
+row_text_in name Two c v =
+    codes "row " ++ (name ++ (codes " " ++ (signed_decimal c.first ++ (codes " " ++ (signed_decimal c.second
+    ++ (codes " = " ++ (signed_decimal v ++ codes "\n")))))))
 
 -- the line of a row
 abbrev pub printed_row : List TableDecl → Cell → ℤ → List ℕ

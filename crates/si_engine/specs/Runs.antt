@@ -104,10 +104,14 @@ IsOrderedReply set left failed written ended =
 -- A script is run from a source to a sink: the sink gets what such a run writes, and the run's end is told; or the sink
 -- failed, has some first of it, and that is told.
 abbrev pub IsScriptRun :
-    DraftTree → (left : Option (List ℕ)) → (failed lost : Bool) → (old new : Option (List ℕ)) → Result Serializability PartFault → Type 0
-IsScriptRun set left failed lost old new ended = WritesOr (Err fault.WriteFault) (IsRunReply set left failed) lost old new ended
+    DraftTree → (left : Option (List ℕ)) → (failed lost : Bool) → (old new : Option (List ℕ)) →
+    Result Serializability PartFault → Type 0
+IsScriptRun set left failed lost old new ended =
+    WritesOr (Err fault.WriteFault) (IsRunReply set left failed) lost old new ended
 
 -- and so on a robust set, where a run that ends well ends in an order
 abbrev pub IsRobustScriptRun :
-    DraftTree → (left : Option (List ℕ)) → (failed lost : Bool) → (old new : Option (List ℕ)) → Result Serializability PartFault → Type 0
-IsRobustScriptRun set left failed lost old new ended = WritesOr (Err fault.WriteFault) (IsOrderedReply set left failed) lost old new ended
+    DraftTree → (left : Option (List ℕ)) → (failed lost : Bool) → (old new : Option (List ℕ)) →
+    Result Serializability PartFault → Type 0
+IsRobustScriptRun set left failed lost old new ended =
+    WritesOr (Err fault.WriteFault) (IsOrderedReply set left failed) lost old new ended

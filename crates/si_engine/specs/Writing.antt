@@ -10,9 +10,11 @@ AppendsFront old new bs = (n : ℕ) × Appends old new (take n bs)
 
 -- such bytes were written, and such an end is told; a sink that failed has some first of such bytes, and it is told
 -- that it did
-abbrev pub WritesOr : {E : Type 0} (lost : E) → (List ℕ → E → Type 0) → (failed : Bool) → Option (List ℕ) → Option (List ℕ) → E → Type 0
+abbrev pub WritesOr :
+    {E : Type 0} (lost : E) → (List ℕ → E → Type 0) → (failed : Bool) → Option (List ℕ) → Option (List ℕ) → E → Type 0
 WritesOr lost P false old new ended = (written : List ℕ) × P written ended × Appends old new written
-WritesOr {E = E} lost P true old new ended = (ended ≡ lost) × (written : List ℕ) × (meant : E) × P written meant × AppendsFront old new written
+WritesOr {E = E} lost P true old new ended =
+    (ended ≡ lost) × (written : List ℕ) × (meant : E) × P written meant × AppendsFront old new written
 
 -- these bytes and this end
 abbrev pub IsJust : {E : Type 0} → List ℕ → E → List ℕ → E → Type 0

@@ -370,7 +370,8 @@ pub data IsAnswer (mode : Mode) (input : List ℕ) : List ℕ → Status → Typ
   -- all that the input means
   done : (written : List ℕ) (status : Status) → Gives mode input written status → IsAnswer mode input written status
   -- the line of the first fault, alone
-  at_fault : (f : CommandFault) → is_memory f ≡ false → IsFaultOf mode input f → IsAnswer mode input (fault_line f) Faulty
+  at_fault : (f : CommandFault) → is_memory f ≡ false → IsFaultOf mode input f
+      → IsAnswer mode input (fault_line f) Faulty
   -- some first lines of it, or none, and the line of want of memory
   stopped : (written : List ℕ) → StopsBehind mode input written → IsAnswer mode input (written ++ memory_line) Memory
 
@@ -387,5 +388,6 @@ IsReply mode left true written status = IsUnread written status
 
 -- such bytes were written, and such a status is given; a sink that failed has some first of such bytes,
 -- and the status is that of a fault
-abbrev pub WritesWithStatus : (List ℕ → Status → Type 0) → (failed : Bool) → Option (List ℕ) → Option (List ℕ) → Status → Type 0
+abbrev pub WritesWithStatus :
+    (List ℕ → Status → Type 0) → (failed : Bool) → Option (List ℕ) → Option (List ℕ) → Status → Type 0
 WritesWithStatus = WritesOr Faulty

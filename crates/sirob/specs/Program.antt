@@ -44,6 +44,7 @@ pub data IsWordless : IoKind → List ℕ → Status → Type 0 where
 -- they name none
 pub data IsEnd (words : List Text) (left : Option (List ℕ)) (failed : Bool) : List ℕ → Status → Type 0 where
   done : (mode : Mode) → fault_of sirob_app words ≡ [] → IsNamedBy mode (subcommand_of sirob_app words)
-      → (written : List ℕ) (status : Status) → IsReply mode left failed written status → IsEnd words left failed written status
+      → (written : List ℕ) (status : Status) → IsReply mode left failed written status
+      → IsEnd words left failed written status
   no_mode : (kind : ErrorKind) → (kind ≡ OutOfMemory) ⊎ IsAmong kind (fault_of sirob_app words)
       → (written : List ℕ) (status : Status) → IsModeless kind written status → IsEnd words left failed written status

@@ -92,7 +92,8 @@ abbrev pub IsReadFault : {X : Type 0} → Result X CommandFault → Type 0
 IsReadFault ended = ended ≡ Err (fault.Input input_fault.ReadFault)
 
 -- what is written for a source, and how it ends: nothing where the source failed
-abbrev pub IsSourceDone : Mode → (left : Option (List ℕ)) → (failed : Bool) → List ℕ → Result Status CommandFault → Type 0
+abbrev pub IsSourceDone :
+    Mode → (left : Option (List ℕ)) → (failed : Bool) → List ℕ → Result Status CommandFault → Type 0
 IsSourceDone mode left false written ended = ForInput left (λ input. IsInputDone mode input written ended)
 IsSourceDone mode left true written ended = IsReadFault ended × (written ≡ [])
 
