@@ -1,6 +1,6 @@
 //! Worked facts, with what they entail told by hand.
 
-use order_facts::{Closed, Facts, Node, Nodes, check_chain, is_plain_step};
+use order_facts::{Closed, Fact, Facts, Node, Nodes, check_chain, is_chain, is_plain_step};
 use std::alloc::{AllocError, Global};
 use std::process::Abort;
 
@@ -141,6 +141,33 @@ fn chains_are_checked(rt: HostRuntime) {
     assert!(rt; check_chain(&facts, &[KEY, ONE, FIVE, C]));
     assert!(rt; !check_chain(&facts, &[KEY, C]));
     assert!(rt; !check_chain(&facts, &[]));
+    drop(facts);
+}
+
+/// The same facts in a list.
+const IN_A_LIST: [Fact; 2] = [Fact { lo: KEY, hi: ONE }, Fact { lo: FIVE, hi: C }];
+
+#[test]
+fn chains_go_by_facts_and_by_numbers(rt: HostRuntime) {
+    assert!(rt; is_chain(&IN_A_LIST, &[KEY, ONE, FIVE, C]));
+    assert!(rt; !is_chain(&IN_A_LIST, &[KEY, C]));
+    assert!(rt; !is_chain(&IN_A_LIST, &[]));
+    let closed = Closed::of(rt.alloc(), &IN_A_LIST).expect(&rt, "memory");
+    assert!(rt; closed.entails(KEY, C) && !closed.entails(ONE, KEY));
+    drop(closed);
+}
+
+#[test]
+fn a_sample_is_copied(rt: HostRuntime) {
+    let facts = facts(&rt, rt.alloc(), ONLY_FIVE);
+    let closed = facts.close().expect(&rt, "memory");
+    let sample = closed
+        .sample()
+        .expect(&rt, "memory")
+        .expect(&rt, "a sample");
+    let copy = sample.copy().expect(&rt, "memory");
+    assert!(rt; copy.get(KEY) == 5 && copy.get(A) == 0);
+    drop(closed);
     drop(facts);
 }
 

@@ -13,6 +13,8 @@ mod examples;
 #[cfg(test)]
 mod fact_tests;
 #[cfg(test)]
+mod law_tests;
+#[cfg(test)]
 mod pairs;
 #[cfg(test)]
 mod paths;

@@ -5,10 +5,9 @@ use prog_paths::{EdgeTables, Mark};
 
 #[test]
 fn a_square_joins_one_way(rt: HostRuntime) {
-    let alloc = rt.alloc();
-    let mut square = Square::new(alloc, 3).expect(&rt, "memory");
+    let mut square = Square::new(rt.alloc(), 3).expect(&rt, "memory");
     square.raise(0, 2);
-    let copy = square.copy(alloc).expect(&rt, "memory");
+    let copy = square.copy(square.allocator()).expect(&rt, "memory");
     square.raise(1, 1);
     assert!(rt; copy.size() == 3);
     let joined = [

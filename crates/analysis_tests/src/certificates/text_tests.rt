@@ -1,7 +1,7 @@
 //! Certificates as text, told by hand.
 
 use crate::examples::{KEPT_PAYS, KEPT_REPORTS, TRANSFERS};
-use order_facts::Node;
+use order_facts::{Node, Nodes};
 use prog_tree::Sequence;
 use robust_cert::{
     Certificate, Chain, Entries, JsonFault, Question, Reason, Told, from_json, to_json,
@@ -453,6 +453,20 @@ fn a_chain_holds_numbers_that_a_text_can_say(rt: HostRuntime) {
     for node in &PAST {
         let past = Vec::from_array(rt.alloc(), [Node::Mine(0), *node]).expect(&rt, "memory");
         assert!(rt; Chain::from_vec(past).is_none(), "{node:?}");
+    }
+}
+
+#[test]
+fn a_chain_takes_nodes_in_a_row(rt: HostRuntime) {
+    let [first, second] = FALLING;
+    let chain = Chain::from_nodes(Nodes::of_two(first, second)).expect(&rt, "small numbers");
+    assert!(rt; chain.as_slice() == &FALLING[..]);
+    drop(chain);
+    for node in &PAST {
+        assert!(rt;
+            Chain::from_nodes(Nodes::of_one(*node)).is_none(),
+            "{node:?}"
+        );
     }
 }
 

@@ -71,6 +71,8 @@ fn judged(
     let exposed = is_exposed_question(alloc, x, a, y, b)?;
     let verdict = verdict(alloc, x, a, y, b)?;
     assert!(rt; exposed == verdict.is_exposed());
+    let apart = matches!(&verdict, Verdict::Apart(_));
+    assert!(rt; verdict.can_meet() != apart);
     Ok(verdict)
 }
 
@@ -176,7 +178,7 @@ fn push_table(text: &mut String, table: &PairTable) -> Result<(), AllocError> {
 /// The table of a set with one path.
 fn shown_table(rt: &impl Abort, alloc: Global, table: Result<PairTable, PairFault>) -> String {
     let table = table.expect(rt, "a table");
-    assert!(rt; table.nodes() == 1);
+    assert!(rt; table.nodes() == 1 && !table.is_empty());
     let mut text = String::new(alloc);
     push_table(&mut text, &table).expect(rt, "memory");
     drop(table);

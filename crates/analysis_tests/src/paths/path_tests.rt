@@ -3,11 +3,9 @@
 use crate::examples::{paths_of, wide_paths};
 use crate::paths::shown::{shown, shown_path};
 use crate::told::is_told;
-use example_sets::{KEPT_PAY, LEDGER, MOVE, REPORT, SMALL_BANK, TRANSFER};
-use prog_paths::{
-    Path, law_of_listing, law_of_own_unknowns, law_of_paths, law_of_questions,
-    law_of_single_changes,
-};
+use example_sets::{KEPT_PAY, LEDGER, MOVE, REPORT, SMALL_BANK, TRANSFER, set_of};
+use prog_paths::{Path, count_statements};
+use prog_tree::Draft;
 use std::alloc::{AllocError, Global};
 use std::process::Abort;
 use std::test::Fail;
@@ -91,13 +89,25 @@ Writes 0[Unknown(4)] 7 in a body; Writes 0[Unknown(5)] 8;
     check(&rt, rt.alloc(), BODIES, both)
 }
 
+/// How many statements the first program of a draft has.
+fn first_count(draft: &Draft) -> Option<usize> {
+    let program = draft.programs.first()?;
+    Some(count_statements(&program.body))
+}
+
+/// The same of the draft of a text.
+fn count_of(alloc: Global, text: &str) -> Result<Option<usize>, Fail> {
+    let set = set_of(alloc, text)?;
+    let count = first_count(set.draft());
+    drop(set);
+    Ok(count)
+}
+
 #[test]
-fn laws_are_called() {
-    law_of_paths();
-    law_of_questions();
-    law_of_listing();
-    law_of_single_changes();
-    law_of_own_unknowns();
+fn statements_are_counted_with_those_of_their_blocks(rt: HostRuntime) -> Result<(), Fail> {
+    assert!(rt; count_of(rt.alloc(), KEPT_PAY)? == Some(3));
+    assert!(rt; count_of(rt.alloc(), BODIES)? == Some(9));
+    Ok(())
 }
 
 /// The accesses of a wide path: each pair stands behind the five branches and the pairs before it.

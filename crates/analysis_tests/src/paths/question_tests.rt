@@ -3,8 +3,11 @@
 use crate::examples::paths_of;
 use crate::told::is_told;
 use example_sets::{LEDGER, MOVE, SMALL_BANK, TRANSFER};
-use order_facts::{Closed, Node};
-use prog_paths::{Access, Changers, Path, Placed, all_places, closed_facts, program_places};
+use order_facts::{Closed, Fact, Node};
+use prog_paths::{
+    Access, Changers, Column, Path, Placed, Term, all_places, closed_facts, column_or_zero,
+    mine_node, program_places, question_facts, second_terms, their_node,
+};
 use std::alloc::{AllocError, Global};
 use std::process::Abort;
 use std::test::Fail;
@@ -153,6 +156,102 @@ const MOVED: Example = Example {
 #[test]
 fn an_unknown_is_no_parameter(rt: HostRuntime) -> Result<(), Fail> {
     check(&rt, rt.alloc(), &MOVED)
+}
+
+/// Whether these are the facts of an example, in this order.
+fn are_given(rt: &impl Abort, paths: &[Path], example: &Example, wanted: &[Fact]) -> bool {
+    let mine = access_at(paths, example.mine).expect(rt, "the access is there");
+    let theirs = access_at(paths, example.theirs).expect(rt, "the access is there");
+    let facts = question_facts(mine, theirs);
+    facts.as_slice() == wanted
+}
+
+fn check_given(
+    rt: &impl Abort,
+    alloc: Global,
+    example: &Example,
+    wanted: &[Fact],
+) -> Result<(), Fail> {
+    let paths = paths_of(alloc, example.text)?;
+    let given = are_given(rt, &paths, example, wanted);
+    drop(paths);
+    assert!(rt; given);
+    Ok(())
+}
+
+const EQUAL_FACTS: [Fact; 2] = [
+    Fact {
+        lo: MINE,
+        hi: Node::Theirs(1),
+    },
+    Fact {
+        lo: Node::Theirs(1),
+        hi: MINE,
+    },
+];
+
+const DAY_FACTS: [Fact; 4] = [
+    Fact {
+        lo: MINE,
+        hi: Node::Theirs(0),
+    },
+    Fact {
+        lo: Node::Theirs(0),
+        hi: MINE,
+    },
+    Fact {
+        lo: Node::Number(i64::MIN),
+        hi: Node::Theirs(1),
+    },
+    Fact {
+        lo: Node::Theirs(1),
+        hi: Node::Number(i64::MAX),
+    },
+];
+
+#[test]
+fn each_column_gives_two_facts(rt: HostRuntime) -> Result<(), Fail> {
+    check_given(&rt, rt.alloc(), &EQUAL, &EQUAL_FACTS)?;
+    check_given(&rt, rt.alloc(), &DAY, &DAY_FACTS)
+}
+
+/// Terms, and what facts call them on the first side and on the second.
+const NODES: [(Term, Node, Node); 3] = [
+    (Term::Param(1), Node::Mine(1), Node::Theirs(1)),
+    (Term::Literal(5), Node::Number(5), Node::Number(5)),
+    (
+        Term::Unknown(2),
+        Node::MineUnknown(2),
+        Node::TheirsUnknown(2),
+    ),
+];
+
+#[test]
+fn terms_have_nodes_of_their_side(rt: HostRuntime) {
+    for &(term, mine, theirs) in NODES.iter() {
+        assert!(rt;
+            mine_node(term) == mine && their_node(term) == theirs,
+            "{term:?}"
+        );
+    }
+}
+
+const SECOND: Column = Column {
+    low: Term::Param(1),
+    high: Term::Param(1),
+};
+
+const ZERO: Column = Column {
+    low: Term::Literal(0),
+    high: Term::Literal(0),
+};
+
+#[test]
+fn a_second_column_that_a_table_lacks_is_zero(rt: HostRuntime) {
+    assert!(rt; column_or_zero(Some(SECOND)) == SECOND && column_or_zero(None) == ZERO);
+    assert!(rt; second_terms(Some(SECOND), None) == Some((SECOND.low, ZERO.low)));
+    assert!(rt; second_terms(None, Some(SECOND)) == Some((ZERO.low, SECOND.low)));
+    assert!(rt; second_terms(None, None) == None);
 }
 
 /// Accesses, each by its path and its number there.

@@ -5,12 +5,12 @@ use crate::repairs::sets::MOVE_IN_A_BODY;
 use conflict_pairs::changes_single_cells;
 use example_sets::{KEPT_PAY, MOVE, PAY, REPORT, SMALL_BANK, TRANSFER, set_of};
 use prog_check::ProgramSet;
-use prog_paths::{Question, paths};
+use prog_paths::{Path, Question, paths};
 use prog_text::print;
 use prog_tree::Sequence;
 use si_repair::{
-    Obstacle, Pair, Plan, RepairFault, exposed_questions, first_exposed, hindered_question,
-    is_range_at, materialise, plan, promote,
+    Obstacle, Pair, Plan, RepairFault, exposed_questions, first_exposed, has_unknown_key,
+    hindered_question, is_range_at, materialise, plan, promote,
 };
 use std::alloc::{AllocError, Global};
 use std::process::Abort;
@@ -174,6 +174,40 @@ fn an_each_is_a_range_and_its_body_is_not(rt: HostRuntime) -> Result<(), Fail> {
     for &(number, wanted) in RANGES.iter() {
         let found = first_has_range(rt.alloc(), MOVE_IN_A_BODY, number)?;
         assert!(rt; found == wanted);
+    }
+    Ok(())
+}
+
+/// Puts under a computed key of the second column, and under a parameter.
+const COMPUTED: &str = "table e 2; program P(a) { put e[1, a + 1] = 0; put e[1, a] = 0; }";
+
+/// Sets, accesses of their first paths, and whether no parameters and numbers tell the key.
+const KEYS: [(&str, usize, bool); 4] = [
+    (MOVE, 0, true),
+    (MOVE, 1, false),
+    (COMPUTED, 0, true),
+    (COMPUTED, 1, false),
+];
+
+/// Whether the key of an access of the first path is unknown.
+fn unknown_at(paths: &[Path], number: usize) -> Option<bool> {
+    let access = paths.first()?.accesses.as_slice().get(number)?;
+    Some(has_unknown_key(access))
+}
+
+/// The same of the paths of a text.
+fn unknown_in(alloc: Global, text: &str, number: usize) -> Result<Option<bool>, Fail> {
+    let paths = paths_of(alloc, text)?;
+    let unknown = unknown_at(&paths, number);
+    drop(paths);
+    Ok(unknown)
+}
+
+#[test]
+fn a_computed_key_is_unknown(rt: HostRuntime) -> Result<(), Fail> {
+    for &(text, number, wanted) in KEYS.iter() {
+        let unknown = unknown_in(rt.alloc(), text, number)?;
+        assert!(rt; unknown == Some(wanted), "{text} {number}");
     }
     Ok(())
 }
