@@ -1,7 +1,9 @@
-//! Cells, rows and changes, as a reader works them out.
+//! Cells, rows, changes and what a run has done, as a reader works them out.
 
 use crate::told::is_told;
-use prog_tree::{Cell, Changes, Region, Rows, Sequence, is_among, is_among_rising};
+use prog_tree::{
+    Cell, Changes, Env, Progress, Region, RisingCells, Rows, Sequence, is_among, is_among_rising,
+};
 use std::alloc::{AllocError, Global};
 use std::process::Abort;
 
@@ -22,6 +24,32 @@ fn cells_are_told_apart_by_all_their_parts(rt: HostRuntime) {
         assert!(rt; is_among_rising(&cells, &cell) == among, "{table} {second}");
     }
     assert!(rt; !is_among(&[], &cell(0, 7, 1)) && !is_among_rising(&[], &cell(0, 7, 1)));
+}
+
+/// Cells in their order.
+fn rising(alloc: Global, cells: &[Cell]) -> Result<RisingCells, AllocError> {
+    let mut cells = Vec::from_slice(alloc, cells)?;
+    cells.sort()?;
+    Ok(RisingCells::from_vec(cells))
+}
+
+/// Asserts which cells are among `e[7, 1]` and `t[7]`.
+fn check_rising(rt: &impl Abort, cells: &RisingCells) {
+    for (table, second, among) in [(0, 1, true), (0, 0, false), (1, 0, true), (1, 1, false)] {
+        let cell = cell(table, 7, second);
+        assert!(rt; cells.contains(&cell) == among, "{table} {second}");
+    }
+}
+
+#[test]
+fn rising_cells_are_found(rt: HostRuntime) -> Result<(), AllocError> {
+    let cells = rising(rt.alloc(), &[cell(1, 7, 0), cell(0, 7, 1)])?;
+    let copy = cells.copy(rt.alloc())?;
+    drop(cells);
+    assert!(rt; copy.as_slice() == [cell(0, 7, 1), cell(1, 7, 0)].as_slice());
+    check_rising(&rt, &copy);
+    assert!(rt; !copy.is_empty() && RisingCells::new(rt.alloc()).is_empty());
+    Ok(())
 }
 
 #[test]
@@ -184,7 +212,18 @@ fn a_sequence_is_its_items(rt: HostRuntime) -> Result<(), AllocError> {
     replies.push(3)?;
     replies.push(-4)?;
     assert!(rt; replies.len() == 2);
-    let again = Sequence::from_vec(replies.into_vec());
+    let mut again = Sequence::from_vec(replies.into_vec());
     assert!(rt; again.as_slice() == [3, -4].as_slice());
+    again.truncate(1);
+    assert!(rt; again.as_slice() == [3].as_slice() && !again.is_empty());
     Ok(())
+}
+
+#[test]
+fn a_run_has_done_nothing_at_first(rt: HostRuntime) {
+    let progress = Progress::new(rt.alloc(), Env::new(rt.alloc()));
+    assert!(rt; progress.env.len() == 0);
+    assert!(rt; progress.deeds.is_empty() && progress.looks.is_empty());
+    assert!(rt; progress.replies.is_empty() && progress.changes.iter().len() == 0);
+    drop(progress);
 }

@@ -4,10 +4,10 @@ use std::alloc::AllocError;
 use std::process::Abort;
 use std::test::Fail;
 use text_places::{
-    SetText, as_text, before, begins_token, begins_word, behind, behind_word, column, ends_line,
-    feeds, first_token, first_word, job_place, last_end, last_token, line_at, line_front,
-    line_number, point_out, push_listed, record_place, second_token, short_word, stands_free,
-    table_name, visible_text, without_comments,
+    SetText, as_text, before, begins_token, begins_word, behind, behind_word, bracketed, column,
+    ends_line, feeds, first_token, first_word, job_place, last_end, last_token, line_at,
+    line_front, line_number, point_out, push_listed, record_place, second_token, short_word,
+    stands_free, table_name, visible_text, without_comments,
 };
 
 /// What is cut out of a text: its first word, what is behind that, and its first, second and last
@@ -174,6 +174,14 @@ fn words_are_listed(rt: HostRuntime) {
     push_listed(&mut list, "t").expect(&rt, "memory");
     push_listed(&mut list, "u").expect(&rt, "memory");
     assert!(rt; list.as_str() == "t, u");
+}
+
+#[test]
+fn numbers_stand_in_brackets(rt: HostRuntime) -> Result<(), AllocError> {
+    assert!(rt; bracketed(rt.alloc(), &[])?.as_str() == "()");
+    assert!(rt; bracketed(rt.alloc(), &[7])?.as_str() == "(7)");
+    assert!(rt; bracketed(rt.alloc(), &[1, -2, 3])?.as_str() == "(1, -2, 3)");
+    Ok(())
 }
 
 #[test]

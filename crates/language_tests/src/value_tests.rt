@@ -118,7 +118,7 @@ fn check_bindings(rt: &impl Abort, alloc: Global, name: &Name, same: &Name) {
 fn the_last_binding_of_a_name_counts(rt: HostRuntime) {
     let x = Name::new(rt.alloc(), "x").expect(&rt, "memory");
     let same = x.copy().expect(&rt, "memory");
-    assert!(rt; same.as_str() == "x");
+    assert!(rt; same.as_str() == "x" && x.is_same(&same));
     check_bindings(&rt, rt.alloc(), &x, &same);
     drop(same);
     drop(x);
