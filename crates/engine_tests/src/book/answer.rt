@@ -2,6 +2,7 @@
 
 use crate::book::runs::Ride;
 use history_book::{BeginFault, Place};
+use prog_tree::Cell;
 
 /// A call, with the ticket at hand where it takes one.
 #[derive(Clone, Copy)]
@@ -12,6 +13,8 @@ pub enum Call {
     Begins(u64, usize, &'static [i64]),
     /// The same as of so many commits.
     BeginAt(u64, usize, &'static [i64]),
+    /// The same, where it is known beforehand that it is not refused.
+    Admit(u64, usize, &'static [i64]),
     /// Why no instance can begin so.
     RefusalAt(u64, usize, &'static [i64]),
     /// A begin in another book, which is empty.
@@ -29,6 +32,8 @@ pub enum Call {
     Vacuum,
     /// What a cell holds after all commits.
     Newest(i64),
+    /// Whether these are the rows after all commits.
+    AreRows(&'static [(Cell, i64)]),
     /// What a cell held at first.
     Opening(i64),
     Commits,

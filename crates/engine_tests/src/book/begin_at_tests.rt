@@ -32,6 +32,19 @@ const OLDER: &[(Call, Answer)] = &[
     (Call::Get(1), Answer::Holds(Some(5))),
 ];
 
+/// A begin that is not refused is admitted, and sees what it would have seen.
+const ADMITTED: &[(Call, Answer)] = &[
+    (Call::Set(&[1, 5]), Answer::Committed(1)),
+    (Call::Admit(0, LOOK, &[1]), Answer::Begun(1, 0)),
+    (Call::Get(1), Answer::Holds(Some(0))),
+    (Call::Admit(1, LOOK, &[1]), Answer::Begun(2, 1)),
+    (Call::Get(1), Answer::Holds(Some(5))),
+    (
+        Call::Admit(2, LOOK, &[1]),
+        Answer::NotBegun(BeginFault::TooNew { commits: 1 }),
+    ),
+];
+
 /// The first refusal that applies is told: the book is full and has no number 0 and 2.
 const REFUSED: &[(Call, Answer)] = &[
     (Call::Set(&[1, 5]), Answer::Committed(1)),
@@ -61,6 +74,7 @@ const REFUSED: &[(Call, Answer)] = &[
 
 const CASES: &[Case] = &[
     ("a look at an older number", &[(0, 1, 0)], OLDER),
+    ("who is not refused is admitted", &[(0, 1, 0)], ADMITTED),
     ("the first refusal is told", &[(0, 1, 0)], REFUSED),
 ];
 

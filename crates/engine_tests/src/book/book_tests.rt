@@ -3,7 +3,7 @@
 use crate::book::answer::{Answer, Call};
 use crate::book::desk::{Case, play, play_all};
 use crate::book::runs::Ride;
-use crate::book::sets::{LOOK, NO_PROGRAM, REGISTERS, SET, STOP};
+use crate::book::sets::{FIRST_ROW, LOOK, NO_PROGRAM, REGISTERS, SECOND_ROW, SET, STOP};
 use example_sets::set_of;
 use history_book::{BeginFault, Place};
 use prog_check::ProgramSet;
@@ -79,6 +79,10 @@ const OPENED: &[(Call, Answer)] = &[
     (Call::Opening(2), Answer::Holds(Some(6))),
     (Call::Newest(2), Answer::Holds(Some(7))),
     (Call::Newest(1), Answer::Holds(Some(5))),
+    (
+        Call::AreRows(&[(FIRST_ROW, 5), (SECOND_ROW, 7)]),
+        Answer::Is(true),
+    ),
 ];
 
 const COMMITS: &[(Call, Answer)] = &[

@@ -6,7 +6,7 @@ use crate::book::runs::{Ride, run_of};
 use crate::book::sets::{SET, cell, rows_of};
 use history_book::{Book, Ticket};
 use prog_check::ProgramSet;
-use prog_tree::{Region, Rows};
+use prog_tree::{Cell, Region, Rows};
 use std::alloc::Global;
 use std::process::Abort;
 
@@ -47,6 +47,14 @@ impl<'a> Desk<'a> {
             Ok(ticket) => self.take(ticket),
             Err(fault) => Answer::NotBegun(fault),
         }
+    }
+
+    fn admit(&mut self, rt: &impl Abort, start: u64, program: usize, args: &[i64]) -> Answer {
+        if let Some(fault) = self.book.refusal_at(start, program, args) {
+            return Answer::NotBegun(fault);
+        }
+        let ticket = self.book.admit(start, program, args).expect(rt, "memory");
+        self.take(ticket)
     }
 
     fn begins(&mut self, count: u64, program: usize, args: &[i64]) -> Answer {
@@ -125,6 +133,11 @@ impl<'a> Desk<'a> {
         Answer::Holds(rows.get(&cell(0, first)))
     }
 
+    fn are_rows(&self, rt: &impl Abort, wanted: &[(Cell, i64)]) -> Answer {
+        let rows = self.book.table_rows().expect(rt, "memory");
+        Answer::Is(rows.as_slice() == wanted)
+    }
+
     fn start_of(&self, number: u64) -> Answer {
         match self.book.nth_commit(number) {
             Some(row) => Answer::Count(row.start),
@@ -152,6 +165,7 @@ impl<'a> Desk<'a> {
             Call::Begin(program, args) => self.begin(*program, args),
             Call::Begins(count, program, args) => self.begins(*count, *program, args),
             Call::BeginAt(start, program, args) => self.begin_at(*start, *program, args),
+            Call::Admit(start, program, args) => self.admit(rt, *start, *program, args),
             Call::BeginElsewhere(program, args) => self.begin_elsewhere(rt, *program, args),
             Call::Commit(ride) => self.commit(rt, self.set, ride),
             Call::CommitOther(ride) => self.commit(rt, self.other, ride),
@@ -170,6 +184,7 @@ impl<'a> Desk<'a> {
             Call::Get(first) => self.get(rt, *first),
             Call::Rows => self.rows(rt),
             Call::Newest(first) => self.newest(rt, *first),
+            Call::AreRows(rows) => self.are_rows(rt, rows),
             Call::Opening(first) => Answer::Holds(self.book.opening().get(&cell(0, *first))),
             Call::Commits => Answer::Count(self.book.commits()),
             Call::StartOf(number) => self.start_of(*number),

@@ -7,6 +7,7 @@ mod begin_at_tests;
 mod book_tests;
 mod desk;
 mod endings;
+mod law_tests;
 mod order_tests;
 mod own_tests;
 mod reason_tests;

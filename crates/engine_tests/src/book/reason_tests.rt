@@ -1,26 +1,15 @@
 //! Why one commit of a book has to stand before another.
 
 use crate::book::audits::{Reasoned, check_reasons};
-use crate::book::sets::{BALANCE, DEPOSIT_CHECKING, REGISTERS, SET, TRANSACT_SAVING, WRITE_CHECK};
+use crate::book::sets::{
+    BALANCE, DEPOSIT_CHECKING, FIRST_ROW, REGISTERS, SECOND_ROW, SET, TRANSACT_SAVING, WRITE_CHECK,
+};
 use example_sets::SMALL_BANK;
 use history_book::Reason;
 use prog_tree::{Cell, Region};
 use std::alloc::Global;
 use std::process::Abort;
 use std::test::Fail;
-
-/// The cell `t[1]`, or `savings[1]`.
-const FIRST_ROW: Cell = Cell {
-    table: 0,
-    first: 1,
-    second: 0,
-};
-
-const SECOND_ROW: Cell = Cell {
-    table: 0,
-    first: 2,
-    second: 0,
-};
 
 const CHECKING: Cell = Cell {
     table: 1,

@@ -38,6 +38,19 @@ pub fn cell(table: usize, first: i64) -> Cell {
     }
 }
 
+/// The cell `t[1]`, or `savings[1]`.
+pub const FIRST_ROW: Cell = Cell {
+    table: 0,
+    first: 1,
+    second: 0,
+};
+
+pub const SECOND_ROW: Cell = Cell {
+    table: 0,
+    first: 2,
+    second: 0,
+};
+
 /// Rows of tables with one key column: the table, the key and the value of each.
 pub fn rows_of(rt: &impl Abort, alloc: Global, given: &[(usize, i64, i64)]) -> Rows {
     let mut rows = Rows::new(alloc);

@@ -4,8 +4,9 @@ use example_sets::set_of;
 use prog_check::ProgramSet;
 use prog_tree::{Cell, Rows};
 use si_engine::{
-    Bytes, Records, add_row, cut, is_skipped, line_words, number_between, numbers, program_number,
-    read_lines, read_part, row_line, unsigned, without_return,
+    Bytes, Records, Word, add_row, cut, is_skipped, line_words, number, number_between, numbers,
+    program_number, read_lines, read_part, read_script, row_line, table_number, unsigned,
+    without_return,
 };
 use std::alloc::Global;
 use std::process::Abort;
@@ -38,9 +39,25 @@ fn check_numbers(rt: &impl Abort, alloc: Global, line: &[u8], wanted: &[i64]) {
     assert!(rt; found.expect(rt, "numbers").as_slice() == wanted);
 }
 
+fn check_words(rt: &impl Abort, words: &[Word<'_>]) {
+    let [row, table, key] = words else {
+        panic!(rt; "other words")
+    };
+    assert!(rt; row.as_bytes() == b"row".as_slice() && key.as_bytes() == b"7".as_slice());
+    assert!(rt; table.as_bytes() == Word::new(b"t").as_bytes());
+}
+
+#[test]
+fn lines_are_words(rt: HostRuntime) {
+    let words = line_words(rt.alloc(), b"  row  t 7 ").expect(&rt, "memory");
+    check_words(&rt, words.as_slice());
+    drop(words);
+}
+
 #[test]
 fn numbers_are_read(rt: HostRuntime) {
     check_numbers(&rt, rt.alloc(), b"1 -2", &[1, -2]);
+    assert!(rt; number(b"-007") == Some(-7) && number(b"+7") == None);
     assert!(rt; number_between(1, 64, b"64") == Some(64));
     assert!(rt; unsigned(b"18446744073709551615") == Some(u64::MAX));
     assert!(rt; is_skipped(b"# Find"));
@@ -72,14 +89,26 @@ fn counts_at_hand(rt: &impl Abort, alloc: Global, set: &ProgramSet) -> (usize, u
     counts
 }
 
+const SCRIPT: &[u8] = b"row s 1 = 2\nbegin Look 1\n# once more\nstep 0 2\ncommit 0\n";
+
+// How many rows and events a script has.
+fn script_counts(rt: &impl Abort, alloc: Global, set: &ProgramSet) -> (usize, usize) {
+    let found = read_script(alloc, set, &mut Bytes::new(SCRIPT)).expect(rt, "a script");
+    let counts = (found.rows.len(), found.events.len());
+    drop(found);
+    counts
+}
+
 #[test]
 fn rows_names_and_parts_are_read(rt: HostRuntime) -> Result<(), Fail> {
     let set = set_of(rt.alloc(), SET)?;
     let held = held_after(&rt, rt.alloc(), &set, b"t  7 -007 = 4");
     assert!(rt; held == Some(4));
     assert!(rt; program_number(&set, b"Find") == Some(1));
+    assert!(rt; table_number(&set, b"t") == Some(1));
     assert!(rt; counts(&rt, rt.alloc(), &set) == (1, 1));
     assert!(rt; counts_at_hand(&rt, rt.alloc(), &set) == (1, 1));
+    assert!(rt; script_counts(&rt, rt.alloc(), &set) == (1, 4));
     drop(set);
     Ok(())
 }

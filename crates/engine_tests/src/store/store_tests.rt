@@ -5,7 +5,7 @@ use crate::store::twin::{Deed, cell, rows_after};
 use prog_tree::{Cell, Region};
 use std::alloc::Global;
 use std::process::Abort;
-use version_store::{Clash, OwnCells, Store};
+use version_store::{Clash, OwnCells, Store, clashes_are_found, retained_versions_stay};
 
 /// Versions and vacuums, over `t[1] = 0`.
 const VERSIONS: &[(Call, Answer)] = &[
@@ -175,6 +175,16 @@ fn state_rows(rt: &impl Abort, store: &Store, start: u64) -> Vec<(Cell, i64)> {
     store.state_rows(start).expect(rt, "memory").into_vec()
 }
 
+/// Whether these are the rows of all tables, in the map of them.
+fn has_state(rt: &impl Abort, store: &Store, start: u64, rows: &[(Cell, i64)]) -> bool {
+    assert!(rt; store.floor() <= start && start <= store.commits());
+    let state = store.state(start).expect(rt, "memory");
+    state.len() == rows.len()
+        && rows
+            .iter()
+            .all(|(cell, value)| state.get(cell) == Some(*value))
+}
+
 #[test]
 fn states_are_those_of_the_list(rt: HostRuntime) {
     let store = worked_store(&rt, rt.alloc());
@@ -182,6 +192,7 @@ fn states_are_those_of_the_list(rt: HostRuntime) {
         let rows = rows_after(&rt, rt.alloc(), OPENING, &COMMITS[..start], 1, 3);
         let found = state_rows(&rt, &store, start as u64);
         assert!(rt; found.as_slice() == rows.as_slice(), "at {start}");
+        assert!(rt; has_state(&rt, &store, start as u64, &rows), "at {start}");
     }
     drop(store);
 }
@@ -200,6 +211,12 @@ fn own_cells_are_found_in_any_order(rt: HostRuntime) {
     for (own, cell, is_found) in OWN {
         assert!(rt; OwnCells::new(own).contains(&cell) == is_found);
     }
+}
+
+#[test]
+fn laws_of_the_store_are_called() {
+    clashes_are_found();
+    retained_versions_stay();
 }
 
 #[test]
