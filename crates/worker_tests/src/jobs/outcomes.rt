@@ -2,7 +2,7 @@
 
 use history_book::{BeginFault, Clash};
 use prog_tree::Cause;
-use si_workers::{JobEnd, JobOutcome};
+use si_workers::{JobEnd, JobOutcome, Way};
 use std::alloc::Global;
 use std::process::Abort;
 
@@ -27,11 +27,31 @@ fn end_of(outcome: &JobOutcome) -> Came {
     }
 }
 
+/// Whether a job ended in each of the ways.
+fn ways(end: &JobEnd) -> [bool; 4] {
+    [
+        end.is_in(Way::Committed),
+        end.is_in(Way::Aborted),
+        end.is_in(Way::Clashed),
+        end.is_in(Way::Refused),
+    ]
+}
+
+fn wanted_ways(came: &Came) -> [bool; 4] {
+    match came {
+        Came::Committed(_, _) => [true, false, false, false],
+        Came::Aborted(_) => [false, true, false, false],
+        Came::Clashed(_) => [false, false, true, false],
+        Came::Refused(_) => [false, false, false, true],
+    }
+}
+
 /// Each job has to have ended as wanted, with so many clashes.
 pub fn check_outcomes(rt: &impl Abort, outcomes: &[JobOutcome], wanted: &[(Came, u64)]) {
     assert!(rt; outcomes.len() == wanted.len());
     for (outcome, wanted) in outcomes.iter().zip(wanted) {
         assert!(rt; (end_of(outcome), outcome.clashes) == *wanted);
+        assert!(rt; ways(&outcome.job_end) == wanted_ways(&wanted.0));
     }
 }
 

@@ -1,0 +1,80 @@
+//! Events on a robust set, told by hand, and the laws of such sets that stand as functions.
+
+use crate::sets::{LOOK, REGISTERS, SET, cell, robust};
+use prog_tree::{Rows, Sequence};
+use robust_cert::RobustSet;
+use si_engine::{
+    Event, NoWitness, Outcome, concurrent_dependencies_are_vulnerable, cycles_are_dangerous,
+    cycles_end_in_two_missed_changes, dependencies_are_static_edges,
+    grow_tables_gain_each_row_once, instances_follow_nodes, run_robust, run_robust_before,
+    safe_sets_have_no_cycle, states_have_i64_rows,
+};
+use std::alloc::{AllocError, Global};
+use std::test::Fail;
+
+fn begin(alloc: Global, program: usize, args: &[i64]) -> Result<Event, AllocError> {
+    let args = Sequence::from_slice(alloc, args)?;
+    Ok(Event::Begin { program, args })
+}
+
+/// `Set(1, 5)` commits beside a `Look(1)`, which has to stand before it: it saw no row.
+fn events(alloc: Global) -> Result<Vec<Event>, AllocError> {
+    let set = begin(alloc, SET, &[1, 5])?;
+    let look = begin(alloc, LOOK, &[1])?;
+    let events = [
+        set,
+        look,
+        Event::Step(0),
+        Event::Step(0),
+        Event::Commit(0),
+        Event::Step(1),
+        Event::Step(1),
+        Event::Commit(1),
+    ];
+    Ok(Vec::from_array(alloc, events)?)
+}
+
+fn is_ordered(outcome: &Outcome) -> bool {
+    outcome.replies.len() == 8
+        && outcome.committed.as_slice() == [0, 1].as_slice()
+        && outcome.order.as_slice() == [2, 1].as_slice()
+        && outcome.table.as_slice() == [(cell(1), 5)].as_slice()
+}
+
+/// Whether the events come to that, without a witness and before one.
+fn are_ordered(alloc: Global, set: &RobustSet, events: &[Event]) -> Result<[bool; 2], AllocError> {
+    let alone = run_robust(alloc, set, Rows::new(alloc), events)?;
+    let is_alone = is_ordered(&alone);
+    drop(alone);
+    let before = run_robust_before(alloc, set, Rows::new(alloc), events, &mut NoWitness)?;
+    let is_before = is_ordered(&before);
+    drop(before);
+    Ok([is_alone, is_before])
+}
+
+#[test]
+fn commits_of_a_robust_set_have_an_order(rt: HostRuntime) -> Result<(), Fail> {
+    let events = events(rt.alloc())?;
+    let set = robust(rt.alloc(), &REGISTERS)?;
+    let ordered = are_ordered(rt.alloc(), &set, &events);
+    drop(set);
+    drop(events);
+    assert!(rt; ordered? == [true, true]);
+    Ok(())
+}
+
+#[test]
+fn laws_of_histories_and_graphs_are_called() {
+    instances_follow_nodes();
+    dependencies_are_static_edges();
+    concurrent_dependencies_are_vulnerable();
+    states_have_i64_rows();
+    grow_tables_gain_each_row_once();
+}
+
+#[test]
+fn laws_of_cycles_are_called() {
+    cycles_end_in_two_missed_changes();
+    cycles_are_dangerous();
+    safe_sets_have_no_cycle();
+}
