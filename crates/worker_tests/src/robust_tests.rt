@@ -1,15 +1,17 @@
 //! Events on a robust set, told by hand, and the laws of such sets that stand as functions.
 
 use crate::sets::{LOOK, REGISTERS, SET, cell, robust};
+use history_book::{Book, HistoryRow};
 use prog_tree::{Rows, Sequence};
 use robust_cert::RobustSet;
 use si_engine::{
     Event, NoWitness, Outcome, concurrent_dependencies_are_vulnerable, cycles_are_dangerous,
     cycles_end_in_two_missed_changes, dependencies_are_static_edges,
-    grow_tables_gain_each_row_once, instances_follow_nodes, run_robust, run_robust_before,
-    safe_sets_have_no_cycle, states_have_i64_rows,
+    grow_tables_gain_each_row_once, instances_follow_nodes, order_of, run_robust,
+    run_robust_before, safe_sets_have_no_cycle, states_have_i64_rows,
 };
 use std::alloc::{AllocError, Global};
+use std::process::Abort;
 use std::test::Fail;
 
 fn begin(alloc: Global, program: usize, args: &[i64]) -> Result<Event, AllocError> {
@@ -60,6 +62,50 @@ fn commits_of_a_robust_set_have_an_order(rt: HostRuntime) -> Result<(), Fail> {
     drop(set);
     drop(events);
     assert!(rt; ordered? == [true, true]);
+    Ok(())
+}
+
+fn row_of(
+    alloc: Global,
+    program: usize,
+    args: &[i64],
+    replies: &[i64],
+) -> Result<HistoryRow, AllocError> {
+    Ok(HistoryRow {
+        program,
+        args: Sequence::from_slice(alloc, args)?,
+        start: 0,
+        replies: Sequence::from_slice(alloc, replies)?,
+    })
+}
+
+/// The same commits as records.
+fn records(alloc: Global) -> Result<Vec<HistoryRow>, AllocError> {
+    let set = row_of(alloc, SET, &[1, 5], &[])?;
+    let look = row_of(alloc, LOOK, &[1], &[-1])?;
+    Ok(Vec::from_array(alloc, [set, look])?)
+}
+
+/// The order of the commits of a book of records.
+fn order_in(
+    rt: &impl Abort,
+    alloc: Global,
+    set: &RobustSet,
+    records: Vec<HistoryRow>,
+) -> Vec<usize> {
+    let book = Book::audit(alloc, set.set(), Rows::new(alloc), records).expect(rt, "a book");
+    let order = order_of(&book).expect(rt, "memory");
+    drop(book);
+    order
+}
+
+#[test]
+fn a_book_of_a_robust_set_has_an_order(rt: HostRuntime) -> Result<(), Fail> {
+    let set = robust(rt.alloc(), &REGISTERS)?;
+    let records = records(rt.alloc()).expect(&rt, "memory");
+    let order = order_in(&rt, rt.alloc(), &set, records);
+    drop(set);
+    assert!(rt; order.as_slice() == [2, 1].as_slice());
     Ok(())
 }
 
