@@ -5,8 +5,7 @@ ghost use Rattle.version_store.specs.Reading.{RisesFrom, value_at};
 ghost use Rattle.version_store.specs.Regions.{seen_in, seen_left, with_found};
 
 use crate::chain::Chain;
-use crate::own::OwnCells;
-use prog_tree::{Cell, Region, Rows};
+use prog_tree::{Cell, Region, RisingCells, Rows};
 use std::alloc::AllocError;
 
 /// Adds the row of a cell after the first `start` commits, where it has one.
@@ -34,7 +33,7 @@ pub fn seen_in(region: &Region, start: u64, cell: &Cell, chain: &Chain) -> Optio
 /// What is seen in a region of a cell, unless it is one of some `own` cells.
 pub fn seen_left(
     region: &Region,
-    own: &OwnCells,
+    own: &RisingCells,
     start: u64,
     cell: &Cell,
     chain: &Chain,

@@ -6,7 +6,6 @@ mod chains;
 mod clash;
 mod found;
 mod laws;
-mod own;
 mod pending;
 mod rare;
 mod scan;
@@ -17,5 +16,4 @@ mod versions;
 
 pub use clash::Clash;
 pub use laws::{clashes_are_found, retained_versions_stay};
-pub use own::OwnCells;
 pub use store::Store;

@@ -6,8 +6,7 @@ ghost use Rattle.version_store.specs.Regions.{seen_anywhere, seen_in, seen_left,
 
 use crate::chains::Chains;
 use crate::found::{add_found, behind, push_row, seen_in, seen_left};
-use crate::own::OwnCells;
-use prog_tree::{Cell, Region, Rows, Sequence};
+use prog_tree::{Cell, Region, RisingCells, Rows, Sequence};
 use std::alloc::AllocError;
 
 impl Chains {
@@ -41,7 +40,13 @@ impl Chains {
 
     /// Whether some rows are those of a region after the first `start` commits, but for those of
     /// some `own` cells.
-    pub fn are_held(&self, start: u64, region: &Region, own: &[Cell], rows: &[(Cell, i64)]) -> bool
+    pub fn are_held(
+        &self,
+        start: u64,
+        region: &Region,
+        own: &RisingCells,
+        rows: &[(Cell, i64)],
+    ) -> bool
         ensures { AllRise self.now → (m : TableState) →
             IsSeen (seen_left region.now own.now start) self.now m →
             IsTrue result ↔ (m ≡ rows.now) }
@@ -49,10 +54,9 @@ impl Chains {
         let Some((low, high)) = region.corners() else {
             return rows.is_empty();
         };
-        let own_cells = OwnCells::new(own);
         let mut rest = rows;
         for (cell, chain) in self.chains.range(low..=high) {
-            let found = seen_left(region, &own_cells, start, cell, chain);
+            let found = seen_left(region, own, start, cell, chain);
             let Some(after) = behind(rest, cell, found) else {
                 return false;
             };

@@ -12,7 +12,7 @@ ghost use Rattle.version_store.specs.Versions.{retained, reclaimed};
 use crate::chains::Chains;
 use crate::clash::{Clash, first_clash};
 use crate::pending::Pending;
-use prog_tree::{Cell, Changes, Region, Rows, Sequence};
+use prog_tree::{Cell, Changes, Region, RisingCells, Rows, Sequence};
 use std::alloc::{AllocError, Global};
 use std::marker::Model;
 
@@ -90,7 +90,13 @@ impl Store {
 
     /// Whether some rows are those of a region after the first `start` commits, but for those of
     /// some `own` cells.
-    pub fn are_held(&self, start: u64, region: &Region, own: &[Cell], rows: &[(Cell, i64)]) -> bool
+    pub fn are_held(
+        &self,
+        start: u64,
+        region: &Region,
+        own: &RisingCells,
+        rows: &[(Cell, i64)],
+    ) -> bool
         requires above { self.now.floor ≤ start }
         requires within { start ≤ self.now.commits }
         ensures { InEachHistory self.now (λ opening ws.

@@ -1,8 +1,8 @@
 //! Calls of a store and their answers, as plain data.
 
 use crate::store::twin::{Deed, cell, changes};
-use prog_tree::{Cell, Region, Rows};
-use std::alloc::Global;
+use prog_tree::{Cell, Region, RisingCells, Rows};
+use std::alloc::{AllocError, Global};
 use std::process::Abort;
 use version_store::{Clash, Store};
 
@@ -85,12 +85,26 @@ const FIRST_THREE: Region = Region {
     second_high: 0,
 };
 
-fn are_held(store: &Store, start: u64, own: i64, rows: &[(Cell, i64)]) -> Answer {
+// `t[first]` alone.
+fn alone(alloc: Global, first: i64) -> Result<RisingCells, AllocError> {
+    let mut cells = Vec::from_slice(alloc, &[cell(first)])?;
+    cells.sort()?;
+    Ok(RisingCells::from_vec(cells))
+}
+
+fn are_held(
+    rt: &impl Abort,
+    alloc: Global,
+    store: &Store,
+    start: u64,
+    own: i64,
+    rows: &[(Cell, i64)],
+) -> Answer {
     if start < store.floor() || start > store.commits() {
         return Answer::OutOfReach;
     }
-    let held = store.are_held(start, &FIRST_THREE, &[cell(own)], rows);
-    Answer::Is(held)
+    let own = alone(alloc, own).expect(rt, "memory");
+    Answer::Is(store.are_held(start, &FIRST_THREE, &own, rows))
 }
 
 fn make(rt: &impl Abort, alloc: Global, store: &mut Store, call: &Call) -> Answer {
@@ -99,7 +113,7 @@ fn make(rt: &impl Abort, alloc: Global, store: &mut Store, call: &Call) -> Answe
         Call::Vacuum(floor) => vacuum(store, floor),
         Call::Get(start, first) => get(store, start, first),
         Call::Clash(start, deeds) => clash(rt, alloc, store, start, deeds),
-        Call::AreHeld(start, own, rows) => are_held(store, start, own, rows),
+        Call::AreHeld(start, own, rows) => are_held(rt, alloc, store, start, own, rows),
         Call::Versions => Answer::Count(store.versions()),
         Call::Commits => Answer::Count(store.commits()),
         Call::Floor => Answer::Count(store.floor()),

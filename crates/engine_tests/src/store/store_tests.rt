@@ -5,7 +5,7 @@ use crate::store::twin::{Deed, cell, rows_after};
 use prog_tree::{Cell, Region};
 use std::alloc::Global;
 use std::process::Abort;
-use version_store::{Clash, OwnCells, Store, clashes_are_found, retained_versions_stay};
+use version_store::{Clash, Store, clashes_are_found, retained_versions_stay};
 
 /// Versions and vacuums, over `t[1] = 0`.
 const VERSIONS: &[(Call, Answer)] = &[
@@ -195,22 +195,6 @@ fn states_are_those_of_the_list(rt: HostRuntime) {
         assert!(rt; has_state(&rt, &store, start as u64, &rows), "at {start}");
     }
     drop(store);
-}
-
-/// Own cells, a cell that is looked for among them, and whether it is found.
-const OWN: [(&[Cell], Cell, bool); 5] = [
-    (&[FIRST, THIRD], THIRD, true),
-    (&[FIRST, THIRD], SECOND, false),
-    (&[THIRD, FIRST], THIRD, true),
-    (&[THIRD, FIRST], SECOND, false),
-    (&[], FIRST, false),
-];
-
-#[test]
-fn own_cells_are_found_in_any_order(rt: HostRuntime) {
-    for (own, cell, is_found) in OWN {
-        assert!(rt; OwnCells::new(own).contains(&cell) == is_found);
-    }
 }
 
 #[test]

@@ -18,7 +18,7 @@ use crate::instances::active::Active;
 use crate::instances::row::HistoryRow;
 use crate::instances::ticket::Ticket;
 use prog_run::Run;
-use prog_tree::{Cell, Changes, Look, Region, Sequence, same_tables};
+use prog_tree::{Cell, Changes, Look, Region, RisingCells, Sequence, same_tables};
 use std::alloc::{AllocError, Global};
 use version_store::Clash;
 
@@ -88,7 +88,7 @@ impl<'a> Book<'a> {
 
     // Whether some rows are those of a region after the first `start` commits, but for those of
     // some `own` cells.
-    fn are_held(&self, start: u64, region: &Region, own: &[Cell], rows: &[(Cell, i64)]) -> bool
+    fn are_held(&self, start: u64, region: &Region, own: &RisingCells, rows: &[(Cell, i64)]) -> bool
         requires above { self.now.floor ≤ start }
         requires within { start ≤ length self.now.rows }
         ensures { IsTrue result
@@ -106,7 +106,7 @@ impl<'a> Book<'a> {
         match look {
             Look::One(cell, held) => self.held(start, cell) == *held,
             Look::Range { region, own, rows } => {
-                self.are_held(start, region, own.as_slice(), rows.as_slice())
+                self.are_held(start, region, own, rows.as_slice())
             }
         }
     }

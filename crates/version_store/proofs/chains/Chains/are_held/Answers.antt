@@ -1,10 +1,9 @@
-use Rattle.std.proofs.Common.{◌≡◌, ◌∙◌, List, subst}
+use Rattle.std.proofs.Common.{◌≡◌, ◌∙◌, subst}
 use Rattle.std.specs.Prelude.{filter}
 use Rattle.std.specs.List.Sorted.{IsStrictlySortedBy}
 use Rattle.prog_tree.specs.declared.cell.Cell.{Cell}
 use Rattle.prog_tree.specs.Table.{cell_cmp, Cells, cells_of}
 use Rattle.prog_tree.specs.Corners.{is_between}
-use Rattle.version_store.specs.Reading.{RisesFrom}
 use Rattle.version_store.specs.Regions.{seen_left}
 use Rattle.version_store.specs.StandsFor.{Chain}
 use Rattle.version_store.proofs.FoundLaws.{matches_first, matches_more, mismatch, matched, unmatched, empty_is, left_is, left_nothing, found_rows}
@@ -27,21 +26,17 @@ loop-cell-init c =
 
 pub loop-cell-preserved : goal.loop-cell-preserved
 loop-cell-preserved c = λ rise.
-    let sees : RisesFrom 0 c.in-Some-2.chain.now.versions → c.seen_left-found.result ≡ seen_left c.args.region.now c.args.own.now c.args.start c.in-Some-2.cell.now c.in-Some-2.chain.now =
-    subst (λ (own : List Cell). RisesFrom 0 c.in-Some-2.chain.now.versions → c.seen_left-found.result ≡ seen_left c.args.region.now own c.args.start c.in-Some-2.cell.now c.in-Some-2.chain.now) c.new-own_cells.ensures c.seen_left-found.ensures in
     matches_more (seen_left c.args.region.now c.args.own.now c.args.start) c.args.self.now c.loop-cell.cell-iterator c.next.new.self c.in-Some-2.cell.now c.in-Some-2.chain.now
     c.seen_left-found.result c.loop-cell.rest.now c.in-Some-behind.after.now c.args.rows.now
-    c.in-Some-2.ensures.steps (c.loop-cell.invariant rise) sees c.in-Some-behind.ensures
+    c.in-Some-2.ensures.steps (c.loop-cell.invariant rise) c.seen_left-found.ensures c.in-Some-behind.ensures
 
 pub returns-in_default-behind : goal.returns-in_default-behind
 returns-in_default-behind c = λ rise m h.
     let seen = seen_left c.args.region.now c.args.own.now c.args.start in
     let sorted = subst (λ (es : Cells Chain). IsStrictlySortedBy cell_cmp (cells_of es)) c.self.view_is c.range-cell-items.ensures.ordered in
-    let sees : RisesFrom 0 c.in-Some-2.chain.now.versions → c.seen_left-found.result ≡ seen_left c.args.region.now c.args.own.now c.args.start c.in-Some-2.cell.now c.in-Some-2.chain.now =
-    subst (λ (own : List Cell). RisesFrom 0 c.in-Some-2.chain.now.versions → c.seen_left-found.result ≡ seen_left c.args.region.now own c.args.start c.in-Some-2.cell.now c.in-Some-2.chain.now) c.new-own_cells.ensures c.seen_left-found.ensures in
     unmatched c.args.rows.now (found_rows seen c.args.self.now) m (left_is c.args.region.now c.args.own.now c.args.start c.args.self.now sorted m h)
     (mismatch seen c.args.self.now c.loop-cell.cell-iterator c.next.new.self c.in-Some-2.cell.now c.in-Some-2.chain.now
-    c.seen_left-found.result c.loop-cell.rest.now c.args.rows.now c.in-Some-2.ensures.steps (c.loop-cell.invariant rise) sees c.in_default-behind.ensures)
+    c.seen_left-found.result c.loop-cell.rest.now c.args.rows.now c.in-Some-2.ensures.steps (c.loop-cell.invariant rise) c.seen_left-found.ensures c.in_default-behind.ensures)
 
 pub returns : goal.returns
 returns c = λ rise m h.
