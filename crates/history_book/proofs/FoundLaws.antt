@@ -1,6 +1,6 @@
 -- Looks that found what a table state holds.
 use Rattle.std.proofs.Common.{◌≡◌, ℕ, zero, suc, ◌+◌, ◌<◌, Bool, false, true≢false, List, [], ◌∷◌, length, take, get_or, ap, sym, ◌∙◌, subst, arith}
-use Rattle.std.specs.Prelude.{Some, IsTrue, ◌↔◌, slice_get}
+use Rattle.std.specs.Prelude.{Some, IsTrue, ◌↔◌}
 use Rattle.std.proofs.lemmas.Option.{slice_get-get_or}
 use Rattle.prog_tree.specs.declared.look.Look.{Look}
 use Rattle.prog_tree.specs.Table.{TableState}

@@ -1,12 +1,12 @@
 -- Worked examples of committing paths with an `each`, computed from the definition.
 use Rattle.std.proofs.Common.{◌≡◌, ℕ, List, [], ◌∷◌, refl, true, false}
-use Rattle.std.specs.Prelude.{ℤ, Bool, pos, codes, Some, None}
+use Rattle.std.specs.Prelude.{ℤ, Bool, pos, codes, None}
 use Rattle.prog_tree.specs.Syntax.{Name, ExprTree, Named, Plus, TestTree, One, RangeTree, OneRange, ListingTree, BlockTree, BlockEnd, Then, Branch, Each}
 use Rattle.prog_tree.specs.Syntax as s
 use Rattle.prog_check.specs.declared.path.Kind.{Kind}
 use Rattle.prog_check.specs.declared.path.Kind.TheVariants.{Reads, Writes}
 use Rattle.prog_check.specs.declared.path.Term.{Term}
-use Rattle.prog_check.specs.declared.path.Term.TheVariants.{Param, Literal, Unknown}
+use Rattle.prog_check.specs.declared.path.Term.TheVariants.{Literal, Unknown}
 use Rattle.prog_check.specs.declared.path.Access.{Access}
 use Rattle.prog_check.specs.declared.path.Path.{Path}
 use Rattle.prog_check.specs.Paths.{paths_of}

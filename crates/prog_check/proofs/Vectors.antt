@@ -4,7 +4,7 @@ use Rattle.std.specs.Prelude.{Bool, Option, Some, None, pos, codes}
 use Rattle.prog_tree.specs.declared.table.Arity.{Arity}
 use Rattle.prog_tree.specs.declared.table.Arity.TheVariants as arity
 use Rattle.prog_tree.specs.declared.table.TableDecl.{TableDecl}
-use Rattle.prog_tree.specs.Syntax.{Name, ExprTree, Literal, Named, Plus, Less, TestTree, KeyTree, One, Two, OneRange, TwoRange, BlockTree, BlockEnd, Then, Branch, ProgramTree, DraftTree}
+use Rattle.prog_tree.specs.Syntax.{Name, ExprTree, Literal, Named, Plus, Less, TestTree, KeyTree, One, Two, TwoRange, BlockTree, BlockEnd, Then, Branch, ProgramTree, DraftTree}
 use Rattle.prog_tree.specs.Syntax as s
 use Rattle.prog_check.specs.declared.fault.CheckFault.{CheckFault}
 use Rattle.prog_check.specs.declared.fault.CheckFault.TheVariants.{DuplicateTable, DuplicateProgram, DuplicateParameter, UnknownTable, UnknownName, NameTaken, WrongArity, GrowTableChanged, AfterAbort, TooMany, TooManyPaths}

@@ -5,7 +5,7 @@ use Rattle.std.specs.Ordering.{int_eq}
 use Rattle.std.proofs.lemmas.List.{append-nil}
 use Rattle.prog_tree.specs.Number.{least as least_number, greatest as greatest_number}
 use Rattle.prog_tree.specs.Syntax as s
-use Rattle.prog_tree.specs.Syntax.{Name, ExprTree, RelationSign, ComparisonTree, TestTree, KeyTree, RangeTree, StatementTree, BlockTree, BlockEnd, Then, Branch, ProgramTree, DraftTree}
+use Rattle.prog_tree.specs.Syntax.{Name, ExprTree, RelationSign, ComparisonTree, TestTree, KeyTree, RangeTree, StatementTree, BlockTree, ProgramTree, DraftTree}
 use Rattle.prog_tree.specs.declared.table.TableDecl.{TableDecl}
 use Rattle.prog_text.specs.declared.lexing.token.Token.{Token}
 use Rattle.prog_text.specs.declared.lexing.token.Sign.TheVariants as sign

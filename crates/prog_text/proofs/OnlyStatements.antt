@@ -4,7 +4,7 @@ use Rattle.prog_tree.specs.Syntax.{Name, ExprTree, TestTree, KeyTree, RangeTree,
 use Rattle.prog_text.specs.declared.lexing.token.Token.{Token}
 use Rattle.prog_text.specs.declared.lexing.token.Sign.TheVariants as sign
 use Rattle.prog_text.specs.declared.lexing.token.Token.TheVariants as t
-use Rattle.prog_text.specs.Grammar.{IsExpr, IsTest, IsKey, IsRange, IsStatement, bind, get, need, count, sum, lacks, put, insert, delete, keep, reply, abort, IsStatements, nothing, IsBlock, block, IsElse, missing, present}
+use Rattle.prog_text.specs.Grammar.{IsExpr, IsKey, IsRange, IsStatement, bind, get, need, count, sum, lacks, put, insert, delete, keep, reply, abort, IsStatements, nothing, IsBlock, block, IsElse, missing, present}
 use Rattle.prog_text.specs.Grammar as g
 use Rattle.prog_text.specs.Reading.{◌>>=◌, after_sign, expect, expr_at, test_at, key_at, range_at, last_expr_at, last_key_at, last_range_at, assigned_at, bind_at, get_at, need_at, count_at, summed_at, bound_at, let_at, lacks_at, put_at, insert_at, delete_at, keep_at, reply_at, abort_at, statement_at, block_at, second_at, behind_second, behind_first, branch_at, listing_at, behind_turns, each_at, more_at, body_at}
 use Rattle.prog_text.proofs.Only.{Reads, then_reads, mapped_reads, regrouped}

@@ -5,7 +5,7 @@ use Rattle.std.proofs.lemmas.Bool.{false≢true}
 use Rattle.std.proofs.lemmas.Int.{ints}
 use Rattle.std.proofs.lemmas.Option.{none-some, same_Some}
 use Rattle.prog_tree.specs.Number.{IsI64}
-use Rattle.prog_tree.specs.Syntax.{Name, Named, Literal, Plus, One, OneRange, StatementTree, BlockTree, BlockEnd, Then, Each, ProgramTree, DraftTree}
+use Rattle.prog_tree.specs.Syntax.{Named, Literal, Plus, One, OneRange, StatementTree, BlockTree, BlockEnd, Then, Each, ProgramTree, DraftTree}
 use Rattle.prog_tree.specs.Syntax as s
 use Rattle.prog_check.specs.declared.path.Kind.{Kind}
 use Rattle.prog_check.specs.declared.path.Kind.TheVariants.{Reads, Lacks, Writes, Adds}

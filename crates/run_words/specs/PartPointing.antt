@@ -1,5 +1,5 @@
 -- What the words of a fault of the second part have to show.
-use Rattle.std.specs.Prelude.{ℕ, ◌≡◌, ◌<◌, ⊤, Bool, true, ◌&&◌, ◌||◌, List, ◌++◌, Option, Some, None, bytes_eq, codes, drop, length, nat_eq, take}
+use Rattle.std.specs.Prelude.{ℕ, ◌≡◌, ◌<◌, ⊤, Bool, true, ◌&&◌, ◌||◌, List, Option, Some, None, bytes_eq, codes, drop, length, nat_eq, take}
 use Rattle.std.specs.List.{starts_with}
 use Rattle.text_places.specs.Landmarks.{HasNoRecord, IsRecordPlace}
 use Rattle.text_places.specs.Places.{ends_line, HasNoLine, IsLineFront}

@@ -18,7 +18,7 @@ use Rattle.prog_run.specs.Looks.{AreFound}
 use Rattle.history_book.specs.History.{Instance, evaluation, state_after}
 use Rattle.history_book.specs.Runs.{ended_in, withdrawn_in, committed_in}
 use Rattle.history_book.specs.View as book
-use Rattle.history_book.specs.View.{BookView, instance_of, history_of, active_at, with_start, without, commits_in, state_in, done_in}
+use Rattle.history_book.specs.View.{BookView, instance_of, history_of, with_start, without, state_in, done_in}
 use Rattle.history_book.specs.declared.instances.row.Ending.{Ending}
 use Rattle.history_book.specs.declared.instances.row.HistoryRow.{HistoryRow}
 use Rattle.history_book.proofs.HistoryLaws.{state_after-push}

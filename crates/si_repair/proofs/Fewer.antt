@@ -15,7 +15,7 @@ use Rattle.prog_check.specs.Paths.{statement_count}
 use Rattle.prog_check.specs.Tables.{declaration, grows}
 use Rattle.prog_check.specs.Uses.{used_table, is_abort, as_count}
 use Rattle.repair_laws.specs.declared.plan.NewTable.{NewTable}
-use Rattle.repair_laws.specs.Materialised.{plain_table, column_of, keep_in, keeps_for, columns_for, in_front, with_front, all_with_front, materialised_by}
+use Rattle.repair_laws.specs.Materialised.{plain_table, column_of, keep_in, keeps_for, columns_for, in_front, all_with_front, materialised_by}
 use Rattle.repair_laws.specs.Promoted.{cell_read, keep_of, with_keeps, all_with_keeps, promoted_by}
 use Rattle.si_repair.proofs.Limits.{IsSmallProgram, AreSmallPrograms, IsWithinLimits}
 

@@ -1,5 +1,5 @@
 -- Statements in front of programs.
-use Rattle.std.proofs.Common.{◌≡◌, ℕ, zero, suc, ◌+◌, ◌<◌, Bool, true, false, List, [], ◌∷◌, ◌++◌, map, length, get_or, take, refl, sym, ap, subst, ◌∙◌, arith}
+use Rattle.std.proofs.Common.{◌≡◌, ℕ, suc, ◌+◌, ◌<◌, Bool, true, false, List, [], ◌∷◌, ◌++◌, map, length, get_or, take, refl, sym, ap, subst, ◌∙◌, arith}
 use Rattle.std.specs.Prelude.{Option, Some, None, option_map, slice_get, if◌then◌else◌, ◌==◌, All}
 use Rattle.std.specs.List.{flat_map}
 use Rattle.std.proofs.lemmas.Bool.{eqb-true}
@@ -7,7 +7,7 @@ use Rattle.std.proofs.lemmas.List.Elements.{All-nil, All-cons, All-weaker}
 use Rattle.std.proofs.lemmas.List.{get_or-map, length-map, length-take-le, map-append, take_more}
 use Rattle.std.proofs.lemmas.Option.{slice_get-get_or, slice_get-map}
 use Rattle.prog_tree.specs.Syntax.{StatementTree, BlockTree, BlockEnd, Plain, block_from, ProgramTree, DraftTree}
-use Rattle.prog_tree.specs.Tree.{stmt_tree, with_stmt, with_stmts, stmts_tree, program_tree}
+use Rattle.prog_tree.specs.Tree.{stmt_tree, with_stmts, stmts_tree, program_tree}
 use Rattle.prog_tree.specs.declared.stmt.Stmt.{Stmt}
 use Rattle.prog_tree.specs.declared.program.Program.{Program}
 use Rattle.prog_check.specs.declared.path.Path.{Path}

@@ -1,6 +1,6 @@
 //! One worker: the jobs that it draws, one after another.
 
-ghost use Rattle.std.specs.Prelude.{◌≡◌, ◌+◌, ◌<◌, ◌≤◌, ◌^◌, [], take, length, Some, IfOk};
+ghost use Rattle.std.specs.Prelude.{◌≡◌, ◌+◌, ◌<◌, ◌≤◌, ◌^◌, [], length, Some, IfOk};
 ghost use Rattle.prog_tree.specs.declared.deed.End.TheVariants.{Ready};
 ghost use Rattle.job_counter.specs.Passes.{counter_of, name_of, numbers_of};
 ghost use Rattle.si_workers.specs.Ended.{ended_by_try};

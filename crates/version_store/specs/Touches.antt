@@ -1,5 +1,5 @@
 -- The touches of a commit, one behind another, and what each does to a chain.
-use Rattle.std.specs.Prelude.{ℕ, List, [], ◌++◌, map}
+use Rattle.std.specs.Prelude.{ℕ, List, ◌++◌, map}
 use Rattle.prog_tree.specs.declared.cell.Cell.{Cell}
 use Rattle.prog_tree.specs.ChangeSet.{ChangedCells}
 use Rattle.prog_tree.specs.Table.{Cells}
