@@ -7,7 +7,7 @@ ghost use Rattle.history_book.specs.Reasons.{missed_at, missed_by, told_reason};
 ghost use Rattle.history_book.specs.Traces.{changed_at, looked_at, takes_in, trace_at};
 
 use crate::orders::trace::{Sight, Trace};
-use prog_tree::{Cell, Region, is_among_rising};
+use prog_tree::{Cell, Region};
 
 /// Why the first of two commits has to stand before the second.
 #[derive(Clone, Copy, Debug, PartialEq, Eq)]
@@ -44,8 +44,7 @@ fn looked_at(trace: &Trace, cell: &Cell) -> bool
 fn changed_at(trace: &Trace, cell: &Cell) -> bool
     ensures { result ≡ changed_at trace.now cell.now }
 {
-    let changed = trace.changed.as_slice();
-    is_among_rising(changed, cell)
+    trace.changed.contains(cell)
 }
 
 /// The trace of a commit that there is.

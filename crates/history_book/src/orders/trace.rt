@@ -42,7 +42,7 @@ impl Sight {
 #[derive(Debug, Drop)]
 pub struct Trace {
     pub(crate) start: u64,
-    pub(crate) changed: Sequence<Cell>,
+    pub(crate) changed: RisingCells,
     pub(crate) looked: Sequence<Sight>,
 }
 
@@ -58,16 +58,25 @@ impl Model for Trace {
     ghost invariant = { λ t. IsStrictlySortedBy cell_cmp t.changed };
 }
 
-// The changed cells.
-fn changed_cells(alloc: Global, changes: &Changes) -> Result<Sequence<Cell>, AllocError>
-    ensures cells { IfOk result (λ cells. cells ≡ cells_of changes.now.cells) }
-    ensures ordered { IfOk result (λ cells. IsStrictlySortedBy cell_cmp cells) }
+// The changed cells in a list.
+fn listed_cells(alloc: Global, changes: &Changes) -> Result<Vec<Cell>, AllocError>
+    ensures cells { IfOk result (λ cells. cells.items ≡ cells_of changes.now.cells) }
+    ensures ordered { IfOk result (λ cells. IsStrictlySortedBy cell_cmp cells.items) }
 {
     let mut cells = Vec::with_capacity(alloc, changes.iter().len())?;
     for (cell, _) in changes.iter() {
         cells.push(*cell)?;
     }
-    Ok(Sequence::from_vec(cells))
+    Ok(cells)
+}
+
+// The changed cells.
+fn changed_cells(alloc: Global, changes: &Changes) -> Result<RisingCells, AllocError>
+    ensures cells { IfOk result (λ cells. cells ≡ cells_of changes.now.cells) }
+    ensures ordered { IfOk result (λ cells. IsStrictlySortedBy cell_cmp cells) }
+{
+    let cells = listed_cells(alloc, changes)?;
+    Ok(RisingCells::from_vec(cells))
 }
 
 // A look without what it found.
