@@ -24,3 +24,5 @@ mod text_tests;
 mod told;
 #[cfg(test)]
 mod value_tests;
+#[cfg(test)]
+mod word_tests;
