@@ -7,6 +7,8 @@ mod book;
 #[cfg(test)]
 mod jobs;
 #[cfg(test)]
+mod part_tests;
+#[cfg(test)]
 mod robust_tests;
 #[cfg(test)]
 mod sets;
