@@ -8,4 +8,5 @@ pub mod Paths
 pub mod Sets
 pub mod Sound
 pub mod Tables
+pub mod Texts
 pub mod Uses

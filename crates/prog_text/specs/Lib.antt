@@ -9,4 +9,5 @@ pub mod OpenBlocks
 pub mod Printed
 pub mod Reading
 pub mod Spelling
+pub mod Texts
 pub mod Words

@@ -1,11 +1,8 @@
 -- The lines that faults are.
 use Rattle.std.specs.Prelude.{ℕ, Bool, true, false, List, [], ◌∷◌, ◌++◌, codes}
-use Rattle.std.specs.Fmt.{decimal}
-use Rattle.prog_check.specs.declared.fault.Place.{Place}
-use Rattle.prog_check.specs.declared.fault.Place.TheVariants.{Table, Program, Statement}
-use Rattle.prog_check.specs.declared.fault.CheckFault.{CheckFault}
+use Rattle.prog_check.specs.Texts.{check_fault_text}
 use Rattle.prog_check.specs.declared.fault.CheckFault.TheVariants as c
-use Rattle.prog_text.specs.declared.fault.TextFault.{TextFault}
+use Rattle.prog_text.specs.Texts.{text_fault_text}
 use Rattle.prog_text.specs.declared.fault.TextFault.TheVariants as t
 use Rattle.sirob.specs.declared.command_fault.CommandFault.{CommandFault}
 use Rattle.sirob.specs.declared.command_fault.CommandFault.TheVariants.{Input, Split, Text, Check, Analysis, Repair, Json, Certificate, Part, Audit, Work}
@@ -24,49 +21,11 @@ use Rattle.si_engine.specs.declared.input.source.InputFault.TheVariants as i
 use Rattle.sirob.specs.declared.worker_fault.WorkerFault.TheVariants as w
 use Rattle.sirob.specs.Faults.{part_code, worker_fault_text}
 
--- a code and a byte's place
-abbrev pub at_byte : List ℕ → ℕ → List ℕ
-at_byte code place = code ++ (codes " at " ++ decimal place)
-
-abbrev pub text_fault : TextFault → List ℕ
-text_fault (t.NotAscii place) = at_byte (codes "P1") place
-text_fault (t.UnknownByte place) = at_byte (codes "P2") place
-text_fault (t.UnexpectedToken place) = at_byte (codes "P3") place
-text_fault (t.UnexpectedEnd place) = at_byte (codes "P4") place
-text_fault (t.NumberOutOfRange place) = at_byte (codes "P5") place
-text_fault (t.NameTooLong place) = at_byte (codes "P6") place
-text_fault (t.TooDeep place) = at_byte (codes "P7") place
-text_fault (t.TooLong place) = at_byte (codes "P8") place
-text_fault t.Memory = codes "memory"
-
-abbrev pub place_text : Place → List ℕ
-place_text (Table n) = codes "table " ++ decimal n
-place_text (Program n) = codes "program " ++ decimal n
-place_text (Statement n k) = codes "program " ++ (decimal n ++ (codes " statement " ++ decimal k))
-
--- a code and a place in the set
-abbrev pub in_set : List ℕ → Place → List ℕ
-in_set code place = code ++ (codes " " ++ place_text place)
-
-abbrev pub check_fault : CheckFault → List ℕ
-check_fault (c.DuplicateTable place) = in_set (codes "C1") place
-check_fault (c.DuplicateProgram place) = in_set (codes "C2") place
-check_fault (c.DuplicateParameter place) = in_set (codes "C3") place
-check_fault (c.UnknownTable place) = in_set (codes "C4") place
-check_fault (c.UnknownName place) = in_set (codes "C5") place
-check_fault (c.NameTaken place) = in_set (codes "C6") place
-check_fault (c.WrongArity place) = in_set (codes "C7") place
-check_fault (c.GrowTableChanged place) = in_set (codes "C8") place
-check_fault (c.AfterAbort place) = in_set (codes "C9") place
-check_fault (c.TooMany place) = in_set (codes "C10") place
-check_fault (c.TooManyPaths place) = in_set (codes "C11") place
-check_fault c.Memory = codes "memory"
-
 abbrev pub fault_text : CommandFault → List ℕ
 fault_text (Input fault) = input_fault_text fault
 fault_text (Split fault) = part_code fault
-fault_text (Text fault) = text_fault fault
-fault_text (Check fault) = check_fault fault
+fault_text (Text fault) = text_fault_text fault
+fault_text (Check fault) = check_fault_text fault
 fault_text (Analysis fault) = analyse_fault_text fault
 fault_text (Repair fault) = repair_fault_text fault
 fault_text (Json fault) = json_fault_text fault

@@ -1,12 +1,12 @@
 //! What keeps a command from its work, and the line that says so.
 ghost use Rattle.std.specs.Prelude.{◌≡◌, IfOk, string_bytes};
 ghost use Rattle.sirob.specs.Faults.{part_code};
-ghost use Rattle.sirob.specs.FaultLines.{text_fault, place_text, in_set, check_fault, fault_line, is_memory};
+ghost use Rattle.sirob.specs.FaultLines.{fault_line, is_memory};
 
 use crate::parts::SplitFault;
 use crate::worker_fault::WorkerFault;
 use history_book::AuditFault;
-use prog_check::{CheckFault, Place};
+use prog_check::CheckFault;
 use prog_text::TextFault;
 use robust_cert::{CertFault, JsonFault};
 use si_engine::{InputFault, LineFault, PartFault};
@@ -39,63 +39,6 @@ fn split_fault(alloc: Global, fault: SplitFault) -> Result<String, AllocError>
     }
 }
 
-// A fault of the text, by its code and the byte where it stands.
-fn text_fault(alloc: Global, fault: TextFault) -> Result<String, AllocError>
-    ensures { IfOk result (λ text. string_bytes text ≡ text_fault fault) }
-{
-    match fault {
-        TextFault::NotAscii { place } => format!(in alloc; "P1 at {place}"),
-        TextFault::UnknownByte { place } => format!(in alloc; "P2 at {place}"),
-        TextFault::UnexpectedToken { place } => format!(in alloc; "P3 at {place}"),
-        TextFault::UnexpectedEnd { place } => format!(in alloc; "P4 at {place}"),
-        TextFault::NumberOutOfRange { place } => format!(in alloc; "P5 at {place}"),
-        TextFault::NameTooLong { place } => format!(in alloc; "P6 at {place}"),
-        TextFault::TooDeep { place } => format!(in alloc; "P7 at {place}"),
-        TextFault::TooLong { place } => format!(in alloc; "P8 at {place}"),
-        TextFault::Memory => format!(in alloc; "memory"),
-    }
-}
-
-// A table, a program or a statement.
-fn place_text(alloc: Global, place: Place) -> Result<String, AllocError>
-    ensures { IfOk result (λ text. string_bytes text ≡ place_text place) }
-{
-    match place {
-        Place::Table { table } => format!(in alloc; "table {table}"),
-        Place::Program { program } => format!(in alloc; "program {program}"),
-        Place::Statement { program, statement } => {
-            format!(in alloc; "program {program} statement {statement}")
-        }
-    }
-}
-
-fn in_set(alloc: Global, code: &str, place: Place) -> Result<String, AllocError>
-    ensures { IfOk result (λ text. string_bytes text ≡ in_set code.now place) }
-{
-    let place = place_text(alloc, place)?;
-    format!(in alloc; "{code} {place}")
-}
-
-// A fault of the checker, by its code and where it lies in the set.
-fn check_fault(alloc: Global, fault: CheckFault) -> Result<String, AllocError>
-    ensures { IfOk result (λ text. string_bytes text ≡ check_fault fault) }
-{
-    match fault {
-        CheckFault::DuplicateTable { place } => in_set(alloc, "C1", place),
-        CheckFault::DuplicateProgram { place } => in_set(alloc, "C2", place),
-        CheckFault::DuplicateParameter { place } => in_set(alloc, "C3", place),
-        CheckFault::UnknownTable { place } => in_set(alloc, "C4", place),
-        CheckFault::UnknownName { place } => in_set(alloc, "C5", place),
-        CheckFault::NameTaken { place } => in_set(alloc, "C6", place),
-        CheckFault::WrongArity { place } => in_set(alloc, "C7", place),
-        CheckFault::GrowTableChanged { place } => in_set(alloc, "C8", place),
-        CheckFault::AfterAbort { place } => in_set(alloc, "C9", place),
-        CheckFault::TooMany { place } => in_set(alloc, "C10", place),
-        CheckFault::TooManyPaths { place } => in_set(alloc, "C11", place),
-        CheckFault::Memory => format!(in alloc; "memory"),
-    }
-}
-
 /// The line that a fault is, with its line feed.
 pub fn fault_line(alloc: Global, fault: CommandFault) -> Result<String, AllocError>
     ensures { IfOk result (λ line. string_bytes line ≡ fault_line fault) }
@@ -103,8 +46,8 @@ pub fn fault_line(alloc: Global, fault: CommandFault) -> Result<String, AllocErr
     let text = match fault {
         CommandFault::Input(fault) => format!(in alloc; "{fault}")?,
         CommandFault::Split(fault) => split_fault(alloc, fault)?,
-        CommandFault::Text(fault) => text_fault(alloc, fault)?,
-        CommandFault::Check(fault) => check_fault(alloc, fault)?,
+        CommandFault::Text(fault) => format!(in alloc; "{fault}")?,
+        CommandFault::Check(fault) => format!(in alloc; "{fault}")?,
         CommandFault::Analysis(fault) => format!(in alloc; "{fault}")?,
         CommandFault::Repair(fault) => format!(in alloc; "{fault}")?,
         CommandFault::Json(fault) => format!(in alloc; "{fault}")?,
