@@ -5,15 +5,12 @@ use Rattle.std.specs.Option.{option_or}
 use Rattle.std.proofs.lemmas.Option.{slice_get_cases}
 use Rattle.std.proofs.lemmas.Bool.{or_cases, or_left, or_right}
 use Rattle.prog_tree.specs.declared.cell.Cell.{Cell}
+use Rattle.version_store.proofs.RisingLaws.{rises_more}
 use Rattle.history_book.specs.Orders.{is_one_of, IsUpTo}
 use Rattle.history_book.specs.Reduced.{RiseFrom, writers_from, writers_of, last_seen, first_missed}
 use Rattle.history_book.specs.TraceView.{TraceView}
 use Rattle.history_book.specs.Traces.{changed_at, trace_at, no_trace}
 use Rattle.history_book.proofs.TestLaws.{lt_told, lt_tells, le_told, le_tells, eq_told, eq_itself, ne_tells}
-
-pub weaken : (n m : ℕ) (ms : List ℕ) → n ≤ m → RiseFrom m ms → RiseFrom n ms
-weaken n m [] le rise = tt
-weaken n m (k ∷ ms) le rise = (omega (arith, le, rise.0), rise.1)
 
 pub at_least : (n : ℕ) (ms : List ℕ) (w : ℕ) → RiseFrom n ms → is_one_of ms w ≡ true → n ≤ w
 at_least n [] w rise h = absurd (cc)
@@ -36,7 +33,7 @@ writers_rise k (t ∷ ts) c = go (changed_at t c) (writers_rise (k + 1) ts c)
   where
     go : (b : Bool) → RiseFrom (k + 1) (writers_from (k + 1) ts c) → RiseFrom k (if b then k ∷ writers_from (k + 1) ts c else writers_from (k + 1) ts c)
     go true rest = (omega arith, rest)
-    go false rest = weaken k (k + 1) (writers_from (k + 1) ts c) (omega arith) rest
+    go false rest = rises_more (λ (m : ℕ). m) k (k + 1) (writers_from (k + 1) ts c) (omega arith) rest
 
 one_of_writers : (k : ℕ) (ts : List TraceView) (c : Cell) (i : ℕ) → is_one_of (writers_from k ts c) (k + i) ≡ changed_at (unwrap_or (slice_get ts i) no_trace) c
 one_of_writers k [] c zero = refl

@@ -11,13 +11,14 @@ use Rattle.prog_tree.specs.declared.cell.Cell.{Cell}
 use Rattle.prog_tree.specs.declared.cell.Region.{Region}
 use Rattle.prog_tree.specs.Table.{cell_cmp, Cells, cells_of, at_cell, is_same_cell}
 use Rattle.prog_tree.proofs.CellSets.{same-itself, none-behind}
+use Rattle.version_store.proofs.RisingLaws.{rises_more}
 use Rattle.history_book.specs.Orders.{is_one_of, IsUpTo}
 use Rattle.history_book.specs.Reduced.{writers_of, HasWriters, RiseFrom, AreWithin, AllRiseWithin, Pairs, is_pair_among, steps_from, steps_of, writers_steps, last_seen, first_missed, seen_pairs, missed_pairs, reader_pairs, region_pairs, sight_pairs, sights_pairs, readers_pairs}
 use Rattle.history_book.specs.TraceView.{TraceView}
 use Rattle.history_book.specs.Traces.{takes_in, looked_at, changed_at, trace_at, SeesEarlier, changes_again, sees_change, trace_depends, no_trace}
 use Rattle.history_book.specs.declared.orders.trace.Sight.{Sight}
 use Rattle.history_book.specs.declared.orders.trace.Sight.TheVariants as sight
-use Rattle.history_book.proofs.RiseLaws.{weaken, writers_rise, IsWriter, writer_changed, writer_upto, seen_is, missed_is}
+use Rattle.history_book.proofs.RiseLaws.{writers_rise, IsWriter, writer_changed, writer_upto, seen_is, missed_is}
 use Rattle.history_book.proofs.TestLaws.{lt_tells, le_tells, eq_told, eq_itself, ne_tells, apart_by_lt, any_at}
 
 -- ---- a map of writers
@@ -51,7 +52,7 @@ pub all_rise_within : (traces : List TraceView) (m : Cells (List ℕ)) → OfWri
 all_rise_within traces [] of = All-nil _
 all_rise_within traces (e ∷ es) of =
     All-cons (λ (d : Cell × List ℕ). RiseFrom 0 d.1 × AreWithin (length traces) d.1) e es (
-      subst (λ (ws : List ℕ). RiseFrom 0 ws) (sym of.0) (weaken 0 1 (writers_of traces e.0) (omega arith) (writers_rise 1 traces e.0)),
+      subst (λ (ws : List ℕ). RiseFrom 0 ws) (sym of.0) (rises_more (λ (k : ℕ). k) 0 1 (writers_of traces e.0) (omega arith) (writers_rise 1 traces e.0)),
       subst (λ (ws : List ℕ). AreWithin (length traces) ws) (sym of.0) (all_within traces e.0 (writers_of traces e.0) (λ w h. h)),
     ) (all_rise_within traces es of.1)
 

@@ -1,7 +1,7 @@
 -- Laws of the writers of cells.
 use Rattle.std.proofs.Common.{◌≡◌, ◌∙◌, ℕ, zero, suc, ◌+◌, ◌<◌, ◌≤◌, leb, nat_lt, Bool, true, false, cond, ◌||◌, if◌then◌else◌, List, [], ◌∷◌, ◌++◌, length, get_or, refl, ap, subst, arith}
 use Rattle.std.specs.Prelude.{nat_le, Option, Some, None, IfSome, All, unwrap_or}
-use Rattle.std.specs.List.Sorted.{IsStrictlySortedBy, IsNonDecreasingBy}
+use Rattle.std.specs.List.Sorted.{IsStrictlySortedBy}
 use Rattle.std.specs.Option.{option_or}
 use Rattle.std.proofs.lemmas.Bool.Decides.{nat_tests}
 use Rattle.std.proofs.lemmas.List.Elements.{All-head, All-tail}
@@ -10,6 +10,7 @@ use Rattle.prog_tree.specs.declared.cell.Cell.{Cell}
 use Rattle.prog_tree.specs.Table.{cell_cmp, Cells, at_cell, is_same_cell, is_cell_among}
 use Rattle.prog_tree.proofs.CellSets.{same-turned, not-behind}
 use Rattle.prog_tree.proofs.TableStates.{cell_is}
+use Rattle.version_store.proofs.RisingLaws.{cut_rest, cut_none}
 use Rattle.history_book.specs.Reduced.{numbers_at, IsAddedAt, RiseFrom, AreWithin, AllRiseWithin, IsCutBy, last_seen, first_missed}
 
 -- ---- walks over the cells of a commit
@@ -57,40 +58,21 @@ added_entry m n cell number new is written c =
 
 -- ---- the bisection
 
-least_risen : (n : ℕ) (ms : List ℕ) (j d : ℕ) → RiseFrom n ms → j < length ms → n ≤ get_or ms j d
-least_risen n [] j d rise within = absurd (omega arith)
-least_risen n (m ∷ ms) zero d rise within = rise.0
-least_risen n (m ∷ ms) (suc j) d rise within = omega (arith, least_risen (m + 1) ms j d rise.1 (omega arith), rise.0)
-
--- numbers that rise don't fall
-pub risen : (n : ℕ) (ms : List ℕ) → RiseFrom n ms → IsNonDecreasingBy (λ (m : ℕ). m) ms
-risen n [] rise i j d order within = absurd (omega arith)
-risen n (m ∷ ms) rise zero zero d order within = omega arith
-risen n (m ∷ ms) rise zero (suc j) d order within = omega (arith, least_risen (m + 1) ms j d rise.1 (omega arith))
-risen n (m ∷ ms) rise (suc i) zero d order within = absurd (omega arith)
-risen n (m ∷ ms) rise (suc i) (suc j) d order within = risen (m + 1) ms rise.1 i j d (omega arith) (omega arith)
-
-cut_rest : (n m : ℕ) (ms : List ℕ) (r : ℕ) → IsCutBy n (m ∷ ms) (suc r) → IsCutBy n ms r
-cut_rest n m ms r cut = (λ k d low high. cut.0 (suc k) d (omega arith) (omega arith), λ k d low high. cut.1 (suc k) d (omega arith) (omega arith))
-
-cut_none : (n m : ℕ) (ms : List ℕ) → IsCutBy n (m ∷ ms) 0 → IsCutBy n ms 0
-cut_none n m ms cut = (λ k d low high. absurd (omega arith), λ k d low high. cut.1 (suc k) d (omega arith) (omega arith))
-
 pub seen_none : (n : ℕ) (ms : List ℕ) → IsCutBy n ms 0 → None ≡ last_seen n ms
 seen_none n [] cut = refl
 seen_none n (m ∷ ms) cut =
     let above : leb m n ≡ false = cut.1 0 0 (omega arith) (omega arith) in
-    let rest = seen_none n ms (cut_none n m ms cut) in
+    let rest = seen_none n ms (cut_none (λ (k : ℕ). k) n m ms cut) in
     rw (← rest, above) refl
 
 pub seen_last : (n : ℕ) (ms : List ℕ) (count : ℕ) → IsCutBy n ms (suc count) → suc count ≤ length ms → Some (get_or ms count 0) ≡ last_seen n ms
 seen_last n [] count cut bound = absurd (omega arith)
 seen_last n (m ∷ ms) zero cut bound =
     let within : leb m n ≡ true = cut.0 0 0 (omega arith) (omega arith) in
-    let rest = seen_none n ms (cut_rest n m ms 0 cut) in
+    let rest = seen_none n ms (cut_rest (λ (k : ℕ). k) n m ms 0 cut) in
     rw (← rest, within) refl
 seen_last n (m ∷ ms) (suc count) cut bound =
-    let rest = seen_last n ms count (cut_rest n m ms (suc count) cut) (omega arith) in
+    let rest = seen_last n ms count (cut_rest (λ (k : ℕ). k) n m ms (suc count) cut) (omega arith) in
     rw (← rest) refl
 
 not_above : (n m : ℕ) → leb m n ≡ true → nat_lt n m ≡ false
@@ -104,7 +86,7 @@ missed_none n [] cut = refl
 missed_none n (m ∷ ms) cut =
     let within : leb m n ≡ true = cut.0 0 0 (omega arith) (omega arith) in
     let not = not_above n m within in
-    rw not (missed_none n ms (cut_rest n m ms (length ms) cut))
+    rw not (missed_none n ms (cut_rest (λ (k : ℕ). k) n m ms (length ms) cut))
 
 pub missed_first : (n : ℕ) (ms : List ℕ) (count : ℕ) → IsCutBy n ms count → count < length ms → Some (get_or ms count 0) ≡ first_missed n ms
 missed_first n [] count cut bound = absurd (omega arith)
@@ -113,7 +95,7 @@ missed_first n (m ∷ ms) zero cut bound =
     rw (is_above n m above) refl
 missed_first n (m ∷ ms) (suc count) cut bound =
     let within : leb m n ≡ true = cut.0 0 0 (omega arith) (omega arith) in
-    rw (not_above n m within) (missed_first n ms count (cut_rest n m ms count cut) (omega arith))
+    rw (not_above n m within) (missed_first n ms count (cut_rest (λ (k : ℕ). k) n m ms count cut) (omega arith))
 
 -- ---- what holds of all numbers holds of these
 

@@ -1,11 +1,11 @@
 -- Fewer pairs of commits, through which the others follow.
-use Rattle.std.specs.Prelude.{◌≡◌, ℕ, ◌+◌, ◌≤◌, nat_le, nat_lt, leb, ◌==◌, Bool, true, false, ◌&&◌, ◌||◌, All, List, [], ◌∷◌, ◌++◌, length, Option, Some, None, if◌then◌else◌, find, unwrap_or}
+use Rattle.std.specs.Prelude.{◌≡◌, ℕ, ◌+◌, nat_le, nat_lt, ◌==◌, Bool, ◌&&◌, ◌||◌, All, List, [], ◌∷◌, ◌++◌, length, Option, Some, None, if◌then◌else◌, find, unwrap_or}
 use Rattle.std.specs.List.{flat_map, list_any}
-use Rattle.std.specs.List.Sorted.{IsPartitionPoint}
 use Rattle.std.specs.Option.{option_or}
 use Rattle.prog_tree.specs.declared.cell.Cell.{Cell}
 use Rattle.prog_tree.specs.declared.cell.Region.{Region}
 use Rattle.prog_tree.specs.Table.{Cells, at_cell}
+use Rattle.version_store.specs.Reading.{RisesBy, IsNumberCut}
 use Rattle.history_book.specs.Orders.{IsUpTo}
 use Rattle.history_book.specs.Precedence.{precedes}
 use Rattle.history_book.specs.TraceView.{TraceView}
@@ -39,8 +39,7 @@ IsAddedAt here number old new =
 
 -- each number is above the one before it, and the first is at least n
 abbrev pub RiseFrom : ℕ → List ℕ → Type 0
-RiseFrom n [] = Unit {0}
-RiseFrom n (m ∷ ms) = (n ≤ m) × RiseFrom (m + 1) ms
+RiseFrom n numbers = RisesBy (λ (k : ℕ). k) n numbers
 
 -- all are numbers of so many commits
 abbrev pub AreWithin : ℕ → List ℕ → Type 0
@@ -52,7 +51,7 @@ AllRiseWithin n m = All (λ e. RiseFrom 0 e.1 × AreWithin n e.1) m
 
 -- the first `count` numbers are at most n, and the others above
 abbrev pub IsCutBy : (n : ℕ) → List ℕ → (count : ℕ) → Type 0
-IsCutBy n numbers count = IsPartitionPoint (λ m. leb m n ≡ true) (λ m. leb m n ≡ false) numbers count
+IsCutBy n numbers count = IsNumberCut (λ (k : ℕ). k) n numbers count
 
 -- ---- pairs of commits, of which the first has to stand before the second
 

@@ -1,8 +1,8 @@
 -- Laws of what is read from a chain.
 use Rattle.std.proofs.Common.{◌≡◌, ℕ, zero, suc, ◌+◌, ◌-◌, ◌<◌, ◌≤◌, true, false, List, [], ◌∷◌, length, refl, ap, sym, ◌∙◌, cond, arith, leb, get_or}
 use Rattle.std.specs.Prelude.{ℤ, Option, Some, None, slice_get}
-use Rattle.std.specs.List.Sorted.{IsNonDecreasingBy}
-use Rattle.version_store.specs.Reading.{RisesFrom, IsCutAt, value_after, last_number_or}
+use Rattle.version_store.specs.Reading.{number_of, IsCutAt, value_after, last_number_or}
+use Rattle.version_store.proofs.RisingLaws.{cut_rest, cut_none}
 
 -- ---- the last one
 
@@ -20,44 +20,22 @@ last_number_or-is before (x ∷ ms) m found = last_number_or-at before (x ∷ ms
 
 -- ---- the bisection
 
-abbrev pub number_of : ℕ × Option ℤ → ℕ
-number_of v = v.0
-
-least_risen : (n : ℕ) (vs : List (ℕ × Option ℤ)) (j : ℕ) (d : ℕ × Option ℤ) → RisesFrom n vs → j < length vs → n ≤ (get_or vs j d).0
-least_risen n [] j d rises within = absurd (omega arith)
-least_risen n (v ∷ vs) zero d rises within = rises.0
-least_risen n (v ∷ vs) (suc j) d rises within = omega (arith, least_risen (v.0 + 1) vs j d rises.1 (omega arith), rises.0)
-
--- versions that rise don't fall
-pub risen : (n : ℕ) (vs : List (ℕ × Option ℤ)) → RisesFrom n vs → IsNonDecreasingBy number_of vs
-risen n [] rises i j d order within = absurd (omega arith)
-risen n (v ∷ vs) rises zero zero d order within = omega arith
-risen n (v ∷ vs) rises zero (suc j) d order within = omega (arith, least_risen (v.0 + 1) vs j d rises.1 (omega arith))
-risen n (v ∷ vs) rises (suc i) zero d order within = absurd (omega arith)
-risen n (v ∷ vs) rises (suc i) (suc j) d order within = risen (v.0 + 1) vs rises.1 i j d (omega arith) (omega arith)
-
-cut_rest : (n : ℕ) (v : ℕ × Option ℤ) (vs : List (ℕ × Option ℤ)) (r : ℕ) → IsCutAt n (v ∷ vs) (suc r) → IsCutAt n vs r
-cut_rest n v vs r cut = (λ k d low high. cut.0 (suc k) d (omega arith) (omega arith), λ k d low high. cut.1 (suc k) d (omega arith) (omega arith))
-
-cut_none : (n : ℕ) (v : ℕ × Option ℤ) (vs : List (ℕ × Option ℤ)) → IsCutAt n (v ∷ vs) 0 → IsCutAt n vs 0
-cut_none n v vs cut = (λ k d low high. absurd (omega arith), λ k d low high. cut.1 (suc k) d (omega arith) (omega arith))
-
 -- where all are above n, nothing changes
 pub value_after-none : (n : ℕ) (before : Option ℤ) (vs : List (ℕ × Option ℤ)) → IsCutAt n vs 0 → before ≡ value_after n before vs
 value_after-none n before [] cut = refl
 value_after-none n before (v ∷ vs) cut =
     let above : leb v.0 n ≡ false = cut.1 0 v (omega arith) (omega arith) in
-    value_after-none n before vs (cut_none n v vs cut) ∙ ap (λ b. value_after n (cond b v.1 before) vs) (sym above)
+    value_after-none n before vs (cut_none number_of n v vs cut) ∙ ap (λ b. value_after n (cond b v.1 before) vs) (sym above)
 
 -- the last of those that are at most n counts
 pub value_after-at : (n : ℕ) (before : Option ℤ) (vs : List (ℕ × Option ℤ)) (j : ℕ) (d : ℕ × Option ℤ) → IsCutAt n vs (suc j) → j < length vs → (get_or vs j d).1 ≡ value_after n before vs
 value_after-at n before [] j d cut within = absurd (omega arith)
 value_after-at n before (v ∷ vs) zero d cut within =
     let here : leb v.0 n ≡ true = cut.0 0 v (omega arith) (omega arith) in
-    value_after-none n v.1 vs (cut_rest n v vs 0 cut) ∙ ap (λ b. value_after n (cond b v.1 before) vs) (sym here)
+    value_after-none n v.1 vs (cut_rest number_of n v vs 0 cut) ∙ ap (λ b. value_after n (cond b v.1 before) vs) (sym here)
 value_after-at n before (v ∷ vs) (suc j) d cut within =
     let here : leb v.0 n ≡ true = cut.0 0 v (omega arith) (omega arith) in
-    value_after-at n v.1 vs j d (cut_rest n v vs (suc j) cut) (omega arith) ∙ ap (λ b. value_after n (cond b v.1 before) vs) (sym here)
+    value_after-at n v.1 vs j d (cut_rest number_of n v vs (suc j) cut) (omega arith) ∙ ap (λ b. value_after n (cond b v.1 before) vs) (sym here)
 
 -- what is read where no version is at most n, and where some are
 pub read_none : (n : ℕ) (vs : List (ℕ × Option ℤ)) (r : ℕ) → IsCutAt n vs r → r ≡ 0 → None ≡ value_after n None vs

@@ -7,6 +7,7 @@ pub mod FoundLaws
 pub mod HoldLaws
 pub mod NewestLaws
 pub mod PendingLaws
+pub mod RisingLaws
 pub mod ScanLaws
 pub mod SizeLaws
 pub mod StandsLaws

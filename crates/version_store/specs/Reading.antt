@@ -10,10 +10,22 @@ use Rattle.version_store.specs.StandsFor.{Chain, no_chain, HoldsSome}
 abbrev pub chain_at : Cells Chain → Cell → Chain
 chain_at chains c = unwrap_or (at_cell chains c) no_chain
 
--- each version's number is above the one before it, and the first is at least n
+-- each one's number is above the one before it, and the first is at least n
+abbrev pub RisesBy : {A : Type 0} → (A → ℕ) → ℕ → List A → Type 0
+RisesBy number n [] = ⊤
+RisesBy number n (x ∷ xs) = (n ≤ number x) × RisesBy number (number x + 1) xs
+
+-- the numbers of the first `count` are at most n, and the others above
+abbrev pub IsNumberCut : {A : Type 0} → (A → ℕ) → (n : ℕ) → List A → (count : ℕ) → Type 0
+IsNumberCut number n xs count = IsPartitionPoint (λ x. leb (number x) n ≡ true) (λ x. leb (number x) n ≡ false) xs count
+
+-- the number of a version
+abbrev pub number_of : ℕ × Option ℤ → ℕ
+number_of v = v.0
+
+-- the numbers of versions rise, and the first is at least n
 abbrev pub RisesFrom : ℕ → List (ℕ × Option ℤ) → Type 0
-RisesFrom n [] = ⊤
-RisesFrom n (v ∷ vs) = (n ≤ v.0) × RisesFrom (v.0 + 1) vs
+RisesFrom n vs = RisesBy number_of n vs
 
 -- the versions of each cell rise
 abbrev pub AllRise : Cells Chain → Type 0
@@ -21,7 +33,7 @@ AllRise chains = (c : Cell) → RisesFrom 0 (chain_at chains c).versions
 
 -- the first `count` versions are at most n, and the others above
 abbrev pub IsCutAt : (n : ℕ) → List (ℕ × Option ℤ) → (count : ℕ) → Type 0
-IsCutAt n vs count = IsPartitionPoint (λ v. leb v.0 n ≡ true) (λ v. leb v.0 n ≡ false) vs count
+IsCutAt n vs count = IsNumberCut number_of n vs count
 
 -- what a cell holds after the versions that are at most n, where it held something before them
 abbrev pub value_after : ℕ → Option ℤ → List (ℕ × Option ℤ) → Option ℤ
