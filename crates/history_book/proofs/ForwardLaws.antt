@@ -31,18 +31,32 @@ removed (y ∷ ys) x (inr m) = let r = removed ys x m in (y ∷ r.0, (ap suc r.1
         go (inl e) = inl e
         go (inr z) = inr (inr z)
 
+-- each number up to n is among the others
+among_others : (n : ℕ) (zs : List ℕ) (i : ℕ) → IsUpTo n i → (suc n ≡ i) ⊎ IsMember i zs → IsMember i zs
+among_others n zs i up (inl e) = absurd (let b = up.1 in omega arith)
+among_others n zs i up (inr m) = m
+
 -- a list with all numbers up to n is as long at least
-long_enough : (n : ℕ) (ys : List ℕ) → ((i : ℕ) → IsUpTo n i → IsMember i ys) → n ≤ length ys
+pub long_enough : (n : ℕ) (ys : List ℕ) → ((i : ℕ) → IsUpTo n i → IsMember i ys) → n ≤ length ys
 long_enough zero ys all = omega arith
 long_enough (suc n) ys all =
     let r = removed ys (suc n) (all (suc n) (omega arith, omega arith)) in
-    let less = long_enough n r.0 (λ i up. let b = up.1 in other r.0 i up (r.1.1 i (all i (up.0, omega arith)))) in
+    let less = long_enough n r.0 (λ i up. let b = up.1 in among_others n r.0 i up (r.1.1 i (all i (up.0, omega arith)))) in
     let more = r.1.0 in
     omega arith
+
+-- one that is just as long has no other number
+pub none_else : (n : ℕ) (ys : List ℕ) → length ys ≡ n → ((i : ℕ) → IsUpTo n i → IsMember i ys) → (k : ℕ) → IsMember k ys → IsUpTo n k
+none_else zero [] size all k h = absurd h
+none_else zero (y ∷ ys) size all k h = absurd (omega arith)
+none_else (suc n) ys size all k h =
+    let r = removed ys (suc n) (all (suc n) (omega arith, omega arith)) in
+    go r.0 (r.1.1 k h)
+    (none_else n r.0 (omega (arith, r.1.0)) (λ i up. let b = up.1 in among_others n r.0 i up (r.1.1 i (all i (up.0, omega arith)))) k)
   where
-    other : (zs : List ℕ) (i : ℕ) → IsUpTo n i → (suc n ≡ i) ⊎ IsMember i zs → IsMember i zs
-    other zs i up (inl e) = absurd (let b = up.1 in omega arith)
-    other zs i up (inr m) = m
+    go : (zs : List ℕ) → (suc n ≡ k) ⊎ IsMember k zs → (IsMember k zs → IsUpTo n k) → IsUpTo (suc n) k
+    go zs (inl same) rest = (omega arith, omega arith)
+    go zs (inr other) rest = let up = rest other in (up.0, omega (arith, up.1))
 
 member-left : (xs ys : List ℕ) (n : ℕ) → IsMember n xs → IsMember n (xs ++ ys)
 member-left [] ys n m = absurd m

@@ -1,14 +1,16 @@
 -- Lists that have each number once, and the marks by which this is tested.
-use Rattle.std.proofs.Common.{◌≡◌, ◌==◌, ℕ, zero, suc, ◌+◌, ◌<◌, ◌≤◌, Bool, true, false, List, [], ◌∷◌, ◌++◌, length, map, get_or, replicate, refl, ap, sym, ◌∙◌, ◌⊎◌, inl, inr, cond, leb, true≢false, arith}
+use Rattle.std.proofs.Common.{◌≡◌, ◌==◌, ℕ, zero, suc, ◌+◌, ◌<◌, ◌≤◌, Bool, true, false, List, [], ◌∷◌, ◌++◌, length, map, get_or, replicate, refl, ap, sym, ◌∙◌, true≢false, arith}
 use Rattle.std.specs.Prelude.{◌&&◌, ◌||◌, slice_set}
 use Rattle.std.specs.List.{list_all, range_with_len}
-use Rattle.std.proofs.lemmas.Bool.Decides.{nat_tests, leb_tells}
+use Rattle.std.proofs.lemmas.Bool.Decides.{nat_tests}
 use Rattle.std.proofs.lemmas.List.Folds.{list_any-append, list_all-map}
 use Rattle.std.proofs.lemmas.List.{length-append}
 use Rattle.std.proofs.Math.Bool.{or-true, or-false}
 use Rattle.history_book.specs.Orders.{is_one_of}
 use Rattle.history_book.specs.Serial.{is_each_once}
 use Rattle.history_book.proofs.NumberLists.{one-at, one-push}
+use Rattle.history_book.proofs.OrderLaws.{member_of, all-at, up_to_ranged}
+use Rattle.history_book.proofs.ForwardLaws.{long_enough, none_else}
 use Rattle.history_book.proofs.TestLaws.{eq_tells, ne_tells}
 
 -- ---- one number more
@@ -52,76 +54,9 @@ once_by_marks n order marks all size is tells =
 
 -- ---- each number from 1 to n in a list of length n
 
--- a list without the first place of a number
-without_one : ℕ → List ℕ → List ℕ
-without_one x [] = []
-without_one x (y ∷ ys) = cond (y == x) ys (y ∷ without_one x ys)
-
-shorter : (x : ℕ) (ys : List ℕ) → is_one_of ys x ≡ true → length ys ≡ suc (length (without_one x ys))
-unfolding without_one
-shorter x [] has = absurd (true≢false (sym has))
-shorter x (y ∷ ys) has = go (y == x) has (shorter x ys)
-  where
-    go : (b : Bool) → (b || is_one_of ys x) ≡ true → (is_one_of ys x ≡ true → length ys ≡ suc (length (without_one x ys))) →
-        suc (length ys) ≡ suc (length (cond b ys (y ∷ without_one x ys)))
-    go true h rest = refl
-    go false h rest = ap suc (rest h)
-
--- a number of the list is that one, or among the others
-one_or_other : (x m : ℕ) (ys : List ℕ) → is_one_of ys m ≡ true → (m ≡ x) ⊎ (is_one_of (without_one x ys) m ≡ true)
-unfolding without_one
-one_or_other x m [] has = absurd (true≢false (sym has))
-one_or_other x m (y ∷ ys) has = go (y == x) refl (y == m) refl has (one_or_other x m ys)
-  where
-    go : (b : Bool) → (y == x) ≡ b → (c : Bool) → (y == m) ≡ c → (c || is_one_of ys m) ≡ true → (is_one_of ys m ≡ true → (m ≡ x) ⊎ (is_one_of (without_one x ys) m ≡ true)) →
-        (m ≡ x) ⊎ (is_one_of (cond b ys (y ∷ without_one x ys)) m ≡ true)
-    go true is true at h rest = let same : m ≡ x = grind (arith, nat_tests) in inl same
-    go true is false at h rest = inr h
-    go false is true at h rest = inr (ap (λ t. t || is_one_of (without_one x ys) m) at)
-    go false is false at h rest = later (rest h)
-      where
-        later : (m ≡ x) ⊎ (is_one_of (without_one x ys) m ≡ true) → (m ≡ x) ⊎ (((y == m) || is_one_of (without_one x ys) m) ≡ true)
-        later (inl same) = inl same
-        later (inr other) = inr (ap (λ t. t || is_one_of (without_one x ys) m) at ∙ other)
-
--- numbers other than that one stay
-others_stay : (x : ℕ) (ys : List ℕ) (n : ℕ) → x ≡ suc n → ((m : ℕ) → 1 ≤ m → m ≤ suc n → is_one_of ys m ≡ true) → (m : ℕ) → 1 ≤ m → m ≤ n → is_one_of (without_one x ys) m ≡ true
-others_stay x ys n is all m low high = go (one_or_other x m ys (all m low (omega arith)))
-  where
-    go : (m ≡ x) ⊎ (is_one_of (without_one x ys) m ≡ true) → is_one_of (without_one x ys) m ≡ true
-    go (inl same) = absurd (omega arith)
-    go (inr other) = other
-
--- it is at least as long
-pub long_enough : (n : ℕ) (ys : List ℕ) → ((m : ℕ) → 1 ≤ m → m ≤ n → is_one_of ys m ≡ true) → n ≤ length ys
-long_enough zero ys all = omega arith
-long_enough (suc n) ys all =
-    let here : is_one_of ys (suc n) ≡ true = all (suc n) (omega arith) (omega arith) in
-    omega (arith, shorter (suc n) ys here, long_enough n (without_one (suc n) ys) (others_stay (suc n) ys n refl all))
-
 -- it has no other number
-pub no_other : (n : ℕ) (ys : List ℕ) → length ys ≡ n → ((m : ℕ) → 1 ≤ m → m ≤ n → is_one_of ys m ≡ true) → (k : ℕ) → is_one_of ys k ≡ true → (1 ≤ k) × (k ≤ n)
-no_other zero [] size all k has = absurd (true≢false (sym has))
-no_other zero (y ∷ ys) size all k has = absurd (omega arith)
-no_other (suc n) ys size all k has =
-    let here : is_one_of ys (suc n) ≡ true = all (suc n) (omega arith) (omega arith) in
-    go (one_or_other (suc n) k ys has)
-    (no_other n (without_one (suc n) ys) (omega (arith, shorter (suc n) ys here)) (others_stay (suc n) ys n refl all) k)
-  where
-    go : (k ≡ suc n) ⊎ (is_one_of (without_one (suc n) ys) k ≡ true) → (is_one_of (without_one (suc n) ys) k ≡ true → (1 ≤ k) × (k ≤ n)) → (1 ≤ k) × (k ≤ suc n)
-    go (inl same) rest = (omega arith, omega arith)
-    go (inr other) rest = let r = rest other in (r.0, omega (arith, r.1))
-
--- each number of a range is there
-in_range : (p : ℕ → Bool) (a n : ℕ) → list_all p (range_with_len a n) ≡ true → (m : ℕ) → a ≤ m → m < a + n → p m ≡ true
-in_range p a zero all m low high = absurd (omega arith)
-in_range p a (suc n) all m low high = go (p a) refl (leb_tells m a) all (λ h more. in_range p (a + 1) n h m more (omega arith))
-  where
-    go : (b : Bool) → p a ≡ b → ((leb m a ≡ true) × (m ≤ a)) ⊎ ((leb m a ≡ false) × (a < m)) → (b && list_all p (range_with_len (a + 1) n)) ≡ true →
-        (list_all p (range_with_len (a + 1) n) ≡ true → a + 1 ≤ m → p m ≡ true) → p m ≡ true
-    go true is (inl le) h rest = let same : m ≡ a = omega (arith, le.1) in ap p same ∙ is
-    go true is (inr more) h rest = rest h (omega (arith, more.1))
-    go false is place h rest = absurd (true≢false (sym h))
+no_other : (n : ℕ) (ys : List ℕ) → length ys ≡ n → ((m : ℕ) → 1 ≤ m → m ≤ n → is_one_of ys m ≡ true) → (k : ℕ) → is_one_of ys k ≡ true → (1 ≤ k) × (k ≤ n)
+no_other n ys size all k has = none_else n ys size (λ i up. member_of ys i (all i up.0 up.1)) k (member_of ys k has)
 
 pub record IsWhole (n : ℕ) (order : List ℕ) : Type 0 where
   pub size : length order ≡ n
@@ -131,7 +66,7 @@ pub whole : (n : ℕ) (order : List ℕ) → is_each_once n order ≡ true → I
 whole n order once = go (length order == n) refl once
   where
     go : (b : Bool) → (length order == n) ≡ b → (b && list_all (is_one_of order) (range_with_len 1 n)) ≡ true → IsWhole n order
-    go true is h = record { size = grind (arith, nat_tests); all = λ m low high. in_range (is_one_of order) 1 n h m low (omega arith) }
+    go true is h = record { size = grind (arith, nat_tests); all = λ m low high. all-at (is_one_of order) (range_with_len 1 n) m h (up_to_ranged n m (low, high)) }
     go false is h = absurd (true≢false (sym h))
 
 -- where each number stands once, all are in the range
@@ -146,7 +81,7 @@ within_range n order once i d within =
 pub not_twice : (n : ℕ) (placed rest : List ℕ) (m : ℕ) → is_one_of placed m ≡ true → is_each_once n (placed ++ m ∷ rest) ≡ true → ⊥
 not_twice n placed rest m has once =
     let w = whole n (placed ++ m ∷ rest) once in
-    let enough : n ≤ length (placed ++ rest) = long_enough n (placed ++ rest) (λ q low high. still q (w.all q low high)) in
+    let enough : n ≤ length (placed ++ rest) = long_enough n (placed ++ rest) (λ q up. member_of (placed ++ rest) q (still q (w.all q up.0 up.1))) in
     omega (arith, enough, w.size, length-append placed (m ∷ rest), length-append placed rest)
   where
     still : (q : ℕ) → is_one_of (placed ++ m ∷ rest) q ≡ true → is_one_of (placed ++ rest) q ≡ true
