@@ -5,7 +5,7 @@ ghost use Rattle.history_book.specs.Refusals.{commit_fault_of, end_fault_of};
 
 use crate::instances::ticket::Ticket;
 use prog_run::Run;
-use std::alloc::{AllocError, AllocFailed};
+use std::alloc::AllocError;
 use std::error::Error;
 use std::fmt;
 use version_store::Clash;
@@ -34,17 +34,6 @@ impl From<AllocError> for BeginFault {
     ghost from_gives = { λ _ e. e ≡ Memory };
 
     fn from(_: AllocError) -> Self {
-        BeginFault::Memory
-    }
-}
-
-impl<T: Drop> From<AllocFailed<T>> for BeginFault {
-    ghost use Rattle.std.specs.Prelude.{◌≡◌};
-    ghost use Rattle.history_book.specs.declared.fault.BeginFault.TheVariants.{Memory};
-
-    ghost from_gives = { λ _ e. e ≡ Memory };
-
-    fn from(_: AllocFailed<T>) -> Self {
         BeginFault::Memory
     }
 }

@@ -2,7 +2,7 @@
 
 ghost use Rattle.std.specs.Prelude.{◌≡◌};
 
-use std::alloc::{AllocError, AllocFailed};
+use std::alloc::AllocFailed;
 
 /// What is wrong with the bytes at one place.
 #[derive(Clone, Copy)]
@@ -23,16 +23,6 @@ pub enum LexError {
     Memory,
     /// The first flaw, with how many bytes are left from there on.
     At { flaw: Flaw, left: usize },
-}
-
-impl From<AllocError> for LexError {
-    ghost use Rattle.prog_text.specs.declared.lexing.lex_error.LexError.TheVariants.{Memory};
-
-    ghost from_gives = { λ _ e. e ≡ Memory };
-
-    fn from(_error: AllocError) -> LexError {
-        LexError::Memory
-    }
 }
 
 impl<T: Drop> From<AllocFailed<T>> for LexError {
