@@ -1,5 +1,5 @@
 -- What contracts see of a run.
-use Rattle.std.specs.Prelude.{◌≡◌, ℤ, ◌==◌, List, [], ◌∷◌, ◌++◌, Option, Some, None, Result, Ok, Err, option_map, take, length, if◌then◌else◌}
+use Rattle.std.specs.Prelude.{◌≡◌, ℤ, ◌==◌, List, [], ◌∷◌, ◌++◌, Option, Some, None, Result, Ok, Err, IfSome, option_map, take, length, if◌then◌else◌}
 use Rattle.std.specs.List.{list_all}
 use Rattle.std.specs.Option.{option_or}
 use Rattle.prog_tree.specs.declared.cell.Cell.{Cell}
@@ -7,17 +7,18 @@ use Rattle.prog_tree.specs.declared.cell.Region.{Region}
 use Rattle.prog_tree.specs.declared.deed.Deed.{Deed}
 use Rattle.prog_tree.specs.declared.deed.End.{End}
 use Rattle.prog_tree.specs.declared.look.Look.{Look}
+use Rattle.prog_tree.specs.declared.look.Look.TheVariants.{One}
 use Rattle.prog_tree.specs.declared.program.Program.{Program}
 use Rattle.prog_tree.specs.declared.progress.Progress.{Progress}
 use Rattle.prog_tree.specs.declared.table.TableDecl.{TableDecl}
-use Rattle.prog_tree.specs.ChangeSet.{ChangeSet, no_changes}
+use Rattle.prog_tree.specs.ChangeSet.{ChangeSet, no_changes, change_at}
 use Rattle.prog_tree.specs.Syntax.{ProgramTree}
 use Rattle.prog_tree.specs.Table.{is_in, TableState}
 use Rattle.prog_tree.specs.Evaluation.{Evaluation, as_evaluation, ended, eval}
 use Rattle.prog_tree.specs.Tree.{program_tree}
 use Rattle.prog_run.specs.Todo.{CursorTree, todo}
 use Rattle.prog_run.specs.Task.{asked_tree}
-use Rattle.prog_run.specs.Looks.{AreFound, question_of}
+use Rattle.prog_run.specs.Looks.{AreFound, question_of, region_look}
 use Rattle.prog_run.specs.Cursor.{BeginsWith}
 use Rattle.prog_run.specs.Step.{IsAt, deeds_after, changes_after, question_after, end_after}
 use Rattle.prog_run.specs.declared.fault.AnswerFault.{AnswerFault}
@@ -97,6 +98,18 @@ asked_cell _ = None
 abbrev pub asked_region : Option Next → Option Region
 asked_region (Some (Scan region)) = Some region
 asked_region _ = None
+
+-- the cell that the run asked for was answered with what it holds
+abbrev pub IsHeldAnswered : Option ℤ → Next → (old new : RunView) → Type 0
+IsHeldAnswered held next old new = IfSome (asked_cell old.asked) (λ cell. IsAnswered (One cell held) next old new)
+
+-- the region that the run asked for was answered with its rows
+abbrev pub IsRowsAnswered : TableState → Next → (old new : RunView) → Type 0
+IsRowsAnswered rows next old new = IfSome (asked_region old.asked) (λ region. IsAnswered (region_look old.changes region rows) next old new)
+
+-- the cell that the run asks for is one that it has not changed
+abbrev pub AsksUnchanged : Next → RunView → Type 0
+AsksUnchanged next v = (cell : Cell) → next ≡ Get cell → change_at v.changes cell ≡ None
 
 -- what is wrong with an answer about a cell
 abbrev pub get_fault : Option Cell → Option AnswerFault

@@ -1,12 +1,11 @@
 //! Runs of programs.
 ghost use Rattle.std.specs.Prelude.{◌≡◌, ◌<◌, Some, None, IfOk, IfSome, OnErr};
 ghost use Rattle.std.specs.Prelude.{length, zip, slice_get, option_copied};
-ghost use Rattle.prog_tree.specs.ChangeSet.{change_at};
-ghost use Rattle.prog_tree.specs.declared.cell.Cell.{Cell};
 ghost use Rattle.prog_tree.specs.Table.{TableState, rows_in};
 ghost use Rattle.prog_run.specs.Cursor.{BeginsWith};
-ghost use Rattle.prog_run.specs.Looks.{region_look, AreFound, IsFoundLast};
-ghost use Rattle.prog_run.specs.View.{IsTrueRun, IsAdvance, IsAnswered, SameBegin, begun};
+ghost use Rattle.prog_run.specs.Looks.{AreFound, IsFoundLast};
+ghost use Rattle.prog_run.specs.View.{IsTrueRun, IsAdvance, SameBegin, begun};
+ghost use Rattle.prog_run.specs.View.{IsHeldAnswered, IsRowsAnswered, AsksUnchanged};
 ghost use Rattle.prog_run.specs.View.{IsRefusedBy, IsBeginRefusedBy};
 ghost use Rattle.prog_run.specs.View.{begin_fault, get_fault, scan_fault};
 ghost use Rattle.prog_run.specs.View.{asked_cell, asked_region, standing_next};
@@ -122,8 +121,7 @@ impl<'a> Run<'a> {
     /// it repeats the question, and after the end the end. After want of memory it can be called again.
     pub fn advance(&mut self) -> Result<Next, AllocError>
         ensures advance { IfOk result (λ next. IsAdvance next self.old self.new) }
-        ensures unchanged { IfOk result (λ next. (cell : Cell) → next ≡ Next.Get cell
-            → change_at self.new.changes cell ≡ None) }
+        ensures unchanged { IfOk result (λ next. AsksUnchanged next self.new) }
         ensures repeats { IfSome (standing_next self.old)
             (λ next. (result ≡ Ok next) × (self.new ≡ self.old)) }
         ensures true_run { IsTrueRun self.new }
@@ -146,9 +144,7 @@ impl<'a> Run<'a> {
     /// Answers the question for a cell with what it holds in the snapshot, and finishes the statement.
     pub fn answer_get(&mut self, held: Option<i64>) -> Result<Next, AnswerFault>
         ensures refused { IsRefusedBy (get_fault (asked_cell self.old.asked)) result }
-        ensures answered { IfOk result
-            (λ next. IfSome (asked_cell self.old.asked)
-            (λ cell. IsAnswered (Look.One cell held) next self.old self.new)) }
+        ensures answered { IfOk result (λ next. IsHeldAnswered held next self.old self.new) }
         ensures true_run { IsTrueRun self.new }
         ensures same { SameBegin self.old self.new }
         ensures err { OnErr result (self.new ≡ self.old) }
@@ -167,10 +163,7 @@ impl<'a> Run<'a> {
     /// is its listing. The rows become those of its look.
     pub fn answer_scan(&mut self, rows: Sequence<(Cell, i64)>) -> Result<Next, AnswerFault>
         ensures refused { IsRefusedBy (scan_fault (asked_region self.old.asked) rows) result }
-        ensures answered { IfOk result
-            (λ next. IfSome (asked_region self.old.asked)
-            (λ region. IsAnswered (region_look self.old.changes region rows) next self.old
-            self.new)) }
+        ensures answered { IfOk result (λ next. IsRowsAnswered rows next self.old self.new) }
         ensures true_run { IsTrueRun self.new }
         ensures same { SameBegin self.old self.new }
         ensures err { OnErr result (self.new ≡ self.old) }
@@ -208,10 +201,7 @@ impl<'a> Run<'a> {
     /// these lie in its region: they are not tested.
     pub fn answer_rows(&mut self, rows: Sequence<(Cell, i64)>) -> Result<Next, AllocError>
         requires { scan_fault (asked_region self.old.asked) rows ≡ None }
-        ensures answered { IfOk result
-            (λ next. IfSome (asked_region self.old.asked)
-            (λ region. IsAnswered (region_look self.old.changes region rows) next self.old
-            self.new)) }
+        ensures answered { IfOk result (λ next. IsRowsAnswered rows next self.old self.new) }
         ensures true_run { IsTrueRun self.new }
         ensures same { SameBegin self.old self.new }
         ensures err { OnErr result (self.new ≡ self.old) }
