@@ -17,7 +17,7 @@ use crate::statement::{OVERFLOW, begin, count_rows, sum_rows};
 use crate::task::{RegionUse, task_of};
 use prog_check::ProgramSet;
 use prog_tree::{Block, Cause, Cell, Deed, End, Listing, Look, Progress, Region, Sequence, Stmt};
-use std::alloc::{AllocError, Global};
+use std::alloc::AllocError;
 use std::mem;
 
 /// The innermost open block, and those round it, the outermost first.
@@ -209,7 +209,6 @@ impl<'a> Cursor<'a> {
     /// Finishes a statement that has asked for a region's rows; of an `each` the turns are opened.
     pub fn answer_region(
         &mut self,
-        alloc: Global,
         progress: &mut Progress<'a>,
         region: Region,
         usage: RegionUse<'a>,
@@ -225,8 +224,9 @@ impl<'a> Cursor<'a> {
         ensures err { OnErr result (cursor_tree self.new ≡ cursor_tree self.old) }
         ensures err_progress { OnErr result (progress.new ≡ progress.old) }
     {
-        let mut looks = mem::replace(&mut progress.looks, Sequence::new(alloc)).into_vec();
-        let step = self.look(alloc, progress, &mut looks, region, usage, rows);
+        let none = Sequence::new(*self.outer.allocator());
+        let mut looks = mem::replace(&mut progress.looks, none).into_vec();
+        let step = self.look(progress, &mut looks, region, usage, rows);
         progress.looks = Sequence::from_vec(looks);
         step
     }
@@ -235,7 +235,6 @@ impl<'a> Cursor<'a> {
     /// them. The looks stand aside for that.
     fn look(
         &mut self,
-        alloc: Global,
         progress: &mut Progress<'a>,
         looks: &mut Vec<Look>,
         region: Region,
@@ -253,8 +252,9 @@ impl<'a> Cursor<'a> {
         ensures err_looks { OnErr result (looks.new.items ≡ looks.old.items) }
     {
         looks.reserve(1)?;
+        let alloc = *self.outer.allocator();
         let found = look_at_region(alloc, &progress.changes, region, rows)?;
-        let step = self.use_rows(alloc, progress, region, usage, found.seen())?;
+        let step = self.use_rows(progress, region, usage, found.seen())?;
         let Found { own, rows, .. } = found;
         looks.push_reserved(Look::Range { region, own, rows });
         Ok(step)
@@ -263,7 +263,6 @@ impl<'a> Cursor<'a> {
     /// Goes on with the rows that the run sees in a region.
     fn use_rows(
         &mut self,
-        alloc: Global,
         progress: &mut Progress<'a>,
         region: Region,
         usage: RegionUse<'a>,
@@ -286,16 +285,13 @@ impl<'a> Cursor<'a> {
                 self.go_on(step);
                 Ok(step)
             }
-            RegionUse::List { listing, body } => {
-                self.list(alloc, progress, region, listing, body, rows)
-            }
+            RegionUse::List { listing, body } => self.list(progress, region, listing, body, rows),
         }
     }
 
     /// The rows of an `each` are listed: the run stands before its turns, behind which it goes on with the rest.
     fn list(
         &mut self,
-        alloc: Global,
         progress: &mut Progress<'a>,
         region: Region,
         listing: &'a Listing,
@@ -308,7 +304,7 @@ impl<'a> Cursor<'a> {
         ensures err { OnErr result (cursor_tree self.new ≡ cursor_tree self.old) }
         ensures err_progress { OnErr result (progress.new ≡ progress.old) }
     {
-        let left = turns_over(alloc, &listing.range, rows)?;
+        let left = turns_over(*self.outer.allocator(), &listing.range, rows)?;
         let names = Names {
             key: &listing.key,
             value: &listing.value,

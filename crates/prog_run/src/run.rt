@@ -27,7 +27,6 @@ use std::marker::Model;
 /// One instance of a program, as far as it has run.
 #[derive(Debug, Drop)]
 pub struct Run<'a> {
-    alloc: Global,
     set: &'a ProgramSet,
     program: &'a Program,
     args: Sequence<i64>,
@@ -99,7 +98,6 @@ impl<'a> Run<'a> {
         }
         let env = bind_all(alloc, &program.params, args)?;
         Ok(Run {
-            alloc,
             set,
             program,
             args: Sequence::from_slice(alloc, args)?,
@@ -211,7 +209,7 @@ impl<'a> Run<'a> {
         };
         let step = self
             .cursor
-            .answer_region(self.alloc, &mut self.progress, region, usage, rows)?;
+            .answer_region(&mut self.progress, region, usage, rows)?;
         self.asked = None;
         self.end = step.end();
         Ok(step.next())
