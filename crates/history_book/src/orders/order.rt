@@ -212,9 +212,10 @@ fn cycle_of(alloc: Global, walk: &[usize], again: usize) -> Result<Vec<usize>, A
 
 impl Precedence {
     // For each number from 0 on, how many stand before it: wide numbers, so that any counts fit.
-    fn waits(&self, alloc: Global) -> Result<Vec<u128>, AllocError>
+    fn waits(&self) -> Result<Vec<u128>, AllocError>
         ensures { IfOk result (λ waits. AreWaits self.now [] waits.items) }
     {
+        let alloc = self.allocator();
         let mut waits = vec![in alloc; 0; self.len() + 1]?;
         for place in 0..self.len() {
             count_up(&mut waits, self.behind(place + 1));
@@ -223,10 +224,11 @@ impl Precedence {
     }
 
     // For each number from 0 on, one that waits and has to stand before it.
-    fn leaders(&self, alloc: Global, waits: &[u128]) -> Result<Vec<usize>, AllocError>
+    fn leaders(&self, waits: &[u128]) -> Result<Vec<usize>, AllocError>
         requires { length waits.now ≡ length self.now + 1 }
         ensures { IfOk result (λ leaders. AreLeaders self.now waits.now leaders.items) }
     {
+        let alloc = self.allocator();
         let mut leaders = vec![in alloc; 0; self.len() + 1]?;
         for place in 0..self.len() {
             if waits[place + 1] > 0 {
@@ -237,22 +239,23 @@ impl Precedence {
     }
 
     // A cycle among the numbers that wait.
-    fn cycle(&self, alloc: Global, waits: &[u128]) -> Result<Vec<usize>, AllocError>
+    fn cycle(&self, waits: &[u128]) -> Result<Vec<usize>, AllocError>
         requires { IsStuck self.now waits.now }
         ensures { IfOk result (λ cycle. IsCycle (precedes self.now) cycle.items) }
     {
-        let leaders = self.leaders(alloc, waits)?;
+        let alloc = self.allocator();
+        let leaders = self.leaders(waits)?;
         let start = place_of_waiting(waits);
         let (walk, again) = walk_back(alloc, leaders, start)?;
         cycle_of(alloc, &walk, again)
     }
 
     // Why there is no order: a cycle among the numbers that wait, or no memory for it.
-    fn fault(&self, alloc: Global, waits: &[u128]) -> OrderFault
+    fn fault(&self, waits: &[u128]) -> OrderFault
         requires { IsStuck self.now waits.now }
         ensures { IsOrderFault (precedes self.now) result }
     {
-        match self.cycle(alloc, waits) {
+        match self.cycle(waits) {
             Ok(cycle) => OrderFault::Cycle(cycle),
             Err(_) => OrderFault::Memory,
         }
@@ -260,17 +263,18 @@ impl Precedence {
 
     /// The least order of all commits in which each stands behind those that have to stand before
     /// it.
-    pub fn order(&self, alloc: Global) -> Result<Vec<usize>, OrderFault>
+    pub fn order(&self) -> Result<Vec<usize>, OrderFault>
         ensures order { IfOk result
             (λ order. least_order (precedes self.now) (length self.now) ≡ Some order.items) }
         ensures cycle { IfErr result (IsOrderFault (precedes self.now)) }
     {
-        let mut waits = self.waits(alloc)?;
+        let alloc = self.allocator();
+        let mut waits = self.waits()?;
         let mut free = free_numbers(alloc, &waits)?;
         let mut order = Vec::new(alloc);
         for _place in 0..self.len() {
             let Some(number) = free.pop_first() else {
-                return Err(self.fault(alloc, &waits));
+                return Err(self.fault(&waits));
             };
             order.push(number)?;
             let behind = self.behind(number);

@@ -48,6 +48,10 @@ impl Precedence {
         Ok(Precedence { after })
     }
 
+    pub(crate) fn allocator(&self) -> Global {
+        *self.after.allocator()
+    }
+
     /// Puts a commit before another; a pair may be told twice.
     pub fn add(&mut self, first: usize, second: usize) -> Result<(), AllocError>
         requires first { 0 < first }

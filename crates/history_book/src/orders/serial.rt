@@ -23,5 +23,5 @@ pub fn serial_order(alloc: Global, traces: &[Trace]) -> Result<Vec<usize>, Order
         return Ok(order);
     }
     let precedence = reduced(alloc, traces)?;
-    precedence.order(alloc)
+    precedence.order()
 }
