@@ -7,7 +7,7 @@ use prog_paths::{EdgeTables, Mark};
 fn a_square_joins_one_way(rt: HostRuntime) {
     let mut square = Square::new(rt.alloc(), 3).expect(&rt, "memory");
     square.raise(0, 2);
-    let copy = square.copy(square.allocator()).expect(&rt, "memory");
+    let copy = square.copy().expect(&rt, "memory");
     square.raise(1, 1);
     assert!(rt; copy.size() == 3);
     let joined = [

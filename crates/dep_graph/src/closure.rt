@@ -4,13 +4,13 @@ ghost use Rattle.std.specs.Prelude.{IfOk};
 ghost use Rattle.dep_graph.specs.Reaching.{IsReachOf, JoinsEachToItself};
 
 use order_facts::Square;
-use std::alloc::{AllocError, Global};
+use std::alloc::AllocError;
 
 /// The edges, with each node joined to itself too.
-fn with_itself(alloc: Global, edges: &Square) -> Result<Square, AllocError>
+fn with_itself(edges: &Square) -> Result<Square, AllocError>
     ensures { IfOk result (λ s. JoinsEachToItself s edges.now) }
 {
-    let mut reach = edges.copy(alloc)?;
+    let mut reach = edges.copy()?;
     for node in 0..edges.size() {
         reach.raise(node, node);
     }
@@ -18,10 +18,10 @@ fn with_itself(alloc: Global, edges: &Square) -> Result<Square, AllocError>
 }
 
 /// Which node reaches which: each itself, and whatever a walk along edges leads to.
-pub fn close(alloc: Global, edges: &Square) -> Result<Square, AllocError>
+pub fn close(edges: &Square) -> Result<Square, AllocError>
     ensures { IfOk result (λ reach. IsReachOf reach edges.now) }
 {
-    let mut reach = with_itself(alloc, edges)?;
+    let mut reach = with_itself(edges)?;
     for through in 0..edges.size() {
         reach.join(through);
     }

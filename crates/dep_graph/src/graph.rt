@@ -77,7 +77,7 @@ impl<'a> Graph<'a> {
         ensures { IfOk result (λ g. g ≡ table.now) }
     {
         let EdgeTables { edges, vulnerable } = edges_of(alloc, table)?;
-        let reach = close(alloc, &edges)?;
+        let reach = close(&edges)?;
         Ok(Graph {
             table,
             edges,

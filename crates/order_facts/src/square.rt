@@ -64,10 +64,10 @@ impl Square {
     }
 
     /// The same table once more.
-    pub fn copy(&self, alloc: Global) -> Result<Square, AllocError>
+    pub fn copy(&self) -> Result<Square, AllocError>
         ensures { IfOk result (λ m. m ≡ self.now) }
     {
-        let words = Vec::from_slice(alloc, &self.words)?;
+        let words = Vec::from_slice(self.allocator(), &self.words)?;
         Ok(Square {
             size: self.size,
             width: self.width,
