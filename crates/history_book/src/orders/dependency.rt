@@ -5,8 +5,8 @@ ghost use Rattle.history_book.specs.Nearby.{pairs_between, AreHorizons, AreLastB
 ghost use Rattle.history_book.specs.Orders.{IsUpTo};
 ghost use Rattle.history_book.specs.Traces.{trace_at, trace_depends, SeesEarlier};
 
-use crate::orders::reason::{reason_between, trace_at};
-use crate::orders::trace::Trace;
+use crate::orders::reason::reason_between;
+use crate::orders::trace::{Trace, trace_at};
 use std::alloc::{AllocError, Global};
 
 /// Whether one commit has to stand before another.

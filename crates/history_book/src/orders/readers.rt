@@ -2,7 +2,7 @@
 
 ghost use Rattle.std.specs.Prelude.{◌≡◌, ◌↔◌, length, slice_get, Some, IfOk, IsTrue, OnOk, IfSome};
 ghost use Rattle.history_book.specs.Orders.{IsReduced, IsUpTo};
-ghost use Rattle.history_book.specs.Traces.{trace_depends, takes_in, SeesEarlier};
+ghost use Rattle.history_book.specs.Traces.{trace_depends, SeesEarlier};
 ghost use Rattle.history_book.specs.Reduced.{AddsPairs, RiseFrom, AreWithin, AllRiseWithin, numbers_at};
 ghost use Rattle.history_book.specs.Reduced.{steps_from, steps_of, writers_steps};
 ghost use Rattle.history_book.specs.Reduced.{seen_pairs, missed_pairs, reader_pairs};
@@ -10,7 +10,7 @@ ghost use Rattle.history_book.specs.Reduced.{sight_pairs, region_pairs, sights_p
 ghost use Rattle.history_book.specs.Precedence.{precedes};
 
 use crate::orders::precedence::Precedence;
-use crate::orders::trace::{Sight, Trace};
+use crate::orders::trace::{Sight, Trace, region_takes_in};
 use crate::orders::writers::{Writers, first_missed, last_seen};
 use prog_tree::{Cell, Region, RisingCells};
 use std::alloc::{AllocError, Global};
@@ -126,16 +126,6 @@ fn add_cell(
     Ok(())
 }
 
-// Whether a region has a cell that is not one of the reader's own.
-fn takes_in(region: &Region, own: &RisingCells, cell: &Cell) -> bool
-    ensures { result ≡ takes_in (Sight.Range region.now own.now) cell.now }
-{
-    if !region.contains(cell) {
-        return false;
-    }
-    !own.contains(cell)
-}
-
 // Adds what a look at a region says of its reader.
 fn add_region(
     precedence: &mut Precedence,
@@ -154,7 +144,7 @@ fn add_region(
         return Ok(());
     };
     for (cell, numbers) in writers.cells.range(low..=high) {
-        if takes_in(region, own, cell) {
+        if region_takes_in(region, own, cell) {
             add_reader(precedence, reader, start, numbers.as_slice())?;
         }
     }

@@ -1,12 +1,12 @@
 //! Why one commit has to stand before another.
 
-ghost use Rattle.std.specs.Prelude.{◌≡◌, ◌↔◌, if◌then◌else◌, IsTrue, Some, None, length};
+ghost use Rattle.std.specs.Prelude.{◌≡◌, if◌then◌else◌, Some, None, length};
 ghost use Rattle.history_book.specs.Orders.{IsUpTo};
 ghost use Rattle.history_book.specs.Reasons.{by_change, by_look, changed_before, change_reason};
 ghost use Rattle.history_book.specs.Reasons.{missed_at, missed_by, told_reason};
-ghost use Rattle.history_book.specs.Traces.{changed_at, looked_at, takes_in, trace_at};
+ghost use Rattle.history_book.specs.Traces.{changed_at, trace_at};
 
-use crate::orders::trace::{Sight, Trace};
+use crate::orders::trace::{Sight, Trace, trace_at};
 use prog_tree::{Cell, Region};
 
 /// Why the first of two commits has to stand before the second.
@@ -22,52 +22,11 @@ pub enum Reason {
     MissedIn(Region, Cell),
 }
 
-// Whether a look takes in a cell.
-fn takes_in(sight: &Sight, cell: &Cell) -> bool
-    ensures { result ≡ takes_in sight.now cell.now }
-{
-    match sight {
-        Sight::One(own) => own.cmp(cell).is_eq(),
-        Sight::Range { region, own } => region.get().contains(cell) && !own.contains(cell),
-    }
-}
-
-// Whether a commit looked at a cell.
-fn looked_at(trace: &Trace, cell: &Cell) -> bool
-    ensures { result ≡ looked_at trace.now cell.now }
-{
-    let sights = trace.looked.as_slice();
-    sights.iter().any(|sight| takes_in(sight, cell))
-}
-
 // Whether a commit changed a cell.
 fn changed_at(trace: &Trace, cell: &Cell) -> bool
     ensures { result ≡ changed_at trace.now cell.now }
 {
     trace.changed.contains(cell)
-}
-
-/// The trace of a commit that there is.
-pub fn trace_at(traces: &[Trace], number: usize) -> &Trace
-    requires { IsUpTo (length traces.now) number }
-    ensures { result.now ≡ trace_at traces.now number }
-{
-    &traces[number - 1]
-}
-
-// Whether a number is that of a commit.
-fn is_commit(traces: &[Trace], number: u64) -> bool
-    ensures { IsTrue result ↔ IsUpTo (length traces.now) number }
-{
-    (1..=traces.len() as u64).contains(&number)
-}
-
-/// Whether two numbers are those of commits.
-pub fn are_commits(traces: &[Trace], first: u64, second: u64) -> bool
-    ensures { IsTrue result
-        ↔ (IsUpTo (length traces.now) first × IsUpTo (length traces.now) second) }
-{
-    is_commit(traces, first) && is_commit(traces, second)
 }
 
 // Why the first stands before the second, by a cell that it changed.
@@ -81,7 +40,7 @@ fn by_changed(traces: &[Trace], first: usize, second: usize, cell: &Cell) -> Opt
     if first < second && changed_at(after, cell) {
         return Some(Reason::Both(*cell));
     }
-    if first as u64 <= after.start && looked_at(after, cell) {
+    if first as u64 <= after.start && after.looked_at(cell) {
         return Some(Reason::Saw(*cell));
     }
     None
@@ -120,7 +79,7 @@ fn missed_at(trace: &Trace, cell: &Cell) -> Option<Reason>
 {
     let sights = trace.looked.as_slice();
     for sight in sights {
-        if takes_in(sight, cell) {
+        if sight.takes_in(cell) {
             return Some(missed(sight, cell));
         }
     }

@@ -1,13 +1,14 @@
 //! What commits looked at and changed.
 
-ghost use Rattle.std.specs.Prelude.{◌≡◌, ◌↔◌, map, IfOk, IsTrue};
+ghost use Rattle.std.specs.Prelude.{◌≡◌, ◌↔◌, length, map, IfOk, IsTrue};
 ghost use Rattle.std.specs.List.Sorted.{IsStrictlySortedBy};
 ghost use Rattle.prog_tree.specs.Table.{cell_cmp, cells_of};
-ghost use Rattle.history_book.specs.Traces.{sight_of, trace_of};
+ghost use Rattle.history_book.specs.Orders.{IsUpTo};
+ghost use Rattle.history_book.specs.Traces.{looked_at, sight_of, takes_in, trace_at, trace_of};
 
 use crate::orders::kept_region::KeptRegion;
 use prog_run::Run;
-use prog_tree::{Cell, Changes, Look, RisingCells, Sequence};
+use prog_tree::{Cell, Changes, Look, Region, RisingCells, Sequence};
 use std::alloc::{AllocError, Global};
 use std::marker::Model;
 
@@ -22,7 +23,24 @@ pub enum Sight {
     },
 }
 
+/// Whether a look at a region takes in a cell: one of the region, but for its `own` cells.
+pub(crate) fn region_takes_in(region: &Region, own: &RisingCells, cell: &Cell) -> bool
+    ensures { result ≡ takes_in (Sight.Range region.now own.now) cell.now }
+{
+    region.contains(cell) && !own.contains(cell)
+}
+
 impl Sight {
+    /// Whether it takes in a cell.
+    pub(crate) fn takes_in(&self, cell: &Cell) -> bool
+        ensures { result ≡ takes_in self.now cell.now }
+    {
+        match self {
+            Sight::One(own) => own.cmp(cell).is_eq(),
+            Sight::Range { region, own } => region_takes_in(region.get(), own, cell),
+        }
+    }
+
     /// Whether both look at the same.
     pub(crate) fn is_same(&self, other: &Sight) -> bool
         ensures { IsTrue result ↔ (self.now ≡ other.now) }
@@ -117,4 +135,35 @@ impl Trace {
             looked,
         })
     }
+
+    /// Whether the commit looked at a cell.
+    pub(crate) fn looked_at(&self, cell: &Cell) -> bool
+        ensures { result ≡ looked_at self.now cell.now }
+    {
+        let sights = self.looked.as_slice();
+        sights.iter().any(|sight| sight.takes_in(cell))
+    }
+}
+
+/// The trace of a commit that there is.
+pub fn trace_at(traces: &[Trace], number: usize) -> &Trace
+    requires { IsUpTo (length traces.now) number }
+    ensures { result.now ≡ trace_at traces.now number }
+{
+    &traces[number - 1]
+}
+
+// Whether a number is that of a commit.
+fn is_commit(traces: &[Trace], number: u64) -> bool
+    ensures { IsTrue result ↔ IsUpTo (length traces.now) number }
+{
+    (1..=traces.len() as u64).contains(&number)
+}
+
+/// Whether two numbers are those of commits.
+pub fn are_commits(traces: &[Trace], first: u64, second: u64) -> bool
+    ensures { IsTrue result
+        ↔ (IsUpTo (length traces.now) first × IsUpTo (length traces.now) second) }
+{
+    is_commit(traces, first) && is_commit(traces, second)
 }

@@ -41,7 +41,7 @@ loop-cell-preserved-in-Continue-1 c =
     let old = c.args.precedence.now in
     region_on old (length old) c.args.reader c.args.start c.args.region.now c.args.own.now true
     (region_pairs c.args.reader c.args.start c.args.region.now c.args.own.now c.args.writers.now) c.loop-cell.precedence c.add_reader.new.precedence c.loop-cell.cell-iterator c.next.new.self
-    c.in-Some-2.cell.now c.in-Some-2.numbers.now c.in-Some-2.ensures.steps (sym c.takes_in.ensures ∙ c.if-takes_in.true) c.loop-cell.invariant
+    c.in-Some-2.cell.now c.in-Some-2.numbers.now c.in-Some-2.ensures.steps (sym c.region_takes_in.ensures ∙ c.if-region_takes_in.true) c.loop-cell.invariant
     (subst (λ (ws : List ℕ). AddsPairs (reader_pairs c.args.reader c.args.start ws) c.loop-cell.precedence c.add_reader.new.precedence) c.as_slice.ensures c.in_ok-add_reader.ensures)
 
 pub loop-cell-preserved : goal.loop-cell-preserved
@@ -49,5 +49,5 @@ loop-cell-preserved c =
     let old = c.args.precedence.now in
     region_on old (length old) c.args.reader c.args.start c.args.region.now c.args.own.now false
     (region_pairs c.args.reader c.args.start c.args.region.now c.args.own.now c.args.writers.now) c.loop-cell.precedence c.loop-cell.precedence c.loop-cell.cell-iterator c.next.new.self
-    c.in-Some-2.cell.now c.in-Some-2.numbers.now c.in-Some-2.ensures.steps (sym c.takes_in.ensures ∙ c.if-takes_in.false) c.loop-cell.invariant
+    c.in-Some-2.cell.now c.in-Some-2.numbers.now c.in-Some-2.ensures.steps (sym c.region_takes_in.ensures ∙ c.if-region_takes_in.false) c.loop-cell.invariant
     (no_pair c.loop-cell.precedence)
