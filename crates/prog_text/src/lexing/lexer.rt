@@ -1,10 +1,8 @@
 //! From the bytes of a text to its tokens.
 
-ghost use Rattle.std.specs.Prelude.{◌≡◌, ℕ, ◌+◌, ◌<◌, ◌≤◌, length, drop, slice_index, IfOk, true, List, ◌↔◌, Ok, Err};
+ghost use Rattle.std.specs.Prelude.{◌≡◌, ℕ, ◌+◌, ◌<◌, ◌≤◌, length, drop, slice_index, IfOk, true};
 ghost use Rattle.std.specs.List.{prefix_len};
-ghost use Rattle.prog_text.specs.Cut.{IsCut, IsFirstFlaw};
-ghost use Rattle.prog_text.specs.declared.lexing.lex_error.Flaw.{Flaw};
-ghost use Rattle.prog_text.specs.Lexing.{is_letter, is_digit, is_word_byte, is_space, is_comment_byte, value_within, Gives, piece_at, word_at, number_at, sign_at, tokens_of, Placed};
+ghost use Rattle.prog_text.specs.Lexing.{is_letter, is_digit, is_word_byte, is_space, is_comment_byte, value_within, Gives, piece_at, word_at, number_at, sign_at, tokens_of};
 
 use crate::lexing::lex_error::{Flaw, LexError};
 use crate::lexing::placed_tokens::PlacedTokens;
@@ -214,19 +212,3 @@ pub fn tokens(alloc: Global, bytes: &[u8]) -> Result<PlacedTokens<'_>, LexError>
     }
     Ok(PlacedTokens::new(tokens, lefts))
 }
-
-/// A text has exactly the tokens that it is cut into: spaces, comments and tokens one after another, each the longest
-/// that stands there. This is a law, with an empty body.
-#[tactic(auto, using(crate::proofs::Converse::tokens_exactly))]
-pub fn tokens_are_the_longest()
-    ensures { (bytes : List ℕ) (placed : Placed)
-        → (tokens_of bytes ≡ Ok placed) ↔ IsCut bytes placed }
-{}
-
-/// A text has exactly the first flaw that it is refused for: spaces, comments and tokens one after another stand
-/// before it, each the longest that stands there. This is a law, with an empty body.
-pub fn flaws_are_the_first()
-    ensures { (bytes : List ℕ) (flaw : Flaw) (left : ℕ)
-        → (tokens_of bytes ≡ Err (flaw, left))
-        ↔ ((place : ℕ) × IsFirstFlaw bytes flaw place × (length bytes ≡ place + left)) }
-{}
