@@ -115,7 +115,7 @@ impl<'a> Cursor<'a> {
                     return Ok(Standing::Over(OVERFLOW));
                 };
                 let block = OpenBlock {
-                    rest: chosen(holds, then, otherwise).stmts.as_slice(),
+                    rest: chosen_block(holds, then, otherwise).stmts.as_slice(),
                     scope: progress.env.len(),
                     turns: None,
                 };
@@ -254,7 +254,7 @@ impl<'a> Cursor<'a> {
         looks.reserve(1)?;
         let alloc = *self.outer.allocator();
         let found = look_at_region(alloc, &progress.changes, region, rows)?;
-        let step = self.use_rows(progress, region, usage, found.seen())?;
+        let step = self.use_rows(progress, region, usage, found.seen_rows())?;
         let Found { own, rows, .. } = found;
         looks.push_reserved(Look::Range { region, own, rows });
         Ok(step)
@@ -327,7 +327,7 @@ impl<'a> Cursor<'a> {
 }
 
 /// The block of a branch whose test holds, or not.
-fn chosen<'a>(holds: bool, then_block: &'a Block, otherwise: &'a Block) -> &'a Block
+fn chosen_block<'a>(holds: bool, then_block: &'a Block, otherwise: &'a Block) -> &'a Block
     ensures { result.now ≡ (if holds then then_block.now else otherwise.now) }
 {
     if holds { then_block } else { otherwise }

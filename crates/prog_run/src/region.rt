@@ -25,7 +25,7 @@ pub struct Found {
 
 impl Found {
     /// The rows that the run sees.
-    pub fn seen(&self) -> &[(Cell, i64)]
+    pub fn seen_rows(&self) -> &[(Cell, i64)]
         ensures { result.now ≡ seen_by self.now }
     {
         match &self.changed {
@@ -83,7 +83,7 @@ pub fn own_changes(
 }
 
 /// The cells of changes.
-pub fn cells(alloc: Global, own: &[(Cell, Option<i64>)]) -> Result<Vec<Cell>, AllocError>
+pub fn changed_cells(alloc: Global, own: &[(Cell, Option<i64>)]) -> Result<Vec<Cell>, AllocError>
     ensures { IfOk result (λ cells. cells.items ≡ cells_of own.now) }
 {
     let mut cells = Vec::with_capacity(alloc, own.len())?;
@@ -101,7 +101,7 @@ fn remove_own(rows: &mut Vec<(Cell, i64)>, own: &RisingCells)
 }
 
 // How many rows stand in front whose cells come before this one.
-fn before(cell: &Cell, rows: &[(Cell, i64)]) -> usize
+fn count_before(cell: &Cell, rows: &[(Cell, i64)]) -> usize
     ensures within { result ≤ length rows.now }
     ensures count { result ≡ rows_before cell.now rows.now }
 {
@@ -133,7 +133,7 @@ fn merge(
     let mut seen = Vec::with_capacity(alloc, rows.len())?;
     let mut left = rows;
     for (cell, change) in own {
-        let (front, rest) = left.split_at(before(cell, left));
+        let (front, rest) = left.split_at(count_before(cell, left));
         seen.extend_from_slice(front)?;
         add_own(&mut seen, *cell, *change)?;
         left = rest;
@@ -187,7 +187,7 @@ pub fn look_at_region(
             changed: None,
         });
     }
-    let own_cells = cells(alloc, &own)?;
+    let own_cells = changed_cells(alloc, &own)?;
     let left_out = RisingCells::from_vec(own_cells);
     let mut rows = rows.into_vec();
     remove_own(&mut rows, &left_out);

@@ -18,6 +18,6 @@ returns-in_ok-enter-in-Branch-clause-step c =
     let rest = stmts_tree c.in-Some.rest.now in
     let v = c.in-Some-holds.holds in
     let is = ap stmts_tree c.in-Some.ensures.cases.0 ∙ ap (λ x. with_stmt x rest) s.is ∙ ap (λ f. f rest) (branch_tree s.test s.then s.otherwise) in
-    let block = ap stmts_tree c.as_slice.ensures.value ∙ ap block_tree c.chosen.ensures ∙ chosen_tree v s.then s.otherwise in
+    let block = ap stmts_tree c.as_slice.ensures.value ∙ ap block_tree c.chosen_block.ensures ∙ chosen_tree v s.then s.otherwise in
     let at = c.in_ok-enter-in-Branch.ensures.ok ∙ (λ i. entered (block i) (c.len.ensures i) rest old) in
     branch_moves (test_tree s.test) (block_tree s.then) (block_tree s.otherwise) rest old (cursor_tree c.enter.new.self) c.args.progress.now v is (sym c.in-Some-holds.ensures) at
