@@ -31,7 +31,7 @@ fn clash_at(chains: &Chains, start: u64, cell: Cell) -> Option<Clash>
 }
 
 // The one of two that has the lesser cell.
-fn lesser(one: Option<Clash>, other: Option<Clash>) -> Option<Clash>
+fn lesser_clash(one: Option<Clash>, other: Option<Clash>) -> Option<Clash>
     ensures { told result ≡ lesser (told one) (told other) }
 {
     match (one, other) {
@@ -48,7 +48,7 @@ pub fn first_clash(chains: &Chains, start: u64, changes: &Changes) -> Option<Cla
     let mut least = None;
     for (cell, _) in Touches::of(changes) {
         let clash = clash_at(chains, start, cell);
-        least = lesser(least, clash);
+        least = lesser_clash(least, clash);
     }
     least
 }

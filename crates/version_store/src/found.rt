@@ -62,7 +62,7 @@ pub fn push_row(
 }
 
 /// The rows behind that of a cell, if any is found of it; none where the first row is another.
-pub fn behind<'r>(
+pub fn rows_behind<'r>(
     rows: &'r [(Cell, i64)],
     cell: &Cell,
     found: Option<i64>,

@@ -5,7 +5,7 @@ ghost use Rattle.version_store.specs.Reading.{AllRise};
 ghost use Rattle.version_store.specs.Regions.{seen_anywhere, seen_in, seen_left, IsSeen};
 
 use crate::chains::Chains;
-use crate::found::{add_found, behind, push_row, seen_in, seen_left};
+use crate::found::{add_found, push_row, rows_behind, seen_in, seen_left};
 use prog_tree::{Cell, Region, RisingCells, Rows, Sequence};
 use std::alloc::AllocError;
 
@@ -57,7 +57,7 @@ impl Chains {
         let mut rest = rows;
         for (cell, chain) in self.chains.range(low..=high) {
             let found = seen_left(region, own, start, cell, chain);
-            let Some(after) = behind(rest, cell, found) else {
+            let Some(after) = rows_behind(rest, cell, found) else {
                 return false;
             };
             rest = after;

@@ -27,16 +27,16 @@ loop-cell-init c =
 pub loop-cell-preserved : goal.loop-cell-preserved
 loop-cell-preserved c = λ rise.
     matches_more (seen_left c.args.region.now c.args.own.now c.args.start) c.args.self.now c.loop-cell.cell-iterator c.next.new.self c.in-Some-2.cell.now c.in-Some-2.chain.now
-    c.seen_left-found.result c.loop-cell.rest.now c.in-Some-behind.after.now c.args.rows.now
-    c.in-Some-2.ensures.steps (c.loop-cell.invariant rise) c.seen_left-found.ensures c.in-Some-behind.ensures
+    c.seen_left-found.result c.loop-cell.rest.now c.in-Some-rows_behind.after.now c.args.rows.now
+    c.in-Some-2.ensures.steps (c.loop-cell.invariant rise) c.seen_left-found.ensures c.in-Some-rows_behind.ensures
 
-pub returns-in_default-behind : goal.returns-in_default-behind
-returns-in_default-behind c = λ rise m h.
+pub returns-in_default-rows_behind : goal.returns-in_default-rows_behind
+returns-in_default-rows_behind c = λ rise m h.
     let seen = seen_left c.args.region.now c.args.own.now c.args.start in
     let sorted = subst (λ (es : Cells Chain). IsStrictlySortedBy cell_cmp (cells_of es)) c.self.view_is c.range-cell-items.ensures.ordered in
     unmatched c.args.rows.now (found_rows seen c.args.self.now) m (left_is c.args.region.now c.args.own.now c.args.start c.args.self.now sorted m h)
     (mismatch seen c.args.self.now c.loop-cell.cell-iterator c.next.new.self c.in-Some-2.cell.now c.in-Some-2.chain.now
-    c.seen_left-found.result c.loop-cell.rest.now c.args.rows.now c.in-Some-2.ensures.steps (c.loop-cell.invariant rise) c.seen_left-found.ensures c.in_default-behind.ensures)
+    c.seen_left-found.result c.loop-cell.rest.now c.args.rows.now c.in-Some-2.ensures.steps (c.loop-cell.invariant rise) c.seen_left-found.ensures c.in_default-rows_behind.ensures)
 
 pub returns : goal.returns
 returns c = λ rise m h.
