@@ -37,7 +37,7 @@ impl Model for Sample {
 }
 
 /// The greatest number that the facts put below the node.
-fn low(facts: &[Fact], matrix: &Square, node: Node) -> i64
+fn low_bound(facts: &[Fact], matrix: &Square, node: Node) -> i64
     requires { IsMatrixOf matrix.now facts.now facts.now }
     ensures below { reaches facts.now (Number result) node ≡ true }
     ensures greatest { (k : ℤ) → reaches facts.now (Number k) node ≡ true → k ≤ℤ result }
@@ -53,7 +53,7 @@ fn low(facts: &[Fact], matrix: &Square, node: Node) -> i64
 }
 
 /// The least number that the facts put above the node.
-fn high(facts: &[Fact], matrix: &Square, node: Node) -> i64
+fn high_bound(facts: &[Fact], matrix: &Square, node: Node) -> i64
     requires { IsMatrixOf matrix.now facts.now facts.now }
     ensures above { reaches facts.now node (Number result) ≡ true }
     ensures least { (k : ℤ) → reaches facts.now node (Number k) ≡ true → result ≤ℤ k }
@@ -69,12 +69,12 @@ fn high(facts: &[Fact], matrix: &Square, node: Node) -> i64
 }
 
 /// The number nearest to 0 between the node's bounds.
-fn nearest(facts: &[Fact], matrix: &Square, node: Node) -> i64
+fn nearest_number(facts: &[Fact], matrix: &Square, node: Node) -> i64
     requires matrix { IsMatrixOf matrix.now facts.now facts.now }
     requires consistent { IsConsistent facts.now }
     ensures { IsSampled facts.now node result }
 {
-    low(facts, matrix, node).max(high(facts, matrix, node).min(0))
+    low_bound(facts, matrix, node).max(high_bound(facts, matrix, node).min(0))
 }
 
 /// Whether the node needs no choice: it is a number, or has one.
@@ -101,7 +101,7 @@ fn choose(
         ((n : Node) → HasChoice choices.old.items n → HasChoice choices.new.items n) }
 {
     if !has_choice(choices, node) {
-        let number = nearest(facts, matrix, node);
+        let number = nearest_number(facts, matrix, node);
         choices.push(Choice { node, number })?;
     }
     Ok(())

@@ -7,8 +7,8 @@ use Rattle.order_facts.proofs.sample.choose.Goals as goal
 
 pub returns-in_ok-push-clause-sampled : goal.returns-in_ok-push-clause-sampled
 returns-in_ok-push-clause-sampled c =
-    let same : to_z w64 (of_z w64 c.nearest-number.result) ≡ c.nearest-number.result = omega (arith, ints) in
-    let sampled = subst (λ z. IsSampled c.args.facts.now c.args.node z) (sym same) c.nearest-number.ensures in
+    let same : to_z w64 (of_z w64 c.nearest_number-number.result) ≡ c.nearest_number-number.result = omega (arith, ints) in
+    let sampled = subst (λ z. IsSampled c.args.facts.now c.args.node z) (sym same) c.nearest_number-number.ensures in
     rw c.in_ok-push.ensures.items (All-push (λ d. IsSampled c.args.facts.now d.node d.number) c.args.choices.now.items _ c.requires.sampled sampled)
 
 pub returns-in_ok-push-clause-has : goal.returns-in_ok-push-clause-has

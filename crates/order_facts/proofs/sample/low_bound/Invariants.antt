@@ -1,5 +1,5 @@
 use Rattle.order_facts.proofs.Sampling.{IsLowSoFar}
-use Rattle.order_facts.proofs.sample.low.Given as goal
+use Rattle.order_facts.proofs.sample.low_bound.Given as goal
 
 abbrev pub invariant-loop-from : goal.invariant-loop-from
 invariant-loop-from l = IsLowSoFar l.facts l.node l.from l.low

@@ -5,8 +5,8 @@ use Rattle.order_facts.specs.Chain.{ceiling_of}
 use Rattle.order_facts.specs.Reaches.{fact_at}
 use Rattle.order_facts.proofs.Places.{fact_at-default}
 use Rattle.order_facts.proofs.Sampling.{IsHighSoFar, high-start, high-lower, high-keep, high-end}
-use Rattle.order_facts.proofs.sample.high.Goals as goal
-use Rattle.order_facts.proofs.sample.high.Goals.{then-ceiling-high+then-leads_from, else-ceiling-high, else-ceiling-high-via-then-ceiling-high+else-leads_from, else-ceiling-high-via-else-ceiling-high}
+use Rattle.order_facts.proofs.sample.high_bound.Goals as goal
+use Rattle.order_facts.proofs.sample.high_bound.Goals.{then-ceiling-high+then-leads_from, else-ceiling-high, else-ceiling-high-via-then-ceiling-high+else-leads_from, else-ceiling-high-via-else-ceiling-high}
 
 pub loop-to-init : goal.loop-to-init
 loop-to-init c =

@@ -5,8 +5,8 @@ use Rattle.order_facts.specs.Chain.{floor_of}
 use Rattle.order_facts.specs.Reaches.{fact_at}
 use Rattle.order_facts.proofs.Places.{fact_at-default}
 use Rattle.order_facts.proofs.Sampling.{IsLowSoFar, low-start, low-raise, low-keep, low-end}
-use Rattle.order_facts.proofs.sample.low.Goals as goal
-use Rattle.order_facts.proofs.sample.low.Goals.{then-floor-low+then-leads_to, else-floor-low, else-floor-low-via-then-floor-low+else-leads_to, else-floor-low-via-else-floor-low}
+use Rattle.order_facts.proofs.sample.low_bound.Goals as goal
+use Rattle.order_facts.proofs.sample.low_bound.Goals.{then-floor-low+then-leads_to, else-floor-low, else-floor-low-via-then-floor-low+else-leads_to, else-floor-low-via-else-floor-low}
 
 pub loop-from-init : goal.loop-from-init
 loop-from-init c =
