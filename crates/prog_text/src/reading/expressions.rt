@@ -31,7 +31,7 @@ fn minus(alloc: Global, left: Expr, right: Expr) -> Result<Expr, AllocError>
 }
 
 // The number after a minus sign.
-fn negative(cursor: &mut Cursor<'_>) -> Result<Expr, ReadError>
+fn negative_literal(cursor: &mut Cursor<'_>) -> Result<Expr, ReadError>
     ensures { Reads expr_tree negative_at result cursor.old cursor.new }
 {
     let tokens = cursor.tokens;
@@ -49,7 +49,7 @@ fn factor(cursor: &mut Cursor<'_>) -> Result<Expr, ReadError>
     let tokens = cursor.tokens;
     match cursor.next()? {
         Token::Number(number) => Ok(Expr::Literal(number.literal())),
-        Token::Sign(Sign::Minus) => negative(cursor),
+        Token::Sign(Sign::Minus) => negative_literal(cursor),
         Token::Sign(Sign::Least) => Ok(Expr::Literal(i64::MIN)),
         Token::Sign(Sign::Greatest) => Ok(Expr::Literal(i64::MAX)),
         Token::Name(word) => Ok(Expr::Name(Name::new(cursor.alloc, word.as_str())?)),

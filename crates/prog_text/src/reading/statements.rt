@@ -78,7 +78,7 @@ fn get(cursor: &mut Cursor<'_>, name: Name) -> Result<Stmt, ReadError>
 
 // Behind `let NAME =`, by the first token.
 #[tactic(auto, unfolding(crate::specs::Reading::bound_at, crate::specs::Reading::bind_at, crate::specs::Reading::need_at, crate::specs::Reading::count_at, crate::specs::Reading::summed_at))]
-fn bound(cursor: &mut Cursor<'_>, name: Name) -> Result<Stmt, ReadError>
+fn bound_value(cursor: &mut Cursor<'_>, name: Name) -> Result<Stmt, ReadError>
     ensures { ReadsPlain (bound_at name) result cursor.old cursor.new }
 {
     let [first, rest @ ..] = cursor.tokens else {
@@ -119,7 +119,7 @@ fn let_binding(cursor: &mut Cursor<'_>) -> Result<Stmt, ReadError>
 {
     let name = cursor.name()?;
     cursor.expect(Sign::Equals)?;
-    bound(cursor, name)
+    bound_value(cursor, name)
 }
 
 /// A statement without blocks.
