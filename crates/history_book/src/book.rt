@@ -326,7 +326,7 @@ impl<'a> Book<'a> {
         let Some(active) = self.active_instance(ticket) else {
             return Err(NoSuchTicket);
         };
-        Ok(self.held(active.start, cell))
+        Ok(self.row_at(active.start, cell))
     }
 
     /// The rows of a region for a ticket's instance, in the order of their cells, its own changes aside.

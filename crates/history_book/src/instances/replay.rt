@@ -18,7 +18,7 @@ use prog_tree::{Cell, Region, Sequence};
 use std::alloc::AllocError;
 
 // An answer that fits the question is refused for want of memory alone.
-fn taken(answer: Result<Next, AnswerFault>) -> Result<Next, AllocError>
+fn next_of_answer(answer: Result<Next, AnswerFault>) -> Result<Next, AllocError>
     requires { IfErr answer (λ fault. fault ≡ AnswerFault.Memory) }
     ensures ok { IfOk result (λ next. answer ≡ Ok next) }
     ensures err { OnErr result (answer ≡ Err AnswerFault.Memory) }
@@ -62,8 +62,8 @@ impl<'a> Book<'a> {
     {
         match run.advance()? {
             Next::Get(cell) => {
-                let held = self.held(start, &cell);
-                let next = taken(run.answer_get(held))?;
+                let held = self.row_at(start, &cell);
+                let next = next_of_answer(run.answer_get(held))?;
                 Ok(next)
             }
             Next::Scan(region) => {

@@ -56,7 +56,7 @@ impl<'a> Book<'a> {
     }
 
     /// What a cell holds after the first `start` commits.
-    pub(crate) fn held(&self, start: u64, cell: &Cell) -> Option<i64>
+    pub(crate) fn row_at(&self, start: u64, cell: &Cell) -> Option<i64>
         requires above { self.now.floor ≤ start }
         requires within { start ≤ length self.now.rows }
         ensures { result ≡ row_at (state_in self.now start) cell.now }
@@ -104,7 +104,7 @@ impl<'a> Book<'a> {
         ensures { IsTrue result ↔ IsFound (state_in self.now start) look.now }
     {
         match look {
-            Look::One(cell, held) => self.held(start, cell) == *held,
+            Look::One(cell, held) => self.row_at(start, cell) == *held,
             Look::Range { region, own, rows } => {
                 self.are_held(start, region, own, rows.as_slice())
             }

@@ -62,7 +62,7 @@ fn last_begun(alloc: Global, traces: &[Trace]) -> Result<Vec<usize>, AllocError>
 }
 
 // For each place the greatest of the numbers there and before, and of the place itself.
-fn raised(alloc: Global, numbers: &[usize]) -> Result<Vec<usize>, AllocError>
+fn greatest_so_far(alloc: Global, numbers: &[usize]) -> Result<Vec<usize>, AllocError>
     ensures { IfOk result (λ raised. AreRaised numbers.now raised.items) }
 {
     let mut raised = Vec::with_capacity(alloc, numbers.len())?;
@@ -81,5 +81,5 @@ pub fn horizons(alloc: Global, traces: &[Trace]) -> Result<Vec<usize>, AllocErro
     ensures { IfOk result (λ horizons. AreHorizons traces.now horizons.items) }
 {
     let last = last_begun(alloc, traces)?;
-    raised(alloc, &last)
+    greatest_so_far(alloc, &last)
 }

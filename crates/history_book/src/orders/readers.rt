@@ -229,7 +229,7 @@ fn add_readers(
 
 /// What has to stand before what by what the commits looked at and changed, in few pairs, through which
 /// the others follow.
-pub(crate) fn reduced(alloc: Global, traces: &[Trace]) -> Result<Precedence, AllocError>
+pub(crate) fn reduced_precedence(alloc: Global, traces: &[Trace]) -> Result<Precedence, AllocError>
     requires { SeesEarlier traces.now }
     ensures commits { IfOk result (λ precedence. length precedence ≡ length traces.now) }
     ensures reduced { IfOk result (λ precedence.

@@ -30,7 +30,7 @@ fn changed_at(trace: &Trace, cell: &Cell) -> bool
 }
 
 // Why the first stands before the second, by a cell that it changed.
-fn by_changed(traces: &[Trace], first: usize, second: usize, cell: &Cell) -> Option<Reason>
+fn change_reason_at(traces: &[Trace], first: usize, second: usize, cell: &Cell) -> Option<Reason>
     requires first { IsUpTo (length traces.now) first }
     requires second { IsUpTo (length traces.now) second }
     ensures { result ≡ if changed_before first second (trace_at traces.now second) cell.now
@@ -47,7 +47,7 @@ fn by_changed(traces: &[Trace], first: usize, second: usize, cell: &Cell) -> Opt
 }
 
 // Why the first stands before the second, by the first such cell of those that it changed.
-fn by_change(traces: &[Trace], first: usize, second: usize) -> Option<Reason>
+fn first_change_reason(traces: &[Trace], first: usize, second: usize) -> Option<Reason>
     requires first { IsUpTo (length traces.now) first }
     requires second { IsUpTo (length traces.now) second }
     ensures { result
@@ -55,7 +55,7 @@ fn by_change(traces: &[Trace], first: usize, second: usize) -> Option<Reason>
 {
     let cells = trace_at(traces, first).changed.as_slice();
     for cell in cells {
-        let reason = by_changed(traces, first, second, cell);
+        let reason = change_reason_at(traces, first, second, cell);
         if reason.is_some() {
             return reason;
         }
@@ -64,7 +64,7 @@ fn by_change(traces: &[Trace], first: usize, second: usize) -> Option<Reason>
 }
 
 // What a look that takes in a cell missed there.
-fn missed(sight: &Sight, cell: &Cell) -> Reason
+fn missed_reason(sight: &Sight, cell: &Cell) -> Reason
     ensures { result ≡ missed_by sight.now cell.now }
 {
     match sight {
@@ -74,20 +74,20 @@ fn missed(sight: &Sight, cell: &Cell) -> Reason
 }
 
 // What the first look of a commit that takes in a cell missed there.
-fn missed_at(trace: &Trace, cell: &Cell) -> Option<Reason>
+fn first_missed_reason(trace: &Trace, cell: &Cell) -> Option<Reason>
     ensures { result ≡ missed_at trace.now cell.now }
 {
     let sights = trace.looked.as_slice();
     for sight in sights {
         if sight.takes_in(cell) {
-            return Some(missed(sight, cell));
+            return Some(missed_reason(sight, cell));
         }
     }
     None
 }
 
 // Why the first stands before the second, by the first such cell of those that the second changed.
-fn by_look(traces: &[Trace], first: usize, second: usize) -> Option<Reason>
+fn first_look_reason(traces: &[Trace], first: usize, second: usize) -> Option<Reason>
     requires first { IsUpTo (length traces.now) first }
     requires second { IsUpTo (length traces.now) second }
     ensures { result ≡ by_look second (trace_at traces.now first) (trace_at traces.now second) }
@@ -98,7 +98,7 @@ fn by_look(traces: &[Trace], first: usize, second: usize) -> Option<Reason>
     }
     let cells = trace_at(traces, second).changed.as_slice();
     for cell in cells {
-        let reason = missed_at(before, cell);
+        let reason = first_missed_reason(before, cell);
         if reason.is_some() {
             return reason;
         }
@@ -115,9 +115,9 @@ pub fn reason_between(traces: &[Trace], first: usize, second: usize) -> Option<R
     if first == second {
         return None;
     }
-    let changed = by_change(traces, first, second);
+    let changed = first_change_reason(traces, first, second);
     if changed.is_some() {
         return changed;
     }
-    by_look(traces, first, second)
+    first_look_reason(traces, first, second)
 }

@@ -7,7 +7,7 @@ ghost use Rattle.history_book.specs.Traces.{SeesEarlier, trace_depends};
 
 use crate::orders::nearby::nearby_order;
 use crate::orders::order::OrderFault;
-use crate::orders::readers::reduced;
+use crate::orders::readers::reduced_precedence;
 use crate::orders::trace::Trace;
 use std::alloc::Global;
 
@@ -22,6 +22,6 @@ pub fn serial_order(alloc: Global, traces: &[Trace]) -> Result<Vec<usize>, Order
     if let Some(order) = nearby_order(alloc, traces)? {
         return Ok(order);
     }
-    let precedence = reduced(alloc, traces)?;
+    let precedence = reduced_precedence(alloc, traces)?;
     precedence.order()
 }

@@ -17,7 +17,7 @@ pub returns-in_ok-next-in-Get-clause-ok : goal.returns-in_ok-next-in-Get-clause-
 returns-in_ok-next-in-Get-clause-ok c =
     let old = c.advance.new.self in
     let new = c.answer_get.new.self in
-    let held = c.held-held.result in
+    let held = c.row_at-held.result in
     let next = c.in_ok-next-in-Get.next in
     let asked = c.in_ok-next.ensures.advance.asked ∙ ap question_after c.in-Get.is in
     let answered = subst (λ r. IfOk r (λ next. IfSome (asked_cell old.asked) (λ cell. IsAnswered (look.One cell held) next old new))) c.in_ok-next-in-Get.ensures.ok c.answer_get.ensures.answered in
@@ -28,13 +28,13 @@ returns-in_ok-next-in-Get-clause-own c =
     let m = state_in c.args.self.now c.args.start in
     let old = c.advance.new.self in
     let new = c.answer_get.new.self in
-    let held = c.held-held.result in
+    let held = c.row_at-held.result in
     let next = c.in_ok-next-in-Get.next in
     let asked = c.in_ok-next.ensures.advance.asked ∙ ap question_after c.in-Get.is in
     let before = subst (AreFound m) (sym c.in_ok-next.ensures.advance.looks) c.requires.found in
     let answered = subst (λ r. IfOk r (λ next. IfSome (asked_cell old.asked) (λ cell. IsAnswered (look.One cell held) next old new))) c.in_ok-next-in-Get.ensures.ok c.answer_get.ensures.answered in
     record {
-      found = found_cell m old new c.in-Get.cell held next c.held-held.ensures before (answered_cell old new c.in-Get.cell held next asked answered);
+      found = found_cell m old new c.in-Get.cell held next c.row_at-held.ensures before (answered_cell old new c.in-Get.cell held next asked answered);
       true_run = c.answer_get.ensures.true_run;
       same = begun_as_first _ old new c.advance.ensures.same c.answer_get.ensures.same;
     }

@@ -2,7 +2,7 @@ use Rattle.std.proofs.Common.{◌∙◌, ◌<◌, ap, sym, arith}
 use Rattle.history_book.specs.Traces.{trace_at}
 use Rattle.history_book.specs.TraceView.{TraceView}
 use Rattle.history_book.proofs.ReasonLaws.{look_told, look_passed}
-use Rattle.history_book.proofs.orders.reason.by_look.Goals as goal
+use Rattle.history_book.proofs.orders.reason.first_look_reason.Goals as goal
 
 -- the first cell whose change the first missed
 pub returns-then-is_some : goal.returns-then-is_some
@@ -13,9 +13,9 @@ returns-then-is_some c =
     let start = ap (λ (t : TraceView). t.start) (c.before-2.view_is ∙ c.trace_at-before.ensures) in
     let early : a.start < j = omega (arith, start, c.if-before-second.false) in
     let changed = c.as_slice-cells.ensures ∙ ap (λ (t : TraceView). t.changed) (c.behind-traces.view_is ∙ c.trace_at.ensures) in
-    look_told j a (trace_at traces j) c.trace_at-before.result.now c.as_slice-cells.result.now c.loop-cell.cell-index _ c.missed_at-reason.result early changed c.loop-cell.invariant c.loop-cell-test.true c.trace_at-before.ensures c.missed_at-reason.ensures (sym c.is_some.ensures ∙ c.if-is_some.true)
+    look_told j a (trace_at traces j) c.trace_at-before.result.now c.as_slice-cells.result.now c.loop-cell.cell-index _ c.first_missed_reason-reason.result early changed c.loop-cell.invariant c.loop-cell-test.true c.trace_at-before.ensures c.first_missed_reason-reason.ensures (sym c.is_some.ensures ∙ c.if-is_some.true)
 
 -- a cell at which it did not look
 pub loop-cell-preserved : goal.loop-cell-preserved
 loop-cell-preserved c =
-    look_passed (trace_at c.args.traces.now c.args.first) c.trace_at-before.result.now c.as_slice-cells.result.now c.loop-cell.cell-index _ c.missed_at-reason.result c.loop-cell.invariant c.loop-cell-test.true c.trace_at-before.ensures c.missed_at-reason.ensures (sym c.is_some.ensures ∙ c.if-is_some.false)
+    look_passed (trace_at c.args.traces.now c.args.first) c.trace_at-before.result.now c.as_slice-cells.result.now c.loop-cell.cell-index _ c.first_missed_reason-reason.result c.loop-cell.invariant c.loop-cell-test.true c.trace_at-before.ensures c.first_missed_reason-reason.ensures (sym c.is_some.ensures ∙ c.if-is_some.false)

@@ -2,7 +2,7 @@ use Rattle.std.proofs.Common.{◌∙◌, ℕ, subst, sym}
 use Rattle.history_book.specs.Reduced.{AllRiseWithin}
 use Rattle.history_book.proofs.TracePairs.{of_writers, all_rise_within}
 use Rattle.history_book.proofs.TraceReach.{is_reduced}
-use Rattle.history_book.proofs.orders.readers.reduced.Goals as goal
+use Rattle.history_book.proofs.orders.readers.reduced_precedence.Goals as goal
 
 pub add_writers-requires : goal.add_writers-requires
 add_writers-requires c =

@@ -2,7 +2,7 @@ use Rattle.std.proofs.Common.{◌≡◌, drop}
 use Rattle.std.specs.Prelude.{find}
 use Rattle.history_book.specs.Reasons.{changed_before}
 use Rattle.history_book.specs.Traces.{trace_at}
-use Rattle.history_book.proofs.orders.reason.by_change.Given as goal
+use Rattle.history_book.proofs.orders.reason.first_change_reason.Given as goal
 
 abbrev pub invariant-loop-cell : goal.invariant-loop-cell
 invariant-loop-cell l =

@@ -1,6 +1,6 @@
 use Rattle.history_book.proofs.NearbyLaws.{raised_more}
 use Rattle.std.proofs.Common.{arith}
-use Rattle.history_book.proofs.orders.dependency.raised.Goals as goal
+use Rattle.history_book.proofs.orders.dependency.greatest_so_far.Goals as goal
 
 pub loop-place-preserved : goal.loop-place-preserved
 loop-place-preserved c =
