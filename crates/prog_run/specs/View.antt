@@ -133,10 +133,10 @@ IsRefusedBy fault (Err Memory) = fault ≡ None
 IsRefusedBy fault (Err found) = fault ≡ Some found
 
 -- A begin, likewise.
-abbrev pub IsBeginRefusedBy : {X : Type 0} → Option RunFault → Result X RunFault → Type 0
-IsBeginRefusedBy fault (Ok x) = fault ≡ None
-IsBeginRefusedBy fault (Err b.Memory) = fault ≡ None
-IsBeginRefusedBy fault (Err found) = fault ≡ Some found
+abbrev pub IsRunRefusedBy : {X : Type 0} → Option RunFault → Result X RunFault → Type 0
+IsRunRefusedBy fault (Ok x) = fault ≡ None
+IsRunRefusedBy fault (Err b.Memory) = fault ≡ None
+IsRunRefusedBy fault (Err found) = fault ≡ Some found
 
 -- a run before its first statement
 abbrev pub begun : List TableDecl → Program → List ℤ → RunView

@@ -6,7 +6,7 @@ ghost use Rattle.prog_run.specs.Cursor.{BeginsWith};
 ghost use Rattle.prog_run.specs.Looks.{AreFound, IsFoundLast};
 ghost use Rattle.prog_run.specs.View.{IsTrueRun, IsAdvance, SameBegin, begun};
 ghost use Rattle.prog_run.specs.View.{IsHeldAnswered, IsRowsAnswered, AsksUnchanged};
-ghost use Rattle.prog_run.specs.View.{IsRefusedBy, IsBeginRefusedBy};
+ghost use Rattle.prog_run.specs.View.{IsRefusedBy, IsRunRefusedBy};
 ghost use Rattle.prog_run.specs.View.{begin_fault, get_fault, scan_fault};
 ghost use Rattle.prog_run.specs.View.{asked_cell, asked_region, standing_next};
 
@@ -84,7 +84,7 @@ impl<'a> Run<'a> {
         program: usize,
         args: &[i64],
     ) -> Result<Self, RunFault>
-        ensures refused { IsBeginRefusedBy
+        ensures refused { IsRunRefusedBy
             (begin_fault (slice_get set.now.programs.items program) args.now) result }
         ensures begun { IfOk result (λ run. run ≡ begun set.now.tables.items run.program args.now) }
         ensures program { IfOk result

@@ -10,7 +10,7 @@ use Rattle.std.proofs.lemmas.List.Folds.{list_all-append}
 use Rattle.std.proofs.lemmas.List.Sums.{fold-append}
 use Rattle.prog_text.specs.declared.lexing.token.Token.{Token}
 use Rattle.prog_text.specs.declared.lexing.token.Token.TheVariants as t
-use Rattle.prog_text.specs.Cut.{IsName, IsNumber, Spells, IsWithin, IsLongest, IsPiece, token}
+use Rattle.prog_text.specs.Cut.{IsName, IsNumber, Spells, IsWithinLimit, IsLongest, IsPiece, token}
 use Rattle.prog_text.specs.Lexing.{is_digit, is_word_byte}
 use Rattle.prog_text.specs.Spelling.{spelling, signs}
 use Rattle.prog_text.proofs.Converse.{is_begun}
@@ -60,7 +60,7 @@ own_spelling (t.Number n) lexed =
     decimal_by_steps (λ n word. IsNumber word n) one_digit last_digit n (omega (arith, lexed))
 own_spelling (t.Sign s) lexed = refl
 
-within : (u : Token) → IsLexed u → IsWithin u
+within : (u : Token) → IsLexed u → IsWithinLimit u
 within (t.Name x) lexed = lexed.1
 within (t.Number n) lexed = lexed
 within (t.Sign s) lexed = tt

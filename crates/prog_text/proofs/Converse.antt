@@ -13,7 +13,7 @@ use Rattle.prog_text.specs.declared.lexing.token.Sign.TheVariants as sign
 use Rattle.prog_text.specs.declared.lexing.token.Token.TheVariants as t
 use Rattle.prog_text.specs.Spelling.{spelling}
 use Rattle.prog_text.specs.Lexing.{is_letter, is_digit, is_word_byte, is_space, is_comment_byte, digits_value, word_token, Placed, before, piece_at, word_at, number_at, sign_at, tokens_from, tokens_of}
-use Rattle.prog_text.specs.Cut.{IsNumber, Spells, IsWithin, IsLongest, EndsComment, IsPiece, space, comment, token, IsCut, end, another}
+use Rattle.prog_text.specs.Cut.{IsNumber, Spells, IsWithinLimit, IsLongest, EndsComment, IsPiece, space, comment, token, IsCut, end, another}
 use Rattle.prog_text.proofs.Spelled.{letter_is_no_digit}
 use Rattle.prog_text.proofs.Longest.{word_spelled, cut_of_tokens}
 
@@ -118,7 +118,7 @@ equals_piece (b ∷ rest) longest =
 
 -- ---- each token
 
-token_piece : (u : Token) (word rest : List ℕ) → Spells u word → IsWithin u → IsLongest word rest → piece_at (word ++ rest) ≡ Ok (Some u, rest)
+token_piece : (u : Token) (word rest : List ℕ) → Spells u word → IsWithinLimit u → IsLongest word rest → piece_at (word ++ rest) ≡ Ok (Some u, rest)
 unfolding piece_at sign_at
 token_piece (t.Name x) word rest h within longest =
     letters_piece (t.Name x) word rest h.1.begins h.1.goes_on (rw h.1.free (ap t.Name h.0)) (rw h.0 within) longest

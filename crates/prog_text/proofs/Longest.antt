@@ -17,7 +17,7 @@ use Rattle.prog_text.specs.declared.lexing.token.Token.{Token}
 use Rattle.prog_text.specs.declared.lexing.token.Token.TheVariants as t
 use Rattle.prog_text.specs.Spelling.{spelling, reserved_words, signs}
 use Rattle.prog_text.specs.Lexing.{is_letter, is_digit, is_word_byte, is_space, is_comment_byte, digits_value, word_token, Placed, Piece, Spot, before, ◌>>=◌, piece_at, word_at, number_at, sign_at, sign_among, flaw_at, tokens_from, tokens_of}
-use Rattle.prog_text.specs.Cut.{IsName, IsNumber, Spells, IsWithin, IsLongest, EndsComment, IsPiece, space, comment, token, IsCut, end, another, HasFlaw, not_ascii, unknown, too_large, too_long, no_piece, one_more, IsFirstFlaw}
+use Rattle.prog_text.specs.Cut.{IsName, IsNumber, Spells, IsWithinLimit, IsLongest, EndsComment, IsPiece, space, comment, token, IsCut, end, another, HasFlaw, not_ascii, unknown, too_large, too_long, no_piece, one_more, IsFirstFlaw}
 use Rattle.prog_text.proofs.Spelled.{IsAmong, letters, digits, sign, kind, clash, passes_inside, letter_is_no_digit, digit_passes, among_passes, sign_begins, begins_sign, goes_on_sign}
 use Rattle.prog_text.proofs.WordBytes.{front_passes, letter_passes}
 
@@ -63,7 +63,7 @@ Goes bytes (Err spot) = HasFlaw spot.0 bytes × (spot.1 ≡ length bytes)
 
 -- the bytes spell a token that is within the limits
 abbrev Fits : Token → List ℕ → Type 0
-Fits u word = Spells u word × IsWithin u
+Fits u word = Spells u word × IsWithinLimit u
 
 token_goes : (c : ℕ) (rest : List ℕ) (k : ℕ) (u : Token) → Fits u (c ∷ take k rest) → IsLongest (c ∷ take k rest) (drop k rest) → Goes (c ∷ rest) (Ok (Some u, drop k rest))
 token_goes c rest k u spells longest = record {

@@ -6,7 +6,7 @@ use Rattle.prog_text.specs.declared.lexing.token.Token.{Token}
 use Rattle.prog_text.specs.declared.lexing.token.Token.TheVariants as t
 use Rattle.prog_text.specs.Answer.{Accepts}
 use Rattle.prog_text.specs.Canonical.{words_of, draft_marks, canonical}
-use Rattle.prog_text.specs.Cut.{IsName, Spells, IsWithin, IsPiece, space, comment, token, IsCut, end, another}
+use Rattle.prog_text.specs.Cut.{IsName, Spells, IsWithinLimit, IsPiece, space, comment, token, IsCut, end, another}
 use Rattle.prog_text.specs.Grammar.{IsSet}
 use Rattle.prog_text.specs.Lexing.{Placed, kinds, before}
 use Rattle.prog_text.specs.Limits.{text_limit, too_deep}
@@ -16,7 +16,7 @@ use Rattle.prog_text.proofs.CutPhrases.{AreLexed, draft_closed}
 use Rattle.prog_text.proofs.Lighter.{lighter_shallow}
 use Rattle.prog_text.proofs.PhrasesAgain.{Again, set_again}
 
-lexed_token : (u : Token) (word : List ℕ) → Spells u word → IsWithin u → IsLexed u
+lexed_token : (u : Token) (word : List ℕ) → Spells u word → IsWithinLimit u → IsLexed u
 lexed_token (t.Name x) word spells within = (subst IsName spells.0 spells.1, within)
 lexed_token (t.Number n) word spells within = within
 lexed_token u word spells within = tt

@@ -29,10 +29,10 @@ Spells (t.Number n) word = IsNumber word n
 Spells u word = word ≡ spelling u
 
 -- a name is no longer than its limit, a number fits 63 bits
-abbrev pub IsWithin : Token → Type 0
-IsWithin (t.Name x) = length x ≤ name_limit
-IsWithin (t.Number n) = n < 2 ^ 63
-IsWithin u = ⊤
+abbrev pub IsWithinLimit : Token → Type 0
+IsWithinLimit (t.Name x) = length x ≤ name_limit
+IsWithinLimit (t.Number n) = n < 2 ^ 63
+IsWithinLimit u = ⊤
 
 -- no longer front of these bytes, of which the word is one, spells a token
 abbrev pub IsLongest : (word rest : List ℕ) → Type 0
@@ -52,7 +52,7 @@ pub data IsPiece : Option Token → (piece behind : List ℕ) → Type 0 where
       → list_all is_comment_byte line ≡ true → EndsComment behind
       → IsPiece None (35 ∷ line) behind
   token : (u : Token) (word behind : List ℕ)
-      → Spells u word → IsWithin u → IsLongest word behind
+      → Spells u word → IsWithinLimit u → IsLongest word behind
       → IsPiece (Some u) word behind
 
 -- the text is cut into these tokens

@@ -20,7 +20,7 @@ use Rattle.prog_tree.proofs.CellSets.{turned, among-some, sorted-insert, among-i
 use Rattle.prog_tree.proofs.TableLemmas.{cell_total}
 use Rattle.prog_tree.proofs.TableStates.{same_cell, cell_is}
 use Rattle.version_store.specs.declared.touches.Touch.{Touch}
-use Rattle.version_store.specs.Clash.{last_touch, IsClash, IsFirst, first_above, lesser, with_cells, touched, clash_of}
+use Rattle.version_store.specs.Clash.{last_touch, IsClash, IsFirstAbove, first_above, lesser, with_cells, touched, clash_of}
 use Rattle.version_store.proofs.TouchLaws.{among_touches, touches_of}
 
 -- ---- the order of cells
@@ -41,7 +41,7 @@ less_than c x y less least = go (cell_cmp x y) refl
 
 -- the same test and the same numbers
 pub first-same :
-    (p q : Cell → Bool) (f g : Cell → ℕ) (start : ℕ) (o : Option (Cell × ℕ)) → ((c : Cell) → p c ≡ q c) → ((c : Cell) → f c ≡ g c) → IsFirst p f start o → IsFirst q g start o
+    (p q : Cell → Bool) (f g : Cell → ℕ) (start : ℕ) (o : Option (Cell × ℕ)) → ((c : Cell) → p c ≡ q c) → ((c : Cell) → f c ≡ g c) → IsFirstAbove p f start o → IsFirstAbove q g start o
 first-same p q f g start None same equal h = λ c passes above. h c (same c ∙ passes) (subst (λ (n : ℕ). start < n) (sym (equal c)) above)
 first-same p q f g start (Some x) same equal h = (
   sym (same x.0) ∙ h.0,
@@ -51,7 +51,7 @@ first-same p q f g start (Some x) same equal h = (
 )
 
 -- a search finds the first of cells in order
-pub first-above : (number : Cell → ℕ) (start : ℕ) (cells : List Cell) → IsStrictlySortedBy cell_cmp cells → IsFirst (is_cell_among cells) number start (first_above number start cells)
+pub first-above : (number : Cell → ℕ) (start : ℕ) (cells : List Cell) → IsStrictlySortedBy cell_cmp cells → IsFirstAbove (is_cell_among cells) number start (first_above number start cells)
 first-above number start [] sorted = λ c among above. absurd (cc)
 first-above number start (k ∷ ks) sorted =
     go (leb_tells (suc start) (number k)) (first_above number start ks) (first-above number start ks (sorted_tail cell_cmp k ks sorted))
@@ -73,7 +73,7 @@ first-above number start (k ∷ ks) sorted =
     past c low true same among above = let is : number c ≡ number k = ap number (cell_is c k same) in absurd (omega arith)
     past c low false other among above = among
 
-    more : (o : Option (Cell × ℕ)) → number k ≤ start → IsFirst (is_cell_among ks) number start o → IsFirst (is_cell_among (k ∷ ks)) number start o
+    more : (o : Option (Cell × ℕ)) → number k ≤ start → IsFirstAbove (is_cell_among ks) number start o → IsFirstAbove (is_cell_among (k ∷ ks)) number start o
     more None low h = λ c among above. h c (past c low (is_same_cell c k) refl among above) above
     more (Some x) low h = (
       or_right (is_same_cell x.0 k) (is_cell_among ks x.0) h.0,
@@ -83,21 +83,21 @@ first-above number start (k ∷ ks) sorted =
     )
 
     go : ((leb (suc start) (number k) ≡ true) × (suc start ≤ number k)) ⊎ ((leb (suc start) (number k) ≡ false) × (number k < suc start)) →
-        (o : Option (Cell × ℕ)) → IsFirst (is_cell_among ks) number start o → IsFirst (is_cell_among (k ∷ ks)) number start (if nat_lt start (number k) then Some (k, number k) else o)
+        (o : Option (Cell × ℕ)) → IsFirstAbove (is_cell_among ks) number start o → IsFirstAbove (is_cell_among (k ∷ ks)) number start (if nat_lt start (number k) then Some (k, number k) else o)
     go (inl more_than) o h =
-        subst (λ (b : Bool). IsFirst (is_cell_among (k ∷ ks)) number start (if b then Some (k, number k) else o)) (sym more_than.0) (
+        subst (λ (b : Bool). IsFirstAbove (is_cell_among (k ∷ ks)) number start (if b then Some (k, number k) else o)) (sym more_than.0) (
           ap (λ b. b || is_cell_among ks k) (ap is_eq (tied_itself cell_total k)),
           omega arith,
           refl,
           λ c among above less. least c (is_same_cell c k) refl among less,
         )
     go (inr at_most) o h =
-        subst (λ (b : Bool). IsFirst (is_cell_among (k ∷ ks)) number start (if b then Some (k, number k) else o)) (sym at_most.0) (more o (omega arith) h)
+        subst (λ (b : Bool). IsFirstAbove (is_cell_among (k ∷ ks)) number start (if b then Some (k, number k) else o)) (sym at_most.0) (more o (omega arith) h)
 
 -- the lesser of the first of two kinds of cells
 pub first-lesser :
-    (p q : Cell → Bool) (number : Cell → ℕ) (start : ℕ) (a b : Option (Cell × ℕ)) → IsFirst p number start a → IsFirst q number start b →
-    IsFirst (λ c. p c || q c) number start (lesser a b)
+    (p q : Cell → Bool) (number : Cell → ℕ) (start : ℕ) (a b : Option (Cell × ℕ)) → IsFirstAbove p number start a → IsFirstAbove q number start b →
+    IsFirstAbove (λ c. p c || q c) number start (lesser a b)
 first-lesser p q number start None None h k = λ c among above. at c (p c) (h c) among above
   where
     at : (c : Cell) (x : Bool) → (x ≡ true → start < number c → ⊥) → (x || q c) ≡ true → start < number c → ⊥
@@ -119,7 +119,7 @@ first-lesser p q number start (Some x) (Some y) h k = go (cell_cmp y.0 x.0) refl
     at c d true first second among less = first refl less
     at c d false first second among less = second among less
 
-    first_stays : (cell_cmp y.0 x.0 ≡ Less → ⊥) → IsFirst (λ c. p c || q c) number start (Some x)
+    first_stays : (cell_cmp y.0 x.0 ≡ Less → ⊥) → IsFirstAbove (λ c. p c || q c) number start (Some x)
     first_stays least = (
       ap (λ b. b || q x.0) h.0,
       h.1,
@@ -127,7 +127,7 @@ first-lesser p q number start (Some x) (Some y) h k = go (cell_cmp y.0 x.0) refl
       λ c among above less. at c x.0 (p c) (λ is less. h.3 c is above less) (λ is less. k.3 c is above (less_than c x.0 y.0 less least)) among less,
     )
 
-    second_counts : cell_cmp y.0 x.0 ≡ Less → IsFirst (λ c. p c || q c) number start (Some y)
+    second_counts : cell_cmp y.0 x.0 ≡ Less → IsFirstAbove (λ c. p c || q c) number start (Some y)
     second_counts before = (
       or_right (p y.0) (q y.0) k.0,
       k.1,
@@ -135,13 +135,13 @@ first-lesser p q number start (Some x) (Some y) h k = go (cell_cmp y.0 x.0) refl
       λ c among above less. at c y.0 (p c) (λ is less. h.3 c is above (cell_total.trans c y.0 x.0 less before)) (λ is less. k.3 c is above less) among less,
     )
 
-    go : (o : Ordering) → cell_cmp y.0 x.0 ≡ o → IsFirst (λ c. p c || q c) number start (if is_lt (cell_cmp y.0 x.0) then Some y else Some x)
-    go Less is = subst (λ (r : Ordering). IsFirst (λ c. p c || q c) number start (if is_lt r then Some y else Some x)) (sym is) (second_counts is)
-    go Equal is = subst (λ (r : Ordering). IsFirst (λ c. p c || q c) number start (if is_lt r then Some y else Some x)) (sym is) (first_stays (λ less. absurd (cc)))
-    go Greater is = subst (λ (r : Ordering). IsFirst (λ c. p c || q c) number start (if is_lt r then Some y else Some x)) (sym is) (first_stays (λ less. absurd (cc)))
+    go : (o : Ordering) → cell_cmp y.0 x.0 ≡ o → IsFirstAbove (λ c. p c || q c) number start (if is_lt (cell_cmp y.0 x.0) then Some y else Some x)
+    go Less is = subst (λ (r : Ordering). IsFirstAbove (λ c. p c || q c) number start (if is_lt r then Some y else Some x)) (sym is) (second_counts is)
+    go Equal is = subst (λ (r : Ordering). IsFirstAbove (λ c. p c || q c) number start (if is_lt r then Some y else Some x)) (sym is) (first_stays (λ less. absurd (cc)))
+    go Greater is = subst (λ (r : Ordering). IsFirstAbove (λ c. p c || q c) number start (if is_lt r then Some y else Some x)) (sym is) (first_stays (λ less. absurd (cc)))
 
 -- there is one first cell
-pub first-unique : (p : Cell → Bool) (number : Cell → ℕ) (start : ℕ) (a b : Option (Cell × ℕ)) → IsFirst p number start a → IsFirst p number start b → a ≡ b
+pub first-unique : (p : Cell → Bool) (number : Cell → ℕ) (start : ℕ) (a b : Option (Cell × ℕ)) → IsFirstAbove p number start a → IsFirstAbove p number start b → a ≡ b
 first-unique p number start None None h k = refl
 first-unique p number start None (Some y) h k = absurd (h y.0 k.0 k.1)
 first-unique p number start (Some x) None h k = absurd (k x.0 h.0 h.1)
@@ -159,7 +159,7 @@ first-unique p number start (Some x) (Some y) h k = go (cell_cmp x.0 y.0) refl
 
 -- numbers that are the same above the start find the same
 first-seen :
-    (p : Cell → Bool) (number other : Cell → ℕ) (start : ℕ) (o : Option (Cell × ℕ)) → ((c : Cell) → max start (number c) ≡ max start (other c)) → IsFirst p number start o → IsFirst p other start o
+    (p : Cell → Bool) (number other : Cell → ℕ) (start : ℕ) (o : Option (Cell × ℕ)) → ((c : Cell) → max start (number c) ≡ max start (other c)) → IsFirstAbove p number start o → IsFirstAbove p other start o
 first-seen p number other start None same h = λ c passes above. h c passes (omega (arith, above, same c))
 first-seen p number other start (Some x) same h =
     let equal : number x.0 ≡ other x.0 = omega (arith, h.1, same x.0) in
@@ -168,7 +168,7 @@ first-seen p number other start (Some x) same h =
 -- the first of the touched cells, by numbers that are those of the last commits as far as they are above the start
 pub clash_found :
     (ws : List ChangeSet) (start : ℕ) (w : ChangeSet) (number : Cell → ℕ) (o : Option (Cell × ℕ)) → ((c : Cell) → max start (number c) ≡ max start (last_touch c 1 ws)) →
-    IsFirst (touches_cell w) number start o → IsClash ws start w o
+    IsFirstAbove (touches_cell w) number start o → IsClash ws start w o
 clash_found ws start w number o same first = first-seen (touches_cell w) number (λ c. last_touch c 1 ws) start o same first
 
 -- ---- the search over the touched cells
@@ -211,7 +211,7 @@ clashes_found ws start w o = (
 -- what was found is the first of the touches that were walked over
 pub record Finds (number : Cell → ℕ) (start : ℕ) (touches walked rest : Cells Touch) (found : Option (Cell × ℕ)) : Type 0 where
   pub joined : walked ++ rest ≡ touches
-  pub first : IsFirst (is_cell_among (cells_of walked)) number start found
+  pub first : IsFirstAbove (is_cell_among (cells_of walked)) number start found
 
 cells-append : (walked more : Cells Touch) → cells_of (walked ++ more) ≡ cells_of walked ++ cells_of more
 cells-append [] more = refl
@@ -223,7 +223,7 @@ pub finds_more :
 finds_more number start touches walked left rest k touch found here next is at is_next h = record {
   joined = append_assoc walked ((k, touch) ∷ []) rest ∙ ap (λ ts. walked ++ ts) (sym is) ∙ h.joined;
   first =
-      subst (λ (o : Option (Cell × ℕ)). IsFirst (is_cell_among (cells_of (walked ++ (k, touch) ∷ []))) number start o) (sym (is_next ∙ ap (lesser found) at))
+      subst (λ (o : Option (Cell × ℕ)). IsFirstAbove (is_cell_among (cells_of (walked ++ (k, touch) ∷ []))) number start o) (sym (is_next ∙ ap (lesser found) at))
       (first-same (λ c. is_cell_among (cells_of walked) c || is_cell_among (k ∷ []) c) (is_cell_among (cells_of (walked ++ (k, touch) ∷ []))) number number start _
       (λ c. sym (ap (λ cs. is_cell_among cs c) (cells-append walked ((k, touch) ∷ [])) ∙ list_any-append (is_same_cell c) (cells_of walked) (k ∷ []))) (λ c. refl)
       (first-lesser (is_cell_among (cells_of walked)) (is_cell_among (k ∷ [])) number start found (first_above number start (k ∷ [])) h.first
@@ -232,7 +232,7 @@ finds_more number start touches walked left rest k touch found here next is at i
 
 pub finds_all :
     (number : Cell → ℕ) (start : ℕ) (w : ChangeSet) (walked left : Cells Touch) (found : Option (Cell × ℕ)) → left ≡ [] → Finds number start (touches_of w) walked left found →
-    IsFirst (touches_cell w) number start found
+    IsFirstAbove (touches_cell w) number start found
 finds_all number start w walked left found none h =
     let all : walked ≡ touches_of w = sym (append-nil walked) ∙ ap (λ ts. walked ++ ts) (sym none) ∙ h.joined in
     first-same (is_cell_among (cells_of walked)) (touches_cell w) number number start found (λ c. ap (λ (ts : Cells Touch). is_cell_among (cells_of ts) c) all ∙ among_touches w c) (λ c. refl) h.first

@@ -13,15 +13,15 @@ last_touch c n [] = 0
 last_touch c n (w ∷ ws) = max (if touches_cell w c then n else 0) (last_touch c (n + 1) ws)
 
 -- the least cell that passes the test and has a number above the start, with its number; none where there is none
-abbrev pub IsFirst : (Cell → Bool) → (Cell → ℕ) → (start : ℕ) → Option (Cell × ℕ) → Type 0
-IsFirst p number start None = (c : Cell) → p c ≡ true → start < number c → ⊥
-IsFirst p number start (Some x) =
+abbrev pub IsFirstAbove : (Cell → Bool) → (Cell → ℕ) → (start : ℕ) → Option (Cell × ℕ) → Type 0
+IsFirstAbove p number start None = (c : Cell) → p c ≡ true → start < number c → ⊥
+IsFirstAbove p number start (Some x) =
     (p x.0 ≡ true) × (start < number x.0) × (x.1 ≡ number x.0) × ((c : Cell) → p c ≡ true → start < number c → cell_cmp c x.0 ≡ Less → ⊥)
 
 -- the clash of a commit with those above its start: the least cell that it changes or keeps and that one of them
 -- changes or keeps too, with the greatest number of such a commit; none where there is no such cell
 abbrev pub IsClash : List ChangeSet → (start : ℕ) → ChangeSet → Option (Cell × ℕ) → Type 0
-IsClash ws start w = IsFirst (touches_cell w) (λ c. last_touch c 1 ws) start
+IsClash ws start w = IsFirstAbove (touches_cell w) (λ c. last_touch c 1 ws) start
 
 -- ---- the same as a search
 

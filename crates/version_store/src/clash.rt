@@ -1,7 +1,7 @@
 //! First committer wins: the clash of a commit with those above its start.
 ghost use Rattle.std.specs.Prelude.{◌≡◌, [], ◌∷◌};
 ghost use Rattle.prog_tree.specs.ChangeSet.{touches_cell};
-ghost use Rattle.version_store.specs.Clash.{IsFirst, first_above, lesser};
+ghost use Rattle.version_store.specs.Clash.{IsFirstAbove, first_above, lesser};
 ghost use Rattle.version_store.specs.Reading.{number_at};
 ghost use Rattle.version_store.specs.Told.{told};
 
@@ -43,7 +43,7 @@ fn lesser_clash(one: Option<Clash>, other: Option<Clash>) -> Option<Clash>
 
 /// The least of the changed and kept cells that have a number above the start.
 pub fn first_clash(chains: &Chains, start: u64, changes: &Changes) -> Option<Clash>
-    ensures { IsFirst (touches_cell changes.now) (number_at chains.now) start (told result) }
+    ensures { IsFirstAbove (touches_cell changes.now) (number_at chains.now) start (told result) }
 {
     let mut least = None;
     for (cell, _) in Touches::of(changes) {
