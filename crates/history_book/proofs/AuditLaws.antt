@@ -13,7 +13,7 @@ use Rattle.prog_tree.specs.Table.{TableState}
 use Rattle.prog_tree.specs.Tree.{draft_tree, program_tree}
 use Rattle.history_book.specs.Audit.{audited, taken_up, IsRightRow, IsRowFault, AreRightBehind, IsAuditFault, IsRowRefusal}
 use Rattle.history_book.specs.History.{Instance}
-use Rattle.history_book.specs.View.{BookView, instance_of, history_of}
+use Rattle.history_book.specs.View.{BookView, instance_of, history_of, most_endings}
 use Rattle.history_book.specs.declared.audit.AuditFault.{AuditFault}
 use Rattle.history_book.specs.declared.audit.AuditFault.TheVariants as audit
 use Rattle.history_book.specs.declared.instances.row.Ending.TheVariants.{Committed}
@@ -58,7 +58,7 @@ taken_before (r ∷ yielded) rest = ap (λ l. r ∷ l) (taken_before yielded res
 
 -- a row that is refused is the first that is wrong
 pub refused_at : (v : BookView) (set : Draft) (opening : TableState) (yielded left rest all : List HistoryRow) (row : HistoryRow) (fault : AuditFault) → v ≡ audited set opening yielded →
-    yielded ++ left ≡ all → left ≡ row ∷ rest → length all ≤ 100000 → AreRightBehind (draft_tree set) opening [] yielded → IsRowRefusal v row fault →
+    yielded ++ left ≡ all → left ≡ row ∷ rest → length all ≤ most_endings → AreRightBehind (draft_tree set) opening [] yielded → IsRowRefusal v row fault →
     IsAuditFault (draft_tree set) opening all fault
 refused_at v set opening yielded left rest all row audit.Full book is first few right refused = absurd refused
 refused_at v set opening yielded left rest all row audit.Memory book is first few right refused = few

@@ -17,7 +17,7 @@ use Rattle.prog_tree.specs.Syntax.{ProgramTree}
 use Rattle.prog_tree.specs.Tree.{program_tree, draft_tree}
 use Rattle.history_book.specs.History.{Instance, IsCalled}
 use Rattle.history_book.specs.TrueBook.{IsTrueActive, IsTrueBook}
-use Rattle.history_book.specs.View.{BookView, most_begins, is_full, full_fault, start_fault, fault_at, fault_by, begin_at_fault_of, begin_fault_of, instance_at}
+use Rattle.history_book.specs.View.{BookView, most_begins, is_full, full_fault, start_fault, fault_at, fault_by, begin_at_fault_of, begin_fault_of, instance_at, most_endings}
 use Rattle.history_book.specs.declared.fault.BeginFault.{BeginFault}
 use Rattle.history_book.specs.declared.fault.BeginFault.TheVariants as begin
 use Rattle.history_book.proofs.ActiveLaws.{Entry, insert_last}
@@ -127,9 +127,9 @@ true-admitted v start program args active book none i64 is by_number =
     true-begin v (instance_at start program args) active book called may.above may.within
     (few_enough (length v.endings + length v.active) (nat_le most_begins v.begun) may.room) is by_number
   where
-    few_enough : (n : ℕ) (b : Bool) → (nat_le 100000 n || b) ≡ false → n < 100000
-    few_enough n b room = go (leb_tells 100000 n) room
+    few_enough : (n : ℕ) (b : Bool) → (nat_le most_endings n || b) ≡ false → n < most_endings
+    few_enough n b room = go (leb_tells most_endings n) room
       where
-        go : ((leb 100000 n ≡ true) × (100000 ≤ n)) ⊎ ((leb 100000 n ≡ false) × (n < 100000)) → (nat_le 100000 n || b) ≡ false → n < 100000
+        go : ((leb most_endings n ≡ true) × (most_endings ≤ n)) ⊎ ((leb most_endings n ≡ false) × (n < most_endings)) → (nat_le most_endings n || b) ≡ false → n < most_endings
         go (inl more) h = absurd (true≢false (sym (ap (λ x. x || b) more.0) ∙ h))
         go (inr less) h = less.1

@@ -20,7 +20,7 @@ use Rattle.history_book.specs.History.{Instance, commits_of, IsCalled, IsLawful}
 use Rattle.history_book.specs.Runs.{IsCommit}
 use Rattle.history_book.specs.TrueBook.{IsTrueRow, IsTrueEnding, committed, IsTrueActive, IsTrueBook, IsStored}
 use Rattle.history_book.specs.Ticket.{TicketView}
-use Rattle.history_book.specs.View.{BookView, instance_of, history_of, commits_in, done_in, with_start, active_at, without, least_start}
+use Rattle.history_book.specs.View.{BookView, instance_of, history_of, commits_in, done_in, with_start, active_at, without, least_start, most_endings}
 use Rattle.history_book.specs.declared.instances.row.Ending.{Ending}
 use Rattle.history_book.specs.declared.instances.row.Ending.TheVariants as ending
 use Rattle.history_book.specs.declared.instances.row.HistoryRow.{HistoryRow}
@@ -46,7 +46,7 @@ true-open set opening =
 
 pub true-begin :
     (v : BookView) (i : Instance) (active : List Entry) → IsTrueBook v → IsCalled (draft_tree v.set) i → v.floor ≤ i.start → i.start ≤ length v.rows →
-    length v.endings + length v.active < 100000 → active ≡ v.active ++ (v.begun, i) ∷ [] → IsStrictlySortedBy nat_cmp (keys_of active) →
+    length v.endings + length v.active < most_endings → active ≡ v.active ++ (v.begun, i) ∷ [] → IsStrictlySortedBy nat_cmp (keys_of active) →
     IsTrueBook (record v { active = active; begun = v.begun + 1 })
 true-begin v i active book called above within room is by_number =
     let new : BookView = record v { active = active; begun = v.begun + 1 } in
@@ -85,8 +85,8 @@ true-withdrawn v number active book is by_number =
     }
 
 -- one ending more in the place of an active instance
-still_few : (endings new : List Ending) (e : Ending) (active left : List Entry) (number : ℕ) → length endings + length active ≤ 100000 →
-    IsSome (lookup (is_at (nat_cmp number)) active) → new ≡ endings ++ e ∷ [] → left ≡ without number active → length new + length left ≤ 100000
+still_few : (endings new : List Ending) (e : Ending) (active left : List Entry) (number : ℕ) → length endings + length active ≤ most_endings →
+    IsSome (lookup (is_at (nat_cmp number)) active) → new ≡ endings ++ e ∷ [] → left ≡ without number active → length new + length left ≤ most_endings
 still_few endings new e active left number few found more is =
     omega (arith, ap length more, length-append endings (e ∷ []), ap length is, length-removed (is_at (nat_cmp number)) active found)
 

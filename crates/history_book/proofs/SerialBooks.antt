@@ -19,7 +19,7 @@ use Rattle.history_book.specs.History.{commits_of, eval_of, evaluation, nth_inst
 use Rattle.history_book.specs.Repeats.{newest_state, done_again, IsSameAgain, begun_again}
 use Rattle.history_book.specs.Serial.{Runs, Fits, is_each_once}
 use Rattle.history_book.specs.TrueBook.{IsTrueBook, IsTrueRow}
-use Rattle.history_book.specs.View.{BookView, new_book, instance_of, history_of}
+use Rattle.history_book.specs.View.{BookView, new_book, instance_of, history_of, most_endings}
 use Rattle.history_book.specs.declared.instances.row.Ending.TheVariants.{Committed}
 use Rattle.history_book.specs.declared.instances.row.HistoryRow.{HistoryRow}
 use Rattle.history_book.proofs.HistoryLaws.{length-commits_of, commits_of-push}
@@ -208,7 +208,7 @@ pub row_true : (v : BookView) (items : List HistoryRow) (row : HistoryRow) (numb
 row_true v items row number book same at first last =
     subst (IsTrueRow (draft_tree v.set) v.opening (history_of v.rows)) (sym (item_known v.rows items row number same at)) (book.rows (number - 1) row (omega arith))
 
-pub rows_few : (v : BookView) → IsTrueBook v → length v.rows ≤ 100000
+pub rows_few : (v : BookView) → IsTrueBook v → length v.rows ≤ most_endings
 rows_few v book = omega (arith, few_commits v.endings (length v.rows) book.numbered, book.few)
 
 -- ---- orders that begin with some numbers

@@ -1,6 +1,6 @@
 -- What a begin leaves is what the machine leaves.
 use Rattle.std.proofs.Common.{◌≡◌, ℕ, ◌+◌, ◌-◌, ◌≤◌, ◌==◌, nat_lt, ◌||◌, Bool, true, false, not, List, [], ◌∷◌, ◌++◌, length, refl, ap, sym, ◌∙◌, subst, cond, ◌⊎◌, inl, inr, arith, ℤ, Box, Result, IfOk, OnErr}
-use Rattle.std.specs.Prelude.{nat_le, ◌^◌, slice_get, Option, Some, None, option_map}
+use Rattle.std.specs.Prelude.{nat_le, slice_get, Option, Some, None, option_map}
 use Rattle.std.proofs.lemmas.Bool.Decides.{nat_tests}
 use Rattle.std.proofs.lemmas.List.{map-append, length-map, length-append}
 use Rattle.std.proofs.lemmas.Option.{slice_get-map}
@@ -52,8 +52,8 @@ module _ (v : BookView) (runs : List (Option ActiveRun)) (kept : IsEngine v runs
   full_is =
       let active = ap length kept.active ∙ length-numbered 0 (begun_of runs) in
       let count : v.begun ≡ length (begun_of runs) = sym kept.counted ∙ sym (length-map runs (option_map active_in)) in
-      sym (ap (λ n. nat_le 100000 (length v.endings + n) || nat_le (2 ^ 64 - 1) v.begun) active
-      ∙ ap (λ n. nat_le 100000 (length v.endings + active_of (begun_of runs)) || nat_le (2 ^ 64 - 1) n) count)
+      sym (ap (λ n. nat_le book.most_endings (length v.endings + n) || nat_le book.most_begins v.begun) active
+      ∙ ap (λ n. nat_le book.most_endings (length v.endings + active_of (begun_of runs)) || nat_le book.most_begins n) count)
 
   module _ (start program : ℕ) (args : List ℤ) where
     abbrev new_instance : Instance

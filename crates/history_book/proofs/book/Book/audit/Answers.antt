@@ -2,7 +2,7 @@ use Rattle.std.proofs.Common.{◌≡◌, ◌≤◌, [], length, ap, ◌∙◌, s
 use Rattle.std.proofs.lemmas.Result.{err_from_is_err_and}
 use Rattle.prog_tree.specs.Tree.{draft_tree}
 use Rattle.history_book.specs.Audit.{audited, taken_up, IsRightRow, AreRightBehind}
-use Rattle.history_book.specs.View.{BookView, history_of}
+use Rattle.history_book.specs.View.{BookView, history_of, most_endings}
 use Rattle.history_book.proofs.AuditLaws.{one_more_yielded, taken_up-audited, right-push, refused_at, room_left, none_left}
 use Rattle.history_book.proofs.book.Book.audit.Goals as goal
 
@@ -24,7 +24,7 @@ pub returns-in_err-add_row-clause-refused : goal.returns-in_err-add_row-clause-r
 returns-in_err-add_row-clause-refused c =
     let p = err_from_is_err_and c.from_residual-in_err-add_row.result c.from_residual-in_err-add_row.ensures.1 in
     let before = c.loop-row.invariant in
-    let few : length c.args.rows.items ≤ 100000 = omega arith in
+    let few : length c.args.rows.items ≤ most_endings = omega arith in
     let wrong = refused_at c.loop-row.book c.args.set.now c.args.opening c.loop-row.yielded _ _ c.args.rows.items c.in-Some.row c.in_err-add_row.field-0.0
     before.1 before.0 c.in-Some.ensures.steps.0 few before.2 c.in_err-add_row.ensures.refused in
     rw (p.1, p.2) wrong
