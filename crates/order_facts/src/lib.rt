@@ -1,8 +1,10 @@
 //! Exact reasoning about order among i64 values: what facts `lo <= hi` between parameters, unknowns and numbers force.
 //!
-//! `Facts` collects the facts, and `close` finds once what they entail. A `Closed` then answers whether some assignment
-//! of i64 meets the facts, whether they put one node at most another, by which chain, and with which sample. Where one
-//! node is said to be below another, it is at most it.
+//! `Facts` collects the facts, and `close` finds once what they entail. A `Closed` then answers
+//! whether some assignment of i64 meets the facts, whether they put one node at most another, by
+//! which chain, and with which sample. Who has the facts in a slice closes it by `Closed::of` and
+//! asks `is_chain` of a chain, as the program does. Where one node is said to be below another, it
+//! is at most it.
 #![tactic(auto)]
 
 mod closed;
