@@ -13,6 +13,8 @@ mod each_tests;
 #[cfg(test)]
 mod equality_tests;
 #[cfg(test)]
+mod fault_tests;
+#[cfg(test)]
 mod place_tests;
 #[cfg(test)]
 mod refused_tests;
