@@ -77,6 +77,20 @@ fn a_region_holds_its_ends(rt: HostRuntime) {
     }
 }
 
+#[test]
+fn regions_have_corners_unless_they_are_empty(rt: HostRuntime) {
+    let mut region = Region {
+        table: 0,
+        first_low: 2,
+        first_high: 7,
+        second_low: 0,
+        second_high: 0,
+    };
+    assert!(rt; region.corners() == Some((cell(0, 2, 0), cell(0, 7, 0))));
+    region.first_high = 1;
+    assert!(rt; region.corners().is_none());
+}
+
 /// Gives `e[7, 3]`, `t[-5]` and `e[7, 1]` rows in this order, and the first another; `e` is table 0
 /// and `t` table 1. Each answers the row that was there.
 fn insert_rows(rt: &impl Abort, rows: &mut Rows) -> Result<(), AllocError> {

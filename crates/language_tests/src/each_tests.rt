@@ -1,6 +1,6 @@
 //! Runs that list the rows of a range, and go through a block for each of them.
 
-use crate::run_tests::{CELL_1_0, CELL_2_0, CELL_7_1, CELL_7_3, Example, play};
+use crate::played::{CELL_1_0, CELL_2_0, CELL_7_1, CELL_7_3, Example, play};
 use example_sets::PAY;
 use prog_tree::Cell;
 use std::test::Fail;

@@ -17,6 +17,8 @@ mod fault_tests;
 #[cfg(test)]
 mod place_tests;
 #[cfg(test)]
+mod played;
+#[cfg(test)]
 mod refused_tests;
 #[cfg(test)]
 mod run_tests;

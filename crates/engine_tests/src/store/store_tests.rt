@@ -1,7 +1,7 @@
 //! Calls of a store by hand, and its scans beside those of the twin.
 
 use crate::store::calls::{Answer, Call, install, open, play};
-use crate::store::twin::{Deed, cell, rows_after};
+use crate::store::twin::{Deed, rows_after};
 use prog_tree::{Cell, Region};
 use std::alloc::Global;
 use std::process::Abort;
@@ -201,18 +201,4 @@ fn states_are_those_of_the_list(rt: HostRuntime) {
 fn laws_of_the_store_are_called() {
     clashes_are_found();
     retained_versions_stay();
-}
-
-#[test]
-fn regions_have_corners_unless_they_are_empty(rt: HostRuntime) {
-    let mut region = Region {
-        table: 0,
-        first_low: 2,
-        first_high: 7,
-        second_low: 0,
-        second_high: 0,
-    };
-    assert!(rt; region.corners() == Some((cell(2), cell(7))));
-    region.first_high = 1;
-    assert!(rt; region.corners().is_none());
 }
