@@ -18,8 +18,8 @@ use Rattle.history_book.specs.History.{Instance, IsCalled}
 use Rattle.history_book.specs.Ticket.{TicketView}
 use Rattle.history_book.specs.TrueBook.{IsTrueRow}
 use Rattle.history_book.specs.View.{BookView, instance_of, history_of, row_of, commits_in, state_in, done_in, active_at, without}
-use Rattle.history_book.specs.declared.fault.Place.{Place}
-use Rattle.history_book.specs.declared.fault.Place.TheVariants as place
+use Rattle.history_book.specs.declared.fault.Difference.{Difference}
+use Rattle.history_book.specs.declared.fault.Difference.TheVariants as difference
 use Rattle.history_book.specs.declared.instances.row.Ending.{Ending}
 use Rattle.history_book.specs.declared.instances.row.Ending.TheVariants as ending
 use Rattle.history_book.specs.declared.instances.row.HistoryRow.{HistoryRow}
@@ -45,9 +45,9 @@ pub record IsFirstForeign (m : TableState) (looks : List Look) (number : ℕ) : 
   pub foreign : IsFound m look → ⊥
 
 -- where the run differs from each of the instance
-abbrev pub IsForeign : BookView → Instance → RunView → Place → Type 0
-IsForeign v i run place.Program = SameProgram v i run → ⊥
-IsForeign v i run (place.Look number) =
+abbrev pub IsForeign : BookView → Instance → RunView → Difference → Type 0
+IsForeign v i run difference.Program = SameProgram v i run → ⊥
+IsForeign v i run (difference.Look number) =
     SameProgram v i run × IsFirstForeign (state_in v i.start) run.looks number
 
 -- the run went on through one deed, or to its end, and asks nothing

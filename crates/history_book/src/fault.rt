@@ -112,7 +112,7 @@ impl Error for ScanFault {}
 
 /// Where a run differs from the instance that it is handed in for.
 #[derive(Clone, Copy, Debug, PartialEq, Eq)]
-pub enum Place {
+pub enum Difference {
     /// In its program, its arguments or the tables of its set.
     Program,
     /// In the look of this number, the first that did not find what the snapshot holds.
@@ -134,7 +134,7 @@ pub enum CommitFault<'a> {
     /// The run is not over, or it aborted.
     NotReady(Unused<'a>),
     /// The run is not one of the instance.
-    ForeignRun(Place, Unused<'a>),
+    ForeignRun(Difference, Unused<'a>),
     /// There was no memory for it.
     Memory(Unused<'a>),
     /// A commit above the instance's start changed or kept a cell too. The instance has ended.
@@ -204,7 +204,7 @@ pub enum EndFault<'a> {
     /// The run is not over, or it is ready.
     NotAborted(Unused<'a>),
     /// The run is not one of the instance.
-    ForeignRun(Place, Unused<'a>),
+    ForeignRun(Difference, Unused<'a>),
     /// There was no memory for it.
     Memory(Unused<'a>),
 }
@@ -235,7 +235,7 @@ pub enum Refusal {
     /// The run has not ended as it has to.
     WrongEnd,
     /// The run is not one of the instance.
-    ForeignRun(Place),
+    ForeignRun(Difference),
 }
 
 impl Refusal {

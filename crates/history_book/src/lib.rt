@@ -12,7 +12,7 @@ mod orders;
 pub use audit::{AuditFault, RowFault};
 pub use book::Book;
 pub use fault::{
-    BeginFault, CommitFault, EndFault, NoSuchTicket, OwnCommitFault, Place, ScanFault, Unused,
+    BeginFault, CommitFault, Difference, EndFault, NoSuchTicket, OwnCommitFault, ScanFault, Unused,
 };
 pub use instances::row::{Ending, HistoryRow};
 pub use instances::ticket::{Receipt, Ticket};

@@ -12,7 +12,7 @@ use std::collections::VecDeque;
 
 /// The names of an `each`: for the last key column of a row, and for its value.
 #[derive(Clone, Copy, Debug)]
-pub struct Names<'a> {
+pub struct TurnNames<'a> {
     pub key: &'a Name,
     pub value: &'a Name,
 }
@@ -20,7 +20,7 @@ pub struct Names<'a> {
 /// What is left of an `each` whose rows are listed: the last key column and the value of each row that had no turn yet.
 #[derive(Debug, Drop)]
 pub struct Turns<'a> {
-    pub names: Names<'a>,
+    pub names: TurnNames<'a>,
     pub body: &'a Block,
     pub left: VecDeque<(i64, i64)>,
 }
@@ -28,7 +28,7 @@ pub struct Turns<'a> {
 /// A turn of an `each`.
 #[derive(Clone, Copy, Debug)]
 pub struct Turn<'a> {
-    pub names: Names<'a>,
+    pub names: TurnNames<'a>,
     pub key: i64,
     pub value: i64,
 }

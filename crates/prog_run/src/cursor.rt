@@ -9,7 +9,7 @@ ghost use Rattle.prog_run.specs.Task.{Lists, region_use_tree};
 ghost use Rattle.prog_run.specs.Statement.{IsRegionAnswered};
 ghost use Rattle.prog_run.specs.Step.{cursor_after, cursor_behind, IsStep, IsUsed};
 
-use crate::block::{Names, OpenBlock, Turns, turns_over};
+use crate::block::{OpenBlock, TurnNames, Turns, turns_over};
 use crate::next::Step;
 use crate::notes::note_turn;
 use crate::region::{Found, look_at_region};
@@ -305,7 +305,7 @@ impl<'a> Cursor<'a> {
         ensures err_progress { OnErr result (progress.new ≡ progress.old) }
     {
         let left = turns_over(*self.outer.allocator(), &listing.range, rows)?;
-        let names = Names {
+        let names = TurnNames {
             key: &listing.key,
             value: &listing.value,
         };

@@ -1,7 +1,7 @@
 //! Calls of a book and their answers, as plain data.
 
 use crate::book::runs::Ride;
-use history_book::{BeginFault, Place};
+use history_book::{BeginFault, Difference};
 use prog_tree::Cell;
 
 /// A call, with the ticket at hand where it takes one.
@@ -65,7 +65,7 @@ pub enum Answer {
     NoSuchTicket,
     /// The run has not ended as it has to.
     WrongEnd,
-    ForeignRun(Place),
+    ForeignRun(Difference),
     Memory,
     /// There is no such thing.
     Nothing,

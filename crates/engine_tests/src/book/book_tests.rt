@@ -5,7 +5,7 @@ use crate::book::desk::{Case, play, play_all};
 use crate::book::runs::Ride;
 use crate::book::sets::{FIRST_ROW, LOOK, NO_PROGRAM, REGISTERS, SECOND_ROW, SET, STOP};
 use example_sets::set_of;
-use history_book::{BeginFault, Place};
+use history_book::{BeginFault, Difference};
 use prog_check::ProgramSet;
 use std::alloc::Global;
 use std::process::Abort;
@@ -116,7 +116,10 @@ const FIRST_WINS: &[(Call, Answer)] = &[
 
 const NEVER: &[(Call, Answer)] = &[
     (Call::Begin(LOOK, &[1]), Answer::Begun(0, 0)),
-    (Call::Commit(INVENTED), Answer::ForeignRun(Place::Look(0))),
+    (
+        Call::Commit(INVENTED),
+        Answer::ForeignRun(Difference::Look(0)),
+    ),
     (Call::Withdraw, Answer::Withdrawn),
     (Call::Commits, Answer::Count(0)),
     (Call::Ending(0), Answer::Nothing),
@@ -124,8 +127,14 @@ const NEVER: &[(Call, Answer)] = &[
 
 const ALTERED: &[(Call, Answer)] = &[
     (Call::Begin(LOOK, &[1]), Answer::Begun(0, 0)),
-    (Call::Commit(ELSEWHERE), Answer::ForeignRun(Place::Program)),
-    (Call::Commit(INVENTED), Answer::ForeignRun(Place::Look(0))),
+    (
+        Call::Commit(ELSEWHERE),
+        Answer::ForeignRun(Difference::Program),
+    ),
+    (
+        Call::Commit(INVENTED),
+        Answer::ForeignRun(Difference::Look(0)),
+    ),
     (Call::Commit(UNMOVED), Answer::WrongEnd),
     (Call::Commit(LOOKED), Answer::Committed(1)),
 ];
@@ -253,7 +262,7 @@ const OVER_ANOTHER: Case = (
         (Call::Begin(LOOK, &[1]), Answer::Begun(0, 0)),
         (
             Call::CommitOther(LOOKED),
-            Answer::ForeignRun(Place::Program),
+            Answer::ForeignRun(Difference::Program),
         ),
         (Call::Commit(LOOKED), Answer::Committed(1)),
     ],

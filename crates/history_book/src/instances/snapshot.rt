@@ -13,7 +13,7 @@ ghost use Rattle.history_book.specs.Runs.{IsFirstForeign, SameProgram, IsEndedRo
 ghost use Rattle.history_book.specs.View.{row_of, active_at, commits_in, state_in};
 
 use crate::book::Book;
-use crate::fault::{Place, Refusal};
+use crate::fault::{Difference, Refusal};
 use crate::instances::active::Active;
 use crate::instances::row::HistoryRow;
 use crate::instances::ticket::Ticket;
@@ -172,10 +172,10 @@ impl<'a> Book<'a> {
             return Some(Refusal::WrongEnd);
         }
         if !self.has_program(active, run) {
-            return Some(Refusal::ForeignRun(Place::Program));
+            return Some(Refusal::ForeignRun(Difference::Program));
         }
         if let Some(number) = self.foreign_look(active.start, run.looks()) {
-            return Some(Refusal::ForeignRun(Place::Look(number)));
+            return Some(Refusal::ForeignRun(Difference::Look(number)));
         }
         None
     }

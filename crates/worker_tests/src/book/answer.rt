@@ -1,6 +1,6 @@
 //! Calls of a book and their answers, as plain data.
 
-use history_book::{BeginFault, Clash, CommitFault, EndFault, Place, Ticket, Unused};
+use history_book::{BeginFault, Clash, CommitFault, Difference, EndFault, Ticket, Unused};
 use prog_run::Run;
 use prog_tree::End;
 
@@ -34,7 +34,7 @@ pub enum Answer {
     NoSuchTicket,
     /// The run has not ended as it has to.
     WrongEnd,
-    ForeignRun(Place),
+    ForeignRun(Difference),
     Memory,
     /// The instance is not at hand.
     Nothing,
