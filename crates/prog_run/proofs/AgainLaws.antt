@@ -7,7 +7,7 @@ use Rattle.prog_tree.specs.declared.look.Look.{Look}
 use Rattle.prog_tree.specs.declared.look.Look.TheVariants as look
 use Rattle.prog_tree.specs.Evaluation.{rows_left}
 use Rattle.prog_tree.specs.Table.{TableState, rows_in}
-use Rattle.prog_run.specs.Looks.{IsFound, AreFound, last_of}
+use Rattle.prog_run.specs.Looks.{IsFound, AreFound, last_look}
 use Rattle.prog_run.proofs.OwnLemmas.{all_left}
 
 -- where all looks found what a table state holds, one of them did
@@ -17,15 +17,15 @@ one_found m (k ∷ ks) zero l at found = let same : k ≡ l = cc in subst (IsFou
 one_found m (k ∷ ks) (suc n) l at found = one_found m ks n l at found.1
 
 -- a look whose parts are these
-pub same_look : (looks : List Look) (looked region : Region) (own : List Cell) (rows told : TableState) → last_of looks ≡ Some (look.Range looked own rows) → own ≡ [] → looked ≡ region → told ≡ rows →
-    last_of looks ≡ Some (look.Range region [] told)
+pub same_look : (looks : List Look) (looked region : Region) (own : List Cell) (rows told : TableState) → last_look looks ≡ Some (look.Range looked own rows) → own ≡ [] → looked ≡ region → told ≡ rows →
+    last_look looks ≡ Some (look.Range region [] told)
 same_look looks looked region own rows told last none same is =
     last
     ∙ ap (λ cells. Some (look.Range looked cells rows)) none
     ∙ ap (λ r. Some (look.Range r [] rows)) same
     ∙ ap (λ rs. Some (look.Range region [] rs)) (sym is)
 
-pub held_again : (looks : List Look) (region : Region) (rows : TableState) → last_of looks ≡ Some (look.Range region [] rows) → (m : TableState) → AreFound m looks → rows ≡ rows_in region m
+pub held_again : (looks : List Look) (region : Region) (rows : TableState) → last_look looks ≡ Some (look.Range region [] rows) → (m : TableState) → AreFound m looks → rows ≡ rows_in region m
 held_again looks region rows last m found =
     let here : rows_left region [] m ≡ rows = one_found m looks (length looks - 1) (look.Range region [] rows) last found in
     sym here ∙ all_left (rows_in region m)

@@ -14,8 +14,8 @@ use Rattle.prog_run.specs.Task.{AskedTree, OfCell, OfRegion, TaskTree}
 use Rattle.prog_run.specs.Task as task
 
 -- the last look, if there is one
-abbrev pub last_of : List Look → Option Look
-last_of looks = slice_get looks (length looks - 1)
+abbrev pub last_look : List Look → Option Look
+last_look looks = slice_get looks (length looks - 1)
 
 -- a look found what the table state holds
 abbrev pub IsFound : TableState → Look → Type 0
@@ -29,8 +29,8 @@ AreFound m (l ∷ ls) = IsFound m l × AreFound m ls
 
 -- the rows that the last look found, where it was at just this region and left no cells out
 abbrev pub IsFoundLast : List Look → Region → Option TableState → Type 0
-IsFoundLast looks region (Some rows) = last_of looks ≡ Some (look.Range region [] rows)
-IsFoundLast looks region None = (rows : TableState) → last_of looks ≡ Some (look.Range region [] rows) → ⊥
+IsFoundLast looks region (Some rows) = last_look looks ≡ Some (look.Range region [] rows)
+IsFoundLast looks region None = (rows : TableState) → last_look looks ≡ Some (look.Range region [] rows) → ⊥
 
 -- where the looks of q found what a table state holds, those of p did
 abbrev pub FoundBefore : Progress → Progress → Type 0

@@ -16,9 +16,9 @@ abbrev pub added : List ℕ → Page → Page
 added bytes page = record { bytes = page.bytes ++ bytes; depth = page.depth }
 
 -- the page has grown by these bytes, unless memory ran out
-abbrev pub Adds : {E : Type 0} → List ℕ → Page → Result (Unit {0}) E → Page → Type 0
-Adds bytes old result new = OnOk result (new ≡ added bytes old)
+abbrev pub AddsText : {E : Type 0} → List ℕ → Page → Result (Unit {0}) E → Page → Type 0
+AddsText bytes old result new = OnOk result (new ≡ added bytes old)
 
 -- the same, by these marks
 abbrev pub Writes : {E : Type 0} → List Mark → Page → Result (Unit {0}) E → Page → Type 0
-Writes marks old result new = Adds (bytes_of marks) old result new
+Writes marks old result new = AddsText (bytes_of marks) old result new

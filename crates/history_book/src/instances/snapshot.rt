@@ -3,7 +3,7 @@
 ghost use Rattle.std.specs.Prelude.{◌≡◌, ◌≤◌, ◌↔◌, length, Some, true, IfOk, IfNone, IfSome, IsTrue, option_copied, MatchOption};
 ghost use Rattle.prog_tree.specs.Evaluation.{rows_left};
 ghost use Rattle.prog_tree.specs.Table.{row_at, rows_in};
-ghost use Rattle.prog_run.specs.Looks.{IsFound, AreFound, last_of};
+ghost use Rattle.prog_run.specs.Looks.{IsFound, AreFound, last_look};
 ghost use Rattle.version_store.specs.Clash.{IsClash};
 ghost use Rattle.version_store.specs.Told.{told};
 ghost use Rattle.prog_tree.specs.Tree.{draft_tree};
@@ -30,7 +30,7 @@ pub(crate) fn same_numbers(numbers: &[i64], others: &[i64]) -> bool
 
 // Whether the last of some looks is this one.
 fn is_last(looks: &[Look], look: &Look) -> bool
-    ensures { IsTrue result ↔ (last_of looks.now ≡ Some look.now) }
+    ensures { IsTrue result ↔ (last_look looks.now ≡ Some look.now) }
 {
     match looks.last() {
         Some(last) => last.is_same(look),
