@@ -9,13 +9,31 @@ use crate::found::{add_found, push_row, rows_behind, seen_in, seen_left};
 use prog_tree::{Cell, Region, RisingCells, Rows, Sequence};
 use std::alloc::AllocError;
 
+// For how many rows a scan makes room at most before it has found one.
+const MOST_FIRST_ROOM: usize = 1024;
+
+// How many numbers there are from one to another, as far as a usize can tell.
+fn count_between(low: i64, high: i64) -> usize {
+    match usize::try_from(high.saturating_sub(low)) {
+        Ok(steps) => steps.saturating_add(1),
+        Err(_) => 0,
+    }
+}
+
+// For how many rows of a region there is room at first: it has no more rows than cells.
+fn first_room(region: &Region) -> usize {
+    let firsts = count_between(region.first_low, region.first_high);
+    let seconds = count_between(region.second_low, region.second_high);
+    firsts.saturating_mul(seconds).min(MOST_FIRST_ROOM)
+}
+
 impl Chains {
-    /// The rows of a region after the first `start` commits.
+    /// The rows of a region after the first `start` commits. They keep no room for more.
     pub fn scan(&self, start: u64, region: &Region) -> Result<Sequence<(Cell, i64)>, AllocError>
         ensures { IfOk result (λ rows. AllRise self.now →
             IsSeen (seen_in region.now start) self.now rows) }
     {
-        let mut rows = Vec::new(self.alloc);
+        let mut rows = Vec::with_capacity(self.alloc, first_room(region))?;
         let Some((low, high)) = region.corners() else {
             return Ok(Sequence::from_vec(rows));
         };
@@ -23,6 +41,7 @@ impl Chains {
             let found = seen_in(region, start, cell, chain);
             push_row(&mut rows, cell, found)?;
         }
+        rows.shrink_to_fit();
         Ok(Sequence::from_vec(rows))
     }
 

@@ -11,7 +11,7 @@ use Rattle.version_store.proofs.chains.Chains.scan.Goals as goal
 
 pub returns-in_default : goal.returns-in_default
 returns-in_default c = λ rise.
-    subst (λ (m : TableState). IsSeen (seen_in c.args.region.now c.args.start) c.args.self.now m) (sym (c.from_vec.ensures ∙ c.new-rows.ensures.items))
+    subst (λ (m : TableState). IsSeen (seen_in c.args.region.now c.args.start) c.args.self.now m) (sym (c.from_vec.ensures ∙ c.in_ok-rows.ensures.items))
     (gained_nothing c.args.region.now c.args.start c.args.self.now c.in_default.ensures)
 
 pub loop-cell-init : goal.loop-cell-init
@@ -21,7 +21,7 @@ loop-cell-init c =
     let between : c.into_iter-cell-iterator.result ≡ filter (λ (e : Cell × Chain). is_between c.in-Some.low c.in-Some.high e.0) chains =
     c.into_iter-cell-iterator.ensures.into_iter_gives ∙ c.range-cell-items.ensures.between ends.exhausted
     ∙ (λ i. filter (λ (e : Cell × Chain). is_between (ends.start i) (ends.end i) e.0) chains) in
-    rw (← c.self.view_is, c.new-rows.ensures.items)
+    rw (← c.self.view_is, c.in_ok-rows.ensures.items)
     (λ rise. gains_first c.args.region.now c.args.start c.in-Some.low c.in-Some.high chains c.into_iter-cell-iterator.result c.range-cell-items.ensures.ordered rise c.in-Some.ensures between)
 
 pub loop-cell-preserved : goal.loop-cell-preserved
@@ -33,5 +33,5 @@ loop-cell-preserved c = λ rise.
 pub returns : goal.returns
 returns c = λ rise.
     let sorted = subst (λ (es : Cells Chain). IsStrictlySortedBy cell_cmp (cells_of es)) c.self.view_is c.range-cell-items.ensures.ordered in
-    subst (λ (m : TableState). IsSeen (seen_in c.args.region.now c.args.start) c.args.self.now m) (sym c.from_vec-2.ensures)
+    subst (λ (m : TableState). IsSeen (seen_in c.args.region.now c.args.start) c.args.self.now m) (sym (c.from_vec-2.ensures ∙ c.shrink_to_fit.ensures.items))
     (gained c.args.region.now c.args.start c.args.self.now c.loop-cell.cell-iterator c.loop-cell.rows.items sorted c.in-None.ensures.steps.0 (c.loop-cell.invariant rise))
