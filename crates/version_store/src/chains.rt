@@ -142,7 +142,9 @@ impl Chains {
         ensures hold { IfOk result (λ chains. EachHolds chains) }
     {
         let mut chains = Chains::new(alloc);
-        for (cell, value) in opening.iter() {
+        // From the last row on: the map looks through the cells of a node from the least on, so the
+        // place before all of them is found at once.
+        for (cell, value) in opening.iter().rev() {
             chains.add(*cell, 0, Touch::Change(Some(*value)))?;
         }
         Ok(chains)
