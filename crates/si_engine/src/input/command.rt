@@ -174,20 +174,19 @@ fn words_command(
     let [first, rest @ ..] = words else {
         return Err(LineFault::BadLine { line });
     };
-    let first = first.as_bytes();
-    if first == b"row".as_slice() {
+    if first.is(b"row") {
         row(set, line, rest)
-    } else if first == b"begin".as_slice() {
+    } else if first.is(b"begin") {
         begin(alloc, set, line, rest)
-    } else if first == b"begin-at".as_slice() {
+    } else if first.is(b"begin-at") {
         begin_at(alloc, set, line, rest)
-    } else if first == b"step".as_slice() {
+    } else if first.is(b"step") {
         step(line, rest)
-    } else if first == b"commit".as_slice() {
+    } else if first.is(b"commit") {
         commit(line, rest)
-    } else if first == b"abort".as_slice() {
+    } else if first.is(b"abort") {
         abort(line, rest)
-    } else if first == b"vacuum".as_slice() {
+    } else if first.is(b"vacuum") {
         vacuum(line, rest)
     } else {
         Err(LineFault::BadLine { line })

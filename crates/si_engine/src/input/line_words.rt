@@ -1,5 +1,5 @@
 //! Words of a line.
-ghost use Rattle.std.specs.Prelude.{◌≡◌, ◌<◌, [], ◌∷◌, length, IfOk, IfSome, MatchOption};
+ghost use Rattle.std.specs.Prelude.{◌≡◌, ◌<◌, [], ◌∷◌, bytes_eq, length, IfOk, IfSome, MatchOption};
 ghost use Rattle.si_engine.specs.Lines.{words_of};
 
 use crate::input::lines::cut;
@@ -36,6 +36,15 @@ impl<'a> Word<'a> {
         ensures { result.now ≡ self.now }
     {
         self.bytes
+    }
+
+    // Whether it is such a text. Words are short: going through their bytes is faster than a
+    // comparison of long texts.
+    pub(crate) fn is(&self, text: &[u8]) -> bool
+        ensures { result ≡ bytes_eq self.now text.now }
+    {
+        let bytes = self.bytes;
+        bytes.len() == text.len() && bytes.iter().eq(text)
     }
 }
 

@@ -36,11 +36,10 @@ fn words_line<T: ListItem>(
     let [first, rest @ ..] = words else {
         return Err(LineFault::BadLine { line });
     };
-    let first = first.as_bytes();
-    if first == b"row".as_slice() {
+    if first.is(b"row") {
         let row = row_line(set, line, rest)?;
         Ok(ListLine::Row(row))
-    } else if T::is_keyword(first) {
+    } else if T::is_keyword(first.as_bytes()) {
         let item = T::read(alloc, set, line, rest)?;
         Ok(ListLine::Item(item))
     } else {

@@ -33,13 +33,13 @@ pub struct RecordWords {
 fn is_at(word: &Word<'_>) -> bool
     ensures { result ≡ is_at word.now }
 {
-    word.as_bytes() == b"at".as_slice()
+    word.is(b"at")
 }
 
 fn is_gives(word: &Word<'_>) -> bool
     ensures { result ≡ is_gives word.now }
 {
-    word.as_bytes() == b"gives".as_slice()
+    word.is(b"gives")
 }
 
 // How many words stand before the first `at`.

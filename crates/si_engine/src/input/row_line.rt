@@ -44,7 +44,7 @@ fn arity(set: &ProgramSet, table: usize) -> Option<Arity>
 fn is_equals_sign(word: &Word<'_>) -> bool
     ensures { result ≡ is_equals_sign word.now }
 {
-    word.as_bytes() == b"=".as_slice()
+    word.is(b"=")
 }
 
 fn one_key(key: &Word<'_>) -> Option<Keys>
