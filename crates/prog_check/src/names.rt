@@ -1,12 +1,17 @@
 //! Names, each once.
 
-ghost use Rattle.std.specs.Prelude.{◌≡◌, [], ◌∷◌, ◌++◌, not, length, take, IfOk, if◌then◌else◌};
+ghost use Rattle.std.specs.List.{position};
+ghost use Rattle.std.specs.Prelude.{◌≡◌, [], ◌∷◌, ◌++◌, not, length, take, string_bytes, IfOk, if◌then◌else◌};
+ghost use Rattle.prog_tree.specs.Value.{same_name};
 ghost use Rattle.prog_check.specs.Names.{is_among, place_among};
 
 use indexmap::IndexSet;
 use prog_tree::Name;
 use std::alloc::{AllocError, Global};
 use std::marker::Model;
+
+// How many names are gone through one by one. Of more a name's hash finds the one sooner.
+const FEW_NAMES: usize = 8;
 
 /// Names in the order in which they came, each once. Contracts see the list of them.
 #[derive(Debug, Drop)]
@@ -20,6 +25,22 @@ impl Model for Names {
     ghost Value = { List (List ℕ) };
 
     ghost view = { λ n. map string_bytes n.texts.keys };
+}
+
+// Whether both are the same. Names are short: going through their bytes is faster than a comparison
+// of long texts.
+fn is_same(name: &str, other: &str) -> bool
+    ensures { result ≡ same_name name.now other.now }
+{
+    let (bytes, others) = (name.as_bytes(), other.as_bytes());
+    bytes.len() == others.len() && bytes.iter().eq(others)
+}
+
+// The place of the first text that is a name.
+fn first_place(texts: &[String], name: &str) -> Option<usize>
+    ensures { result ≡ position (λ text. same_name name.now (string_bytes text)) texts.now }
+{
+    texts.iter().position(|text| is_same(name, text.as_str()))
 }
 
 impl Names {
@@ -47,7 +68,15 @@ impl Names {
     pub fn number(&self, name: &str) -> Option<usize>
         ensures { result ≡ place_among self.now name.now }
     {
+        if self.are_few() {
+            return first_place(self.texts.as_slice(), name);
+        }
         self.texts.get_index_of(name)
+    }
+
+    // Whether they are gone through one by one.
+    fn are_few(&self) -> bool {
+        self.texts.len() <= FEW_NAMES
     }
 
     /// Adds a name behind the others, and tells whether it is new.
