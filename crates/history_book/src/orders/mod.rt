@@ -4,6 +4,7 @@ pub mod dependency;
 pub mod fits;
 pub mod kept_region;
 pub mod nearby;
+pub mod numbers;
 pub mod order;
 pub mod precedence;
 pub mod readers;

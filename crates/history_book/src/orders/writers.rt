@@ -7,8 +7,9 @@ ghost use Rattle.history_book.specs.Traces.{changed_at};
 ghost use Rattle.history_book.specs.Reduced.{HasWriters, IsAddedAt, RiseFrom, IsCutBy};
 ghost use Rattle.history_book.specs.Reduced.{last_seen, first_missed};
 
+use crate::orders::numbers::Numbers;
 use crate::orders::trace::Trace;
-use prog_tree::{Cell, Sequence};
+use prog_tree::Cell;
 use std::alloc::{AllocError, Global};
 use std::collections::BTreeMap;
 use std::marker::Model;
@@ -17,7 +18,7 @@ use std::marker::Model;
 #[derive(Debug, Drop)]
 pub(crate) struct Writers {
     alloc: Global,
-    pub(crate) cells: BTreeMap<Cell, Sequence<usize>>,
+    pub(crate) cells: BTreeMap<Cell, Numbers>,
 }
 
 impl Model for Writers {
@@ -45,7 +46,7 @@ impl Writers {
         ensures { OnOk result (IsAddedAt (is_same_cell cell) number self.old self.new) }
     {
         let entry = self.cells.entry(cell)?;
-        let numbers = entry.or_insert(Sequence::new(self.alloc));
+        let numbers = entry.or_insert(Numbers::new(self.alloc));
         numbers.push(number)?;
         Ok(())
     }
