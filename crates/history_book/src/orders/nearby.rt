@@ -48,6 +48,15 @@ fn budget(traces: &[Trace]) -> u128 {
         .saturating_add((traces.len() as u128).saturating_mul(STEPS_OF_A_COMMIT))
 }
 
+// How many steps an order takes at least: each commit is tested up to its horizon.
+fn least_steps(horizons: &[usize]) -> u128 {
+    let mut steps: u128 = 0;
+    for (number, horizon) in horizons.iter().enumerate() {
+        steps = steps.saturating_add(horizon.saturating_sub(number) as u128);
+    }
+    steps
+}
+
 // Spends some steps, if so many are left.
 fn spend(left: &mut u128, steps: u128) -> bool
     ensures enough { IsTrue result ↔ (steps ≤ left.old) }
@@ -161,6 +170,9 @@ pub fn nearby_order(alloc: Global, traces: &[Trace]) -> Result<Option<Vec<usize>
 {
     let mut left = budget(traces);
     let horizons = horizons(alloc, traces)?;
+    if least_steps(horizons.as_slice()) > left {
+        return Ok(None);
+    }
     let mut placed = vec![in alloc; false; traces.len() + 1]?;
     let mut holders = vec![in alloc; 0; traces.len() + 1]?;
     let mut order = Vec::new(alloc);
