@@ -88,7 +88,7 @@ fn most_text(
     else {
         return Ok(String::new(alloc));
     };
-    let access = access_text(alloc, shown, node as usize, access as usize)?;
+    let access = access_text(alloc, shown, node, access)?;
     covering_text(alloc, count, &access)
 }
 
