@@ -19,7 +19,7 @@ use std::marker::Model;
 pub struct AccessClasses<'a> {
     paths: &'a [Path],
     // For each access among all the number of its class.
-    numbers: Vec<usize>,
+    numbers: Vec<u32>,
 }
 
 impl<'a> Model for AccessClasses<'a> {
@@ -69,7 +69,7 @@ impl<'a> Interner for Numbering<'a> {
 }
 
 /// For each access the number of its class, as far as classes are remembered.
-fn numbers_of(alloc: Global, classes: &[usize], places: &[Placed]) -> Result<Vec<usize>, AllocError>
+fn numbers_of(alloc: Global, classes: &[usize], places: &[Placed]) -> Result<Vec<u32>, AllocError>
     requires { All (HasCoverClass classes.now) places.now }
     ensures { IfOk result (λ numbers. AreNumbered classes.now places.now numbers.items) }
 {
@@ -77,11 +77,11 @@ fn numbers_of(alloc: Global, classes: &[usize], places: &[Placed]) -> Result<Vec
 }
 
 /// The class of the access of a number.
-fn class_at(numbers: &[usize], n: usize) -> usize
+fn class_at(numbers: &[u32], n: usize) -> usize
     requires { n < length numbers.now }
     ensures { result ≡ slice_index_or numbers.now n 0 }
 {
-    numbers[n]
+    numbers[n] as usize
 }
 
 impl<'a> AccessClasses<'a> {

@@ -2,6 +2,7 @@
 ghost use Rattle.std.specs.Prelude.{◌≡◌, ◌<◌, ℕ, Some, slice_get, IsTrue, All, IfOk, OnOk};
 ghost use Rattle.conflict_pairs.specs.Interning.{IsServed, AreInterned};
 
+use crate::limits::MAX_VALUES;
 use std::alloc::{AllocError, Global};
 
 /// Makes values for keys, one for many keys that are alike.
@@ -39,7 +40,7 @@ pub trait Interner {
 #[derive(Drop)]
 pub struct Interned<V> {
     pub values: Vec<V>,
-    pub numbers: Vec<usize>,
+    pub numbers: Vec<u32>,
 }
 
 // How many numbers of values are remembered. It is a prime.
@@ -55,27 +56,23 @@ fn slot_of(hash: usize) -> usize
 }
 
 /// Whether the value of a number serves a key.
-fn is_remembered<I: Interner>(
-    interner: &I,
-    key: &I::Key,
-    values: &[I::Value],
-    number: usize,
-) -> bool
+fn is_remembered<I: Interner>(interner: &I, key: &I::Key, values: &[I::Value], number: u32) -> bool
     requires takes { I.takes interner.now key.now }
     requires sound { All (I.is_sound interner.now) values.now }
     ensures { IsTrue result → IsServed (I.serves interner.now) values.now key.now number }
 {
-    number < values.len() && interner.is_served(key, &values[number])
+    (number as usize) < values.len() && interner.is_served(key, &values[number as usize])
 }
 
-/// The number of a value that serves a key: the remembered one, or that of a new value.
+/// The number of a value that serves a key: the remembered one, or that of a new value. One more
+/// value than 32 bits can number is answered as want of memory.
 fn number_of<I: Interner>(
     alloc: Global,
     interner: &I,
     key: &I::Key,
-    remembered: usize,
+    remembered: u32,
     values: &mut Vec<I::Value>,
-) -> Result<usize, AllocError>
+) -> Result<u32, AllocError>
     requires takes { I.takes interner.now key.now }
     requires sound { All (I.is_sound interner.now) values.old.items }
     ensures sound { OnOk result (All (I.is_sound interner.now) values.new.items) }
@@ -88,8 +85,11 @@ fn number_of<I: Interner>(
         return Ok(remembered);
     }
     let number = values.len();
+    if number >= MAX_VALUES {
+        return Err(AllocError);
+    }
     values.push(interner.make(alloc, key)?)?;
-    Ok(number)
+    Ok(number as u32)
 }
 
 /// Values for some keys, and which one serves each key. A slot holds the number of the last value

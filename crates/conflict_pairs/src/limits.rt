@@ -1,4 +1,4 @@
-//! What is worth threads, and how many accesses are numbered.
+//! What is worth threads, and what has numbers of 32 bits.
 
 /// The fewest questions that several threads answer.
 pub const MIN_QUESTIONS_OF_THREADS: usize = 10_000;
@@ -8,3 +8,6 @@ pub const EQUAL_PARTS: usize = 8;
 
 /// The most accesses whose numbers have 32 bits. A list of more would take 500 GB.
 pub const MAX_PLACES: usize = 4_294_967_296;
+
+/// The most values whose numbers have 32 bits.
+pub const MAX_VALUES: usize = 4_294_967_296;

@@ -89,7 +89,7 @@ pub struct Questions {
     pub places: Vec<Placed>,
     pub pairs: Vec<PlacePair>,
     pub judged: Vec<Question>,
-    pub numbers: Vec<usize>,
+    pub numbers: Vec<u32>,
 }
 
 /// The questions of some pairs.

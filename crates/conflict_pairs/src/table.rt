@@ -16,7 +16,7 @@ pub struct PairTable {
     places: Vec<Placed>,
     pairs: Vec<PlacePair>,
     // For each question the number of its verdict, which may be that of several.
-    numbers: Vec<usize>,
+    numbers: Vec<u32>,
     verdicts: Vec<Verdict>,
 }
 
@@ -47,7 +47,7 @@ impl PairTable {
         nodes: usize,
         places: Vec<Placed>,
         pairs: Vec<PlacePair>,
-        numbers: Vec<usize>,
+        numbers: Vec<u32>,
         verdicts: Vec<Verdict>,
     ) -> Self
         requires one_each { length pairs.items ≡ length numbers.items }
@@ -109,7 +109,7 @@ impl PairTable {
         ensures verdict { (e : Entry) → slice_get self.now.entries n ≡ Some e
             → slice_get self.now.verdicts result ≡ Some e.verdict }
     {
-        self.numbers[n]
+        self.numbers[n] as usize
     }
 
     /// The verdict on the question of a number.

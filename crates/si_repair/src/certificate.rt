@@ -40,7 +40,7 @@ fn told_question(asked: conflict_pairs::Question) -> Question
 fn push_told(
     asked: conflict_pairs::Question,
     verdict: &Verdict,
-    number: usize,
+    number: u32,
     told: &mut Vec<Told>,
 ) -> Result<(), AllocError>
     requires { AskedFits asked }
@@ -53,7 +53,7 @@ fn push_told(
             let question = told_question(asked);
             told.push(Told {
                 question,
-                reason: number,
+                reason: number as usize,
             })?;
         }
     }

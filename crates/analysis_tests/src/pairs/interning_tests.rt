@@ -34,7 +34,7 @@ impl Interner for Parity {
 }
 
 /// Keys, the values that are made for them, and the number of each key's.
-const EXAMPLES: [(&[u64], &[u64], &[usize]); 4] = [
+const EXAMPLES: [(&[u64], &[u64], &[u32]); 4] = [
     (&[4, 7, 6, 9, 4], &[4, 7], &[0, 1, 0, 1, 0]),
     (&[5, 3, 1], &[5], &[0, 0, 0]),
     (&[8], &[8], &[0]),
