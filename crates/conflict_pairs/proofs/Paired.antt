@@ -1,8 +1,8 @@
 -- Questions by the numbers of their accesses among all: what is said of lists of pairs and of their questions.
-use Rattle.std.proofs.Common.{◌≡◌, ℕ, ◌<◌, ◌≤◌, ◌+◌, ◌^◌, List, [], ◌∷◌, ◌++◌, length, map, get_or, drop, sym, subst, ap, ◌∙◌, append_assoc, arith}
+use Rattle.std.proofs.Common.{◌≡◌, ℕ, ◌<◌, ◌≤◌, ◌+◌, ◌^◌, List, [], ◌∷◌, ◌++◌, length, map, get_or, sym, subst, ap, ◌∙◌, arith}
 use Rattle.std.specs.Prelude.{All, option_map, slice_get, ◌==◌, ◌&&◌}
 use Rattle.std.specs.List.{AllZip}
-use Rattle.std.proofs.lemmas.List.{append-nil, drop_all, drop_more, get_or-map, length-map, map_push}
+use Rattle.std.proofs.lemmas.List.{get_or-map, length-map, map_push}
 use Rattle.std.proofs.lemmas.List.Elements.{All-cons, All-filter, All-head, All-map, All-nil, All-tail}
 use Rattle.std.proofs.lemmas.Option.{get_or_from_slice_get, slice_get-get_or, slice_get-map, slice_get_within}
 use Rattle.prog_check.specs.declared.path.Path.{Path}
@@ -30,16 +30,6 @@ module _ {X Y : Type 0} (f : X → Y) where
   -- one more at the end
   pub given-pushed : (old new : List X) (x : X) (y : Y) → new ≡ old ++ x ∷ [] → f x ≡ y → map f new ≡ map f old ++ y ∷ []
   given-pushed old new x y added is = ap (map f) added ∙ map_push f old x ∙ ap (λ (z : Y). map f old ++ z ∷ []) is
-
-  pub given-more : (old new whole : List Y) (i : ℕ) (xs : List X) (d : X) → i < length xs → new ≡ old ++ f (get_or xs i d) ∷ [] → old ++ map f (drop i xs) ≡ whole → new ++ map f (drop (i + 1) xs) ≡ whole
-  given-more old new whole i xs d lt added h =
-      ap (λ (l : List Y). l ++ map f (drop (i + 1) xs)) added
-      ∙ append_assoc old (f (get_or xs i d) ∷ []) (map f (drop (i + 1) xs))
-      ∙ ap (λ (l : List X). old ++ map f l) (sym (drop_more xs i d lt))
-      ∙ h
-
-  pub given-end : (old whole : List Y) (i : ℕ) (xs : List X) → length xs ≤ i → old ++ map f (drop i xs) ≡ whole → old ≡ whole
-  given-end old whole i xs le h = sym (append-nil old) ∙ ap (λ (l : List X). old ++ map f l) (sym (drop_all i xs le)) ∙ h
 
   -- what holds of all that they give
   pub All-given : (P : Y → Type 0) (xs : List X) → All P (map f xs) → All (λ x. P (f x)) xs
@@ -69,9 +59,6 @@ pub asked-pairs : (paths : List Path) (pairs : List PlacePair) → All (HasPlace
 asked-pairs paths pairs within all k d lt =
     let asked = All-given (question_at (all_from 0 paths)) (IsAsked paths) pairs (subst (λ (l : List Asked). All (IsAsked paths) l) (sym all) (all_asked paths)) in
     record { within = within k d lt; asked = asked k d lt }
-
-pub all_within : (paths : List Path) (pairs : List PlacePair) → All (IsAskedAt paths) pairs → All (HasPlaces (all_from 0 paths)) pairs
-all_within paths pairs h k d lt = (h k d lt).within
 
 -- pairs that stand for others show their questions
 pub shown-pairs : (paths : List Path) (pairs values : List PlacePair) (numbers : List ℕ) → AreInterned (IsAskedAt paths) (λ p v. IsLike paths (asked_at paths p) (asked_at paths v)) pairs values numbers → AreShown paths (questions_at (all_from 0 paths) pairs) (questions_at (all_from 0 paths) values) numbers

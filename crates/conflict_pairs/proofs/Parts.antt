@@ -1,42 +1,45 @@
--- On which questions the verdicts of parts are.
+-- On the questions of which pairs the verdicts of parts are.
 use Rattle.std.proofs.Common.{◌≡◌, ℕ, ◌<◌, List, [], ◌∷◌, ◌++◌, length, take, drop, Vec, Global, append_assoc, append-nil, sym, ap, ◌∙◌, subst, arith, zero, suc, max}
 use Rattle.std.specs.Prelude.{All}
 use Rattle.std.specs.List.{AllZip, flat_map}
 use Rattle.std.proofs.lemmas.List.Elements.{All-nil, All-cons, All-take, All-drop}
 use Rattle.prog_check.specs.declared.path.Path.{Path}
-use Rattle.prog_paths.specs.declared.accesses.places.Question.{Question as Asked}
+use Rattle.prog_paths.specs.declared.accesses.places.Placed.{Placed}
 use Rattle.rayon.specs.Lists.{chunks_of, chunks_from}
 use Rattle.rayon.proofs.ToStd.{chunks_of-concat}
 use Rattle.conflict_pairs.specs.declared.verdicts.Verdict.{Verdict}
-use Rattle.conflict_pairs.specs.Alike.{IsAsked, IsJudgedAt, AreJudged}
+use Rattle.conflict_pairs.specs.declared.pairing.PlacePair.{PlacePair}
+use Rattle.conflict_pairs.specs.Alike.{IsJudgedAt}
+use Rattle.conflict_pairs.specs.Pairing.{IsAskedBetween, ArePairsJudged, question_at}
 use Rattle.conflict_pairs.specs.Table.{verdicts_in}
 use Rattle.conflict_pairs.proofs.Zipped.{AllZip-append}
 
 abbrev pub Part : Type 0
 Part = Vec Verdict Global
 
--- ---- the verdicts of chunks of questions
+-- ---- the verdicts of chunks of pairs
 
-pub of_chunks : (paths : List Path) (chunks : List (List Asked)) (parts : List Part) → AllZip (λ chunk (part : Part). AreJudged paths chunk part.items) chunks parts → AreJudged paths (flat_map (λ l. l) chunks) (verdicts_in parts)
-of_chunks paths [] [] h = tt
-of_chunks paths [] (p ∷ parts) h = absurd h
-of_chunks paths (c ∷ chunks) [] h = absurd h
-of_chunks paths (c ∷ chunks) (p ∷ parts) h = AllZip-append (IsJudgedAt paths) c (flat_map (λ l. l) chunks) p.items (verdicts_in parts) h.0 (of_chunks paths chunks parts h.1)
+module _ (paths : List Path) (places : List Placed) where
+  of_chunks : (chunks : List (List PlacePair)) (parts : List Part) → AllZip (λ chunk (part : Part). ArePairsJudged paths places chunk part.items) chunks parts → ArePairsJudged paths places (flat_map (λ l. l) chunks) (verdicts_in parts)
+  of_chunks [] [] h = tt
+  of_chunks [] (p ∷ parts) h = absurd h
+  of_chunks (c ∷ chunks) [] h = absurd h
+  of_chunks (c ∷ chunks) (p ∷ parts) h = AllZip-append (λ (pair : PlacePair). IsJudgedAt paths (question_at places pair)) c (flat_map (λ l. l) chunks) p.items (verdicts_in parts) h.0 (of_chunks chunks parts h.1)
 
-pub of_whole : (paths : List Path) (qs : List Asked) (size : ℕ) (parts : List Part) → AllZip (λ chunk (part : Part). AreJudged paths chunk part.items) (chunks_of (max size 1) qs) parts → AreJudged paths qs (verdicts_in parts)
-of_whole paths qs size parts h =
-    let some : 0 < max size 1 = omega arith in
-    subst (λ (l : List Asked). AreJudged paths l (verdicts_in parts)) (chunks_of-concat (max size 1) qs some) (of_chunks paths (chunks_of (max size 1) qs) parts h)
+  pub of_whole : (pairs : List PlacePair) (size : ℕ) (parts : List Part) → AllZip (λ chunk (part : Part). ArePairsJudged paths places chunk part.items) (chunks_of (max size 1) pairs) parts → ArePairsJudged paths places pairs (verdicts_in parts)
+  of_whole pairs size parts h =
+      let some : 0 < max size 1 = omega arith in
+      subst (λ (l : List PlacePair). ArePairsJudged paths places l (verdicts_in parts)) (chunks_of-concat (max size 1) pairs some) (of_chunks (chunks_of (max size 1) pairs) parts h)
 
-chunks_asked : (fuel : ℕ) (paths : List Path) (qs : List Asked) (size : ℕ) → All (IsAsked paths) qs → All (λ (chunk : List Asked). All (IsAsked paths) chunk) (chunks_from fuel size qs)
-chunks_asked zero paths qs size h = All-nil (λ (chunk : List Asked). All (IsAsked paths) chunk)
-chunks_asked (suc n) paths [] size h = All-nil (λ (chunk : List Asked). All (IsAsked paths) chunk)
-chunks_asked (suc n) paths (q ∷ qs) size h =
-    All-cons (λ (chunk : List Asked). All (IsAsked paths) chunk) (take size (q ∷ qs)) (chunks_from n size (drop size (q ∷ qs)))
-    (All-take (IsAsked paths) size (q ∷ qs) h) (chunks_asked n paths (drop size (q ∷ qs)) size (All-drop (IsAsked paths) size (q ∷ qs) h))
+  chunks_asked : (fuel : ℕ) (pairs : List PlacePair) (size : ℕ) → All (IsAskedBetween paths places) pairs → All (λ (chunk : List PlacePair). All (IsAskedBetween paths places) chunk) (chunks_from fuel size pairs)
+  chunks_asked zero pairs size h = All-nil (λ (chunk : List PlacePair). All (IsAskedBetween paths places) chunk)
+  chunks_asked (suc n) [] size h = All-nil (λ (chunk : List PlacePair). All (IsAskedBetween paths places) chunk)
+  chunks_asked (suc n) (p ∷ pairs) size h =
+      All-cons (λ (chunk : List PlacePair). All (IsAskedBetween paths places) chunk) (take size (p ∷ pairs)) (chunks_from n size (drop size (p ∷ pairs)))
+      (All-take (IsAskedBetween paths places) size (p ∷ pairs) h) (chunks_asked n (drop size (p ∷ pairs)) size (All-drop (IsAskedBetween paths places) size (p ∷ pairs) h))
 
-pub each_chunk_asked : (paths : List Path) (qs : List Asked) (size : ℕ) → All (IsAsked paths) qs → All (λ (chunk : List Asked). All (IsAsked paths) chunk) (chunks_of size qs)
-each_chunk_asked paths qs size h = chunks_asked (length qs) paths qs size h
+  pub each_chunk_asked : (pairs : List PlacePair) (size : ℕ) → All (IsAskedBetween paths places) pairs → All (λ (chunk : List PlacePair). All (IsAskedBetween paths places) chunk) (chunks_of size pairs)
+  each_chunk_asked pairs size h = chunks_asked (length pairs) pairs size h
 
 -- ---- the verdicts of all parts, one part more at a time
 

@@ -1,5 +1,5 @@
 -- Two lists side by side, one more at a time.
-use Rattle.std.proofs.Common.{◌≡◌, ℕ, ◌<◌, ◌+◌, List, [], ◌∷◌, ◌++◌, length, get_or, take, sym, subst, ap, refl, arith, zero, suc}
+use Rattle.std.proofs.Common.{◌≡◌, ℕ, ◌<◌, ◌+◌, List, [], ◌∷◌, ◌++◌, length, map, get_or, take, sym, subst, ap, refl, arith, zero, suc}
 use Rattle.std.specs.List.{AllZip}
 use Rattle.std.proofs.lemmas.List.{take_more}
 
@@ -22,6 +22,13 @@ AllZip-then R S f [] [] h = tt
 AllZip-then R S f [] (y ∷ ys) h = absurd h
 AllZip-then R S f (x ∷ xs) [] h = absurd h
 AllZip-then R S f (x ∷ xs) (y ∷ ys) h = (f x y h.0, AllZip-then R S f xs ys h.1)
+
+-- what stands beside each of a list stands beside what each gives
+pub AllZip-map : {A B C : Type 0} (f : A → B) (R : B → C → Type 0) (xs : List A) (ys : List C) → AllZip (λ x. R (f x)) xs ys → AllZip R (map f xs) ys
+AllZip-map f R [] [] h = tt
+AllZip-map f R [] (y ∷ ys) h = absurd h
+AllZip-map f R (x ∷ xs) [] h = absurd h
+AllZip-map f R (x ∷ xs) (y ∷ ys) h = (h.0, AllZip-map f R xs ys h.1)
 
 pub AllZip-lengths : {A B : Type 0} (R : A → B → Type 0) (xs : List A) (ys : List B) → AllZip R xs ys → length xs ≡ length ys
 AllZip-lengths R [] [] h = refl

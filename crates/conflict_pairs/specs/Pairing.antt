@@ -1,5 +1,6 @@
 -- Questions by the numbers of their two accesses among all.
 use Rattle.std.specs.Prelude.{◌≡◌, ℕ, ◌+◌, ◌<◌, List, length, map, slice_index_or, slice_get, None, Some, false}
+use Rattle.std.specs.List.{AllZip}
 use Rattle.prog_check.specs.declared.path.Kind.TheVariants.{Reads}
 use Rattle.prog_check.specs.declared.path.Path.{Path}
 use Rattle.prog_check.specs.declared.path.Term.TheVariants.{Param}
@@ -7,7 +8,8 @@ use Rattle.prog_paths.specs.declared.accesses.places.Placed.{Placed}
 use Rattle.prog_paths.specs.declared.accesses.places.Question.{Question as Asked}
 use Rattle.prog_paths.specs.Asked.{all_from, question_between}
 use Rattle.conflict_pairs.specs.declared.pairing.PlacePair.{PlacePair}
-use Rattle.conflict_pairs.specs.Alike.{IsAsked}
+use Rattle.conflict_pairs.specs.declared.verdicts.Verdict.{Verdict}
+use Rattle.conflict_pairs.specs.Alike.{IsAsked, IsJudgedAt}
 
 -- stands for an access where there is none
 abbrev pub no_place : Placed
@@ -49,7 +51,15 @@ pub record StandsAt (starts : List ℕ) (places : List Placed) (p : Placed) : Ty
 abbrev pub asked_at : List Path → PlacePair → Asked
 asked_at paths pair = question_at (all_from 0 paths) pair
 
+-- a pair of these accesses, of which the first asks something of the second
+pub record IsAskedBetween (paths : List Path) (places : List Placed) (pair : PlacePair) : Type 0 where
+  pub within : HasPlaces places pair
+  pub asked : IsAsked paths (question_at places pair)
+
 -- a pair of accesses of the paths, of which the first asks something of the second
-pub record IsAskedAt (paths : List Path) (pair : PlacePair) : Type 0 where
-  pub within : HasPlaces (all_from 0 paths) pair
-  pub asked : IsAsked paths (asked_at paths pair)
+abbrev pub IsAskedAt : List Path → PlacePair → Type 0
+IsAskedAt paths = IsAskedBetween paths (all_from 0 paths)
+
+-- these verdicts are on the questions of these pairs, one each
+abbrev pub ArePairsJudged : List Path → List Placed → List PlacePair → List Verdict → Type 0
+ArePairsJudged paths places = AllZip (λ pair. IsJudgedAt paths (question_at places pair))

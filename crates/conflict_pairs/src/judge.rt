@@ -5,16 +5,18 @@ ghost use Rattle.prog_paths.specs.Questions.{question_facts};
 ghost use Rattle.prog_check.specs.declared.path.Access.{Access};
 ghost use Rattle.prog_paths.specs.Asked.{IsQuestion, ChangesSingleCells, two, between};
 ghost use Rattle.conflict_pairs.specs.Verdicts.{HasFall, NumbersFall, IsShortest, IsRight, TellsExposed};
-ghost use Rattle.conflict_pairs.specs.Alike.{IsAsked, IsJudgedAt, AreJudged};
+ghost use Rattle.conflict_pairs.specs.Alike.{IsAsked, IsJudgedAt};
+ghost use Rattle.conflict_pairs.specs.Pairing.{ArePairsJudged, IsAskedBetween, question_at};
 ghost use Rattle.conflict_pairs.specs.Search.{CoversAt, ShowEqualAt, IsCoverFound, IsNoCover, IsLeftOpen, IsUncovered, IsJudged};
 
 use crate::apart::{contradiction, number_fall};
 use crate::chain::Chain;
 use crate::cover::{cover_chains, least_cover};
+use crate::pairing::{PlacePair, question_of};
 use crate::verdicts::Verdict;
 use order_facts::Closed;
 use prog_check::{Access, Kind, Path};
-use prog_paths::{Question, asks_read_write, closed_facts};
+use prog_paths::{Placed, Question, asks_read_write, closed_facts};
 use prog_tree::Sequence;
 use std::alloc::{AllocError, Global};
 
@@ -197,18 +199,34 @@ fn verdict_of(alloc: Global, paths: &[Path], question: &Question) -> Result<Verd
     verdict_by_facts(alloc, xs, ys, &xs[question.a], &ys[question.b])
 }
 
-/// The verdicts on some questions, in their order.
+/// What the facts say of the question of a pair of accesses.
+fn pair_verdict(
+    alloc: Global,
+    paths: &[Path],
+    places: &[Placed],
+    pair: PlacePair,
+) -> Result<Verdict, AllocError>
+    requires { IsAskedBetween paths.now places.now pair }
+    ensures { IfOk result (λ verdict. IsJudgedAt paths.now (question_at places.now pair) verdict) }
+{
+    let question = question_of(places, pair);
+    verdict_of(alloc, paths, &question)
+}
+
+/// The verdicts on the questions of some pairs of accesses, in their order.
 pub fn verdicts_of(
     alloc: Global,
     paths: &[Path],
-    questions: &[Question],
+    places: &[Placed],
+    pairs: &[PlacePair],
 ) -> Result<Vec<Verdict>, AllocError>
-    requires { All (IsAsked paths.now) questions.now }
-    ensures { IfOk result (λ verdicts. AreJudged paths.now questions.now verdicts.items) }
+    requires { All (IsAskedBetween paths.now places.now) pairs.now }
+    ensures { IfOk result
+        (λ verdicts. ArePairsJudged paths.now places.now pairs.now verdicts.items) }
 {
-    let mut verdicts = Vec::with_capacity(alloc, questions.len())?;
-    for question in questions {
-        verdicts.push(verdict_of(alloc, paths, question)?)?;
+    let mut verdicts = Vec::with_capacity(alloc, pairs.len())?;
+    for pair in pairs {
+        verdicts.push(pair_verdict(alloc, paths, places, *pair)?)?;
     }
     Ok(verdicts)
 }

@@ -2,9 +2,9 @@
 ghost use Rattle.std.specs.Prelude.{◌≡◌, ◌↔◌, ◌++◌, ◌<◌, ◌≤◌, ◌^◌, length, All, IfOk, OnOk, Err};
 ghost use Rattle.conflict_pairs.specs.declared.fault.PairFault as PairFault;
 ghost use Rattle.prog_paths.specs.Asked.{ChangesSingleCells, all_from, asked_by, asked_among, questions_of, limit};
-ghost use Rattle.conflict_pairs.specs.Alike.{AreJudged, AreListed};
+ghost use Rattle.conflict_pairs.specs.Alike.{AreListed};
 ghost use Rattle.conflict_pairs.specs.Classes.{starts_from};
-ghost use Rattle.conflict_pairs.specs.Pairing.{HasPlaces, StandsAt, place_at, questions_at};
+ghost use Rattle.conflict_pairs.specs.Pairing.{ArePairsJudged, HasPlaces, IsAskedBetween, StandsAt, place_at, questions_at};
 ghost use Rattle.conflict_pairs.specs.Table.{StandsFor};
 
 use crate::classes::AccessClasses;
@@ -12,11 +12,11 @@ use crate::fault::PairFault;
 use crate::interning::{Interned, intern_all};
 use crate::judge::verdicts_of;
 use crate::limits::MAX_PLACES;
-use crate::pairing::{PlacePair, number_among, question_of};
+use crate::pairing::{PlacePair, number_among};
 use crate::table::PairTable;
 use crate::verdicts::Verdict;
 use prog_check::Path;
-use prog_paths::{Changers, MAX_QUESTIONS, Placed, Question, all_places, asks, question_count};
+use prog_paths::{Changers, MAX_QUESTIONS, Placed, all_places, asks, question_count};
 use std::alloc::{AllocError, Global};
 
 /// For each node where its accesses begin among all.
@@ -88,32 +88,19 @@ fn all_questions(
 pub struct Questions {
     pub places: Vec<Placed>,
     pub pairs: Vec<PlacePair>,
-    pub judged: Vec<Question>,
+    pub judged: Vec<PlacePair>,
     pub numbers: Vec<u32>,
-}
-
-/// The questions of some pairs.
-fn questions_between(
-    alloc: Global,
-    places: &[Placed],
-    pairs: &[PlacePair],
-) -> Result<Vec<Question>, AllocError>
-    requires { All (HasPlaces places.now) pairs.now }
-    ensures { IfOk result (λ questions. questions.items ≡ questions_at places.now pairs.now) }
-{
-    let mut questions = Vec::with_capacity(alloc, pairs.len())?;
-    for pair in pairs {
-        questions.push(question_of(places, *pair))?;
-    }
-    Ok(questions)
 }
 
 /// The questions of a list of paths, of which there are so many.
 pub fn questions_of(alloc: Global, paths: &[Path], count: usize) -> Result<Questions, AllocError>
     requires { length (questions_of paths.now) ≤ limit }
     ensures listed { IfOk result (λ qs. AreListed paths.now
-        (questions_at qs.places.items qs.pairs.items) qs.judged.items qs.numbers.items) }
+        (questions_at qs.places.items qs.pairs.items)
+        (questions_at qs.places.items qs.judged.items) qs.numbers.items) }
     ensures within { IfOk result (λ qs. All (HasPlaces qs.places.items) qs.pairs.items) }
+    ensures asked { IfOk result (λ qs.
+        All (IsAskedBetween paths.now qs.places.items) qs.judged.items) }
 {
     let places = all_places(alloc, paths)?;
     if places.len() > MAX_PLACES {
@@ -123,11 +110,10 @@ pub fn questions_of(alloc: Global, paths: &[Path], count: usize) -> Result<Quest
     let pairs = all_questions(alloc, &places, &starts, count)?;
     let classes = AccessClasses::of(alloc, paths, &places)?;
     let Interned { values, numbers } = intern_all(alloc, &classes, &pairs)?;
-    let judged = questions_between(alloc, &places, &values)?;
     Ok(Questions {
         places,
         pairs,
-        judged,
+        judged: values,
         numbers,
     })
 }
@@ -136,10 +122,11 @@ pub fn questions_of(alloc: Global, paths: &[Path], count: usize) -> Result<Quest
 pub fn table_of(paths: &[Path], questions: Questions, verdicts: Vec<Verdict>) -> PairTable
     requires single { All ChangesSingleCells paths.now }
     requires listed { AreListed paths.now
-        (questions_at questions.places.items questions.pairs.items) questions.judged.items
-        questions.numbers.items }
+        (questions_at questions.places.items questions.pairs.items)
+        (questions_at questions.places.items questions.judged.items) questions.numbers.items }
     requires within { All (HasPlaces questions.places.items) questions.pairs.items }
-    requires judged { AreJudged paths.now questions.judged.items verdicts.items }
+    requires judged { ArePairsJudged paths.now questions.places.items questions.judged.items
+        verdicts.items }
     ensures { StandsFor result paths.now }
 {
     PairTable::of(
@@ -164,6 +151,6 @@ pub fn pairs(alloc: Global, paths: &[Path]) -> Result<PairTable, PairFault>
         return Err(PairFault::TooLarge);
     }
     let questions = questions_of(alloc, paths, count)?;
-    let verdicts = verdicts_of(alloc, paths, &questions.judged)?;
+    let verdicts = verdicts_of(alloc, paths, &questions.places, &questions.judged)?;
     Ok(table_of(paths, questions, verdicts))
 }

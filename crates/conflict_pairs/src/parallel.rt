@@ -2,17 +2,18 @@
 ghost use Rattle.std.specs.Prelude.{◌≡◌, ◌↔◌, ◌<◌, length, All, IfOk, Err};
 ghost use Rattle.conflict_pairs.specs.declared.fault.PairFault as PairFault;
 ghost use Rattle.prog_paths.specs.Asked.{ChangesSingleCells, questions_of, limit};
-ghost use Rattle.conflict_pairs.specs.Alike.{IsAsked, AreJudged};
+ghost use Rattle.conflict_pairs.specs.Pairing.{ArePairsJudged, IsAskedBetween};
 ghost use Rattle.conflict_pairs.specs.Table.{verdicts_in, StandsFor};
 
 use crate::fault::PairFault;
 use crate::judge::verdicts_of;
 use crate::limits::{EQUAL_PARTS, MIN_QUESTIONS_OF_THREADS};
 use crate::listing::{questions_of, table_of};
+use crate::pairing::PlacePair;
 use crate::table::PairTable;
 use crate::verdicts::Verdict;
 use prog_check::Path;
-use prog_paths::{MAX_QUESTIONS, Question, question_count};
+use prog_paths::{MAX_QUESTIONS, Placed, question_count};
 use rayon::prelude::*;
 use std::alloc::{AllocError, Global};
 use std::thread::Threads;
@@ -28,24 +29,27 @@ fn part_len(questions: usize) -> usize
     }
 }
 
-/// The verdicts on some questions, in their order, in parts that threads of their own make where
-/// there are many.
+/// The verdicts on the questions of some pairs of accesses, in their order, in parts that threads
+/// of their own make where there are many.
 fn parts_of(
     rt: &(impl Threads + Sync),
     alloc: Global,
     paths: &[Path],
-    questions: &[Question],
+    places: &[Placed],
+    pairs: &[PlacePair],
 ) -> Result<Vec<Vec<Verdict>>, AllocError>
-    requires { All (IsAsked paths.now) questions.now }
-    ensures { IfOk result (λ parts. AreJudged paths.now questions.now (verdicts_in parts.items)) }
+    requires { All (IsAskedBetween paths.now places.now) pairs.now }
+    ensures { IfOk result
+        (λ parts. ArePairsJudged paths.now places.now pairs.now (verdicts_in parts.items)) }
 {
-    questions
-        .par_chunks(part_len(questions.len()))
+    pairs
+        .par_chunks(part_len(pairs.len()))
         .map(
-            |chunk: &[Question]| -> Result<Vec<Verdict>, AllocError>
-                requires { All (IsAsked paths.now) chunk.now }
-                ensures { IfOk result (λ part. AreJudged paths.entry.now chunk.now part.items) }
-            { verdicts_of(alloc, paths, chunk) },
+            |chunk: &[PlacePair]| -> Result<Vec<Verdict>, AllocError>
+                requires { All (IsAskedBetween paths.now places.now) chunk.now }
+                ensures { IfOk result (λ part.
+                    ArePairsJudged paths.entry.now places.entry.now chunk.now part.items) }
+            { verdicts_of(alloc, paths, places, chunk) },
         )
         .collect::<Result<Vec<Vec<Verdict>>, AllocError>>(rt, alloc)?
 }
@@ -78,7 +82,7 @@ pub fn pairs_par(
         return Err(PairFault::TooLarge);
     }
     let questions = questions_of(alloc, paths, count)?;
-    let parts = parts_of(rt, alloc, paths, &questions.judged)?;
+    let parts = parts_of(rt, alloc, paths, &questions.places, &questions.judged)?;
     let verdicts = all_verdicts(alloc, parts)?;
     Ok(table_of(paths, questions, verdicts))
 }

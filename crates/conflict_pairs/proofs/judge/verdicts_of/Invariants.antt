@@ -1,7 +1,7 @@
 use Rattle.std.proofs.Common.{take}
-use Rattle.conflict_pairs.specs.Alike.{AreJudged}
+use Rattle.conflict_pairs.specs.Pairing.{ArePairsJudged}
 use Rattle.conflict_pairs.proofs.judge.verdicts_of.Given as goal
 
--- the verdicts on the questions so far
-abbrev pub invariant-loop-question : goal.invariant-loop-question
-invariant-loop-question l = AreJudged l.paths (take l.question-index l.questions) l.verdicts.items
+-- the verdicts on the questions of the pairs so far
+abbrev pub invariant-loop-pair : goal.invariant-loop-pair
+invariant-loop-pair l = ArePairsJudged l.paths l.places (take l.pair-index l.pairs) l.verdicts.items

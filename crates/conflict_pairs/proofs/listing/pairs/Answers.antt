@@ -1,13 +1,21 @@
 use Rattle.std.proofs.Common.{List, sym, subst}
 use Rattle.std.specs.Prelude.{All}
-use Rattle.prog_paths.specs.declared.accesses.places.Question.{Question as Asked}
-use Rattle.conflict_pairs.specs.Alike.{IsAsked, AreJudged}
+use Rattle.prog_paths.specs.declared.accesses.places.Placed.{Placed}
+use Rattle.conflict_pairs.specs.declared.pairing.PlacePair.{PlacePair}
+use Rattle.conflict_pairs.specs.Pairing.{IsAskedBetween, ArePairsJudged}
 use Rattle.conflict_pairs.proofs.listing.pairs.Goals as goal
 
 pub verdicts_of-requires : goal.verdicts_of-requires
 verdicts_of-requires c =
-    subst (λ (l : List Asked). All (IsAsked c.args.paths.now) l) (sym c.deref.ensures.value) c.in_ok-questions.ensures.listed.shown.sound
+    let paths = c.args.paths.now in
+    let questions = c.in_ok-questions.questions in
+    subst (λ (l : List PlacePair). All (IsAskedBetween paths c.deref.result.now) l) (sym c.deref-2.ensures.value)
+    (subst (λ (l : List Placed). All (IsAskedBetween paths l) questions.judged.items) (sym c.deref.ensures.value) c.in_ok-questions.ensures.asked)
 
 pub table_of-requires-clause-judged : goal.table_of-requires-clause-judged
 table_of-requires-clause-judged c =
-    subst (λ (l : List Asked). AreJudged c.args.paths.now l c.in_ok-verdicts.verdicts.items) c.deref.ensures.value c.in_ok-verdicts.ensures
+    let paths = c.args.paths.now in
+    let questions = c.in_ok-questions.questions in
+    let verdicts = c.in_ok-verdicts.verdicts.items in
+    subst (λ (l : List Placed). ArePairsJudged paths l questions.judged.items verdicts) c.deref.ensures.value
+    (subst (λ (l : List PlacePair). ArePairsJudged paths c.deref.result.now l verdicts) c.deref-2.ensures.value c.in_ok-verdicts.ensures)

@@ -2,14 +2,13 @@ use Rattle.std.proofs.Common.{◌≡◌, List, ℕ, sym, subst, ◌∙◌}
 use Rattle.std.specs.Prelude.{All}
 use Rattle.prog_check.specs.declared.path.Path.{Path}
 use Rattle.prog_paths.specs.declared.accesses.places.Placed.{Placed}
-use Rattle.prog_paths.specs.declared.accesses.places.Question.{Question as Asked}
-use Rattle.prog_paths.specs.Asked.{all_from, asked_among}
+use Rattle.prog_paths.specs.Asked.{asked_among}
 use Rattle.conflict_pairs.specs.declared.pairing.PlacePair.{PlacePair}
 use Rattle.conflict_pairs.specs.Alike.{AreShown, IsLike}
 use Rattle.conflict_pairs.specs.Interning.{AreInterned}
 use Rattle.conflict_pairs.specs.Classes.{starts_from}
-use Rattle.conflict_pairs.specs.Pairing.{IsAskedAt, HasPlaces, StandsAt, asked_at, questions_at}
-use Rattle.conflict_pairs.proofs.Paired.{all-stand, all_within, asked-pairs, shown-pairs}
+use Rattle.conflict_pairs.specs.Pairing.{IsAskedAt, IsAskedBetween, HasPlaces, StandsAt, asked_at, questions_at}
+use Rattle.conflict_pairs.proofs.Paired.{all-stand, asked-pairs, shown-pairs}
 use Rattle.conflict_pairs.proofs.listing.questions_of.Goals as goal
 
 pub all_questions-requires-clause-stand : goal.all_questions-requires-clause-stand
@@ -32,14 +31,6 @@ intern_all-requires c =
     subst (λ (l : List Path). All (IsAskedAt l) c.deref-4.result.now) (sym c.in_ok-classes.ensures)
     (subst (λ (l : List PlacePair). All (IsAskedAt paths) l) (sym c.deref-4.ensures.value) (asked-pairs paths c.in_ok-pairs.pairs.items within all))
 
-pub questions_between-requires : goal.questions_between-requires
-questions_between-requires c =
-    let values = c.in_ok-values.field-0.values.items in
-    let places = c.deref-5.ensures.value ∙ c.in_ok-places.ensures in
-    let sound = subst (λ (l : List Path). All (IsAskedAt l) values) c.in_ok-classes.ensures c.in_ok-values.ensures.sound in
-    subst (λ (l : List Placed). All (HasPlaces l) c.deref-6.result.now) (sym places)
-    (subst (λ (l : List PlacePair). All (HasPlaces (all_from 0 c.args.paths.now)) l) (sym c.deref-6.ensures.value) (all_within c.args.paths.now values sound))
-
 pub returns-clause-listed : goal.returns-clause-listed
 returns-clause-listed c =
     let paths = c.args.paths.now in
@@ -50,13 +41,18 @@ returns-clause-listed c =
     let interned =
     subst (λ (l : List Path). AreInterned (IsAskedAt l) (λ p v. IsLike l (asked_at l p) (asked_at l v)) pairs values numbers) c.in_ok-classes.ensures
     (subst (λ (l : List PlacePair). AreInterned (IsAskedAt c.in_ok-classes.classes) (λ p v. IsLike c.in_ok-classes.classes (asked_at c.in_ok-classes.classes p) (asked_at c.in_ok-classes.classes v)) l values numbers) c.deref-4.ensures.value c.in_ok-values.ensures) in
-    let judged = c.in_ok-judged.ensures ∙ (λ i. questions_at ((c.deref-5.ensures.value ∙ c.in_ok-places.ensures) i) (c.deref-6.ensures.value i)) in
     record {
       all = (λ i. questions_at (sym c.deref.ensures.value i) pairs) ∙ c.in_ok-pairs.ensures.questions ∙ (λ i. asked_among (places i) (places i));
       shown =
-          subst (λ (l : List Placed). AreShown paths (questions_at l pairs) c.in_ok-judged.judged.items numbers) (sym c.in_ok-places.ensures)
-          (subst (λ (l : List Asked). AreShown paths (questions_at (all_from 0 paths) pairs) l numbers) (sym judged) (shown-pairs paths pairs values numbers interned));
+          subst (λ (l : List Placed). AreShown paths (questions_at l pairs) (questions_at l values) numbers) (sym c.in_ok-places.ensures)
+          (shown-pairs paths pairs values numbers interned);
     }
 
 pub returns-clause-within : goal.returns-clause-within
 returns-clause-within c = subst (λ (l : List Placed). All (HasPlaces l) c.in_ok-pairs.pairs.items) c.deref.ensures.value c.in_ok-pairs.ensures.within
+
+pub returns-clause-asked : goal.returns-clause-asked
+returns-clause-asked c =
+    let values = c.in_ok-values.field-0.values.items in
+    let sound = subst (λ (l : List Path). All (IsAskedAt l) values) c.in_ok-classes.ensures c.in_ok-values.ensures.sound in
+    subst (λ (l : List Placed). All (IsAskedBetween c.args.paths.now l) values) (sym c.in_ok-places.ensures) sound

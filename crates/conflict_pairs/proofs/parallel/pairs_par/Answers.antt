@@ -1,18 +1,27 @@
 use Rattle.std.proofs.Common.{List, sym, subst}
 use Rattle.std.specs.Prelude.{All}
-use Rattle.prog_paths.specs.declared.accesses.places.Question.{Question as Asked}
+use Rattle.prog_paths.specs.declared.accesses.places.Placed.{Placed}
+use Rattle.conflict_pairs.specs.declared.pairing.PlacePair.{PlacePair}
 use Rattle.conflict_pairs.specs.declared.verdicts.Verdict.{Verdict}
-use Rattle.conflict_pairs.specs.Alike.{IsAsked, AreJudged}
+use Rattle.conflict_pairs.specs.Pairing.{IsAskedBetween, ArePairsJudged}
 use Rattle.conflict_pairs.specs.Table.{verdicts_in}
 use Rattle.conflict_pairs.proofs.parallel.pairs_par.Goals as goal
 
 pub parts_of-requires : goal.parts_of-requires
-parts_of-requires g c = (
-  c.type_bounds.sync-typeof-rt,
-  subst (λ (l : List Asked). All (IsAsked c.args.paths.now) l) (sym c.deref.ensures.value) c.in_ok-questions.ensures.listed.shown.sound,
-)
+parts_of-requires g c =
+    let paths = c.args.paths.now in
+    let questions = c.in_ok-questions.questions in
+    let asked =
+    subst (λ (l : List PlacePair). All (IsAskedBetween paths c.deref.result.now) l) (sym c.deref-2.ensures.value)
+    (subst (λ (l : List Placed). All (IsAskedBetween paths l) questions.judged.items) (sym c.deref.ensures.value) c.in_ok-questions.ensures.asked) in
+    (c.type_bounds.sync-typeof-rt, asked)
 
 pub table_of-requires-clause-judged : goal.table_of-requires-clause-judged
 table_of-requires-clause-judged g c =
-    subst (λ (l : List Verdict). AreJudged c.args.paths.now c.in_ok-questions.questions.judged.items l) (sym c.in_ok-verdicts.ensures)
-    (subst (λ (l : List Asked). AreJudged c.args.paths.now l (verdicts_in c.in_ok-parts.parts.items)) c.deref.ensures.value c.in_ok-parts.ensures)
+    let paths = c.args.paths.now in
+    let questions = c.in_ok-questions.questions in
+    let parts = verdicts_in c.in_ok-parts.parts.items in
+    let judged =
+    subst (λ (l : List Placed). ArePairsJudged paths l questions.judged.items parts) c.deref.ensures.value
+    (subst (λ (l : List PlacePair). ArePairsJudged paths c.deref.result.now l parts) c.deref-2.ensures.value c.in_ok-parts.ensures) in
+    subst (λ (l : List Verdict). ArePairsJudged paths questions.places.items questions.judged.items l) (sym c.in_ok-verdicts.ensures) judged
