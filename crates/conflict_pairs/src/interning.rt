@@ -110,7 +110,7 @@ pub fn intern_all<I: Interner>(
         let slot = slot_of(interner.hash(key));
         let number = number_of(alloc, interner, key, slots[slot], &mut values)?;
         slots[slot] = number;
-        numbers.push(number)?;
+        numbers.push_reserved(number);
     }
     Ok(Interned { values, numbers })
 }

@@ -1,5 +1,5 @@
 //! The certificate of a table whose graph has no dangerous structure.
-ghost use Rattle.std.specs.Prelude.{◌≡◌, ◌++◌, List, map, All, IfOk, OnOk};
+ghost use Rattle.std.specs.Prelude.{◌≡◌, ◌<◌, ◌≤◌, ◌+◌, ◌++◌, List, map, All, IfOk, vec_len, vec_capacity};
 ghost use Rattle.prog_check.specs.declared.path.Path.{Path};
 ghost use Rattle.prog_paths.specs.Few.{AreFew};
 ghost use Rattle.conflict_pairs.specs.Table.{StandsFor};
@@ -37,27 +37,23 @@ fn told_question(asked: conflict_pairs::Question) -> Question
 }
 
 /// Adds a question with the number of its reason, unless it is exposed.
-fn push_told(
-    asked: conflict_pairs::Question,
-    verdict: &Verdict,
-    number: u32,
-    told: &mut Vec<Told>,
-) -> Result<(), AllocError>
-    requires { AskedFits asked }
-    ensures { OnOk result
-        (told.new.items ≡ told.old.items ++ told_numbered asked verdict.now number) }
+fn push_told(asked: conflict_pairs::Question, verdict: &Verdict, number: u32, told: &mut Vec<Told>)
+    requires fits { AskedFits asked }
+    requires room { vec_len told.old < vec_capacity told.old }
+    ensures added { told.new.items ≡ told.old.items ++ told_numbered asked verdict.now number }
+    ensures len { vec_len told.new ≤ vec_len told.old + 1 }
+    ensures capacity { vec_capacity told.new ≡ vec_capacity told.old }
 {
     match verdict {
         Verdict::Exposed(_) => {}
         _ => {
             let question = told_question(asked);
-            told.push(Told {
+            told.push_reserved(Told {
                 question,
                 reason: number as usize,
-            })?;
+            });
         }
     }
-    Ok(())
 }
 
 /// What is told of the questions of a table that are not exposed, by the numbers of their reasons.
@@ -75,7 +71,7 @@ fn all_told(
     let mut told = Vec::with_capacity(alloc, table.len())?;
     for n in 0..table.len() {
         let number = given.numbers[table.verdict_number(n)];
-        push_told(table.question(n), table.verdict(n), number, &mut told)?;
+        push_told(table.question(n), table.verdict(n), number, &mut told);
     }
     Ok(told)
 }

@@ -6,6 +6,9 @@ use Rattle.conflict_pairs.proofs.Zipped.{AllZip-more, AllZip-then}
 use Rattle.conflict_pairs.proofs.Serving.{served-kept}
 use Rattle.conflict_pairs.proofs.interning.intern_all.Goals as goal
 
+pub push_reserved-requires : goal.push_reserved-requires
+push_reserved-requires g c = omega (arith, c.loop-key-test.true, c.loop-key.invariant.one_each, c.loop-key.invariant.room)
+
 pub loop-key-preserved : goal.loop-key-preserved
 loop-key-preserved g c =
     let serves = g.I.Interner.serves c.args.interner.now in
@@ -15,9 +18,11 @@ loop-key-preserved g c =
       places = grind (arith, common_steps, c.loop-key.invariant.places);
       sound = c.in_ok-number.ensures.sound;
       served =
-          AllZip-more (IsServed serves new) c.args.keys.now c.loop-key.numbers.items c.push.new.self.items c.loop-key.key-index c.key-item.result _ (omega arith) c.in_ok-push.ensures.items
+          AllZip-more (IsServed serves new) c.args.keys.now c.loop-key.numbers.items c.push_reserved.new.self.items c.loop-key.key-index c.key-item.result _ (omega arith) c.push_reserved.ensures.items
           (subst (λ (k : g.row.I-Key.Denot). IsServed serves new k c.in_ok-number.number) c.key-item.is c.in_ok-number.ensures.served)
           (AllZip-then (IsServed serves old) (IsServed serves new) (served-kept serves old new c.in_ok-number.ensures.keeps) _ _ c.loop-key.invariant.served);
+      one_each = omega (arith, c.push_reserved.ensures.len, c.loop-key.invariant.one_each);
+      room = omega (arith, c.push_reserved.ensures.capacity, c.loop-key.invariant.room);
     }
 
 pub returns : goal.returns

@@ -10,10 +10,13 @@ use Rattle.si_repair.specs.Telling.{AskedFits, told_of, Gives}
 use Rattle.si_repair.proofs.Fitting.{entry_fits, told_more, told_end, numbered_more, within_more}
 use Rattle.si_repair.proofs.certificate.all_told.Goals as goal
 
-pub push_told-requires : goal.push_told-requires
-push_told-requires c =
+pub push_told-requires-clause-fits : goal.push_told-requires-clause-fits
+push_told-requires-clause-fits c =
     let at = entry_at c.args.table.now.entries c.loop-n.n (omega arith) in
     subst (λ (q : Question). AskedFits q) (sym (c.question.ensures at.entry at.is)) (entry_fits c.args.table.now c.requires.few c.loop-n.n at.entry at.is)
+
+pub push_told-requires-clause-room : goal.push_told-requires-clause-room
+push_told-requires-clause-room c = omega (arith, c.loop-n-test.true, c.len-n-end.ensures, c.loop-n.invariant.len, c.loop-n.invariant.room)
 
 pub index-number-requires : goal.index-number-requires
 index-number-requires c =
@@ -34,8 +37,10 @@ loop-n-preserved c =
     record {
       entries =
           told_more (entries_told reasons old) (entries_told reasons new) (told_of table.entries) table.entries c.loop-n.n at.entry c.question.result c.verdict.result.now at.is (c.question.ensures at.entry at.is) judged
-          (numbered_more old new reasons c.question.result c.verdict.result.now c.index-number.result.now its c.in_ok-push_told.ensures) c.loop-n.invariant.entries;
-      within = within_more old new reasons c.question.result c.verdict.result.now c.index-number.result.now its c.in_ok-push_told.ensures c.loop-n.invariant.within;
+          (numbered_more old new reasons c.question.result c.verdict.result.now c.index-number.result.now its c.push_told.ensures.added) c.loop-n.invariant.entries;
+      within = within_more old new reasons c.question.result c.verdict.result.now c.index-number.result.now its c.push_told.ensures.added c.loop-n.invariant.within;
+      len = omega (arith, c.push_told.ensures.len, c.loop-n.invariant.len);
+      room = omega (arith, c.push_told.ensures.capacity, c.loop-n.invariant.room);
     }
 
 pub returns-clause-entries : goal.returns-clause-entries
