@@ -1,5 +1,5 @@
 //! All questions of a list of paths.
-ghost use Rattle.std.specs.Prelude.{◌≡◌, ◌↔◌, ◌++◌, ◌<◌, ◌≤◌, ◌^◌, length, All, IfOk, OnOk, Err};
+ghost use Rattle.std.specs.Prelude.{◌≡◌, ◌↔◌, ◌++◌, ◌+◌, ◌<◌, ◌≤◌, ◌^◌, length, vec_len, vec_capacity, All, IfOk, Err};
 ghost use Rattle.conflict_pairs.specs.declared.fault.PairFault as PairFault;
 ghost use Rattle.prog_paths.specs.Asked.{ChangesSingleCells, all_from, asked_by, asked_among, questions_of, limit};
 ghost use Rattle.conflict_pairs.specs.Alike.{AreListed};
@@ -41,26 +41,26 @@ fn push_questions(
     first: &Placed,
     seconds: &[Placed],
     pairs: &mut Vec<PlacePair>,
-) -> Result<(), AllocError>
+)
     requires few { length places.now ≤ 2 ^ 32 }
     requires number { number < length places.now }
     requires first { place_at places.now number ≡ first.now }
     requires seconds { All (StandsAt starts.now places.now) seconds.now }
     requires within { All (HasPlaces places.now) pairs.old.items }
-    ensures questions { OnOk result (questions_at places.now pairs.new.items
-        ≡ questions_at places.now pairs.old.items ++ asked_by first.now seconds.now) }
-    ensures within { OnOk result (All (HasPlaces places.now) pairs.new.items) }
+    requires room { vec_len pairs.old + length seconds.now ≤ vec_capacity pairs.old }
+    ensures questions { questions_at places.now pairs.new.items
+        ≡ questions_at places.now pairs.old.items ++ asked_by first.now seconds.now }
+    ensures within { All (HasPlaces places.now) pairs.new.items }
 {
     for second in seconds {
         if asks(first, second) {
-            pairs.push(PlacePair::new(number, number_among(starts, second)))?;
+            pairs.push_reserved(PlacePair::new(number, number_among(starts, second)));
         }
     }
-    Ok(())
 }
 
-/// What each access asks of each, without the verdicts, in a list with room for so many. Only the
-/// changers of its table are looked through.
+/// What each access asks of each, without the verdicts, in a list with room for so many, and for as
+/// many more as one access could ask. Only the changers of its table are looked through.
 fn all_questions(
     alloc: Global,
     places: &[Placed],
@@ -74,10 +74,12 @@ fn all_questions(
     ensures within { IfOk result (λ pairs. All (HasPlaces places.now) pairs.items) }
 {
     let changers = Changers::of(alloc, places)?;
-    let mut pairs = Vec::with_capacity(alloc, room)?;
+    let mut pairs = Vec::with_capacity(alloc, room.saturating_add(places.len()))?;
     for (number, first) in places.iter().enumerate() {
         let seconds = changers.of_table(first.access.table);
-        push_questions(places, starts, number, first, seconds, &mut pairs)?;
+        let most = seconds.len();
+        pairs.reserve(most)?;
+        push_questions(places, starts, number, first, seconds, &mut pairs);
     }
     Ok(pairs)
 }

@@ -1,4 +1,4 @@
-use Rattle.std.proofs.Common.{◌∙◌, ◌++◌, ◌<◌, List, Vec, Global, length, ap, sym, subst, arith}
+use Rattle.std.proofs.Common.{◌∙◌, ◌++◌, ◌<◌, List, Vec, Global, length, vec_len, vec_capacity, ap, sym, subst, arith}
 use Rattle.std.specs.Prelude.{All}
 use Rattle.std.proofs.lemmas.List.Elements.{All-push}
 use Rattle.prog_paths.specs.Asked.{asked_by}
@@ -7,7 +7,7 @@ use Rattle.conflict_pairs.specs.Pairing.{HasPlaces, question_at, questions_at}
 use Rattle.conflict_pairs.proofs.Entries.{asked-end, asked-yes, asked-no}
 use Rattle.conflict_pairs.proofs.Paired.{given-pushed, number-fits, number-is, number-small, number-there, pair-question}
 use Rattle.conflict_pairs.proofs.listing.push_questions.Goals as goal
-use Rattle.conflict_pairs.proofs.listing.push_questions.Goals.{then-asks+in_ok-push, else-asks}
+use Rattle.conflict_pairs.proofs.listing.push_questions.Goals.{then-asks, else-asks}
 
 pub number_among-requires-clause-node : goal.number_among-requires-clause-node
 number_among-requires-clause-node c = (c.requires.seconds c.loop-second.second-index _ (omega arith)).has_start
@@ -21,6 +21,9 @@ new-requires-clause-first_fits c = omega (arith, c.requires.number, c.requires.f
 pub new-requires-clause-second_fits : goal.new-requires-clause-second_fits
 new-requires-clause-second_fits c = number-small c.args.starts.now c.args.places.now c.requires.few _ (c.requires.seconds c.loop-second.second-index _ (omega arith)) c.number_among.result c.number_among.ensures
 
+pub push_reserved-requires : goal.push_reserved-requires
+push_reserved-requires c = omega (arith, c.loop-second-test.true, c.loop-second.invariant.room)
+
 pub loop-second-preserved : goal.loop-second-preserved
 loop-second-preserved c =
     let starts = c.args.starts.now in
@@ -30,8 +33,10 @@ loop-second-preserved c =
     let new = c.if-asks.pairs.items in
     let whole = questions_at places c.args.pairs.now.items ++ asked_by first c.args.seconds.now in
     elim c.if-asks.branch [
-      | then-asks+in_ok-push w ↦
-          let added = ap (λ (v : Vec PlacePair Global). v.items) w.pairs-is ∙ w.in_ok-push.ensures.items in
+      | then-asks w ↦
+          let added = ap (λ (v : Vec PlacePair Global). v.items) w.pairs-is ∙ w.push_reserved.ensures.items in
+          let longer = ap (λ (v : Vec PlacePair Global). vec_len v) w.pairs-is ∙ w.push_reserved.ensures.len in
+          let as_wide = ap (λ (v : Vec PlacePair Global). vec_capacity v) w.pairs-is ∙ w.push_reserved.ensures.capacity in
           let first_there : w.new.result.first < length places = omega (arith, c.requires.number, w.new.ensures.first) in
           let second_there : w.new.result.second < length places = omega (arith, number-there starts places c.requires.few _ (c.requires.seconds c.loop-second.second-index _ (omega arith)) w.number_among.result w.number_among.ensures, w.new.ensures.second) in
           record {
@@ -44,12 +49,15 @@ loop-second-preserved c =
             within =
                 subst (λ (l : List PlacePair). All (HasPlaces places) l) (sym added)
                 (All-push (HasPlaces places) old w.new.result c.loop-second.invariant.within (record { first_within = first_there; second_within = second_there }));
+            room = omega (arith, longer, as_wide, c.loop-second.invariant.room);
           }
       | else-asks w ↦ record {
         questions =
             asked-no (questions_at places old) (questions_at places new) whole first c.loop-second.second-index c.args.seconds.now _ (omega arith) (sym c.asks.ensures ∙ w.if-asks.false)
             (ap (λ (v : Vec PlacePair Global). questions_at places v.items) w.pairs-is) c.loop-second.invariant.questions;
         within = subst (λ (v : Vec PlacePair Global). All (HasPlaces places) v.items) (sym w.pairs-is) c.loop-second.invariant.within;
+        room =
+            omega (arith, ap (λ (v : Vec PlacePair Global). vec_len v) w.pairs-is, ap (λ (v : Vec PlacePair Global). vec_capacity v) w.pairs-is, c.loop-second.invariant.room);
       }
     ]
 
