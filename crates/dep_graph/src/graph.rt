@@ -12,11 +12,11 @@ ghost use Rattle.dep_graph.specs.Danger.{IsLeastDanger};
 use crate::closure::close;
 use crate::danger::{Danger, first_exposure};
 use crate::least_way::least_way;
-use crate::mark::entry_mark;
+use crate::mark::{entry_mark, is_same, no_mark};
 use crate::triple::least_triple;
 use conflict_pairs::PairTable;
 use order_facts::Square;
-use prog_paths::EdgeTables;
+use prog_paths::{EdgeTables, Mark};
 use prog_tree::Sequence;
 use std::alloc::{AllocError, Global};
 use std::marker::Model;
@@ -41,7 +41,18 @@ impl<'a> Model for Graph<'a> {
     ghost invariant = { λ g. IsGraphOf (marks_of g.table.now) g.edges g.vulnerable g.reach };
 }
 
-/// The edges that a table's questions give.
+// For so many second nodes the last mark is remembered: a set has no more nodes.
+const REMEMBERED: usize = 512;
+
+// Where the last mark of a second node stands.
+fn slot_of(mark: Mark) -> usize
+    ensures { result < REMEMBERED }
+{
+    mark.y % REMEMBERED
+}
+
+/// The edges that a table's questions give. One node asks much of another, and mostly with one
+/// mark, which is entered once.
 fn edges_of(alloc: Global, table: &PairTable) -> Result<EdgeTables, AllocError>
     ensures edges { IfOk result
         (λ e. IsSquareOf e.edges table.now.nodes (has_edge (marks_of table.now).marks)) }
@@ -49,9 +60,15 @@ fn edges_of(alloc: Global, table: &PairTable) -> Result<EdgeTables, AllocError>
         (λ e. IsSquareOf e.vulnerable table.now.nodes (has_vulnerable (marks_of table.now).marks)) }
 {
     let mut tables = EdgeTables::new(alloc, table.nodes())?;
+    let none = no_mark();
+    let mut last = [none; REMEMBERED];
     for n in 0..table.len() {
         let mark = entry_mark(table, n);
-        tables.enter(mark);
+        let slot = slot_of(mark);
+        if !is_same(last[slot], mark) {
+            last[slot] = mark;
+            tables.enter(mark);
+        }
     }
     Ok(tables)
 }
