@@ -40,7 +40,7 @@ fn covers_of(
     let mut counts = no_covers(alloc, nodes)?;
     let (all, reasons) = entries.parts();
     for told in all {
-        if let Reason::Cover { mine, theirs, .. } = &reasons[told.reason] {
+        if let Reason::Cover { mine, theirs, .. } = &reasons[told.reason as usize] {
             let question = told.question;
             note(&mut counts, question.x, *mine);
             if question.x != question.y || *mine != *theirs {

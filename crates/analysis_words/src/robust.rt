@@ -29,7 +29,8 @@ fn is_apart(told: &Told, reasons: &[Reason]) -> bool
     requires { HasReason reasons.now told.now }
     ensures { result ≡ is_apart (reason_at reasons.now told.now.reason) }
 {
-    is_never(&reasons[told.reason])
+    let number = told.reason as usize;
+    is_never(&reasons[number])
 }
 
 // Of how many questions the two accesses never meet.

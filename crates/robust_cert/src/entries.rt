@@ -27,8 +27,11 @@ pub enum Reason {
 #[derive(Clone, Copy, Debug)]
 pub struct Told {
     pub question: Question,
-    pub reason: usize,
+    pub reason: u32,
 }
+
+// The most reasons whose numbers have 32 bits.
+const MOST_REASONS: usize = 4_294_967_296;
 
 /// The entries of a certificate in order.
 #[derive(Debug, Drop)]
@@ -78,16 +81,20 @@ impl Entries {
         self.told.is_empty()
     }
 
-    /// Adds an entry with a reason of its own.
+    /// Adds an entry with a reason of its own. One more reason than 32 bits can number is answered
+    /// as want of memory.
     pub fn push(&mut self, question: Question, reason: Reason) -> Result<(), AllocError>
         ensures ok { OnOk result (self.new ≡ self.old ++ entry_with question reason ∷ []) }
         ensures err { OnErr result (self.new ≡ self.old) }
     {
         let number = self.reasons.len();
+        if number >= MOST_REASONS {
+            return Err(AllocError);
+        }
         self.reasons.push(reason)?;
         self.told.push(Told {
             question,
-            reason: number,
+            reason: number as u32,
         })?;
         Ok(())
     }
@@ -117,7 +124,7 @@ impl Entries {
         requires { k < length self.now }
         ensures { (e : Entry) → slice_get self.now k ≡ Some e → result.now ≡ e.reason }
     {
-        &self.reasons[self.told[k].reason]
+        &self.reasons[self.told[k].reason as usize]
     }
 
     /// The questions with the numbers of their reasons, and the reasons: for what is done once for

@@ -50,7 +50,7 @@ fn push_told(asked: conflict_pairs::Question, verdict: &Verdict, number: u32, to
             let question = told_question(asked);
             told.push_reserved(Told {
                 question,
-                reason: number as usize,
+                reason: number,
             });
         }
     }

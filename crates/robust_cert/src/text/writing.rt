@@ -119,9 +119,10 @@ fn push_next(
         ++ next_entry_text told.question (reason_at reasons.now told.reason)) }
     ensures fits { OnOk result (EntryFits (entry_told reasons.now told)) }
 {
-    text.push_str(heads.with_reason(&reasons[told.reason]))?;
+    let number = told.reason as usize;
+    text.push_str(heads.with_reason(&reasons[number]))?;
     middles.push(text, told.question)?;
-    text.push_str(tail_at(reasons, tails, told.reason))
+    text.push_str(tail_at(reasons, tails, number))
 }
 
 // Adds the entries of questions that have the numbers of their reasons.
@@ -139,7 +140,8 @@ fn push_told(text: &mut String, told: &[Told], reasons: &[Reason]) -> Result<(),
     let mut middles = Middles::for_entries(alloc, told.len())?;
     let tails = tails_of(alloc, reasons)?;
     text.push_str("[")?;
-    push_entry(text, first.question, &reasons[first.reason])?;
+    let number = first.reason as usize;
+    push_entry(text, first.question, &reasons[number])?;
     for next in others {
         heads.renew(alloc, next.question)?;
         push_next(text, &heads, &mut middles, *next, reasons, &tails)?;

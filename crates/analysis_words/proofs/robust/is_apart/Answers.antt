@@ -7,4 +7,4 @@ use Rattle.analysis_words.proofs.robust.is_apart.Goals as goal
 pub returns : goal.returns
 returns c =
     c.is_never.ensures
-    ∙ ap (λ (r : Reason). is_apart r) (c.index-reasons-told.is ∙ reason_any c.args.reasons.now c.args.told.now.reason c.index-reasons-told.result c.requires)
+    ∙ ap (λ (r : Reason). is_apart r) (c.index-reasons-number.is ∙ reason_any c.args.reasons.now c.args.told.now.reason c.index-reasons-number.result c.requires)

@@ -10,7 +10,7 @@ pub returns-clause-text : goal.returns-clause-text
 returns-clause-text c =
     let rs = c.args.reasons.now in
     let n = c.args.told.reason in
-    let head = c.with_reason.ensures ∙ ap (λ (r : Reason). next_head_text c.args.heads.now r) (c.index-reasons-told.is ∙ reason_any rs n c.index-reasons-told.result c.requires.within) in
+    let head = c.with_reason.ensures ∙ ap (λ (r : Reason). next_head_text c.args.heads.now r) (c.index-reasons-number.is ∙ reason_any rs n c.index-reasons-number.result c.requires.within) in
     last_piece c.push_str-2.result _ (string_bytes c.push.new.text) c.tail_at.result.now _ c.push_str-2.ensures.bytes
     (next_written c.args.heads.now c.args.told.question (reason_at rs n) (string_bytes c.args.text.now) _ _ _ _ c.requires.head head
     c.in_ok-push_str.ensures.bytes c.in_ok-push.ensures.text c.tail_at.ensures.text)

@@ -18,7 +18,7 @@ returns-clause-text c =
     let ts = c.args.told.now in
     let past : length (take (length ts - 1) (drop 1 ts)) ≤ c.loop-next.next-index = omega (arith, c.loop-next-test.false) in
     last_piece c.push_str-3.result _ (string_bytes c.loop-next.text) (codes "]") _ c.push_str-3.ensures.bytes
-    (all_told_written c.args.reasons.now ts c.loop-next.next-index _ c.index-reasons-first.result c.in-len1-up.len_at_least past c.requires c.index-reasons-first.is
+    (all_told_written c.args.reasons.now ts c.loop-next.next-index _ c.index-reasons-number.result c.in-len1-up.len_at_least past c.requires c.index-reasons-number.is
     (string_bytes c.args.text.now) _ _ _ c.in_ok-push_str.ensures.bytes c.in_ok-push_entry.ensures.text c.loop-next.invariant.text)
 
 pub returns-clause-fits : goal.returns-clause-fits
@@ -26,5 +26,5 @@ returns-clause-fits c =
     let ts = c.args.told.now in
     let past : length (take (length ts - 1) (drop 1 ts)) ≤ c.loop-next.next-index = omega (arith, c.loop-next-test.false) in
     on_ok_anyway c.push_str-3.result
-    (all_told_fit c.args.reasons.now ts c.loop-next.next-index _ c.index-reasons-first.result c.in-len1-up.len_at_least past c.requires c.index-reasons-first.is
+    (all_told_fit c.args.reasons.now ts c.loop-next.next-index _ c.index-reasons-number.result c.in-len1-up.len_at_least past c.requires c.index-reasons-number.is
     c.in_ok-push_entry.ensures.fits c.loop-next.invariant.fits)
