@@ -1,5 +1,5 @@
 //! One value for all keys that are alike, as far as the slots remember it.
-ghost use Rattle.std.specs.Prelude.{◌≡◌, ◌<◌, ℕ, Some, slice_get, IsTrue, All, IfOk, OnOk};
+ghost use Rattle.std.specs.Prelude.{◌≡◌, ◌<◌, ℕ, Some, length, slice_get, IsTrue, All, IfOk, OnOk};
 ghost use Rattle.conflict_pairs.specs.Interning.{IsServed, AreInterned};
 
 use crate::limits::MAX_VALUES;
@@ -66,7 +66,7 @@ fn is_remembered<I: Interner>(interner: &I, key: &I::Key, values: &[I::Value], n
 
 /// The number of a value that serves a key: the remembered one, or that of a new value. One more
 /// value than 32 bits can number is answered as want of memory.
-fn number_of<I: Interner>(
+fn remembered_or_new<I: Interner>(
     alloc: Global,
     interner: &I,
     key: &I::Key,
@@ -92,8 +92,37 @@ fn number_of<I: Interner>(
     Ok(number as u32)
 }
 
+/// The number of a value that serves a key. Keys in a row are often alike, so the number of the
+/// last one is tried first, and the slot is asked where it fails.
+fn number_of<I: Interner>(
+    alloc: Global,
+    interner: &I,
+    key: &I::Key,
+    last: u32,
+    slots: &mut Vec<u32>,
+    values: &mut Vec<I::Value>,
+) -> Result<u32, AllocError>
+    requires takes { I.takes interner.now key.now }
+    requires sound { All (I.is_sound interner.now) values.old.items }
+    requires slots { length slots.old.items ≡ SLOTS }
+    ensures slots { OnOk result (length slots.new.items ≡ SLOTS) }
+    ensures sound { OnOk result (All (I.is_sound interner.now) values.new.items) }
+    ensures served { IfOk result
+        (λ number. IsServed (I.serves interner.now) values.new.items key.now number) }
+    ensures keeps { OnOk result ((k : ℕ) (v : I.Value)
+        → slice_get values.old.items k ≡ Some v → slice_get values.new.items k ≡ Some v) }
+{
+    if is_remembered(interner, key, values, last) {
+        return Ok(last);
+    }
+    let slot = slot_of(interner.hash(key));
+    let number = remembered_or_new(alloc, interner, key, slots[slot], values)?;
+    slots[slot] = number;
+    Ok(number)
+}
+
 /// Values for some keys, and which one serves each key. A slot holds the number of the last value
-/// that came there, which is tested before it is taken.
+/// that came there. Each number is tested before it is taken.
 pub fn intern_all<I: Interner>(
     alloc: Global,
     interner: &I,
@@ -106,11 +135,11 @@ pub fn intern_all<I: Interner>(
     let mut slots = vec![in alloc; 0; SLOTS]?;
     let mut values = Vec::new(alloc);
     let mut numbers = Vec::with_capacity(alloc, keys.len())?;
+    let mut last = 0;
     for key in keys {
-        let slot = slot_of(interner.hash(key));
-        let number = number_of(alloc, interner, key, slots[slot], &mut values)?;
-        slots[slot] = number;
+        let number = number_of(alloc, interner, key, last, &mut slots, &mut values)?;
         numbers.push_reserved(number);
+        last = number;
     }
     Ok(Interned { values, numbers })
 }

@@ -1,6 +1,5 @@
 use Rattle.std.proofs.Common.{List, subst, take_all, arith}
 use Rattle.std.specs.List.{AllZip}
-use Rattle.std.proofs.lemmas.Grind.{common_steps}
 use Rattle.conflict_pairs.specs.Interning.{IsServed}
 use Rattle.conflict_pairs.proofs.Zipped.{AllZip-more, AllZip-then}
 use Rattle.conflict_pairs.proofs.Serving.{served-kept}
@@ -15,7 +14,7 @@ loop-key-preserved g c =
     let old = c.loop-key.values.items in
     let new = c.number_of.new.values.items in
     record {
-      places = grind (arith, common_steps, c.loop-key.invariant.places);
+      places = c.in_ok-number.ensures.slots;
       sound = c.in_ok-number.ensures.sound;
       served =
           AllZip-more (IsServed serves new) c.args.keys.now c.loop-key.numbers.items c.push_reserved.new.self.items c.loop-key.key-index c.key-item.result _ (omega arith) c.push_reserved.ensures.items
