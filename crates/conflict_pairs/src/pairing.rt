@@ -35,6 +35,7 @@ pub fn number_among(starts: &[usize], place: &Placed) -> usize
 }
 
 /// The question between the accesses of a pair.
+#[inline]
 pub fn question_of(places: &[Placed], pair: PlacePair) -> Question
     requires { HasPlaces places.now pair }
     ensures { result ≡ question_at places.now pair }

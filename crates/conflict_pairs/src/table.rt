@@ -88,6 +88,7 @@ impl PairTable {
     }
 
     /// The question of a number.
+    #[inline]
     pub fn question(&self, n: usize) -> Question
         requires { n < length self.now.entries }
         ensures { (e : Entry) → slice_get self.now.entries n ≡ Some e → result ≡ e.question }
@@ -103,6 +104,7 @@ impl PairTable {
     }
 
     /// Which of these the question of a number has.
+    #[inline]
     pub fn verdict_number(&self, n: usize) -> usize
         requires { n < length self.now.entries }
         ensures within { result < length self.now.verdicts }
@@ -113,6 +115,7 @@ impl PairTable {
     }
 
     /// The verdict on the question of a number.
+    #[inline]
     pub fn verdict(&self, n: usize) -> &Verdict
         requires { n < length self.now.entries }
         ensures { (e : Entry) → slice_get self.now.entries n ≡ Some e → result.now ≡ e.verdict }

@@ -7,6 +7,7 @@ use conflict_pairs::PairTable;
 use prog_paths::{Mark, mark_by};
 
 /// What the question of a number gives.
+#[inline]
 pub fn entry_mark(table: &PairTable, n: usize) -> Mark
     requires { n < length table.now.entries }
     ensures { result ≡ mark_at (marks_of table.now).marks n }

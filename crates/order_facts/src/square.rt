@@ -97,6 +97,7 @@ impl Square {
     }
 
     /// Joins the first node to the second.
+    #[inline]
     pub fn raise(&mut self, from: usize, to: usize)
         requires from { from < self.old.size }
         requires to { to < self.old.size }

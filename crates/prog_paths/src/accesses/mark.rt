@@ -19,6 +19,7 @@ pub struct Mark {
 }
 
 /// What a question gives, by whether its accesses may meet and whether it counts as exposed.
+#[inline]
 pub fn mark_by(question: Question, meets: bool, exposed: bool) -> Mark
     ensures { result ≡ mark_by question meets exposed }
 {

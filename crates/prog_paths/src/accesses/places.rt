@@ -39,6 +39,7 @@ fn is_in_order(first: &Placed, second: &Placed) -> bool
 }
 
 /// Whether an access asks something of another.
+#[inline]
 pub fn asks(first: &Placed, second: &Placed) -> bool
     ensures { result ≡ asks first.now second.now }
 {
@@ -49,6 +50,7 @@ pub fn asks(first: &Placed, second: &Placed) -> bool
 }
 
 /// The question of an access against another.
+#[inline]
 pub fn question_between(first: &Placed, second: &Placed) -> Question
     ensures { result ≡ question_between first.now second.now }
 {
