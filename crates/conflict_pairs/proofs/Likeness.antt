@@ -11,7 +11,7 @@ use Rattle.prog_check.specs.declared.path.Path.{Path}
 use Rattle.prog_paths.specs.declared.accesses.places.Question.{Question as Asked}
 use Rattle.prog_paths.specs.declared.accesses.places.Placed.{Placed}
 use Rattle.prog_paths.specs.Meeting.{MayCover}
-use Rattle.prog_paths.specs.Places.{IsAt}
+use Rattle.prog_paths.specs.Places.{AreAlike, IsAt}
 use Rattle.prog_paths.specs.StaticGraph.{IsAccessOf}
 use Rattle.prog_paths.specs.Asked.{ChangesSingleCells, numbers_of}
 use Rattle.prog_paths.specs.Questions.{question_facts}
@@ -20,7 +20,7 @@ use Rattle.conflict_pairs.specs.declared.verdicts.Verdict.{Verdict}
 use Rattle.conflict_pairs.specs.declared.verdicts.Verdict.TheVariants.{Apart, Covered, Exposed}
 use Rattle.conflict_pairs.specs.Verdicts.{IsRight}
 use Rattle.conflict_pairs.specs.Search.{CoversAt, IsJudged}
-use Rattle.conflict_pairs.specs.Alike.{AreAlike, CoverAlike, CoversToo, HaveSameCovers, accesses_in, accesses_at, AreCoverClasses, IsAsked, HasAccess, IsLikeAt, IsLike, IsJudgedAt}
+use Rattle.conflict_pairs.specs.Alike.{CoverAlike, CoversToo, HaveSameCovers, accesses_in, accesses_at, AreCoverClasses, IsAsked, HasAccess, IsLikeAt, IsLike, IsJudgedAt}
 use Rattle.conflict_pairs.specs.Classes.{AreOneClass}
 use Rattle.conflict_pairs.proofs.Meaning.{IsRight-from_lists}
 use Rattle.conflict_pairs.proofs.Moving.{single-first, single-second, IsQuestion-asked, IsRight-asked}

@@ -9,10 +9,10 @@ use Rattle.prog_check.specs.declared.path.Access.{Access}
 use Rattle.prog_check.specs.declared.path.Path.{Path}
 use Rattle.prog_paths.specs.declared.accesses.places.Placed.{Placed}
 use Rattle.prog_paths.specs.Asked.{placed_from, all_from}
-use Rattle.prog_paths.specs.Places.{IsAt}
+use Rattle.prog_paths.specs.Places.{AreAlike, IsAt}
 use Rattle.prog_paths.specs.StaticGraph.{IsAccessOf}
 use Rattle.prog_paths.proofs.Asked.{placed, all_places_stand}
-use Rattle.conflict_pairs.specs.Alike.{AreAlike, AreCoverClasses, HasAccess}
+use Rattle.conflict_pairs.specs.Alike.{AreCoverClasses, HasAccess}
 use Rattle.conflict_pairs.specs.Interning.{IsServed}
 use Rattle.conflict_pairs.specs.Classes.{HasCoverClass, AreOneClass, AreNumbered, starts_from, AreLikePlaces, AreAccessClasses}
 use Rattle.conflict_pairs.specs.Pairing.{no_place, place_at}

@@ -8,21 +8,13 @@ use Rattle.prog_paths.specs.declared.accesses.places.Placed.{Placed}
 use Rattle.prog_paths.specs.declared.accesses.places.Question.{Question as Asked}
 use Rattle.prog_paths.specs.Asked.{asks, question_between, questions_of}
 use Rattle.prog_paths.specs.Meeting.{MayCover}
-use Rattle.prog_paths.specs.Places.{IsAt}
+use Rattle.prog_paths.specs.Places.{AreAlike, IsAt}
 use Rattle.prog_paths.specs.StaticGraph.{IsAccessOf}
 use Rattle.conflict_pairs.specs.declared.verdicts.Verdict.{Verdict}
 use Rattle.conflict_pairs.specs.Interning.{AreInterned}
 use Rattle.conflict_pairs.specs.Search.{IsJudged}
 
 -- ---- accesses
-
--- two accesses are equal but for their places
-pub record AreAlike (a b : Access) : Type 0 where
-  pub kind : a.kind ≡ b.kind
-  pub table : a.table ≡ b.table
-  pub first : a.first ≡ b.first
-  pub second : a.second ≡ b.second
-  pub sure : a.sure ≡ b.sure
 
 -- where one of two accesses may cover they are alike
 abbrev pub CoverAlike : Access → Access → Type 0

@@ -3,7 +3,8 @@ use Rattle.std.specs.Prelude.{◌≡◌, ℕ, ◌+◌, ◌<◌, List, [], ◌∷
 use Rattle.prog_check.specs.declared.path.Path.{Path}
 use Rattle.prog_paths.specs.declared.accesses.places.Placed.{Placed}
 use Rattle.prog_paths.specs.Asked.{all_from}
-use Rattle.conflict_pairs.specs.Alike.{AreAlike, IsLikeAt}
+use Rattle.prog_paths.specs.Places.{AreAlike}
+use Rattle.conflict_pairs.specs.Alike.{IsLikeAt}
 use Rattle.conflict_pairs.specs.Pairing.{place_at}
 
 -- ---- classes of accesses, made of those of nodes by their covers
