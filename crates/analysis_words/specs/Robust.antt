@@ -2,7 +2,8 @@
 use Rattle.std.specs.Prelude.{ℕ, ◌≡◌, ◌-◌, ◌+◌, ◌⊎◌, Bool, true, false, List, [], ◌∷◌, ◌++◌, codes, filter, length, min, take}
 use Rattle.std.specs.Fmt.{decimal}
 use Rattle.prog_check.specs.declared.path.Path.{Path}
-use Rattle.prog_paths.specs.Asked.{limit, questions_of}
+use Rattle.prog_paths.specs.Asked.{questions_of}
+use Rattle.prog_paths.specs.Limits.{most_questions}
 use Rattle.robust_cert.specs.declared.certificate.Certificate.{Certificate}
 use Rattle.robust_cert.specs.declared.entries.Reason.{Reason}
 use Rattle.robust_cert.specs.declared.entries.Reason.TheVariants.{Apart, Cover}
@@ -46,7 +47,7 @@ IsMostText text =
 
 -- how many questions the paths ask, no further than one above the limit
 abbrev pub asked_count : List Path → ℕ
-asked_count paths = min (length (questions_of paths)) (limit + 1)
+asked_count paths = min (length (questions_of paths)) (most_questions + 1)
 
 -- the line of the questions: how many there are, which reasons they have, and how many are left for the levels
 abbrev pub questions_text : Certificate → (asked : ℕ) → (most : List ℕ) → List ℕ

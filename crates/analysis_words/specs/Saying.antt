@@ -4,7 +4,7 @@ use Rattle.std.specs.Fmt.{decimal}
 use Rattle.std.specs.List.{flat_map, prefix_len}
 use Rattle.std.specs.Option.{option_map_or}
 use Rattle.prog_check.specs.declared.path.Path.{Path}
-use Rattle.prog_paths.specs.Asked.{limit}
+use Rattle.prog_paths.specs.Limits.{most_questions}
 use Rattle.robust_cert.specs.Accepted.{body_size}
 use Rattle.robust_cert.specs.Reading.{IsTextOf}
 use Rattle.robust_cert.specs.Sharing.{Entry}
@@ -90,7 +90,7 @@ front_of sight certificate (c.LevelFalls x y) = along_text sight certificate (x 
 front_of sight certificate (c.Dangerous x y z) = along_text sight certificate (x ∷ y ∷ z ∷ [])
 front_of sight certificate c.PathCount = counts_text sight certificate
 front_of sight certificate c.TooLarge =
-    codes "more than " ++ (decimal limit ++ codes " pairs of accesses would have to be compared")
+    codes "more than " ++ (decimal most_questions ++ codes " pairs of accesses would have to be compared")
 front_of sight certificate c.Memory = codes "memory ran out"
 
 -- what does not hold of the entry, or of the levels

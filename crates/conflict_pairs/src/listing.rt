@@ -1,7 +1,8 @@
 //! All questions of a list of paths.
 ghost use Rattle.std.specs.Prelude.{◌≡◌, ◌↔◌, ◌++◌, ◌+◌, ◌<◌, ◌≤◌, ◌^◌, length, vec_len, vec_capacity, All, IfOk, Err};
 ghost use Rattle.conflict_pairs.specs.declared.fault.PairFault as PairFault;
-ghost use Rattle.prog_paths.specs.Asked.{ChangesSingleCells, all_from, asked_by, asked_among, questions_of, limit};
+ghost use Rattle.prog_paths.specs.Asked.{ChangesSingleCells, all_from, asked_by, asked_among, questions_of};
+ghost use Rattle.prog_paths.specs.Limits.{most_questions};
 ghost use Rattle.conflict_pairs.specs.Alike.{AreListed};
 ghost use Rattle.conflict_pairs.specs.Classes.{starts_from};
 ghost use Rattle.conflict_pairs.specs.Pairing.{ArePairsJudged, HasPlaces, IsAskedBetween, StandsAt, place_at, questions_at};
@@ -96,7 +97,7 @@ pub struct Questions {
 
 /// The questions of a list of paths, of which there are so many.
 pub fn questions_of(alloc: Global, paths: &[Path], count: usize) -> Result<Questions, AllocError>
-    requires { length (questions_of paths.now) ≤ limit }
+    requires { length (questions_of paths.now) ≤ most_questions }
     ensures listed { IfOk result (λ qs. AreListed paths.now
         (questions_at qs.places.items qs.pairs.items)
         (questions_at qs.places.items qs.judged.items) qs.numbers.items) }
@@ -146,7 +147,7 @@ pub fn pairs(alloc: Global, paths: &[Path]) -> Result<PairTable, PairFault>
     requires single { All ChangesSingleCells paths.now }
     ensures table { IfOk result (λ table. StandsFor table paths.now) }
     ensures too_large { (result ≡ Err PairFault.TooLarge)
-        ↔ (limit < length (questions_of paths.now)) }
+        ↔ (most_questions < length (questions_of paths.now)) }
 {
     let count = question_count(paths);
     if count > MAX_QUESTIONS {

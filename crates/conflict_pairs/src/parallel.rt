@@ -1,7 +1,8 @@
 //! All questions of a list of paths, answered by several threads.
 ghost use Rattle.std.specs.Prelude.{◌≡◌, ◌↔◌, ◌<◌, length, All, IfOk, Err};
 ghost use Rattle.conflict_pairs.specs.declared.fault.PairFault as PairFault;
-ghost use Rattle.prog_paths.specs.Asked.{ChangesSingleCells, questions_of, limit};
+ghost use Rattle.prog_paths.specs.Asked.{ChangesSingleCells, questions_of};
+ghost use Rattle.prog_paths.specs.Limits.{most_questions};
 ghost use Rattle.conflict_pairs.specs.Pairing.{ArePairsJudged, IsAskedBetween};
 ghost use Rattle.conflict_pairs.specs.Table.{verdicts_in, StandsFor};
 
@@ -75,7 +76,7 @@ pub fn pairs_par(
     requires single { All ChangesSingleCells paths.now }
     ensures table { IfOk result (λ table. StandsFor table paths.now) }
     ensures too_large { (result ≡ Err PairFault.TooLarge)
-        ↔ (limit < length (questions_of paths.now)) }
+        ↔ (most_questions < length (questions_of paths.now)) }
 {
     let count = question_count(paths);
     if count > MAX_QUESTIONS {

@@ -50,7 +50,7 @@ few-from_sound draft sound =
     let paths = few_paths draft.tables 0 draft.programs all in
     let programs = sound.few_programs in
     record {
-      paths = omega (arith, paths, programs);
+      paths = (let most : length (paths_of draft) ≤ 512 = omega (arith, paths, programs) in most);
       accesses = of_all FewAccesses draft.tables (λ n p s. s.few_accesses) 0 draft.programs all;
       terms = of_all LowTerms draft.tables (program_below draft.tables) 0 draft.programs all;
     }

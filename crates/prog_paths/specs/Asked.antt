@@ -121,7 +121,3 @@ numbers_of q = record { x = q.x; a = q.a; y = q.y; b = q.b }
 -- all questions of a list of paths, by the first access and then by the second
 abbrev pub questions_of : List Path → List Asked
 questions_of paths = asked_among (all_from 0 paths) (all_from 0 paths)
-
--- as many questions as a table may have
-abbrev pub limit : ℕ
-limit = 1000000

@@ -1,10 +1,11 @@
 -- How many committing paths a checked set has, how many accesses they have, and how high their terms are numbered.
-use Rattle.std.specs.Prelude.{ℕ, ◌<◌, ◌≤◌, List, length, All, IfSome}
+use Rattle.std.specs.Prelude.{ℕ, ◌<◌, ◌≤◌, ◌*◌, List, length, All, IfSome}
 use Rattle.prog_check.specs.declared.path.Term.{Term}
 use Rattle.prog_check.specs.declared.path.Term.TheVariants.{Param, Literal, Unknown}
 use Rattle.prog_check.specs.declared.path.Column.{Column}
 use Rattle.prog_check.specs.declared.path.Access.{Access}
 use Rattle.prog_check.specs.declared.path.Path.{Path}
+use Rattle.prog_check.specs.Limits.{most_programs, most_statements, most_paths, most_accesses}
 
 -- ---- terms
 
@@ -22,9 +23,9 @@ IsAccessBelow bound access = IsColumnBelow bound access.first × IfSome access.s
 
 -- ---- paths
 
--- 16 programs have at most 32 paths each, a path at most 24 accesses, and a program at most 8 parameters and 256 statements,
--- each with at most three unknowns
+-- each program has few paths, each path few accesses, and each statement at most three unknowns; a program has fewer
+-- parameters than those
 pub record AreFew (nodes : List Path) : Type 0 where
-  pub paths : length nodes ≤ 512
-  pub accesses : All (λ path. length path.accesses ≤ 24) nodes
-  pub terms : All (λ path. All (IsAccessBelow 768) path.accesses) nodes
+  pub paths : length nodes ≤ most_programs * most_paths
+  pub accesses : All (λ path. length path.accesses ≤ most_accesses) nodes
+  pub terms : All (λ path. All (IsAccessBelow (3 * most_statements)) path.accesses) nodes

@@ -6,6 +6,7 @@ pub mod Few
 pub mod Follows
 pub mod Kinds
 pub mod Law
+pub mod Limits
 pub mod Listing
 pub mod Marks
 pub mod Meeting

@@ -5,7 +5,8 @@ use Rattle.prog_check.specs.declared.path.Kind.{Kind}
 use Rattle.prog_check.specs.declared.path.Kind.TheVariants.{Reads, Sees, Lacks, Writes, Adds}
 use Rattle.prog_paths.specs.declared.accesses.places.Placed.{Placed}
 use Rattle.prog_paths.specs.declared.accesses.tally.Tally.{Tally}
-use Rattle.prog_paths.specs.Asked.{is_in_order, asked_among, limit}
+use Rattle.prog_paths.specs.Asked.{is_in_order, asked_among}
+use Rattle.prog_paths.specs.Limits.{most_questions}
 
 abbrev pub is_read : Kind → Bool
 is_read Reads = true
@@ -35,7 +36,7 @@ count_of kinds table places = count_by (λ p. (p.access.table == table) && kinds
 
 -- a number, no further than one above the limit
 abbrev pub capped : ℕ → ℕ
-capped n = min n (limit + 1)
+capped n = min n (most_questions + 1)
 
 -- a tally counts the accesses of a table and the questions that they ask
 pub record IsTally (table : ℕ) (places : List Placed) (tally : Tally) : Type 0 where

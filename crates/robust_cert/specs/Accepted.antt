@@ -6,7 +6,8 @@ use Rattle.prog_paths.specs.Meeting.{MayCover}
 use Rattle.prog_paths.specs.StaticGraph.{IsAccessOf, AsksOf, AsksReadWrite, HasQuestion, EdgeOf}
 use Rattle.prog_paths.specs.StaticGraph as graph
 use Rattle.prog_paths.specs.Questions.{question_facts}
-use Rattle.prog_paths.specs.Asked.{IsQuestion, questions_of, limit}
+use Rattle.prog_paths.specs.Asked.{IsQuestion, questions_of}
+use Rattle.prog_paths.specs.Limits.{most_questions}
 use Rattle.prog_paths.specs.Listing.{RiseBy}
 use Rattle.prog_paths.specs.Shown.{Falls, key_pairs, ShowEqual}
 use Rattle.robust_cert.specs.declared.certificate.Question.{Question}
@@ -111,7 +112,7 @@ body_size path = length (filter (λ a. not a.sure) path.accesses)
 -- At most as many questions as an analysis may have; a level for each node, and how many of its accesses aren't sure;
 -- the entries are about questions, rising strictly, and hold; the levels rise over what the entries leave.
 pub record IsAccepted (nodes : List Path) (c : Certificate) : Type 0 where
-  pub few : length (questions_of nodes) ≤ limit
+  pub few : length (questions_of nodes) ≤ most_questions
   pub levels : length c.levels ≡ length nodes
   pub bodies : c.bodies ≡ map body_size nodes
   pub rising : RiseBy question_of c.entries

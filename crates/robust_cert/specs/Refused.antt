@@ -1,7 +1,8 @@
 -- The first fault of a certificate that is not accepted.
 use Rattle.std.specs.Prelude.{◌≡◌, ℕ, ◌<◌, ◌≤◌, ◌+◌, List, [], ◌∷◌, length, map, All, take, Some, slice_get}
 use Rattle.prog_check.specs.declared.path.Path.{Path}
-use Rattle.prog_paths.specs.Asked.{IsQuestion, questions_of, limit}
+use Rattle.prog_paths.specs.Asked.{IsQuestion, questions_of}
+use Rattle.prog_paths.specs.Limits.{most_questions}
 use Rattle.prog_paths.specs.Listing.{IsBefore, IsAtMost, RiseBy}
 use Rattle.robust_cert.specs.declared.certificate.Certificate.{Certificate}
 use Rattle.robust_cert.specs.declared.fault.CertFault.{CertFault}
@@ -13,7 +14,7 @@ use Rattle.robust_cert.specs.Sharing.{Entry}
 
 -- neither too many questions, nor a wrong number of levels, nor other accesses in bodies
 pub record IsOfSize (nodes : List Path) (c : Certificate) : Type 0 where
-  pub few : length (questions_of nodes) ≤ limit
+  pub few : length (questions_of nodes) ≤ most_questions
   pub levels : length c.levels ≡ length nodes
   pub bodies : c.bodies ≡ map body_size nodes
 
@@ -71,9 +72,9 @@ pub record StaysAt (nodes : List Path) (c : Certificate) (x y z : ℕ) : Type 0 
 
 -- the first fault, each with all that comes before it in order
 abbrev pub IsFirstFault : List Path → Certificate → CertFault → Type 0
-IsFirstFault nodes c TooLarge = limit < length (questions_of nodes)
+IsFirstFault nodes c TooLarge = most_questions < length (questions_of nodes)
 IsFirstFault nodes c PathCount =
-    (length (questions_of nodes) ≤ limit)
+    (length (questions_of nodes) ≤ most_questions)
     × ((length c.levels ≡ length nodes) × (c.bodies ≡ map body_size nodes) → ⊥)
 IsFirstFault nodes c (NoSuchEntry k) = (e : Entry) × IsAtFault nodes c k e × IsNoQuestion nodes e
 IsFirstFault nodes c (EntryOrder k) = (e : Entry) × IsAtFault nodes c k e × IsOutOfOrder nodes c.entries k e

@@ -4,7 +4,8 @@ use Rattle.std.proofs.lemmas.Bool.{cases_lt}
 use Rattle.std.specs.Prelude.{slice_index_or, Option, Some, None, IfSome, IfNone}
 use Rattle.prog_check.specs.declared.path.Path.{Path}
 use Rattle.prog_paths.specs.StaticGraph.{StaticEdge, IsDangerous}
-use Rattle.prog_paths.specs.Asked.{questions_of, limit}
+use Rattle.prog_paths.specs.Asked.{questions_of}
+use Rattle.prog_paths.specs.Limits.{most_questions}
 use Rattle.conflict_pairs.specs.Table.{Table, StandsFor}
 use Rattle.dep_graph.proofs.Rising.{level-le, level-lt}
 use Rattle.robust_cert.specs.declared.certificate.Certificate.{Certificate}
@@ -30,7 +31,7 @@ module _ (t : Table) (paths : List Path) (s : StandsFor t paths) where
         level-lt (StaticEdge paths) (length paths) x y z _ _ inside edge_first edge_second (λ back. safe (x, y, z, record { first = first; second = second; back = back })) (are.counted x (edge_inside paths x y edge_first).0) (are.counted z inside);
   }
 
-  pub accepted : (c : Certificate) → c.entries ≡ told_of t.entries → AreLevels paths c.levels → c.bodies ≡ map body_size paths → length (questions_of paths) ≤ limit → (IsDangerous paths → ⊥) → IsAccepted paths c
+  pub accepted : (c : Certificate) → c.entries ≡ told_of t.entries → AreLevels paths c.levels → c.bodies ≡ map body_size paths → length (questions_of paths) ≤ most_questions → (IsDangerous paths → ⊥) → IsAccepted paths c
   accepted c is are bodies few safe = record {
     few = few;
     levels = are.one_each;
@@ -47,10 +48,10 @@ module _ (t : Table) (paths : List Path) (s : StandsFor t paths) where
     levels = are.counted;
   }
 
-pub within : (n : ℕ) → (limit < n → ⊥) → n ≤ limit
-within n not = go (cases_lt limit n)
+pub within : (n : ℕ) → (most_questions < n → ⊥) → n ≤ most_questions
+within n not = go (cases_lt most_questions n)
   where
-    go : (limit < n) ⊎ (n ≤ limit) → n ≤ limit
+    go : (most_questions < n) ⊎ (n ≤ most_questions) → n ≤ most_questions
     go (inl l) = absurd (not l)
     go (inr l) = l
 

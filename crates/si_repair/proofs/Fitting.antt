@@ -55,7 +55,7 @@ access_small : (paths : List Path) (x a : ℕ) (access : Access) → AreFew path
 access_small paths x a access few at =
     let inside = slice_get_within paths x at.0 at.1 in
     let below = slice_get_within at.0.accesses a access at.2 in
-    let nodes = few.paths in
+    let nodes : length paths ≤ 512 = few.paths in
     let own : length at.0.accesses ≤ 24 = subst (λ (p : Path). length p.accesses ≤ 24) (get_or_from_slice_get paths x at.0 at.0 at.1) (few.accesses x at.0 inside) in
     (small_from x (omega (arith, inside, nodes)), small_from a (omega (arith, below, own)))
 

@@ -8,7 +8,8 @@ use Rattle.prog_paths.specs.Meeting.{CanMeet}
 use Rattle.prog_paths.specs.StaticGraph.{AsksOf, AsksReadWrite, IsCovered, StaticEdge, Leads}
 use Rattle.prog_paths.specs.StaticGraph as graph
 use Rattle.prog_paths.specs.Questions.{question_facts}
-use Rattle.prog_paths.specs.Asked.{IsQuestion, questions_of, limit}
+use Rattle.prog_paths.specs.Asked.{IsQuestion, questions_of}
+use Rattle.prog_paths.specs.Limits.{most_questions}
 use Rattle.conflict_pairs.specs.Verdicts.{FallsShortest, IsShortest, IsLeastCover}
 use Rattle.dep_graph.specs.Counting.{IsCountOf}
 use Rattle.dep_graph.specs.Danger.{IsLeastDanger}
@@ -27,11 +28,11 @@ IsHarmless nodes q mine theirs =
 
 -- a set asks no more questions than an analysis answers
 abbrev pub AsksFew : DraftTree → Type 0
-AsksFew draft = length (questions_of (paths_of draft)) ≤ limit
+AsksFew draft = length (questions_of (paths_of draft)) ≤ most_questions
 
 -- it asks more
 abbrev pub AsksTooMany : DraftTree → Type 0
-AsksTooMany draft = limit < length (questions_of (paths_of draft))
+AsksTooMany draft = most_questions < length (questions_of (paths_of draft))
 
 -- a reason says apart of a question that can't meet, and else names the least cover; its chains have the fewest nodes
 abbrev pub IsOwnReason : List Path → graph.Question → Reason → Type 0

@@ -2,7 +2,8 @@
 ghost use Rattle.std.specs.Prelude.{◌≡◌, ◌≤◌, length, IfOk, OnOk, Err};
 ghost use Rattle.prog_tree.specs.Tree.{draft_tree};
 ghost use Rattle.prog_check.specs.Paths.{paths_of};
-ghost use Rattle.prog_paths.specs.Asked.{questions_of, limit};
+ghost use Rattle.prog_paths.specs.Asked.{questions_of};
+ghost use Rattle.prog_paths.specs.Limits.{most_questions};
 ghost use Rattle.prog_paths.specs.Few.{AreFew};
 ghost use Rattle.conflict_pairs.specs.Table.{StandsFor};
 ghost use Rattle.si_repair.specs.declared.fault.AnalyseFault as AnalyseFault;
@@ -22,7 +23,7 @@ use std::thread::Threads;
 fn finding_of(alloc: Global, paths: &[Path], table: &PairTable) -> Result<Finding, AllocError>
     requires stands { StandsFor table.now paths.now }
     requires few { AreFew paths.now }
-    requires in_bounds { length (questions_of paths.now) ≤ limit }
+    requires in_bounds { length (questions_of paths.now) ≤ most_questions }
     ensures { IfOk result (IsRightFinding paths.now) }
 {
     let graph = Graph::build(alloc, table)?;

@@ -5,7 +5,8 @@ use Rattle.prog_text.specs.Answer.{Accepts, Refuses}
 use Rattle.prog_text.specs.Canonical.{canonical}
 use Rattle.prog_check.specs.Faults.{first_fault}
 use Rattle.prog_check.specs.Paths.{paths_of}
-use Rattle.prog_paths.specs.Asked.{questions_of, limit}
+use Rattle.prog_paths.specs.Asked.{questions_of}
+use Rattle.prog_paths.specs.Limits.{most_questions}
 use Rattle.prog_paths.specs.StaticGraph.{IsDangerous}
 use Rattle.repair_laws.specs.declared.plan.Pair.{Pair}
 use Rattle.repair_laws.specs.Materialised.{IsMaterialised}
@@ -108,7 +109,7 @@ HasPart input set part = HasSet input set (part ∷ [])
 
 -- the set asks no more questions than an analysis may have
 abbrev pub AsksFew : DraftTree → Type 0
-AsksFew set = length (questions_of (paths_of set)) ≤ limit
+AsksFew set = length (questions_of (paths_of set)) ≤ most_questions
 
 -- some certificate is accepted for the set, so that it has no dangerous structure
 pub record IsRobust (set : DraftTree) : Type 0 where
@@ -182,7 +183,7 @@ IsFaultOfInput wanted input f =
 
 -- the set is not analysed
 abbrev pub IsUnanalysed : DraftTree → AnalyseFault → Type 0
-IsUnanalysed set analyse_fault.TooLarge = limit < length (questions_of (paths_of set))
+IsUnanalysed set analyse_fault.TooLarge = most_questions < length (questions_of (paths_of set))
 IsUnanalysed set analyse_fault.Memory = ⊥
 
 -- the set is analysed for a command, before its second part is looked at

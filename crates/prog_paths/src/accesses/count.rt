@@ -1,7 +1,8 @@
 //! How many questions there are, without memory: table by table, each in one walk.
 ghost use Rattle.std.specs.Prelude.{◌≡◌, ◌↔◌, ◌+◌, ◌^◌, ◌<◌, ◌++◌, ℕ, List, not, min, length, All, IsTrue};
 ghost use Rattle.prog_paths.specs.declared.accesses.places.Placed.{Placed};
-ghost use Rattle.prog_paths.specs.Asked.{placed_from, all_from, asked_among, questions_of, limit};
+ghost use Rattle.prog_paths.specs.Asked.{placed_from, all_from, asked_among, questions_of};
+ghost use Rattle.prog_paths.specs.Limits.{most_questions};
 ghost use Rattle.prog_paths.specs.Tally.{IsTally, of_table, is_behind, is_before, Rises};
 
 use crate::accesses::tally::{Tally, sum};
@@ -85,7 +86,7 @@ fn next_table(paths: &[Path], last: Option<usize>) -> Option<usize>
 
 /// How many questions the paths ask, no further than one above the limit.
 pub fn question_count(paths: &[Path]) -> usize
-    ensures { result ≡ min (length (questions_of paths.now)) (limit + 1) }
+    ensures { result ≡ min (length (questions_of paths.now)) (most_questions + 1) }
 {
     let mut count = 0;
     let mut next = next_table(paths, None);
@@ -98,7 +99,7 @@ pub fn question_count(paths: &[Path]) -> usize
 
 /// Whether the paths ask more questions than a table may have.
 pub fn is_too_large(paths: &[Path]) -> bool
-    ensures { IsTrue result ↔ (limit < length (questions_of paths.now)) }
+    ensures { IsTrue result ↔ (most_questions < length (questions_of paths.now)) }
 {
     question_count(paths) > MAX_QUESTIONS
 }

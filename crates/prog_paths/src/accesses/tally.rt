@@ -1,7 +1,7 @@
 //! How many questions the accesses of one table ask, counted one access after another.
 ghost use Rattle.std.specs.Prelude.{◌≡◌, ◌++◌, ◌∷◌, [], ◌+◌, ℕ, List, min};
 ghost use Rattle.prog_paths.specs.declared.accesses.places.Placed.{Placed};
-ghost use Rattle.prog_paths.specs.Asked.{limit};
+ghost use Rattle.prog_paths.specs.Limits.{most_questions};
 ghost use Rattle.prog_paths.specs.Tally.{IsTally, StandsBehind};
 
 use crate::limits::MAX_QUESTIONS;
@@ -21,7 +21,7 @@ pub struct Tally {
 
 /// The sum, no further than one above the limit.
 pub fn sum(one: usize, other: usize) -> usize
-    ensures { result ≡ min (one + other) (limit + 1) }
+    ensures { result ≡ min (one + other) (most_questions + 1) }
 {
     one.saturating_add(other).min(MAX_QUESTIONS + 1)
 }

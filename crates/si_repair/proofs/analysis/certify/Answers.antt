@@ -2,7 +2,8 @@ use Rattle.std.proofs.Common.{List, length, ◌≤◌, sym, subst, ◌∙◌}
 use Rattle.prog_tree.specs.Tree.{draft_tree}
 use Rattle.prog_check.specs.declared.path.Path.{Path}
 use Rattle.prog_check.specs.Paths.{paths_of}
-use Rattle.prog_paths.specs.Asked.{questions_of, limit}
+use Rattle.prog_paths.specs.Asked.{questions_of}
+use Rattle.prog_paths.specs.Limits.{most_questions}
 use Rattle.prog_paths.specs.Few.{AreFew}
 use Rattle.prog_paths.proofs.SingleCells.{law_of_single_changes}
 use Rattle.conflict_pairs.specs.Table.{StandsFor}
@@ -24,7 +25,7 @@ finding_of-requires c =
     record {
       stands = subst (λ (l : List Path). StandsFor c.in_ok-table.table l) (seen ∙ again) c.in_ok-table.ensures.table;
       few = subst (λ (l : List Path). AreFew l) again c.in_ok-paths.ensures.few;
-      in_bounds = subst (λ (l : List Path). length (questions_of l) ≤ limit) (sym c.in_ok-paths.ensures.exact ∙ again) in_bounds;
+      in_bounds = subst (λ (l : List Path). length (questions_of l) ≤ most_questions) (sym c.in_ok-paths.ensures.exact ∙ again) in_bounds;
     }
 
 pub returns-clause-finding : goal.returns-clause-finding

@@ -1,4 +1,4 @@
-use Rattle.std.proofs.Common.{length, arith}
+use Rattle.std.proofs.Common.{◌≤◌, length, arith}
 use Rattle.prog_paths.specs.StaticGraph.{StaticEdge, Leads}
 use Rattle.dep_graph.specs.Counting.{IsCountOf}
 use Rattle.si_repair.proofs.Fitting.{count-within, small_from, pushed}
@@ -8,7 +8,7 @@ pub as_u32-requires : goal.as_u32-requires
 as_u32-requires c =
     let few = c.requires in
     let within = count-within _ (length few.paths) c.level.result (c.level.ensures few.paths few.stands) in
-    let bound = few.few.paths in
+    let bound : length few.paths ≤ 512 = few.few.paths in
     small_from c.level.result (omega (arith, within, bound))
 
 pub loop-x-preserved : goal.loop-x-preserved

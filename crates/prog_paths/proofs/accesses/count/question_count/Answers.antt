@@ -1,6 +1,7 @@
 use Rattle.std.proofs.Common.{◌≡◌, ℕ, ◌+◌, ◌<◌, ◌∙◌, List, Option, length, min, ap, sym, subst, arith}
 use Rattle.prog_paths.specs.declared.accesses.places.Placed.{Placed}
-use Rattle.prog_paths.specs.Asked.{all_from, asked_among, limit}
+use Rattle.prog_paths.specs.Asked.{all_from, asked_among}
+use Rattle.prog_paths.specs.Limits.{most_questions}
 use Rattle.prog_paths.proofs.Walked.{before, left, none_before, before-none, count_more, less_left}
 use Rattle.prog_paths.proofs.accesses.count.question_count.Goals as goal
 
@@ -13,7 +14,7 @@ loop-next-init c =
 pub loop-next-preserved : goal.loop-next-preserved
 loop-next-preserved c =
     let places = all_from 0 c.args.paths.now in
-    let old = subst (λ (n : Option ℕ). c.loop-next.count ≡ min (length (asked_among (before n places) places)) (limit + 1)) c.in-Some.is c.loop-next.invariant in
+    let old = subst (λ (n : Option ℕ). c.loop-next.count ≡ min (length (asked_among (before n places) places)) (most_questions + 1)) c.in-Some.is c.loop-next.invariant in
     count_more c.in-Some.table c.next_table-next-in-Some.result places c.tally_of.result c.loop-next.count c.sum-count.result c.next_table-next-in-Some.ensures.all c.tally_of.ensures.tally old c.sum-count.ensures
 
 pub loop-next-smaller : goal.loop-next-smaller
@@ -25,4 +26,4 @@ pub returns : goal.returns
 returns c =
     let places = all_from 0 c.args.paths.now in
     let list = ap (λ (n : Option ℕ). before n places) c.in_default.is ∙ before-none places in
-    c.loop-next.invariant ∙ ap (λ (l : List Placed). min (length (asked_among l places)) (limit + 1)) list
+    c.loop-next.invariant ∙ ap (λ (l : List Placed). min (length (asked_among l places)) (most_questions + 1)) list
