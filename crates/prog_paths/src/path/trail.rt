@@ -19,27 +19,13 @@ pub struct Trail {
     pub unknown: usize,
 }
 
-fn copy_choices(alloc: Global, choices: &Choices) -> Result<Choices, AllocError>
-    ensures { IfOk result (λ copy. copy ≡ choices.now) }
-{
-    let copy = choices.as_slice().to_vec(alloc)?;
-    Ok(Sequence::from_vec(copy))
-}
-
-fn copy_accesses(alloc: Global, accesses: &Accesses) -> Result<Accesses, AllocError>
-    ensures { IfOk result (λ copy. copy ≡ accesses.now) }
-{
-    let copy = accesses.as_slice().to_vec(alloc)?;
-    Ok(Sequence::from_vec(copy))
-}
-
 impl Trail {
     fn copied(&self, alloc: Global) -> Result<Trail, AllocError>
         ensures { IfOk result (λ copy. copy ≡ self.now) }
     {
         Ok(Trail {
-            choices: copy_choices(alloc, &self.choices)?,
-            accesses: copy_accesses(alloc, &self.accesses)?,
+            choices: Sequence::from_slice(alloc, self.choices.as_slice())?,
+            accesses: Sequence::from_slice(alloc, self.accesses.as_slice())?,
             unknown: self.unknown,
         })
     }
