@@ -1,6 +1,6 @@
 //! The walk along a program's committing paths. It enters no block that always aborts, so each way
 //! that it keeps is one of the paths that are listed.
-ghost use Rattle.std.specs.Prelude.{◌≡◌, ◌+◌, ◌≤◌, ◌∷◌, [], true, map, min, IfOk};
+ghost use Rattle.std.specs.Prelude.{◌≡◌, ◌+◌, ◌≤◌, ◌∷◌, [], true, map, min, IfOk, OnOk};
 ghost use Rattle.prog_tree.specs.Tree.{stmt_tree, block_tree};
 ghost use Rattle.prog_check.specs.Paths.{statement_count, routes};
 ghost use Rattle.prog_paths.specs.Trails.{IsLow, AreLow, alone, passes, commits, past_body, along, all_along};
@@ -77,33 +77,33 @@ fn pass_inside(
     params: &[Name],
     number: usize,
     stmt: &Stmt,
-    trail: Trail,
-) -> Result<Trail, AllocError>
+    trail: &mut Trail,
+) -> Result<(), AllocError>
     requires few { number + statement_count (alone (stmt_tree stmt.now)) ≤ MAX_STATEMENTS }
-    requires low { IsLow number trail }
-    ensures { IfOk result (λ r. r
-        ≡ past_body set.now.tables.items params.now number (alone (stmt_tree stmt.now)) trail) }
+    requires low { IsLow number trail.old }
+    ensures { OnOk result (trail.new ≡ past_body set.now.tables.items params.now number
+        (alone (stmt_tree stmt.now)) trail.old) }
 {
-    let mut trail = trail;
-    pass(set, params, false, number, stmt, &mut trail)?;
+    pass(set, params, false, number, stmt, trail)?;
     match stmt {
         Stmt::Branch {
             then,
             otherwise,
             ..
         } => {
-            let trail = pass_body(set, params, number + 1, then, trail)?;
+            pass_body(set, params, number + 1, then, trail)?;
             pass_body(
                 set,
                 params,
                 number + 1 + count_statements(then),
                 otherwise,
                 trail,
-            )
+            )?;
         }
-        Stmt::Each { body, .. } => pass_body(set, params, number + 1, body, trail),
-        _ => Ok(trail),
+        Stmt::Each { body, .. } => pass_body(set, params, number + 1, body, trail)?,
+        _ => {}
     }
+    Ok(())
 }
 
 /// Goes past the body of an `each`, whose first statement has this number.
@@ -113,20 +113,19 @@ fn pass_body(
     params: &[Name],
     number: usize,
     body: &Block,
-    trail: Trail,
-) -> Result<Trail, AllocError>
+    trail: &mut Trail,
+) -> Result<(), AllocError>
     requires few { number + statement_count (block_tree body.now) ≤ MAX_STATEMENTS }
-    requires low { IsLow number trail }
-    ensures { IfOk result (λ r. r
-        ≡ past_body set.now.tables.items params.now number (block_tree body.now) trail) }
+    requires low { IsLow number trail.old }
+    ensures { OnOk result (trail.new
+        ≡ past_body set.now.tables.items params.now number (block_tree body.now) trail.old) }
 {
-    let mut trail = trail;
     let mut number = number;
     for stmt in &body.stmts {
-        trail = pass_inside(set, params, number, stmt, trail)?;
+        pass_inside(set, params, number, stmt, trail)?;
         number += count_own(stmt);
     }
-    Ok(trail)
+    Ok(())
 }
 
 /// Goes past a statement of this number that isn't a branch, and past its body if it has one.
@@ -135,23 +134,20 @@ fn pass_whole(
     params: &[Name],
     number: usize,
     stmt: &Stmt,
-    trail: Trail,
-) -> Result<Trail, AllocError>
+    trail: &mut Trail,
+) -> Result<(), AllocError>
     requires few { number + statement_count (alone (stmt_tree stmt.now)) ≤ MAX_STATEMENTS }
-    requires low { IsLow number trail }
+    requires low { IsLow number trail.old }
     requires passes { passes (stmt_tree stmt.now) ≡ true }
-    ensures { IfOk result (λ r. r ∷ [] ≡ map (along set.now.tables.items params.now trail)
+    ensures { OnOk result (trail.new ∷ []
+        ≡ map (along set.now.tables.items params.now trail.old)
         (routes number (alone (stmt_tree stmt.now)))) }
 {
-    let mut trail = trail;
-    pass(set, params, true, number, stmt, &mut trail)?;
-    match stmt {
-        Stmt::Each { body, .. } => {
-            trail = pass_body(set, params, number + 1, body, trail)?;
-            Ok(trail)
-        }
-        _ => Ok(trail),
+    pass(set, params, true, number, stmt, trail)?;
+    if let Stmt::Each { body, .. } = stmt {
+        pass_body(set, params, number + 1, body, trail)?;
     }
+    Ok(())
 }
 
 /// Takes all trails past a statement of this number that isn't a branch.
@@ -170,8 +166,9 @@ fn pass_all(
         (routes number (alone (stmt_tree stmt.now)))) }
 {
     let mut passed = Vec::new(alloc);
-    for trail in trails {
-        passed.push(pass_whole(set, params, number, stmt, trail)?)?;
+    for mut trail in trails {
+        pass_whole(set, params, number, stmt, &mut trail)?;
+        passed.push(trail)?;
     }
     Ok(passed)
 }

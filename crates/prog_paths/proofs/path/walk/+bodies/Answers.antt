@@ -1,9 +1,8 @@
-use Rattle.std.proofs.Common.{◌≡◌, false, ◌+◌, ◌∷◌, drop, ap, sym, subst, ◌∙◌, arith, IfOk}
+use Rattle.std.proofs.Common.{◌≡◌, false, ◌+◌, ◌∷◌, drop, ap, sym, subst, ◌∙◌, arith}
 use Rattle.std.proofs.lemmas.List.{drop_more, drop_all}
 use Rattle.prog_tree.specs.Tree.{stmt_tree, listing_tree, test_tree, block_tree, stmts_tree}
 use Rattle.prog_tree.proofs.TreeLemmas.{fork_tree, loop_tree}
 use Rattle.prog_check.specs.Paths.{statement_count}
-use Rattle.prog_paths.specs.declared.path.trail.Trail.{Trail}
 use Rattle.prog_paths.specs.Trails.{IsLow, alone, past_body}
 use Rattle.prog_paths.proofs.Walking.{count_from, fork_counts}
 use Rattle.prog_paths.proofs.Bodies.{body_end, body_next, inside_branch, inside_loop, low_body, low_fork, low_head, loop_counts}
@@ -26,12 +25,12 @@ pass_body-loop-stmt-preserved t c =
     let whole = c.loop-stmt.invariant.number in
     let own = c.count_own-number.ensures.counted in
     let room = c.requires.few in
-    let passed = c.in_ok-trail.ensures in
+    let passed = c.in_ok-pass_inside.ensures in
     let exact : c.count_own-number.result ≡ statement_count (alone x) = omega (arith, own, counted, size, whole, room) in
     record {
       number = omega (arith, counted, size, whole, exact);
       past = (let p = c.loop-stmt.invariant.past in omega (arith, p));
-      low = subst (λ m. IsLow (n + m) c.in_ok-trail.trail) (sym exact) (low_body tables params n (alone x) before c.in_ok-trail.trail passed c.loop-stmt.invariant.low);
+      low = subst (λ m. IsLow (n + m) c.pass_inside.new.trail) (sym exact) (low_body tables params n (alone x) before c.pass_inside.new.trail passed c.loop-stmt.invariant.low);
       trail =
           (λ i. past_body tables params (n + exact i) rest (passed i))
           ∙ body_next tables params n x rest before
@@ -60,7 +59,7 @@ pass_inside-pass_body-requires t c =
       omega (arith, size, falls),
       (
         omega (arith, size, room),
-        low_fork c.args.set.now.tables.items c.args.params.now n x (test_tree branch.test) (block_tree branch.then) (block_tree branch.otherwise) c.args.trail c.pass.new.trail fork c.in_ok-pass.ensures c.requires.low,
+        low_fork c.args.set.now.tables.items c.args.params.now n x (test_tree branch.test) (block_tree branch.then) (block_tree branch.otherwise) c.args.trail.now c.pass.new.trail fork c.in_ok-pass.ensures c.requires.low,
       ),
     )
 
@@ -78,10 +77,10 @@ pass_inside-pass_body-requires-in-Branch t c =
     let falls = c.decreases in
     let counted = c.count_statements.ensures.counted in
     let first : c.count_statements.result ≡ statement_count a = omega (arith, size, counted, room) in
-    let own = low_fork tables params n x (test_tree branch.test) a (block_tree branch.otherwise) c.args.trail c.pass.new.trail fork c.in_ok-pass.ensures c.requires.low in
-    let low = low_body tables params (n + 1) a c.pass.new.trail c.in_ok-trail-in-Branch.trail c.in_ok-trail-in-Branch.ensures own in (
+    let own = low_fork tables params n x (test_tree branch.test) a (block_tree branch.otherwise) c.args.trail.now c.pass.new.trail fork c.in_ok-pass.ensures c.requires.low in
+    let low = low_body tables params (n + 1) a c.pass.new.trail c.pass_body.new.trail c.in_ok-pass_body-in-Branch.ensures own in (
       omega (arith, size, falls),
-      (omega (arith, size, room, first), subst (λ k. IsLow (n + 1 + k) c.in_ok-trail-in-Branch.trail) (sym first) low),
+      (omega (arith, size, room, first), subst (λ k. IsLow (n + 1 + k) c.pass_body.new.trail) (sym first) low),
     )
 
 pub pass_inside-pass_body-requires-in-Each : goal.pass_inside-pass_body-requires-in-Each
@@ -96,12 +95,12 @@ pass_inside-pass_body-requires-in-Each t c =
       omega (arith, size, falls),
       (
         omega (arith, size, room),
-        low_head c.args.set.now.tables.items c.args.params.now false n x (listing_tree each.listing) (block_tree each.body) c.args.trail c.pass.new.trail loop c.in_ok-pass.ensures c.requires.low,
+        low_head c.args.set.now.tables.items c.args.params.now false n x (listing_tree each.listing) (block_tree each.body) c.args.trail.now c.pass.new.trail loop c.in_ok-pass.ensures c.requires.low,
       ),
     )
 
-pub pass_inside-returns-in_ok-trail-in-Branch : goal.pass_inside-returns-in_ok-trail-in-Branch
-pass_inside-returns-in_ok-trail-in-Branch t c =
+pub pass_inside-returns-in_ok-pass_body-in-Branch-2 : goal.pass_inside-returns-in_ok-pass_body-in-Branch-2
+pass_inside-returns-in_ok-pass_body-in-Branch-2 t c =
     let tables = c.args.set.now.tables.items in
     let params = c.args.params.now in
     let branch = c.in-Branch in
@@ -115,13 +114,12 @@ pass_inside-returns-in_ok-trail-in-Branch t c =
     let room = c.requires.few in
     let counted = c.count_statements.ensures.counted in
     let first : m ≡ statement_count a = omega (arith, size, counted, room) in
-    let behind =
-    ap (past_body tables params (n + 1 + m) b) (c.in_ok-trail-in-Branch.ensures ∙ ap (past_body tables params (n + 1) a) c.in_ok-pass.ensures)
-    ∙ inside_branch tables params n m x (test_tree branch.test) a b c.args.trail fork first in
-    subst (λ (z : Trail). IfOk c.pass_body-in-Branch.result (λ r. r ≡ z)) behind c.pass_body-in-Branch.ensures
+    c.in_ok-pass_body-in-Branch-2.ensures
+    ∙ ap (past_body tables params (n + 1 + m) b) (c.in_ok-pass_body-in-Branch.ensures ∙ ap (past_body tables params (n + 1) a) c.in_ok-pass.ensures)
+    ∙ inside_branch tables params n m x (test_tree branch.test) a b c.args.trail.now fork first
 
-pub pass_inside-returns-in-Each : goal.pass_inside-returns-in-Each
-pass_inside-returns-in-Each t c =
+pub pass_inside-returns-in_ok-pass_body-in-Each : goal.pass_inside-returns-in_ok-pass_body-in-Each
+pass_inside-returns-in_ok-pass_body-in-Each t c =
     let tables = c.args.set.now.tables.items in
     let params = c.args.params.now in
     let each = c.in-Each in
@@ -129,5 +127,6 @@ pass_inside-returns-in-Each t c =
     let x = stmt_tree c.args.stmt.now in
     let body = block_tree each.body in
     let loop = ap stmt_tree each.is ∙ loop_tree each.listing each.body in
-    let behind = ap (past_body tables params (n + 1) body) c.in_ok-pass.ensures ∙ inside_loop tables params n x (listing_tree each.listing) body c.args.trail loop in
-    subst (λ (z : Trail). IfOk c.pass_body-in-Each.result (λ r. r ≡ z)) behind c.pass_body-in-Each.ensures
+    c.in_ok-pass_body-in-Each.ensures
+    ∙ ap (past_body tables params (n + 1) body) c.in_ok-pass.ensures
+    ∙ inside_loop tables params n x (listing_tree each.listing) body c.args.trail.now loop

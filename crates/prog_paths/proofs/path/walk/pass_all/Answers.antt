@@ -7,4 +7,4 @@ pub loop-trail-preserved : goal.loop-trail-preserved
 loop-trail-preserved c =
     let before = c.loop-trail.passed.items in
     c.in_ok-push.ensures.items
-    ∙ more_past c.args.set.now.tables.items c.args.params.now c.args.number (stmt_tree c.args.stmt.now) c.loop-trail.yielded c.in-Some.trail c.in_ok-pass_whole.field-0 before c.in_ok-pass_whole.ensures c.loop-trail.invariant
+    ∙ more_past c.args.set.now.tables.items c.args.params.now c.args.number (stmt_tree c.args.stmt.now) c.loop-trail.yielded c.in-Some.trail c.pass_whole.new.trail before c.in_ok-pass_whole.ensures c.loop-trail.invariant

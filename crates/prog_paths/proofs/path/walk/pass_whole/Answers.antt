@@ -11,13 +11,13 @@ pass_body-requires-clause-few c =
     let room = c.requires.few in
     omega (arith, size, room)
 
-pub returns-in_ok-trail-in-Each : goal.returns-in_ok-trail-in-Each
-returns-in_ok-trail-in-Each c =
+pub returns-in_ok-pass_body : goal.returns-in_ok-pass_body
+returns-in_ok-pass_body c =
     let tables = c.args.set.now.tables.items in
     let params = c.args.params.now in
     let n = c.args.number in
     let each = c.in-Each in
     let body = block_tree each.body in
     let loop = ap stmt_tree each.is ∙ loop_tree each.listing each.body in
-    (λ i. (c.in_ok-trail-in-Each.ensures ∙ ap (past_body tables params (n + 1) body) c.in_ok-pass.ensures) i ∷ [])
-    ∙ whole_loop tables params n (stmt_tree c.args.stmt.now) (listing_tree each.listing) body c.args.trail loop
+    (λ i. (c.in_ok-pass_body.ensures ∙ ap (past_body tables params (n + 1) body) c.in_ok-pass.ensures) i ∷ [])
+    ∙ whole_loop tables params n (stmt_tree c.args.stmt.now) (listing_tree each.listing) body c.args.trail.now loop
