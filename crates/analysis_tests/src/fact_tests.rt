@@ -26,8 +26,8 @@ const C: Node = Node::MineUnknown(2);
 type Given = &'static [(Node, Node)];
 
 /// Whether the facts are consistent, whether they entail that x is at most y, how many nodes the
-/// chain has that was
-/// found (0 where there is none or it does not check), and what the sample gives x.
+/// chain has that was found (0 where there is none or it does not check), and what the sample gives
+/// x.
 type Answer = (bool, bool, usize, Option<i64>);
 
 fn add_all(facts: &mut Facts, given: &[(Node, Node)]) -> Result<(), AllocError> {

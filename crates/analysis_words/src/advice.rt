@@ -213,7 +213,8 @@ pub fn advice(alloc: Global, shown: Shown<'_>, danger: &Danger) -> Result<String
 
 /// The same where both edges are one.
 pub fn twin_advice(alloc: Global, shown: Shown<'_>, danger: &Danger) -> Result<String, AllocError>
-    ensures { IfOk result (λ words. IsTwinAdvice (seen shown.entry) danger.now (string_bytes words)) }
+    ensures { IfOk result (λ words.
+        IsTwinAdvice (seen shown.entry) danger.now (string_bytes words)) }
 {
     let help = help(alloc, shown, danger.first.question)?;
     let words = twin_advice_text(alloc, &help)?;

@@ -29,7 +29,8 @@ fn question_text(
     shown: Shown<'_>,
     question: Option<Question>,
 ) -> Result<String, AllocError>
-    ensures { IfOk result (λ words. IsQuestionText (seen shown.entry) question (string_bytes words)) }
+    ensures { IfOk result (λ words.
+        IsQuestionText (seen shown.entry) question (string_bytes words)) }
 {
     let Some(asked) = question else {
         let none = format!(in alloc; "its question")?;

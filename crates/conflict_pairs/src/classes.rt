@@ -118,7 +118,8 @@ impl<'a> Interner for AccessClasses<'a> {
 
     ghost is_sound = { λ paths judged. IsAskedAt paths judged };
 
-    ghost serves = { λ paths pair judged. IsLike paths (asked_at paths pair) (asked_at paths judged) };
+    ghost serves = { λ paths pair judged.
+        IsLike paths (asked_at paths pair) (asked_at paths judged) };
 
     fn hash(&self, pair: &PlacePair) -> usize {
         let first = class_at(&self.numbers, pair.first as usize);

@@ -53,7 +53,8 @@ fn bounds(places: &[Placed], table: usize) -> (usize, usize)
     requires { AreByTable places.now }
     ensures rises { result.0 ≤ result.1 }
     ensures within { result.1 ≤ length places.now }
-    ensures cut { take (result.1 - result.0) (drop result.0 places.now) ≡ of_table table places.now }
+    ensures cut { take (result.1 - result.0) (drop result.0 places.now)
+        ≡ of_table table places.now }
 {
     let start = count_below(places, table);
     let end = count_through(places, table);

@@ -11,10 +11,10 @@ use std::alloc::{AllocError, Global};
 use std::marker::Model;
 
 // How many middles are remembered. It is a prime.
-const REMEMBERED: usize = 8_191;
+const MIDDLES_REMEMBERED: usize = 8_191;
 
 // For fewer entries no slots are made, since that would take longer than they save.
-const WORTH_SLOTS: usize = 1_024;
+const MIN_ENTRIES_WITH_SLOTS: usize = 1_024;
 
 // The text of the second access of a question.
 #[derive(Drop)]
@@ -60,7 +60,7 @@ impl Middle {
 // The slot for the second access of a question.
 fn slot_of(question: Question) -> usize {
     let mark = (question.y as usize).wrapping_mul(31);
-    mark.wrapping_add(question.b as usize) % REMEMBERED
+    mark.wrapping_add(question.b as usize) % MIDDLES_REMEMBERED
 }
 
 /// Middles as far as they are remembered: a slot holds the last one that came there.
@@ -73,8 +73,8 @@ impl Middles {
     /// Slots that hold no middle yet, for the text of so many entries.
     pub(crate) fn for_entries(alloc: Global, count: usize) -> Result<Self, AllocError> {
         let mut slots = Vec::new(alloc);
-        if count >= WORTH_SLOTS {
-            slots.resize_with(REMEMBERED, || None)?;
+        if count >= MIN_ENTRIES_WITH_SLOTS {
+            slots.resize_with(MIDDLES_REMEMBERED, || None)?;
         }
         Ok(Middles { slots })
     }

@@ -3,10 +3,10 @@
 use std::alloc::{AllocError, Global};
 
 // How many reasons are remembered. It is a prime.
-const REMEMBERED: usize = 4_093;
+const REASONS_REMEMBERED: usize = 4_093;
 
 // For a shorter text no slots are made, since that would take longer than they save.
-const WORTH_SLOTS: usize = 16_384;
+const MIN_TEXT_WITH_SLOTS: usize = 16_384;
 
 // The text of a reason, with the end of its entry, and the number of an entry that has it.
 #[derive(Clone, Copy)]
@@ -21,12 +21,12 @@ fn slot_of(bytes: &[u8]) -> usize {
     let mut last = 0;
     for byte in bytes {
         if *byte == b']' && last == b']' {
-            return mark % REMEMBERED;
+            return mark % REASONS_REMEMBERED;
         }
         mark = mark.wrapping_mul(31).wrapping_add(*byte as usize);
         last = *byte;
     }
-    mark % REMEMBERED
+    mark % REASONS_REMEMBERED
 }
 
 /// Reasons as far as they are remembered: a slot holds the last one that came there.
@@ -38,12 +38,12 @@ pub(crate) struct Seen<'a> {
 impl<'a> Seen<'a> {
     /// Slots that hold no reason yet, for a text of so many bytes.
     pub(crate) fn for_bytes(alloc: Global, count: usize) -> Result<Seen<'a>, AllocError> {
-        if count < WORTH_SLOTS {
+        if count < MIN_TEXT_WITH_SLOTS {
             return Ok(Seen {
                 slots: Vec::new(alloc),
             });
         }
-        let slots = vec![in alloc; None; REMEMBERED]?;
+        let slots = vec![in alloc; None; REASONS_REMEMBERED]?;
         Ok(Seen { slots })
     }
 
