@@ -10,6 +10,7 @@ pub mod Serving
 pub mod Numbered
 pub mod Paired
 pub mod Collecting
+pub mod Passing
 pub mod Parts
 pub mod Moving
 pub mod Exactness

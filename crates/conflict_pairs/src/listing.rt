@@ -1,5 +1,5 @@
 //! All questions of a list of paths.
-ghost use Rattle.std.specs.Prelude.{◌≡◌, ◌↔◌, ◌++◌, ◌+◌, ◌<◌, ◌≤◌, ◌^◌, length, vec_len, vec_capacity, All, IfOk, Err};
+ghost use Rattle.std.specs.Prelude.{◌≡◌, ◌↔◌, ◌++◌, ◌+◌, ◌<◌, ◌≤◌, ◌^◌, length, vec_len, vec_capacity, All, IfOk, OnOk, Err};
 ghost use Rattle.conflict_pairs.specs.declared.fault.PairFault as PairFault;
 ghost use Rattle.prog_paths.specs.Asked.{ChangesSingleCells, all_from, asked_by, asked_among, questions_of};
 ghost use Rattle.prog_paths.specs.Limits.{most_questions};
@@ -95,19 +95,25 @@ pub struct Questions {
     pub numbers: Vec<u32>,
 }
 
-/// The questions of a list of paths, of which there are so many.
-pub fn questions_of(alloc: Global, paths: &[Path], count: usize) -> Result<Questions, AllocError>
-    requires { length (questions_of paths.now) ≤ most_questions }
+/// The questions of a list of paths. They are counted before any memory is taken.
+pub fn questions_of(alloc: Global, paths: &[Path]) -> Result<Questions, PairFault>
     ensures listed { IfOk result (λ qs. AreListed paths.now
         (questions_at qs.places.items qs.pairs.items)
         (questions_at qs.places.items qs.judged.items) qs.numbers.items) }
     ensures within { IfOk result (λ qs. All (HasPlaces qs.places.items) qs.pairs.items) }
     ensures asked { IfOk result (λ qs.
         All (IsAskedBetween paths.now qs.places.items) qs.judged.items) }
+    ensures few { OnOk result (length (questions_of paths.now) ≤ most_questions) }
+    ensures too_large { (result ≡ Err PairFault.TooLarge)
+        ↔ (most_questions < length (questions_of paths.now)) }
 {
+    let count = question_count(paths);
+    if count > MAX_QUESTIONS {
+        return Err(PairFault::TooLarge);
+    }
     let places = all_places(alloc, paths)?;
     if places.len() > MAX_PLACES {
-        return Err(AllocError);
+        return Err(PairFault::Memory);
     }
     let starts = starts_of(alloc, paths)?;
     let pairs = all_questions(alloc, &places, &starts, count)?;
@@ -149,11 +155,7 @@ pub fn pairs(alloc: Global, paths: &[Path]) -> Result<PairTable, PairFault>
     ensures too_large { (result ≡ Err PairFault.TooLarge)
         ↔ (most_questions < length (questions_of paths.now)) }
 {
-    let count = question_count(paths);
-    if count > MAX_QUESTIONS {
-        return Err(PairFault::TooLarge);
-    }
-    let questions = questions_of(alloc, paths, count)?;
+    let questions = questions_of(alloc, paths)?;
     let verdicts = verdicts_of(alloc, paths, &questions.places, &questions.judged)?;
     Ok(table_of(paths, questions, verdicts))
 }

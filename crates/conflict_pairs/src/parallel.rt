@@ -14,7 +14,7 @@ use crate::pairing::PlacePair;
 use crate::table::PairTable;
 use crate::verdicts::Verdict;
 use prog_check::Path;
-use prog_paths::{MAX_QUESTIONS, Placed, question_count};
+use prog_paths::Placed;
 use rayon::prelude::*;
 use std::alloc::{AllocError, Global};
 use std::thread::Threads;
@@ -78,11 +78,7 @@ pub fn pairs_par(
     ensures too_large { (result ≡ Err PairFault.TooLarge)
         ↔ (most_questions < length (questions_of paths.now)) }
 {
-    let count = question_count(paths);
-    if count > MAX_QUESTIONS {
-        return Err(PairFault::TooLarge);
-    }
-    let questions = questions_of(alloc, paths, count)?;
+    let questions = questions_of(alloc, paths)?;
     let parts = parts_of(rt, alloc, paths, &questions.places, &questions.judged)?;
     let verdicts = all_verdicts(alloc, parts)?;
     Ok(table_of(paths, questions, verdicts))

@@ -3,6 +3,7 @@ use Rattle.std.specs.Prelude.{All}
 use Rattle.prog_paths.specs.declared.accesses.places.Placed.{Placed}
 use Rattle.conflict_pairs.specs.declared.pairing.PlacePair.{PlacePair}
 use Rattle.conflict_pairs.specs.Pairing.{IsAskedBetween, ArePairsJudged}
+use Rattle.conflict_pairs.proofs.Passing.{passed_iff}
 use Rattle.conflict_pairs.proofs.listing.pairs.Goals as goal
 
 pub verdicts_of-requires : goal.verdicts_of-requires
@@ -19,3 +20,6 @@ table_of-requires-clause-judged c =
     let verdicts = c.in_ok-verdicts.verdicts.items in
     subst (λ (l : List Placed). ArePairsJudged paths l questions.judged.items verdicts) c.deref.ensures.value
     (subst (λ (l : List PlacePair). ArePairsJudged paths c.deref.result.now l verdicts) c.deref-2.ensures.value c.in_ok-verdicts.ensures)
+
+pub returns-in_err-questions-clause-too_large : goal.returns-in_err-questions-clause-too_large
+returns-in_err-questions-clause-too_large c = passed_iff _ _ _ _ c.from_residual.ensures.1 c.in_err-questions.ensures.too_large

@@ -5,6 +5,7 @@ use Rattle.conflict_pairs.specs.declared.pairing.PlacePair.{PlacePair}
 use Rattle.conflict_pairs.specs.declared.verdicts.Verdict.{Verdict}
 use Rattle.conflict_pairs.specs.Pairing.{IsAskedBetween, ArePairsJudged}
 use Rattle.conflict_pairs.specs.Table.{verdicts_in}
+use Rattle.conflict_pairs.proofs.Passing.{passed_iff}
 use Rattle.conflict_pairs.proofs.parallel.pairs_par.Goals as goal
 
 pub parts_of-requires : goal.parts_of-requires
@@ -25,3 +26,6 @@ table_of-requires-clause-judged g c =
     subst (λ (l : List Placed). ArePairsJudged paths l questions.judged.items parts) c.deref.ensures.value
     (subst (λ (l : List PlacePair). ArePairsJudged paths c.deref.result.now l parts) c.deref-2.ensures.value c.in_ok-parts.ensures) in
     subst (λ (l : List Verdict). ArePairsJudged paths questions.places.items questions.judged.items l) (sym c.in_ok-verdicts.ensures) judged
+
+pub returns-in_err-questions-clause-too_large : goal.returns-in_err-questions-clause-too_large
+returns-in_err-questions-clause-too_large g c = passed_iff _ _ _ _ c.from_residual.ensures.1 c.in_err-questions.ensures.too_large
