@@ -16,7 +16,7 @@ use Rattle.prog_paths.specs.Asked.{numbers_of, questions_of}
 use Rattle.prog_paths.specs.Listing.{IsAskedOf, IsBefore}
 use Rattle.prog_paths.specs.Marks.{mark_by, gives_edge, gives_vulnerable}
 use Rattle.prog_paths.proofs.Edges.{HasQuestion-inside, EdgeOf-inside}
-use Rattle.prog_paths.proofs.Elements.{contains_at, place_of, contains_mapped, from_mapped, mapped_at, any_in, in_any}
+use Rattle.prog_tree.proofs.Elements.{contains_at, place_of, contains_mapped, from_mapped, mapped_at, any_in, in_any}
 use Rattle.prog_paths.proofs.Marked.{same_access, same_asked, edge-from_mark, vulnerable-from_mark, vulnerable-from_mark-question, mark-from_edge, mark-from_vulnerable}
 use Rattle.prog_paths.proofs.Membership.{law_of_listing}
 use Rattle.prog_paths.proofs.Order.{law_of_order, rise-between}

@@ -1,10 +1,11 @@
 -- Where there is a least order, there is no cycle.
 use Rattle.std.proofs.Common.{◌≡◌, ◌⊎◌, inl, inr, ℕ, Bool, true, List, [], ◌∷◌, refl, sym, subst}
 use Rattle.std.specs.Prelude.{Some}
+use Rattle.prog_tree.proofs.Elements.{IsMember}
 use Rattle.history_book.specs.Orders.{LeadsTo, IsCycle, IsUpTo, least_order}
 use Rattle.history_book.proofs.OrderLaws.{least_order-comes}
 use Rattle.history_book.proofs.PlacedLaws.{fits_by_count}
-use Rattle.history_book.proofs.InTurn.{IsMember, FitsAfter}
+use Rattle.history_book.proofs.InTurn.{FitsAfter}
 
 module _ (before : ℕ → ℕ → Bool) where
   -- one of the list has to stand before it

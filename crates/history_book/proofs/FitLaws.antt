@@ -5,6 +5,7 @@ use Rattle.std.specs.List.{list_all, range_with_len}
 use Rattle.std.proofs.lemmas.Bool.{eq-eqb, and_from, and_parts}
 use Rattle.prog_tree.specs.Syntax.{DraftTree}
 use Rattle.prog_tree.specs.Table.{TableState, IsTableState}
+use Rattle.prog_tree.proofs.Elements.{IsMember}
 use Rattle.history_book.specs.Dependencies.{depends}
 use Rattle.history_book.specs.History.{Instance, IsLawful}
 use Rattle.history_book.specs.Orders.{is_one_of, least_order, IsCycle, IsForward, IsUpTo}
@@ -14,7 +15,7 @@ use Rattle.history_book.proofs.DependencyLaws.{DependsOn, depends_tells, depends
 use Rattle.history_book.proofs.ForwardLaws.{forward_fits}
 use Rattle.history_book.proofs.OrderLaws.{holds_not, all-where, is_one_of-member, ranged_up_to, least_order-comes}
 use Rattle.history_book.proofs.PlacedLaws.{fits_by_count}
-use Rattle.history_book.proofs.InTurn.{IsMember, FitsAfter, ComesAfter}
+use Rattle.history_book.proofs.InTurn.{FitsAfter, ComesAfter}
 use Rattle.history_book.proofs.SerialLaws.{serial_runs_same, serial_runs}
 
 module _ (n : ℕ) (R : ℕ → ℕ → Type 0) where

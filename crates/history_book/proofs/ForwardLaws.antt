@@ -1,14 +1,13 @@
 -- A list that has each number once, none of which has to stand before an earlier one: each is next in its turn.
 use Rattle.std.proofs.Common.{◌≡◌, ◌⊎◌, inl, inr, ℕ, zero, suc, ◌+◌, ◌<◌, ◌≤◌, eqb, Bool, true, false, List, [], ◌∷◌, ◌++◌, length, refl, ap, sym, subst, ◌∙◌, arith}
-use Rattle.std.specs.Prelude.{All}
 use Rattle.std.specs.List.{list_all, range_with_len}
 use Rattle.std.proofs.lemmas.Bool.{cases_lt, eqb-true, and_parts}
 use Rattle.std.proofs.lemmas.List.{length-append}
-use Rattle.std.proofs.lemmas.List.Elements.{All-head, All-tail}
+use Rattle.prog_tree.proofs.Elements.{IsMember, member_all, member_left, member_right}
 use Rattle.history_book.specs.Orders.{is_one_of, IsForward, IsUpTo}
 use Rattle.history_book.specs.Serial.{is_each_once}
 use Rattle.history_book.proofs.OrderLaws.{all-at, member_of, up_to_ranged}
-use Rattle.history_book.proofs.InTurn.{IsMember, FitsAfter}
+use Rattle.history_book.proofs.InTurn.{FitsAfter}
 
 -- what is left of a list without one of its numbers
 abbrev IsWithout : List ℕ → ℕ → List ℕ → Type 0
@@ -58,20 +57,6 @@ none_else (suc n) ys size all k h =
     go zs (inl same) rest = (omega arith, omega arith)
     go zs (inr other) rest = let up = rest other in (up.0, omega (arith, up.1))
 
-member-left : (xs ys : List ℕ) (n : ℕ) → IsMember n xs → IsMember n (xs ++ ys)
-member-left [] ys n m = absurd m
-member-left (x ∷ xs) ys n (inl e) = inl e
-member-left (x ∷ xs) ys n (inr m) = inr (member-left xs ys n m)
-
-member-right : (xs ys : List ℕ) (n : ℕ) → IsMember n ys → IsMember n (xs ++ ys)
-member-right [] ys n m = m
-member-right (x ∷ xs) ys n m = inr (member-right xs ys n m)
-
-at_all : (p : ℕ → Type 0) (xs : List ℕ) (i : ℕ) → All p xs → IsMember i xs → p i
-at_all p [] i all m = absurd m
-at_all p (x ∷ xs) i all (inl e) = subst p e (All-head p x xs all)
-at_all p (x ∷ xs) i all (inr m) = at_all p xs i (All-tail p x xs all) m
-
 module _ (before : ℕ → ℕ → Bool) (n : ℕ) (no_loop : (i : ℕ) → before i i ≡ true → ⊥) where
   abbrev Covers : List ℕ → List ℕ → Type 0
   Covers done ns = (j : ℕ) → IsUpTo n j → IsMember j done ⊎ IsMember j ns
@@ -83,8 +68,8 @@ module _ (before : ℕ → ℕ → Bool) (n : ℕ) (no_loop : (i : ℕ) → befo
       omega (arith, length-append done ns)
     where
       both : (i : ℕ) → IsMember i done ⊎ IsMember i ns → IsMember i (done ++ ns)
-      both i (inl m) = member-left done ns i m
-      both i (inr m) = member-right done ns i m
+      both i (inl m) = member_left i done ns m
+      both i (inr m) = member_right i done ns m
 
   new : (done : List ℕ) (i : ℕ) (is : List ℕ) → length done + length (i ∷ is) ≡ n → Covers done (i ∷ is) → IsMember i done → ⊥
   new done i is count covers m = too_few done is (omega arith) (λ j up. go j (covers j up))
@@ -125,7 +110,7 @@ module _ (before : ℕ → ℕ → Bool) (n : ℕ) (no_loop : (i : ℕ) → befo
       earlier : (j : ℕ) → before j i ≡ true → IsMember j done ⊎ ((i ≡ j) ⊎ IsMember j is) → IsMember j done
       earlier j t (inl m) = m
       earlier j t (inr (inl e)) = absurd (no_loop i (subst (λ x. before x i ≡ true) (sym e) t))
-      earlier j t (inr (inr m)) = absurd (let f = at_all (λ x. before x i ≡ false) is j onward.0 m in let bad : true ≡ false = sym t ∙ f in cc)
+      earlier j t (inr (inr m)) = absurd (let f = member_all (λ x. before x i ≡ false) is j onward.0 m in let bad : true ≡ false = sym t ∙ f in cc)
 
       moved : (j : ℕ) → IsMember j done ⊎ ((i ≡ j) ⊎ IsMember j is) → ((i ≡ j) ⊎ IsMember j done) ⊎ IsMember j is
       moved j (inl m) = inl (inr m)

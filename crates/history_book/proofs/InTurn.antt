@@ -1,10 +1,7 @@
 -- Orders in which each number from 1 to n comes after all that a relation puts before it.
-use Rattle.std.specs.Prelude.{◌≡◌, ℕ, ◌⊎◌, List, [], ◌∷◌, length}
+use Rattle.std.specs.Prelude.{◌≡◌, ℕ, List, [], ◌∷◌, length}
+use Rattle.prog_tree.proofs.Elements.{IsMember}
 use Rattle.history_book.specs.Orders.{IsUpTo}
-
-abbrev pub IsMember : ℕ → List ℕ → Type 0
-IsMember i [] = ⊥
-IsMember i (j ∷ js) = (j ≡ i) ⊎ IsMember i js
 
 module _ (n : ℕ) (R : ℕ → ℕ → Type 0) where
   -- it is not done yet, and all that has to stand before it is

@@ -3,8 +3,9 @@ use Rattle.std.proofs.Common.{◌≡◌, ◌⊎◌, inl, inr, ◌↔◌, ℕ, ze
 use Rattle.std.specs.Prelude.{Option, Some, None, option_and_then}
 use Rattle.std.specs.List.{list_all, range_with_len}
 use Rattle.std.proofs.lemmas.Bool.{cases_lt, eqb-true, eq-eqb, and_from, and_parts, or_cases, or_left, or_right}
+use Rattle.prog_tree.proofs.Elements.{IsMember, member_left, member_right}
 use Rattle.history_book.specs.Orders.{is_one_of, is_free, first_free, placed_by, least_order, IsUpTo}
-use Rattle.history_book.proofs.InTurn.{IsMember, ComesAfter}
+use Rattle.history_book.proofs.InTurn.{ComesAfter}
 
 -- ---- tests
 
@@ -30,15 +31,6 @@ pub is_one_of-member : (xs : List ℕ) (n : ℕ) → IsMember n xs → is_one_of
 is_one_of-member [] n m = absurd m
 is_one_of-member (x ∷ xs) n (inl e) = or_left (eqb x n) (is_one_of xs n) (eq-eqb x n e)
 is_one_of-member (x ∷ xs) n (inr m) = or_right (eqb x n) (is_one_of xs n) (is_one_of-member xs n m)
-
-pub member-more : (xs : List ℕ) (y n : ℕ) → IsMember n xs → IsMember n (xs ++ y ∷ [])
-member-more [] y n m = absurd m
-member-more (x ∷ xs) y n (inl e) = inl e
-member-more (x ∷ xs) y n (inr m) = inr (member-more xs y n m)
-
-pub member-last : (xs : List ℕ) (y n : ℕ) → y ≡ n → IsMember n (xs ++ y ∷ [])
-member-last [] y n e = inl e
-member-last (x ∷ xs) y n e = inr (member-last xs y n e)
 
 pub member-split : (xs : List ℕ) (y n : ℕ) → IsMember n (xs ++ y ∷ []) → (y ≡ n) ⊎ IsMember n xs
 member-split [] y n (inl e) = inl e
@@ -133,8 +125,8 @@ module _ (before : ℕ → ℕ → Bool) (n : ℕ) where
       grown m x = (to, back)
         where
           to : (m ≡ x) ⊎ IsMember x done → IsMember x (placed ++ m ∷ [])
-          to (inl e) = member-last placed m x e
-          to (inr k) = member-more placed m x ((same x).0 k)
+          to (inl e) = member_right x placed (m ∷ []) (inl e)
+          to (inr k) = member_left x placed (m ∷ []) ((same x).0 k)
 
           split : (m ≡ x) ⊎ IsMember x placed → (m ≡ x) ⊎ IsMember x done
           split (inl e) = inl e

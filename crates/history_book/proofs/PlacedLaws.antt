@@ -5,9 +5,10 @@ use Rattle.std.proofs.lemmas.Bool.{cases_Bool}
 use Rattle.std.proofs.lemmas.Bool.Decides.{eqb_tells}
 use Rattle.std.proofs.lemmas.Map.Keys.{IsDistinct-cons}
 use Rattle.std.proofs.lemmas.Map.Steps.{length-le_from_distinct_below}
+use Rattle.prog_tree.proofs.Elements.{IsMember}
 use Rattle.history_book.specs.Orders.{is_one_of, IsUpTo}
 use Rattle.history_book.proofs.OrderLaws.{member_of, is_one_of-member}
-use Rattle.history_book.proofs.InTurn.{IsMember, IsPlaced, FitsAfter, ComesAfter}
+use Rattle.history_book.proofs.InTurn.{IsPlaced, FitsAfter, ComesAfter}
 use Rattle.history_book.proofs.RunsInOrder.{up_to-placed}
 
 -- the same test, with the sides of each equation turned

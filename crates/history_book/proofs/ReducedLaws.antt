@@ -2,10 +2,10 @@
 use Rattle.std.proofs.Common.{◌≡◌, ◌⊎◌, inl, inr, ℕ, zero, suc, Bool, true, false, cond, List, [], ◌∷◌, ◌++◌, refl, ap, sym, subst, ◌∙◌}
 use Rattle.std.specs.Prelude.{Option, Some, None, option_and_then}
 use Rattle.std.specs.List.{range_with_len}
+use Rattle.prog_tree.proofs.Elements.{IsMember, member_left}
 use Rattle.history_book.specs.Orders.{is_free, first_free, placed_by, least_order, LeadsTo, IsCycle, IsBefore, step, steps, IsUpTo, IsReduced}
 use Rattle.history_book.proofs.CycleLaws.{cycle-up_to}
-use Rattle.history_book.proofs.OrderLaws.{member-more, member-split, ranged_up_to, free_by_test, free_tested, first_free-is}
-use Rattle.history_book.proofs.InTurn.{IsMember}
+use Rattle.history_book.proofs.OrderLaws.{member-split, ranged_up_to, free_by_test, free_tested, first_free-is}
 
 same_test : (a b : Bool) → (a ≡ true → b ≡ true) → (b ≡ true → a ≡ true) → a ≡ b
 same_test true b to back = sym (to refl)
@@ -41,7 +41,7 @@ module _ (n : ℕ) (reduced before : ℕ → ℕ → Bool) (r : IsReduced n redu
       ∙ ap (λ o. cond (is_free before (range_with_len 1 n) placed x) (Some x) o) (first_same placed closed xs (λ m k. within m (inr k)))
 
   closed_more : (placed : List ℕ) → IsClosed placed → (m : ℕ) → ((k : ℕ) → IsUpTo n k → reduced k m ≡ true → IsMember k placed) → IsClosed (placed ++ m ∷ [])
-  closed_more placed closed m next i j up k e = member-more placed m i (go (member-split placed m j k))
+  closed_more placed closed m next i j up k e = member_left i placed (m ∷ []) (go (member-split placed m j k))
     where
       go : (m ≡ j) ⊎ IsMember j placed → IsMember i placed
       go (inl same) = next i up (subst (λ x. reduced i x ≡ true) (sym same) e)

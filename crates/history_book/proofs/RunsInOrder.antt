@@ -2,9 +2,10 @@
 use Rattle.std.specs.Prelude.{◌≡◌, ℕ, List, [], ◌∷◌, Option, Some, None, unwrap_or, ◌⊎◌, ◌<◌, ◌≤◌, ◌+◌}
 use Rattle.std.proofs.Common.{inl, inr, refl, sym, ap, ◌∙◌, subst, arith, zero, suc}
 use Rattle.std.proofs.lemmas.Bool.{cases_lt}
+use Rattle.prog_tree.proofs.Elements.{IsMember}
 use Rattle.history_book.specs.Orders.{IsUpTo}
 use Rattle.history_book.proofs.DependencyRelations.{DependsBy}
-use Rattle.history_book.proofs.InTurn.{IsMember, IsPlaced}
+use Rattle.history_book.proofs.InTurn.{IsPlaced}
 
 pub up_to-placed : (n : ℕ) (R : ℕ → ℕ → Type 0) (xs : List ℕ) (j : ℕ) → IsPlaced n R xs → IsMember j xs → IsUpTo n j
 up_to-placed n R [] j p m = absurd m

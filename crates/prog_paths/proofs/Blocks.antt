@@ -17,7 +17,7 @@ use Rattle.prog_check.specs.Paths.{Route, statement_count, no_steps, passing, bo
 use Rattle.prog_check.specs.Uses.{as_count}
 use Rattle.prog_paths.specs.Trails.{unknown_behind}
 use Rattle.prog_paths.specs.Choices.{choices_behind, choices_by, choices_taken}
-use Rattle.prog_paths.proofs.Elements.{IsMember, member_left, member_right, member_map}
+use Rattle.prog_tree.proofs.Elements.{IsMember, member_left, member_right, member_map}
 use Rattle.prog_paths.proofs.Segments.{Segment, segment_none, segment_join}
 use Rattle.prog_paths.proofs.Numbers.{AllI64, BlockFits}
 use Rattle.prog_paths.proofs.Ranges.{EnvOfI64, all_append, Ranged, TurnsOfI64, listed_i64}

@@ -12,7 +12,7 @@ use Rattle.prog_check.specs.Uses.{used_table, as_count}
 use Rattle.prog_check.specs.Accesses.{Columns, columns_of, next_unknown, accesses_to, number_used, grows_used, kinds_at, access_of, accesses_of}
 use Rattle.prog_check.specs.Sound.{AllStatements, OverwritesPlain}
 use Rattle.prog_check.specs.Paths.{Passed, Route, statement_count, passing, body_passed, going_round, choosing, joined, followed_by, routes, accesses_along}
-use Rattle.prog_paths.proofs.Elements.{IsMember, member_either}
+use Rattle.prog_tree.proofs.Elements.{IsMember, member_either}
 use Rattle.prog_paths.proofs.Statements.{declaration_is}
 
 -- a kind that fits a table which grows or doesn't

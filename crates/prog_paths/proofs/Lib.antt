@@ -34,6 +34,5 @@ pub mod Order
 pub mod Numbered
 pub mod Few
 pub mod Edges
-pub mod Elements
 pub mod Grids
 pub mod Marked

@@ -15,7 +15,7 @@ use Rattle.prog_paths.specs.Asked.{numbers_of}
 use Rattle.prog_paths.specs.Places.{IsAt}
 use Rattle.prog_paths.specs.Listing.{IsAskedOf, LawOfListing}
 use Rattle.prog_paths.proofs.Asked.{placed, all_places_stand}
-use Rattle.prog_paths.proofs.Elements.{IsMember, member_from_contains, contains_from_member, member_all, member_left, member_right, member_either}
+use Rattle.prog_tree.proofs.Elements.{IsMember, member_from_contains, contains_from_member, member_all, member_left, member_right, member_either}
 
 -- ---- what is asked
 

@@ -19,7 +19,7 @@ use Rattle.prog_check.specs.declared.path.Path.{Path}
 use Rattle.prog_check.specs.Paths.{Passed, Route, routes, accesses_along, path_of, program_paths, paths_from, paths_of}
 use Rattle.prog_paths.specs.Meeting.{Assignment, IsOfI64, IsWithin, IsWithinSecond, number_under, second_under, cell_under, is_unknown_at, column_has, second_has, has_unknown, with_own, IsTimeOf}
 use Rattle.prog_paths.specs.Own.{AreOwn, LawOfOwnUnknowns, LawOfCovers, LawOfTimes, LawOfValues}
-use Rattle.prog_paths.proofs.Elements.{IsMember, member_from_contains, member_either}
+use Rattle.prog_tree.proofs.Elements.{IsMember, member_from_contains, member_either}
 use Rattle.prog_paths.proofs.SingleCells.{all-append}
 
 -- ---- the unknowns of a statement

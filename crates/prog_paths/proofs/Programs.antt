@@ -23,7 +23,7 @@ use Rattle.prog_paths.proofs.Ranges.{nth_i64, EnvOfI64, Ranged}
 use Rattle.prog_tree.specs.Value.{same_name, value_in}
 use Rattle.prog_paths.specs.Choices.{program_choices}
 use Rattle.prog_paths.specs.Follows.{LooksAt, Changes, KeepsCell, HasRow, FoundAs, ChangedAs, Touch, Follows}
-use Rattle.prog_paths.proofs.Elements.{IsMember, member_map}
+use Rattle.prog_tree.proofs.Elements.{IsMember, member_map}
 use Rattle.prog_paths.proofs.Segments.{Held, Segment}
 use Rattle.prog_paths.proofs.Values.{nth, agrees_nth, EnvFits, assigned, BlockSound}
 use Rattle.prog_paths.proofs.Blocks.{block_follows}

@@ -24,7 +24,7 @@ use Rattle.prog_paths.proofs.Numbers.{AllI64, BlockFits}
 use Rattle.prog_paths.proofs.Own.{owned_here, law_of_values}
 use Rattle.prog_paths.proofs.Parts.{then_goes, value_goes, seen_in, listed, Did, StatementFollows, ListingFollows, statement_counts, goes_same}
 use Rattle.prog_paths.proofs.Ranges.{nth_i64, EnvOfI64, Ranged, env_push, TurnsOfI64, listed_i64}
-use Rattle.prog_paths.proofs.Elements.{IsMember, member_left, member_right, member_either}
+use Rattle.prog_tree.proofs.Elements.{IsMember, member_left, member_right, member_either}
 use Rattle.prog_paths.proofs.Segments.{Segment, segment_none, segment_into, segment_join}
 use Rattle.prog_paths.proofs.Values.{Agrees, nth, EnvFits, assigned, IsApart, fits_push, BlockSound, RemovesPlain}
 use Rattle.prog_paths.proofs.Walking.{accesses_append}

@@ -30,7 +30,7 @@ use Rattle.prog_check.specs.Accesses.{Columns, columns_of, next_unknown, key_col
 use Rattle.prog_check.specs.Uses.{as_count}
 use Rattle.prog_paths.specs.Meeting.{Assignment, IsOfOwn, cell_under, MayCover}
 use Rattle.prog_paths.specs.Follows.{IsLookOf, LooksAt, Changes, KeepsCell, HasRow, FoundAs, ChangedAs}
-use Rattle.prog_paths.proofs.Elements.{IsMember}
+use Rattle.prog_tree.proofs.Elements.{IsMember}
 use Rattle.prog_paths.proofs.Segments.{Held, Segment, segment_none}
 use Rattle.prog_tree.specs.Number.{IsI64}
 use Rattle.prog_paths.proofs.Numbers.{StatementFits, row_i64}

@@ -12,7 +12,7 @@ use Rattle.prog_paths.specs.Marks.{gives_edge, gives_vulnerable}
 use Rattle.order_facts.specs.Square.{Joins}
 use Rattle.prog_paths.proofs.Membership.{law_of_listing}
 use Rattle.prog_paths.proofs.Edges.{HasQuestion-inside, EdgeOf-inside}
-use Rattle.prog_paths.proofs.Elements.{any_in, in_any}
+use Rattle.prog_tree.proofs.Elements.{any_in, in_any}
 use Rattle.prog_paths.proofs.Grids.{test-from_joined, joined-from_test}
 use Rattle.prog_paths.proofs.Marked.{edge-from_mark, vulnerable-from_mark, mark-from_edge, mark-from_vulnerable}
 use Rattle.robust_cert.specs.declared.entries.Reason.{Reason}

@@ -18,7 +18,7 @@ use Rattle.prog_paths.specs.Follows.{IsLookOf, LooksAt, KeepsCell, FoundAs, Chan
 use Rattle.prog_paths.specs.Meeting.{Assignment, IsOf, IsTime, MeetAsOwn}
 use Rattle.prog_paths.specs.StaticGraph.{Question, HasQuestion}
 use Rattle.prog_check.specs.declared.path.Kind.{Kind}
-use Rattle.prog_paths.proofs.Elements.{any_in}
+use Rattle.prog_tree.proofs.Elements.{any_in}
 use Rattle.prog_paths.proofs.KindsFit.{KindFits}
 use Rattle.prog_paths.proofs.Own.{law_of_times}
 use Rattle.history_book.specs.Dependencies.{start_at, evaluation_at}

@@ -9,7 +9,7 @@ use Rattle.prog_check.specs.declared.path.Kind.TheVariants.{Sees, Lacks, Writes,
 use Rattle.prog_check.specs.declared.path.Path.{Path}
 use Rattle.prog_check.specs.Paths.{routes, path_of, program_paths, paths_from, paths_of, accesses_along}
 use Rattle.prog_check.specs.Sound.{IsSound}
-use Rattle.prog_paths.proofs.Elements.{IsMember, member_either, member_mapped}
+use Rattle.prog_tree.proofs.Elements.{IsMember, member_either, member_mapped}
 use Rattle.prog_paths.proofs.KindsFit.{KindFits, AccessFits, route_fits}
 use Rattle.prog_paths.proofs.Programs.{member_at}
 

@@ -11,7 +11,7 @@ use Rattle.prog_paths.specs.Follows.{Follows}
 use Rattle.prog_paths.specs.Law.{FollowsPath}
 use Rattle.prog_paths.proofs.Nodes.{node_of}
 use Rattle.prog_paths.proofs.Programs.{member_at}
-use Rattle.prog_paths.proofs.Elements.{IsMember}
+use Rattle.prog_tree.proofs.Elements.{IsMember}
 use Rattle.prog_paths.proofs.Sound.{law_of_paths}
 use Rattle.history_book.specs.Dependencies.{run_found, start_found}
 use Rattle.history_book.specs.History.{Instance, nth_instance, state_after, eval_of, IsCalled}

@@ -11,7 +11,7 @@ use Rattle.prog_check.specs.Paths.{paths_of}
 use Rattle.prog_paths.specs.Meeting.{Assignment, IsTime, cell_under, MayCover, AreSameCell, MeetAsOwn}
 use Rattle.prog_paths.specs.Own.{AreOwn}
 use Rattle.prog_paths.specs.StaticGraph.{IsAccessOf, IsCovered, IsExposed, IsVulnerable, AsksReadWrite}
-use Rattle.prog_paths.proofs.Elements.{contains_at}
+use Rattle.prog_tree.proofs.Elements.{contains_at}
 use Rattle.prog_paths.proofs.Own.{law_of_own_unknowns, law_of_covers}
 use Rattle.history_book.specs.Dependencies.{start_at}
 use Rattle.history_book.specs.History.{Instance}
