@@ -4,6 +4,7 @@ use Rattle.std.specs.Prelude.{Option, Some, None, slice_get, All, IfSome, IfNone
 use Rattle.std.proofs.lemmas.Bool.{cases_lt}
 use Rattle.std.proofs.lemmas.Option.{get_or_from_slice_get}
 use Rattle.std.proofs.lemmas.List.Elements.{All-append}
+use Rattle.prog_tree.proofs.Elements.{IsMember, member_from_contains, contains_from_member, member_left, member_right}
 use Rattle.order_facts.specs.declared.steps.Node.{Node}
 use Rattle.order_facts.specs.declared.steps.Fact.{Fact}
 use Rattle.order_facts.specs.declared.steps.Node.TheVariants.{Number}
@@ -11,8 +12,6 @@ use Rattle.order_facts.specs.Chain.{IsStep, IsChainFrom, IsChain, RunsBetween, H
 use Rattle.prog_check.specs.declared.path.Column.{Column}
 use Rattle.prog_check.specs.declared.path.Access.{Access}
 use Rattle.prog_paths.specs.Questions.{mine_node, their_node, column_facts, column_or_zero, second_facts, question_facts}
-use Rattle.order_facts.proofs.Reach.{IsIn}
-use Rattle.order_facts.proofs.Chains.{IsIn-from_Contains, Contains-from_IsIn}
 use Rattle.conflict_pairs.specs.Verdicts.{IsFall, HasFall}
 use Rattle.prog_paths.specs.Shown.{Falls}
 use Rattle.conflict_pairs.specs.Search.{FallsBetween, FallsAtOnce, FoundWithin}
@@ -20,10 +19,10 @@ use Rattle.conflict_pairs.specs.Search.{FallsBetween, FallsAtOnce, FoundWithin}
 -- ---- among more facts
 
 abbrev Includes : List Fact → List Fact → Type 0
-Includes more facts = (f : Fact) → IsIn f facts → IsIn f more
+Includes more facts = (f : Fact) → IsMember f facts → IsMember f more
 
 IsStep-more : (facts more : List Fact) → Includes more facts → (a b : Node) → IsStep facts a b → IsStep more a b
-IsStep-more facts more h a b (inl c) = inl (Contains-from_IsIn more _ (h _ (IsIn-from_Contains facts _ c)))
+IsStep-more facts more h a b (inl c) = inl (contains_from_member more _ (h _ (member_from_contains facts _ c)))
 IsStep-more facts more h a b (inr p) = inr p
 
 IsChainFrom-more : (facts more : List Fact) → Includes more facts → (a : Node) (rest : List Node) → IsChainFrom facts a rest → IsChainFrom more a rest
@@ -37,33 +36,24 @@ IsChain-more facts more h (a ∷ rest) c = IsChainFrom-more facts more h a rest 
 Falls-more : (facts more : List Fact) → Includes more facts → (chain : List Node) → Falls facts chain → Falls more chain
 Falls-more facts more h chain f = record { greater = f.greater; smaller = f.smaller; falls = f.falls; is_chain = IsChain-more facts more h chain f.is_chain; runs = f.runs }
 
-IsIn-left : (f : Fact) (fs gs : List Fact) → IsIn f fs → IsIn f (fs ++ gs)
-IsIn-left f [] gs i = absurd i
-IsIn-left f (g ∷ fs) gs (inl e) = inl e
-IsIn-left f (g ∷ fs) gs (inr i) = inr (IsIn-left f fs gs i)
-
-IsIn-right : (f : Fact) (fs gs : List Fact) → IsIn f gs → IsIn f (fs ++ gs)
-IsIn-right f [] gs i = i
-IsIn-right f (g ∷ fs) gs i = inr (IsIn-right f fs gs i)
-
 pub FallsAtOnce-left : (fs gs : List Fact) (chain : List Node) → FallsAtOnce fs chain → FallsAtOnce (fs ++ gs) chain
-FallsAtOnce-left fs gs chain h = record { falls = Falls-more fs (fs ++ gs) (λ f i. IsIn-left f fs gs i) chain h.falls; two = h.two }
+FallsAtOnce-left fs gs chain h = record { falls = Falls-more fs (fs ++ gs) (λ f i. member_left f fs gs i) chain h.falls; two = h.two }
 
 pub FallsAtOnce-right : (fs gs : List Fact) (chain : List Node) → FallsAtOnce gs chain → FallsAtOnce (fs ++ gs) chain
-FallsAtOnce-right fs gs chain h = record { falls = Falls-more gs (fs ++ gs) (λ f i. IsIn-right f fs gs i) chain h.falls; two = h.two }
+FallsAtOnce-right fs gs chain h = record { falls = Falls-more gs (fs ++ gs) (λ f i. member_right f fs gs i) chain h.falls; two = h.two }
 
 -- ---- of a fact alone
 
-pub Falls-fact : (facts : List Fact) (from to : Node) → IsIn (record { lo = from; hi = to }) facts → IsFall from to → Falls facts (from ∷ to ∷ [])
+pub Falls-fact : (facts : List Fact) (from to : Node) → IsMember {A = Fact} (record { lo = from; hi = to }) facts → IsFall from to → Falls facts (from ∷ to ∷ [])
 Falls-fact facts from to i f = record {
   greater = f.greater;
   smaller = f.smaller;
   falls = f.falls;
-  is_chain = (inl (Contains-from_IsIn facts _ i), tt);
+  is_chain = (inl (contains_from_member facts _ i), tt);
   runs = (f.from_is, f.to_is);
 }
 
-pub FallsAtOnce-two : (facts : List Fact) (from to : Node) (chain : List Node) → IsIn (record { lo = from; hi = to }) facts → IsFall from to × (chain ≡ from ∷ to ∷ []) → FallsAtOnce facts chain
+pub FallsAtOnce-two : (facts : List Fact) (from to : Node) (chain : List Node) → IsMember {A = Fact} (record { lo = from; hi = to }) facts → IsFall from to × (chain ≡ from ∷ to ∷ []) → FallsAtOnce facts chain
 FallsAtOnce-two facts from to chain i h = subst (λ (c : List Node). FallsAtOnce facts c) (sym h.1) (record { falls = Falls-fact facts from to i h.0; two = refl })
 
 -- ---- the nodes of a question's facts
@@ -72,7 +62,7 @@ FallsAtOnce-two facts from to chain i h = subst (λ (c : List Node). FallsAtOnce
 abbrev EndAt : (Fact → Node) → Column → Column → Option Column → Option Column → Node → Type 0
 EndAt end m t m2 t2 node = (i : ℕ) × (slice_get (map end (column_facts m t ++ column_facts (column_or_zero m2) (column_or_zero t2))) i ≡ Some node)
 
-end_at : (end : Fact → Node) (m t : Column) (m2 t2 : Option Column) (f : Fact) → IsIn f (column_facts m t ++ second_facts m2 t2) → EndAt end m t m2 t2 (end f)
+end_at : (end : Fact → Node) (m t : Column) (m2 t2 : Option Column) (f : Fact) → IsMember f (column_facts m t ++ second_facts m2 t2) → EndAt end m t m2 t2 (end f)
 end_at end m t m2 t2 f (inl e) = (0, ap (λ (g : Fact). Some (end g)) e)
 end_at end m t m2 t2 f (inr (inl e)) = (1, ap (λ (g : Fact). Some (end g)) e)
 end_at end m t None None f (inr (inr i)) = absurd i
@@ -96,10 +86,10 @@ upper_nodes mine theirs =
     ∷ their_node (column_or_zero theirs.second).low ∷ mine_node (column_or_zero mine.second).high ∷ []
 
 pub lower-place : (mine theirs : Access) (f : Fact) → Contains (question_facts mine theirs) f → (i : ℕ) × (slice_get (lower_nodes mine theirs) i ≡ Some f.lo)
-lower-place mine theirs f c = end_at (λ g. g.lo) mine.first theirs.first mine.second theirs.second f (IsIn-from_Contains (question_facts mine theirs) f c)
+lower-place mine theirs f c = end_at (λ g. g.lo) mine.first theirs.first mine.second theirs.second f (member_from_contains (question_facts mine theirs) f c)
 
 pub upper-place : (mine theirs : Access) (f : Fact) → Contains (question_facts mine theirs) f → (i : ℕ) × (slice_get (upper_nodes mine theirs) i ≡ Some f.hi)
-upper-place mine theirs f c = end_at (λ g. g.hi) mine.first theirs.first mine.second theirs.second f (IsIn-from_Contains (question_facts mine theirs) f c)
+upper-place mine theirs f c = end_at (λ g. g.hi) mine.first theirs.first mine.second theirs.second f (member_from_contains (question_facts mine theirs) f c)
 
 -- a contradiction is a chain between two of these nodes that fall
 pub FallsBetween-contradiction : (facts : List Fact) → (h : HasContradiction facts) → FallsBetween facts h.first.lo h.last.hi

@@ -4,12 +4,13 @@ use lib.Signed
 use lib.Signed.{≤ℤ_refl}
 use Rattle.std.proofs.lemmas.Bool.{false≢true, cases_Bool}
 use Rattle.std.proofs.lemmas.Int.{ints, by_lt_z}
+use Rattle.prog_tree.proofs.Elements.{IsMember}
 use Rattle.order_facts.specs.declared.steps.Node.{Node}
 use Rattle.order_facts.specs.declared.steps.Node.TheVariants.{Number}
 use Rattle.order_facts.specs.declared.steps.Fact.{Fact}
 use Rattle.order_facts.specs.Chain.{floor_of, ceiling_of}
 use Rattle.order_facts.specs.Reaches.{is_below, reaches}
-use Rattle.order_facts.proofs.Reach.{le_z-true, ≤ℤ-le_z, is_below-cases, is_below-plain, reaches-first, reaches-last, reaches-below, reaches-fact, reaches-trans, IsIn}
+use Rattle.order_facts.proofs.Reach.{le_z-true, ≤ℤ-le_z, is_below-cases, is_below-plain, reaches-first, reaches-last, reaches-below, reaches-fact, reaches-trans}
 
 -- ---- order on ℤ
 pub ≤ℤ_trans : (a b c : ℤ) → a ≤ℤ b → b ≤ℤ c → a ≤ℤ c
@@ -92,7 +93,7 @@ IsOrderly fs = (j k : ℤ) → reaches fs (Number j) (Number k) ≡ true → j �
 
 -- the same, told by the ends of facts alone
 abbrev pub HasOrderlyEnds : List Fact → Type 0
-HasOrderlyEnds fs = (f g : Fact) → IsIn f fs → IsIn g fs → (f ≡ g) ⊎ (reaches fs f.hi g.lo ≡ true) → floor_of f.lo ≤ℤ ceiling_of g.hi
+HasOrderlyEnds fs = (f g : Fact) → IsMember f fs → IsMember g fs → (f ≡ g) ⊎ (reaches fs f.hi g.lo ≡ true) → floor_of f.lo ≤ℤ ceiling_of g.hi
 
 pub number-below : (j : ℤ) (x : Node) → is_below (Number j) x ≡ true → j ≤ℤ floor_of x
 number-below j x e = go (is_below-cases (Number j) x e)
@@ -117,11 +118,11 @@ reaches-ceiling fs x = reaches-below fs _ _ (is_below-plain x (Number (ceiling_o
 pub IsOrderly-from_ends : (fs : List Fact) → HasOrderlyEnds fs → IsOrderly fs
 IsOrderly-from_ends fs h j k e = first (reaches-first fs (Number j) (Number k) e)
   where
-    last : (f : Fact) → IsIn f fs → j ≤ℤ floor_of f.lo → (is_below f.hi (Number k) ≡ true) ⊎ ((g : Fact) × IsIn g fs × (reaches fs f.hi g.lo ≡ true) × (is_below g.hi (Number k) ≡ true)) → j ≤ℤ k
+    last : (f : Fact) → IsMember f fs → j ≤ℤ floor_of f.lo → (is_below f.hi (Number k) ≡ true) ⊎ ((g : Fact) × IsMember g fs × (reaches fs f.hi g.lo ≡ true) × (is_below g.hi (Number k) ≡ true)) → j ≤ℤ k
     last f i b (inl a) = ≤ℤ_trans _ _ _ b (≤ℤ_trans _ _ _ (h f f i i (inl refl)) (below-number k _ a))
     last f i b (inr w) = ≤ℤ_trans _ _ _ b (≤ℤ_trans _ _ _ (h f w.0 i w.1 (inr w.2)) (below-number k _ w.3))
 
-    first : (is_below (Number j) (Number k) ≡ true) ⊎ ((f : Fact) × IsIn f fs × (is_below (Number j) f.lo ≡ true) × (reaches fs f.hi (Number k) ≡ true)) → j ≤ℤ k
+    first : (is_below (Number j) (Number k) ≡ true) ⊎ ((f : Fact) × IsMember f fs × (is_below (Number j) f.lo ≡ true) × (reaches fs f.hi (Number k) ≡ true)) → j ≤ℤ k
     first (inl a) = number-below j (Number k) a
     first (inr w) = last w.0 w.1 (number-below j _ w.2) (reaches-last fs _ _ w.3)
 
@@ -158,7 +159,7 @@ low_among-floor fs (g ∷ gs) x = go (cases_Bool (reaches fs g.hi x)) (low_among
     go (inl r) h = rw r (≤ℤ_trans _ _ _ h (larger-right _ _))
     go (inr r) h = rw r h
 
-low_among-above : (fs gs : List Fact) (x : Node) (f : Fact) → IsIn f gs → reaches fs f.hi x ≡ true → floor_of f.lo ≤ℤ low_among fs gs x
+low_among-above : (fs gs : List Fact) (x : Node) (f : Fact) → IsMember f gs → reaches fs f.hi x ≡ true → floor_of f.lo ≤ℤ low_among fs gs x
 low_among-above fs [] x f i e = absurd i
 low_among-above fs (g ∷ gs) x f (inl p) e = let r : reaches fs g.hi x ≡ true = rw p e in rw r (rw (← p) (larger-left _ _))
 low_among-above fs (g ∷ gs) x f (inr i) e = go (cases_Bool (reaches fs g.hi x)) (low_among-above fs gs x f i e)
@@ -167,7 +168,7 @@ low_among-above fs (g ∷ gs) x f (inr i) e = go (cases_Bool (reaches fs g.hi x)
     go (inl r) h = rw r (≤ℤ_trans _ _ _ h (larger-right _ _))
     go (inr r) h = rw r h
 
-low_among-reaches : (fs gs : List Fact) (x : Node) → ((f : Fact) → IsIn f gs → IsIn f fs) → reaches fs (Number (low_among fs gs x)) x ≡ true
+low_among-reaches : (fs gs : List Fact) (x : Node) → ((f : Fact) → IsMember f gs → IsMember f fs) → reaches fs (Number (low_among fs gs x)) x ≡ true
 low_among-reaches fs [] x inside = floor-reaches fs x
 low_among-reaches fs (g ∷ gs) x inside = go (cases_Bool (reaches fs g.hi x)) (low_among-reaches fs gs x (λ f i. inside f (inr i)))
   where
@@ -183,7 +184,7 @@ high_among-ceiling fs (g ∷ gs) x = go (cases_Bool (reaches fs x g.lo)) (high_a
     go (inl r) h = rw r (≤ℤ_trans _ _ _ (smaller-right _ _) h)
     go (inr r) h = rw r h
 
-high_among-below : (fs gs : List Fact) (x : Node) (f : Fact) → IsIn f gs → reaches fs x f.lo ≡ true → high_among fs gs x ≤ℤ ceiling_of f.hi
+high_among-below : (fs gs : List Fact) (x : Node) (f : Fact) → IsMember f gs → reaches fs x f.lo ≡ true → high_among fs gs x ≤ℤ ceiling_of f.hi
 high_among-below fs [] x f i e = absurd i
 high_among-below fs (g ∷ gs) x f (inl p) e = let r : reaches fs x g.lo ≡ true = rw p e in rw r (rw (← p) (smaller-left _ _))
 high_among-below fs (g ∷ gs) x f (inr i) e = go (cases_Bool (reaches fs x g.lo)) (high_among-below fs gs x f i e)
@@ -192,7 +193,7 @@ high_among-below fs (g ∷ gs) x f (inr i) e = go (cases_Bool (reaches fs x g.lo
     go (inl r) h = rw r (≤ℤ_trans _ _ _ (smaller-right _ _) h)
     go (inr r) h = rw r h
 
-high_among-reaches : (fs gs : List Fact) (x : Node) → ((f : Fact) → IsIn f gs → IsIn f fs) → reaches fs x (Number (high_among fs gs x)) ≡ true
+high_among-reaches : (fs gs : List Fact) (x : Node) → ((f : Fact) → IsMember f gs → IsMember f fs) → reaches fs x (Number (high_among fs gs x)) ≡ true
 high_among-reaches fs [] x inside = reaches-ceiling fs x
 high_among-reaches fs (g ∷ gs) x inside = go (cases_Bool (reaches fs x g.lo)) (high_among-reaches fs gs x (λ f i. inside f (inr i)))
   where
@@ -217,17 +218,17 @@ unfolding high_of
 reaches-high fs x = high_among-reaches fs fs x (λ f i. i)
 
 -- what is at least the floors of x and of the lower nodes of facts that lead to x is at least every number that reaches x
-pub number-reaches : (fs : List Fact) (x : Node) (k low : ℤ) → floor_of x ≤ℤ low → ((f : Fact) → IsIn f fs → reaches fs f.hi x ≡ true → floor_of f.lo ≤ℤ low) → reaches fs (Number k) x ≡ true → k ≤ℤ low
+pub number-reaches : (fs : List Fact) (x : Node) (k low : ℤ) → floor_of x ≤ℤ low → ((f : Fact) → IsMember f fs → reaches fs f.hi x ≡ true → floor_of f.lo ≤ℤ low) → reaches fs (Number k) x ≡ true → k ≤ℤ low
 number-reaches fs x k low own others e = go (reaches-first fs (Number k) x e)
   where
-    go : (is_below (Number k) x ≡ true) ⊎ ((f : Fact) × IsIn f fs × (is_below (Number k) f.lo ≡ true) × (reaches fs f.hi x ≡ true)) → k ≤ℤ low
+    go : (is_below (Number k) x ≡ true) ⊎ ((f : Fact) × IsMember f fs × (is_below (Number k) f.lo ≡ true) × (reaches fs f.hi x ≡ true)) → k ≤ℤ low
     go (inl a) = ≤ℤ_trans _ _ _ (number-below k x a) own
     go (inr w) = ≤ℤ_trans _ _ _ (number-below k _ w.2) (others w.0 w.1 w.3)
 
-pub reaches-number : (fs : List Fact) (x : Node) (k high : ℤ) → high ≤ℤ ceiling_of x → ((f : Fact) → IsIn f fs → reaches fs x f.lo ≡ true → high ≤ℤ ceiling_of f.hi) → reaches fs x (Number k) ≡ true → high ≤ℤ k
+pub reaches-number : (fs : List Fact) (x : Node) (k high : ℤ) → high ≤ℤ ceiling_of x → ((f : Fact) → IsMember f fs → reaches fs x f.lo ≡ true → high ≤ℤ ceiling_of f.hi) → reaches fs x (Number k) ≡ true → high ≤ℤ k
 reaches-number fs x k high own others e = go (reaches-last fs x (Number k) e)
   where
-    go : (is_below x (Number k) ≡ true) ⊎ ((f : Fact) × IsIn f fs × (reaches fs x f.lo ≡ true) × (is_below f.hi (Number k) ≡ true)) → high ≤ℤ k
+    go : (is_below x (Number k) ≡ true) ⊎ ((f : Fact) × IsMember f fs × (reaches fs x f.lo ≡ true) × (is_below f.hi (Number k) ≡ true)) → high ≤ℤ k
     go (inl a) = ≤ℤ_trans _ _ _ own (below-number k x a)
     go (inr w) = ≤ℤ_trans _ _ _ (others w.0 w.1 w.2) (below-number k _ w.3)
 

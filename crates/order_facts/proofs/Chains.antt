@@ -1,30 +1,17 @@
 -- A chain is a way by steps: it shows that its first node reaches its last, and there is one wherever a node reaches another.
-use Rattle.std.proofs.Common.{◌≡◌, ◌↔◌, ℕ, Bool, List, [], ◌∷◌, ◌++◌, true, ◌⊎◌, ◌≤ℤ◌, inl, inr, refl, sym, subst, ap, ◌∙◌, arith, length, Contains, get_or, ◌<◌, ◌≤◌, ◌+◌, ◌-◌, suc, zero}
+use Rattle.std.proofs.Common.{◌≡◌, ◌↔◌, ℕ, Bool, List, [], ◌∷◌, ◌++◌, true, ◌⊎◌, ◌≤ℤ◌, inl, inr, refl, sym, subst, ap, ◌∙◌, arith, length, get_or, ◌<◌, ◌≤◌, ◌+◌, ◌-◌, suc, zero}
 use Rattle.std.proofs.lemmas.Bool.{cases_lt}
 use Rattle.std.proofs.lemmas.List.{get_or_default}
+use Rattle.prog_tree.proofs.Elements.{member_from_contains}
 use Rattle.order_facts.specs.declared.steps.Node.{Node}
 use Rattle.order_facts.specs.declared.steps.Fact.{Fact}
 use Rattle.order_facts.specs.Chain.{floor_of, ceiling_of, IsStep, IsChainFrom, IsChain, RunsBetween, last_of}
 use Rattle.order_facts.specs.declared.steps.Node.TheVariants.{Mine}
 use Rattle.order_facts.specs.Reaches.{reaches}
-use Rattle.order_facts.proofs.Reach.{is_below-cases, is_below-plain, reaches-cases, reaches-below, reaches-refl, reaches-fact, reaches-trans, IsIn}
-
--- ---- the two forms of membership
-pub IsIn-from_Contains : (fs : List Fact) (f : Fact) → Contains fs f → IsIn f fs
-IsIn-from_Contains fs f c = go fs c.0 c.1 c.2
-  where
-    go : (gs : List Fact) (k : ℕ) → k < length gs → get_or gs k f ≡ f → IsIn f gs
-    go [] k h e = absurd (omega arith)
-    go (g ∷ gs) zero h e = inl e
-    go (g ∷ gs) (suc k) h e = inr (go gs k (omega arith) e)
-
-pub Contains-from_IsIn : (fs : List Fact) (f : Fact) → IsIn f fs → Contains fs f
-Contains-from_IsIn [] f i = absurd i
-Contains-from_IsIn (g ∷ gs) f (inl e) = (zero, omega arith, e)
-Contains-from_IsIn (g ∷ gs) f (inr i) = let c = Contains-from_IsIn gs f i in (suc c.0, omega (arith, c.1), c.2)
+use Rattle.order_facts.proofs.Reach.{is_below-cases, is_below-plain, reaches-cases, reaches-below, reaches-refl, reaches-fact, reaches-trans}
 
 pub step-reaches : (fs : List Fact) (a b : Node) → IsStep fs a b → reaches fs a b ≡ true
-step-reaches fs a b (inl c) = reaches-fact fs _ (IsIn-from_Contains fs _ c)
+step-reaches fs a b (inl c) = reaches-fact fs _ (member_from_contains fs _ c)
 step-reaches fs a b (inr h) = reaches-below fs a b (is_below-plain a b h)
 
 pub chain-reaches : (fs : List Fact) (a : Node) (rest : List Node) → IsChainFrom fs a rest → reaches fs a (last_of a rest) ≡ true

@@ -6,6 +6,7 @@ use Rattle.std.proofs.lemmas.Bool.{cases_Bool, eq-eqb, false≢true}
 use Rattle.std.proofs.lemmas.Int.{ints, by_lt_z}
 use Rattle.std.proofs.lemmas.List.{get_or_append_left, get_or_push}
 use Rattle.std.proofs.lemmas.List.Elements.{All-head, All-tail}
+use Rattle.prog_tree.proofs.Elements.{IsMember}
 use Rattle.order_facts.specs.declared.steps.Node.{Node}
 use Rattle.order_facts.specs.declared.steps.Node.TheVariants.{Mine, MineUnknown, Theirs, TheirsUnknown, Number}
 use Rattle.order_facts.specs.declared.steps.Fact.{Fact}
@@ -14,7 +15,7 @@ use Rattle.prog_tree.specs.Number.{least, greatest, IsI64}
 use Rattle.order_facts.specs.Chain.{floor_of, ceiling_of, Entails, IsConsistent, IsOfI64, Meets, value_under, Assignment}
 use Rattle.order_facts.specs.Reaches.{is_same_unknown, is_below, reaches, fact_at}
 use Rattle.order_facts.specs.Sample.{chosen, sample_number, assignment_of, IsNearest, IsSampled, HasChoice}
-use Rattle.order_facts.proofs.Reach.{is_same_unknown-true, is_below-cases, reaches-first, reaches-last, reaches-fact, reaches-trans, IsIn}
+use Rattle.order_facts.proofs.Reach.{is_same_unknown-true, is_below-cases, reaches-first, reaches-last, reaches-fact, reaches-trans}
 use Rattle.order_facts.proofs.Bounds.{≤ℤ_trans, number-below, below-number, floor-reaches, reaches-ceiling}
 use Rattle.order_facts.proofs.Exact.{Entails-from_reaches, reaches-from_Entails, orderly_from_IsConsistent}
 use Rattle.order_facts.proofs.Places.{place_of}
@@ -52,7 +53,7 @@ IsSampled-number fs k c = record {
   between = record { at_least = ≤ℤ_refl k; at_most = ≤ℤ_refl k; nearest = λ w a b. omega (arith, ints) };
 }
 
-IsSampled-free : (fs : List Fact) (node : Node) → IsConsistent fs → floor_of node ≡ least → ceiling_of node ≡ greatest → ((f : Fact) → IsIn f fs → f.lo ≡ node → ⊥) → ((f : Fact) → IsIn f fs → f.hi ≡ node → ⊥) → IsSampled fs node (pos 0)
+IsSampled-free : (fs : List Fact) (node : Node) → IsConsistent fs → floor_of node ≡ least → ceiling_of node ≡ greatest → ((f : Fact) → IsMember f fs → f.lo ≡ node → ⊥) → ((f : Fact) → IsMember f fs → f.hi ≡ node → ⊥) → IsSampled fs node (pos 0)
 IsSampled-free fs node c lowest highest no_lo no_hi = record {
   low = least;
   high = greatest;
@@ -64,7 +65,7 @@ IsSampled-free fs node c lowest highest no_lo no_hi = record {
     o : (j k : ℤ) → reaches fs (Number j) (Number k) ≡ true → j ≤ℤ k
     o = orderly_from_IsConsistent fs c
 
-    low : (k : ℤ) → (is_below (Number k) node ≡ true) ⊎ ((g : Fact) × IsIn g fs × (reaches fs (Number k) g.lo ≡ true) × (is_below g.hi node ≡ true)) → k ≤ℤ floor_of node
+    low : (k : ℤ) → (is_below (Number k) node ≡ true) ⊎ ((g : Fact) × IsMember g fs × (reaches fs (Number k) g.lo ≡ true) × (is_below g.hi node ≡ true)) → k ≤ℤ floor_of node
     low k (inl a) = number-below k node a
     low k (inr w) = go (is_below-cases _ _ w.3)
       where
@@ -72,7 +73,7 @@ IsSampled-free fs node c lowest highest no_lo no_hi = record {
         go (inl e) = absurd (no_hi w.0 w.1 e)
         go (inr h) = ≤ℤ_trans _ _ _ (o k _ (reaches-trans fs _ _ _ w.2 (reaches-trans fs _ _ _ (reaches-fact fs w.0 w.1) (reaches-ceiling fs w.0.hi)))) h
 
-    high : (k : ℤ) → (is_below node (Number k) ≡ true) ⊎ ((g : Fact) × IsIn g fs × (is_below node g.lo ≡ true) × (reaches fs g.hi (Number k) ≡ true)) → ceiling_of node ≤ℤ k
+    high : (k : ℤ) → (is_below node (Number k) ≡ true) ⊎ ((g : Fact) × IsMember g fs × (is_below node g.lo ≡ true) × (reaches fs g.hi (Number k) ≡ true)) → ceiling_of node ≤ℤ k
     high k (inl a) = below-number k node a
     high k (inr w) = go (is_below-cases _ _ w.2)
       where

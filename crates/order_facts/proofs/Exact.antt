@@ -3,12 +3,13 @@ use Rattle.std.proofs.Common.{◌≡◌, ◌↔◌, Bool, List, [], ◌∷◌, t
 use lib.Signed.{≤ℤ_refl}
 use Rattle.std.proofs.lemmas.Bool.{false≢true, cases_Bool}
 use Rattle.std.proofs.lemmas.List.Elements.{All-nil, All-cons, All-head, All-tail}
+use Rattle.prog_tree.proofs.Elements.{IsMember}
 use Rattle.order_facts.specs.declared.steps.Node.{Node}
 use Rattle.order_facts.specs.declared.steps.Node.TheVariants.{Mine, MineUnknown, Theirs, TheirsUnknown, Number}
 use Rattle.order_facts.specs.declared.steps.Fact.{Fact}
 use Rattle.order_facts.specs.Chain.{floor_of, ceiling_of, Assignment, IsOfI64, value_under, Meets, Entails, IsConsistent}
 use Rattle.order_facts.specs.Reaches.{reaches}
-use Rattle.order_facts.proofs.Reach.{is_below-cases, is_below-plain, reaches-cases, reaches-below, reaches-refl, reaches-fact, reaches-trans, IsIn}
+use Rattle.order_facts.proofs.Reach.{is_below-cases, is_below-plain, reaches-cases, reaches-below, reaches-refl, reaches-fact, reaches-trans}
 use Rattle.order_facts.proofs.Bounds.{≤ℤ_trans, ≤ℤ_antisym, larger, smaller, larger-left, larger-cases, smaller-left, larger-mono, smaller-mono, IsOrderly, low_of, high_of, low-floor, high-ceiling, low-reaches, reaches-high, low-mono, high-mono, low-high}
 
 -- ---- an assignment that meets the facts, by recursion on them
@@ -60,7 +61,7 @@ IsOfI64-assigned fs f b = record { mine = λ i. fits (Mine i); mine_unknown = λ
     fits x = (≤ℤ_trans _ _ _ (low-floor fs x) (b x).0, ≤ℤ_trans _ _ _ (b x).1 (high-ceiling fs x))
 
 -- an order of the facts that f keeps
-meets_each : (fs : List Fact) (f : Node → ℤ) → IsBetween fs f → (gs : List Fact) → ((g : Fact) → IsIn g gs → f g.lo ≤ℤ f g.hi) → MeetsEach (assigned f) gs
+meets_each : (fs : List Fact) (f : Node → ℤ) → IsBetween fs f → (gs : List Fact) → ((g : Fact) → IsMember g gs → f g.lo ≤ℤ f g.hi) → MeetsEach (assigned f) gs
 meets_each fs f b [] h = tt
 meets_each fs f b (g ∷ gs) h = (rw (value_under-assigned fs f b g.lo, value_under-assigned fs f b g.hi) (h g (inl refl)), meets_each fs f b gs (λ k i. h k (inr i)))
 
@@ -78,7 +79,7 @@ module _ (fs : List Fact) (o : IsOrderly fs) (s : Node) where
       go (inl r) = rw r (low-high fs o x x (reaches-refl fs x), ≤ℤ_refl _)
       go (inr r) = rw r (≤ℤ_refl _, low-high fs o x x (reaches-refl fs x))
 
-  apart-meets : (g : Fact) → IsIn g fs → apart g.lo ≤ℤ apart g.hi
+  apart-meets : (g : Fact) → IsMember g fs → apart g.lo ≤ℤ apart g.hi
   unfolding apart
   apart-meets g i = go (cases_Bool (reaches fs s g.lo)) (cases_Bool (reaches fs s g.hi))
     where
@@ -121,7 +122,7 @@ sampled-between fs o x = (larger-left _ _, larger-cases (λ z. z ≤ℤ high_of 
 pub sampled-meets : (fs : List Fact) → IsOrderly fs → MeetsEach (assigned (sampled fs)) fs
 sampled-meets fs o = meets_each fs (sampled fs) (sampled-between fs o) fs each
   where
-    each : (g : Fact) → IsIn g fs → sampled fs g.lo ≤ℤ sampled fs g.hi
+    each : (g : Fact) → IsMember g fs → sampled fs g.lo ≤ℤ sampled fs g.hi
     each g i = larger-mono _ _ _ _ (low-mono fs g.lo g.hi (reaches-fact fs g i)) (smaller-mono _ _ _ _ (high-mono fs g.lo g.hi (reaches-fact fs g i)) (≤ℤ_refl _))
 
 -- ---- in the words of the specification

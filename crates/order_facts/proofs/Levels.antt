@@ -2,13 +2,14 @@
 use Rattle.std.proofs.Common.{◌≡◌, ℕ, zero, suc, ◌+◌, ◌-◌, ◌<◌, ◌≤◌, List, [], ◌∷◌, ◌++◌, length, take, true, false, ◌⊎◌, inl, inr, refl, sym, ap, ◌∙◌, subst, arith, length-append}
 use Rattle.std.proofs.lemmas.Bool.{cases_lt, cases_Bool, false≢true}
 use Rattle.std.proofs.lemmas.List.{append-nil, append_assoc, get_or_append_left, get_or-append_right, get_or_push, get_or-take, length-take-le}
+use Rattle.prog_tree.proofs.Elements.{member_from_contains}
 use Rattle.order_facts.specs.declared.steps.Node.{Node}
 use Rattle.order_facts.specs.declared.steps.Fact.{Fact}
 use Rattle.order_facts.specs.declared.search.Reached.{Reached}
 use Rattle.order_facts.specs.Chain.{IsStep, IsChainFrom, last_of}
 use Rattle.order_facts.specs.Reaches.{reaches, fact_at}
 use Rattle.order_facts.specs.Search.{IsEnd, reached_at, HasReached, LeadsNearer, IsDescending, IsLink, IsTrail, IsFresh, ReachesBefore, Adds, IsGrown, Spreads}
-use Rattle.order_facts.proofs.Chains.{Chained-from_reaches, IsIn-from_Contains}
+use Rattle.order_facts.proofs.Chains.{Chained-from_reaches}
 use Rattle.order_facts.proofs.Places.{place_of}
 use Rattle.order_facts.proofs.Shortest.{IsCandidate, IsWithin, within-end, within-le, within-chain, rank, rank_of}
 
@@ -127,7 +128,7 @@ IsSpreading-more facts old cur mid new steps k s a b = record { grown = IsGrown-
             (λ j m t. HasReached-adds facts mid new _ _ steps b _ (before-adds facts old cur mid _ steps s.grown a j m t), before-adds facts old mid new _ steps grown b)
 
 pub Spreads-from_all : (facts : List Fact) (old new : List Reached) (steps count : ℕ) → length facts ≤ count → IsSpreading facts old new steps count → Spreads facts old new steps
-Spreads-from_all facts old new steps count all s = record { grown = s.grown; ends = λ node e. from node e.0 (place_of facts e.0 (IsIn-from_Contains facts e.0 e.1)) e.2 }
+Spreads-from_all facts old new steps count all s = record { grown = s.grown; ends = λ node e. from node e.0 (place_of facts e.0 (member_from_contains facts e.0 e.1)) e.2 }
   where
     from : (node : Node) (f : Fact) → (p : (k : ℕ) × (k < length facts) × (fact_at facts k ≡ f)) → (f.lo ≡ node) ⊎ (f.hi ≡ node) → ReachesBefore facts old new (length old) node
     from node f p (inl e) = subst (λ (n : Node). ReachesBefore facts old new (length old) n) (ap (λ (g : Fact). g.lo) p.2 ∙ e) (s.ends p.0 (let h = p.1 in omega arith)).0

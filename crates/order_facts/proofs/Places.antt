@@ -3,28 +3,29 @@ use Rattle.std.proofs.Common.{◌≡◌, ℕ, zero, suc, List, [], ◌∷◌, le
 use Rattle.std.proofs.lemmas.Bool.{false_from_ne_true, both_ways}
 use Rattle.std.proofs.lemmas.Int.{ints}
 use Rattle.std.proofs.lemmas.List.{get_or_default}
+use Rattle.prog_tree.proofs.Elements.{IsMember, contains_from_member}
 use Rattle.order_facts.specs.declared.steps.Node.{Node}
 use Rattle.order_facts.specs.declared.steps.Node.TheVariants.{Mine, Number}
 use Rattle.order_facts.specs.declared.steps.Fact.{Fact}
 use Rattle.prog_tree.specs.Number.{least, greatest}
 use Rattle.order_facts.specs.Chain.{floor_of, ceiling_of, IsConsistent, HasContradiction, IsChainFrom, last_of}
 use Rattle.order_facts.specs.Reaches.{is_below, reaches, fact_at, HasOrderlyRow}
-use Rattle.order_facts.proofs.Reach.{reaches-first, reaches-last, reaches-below, reaches-fact, reaches-trans, IsIn}
+use Rattle.order_facts.proofs.Reach.{reaches-first, reaches-last, reaches-below, reaches-fact, reaches-trans}
 use Rattle.order_facts.proofs.Bounds.{HasOrderlyEnds, IsOrderly-from_ends}
 use Rattle.order_facts.proofs.Exact.{IsConsistent-from_orderly, orderly_from_IsConsistent}
-use Rattle.order_facts.proofs.Chains.{Contains-from_IsIn, Chained-from_reaches, reaches-from_chain}
+use Rattle.order_facts.proofs.Chains.{Chained-from_reaches, reaches-from_chain}
 
 -- ---- facts by their places
 
 pub fact_at-default : (fs : List Fact) (k : ℕ) (d : Fact) → k < length fs → get_or fs k d ≡ fact_at fs k
 fact_at-default fs k d h = get_or_default fs k d (record { lo = Mine 0; hi = Mine 0 }) h
 
-pub IsIn-fact_at : (fs : List Fact) (k : ℕ) → k < length fs → IsIn (fact_at fs k) fs
-IsIn-fact_at [] k h = absurd (omega arith)
-IsIn-fact_at (f ∷ fs) zero h = inl refl
-IsIn-fact_at (f ∷ fs) (suc k) h = inr (IsIn-fact_at fs k (omega arith))
+pub member-fact_at : (fs : List Fact) (k : ℕ) → k < length fs → IsMember (fact_at fs k) fs
+member-fact_at [] k h = absurd (omega arith)
+member-fact_at (f ∷ fs) zero h = inl refl
+member-fact_at (f ∷ fs) (suc k) h = inr (member-fact_at fs k (omega arith))
 
-pub place_of : (fs : List Fact) (f : Fact) → IsIn f fs → (k : ℕ) × (k < length fs) × (fact_at fs k ≡ f)
+pub place_of : (fs : List Fact) (f : Fact) → IsMember f fs → (k : ℕ) × (k < length fs) × (fact_at fs k ≡ f)
 place_of [] f i = absurd i
 place_of (g ∷ gs) f (inl e) = (zero, omega arith, e)
 place_of (g ∷ gs) f (inr i) = let p = place_of gs f i in (suc p.0, omega (arith, p.1), p.2)
@@ -32,15 +33,15 @@ place_of (g ∷ gs) f (inr i) = let p = place_of gs f i in (suc p.0, omega (arit
 -- ---- a way, by its last fact and by its first
 
 pub reaches-by_last : (fs : List Fact) (x y : Node) (k : ℕ) → k < length fs → reaches fs x (fact_at fs k).lo ≡ true → is_below (fact_at fs k).hi y ≡ true → reaches fs x y ≡ true
-reaches-by_last fs x y k inside front back = reaches-trans fs _ _ _ front (reaches-trans fs _ _ _ (reaches-fact fs _ (IsIn-fact_at fs k inside)) (reaches-below fs _ _ back))
+reaches-by_last fs x y k inside front back = reaches-trans fs _ _ _ front (reaches-trans fs _ _ _ (reaches-fact fs _ (member-fact_at fs k inside)) (reaches-below fs _ _ back))
 
 pub reaches-by_first : (fs : List Fact) (x y : Node) (k : ℕ) → k < length fs → is_below x (fact_at fs k).lo ≡ true → reaches fs (fact_at fs k).hi y ≡ true → reaches fs x y ≡ true
-reaches-by_first fs x y k inside front back = reaches-trans fs _ _ _ (reaches-below fs _ _ front) (reaches-trans fs _ _ _ (reaches-fact fs _ (IsIn-fact_at fs k inside)) back)
+reaches-by_first fs x y k inside front back = reaches-trans fs _ _ _ (reaches-below fs _ _ front) (reaches-trans fs _ _ _ (reaches-fact fs _ (member-fact_at fs k inside)) back)
 
 pub reaches-no_last : (fs : List Fact) (x y : Node) → is_below x y ≡ false → ((k : ℕ) → k < length fs → reaches fs x (fact_at fs k).lo ≡ true → is_below (fact_at fs k).hi y ≡ true → ⊥) → reaches fs x y ≡ false
 reaches-no_last fs x y apart none = false_from_ne_true _ (λ e. go (reaches-last fs x y e))
   where
-    go : (is_below x y ≡ true) ⊎ ((g : Fact) × IsIn g fs × (reaches fs x g.lo ≡ true) × (is_below g.hi y ≡ true)) → ⊥
+    go : (is_below x y ≡ true) ⊎ ((g : Fact) × IsMember g fs × (reaches fs x g.lo ≡ true) × (is_below g.hi y ≡ true)) → ⊥
     go (inl a) = both_ways _ apart a
     go (inr w) =
         let p = place_of fs w.0 w.1 in
@@ -49,7 +50,7 @@ reaches-no_last fs x y apart none = false_from_ne_true _ (λ e. go (reaches-last
 pub reaches-no_first : (fs : List Fact) (x y : Node) → is_below x y ≡ false → ((k : ℕ) → k < length fs → is_below x (fact_at fs k).lo ≡ true → reaches fs (fact_at fs k).hi y ≡ true → ⊥) → reaches fs x y ≡ false
 reaches-no_first fs x y apart none = false_from_ne_true _ (λ e. go (reaches-first fs x y e))
   where
-    go : (is_below x y ≡ true) ⊎ ((g : Fact) × IsIn g fs × (is_below x g.lo ≡ true) × (reaches fs g.hi y ≡ true)) → ⊥
+    go : (is_below x y ≡ true) ⊎ ((g : Fact) × IsMember g fs × (is_below x g.lo ≡ true) × (reaches fs g.hi y ≡ true)) → ⊥
     go (inl a) = both_ways _ apart a
     go (inr w) =
         let p = place_of fs w.0 w.1 in
@@ -83,10 +84,10 @@ contradiction-from_facts fs from to inside inside_too e falls above below = reco
   smaller = ceiling_of g.hi;
   falls = falls;
   first = f;
-  first_given = Contains-from_IsIn fs f (IsIn-fact_at fs from inside);
+  first_given = contains_from_member fs f (member-fact_at fs from inside);
   first_is = is_low;
   last = g;
-  last_given = Contains-from_IsIn fs g (IsIn-fact_at fs to inside_too);
+  last_given = contains_from_member fs g (member-fact_at fs to inside_too);
   last_is = is_high;
   chain = f.lo ∷ chained.0;
   chain_is = chained.1;
@@ -106,8 +107,8 @@ contradiction-from_facts fs from to inside inside_too e falls above below = reco
     is_high = number_high g.hi (omega (arith, ints))
 
     along : (to ≡ from) ⊎ (reaches fs f.hi g.lo ≡ true) → reaches fs f.lo g.hi ≡ true
-    along (inl p) = subst (λ (k : ℕ). reaches fs f.lo (fact_at fs k).hi ≡ true) (sym p) (reaches-fact fs f (IsIn-fact_at fs from inside))
-    along (inr r) = reaches-trans fs _ _ _ (reaches-fact fs f (IsIn-fact_at fs from inside)) (reaches-trans fs _ _ _ r (reaches-fact fs g (IsIn-fact_at fs to inside_too)))
+    along (inl p) = subst (λ (k : ℕ). reaches fs f.lo (fact_at fs k).hi ≡ true) (sym p) (reaches-fact fs f (member-fact_at fs from inside))
+    along (inr r) = reaches-trans fs _ _ _ (reaches-fact fs f (member-fact_at fs from inside)) (reaches-trans fs _ _ _ r (reaches-fact fs g (member-fact_at fs to inside_too)))
 
     chained : (rest : List Node) × IsChainFrom fs f.lo rest × (last_of f.lo rest ≡ g.hi)
     chained = Chained-from_reaches fs f.lo g.hi (along e)

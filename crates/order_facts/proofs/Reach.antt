@@ -4,6 +4,7 @@ use lib.Signed.{le_z, ≤ℤ_refl}
 use lib.Dec.{T}
 use Rattle.std.proofs.lemmas.Bool.{or_cases, and_parts, and_from, eqb-true, eq-eqb, false≢true, cases_Bool, or_left, or_right}
 use Rattle.std.proofs.lemmas.Int.{ints}
+use Rattle.prog_tree.proofs.Elements.{IsMember}
 use Rattle.order_facts.specs.declared.steps.Node.{Node}
 use Rattle.order_facts.specs.declared.steps.Node.TheVariants.{Mine, MineUnknown, Theirs, TheirsUnknown, Number}
 use Rattle.order_facts.specs.declared.steps.Fact.{Fact}
@@ -65,11 +66,6 @@ is_below-trans x y z a b = go (is_below-cases x y a) (is_below-cases y z b)
 
 -- ---- reaching by facts
 
--- membership by recursion on the list
-abbrev pub IsIn : Fact → List Fact → Type 0
-IsIn f [] = ⊥
-IsIn f (g ∷ gs) = (g ≡ f) ⊎ IsIn f gs
-
 pub reaches-old : (f : Fact) (fs : List Fact) (x y : Node) → reaches fs x y ≡ true → reaches (f ∷ fs) x y ≡ true
 unfolding reaches
 reaches-old f fs x y e = or_left _ _ e
@@ -94,7 +90,7 @@ reaches-below (f ∷ fs) x y e = reaches-old f fs x y (reaches-below fs x y e)
 pub reaches-refl : (fs : List Fact) (x : Node) → reaches fs x x ≡ true
 reaches-refl fs x = reaches-below fs x x (is_below-refl x)
 
-pub reaches-fact : (fs : List Fact) (f : Fact) → IsIn f fs → reaches fs f.lo f.hi ≡ true
+pub reaches-fact : (fs : List Fact) (f : Fact) → IsMember f fs → reaches fs f.lo f.hi ≡ true
 reaches-fact [] f i = absurd i
 reaches-fact (g ∷ gs) f (inl e) = rw (← e) (reaches-new g gs g.lo g.hi (reaches-refl gs g.lo) (reaches-refl gs g.hi))
 reaches-fact (g ∷ gs) f (inr i) = reaches-old g gs f.lo f.hi (reaches-fact gs f i)
@@ -111,38 +107,38 @@ reaches-trans (f ∷ fs) x y z a b = go (reaches-cases f fs x y a) (reaches-case
     go (inr p) (inr q) both front back = reaches-new f fs x z p.0 q.1
 
 -- the first fact on the way from x to y, if there is one
-pub reaches-first : (fs : List Fact) (x y : Node) → reaches fs x y ≡ true → (is_below x y ≡ true) ⊎ ((g : Fact) × IsIn g fs × (is_below x g.lo ≡ true) × (reaches fs g.hi y ≡ true))
+pub reaches-first : (fs : List Fact) (x y : Node) → reaches fs x y ≡ true → (is_below x y ≡ true) ⊎ ((g : Fact) × IsMember g fs × (is_below x g.lo ≡ true) × (reaches fs g.hi y ≡ true))
 unfolding reaches
 reaches-first [] x y e = inl e
 reaches-first (f ∷ fs) x y e = go (reaches-cases f fs x y e) (reaches-first fs x y) (reaches-first fs x f.lo)
   where
-    go : (reaches fs x y ≡ true) ⊎ ((reaches fs x f.lo ≡ true) × (reaches fs f.hi y ≡ true)) → (reaches fs x y ≡ true → (is_below x y ≡ true) ⊎ ((g : Fact) × IsIn g fs × (is_below x g.lo ≡ true) × (reaches fs g.hi y ≡ true))) → (reaches fs x f.lo ≡ true → (is_below x f.lo ≡ true) ⊎ ((g : Fact) × IsIn g fs × (is_below x g.lo ≡ true) × (reaches fs g.hi f.lo ≡ true))) → (is_below x y ≡ true) ⊎ ((g : Fact) × IsIn g (f ∷ fs) × (is_below x g.lo ≡ true) × (reaches (f ∷ fs) g.hi y ≡ true))
+    go : (reaches fs x y ≡ true) ⊎ ((reaches fs x f.lo ≡ true) × (reaches fs f.hi y ≡ true)) → (reaches fs x y ≡ true → (is_below x y ≡ true) ⊎ ((g : Fact) × IsMember g fs × (is_below x g.lo ≡ true) × (reaches fs g.hi y ≡ true))) → (reaches fs x f.lo ≡ true → (is_below x f.lo ≡ true) ⊎ ((g : Fact) × IsMember g fs × (is_below x g.lo ≡ true) × (reaches fs g.hi f.lo ≡ true))) → (is_below x y ≡ true) ⊎ ((g : Fact) × IsMember g (f ∷ fs) × (is_below x g.lo ≡ true) × (reaches (f ∷ fs) g.hi y ≡ true))
     go (inl p) whole front = old (whole p)
       where
-        old : (is_below x y ≡ true) ⊎ ((g : Fact) × IsIn g fs × (is_below x g.lo ≡ true) × (reaches fs g.hi y ≡ true)) → (is_below x y ≡ true) ⊎ ((g : Fact) × IsIn g (f ∷ fs) × (is_below x g.lo ≡ true) × (reaches (f ∷ fs) g.hi y ≡ true))
+        old : (is_below x y ≡ true) ⊎ ((g : Fact) × IsMember g fs × (is_below x g.lo ≡ true) × (reaches fs g.hi y ≡ true)) → (is_below x y ≡ true) ⊎ ((g : Fact) × IsMember g (f ∷ fs) × (is_below x g.lo ≡ true) × (reaches (f ∷ fs) g.hi y ≡ true))
         old (inl a) = inl a
         old (inr w) = inr (w.0, inr w.1, w.2, reaches-old f fs _ _ w.3)
     go (inr p) whole front = new (front p.0)
       where
-        new : (is_below x f.lo ≡ true) ⊎ ((g : Fact) × IsIn g fs × (is_below x g.lo ≡ true) × (reaches fs g.hi f.lo ≡ true)) → (is_below x y ≡ true) ⊎ ((g : Fact) × IsIn g (f ∷ fs) × (is_below x g.lo ≡ true) × (reaches (f ∷ fs) g.hi y ≡ true))
+        new : (is_below x f.lo ≡ true) ⊎ ((g : Fact) × IsMember g fs × (is_below x g.lo ≡ true) × (reaches fs g.hi f.lo ≡ true)) → (is_below x y ≡ true) ⊎ ((g : Fact) × IsMember g (f ∷ fs) × (is_below x g.lo ≡ true) × (reaches (f ∷ fs) g.hi y ≡ true))
         new (inl a) = inr (f, inl refl, a, reaches-old f fs _ _ p.1)
         new (inr w) = inr (w.0, inr w.1, w.2, reaches-new f fs _ _ w.3 p.1)
 
 -- the last fact on the way from x to y, if there is one
-pub reaches-last : (fs : List Fact) (x y : Node) → reaches fs x y ≡ true → (is_below x y ≡ true) ⊎ ((g : Fact) × IsIn g fs × (reaches fs x g.lo ≡ true) × (is_below g.hi y ≡ true))
+pub reaches-last : (fs : List Fact) (x y : Node) → reaches fs x y ≡ true → (is_below x y ≡ true) ⊎ ((g : Fact) × IsMember g fs × (reaches fs x g.lo ≡ true) × (is_below g.hi y ≡ true))
 unfolding reaches
 reaches-last [] x y e = inl e
 reaches-last (f ∷ fs) x y e = go (reaches-cases f fs x y e) (reaches-last fs x y) (reaches-last fs f.hi y)
   where
-    go : (reaches fs x y ≡ true) ⊎ ((reaches fs x f.lo ≡ true) × (reaches fs f.hi y ≡ true)) → (reaches fs x y ≡ true → (is_below x y ≡ true) ⊎ ((g : Fact) × IsIn g fs × (reaches fs x g.lo ≡ true) × (is_below g.hi y ≡ true))) → (reaches fs f.hi y ≡ true → (is_below f.hi y ≡ true) ⊎ ((g : Fact) × IsIn g fs × (reaches fs f.hi g.lo ≡ true) × (is_below g.hi y ≡ true))) → (is_below x y ≡ true) ⊎ ((g : Fact) × IsIn g (f ∷ fs) × (reaches (f ∷ fs) x g.lo ≡ true) × (is_below g.hi y ≡ true))
+    go : (reaches fs x y ≡ true) ⊎ ((reaches fs x f.lo ≡ true) × (reaches fs f.hi y ≡ true)) → (reaches fs x y ≡ true → (is_below x y ≡ true) ⊎ ((g : Fact) × IsMember g fs × (reaches fs x g.lo ≡ true) × (is_below g.hi y ≡ true))) → (reaches fs f.hi y ≡ true → (is_below f.hi y ≡ true) ⊎ ((g : Fact) × IsMember g fs × (reaches fs f.hi g.lo ≡ true) × (is_below g.hi y ≡ true))) → (is_below x y ≡ true) ⊎ ((g : Fact) × IsMember g (f ∷ fs) × (reaches (f ∷ fs) x g.lo ≡ true) × (is_below g.hi y ≡ true))
     go (inl p) whole back = old (whole p)
       where
-        old : (is_below x y ≡ true) ⊎ ((g : Fact) × IsIn g fs × (reaches fs x g.lo ≡ true) × (is_below g.hi y ≡ true)) → (is_below x y ≡ true) ⊎ ((g : Fact) × IsIn g (f ∷ fs) × (reaches (f ∷ fs) x g.lo ≡ true) × (is_below g.hi y ≡ true))
+        old : (is_below x y ≡ true) ⊎ ((g : Fact) × IsMember g fs × (reaches fs x g.lo ≡ true) × (is_below g.hi y ≡ true)) → (is_below x y ≡ true) ⊎ ((g : Fact) × IsMember g (f ∷ fs) × (reaches (f ∷ fs) x g.lo ≡ true) × (is_below g.hi y ≡ true))
         old (inl a) = inl a
         old (inr w) = inr (w.0, inr w.1, reaches-old f fs _ _ w.2, w.3)
     go (inr p) whole back = new (back p.1)
       where
-        new : (is_below f.hi y ≡ true) ⊎ ((g : Fact) × IsIn g fs × (reaches fs f.hi g.lo ≡ true) × (is_below g.hi y ≡ true)) → (is_below x y ≡ true) ⊎ ((g : Fact) × IsIn g (f ∷ fs) × (reaches (f ∷ fs) x g.lo ≡ true) × (is_below g.hi y ≡ true))
+        new : (is_below f.hi y ≡ true) ⊎ ((g : Fact) × IsMember g fs × (reaches fs f.hi g.lo ≡ true) × (is_below g.hi y ≡ true)) → (is_below x y ≡ true) ⊎ ((g : Fact) × IsMember g (f ∷ fs) × (reaches (f ∷ fs) x g.lo ≡ true) × (is_below g.hi y ≡ true))
         new (inl a) = inr (f, inl refl, reaches-old f fs _ _ p.0, a)
         new (inr w) = inr (w.0, inr w.1, reaches-new f fs _ _ p.0 w.2, w.3)
 

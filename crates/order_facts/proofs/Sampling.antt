@@ -13,7 +13,7 @@ use Rattle.order_facts.specs.Sample.{IsNearest, IsSampled}
 use Rattle.order_facts.proofs.Reach.{reaches-fact, reaches-trans}
 use Rattle.order_facts.proofs.Bounds.{≤ℤ_trans, floor-reaches, reaches-ceiling, number-reaches, reaches-number}
 use Rattle.order_facts.proofs.Exact.{Entails-from_reaches, reaches-from_Entails, orderly_from_IsConsistent}
-use Rattle.order_facts.proofs.Places.{IsIn-fact_at, place_of}
+use Rattle.order_facts.proofs.Places.{member-fact_at, place_of}
 
 -- ---- the bounds
 
@@ -30,7 +30,7 @@ pub low-raise : (fs : List Fact) (node : Node) (k : ℕ) (low floor : ℤ) → k
 low-raise fs node k low floor inside s e more r =
     let rises : low ≤ℤ floor = omega (arith, ints) in
     record {
-      below = rw e (reaches-trans fs _ _ _ (floor-reaches fs (fact_at fs k).lo) (reaches-trans fs _ _ _ (reaches-fact fs (fact_at fs k) (IsIn-fact_at fs k inside)) r));
+      below = rw e (reaches-trans fs _ _ _ (floor-reaches fs (fact_at fs k).lo) (reaches-trans fs _ _ _ (reaches-fact fs (fact_at fs k) (member-fact_at fs k inside)) r));
       own = ≤ℤ_trans _ _ _ s.own rises;
       others = below_more (λ i. reaches fs (fact_at fs i).hi node ≡ true → floor_of (fact_at fs i).lo ≤ℤ floor) k (λ i h t. ≤ℤ_trans _ _ _ (s.others i h t) rises) (λ _. subst (λ z. z ≤ℤ floor) e (≤ℤ_refl floor));
     }
@@ -60,7 +60,7 @@ pub high-lower : (fs : List Fact) (node : Node) (k : ℕ) (high ceiling : ℤ) �
 high-lower fs node k high ceiling inside s e less r =
     let falls : ceiling ≤ℤ high = omega (arith, ints) in
     record {
-      above = rw e (reaches-trans fs _ _ _ r (reaches-trans fs _ _ _ (reaches-fact fs (fact_at fs k) (IsIn-fact_at fs k inside)) (reaches-ceiling fs (fact_at fs k).hi)));
+      above = rw e (reaches-trans fs _ _ _ r (reaches-trans fs _ _ _ (reaches-fact fs (fact_at fs k) (member-fact_at fs k inside)) (reaches-ceiling fs (fact_at fs k).hi)));
       own = ≤ℤ_trans _ _ _ falls s.own;
       others = below_more (λ i. reaches fs node (fact_at fs i).lo ≡ true → ceiling ≤ℤ ceiling_of (fact_at fs i).hi) k (λ i h t. ≤ℤ_trans _ _ _ falls (s.others i h t)) (λ _. subst (λ z. ceiling ≤ℤ z) e (≤ℤ_refl ceiling));
     }
