@@ -44,7 +44,7 @@ fn check_rising(rt: &impl Abort, cells: &RisingCells) {
 #[test]
 fn rising_cells_are_found(rt: HostRuntime) -> Result<(), AllocError> {
     let cells = rising(rt.alloc(), &[cell(1, 7, 0), cell(0, 7, 1)])?;
-    let copy = cells.copy(rt.alloc())?;
+    let copy = cells.copy()?;
     drop(cells);
     assert!(rt; copy.as_slice() == [cell(0, 7, 1), cell(1, 7, 0)].as_slice());
     check_rising(&rt, &copy);
@@ -228,6 +228,8 @@ fn a_sequence_is_its_items(rt: HostRuntime) -> Result<(), AllocError> {
     assert!(rt; replies.len() == 2);
     let mut again = Sequence::from_vec(replies.into_vec());
     assert!(rt; again.as_slice() == [3, -4].as_slice());
+    let copy = again.copy()?;
+    assert!(rt; copy.as_slice() == [3, -4].as_slice());
     again.truncate(1);
     assert!(rt; again.as_slice() == [3].as_slice() && !again.is_empty());
     Ok(())

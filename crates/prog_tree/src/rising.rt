@@ -48,13 +48,11 @@ impl RisingCells {
         }
     }
 
-    pub fn copy(&self, alloc: Global) -> Result<Self, AllocError>
+    pub fn copy(&self) -> Result<Self, AllocError>
         ensures { IfOk result (λ copy. copy ≡ self.now) }
     {
-        let cells = Vec::from_slice(alloc, self.cells.as_slice())?;
-        Ok(RisingCells {
-            cells: Sequence::from_vec(cells),
-        })
+        let cells = self.cells.copy()?;
+        Ok(RisingCells { cells })
     }
 
     pub fn is_empty(&self) -> bool

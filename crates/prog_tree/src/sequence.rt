@@ -68,6 +68,13 @@ impl<T: Copy> Sequence<T> {
             items: Vec::from_slice(alloc, items)?,
         })
     }
+
+    pub fn copy(&self) -> Result<Self, AllocError>
+        ensures { IfOk result (λ copy. copy ≡ self.now) }
+    {
+        let items = Vec::from_slice(*self.items.allocator(), &self.items)?;
+        Ok(Sequence { items })
+    }
 }
 
 impl<T: Drop> Sequence<T> {

@@ -2,15 +2,15 @@
 
 use history_book::{Book, HistoryRow};
 use prog_check::ProgramSet;
-use prog_tree::{Rows, Sequence};
+use prog_tree::Rows;
 use si_engine::{Engine, Event, Reply};
 use std::alloc::{AllocError, Global};
 
 // The begin of a row's instance.
-fn begin_of(alloc: Global, row: &HistoryRow) -> Result<Event, AllocError> {
+fn begin_of(row: &HistoryRow) -> Result<Event, AllocError> {
     Ok(Event::Begin {
         program: row.program,
-        args: Sequence::from_slice(alloc, row.args.as_slice())?,
+        args: row.args.copy()?,
     })
 }
 
@@ -55,7 +55,7 @@ pub fn ending(
         return Ok(None);
     };
     let mut engine = Engine::open(alloc, set, rows)?;
-    let begin = begin_of(alloc, row)?;
+    let begin = begin_of(row)?;
     engine.apply(&begin)?;
     run_to_end(&mut engine, 0)
 }

@@ -199,7 +199,7 @@ impl<'a> Book<'a> {
     {
         Ok(HistoryRow {
             program: active.program,
-            args: Sequence::from_slice(self.alloc, active.args.as_slice())?,
+            args: active.args.copy()?,
             start: active.start,
             replies: Sequence::from_slice(self.alloc, run.replies())?,
         })

@@ -16,7 +16,7 @@ use crate::book::{Book, is_ready};
 use crate::instances::row::HistoryRow;
 use crate::instances::snapshot::same_numbers;
 use crate::limits::MAX_ORDERED;
-use prog_tree::{Rows, Sequence};
+use prog_tree::Rows;
 use std::alloc::{AllocError, Global};
 use std::error::Error;
 use std::fmt;
@@ -118,9 +118,9 @@ impl<'a> Book<'a> {
     {
         Ok(HistoryRow {
             program: row.program,
-            args: Sequence::from_slice(self.alloc, row.args.as_slice())?,
+            args: row.args.copy()?,
             start: self.commits(),
-            replies: Sequence::from_slice(self.alloc, row.replies.as_slice())?,
+            replies: row.replies.copy()?,
         })
     }
 

@@ -105,7 +105,7 @@ fn sight_of(alloc: Global, look: &Look) -> Result<Sight, AllocError>
         Look::One(cell, _) => Ok(Sight::One(*cell)),
         Look::Range { region, own, .. } => Ok(Sight::Range {
             region: KeptRegion::new(alloc, *region)?,
-            own: own.copy(alloc)?,
+            own: own.copy()?,
         }),
     }
 }

@@ -5,7 +5,6 @@ use crate::book::kept::have_same_rows;
 use crate::jobs::lists::{Call, jobs_of};
 use crate::sets::{CUT, LOOK, REGISTERS, SET, robust, rows_of};
 use history_book::{AuditFault, Book, HistoryRow, OrderFault};
-use prog_tree::Sequence;
 use si_workers::{Finished, NoGate, WorkFault, run_jobs};
 use std::alloc::{AllocError, Global};
 use std::process::Abort;
@@ -37,12 +36,12 @@ const CALLS: [Call; 20] = [
     (LOOK, &[1], 9),
 ];
 
-fn copy(alloc: Global, row: &HistoryRow) -> Result<HistoryRow, AllocError> {
+fn copy(row: &HistoryRow) -> Result<HistoryRow, AllocError> {
     Ok(HistoryRow {
         program: row.program,
-        args: Sequence::from_slice(alloc, row.args.as_slice())?,
+        args: row.args.copy()?,
         start: row.start,
-        replies: Sequence::from_slice(alloc, row.replies.as_slice())?,
+        replies: row.replies.copy()?,
     })
 }
 
@@ -51,7 +50,7 @@ fn rows_in(alloc: Global, book: &Book<'_>) -> Result<Vec<HistoryRow>, AllocError
     let mut rows = Vec::new(alloc);
     for number in 1..=book.commits() {
         if let Some(row) = book.nth_commit(number) {
-            rows.push(copy(alloc, row)?)?;
+            rows.push(copy(row)?)?;
         }
     }
     Ok(rows)
