@@ -13,6 +13,7 @@ use Rattle.prog_text.specs.Cut.{Spells}
 use Rattle.prog_text.specs.Lexing.{is_digit}
 use Rattle.prog_text.specs.Spelling.{spelling, reserved_as, reserved_words}
 use Rattle.prog_text.specs.Words.{begun}
+use Rattle.prog_text.proofs.Spelled.{not_is}
 
 -- a test that the word passes and the other fails tells them apart
 apart : (test : List ℕ → Bool) (word other : List ℕ) → test word ≡ true → test other ≡ false → bytes_eq word other ≡ false
@@ -33,17 +34,13 @@ unnamed Job other others word none = absurd (others refl)
 abbrev begins_digits : List ℕ → Bool
 begins_digits word = is_digit (slice_index word 0)
 
-no_digits : (b : Bool) → not b ≡ true → b ≡ false
-no_digits true h = sym h
-no_digits false h = refl
-
 -- none of the tokens is spelled with digits at its front, so a word that has some spells none
 none_of : (word : List ℕ) (tokens : List Token) → list_all (λ u. not (begins_digits (spelling u))) tokens ≡ true → begins_digits word ≡ true
     → find (λ u. bytes_eq word (spelling u)) tokens ≡ None
 none_of word [] all digits = refl
 none_of word (u ∷ tokens) all digits =
     let parts : (not (begins_digits (spelling u)) ≡ true) × (list_all (λ v. not (begins_digits (spelling v))) tokens ≡ true) = and_parts _ _ all in
-    rw (apart begins_digits word (spelling u) digits (no_digits _ parts.0)) (none_of word tokens parts.1 digits)
+    rw (apart begins_digits word (spelling u) digits (not_is _ parts.0)) (none_of word tokens parts.1 digits)
 
 -- a word is looked for just where the token that it spells is
 pub word_first : (kind : Landmark) → kind ≢ Record → kind ≢ Job → (u : Token) (word : List ℕ) → Spells u word → is_sign_of kind word ≡ is_first kind u

@@ -12,6 +12,7 @@ use Rattle.std.specs.Ordering.{nat_cmp, ordering_then, is_eq, is_gt}
 use Rattle.std.specs.declared.cmp.Ordering.{Ordering}
 use Rattle.std.specs.declared.cmp.Ordering.TheVariants.{Less, Equal, Greater}
 use Rattle.std.proofs.lemmas.Map.Keys.{sorted_head, sorted_tail}
+use Rattle.prog_tree.proofs.TableStates.{then_equal}
 use Rattle.history_book.specs.ActiveSet.{beginning_cmp, is_beginning_of, AreBeginnings}
 use Rattle.history_book.specs.View.{with_start, least_start}
 use Rattle.history_book.specs.declared.instances.active_set.Beginning.{Beginning}
@@ -20,15 +21,10 @@ use Rattle.history_book.proofs.TestLaws.{eq_told, eq_itself, lt_told, lt_not}
 
 -- ---- the order of beginnings
 
-then_equal : (a b : Ordering) → ordering_then a b ≡ Equal → b ≡ Equal
-then_equal Less b h = absurd (cc)
-then_equal Equal b h = h
-then_equal Greater b h = absurd (cc)
-
 same_number : (a b : Beginning) → is_at (beginning_cmp a) b ≡ true → a.number ≡ b.number
 same_number a b same =
     nat_cmp-IsAntisymmetric a.number b.number
-    (then_equal (nat_cmp a.start b.start) (nat_cmp a.number b.number) ((Equal-is (beginning_cmp a b)).0 same))
+    (then_equal (nat_cmp a.start b.start) (nat_cmp a.number b.number) ((Equal-is (beginning_cmp a b)).0 same)).1
 
 not_above : (a b : Beginning) → is_gt (beginning_cmp a b) ≡ false → a.start ≤ b.start
 not_above a b low = go (nat_lt b.start a.start) refl

@@ -1,5 +1,5 @@
 -- Tests and what they tell.
-use Rattle.std.proofs.Common.{◌≡◌, ◌∙◌, ◌==◌, ◌⊎◌, inl, inr, ℕ, ◌<◌, ◌≤◌, nat_lt, Bool, true, false, true≢false, ◌||◌, not, List, [], ◌∷◌, refl, ap, sym, subst, arith}
+use Rattle.std.proofs.Common.{◌≡◌, ◌∙◌, ◌==◌, ◌⊎◌, inl, inr, ℕ, ◌<◌, ◌≤◌, leb, nat_lt, Bool, true, false, true≢false, ◌||◌, not, List, [], ◌∷◌, refl, ap, sym, subst, arith}
 use Rattle.std.specs.Prelude.{nat_le}
 use Rattle.std.specs.List.{list_any}
 use Rattle.std.proofs.lemmas.Bool.Decides.{nat_tests}
@@ -26,6 +26,12 @@ le_told i j h = grind (arith, nat_tests)
 
 pub le_tells : (i j : ℕ) → i ≤ j → nat_le i j ≡ true
 le_tells i j h = grind (arith, nat_tests)
+
+pub not_above : (n m : ℕ) → leb m n ≡ true → nat_lt n m ≡ false
+not_above n m h = grind (arith, nat_tests)
+
+pub is_above : (n m : ℕ) → leb m n ≡ false → nat_lt n m ≡ true
+is_above n m h = grind (arith, nat_tests)
 
 pub eq_told : (i j : ℕ) → (i == j) ≡ true → i ≡ j
 eq_told i j h = grind (arith, nat_tests)

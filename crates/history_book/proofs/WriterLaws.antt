@@ -3,7 +3,6 @@ use Rattle.std.proofs.Common.{◌≡◌, ◌∙◌, ℕ, zero, suc, ◌+◌, ◌
 use Rattle.std.specs.Prelude.{nat_le, Option, Some, None, IfSome, All, unwrap_or}
 use Rattle.std.specs.List.Sorted.{IsStrictlySortedBy}
 use Rattle.std.specs.Option.{option_or}
-use Rattle.std.proofs.lemmas.Bool.Decides.{nat_tests}
 use Rattle.std.proofs.lemmas.List.Elements.{All-head, All-tail}
 use Rattle.std.proofs.lemmas.Map.Keys.{sorted_tail}
 use Rattle.prog_tree.specs.declared.cell.Cell.{Cell}
@@ -12,6 +11,7 @@ use Rattle.prog_tree.proofs.CellSets.{same-turned, not-behind}
 use Rattle.prog_tree.proofs.TableStates.{cell_is}
 use Rattle.version_store.proofs.RisingLaws.{cut_rest, cut_none}
 use Rattle.history_book.specs.Reduced.{numbers_at, IsAddedAt, RiseFrom, AreWithin, AllRiseWithin, IsCutBy, last_seen, first_missed}
+use Rattle.history_book.proofs.TestLaws.{not_above, is_above}
 
 -- ---- walks over the cells of a commit
 
@@ -74,12 +74,6 @@ seen_last n (m ∷ ms) zero cut bound =
 seen_last n (m ∷ ms) (suc count) cut bound =
     let rest = seen_last n ms count (cut_rest (λ (k : ℕ). k) n m ms (suc count) cut) (omega arith) in
     rw (← rest) refl
-
-not_above : (n m : ℕ) → leb m n ≡ true → nat_lt n m ≡ false
-not_above n m h = grind (arith, nat_tests)
-
-is_above : (n m : ℕ) → leb m n ≡ false → nat_lt n m ≡ true
-is_above n m h = grind (arith, nat_tests)
 
 pub missed_none : (n : ℕ) (ms : List ℕ) → IsCutBy n ms (length ms) → None ≡ first_missed n ms
 missed_none n [] cut = refl

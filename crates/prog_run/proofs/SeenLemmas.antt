@@ -4,7 +4,7 @@ use Rattle.std.specs.Prelude.{ℤ, ◌+ℤ◌, Bool, ◌||◌, Option, Some, Non
 use Rattle.std.proofs.Math.Numerals.{one-add}
 use Rattle.std.specs.declared.cmp.Ordering.{Ordering}
 use Rattle.std.specs.declared.cmp.Ordering.TheVariants.{Less, Equal, Greater}
-use Rattle.std.specs.Ordering.{is_eq, is_lt, match_ordering, ordering_reverse}
+use Rattle.std.specs.Ordering.{is_eq, is_lt, match_ordering}
 use Rattle.std.specs.Cmp.{tied_itself}
 use Rattle.std.specs.FinMap.{find}
 use Rattle.std.specs.FinMap.Entries.{find-where_key}
@@ -13,22 +13,15 @@ use Rattle.std.specs.List.Sorted.{IsStrictlySortedBy}
 use Rattle.std.proofs.lemmas.List.Kept.{IsStrictlySortedBy-filter}
 use Rattle.prog_tree.specs.declared.cell.Cell.{Cell}
 use Rattle.prog_tree.specs.declared.cell.Region.{Region}
-use Rattle.prog_tree.specs.Table.{cell_cmp, is_in, is_same_cell, is_cell_among, cells_of, TableState, row_at, with_row, without_row, row_held}
+use Rattle.prog_tree.specs.Table.{cell_cmp, is_in, is_cell_among, cells_of, TableState, row_at, with_row, without_row, row_held}
 use Rattle.prog_tree.specs.ChangeSet.{ChangedCells, changes_in, changed_row, changed}
 use Rattle.prog_tree.specs.Evaluation.{total_of, rows_without}
-use Rattle.prog_tree.proofs.CellSets.{none-above}
-use Rattle.prog_tree.proofs.TableLemmas.{cell_total, find_is, absent_rest}
+use Rattle.prog_tree.proofs.CellSets.{none-above, turned}
+use Rattle.prog_tree.proofs.TableLemmas.{cell_total, find_is, absent_stays, absent_rest}
 use Rattle.prog_tree.proofs.ChangedLemmas.{row_at-changed}
 use Rattle.prog_run.specs.Seen.{rows_before, AreAbsent}
 
 -- ---- rows of cells that were not changed
-
-without_absent : (c : Cell) (m : TableState) → row_at m c ≡ None → without_row m c ≡ m
-without_absent c [] absent = refl
-without_absent c (row ∷ m) absent =
-    let rest = without_absent c m in
-    (elim (is_same_cell c row.0) as (λ b. cond b (Some row.1) (row_at m c) ≡ None → cond (not b) (row ∷ without_row m c) (without_row m c) ≡ row ∷ m)
-    [ true ↦ λ found. absurd (cc) | false ↦ λ k. ap (λ rows. row ∷ rows) (rest k) ]) absent
 
 all_absent_rest : (row : Cell × ℤ) (m : TableState) (es : ChangedCells) → AreAbsent (row ∷ m) es → AreAbsent m es
 all_absent_rest row m [] h = tt
@@ -100,9 +93,6 @@ abbrev IsBeforeFirst : Cell → TableState → Type 0
 IsBeforeFirst c [] = Unit {0}
 IsBeforeFirst c (row ∷ rows) = cell_cmp c row.0 ≡ Less
 
-turned : (a b : Cell) (o : Ordering) → cell_cmp a b ≡ o → cell_cmp b a ≡ ordering_reverse o
-turned a b o h = cell_total.antisymm b a ∙ ap ordering_reverse h
-
 before_more : (a b : Cell) → cell_cmp a b ≡ Less → (es : ChangedCells) → IsBeforeAll b es → IsBeforeAll a es
 before_more a b lt [] all = tt
 before_more a b lt (e ∷ es) all = (cell_total.trans a b e.0 lt all.0, before_more a b lt es all.1)
@@ -126,7 +116,7 @@ still_first : (c k : Cell) (w : Option ℤ) (m : TableState) → IsBeforeFirst c
 still_first c k (Some v) [] h lt absent = lt
 still_first c k (Some v) (row ∷ m) h lt absent =
     elim (cell_cmp k row.0) as (λ o. IsBeforeFirst c (match_ordering o ((k, v) ∷ row ∷ m) ((row.0, v) ∷ m) (row ∷ with_row m k v))) [ Less ↦ lt | Equal ↦ h | Greater ↦ h ]
-still_first c k None m h lt absent = subst (IsBeforeFirst c) (sym (without_absent k m absent)) h
+still_first c k None m h lt absent = subst (IsBeforeFirst c) (absent_stays k m absent) h
 
 first_changed : (c : Cell) (m : TableState) (es : ChangedCells) → IsBeforeFirst c m → IsBeforeAll c es → IsStrictlySortedBy cell_cmp (cells_of es) → AreAbsent m es → IsBeforeFirst c (changed m es)
 unfolding IsStrictlySortedBy
@@ -142,7 +132,7 @@ first_change e m es h ordered absent = by_change e.1
   where
     by_change : (w : Option ℤ) → changed_row (changed m es) e.0 w ≡ row_held e.0 w ++ changed m es
     by_change (Some v) = first_set (changed m es) e.0 v (first_changed e.0 m es h ordered.0 ordered.1 absent.1)
-    by_change None = without_absent e.0 (changed m es) (still_absent m e es ordered.0 absent.0)
+    by_change None = sym (absent_stays e.0 (changed m es) (still_absent m e es ordered.0 absent.0))
 
 -- the rows before the first change, its row, and then the others with the other changes
 pub merged : (e : Cell × Option ℤ) (es : ChangedCells) (m : TableState) → IsStrictlySortedBy cell_cmp (cells_of (e ∷ es)) → AreAbsent m (e ∷ es) →

@@ -21,8 +21,8 @@ same-itself c = (eq_by_cmp_equiv cell_total).refl c
 pub same-turned : (a b : Cell) → is_same_cell a b ≡ is_same_cell b a
 same-turned a b = (eq_by_cmp_equiv cell_total).symm a b
 
-pub turned : (a b : Cell) → cell_cmp a b ≡ Greater → cell_cmp b a ≡ Less
-turned a b h = cell_total.antisymm b a ∙ ap ordering_reverse h
+pub turned : (a b : Cell) (o : Ordering) → cell_cmp a b ≡ o → cell_cmp b a ≡ ordering_reverse o
+turned a b o h = cell_total.antisymm b a ∙ ap ordering_reverse h
 
 -- a cell is among those of a map where it has an entry
 pub among-some : {A : Type 0} (m : Cells A) (c : Cell) → is_cell_among (cells_of m) c ≡ is_some (at_cell m c)
@@ -76,7 +76,7 @@ sorted-insert (x ∷ ks) k h = go (cell_cmp k x) refl (sorted-insert ks k h.1)
     go : (o : Ordering) → cell_cmp k x ≡ o → IsStrictlySortedBy cell_cmp (insert_key cell_cmp ks k) → IsStrictlySortedBy cell_cmp (match_ordering o (k ∷ x ∷ ks) (x ∷ ks) (x ∷ insert_key cell_cmp ks k))
     go Less is rest = ((is, all_beyond k x ks is h.0), h)
     go Equal is rest = h
-    go Greater is rest = (all_insert (λ d. cell_cmp x d ≡ Less) ks k (turned k x is) h.0, rest)
+    go Greater is rest = (all_insert (λ d. cell_cmp x d ≡ Less) ks k (turned k x Greater is) h.0, rest)
 
 swapped : (a b r : Bool) → (a || (b || r)) ≡ (b || (a || r))
 swapped a b r = sym (or_assoc a b r) ∙ ap (λ x. x || r) (or_comm a b) ∙ or_assoc b a r

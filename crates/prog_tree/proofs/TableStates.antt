@@ -18,7 +18,7 @@ use Rattle.prog_tree.proofs.TableLemmas.{cell_total, put_is, find_is}
 
 -- ---- cells that compare equal are the same
 
-then_equal : (a b : Ordering) → ordering_then a b ≡ Equal → (a ≡ Equal) × (b ≡ Equal)
+pub then_equal : (a b : Ordering) → ordering_then a b ≡ Equal → (a ≡ Equal) × (b ≡ Equal)
 then_equal Less b h = absurd (cc)
 then_equal Equal b h = (refl, h)
 then_equal Greater b h = absurd (cc)

@@ -35,7 +35,7 @@ less_than c x y less least = go (cell_cmp x y) refl
     go : (o : Ordering) → cell_cmp x y ≡ o → cell_cmp c y ≡ Less
     go Less is = cell_total.trans c x y less is
     go Equal is = subst (λ (d : Cell). cell_cmp c d ≡ Less) (same_cell x y is) less
-    go Greater is = absurd (least (turned x y is))
+    go Greater is = absurd (least (turned x y Greater is))
 
 -- ---- the first cell above the start
 
@@ -153,7 +153,7 @@ first-unique p number start (Some x) (Some y) h k = go (cell_cmp x.0 y.0) refl
         let cell = same_cell x.0 y.0 is in
         let same = h.2 ∙ ap number cell ∙ sym k.2 in
         λ i. Some (cell i, same i)
-    go Greater is = absurd (h.3 y.0 k.0 k.1 (turned x.0 y.0 is))
+    go Greater is = absurd (h.3 y.0 k.0 k.1 (turned x.0 y.0 Greater is))
 
 -- ---- clashes
 
