@@ -15,7 +15,7 @@ use Rattle.prog_tree.specs.declared.table.Arity.TheVariants as arity
 use Rattle.prog_tree.specs.ChangeSet.{ChangedCells, no_changes, changed}
 use Rattle.prog_tree.specs.Evaluation.{Evaluation, eval}
 use Rattle.prog_tree.specs.Number.{greatest}
-use Rattle.prog_tree.specs.Syntax.{ExprTree, Literal, Named, Plus, Minus, Times, RelationSign, Less, Equal, TestTree, KeyTree, BlockTree, BlockEnd, Then, Branch, ProgramTree}
+use Rattle.prog_tree.specs.Syntax.{ExprTree, Literal, Named, Plus, Minus, RelationSign, Less, TestTree, KeyTree, BlockTree, BlockEnd, Then, Branch, ProgramTree}
 use Rattle.prog_tree.specs.Syntax as s
 use Rattle.prog_tree.specs.Table.{TableState}
 
