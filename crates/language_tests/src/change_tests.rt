@@ -1,9 +1,7 @@
 //! Cells, rows, changes and what a run has done, as a reader works them out.
 
 use crate::told::is_told;
-use prog_tree::{
-    Cell, Changes, Env, Progress, Region, RisingCells, Rows, Sequence, is_among, is_among_rising,
-};
+use prog_tree::{Cell, Changes, Env, Progress, Region, RisingCells, Rows, Sequence};
 use std::alloc::{AllocError, Global};
 use std::process::Abort;
 
@@ -13,17 +11,6 @@ fn cell(table: usize, first: i64, second: i64) -> Cell {
         first,
         second,
     }
-}
-
-#[test]
-fn cells_are_told_apart_by_all_their_parts(rt: HostRuntime) {
-    let cells = [cell(0, 7, 1), cell(1, 7, 0)];
-    for (table, second, among) in [(0, 1, true), (0, 0, false), (1, 1, false)] {
-        let cell = cell(table, 7, second);
-        assert!(rt; is_among(&cells, &cell) == among, "{table} {second}");
-        assert!(rt; is_among_rising(&cells, &cell) == among, "{table} {second}");
-    }
-    assert!(rt; !is_among(&[], &cell(0, 7, 1)) && !is_among_rising(&[], &cell(0, 7, 1)));
 }
 
 /// Cells in their order.

@@ -23,13 +23,6 @@ pub struct Region {
     pub second_high: i64,
 }
 
-/// Whether a cell is one of some cells.
-pub fn is_among(cells: &[Cell], cell: &Cell) -> bool
-    ensures { result ≡ is_cell_among cells.now cell.now }
-{
-    cells.iter().any(|other| cell.cmp(other).is_eq())
-}
-
 /// Whether a cell is one of some cells, found in few steps. Of cells that do not rise it may say
 /// either.
 pub fn is_among_rising(cells: &[Cell], cell: &Cell) -> bool
