@@ -223,10 +223,11 @@ fn a_sequence_is_its_items(rt: HostRuntime) -> Result<(), AllocError> {
 }
 
 #[test]
-fn a_run_has_done_nothing_at_first(rt: HostRuntime) {
-    let progress = Progress::new(rt.alloc(), Env::new(rt.alloc()));
+fn a_run_has_done_nothing_at_first(rt: HostRuntime) -> Result<(), AllocError> {
+    let progress = Progress::with_room(rt.alloc(), Env::new(rt.alloc()), 2)?;
     assert!(rt; progress.env.len() == 0);
     assert!(rt; progress.deeds.is_empty() && progress.looks.is_empty());
     assert!(rt; progress.replies.is_empty() && progress.changes.iter().len() == 0);
     drop(progress);
+    Ok(())
 }

@@ -64,12 +64,20 @@ impl<'a> Model for Run<'a> {
         × IsWaiting r.set.now.tables.items r.asked r.end (cursor_tree r.cursor) r.progress };
 }
 
-/// The parameters with their arguments.
-fn bind_all<'a>(alloc: Global, params: &'a [Name], args: &[i64]) -> Result<Env<'a>, AllocError>
+// For how many statements a run makes room at most before it has done any.
+const MOST_FIRST_ROOM: usize = 16;
+
+/// The parameters with their arguments, with room for so many names more.
+fn bind_all<'a>(
+    alloc: Global,
+    params: &'a [Name],
+    args: &[i64],
+    more: usize,
+) -> Result<Env<'a>, AllocError>
     requires { length params.now ≡ length args.now }
     ensures { IfOk result (λ env. env ≡ zip params.now args.now) }
 {
-    let mut env = Env::new(alloc);
+    let mut env = Env::with_capacity(alloc, params.len().saturating_add(more))?;
     for (i, name) in params.iter().enumerate() {
         env.bind(name, args[i])?;
     }
@@ -96,20 +104,22 @@ impl<'a> Run<'a> {
         if program.params.len() != args.len() {
             return Err(RunFault::WrongArguments);
         }
-        let env = bind_all(alloc, &program.params, args)?;
+        let body = program.body.stmts.as_slice();
+        let room = body.len().min(MOST_FIRST_ROOM);
+        let env = bind_all(alloc, &program.params, args, room)?;
         Ok(Run {
             set,
             program,
             args: Sequence::from_slice(alloc, args)?,
             cursor: Cursor {
                 here: OpenBlock {
-                    rest: program.body.stmts.as_slice(),
+                    rest: body,
                     scope: args.len(),
                     turns: None,
                 },
                 outer: Vec::new(alloc),
             },
-            progress: Progress::new(alloc, env),
+            progress: Progress::with_room(alloc, env, room)?,
             asked: None,
             end: None,
         })

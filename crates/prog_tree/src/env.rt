@@ -1,6 +1,6 @@
 //! The names that a run has bound, with their values.
 
-ghost use Rattle.std.specs.Prelude.{◌≡◌, [], ◌∷◌, ◌++◌, length, take, OnOk, OnErr};
+ghost use Rattle.std.specs.Prelude.{◌≡◌, [], ◌∷◌, ◌++◌, length, take, IfOk, OnOk, OnErr};
 ghost use Rattle.prog_tree.specs.Value.{value_in};
 
 use crate::name::Name;
@@ -43,6 +43,15 @@ impl<'a> Env<'a> {
         Env {
             bindings: Vec::new(alloc),
         }
+    }
+
+    /// No names, with room for so many.
+    pub fn with_capacity(alloc: Global, names: usize) -> Result<Self, AllocError>
+        ensures { IfOk result (λ env. env ≡ []) }
+    {
+        Ok(Env {
+            bindings: Vec::with_capacity(alloc, names)?,
+        })
     }
 
     pub fn bind(&mut self, name: &'a Name, value: i64) -> Result<(), AllocError>

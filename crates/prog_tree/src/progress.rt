@@ -5,7 +5,7 @@ use crate::deed::Deed;
 use crate::env::Env;
 use crate::look::Look;
 use crate::sequence::Sequence;
-use std::alloc::Global;
+use std::alloc::{AllocError, Global};
 
 /// What a run has done so far.
 #[derive(Debug, Drop)]
@@ -21,19 +21,20 @@ pub struct Progress<'a> {
 }
 
 impl<'a> Progress<'a> {
-    ghost use Rattle.std.specs.Prelude.{◌≡◌};
+    ghost use Rattle.std.specs.Prelude.{◌≡◌, IfOk};
     ghost use Rattle.prog_tree.specs.Steps.{started_with};
 
-    /// A run that has only its arguments.
-    pub fn new(alloc: Global, env: Env<'a>) -> Self
-        ensures { result ≡ started_with env.entry }
+    /// A run that has only its arguments, with room for so many deeds.
+    pub fn with_room(alloc: Global, env: Env<'a>, deeds: usize) -> Result<Self, AllocError>
+        ensures { IfOk result (λ progress. progress ≡ started_with env.entry) }
     {
-        Progress {
+        let deeds = Sequence::with_capacity(alloc, deeds)?;
+        Ok(Progress {
             env,
-            deeds: Sequence::new(alloc),
+            deeds,
             replies: Sequence::new(alloc),
             changes: Changes::new(alloc),
             looks: Sequence::new(alloc),
-        }
+        })
     }
 }

@@ -28,6 +28,15 @@ impl<T> Sequence<T> {
         }
     }
 
+    /// No items, with room for so many.
+    pub fn with_capacity(alloc: Global, items: usize) -> Result<Self, AllocError>
+        ensures { IfOk result (λ sequence. sequence ≡ []) }
+    {
+        Ok(Sequence {
+            items: Vec::with_capacity(alloc, items)?,
+        })
+    }
+
     pub fn from_vec(items: Vec<T>) -> Self
         ensures { result ≡ items.items }
     {
