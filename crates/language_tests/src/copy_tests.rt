@@ -2,7 +2,7 @@
 
 use example_sets::{PAY, SMALL_BANK, set_of};
 use prog_text::parse;
-use prog_tree::{Block, Draft, Expr, Key, Stmt, Test};
+use prog_tree::{Block, Draft, Expr, Key, Name, Stmt, Test, copy_names, copy_tables, same_tables};
 use std::alloc::{AllocError, Global};
 use std::fmt::Debug;
 use std::test::Fail;
@@ -53,6 +53,44 @@ fn a_copy_is_the_same(rt: HostRuntime) -> Result<(), Fail> {
     for text in [SMALL_BANK, PAY] {
         let copied = are_copied_of(rt.alloc(), text)?;
         assert!(rt; copied == [true, true, true], "{text}");
+    }
+    Ok(())
+}
+
+fn are_names_copied(alloc: Global, names: &[Name]) -> Result<bool, AllocError> {
+    let copies = copy_names(alloc, names)?;
+    for (copy, name) in copies.iter().zip(names) {
+        if !copy.is_same(name) {
+            return Ok(false);
+        }
+    }
+    Ok(copies.len() == names.len())
+}
+
+/// Whether the list of a draft's tables and those of its programs' parameters are copied.
+fn are_lists_copied(alloc: Global, draft: &Draft) -> Result<bool, AllocError> {
+    for program in &draft.programs {
+        if !are_names_copied(alloc, &program.params)? {
+            return Ok(false);
+        }
+    }
+    let tables = copy_tables(alloc, &draft.tables)?;
+    Ok(same_tables(&tables, &draft.tables))
+}
+
+/// The same of the draft of a text.
+fn are_lists_copied_of(alloc: Global, text: &str) -> Result<bool, Fail> {
+    let set = set_of(alloc, text)?;
+    let copied = are_lists_copied(alloc, set.draft());
+    drop(set);
+    Ok(copied?)
+}
+
+#[test]
+fn lists_are_copied(rt: HostRuntime) -> Result<(), Fail> {
+    for text in [SMALL_BANK, PAY] {
+        let copied = are_lists_copied_of(rt.alloc(), text)?;
+        assert!(rt; copied, "{text}");
     }
     Ok(())
 }

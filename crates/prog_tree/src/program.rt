@@ -6,7 +6,7 @@ ghost use Rattle.prog_tree.specs.Tree.{program_tree, draft_tree};
 use crate::name::Name;
 use crate::stmt::Block;
 use crate::table::{TableDecl, same_tables};
-use std::alloc::AllocError;
+use std::alloc::{AllocError, Global};
 
 /// A program: its parameters and its body.
 #[derive(Debug, Drop)]
@@ -16,10 +16,10 @@ pub struct Program {
     pub body: Block,
 }
 
-fn copy_names(names: &Vec<Name>) -> Result<Vec<Name>, AllocError>
-    ensures { IfOk result (λ copies. copies.items ≡ names.now.items) }
+pub fn copy_names(alloc: Global, names: &[Name]) -> Result<Vec<Name>, AllocError>
+    ensures { IfOk result (λ copies. copies.items ≡ names.now) }
 {
-    let mut copies = Vec::with_capacity(*names.allocator(), names.len())?;
+    let mut copies = Vec::with_capacity(alloc, names.len())?;
     for name in names {
         copies.push(name.copy()?)?;
     }
@@ -47,7 +47,7 @@ impl Program {
     {
         Ok(Program {
             name: self.name.copy()?,
-            params: copy_names(&self.params)?,
+            params: copy_names(*self.params.allocator(), &self.params)?,
             body: self.body.copy()?,
         })
     }
@@ -69,10 +69,10 @@ pub struct Draft {
     pub programs: Vec<Program>,
 }
 
-fn copy_tables(tables: &Vec<TableDecl>) -> Result<Vec<TableDecl>, AllocError>
-    ensures { IfOk result (λ copies. copies.items ≡ tables.now.items) }
+pub fn copy_tables(alloc: Global, tables: &[TableDecl]) -> Result<Vec<TableDecl>, AllocError>
+    ensures { IfOk result (λ copies. copies.items ≡ tables.now) }
 {
-    let mut copies = Vec::with_capacity(*tables.allocator(), tables.len())?;
+    let mut copies = Vec::with_capacity(alloc, tables.len())?;
     for table in tables {
         copies.push(table.copy()?)?;
     }
@@ -110,7 +110,7 @@ impl Draft {
         ensures { IfOk result (λ draft. draft_tree draft ≡ draft_tree self.now) }
     {
         Ok(Draft {
-            tables: copy_tables(&self.tables)?,
+            tables: copy_tables(*self.tables.allocator(), &self.tables)?,
             programs: copy_programs(&self.programs)?,
         })
     }

@@ -9,11 +9,10 @@ ghost use Rattle.prog_paths.specs.Kinds.{items_of};
 ghost use Rattle.repair_laws.specs.Promoted.{keep_of, with_keeps, all_with_keeps, promoted_by};
 ghost use Rattle.si_repair.specs.Promoting.{is_marked, cell_read_by, count_by, with_keeps_in, HasFewStatements, promoted_program};
 
-use crate::repairs::copies::{copy_names, copy_tables};
 use crate::repairs::marks::{MarkedStatement, is_marked};
 use prog_check::MAX_STATEMENTS;
 use prog_paths::count_statements;
-use prog_tree::{Block, Draft, Key, Name, Program, Stmt};
+use prog_tree::{Block, Draft, Key, Name, Program, Stmt, copy_names, copy_tables};
 use std::alloc::{AllocError, Global};
 
 /// A statement, and the number of the next one.

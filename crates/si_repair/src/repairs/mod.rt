@@ -3,7 +3,6 @@
 mod behind;
 mod bisecting;
 mod checked;
-mod copies;
 mod exposed;
 mod fault;
 mod front;

@@ -2,4 +2,4 @@ use Rattle.std.proofs.Common.{◌≡◌, take}
 use Rattle.prog_tree.proofs.program.copy_names.Given as goal
 
 abbrev pub invariant-loop-name : goal.invariant-loop-name
-invariant-loop-name l = l.copies.items ≡ take l.name-index l.names.items
+invariant-loop-name l = l.copies.items ≡ take l.name-index l.names
