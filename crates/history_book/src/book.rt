@@ -241,8 +241,8 @@ impl<'a> Book<'a> {
         None
     }
 
-    /// The least equivalent serial order of the commits: at each place the least number that can stand
-    /// there. Of several cycles any may be told.
+    /// The least equivalent serial order of the commits: at each place the least number that can
+    /// stand there. Of several cycles any may be told.
     pub fn serial_order(&self) -> Result<Vec<usize>, OrderFault>
         ensures order { IfOk result (λ order.
             least_order (depends_in self.now) (length self.now.rows) ≡ Some order.items) }
@@ -254,8 +254,8 @@ impl<'a> Book<'a> {
         serial_order(self.alloc, &self.traces)
     }
 
-    /// Why the first of two commits has to stand before the second; none where it need not, or where a
-    /// number is of no commit.
+    /// Why the first of two commits has to stand before the second; none where it need not, or
+    /// where a number is of no commit.
     pub fn reason(&self, first: u64, second: u64) -> Option<Reason>
         ensures some { IfSome result (IsReason (traces_in self.now) first second) }
         ensures none { IfNone result (depends_in self.now first second ≡ false) }
@@ -329,7 +329,8 @@ impl<'a> Book<'a> {
         Ok(self.row_at(active.start, cell))
     }
 
-    /// The rows of a region for a ticket's instance, in the order of their cells, its own changes aside.
+    /// The rows of a region for a ticket's instance, in the order of their cells, its own changes
+    /// aside.
     pub fn scan(&self, ticket: &Ticket, region: &Region) -> Result<Sequence<(Cell, i64)>, ScanFault>
         ensures { IsRegionRead (rows_for self.now ticket.now region.now) result }
     {
@@ -339,8 +340,8 @@ impl<'a> Book<'a> {
         Ok(self.rows_in(active.start, region)?)
     }
 
-    /// Commits the instance of a ticket by its run, which is ready. The first refusal that applies is answered,
-    /// and a clash ends the instance too.
+    /// Commits the instance of a ticket by its run, which is ready. The first refusal that applies
+    /// is answered, and a clash ends the instance too.
     pub fn commit(&mut self, ticket: Ticket, run: Run<'a>) -> Result<Receipt, CommitFault<'a>>
         ensures ok { IfOk result (λ receipt.
             IsCommitted self.old self.new ticket run.entry receipt) }
@@ -378,8 +379,8 @@ impl<'a> Book<'a> {
         Ok(Receipt { commit: number })
     }
 
-    /// Ends the instance of a ticket by its run, which has aborted. The first refusal that applies is
-    /// answered.
+    /// Ends the instance of a ticket by its run, which has aborted. The first refusal that applies
+    /// is answered.
     pub fn end(&mut self, ticket: Ticket, run: Run<'a>) -> Result<(), EndFault<'a>>
         ensures ok { OnOk result (IsAborted self.old self.new ticket run.entry) }
         ensures err { IfErr result (λ fault.
@@ -411,8 +412,8 @@ impl<'a> Book<'a> {
         Ok(())
     }
 
-    /// Withdraws the instance of a ticket, which leaves no ending. A ticket of no active instance is handed
-    /// back.
+    /// Withdraws the instance of a ticket, which leaves no ending. A ticket of no active instance
+    /// is handed back.
     pub fn withdraw(&mut self, ticket: Ticket) -> Result<(), Ticket>
         ensures { IsWithdrawal self.old self.new ticket result }
     {

@@ -19,8 +19,8 @@ ghost use Rattle.history_book.specs.declared.audit.RowFault.{RowFault};
 ghost use Rattle.history_book.specs.declared.instances.row.HistoryRow.{HistoryRow};
 ghost use Rattle.history_book.specs.declared.orders.reason.Reason.{Reason};
 
-/// Where each instance sees only earlier commits, what was committed is what the instances write on the states
-/// that they see, and each commit leads to the next state.
+/// Where each instance sees only earlier commits, what was committed is what the instances write on
+/// the states that they see, and each commit leads to the next state.
 pub fn commits_are_what_the_instances_write()
     ensures commits { (set : DraftTree) → (opening : TableState) → (h : List Instance) →
         StartsBelow h

@@ -102,7 +102,8 @@ impl Closed {
         Ok(Some(chain))
     }
 
-    /// For each node the number nearest to 0 between the bounds that the facts force, where some assignment meets them.
+    /// For each node the number nearest to 0 between the bounds that the facts force, where some
+    /// assignment meets them.
     pub fn sample(&self) -> Result<Option<Sample>, AllocError>
         ensures none { IfOk result (λ found. IsNone found ↔ ¬ IsConsistent self.now) }
         ensures nearest { IfOk result (λ found. IfSome found

@@ -1,4 +1,5 @@
-//! Exact reasoning about order among i64 values: what facts `lo <= hi` between parameters, unknowns and numbers force.
+//! Exact reasoning about order among i64 values: what facts `lo <= hi` between parameters, unknowns
+//! and numbers force.
 //!
 //! `Facts` collects the facts, and `close` finds once what they entail. A `Closed` then answers
 //! whether some assignment of i64 meets the facts, whether they put one node at most another, by

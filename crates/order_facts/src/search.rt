@@ -10,7 +10,8 @@ ghost use Rattle.order_facts.specs.Search.{reached_at, HasReached, IsDescending,
 use crate::steps::{Fact, Node, is_same, is_step};
 use std::alloc::{AllocError, Global};
 
-/// A node from which the chain's end is reached in so many steps, the first to what was reached at the place `next`.
+/// A node from which the chain's end is reached in so many steps, the first to what was reached at
+/// the place `next`.
 #[derive(Clone, Copy)]
 struct Reached {
     node: Node,

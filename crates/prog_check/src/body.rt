@@ -16,7 +16,8 @@ use crate::tables::Tables;
 use crate::uses::{bound_name, is_overwriting, knows_values, table_use};
 use prog_tree::{Block, Listing, Stmt};
 
-/// Where the check stands in a program: before the statement of this number, with these names visible.
+/// Where the check stands in a program: before the statement of this number, with these names
+/// visible.
 #[derive(Drop)]
 pub struct Position {
     pub number: usize,

@@ -4,8 +4,8 @@ use std::alloc::AllocError;
 use std::fmt;
 use thiserror::Error;
 
-/// Where a fault lies, by numbers from 0. Statements are numbered within their program, a branch or an `each` before its
-/// blocks.
+/// Where a fault lies, by numbers from 0. Statements are numbered within their program, a branch or
+/// an `each` before its blocks.
 #[derive(Clone, Copy, Debug, PartialEq, Eq, Error)]
 pub enum Place {
     Table { table: usize },
@@ -49,8 +49,8 @@ pub enum CheckFault {
     GrowTableChanged { place: Place },
     /// A statement follows an `abort;` of its block.
     AfterAbort { place: Place },
-    /// The 65th table, the 17th program, the 9th parameter, the statement numbered 256, or more than 24 accesses on a
-    /// committing path.
+    /// The 65th table, the 17th program, the 9th parameter, the statement numbered 256, or more
+    /// than 24 accesses on a committing path.
     TooMany { place: Place },
     /// More than 32 committing paths.
     TooManyPaths { place: Place },

@@ -47,7 +47,8 @@ fn check_params(alloc: Global, place: Place, params: &[Name]) -> Result<Names, C
     Ok(visible)
 }
 
-/// Checks a program's name and parameters behind the programs of these names, and gives its parameters as visible names.
+/// Checks a program's name and parameters behind the programs of these names, and gives its
+/// parameters as visible names.
 fn check_head(alloc: Global, earlier: &mut Names, program: &Program) -> Result<Names, CheckFault>
     ensures found { Finds (λ names. names ≡ program.now.params.items) result
         (first_broken (program_rules earlier.old (program_tree program.now))) }

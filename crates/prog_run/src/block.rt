@@ -17,7 +17,8 @@ pub struct TurnNames<'a> {
     pub value: &'a Name,
 }
 
-/// What is left of an `each` whose rows are listed: the last key column and the value of each row that had no turn yet.
+/// What is left of an `each` whose rows are listed: the last key column and the value of each row
+/// that had no turn yet.
 #[derive(Debug, Drop)]
 pub struct Turns<'a> {
     pub names: TurnNames<'a>,
@@ -33,8 +34,8 @@ pub struct Turn<'a> {
     pub value: i64,
 }
 
-/// What is left of a block, how many names were bound before it, and the turns behind it if it is the body of an
-/// `each`.
+/// What is left of a block, how many names were bound before it, and the turns behind it if it is
+/// the body of an `each`.
 #[derive(Debug, Drop)]
 pub struct OpenBlock<'a> {
     pub rest: &'a [Stmt],

@@ -76,7 +76,8 @@ impl<'a> Cursor<'a> {
         Ok(())
     }
 
-    /// Does a statement without the store; at the end of a block begins its next turn, or leaves it.
+    /// Does a statement without the store; at the end of a block begins its next turn, or leaves
+    /// it.
     fn local_step(&mut self, progress: &mut Progress<'a>) -> Result<Standing, AllocError>
         ensures step { IfOk result
             (λ s. IsLocalStep s (cursor_tree self.old) progress.old
@@ -289,7 +290,8 @@ impl<'a> Cursor<'a> {
         }
     }
 
-    /// The rows of an `each` are listed: the run stands before its turns, behind which it goes on with the rest.
+    /// The rows of an `each` are listed: the run stands before its turns, behind which it goes on
+    /// with the rest.
     fn list(
         &mut self,
         progress: &mut Progress<'a>,

@@ -120,7 +120,8 @@ fn add_own(rows: &mut Vec<(Cell, i64)>, cell: Cell, change: Option<i64>) -> Resu
     Ok(())
 }
 
-// Rows with a run's own changes of other cells among them, in the order of the cells: what it has removed is left out.
+// Rows with a run's own changes of other cells among them, in the order of the cells: what it has
+// removed is left out.
 fn merge(
     alloc: Global,
     rows: &[(Cell, i64)],

@@ -125,8 +125,9 @@ impl<'a> Run<'a> {
         })
     }
 
-    /// Goes on up to the next store statement, and finishes it or asks for what it looks at. While an answer is awaited
-    /// it repeats the question, and after the end the end. After want of memory it can be called again.
+    /// Goes on up to the next store statement, and finishes it or asks for what it looks at. While
+    /// an answer is awaited it repeats the question, and after the end the end. After want of
+    /// memory it can be called again.
     pub fn advance(&mut self) -> Result<Next, AllocError>
         ensures advance { IfOk result (λ next. IsAdvance next self.old self.new) }
         ensures unchanged { IfOk result (λ next. AsksUnchanged next self.new) }
@@ -149,7 +150,8 @@ impl<'a> Run<'a> {
         Ok(step.next())
     }
 
-    /// Answers the question for a cell with what it holds in the snapshot, and finishes the statement.
+    /// Answers the question for a cell with what it holds in the snapshot, and finishes the
+    /// statement.
     pub fn answer_get(&mut self, held: Option<i64>) -> Result<Next, AnswerFault>
         ensures refused { IsRefusedBy (get_fault (asked_cell self.old.asked)) result }
         ensures answered { IfOk result (λ next. IsHeldAnswered held next self.old self.new) }
@@ -167,8 +169,8 @@ impl<'a> Run<'a> {
         Ok(step.next())
     }
 
-    /// Answers the question for a region with its rows in the snapshot, and finishes the statement; of an `each` that
-    /// is its listing. The rows become those of its look.
+    /// Answers the question for a region with its rows in the snapshot, and finishes the statement;
+    /// of an `each` that is its listing. The rows become those of its look.
     pub fn answer_scan(&mut self, rows: Sequence<(Cell, i64)>) -> Result<Next, AnswerFault>
         ensures refused { IsRefusedBy (scan_fault (asked_region self.old.asked) rows) result }
         ensures answered { IfOk result (λ next. IsRowsAnswered rows next self.old self.new) }

@@ -13,7 +13,8 @@ pub struct Cell {
     pub second: i64,
 }
 
-/// The cells of a table between two ends of each key column. With a low end above the high end there are none.
+/// The cells of a table between two ends of each key column. With a low end above the high end
+/// there are none.
 #[derive(Clone, Copy, Debug, PartialEq, Eq)]
 pub struct Region {
     pub table: usize,

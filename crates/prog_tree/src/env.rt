@@ -22,7 +22,8 @@ impl<'a> Model for Binding<'a> {
     ghost view = { λ b. (b.name.now, b.value) };
 }
 
-/// The names that a run has bound, with their values. Of a name that is bound twice the last value counts.
+/// The names that a run has bound, with their values. Of a name that is bound twice the last value
+/// counts.
 #[derive(Debug, Drop)]
 pub struct Env<'a> {
     bindings: Vec<Binding<'a>>,

@@ -197,7 +197,8 @@ pub struct Test {
 }
 
 impl Test {
-    /// Whether some clause holds, or `None` where a result lies outside i64. All comparisons are made.
+    /// Whether some clause holds, or `None` where a result lies outside i64. All comparisons are
+    /// made.
     pub fn holds(&self, env: &Env) -> Option<bool>
         ensures { result ≡ holds_of (test_tree self.now) env.now }
     {

@@ -11,8 +11,8 @@ use crate::sequence::Sequence;
 pub enum Look {
     /// A cell and what it held.
     One(Cell, Option<i64>),
-    /// A region and its rows in the order of their cells, but for those of its `own` cells: the ones that the
-    /// instance had changed.
+    /// A region and its rows in the order of their cells, but for those of its `own` cells: the
+    /// ones that the instance had changed.
     Range {
         region: Region,
         own: RisingCells,

@@ -44,8 +44,8 @@ impl Name {
         })
     }
 
-    /// Whether both are the same. It goes through their bytes, which for short names is faster than a comparison
-    /// made for long texts.
+    /// Whether both are the same. It goes through their bytes, which for short names is faster than
+    /// a comparison made for long texts.
     pub fn is_same(&self, other: &Name) -> bool
         ensures same { IsTrue result ↔ (self.now ≡ other.now) }
         ensures test { result ≡ same_name self.now other.now }

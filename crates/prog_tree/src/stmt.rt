@@ -63,7 +63,8 @@ impl Key {
     }
 }
 
-/// Both ends of the last key column, which belong to the range. In a table of two columns the first is fixed.
+/// Both ends of the last key column, which belong to the range. In a table of two columns the first
+/// is fixed.
 #[derive(Debug, Drop)]
 pub enum Range {
     One { low: Expr, high: Expr },
@@ -133,7 +134,8 @@ impl Range {
     }
 }
 
-/// The head of an `each`: the names of a row's last key column and of its value, and the range whose rows it lists.
+/// The head of an `each`: the names of a row's last key column and of its value, and the range
+/// whose rows it lists.
 #[derive(Debug, Drop)]
 pub struct Listing {
     pub key: Name,

@@ -193,8 +193,8 @@ fn add_sights(
 ) -> Result<(), AllocError>
     requires reader { IsUpTo (length precedence.old) reader }
     requires within { AllRiseWithin (length precedence.old) writers.now }
-    ensures { OnOk result
-        (AddsPairs (sights_pairs reader start writers.now sights.now) precedence.old precedence.new) }
+    ensures { OnOk result (AddsPairs
+        (sights_pairs reader start writers.now sights.now) precedence.old precedence.new) }
 {
     for (index, sight) in sights.iter().enumerate() {
         if !begins_with(&sights[index + 1..], sight) {
@@ -227,8 +227,8 @@ fn add_readers(
     Ok(())
 }
 
-/// What has to stand before what by what the commits looked at and changed, in few pairs, through which
-/// the others follow.
+/// What has to stand before what by what the commits looked at and changed, in few pairs, through
+/// which the others follow.
 pub(crate) fn reduced_precedence(alloc: Global, traces: &[Trace]) -> Result<Precedence, AllocError>
     requires { SeesEarlier traces.now }
     ensures commits { IfOk result (λ precedence. length precedence ≡ length traces.now) }

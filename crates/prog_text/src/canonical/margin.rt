@@ -5,7 +5,8 @@ ghost use Rattle.std.specs.Prelude.{◌≡◌, ◌*◌, suc, IfOk, replicate};
 use std::alloc::{AllocError, Global};
 use std::marker::Model;
 
-/// The white space before a line, as long as its block is deep. It is a text, so no number bounds how deep a block is.
+/// The white space before a line, as long as its block is deep. It is a text, so no number bounds
+/// how deep a block is.
 #[derive(Drop)]
 pub struct Margin {
     spaces: String,
