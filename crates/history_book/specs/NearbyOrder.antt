@@ -48,6 +48,7 @@ pub record AreHolders (traces : List TraceView) (marks : List Bool) (holders : L
 
 -- what a commit waits for while others have no mark
 abbrev pub WaitsFor : List TraceView → List Bool → ℕ → Waiting → Type 0
-WaitsFor traces marks n (waiting.For i) = IsHolder traces i n × (is_marked marks i ≡ false) × IsTestedBelow traces marks n i
+WaitsFor traces marks n (waiting.For i) =
+    IsHolder traces i n × (is_marked marks i ≡ false) × IsTestedBelow traces marks n i
 WaitsFor traces marks n waiting.Over = (i : ℕ) → IsHolder traces i n → is_marked marks i ≡ true
 WaitsFor traces marks n waiting.Unknown = Unit {0}

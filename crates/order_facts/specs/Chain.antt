@@ -90,7 +90,8 @@ abbrev pub IsTight : List Node → Type 0
 IsTight (a ∷ b ∷ c ∷ rest) = ¬ (IsPlainStep a b × IsPlainStep b c) × IsTight (b ∷ c ∷ rest)
 IsTight _ = Unit {0}
 
--- a chain runs from a number of the facts to a smaller number of them: one is a fact's lower node, the other a fact's upper one
+-- a chain runs from a number of the facts to a smaller number of them: one is a fact's lower node, the other a fact's
+-- upper one
 pub record HasContradiction (facts : List Fact) : Type 0 where
   pub greater : ℤ
   pub smaller : ℤ

@@ -29,4 +29,7 @@ fact_at facts i = slice_index_or facts i (record { lo = Mine 0; hi = Mine 0 })
 
 -- the fact at `from` leads to no fact whose upper node is surely less than its lower one
 abbrev pub HasOrderlyRow : List Fact → ℕ → Type 0
-HasOrderlyRow facts from = (to : ℕ) → to < length facts → (to ≡ from) ⊎ (reaches facts (fact_at facts from).hi (fact_at facts to).lo ≡ true) → floor_of (fact_at facts from).lo ≤ℤ ceiling_of (fact_at facts to).hi
+HasOrderlyRow facts from =
+    (to : ℕ) → to < length facts → (to ≡ from)
+    ⊎ (reaches facts (fact_at facts from).hi (fact_at facts to).lo ≡ true)
+    → floor_of (fact_at facts from).lo ≤ℤ ceiling_of (fact_at facts to).hi

@@ -19,7 +19,8 @@ sample_number choices node = chosen choices node
 
 -- a sample as an assignment
 abbrev pub assignment_of : List Choice → Assignment
-assignment_of choices = record { mine = λ i. sample_number choices (Mine i); mine_unknown = λ i. sample_number choices (MineUnknown i); theirs = λ i. sample_number choices (Theirs i); theirs_unknown = λ i. sample_number choices (TheirsUnknown i) }
+assignment_of choices =
+    record { mine = λ i. sample_number choices (Mine i); mine_unknown = λ i. sample_number choices (MineUnknown i); theirs = λ i. sample_number choices (Theirs i); theirs_unknown = λ i. sample_number choices (TheirsUnknown i) }
 
 -- the greatest number that the facts force below the node
 pub record IsForcedBelow (facts : List Fact) (node : Node) (low : ℤ) : Type 0 where

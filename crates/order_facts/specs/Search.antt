@@ -24,11 +24,13 @@ LeadsNearer reached r = (r.next < length reached) × ((reached_at reached r.next
 
 -- each was reached in no step, or leads to one that was reached in fewer
 abbrev pub IsDescending : List Reached → Type 0
-IsDescending reached = (k : ℕ) → k < length reached → ((reached_at reached k).steps ≡ 0) ⊎ LeadsNearer reached (reached_at reached k)
+IsDescending reached =
+    (k : ℕ) → k < length reached → ((reached_at reached k).steps ≡ 0) ⊎ LeadsNearer reached (reached_at reached k)
 
 -- it is `y`, reached in no step, or leads to what may stand behind it in a chain
 abbrev pub IsLink : List Fact → Node → List Reached → Reached → Type 0
-IsLink facts y reached r = ((r.steps ≡ 0) × (r.node ≡ y)) ⊎ (LeadsNearer reached r × IsStep facts r.node (reached_at reached r.next).node)
+IsLink facts y reached r =
+    ((r.steps ≡ 0) × (r.node ≡ y)) ⊎ (LeadsNearer reached r × IsStep facts r.node (reached_at reached r.next).node)
 
 -- from each place chains lead to `y`
 abbrev pub IsTrail : List Fact → Node → List Reached → Type 0
@@ -42,7 +44,8 @@ pub record IsFresh (facts : List Fact) (reached : List Reached) (known steps : �
 
 -- where the node is a step from one of the first `known`, it is reached now
 abbrev pub ReachesBefore : List Fact → List Reached → List Reached → ℕ → Node → Type 0
-ReachesBefore facts old new known node = (k : ℕ) → k < known → IsStep facts node (reached_at old k).node → HasReached new node
+ReachesBefore facts old new known node =
+    (k : ℕ) → k < known → IsStep facts node (reached_at old k).node → HasReached new node
 
 -- the node is added, or nothing is
 pub record Adds (facts : List Fact) (old new : List Reached) (known : ℕ) (node : Node) (steps : ℕ) : Type 0 where

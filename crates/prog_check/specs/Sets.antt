@@ -19,8 +19,10 @@ abbrev pub Finds : {X : Type 0} → (X → Type 0) → Result X CheckFault → O
 Finds IsRight (Ok x) fault = (fault ≡ None) × IsRight x
 Finds IsRight (Err found) fault = IsFirst found fault
 
--- Behind one statement of a block the check goes on from a new position as it would have gone on from the old one before it.
-abbrev pub ChecksOn : List TableDecl → (program : ℕ) (before : Position) (aborted : Bool) → (BlockTree → BlockTree) → (after : Position) → Result Bool CheckFault → Type 0
+-- Behind one statement of a block the check goes on from a new position as it would have gone on from the old one
+-- before it.
+abbrev pub ChecksOn : List TableDecl → (program : ℕ) (before : Position) (aborted : Bool)
+    → (BlockTree → BlockTree) → (after : Position) → Result Bool CheckFault → Type 0
 ChecksOn tables program before aborted stmt after (Ok aborts) =
     (rest : BlockTree)
     → (block_fault tables program before.number aborted before.visible (stmt rest) ≡ block_fault tables program after.number aborts after.visible rest)
@@ -28,8 +30,8 @@ ChecksOn tables program before aborted stmt after (Ok aborts) =
 ChecksOn tables program before aborted stmt after (Err found) =
     (rest : BlockTree) → IsFirst found (block_fault tables program before.number aborted before.visible (stmt rest))
 
--- what a checked set keeps: the names of its tables and programs in their order, that its draft has no fault, and that it
--- is sound
+-- what a checked set keeps: the names of its tables and programs in their order, that its draft has no fault, and that
+-- it is sound
 pub record IsChecked (draft : DraftTree) (tables programs : List Name) : Type 0 where
   pub tables_named : tables ≡ table_names draft
   pub programs_named : programs ≡ program_names draft

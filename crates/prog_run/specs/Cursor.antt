@@ -18,7 +18,8 @@ use Rattle.prog_run.specs.declared.cursor.Standing.TheVariants.{Moved, AtStore, 
 
 -- turns of the code, as plain trees
 abbrev pub turns_tree : Turns → TurnsTree
-turns_tree t = record { key = t.names.key.now; value = t.names.value.now; body = block_tree t.body.now; left = t.left.items }
+turns_tree t =
+    record { key = t.names.key.now; value = t.names.value.now; body = block_tree t.body.now; left = t.left.items }
 
 -- an open block of the code, as plain trees
 abbrev pub open_tree : OpenBlock → OpenTree

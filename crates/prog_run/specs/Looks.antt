@@ -51,9 +51,11 @@ asked_by changes (task.Ask (OfCell cell usage)) = asked_for changes cell
 asked_by changes (task.Ask (OfRegion region usage)) = Some (Scan region)
 asked_by changes _ = None
 
--- a look at a region, of a run with these changes, that found these rows; those of the cells that it had changed are left out
+-- a look at a region, of a run with these changes, that found these rows; those of the cells that it had changed are
+-- left out
 abbrev pub region_look : ChangeSet → Region → TableState → Look
-region_look changes region rows = let own = own_cells region changes.cells in look.Range region own (rows_without own rows)
+region_look changes region rows =
+    let own = own_cells region changes.cells in look.Range region own (rows_without own rows)
 
 -- the rows that such a run sees there, by its own changes
 abbrev pub seen_rows : ChangeSet → Region → TableState → TableState

@@ -32,8 +32,11 @@ written_by deed p = record p { changes = changes_with deed p.changes }
 -- what was to be done was done, without a further look or a reply
 abbrev pub IsFlow : Flow → Step → Progress → Progress → Type 0
 IsFlow f (Asks asked) p q = ⊥
-IsFlow f (Did deed) p q = (f ≡ GoesOn q) × (q.deeds ≡ p.deeds ++ deed ∷ []) × (q.looks ≡ p.looks) × (q.changes ≡ changes_with deed p.changes) × (q.replies ≡ p.replies)
-IsFlow f (Over (Aborted cause)) p q = (f ≡ Stops cause q) × (q.deeds ≡ p.deeds) × (q.looks ≡ p.looks) × (q.changes ≡ p.changes) × (q.replies ≡ p.replies)
+IsFlow f (Did deed) p q =
+    (f ≡ GoesOn q) × (q.deeds ≡ p.deeds ++ deed ∷ []) × (q.looks ≡ p.looks)
+    × (q.changes ≡ changes_with deed p.changes) × (q.replies ≡ p.replies)
+IsFlow f (Over (Aborted cause)) p q =
+    (f ≡ Stops cause q) × (q.deeds ≡ p.deeds) × (q.looks ≡ p.looks) × (q.changes ≡ p.changes) × (q.replies ≡ p.replies)
 IsFlow f (Over Ready) p q = ⊥
 
 -- a look was noted, and then this was done
@@ -51,6 +54,7 @@ IsRegionAnswered usage region rows step p q =
 
 -- a task was begun: it asks and nothing is done, or on every table state it does this
 abbrev pub IsBegun : TaskTree → Step → Progress → Progress → Type 0
-IsBegun t (Asks asked) p q = (q ≡ p) × (t ≡ task.Ask (asked_tree asked)) × (asked_by p.changes t ≡ Some (question_of (asked_tree asked)))
+IsBegun t (Asks asked) p q =
+    (q ≡ p) × (t ≡ task.Ask (asked_tree asked)) × (asked_by p.changes t ≡ Some (question_of (asked_tree asked)))
 IsBegun t (Did deed) p q = (m : TableState) → IsFlow (task_flow m t p) (Did deed) p q
 IsBegun t (Over end) p q = (m : TableState) → IsFlow (task_flow m t p) (Over end) p q

@@ -91,11 +91,18 @@ EndsAs tables end c p q = (m : TableState) → AreFound m q.looks → ended (tod
 
 -- the run stands before a statement whose task is this look, at nothing that it has changed
 abbrev pub IsAt : List TableDecl → AskedTree → CursorTree → Progress → Type 0
-IsAt tables asked c p = (next_task tables c.here.rest p.env ≡ Some (Ask asked)) × (asked_by p.changes (Ask asked) ≡ Some (question_of asked))
+IsAt tables asked c p =
+    (next_task tables c.here.rest p.env ≡ Some (Ask asked))
+    × (asked_by p.changes (Ask asked) ≡ Some (question_of asked))
 
 -- a step that comes to a question, a deed or the end
 abbrev pub IsStep : List TableDecl → Step → CursorTree → Progress → CursorTree → Progress → Type 0
 -- nothing is done at the store
-IsStep tables (step.Asks asked) c p d q = GoesTo tables c p d q × FoundBefore p q × KeepsStore p q × IsAt tables (asked_tree asked) d q
-IsStep tables (step.Did deed) c p d q = GoesTo tables c p d q × FoundBefore p q × (q.deeds ≡ p.deeds ++ deed ∷ []) × (q.changes ≡ changes_with deed p.changes) × BeginsWith p.replies q.replies
-IsStep tables (step.Over end) c p d q = EndsAs tables end c p q × FoundBefore p q × (q.deeds ≡ p.deeds) × (q.changes ≡ p.changes) × BeginsWith p.replies q.replies
+IsStep tables (step.Asks asked) c p d q =
+    GoesTo tables c p d q × FoundBefore p q × KeepsStore p q × IsAt tables (asked_tree asked) d q
+IsStep tables (step.Did deed) c p d q =
+    GoesTo tables c p d q × FoundBefore p q × (q.deeds ≡ p.deeds ++ deed ∷ [])
+    × (q.changes ≡ changes_with deed p.changes) × BeginsWith p.replies q.replies
+IsStep tables (step.Over end) c p d q =
+    EndsAs tables end c p q × FoundBefore p q × (q.deeds ≡ p.deeds) × (q.changes ≡ p.changes)
+    × BeginsWith p.replies q.replies

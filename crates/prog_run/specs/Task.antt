@@ -82,16 +82,22 @@ task_at tables table key env make = option_and_then make (cell_of (number_of tab
 abbrev pub task_in : List TableDecl → Name → s.RangeTree → Bindings → (Region → Option TaskTree) → Option TaskTree
 task_in tables table range env make = option_and_then make (region_of (number_of tables table) range env)
 
--- what a statement without blocks is to do at the store; none where a result lies outside i64, or where it needs no store
+-- what a statement without blocks is to do at the store; none where a result lies outside i64, or where it needs no
+-- store
 abbrev pub task_of : List TableDecl → StatementTree → Bindings → Option TaskTree
 task_of tables (s.Bind name value) env = None
-task_of tables (s.Get name table key otherwise) env = task_at tables table key env (λ cell. Some (Ask (OfCell cell (Get name otherwise))))
+task_of tables (s.Get name table key otherwise) env =
+    task_at tables table key env (λ cell. Some (Ask (OfCell cell (Get name otherwise))))
 task_of tables (s.Need name table key) env = task_at tables table key env (λ cell. Some (Ask (OfCell cell (Need name))))
-task_of tables (s.Count name table range) env = task_in tables table range env (λ region. Some (Ask (OfRegion region (Counts name))))
-task_of tables (s.Sum name table range) env = task_in tables table range env (λ region. Some (Ask (OfRegion region (Sums name))))
+task_of tables (s.Count name table range) env =
+    task_in tables table range env (λ region. Some (Ask (OfRegion region (Counts name))))
+task_of tables (s.Sum name table range) env =
+    task_in tables table range env (λ region. Some (Ask (OfRegion region (Sums name))))
 task_of tables (s.Lacks table key) env = task_at tables table key env (λ cell. Some (Ask (OfCell cell Lacks)))
-task_of tables (s.Put table key value) env = task_at tables table key env (λ cell. option_map (λ v. Put cell v) (value_of value env))
-task_of tables (s.Insert table key value) env = task_at tables table key env (λ cell. option_map (λ v. Ask (OfCell cell (Insert v))) (value_of value env))
+task_of tables (s.Put table key value) env =
+    task_at tables table key env (λ cell. option_map (λ v. Put cell v) (value_of value env))
+task_of tables (s.Insert table key value) env =
+    task_at tables table key env (λ cell. option_map (λ v. Ask (OfCell cell (Insert v))) (value_of value env))
 task_of tables (s.Delete table key) env = task_at tables table key env (λ cell. Some (Remove cell))
 task_of tables (s.Keep table key) env = task_at tables table key env (λ cell. Some (Keep cell))
 task_of tables (s.Reply value) env = None
@@ -99,7 +105,8 @@ task_of tables s.Abort env = None
 
 -- an `each` is to list its rows
 abbrev pub listing_task : List TableDecl → ListingTree → BlockTree → Bindings → Option TaskTree
-listing_task tables l body env = task_in tables l.table l.range env (λ region. Some (Ask (OfRegion region (Lists l body))))
+listing_task tables l body env =
+    task_in tables l.table l.range env (λ region. Some (Ask (OfRegion region (Lists l body))))
 
 -- a branch has none
 abbrev pub task_of_stmt : List TableDecl → StmtTree → Bindings → Option TaskTree
@@ -118,11 +125,13 @@ next_task tables (Each l body rest) env = listing_task tables l body env
 
 -- the rest of a get, once it is known what its cell holds
 abbrev pub get_flow : Name → ExprTree → Cell → Option ℤ → Progress → Flow
-get_flow name otherwise cell seen p = with_value (option_or seen (value_of otherwise p.env)) p (λ v. GoesOn (bound name v (did (deed.Read cell seen) p)))
+get_flow name otherwise cell seen p =
+    with_value (option_or seen (value_of otherwise p.env)) p (λ v. GoesOn (bound name v (did (deed.Read cell seen) p)))
 
 -- the rest of a need, likewise
 abbrev pub need_flow : Name → Cell → Option ℤ → Progress → Flow
-need_flow name cell seen p = if_present seen (λ v. GoesOn (bound name v (did (deed.Read cell seen) p))) (Stops (Missing cell) p)
+need_flow name cell seen p =
+    if_present seen (λ v. GoesOn (bound name v (did (deed.Read cell seen) p))) (Stops (Missing cell) p)
 
 -- the rest of a lacks, likewise
 abbrev pub lacks_flow : Cell → Option ℤ → Progress → Flow
@@ -130,7 +139,8 @@ lacks_flow cell seen p = if_present seen (λ v. Stops (Present cell) p) (GoesOn 
 
 -- the rest of an insert of a value, likewise
 abbrev pub insert_flow : ℤ → Cell → Option ℤ → Progress → Flow
-insert_flow v cell seen p = if_present seen (λ w. Stops (Present cell) p) (GoesOn (did (deed.Put cell v) (wrote cell (Some v) p)))
+insert_flow v cell seen p =
+    if_present seen (λ w. Stops (Present cell) p) (GoesOn (did (deed.Put cell v) (wrote cell (Some v) p)))
 
 abbrev pub use_flow : UseTree → Cell → Option ℤ → Progress → Flow
 use_flow (Get name otherwise) cell = get_flow name otherwise cell

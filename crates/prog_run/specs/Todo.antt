@@ -21,7 +21,8 @@ named key value = record { key = key; value = value; table = []; range = OneRang
 abbrev pub head_of : TurnsTree → ListingTree
 head_of t = named t.key t.value
 
--- an open block: what is left of it, how many names were bound before it, and for the body of an `each` the turns behind
+-- an open block: what is left of it, how many names were bound before it, and for the body of an `each` the turns
+-- behind
 pub record OpenTree : Type 0 where
   pub rest : BlockTree
   pub scope : ℕ

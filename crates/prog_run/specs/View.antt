@@ -50,7 +50,8 @@ meaning v m = eval v.tables (program_tree v.program) v.args m
 abbrev pub result_of : End → RunView → Evaluation
 result_of end v = record { ending = end; deeds = v.deeds; replies = v.replies; changes = v.changes; looks = v.looks }
 
--- On a table state that holds what its looks found, the run does what the program means: its deeds and its replies are the first of the program's, and at its end all is the program's.
+-- On a table state that holds what its looks found, the run does what the program means: its deeds and its replies are
+-- the first of the program's, and at its end all is the program's.
 pub record IsTrueAt (v : RunView) (m : TableState) : Type 0 where
   pub deeds : take (length v.deeds) (meaning v m).deeds ≡ v.deeds
   pub replies : take (length v.replies) (meaning v m).replies ≡ v.replies
@@ -70,7 +71,8 @@ pub record SameBegin (old new : RunView) : Type 0 where
   pub program : new.program ≡ old.program
   pub args : new.args ≡ old.args
 
--- A step without an answer has no look. One that finishes a statement finishes just one, and changes what its deed tells. Replies only come behind those before.
+-- A step without an answer has no look. One that finishes a statement finishes just one, and changes what its deed
+-- tells. Replies only come behind those before.
 pub record IsAdvance (next : Next) (old new : RunView) : Type 0 where
   pub deeds : new.deeds ≡ deeds_after next old.deeds
   pub changes : new.changes ≡ changes_after next old.changes
@@ -105,7 +107,8 @@ IsHeldAnswered held next old new = IfSome (asked_cell old.asked) (λ cell. IsAns
 
 -- the region that the run asked for was answered with its rows
 abbrev pub IsRowsAnswered : TableState → Next → (old new : RunView) → Type 0
-IsRowsAnswered rows next old new = IfSome (asked_region old.asked) (λ region. IsAnswered (region_look old.changes region rows) next old new)
+IsRowsAnswered rows next old new =
+    IfSome (asked_region old.asked) (λ region. IsAnswered (region_look old.changes region rows) next old new)
 
 -- the cell that the run asks for is one that it has not changed
 abbrev pub AsksUnchanged : Next → RunView → Type 0
@@ -150,7 +153,8 @@ comes_to tables m None c p = ended (todo tables m c p)
 
 -- on every table state that holds what the looks found, the run comes to what the program means there
 abbrev pub IsTrueTo : List TableDecl → ProgramTree → List ℤ → Option End → CursorTree → Progress → Type 0
-IsTrueTo tables program args over c p = (m : TableState) → AreFound m p.looks → comes_to tables m over c p ≡ eval tables program args m
+IsTrueTo tables program args over c p =
+    (m : TableState) → AreFound m p.looks → comes_to tables m over c p ≡ eval tables program args m
 
 -- the question that waits, as a caller sees it
 abbrev pub question_in : Option Asked → Option Next
@@ -158,4 +162,5 @@ question_in = option_map (λ asked. question_of (asked_tree asked))
 
 -- a look that waits is that of the next statement, and the run is not over
 abbrev pub IsWaiting : List TableDecl → Option Asked → Option End → CursorTree → Progress → Type 0
-IsWaiting tables waits over c p = (asked : Asked) → waits ≡ Some asked → (over ≡ None) × IsAt tables (asked_tree asked) c p
+IsWaiting tables waits over c p =
+    (asked : Asked) → waits ≡ Some asked → (over ≡ None) × IsAt tables (asked_tree asked) c p

@@ -13,8 +13,10 @@ use Rattle.prog_text.specs.declared.lexing.token.Token.{Token}
 use Rattle.prog_text.specs.Reading.{Reading, Fails, after_sign, as_plain}
 
 -- What is read, seen by `view`, is what the reading gives, and fewer tokens are left, unless memory runs out.
-abbrev pub Reads : {X Y : Type 0} → (view : X → Y) → (List Token → Reading Y) → Result X ReadError → (before after : Cursor) → Type 0
-Reads view reading (Ok x) before after = (reading before.tokens.now ≡ Ok (view x, after.tokens.now)) × (length after.tokens.now < length before.tokens.now)
+abbrev pub Reads : {X Y : Type 0} → (view : X → Y) → (List Token → Reading Y) → Result X ReadError
+    → (before after : Cursor) → Type 0
+Reads view reading (Ok x) before after =
+    (reading before.tokens.now ≡ Ok (view x, after.tokens.now)) × (length after.tokens.now < length before.tokens.now)
 Reads view reading (Err e) before after = Fails e (reading before.tokens.now)
 
 -- what is read stands for itself
@@ -23,7 +25,8 @@ itself x = x
 
 -- a sign or word is read, or doesn't come next
 abbrev pub Eats : Sign → Bool → (before after : Cursor) → Type 0
-Eats u true before after = (after_sign u before.tokens.now ≡ Some after.tokens.now) × (length after.tokens.now < length before.tokens.now)
+Eats u true before after =
+    (after_sign u before.tokens.now ≡ Some after.tokens.now) × (length after.tokens.now < length before.tokens.now)
 Eats u false before after = (after_sign u before.tokens.now ≡ None) × (after.tokens.now ≡ before.tokens.now)
 
 -- a key and its table

@@ -36,7 +36,8 @@ IsWithinLimit u = ⊤
 
 -- no longer front of these bytes, of which the word is one, spells a token
 abbrev pub IsLongest : (word rest : List ℕ) → Type 0
-IsLongest word rest = (u : Token) (b : ℕ) (more others : List ℕ) → rest ≡ b ∷ (more ++ others) → Spells u (word ++ b ∷ more) → ⊥
+IsLongest word rest =
+    (u : Token) (b : ℕ) (more others : List ℕ) → rest ≡ b ∷ (more ++ others) → Spells u (word ++ b ∷ more) → ⊥
 
 -- a comment ends with the text, or before a byte that goes on no comment
 abbrev pub EndsComment : List ℕ → Type 0

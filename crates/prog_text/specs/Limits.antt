@@ -1,4 +1,5 @@
--- How much there may be: how long a name and a text are, how many brackets are open, and how many operators stand in one statement.
+-- How much there may be: how long a name and a text are, how many brackets are open, and how many operators stand in
+-- one statement.
 use Rattle.std.specs.Prelude.{ℕ, suc, ◌-◌, List, [], ◌∷◌, Option, Some, None, nat_lt, ◌||◌, if◌then◌else◌, option_map}
 use Rattle.prog_text.specs.declared.lexing.token.Token.{Token}
 use Rattle.prog_text.specs.declared.lexing.token.Sign.TheVariants as sign

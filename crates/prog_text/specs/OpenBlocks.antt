@@ -71,10 +71,12 @@ state_of false body cursor = unread_of body cursor
 
 -- What is still to be read gives what the reading gives, and no more tokens are left, unless memory runs out.
 abbrev pub ReadsOn : Reading BlockTree → Result (Unit {0}) ReadError → (body : Body) → (before after : Cursor) → Type 0
-ReadsOn read (Ok done) body before after = (unread_of body after ≡ read) × (length after.tokens.now ≤ length before.tokens.now)
+ReadsOn read (Ok done) body before after =
+    (unread_of body after ≡ read) × (length after.tokens.now ≤ length before.tokens.now)
 ReadsOn read (Err e) body before after = Fails e read
 
 -- The same, with fewer tokens left; `true` where the whole block has ended.
 abbrev pub Steps : Reading BlockTree → Result Bool ReadError → (body : Body) → (before after : Cursor) → Type 0
-Steps read (Ok ended) body before after = (state_of ended body after ≡ read) × (length after.tokens.now < length before.tokens.now)
+Steps read (Ok ended) body before after =
+    (state_of ended body after ≡ read) × (length after.tokens.now < length before.tokens.now)
 Steps read (Err e) body before after = Fails e read

@@ -9,7 +9,8 @@ pub record Page : Type 0 where
   pub depth : ℕ
 
 abbrev pub page_code : Coded Page
-page_code = code_by (List ℕ × ℕ) (coded× (coded_list coded_ℕ) coded_ℕ) (λ p. (p.bytes, p.depth)) (λ p. record { bytes = p.0; depth = p.1 }) (λ _. refl)
+page_code =
+    code_by (List ℕ × ℕ) (coded× (coded_list coded_ℕ) coded_ℕ) (λ p. (p.bytes, p.depth)) (λ p. record { bytes = p.0; depth = p.1 }) (λ _. refl)
 
 -- the page with these bytes behind its own
 abbrev pub added : List ℕ → Page → Page

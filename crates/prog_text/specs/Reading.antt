@@ -82,7 +82,8 @@ name_at ts = unexpected ts
 -- ---- lists
 
 -- Phrases that each stand behind a sign, after those that are done; n is at least the number of tokens.
-unfoldable pub many_from : {A : Type 0} → (after : List Token → Option (List Token)) → (read : List Token → Reading A) → ℕ → List A → List Token → Reading (List A)
+unfoldable pub many_from : {A : Type 0} → (after : List Token → Option (List Token))
+    → (read : List Token → Reading A) → ℕ → List A → List Token → Reading (List A)
 many_from after read zero done ts = Ok (done, ts)
 many_from after read (suc n) done ts =
     behind_sign (after ts) (λ ts. do
@@ -91,7 +92,8 @@ many_from after read (suc n) done ts =
     (Ok (done, ts))
 
 -- such phrases with a sign between them
-unfoldable pub separated_at : {A : Type 0} → (after : List Token → Option (List Token)) → (read : List Token → Reading A) → List Token → Reading (List A)
+unfoldable pub separated_at : {A : Type 0} → (after : List Token → Option (List Token))
+    → (read : List Token → Reading A) → List Token → Reading (List A)
 separated_at after read ts = do
   first ← read ts
   many_from after read (length first.1) (first.0 ∷ []) first.1
@@ -393,13 +395,15 @@ unfoldable pub second_at : (body : List Token → Reading BlockTree) → List To
 second_at body ts = behind_sign (after_sign sign.Else ts) (block_at body) (Ok (BlockEnd, ts))
 
 -- behind the second block of a branch
-unfoldable pub behind_second : (body : List Token → Reading BlockTree) → TestTree → (first second : BlockTree) → List Token → Reading BlockTree
+unfoldable pub behind_second : (body : List Token → Reading BlockTree) → TestTree → (first second : BlockTree)
+    → List Token → Reading BlockTree
 behind_second body test first second ts = do
   rest ← body ts
   Ok (Branch test first second rest.0, rest.1)
 
 -- behind the first block of a branch
-unfoldable pub behind_first : (body : List Token → Reading BlockTree) → TestTree → (first : BlockTree) → List Token → Reading BlockTree
+unfoldable pub behind_first : (body : List Token → Reading BlockTree) → TestTree → (first : BlockTree)
+    → List Token → Reading BlockTree
 behind_first body test first ts = do
   second ← second_at body ts
   behind_second body test first second.0 second.1
@@ -422,7 +426,8 @@ listing_at ts = do
   Ok (record { key = key.0; value = value.0; table = range.0.0; range = range.0.1 }, range.1)
 
 -- behind the block of an `each`
-unfoldable pub behind_turns : (body : List Token → Reading BlockTree) → ListingTree → (inside : BlockTree) → List Token → Reading BlockTree
+unfoldable pub behind_turns : (body : List Token → Reading BlockTree) → ListingTree → (inside : BlockTree)
+    → List Token → Reading BlockTree
 behind_turns body listing inside ts = do
   rest ← body ts
   Ok (Each listing inside rest.0, rest.1)

@@ -12,7 +12,8 @@ use Rattle.prog_tree.specs.Number.{IsI64}
 
 -- the order of cells: by table, then by the first column, then by the second
 abbrev pub cell_cmp : Cell → Cell → Ordering
-cell_cmp a b = ordering_then (nat_cmp a.table b.table) (ordering_then (int_cmp a.first b.first) (int_cmp a.second b.second))
+cell_cmp a b =
+    ordering_then (nat_cmp a.table b.table) (ordering_then (int_cmp a.first b.first) (int_cmp a.second b.second))
 
 abbrev pub is_same_cell : Cell → Cell → Bool
 is_same_cell a b = is_at (cell_cmp a) b
@@ -25,7 +26,8 @@ lies_between low x high = int_le low x && int_le x high
 
 -- both ends of both columns belong to a region
 abbrev pub is_in : Region → Cell → Bool
-is_in r c = (r.table == c.table) && (lies_between r.first_low c.first r.first_high && lies_between r.second_low c.second r.second_high)
+is_in r c =
+    (r.table == c.table) && (lies_between r.first_low c.first r.first_high && lies_between r.second_low c.second r.second_high)
 
 -- a finite map from cells: what each of them has, in cell order and each cell once
 abbrev pub Cells : Type 0 → Type 0

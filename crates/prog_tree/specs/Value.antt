@@ -16,7 +16,8 @@ same_name = pointwise nat_eq
 -- the last value of a name
 abbrev pub value_in : Bindings → Name → Option ℤ
 value_in [] name = None
-value_in (binding ∷ bindings) name = option_or (value_in bindings name) (if same_name binding.0 name then Some binding.1 else None)
+value_in (binding ∷ bindings) name =
+    option_or (value_in bindings name) (if same_name binding.0 name then Some binding.1 else None)
 
 -- a result, or none outside i64
 abbrev pub exact : ℤ → Option ℤ
@@ -56,7 +57,8 @@ turned true b = not b
 turned false b = b
 
 abbrev pub comparison_holds : ComparisonTree → Bindings → Option Bool
-comparison_holds c env = pair_of (λ x y. turned c.negated (relates c.relation x y)) (value_of c.left env) (value_of c.right env)
+comparison_holds c env =
+    pair_of (λ x y. turned c.negated (relates c.relation x y)) (value_of c.left env) (value_of c.right env)
 
 -- all comparisons are made, from left to right, also where one of them has settled the answer
 abbrev pub all_hold : List ComparisonTree → Bindings → Option Bool

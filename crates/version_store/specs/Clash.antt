@@ -7,7 +7,8 @@ use Rattle.prog_tree.specs.declared.cell.Cell.{Cell}
 use Rattle.prog_tree.specs.Table.{cell_cmp, cells_of}
 use Rattle.prog_tree.specs.ChangeSet.{ChangeSet, touches_cell}
 
--- the greatest number of a commit that changes or keeps the cell, where the first of them has the number n; 0 where there is none
+-- the greatest number of a commit that changes or keeps the cell, where the first of them has the number n; 0 where
+-- there is none
 abbrev pub last_touch : Cell → ℕ → List ChangeSet → ℕ
 last_touch c n [] = 0
 last_touch c n (w ∷ ws) = max (if touches_cell w c then n else 0) (last_touch c (n + 1) ws)

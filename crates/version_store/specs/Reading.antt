@@ -97,15 +97,19 @@ IsBelow n chain = cut_from n chain ≡ chain
 
 -- at each cell nothing has changed below the number, and nothing at all where the changes don't touch it
 abbrev pub IsGrown : ℕ → ChangeSet → Cells Chain → Cells Chain → Type 0
-IsGrown n w before after = (c : Cell) → (cut_from n (chain_at after c) ≡ cut_from n (chain_at before c)) × (touches_cell w c ≡ false → chain_at after c ≡ chain_at before c)
+IsGrown n w before after =
+    (c : Cell) → (cut_from n (chain_at after c) ≡ cut_from n (chain_at before c))
+    × (touches_cell w c ≡ false → chain_at after c ≡ chain_at before c)
 
 -- the chain of a cell is what f makes of it, and the others are the same
 abbrev pub MakesAt : Cell → (Chain → Chain) → Cells Chain → Cells Chain → Type 0
-MakesAt cell f before after = (c : Cell) → chain_at after c ≡ if is_same_cell cell c then f (chain_at before c) else chain_at before c
+MakesAt cell f before after =
+    (c : Cell) → chain_at after c ≡ if is_same_cell cell c then f (chain_at before c) else chain_at before c
 
 -- the same for each cell that a commit touches
 abbrev pub MakesTouched : ChangeSet → (Chain → Chain) → Cells Chain → Cells Chain → Type 0
-MakesTouched w f before after = (c : Cell) → chain_at after c ≡ if touches_cell w c then f (chain_at before c) else chain_at before c
+MakesTouched w f before after =
+    (c : Cell) → chain_at after c ≡ if touches_cell w c then f (chain_at before c) else chain_at before c
 
 -- each chain is what f makes of it at its cell
 abbrev pub MakesEach : (Cell → Chain → Chain) → Cells Chain → Cells Chain → Type 0

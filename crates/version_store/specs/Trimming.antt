@@ -32,7 +32,8 @@ touches_by n w = numbered n (cells_of w.cells) ++ numbered n w.kept
 -- the touches of the commits above f, where the first of them all has the number n
 abbrev pub touches_above : (f : ℕ) → ℕ → List ChangeSet → List (ℕ × Cell)
 touches_above f n [] = []
-touches_above f n (w ∷ ws) = if leb n f then touches_above f (n + 1) ws else touches_by n w ++ touches_above f (n + 1) ws
+touches_above f n (w ∷ ws) =
+    if leb n f then touches_above f (n + 1) ws else touches_by n w ++ touches_above f (n + 1) ws
 
 -- of touches that rise, the cells of those at most f
 abbrev pub within : (f : ℕ) → List (ℕ × Cell) → List Cell

@@ -18,11 +18,13 @@ versions_from n (w ∷ ws) = map (λ e. record { cell = e.0; number = n; value =
 
 -- all versions of a history
 abbrev pub versions_of : TableState → List ChangeSet → List Version
-versions_of opening ws = map (λ row. record { cell = row.0; number = 0; value = Some row.1 }) opening ++ versions_from 1 ws
+versions_of opening ws =
+    map (λ row. record { cell = row.0; number = 0; value = Some row.1 }) opening ++ versions_from 1 ws
 
 -- no version of the same cell is newer and at most f
 abbrev pub is_newest : List Version → ℕ → Version → Bool
-is_newest vs f v = not (list_any (λ u. is_same_cell u.cell v.cell && (nat_lt v.number u.number && nat_le u.number f)) vs)
+is_newest vs f v =
+    not (list_any (λ u. is_same_cell u.cell v.cell && (nat_lt v.number u.number && nat_le u.number f)) vs)
 
 -- it is above f, or it is the newest of its cell at most f and no removal
 abbrev pub is_retained : List Version → ℕ → Version → Bool
