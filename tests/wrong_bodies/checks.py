@@ -69,7 +69,8 @@ def crates_of(root):
 
 
 def with_holes(crate, texts, kept):
-    """Returns the texts with no body, and a hole for the proof, of each plain function but those kept, or in a cycle of calls."""
+    """Returns the texts with no body, and a hole for the proof, of each plain function but those kept, or in a cycle of
+    calls."""
     functions, texts = all_functions(texts), dict(texts)
     # those behind others first, so that the places of these stay right
     for it in sorted(functions, key=lambda it: -it.body):

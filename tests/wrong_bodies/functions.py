@@ -49,7 +49,8 @@ def group_end(text, at):
 
 
 def type_of_impl(head):
-    """Returns what stands for an impl in the names of its functions, and whether it is of a trait: `Port` and `PortSource`."""
+    """Returns what stands for an impl in the names of its functions, and whether it is of a trait: `Port` and
+    `PortSource`."""
     head = re.sub(r"\s+", " ", head).strip()
     params = set()
     if head.startswith("<"):
@@ -112,7 +113,8 @@ def functions_of(file, text):
 
 
 def body_of(plain, at):
-    """Returns the place of the brace of a function's body, and that behind it; of one that has none, twice that behind its semicolon."""
+    """Returns the place of the brace of a function's body, and that behind it; of one that has none, twice that behind
+    its semicolon."""
     while sign := re.compile(r"[{;]").search(plain, at):
         if sign[0] == ";":
             return sign.end(), sign.end()
