@@ -11,9 +11,9 @@ pub enum Call {
     Begin(usize, &'static [i64]),
     /// So many begins, one after another.
     Begins(u64, usize, &'static [i64]),
-    /// The same as of so many commits.
+    /// A begin at so many commits.
     BeginAt(u64, usize, &'static [i64]),
-    /// The same, where it is known beforehand that it is not refused.
+    /// A begin at so many commits that is known not to be refused.
     Admit(u64, usize, &'static [i64]),
     /// Why no instance can begin so.
     RefusalAt(u64, usize, &'static [i64]),
