@@ -19,11 +19,11 @@ use Rattle.si_engine.specs.Texts.{input_fault_text, part_fault_text}
 use Rattle.si_engine.specs.declared.input.line_fault.LineFault.TheVariants as line
 use Rattle.si_engine.specs.declared.input.source.InputFault.TheVariants as i
 use Rattle.sirob.specs.declared.worker_fault.WorkerFault.TheVariants as w
-use Rattle.sirob.specs.Faults.{part_code, worker_fault_text}
+use Rattle.sirob.specs.Faults.{split_fault_text, worker_fault_text}
 
 abbrev pub fault_text : CommandFault → List ℕ
 fault_text (Input fault) = input_fault_text fault
-fault_text (Split fault) = part_code fault
+fault_text (Split fault) = split_fault_text fault
 fault_text (Text fault) = text_fault_text fault
 fault_text (Check fault) = check_fault_text fault
 fault_text (Analysis fault) = analyse_fault_text fault

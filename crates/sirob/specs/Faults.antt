@@ -1,4 +1,4 @@
--- The codes of faults of the parts, and what is told of faults of workers.
+-- The texts of faults of the parts, and what is told of faults of workers.
 use Rattle.std.specs.Fmt.{decimal}
 use Rattle.std.specs.Prelude.{ℕ, List, ◌++◌, codes}
 use Rattle.si_workers.specs.declared.fault.WorkFault.{WorkFault}
@@ -8,10 +8,10 @@ use Rattle.sirob.specs.declared.parts.SplitFault.TheVariants.{MissingPart, Extra
 use Rattle.sirob.specs.declared.worker_fault.WorkerFault.{WorkerFault}
 use Rattle.sirob.specs.declared.worker_fault.WorkerFault.TheVariants as told
 
--- the code that a fault line gives
-abbrev pub part_code : SplitFault → List ℕ
-part_code MissingPart = codes "I1"
-part_code ExtraPart = codes "I2"
+-- a code
+abbrev pub split_fault_text : SplitFault → List ℕ
+split_fault_text MissingPart = codes "I1"
+split_fault_text ExtraPart = codes "I2"
 
 -- what is told of a fault of workers: all but the outcomes and the book
 abbrev pub told_of : WorkFault → WorkerFault

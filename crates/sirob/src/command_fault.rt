@@ -1,6 +1,5 @@
 //! What keeps a command from its work, and the line that says so.
 ghost use Rattle.std.specs.Prelude.{◌≡◌, IfOk, string_bytes};
-ghost use Rattle.sirob.specs.Faults.{part_code};
 ghost use Rattle.sirob.specs.FaultLines.{fault_line, is_memory};
 
 use crate::parts::SplitFault;
@@ -30,22 +29,13 @@ pub enum CommandFault {
     Work(WorkerFault),
 }
 
-fn split_fault(alloc: Global, fault: SplitFault) -> Result<String, AllocError>
-    ensures { IfOk result (λ text. string_bytes text ≡ part_code fault) }
-{
-    match fault {
-        SplitFault::MissingPart => format!(in alloc; "I1"),
-        SplitFault::ExtraPart => format!(in alloc; "I2"),
-    }
-}
-
 /// The line that a fault is, with its line feed.
 pub fn fault_line(alloc: Global, fault: CommandFault) -> Result<String, AllocError>
     ensures { IfOk result (λ line. string_bytes line ≡ fault_line fault) }
 {
     let text = match fault {
         CommandFault::Input(fault) => format!(in alloc; "{fault}")?,
-        CommandFault::Split(fault) => split_fault(alloc, fault)?,
+        CommandFault::Split(fault) => format!(in alloc; "{fault}")?,
         CommandFault::Text(fault) => format!(in alloc; "{fault}")?,
         CommandFault::Check(fault) => format!(in alloc; "{fault}")?,
         CommandFault::Analysis(fault) => format!(in alloc; "{fault}")?,

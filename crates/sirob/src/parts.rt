@@ -3,12 +3,27 @@ ghost use Rattle.std.specs.Prelude.{◌≡◌, ◌<◌, ◌≤◌, ◌+◌, ◌�
 ghost use Rattle.sirob.specs.Parts.{full_lines_of, parts_of};
 
 use run_words::begins_separator;
+use std::fmt;
 
 /// The input hasn't the parts that are asked for.
 #[derive(Clone, Copy, Debug, PartialEq, Eq)]
 pub enum SplitFault {
     MissingPart,
     ExtraPart,
+}
+
+impl fmt::Display for SplitFault {
+    ghost use Rattle.std.specs.Prelude.{Some};
+    ghost use Rattle.sirob.specs.Faults.{split_fault_text};
+
+    ghost output = { λ fault. Some (split_fault_text fault) };
+
+    fn fmt<W: fmt::Write>(&self, f: &mut fmt::Formatter<W>) -> fmt::Result {
+        match self {
+            SplitFault::MissingPart => f.write_str("I1"),
+            SplitFault::ExtraPart => f.write_str("I2"),
+        }
+    }
 }
 
 /// The input, where no line of it is `%%`.

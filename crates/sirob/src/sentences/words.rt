@@ -59,7 +59,7 @@ fn input_sentence(alloc: Global, fault: InputFault) -> Result<Option<String>, Al
     Ok(Some(words))
 }
 
-fn part_sentence(
+fn split_sentence(
     alloc: Global,
     mode: Mode,
     input: KeptInput<'_>,
@@ -115,7 +115,7 @@ fn words_of(
         CommandFault::Input(fault) | CommandFault::Part(PartFault::Input(fault)) => {
             input_sentence(alloc, fault)
         }
-        CommandFault::Split(fault) => part_sentence(alloc, mode, input, fault),
+        CommandFault::Split(fault) => split_sentence(alloc, mode, input, fault),
         CommandFault::Analysis(fault) => analysis_sentence(alloc, fault),
         CommandFault::Work(fault) => work_sentence(alloc, fault),
         CommandFault::Json(fault) => {
