@@ -1,7 +1,8 @@
 //! The parts of the input.
-ghost use Rattle.std.specs.Prelude.{◌≡◌, ◌<◌, ◌≤◌, ◌+◌, ◌↔◌, [], ◌∷◌, IsOk, IfOk, IfErr, IsErrOf, IfSome, IfNone, MatchOption, ℕ, ◌≢◌, length, slice_index, take, drop};
+ghost use Rattle.std.specs.Prelude.{◌≡◌, ◌<◌, ◌≤◌, ◌+◌, ◌↔◌, false, [], ◌∷◌, IsOk, IfOk, IfErr, IsErrOf, IfSome, IfNone, MatchOption, ℕ, ◌≢◌, length, slice_index, take, drop};
 ghost use Rattle.sirob.specs.Parts.{full_lines_of, parts_of};
 
+use memchr::memchr;
 use run_words::begins_separator;
 use std::fmt;
 
@@ -75,12 +76,25 @@ struct FirstPart<'a> {
     behind: Option<&'a [u8]>,
 }
 
+// Whether some byte is `%`. Without one no line is `%%`.
+fn has_percent(bytes: &[u8]) -> bool
+    ensures { result ≡ false → (k : ℕ) → k < length bytes.now → slice_index bytes.now k ≢ 37 }
+{
+    memchr(b'%', bytes).is_some()
+}
+
 fn first_part(bytes: &[u8]) -> FirstPart<'_>
     ensures within { length result.part.now ≤ length bytes.now }
     ensures behind_within { IfSome result.behind (λ behind. length behind.now ≤ length bytes.now) }
     ensures parts { MatchOption result.behind (parts_of bytes.now ≡ result.part.now ∷ [])
         (λ behind. parts_of bytes.now ≡ result.part.now ∷ parts_of behind.now) }
 {
+    if !has_percent(bytes) {
+        return FirstPart {
+            part: bytes,
+            behind: None,
+        };
+    }
     let mut at = 0;
     while at < bytes.len() {
         let rest = &bytes[at..];

@@ -2,11 +2,15 @@ use Rattle.std.proofs.Common.{◌≡◌, ◌-◌, ℕ, List, ◌∷◌, length, 
 use Rattle.std.proofs.lemmas.Grind.{common_steps}
 use Rattle.sirob.specs.Parts.{parts_of, full_lines_of}
 use Rattle.sirob.proofs.PartLemmas.{before_parts-nil, parts_of-some, one_more_line}
+use Rattle.sirob.proofs.QuietLines.{whole_part}
 use Rattle.sirob.proofs.parts.first_part.Goals as goal
 
 -- a slice from m on is what stands behind the first m
 tail : (xs : List ℕ) (m : ℕ) → take (length xs - m) (drop m xs) ≡ drop m xs
 tail xs m = grind (arith, common_steps)
+
+pub returns-then-not-has_percent-clause-parts : goal.returns-then-not-has_percent-clause-parts
+returns-then-not-has_percent-clause-parts c = whole_part c.args.bytes.now (c.has_percent.ensures c.if-not-has_percent.true)
 
 pub loop-at-init : goal.loop-at-init
 loop-at-init c = record {
