@@ -1,7 +1,7 @@
 //! How much is told.
 
-/// Bytes of a statement.
-pub const MAX_STATEMENT: usize = 60;
+/// Bytes of a quoted statement.
+pub const MAX_QUOTED: usize = 60;
 
 /// Pairs behind the first.
 pub const MAX_FURTHER: usize = 7;

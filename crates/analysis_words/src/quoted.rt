@@ -4,7 +4,7 @@ ghost use Rattle.std.specs.List.{before_first, prefix_len};
 ghost use Rattle.text_places.specs.Tokens.{is_before_key};
 ghost use Rattle.analysis_words.specs.Quoting.{cells_of, ends_statement, gap_before, in_one_line, is_before_bracket, is_before_end, quoted_cells, quoted_statement, spaced, spaced_byte, to_bracket};
 
-use crate::limits::MAX_STATEMENT;
+use crate::limits::MAX_QUOTED;
 use std::alloc::{AllocError, Global};
 use text_places::{SetText, before, behind, table_name, visible_text};
 
@@ -87,7 +87,7 @@ pub fn quoted_statement(
         ≡ quoted_statement text.now place) }
 {
     let statement = before_end(behind(text.plain(), place));
-    in_one_line(alloc, before(statement, MAX_STATEMENT))
+    in_one_line(alloc, before(statement, MAX_QUOTED))
 }
 
 fn is_before_bracket(byte: u8) -> bool
