@@ -16,21 +16,18 @@ use robust_cert::{Certificate, Entries, Reason, Told};
 use std::alloc::{AllocError, Global};
 
 // Whether questions with this reason never meet.
-fn is_never(reason: &Reason) -> bool
+fn is_apart(reason: &Reason) -> bool
     ensures { result ≡ is_apart reason.now }
 {
-    match reason {
-        Reason::Apart(_) => true,
-        Reason::Cover { .. } => false,
-    }
+    matches!(reason, Reason::Apart(_))
 }
 
-fn is_apart(told: &Told, reasons: &[Reason]) -> bool
+fn is_told_apart(told: &Told, reasons: &[Reason]) -> bool
     requires { HasReason reasons.now told.now }
     ensures { result ≡ is_apart (reason_at reasons.now told.now.reason) }
 {
     let number = told.reason as usize;
-    is_never(&reasons[number])
+    is_apart(&reasons[number])
 }
 
 // Of how many questions the two accesses never meet.
@@ -40,7 +37,7 @@ fn apart_count(entries: &Entries) -> usize
     let (all, reasons) = entries.parts();
     let mut count = 0;
     for told in all {
-        if is_apart(told, reasons) {
+        if is_told_apart(told, reasons) {
             count += 1;
         }
     }
