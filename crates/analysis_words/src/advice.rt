@@ -161,8 +161,7 @@ fn help(alloc: Global, shown: Shown<'_>, question: Question) -> Result<String, A
 {
     let Some(place) = access_place(shown, question.x, question.a) else {
         let keepers = keepers_text(alloc, shown, question)?;
-        let lost = format!(in alloc; "a cell that {keepers}")?;
-        return Ok(lost);
+        return format!(in alloc; "a cell that {keepers}");
     };
     let line = line_number(shown.text.bytes(), place);
     let found = quoted_cells(alloc, shown.text, place)?;
@@ -207,8 +206,7 @@ pub fn advice(alloc: Global, shown: Shown<'_>, danger: &Danger) -> Result<String
     let circle = circle_text(alloc, shown, danger)?;
     let first = help(alloc, shown, danger.first.question)?;
     let second = help(alloc, shown, danger.second.question)?;
-    let words = advice_text(alloc, &circle, &first, &second)?;
-    Ok(words)
+    advice_text(alloc, &circle, &first, &second)
 }
 
 /// The same where both edges are one.
@@ -217,6 +215,5 @@ pub fn twin_advice(alloc: Global, shown: Shown<'_>, danger: &Danger) -> Result<S
         IsTwinAdvice (seen shown.entry) danger.now (string_bytes words)) }
 {
     let help = help(alloc, shown, danger.first.question)?;
-    let words = twin_advice_text(alloc, &help)?;
-    Ok(words)
+    twin_advice_text(alloc, &help)
 }

@@ -33,13 +33,11 @@ fn question_text(
         IsQuestionText (seen shown.entry) question (string_bytes words)) }
 {
     let Some(asked) = question else {
-        let none = format!(in alloc; "its question")?;
-        return Ok(none);
+        return format!(in alloc; "its question");
     };
     let mine = access_text(alloc, shown, asked.x as usize, asked.a as usize)?;
     let theirs = access_text(alloc, shown, asked.y as usize, asked.b as usize)?;
-    let words = format!(in alloc; "{mine} against {theirs}")?;
-    Ok(words)
+    format!(in alloc; "{mine} against {theirs}")
 }
 
 // Whether the number that is told of a path is that of its accesses in bodies.
@@ -212,8 +210,7 @@ fn asked_text(
         return Ok(String::new(alloc));
     };
     let question = question_text(alloc, shown, asked_in(certificate, entry))?;
-    let words = format!(in alloc; "{question}: ")?;
-    Ok(words)
+    format!(in alloc; "{question}: ")
 }
 
 // A fault of a certificate of a set whose nodes are these.
@@ -229,8 +226,7 @@ fn sentence(
     let front = front_of(alloc, shown, certificate, fault)?;
     let asked = asked_text(alloc, shown, certificate, fault)?;
     let rule = broken_rule(fault);
-    let words = format!(in alloc; "{front}{asked}{rule}\n")?;
-    Ok(words)
+    format!(in alloc; "{front}{asked}{rule}\n")
 }
 
 // The certificate that a part is; nothing where it is none.

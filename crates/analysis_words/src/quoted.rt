@@ -49,8 +49,7 @@ fn in_one_line(alloc: Global, bytes: &[u8]) -> Result<String, AllocError>
     ensures { IfOk result (λ line. string_bytes line ≡ in_one_line bytes.now) }
 {
     let line = spaced(alloc, bytes)?;
-    let shown = visible_text(alloc, &line)?;
-    Ok(shown)
+    visible_text(alloc, &line)
 }
 
 fn ends_statement(byte: u8) -> bool

@@ -142,8 +142,7 @@ fn pair_words(
     let verb = "could miss a change of";
     let sentence = pair_sentence(alloc, repair.shown.set, pair, verb, &put)?;
     let reasons = reasons(alloc, repair, pair)?;
-    let words = format!(in alloc; "{sentence}{reasons}")?;
-    Ok(words)
+    format!(in alloc; "{sentence}{reasons}")
 }
 
 /// What a repair has put into a set for each pair of its plan, in order, and why; nothing where

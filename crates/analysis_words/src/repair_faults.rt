@@ -64,8 +64,7 @@ fn promotion_words(
     let rest = format!(in alloc; "{reason}: repair without `--promote`")?;
     let sentence = pair_sentence(alloc, set, pair, obstacle_verb(obstacle), &rest)?;
     let look = obstructed_look(alloc, text, set, pair, obstacle)?;
-    let words = format!(in alloc; "{sentence}{look}")?;
-    Ok(words)
+    format!(in alloc; "{sentence}{look}")
 }
 
 // The limits that a set may pass with the statements for its pairs.
@@ -86,8 +85,7 @@ fn limit_words(alloc: Global, set: &ProgramSet, pair: Pair) -> Result<String, Al
     let rest = format!(in alloc;
         ", and with the statements for that the set is above a limit: {limits}; have fewer programs, or merge some"
     )?;
-    let sentence = pair_sentence(alloc, set, pair, "has to be kept apart from", &rest)?;
-    Ok(sentence)
+    pair_sentence(alloc, set, pair, "has to be kept apart from", &rest)
 }
 
 /// Why a plan is not carried out, by the two programs of the pair that stops it, and what to do.

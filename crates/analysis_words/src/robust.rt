@@ -63,8 +63,7 @@ fn entries_text(alloc: Global, certificate: &Certificate) -> Result<String, Allo
 fn covering_text(alloc: Global, count: u64, access: &str) -> Result<String, AllocError>
     ensures { IfOk result (λ text. IsMostText (string_bytes text)) }
 {
-    let text = format!(in alloc; " ({count} of them by {access})")?;
-    Ok(text)
+    format!(in alloc; " ({count} of them by {access})")
 }
 
 // The access that takes part in most covers.
@@ -144,8 +143,7 @@ fn sentence(
     let asked = question_count(shown.paths);
     let questions = questions_text(alloc, certificate, asked, &most)?;
     let levels = levels_text(alloc, shown, certificate)?;
-    let words = format!(in alloc; "{questions}levels: {levels}\n")?;
-    Ok(words)
+    format!(in alloc; "{questions}levels: {levels}\n")
 }
 
 /// What a certificate shows of its set, in two lines: how many questions there are, which reasons

@@ -127,11 +127,9 @@ pub fn access_text(
 {
     let name = node_name(alloc, shown, node)?;
     let Some(place) = access_place(shown, node, access) else {
-        let missing = format!(in alloc; "access {access} of {name}, which it has not")?;
-        return Ok(missing);
+        return format!(in alloc; "access {access} of {name}, which it has not");
     };
     let statement = quoted_statement(alloc, shown.text, place)?;
     let line = line_number(shown.text.bytes(), place);
-    let words = format!(in alloc; "`{statement}` of {name} in line {line}")?;
-    Ok(words)
+    format!(in alloc; "`{statement}` of {name} in line {line}")
 }

@@ -9,8 +9,8 @@ use Rattle.analysis_words.proofs.advice.help.Goals as goal
 
 pub returns-in_default : goal.returns-in_default
 returns-in_default c =
-    OfNoLook (rw c.in_default.is at c.access_place.ensures.none)
-    (c.in_ok-lost.ensures.ok ∙ ap (λ (l : List ℕ). codes "a cell that " ++ l) c.in_ok-keepers.ensures)
+    let missing = rw c.in_default.is at c.access_place.ensures.none in
+    IfOk-weaker c.format.result _ _ (λ text is. OfNoLook missing (is ∙ ap (λ (l : List ℕ). codes "a cell that " ++ l) c.in_ok-keepers.ensures)) c.format.ensures.ok
 
 pub returns-then-is_shared : goal.returns-then-is_shared
 returns-then-is_shared c =

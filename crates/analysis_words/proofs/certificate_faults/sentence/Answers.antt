@@ -1,4 +1,5 @@
 use Rattle.std.proofs.Common.{◌∙◌, ◌++◌, codes, string_bytes}
+use Rattle.std.proofs.lemmas.Result.{IfOk-weaker}
 use Rattle.analysis_words.proofs.certificate_faults.sentence.Goals as goal
 
 pub returns : goal.returns
@@ -6,4 +7,5 @@ returns c =
     let front = c.in_ok-front.ensures in
     let asked = string_bytes c.in_ok-asked.asked in
     let rule = c.broken_rule-rule.ensures in
-    (asked, c.in_ok-asked.ensures, c.in_ok-words.ensures.ok ∙ (λ i. front i ++ (asked ++ (rule i ++ codes "\n"))))
+    IfOk-weaker c.format.result _ _ (λ words is. (asked, c.in_ok-asked.ensures, is ∙ (λ i. front i ++ (asked ++ (rule i ++ codes "\n")))))
+    c.format.ensures.ok

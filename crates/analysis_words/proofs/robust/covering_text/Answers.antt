@@ -1,5 +1,6 @@
 use Rattle.std.proofs.Common.{inr}
+use Rattle.std.proofs.lemmas.Result.{IfOk-weaker}
 use Rattle.analysis_words.proofs.robust.covering_text.Goals as goal
 
 pub returns : goal.returns
-returns c = inr (c.args.count, c.args.access.now, c.in_ok-text.ensures.ok)
+returns c = IfOk-weaker c.format.result _ _ (λ text is. inr (c.args.count, c.args.access.now, is)) c.format.ensures.ok
