@@ -1,6 +1,7 @@
 -- What the words of a certificate have to say.
-use Rattle.std.specs.Prelude.{ℕ, ◌≡◌, ◌-◌, ◌+◌, ◌⊎◌, Bool, true, false, List, [], ◌∷◌, ◌++◌, codes, filter, length, min, take}
+use Rattle.std.specs.Prelude.{ℕ, ◌≡◌, ◌-◌, ◌+◌, ◌⊎◌, Bool, true, false, List, [], ◌++◌, codes, filter, length, min}
 use Rattle.std.specs.Fmt.{decimal}
+use Rattle.std.specs.List.{range_with_len}
 use Rattle.prog_check.specs.declared.path.Path.{Path}
 use Rattle.prog_paths.specs.Asked.{questions_of}
 use Rattle.prog_paths.specs.Limits.{most_questions}
@@ -29,14 +30,11 @@ abbrev pub entries_text : Certificate → List ℕ
 entries_text certificate =
     reasons_text (apart_count certificate.entries) (length certificate.entries - apart_count certificate.entries)
 
--- the first eight nodes
-abbrev pub first_nodes : List ℕ
-first_nodes = 0 ∷ 1 ∷ 2 ∷ 3 ∷ 4 ∷ 5 ∷ 6 ∷ 7 ∷ []
-
--- their levels, as far as there are so many nodes, and how many nodes there are more
+-- the levels of the first nodes, and how many nodes there are more
 abbrev pub levels_text : Sight → Certificate → List ℕ
 levels_text sight certificate =
-    level_list sight certificate (take (length sight.paths) first_nodes) ++ more_text (length sight.paths - most_levels)
+    level_list sight certificate (range_with_len 0 (min (length sight.paths) most_levels))
+    ++ more_text (length sight.paths - most_levels)
 
 -- how many questions are covered by the access that covers most, and which it is; nothing where none covers
 abbrev pub IsMostText : (text : List ℕ) → Type 0

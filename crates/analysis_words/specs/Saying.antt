@@ -1,8 +1,9 @@
 -- What the words of a fault of a certificate have to say.
-use Rattle.std.specs.Prelude.{ℕ, ◌≡◌, ◌==◌, Bool, if◌then◌else◌, List, [], ◌∷◌, ◌++◌, Option, Some, None, codes, length, option_map, unwrap_or, slice_get, zip}
+use Rattle.std.specs.Prelude.{ℕ, ◌≡◌, ◌==◌, Bool, if◌then◌else◌, List, [], ◌∷◌, ◌++◌, Option, Some, None, codes, length, map, option_map, unwrap_or, slice_get, zip}
 use Rattle.std.specs.Fmt.{decimal}
-use Rattle.std.specs.List.{flat_map, prefix_len}
+use Rattle.std.specs.List.{prefix_len}
 use Rattle.std.specs.Option.{option_map_or}
+use Rattle.text_places.specs.Listing.{listed}
 use Rattle.prog_check.specs.declared.path.Path.{Path}
 use Rattle.prog_paths.specs.Limits.{most_questions}
 use Rattle.robust_cert.specs.Accepted.{body_size}
@@ -32,14 +33,9 @@ abbrev pub level_text : Sight → Certificate → (node : ℕ) → List ℕ
 level_text sight certificate node =
     decimal (level_of certificate node) ++ (codes " of " ++ node_name sight node)
 
-abbrev pub further_level : Sight → Certificate → (node : ℕ) → List ℕ
-further_level sight certificate node = codes ", " ++ level_text sight certificate node
-
 -- the levels of nodes, as ``2 of `Pay:t`, 3 of `Pay:f` ``
 abbrev pub level_list : Sight → Certificate → (nodes : List ℕ) → List ℕ
-level_list sight certificate [] = []
-level_list sight certificate (first ∷ others) =
-    level_text sight certificate first ++ flat_map (further_level sight certificate) others
+level_list sight certificate nodes = listed (map (level_text sight certificate) nodes)
 
 abbrev pub entry_text : (entry : ℕ) → List ℕ
 entry_text entry = codes "entry " ++ (decimal entry ++ codes ": ")

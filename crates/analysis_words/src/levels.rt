@@ -6,6 +6,7 @@ ghost use Rattle.analysis_words.specs.Saying.{level_list, level_of, level_text, 
 use crate::shown::{Shown, node_name};
 use robust_cert::Certificate;
 use std::alloc::{AllocError, Global};
+use text_places::push_listed;
 
 /// The number of a list at a node; one that has none counts as 0.
 pub fn number_at(numbers: &[u32], node: usize) -> u32
@@ -35,7 +36,7 @@ fn level_text(
     format!(in alloc; "{level} of {name}")
 }
 
-/// The levels of nodes.
+/// The levels of nodes, with commas between them.
 pub fn level_list(
     alloc: Global,
     shown: Shown<'_>,
@@ -45,14 +46,10 @@ pub fn level_list(
     ensures { IfOk result (λ text. string_bytes text
         ≡ level_list (seen shown.entry) certificate.now nodes.now) }
 {
-    let [first, others @ ..] = nodes else {
-        return Ok(String::new(alloc));
-    };
-    let mut text = level_text(alloc, shown, certificate, *first)?;
-    for node in others {
+    let mut text = String::new(alloc);
+    for node in nodes {
         let level = level_text(alloc, shown, certificate, *node)?;
-        text.push_str(", ")?;
-        text.push_str(&level)?;
+        push_listed(&mut text, &level)?;
     }
     Ok(text)
 }

@@ -1,5 +1,6 @@
 //! What a certificate shows of a robust set, in words.
-ghost use Rattle.std.specs.Prelude.{◌≡◌, IfOk, string_bytes, take};
+ghost use Rattle.std.specs.Prelude.{◌≡◌, IfOk, string_bytes};
+ghost use Rattle.std.specs.List.{range_with_len};
 ghost use Rattle.robust_cert.specs.Sharing.{reason_at, HasReason};
 ghost use Rattle.analysis_words.specs.Nodes.{seen, sight_of};
 ghost use Rattle.analysis_words.specs.Robust.{apart_count, entries_text, is_apart, IsMostText, levels_text, questions_text, reasons_text, SaysRobust};
@@ -89,11 +90,15 @@ fn most_text(
     covering_text(alloc, count, &access)
 }
 
-// As many of the nodes as there are.
-fn up_to(nodes: &[usize], count: usize) -> &[usize]
-    ensures { result.now ≡ take count nodes.now }
+// The first nodes, so many.
+fn first_nodes(alloc: Global, count: usize) -> Result<Vec<usize>, AllocError>
+    ensures { IfOk result (λ nodes. nodes.items ≡ range_with_len 0 count) }
 {
-    nodes.get(..count).unwrap_or(nodes)
+    let mut nodes = Vec::new(alloc);
+    for node in 0..count {
+        nodes.push(node)?;
+    }
+    Ok(nodes)
 }
 
 // The levels of the first nodes, and how many nodes there are more.
@@ -106,8 +111,8 @@ fn levels_text(
         ≡ levels_text (seen shown.entry) certificate.now) }
 {
     let nodes = shown.paths.len();
-    let first_nodes: [usize; MAX_LEVELS] = [0, 1, 2, 3, 4, 5, 6, 7];
-    let first = level_list(alloc, shown, certificate, up_to(&first_nodes, nodes))?;
+    let told = first_nodes(alloc, nodes.min(MAX_LEVELS))?;
+    let first = level_list(alloc, shown, certificate, &told)?;
     let more = more_text(alloc, nodes.saturating_sub(MAX_LEVELS))?;
     format!(in alloc; "{first}{more}")
 }
