@@ -31,7 +31,7 @@ fn event_count(line: &[u8]) -> usize {
     let (word, rest) = cut_word(line);
     match word {
         b"step" => step_count(rest),
-        _ if is_event(word) => 1,
+        _ if is_event(as_text(word)) => 1,
         _ => 0,
     }
 }

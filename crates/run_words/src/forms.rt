@@ -22,20 +22,24 @@ pub fn first_words(kind: PartKind) -> &'static [&'static str] {
     }
 }
 
+/// Whether a line of a part may begin with a word.
+pub fn may_begin(kind: PartKind, first: &str) -> bool {
+    let words = first_words(kind);
+    (&*words).contains(&first)
+}
+
 /// Whether a line of a script that begins with a word is an event, or several: all but rows are.
-pub fn is_event(first: &[u8]) -> bool {
-    matches!(
-        first,
-        b"begin" | b"begin-at" | b"step" | b"commit" | b"abort" | b"vacuum"
-    )
+pub fn is_event(first: &str) -> bool {
+    first != "row" && may_begin(PartKind::Script, first)
 }
 
 /// The command that reads lines which begin with a word, of such as not every list has.
 pub fn command_of(first: &str) -> Option<&'static str> {
     match first {
-        "record" => Some("audit"),
-        "job" => Some("work"),
-        _ if is_event(first.as_bytes()) => Some("run"),
+        "row" => None,
+        _ if is_event(first) => Some("run"),
+        _ if may_begin(PartKind::Records, first) => Some("audit"),
+        _ if may_begin(PartKind::Jobs, first) => Some("work"),
         _ => None,
     }
 }
@@ -61,6 +65,11 @@ fn line_form(first: &str) -> (usize, &'static str) {
         "job" => (3, "`job RETRIES PROGRAM ARGUMENTS`"),
         _ => (1, ""),
     }
+}
+
+fn words_before_numbers(first: &str) -> usize {
+    let (count, _) = line_form(first);
+    count
 }
 
 /// What stands in a line that begins with a word.
@@ -108,7 +117,7 @@ pub fn no_number<'a>(words: &[&'a str]) -> Option<&'a str> {
     match words {
         ["job", retries, ..] if !is_retries(*retries) => Some(*retries),
         ["begin-at", start, ..] if !is_number(*start, "at") => Some(*start),
-        [first, ..] => no_number_from(words, line_form(*first).0),
+        [first, ..] => no_number_from(words, words_before_numbers(*first)),
         [] => None,
     }
 }
@@ -118,5 +127,6 @@ pub fn name_in<'a>(words: &[&'a str]) -> Option<&'a str> {
     let [first, ..] = words else {
         return None;
     };
-    words.get(line_form(*first).0.saturating_sub(1)).copied()
+    let count = words_before_numbers(*first);
+    words.get(count.saturating_sub(1)).copied()
 }

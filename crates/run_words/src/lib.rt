@@ -23,8 +23,9 @@ mod replay;
 mod shared_words;
 
 pub use cycle::cycle_words;
+pub use forms::PartKind;
 pub use in_input::Part;
-pub use line_faults::{PartKind, line_fault_words};
+pub use line_faults::line_fault_words;
 pub use lost_jobs::{ToldJobs, lost_job_words};
 pub use part_faults::{begins_separator, extra_part_words, missing_part_words};
 pub use record_faults::record_words;

@@ -2,8 +2,7 @@
 ghost use Rattle.std.specs.Prelude.{◌≡◌, IfNone, IfOk, IfSome, string_bytes};
 ghost use Rattle.run_words.specs.PartPointing.{line_of_fault, HasNoLineOf, PointsAtLineIn};
 
-pub use crate::forms::PartKind;
-use crate::forms::{command_of, first_words, form_of, name_in, no_number};
+use crate::forms::{PartKind, command_of, first_words, form_of, may_begin, name_in, no_number};
 use crate::in_input::{Part, point_in_part};
 use crate::line_reading::{line_bytes, shown, words_of};
 use fault_words::{known_names, table_names};
@@ -42,8 +41,7 @@ fn bad_line(
         return format!(in alloc; "only spaces; a line without words has no spaces either");
     };
     let first: &str = *first;
-    let begins = first_words(kind);
-    if !(&*begins).contains(&first) {
+    if !may_begin(kind, first) {
         return other_beginning(alloc, kind, first);
     }
     let form = form_of(alloc, first)?;
